@@ -1,6 +1,6 @@
 //! Octets that are kept, seen by contracts as a list.
 
-ghost use Rattle.std.specs.Prelude.{◌≡◌, ◌+◌, ◌≤◌, ◌<◌, ◌^◌, ◌++◌, [], ◌∷◌, List, ℕ, length, IfOk, OnOk, OnErr, IsTrue, ◌↔◌};
+ghost use Rattle.std.specs.Prelude.{◌≡◌, ◌+◌, ◌≤◌, ◌<◌, ◌^◌, ◌++◌, [], ◌∷◌, List, ℕ, length, take, IfOk, OnOk, OnErr, IsTrue, ◌↔◌};
 
 use crate::memory::Memory;
 use std::alloc::Global;
@@ -88,5 +88,12 @@ impl Octets {
     {
         self.inner.extend_from_slice(octets)?;
         Ok(())
+    }
+
+    /// Keeps the first `count` octets, or all where there are fewer.
+    pub fn truncate(&mut self, count: usize)
+        ensures { self.new ≡ take count self.old }
+    {
+        self.inner.truncate(count);
     }
 }

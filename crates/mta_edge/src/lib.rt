@@ -1,0 +1,15 @@
+//! The outside as the agent sees it: sources, sinks, clocks and disks, each with a count of faults.
+#![tactic(auto)]
+
+mod calls;
+mod memory_disk;
+mod memory_streams;
+mod outside;
+
+pub use memory_disk::{MemDisk, SafeDisk};
+pub use memory_streams::{MemClock, MemSink, MemSource, SafeSink, SafeSource};
+pub use mta_ber::{Memory, Octets};
+pub use outside::{Clock, Disk, Failed, Sink, Source};
+
+#[cfg(test)]
+mod tests;

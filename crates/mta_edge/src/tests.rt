@@ -1,0 +1,59 @@
+use super::*;
+use std::alloc::Global;
+use std::test::Fail;
+
+fn octets_of(alloc: Global, bytes: &[u8]) -> Result<Octets, Fail> {
+    Ok(Octets::from_slice(alloc, bytes)?)
+}
+
+#[test]
+fn sources_give_their_octets_and_sinks_keep_them(rt: HostRuntime) -> Result<(), Fail> {
+    let alloc = rt.alloc();
+    let mut source = MemSource::new(octets_of(alloc, &[1, 2, 3])?, [2].to_vec(alloc)?);
+    let mut safe = SafeSource::new(octets_of(alloc, &[4])?);
+    let mut buffer = [0u8; 2];
+    assert_eq!(rt; source.take(&mut buffer), Ok(2));
+    assert_eq!(rt; buffer, [1, 2]);
+    assert_eq!(rt; source.take(&mut buffer), Err(Failed));
+    assert_eq!(rt; source.take(&mut buffer), Ok(1));
+    assert_eq!(rt; source.take(&mut buffer), Ok(0));
+    assert_eq!(rt; safe.take(&mut buffer), Ok(1));
+    assert_eq!(rt; buffer, [4, 2]);
+    let mut sink = MemSink::new(alloc, [1].to_vec(alloc)?);
+    assert_eq!(rt; sink.put(&[7]), Err(Failed));
+    assert_eq!(rt; sink.put(&[8, 9]), Ok(2));
+    assert_eq!(rt; sink.octets(), [8, 9].as_slice());
+    let mut safe_sink = SafeSink::new(alloc);
+    assert_eq!(rt; safe_sink.put(&[8]), Ok(1));
+    assert_eq!(rt; safe_sink.octets(), [8].as_slice());
+    Ok(())
+}
+
+#[test]
+fn disks_keep_what_is_written(rt: HostRuntime) -> Result<(), Fail> {
+    let alloc = rt.alloc();
+    let mut disk = MemDisk::new(alloc, octets_of(alloc, &[1, 2, 3])?, [2].to_vec(alloc)?);
+    assert_eq!(rt; disk.write_at(2, &[8, 9]), Ok(()));
+    assert_eq!(rt; disk.sync(), Err(Failed));
+    assert_eq!(rt; disk.size(), Ok(4));
+    assert_eq!(rt; disk.cut(3), Ok(()));
+    assert_eq!(rt; disk.octets(), [1, 2, 8].as_slice());
+    let mut safe = SafeDisk::new(alloc, octets_of(alloc, &[1, 2, 3])?);
+    let mut buffer = [0u8; 4];
+    assert_eq!(rt; safe.read(1, &mut buffer), Ok(2));
+    assert_eq!(rt; buffer, [2, 3, 0, 0]);
+    assert_eq!(rt; safe.octets().len(), 3);
+    Ok(())
+}
+
+#[test]
+fn clocks_answer_their_moments(rt: HostRuntime) -> Result<(), Fail> {
+    let alloc = rt.alloc();
+    let mut clock = MemClock::new([5, 3].to_vec(alloc)?);
+    let mut none = MemClock::new(Vec::new(alloc));
+    assert_eq!(rt; clock.now(), 5);
+    assert_eq!(rt; clock.now(), 3);
+    assert_eq!(rt; clock.now(), 3);
+    assert_eq!(rt; none.now(), 0);
+    Ok(())
+}

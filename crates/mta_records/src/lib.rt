@@ -1,0 +1,13 @@
+//! The steps of the spool, and their records as octets.
+#![tactic(auto)]
+
+mod fault;
+mod step;
+mod writing;
+
+pub use fault::StepFault;
+pub use step::Step;
+pub use writing::write_record;
+
+#[cfg(test)]
+mod tests;
