@@ -33,8 +33,10 @@ fn sources_give_their_octets_and_sinks_keep_them(rt: HostRuntime) -> Result<(), 
 fn disks_keep_what_is_written(rt: HostRuntime) -> Result<(), Fail> {
     let alloc = rt.alloc();
     let mut disk = MemDisk::new(alloc, octets_of(alloc, &[1, 2, 3])?, [2].to_vec(alloc)?);
+    assert_eq!(rt; disk.octets().len(), 3);
     assert_eq!(rt; disk.write_at(2, &[8, 9]), Ok(()));
     assert_eq!(rt; disk.sync(), Err(Failed));
+    assert_eq!(rt; disk.octets().len(), 4);
     assert_eq!(rt; disk.size(), Ok(4));
     assert_eq!(rt; disk.cut(3), Ok(()));
     assert_eq!(rt; disk.octets(), [1, 2, 8].as_slice());
