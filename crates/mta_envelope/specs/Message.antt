@@ -1,5 +1,5 @@
 -- Messages of the first shape, and their canonical octets (X.411, Figure 2, MTS-APDU; X.402, clause 18).
-use Rattle.std.specs.Prelude.{ℕ, ◌+◌, ◌/◌, ◌%◌, ◌<◌, Bool, List, [], ◌∷◌, ◌++◌, nat_lt, nat_le, if◌then◌else◌}
+use Rattle.std.specs.Prelude.{ℕ, ◌≡◌, ◌+◌, ◌/◌, ◌%◌, ◌<◌, ◌≤◌, Bool, List, [], ◌∷◌, ◌++◌, length, nat_lt, nat_le, if◌then◌else◌}
 use Rattle.mta_envelope.specs.declared.text.TextClass.TheVariants.{Letters, Printable, Ia5}
 use Rattle.mta_envelope.specs.Element.{AreOctets, element}
 use Rattle.mta_envelope.specs.Text.{IsText}
@@ -104,9 +104,9 @@ integer_octets n = if nat_lt n 128 then n ∷ [] else (n / 256) ∷ (n % 256) �
 unfoldable pub recipient_octets : NameValue → ℕ → List ℕ
 recipient_octets n indicators =
     element set_of_components (
-      element (application 0) (name_octets n)
-      ++ (element (context_primitive 0) (1 ∷ [])
-      ++ element (context_primitive 1) (0 ∷ indicators ∷ [])))
+    element (application 0) (name_octets n)
+    ++ (element (context_primitive 0) (1 ∷ [])
+    ++ element (context_primitive 1) (0 ∷ indicators ∷ [])))
 
 -- the envelope: originator, identifier, content type, an empty trace, and the recipients
 unfoldable pub envelope_octets : MessageValue → List ℕ
@@ -119,6 +119,20 @@ envelope_octets m =
 
 unfoldable pub canonical_message : MessageValue → List ℕ
 canonical_message m = element (context 0) (element set_of_components (envelope_octets m) ++ element octet_string m.content)
+
+-- the greatest length of a message's octets
+abbrev pub longest : ℕ
+longest = 2097152
+
+-- a message of the first shape with at most 2,097,152 canonical octets
+pub record IsMessage (m : MessageValue) : Type 0 where
+  pub shape : IsFirstShape m
+  pub size : length (canonical_message m) ≤ longest
+
+-- the octets are the canonical octets of this message
+pub record IsSpelled (octets : List ℕ) (m : MessageValue) : Type 0 where
+  pub message : IsMessage m
+  pub octets_are : octets ≡ canonical_message m
 
 -- this MTA is responsible for the recipient: the first bit of the indicators (X.411, PerRecipientIndicators)
 abbrev pub is_responsible : MessageValue → Bool

@@ -4,7 +4,7 @@ use Rattle.std.specs.List.{list_all}
 use Rattle.mta_envelope.specs.declared.text.TextClass.{TextClass}
 use Rattle.mta_envelope.specs.declared.text.TextClass.TheVariants.{Letters, Printable, Ia5}
 use Rattle.mta_envelope.specs.Text.{in_class}
-use Rattle.mta_envelope.specs.Message.{NameValue, IdentifierValue, MessageValue, octet_string, printable_string, ia5_string, sequence, set_of_components, application, application_primitive, context, context_primitive}
+use Rattle.mta_envelope.specs.Message.{NameValue, IdentifierValue, MessageValue, octet_string, printable_string, ia5_string, sequence, set_of_components, application, application_primitive, context, context_primitive, longest}
 
 infixl 10 ◌>>=◌
 abbrev pub ◌>>=◌ : {A B : Type 0} → Option A → (A → Option B) → Option B
@@ -99,7 +99,7 @@ unfoldable pub integer_in : Reader ℕ
 integer_in octets =
     if (length octets == 1) && nat_lt (slice_index octets 0) 128 then Some (slice_index octets 0)
     else if (length octets == 2) && nat_lt (slice_index octets 0) 128 && nat_le 128 (slice_index octets 0 * 256 + slice_index octets 1)
-      then Some (slice_index octets 0 * 256 + slice_index octets 1)
+    then Some (slice_index octets 0 * 256 + slice_index octets 1)
     else None
 
 -- eight bits
@@ -167,10 +167,6 @@ make_message v = record {
 
 unfoldable pub message_in : Reader MessageValue
 message_in = mapped make_message (within (context 0) (both set_of_components envelope_in (within octet_string Some)))
-
--- the greatest length of a message's octets
-abbrev pub longest : ℕ
-longest = 2097152
 
 unfoldable pub first_shape_of : Reader MessageValue
 first_shape_of octets = if nat_lt longest (length octets) then None else message_in octets

@@ -3,10 +3,13 @@
 #![tactic(auto)]
 
 mod element;
+mod laws;
 mod message;
 mod reading;
 mod tag;
 mod text;
+mod writing;
 
+pub use laws::{canonical_octets_alone_are_read, canonical_octets_are_of_one_message};
 pub use message::{Identifier, Message, Name};
-pub use reading::read;
+pub use reading::{LONGEST, read};

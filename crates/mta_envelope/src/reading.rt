@@ -1,6 +1,7 @@
 //! Reading messages of the first shape.
 
-ghost use Rattle.std.specs.Prelude.{◌≡◌, List, ℕ};
+ghost use Rattle.std.specs.Prelude.{◌≡◌, IfSome, IfNone};
+ghost use Rattle.mta_envelope.specs.Message.{MessageValue, IsSpelled};
 ghost use Rattle.mta_envelope.specs.Reading.{country_in, admd_in, surname_in, domain_in, name_in, identifier_in, integer_in, indicators_in, is_one, is_nothing, recipient_in, envelope_in, message_in, first_shape_of};
 ghost use Rattle.mta_envelope.specs.Seen.{GivesSome};
 
@@ -14,7 +15,12 @@ use crate::text::{TextClass, text_of};
 fn country_of(octets: &[u8]) -> Option<&[u8]>
     ensures { GivesSome (λ x. x.now) result (country_in octets.now) }
 {
-    text_of(element_of(octets, tag::PRINTABLE_STRING)?, TextClass::Letters, 2, 2)
+    text_of(
+        element_of(octets, tag::PRINTABLE_STRING)?,
+        TextClass::Letters,
+        2,
+        2,
+    )
 }
 
 /// The name of an administration domain.
@@ -22,7 +28,12 @@ fn country_of(octets: &[u8]) -> Option<&[u8]>
 fn admd_of(octets: &[u8]) -> Option<&[u8]>
     ensures { GivesSome (λ x. x.now) result (admd_in octets.now) }
 {
-    text_of(element_of(octets, tag::PRINTABLE_STRING)?, TextClass::Printable, 0, 16)
+    text_of(
+        element_of(octets, tag::PRINTABLE_STRING)?,
+        TextClass::Printable,
+        0,
+        16,
+    )
 }
 
 /// The surname, where a personal name has nothing else.
@@ -30,7 +41,12 @@ fn admd_of(octets: &[u8]) -> Option<&[u8]>
 fn surname_of(octets: &[u8]) -> Option<&[u8]>
     ensures { GivesSome (λ x. x.now) result (surname_in octets.now) }
 {
-    text_of(element_of(octets, tag::SURNAME)?, TextClass::Printable, 1, 40)
+    text_of(
+        element_of(octets, tag::SURNAME)?,
+        TextClass::Printable,
+        1,
+        40,
+    )
 }
 
 /// An O/R name, in the element that encloses its attributes.
@@ -179,14 +195,27 @@ fn message_of(octets: &[u8]) -> Option<Message<'_>>
 /// The most octets that a message may have.
 pub const LONGEST: usize = 2_097_152;
 
-/// Reads a message of the first shape, lent from its octets. Nothing is read where the octets are not the canonical
-/// octets of such a message, or are more than 2,097,152.
+/// The message, where its octets are not too many.
 #[tactic(auto, unfolding(crate::specs::Reading::first_shape_of))]
-pub fn read(octets: &[u8]) -> Option<Message<'_>>
-    ensures exact { result ≡ first_shape_of octets.now }
+fn short_message_of(octets: &[u8]) -> Option<Message<'_>>
+    ensures { result ≡ first_shape_of octets.now }
 {
     if octets.len() > LONGEST {
         return None;
     }
     message_of(octets)
+}
+
+/// Reads a message of the first shape, lent from its octets, which takes no memory. It is read exactly where the octets
+/// are its canonical octets and at most 2,097,152.
+pub fn read(octets: &[u8]) -> Option<Message<'_>>
+    ensures exact { result ≡ first_shape_of octets.now }
+    // What is read is spelled so.
+    ensures found { IfSome result (λ m. IsSpelled octets.now m) }
+    // What is spelled so is read.
+    ensures only { (m : MessageValue) → IsSpelled octets.now m → result ≡ Some m }
+    // Nothing is read only where the octets are those of no message.
+    ensures none { IfNone result ((m : MessageValue) → IsSpelled octets.now m → ⊥) }
+{
+    short_message_of(octets)
 }
