@@ -1,0 +1,4 @@
+pub mod Steps
+pub mod Lengths
+pub mod Elements
+pub mod Messages
