@@ -1,0 +1,44 @@
+-- One step more.
+use Rattle.std.proofs.Common.{◌≡◌, ◌≢◌, ℕ, ◌+◌, ◌-◌, ◌≤◌, ◌<◌, List, [], ◌∷◌, ◌++◌, length, take, drop, refl, sym, ap, ◌∙◌, append_assoc, arith}
+use Rattle.std.proofs.lemmas.List.{length-append, flat_map_more}
+use Rattle.mta_records.specs.declared.step.Step.{Step}
+use Rattle.mta_records.specs.declared.step.Step.TheVariants.{Tables, Accept}
+use Rattle.mta_records.specs.Body.{string, body_of, HasFields}
+use Rattle.mta_history.specs.Machine.{IsRun, at_start}
+use Rattle.mta_history.specs.History.{State, IsPossible, after_step, after_from, ArePossible, IsHistory, empty, project}
+use Rattle.mta_history.specs.Image.{magic, longest_body, open_record, front, AreRecords}
+
+pub front-more : (steps : List Step) (step : Step) → front (steps ++ step ∷ []) ≡ front steps ++ open_record step
+front-more steps step = sym (flat_map_more open_record magic steps step)
+
+pub AreRecords-more : (steps : List Step) (step : Step) → AreRecords steps → HasFields step → length (body_of step) ≤ longest_body → AreRecords (steps ++ step ∷ [])
+AreRecords-more [] step each fields short = ((fields, short), tt)
+AreRecords-more (s ∷ steps) step each fields short = (each.0, AreRecords-more steps step each.1 fields short)
+
+pub after_from-more : (s : State) (steps : List Step) (step : Step) → after_from s (steps ++ step ∷ []) ≡ after_step (after_from s steps) step
+after_from-more s [] step = refl
+after_from-more s (x ∷ steps) step = after_from-more (after_step s x) steps step
+
+pub possible-more : (s : State) (steps : List Step) (step : Step) → ArePossible s steps → IsPossible (after_from s steps) step → ArePossible s (steps ++ step ∷ [])
+possible-more s [] step h p = (p, tt)
+possible-more s (x ∷ steps) step h p = (h.0, possible-more (after_step s x) steps step h.1 p)
+
+pub length-string : (octets : List ℕ) → length (string octets) ≡ length octets + 4
+unfolding string
+length-string octets = omega arith
+
+pub length-magic : length magic ≡ 8
+unfolding magic
+length-magic = refl
+
+pub length-front-more : (steps : List Step) (step : Step) → length (front (steps ++ step ∷ [])) ≡ length (front steps) + length (body_of step) + 5
+length-front-more steps step = ap length (front-more steps step) ∙ length-append (front steps) (open_record step) ∙ (let e = length-string (body_of step) in omega (arith, e))
+
+-- the machine's steps in a history are a run
+pub possible_run : (s : State) (steps : List Step) → ArePossible s steps → IsRun s.machine (project steps)
+possible_run s [] p = tt
+possible_run s (Tables text ∷ steps) p = (p.0, possible_run (after_step s (Tables text)) steps p.1)
+possible_run s (Accept moment apdu ∷ steps) p = (p.0.0, possible_run (after_step s (Accept moment apdu)) steps p.1)
+
+pub history_run : (steps : List Step) → IsHistory steps → IsRun at_start (project steps)
+history_run steps p = possible_run empty steps p

@@ -1,0 +1,4 @@
+pub mod Apdu
+pub mod Machine
+pub mod History
+pub mod Image

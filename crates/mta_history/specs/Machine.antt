@@ -1,0 +1,56 @@
+-- The machine of recipients (X.411 clause 14): tables, items with a status per recipient, and the last moment.
+-- It has no disk, no lane and no lock, and nothing in it fails.
+use Rattle.std.specs.Prelude.{◌≢◌, ℕ, ◌-◌, ◌≤◌, Bool, false, ◌==◌, ◌&&◌, List, [], ◌∷◌, ◌++◌, count_by, Option, slice_get, option_and_then}
+use Rattle.mta_history.specs.declared.item.Item.{Item}
+use Rattle.mta_history.specs.declared.item.Status.{Status}
+use Rattle.mta_history.specs.declared.item.Origin.{Origin}
+use Rattle.mta_history.specs.Apdu.{SpellsApdu, statuses_at_first}
+
+-- the texts of tables that were recorded and the items that were accepted, each in their order, and the last moment
+pub record Machine : Type 0 where
+  pub tables : List (List ℕ)
+  pub items : List Item
+  pub moment : ℕ
+
+abbrev pub at_start : Machine
+at_start = record { tables = []; items = []; moment = 0 }
+
+-- What the machine does. Items and recipients are numbered from 1.
+pub data MachineStep : Type 0 where
+  set_tables : (text : List ℕ) → MachineStep
+  accept : (octets : List ℕ) (origin : Origin) (moment : ℕ) → MachineStep
+  deliver : (item recipient moment : ℕ) → MachineStep
+
+-- the status of a recipient of an item; none where this agent is not responsible for that recipient
+abbrev pub status_at : Machine → ℕ → ℕ → Option (Option Status)
+status_at m i r = option_and_then (λ (item : Item). slice_get item.statuses (r - 1)) (slice_get m.items (i - 1))
+
+-- what a step needs; nothing is delivered yet
+abbrev pub Needs : Machine → MachineStep → Type 0
+Needs m (set_tables text) = Unit {0}
+Needs m (accept octets origin moment) = SpellsApdu octets × (m.tables ≢ []) × (m.moment ≤ moment)
+Needs m (deliver i r moment) = ⊥
+
+-- the machine after a step
+abbrev pub machine_after : Machine → MachineStep → Machine
+machine_after m (set_tables text) = record m { tables = m.tables ++ text ∷ [] }
+machine_after m (accept octets origin moment) = record m {
+  items = m.items ++ record { octets = octets; arrival = moment; origin = origin; statuses = statuses_at_first octets } ∷ [];
+  moment = moment;
+}
+machine_after m (deliver i r moment) = m
+
+-- each step meets its needs in the state before it
+abbrev pub IsRun : Machine → List MachineStep → Type 0
+IsRun m [] = Unit {0}
+IsRun m (step ∷ steps) = Needs m step × IsRun (machine_after m step) steps
+
+-- the step discharges this recipient
+abbrev pub discharges_one : ℕ → ℕ → MachineStep → Bool
+discharges_one i r (set_tables text) = false
+discharges_one i r (accept octets origin moment) = false
+discharges_one i r (deliver j s moment) = (i == j) && (r == s)
+
+-- how often a recipient is discharged
+abbrev pub discharges : List MachineStep → ℕ → ℕ → ℕ
+discharges steps i r = count_by (discharges_one i r) steps

@@ -1,0 +1,4 @@
+pub mod Made
+pub mod Opened
+pub mod Put
+pub mod Records

@@ -1,0 +1,5 @@
+pub mod Journal
+pub mod Opening
+pub mod Putting
+pub mod Shown
+pub mod Stands

@@ -1,0 +1,175 @@
+//! The spool: its journal and its state.
+
+ghost use Rattle.std.specs.Prelude.{◌≡◌, ◌≢◌, ◌++◌, [], ◌∷◌, ◌+◌, ◌≤◌, ◌<◌, ◌^◌, List, ℕ, Some, None, length, IfOk, IsErrOf, false, ◌-◌};
+ghost use Rattle.mta_records.specs.declared.step.Step.{Step};
+ghost use Rattle.mta_records.specs.Body.{HasFields, body_of};
+ghost use Rattle.mta_history.specs.Apdu.{SpellsApdu};
+ghost use Rattle.mta_history.specs.Image.{longest_body};
+
+use crate::apdu::statuses_at_first;
+use crate::current::Current;
+use crate::items::Items;
+use crate::journal::{PutFault, append};
+use crate::tables::Tables;
+use mta_ber::Octets;
+use mta_edge::{Clock, Disk};
+use mta_history::{Item, Origin};
+use mta_records::{Step, StepFault, write_record};
+use std::alloc::Global;
+use std::marker::Model;
+
+/// The most octets of a journal.
+pub const JOURNAL_LIMIT: u64 = 268_435_456;
+
+// The last second of 2049, in seconds since 1950-01-01 00:00:00 UTC.
+const LAST_MOMENT: u64 = 3_155_759_999;
+
+/// A spool on one disk, which takes its moments from one clock.
+#[derive(Drop)]
+pub struct Spool<D: Disk + Drop, C: Clock + Drop> {
+    pub(crate) alloc: Global,
+    pub(crate) disk: D,
+    pub(crate) clock: C,
+    // The offset behind the closed gate.
+    pub(crate) size: u64,
+    pub(crate) ended: bool,
+    pub(crate) current: Current,
+}
+
+impl<D: Disk + Drop, C: Clock + Drop> Model for Spool<D, C> {
+    ghost use Rattle.mta_spool.specs.Shown.{Shown, IsSound};
+
+    ghost Value = { Shown D C };
+
+    ghost view = { λ s. record { disk = s.disk; clock = s.clock; size = s.size; ended = s.ended; current = s.current } };
+
+    ghost invariant = { λ s. IsSound D.content s.disk s.size s.current.moment };
+}
+
+impl<D: Disk + Drop, C: Clock + Drop> Spool<D, C> {
+    ghost use Rattle.mta_spool.specs.Stands.{Stores, Appends, step_moment};
+    ghost use Rattle.mta_spool.specs.Putting.{HasPut, with_item};
+
+    // Puts a step on the disk. The state in memory stays.
+    fn put(&mut self, step: &Step) -> Result<(), StepFault>
+        requires fields { HasFields step.now }
+        requires short { length (body_of step.now) ≤ longest_body }
+        requires going { self.old.ended ≡ false }
+        ensures { HasPut D.content D.faults step.now self.old.current self.old self.new result }
+    {
+        let body = write_record(self.alloc, step)?;
+        let need = body.len() as u64 + 5;
+        if self.size + need > JOURNAL_LIMIT {
+            return Err(StepFault::Full {
+                size: self.size,
+                need,
+            });
+        }
+        match append(self.alloc, &mut self.disk, self.size - 1, body.as_slice()) {
+            Ok(()) => {
+                self.size += need;
+                Ok(())
+            }
+            Err(PutFault::Memory) => Err(StepFault::Memory),
+            Err(PutFault::Disk) => {
+                self.ended = true;
+                Err(StepFault::Disk)
+            }
+        }
+    }
+
+    // Puts the step of a new item on the disk, and the item behind the others.
+    fn add(&mut self, step: &Step, item: Item) -> Result<(), StepFault>
+        requires fields { HasFields step.now }
+        requires short { length (body_of step.now) ≤ longest_body }
+        requires going { self.old.ended ≡ false }
+        ensures { HasPut D.content D.faults step.now (with_item self.old.current item) self.old self.new result }
+    {
+        let count = self.current.items.len();
+        self.current.items.push(item)?;
+        match self.put(step) {
+            Ok(()) => Ok(()),
+            Err(fault) => {
+                self.current.items.truncate(count);
+                Err(fault)
+            }
+        }
+    }
+
+    /// Records these tables last.
+    pub fn set_tables(&mut self, tables: Tables) -> Result<(), StepFault>
+        ensures appends { Appends D.content D.faults (Step.Tables tables) self.old self.new result }
+        ensures clock { self.new.clock ≡ self.old.clock }
+        ensures spent { (last : ℕ) → IsErrOf result (StepFault.Spent last) → ⊥ }
+    {
+        if self.ended {
+            return Err(StepFault::Ended);
+        }
+        let step = Step::Tables {
+            text: Octets::from_slice(self.alloc, tables.text())?,
+        };
+        self.put(&step)?;
+        self.current.tables = Some(tables);
+        Ok(())
+    }
+
+    // The moment of a step that is made now.
+    fn step_moment(&mut self) -> u64
+        ensures moment { (told : ℕ) × C.tells self.old.clock told × (result ≡ step_moment told self.old.current.moment) }
+        ensures clock { (m : ℕ) → C.tells self.new.clock m → C.tells self.old.clock m }
+        ensures rest { self.new ≡ record self.old { clock = self.new.clock } }
+    {
+        self.clock
+            .now()
+            .min(LAST_MOMENT)
+            .max(self.current.moment)
+    }
+
+    /// Takes a submitted APDU as the next item, and answers its number.
+    pub fn accept(&mut self, apdu: &[u8]) -> Result<u32, StepFault>
+        requires apdu { SpellsApdu apdu.now }
+        requires tables { self.old.current.tables ≢ None }
+        ensures appends { (told : ℕ) × C.tells self.old.clock told × Appends D.content D.faults (Step.Accept (step_moment told self.old.current.moment) apdu.now) self.old self.new result }
+        ensures number { IfOk result (λ n. n ≡ length self.old.current.items + 1) }
+        ensures clock { (m : ℕ) → C.tells self.new.clock m → C.tells self.old.clock m }
+        ensures spent { (last : ℕ) → IsErrOf result (StepFault.Spent last) → (last ≡ length self.old.current.items) × (2 ^ 32 - 3 < last) }
+        ensures numbers { IfOk result (λ n. length self.old.current.items ≤ 2 ^ 32 - 3) }
+    {
+        let moment = self.step_moment();
+        if self.ended {
+            return Err(StepFault::Ended);
+        }
+        let last = self.current.items.len() as u64;
+        if last > 4_294_967_293 {
+            return Err(StepFault::Spent { last });
+        }
+        let item = Item {
+            octets: Octets::from_slice(self.alloc, apdu)?,
+            arrival: moment,
+            origin: Origin::Submitted,
+            statuses: statuses_at_first(self.alloc, apdu)?,
+        };
+        let step = Step::Accept {
+            moment,
+            apdu: Octets::from_slice(self.alloc, apdu)?,
+        };
+        self.add(&step, item)?;
+        self.current.moment = moment;
+        Ok(last as u32 + 1)
+    }
+
+    /// The items.
+    pub fn items(&self) -> &Items
+        ensures { result.now ≡ self.now.current.items }
+    {
+        &self.current.items
+    }
+
+    /// The disk.
+    pub fn end(self) -> D
+        ensures { result ≡ self.disk }
+    {
+        let Spool { disk, .. } = self;
+        disk
+    }
+}

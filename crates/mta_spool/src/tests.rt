@@ -1,0 +1,31 @@
+use super::*;
+use mta_ber::Octets;
+use mta_edge::{MemClock, MemDisk};
+use std::alloc::Global;
+use std::test::Fail;
+
+
+fn opened(alloc: Global) -> Result<Spool<MemDisk, MemClock>, Fail> {
+    let disk = MemDisk::new(alloc, Octets::from_slice(alloc, b"any nine.")?, Vec::new(alloc));
+    let clock = MemClock::new([9, 7].to_vec(alloc)?);
+    match Spool::open(alloc, disk, clock) {
+        Ok(spool) => Ok(spool),
+        Err(_) => Err("not opened".into()),
+    }
+}
+
+#[test]
+fn tables_and_items_are_journaled(rt: HostRuntime) -> Result<(), Fail> {
+    let alloc = rt.alloc();
+    let mut spool = opened(alloc)?;
+    let text = Octets::from_slice(alloc, b"domain C=GB;A=GOLD\n")?;
+    assert_eq!(rt; text.len(), 19);
+    let tables = Tables::of(text);
+    assert_eq!(rt; tables.copy(alloc)?.text(), tables.text());
+    assert_eq!(rt; spool.set_tables(tables), Ok(()));
+    assert!(rt; spool.items().is_empty());
+    let disk = spool.end();
+    assert_eq!(rt; disk.octets().len(), 9 + 5 + 5 + 19);
+    assert_eq!(rt; &disk.octets()[..9], b"MTASPL01\x01".as_slice());
+    Ok(())
+}
