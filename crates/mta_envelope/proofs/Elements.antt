@@ -11,13 +11,13 @@ use Rattle.mta_envelope.proofs.Lengths.{length_read, length_again}
 -- ---- octets
 
 pub octets_dropped : (n : ℕ) (bytes : List ℕ) → AreOctets bytes → AreOctets (drop n bytes)
-octets_dropped n bytes h i = rw get_or-drop (h (n + i))
+octets_dropped n bytes fits place = rw get_or-drop (fits (n + place))
 
 pub octets_taken : (n : ℕ) (bytes : List ℕ) → AreOctets bytes → AreOctets (take n bytes)
-octets_taken n bytes h i =
-    elim (cases_lt i n) [
-      | inl lt ↦ rw (get_or-take n bytes i 0 lt) (h i)
-      | inr le ↦ rw (get_or_past (take n bytes) i 0 (omega (arith, length-take n bytes))) (omega arith)
+octets_taken n bytes fits place =
+    elim (cases_lt place n) [
+      | inl inside ↦ rw (get_or-take n bytes place 0 inside) (fits place)
+      | inr beyond ↦ rw (get_or_past (take n bytes) place 0 (omega (arith, length-take n bytes))) (omega arith)
     ]
 
 pub octets_behind : (front bytes : List ℕ) → AreOctets (front ++ bytes) → AreOctets bytes

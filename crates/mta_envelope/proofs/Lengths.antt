@@ -39,7 +39,6 @@ length_5 n le =
 
 -- ---- what is read is what is written
 
-
 one_read : (bs : List ℕ) (n : ℕ) (r : List ℕ) → AreOctets bs → one_digit bs ≡ Some (n, r) → 129 ∷ bs ≡ length_octets n ++ r
 unfolding one_digit
 one_read [] n r h e = absurd cc
