@@ -1,24 +1,23 @@
 -- Elements, and readers that read exactly what is written.
-use Rattle.std.proofs.Common.{◌≡◌, ℕ, zero, suc, ◌+◌, ◌≤◌, ◌<◌, Bool, true, false, cond, eqb, ltb, List, [], ◌∷◌, ◌++◌, length, take, drop, get_or, Option, Some, None, refl, sym, ap, subst, ◌∙◌, append_assoc, arith, inl, inr}
-use Rattle.std.specs.Prelude.{slice_index}
+use Rattle.std.proofs.Common.{◌≡◌, ℕ, ◌+◌, ◌≤◌, ◌<◌, Bool, true, false, cond, eqb, ltb, List, [], ◌∷◌, ◌++◌, length, take, drop, Option, Some, None, refl, sym, ap, subst, ◌∙◌, append_assoc, arith, inl, inr}
 use Rattle.std.proofs.lemmas.Bool.{cases_lt, le-ltb, ltb-false, eqb-true, eq-eqb}
 use Rattle.std.proofs.lemmas.Option.{some_pair_parts}
 use Rattle.std.proofs.lemmas.List.{append-nil, take_at, drop_at, take-append-drop, length-append, length-take, get_or-drop, get_or-take, get_or_past, get_or-append-add, nil_from_length}
 use Rattle.mta_envelope.specs.Element.{AreOctets, length_octets, element}
 use Rattle.mta_envelope.specs.Reading.{◌>>=◌, digits_at, cut, take_element, ended, sole_element, Reader, within, both, past, mapped}
 use Rattle.mta_envelope.proofs.Steps.{bind_some, passed, held, just, some_is}
-use Rattle.mta_envelope.proofs.Lengths.{length_read, IsRead, length_again}
+use Rattle.mta_envelope.proofs.Lengths.{length_read, length_again}
 
 -- ---- octets
 
 pub octets_dropped : (n : ℕ) (bytes : List ℕ) → AreOctets bytes → AreOctets (drop n bytes)
-octets_dropped n bytes h i = rw get_or-drop (h (n + i))
+octets_dropped n bytes fits place = rw get_or-drop (fits (n + place))
 
 pub octets_taken : (n : ℕ) (bytes : List ℕ) → AreOctets bytes → AreOctets (take n bytes)
-octets_taken n bytes h i =
-    elim (cases_lt i n) [
-      | inl lt ↦ rw (get_or-take n bytes i 0 lt) (h i)
-      | inr le ↦ rw (get_or_past (take n bytes) i 0 (omega (arith, length-take n bytes))) (omega arith)
+octets_taken n bytes fits place =
+    elim (cases_lt place n) [
+      | inl inside ↦ rw (get_or-take n bytes place 0 inside) (fits place)
+      | inr beyond ↦ rw (get_or_past (take n bytes) place 0 (omega (arith, length-take n bytes))) (omega arith)
     ]
 
 pub octets_behind : (front bytes : List ℕ) → AreOctets (front ++ bytes) → AreOctets bytes
@@ -132,6 +131,9 @@ firsts v w x e = ap (λ y. just y.0) e
 seconds : {V W : Type 0} (v : V) (w : W) (x : V × W) → (v, w) ≡ x → just w ≡ just x.1
 seconds v w x e = ap (λ y. just y.1) e
 
+moved : {V : Type 0} (r : Option V) (v w : V) → r ≡ Some v → just v ≡ just w → r ≡ Some w
+moved r v w e same = e ∙ same
+
 -- a component at the front, and what is behind it
 module _ {V W : Type 0} (identifier : ℕ) (inside : Reader V) (write : V → List ℕ) (Is : V → Type 0) (exact : IsExact inside write Is) (behind : Reader W) (rest : W → List ℕ) (IsRest : W → Type 0) (rest_exact : IsExact behind rest IsRest) where
   record Parts (octets : List ℕ) (x : V × W) : Type 0 where
@@ -152,8 +154,8 @@ module _ {V W : Type 0} (identifier : ℕ) (inside : Reader V) (write : V → Li
         content = a.0.0;
         left = a.0.1;
         taken = a.1;
-        first = b.1 ∙ firsts b.0 c.0 x s;
-        second = c.1 ∙ seconds b.0 c.0 x s;
+        first = moved (inside a.0.0) b.0 x.0 b.1 (firsts b.0 c.0 x s);
+        second = moved (behind a.0.1) c.0 x.1 c.1 (seconds b.0 c.0 x s);
       }
 
   both_again : (x : V × W) → Is x.0 × IsRest x.1 → both identifier inside behind (element identifier (write x.0) ++ rest x.1) ≡ Some x

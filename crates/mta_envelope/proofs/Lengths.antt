@@ -1,11 +1,10 @@
 -- Length octets: what is read is what is written, and what is written is read.
-use Rattle.std.proofs.Common.{◌≡◌, ℕ, zero, suc, ◌+◌, ◌*◌, ◌/◌, ◌%◌, ◌≤◌, ◌<◌, Bool, true, false, cond, eqb, ltb, List, [], ◌∷◌, ◌++◌, length, drop, Option, Some, None, refl, sym, ap, subst, ◌∙◌, arith, inl, inr, ◌⊎◌}
-use Rattle.std.specs.Prelude.{slice_index}
-use Rattle.std.proofs.lemmas.Bool.{cases_lt, lt-ltb, le-ltb, ltb-true, ltb-false, eqb-true, eqb-false, ne_eqb, eq-eqb}
+use Rattle.std.proofs.Common.{◌≡◌, ℕ, ◌+◌, ◌*◌, ◌/◌, ◌%◌, ◌≤◌, ◌<◌, false, cond, eqb, ltb, List, [], ◌∷◌, ◌++◌, length, Option, Some, None, refl, ap, subst, ◌∙◌, arith, inl, inr}
+use Rattle.std.proofs.lemmas.Bool.{cases_lt, lt-ltb, le-ltb, ltb-true, ltb-false, eqb-true, eqb-false, ne_eqb}
 use Rattle.std.proofs.lemmas.Option.{some_pair_parts}
 use Rattle.mta_envelope.specs.Element.{AreOctets, length_octets}
 use Rattle.mta_envelope.specs.Reading.{one_digit, two_digits, three_digits, four_digits, digits_at}
-use Rattle.mta_envelope.proofs.Steps.{passed, held, chosen}
+use Rattle.mta_envelope.proofs.Steps.{passed, chosen}
 
 -- ---- length octets by the size of the number
 
@@ -39,9 +38,6 @@ length_5 n le =
     rw (small, short, medium, le-ltb n 16777216 le) refl
 
 -- ---- what is read is what is written
-
-abbrev cells : ℕ → ℕ → List ℕ → List ℕ
-cells a b r = a ∷ b ∷ r
 
 one_read : (bs : List ℕ) (n : ℕ) (r : List ℕ) → AreOctets bs → one_digit bs ≡ Some (n, r) → 129 ∷ bs ≡ length_octets n ++ r
 unfolding one_digit

@@ -1,8 +1,8 @@
 -- The reader of messages of the first shape reads exactly what is written.
-use Rattle.std.proofs.Common.{◌≡◌, ℕ, zero, suc, ◌+◌, ◌*◌, ◌/◌, ◌%◌, ◌≤◌, ◌<◌, Bool, true, false, cond, eqb, ltb, leb, List, [], ◌∷◌, ◌++◌, length, Option, Some, None, refl, sym, ap, subst, ◌∙◌, arith, inl, inr}
-use Rattle.std.specs.Prelude.{slice_index, ◌&&◌}
+use Rattle.std.proofs.Common.{◌≡◌, ℕ, ◌+◌, ◌*◌, ◌/◌, ◌%◌, ◌≤◌, ◌<◌, true, false, eqb, ltb, leb, List, [], ◌∷◌, ◌++◌, length, Some, refl, sym, ap, subst, ◌∙◌, arith, inl, inr}
+use Rattle.std.specs.Prelude.{◌&&◌}
 use Rattle.std.specs.List.{list_all}
-use Rattle.std.proofs.lemmas.Bool.{cases_lt, lt-ltb, le-ltb, ltb-true, ltb-false, le-leb, leb-true, eqb-true, eq-eqb, ne_eqb, and_parts, and_from}
+use Rattle.std.proofs.lemmas.Bool.{cases_lt, lt-ltb, le-ltb, ltb-true, ltb-false, le-leb, leb-true, eqb-true, ne_eqb, and_parts}
 use Rattle.std.proofs.lemmas.List.{nil_from_length}
 use Rattle.mta_envelope.specs.declared.text.TextClass.{TextClass}
 use Rattle.mta_envelope.specs.declared.text.TextClass.TheVariants.{Letters, Printable, Ia5}
@@ -10,7 +10,7 @@ use Rattle.mta_envelope.specs.Element.{AreOctets, element}
 use Rattle.mta_envelope.specs.Text.{in_class, IsText}
 use Rattle.mta_envelope.specs.Message.{NameValue, IdentifierValue, MessageValue, IsName, IsIdentifier, IsFirstShape, IsSpelled, integer_octets, country_octets, admd_octets, surname_octets, name_octets, identifier_octets, recipient_octets, envelope_octets, canonical_message, longest, octet_string, printable_string, ia5_string, sequence, set_of_components, application, application_primitive, context, context_primitive}
 use Rattle.mta_envelope.specs.Reading.{Reader, text_in, integer_in, indicators_in, is_nothing, is_one, country_in, admd_in, surname_in, make_name, attributes_in, name_in, domain_in, make_identifier, identifier_in, recipient_in, Envelope, envelope_in, make_message, message_in, first_shape_of, within, both, past}
-use Rattle.mta_envelope.proofs.Steps.{passed, held, chosen, some_is}
+use Rattle.mta_envelope.proofs.Steps.{passed, held, some_is}
 use Rattle.mta_envelope.proofs.Elements.{IsExact, within_exact, both_exact, past_exact, mapped_exact}
 
 -- ---- texts, numbers and bits

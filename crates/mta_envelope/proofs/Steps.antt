@@ -1,5 +1,5 @@
 -- Tools for chains of steps that may give nothing.
-use Rattle.std.proofs.Common.{◌≡◌, ℕ, Bool, true, false, cond, Option, Some, None, refl, inl, inr, ◌⊎◌}
+use Rattle.std.proofs.Common.{◌≡◌, Bool, true, false, cond, Option, Some, None, refl, inl, inr, ◌⊎◌}
 use Rattle.mta_envelope.specs.Reading.{◌>>=◌}
 
 -- the value of a step that gave one

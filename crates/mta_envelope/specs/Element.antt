@@ -1,6 +1,6 @@
 -- Elements of BER: one identifier octet, the definite form of the length with the fewest octets, and the contents
 -- (X.690, 8.1 and 10.1).
-use Rattle.std.specs.Prelude.{ℕ, ◌+◌, ◌/◌, ◌%◌, ◌<◌, List, [], ◌∷◌, ◌++◌, length, nat_lt, if◌then◌else◌, slice_index}
+use Rattle.std.specs.Prelude.{ℕ, ◌/◌, ◌%◌, ◌<◌, List, [], ◌∷◌, ◌++◌, length, nat_lt, if◌then◌else◌, slice_index}
 
 -- each number of the list is an octet
 abbrev pub AreOctets : List ℕ → Type 0

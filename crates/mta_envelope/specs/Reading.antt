@@ -1,5 +1,5 @@
 -- Reading messages of the first shape: small readers of lists, each of which answers the value, or None.
-use Rattle.std.specs.Prelude.{ℕ, ◌+◌, ◌*◌, ◌-◌, ◌<◌, Bool, List, [], ◌∷◌, length, take, drop, Option, Some, None, nat_lt, nat_le, ◌==◌, ◌&&◌, ◌||◌, if◌then◌else◌, slice_index}
+use Rattle.std.specs.Prelude.{ℕ, ◌+◌, ◌*◌, Bool, List, length, take, drop, Option, Some, None, nat_lt, nat_le, ◌==◌, ◌&&◌, if◌then◌else◌, slice_index}
 use Rattle.std.specs.List.{list_all}
 use Rattle.mta_envelope.specs.declared.text.TextClass.{TextClass}
 use Rattle.mta_envelope.specs.declared.text.TextClass.TheVariants.{Letters, Printable, Ia5}

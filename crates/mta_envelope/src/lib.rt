@@ -7,6 +7,8 @@ mod laws;
 mod message;
 mod reading;
 mod tag;
+#[cfg(test)]
+mod tests;
 mod text;
 mod writing;
 

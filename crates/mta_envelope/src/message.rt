@@ -43,13 +43,17 @@ impl<'a> Model for Identifier<'a> {
 /// A message of the first shape (X.411, Message).
 #[derive(Debug, Drop)]
 pub struct Message<'a> {
+    /// Who sent it.
     pub originator: Name<'a>,
+    /// What tells it apart from all other messages.
     pub id: Identifier<'a>,
     /// The content type, 0 to 32,767.
     pub content_kind: u16,
+    /// The one recipient, whose number is 1.
     pub recipient: Name<'a>,
     /// The eight per-recipient indicator bits, the first of them the highest.
     pub indicators: u8,
+    /// Any octets, which may be none.
     pub content: &'a [u8],
 }
 
