@@ -1,0 +1,5 @@
+pub mod Added
+pub mod Ended
+pub mod Lines
+pub mod Pieces
+pub mod Stored
