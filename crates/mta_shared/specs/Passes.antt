@@ -30,6 +30,7 @@ pub record Worked {E : Type 0} (p q : Held E) : Type 0 where
   pub from : q.from ≡ p.from
 
 module _ {V E : Type 0} where
+  -- which lock it is
   abbrev pub lock_of : Shared V E → TableId
   lock_of s = s.table.shared.table_id
 
@@ -54,3 +55,8 @@ module _ {E V : Type 0} where
 
   abbrev pub sitting : Seat (Option V) (View E) → Held E
   sitting s = held_as s.table_id true s.me.0
+
+module _ {V E : Type 0} where
+  -- the turn was taken, and not given back
+  abbrev pub IsTaken : Turn V E → Type 0
+  IsTaken t = InTurn t.seat.me

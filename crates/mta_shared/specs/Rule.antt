@@ -7,7 +7,7 @@ use lib.ListN.{get_elem?}
 use Rattle.atomic_table.specs.Table.{State, Me, Step}
 use Rattle.mta_shared.specs.declared.history.Base.{Base}
 use Rattle.mta_shared.specs.declared.history.View.{View}
-use Rattle.mta_shared.specs.Counts.{total, times, row}
+use Rattle.mta_shared.specs.Counts.{total, times, row, OwnsPlaces}
 
 abbrev pub all_parts : ℕ
 all_parts = 4294967296
@@ -60,10 +60,8 @@ module _ {E : Type 0} where
     pub no_met : v.met ≡ []
     pub alive : 0 < v.parts
 
-  -- a view's own positions are places of what it has seen, each once
-  pub record IsSound (v : View E) : Type 0 where
-    pub within : (p : ℕ) → length v.seen ≤ p → times p v.own ≡ 0
-    pub once : (p : ℕ) → times p v.own ≤ 1
+  abbrev pub IsSound : View E → Type 0
+  IsSound v = OwnsPlaces v.seen v.own
 
   -- what the rule says of one view
   pub record Fits (from : ℕ) (base : Base) (longest : List E) (u : View E) : Type 0 where
