@@ -6,9 +6,13 @@ use Rattle.mta_shared.specs.declared.history.View.{View}
 use Rattle.atomic_table.specs.declared.badge.Badge.{Badge}
 use Rattle.mta_shared.specs.Rule.{spent, IsFree, IsSound}
 
+-- which lock it is
+abbrev pub LockId : Type 0
+LockId = TableId
+
 -- `rests` says that it has no turn
 pub record Held (E : Type 0) : Type 0 where
-  pub lock : TableId
+  pub lock : LockId
   pub rests : Bool
   pub seen : List E
   pub own : List ℕ
