@@ -70,7 +70,11 @@ fn add_once<R: Wait>(rt: &R, lock: &Shared<Numbers>, pass: &mut Pass<u64>, numbe
 }
 
 // Adds 4 by one pass, 5 by another and 6 by the first.
-fn add_three<R: Wait>(rt: &R, alloc: Global, numbers: Numbers) -> Result<(Numbers, [usize; 3]), Numbers> {
+fn add_three<R: Wait>(
+    rt: &R,
+    alloc: Global,
+    numbers: Numbers,
+) -> Result<(Numbers, [usize; 3]), Numbers> {
     let (lock, mut pass) = Shared::open(alloc, numbers)?;
     lock_crosses(&lock);
     pass_crosses(&pass);

@@ -1,12 +1,12 @@
 //! Takes turns with a lock in many threads. The words are the number of threads, 1 to 16, and the turns of each.
 #![tactic(auto)]
+
 ghost use Rattle.std.specs.Prelude.{◌≡◌, ◌<◌, ◌≤◌, ◌^◌, ℕ, [], ◌++◌, ◌∷◌, length, OnOk, IfOk, vec_len};
 
 use mta_recorder::{Batch, Disk, Failed, Recorder, Run, record_side_by_side};
 use std::alloc::{AllocError, Global};
-use std::env;
 use std::env::Env;
-use std::io;
+use std::{env, io};
 
 /// A disk in memory.
 #[derive(Drop)]
