@@ -1,0 +1,35 @@
+-- Lists that are emptied from their end.
+use Rattle.std.proofs.Common.{◌≡◌, ℕ, suc, ◌+◌, List, [], ◌∷◌, ◌++◌, map, reverse, length, All, ap, ◌∙◌, arith, length-append, append-nil, take, drop, take_all, drop_of_length-le}
+use mathlib.Core.List.{IsPrefix}
+use Rattle.std.proofs.lemmas.List.{reverse-append}
+use Rattle.std.proofs.lemmas.List.Elements.{All-cons}
+use Rattle.mta_recorder.specs.declared.whole.Job.{Job}
+use Rattle.mta_recorder.specs.Wholes.{StandsIn}
+use Rattle.mta_recorder.proofs.Standing.{stands_on}
+
+module _ {X : Type 0} (P : X → Type 0) where
+  tail_of : (x : X) (xs : List X) → All P (x ∷ xs) → All P xs
+  tail_of x xs h k d l = h (suc k) d (omega arith)
+
+  pub all_last : (xs : List X) (x : X) → All P (xs ++ x ∷ []) → P x
+  all_last [] x h = h 0 x (omega arith)
+  all_last (y ∷ ys) x h = all_last ys x (tail_of y (ys ++ x ∷ []) h)
+
+  pub all_front : (xs : List X) (x : X) → All P (xs ++ x ∷ []) → All P xs
+  all_front [] x h = λ k d l. absurd (omega arith)
+  all_front (y ∷ ys) x h = All-cons P y ys (h 0 y (let e : length (ys ++ x ∷ []) ≡ length ys + 1 = length-append ys (x ∷ []) in omega arith)) (all_front ys x (tail_of y (ys ++ x ∷ []) h))
+
+pub reverse_map-cons : {X Y : Type 0} (f : X → Y) (x : X) (xs : List X) → reverse (map f (x ∷ xs)) ≡ reverse (map f xs) ++ f x ∷ []
+reverse_map-cons f x xs = reverse-append (f x ∷ []) (map f xs)
+
+-- the passes joined so far have seen a beginning of the longer history, and so has the next one
+pub told_more : (xs ys : List ℕ) (j : Job) (js : List Job) → All (StandsIn xs) js → IsPrefix xs ys → IsPrefix j.pass.seen ys → StandsIn j.pass.seen j → All (StandsIn ys) (j ∷ js)
+told_more xs ys j js all pre mine own = All-cons (StandsIn ys) j js (stands_on j.pass.seen ys j mine own) (λ k d l. stands_on xs ys _ pre (all k d l))
+
+pub empty_front : {X : Type 0} (xs ys zs : List X) → length xs ≡ 0 → xs ++ ys ≡ zs → ys ≡ zs
+empty_front [] ys zs h e = e
+empty_front (x ∷ xs) ys zs h e = absurd (omega arith)
+
+-- a vector after its whole slice was written
+pub written : {X : Type 0} (xs ys : List X) (n : ℕ) → n ≡ length ys → length xs ≡ length ys → take n (xs ++ drop (length xs) ys) ≡ xs
+written xs ys n e e' = ap (λ l. take n (xs ++ l)) (drop_of_length-le ys (omega arith)) ∙ (ap (take n) (append-nil xs) ∙ take_all n xs (omega arith))

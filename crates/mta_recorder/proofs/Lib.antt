@@ -1,0 +1,4 @@
+pub mod Telling
+pub mod Standing
+pub mod Gathering
+pub mod Along

@@ -1,0 +1,4 @@
+pub mod Disks
+pub mod Recorders
+pub mod Tolds
+pub mod Wholes
