@@ -1,8 +1,26 @@
-//! BER (X.690): octets that are kept, and want of memory.
+//! BER (X.690): elements that are read from the front and lent, and the one spelling that is written.
 #![tactic(auto)]
 
+mod element;
+mod fault;
+mod head;
+mod int;
 mod memory;
 mod octets;
+mod parts;
+mod reading;
+mod strings;
+mod tag;
+mod text;
+mod view;
+mod writer;
+mod writing;
 
+pub use fault::{Fault, Kind, ReadFault};
 pub use memory::Memory;
 pub use octets::Octets;
+pub use parts::{Components, take_parts};
+pub use tag::Tag;
+pub use text::{Text, TextClass};
+pub use view::{Parts, View};
+pub use writer::Writer;

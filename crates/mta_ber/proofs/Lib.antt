@@ -1,0 +1,11 @@
+pub mod Numbers
+pub mod Rows
+pub mod PartsLoop
+pub mod Gather
+pub mod Steps
+pub mod HeadLaws
+pub mod CanonLaws
+pub mod RoundTrip
+pub mod RowLaws
+pub mod FirstLaws
+pub mod OrderLaws

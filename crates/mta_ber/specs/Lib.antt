@@ -1,0 +1,10 @@
+pub mod Head
+pub mod Seen
+pub mod Element
+pub mod Int
+pub mod Parts
+pub mod Text
+pub mod Canon
+pub mod Spelling
+pub mod Place
+pub mod Orders

@@ -1,0 +1,134 @@
+//! Writing.
+
+ghost use Rattle.std.specs.Prelude.{◌≡◌, ◌<◌, ◌≤◌, ◌^◌, ◌+◌, ◌++◌, Option, ◌∷◌, [], length, IfOk, OnOk};
+ghost use Rattle.mta_ber.specs.Canon.{IsTag, Written, drop_zeros, length_octets, high_octets, ident_octets, element, ended, appended};
+
+use crate::tag::Tag;
+use crate::writer::{Frame, Writer};
+use std::alloc::{AllocError, Global};
+
+/// The octets without the zeros in front.
+fn significant(octets: &[u8]) -> &[u8]
+    ensures exact { result.now ≡ drop_zeros octets.now }
+    ensures within { length result.now ≤ length octets.now }
+{
+    match octets {
+        [] => octets,
+        [first, rest @ ..] => {
+            if *first == 0 {
+                significant(rest)
+            } else {
+                octets
+            }
+        }
+    }
+}
+
+#[tactic(auto, unfolding(crate::specs::Canon::length_octets))]
+fn put_length(out: &mut Vec<u8>, count: usize) -> Result<(), AllocError>
+    ensures { OnOk result (out.new.items ≡ out.old.items ++ length_octets count) }
+{
+    if count < 128 {
+        out.push(count as u8)?;
+        return Ok(());
+    }
+    let octets = (count as u64).to_be_bytes();
+    let digits = significant(&octets);
+    out.push(128 + digits.len() as u8)?;
+    out.extend_from_slice(digits)?;
+    Ok(())
+}
+
+#[tactic(auto, unfolding(crate::specs::Canon::high_octets))]
+fn put_high(out: &mut Vec<u8>, number: u32) -> Result<(), AllocError>
+    requires { number < 2 ^ 28 }
+    ensures { OnOk result (out.new.items ≡ out.old.items ++ high_octets number) }
+{
+    let last = (number % 128) as u8;
+    if number < 128 {
+        out.push(number as u8)?;
+        return Ok(());
+    }
+    let second = 128 + (number / 128 % 128) as u8;
+    if number < 16384 {
+        out.extend_from_slice(&[128 + (number / 128) as u8, last])?;
+        return Ok(());
+    }
+    if number < 2097152 {
+        out.extend_from_slice(&[128 + (number / 16384) as u8, second, last])?;
+        return Ok(());
+    }
+    let third = 128 + (number / 16384 % 128) as u8;
+    out.extend_from_slice(&[128 + (number / 2097152) as u8, third, second, last])?;
+    Ok(())
+}
+
+#[tactic(auto, unfolding(crate::specs::Canon::ident_octets))]
+fn put_ident(out: &mut Vec<u8>, tag: Tag) -> Result<(), AllocError>
+    requires { IsTag tag }
+    ensures { OnOk result (out.new.items ≡ out.old.items ++ ident_octets tag) }
+{
+    let front = tag.class * 64 + if tag.constructed { 32 } else { 0 };
+    if tag.number < 31 {
+        out.push(front + tag.number as u8)?;
+        return Ok(());
+    }
+    out.push(front + 31)?;
+    put_high(out, tag.number)
+}
+
+#[tactic(auto, unfolding(crate::specs::Canon::element))]
+fn put_element(out: &mut Vec<u8>, tag: Tag, content: &[u8]) -> Result<(), AllocError>
+    requires { IsTag tag }
+    ensures { OnOk result (out.new.items ≡ out.old.items ++ element tag content.now) }
+{
+    put_ident(out, tag)?;
+    put_length(out, content.len())?;
+    out.extend_from_slice(content)?;
+    Ok(())
+}
+
+impl Writer {
+    /// An empty writer.
+    pub fn new(alloc: Global) -> Writer
+        ensures { result ≡ record { frames = []; octets = [] } }
+    {
+        Writer {
+            alloc,
+            outer: Vec::new(alloc),
+            octets: Vec::new(alloc),
+        }
+    }
+
+    /// Appends one element with definite minimal length.
+    pub fn put(&mut self, tag: Tag, content: &[u8]) -> Result<(), AllocError>
+        requires { IsTag tag }
+        ensures { OnOk result (self.new ≡ appended self.old (element tag content.now)) }
+    {
+        put_element(&mut self.octets, tag, content)
+    }
+
+    /// Begins an element that encloses what is put until its end.
+    pub fn begin(&mut self, tag: Tag) -> Result<(), AllocError>
+        requires { IsTag tag }
+        ensures { OnOk result (self.new ≡ record { frames = (tag, self.old.octets) ∷ self.old.frames; octets = [] }) }
+    {
+        let before = std::mem::replace(&mut self.octets, Vec::new(self.alloc));
+        self.outer.push(Frame { tag, before })?;
+        Ok(())
+    }
+
+    /// Ends the element that was begun last.
+    pub fn end(&mut self) -> Result<(), AllocError>
+        requires { 0 < length self.old.frames }
+        ensures { OnOk result (self.new ≡ ended self.old) }
+    {
+        match self.outer.pop() {
+            None => Ok(()),
+            Some(Frame { tag, before }) => {
+                let content = std::mem::replace(&mut self.octets, before);
+                put_element(&mut self.octets, tag, content.as_slice())
+            }
+        }
+    }
+}
