@@ -1,7 +1,7 @@
 pub mod Numbers
 pub mod Rows
 pub mod PartsLoop
-pub mod Gather
+pub mod Segments
 pub mod Steps
 pub mod HeadLaws
 pub mod CanonLaws

@@ -9,10 +9,10 @@ use Rattle.mta_ber.specs.declared.text.TextClass.{TextClass}
 use Rattle.mta_ber.specs.Head.{◌>>=◌, head, ident}
 use Rattle.mta_ber.specs.Element.{Part, part, part_from, first, outermost}
 use Rattle.mta_ber.specs.Parts.{parts_from, parts_of}
-use Rattle.mta_ber.specs.Text.{joined, class_tag, between, text_in, IsText}
+use Rattle.mta_ber.specs.Strings.{octets_piece, joined_as, class_number, between, text_in, IsText}
 use Rattle.mta_ber.specs.Canon.{element, ident_octets, length_octets, high_octets}
 use Rattle.mta_ber.proofs.HeadLaws.{head_again}
-use Rattle.mta_ber.proofs.Gather.{gather_primitive}
+use Rattle.mta_ber.proofs.Segments.{gather_primitive}
 use Rattle.mta_ber.proofs.CanonLaws.{IsLowTag, header_octets, header_spelled, element_is, element_split, lent, few_significant}
 
 abbrev lent_as : ℕ → ℕ → Tag → ℕ → List ℕ → List ℕ → List ℕ → Part
@@ -118,9 +118,9 @@ element_short t content = omega (arith, few_ident t, few_length (length content)
 -- ---- texts
 
 pub text_again : (class : TextClass) (low high : ℕ) (p : Part) → p.tag.constructed ≡ false → p.depth ≤ 16 → IsText class low high p.content → text_in class low high p ≡ Ok p.content
-unfolding text_in joined
+unfolding text_in joined_as
 text_again class low high p primitive d h =
-    let g = gather_primitive (class_tag class) [] p d primitive in
+    let g = gather_primitive octets_piece 4 (class_number class) true [] p d primitive in
     let size : between low high (length p.content) ≡ true = within low high (length p.content) h.at_least h.at_most in
     rw (g, h.characters, size) refl
   where

@@ -3,7 +3,8 @@ pub mod Seen
 pub mod Element
 pub mod Int
 pub mod Parts
-pub mod Text
+pub mod Strings
+pub mod Bits
 pub mod Canon
 pub mod Spelling
 pub mod Place

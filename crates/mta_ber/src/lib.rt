@@ -1,8 +1,10 @@
 //! BER (X.690): elements that are read from the front and lent, and the one spelling that is written.
 #![tactic(auto)]
 
+mod bits;
 mod element;
 mod fault;
+mod gather;
 mod head;
 mod int;
 mod memory;
@@ -16,6 +18,7 @@ mod view;
 mod writer;
 mod writing;
 
+pub use bits::Bits;
 pub use fault::{Fault, Kind, ReadFault};
 pub use memory::Memory;
 pub use octets::Octets;

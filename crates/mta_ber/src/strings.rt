@@ -1,46 +1,27 @@
-//! Reading strings.
+//! Reading octet and character strings.
 
-ghost use Rattle.std.specs.Prelude.{◌≡◌, ◌-◌, [], List, IfOk};
+ghost use Rattle.std.specs.Prelude.{◌≡◌, ◌-◌, ◌++◌, [], List, Ok, IfOk, true, Some, None, if◌then◌else◌};
 ghost use Rattle.std.specs.List.{list_all};
 ghost use Rattle.mta_ber.specs.Parts.{Leaves, Reads};
 ghost use Rattle.mta_ber.specs.Seen.{view};
-ghost use Rattle.mta_ber.specs.Text.{is_segment, gather, joined, text_in, in_class, class_tag, IsText};
+ghost use Rattle.mta_ber.specs.Strings.{octets_piece, gather, joined_as, joined, own_number, text_in, in_class, class_number, IsText};
 
 use crate::fault::{Fault, Kind, ReadFault};
+use crate::gather::{Gathers, gather_of};
+use crate::octets::Octets;
 use crate::tag::Tag;
 use crate::text::{Text, TextClass};
 use crate::view::View;
 use std::alloc::Global;
 
-fn is_segment_of(tag: Tag, own: u32) -> bool
-    ensures { result ≡ is_segment own tag }
-{
-    tag.class == 0 && (tag.number == 4 || tag.number == own)
-}
+impl Gathers for Octets {
+    ghost piece = { octets_piece };
 
-/// Appends the octets of a string, segments joined.
-#[tactic(auto, unfolding(crate::specs::Text::gather))]
-fn gather_of(out: &mut Vec<u8>, whole: &View, own: u32) -> Result<(), ReadFault>
-    ensures { Leaves result out.new.items (gather (17 - whole.now.depth) own out.old.items (view whole.now)) }
-{
-    if !whole.tag.constructed {
-        out.extend_from_slice(whole.content)?;
-        return Ok(());
-    }
-    let mut parts = whole.parts();
-    'parts: loop {
-        match parts.next()? {
-            None => return Ok(()),
-            Some(part) => {
-                if !is_segment_of(part.tag, own) {
-                    return Err(ReadFault::Bad(Fault {
-                        at: part.at,
-                        kind: Kind::BadTag,
-                    }));
-                }
-                gather_of(out, &part, own)?;
-            }
-        }
+    ghost takes_memory = { true };
+
+    fn take(&mut self, _last: bool, part: &View) -> Result<(), ReadFault> {
+        self.extend(part.content)?;
+        Ok(())
     }
 }
 
@@ -62,14 +43,15 @@ fn is_in_class(class: TextClass, c: u8) -> bool
     }
 }
 
-fn all_in_class(class: TextClass, octets: &[u8]) -> bool
+/// Whether all characters are of the class.
+pub fn is_of_class(class: TextClass, octets: &[u8]) -> bool
     ensures { result ≡ list_all (in_class class) octets.now }
 {
     octets.iter().all(|c| is_in_class(class, *c))
 }
 
-fn class_tag_of(class: TextClass) -> u32
-    ensures { result ≡ class_tag class }
+fn class_number_of(class: TextClass) -> u32
+    ensures { result ≡ class_number class }
 {
     match class {
         TextClass::Numeric => 18,
@@ -78,18 +60,44 @@ fn class_tag_of(class: TextClass) -> u32
     }
 }
 
-impl View<'_> {
-    #[tactic(auto, unfolding(crate::specs::Text::joined))]
-    fn octets(&self, alloc: Global, own: u32) -> Result<Text, ReadFault>
-        ensures { Reads result (joined own (view self.now)) }
+fn own_number_of(tag: Tag) -> u32
+    ensures { result ≡ own_number tag }
+{
+    if tag.class == 0 { tag.number } else { 4 }
+}
+
+impl<'a> View<'a> {
+    /// The content where the element is primitive, and `None` exactly where it is constructed.
+    pub fn plain(&self) -> Option<&'a [u8]>
+        ensures { result ≡ (if self.now.tag.constructed then None else Some self.now.content) }
     {
-        let mut out = Vec::new(alloc);
-        gather_of(&mut out, self, own)?;
-        Ok(Text::from_vec(out))
+        if self.tag.constructed {
+            None
+        } else {
+            Some(self.content)
+        }
     }
 
-    /// The characters.
-    #[tactic(auto, unfolding(crate::specs::Text::text_in))]
+    #[tactic(auto, unfolding(crate::specs::Strings::joined_as))]
+    fn joined_by(&self, alloc: Global, own: u32) -> Result<Octets, ReadFault>
+        ensures { Reads result (joined_as own (view self.now)) }
+    {
+        let mut out = Octets::new(alloc);
+        gather_of(&mut out, self, 4, own, true)?;
+        Ok(out)
+    }
+
+    /// The octets of an octet or character string, segments joined (X.690, 8.7). A segment has the tag of OCTET STRING, or
+    /// the element's own tag number where that is of the universal class.
+    pub fn joined(&self, alloc: Global) -> Result<Octets, ReadFault>
+        ensures { Reads result (joined (view self.now)) }
+    {
+        self.joined_by(alloc, own_number_of(self.tag))
+    }
+
+    /// The characters of a string of a class and of `low` to `high` characters (X.690, 8.23). A segment has the tag of OCTET
+    /// STRING or the universal tag of the class.
+    #[tactic(auto, unfolding(crate::specs::Strings::text_in))]
     pub fn text(
         &self,
         alloc: Global,
@@ -100,20 +108,20 @@ impl View<'_> {
         ensures exact { Reads result (text_in class low high (view self.now)) }
         ensures fits { IfOk result (IsText class low high) }
     {
-        let text = self.octets(alloc, class_tag_of(class))?;
-        if !all_in_class(class, text.as_slice()) {
+        let octets = self.joined_by(alloc, class_number_of(class))?;
+        if !is_of_class(class, octets.as_slice()) {
             return Err(ReadFault::Bad(Fault {
                 at: self.at,
                 kind: Kind::BadText,
             }));
         }
-        let count = text.as_slice().len();
+        let count = octets.len();
         if count < (low as usize) || (high as usize) < count {
             return Err(ReadFault::Bad(Fault {
                 at: self.at,
                 kind: Kind::BadSize,
             }));
         }
-        Ok(text)
+        Ok(Text::from_octets(octets))
     }
 }
