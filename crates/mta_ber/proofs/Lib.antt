@@ -1,4 +1,5 @@
 pub mod Numbers
+pub mod BitLaws
 pub mod Rows
 pub mod PartsLoop
 pub mod Segments

@@ -30,7 +30,7 @@ room_8 (suc (suc (suc (suc (suc (suc (suc (suc i)))))))) n lt h = absurd (omega 
 pub one_digit_more : (m i n d : ℕ) → n < m ^ i → d < m → n * m + d < m ^ (i + 1)
 one_digit_more m i n d h lt = rw (add-one, pow-suc m i) (grind arith)
 
-fold_below : (a : ℕ) (xs : List ℕ) → fold (λ n b. n * 256 + b % 256) a xs < (a + 1) * 256 ^ length xs
+pub fold_below : (a : ℕ) (xs : List ℕ) → fold (λ n b. n * 256 + b % 256) a xs < (a + 1) * 256 ^ length xs
 fold_below a [] = omega arith
 fold_below a (x ∷ xs) =
     let h = fold_below (a * 256 + x % 256) xs in
