@@ -1,5 +1,7 @@
 pub mod Numbers
 pub mod BitLaws
+pub mod Maps
+pub mod TimeLaws
 pub mod Rows
 pub mod PartsLoop
 pub mod Segments

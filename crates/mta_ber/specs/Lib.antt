@@ -5,6 +5,7 @@ pub mod Int
 pub mod Parts
 pub mod Strings
 pub mod Bits
+pub mod Times
 pub mod Canon
 pub mod Spelling
 pub mod Place
