@@ -7,7 +7,7 @@ use Rattle.std.proofs.lemmas.List.{take_at, drop_at, take-append-drop, length-ap
 use Rattle.mta_ber.specs.declared.tag.Tag.{Tag}
 use Rattle.mta_ber.specs.Head.{base, group, ident, definite, cut, behind, length_at, bad_number, is_constructed, tag_of, Header, header_from, head}
 use Rattle.mta_ber.specs.Canon.{class_octet}
-use Rattle.mta_ber.specs.Spelling.{IsGroup, IsHigh, IsIdent, IsLength, IsCount, IsHeader}
+use Rattle.mta_ber.specs.Spelling.{IsOctets, IsGroup, IsHigh, IsIdent, IsLength, IsCount, IsHeader}
 use Rattle.mta_ber.proofs.Steps.{bind_ok, chosen, passed, ok_is}
 
 -- ---- the octets of a number in base 128
@@ -191,7 +191,7 @@ head_again at depth t count octets body h fits d =
 
 -- every octet is below 256
 abbrev pub IsBytes : List ℕ → Type 0
-IsBytes bytes = (i : ℕ) → get_or bytes i 0 < 256
+IsBytes bytes = IsOctets bytes
 
 -- an identifier that was read
 pub record Read (first : ℕ) (high r bytes : List ℕ) : Type 0 where

@@ -55,7 +55,7 @@ first_again at t content r low lt =
 
 -- ---- parts
 
-no_part : (at depth : ℕ) (p : Part) → part at depth [] ≡ Ok p → ⊥
+pub no_part : (at depth : ℕ) (p : Part) → part at depth [] ≡ Ok p → ⊥
 unfolding part head ident
 no_part at depth p e = cc
 

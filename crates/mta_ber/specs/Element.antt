@@ -1,7 +1,7 @@
 -- Elements: where an indefinite content ends, and the parts that a reader is lent.
 use Rattle.std.specs.Prelude.{◌≡◌, ℕ, zero, suc, ◌+◌, ◌-◌, Bool, true, false, List, [], ◌∷◌, length, take, drop, Option, Some, None, Result, Ok, ◌==◌, if◌then◌else◌, ◌&&◌}
 use Rattle.mta_ber.specs.declared.fault.Fault.{Fault}
-use Rattle.mta_ber.specs.declared.fault.Kind.TheVariants.{Truncated}
+use Rattle.mta_ber.specs.declared.fault.Kind.TheVariants.{Truncated, BadTag}
 use Rattle.mta_ber.specs.declared.tag.Tag.{Tag}
 use Rattle.mta_ber.specs.Head.{◌>>=◌, fault, Header, head}
 
@@ -84,3 +84,19 @@ next_part at depth (b ∷ bs) = part at depth (b ∷ bs) >>= λ p. Ok (Some p)
 pub record IsBehind (at : ℕ) (bytes rest : List ℕ) (new_at : ℕ) (left : List ℕ) : Type 0 where
   pub follows : left ≡ rest
   pub offset : new_at ≡ at + (length bytes - length rest)
+
+-- the one element inside an explicit tag; where none stands, its identifier octet is missing
+unfoldable pub inner : Part → Result Part Fault
+inner p = if p.tag.constructed then part p.start (p.depth + 1) p.content else fault p.at BadTag
+
+-- nothing stands behind an element in what encloses it
+abbrev pub nothing_at : ℕ → ℕ → List ℕ → Result (Unit {0}) Fault
+nothing_at at depth [] = Ok tt
+nothing_at at depth (b ∷ bs) = part at depth (b ∷ bs) >>= λ q. fault q.at BadTag
+
+unfoldable pub alone : Part → Result (Unit {0}) Fault
+alone p = nothing_at (p.at + length p.octets) p.depth p.rest
+
+-- an explicit tag around what `read` reads
+abbrev pub explicit : {A : Type 0} → (Part → Result A Fault) → Part → Result A Fault
+explicit read p = inner p >>= λ q. read q >>= λ x. alone q >>= λ _. Ok x

@@ -6,6 +6,8 @@ pub mod Parts
 pub mod Strings
 pub mod Bits
 pub mod Times
+pub mod Oid
+pub mod Word
 pub mod Canon
 pub mod Spelling
 pub mod Place

@@ -2,6 +2,7 @@
 #![tactic(auto)]
 
 mod bits;
+mod components;
 mod element;
 mod fault;
 mod gather;
@@ -9,6 +10,7 @@ mod head;
 mod int;
 mod memory;
 mod octets;
+mod oid;
 mod parts;
 mod reading;
 mod stamp;
@@ -17,16 +19,21 @@ mod tag;
 mod text;
 mod utc;
 mod view;
+mod word;
 mod writer;
 mod writing;
 
 pub use bits::Bits;
+pub use components::{bad, check_order, is_tag_of, take_required};
 pub use fault::{Fault, Kind, ReadFault};
 pub use memory::Memory;
 pub use octets::Octets;
+pub use oid::is_oid_content;
 pub use parts::{Components, take_parts};
 pub use tag::Tag;
+pub use strings::is_of_class;
 pub use text::{Text, TextClass};
 pub use utc::LAST_MOMENT;
 pub use view::{Parts, View};
+pub use word::Word;
 pub use writer::Writer;

@@ -1,14 +1,14 @@
 //! Reading elements from the front.
 
-ghost use Rattle.std.specs.Prelude.{◌≡◌, ◌+◌, ◌-◌, ◌<◌, ◌≤◌, ◌^◌, length, IfOk, OnOk, IfSome, IsTrue, IfNone, OnErr, IsOkAnd, ℕ, List, ◌++◌};
-ghost use Rattle.mta_ber.specs.Element.{part, part_from, first, next_part, outermost, IsBehind};
+ghost use Rattle.std.specs.Prelude.{◌≡◌, ◌+◌, ◌-◌, ◌<◌, ◌≤◌, ◌^◌, length, IfOk, OnOk, IfSome, IsTrue, IfNone, OnErr, IsOkAnd, IsSomeAnd, ℕ, List, ◌++◌, [], ◌↔◌};
+ghost use Rattle.mta_ber.specs.Element.{part, part_from, first, next_part, inner, alone, outermost, IsBehind};
 ghost use Rattle.mta_ber.specs.declared.tag.Tag.{Tag};
-ghost use Rattle.mta_ber.specs.Spelling.{Standing, Stands, IsLentAt};
+ghost use Rattle.mta_ber.specs.Spelling.{Standing, Stands, IsLentAt, IsOctets};
 ghost use Rattle.mta_ber.specs.Place.{IsTail, IsAt};
 ghost use Rattle.mta_ber.specs.Seen.{Gives, head_view, view, next_view};
 
 use crate::element::run_of;
-use crate::fault::Fault;
+use crate::fault::{Fault, Kind};
 use crate::head::{Head, head_of};
 use crate::view::{Parts, View};
 
@@ -115,6 +115,39 @@ impl<'a> View<'a> {
         first_of(bytes, at)
     }
 
+    /// The one element inside an explicit tag (X.690, 8.14). BadTag where this element is primitive, and Truncated at the
+    /// offset of its content where that is empty. That nothing stands behind it is for `alone` to say, once it was read.
+    #[tactic(auto, unfolding(crate::specs::Element::inner))]
+    pub fn inner(&self) -> Result<View<'a>, Fault>
+        ensures exact { Gives view result (inner (view self.now)) }
+        ensures place { IfOk result (λ v. IsAt (v.start - self.now.start) v.content self.now.content) }
+        ensures front { IfOk result (λ v. IsAt 0 v.octets self.now.content) }
+        ensures tail { IfOk result (λ v. IsTail v.rest self.now.content) }
+    {
+        if !self.tag.constructed {
+            return Err(Fault {
+                at: self.at,
+                kind: Kind::BadTag,
+            });
+        }
+        part_of(self.content, self.start, self.depth + 1)
+    }
+
+    /// That no element stands behind this one in what encloses it: else its fault, or BadTag there.
+    #[tactic(auto, unfolding(crate::specs::Element::alone))]
+    pub fn alone(&self) -> Result<(), Fault>
+        ensures { result ≡ alone (view self.now) }
+    {
+        if self.rest.is_empty() {
+            return Ok(());
+        }
+        let behind = part_of(self.rest, self.at + self.octets.len() as u32, self.depth)?;
+        Err(Fault {
+            at: behind.at,
+            kind: Kind::BadTag,
+        })
+    }
+
     /// The elements of a constructed content.
     pub fn parts(&self) -> Parts<'a>
         requires { IsTrue self.now.tag.constructed }
@@ -130,10 +163,23 @@ impl<'a> View<'a> {
     }
 }
 
+fn is_none(octets: &[u8]) -> bool
+    ensures exact { IsTrue result ↔ (octets.now ≡ []) }
+    ensures octets { IsOctets octets.now }
+{
+    octets.is_empty()
+}
+
 impl<'a> Parts<'a> {
-    /// The next part; `None` exactly at the end. An `Err` changes nothing.
+    fn is_done(&self) -> bool
+        ensures exact { IsTrue result ↔ (self.now.left.now ≡ []) }
+        ensures octets { IsOctets self.now.left.now }
+    {
+        is_none(self.left)
+    }
+
     #[tactic(auto, unfolding(crate::specs::Element::next_part))]
-    pub fn next(&mut self) -> Result<Option<View<'a>>, Fault>
+    fn next_of(&mut self) -> Result<Option<View<'a>>, Fault>
         ensures exact { Gives next_view result (next_part self.old.at (self.old.depth + 1) self.old.left.now) }
         ensures moved { IfOk result (λ o. IfSome o (λ v. IsBehind self.old.at self.old.left.now v.rest.now self.new.at self.new.left.now)) }
         ensures shorter { IfOk result (λ o. IfSome o (λ v. length self.new.left.now < length self.old.left.now)) }
@@ -144,13 +190,38 @@ impl<'a> Parts<'a> {
         ensures depth { self.new.depth ≡ self.old.depth }
         ensures deeper { IfOk result (λ o. IfSome o (λ v. v.depth ≡ self.old.depth + 1)) }
         ensures stays { OnErr result ((self.new.at ≡ self.old.at) × (self.new.left.now ≡ self.old.left.now)) }
+        ensures octets { IsOctets self.old.left.now }
     {
-        if self.left.is_empty() {
+        if self.is_done() {
             return Ok(None);
         }
         let view = part_of(self.left, self.at, self.depth + 1)?;
         self.at += (self.left.len() - view.rest.len()) as u32;
         self.left = view.rest;
         Ok(Some(view))
+    }
+
+    /// The next part; `None` exactly at the end. An `Err` changes nothing.
+    pub fn next(&mut self) -> Result<Option<View<'a>>, Fault>
+        // Which element it is, or which fault comes first.
+        ensures exact { Gives next_view result (next_part self.old.at (self.old.depth + 1) self.old.left.now) }
+
+        // What is answered is spelled at the front of what was left, and what is spelled there is answered.
+        ensures found { IfOk result (λ o. IfSome o (λ v. Standing self.old.at (self.old.depth + 1) (view v) self.old.left.now)) }
+        ensures only { (t : Tag) (content octets rest : List ℕ) → Stands (self.old.depth + 1) t content octets → self.old.left.now ≡ octets ++ rest
+            → IsOkAnd result (λ o. IsSomeAnd o (λ v. (v.tag ≡ t) × (v.content.now ≡ content) × (v.rest.now ≡ rest) × (v.octets.now ≡ octets))) }
+
+        // What is left afterwards, and where the slices lie.
+        ensures moved { IfOk result (λ o. IfSome o (λ v. IsBehind self.old.at self.old.left.now v.rest.now self.new.at self.new.left.now)) }
+        ensures shorter { IfOk result (λ o. IfSome o (λ v. length self.new.left.now < length self.old.left.now)) }
+        ensures ended { IfOk result (λ o. IfNone o (length self.old.left.now ≡ 0)) }
+        ensures place { IfOk result (λ o. IfSome o (λ v. IsAt (v.start - self.old.at) v.content self.old.left)) }
+        ensures front { IfOk result (λ o. IfSome o (λ v. IsAt 0 v.octets self.old.left)) }
+        ensures tail { IfOk result (λ o. IsTail self.new.left self.old.left) }
+        ensures depth { self.new.depth ≡ self.old.depth }
+        ensures deeper { IfOk result (λ o. IfSome o (λ v. v.depth ≡ self.old.depth + 1)) }
+        ensures stays { OnErr result ((self.new.at ≡ self.old.at) × (self.new.left.now ≡ self.old.left.now)) }
+    {
+        self.next_of()
     }
 }
