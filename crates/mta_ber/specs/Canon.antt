@@ -1,5 +1,5 @@
 -- The one spelling that is written: definite minimal lengths, primitive strings, SETs in the order of their tags.
-use Rattle.std.specs.Prelude.{ℕ, zero, suc, ◌+◌, ◌*◌, ◌/◌, ◌%◌, ◌<◌, ◌^◌, true, false, List, [], ◌∷◌, ◌++◌, length, Option, Some, None, nat_lt, if◌then◌else◌}
+use Rattle.std.specs.Prelude.{◌≡◌, take, ℕ, zero, suc, ◌+◌, ◌*◌, ◌/◌, ◌%◌, ◌<◌, ◌^◌, true, false, List, [], ◌∷◌, ◌++◌, length, Option, Some, None, nat_lt, if◌then◌else◌}
 use Rattle.std.specs.Int.{w64, to_be_bytes}
 use Rattle.mta_ber.specs.declared.tag.Tag.{Tag}
 
@@ -55,3 +55,11 @@ ended w = elim (w.frames) [ [] ↦ w | f ∷ fs ↦ record { frames = fs; octets
 -- behind what was put before
 abbrev pub appended : Written → List ℕ → Written
 appended w octets = record { frames = w.frames; octets = w.octets ++ octets }
+
+-- an element is begun, behind what was put before
+abbrev pub begun : Tag → Written → Written
+begun t w = record { frames = (t, w.octets) ∷ w.frames; octets = [] }
+
+-- octets that begin with others
+abbrev pub Begins : List ℕ → List ℕ → Type 0
+Begins front whole = take (length front) whole ≡ front

@@ -4,6 +4,7 @@
 mod bits;
 mod components;
 mod element;
+mod encoding;
 mod fault;
 mod gather;
 mod head;
@@ -21,7 +22,6 @@ mod utc;
 mod view;
 mod word;
 mod writer;
-mod writing;
 
 pub use bits::Bits;
 pub use components::{bad, check_order, is_tag_of, take_required};

@@ -1,11 +1,11 @@
-//! Writing.
+//! The octets of elements that are written.
 
-ghost use Rattle.std.specs.Prelude.{◌≡◌, ◌<◌, ◌≤◌, ◌^◌, ◌+◌, ◌++◌, Option, ◌∷◌, [], length, IfOk, OnOk};
-ghost use Rattle.mta_ber.specs.Canon.{IsTag, Written, drop_zeros, length_octets, high_octets, ident_octets, element, ended, appended};
+ghost use Rattle.std.specs.Prelude.{◌≡◌, ◌<◌, ◌≤◌, ◌^◌, ◌+◌, ◌++◌, ◌∷◌, [], length, OnOk, OnErr};
+ghost use Rattle.mta_ber.specs.Canon.{IsTag, Begins, drop_zeros, length_octets, high_octets, ident_octets, element};
 
+use crate::memory::Memory;
 use crate::tag::Tag;
-use crate::writer::{Frame, Writer};
-use std::alloc::{AllocError, Global};
+use std::alloc::AllocError;
 
 /// The octets without the zeros in front.
 fn significant(octets: &[u8]) -> &[u8]
@@ -26,7 +26,8 @@ fn significant(octets: &[u8]) -> &[u8]
 
 #[tactic(auto, unfolding(crate::specs::Canon::length_octets))]
 fn put_length(out: &mut Vec<u8>, count: usize) -> Result<(), AllocError>
-    ensures { OnOk result (out.new.items ≡ out.old.items ++ length_octets count) }
+    ensures ok { OnOk result (out.new.items ≡ out.old.items ++ length_octets count) }
+    ensures begins { Begins out.old.items out.new.items }
 {
     if count < 128 {
         out.push(count as u8)?;
@@ -42,7 +43,8 @@ fn put_length(out: &mut Vec<u8>, count: usize) -> Result<(), AllocError>
 #[tactic(auto, unfolding(crate::specs::Canon::high_octets))]
 fn put_high(out: &mut Vec<u8>, number: u32) -> Result<(), AllocError>
     requires { number < 2 ^ 28 }
-    ensures { OnOk result (out.new.items ≡ out.old.items ++ high_octets number) }
+    ensures ok { OnOk result (out.new.items ≡ out.old.items ++ high_octets number) }
+    ensures begins { Begins out.old.items out.new.items }
 {
     let last = (number % 128) as u8;
     if number < 128 {
@@ -66,7 +68,8 @@ fn put_high(out: &mut Vec<u8>, number: u32) -> Result<(), AllocError>
 #[tactic(auto, unfolding(crate::specs::Canon::ident_octets))]
 fn put_ident(out: &mut Vec<u8>, tag: Tag) -> Result<(), AllocError>
     requires { IsTag tag }
-    ensures { OnOk result (out.new.items ≡ out.old.items ++ ident_octets tag) }
+    ensures ok { OnOk result (out.new.items ≡ out.old.items ++ ident_octets tag) }
+    ensures begins { Begins out.old.items out.new.items }
 {
     let front = tag.class * 64 + if tag.constructed { 32 } else { 0 };
     if tag.number < 31 {
@@ -80,7 +83,8 @@ fn put_ident(out: &mut Vec<u8>, tag: Tag) -> Result<(), AllocError>
 #[tactic(auto, unfolding(crate::specs::Canon::element))]
 fn put_element(out: &mut Vec<u8>, tag: Tag, content: &[u8]) -> Result<(), AllocError>
     requires { IsTag tag }
-    ensures { OnOk result (out.new.items ≡ out.old.items ++ element tag content.now) }
+    ensures ok { OnOk result (out.new.items ≡ out.old.items ++ element tag content.now) }
+    ensures begins { Begins out.old.items out.new.items }
 {
     put_ident(out, tag)?;
     put_length(out, content.len())?;
@@ -88,47 +92,18 @@ fn put_element(out: &mut Vec<u8>, tag: Tag, content: &[u8]) -> Result<(), AllocE
     Ok(())
 }
 
-impl Writer {
-    /// An empty writer.
-    pub fn new(alloc: Global) -> Writer
-        ensures { result ≡ record { frames = []; octets = [] } }
-    {
-        Writer {
-            alloc,
-            outer: Vec::new(alloc),
-            octets: Vec::new(alloc),
-        }
-    }
-
-    /// Appends one element with definite minimal length.
-    pub fn put(&mut self, tag: Tag, content: &[u8]) -> Result<(), AllocError>
-        requires { IsTag tag }
-        ensures { OnOk result (self.new ≡ appended self.old (element tag content.now)) }
-    {
-        put_element(&mut self.octets, tag, content)
-    }
-
-    /// Begins an element that encloses what is put until its end.
-    pub fn begin(&mut self, tag: Tag) -> Result<(), AllocError>
-        requires { IsTag tag }
-        ensures { OnOk result (self.new ≡ record { frames = (tag, self.old.octets) ∷ self.old.frames; octets = [] }) }
-    {
-        let before = std::mem::replace(&mut self.octets, Vec::new(self.alloc));
-        self.outer.push(Frame { tag, before })?;
-        Ok(())
-    }
-
-    /// Ends the element that was begun last.
-    pub fn end(&mut self) -> Result<(), AllocError>
-        requires { 0 < length self.old.frames }
-        ensures { OnOk result (self.new ≡ ended self.old) }
-    {
-        match self.outer.pop() {
-            None => Ok(()),
-            Some(Frame { tag, before }) => {
-                let content = std::mem::replace(&mut self.octets, before);
-                put_element(&mut self.octets, tag, content.as_slice())
-            }
+/// Appends the octets of an element, or leaves what stood there.
+pub fn append_element(out: &mut Vec<u8>, tag: Tag, content: &[u8]) -> Result<(), Memory>
+    requires { IsTag tag }
+    ensures ok { OnOk result (out.new.items ≡ out.old.items ++ element tag content.now) }
+    ensures err { OnErr result (out.new.items ≡ out.old.items) }
+{
+    let before = out.len();
+    match put_element(out, tag, content) {
+        Ok(()) => Ok(()),
+        Err(_) => {
+            out.truncate(before);
+            Err(Memory)
         }
     }
 }
