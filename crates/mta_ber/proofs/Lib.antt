@@ -2,6 +2,8 @@ pub mod Numbers
 pub mod BitLaws
 pub mod Maps
 pub mod TimeLaws
+pub mod DateLaws
+pub mod PutLaws
 pub mod Rows
 pub mod PartsLoop
 pub mod Segments

@@ -9,6 +9,7 @@ pub mod Times
 pub mod Oid
 pub mod Word
 pub mod Canon
+pub mod Contents
 pub mod Spelling
 pub mod Place
 pub mod Orders

@@ -102,6 +102,11 @@ impl Writer {
         }
     }
 
+    /// The allocator that it was made with.
+    pub fn alloc(&self) -> Global {
+        self.alloc
+    }
+
     /// How many elements are begun.
     pub fn begun(&self) -> usize
         ensures { result ≡ length self.now.frames }
