@@ -13,4 +13,5 @@ pub mod CanonLaws
 pub mod RoundTrip
 pub mod RowLaws
 pub mod FirstLaws
+pub mod StringLaws
 pub mod OrderLaws

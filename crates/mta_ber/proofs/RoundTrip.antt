@@ -59,7 +59,7 @@ pub no_part : (at depth : ℕ) (p : Part) → part at depth [] ≡ Ok p → ⊥
 unfolding part head ident
 no_part at depth p e = cc
 
-step_on : {S : Type 0} (step : S → Part → Result S Fault) (depth turns at : ℕ) (s t : S) (bytes : List ℕ) (p : Part) → part at depth bytes ≡ Ok p → step s p ≡ Ok t
+pub step_on : {S : Type 0} (step : S → Part → Result S Fault) (depth turns at : ℕ) (s t : S) (bytes : List ℕ) (p : Part) → part at depth bytes ≡ Ok p → step s p ≡ Ok t
     → parts_from step depth (suc turns) at s bytes ≡ parts_from step depth turns (at + (length bytes - length p.rest)) t p.rest
 unfolding parts_from
 step_on step depth turns at s t [] p e h = absurd (no_part at depth p e)

@@ -11,5 +11,6 @@ pub mod Word
 pub mod Canon
 pub mod Contents
 pub mod Spelling
+pub mod Segmented
 pub mod Place
 pub mod Orders
