@@ -1,13 +1,17 @@
 -- A header is read exactly where it is spelled.
-use Rattle.std.proofs.Common.{◌≡◌, ◌≢◌, ℕ, suc, ◌+◌, ◌-◌, ◌*◌, ◌/◌, ◌%◌, ◌≤◌, ◌<◌, Bool, true, false, cond, ltb, eqb, List, [], ◌∷◌, ◌++◌, length, get_or, take, drop, Option, Some, None, Ok, refl, sym, ap, subst, ◌∙◌, append_assoc, arith, inl, inr, ◌⊎◌}
-use Rattle.std.specs.Prelude.{position, nat_lt, not, IfSome, ◌||◌, ◌&&◌}
+use Rattle.std.proofs.Common.{◌≡◌, ◌≢◌, ℕ, suc, ◌+◌, ◌-◌, ◌*◌, ◌/◌, ◌%◌, ◌≤◌, ◌<◌, Bool, true, false, cond, ltb, eqb, List, [], ◌∷◌, ◌++◌, length, get_or, take, drop, Option, Some, None, Result, Ok, Err, refl, sym, ap, subst, ◌∙◌, append_assoc, arith, inl, inr, ◌⊎◌}
+use Rattle.std.specs.Prelude.{IfOk, position, nat_lt, not, IfSome, ◌||◌, ◌&&◌}
 use Rattle.std.specs.List.{prefix_len}
 use Rattle.std.proofs.lemmas.Bool.{cases_lt, ne_eqb, eqb-false, lt-ltb, le-ltb, ltb-true, ltb-false, eqb-true}
-use Rattle.std.proofs.lemmas.List.{take_at, drop_at, take-append-drop, length-append, length-take}
+use Rattle.std.proofs.lemmas.List.{take_at, drop_at, take-append-drop, length-append, length-take, get_or-drop}
 use Rattle.mta_ber.specs.declared.tag.Tag.{Tag}
+use Rattle.mta_ber.specs.declared.fault.Fault.{Fault}
+use Rattle.mta_ber.specs.declared.head.Head.{Head}
+use Rattle.mta_ber.specs.Seen.{Gives, head_view}
 use Rattle.mta_ber.specs.Head.{base, group, ident, definite, cut, behind, length_at, bad_number, is_constructed, tag_of, Header, header_from, head}
 use Rattle.mta_ber.specs.Canon.{class_octet}
-use Rattle.mta_ber.specs.Spelling.{IsOctets, IsGroup, IsHigh, IsIdent, IsLength, IsCount, IsHeader}
+use Rattle.mta_ber.specs.Octet.{IsOctets}
+use Rattle.mta_ber.specs.Spelling.{IsGroup, IsHigh, IsIdent, IsLength, IsCount, IsHeader}
 use Rattle.mta_ber.proofs.Steps.{bind_ok, chosen, passed, ok_is}
 
 -- ---- the octets of a number in base 128
@@ -345,3 +349,9 @@ head_sound_from at depth bytes (Some i) h octets is e =
 pub head_sound : (at depth : ℕ) (bytes : List ℕ) (h : Header) → IsBytes bytes → head at depth bytes ≡ Ok h → Headed depth h bytes
 unfolding head
 head_sound at depth bytes h octets e = head_sound_from at depth bytes (ident bytes) h octets refl e
+
+pub head_octets : (at depth : ℕ) (bytes : List ℕ) (r : Result Head Fault) → IsBytes bytes → Gives head_view r (head at depth bytes) → IfOk r (λ h. IsOctets h.body.now)
+head_octets at depth bytes (Ok h) octets g =
+    let s = head_sound at depth bytes (head_view h) octets g in
+    λ i. subst (λ x. get_or x i 0 < 256) (drop_at s.octets h.body.now (length s.octets) refl) (rw get_or-drop (subst (λ x. get_or x (length s.octets + i) 0 < 256) s.octets_are (octets (length s.octets + i))))
+head_octets at depth bytes (Err f) octets g = tt

@@ -214,7 +214,7 @@ pub record Found (P : List ℕ → Type 0) (marked : Bool) (bytes : List ℕ) (n
 pub record Finds (P : List ℕ → Type 0) (inside : Extent) : Type 0 where
   pub found : (marked : Bool) (at n : ℕ) (bytes : List ℕ) → IsBytes bytes → inside marked at bytes ≡ Ok n → Found P marked bytes n
 
-IsBytes-drop : (n : ℕ) (bytes : List ℕ) → IsBytes bytes → IsBytes (drop n bytes)
+pub IsBytes-drop : (n : ℕ) (bytes : List ℕ) → IsBytes bytes → IsBytes (drop n bytes)
 IsBytes-drop n bytes h i = rw get_or-drop (h (n + i))
 
 pub IsBytes-take : (n : ℕ) (bytes : List ℕ) → IsBytes bytes → IsBytes (take n bytes)

@@ -1,20 +1,24 @@
 -- A string is gathered exactly where it is spelled.
-use Rattle.std.proofs.Common.{◌≡◌, ℕ, zero, suc, ◌+◌, ◌-◌, ◌≤◌, Bool, true, false, cond, List, [], ◌∷◌, ◌++◌, length, take, Result, Ok, Err, refl, sym, ap, subst, ◌∙◌, arith, inl, inr}
-use Rattle.std.specs.Prelude.{◌&&◌, not, IsTrue}
+use Rattle.std.proofs.Common.{◌≡◌, ℕ, zero, suc, ◌+◌, ◌-◌, ◌≤◌, Bool, true, false, cond, List, [], ◌∷◌, ◌++◌, length, take, Result, Ok, Err, refl, sym, ap, subst, ◌∙◌, arith, inl, inr, ◌⊎◌, ◌<◌, ltb, eqb, eq-eqb}
+use Rattle.std.specs.Prelude.{◌&&◌, ◌||◌, not, IsTrue, IfOk}
 use Rattle.std.specs.List.{concat, list_all}
 use Rattle.std.proofs.lemmas.Bool.Decides.{nat_tests}
 use Rattle.std.proofs.lemmas.List.{take_at, length-append, append-nil}
 use Rattle.mta_ber.specs.declared.fault.Fault.{Fault}
 use Rattle.mta_ber.specs.declared.tag.Tag.{Tag}
-use Rattle.mta_ber.specs.Head.{◌>>=◌}
+use Rattle.mta_ber.specs.Head.{◌>>=◌, fault}
 use Rattle.mta_ber.specs.Element.{Part, part}
-use Rattle.mta_ber.specs.Parts.{parts_from, parts_of}
+use Rattle.mta_ber.specs.declared.fault.ReadFault.{ReadFault}
+use Rattle.mta_ber.specs.declared.fault.ReadFault.TheVariants as faults
+use Rattle.mta_ber.specs.Parts.{parts_from, parts_of, Reads, IsReadAs}
 use Rattle.mta_ber.specs.Spelling.{Stands, Standing, ending_of}
 use Rattle.mta_ber.specs.declared.text.TextClass.{TextClass}
 use Rattle.mta_ber.specs.Strings.{Piece, is_segment, is_empty, segment, gather, octets_piece, joined_as, class_number, in_class, between, text_in, IsText}
-use Rattle.mta_ber.specs.Bits.{bits_piece}
-use Rattle.mta_ber.specs.Segmented.{Adds, is_none, IsSegment, AreSegments, SpellsString, AddsOctets, SpellsOctets, SpellsText, AddsBits}
-use Rattle.mta_ber.proofs.HeadLaws.{IsBytes}
+use Rattle.mta_ber.specs.declared.fault.Kind.TheVariants.{BadInt}
+use Rattle.mta_ber.specs.Bits.{BitString, no_bits, with_bits, at_most_64, good_unused, bits_of, bits_behind, bits_piece, bits_in}
+use Rattle.mta_ber.specs.Segmented.{Adds, is_none, IsSegment, AreSegments, SpellsString, AddsOctets, SpellsOctets, SpellsText, AddsBits, SpellsBits}
+use Rattle.std.proofs.lemmas.Bool.{lt-ltb, le-ltb, ltb-true, ltb-false, eqb-true}
+use Rattle.mta_ber.proofs.HeadLaws.{IsBytes, and_true}
 use Rattle.mta_ber.proofs.RowLaws.{part_sound, stands_again, lent_part, IsBytes-back, IsBytes-take, some_ident, some_count}
 use Rattle.mta_ber.proofs.RoundTrip.{no_part, step_on, parts_none}
 use Rattle.mta_ber.proofs.Steps.{bind_ok, chosen, passed, ok_is}
@@ -185,8 +189,90 @@ text_full class low high p t d h =
 
 -- ---- bits
 
+or_true : (a b : Bool) → (a || b) ≡ true → (a ≡ true) ⊎ (b ≡ true)
+or_true true b e = inl refl
+or_true false b e = inr e
+
+some_so : (octets : List ℕ) → not (is_empty octets) ≡ true → 1 ≤ length octets
+some_so [] e = absurd cc
+some_so (o ∷ os) e = omega arith
+
+not_empty : (octets : List ℕ) → 1 ≤ length octets → not (is_empty octets) ≡ true
+not_empty [] h = absurd (omega arith)
+not_empty (o ∷ os) h = refl
+
+record Good (last : Bool) (unused : ℕ) (octets : List ℕ) : Type 0 where
+  few : unused < 8
+  some : (unused ≡ 0) ⊎ ((last ≡ true) × (1 ≤ length octets))
+
+good_sound : (last : Bool) (unused : ℕ) (octets : List ℕ) → good_unused last unused octets ≡ true → Good last unused octets
+good_sound last unused octets e =
+    let a = and_true (ltb unused 8) (eqb unused 0 || (last && not (is_empty octets))) e in
+    record {
+      few = ltb-true unused 8 a.0;
+      some = elim (or_true (eqb unused 0) (last && not (is_empty octets)) a.1) [
+        | inl z ↦ inl (eqb-true unused 0 z)
+        | inr l ↦ inr (let b = and_true last (not (is_empty octets)) l in (b.0, some_so octets b.1))
+      ];
+    }
+
+good_full : (last : Bool) (unused : ℕ) (octets : List ℕ) → unused < 8 → (unused ≡ 0) ⊎ ((last ≡ true) × (1 ≤ length octets)) → good_unused last unused octets ≡ true
+good_full last unused octets few some =
+    let t : ltb unused 8 ≡ true = lt-ltb unused 8 few in
+    elim some [
+      | inl z ↦ (let u : eqb unused 0 ≡ true = eq-eqb unused 0 z in rw (t, u) refl)
+      | inr l ↦ (let n = not_empty octets l.1 in rw (t, l.0, n) (or_so (eqb unused 0)))
+    ]
+  where
+    or_so : (b : Bool) → (b || true) ≡ true
+    or_so true = refl
+    or_so false = refl
+
+behind_sound : (last : Bool) (at : ℕ) (content : List ℕ) (s t : BitString) → bits_behind s last at content ≡ Ok t → AddsBits last s content t
+behind_sound last at [] s t e = absurd cc
+behind_sound last at (unused ∷ octets) s t e =
+    let g = taken (good_unused last unused octets) _ _ t e in
+    let h = good_sound last unused octets g.0 in
+    record { unused = unused; octets = octets; content_is = refl; few = h.few; some = h.some; after_is = sym (ok_is (at_most_64 (with_bits s (bits_of unused octets))) t g.1) }
+
 bits_sound : PieceSound bits_piece AddsBits 3 3
-bits_sound last s t p octets e = ?
+bits_sound last s t p octets e = behind_sound last p.at p.content s t e
 
 bits_full : PieceFull bits_piece AddsBits 3 3
-bits_full last s t p h = ?
+bits_full last s t p h =
+    ap (bits_behind s last p.at) h.content_is
+    ∙ ap (λ b. cond b (Ok (at_most_64 (with_bits s (bits_of h.unused h.octets)))) (fault p.at BadInt)) (good_full last h.unused h.octets h.few h.some)
+    ∙ ap (λ (x : BitString). Ok x) (sym h.after_is)
+
+pub bits_in_sound : (p : Part) (b : BitString) → p.depth ≤ 16 → IsBytes p.content → bits_in p ≡ Ok b → SpellsBits p.depth p.tag.constructed p.content b
+unfolding bits_in
+bits_in_sound p b d octets e =
+    let g = bind_ok (gather bits_piece (17 - p.depth) 3 3 true no_bits p) _ b e in
+    let f = passed (ltb 64 g.0.count) _ _ b g.2 in
+    let same = ok_is g.0 b f.1 in
+    subst (λ x. SpellsBits p.depth p.tag.constructed p.content x) same (record {
+      spelled = gather_sound bits_piece AddsBits 3 3 bits_sound (17 - p.depth) true no_bits g.0 p (omega arith) octets g.1;
+      few = ltb-false 64 g.0.count f.0;
+    })
+
+pub bits_in_full : (p : Part) (b : BitString) → p.depth ≤ 16 → SpellsBits p.depth p.tag.constructed p.content b → bits_in p ≡ Ok b
+unfolding bits_in
+bits_in_full p b d h =
+    let g = gather_full bits_piece AddsBits 3 3 bits_full (17 - p.depth) true no_bits b p (omega arith) h.spelled in
+    let few : ltb 64 b.count ≡ false = le-ltb 64 b.count h.few in
+    rw (g, few) refl
+
+-- ---- what readers answer
+
+pub reads_found : {X : Type 0} (P : X → Type 0) (r : Result X ReadFault) (read : Result X Fault) → Reads r read → ((x : X) → read ≡ Ok x → P x) → IfOk r P
+reads_found P (Ok x) read h f = f x h
+reads_found P (Err e) read h f = tt
+
+pub reads_as : {X : Type 0} (r : Result X ReadFault) (read : Result X Fault) (y : X) → Reads r read → read ≡ Ok y → IsReadAs r y
+reads_as (Ok x) read y h e = ok_is x y (sym h ∙ e)
+reads_as (Err faults.Memory) read y h e = tt
+reads_as (Err (faults.Bad f)) read y h e = absurd (let k = sym h ∙ e in cc)
+
+pub given_found : {X : Type 0} (P : X → Type 0) (r : Result X Fault) (read : Result X Fault) → r ≡ read → ((x : X) → read ≡ Ok x → P x) → IfOk r P
+given_found P (Ok x) read h f = f x (sym h)
+given_found P (Err e) read h f = tt

@@ -1,3 +1,4 @@
+pub mod Octet
 pub mod Head
 pub mod Seen
 pub mod Element

@@ -54,3 +54,9 @@ Leaves (Err e) s read = Fails e read
 abbrev pub Reads : {X : Type 0} → Result X ReadFault → Result X Fault → Type 0
 Reads (Ok x) read = read ≡ Ok x
 Reads (Err e) read = Fails e read
+
+-- what a function answers is this value, unless memory ran out
+abbrev pub IsReadAs : {X : Type 0} → Result X ReadFault → X → Type 0
+IsReadAs (Ok x) y = x ≡ y
+IsReadAs (Err faults.Memory) y = Unit {0}
+IsReadAs (Err (faults.Bad f)) y = ⊥

@@ -5,7 +5,7 @@ use Rattle.mta_ber.specs.declared.tag.Tag.{Tag}
 use Rattle.mta_ber.specs.declared.text.TextClass.{TextClass}
 use Rattle.mta_ber.specs.Head.{base}
 use Rattle.mta_ber.specs.Strings.{is_segment, own_number, class_number, IsText}
-use Rattle.mta_ber.specs.Bits.{BitString, no_bits, with_bits}
+use Rattle.mta_ber.specs.Bits.{BitString, no_bits, with_bits, at_most_64}
 use Rattle.mta_ber.specs.Spelling.{Stands}
 
 -- what the contents octets of one primitive piece add to what stands before it; the flag says that no piece follows
@@ -54,14 +54,14 @@ pub record SpellsText (class : TextClass) (low high depth : ℕ) (constructed : 
 -- ---- bits
 
 -- a piece says first how many bits of its last octet are unused: at most 7, none where there is no other octet, and none where a
--- piece follows
+-- piece follows; more than 64 bits are too many, however many
 pub record AddsBits (last : Bool) (before : BitString) (content : List ℕ) (after : BitString) : Type 0 where
   pub unused : ℕ
   pub octets : List ℕ
   pub content_is : content ≡ unused ∷ octets
   pub few : unused < 8
   pub some : (unused ≡ 0) ⊎ ((last ≡ true) × (1 ≤ length octets))
-  pub after_is : after ≡ with_bits before (record { count = 8 * length octets - unused; word = base 256 octets / 2 ^ unused })
+  pub after_is : after ≡ at_most_64 (with_bits before (record { count = 8 * length octets - unused; word = base 256 octets / 2 ^ unused }))
 
 pub record SpellsBits (depth : ℕ) (constructed : Bool) (content : List ℕ) (b : BitString) : Type 0 where
   pub spelled : SpellsString AddsBits 3 3 (17 - depth) constructed true no_bits content b

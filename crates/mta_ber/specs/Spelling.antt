@@ -6,10 +6,6 @@ use Rattle.mta_ber.specs.Canon.{class_octet}
 use Rattle.mta_ber.specs.Element.{at_end, Part}
 use Rattle.std.specs.List.{concat}
 
--- each number is that of an octet
-abbrev pub IsOctets : List ℕ → Type 0
-IsOctets octets = (i : ℕ) → slice_index octets i < 256
-
 -- the last octet alone has its top bit clear
 abbrev pub IsGroup : List ℕ → Type 0
 IsGroup [] = ⊥

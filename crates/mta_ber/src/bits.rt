@@ -2,7 +2,8 @@
 
 ghost use Rattle.std.specs.Prelude.{◌≡◌, ◌↔◌, ◌+◌, ◌-◌, ◌*◌, ◌/◌, ◌^◌, ◌<◌, ◌≤◌, max, length, false, true, Ok, Err, IsTrue, Result, IfOk};
 ghost use Rattle.mta_ber.specs.Head.{base};
-ghost use Rattle.mta_ber.specs.Bits.{bit, padded, good_unused, bits_of, with_bits, at_most_64, bits_behind, bits_piece, bits_in, too_many, no_bits};
+ghost use Rattle.mta_ber.specs.Bits.{BitString, bit, padded, good_unused, bits_of, with_bits, at_most_64, bits_behind, bits_piece, bits_in, too_many, no_bits};
+ghost use Rattle.mta_ber.specs.Segmented.{SpellsBits};
 ghost use Rattle.mta_ber.specs.Parts.{Leaves};
 ghost use Rattle.mta_ber.specs.Seen.{Gives, view};
 
@@ -160,9 +161,8 @@ impl Gathers for Gathered {
 }
 
 impl View<'_> {
-    /// A bit string of at most 64 bits. Segments have the tag of BIT STRING, and only the last one has unused bits.
     #[tactic(auto, unfolding(crate::specs::Bits::bits_in))]
-    pub fn bits(&self) -> Result<Bits, Fault>
+    fn bits_of(&self) -> Result<Bits, Fault>
         ensures { result ≡ bits_in (view self.now) }
     {
         let mut gathered = Gathered { count: 0, word: 0 };
@@ -180,5 +180,16 @@ impl View<'_> {
                 Ok(Bits { count, word })
             }
         }
+    }
+
+    /// A bit string of at most 64 bits (X.690, 8.6). Segments have the tag of BIT STRING, and only the last one has unused bits.
+    pub fn bits(&self) -> Result<Bits, Fault>
+        ensures exact { result ≡ bits_in (view self.now) }
+
+        // What is answered is spelled by the content, and what the content spells is answered.
+        ensures found { IfOk result (SpellsBits self.now.depth self.now.tag.constructed self.now.content.now) }
+        ensures only { (b : BitString) → SpellsBits self.now.depth self.now.tag.constructed self.now.content.now b → result ≡ Ok b }
+    {
+        self.bits_of()
     }
 }

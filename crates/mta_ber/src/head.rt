@@ -2,6 +2,7 @@
 
 ghost use Rattle.std.specs.Prelude.{◌≡◌, ◌+◌, ◌-◌, ◌<◌, ◌≤◌, ◌^◌, length, false, position, nat_lt, IfSome, IfOk, OnOk};
 ghost use Rattle.mta_ber.specs.Head.{base, group, ident, definite, length_at, bad_number, tag_of, head};
+ghost use Rattle.mta_ber.specs.Octet.{IsOctets};
 ghost use Rattle.mta_ber.specs.Place.{IsTail};
 ghost use Rattle.mta_ber.specs.Seen.{Gives, GivesSome, head_view};
 
@@ -159,9 +160,8 @@ fn make_tag(first: u8, high: &[u8]) -> Tag
     }
 }
 
-/// The header at the front, and what follows it.
 #[tactic(auto, unfolding(crate::specs::Head::head))]
-pub fn head_of(bytes: &[u8], at: u32, depth: u8) -> Result<Head<'_>, Fault>
+fn head_from(bytes: &[u8], at: u32, depth: u8) -> Result<Head<'_>, Fault>
     ensures exact { Gives head_view result (head at depth bytes.now) }
     ensures level { OnOk result (depth ≤ 16) }
     ensures shorter { IfOk result (λ h. length h.body.now < length bytes.now) }
@@ -192,4 +192,16 @@ pub fn head_of(bytes: &[u8], at: u32, depth: u8) -> Result<Head<'_>, Fault>
         length,
         body,
     })
+}
+
+/// The header at the front, and what follows it.
+pub fn head_of(bytes: &[u8], at: u32, depth: u8) -> Result<Head<'_>, Fault>
+    ensures exact { Gives head_view result (head at depth bytes.now) }
+    ensures level { OnOk result (depth ≤ 16) }
+    ensures shorter { IfOk result (λ h. length h.body.now < length bytes.now) }
+    ensures place { IfOk result (λ h. IsTail h.body bytes.entry) }
+    ensures within { IfOk result (λ h. IfSome h.length (λ n. n ≤ length h.body.now)) }
+    ensures bytes { IfOk result (λ h. IsOctets h.body.now) }
+{
+    head_from(bytes, at, depth)
 }

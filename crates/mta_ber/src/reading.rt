@@ -1,9 +1,10 @@
 //! Reading elements from the front.
 
-ghost use Rattle.std.specs.Prelude.{◌≡◌, ◌+◌, ◌-◌, ◌<◌, ◌≤◌, ◌^◌, length, IfOk, OnOk, IfSome, IsTrue, IfNone, OnErr, IsOkAnd, IsSomeAnd, ℕ, List, ◌++◌, [], ◌↔◌};
+ghost use Rattle.std.specs.Prelude.{◌≡◌, ◌+◌, ◌-◌, ◌<◌, ◌≤◌, ◌^◌, length, IfOk, OnOk, IfSome, IsTrue, IfNone, OnErr, IsOkAnd, IsSomeAnd, ℕ, List, ◌++◌};
 ghost use Rattle.mta_ber.specs.Element.{part, part_from, first, next_part, inner, alone, outermost, IsBehind};
 ghost use Rattle.mta_ber.specs.declared.tag.Tag.{Tag};
-ghost use Rattle.mta_ber.specs.Spelling.{Standing, Stands, IsLentAt, IsOctets};
+ghost use Rattle.mta_ber.specs.Spelling.{Standing, Stands, IsLentAt};
+ghost use Rattle.mta_ber.specs.Octet.{IsOctets};
 ghost use Rattle.mta_ber.specs.Place.{IsTail, IsAt};
 ghost use Rattle.mta_ber.specs.Seen.{Gives, head_view, view, next_view};
 
@@ -19,6 +20,7 @@ fn view_of<'a>(bytes: &'a [u8], at: u32, depth: u8, head: Head<'a>) -> Result<Vi
     requires shorter { length head.body.now < length bytes.now }
     requires within { IfSome head.length (λ n. n ≤ length head.body.now) }
     requires tail { IsTail head.body bytes }
+    requires octets { IsOctets head.body.now }
     ensures exact { Gives view result (part_from at depth bytes.now (head_view head.entry)) }
     ensures shorter { IfOk result (λ v. length v.rest.now < length bytes.now) }
     ensures depth { IfOk result (λ v. v.depth ≡ depth) }
@@ -163,21 +165,7 @@ impl<'a> View<'a> {
     }
 }
 
-fn is_none(octets: &[u8]) -> bool
-    ensures exact { IsTrue result ↔ (octets.now ≡ []) }
-    ensures octets { IsOctets octets.now }
-{
-    octets.is_empty()
-}
-
 impl<'a> Parts<'a> {
-    fn is_done(&self) -> bool
-        ensures exact { IsTrue result ↔ (self.now.left.now ≡ []) }
-        ensures octets { IsOctets self.now.left.now }
-    {
-        is_none(self.left)
-    }
-
     #[tactic(auto, unfolding(crate::specs::Element::next_part))]
     fn next_of(&mut self) -> Result<Option<View<'a>>, Fault>
         ensures exact { Gives next_view result (next_part self.old.at (self.old.depth + 1) self.old.left.now) }
@@ -190,9 +178,8 @@ impl<'a> Parts<'a> {
         ensures depth { self.new.depth ≡ self.old.depth }
         ensures deeper { IfOk result (λ o. IfSome o (λ v. v.depth ≡ self.old.depth + 1)) }
         ensures stays { OnErr result ((self.new.at ≡ self.old.at) × (self.new.left.now ≡ self.old.left.now)) }
-        ensures octets { IsOctets self.old.left.now }
     {
-        if self.is_done() {
+        if self.left.is_empty() {
             return Ok(None);
         }
         let view = part_of(self.left, self.at, self.depth + 1)?;

@@ -1,8 +1,9 @@
 //! Reading octet and character strings.
 
-ghost use Rattle.std.specs.Prelude.{◌≡◌, ◌-◌, ◌++◌, [], List, Ok, IfOk, true, Some, None, if◌then◌else◌};
+ghost use Rattle.std.specs.Prelude.{◌≡◌, ◌-◌, ◌++◌, [], List, ℕ, Ok, IfOk, true, Some, None, if◌then◌else◌};
 ghost use Rattle.std.specs.List.{list_all};
-ghost use Rattle.mta_ber.specs.Parts.{Leaves, Reads};
+ghost use Rattle.mta_ber.specs.Parts.{Leaves, Reads, IsReadAs};
+ghost use Rattle.mta_ber.specs.Segmented.{SpellsOctets, SpellsText};
 ghost use Rattle.mta_ber.specs.Seen.{view};
 ghost use Rattle.mta_ber.specs.Strings.{octets_piece, gather, joined_as, joined, own_number, text_in, in_class, class_number, IsText};
 
@@ -90,15 +91,36 @@ impl<'a> View<'a> {
     /// The octets of an octet or character string, segments joined (X.690, 8.7). A segment has the tag of OCTET STRING, or
     /// the element's own tag number where that is of the universal class.
     pub fn joined(&self, alloc: Global) -> Result<Octets, ReadFault>
-        ensures { Reads result (joined (view self.now)) }
+        ensures exact { Reads result (joined (view self.now)) }
+
+        // What is answered is spelled by the content, and what the content spells is answered.
+        ensures found { IfOk result (λ o. SpellsOctets (own_number self.now.tag) self.now.depth self.now.tag.constructed self.now.content.now o) }
+        ensures only { (o : List ℕ) → SpellsOctets (own_number self.now.tag) self.now.depth self.now.tag.constructed self.now.content.now o → IsReadAs result o }
     {
         self.joined_by(alloc, own_number_of(self.tag))
     }
 
     /// The characters of a string of a class and of `low` to `high` characters (X.690, 8.23). A segment has the tag of OCTET
     /// STRING or the universal tag of the class.
-    #[tactic(auto, unfolding(crate::specs::Strings::text_in))]
     pub fn text(
+        &self,
+        alloc: Global,
+        class: TextClass,
+        low: u32,
+        high: u32,
+    ) -> Result<Text, ReadFault>
+        ensures exact { Reads result (text_in class low high (view self.now)) }
+        ensures fits { IfOk result (IsText class low high) }
+
+        // What is answered is spelled by the content, and what the content spells is answered.
+        ensures found { IfOk result (λ t. SpellsText class low high self.now.depth self.now.tag.constructed self.now.content.now t) }
+        ensures only { (t : List ℕ) → SpellsText class low high self.now.depth self.now.tag.constructed self.now.content.now t → IsReadAs result t }
+    {
+        self.text_of(alloc, class, low, high)
+    }
+
+    #[tactic(auto, unfolding(crate::specs::Strings::text_in))]
+    fn text_of(
         &self,
         alloc: Global,
         class: TextClass,

@@ -1,6 +1,7 @@
 //! Elements that are lent.
 
 ghost use Rattle.std.specs.Prelude.{◌+◌, ◌<◌, ◌≤◌, ◌^◌, length};
+ghost use Rattle.mta_ber.specs.Octet.{IsOctets};
 
 use crate::tag::Tag;
 
@@ -15,6 +16,8 @@ pub struct View<'a> {
     pub content: &'a [u8],
     pub rest: &'a [u8],
     pub octets: &'a [u8],
+    ghost bytes: { IsOctets content.now },
+    ghost rest_bytes: { IsOctets rest.now },
     ghost room: { start + length content.now < 2 ^ 32 },
     ghost whole: { at + length octets.now + length rest.now < 2 ^ 32 },
     ghost level: { 1 ≤ depth },
@@ -27,6 +30,7 @@ pub struct Parts<'a> {
     pub at: u32,
     pub depth: u8,
     pub left: &'a [u8],
+    ghost bytes: { IsOctets left.now },
     ghost room: { at + length left.now < 2 ^ 32 },
     ghost level: { depth ≤ 16 },
 }
