@@ -14,4 +14,6 @@ pub mod RoundTrip
 pub mod RowLaws
 pub mod FirstLaws
 pub mod StringLaws
+pub mod ComponentLaws
+pub mod ExampleLaws
 pub mod OrderLaws
