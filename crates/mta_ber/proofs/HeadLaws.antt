@@ -228,7 +228,7 @@ ident_sound (b ∷ bs) first high r e = elim (cases_lt (b % 32) 31) [
         let s = group_sound bs p.0 p.1 is in
         record { octets_are = cc (s.1, q.0, q.1, q.2); form = inr (subst (λ n. 31 ≤ n % 32) q.0 ge, subst IsGroup q.1 s.0) }
 
-or_false : (a b : Bool) → (a || b) ≡ false → (a ≡ false) × (b ≡ false)
+pub or_false : (a b : Bool) → (a || b) ≡ false → (a ≡ false) × (b ≡ false)
 or_false true b e = absurd cc
 or_false false b e = (refl, e)
 

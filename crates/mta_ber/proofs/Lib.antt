@@ -15,5 +15,6 @@ pub mod RowLaws
 pub mod FirstLaws
 pub mod StringLaws
 pub mod ComponentLaws
+pub mod IntLaws
 pub mod ExampleLaws
 pub mod OrderLaws

@@ -1,9 +1,9 @@
 -- Tools for chains of steps that may fail.
-use Rattle.std.proofs.Common.{◌≡◌, ℕ, zero, suc, ◌+◌, ◌-◌, Bool, true, false, cond, List, [], ◌∷◌, length, Option, Some, None, Result, Ok, Err, refl, subst, inl, inr, ◌⊎◌}
+use Rattle.std.proofs.Common.{◌≡◌, ℕ, zero, suc, ◌+◌, ◌-◌, Bool, true, false, cond, List, [], ◌∷◌, length, Option, Some, None, Result, Ok, Err, refl, ap, subst, inl, inr, ◌⊎◌}
 use Rattle.mta_ber.specs.declared.fault.Fault.{Fault}
 use Rattle.mta_ber.specs.Head.{◌>>=◌}
 use Rattle.mta_ber.specs.Element.{Part, part}
-use Rattle.mta_ber.specs.Parts.{parts_from, parts_of, once}
+use Rattle.mta_ber.specs.Parts.{parts_from, parts_of, once, required}
 
 -- the value of a step that did not fail
 pub bind_ok : {A B : Type 0} (r : Result A Fault) (f : A → Result B Fault) (y : B) → (r >>= f) ≡ Ok y → (x : A) × (r ≡ Ok x) × (f x ≡ Ok y)
@@ -47,3 +47,13 @@ pub placed : {A S : Type 0} (held : Option A) (at : ℕ) (read : Result A Fault)
 placed None at (Ok x) put t e = (x, refl, refl, ok_is (put x) t e)
 placed None at (Err d) put t e = absurd cc
 placed (Some y) at read put t e = absurd cc
+
+-- a step behind a test that did not fail
+pub taken : {A : Type 0} (b : Bool) (x : Result A Fault) (f : Fault) (y : A) → cond b x (Err f) ≡ Ok y → (b ≡ true) × (x ≡ Ok y)
+taken true x f y e = (refl, e)
+taken false x f y e = absurd cc
+
+-- a required component that is there
+pub required_so : {A : Type 0} (held : Option A) (at : ℕ) (x : A) → required held at ≡ Ok x → held ≡ Some x
+required_so (Some y) at x e = ap (λ z. Some z) (ok_is y x e)
+required_so None at x e = absurd cc

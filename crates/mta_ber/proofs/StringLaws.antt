@@ -21,7 +21,7 @@ use Rattle.std.proofs.lemmas.Bool.{lt-ltb, le-ltb, ltb-true, ltb-false, eqb-true
 use Rattle.mta_ber.proofs.HeadLaws.{IsBytes, and_true}
 use Rattle.mta_ber.proofs.RowLaws.{part_sound, stands_again, lent_part, IsBytes-back, IsBytes-take, some_ident, some_count}
 use Rattle.mta_ber.proofs.RoundTrip.{no_part, step_on, parts_none}
-use Rattle.mta_ber.proofs.Steps.{bind_ok, chosen, passed, ok_is}
+use Rattle.mta_ber.proofs.Steps.{bind_ok, passed, taken, ok_is}
 
 pub IsBytes-front : (a b : List ℕ) → IsBytes (a ++ b) → IsBytes a
 IsBytes-front a b h = subst IsBytes (take_at a b (length a) refl) (IsBytes-take (length a) (a ++ b) h)
@@ -36,10 +36,6 @@ stands_long depth t content octets h =
 empty_so : (a : List ℕ) (b : List ℕ) → 1 ≤ length a → is_empty (a ++ b) ≡ false
 empty_so [] b h = absurd (omega arith)
 empty_so (x ∷ a) b h = refl
-
-taken : {A : Type 0} (b : Bool) (x : Result A Fault) (f : Fault) (y : A) → cond b x (Err f) ≡ Ok y → (b ≡ true) × (x ≡ Ok y)
-taken true x f y e = (refl, e)
-taken false x f y e = absurd cc
 
 -- what is left is empty where no segment is left
 none_left : {S : Type 0} (inside : Bool → Adds S) (first second depth : ℕ) (last : Bool) (s t : S) (es : List (List ℕ)) → AreSegments inside first second depth last s es t → is_empty (concat es) ≡ is_none es

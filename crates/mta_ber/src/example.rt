@@ -12,9 +12,10 @@
 //! `once`; all else is the same.
 
 ghost use Rattle.std.specs.Prelude.{◌≡◌, IfOk};
-ghost use Rattle.mta_ber.specs.Parts.{Leaves, Reads};
+ghost use Rattle.mta_ber.specs.Parts.{Leaves, Reads, IsReadAs};
 ghost use Rattle.mta_ber.specs.Seen.{view};
-ghost use Rattle.mta_ber.specs.Example.{note_step, note_in};
+ghost use Rattle.mta_ber.specs.Example.{note_step, note_in, SpellsNote};
+ghost use Rattle.mta_ber.specs.declared.note.Note.{Note as NoteValue};
 
 use crate::components::{bad, is_tag_of, take_required};
 use crate::fault::{Kind, ReadFault};
@@ -40,10 +41,10 @@ impl Components for NoteParts {
             }
             self.count = Some(part.int(0, 100)?);
         } else if is_tag_of(part.tag, 2, 2) {
-            if self.moment.is_some() {
+            if self.flags.is_some() {
                 return bad(part.at, Kind::Twice);
             }
-            self.moment = Some(part.utc()?);
+            self.flags = Some(part.bits()?);
         } else {
             return bad(part.at, Kind::BadTag);
         }
@@ -53,9 +54,19 @@ impl Components for NoteParts {
 
 impl Note {
     /// The note that a SET spells, its components in any order.
-    #[tactic(auto, unfolding(crate::specs::Example::note_in))]
     pub fn read(alloc: Global, whole: &View) -> Result<Note, ReadFault>
         ensures exact { Reads result (note_in (view whole.now)) }
+
+        // What is answered is spelled by the content, and what the content spells is answered.
+        ensures found { IfOk result (SpellsNote whole.now.depth whole.now.tag.constructed whole.now.content.now) }
+        ensures only { (v : NoteValue) → SpellsNote whole.now.depth whole.now.tag.constructed whole.now.content.now v → IsReadAs result v }
+    {
+        Note::read_parts(alloc, whole)
+    }
+
+    #[tactic(auto, unfolding(crate::specs::Example::note_in))]
+    fn read_parts(alloc: Global, whole: &View) -> Result<Note, ReadFault>
+        ensures { Reads result (note_in (view whole.now)) }
     {
         if !whole.tag.constructed {
             return bad(whole.at, Kind::BadTag);
@@ -63,19 +74,19 @@ impl Note {
         let mut parts = NoteParts {
             title: None,
             count: None,
-            moment: None,
+            flags: None,
         };
         take_parts(alloc, whole, &mut parts)?;
         let NoteParts {
             title,
             count,
-            moment,
+            flags,
         } = parts;
         let title = take_required(title, whole.at)?;
         Ok(Note {
             title,
             count: count.unwrap_or(0),
-            moment,
+            flags,
         })
     }
 }

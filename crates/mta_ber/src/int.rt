@@ -1,8 +1,8 @@
 //! INTEGER and ENUMERATED contents.
 
-ghost use Rattle.std.specs.Prelude.{◌≡◌, ◌-◌, ◌<◌, ◌≤◌, length, map, false, true, IsTrue, MatchBool, slice_index, Ok, Err};
+ghost use Rattle.std.specs.Prelude.{◌≡◌, ◌-◌, ◌<◌, ◌≤◌, length, map, false, true, IsTrue, MatchBool, slice_index, Ok, Err, IfOk, ℤ, ◌≤ℤ◌};
 ghost use Rattle.mta_ber.specs.Head.{base};
-ghost use Rattle.mta_ber.specs.Int.{is_short, signed, int_in};
+ghost use Rattle.mta_ber.specs.Int.{is_short, signed, int_in, SpellsInteger};
 
 use crate::fault::{Fault, Kind};
 use crate::head::length_number;
@@ -51,10 +51,10 @@ fn signed_of(octets: &[u8]) -> i64
 }
 
 impl View<'_> {
-    /// The integer.
     #[tactic(auto, unfolding(crate::specs::Int::int_in))]
-    pub fn int(&self, low: i64, high: i64) -> Result<i64, Fault>
-        ensures { result ≡ int_in self.now.at self.now.tag.constructed low high self.now.content.now }
+    fn int_of(&self, low: i64, high: i64) -> Result<i64, Fault>
+        ensures exact { result ≡ int_in self.now.at self.now.tag.constructed low high self.now.content.now }
+        ensures range { IfOk result (λ n. (low ≤ℤ n) × (n ≤ℤ high)) }
     {
         if self.tag.constructed {
             return Err(Fault {
@@ -76,5 +76,18 @@ impl View<'_> {
             });
         }
         Ok(n)
+    }
+
+    /// The number of an INTEGER or an ENUMERATED (X.690, 8.3 and 8.4), from `low` to `high`. BadTag where the element is
+    /// constructed, BadInt where the number is not minimal, longer than 8 octets or out of range.
+    pub fn int(&self, low: i64, high: i64) -> Result<i64, Fault>
+        ensures exact { result ≡ int_in self.now.at self.now.tag.constructed low high self.now.content.now }
+
+        // What is answered is spelled by the content, and what the content spells is answered.
+        ensures found { IfOk result (SpellsInteger low high self.now.tag.constructed self.now.content.now) }
+        ensures only { (n : ℤ) → SpellsInteger low high self.now.tag.constructed self.now.content.now n → result ≡ Ok n }
+        ensures range { IfOk result (λ n. (low ≤ℤ n) × (n ≤ℤ high)) }
+    {
+        self.int_of(low, high)
     }
 }
