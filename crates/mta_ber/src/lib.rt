@@ -1,8 +1,44 @@
-//! BER (X.690): octets that are kept, and want of memory.
+//! BER (X.690): elements that are read from the front and lent, and the one spelling that is written.
 #![tactic(auto)]
 
+mod bits;
+mod components;
+mod element;
+mod encoding;
+mod example;
+mod fault;
+mod gather;
+mod head;
+mod int;
 mod memory;
+mod note;
 mod octets;
+mod oid;
+mod parts;
+mod put;
+mod reading;
+mod stamp;
+mod strings;
+mod tag;
+mod text;
+mod utc;
+mod view;
+mod word;
+mod writer;
 
+pub use bits::Bits;
+pub use components::{bad, check_order, is_tag_of, take_required};
+pub use fault::{Fault, Kind, ReadFault};
 pub use memory::Memory;
+pub use note::{Note, NoteParts};
 pub use octets::Octets;
+pub use oid::is_oid_content;
+pub use parts::{Components, take_parts};
+pub use put::{put_bits, put_int, put_utc};
+pub use tag::Tag;
+pub use strings::is_of_class;
+pub use text::{Text, TextClass};
+pub use utc::LAST_MOMENT;
+pub use view::{Parts, View};
+pub use word::Word;
+pub use writer::Writer;

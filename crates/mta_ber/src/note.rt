@@ -1,0 +1,21 @@
+//! A type of three components, which the example reads.
+
+use crate::bits::Bits;
+use crate::text::Text;
+
+/// A SET of a title, `[0]` PrintableString of 1 to 20 characters, a count, `[1]` INTEGER of 0 to 100 that is 0 where it is
+/// absent, and flags, `[2]` BIT STRING, which may be absent.
+#[derive(Debug, Drop)]
+pub struct Note {
+    pub title: Text,
+    pub count: i64,
+    pub flags: Option<Bits>,
+}
+
+/// The components so far.
+#[derive(Debug, Drop)]
+pub struct NoteParts {
+    pub title: Option<Text>,
+    pub count: Option<i64>,
+    pub flags: Option<Bits>,
+}
