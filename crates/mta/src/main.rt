@@ -15,6 +15,7 @@ mod words;
 
 use crate::host::{FileDisk, Octets, Reading, SystemClock, Writing};
 use crate::run::run;
+use crate::words::is_submit;
 use std::fs::{File, OpenOptions};
 use std::process::ExitCode;
 use std::{env, io};
@@ -45,7 +46,7 @@ fn main(rt: HostRuntime) -> ExitCode {
     };
     let mut conf = Reading::new(Octets::File(File::open(&rt, "mta.tables").ok()));
     let mut input = Reading::new(Octets::Stream(rt.reader()));
-    let disk = FileDisk::new(spool_file(&rt));
+    let disk = FileDisk::new(if is_submit(&words) { spool_file(&rt) } else { None });
     let clock = SystemClock::new(&rt);
     let finished = run(rt.alloc(), &words, &mut conf, &mut input, &mut out, disk, clock);
     ExitCode::from(finished.status)
