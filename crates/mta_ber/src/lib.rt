@@ -42,3 +42,6 @@ pub use utc::LAST_MOMENT;
 pub use view::{Parts, View};
 pub use word::Word;
 pub use writer::Writer;
+
+#[cfg(test)]
+mod tests;
