@@ -1,5 +1,5 @@
 -- The dates of the years 1950 to 2049.
-use Rattle.std.proofs.Common.{◌≡◌, ℕ, zero, suc, ◌+◌, ◌-◌, ◌*◌, ◌≤◌, ◌<◌, Bool, true, false, cond, refl, sym, ap, ◌∙◌, subst, arith, ℤ, pos, ◌+ℤ◌, ◌-ℤ◌, ◌≤ℤ◌, inl, inr, leb, eqb, eq-eqb, rules}
+use Rattle.std.proofs.Common.{◌≡◌, ℕ, zero, suc, ◌+◌, ◌-◌, ◌*◌, ◌≤◌, ◌<◌, true, false, refl, sym, ◌∙◌, subst, arith, pos, ◌+ℤ◌, inl, inr, leb, eqb, eq-eqb, rules}
 use Rattle.std.proofs.lemmas.Bool.{cases_lt, le-leb, lt-leb, ne_eqb}
 use Rattle.jiff_core.specs.declared.civil.date.Date.{Date}
 use Rattle.jiff_core.specs.Calendar.{days_in_month, days_from_civil, day_count, IsCivilDate, IsYear}
@@ -8,7 +8,7 @@ use Rattle.jiff_core.proofs.SignedLemmas.{signed_arith}
 use Rattle.jiff_core.proofs.CalendarLemmas.{days_from_civil-day_count, days_in_month_bounds, day_count-lt_year}
 use Rattle.jiff_core.proofs.MarchLemmas.{day_count-late, day_count-early}
 use Rattle.jiff_core.proofs.DateLemmas.{epoch_day_injective, days_from_civil-day, days_from_civil-next_month, days_from_civil-next_year}
-use Rattle.mta_ber.specs.Contents.{Civil, civil, civil_from, civil_of}
+use Rattle.mta_ber.specs.Contents.{Civil, civil_from, civil_of}
 
 -- a date with the day number of a day that is counted from the first of a month
 pub record Dated (y m d : ℕ) (c : Civil) : Type 0 where
@@ -33,7 +33,10 @@ next_year y d gt =
 
 carry : (y m d y' m' d' : ℕ) (c : Civil) → y ≤ y' → 28 * y' + d' ≤ 28 * y + d → days_from_civil (pos y') m' d' ≡ days_from_civil (pos y) m d → Dated y' m' d' c → Dated y m d c
 carry y m d y' m' d' c later near same h = record {
-  month_low = h.month_low; month_high = h.month_high; day_low = h.day_low; day_high = h.day_high;
+  month_low = h.month_low;
+  month_high = h.month_high;
+  day_low = h.day_low;
+  day_high = h.day_high;
   later = let k = h.later in omega arith;
   near = let k = h.near in omega arith;
   same = h.same ∙ same;

@@ -14,6 +14,7 @@ pub mod RoundTrip
 pub mod RowLaws
 pub mod FirstLaws
 pub mod StringLaws
+pub mod MomentLaws
 pub mod ComponentLaws
 pub mod IntLaws
 pub mod ExampleLaws

@@ -28,9 +28,9 @@ from_header at depth t content r header =
     let size : length (header ++ (content ++ r)) - length (content ++ r) ≡ length header = omega (arith, length-append header (content ++ r)) in
     let whole : length (header ++ (content ++ r)) - length (content ++ r) + length content ≡ length (header ++ content) = omega (arith, size, length-append header content) in
     let octets : take (length (header ++ (content ++ r)) - length (content ++ r) + length content) (header ++ (content ++ r)) ≡ header ++ content =
-        ap (take (length (header ++ (content ++ r)) - length (content ++ r) + length content)) (sym (append_assoc header content r)) ∙ take_at (header ++ content) r (length (header ++ (content ++ r)) - length (content ++ r) + length content) (sym whole) in
+    ap (take (length (header ++ (content ++ r)) - length (content ++ r) + length content)) (sym (append_assoc header content r)) ∙ take_at (header ++ content) r (length (header ++ (content ++ r)) - length (content ++ r) + length content) (sym whole) in
     ap (λ (x : Part). Ok x) (lent_is at depth t (at + (length (header ++ (content ++ r)) - length (content ++ r))) (at + length header) (take (length content) (content ++ r)) content (drop (length content) (content ++ r)) r (take (length (header ++ (content ++ r)) - length (content ++ r) + length content) (header ++ (content ++ r))) (header ++ content)
-        (ap (λ n. at + n) size) (take_at content r (length content) refl) (drop_at content r (length content) refl) octets)
+    (ap (λ n. at + n) size) (take_at content r (length content) refl) (drop_at content r (length content) refl) octets)
 
 spelled_as : (at depth : ℕ) (t : Tag) (content r : List ℕ) → ◌≡◌ {A = Result Part Fault} (Ok (lent_as at depth t (at + length (header_octets t content)) content r (header_octets t content ++ content))) (Ok (lent at depth t content r))
 spelled_as at depth t content r = ap (λ o. Ok (lent_as at depth t (at + length (header_octets t content)) content r o)) (element_split t content)

@@ -174,7 +174,7 @@ from_again at depth t (Some n) header content r d definite row_is =
     let size : at + (length (header ++ body) - length body) ≡ at + length header = omega (arith, length-append header body) in
     let octets = front_of header body (content ++ []) r n (ap (λ x. x ++ r) (sym (append-nil content))) (definite ∙ ap length (sym (append-nil content))) in
     ap (λ (x : Part). Ok x) (lent_is at depth t (at + (length (header ++ body) - length body)) (at + length header) (take n body) content (drop n body) r (take (length (header ++ body) - length body + n) (header ++ body)) (header ++ (content ++ []))
-        size (take_at content r n (sym definite)) (drop_at content r n (sym definite)) octets)
+    size (take_at content r n (sym definite)) (drop_at content r n (sym definite)) octets)
 from_again at depth t None header content r d definite row_is =
     let body = content ++ (0 ∷ 0 ∷ r) in
     let size : at + (length (header ++ body) - length body) ≡ at + length header = omega (arith, length-append header body) in

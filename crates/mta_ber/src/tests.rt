@@ -61,11 +61,23 @@ fn elements(rt: HostRuntime) -> Result<(), Fail> {
     for (text, class, constructed, number, start, content, rest) in rows {
         let octets = octets_of(rt.alloc(), text)?;
         let view = first_of(octets.as_slice()).ok().ok_or(text)?;
-        assert_eq!(rt; view.tag, Tag { class, constructed, number }, "{text}");
+        assert_eq!(rt;
+            view.tag,
+            Tag {
+                class,
+                constructed,
+                number
+            },
+            "{text}"
+        );
         assert_eq!(rt; view.start, start, "{text}");
         assert_eq!(rt; view.content.len(), content, "{text}");
         assert_eq!(rt; view.rest.len(), rest, "{text}");
-        assert_eq!(rt; view.octets.len(), octets.len() - rest.min(octets.len()), "{text}");
+        assert_eq!(rt;
+            view.octets.len(),
+            octets.len() - rest.min(octets.len()),
+            "{text}"
+        );
     }
     Ok(())
 }
@@ -83,7 +95,10 @@ fn faults_of_headers(rt: HostRuntime) -> Result<(), Fail> {
         ("04", fault(0, Kind::Truncated)),
         ("04 02 AA", fault(0, Kind::Truncated)),
         ("04 82 01", fault(0, Kind::Truncated)),
-        ("04 89 00 00 00 00 00 00 00 00 01 AA", fault(0, Kind::BadLength)),
+        (
+            "04 89 00 00 00 00 00 00 00 00 01 AA",
+            fault(0, Kind::BadLength),
+        ),
         ("04 89", fault(0, Kind::BadLength)),
         ("04 FF", fault(0, Kind::BadLength)),
         ("04 80 00 00", fault(0, Kind::BadLength)),
@@ -146,7 +161,10 @@ fn integers(rt: HostRuntime) -> Result<(), Fail> {
         ("02 00", Err(fault(0, Kind::BadInt))),
         ("02 02 00 7F", Err(fault(0, Kind::BadInt))),
         ("02 02 FF 80", Err(fault(0, Kind::BadInt))),
-        ("02 09 00 80 00 00 00 00 00 00 00", Err(fault(0, Kind::BadInt))),
+        (
+            "02 09 00 80 00 00 00 00 00 00 00",
+            Err(fault(0, Kind::BadInt)),
+        ),
         ("22 03 02 01 00", Err(fault(0, Kind::BadTag))),
     ];
     for (text, want) in rows {
@@ -209,7 +227,11 @@ fn strings(rt: HostRuntime) -> Result<(), Fail> {
     ];
     for (text, want) in bad {
         let octets = octets_of(rt.alloc(), text)?;
-        assert_eq!(rt; bad_of(joined_of(rt.alloc(), octets.as_slice())), Some(want), "{text}");
+        assert_eq!(rt;
+            bad_of(joined_of(rt.alloc(), octets.as_slice())),
+            Some(want),
+            "{text}"
+        );
     }
     Ok(())
 }
@@ -240,7 +262,11 @@ fn texts(rt: HostRuntime) -> Result<(), Fail> {
     ];
     for (text, want) in bad {
         let octets = octets_of(rt.alloc(), text)?;
-        assert_eq!(rt; bad_of(text_of(rt.alloc(), octets.as_slice())), Some(want), "{text}");
+        assert_eq!(rt;
+            bad_of(text_of(rt.alloc(), octets.as_slice())),
+            Some(want),
+            "{text}"
+        );
     }
     Ok(())
 }
@@ -257,8 +283,18 @@ fn bit_strings(rt: HostRuntime) -> Result<(), Fail> {
         ("03 02 05 E0", 3, 7, "03 02 05 E0"),
         ("03 02 05 FF", 3, 7, "03 02 05 E0"),
         ("23 08 03 02 00 0F 03 02 04 A0", 12, 0xFA, "03 03 04 0F A0"),
-        ("23 80 23 80 03 02 00 80 00 00 03 02 07 80 00 00", 9, 0x101, "03 03 07 80 80"),
-        ("03 09 00 FF FF FF FF FF FF FF FF", 64, u64::MAX, "03 09 00 FF FF FF FF FF FF FF FF"),
+        (
+            "23 80 23 80 03 02 00 80 00 00 03 02 07 80 00 00",
+            9,
+            0x101,
+            "03 03 07 80 80",
+        ),
+        (
+            "03 09 00 FF FF FF FF FF FF FF FF",
+            64,
+            u64::MAX,
+            "03 09 00 FF FF FF FF FF FF FF FF",
+        ),
     ];
     for (text, count, word, again) in rows {
         let octets = octets_of(rt.alloc(), text)?;
@@ -267,7 +303,15 @@ fn bit_strings(rt: HostRuntime) -> Result<(), Fail> {
         assert_eq!(rt; bits.word(), word, "{text}");
         if again.len() > 0 {
             let mut w = Writer::new(rt.alloc());
-            put_bits(&mut w, Tag { class: 0, constructed: false, number: 3 }, bits)?;
+            put_bits(
+                &mut w,
+                Tag {
+                    class: 0,
+                    constructed: false,
+                    number: 3,
+                },
+                bits,
+            )?;
             let want = octets_of(rt.alloc(), again)?;
             assert_eq!(rt; w.as_slice(), want.as_slice(), "{text}");
         }
@@ -276,7 +320,10 @@ fn bit_strings(rt: HostRuntime) -> Result<(), Fail> {
         ("03 00", fault(0, Kind::BadInt)),
         ("03 01 01", fault(0, Kind::BadInt)),
         ("03 02 08 00", fault(0, Kind::BadInt)),
-        ("03 0A 07 FF FF FF FF FF FF FF FF FF", fault(0, Kind::BadInt)),
+        (
+            "03 0A 07 FF FF FF FF FF FF FF FF FF",
+            fault(0, Kind::BadInt),
+        ),
         ("23 08 03 02 04 A0 03 02 00 0F", fault(2, Kind::BadInt)),
         ("23 08 23 04 03 02 04 A0 23 00", fault(4, Kind::BadInt)),
         ("23 07 03 02 04 A0 03 05 00", fault(2, Kind::BadInt)),
@@ -309,7 +356,11 @@ fn bits_by_place(rt: HostRuntime) -> Result<(), Fail> {
 fn utc_of(alloc: Global, text: &str) -> Result<Result<u64, Fault>, Memory> {
     let mut octets = Vec::new(alloc);
     octets.push(0x17)?;
-    octets.push(if text.len() < 128 { text.len() as u8 } else { 0 })?;
+    octets.push(if text.len() < 128 {
+        text.len() as u8
+    } else {
+        0
+    })?;
     octets.extend_from_slice(text.as_bytes())?;
     Ok(match first_of(octets.as_slice()) {
         Ok(view) => view.utc(),
@@ -369,9 +420,15 @@ fn times(rt: HostRuntime) -> Result<(), Fail> {
 fn times_in_segments(rt: HostRuntime) -> Result<(), Fail> {
     let rows = [
         ("37 11 17 06 353030313031 04 07 3030303030305A", Ok(0)),
-        ("A0 80 24 80 04 0B 353030313031303030305A 00 00 00 00", Ok(0)),
+        (
+            "A0 80 24 80 04 0B 353030313031303030305A 00 00 00 00",
+            Ok(0),
+        ),
         ("37 06 04 01 35 16 01 30", Err(fault(5, Kind::BadTag))),
-        ("37 16 04 14 3530303130313030303030305A 30303030303030", Err(fault(0, Kind::BadTime))),
+        (
+            "37 16 04 14 3530303130313030303030305A 30303030303030",
+            Err(fault(0, Kind::BadTime)),
+        ),
     ];
     for (text, want) in rows {
         let octets = octets_of(rt.alloc(), text)?;
@@ -397,7 +454,15 @@ fn times_that_are_written(rt: HostRuntime) -> Result<(), Fail> {
     for (moment, text) in rows {
         let mut w = Writer::new(rt.alloc());
         if moment <= LAST_MOMENT {
-            put_utc(&mut w, Tag { class: 2, constructed: true, number: 0 }, moment)?;
+            put_utc(
+                &mut w,
+                Tag {
+                    class: 2,
+                    constructed: true,
+                    number: 0,
+                },
+                moment,
+            )?;
         }
         let mut want = octets_of(rt.alloc(), "80 0D")?;
         want.extend_from_slice(text.as_bytes())?;
@@ -430,8 +495,16 @@ fn explicit_tags(rt: HostRuntime) -> Result<(), Fail> {
         ("61 80 13 02 47 42 00 00", None, None),
         ("61 00", Some(fault(2, Kind::Truncated)), None),
         ("41 00", Some(fault(0, Kind::BadTag)), None),
-        ("61 06 13 02 47 42 05 00", None, Some(fault(6, Kind::BadTag))),
-        ("61 05 13 02 47 42 05", None, Some(fault(6, Kind::Truncated))),
+        (
+            "61 06 13 02 47 42 05 00",
+            None,
+            Some(fault(6, Kind::BadTag)),
+        ),
+        (
+            "61 05 13 02 47 42 05",
+            None,
+            Some(fault(6, Kind::Truncated)),
+        ),
     ];
     for (text, want, behind) in rows {
         let octets = octets_of(rt.alloc(), text)?;
@@ -462,7 +535,14 @@ fn lengths_that_are_written(rt: HostRuntime) -> Result<(), Fail> {
             content.extend(&[0])?;
         }
         let mut w = Writer::new(rt.alloc());
-        w.put(Tag { class: 1, constructed: false, number: 129 }, content.as_slice())?;
+        w.put(
+            Tag {
+                class: 1,
+                constructed: false,
+                number: 129,
+            },
+            content.as_slice(),
+        )?;
         let want = octets_of(rt.alloc(), text)?;
         assert!(rt; w.as_slice().len() == want.len() + content.len());
         assert!(rt; w.as_slice().starts_with(want.as_slice()), "{count}");
@@ -473,9 +553,24 @@ fn lengths_that_are_written(rt: HostRuntime) -> Result<(), Fail> {
 #[test]
 fn elements_that_enclose(rt: HostRuntime) -> Result<(), Fail> {
     let mut w = Writer::new(rt.alloc());
-    w.begin(Tag { class: 1, constructed: true, number: 3 })?;
-    w.begin(Tag { class: 1, constructed: true, number: 1 })?;
-    w.put(Tag { class: 0, constructed: false, number: 19 }, b"GB")?;
+    w.begin(Tag {
+        class: 1,
+        constructed: true,
+        number: 3,
+    })?;
+    w.begin(Tag {
+        class: 1,
+        constructed: true,
+        number: 1,
+    })?;
+    w.put(
+        Tag {
+            class: 0,
+            constructed: false,
+            number: 19,
+        },
+        b"GB",
+    )?;
     w.end()?;
     w.put_raw(&[5, 0])?;
     w.end()?;
@@ -534,7 +629,11 @@ fn notes(rt: HostRuntime) -> Result<(), Fail> {
     ];
     for (text, want) in bad {
         let octets = octets_of(rt.alloc(), text)?;
-        assert_eq!(rt; bad_of(note_of(rt.alloc(), octets.as_slice())), Some(want), "{text}");
+        assert_eq!(rt;
+            bad_of(note_of(rt.alloc(), octets.as_slice())),
+            Some(want),
+            "{text}"
+        );
     }
     Ok(())
 }
