@@ -19,7 +19,7 @@ shifted_fits w c z lt few =
     let most = pow-le-pow_right {n = 2} (omega arith) few in
     mod-eq_of_lt (omega (arith, below, most))
 
-octets_as_bits : (n : ℕ) → 256 ^ n ≡ 2 ^ (8 * n)
+pub octets_as_bits : (n : ℕ) → 256 ^ n ≡ 2 ^ (8 * n)
 octets_as_bits zero = refl
 octets_as_bits (suc n) =
     let e : 8 * suc n ≡ 8 + 8 * n = omega arith in

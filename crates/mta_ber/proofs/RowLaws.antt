@@ -217,11 +217,11 @@ pub record Finds (P : List ℕ → Type 0) (inside : Extent) : Type 0 where
 pub IsBytes-drop : (n : ℕ) (bytes : List ℕ) → IsBytes bytes → IsBytes (drop n bytes)
 IsBytes-drop n bytes h i = rw get_or-drop (h (n + i))
 
-pub IsBytes-take : (n : ℕ) (bytes : List ℕ) → IsBytes bytes → IsBytes (take n bytes)
-IsBytes-take n bytes h i =
-    elim (cases_lt i n) [
-      | inl lt ↦ rw (get_or-take n bytes i 0 lt) (h i)
-      | inr le ↦ rw (get_or_past (take n bytes) i 0 (omega (arith, length-take n bytes))) (omega arith)
+pub IsBytes-take : (count : ℕ) (octets : List ℕ) → IsBytes octets → IsBytes (take count octets)
+IsBytes-take count octets each place =
+    elim (cases_lt place count) [
+      | inl lt ↦ rw (get_or-take count octets place 0 lt) (each place)
+      | inr le ↦ rw (get_or_past (take count octets) place 0 (omega (arith, length-take count octets))) (omega arith)
     ]
 
 pub IsBytes-back : (a b : List ℕ) → IsBytes (a ++ b) → IsBytes b

@@ -272,3 +272,9 @@ reads_as (Err (faults.Bad f)) read y h e = absurd (let k = sym h ∙ e in cc)
 pub given_found : {X : Type 0} (P : X → Type 0) (r : Result X Fault) (read : Result X Fault) → r ≡ read → ((x : X) → read ≡ Ok x → P x) → IfOk r P
 given_found P (Ok x) read h f = f x (sym h)
 given_found P (Err e) read h f = tt
+
+-- a primitive content is its own octets
+pub octets_spelled : (own depth : ℕ) (content : List ℕ) → depth ≤ 16 → SpellsOctets own depth false content content
+octets_spelled own depth content d =
+    let left : suc (16 - depth) ≡ 17 - depth = omega arith in
+    subst (λ k. SpellsString AddsOctets 4 own k false true [] content content) left refl

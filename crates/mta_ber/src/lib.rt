@@ -10,6 +10,7 @@ mod fault;
 mod gather;
 mod head;
 mod int;
+mod laws;
 mod memory;
 mod note;
 mod octets;
@@ -29,6 +30,10 @@ mod writer;
 pub use bits::Bits;
 pub use components::{bad, check_order, is_tag_of, take_required};
 pub use fault::{Fault, Kind, ReadFault};
+pub use laws::{
+    bits_are_read_again, elements_are_read_again, moments_are_read_again, no_spelling_begins_another,
+    numbers_are_read_again, texts_are_read_again,
+};
 pub use memory::Memory;
 pub use note::{Note, NoteParts};
 pub use octets::Octets;

@@ -60,18 +60,18 @@ impl Octets {
         Octets::from_slice(alloc, self.as_slice())
     }
 
-    /// The octets, lent.
-    pub fn as_slice(&self) -> &[u8]
-        ensures { result.now ≡ self.now }
-    {
-        self.inner.as_slice()
-    }
-
     /// How many octets there are.
     pub fn len(&self) -> usize
         ensures { result ≡ length self.now }
     {
         self.inner.len()
+    }
+
+    /// The octets, lent.
+    pub fn as_slice(&self) -> &[u8]
+        ensures { result.now ≡ self.now }
+    {
+        self.inner.as_slice()
     }
 
     /// Whether there are none.
