@@ -102,7 +102,10 @@ civil_dated day lt =
     record {
       low = s.later;
       high = short_year c s.day_low (omega (arith, signed_arith, number, days_from_civil-day_count (pos c.year) c.month c.day));
-      month_low = s.month_low; month_high = s.month_high; day_low = s.day_low; day_high = s.day_high;
+      month_low = s.month_low;
+      month_high = s.month_high;
+      day_low = s.day_low;
+      day_high = s.day_high;
       number = number;
     }
 

@@ -1,22 +1,16 @@
 -- Times that are written are read again.
-use Rattle.std.proofs.Common.{◌≡◌, ℕ, suc, ◌+◌, ◌-◌, ◌*◌, ◌/◌, ◌%◌, ◌≤◌, ◌<◌, ◌^◌, Bool, true, false, cond, ltb, leb, eqb, List, [], ◌∷◌, ◌++◌, length, Result, Ok, refl, sym, ap, subst, ◌∙◌, arith, inl, inr, ℤ, pos, ◌+ℤ◌, ◌-ℤ◌, ◌*ℤ◌}
-use Rattle.std.specs.Prelude.{◌&&◌, nat_lt}
+use Rattle.std.proofs.Common.{◌≡◌, ℕ, ◌+◌, ◌*◌, ◌/◌, ◌%◌, ◌≤◌, ◌<◌, true, [], ◌∷◌, length, refl, ap, ◌∙◌, arith, inl, inr, pos, ◌+ℤ◌, ◌-ℤ◌, ◌*ℤ◌}
 use Rattle.std.proofs.lemmas.Bool.{cases_lt, lt-ltb, le-ltb, le-leb}
-use Rattle.std.proofs.lemmas.Bool.Decides.{nat_tests}
-use Rattle.jiff_core.specs.Calendar.{days_in_month, days_from_civil, day_count}
+use Rattle.jiff_core.specs.Calendar.{days_in_month}
 use Rattle.jiff_core.proofs.SignedLemmas.{signed_arith}
-use Rattle.jiff_core.proofs.CalendarLemmas.{days_from_civil-day_count, days_in_month_bounds}
-use Rattle.jiff_core.proofs.DateLemmas.{days_from_civil-day}
-use Rattle.mta_ber.specs.declared.tag.Tag.{Tag}
+use Rattle.jiff_core.proofs.CalendarLemmas.{days_in_month_bounds}
 use Rattle.mta_ber.specs.declared.stamp.Stamp.{Stamp}
-use Rattle.mta_ber.specs.Head.{◌>>=◌}
-use Rattle.mta_ber.specs.Element.{first, outermost}
-use Rattle.mta_ber.specs.Times.{whole_year, is_date, is_clock, is_good, day_number, stamp_seconds, clock_seconds, last_moment, utc_in}
-use Rattle.mta_ber.specs.Contents.{Civil, civil_of, two_digits, utc_content, as_primitive}
-use Rattle.mta_ber.specs.Moments.{IsMomentText, SpellsMoment}
+use Rattle.mta_ber.specs.Times.{whole_year, is_date, is_clock, day_number, stamp_seconds, clock_seconds, last_moment, utc_in}
+use Rattle.mta_ber.specs.Contents.{civil_of, two_digits, utc_content, as_primitive}
+use Rattle.mta_ber.specs.Moments.{IsMomentText}
 use Rattle.mta_ber.specs.Laws.{MomentsAreReadAgain}
 use Rattle.mta_ber.proofs.CanonLaws.{lent}
-use Rattle.mta_ber.proofs.DateLaws.{Dated, civil_dated}
+use Rattle.mta_ber.proofs.DateLaws.{civil_dated}
 use Rattle.mta_ber.proofs.MomentLaws.{utc_full}
 use Rattle.mta_ber.proofs.StringLaws.{octets_spelled}
 use Rattle.mta_ber.proofs.ValueLaws.{again, primitive_tag}
@@ -56,16 +50,20 @@ moment_text m le =
     record {
       stamp = stamp_of m;
       has_stamp = record {
-        small_year = omega arith; small_month = omega (arith, s.month_high); small_day = omega (arith, s.day_high, long.0); small_hour = omega arith; small_minute = omega arith;
+        small_year = omega arith;
+        small_month = omega (arith, s.month_high);
+        small_day = omega (arith, s.day_high, long.0);
+        small_hour = omega arith;
+        small_minute = omega arith;
         seconds = two_digits (m % 86400 % 60) (90 ∷ []);
         has_seconds = record { small = omega arith; zone = 90 ∷ []; is_zone = inl (record { ahead = refl; no_hour = refl; no_minute = refl; text_is = refl }); text_is = inr refl };
         text_is = refl;
       };
       good = rw (date, clock) refl;
       seconds_are =
-        ap (λ n. ((n *ℤ pos 86400) +ℤ pos (clock_seconds (m % 86400 / 3600) (m % 86400 / 60 % 60) (m % 86400 % 60))) -ℤ pos 0) number
-        ∙ ap (λ k. ((pos (m / 86400) *ℤ pos 86400) +ℤ pos k) -ℤ pos 0) parts
-        ∙ joined (m / 86400) (m % 86400) m (omega arith);
+          ap (λ n. ((n *ℤ pos 86400) +ℤ pos (clock_seconds (m % 86400 / 3600) (m % 86400 / 60 % 60) (m % 86400 % 60))) -ℤ pos 0) number
+          ∙ ap (λ k. ((pos (m / 86400) *ℤ pos 86400) +ℤ pos k) -ℤ pos 0) parts
+          ∙ joined (m / 86400) (m % 86400) m (omega arith);
       in_range = le;
     }
 
@@ -77,4 +75,4 @@ pub moments_again : MomentsAreReadAgain
 moments_again t m more at h le =
     let short = text_short m in
     again utc_in m (as_primitive t) (utc_content m) more at (primitive_tag t h) (omega arith) (λ depth d.
-        utc_full (lent at depth (as_primitive t) (utc_content m) more) m d (record { text = utc_content m; spelled = octets_spelled 23 depth (utc_content m) d; is_text = moment_text m le }))
+    utc_full (lent at depth (as_primitive t) (utc_content m) more) m d (record { text = utc_content m; spelled = octets_spelled 23 depth (utc_content m) d; is_text = moment_text m le }))

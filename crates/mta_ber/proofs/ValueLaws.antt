@@ -1,10 +1,10 @@
 -- Values that are written are read again.
-use Rattle.std.proofs.Common.{◌≡◌, ◌≢◌, ℕ, zero, suc, ◌+◌, ◌-◌, ◌*◌, ◌/◌, ◌%◌, ◌≤◌, ◌<◌, ◌^◌, ◌⊎◌, Bool, true, false, cond, ltb, leb, eqb, List, [], ◌∷◌, ◌++◌, length, get_or, Result, Ok, Err, refl, sym, ap, subst, ◌∙◌, arith, inl, inr, ℤ, pos, negsuc, to_z, of_z, w64, FitsSigned}
+use Rattle.std.proofs.Common.{◌≡◌, ℕ, zero, suc, ◌+◌, ◌-◌, ◌*◌, ◌/◌, ◌%◌, ◌≤◌, ◌<◌, ◌^◌, ◌⊎◌, Bool, true, false, cond, ltb, leb, eqb, List, [], ◌∷◌, ◌++◌, length, get_or, Result, Ok, refl, sym, ap, subst, ◌∙◌, arith, inl, inr, ℤ, pos, negsuc, to_z, of_z, w64, FitsSigned}
 use Rattle.std.specs.Prelude.{map, not, ◌&&◌, ◌||◌}
 use Rattle.std.specs.Int.{to_be_bytes, bytes_high_first, byte_at}
-use Rattle.std.proofs.Math.Nat.{pow-succ', mod-eq_of_lt, mul-le-mul_right}
-use Rattle.std.proofs.lemmas.Nat.{shl-shr, shl_below, pow-add}
-use Rattle.std.proofs.lemmas.Bool.{cases_lt, eqb-true, ltb-true, leb-true, lt-ltb, le-ltb}
+use Rattle.std.proofs.Math.Nat.{pow-succ', mod-eq_of_lt}
+use Rattle.std.proofs.lemmas.Nat.{shl-shr, shl_below}
+use Rattle.std.proofs.lemmas.Bool.{cases_lt, eqb-true, leb-true, le-ltb}
 use Rattle.std.proofs.lemmas.Int.{ints, to_z-of_z}
 use Rattle.std.proofs.Math.Facts.{to_z-neg}
 use Rattle.mta_ber.specs.declared.fault.Fault.{Fault}
@@ -22,7 +22,7 @@ use Rattle.mta_ber.proofs.HeadLaws.{and_true}
 use Rattle.mta_ber.proofs.CanonLaws.{digits, digits_of, byte_small, lent}
 use Rattle.mta_ber.proofs.RoundTrip.{first_again, text_again}
 use Rattle.mta_ber.proofs.BitLaws.{octets_as_bits}
-use Rattle.mta_ber.proofs.Numbers.{signed_low, signed_high}
+use Rattle.mta_ber.proofs.Numbers.{signed_low}
 use Rattle.mta_ber.proofs.IntLaws.{int_full}
 use Rattle.mta_ber.proofs.StringLaws.{bits_in_full}
 
@@ -180,7 +180,6 @@ bits_spelled depth b d few below =
         let count_is : 0 + c ≡ b.count = omega arith in
         let word_is : 0 * 2 ^ c + w ≡ b.word = omega arith in
         sym (ap (λ t. cond t too_many (with_bits no_bits (record { count = c; word = w }))) small ∙ made_is (0 + c) b.count (0 * 2 ^ c + w) b.word count_is word_is)
-
 
 pub bits_again : BitsAreReadAgain
 bits_again t b more at h few below =
