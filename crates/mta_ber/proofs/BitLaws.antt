@@ -1,6 +1,5 @@
 -- Bits as numbers.
-use Rattle.std.proofs.Common.{◌≡◌, ℕ, zero, suc, ◌+◌, ◌*◌, ◌-◌, ◌/◌, ◌%◌, ◌≤◌, ◌<◌, ◌^◌, Bool, true, false, List, [], ◌∷◌, length, ltb, eqb, refl, sym, ap, ◌∙◌, arith}
-use Rattle.std.specs.Prelude.{nat_lt, ◌==◌, ◌&&◌, ◌||◌, not}
+use Rattle.std.proofs.Common.{◌≡◌, ℕ, zero, suc, ◌+◌, ◌*◌, ◌-◌, ◌/◌, ◌%◌, ◌≤◌, ◌<◌, ◌^◌, Bool, true, List, [], ◌∷◌, length, refl, sym, ap, ◌∙◌, arith}
 use Rattle.std.proofs.Math.Nat.{pow-succ', mul-le-mul_right, pow-le-pow_right, one-le-pow, div-lt_iff_lt-mul, mod-eq_of_lt}
 use Rattle.std.proofs.lemmas.Nat.{pow-add, shl_below}
 use Rattle.std.proofs.lemmas.Bool.Decides.{nat_tests}
@@ -20,7 +19,7 @@ shifted_fits w c z lt few =
     let most = pow-le-pow_right {n = 2} (omega arith) few in
     mod-eq_of_lt (omega (arith, below, most))
 
-octets_as_bits : (n : ℕ) → 256 ^ n ≡ 2 ^ (8 * n)
+pub octets_as_bits : (n : ℕ) → 256 ^ n ≡ 2 ^ (8 * n)
 octets_as_bits zero = refl
 octets_as_bits (suc n) =
     let e : 8 * suc n ≡ 8 + 8 * n = omega arith in

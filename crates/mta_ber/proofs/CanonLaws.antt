@@ -8,8 +8,8 @@ use Rattle.std.proofs.lemmas.Nat.{mod-mul-add, mod_below, div-add-mod'}
 use Rattle.mta_ber.specs.declared.tag.Tag.{Tag}
 use Rattle.mta_ber.specs.Head.{base}
 use Rattle.mta_ber.specs.Element.{Part}
-use Rattle.mta_ber.specs.Canon.{drop_zeros, length_octets, ident_octets, element}
-use Rattle.mta_ber.specs.Spelling.{IsIdent, IsLength, IsHeader}
+use Rattle.mta_ber.specs.Canon.{IsTag, drop_zeros, length_octets, high_octets, ident_octets, element}
+use Rattle.mta_ber.specs.Spelling.{IsHigh, IsIdent, IsLength, IsHeader}
 
 -- ---- the least octets of a length
 
@@ -23,7 +23,7 @@ few_significant [] = omega arith
 few_significant (zero ∷ bs) = let h = few_significant bs in omega arith
 few_significant (suc b ∷ bs) = omega arith
 
-abbrev digits : ℕ → List ℕ → ℕ
+abbrev pub digits : ℕ → List ℕ → ℕ
 digits a bs = fold (λ n b. n * 256 + b % 256) a bs
 
 -- one digit more of a remainder
@@ -43,14 +43,14 @@ byte_is : (k n : ℕ) → byte_at k n * 256 ^ k + n % 256 ^ k ≡ n % 256 ^ suc 
 byte_is zero n = omega arith
 byte_is (suc k) n = rw (pow-succ' 256 (suc k)) (more_of n (256 ^ suc k) (one-le-pow (suc k) 256 (omega arith)))
 
-byte_small : (k n : ℕ) → byte_at k n % 256 ≡ byte_at k n
+pub byte_small : (k n : ℕ) → byte_at k n % 256 ≡ byte_at k n
 byte_small zero n = omega arith
 byte_small (suc k) n = omega arith
 
 regroup : (a b w m : ℕ) → (a * 256 + b) * w + m ≡ a * (256 * w) + (b * w + m)
 regroup a b w m = grind arith
 
-digits_of : (k a n : ℕ) → digits a (bytes_high_first k n) ≡ a * 256 ^ k + n % 256 ^ k
+pub digits_of : (k a n : ℕ) → digits a (bytes_high_first k n) ≡ a * 256 ^ k + n % 256 ^ k
 digits_of zero a n = omega arith
 digits_of (suc k) a n =
     let h = digits_of k (a * 256 + byte_at k n % 256) n in
@@ -79,22 +79,33 @@ length_spelled n lt = elim (cases_lt n 128) [
 
 -- ---- elements
 
-pub record IsLowTag (t : Tag) : Type 0 where
-  pub class : t.class < 4
-  pub number : t.number < 31
+-- the least octets of a high tag number
+high_spelled : (n : ℕ) → 31 ≤ n → n < 2 ^ 28 → IsHigh n (high_octets n)
+unfolding high_octets
+high_spelled n ge lt = elim (cases_lt n 128) [
+  | inl a ↦ rw (lt-ltb n 128 a) (record { group = a; few = omega arith; no_zero = λ e. omega arith; value = omega arith; high = ge })
+  | inr a ↦ elim (cases_lt n (2 ^ 14)) [
+    | inl b ↦ rw (le-ltb n 128 a, lt-ltb n (2 ^ 14) b) (record { group = (omega arith, omega arith); few = omega arith; no_zero = λ e. omega arith; value = omega arith; high = ge })
+    | inr b ↦ elim (cases_lt n (2 ^ 21)) [
+      | inl d ↦ rw (le-ltb n 128 a, le-ltb n (2 ^ 14) b, lt-ltb n (2 ^ 21) d) (record { group = (omega arith, (omega arith, omega arith)); few = omega arith; no_zero = λ e. omega arith; value = omega arith; high = ge })
+      | inr d ↦ rw (le-ltb n 128 a, le-ltb n (2 ^ 14) b, le-ltb n (2 ^ 21) d) (record { group = (omega arith, (omega arith, (omega arith, omega arith))); few = omega arith; no_zero = λ e. omega arith; value = omega arith; high = ge })
+    ]
+  ]
+]
 
-low_ident : (t : Tag) → IsLowTag t → IsIdent t (ident_octets t)
+ident_spelled : (t : Tag) → IsTag t → IsIdent t (ident_octets t)
 unfolding ident_octets
-low_ident t h =
-    let e : ltb t.number 31 ≡ true = lt-ltb _ _ h.number in
-    (h.class, inl (record { low = h.number; octet = rw e refl }))
+ident_spelled t h = elim (cases_lt t.number 31) [
+  | inl low ↦ (let e : ltb t.number 31 ≡ true = lt-ltb _ _ low in (h.class, inl (record { low = low; octet = rw e refl })))
+  | inr high ↦ (let e : ltb t.number 31 ≡ false = le-ltb _ _ high in (h.class, inr (record { number = high_octets t.number; high = high_spelled t.number high h.number; octets_are = rw e refl })))
+]
 
 pub header_octets : Tag → List ℕ → List ℕ
 header_octets t content = ident_octets t ++ length_octets (length content)
 
-pub header_spelled : (t : Tag) (content : List ℕ) → IsLowTag t → length content < 2 ^ 64 → IsHeader t (Some (length content)) (header_octets t content)
+pub header_spelled : (t : Tag) (content : List ℕ) → IsTag t → length content < 2 ^ 64 → IsHeader t (Some (length content)) (header_octets t content)
 unfolding header_octets
-header_spelled t content low lt = record { ident = ident_octets t; lengths = length_octets (length content); is_ident = low_ident t low; is_count = length_spelled (length content) lt; octets_are = refl }
+header_spelled t content low lt = record { ident = ident_octets t; lengths = length_octets (length content); is_ident = ident_spelled t low; is_count = length_spelled (length content) lt; octets_are = refl }
 
 pub element_is : (t : Tag) (content r : List ℕ) → element t content ++ r ≡ header_octets t content ++ (content ++ r)
 unfolding element header_octets

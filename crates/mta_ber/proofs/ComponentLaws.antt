@@ -8,7 +8,7 @@ use Rattle.mta_ber.specs.Element.{Part, part}
 use Rattle.mta_ber.specs.Parts.{parts_from, parts_of}
 use Rattle.mta_ber.specs.Octet.{IsOctets}
 use Rattle.mta_ber.specs.Spelling.{ending_of}
-use Rattle.mta_ber.specs.Components.{Makes, IsComponent, AreComponents, SpellsComponents}
+use Rattle.mta_ber.specs.Components.{Makes, AreComponents, SpellsComponents}
 use Rattle.mta_ber.proofs.RowLaws.{part_sound, stands_again, lent_part, IsBytes-back}
 use Rattle.mta_ber.proofs.RoundTrip.{step_on, parts_none}
 use Rattle.mta_ber.proofs.StringLaws.{IsBytes-front, stands_long}

@@ -1,6 +1,6 @@
 -- The example: a step answers exactly what a component makes, and so a note is read exactly where it is spelled.
-use Rattle.std.proofs.Common.{◌≡◌, ◌≢◌, ℕ, ◌≤◌, Bool, true, false, cond, eqb, List, Option, Some, None, Result, Ok, Err, refl, sym, ap, subst, ◌∙◌, arith, inl, inr, ℤ, pos}
-use Rattle.std.specs.Prelude.{◌&&◌, unwrap_or}
+use Rattle.std.proofs.Common.{◌≡◌, ◌≢◌, ℕ, true, false, cond, eqb, List, Option, Some, Result, Ok, refl, sym, ap, subst, ◌∙◌, arith, inl, inr, ℤ, pos}
+use Rattle.std.specs.Prelude.{unwrap_or}
 use Rattle.std.proofs.lemmas.Bool.{eqb-true, ne_eqb}
 use Rattle.mta_ber.specs.declared.fault.Fault.{Fault}
 use Rattle.mta_ber.specs.declared.tag.Tag.{Tag}
@@ -15,7 +15,7 @@ use Rattle.mta_ber.specs.Parts.{components, parts_of, is_tag, required}
 use Rattle.mta_ber.specs.Strings.{text_in}
 use Rattle.mta_ber.specs.Int.{int_in}
 use Rattle.mta_ber.specs.Bits.{BitString, bits_in}
-use Rattle.mta_ber.specs.Example.{note_step, no_note, note_in, MakesTitle, MakesCount, MakesFlags, MakesNote, SpellsNote}
+use Rattle.mta_ber.specs.Example.{note_step, no_note, note_in, MakesNote, SpellsNote}
 use Rattle.mta_ber.proofs.HeadLaws.{and_true}
 use Rattle.mta_ber.proofs.Steps.{bind_ok, chosen, ok_is, placed, taken, required_so}
 use Rattle.mta_ber.proofs.StringLaws.{text_sound, text_full, bits_in_sound, bits_in_full}

@@ -54,10 +54,10 @@ group_taken (b ∷ bs) lt =
 place_none : (bytes : List ℕ) → length bytes ≤ ups bytes → position (λ b. nat_lt b 128) bytes ≡ None
 place_none bytes le = ap (λ t. cond t (Some (ups bytes)) None) (le-ltb (ups bytes) (length bytes) le)
 
-abbrev found : {A : Type 0} → A → Option A
+abbrev pub found : {A : Type 0} → A → Option A
 found x = Some x
 
-some_is : {A : Type 0} (x y : A) → found x ≡ found y → x ≡ y
+pub some_is : {A : Type 0} (x y : A) → found x ≡ found y → x ≡ y
 some_is x y e = cc
 
 pub group_sound : (bytes g r : List ℕ) → group bytes ≡ Some (g, r) → IsGroup g × (bytes ≡ g ++ r)

@@ -1,9 +1,7 @@
 -- A number is read exactly where it is spelled.
-use Rattle.std.proofs.Common.{◌≡◌, ℕ, ◌≤◌, Bool, true, false, cond, ltb, List, length, Result, Ok, Err, refl, sym, ap, subst, ◌∙◌, ℤ, ◌≤ℤ◌, arith}
-use Rattle.std.specs.Prelude.{not, ◌||◌, int_lt}
+use Rattle.std.proofs.Common.{◌≡◌, ℕ, Bool, true, false, ltb, List, length, Ok, refl, sym, ap, subst, ℤ}
+use Rattle.std.specs.Prelude.{not, ◌||◌}
 use Rattle.std.proofs.lemmas.Bool.{le-ltb, ltb-false}
-use Rattle.std.proofs.lemmas.Int.{ints}
-use Rattle.mta_ber.specs.declared.fault.Fault.{Fault}
 use Rattle.mta_ber.specs.Int.{is_short, signed, in_range, int_in, SpellsInteger}
 use Rattle.mta_ber.proofs.Steps.{passed, ok_is}
 use Rattle.mta_ber.proofs.HeadLaws.{or_false}

@@ -14,6 +14,9 @@ pub mod RoundTrip
 pub mod RowLaws
 pub mod FirstLaws
 pub mod StringLaws
+pub mod ValueLaws
+pub mod TimeAgain
+pub mod MomentLaws
 pub mod ComponentLaws
 pub mod IntLaws
 pub mod ExampleLaws

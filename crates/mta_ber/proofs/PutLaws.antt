@@ -1,5 +1,5 @@
 -- The contents of what is put.
-use Rattle.std.proofs.Common.{◌≡◌, ℕ, zero, suc, ◌+◌, ◌-◌, ◌*◌, ◌/◌, ◌≤◌, ◌^◌, List, [], ◌∷◌, ◌++◌, take, drop, refl, sym, ap, ◌∙◌, arith}
+use Rattle.std.proofs.Common.{◌≡◌, ℕ, zero, suc, ◌+◌, ◌-◌, ◌*◌, ◌/◌, ◌≤◌, ◌^◌, List, [], ◌∷◌, ◌++◌, take, drop, refl, ap, ◌∙◌, arith}
 use Rattle.std.specs.Int.{w64, to_be_bytes, bytes_high_first}
 use Rattle.mta_ber.specs.Bits.{BitString, padded}
 use Rattle.mta_ber.specs.Contents.{octet_count, unused_bits, bits_content}

@@ -10,10 +10,10 @@ use Rattle.mta_ber.specs.Head.{◌>>=◌, head, ident}
 use Rattle.mta_ber.specs.Element.{Part, part, part_from, first, outermost}
 use Rattle.mta_ber.specs.Parts.{parts_from, parts_of}
 use Rattle.mta_ber.specs.Strings.{octets_piece, joined_as, class_number, between, text_in, IsText}
-use Rattle.mta_ber.specs.Canon.{element, ident_octets, length_octets, high_octets}
+use Rattle.mta_ber.specs.Canon.{IsTag, element, ident_octets, length_octets, high_octets}
 use Rattle.mta_ber.proofs.HeadLaws.{head_again}
 use Rattle.mta_ber.proofs.Segments.{gather_primitive}
-use Rattle.mta_ber.proofs.CanonLaws.{IsLowTag, header_octets, header_spelled, element_is, element_split, lent, few_significant}
+use Rattle.mta_ber.proofs.CanonLaws.{header_octets, header_spelled, element_is, element_split, lent, few_significant}
 
 abbrev lent_as : ℕ → ℕ → Tag → ℕ → List ℕ → List ℕ → List ℕ → Part
 lent_as at depth t start content r octets = record { tag = t; at = at; depth = depth; start = start; content = content; rest = r; octets = octets }
@@ -28,14 +28,14 @@ from_header at depth t content r header =
     let size : length (header ++ (content ++ r)) - length (content ++ r) ≡ length header = omega (arith, length-append header (content ++ r)) in
     let whole : length (header ++ (content ++ r)) - length (content ++ r) + length content ≡ length (header ++ content) = omega (arith, size, length-append header content) in
     let octets : take (length (header ++ (content ++ r)) - length (content ++ r) + length content) (header ++ (content ++ r)) ≡ header ++ content =
-        ap (take (length (header ++ (content ++ r)) - length (content ++ r) + length content)) (sym (append_assoc header content r)) ∙ take_at (header ++ content) r (length (header ++ (content ++ r)) - length (content ++ r) + length content) (sym whole) in
+    ap (take (length (header ++ (content ++ r)) - length (content ++ r) + length content)) (sym (append_assoc header content r)) ∙ take_at (header ++ content) r (length (header ++ (content ++ r)) - length (content ++ r) + length content) (sym whole) in
     ap (λ (x : Part). Ok x) (lent_is at depth t (at + (length (header ++ (content ++ r)) - length (content ++ r))) (at + length header) (take (length content) (content ++ r)) content (drop (length content) (content ++ r)) r (take (length (header ++ (content ++ r)) - length (content ++ r) + length content) (header ++ (content ++ r))) (header ++ content)
-        (ap (λ n. at + n) size) (take_at content r (length content) refl) (drop_at content r (length content) refl) octets)
+    (ap (λ n. at + n) size) (take_at content r (length content) refl) (drop_at content r (length content) refl) octets)
 
 spelled_as : (at depth : ℕ) (t : Tag) (content r : List ℕ) → ◌≡◌ {A = Result Part Fault} (Ok (lent_as at depth t (at + length (header_octets t content)) content r (header_octets t content ++ content))) (Ok (lent at depth t content r))
 spelled_as at depth t content r = ap (λ o. Ok (lent_as at depth t (at + length (header_octets t content)) content r o)) (element_split t content)
 
-pub part_again : (at depth : ℕ) (t : Tag) (content r : List ℕ) → IsLowTag t → length content < 2 ^ 64 → depth ≤ 16 → part at depth (element t content ++ r) ≡ Ok (lent at depth t content r)
+pub part_again : (at depth : ℕ) (t : Tag) (content r : List ℕ) → IsTag t → length content < 2 ^ 64 → depth ≤ 16 → part at depth (element t content ++ r) ≡ Ok (lent at depth t content r)
 unfolding part
 part_again at depth t content r low lt d =
     let h = head_again at depth t (Some (length content)) (header_octets t content) (content ++ r) (header_spelled t content low lt) (let fits : length content ≤ length (content ++ r) = omega (arith, length-append content r) in fits) d in
@@ -44,7 +44,7 @@ part_again at depth t content r low lt d =
     ∙ from_header at depth t content r (header_octets t content)
     ∙ spelled_as at depth t content r
 
-pub first_again : (at : ℕ) (t : Tag) (content r : List ℕ) → IsLowTag t → length content < 2 ^ 64 → first at (element t content ++ r) ≡ Ok (lent at (outermost t) t content r)
+pub first_again : (at : ℕ) (t : Tag) (content r : List ℕ) → IsTag t → length content < 2 ^ 64 → first at (element t content ++ r) ≡ Ok (lent at (outermost t) t content r)
 unfolding first
 first_again at t content r low lt =
     let h = head_again at 1 t (Some (length content)) (header_octets t content) (content ++ r) (header_spelled t content low lt) (let fits : length content ≤ length (content ++ r) = omega (arith, length-append content r) in fits) (omega arith) in
@@ -65,7 +65,7 @@ unfolding parts_from
 step_on step depth turns at s t [] p e h = absurd (no_part at depth p e)
 step_on step depth turns at s t (b ∷ bs) p e h = rw (e, h) refl
 
-pub parts_one : {S : Type 0} (step : S → Part → Result S Fault) (depth turns at : ℕ) (s s' : S) (t : Tag) (content more : List ℕ) → IsLowTag t → length content < 2 ^ 64 → depth ≤ 16 → 1 ≤ turns
+pub parts_one : {S : Type 0} (step : S → Part → Result S Fault) (depth turns at : ℕ) (s s' : S) (t : Tag) (content more : List ℕ) → IsTag t → length content < 2 ^ 64 → depth ≤ 16 → 1 ≤ turns
     → step s (lent at depth t content more) ≡ Ok s'
     → parts_from step depth turns at s (element t content ++ more) ≡ parts_from step depth (turns - 1) (at + (length (element t content ++ more) - length more)) s' more
 parts_one step depth turns at s s' t content more low lt d some h =
@@ -137,7 +137,7 @@ module _ {S : Type 0} (step : S → Part → Result S Fault) (depth : ℕ) where
   pub none_taken : (s : S) → Taken s [] s
   none_taken s = record { anywhere = λ turns at le. parts_none step depth turns at s }
 
-  pub one_taken : (s s1 s' : S) (t : Tag) (content more : List ℕ) → IsLowTag t → length content < 2 ^ 64 → depth ≤ 16 → ((at : ℕ) (r : List ℕ) → step s (lent at depth t content r) ≡ Ok s1) → Taken s1 more s' → Taken s (element t content ++ more) s'
+  pub one_taken : (s s1 s' : S) (t : Tag) (content more : List ℕ) → IsTag t → length content < 2 ^ 64 → depth ≤ 16 → ((at : ℕ) (r : List ℕ) → step s (lent at depth t content r) ≡ Ok s1) → Taken s1 more s' → Taken s (element t content ++ more) s'
   one_taken s s1 s' t content more low lt d h rest = record {
     anywhere = λ turns at le.
         let long = element_long t content in
@@ -146,7 +146,7 @@ module _ {S : Type 0} (step : S → Part → Result S Fault) (depth : ℕ) where
         ∙ rest.anywhere (turns - 1) (at + (length (element t content ++ more) - length more)) (omega arith);
   }
 
-  pub last_taken : (s s' : S) (t : Tag) (content : List ℕ) → IsLowTag t → length content < 2 ^ 64 → depth ≤ 16 → ((at : ℕ) (r : List ℕ) → step s (lent at depth t content r) ≡ Ok s') → Taken s (element t content) s'
+  pub last_taken : (s s' : S) (t : Tag) (content : List ℕ) → IsTag t → length content < 2 ^ 64 → depth ≤ 16 → ((at : ℕ) (r : List ℕ) → step s (lent at depth t content r) ≡ Ok s') → Taken s (element t content) s'
   last_taken s s' t content low lt d h = subst (λ bytes. Taken s bytes s') (append-nil (element t content)) (one_taken s s' s' t content [] low lt d h (none_taken s'))
 
 pub whole_taken : {S : Type 0} (step : S → Part → Result S Fault) (s s' : S) (p : Part) → Taken step (p.depth + 1) s p.content s' → parts_of step s p ≡ Ok s'

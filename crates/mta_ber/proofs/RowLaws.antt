@@ -174,7 +174,7 @@ from_again at depth t (Some n) header content r d definite row_is =
     let size : at + (length (header ++ body) - length body) ≡ at + length header = omega (arith, length-append header body) in
     let octets = front_of header body (content ++ []) r n (ap (λ x. x ++ r) (sym (append-nil content))) (definite ∙ ap length (sym (append-nil content))) in
     ap (λ (x : Part). Ok x) (lent_is at depth t (at + (length (header ++ body) - length body)) (at + length header) (take n body) content (drop n body) r (take (length (header ++ body) - length body + n) (header ++ body)) (header ++ (content ++ []))
-        size (take_at content r n (sym definite)) (drop_at content r n (sym definite)) octets)
+    size (take_at content r n (sym definite)) (drop_at content r n (sym definite)) octets)
 from_again at depth t None header content r d definite row_is =
     let body = content ++ (0 ∷ 0 ∷ r) in
     let size : at + (length (header ++ body) - length body) ≡ at + length header = omega (arith, length-append header body) in
@@ -217,11 +217,11 @@ pub record Finds (P : List ℕ → Type 0) (inside : Extent) : Type 0 where
 pub IsBytes-drop : (n : ℕ) (bytes : List ℕ) → IsBytes bytes → IsBytes (drop n bytes)
 IsBytes-drop n bytes h i = rw get_or-drop (h (n + i))
 
-pub IsBytes-take : (n : ℕ) (bytes : List ℕ) → IsBytes bytes → IsBytes (take n bytes)
-IsBytes-take n bytes h i =
-    elim (cases_lt i n) [
-      | inl lt ↦ rw (get_or-take n bytes i 0 lt) (h i)
-      | inr le ↦ rw (get_or_past (take n bytes) i 0 (omega (arith, length-take n bytes))) (omega arith)
+pub IsBytes-take : (count : ℕ) (octets : List ℕ) → IsBytes octets → IsBytes (take count octets)
+IsBytes-take count octets each place =
+    elim (cases_lt place count) [
+      | inl lt ↦ rw (get_or-take count octets place 0 lt) (each place)
+      | inr le ↦ rw (get_or_past (take count octets) place 0 (omega (arith, length-take count octets))) (omega arith)
     ]
 
 pub IsBytes-back : (a b : List ℕ) → IsBytes (a ++ b) → IsBytes b

@@ -1,9 +1,9 @@
 -- A string is gathered exactly where it is spelled.
-use Rattle.std.proofs.Common.{◌≡◌, ℕ, zero, suc, ◌+◌, ◌-◌, ◌≤◌, Bool, true, false, cond, List, [], ◌∷◌, ◌++◌, length, take, Result, Ok, Err, refl, sym, ap, subst, ◌∙◌, arith, inl, inr, ◌⊎◌, ◌<◌, ltb, eqb, eq-eqb}
+use Rattle.std.proofs.Common.{◌≡◌, ℕ, zero, suc, ◌+◌, ◌-◌, ◌≤◌, Bool, true, false, cond, List, [], ◌∷◌, ◌++◌, length, Result, Ok, Err, refl, sym, ap, subst, ◌∙◌, arith, inl, inr, ◌⊎◌, ◌<◌, ltb, eqb, eq-eqb}
 use Rattle.std.specs.Prelude.{◌&&◌, ◌||◌, not, IsTrue, IfOk}
 use Rattle.std.specs.List.{concat, list_all}
 use Rattle.std.proofs.lemmas.Bool.Decides.{nat_tests}
-use Rattle.std.proofs.lemmas.List.{take_at, length-append, append-nil}
+use Rattle.std.proofs.lemmas.List.{take_at, length-append}
 use Rattle.mta_ber.specs.declared.fault.Fault.{Fault}
 use Rattle.mta_ber.specs.declared.tag.Tag.{Tag}
 use Rattle.mta_ber.specs.Head.{◌>>=◌, fault}
@@ -11,16 +11,16 @@ use Rattle.mta_ber.specs.Element.{Part, part}
 use Rattle.mta_ber.specs.declared.fault.ReadFault.{ReadFault}
 use Rattle.mta_ber.specs.declared.fault.ReadFault.TheVariants as faults
 use Rattle.mta_ber.specs.Parts.{parts_from, parts_of, Reads, IsReadAs}
-use Rattle.mta_ber.specs.Spelling.{Stands, Standing, ending_of}
+use Rattle.mta_ber.specs.Spelling.{Stands, ending_of}
 use Rattle.mta_ber.specs.declared.text.TextClass.{TextClass}
-use Rattle.mta_ber.specs.Strings.{Piece, is_segment, is_empty, segment, gather, octets_piece, joined_as, class_number, in_class, between, text_in, IsText}
+use Rattle.mta_ber.specs.Strings.{Piece, is_segment, is_empty, segment, gather, octets_piece, joined_as, class_number, in_class, between, text_in}
 use Rattle.mta_ber.specs.declared.fault.Kind.TheVariants.{BadInt}
 use Rattle.mta_ber.specs.Bits.{BitString, no_bits, with_bits, at_most_64, good_unused, bits_of, bits_behind, bits_piece, bits_in}
-use Rattle.mta_ber.specs.Segmented.{Adds, is_none, IsSegment, AreSegments, SpellsString, AddsOctets, SpellsOctets, SpellsText, AddsBits, SpellsBits}
+use Rattle.mta_ber.specs.Segmented.{Adds, is_none, AreSegments, SpellsString, AddsOctets, SpellsOctets, SpellsText, AddsBits, SpellsBits}
 use Rattle.std.proofs.lemmas.Bool.{lt-ltb, le-ltb, ltb-true, ltb-false, eqb-true}
 use Rattle.mta_ber.proofs.HeadLaws.{IsBytes, and_true}
 use Rattle.mta_ber.proofs.RowLaws.{part_sound, stands_again, lent_part, IsBytes-back, IsBytes-take, some_ident, some_count}
-use Rattle.mta_ber.proofs.RoundTrip.{no_part, step_on, parts_none}
+use Rattle.mta_ber.proofs.RoundTrip.{step_on, parts_none}
 use Rattle.mta_ber.proofs.Steps.{bind_ok, passed, taken, ok_is}
 
 pub IsBytes-front : (a b : List ℕ) → IsBytes (a ++ b) → IsBytes a
@@ -272,3 +272,9 @@ reads_as (Err (faults.Bad f)) read y h e = absurd (let k = sym h ∙ e in cc)
 pub given_found : {X : Type 0} (P : X → Type 0) (r : Result X Fault) (read : Result X Fault) → r ≡ read → ((x : X) → read ≡ Ok x → P x) → IfOk r P
 given_found P (Ok x) read h f = f x (sym h)
 given_found P (Err e) read h f = tt
+
+-- a primitive content is its own octets
+pub octets_spelled : (own depth : ℕ) (content : List ℕ) → depth ≤ 16 → SpellsOctets own depth false content content
+octets_spelled own depth content d =
+    let left : suc (16 - depth) ≡ 17 - depth = omega arith in
+    subst (λ k. SpellsString AddsOctets 4 own k false true [] content content) left refl

@@ -1,5 +1,5 @@
 -- BIT STRING contents (X.690, 8.6).
-use Rattle.std.specs.Prelude.{ℕ, ◌+◌, ◌-◌, ◌*◌, ◌/◌, ◌%◌, ◌^◌, ◌<◌, ◌≤◌, Bool, true, false, List, [], ◌∷◌, length, Result, Ok, nat_lt, ◌==◌, if◌then◌else◌, ◌&&◌, ◌||◌, not, max}
+use Rattle.std.specs.Prelude.{ℕ, ◌+◌, ◌-◌, ◌*◌, ◌/◌, ◌%◌, ◌^◌, Bool, true, List, [], ◌∷◌, length, Result, Ok, nat_lt, ◌==◌, if◌then◌else◌, ◌&&◌, ◌||◌, not, max}
 use Rattle.mta_ber.specs.declared.fault.Fault.{Fault}
 use Rattle.mta_ber.specs.declared.fault.Kind.TheVariants.{BadInt}
 use Rattle.mta_ber.specs.Head.{◌>>=◌, fault, base}

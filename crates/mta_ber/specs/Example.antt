@@ -1,5 +1,5 @@
 -- The example of a SET of three components.
-use Rattle.std.specs.Prelude.{◌≡◌, ◌⊎◌, true, Bool, ℕ, ℤ, pos, List, Option, Some, None, Result, Ok, if◌then◌else◌, unwrap_or}
+use Rattle.std.specs.Prelude.{◌≡◌, ◌⊎◌, true, Bool, ℕ, ℤ, pos, List, Some, None, Result, Ok, if◌then◌else◌, unwrap_or}
 use Rattle.mta_ber.specs.declared.fault.Fault.{Fault}
 use Rattle.mta_ber.specs.declared.fault.Kind.TheVariants.{BadTag}
 use Rattle.mta_ber.specs.declared.tag.Tag.{Tag}

@@ -13,6 +13,8 @@ pub mod Canon
 pub mod Contents
 pub mod Spelling
 pub mod Segmented
+pub mod Laws
+pub mod Moments
 pub mod Components
 pub mod Example
 pub mod Place

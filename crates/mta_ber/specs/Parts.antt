@@ -1,7 +1,7 @@
 -- Reading the parts of a constructed content one after the other.
 use Rattle.std.specs.Prelude.{◌≡◌, ℕ, zero, suc, ◌+◌, ◌-◌, Bool, List, [], ◌∷◌, length, Option, Some, None, Result, Ok, Err, is_some, nat_lt, nat_le, ◌==◌, if◌then◌else◌, ◌&&◌}
 use Rattle.mta_ber.specs.declared.fault.Fault.{Fault}
-use Rattle.mta_ber.specs.declared.fault.Kind.TheVariants.{Truncated, BadTag, Missing, Twice}
+use Rattle.mta_ber.specs.declared.fault.Kind.TheVariants.{BadTag, Missing, Twice}
 use Rattle.mta_ber.specs.declared.fault.ReadFault.{ReadFault}
 use Rattle.mta_ber.specs.declared.fault.ReadFault.TheVariants as faults
 use Rattle.mta_ber.specs.declared.tag.Tag.{Tag}

@@ -1,10 +1,10 @@
 -- Which contents octets spell a string (X.690, 8.6, 8.7 and 8.23), by cases: apart from reading.
-use Rattle.std.specs.Prelude.{◌≡◌, ℕ, zero, suc, ◌+◌, ◌-◌, ◌*◌, ◌/◌, ◌<◌, ◌≤◌, ◌^◌, ◌⊎◌, Bool, true, false, List, [], ◌∷◌, ◌++◌, length, ◌&&◌}
+use Rattle.std.specs.Prelude.{◌≡◌, ℕ, zero, suc, ◌-◌, ◌*◌, ◌/◌, ◌<◌, ◌≤◌, ◌^◌, ◌⊎◌, Bool, true, false, List, [], ◌∷◌, ◌++◌, length, ◌&&◌}
 use Rattle.std.specs.List.{concat}
 use Rattle.mta_ber.specs.declared.tag.Tag.{Tag}
 use Rattle.mta_ber.specs.declared.text.TextClass.{TextClass}
 use Rattle.mta_ber.specs.Head.{base}
-use Rattle.mta_ber.specs.Strings.{is_segment, own_number, class_number, IsText}
+use Rattle.mta_ber.specs.Strings.{is_segment, class_number, IsText}
 use Rattle.mta_ber.specs.Bits.{BitString, no_bits, with_bits, at_most_64}
 use Rattle.mta_ber.specs.Spelling.{Stands}
 

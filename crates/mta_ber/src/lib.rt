@@ -10,6 +10,7 @@ mod fault;
 mod gather;
 mod head;
 mod int;
+mod laws;
 mod memory;
 mod note;
 mod octets;
@@ -29,16 +30,23 @@ mod writer;
 pub use bits::Bits;
 pub use components::{bad, check_order, is_tag_of, take_required};
 pub use fault::{Fault, Kind, ReadFault};
+pub use laws::{
+    bits_are_read_again, elements_are_read_again, moments_are_read_again,
+    no_spelling_begins_another, numbers_are_read_again, texts_are_read_again,
+};
 pub use memory::Memory;
 pub use note::{Note, NoteParts};
 pub use octets::Octets;
 pub use oid::is_oid_content;
 pub use parts::{Components, take_parts};
 pub use put::{put_bits, put_int, put_utc};
-pub use tag::Tag;
 pub use strings::is_of_class;
+pub use tag::Tag;
 pub use text::{Text, TextClass};
 pub use utc::LAST_MOMENT;
 pub use view::{Parts, View};
 pub use word::Word;
 pub use writer::Writer;
+
+#[cfg(test)]
+mod tests;

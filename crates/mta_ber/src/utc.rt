@@ -1,6 +1,7 @@
 //! UTCTime (X.690, 8.25).
 
-ghost use Rattle.std.specs.Prelude.{◌≡◌, ◌-◌, ◌+◌, ◌++◌, ◌∷◌, ◌<◌, ◌≤◌, [], false, true, take, Ok, Some, None, IsTrue, IfSome, IfOk, pos, neg_ℤ, ◌+ℤ◌, ◌-ℤ◌, ◌*ℤ◌, if◌then◌else◌};
+ghost use Rattle.std.specs.Prelude.{◌≡◌, ℕ, ◌-◌, ◌+◌, ◌++◌, ◌∷◌, ◌<◌, ◌≤◌, [], false, true, take, Ok, Some, None, IsTrue, IfSome, IfOk, pos, neg_ℤ, ◌+ℤ◌, ◌-ℤ◌, ◌*ℤ◌, if◌then◌else◌};
+ghost use Rattle.mta_ber.specs.Moments.{SpellsMoment};
 ghost use Rattle.mta_ber.specs.Parts.{Leaves};
 ghost use Rattle.mta_ber.specs.Seen.{GivesSome, view};
 ghost use Rattle.mta_ber.specs.Strings.{gather};
@@ -277,8 +278,20 @@ impl View<'_> {
         }
     }
 
-    /// The moment of a UTCTime, in seconds from 1950-01-01 00:00:00 UTC. A segment has the tag of OCTET STRING or of UTCTime.
+    /// The moment of a UTCTime (X.690, 8.25), in seconds from 1950-01-01 00:00:00 UTC. A segment has the tag of OCTET STRING or of
+    /// UTCTime. BadTime where the text is none, or the moment is before 1950 or after 2049.
     pub fn utc(&self) -> Result<u64, Fault>
+        ensures exact { result ≡ utc_in (view self.now) }
+        ensures within { IfOk result (λ m. m ≤ last_moment) }
+
+        // What is answered is spelled by the content, and what the content spells is answered.
+        ensures found { IfOk result (SpellsMoment self.now.depth self.now.tag.constructed self.now.content.now) }
+        ensures only { (m : ℕ) → SpellsMoment self.now.depth self.now.tag.constructed self.now.content.now m → result ≡ Ok m }
+    {
+        self.utc_of()
+    }
+
+    fn utc_of(&self) -> Result<u64, Fault>
         ensures exact { result ≡ utc_in (view self.now) }
         ensures within { IfOk result (λ m. m ≤ last_moment) }
     {

@@ -1,4 +1,4 @@
-use Rattle.std.proofs.Common.{ℕ, ◌+◌, ◌-◌, drop, length, arith}
+use Rattle.std.proofs.Common.{◌+◌, ◌-◌, drop, length, arith}
 use Rattle.std.proofs.lemmas.List.{length-take, length-drop}
 use Rattle.mta_ber.proofs.RowLaws.{IsBytes-take, IsBytes-drop}
 use Rattle.mta_ber.proofs.reading.view_of.Goals as goal

@@ -1,19 +1,15 @@
-use Rattle.std.proofs.Common.{sym, ap, ◌∙◌}
-use Rattle.std.proofs.lemmas.Result.{err_from_is_err_and}
+use Rattle.std.proofs.Common.{◌∙◌}
 use Rattle.mta_ber.specs.Seen.{view}
-use Rattle.mta_ber.specs.Times.{timed, moment_of}
-use Rattle.mta_ber.proofs.TimeLaws.{utc_refused, utc_line}
+use Rattle.mta_ber.specs.Times.{utc_in}
+use Rattle.mta_ber.specs.Moments.{SpellsMoment}
+use Rattle.mta_ber.proofs.MomentLaws.{utc_sound, utc_full}
+use Rattle.mta_ber.proofs.StringLaws.{given_found}
 use Rattle.mta_ber.proofs.view.View.utc.Goals as goal
 
-pub returns-in_err-line-clause-exact : goal.returns-in_err-line-clause-exact
-returns-in_err-line-clause-exact c =
-    let p = err_from_is_err_and c.from_residual.result c.from_residual.ensures.1 in
-    rw (p.1, p.2) (sym (utc_refused (view c.args.self.now) c.in_err-line.field-0.0 (sym c.in_err-line.ensures)))
+pub returns-clause-found : goal.returns-clause-found
+returns-clause-found c =
+    let v = c.args.self.now in
+    given_found (SpellsMoment v.depth v.tag.constructed v.content.now) c.utc_of.result (utc_in (view v)) c.utc_of.ensures.exact (λ m e. utc_sound (view v) m v.shallow v.bytes e)
 
-pub returns-in-None-clause-exact : goal.returns-in-None-clause-exact
-returns-in-None-clause-exact c =
-    sym (utc_line (view c.args.self.now) c.in_ok-line.line (sym c.in_ok-line.ensures) ∙ ap (λ t. timed c.args.self.now.at (moment_of t)) (sym c.as_slice.ensures) ∙ ap (timed c.args.self.now.at) (sym c.moment_of_text.ensures.exact ∙ c.in-None.is))
-
-pub returns-in-Some-clause-exact : goal.returns-in-Some-clause-exact
-returns-in-Some-clause-exact c =
-    sym (utc_line (view c.args.self.now) c.in_ok-line.line (sym c.in_ok-line.ensures) ∙ ap (λ t. timed c.args.self.now.at (moment_of t)) (sym c.as_slice.ensures) ∙ ap (timed c.args.self.now.at) (sym c.moment_of_text.ensures.exact ∙ c.in-Some.is))
+pub returns-clause-only : goal.returns-clause-only
+returns-clause-only c = λ m h. let v = c.args.self.now in c.utc_of.ensures.exact ∙ utc_full (view v) m v.shallow h
