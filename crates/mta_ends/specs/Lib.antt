@@ -1,0 +1,4 @@
+pub mod Pieces
+pub mod Receiving
+pub mod Sending
+pub mod Units

@@ -1,0 +1,12 @@
+//! The rules of the two ends of a half lane (X.228 clause 7), as relations on what one half did on one link.
+//!
+//! `specs/Units.antt` has the units, `specs/Sending.antt` the sending end, `specs/Receiving.antt` the
+//! receiving end. The functions here are laws over these definitions.
+#![tactic(auto)]
+
+ghost use Rattle.mta_ends.specs.Receiving.{RecvEnd, OwesNothing, on_link};
+
+/// An end that has just joined a link owes nothing there.
+pub fn a_new_link_owes_nothing()
+    ensures { (e : RecvEnd) → OwesNothing (on_link e) }
+{}
