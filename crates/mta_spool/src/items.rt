@@ -33,7 +33,7 @@ impl Items {
 
     /// How many items there are.
     pub fn len(&self) -> usize
-        ensures { result ≡ length self.now }
+        ensures count { result ≡ length self.now }
     {
         self.inner.len()
     }
