@@ -46,8 +46,20 @@ fn main(rt: HostRuntime) -> ExitCode {
     };
     let mut conf = Reading::new(Octets::File(File::open(&rt, "mta.tables").ok()));
     let mut input = Reading::new(Octets::Stream(rt.reader()));
-    let disk = FileDisk::new(if is_submit(&words) { spool_file(&rt) } else { None });
+    let disk = FileDisk::new(if is_submit(&words) {
+        spool_file(&rt)
+    } else {
+        None
+    });
     let clock = SystemClock::new(&rt);
-    let finished = run(rt.alloc(), &words, &mut conf, &mut input, &mut out, disk, clock);
+    let finished = run(
+        rt.alloc(),
+        &words,
+        &mut conf,
+        &mut input,
+        &mut out,
+        disk,
+        clock,
+    );
     ExitCode::from(finished.status)
 }

@@ -21,7 +21,8 @@ const MESSAGE: [u8; 101] = [
     0xA8, 0x04, 0x02, 0x48, 0x69,
 ];
 
-const USAGE: &[u8] = b"usage: mta submit or serve SESSIONS STATION... or spool or read MAILBOX or decode or drill N\n";
+const USAGE: &[u8] =
+    b"usage: mta submit or serve SESSIONS STATION... or spool or read MAILBOX or decode or drill N\n";
 
 // What is handed in to a run, and the first call that fails of the input, the sink and the disk, or 0.
 #[derive(Drop)]
@@ -97,13 +98,76 @@ fn submit_journals_the_tables_and_the_message(rt: HostRuntime) -> Result<(), Fai
 fn other_ends_have_their_line(rt: HostRuntime) -> Result<(), Fail> {
     let alloc = rt.alloc();
     let table: [(&str, Given, u8, &[u8], usize); 7] = [
-        ("cut", Given { input: &MESSAGE[..100], ..PLAIN }, 11, b"not built\n", 0),
-        ("long disk", Given { disk: b"MTASPL01\0\0", ..PLAIN }, 11, b"not built\n", 10),
-        ("word", Given { word: "serve", ..PLAIN }, 1, USAGE, 0),
-        ("source", Given { input_fails: 1, ..PLAIN }, 8, b"source fault\n", 0),
-        ("sink", Given { sink_fails: 1, ..PLAIN }, 9, b"", 201),
-        ("disk", Given { disk_fails: 1, ..PLAIN }, 4, b"disk fault\n", 0),
-        ("last sync", Given { disk_fails: 12, ..PLAIN }, 4, b"disk fault\n", 201),
+        (
+            "cut",
+            Given {
+                input: &MESSAGE[..100],
+                ..PLAIN
+            },
+            11,
+            b"not built\n",
+            0,
+        ),
+        (
+            "long disk",
+            Given {
+                disk: b"MTASPL01\0\0",
+                ..PLAIN
+            },
+            11,
+            b"not built\n",
+            10,
+        ),
+        (
+            "word",
+            Given {
+                word: "serve",
+                ..PLAIN
+            },
+            1,
+            USAGE,
+            0,
+        ),
+        (
+            "source",
+            Given {
+                input_fails: 1,
+                ..PLAIN
+            },
+            8,
+            b"source fault\n",
+            0,
+        ),
+        (
+            "sink",
+            Given {
+                sink_fails: 1,
+                ..PLAIN
+            },
+            9,
+            b"",
+            201,
+        ),
+        (
+            "disk",
+            Given {
+                disk_fails: 1,
+                ..PLAIN
+            },
+            4,
+            b"disk fault\n",
+            0,
+        ),
+        (
+            "last sync",
+            Given {
+                disk_fails: 12,
+                ..PLAIN
+            },
+            4,
+            b"disk fault\n",
+            201,
+        ),
     ];
     for (what, given, wanted, line, size) in table.iter() {
         let (status, text, disk) = outcome(alloc, given)?;

@@ -39,7 +39,7 @@ same_steps [] (b ∷ t) g h x y cg ch fs ft e = let one : g ≡ 1 = cc in absurd
 same_steps (a ∷ s) [] g h x y cg ch fs ft e = let one : h ≡ 1 = cc in absurd (ch one)
 same_steps (a ∷ s) (b ∷ t) g h x y cg ch fs ft e =
     let tail : string (body_of a) ++ (flat_map open_record s ++ g ∷ x) ≡ string (body_of b) ++ (flat_map open_record t ++ h ∷ y) =
-        sym (append_assoc (string (body_of a)) (flat_map open_record s) (g ∷ x)) ∙ ap (drop 1) e ∙ append_assoc (string (body_of b)) (flat_map open_record t) (h ∷ y) in
+    sym (append_assoc (string (body_of a)) (flat_map open_record s) (g ∷ x)) ∙ ap (drop 1) e ∙ append_assoc (string (body_of b)) (flat_map open_record t) (h ∷ y) in
     let short = fs.0.1 in
     let short' = ft.0.1 in
     let parts = string_split (body_of a) (body_of b) _ _ (omega arith) (omega arith) tail in

@@ -5,5 +5,4 @@ ghost use Rattle.mta_history.specs.Image.{OneHistory};
 /// One image of the disk stands for one history.
 pub fn one_history()
     ensures { OneHistory }
-{
-}
+{}

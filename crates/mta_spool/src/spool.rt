@@ -119,10 +119,7 @@ impl<D: Disk + Drop, C: Clock + Drop> Spool<D, C> {
         ensures clock { (m : ℕ) → C.tells self.new.clock m → C.tells self.old.clock m }
         ensures rest { self.new ≡ record self.old { clock = self.new.clock } }
     {
-        self.clock
-            .now()
-            .min(LAST_MOMENT)
-            .max(self.current.moment)
+        self.clock.now().min(LAST_MOMENT).max(self.current.moment)
     }
 
     /// Takes a submitted APDU as the next item, and answers its number.

@@ -4,9 +4,12 @@ use mta_edge::{MemClock, MemDisk};
 use std::alloc::Global;
 use std::test::Fail;
 
-
 fn opened(alloc: Global) -> Result<Spool<MemDisk, MemClock>, Fail> {
-    let disk = MemDisk::new(alloc, Octets::from_slice(alloc, b"any nine.")?, Vec::new(alloc));
+    let disk = MemDisk::new(
+        alloc,
+        Octets::from_slice(alloc, b"any nine.")?,
+        Vec::new(alloc),
+    );
     let clock = MemClock::new([9, 7].to_vec(alloc)?);
     match Spool::open(alloc, disk, clock) {
         Ok(spool) => Ok(spool),

@@ -17,8 +17,10 @@ returns-clause-appends g c =
     let before : c.step_moment-moment.new.self.current ≡ c.args.self.now.current = ap (λ (v : Shown _ _). v.current) c.step_moment-moment.ensures.rest in
     let count : c.len-last.result ≡ length c.args.self.now.current.items = c.len-last.ensures ∙ ap (λ (x : Current). length x.items) (ap (λ (v : Shown _ _). v.current) c.self.view_is ∙ before) in
     let room : length c.args.self.now.current.items + 2 < 2 ^ 32 = omega (arith, c.if-last-gt4294967293.false, count) in
-    let going : c.args.self.now.ended ≡ false = sym (ap (λ (v : Shown _ _). v.ended) c.step_moment-moment.ensures.rest) ∙ view_ended _ _ c.self.view_is c.if-self.false in
-    (m.0, m.1,
-     appends _ _ (Accept when c.args.apdu.now) _ _ c.args.self.now c.step_moment-moment.new.self c.add.new.self _ _ c.in_ok-add.ensures (accept_same _ _ _ _ m.2 c.in_ok-from_slice-2.ensures) c.step_moment-moment.ensures.rest going (view_same _ c.add.new.self c.self-2.view_is)
-         (current_accepted c.args.self.now.current c.step_moment-moment.new.self.current c.add.new.self.current c.self-2.inside.current _ c.args.apdu.now _ when _ before c.in_ok-from_slice.ensures c.in_ok-statuses_at_first.ensures m.2 (c.in_ok-add.ensures.shown refl) (ap (λ (v : Shown _ _). v.current) c.self-2.view_is))
-         (λ steps s. can_accept _ c.args.self.now when c.args.apdu.now steps s c.requires.apdu c.requires.tables (omega arith) room))
+    let going : c.args.self.now.ended ≡ false = sym (ap (λ (v : Shown _ _). v.ended) c.step_moment-moment.ensures.rest) ∙ view_ended _ _ c.self.view_is c.if-self.false in (
+      m.0,
+      m.1,
+      appends _ _ (Accept when c.args.apdu.now) _ _ c.args.self.now c.step_moment-moment.new.self c.add.new.self _ _ c.in_ok-add.ensures (accept_same _ _ _ _ m.2 c.in_ok-from_slice-2.ensures) c.step_moment-moment.ensures.rest going (view_same _ c.add.new.self c.self-2.view_is)
+          (current_accepted c.args.self.now.current c.step_moment-moment.new.self.current c.add.new.self.current c.self-2.inside.current _ c.args.apdu.now _ when _ before c.in_ok-from_slice.ensures c.in_ok-statuses_at_first.ensures m.2 (c.in_ok-add.ensures.shown refl) (ap (λ (v : Shown _ _). v.current) c.self-2.view_is))
+          (λ steps s. can_accept _ c.args.self.now when c.args.apdu.now steps s c.requires.apdu c.requires.tables (omega arith) room),
+    )
