@@ -18,6 +18,7 @@ pub mod ValueLaws
 pub mod TimeAgain
 pub mod MomentLaws
 pub mod ComponentLaws
+pub mod ExplicitLaws
 pub mod IntLaws
 pub mod ExampleLaws
 pub mod OrderLaws

@@ -16,6 +16,7 @@ pub mod Segmented
 pub mod Laws
 pub mod Moments
 pub mod Components
+pub mod Explicit
 pub mod Example
 pub mod Place
 pub mod Orders

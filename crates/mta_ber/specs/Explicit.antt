@@ -1,0 +1,16 @@
+-- Which contents octets spell an explicit tag (X.690, 8.14): apart from reading.
+use Rattle.std.specs.Prelude.{◌≡◌, ℕ, ◌+◌, Bool, true, List}
+use Rattle.mta_ber.specs.declared.tag.Tag.{Tag}
+use Rattle.mta_ber.specs.Spelling.{Stands}
+
+-- what an element of a level, a tag, these contents and these octets of its own spells
+abbrev pub Spells : Type 0 → Type 1
+Spells A = ℕ → Tag → List ℕ → List ℕ → A → Type 0
+
+-- the content of an explicit tag in the level `depth` is exactly one element
+pub record SpellsExplicit {A : Type 0} (spells : Spells A) (depth : ℕ) (constructed : Bool) (content : List ℕ) (x : A) : Type 0 where
+  pub is_constructed : constructed ≡ true
+  pub tag : Tag
+  pub inside : List ℕ
+  pub stands : Stands (depth + 1) tag inside content
+  pub spelled : spells (depth + 1) tag inside content x
