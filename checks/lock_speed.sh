@@ -3,6 +3,8 @@
 # Run it at the top of the repository: checks/lock_speed.sh [TURNS], TURNS of all threads together (1,200,000 by default).
 # The figures depend on what else runs, so the two programs take turns, and the best of three runs counts.
 set -eu
+command -v rustc >/dev/null || { echo "skipped: rustc is not on the PATH"; exit 0; }
+command -v rt >/dev/null || { echo "skipped: rt is not on the PATH"; exit 0; }
 cd "$(dirname "$0")/.."
 turns=${1:-1200000}
 made=$(mktemp -d)
