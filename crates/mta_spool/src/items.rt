@@ -33,16 +33,9 @@ impl Items {
 
     /// How many items there are.
     pub fn len(&self) -> usize
-        ensures count { result ≡ length self.now }
+        ensures { result ≡ length self.now }
     {
         self.inner.len()
-    }
-
-    /// Whether there is none.
-    pub fn is_empty(&self) -> bool
-        ensures { IsTrue result ↔ (self.now ≡ []) }
-    {
-        self.inner.is_empty()
     }
 
     /// The item with this number, from 1, or none where no item has it.
@@ -54,6 +47,13 @@ impl Items {
             return None;
         }
         self.inner.get(number as usize - 1)
+    }
+
+    /// Whether there is none.
+    pub fn is_empty(&self) -> bool
+        ensures { IsTrue result ↔ (self.now ≡ []) }
+    {
+        self.inner.is_empty()
     }
 
     pub(crate) fn push(&mut self, item: Item) -> Result<(), Memory>
