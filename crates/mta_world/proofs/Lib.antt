@@ -18,4 +18,5 @@ pub mod SendSteps
 pub mod RecvSteps
 pub mod OpenSteps
 pub mod Run
+pub mod Arrives
 pub mod Units

@@ -286,12 +286,10 @@ module _ (spells : List ℕ → Bool) (octets : ℕ → List ℕ) (w : World) (k
         (λ m. (m.activity < h + 1) × (set_at w.outcome h o m.activity ≡ Was_sent) × (w.abandoned m.activity ≡ false)) w.sent
         (λ m g. (let lt : m.activity < h = subst (λ (z : ℕ). m.activity < z) (bound-live w.state live) g.0 in
         (omega (arith, lt), set-other w.outcome h o m.activity (λ (z : Outcome). z ≡ Was_sent) (λ e. omega (arith, e, lt)) g.1, g.2))) k.outcomes.sent_ones;
-    denied = λ j e. by_number (j == h) refl j e;
+    denied = λ j e.
+        d.set-case w.outcome h o j (λ (z : Outcome). z ≡ Was_denied → spells (octets j) ≡ false)
+        (λ same g. subst (λ (z : ℕ). spells (octets z) ≡ false) (sym same) (why g)) (λ ne g. k.outcomes.denied j g) e;
   }
-    where
-      by_number : (b : Bool) → (b ≡ b) → (j : ℕ) → set_at w.outcome h o j ≡ Was_denied → spells (octets j) ≡ false
-      by_number b r j e = d.set-case w.outcome h o j (λ (z : Outcome). z ≡ Was_denied → spells (octets j) ≡ false)
-          (λ same g. subst (λ (z : ℕ). spells (octets z) ≡ false) (sym same) (why g)) (λ ne g. k.outcomes.denied j g) e
 
   -- an activity that is not complete leaves what was completed as it is
   in-step-apart : (IsAmong h w.completed → ⊥) → w.completed ≡ w.sent

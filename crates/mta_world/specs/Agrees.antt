@@ -1,5 +1,5 @@
 -- What two ends agree on.
-use Rattle.std.specs.Prelude.{◌≡◌, ◌⊎◌, ℕ, Bool, true, false, List, [], ◌∷◌, ◌++◌}
+use Rattle.std.specs.Prelude.{◌≡◌, ◌⊎◌, ◌≤◌, ℕ, Bool, true, false, List, [], ◌∷◌, ◌++◌, length}
 use Rattle.mta_lane_send.specs.declared.state.SendState.TheVariants.{Ending}
 use Rattle.mta_world.specs.World.{World, Message, Was_dropped, Was_refused, Was_denied}
 use Rattle.mta_world.specs.Steps.{IsWorldRun}
@@ -29,3 +29,9 @@ pub record Agrees (spells : List ℕ → Bool) (w : World) : Type 0 where
 -- in every world run
 abbrev pub EndsAgree : Type 0
 EndsAgree = (spells : List ℕ → Bool) (w : World) → IsWorldRun spells w → Agrees spells w
+
+-- A message that is completed and sent, in a world with one link
+abbrev pub AMessageArrives : Type 0
+AMessageArrives =
+    (octets : List ℕ) → 1 ≤ length octets
+    → (w : World) × IsWorldRun (λ o. true) w × (w.completed ≡ record { activity = 1; octets = octets } ∷ []) × (w.sent ≡ w.completed)
