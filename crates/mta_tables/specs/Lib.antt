@@ -1,5 +1,0 @@
-pub mod Domain
-pub mod Mailbox
-pub mod Lines
-pub mod Reading
-pub mod Tables
