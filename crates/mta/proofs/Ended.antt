@@ -3,8 +3,8 @@ use Rattle.std.proofs.Common.{◌≡◌, ℕ, zero, suc, ◌+◌, ◌-◌, ◌�
 use Rattle.std.specs.Prelude.{◌⊎◌, slice_get, if◌then◌else◌}
 use Rattle.std.proofs.lemmas.Option.{option_and_then_some}
 use Rattle.mta_edge.specs.Causes.{Rose}
-use Rattle.mta_envelope.specs.Message.{MessageValue, is_responsible}
-use Rattle.mta_envelope.specs.Reading.{first_shape_of}
+use Rattle.mta_first_shape.specs.Message.{MessageValue, is_responsible}
+use Rattle.mta_first_shape.specs.Reading.{first_shape_of}
 use Rattle.mta_records.specs.declared.step.Step.{Step}
 use Rattle.mta_records.specs.declared.step.Step.TheVariants.{Tables, Accept}
 use Rattle.mta_history.specs.declared.item.Item.{Item}

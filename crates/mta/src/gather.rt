@@ -43,7 +43,7 @@ pub fn gather<I: Source>(alloc: Global, conf: &mut I, input: &mut I) -> Result<G
         Ok(octets) => octets,
         Err(fault) => return Err(stop_of_read(fault)),
     };
-    if mta_envelope::read(apdu.as_slice()).is_none() {
+    if mta_first_shape::read(apdu.as_slice()).is_none() {
         return Err(Stop::NotBuilt);
     }
     Ok(Gathered { tables, apdu })

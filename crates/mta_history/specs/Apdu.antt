@@ -1,7 +1,7 @@
 -- What the octets of an item spell. So far an APDU is a message of the first shape, which has one recipient.
 use Rattle.std.specs.Prelude.{ℕ, List, [], ◌∷◌, Option, Some, None, if◌then◌else◌}
-use Rattle.mta_envelope.specs.Message.{MessageValue, IsSpelled, is_responsible}
-use Rattle.mta_envelope.specs.Reading.{first_shape_of}
+use Rattle.mta_first_shape.specs.Message.{MessageValue, IsSpelled, is_responsible}
+use Rattle.mta_first_shape.specs.Reading.{first_shape_of}
 use Rattle.mta_history.specs.declared.item.Status.{Status}
 use Rattle.mta_history.specs.declared.item.Status.TheVariants.{Pending}
 

@@ -15,7 +15,7 @@ use Rattle.mta_spool.specs.declared.current.Current.{Current}
 use Rattle.mta_spool.specs.Shown.{Shown}
 use Rattle.mta_spool.specs.Stands.{last_of, current_of, Stores, Stands, Appends, need_of, journal_limit}
 use Rattle.mta_spool.specs.Putting.{HasPut, with_item}
-use Rattle.mta_envelope.specs.Message.{longest}
+use Rattle.mta_first_shape.specs.Message.{longest}
 
 last_of-more : (ts : List (List ℕ)) (t : List ℕ) → last_of (ts ++ t ∷ []) ≡ Some t
 last_of-more [] t = refl

@@ -12,7 +12,7 @@ pub fn statuses_at_first(alloc: Global, apdu: &[u8]) -> Result<Statuses, Memory>
     requires { SpellsApdu apdu.now }
     ensures { IfOk result (λ s. s ≡ statuses_at_first apdu.now) }
 {
-    match mta_envelope::read(apdu) {
+    match mta_first_shape::read(apdu) {
         Some(message) => Statuses::of_one(alloc, message.is_responsible()),
         None => unreachable!(),
     }

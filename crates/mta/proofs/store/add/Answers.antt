@@ -1,6 +1,6 @@
 use Rattle.std.proofs.Common.{◌≡◌, ◌+◌, ◌≤◌, ◌<◌, ◌^◌, ◌-◌, ℕ, List, [], ◌∷◌, length, Option, Some, None, Ok, Err, sym, ap, refl, subst, ◌∙◌, arith}
 use Rattle.std.proofs.lemmas.Result.{err_from_is_err_and, IfOk-at_ok}
-use Rattle.mta_envelope.specs.Message.{longest}
+use Rattle.mta_first_shape.specs.Message.{longest}
 use Rattle.mta_spool.specs.declared.current.Current.{Current}
 use Rattle.mta_spool.proofs.Made.{length-spelled}
 use Rattle.mta.proofs.Added.{tables_not_added, apdu_added, appends_at}

@@ -1,0 +1,5 @@
+pub mod Values
+pub mod Drafts
+pub mod Again
+pub mod Normals
+pub mod Forms

@@ -1,0 +1,17 @@
+//! Names of the first shape (country, administration domain, surname): their text form, and when two are the same (X.402, clause 18).
+#![tactic(auto)]
+
+mod attribute;
+mod draft;
+mod fault;
+mod laws;
+mod name;
+mod normal;
+#[cfg(test)]
+mod tests;
+mod writing;
+
+pub use attribute::Attribute;
+pub use fault::NameFault;
+pub use laws::{one_text_form, text_form_is_read_again};
+pub use name::{Attributes, NameRef, OrName};

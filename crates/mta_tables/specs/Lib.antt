@@ -1,0 +1,5 @@
+pub mod Domain
+pub mod Mailbox
+pub mod Lines
+pub mod Reading
+pub mod Tables

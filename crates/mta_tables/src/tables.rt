@@ -1,0 +1,110 @@
+//! Tables.
+
+ghost use Rattle.std.specs.Prelude.{◌≡◌};
+
+use crate::domain::Domain;
+use crate::fault::{LineKind, TablesFault};
+use crate::mailbox::{Hop, Mailbox, Mailboxes};
+use crate::reading::{Lines, read_lines};
+use mta_ber::{Octets, Word};
+use mta_first_names::{NameRef, OrName};
+use std::alloc::Global;
+use std::marker::Model;
+
+/// An agent's own domain and name, and its mailboxes, with the text that says so.
+#[derive(Debug, Drop)]
+pub struct Tables {
+    text: Octets,
+    lines: Lines,
+}
+
+impl Model for Tables {
+    ghost use Rattle.std.specs.Prelude.{◌≡◌, Ok};
+    ghost use Rattle.mta_tables.specs.Tables.{TablesValue, tables, tables_of};
+
+    ghost Value = { TablesValue };
+
+    ghost view = { λ t. tables t.text t.lines };
+
+    ghost invariant = { λ t. tables_of t.text ≡ Ok (tables t.text t.lines) };
+}
+
+impl Tables {
+    ghost use Rattle.std.specs.Prelude.{◌≡◌, Ok};
+    ghost use Rattle.mta_first_names.specs.Seen.{lent};
+    ghost use Rattle.mta_tables.specs.Reading.{Reads};
+    ghost use Rattle.mta_tables.specs.Tables.{tables_of, mailbox_of, best_hop};
+
+    /// The most octets of a text.
+    pub const LONGEST: usize = 1_048_576;
+
+    /// The tables of a text: lines that each end with a line feed. A line is empty, begins with `#`, or is `domain` with
+    /// `C=COUNTRY;A=ADMD`, `name` with a word, or `mailbox` with a word and the text form of a name, each behind one space.
+    #[tactic(auto, unfolding(crate::specs::Tables::tables_of))]
+    pub fn read(alloc: Global, text: &[u8]) -> Result<Tables, TablesFault>
+        ensures exact { Reads result (tables_of text.now) }
+    {
+        if text.len() > Tables::LONGEST {
+            return Err(TablesFault::BadLine {
+                line: 1,
+                kind: LineKind::TooLong,
+            });
+        }
+        let kept = Octets::from_slice(alloc, text)?;
+        let lines = read_lines(alloc, text)?;
+        Ok(Tables { text: kept, lines })
+    }
+
+    /// The text that was read.
+    pub fn text(&self) -> &[u8]
+        ensures exact { result.now ≡ self.now.text }
+        ensures read { tables_of result.now ≡ Ok self.now }
+    {
+        self.text.as_slice()
+    }
+
+    /// The agent's own domain.
+    pub fn domain(&self) -> &Domain
+        ensures { result.now ≡ self.now.domain }
+    {
+        &self.lines.domain
+    }
+
+    /// The agent's own name.
+    pub fn own(&self) -> &Word
+        ensures { result.now ≡ self.now.own }
+    {
+        &self.lines.own
+    }
+
+    /// The mailboxes, in the order of their lines.
+    pub fn mailboxes(&self) -> &[Mailbox]
+        ensures { result.now ≡ self.now.mailboxes }
+    {
+        self.lines.mailboxes.as_slice()
+    }
+
+    /// The place of the mailbox of this word, from 0.
+    pub fn mailbox(&self, word: &[u8]) -> Option<u32>
+        ensures exact { result ≡ mailbox_of self.now word.now }
+    {
+        self.lines.mailboxes.of_word(word)
+    }
+
+    /// Where the messages for a name go next: to the mailbox whose name is the same.
+    pub fn route(&self, name: &OrName) -> Hop
+        ensures exact { result ≡ best_hop self.now name.now }
+    {
+        self.route_lent(&name.lent())
+    }
+
+    /// As `route`, for a name that is lent.
+    pub fn route_lent(&self, name: &NameRef) -> Hop
+        ensures exact { result ≡ best_hop self.now (lent name.now) }
+    {
+        match self.lines.mailboxes.of_name(name) {
+            Some(place) => Hop::Local(place),
+            None => Hop::None,
+        }
+    }
+}
