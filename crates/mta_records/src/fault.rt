@@ -1,4 +1,4 @@
-//! Why a step was not made.
+//! Why a step was not made, and why a body is no record.
 
 use mta_ber::Memory;
 use std::alloc::AllocError;
@@ -44,4 +44,16 @@ impl From<AllocError> for StepFault {
     fn from(_: AllocError) -> StepFault {
         StepFault::Memory
     }
+}
+
+/// Why no step was read from the body of a record.
+#[derive(Clone, Copy, Debug, PartialEq, Eq, Error)]
+pub enum RecordFault {
+    /// No step has this body. `at` is the offset in it of the first field that passes its end or is outside its type, or of
+    /// what follows the last field; it is 0 where the kind octet is absent or not listed.
+    #[error("a record's body goes wrong at {at}")]
+    BadRecord { at: u32 },
+    /// No memory was left.
+    #[error("out of memory")]
+    Memory,
 }

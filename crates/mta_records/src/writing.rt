@@ -1,7 +1,7 @@
 //! Writing records.
 
 ghost use Rattle.std.specs.Prelude.{◌≡◌, ◌++◌, ◌<◌, ◌^◌, length, IfOk, OnOk};
-ghost use Rattle.mta_records.specs.Body.{string, body_of, HasFields};
+ghost use Rattle.mta_records.specs.Body.{string, recipient_fields, body_of, HasFields};
 
 use crate::step::Step;
 use mta_ber::{Memory, Octets};
@@ -23,6 +23,14 @@ pub fn write_record(alloc: Global, step: &Step) -> Result<Octets, Memory>
             body.extend(&moment.to_be_bytes())?;
             put_string(&mut body, apdu.as_slice())?;
         }
+        Step::Deliver {
+            item,
+            recipient,
+            moment,
+        } => {
+            body.extend(&[3])?;
+            put_recipient(&mut body, *item, *recipient, *moment)?;
+        }
     }
     Ok(body)
 }
@@ -34,5 +42,15 @@ fn put_string(out: &mut Octets, octets: &[u8]) -> Result<(), Memory>
 {
     out.extend(&(octets.len() as u32).to_be_bytes())?;
     out.extend(octets)?;
+    Ok(())
+}
+
+#[tactic(auto, unfolding(crate::specs::Body::recipient_fields))]
+fn put_recipient(out: &mut Octets, item: u32, recipient: u32, moment: u64) -> Result<(), Memory>
+    ensures { OnOk result (out.new ≡ out.old ++ recipient_fields item recipient moment) }
+{
+    out.extend(&item.to_be_bytes())?;
+    out.extend(&recipient.to_be_bytes())?;
+    out.extend(&moment.to_be_bytes())?;
     Ok(())
 }
