@@ -1,5 +1,5 @@
 -- Messages of the first shape, and their canonical octets (X.411, Figure 2, MTS-APDU; X.402, clause 18).
-use Rattle.std.specs.Prelude.{ℕ, ◌≡◌, ◌+◌, ◌/◌, ◌%◌, ◌<◌, ◌≤◌, Bool, List, [], ◌∷◌, ◌++◌, length, nat_lt, nat_le, if◌then◌else◌}
+use Rattle.std.specs.Prelude.{ℕ, ◌≡◌, ◌+◌, ◌/◌, ◌%◌, ◌<◌, ◌≤◌, Bool, List, [], ◌∷◌, ◌++◌, length, nat_lt, nat_le, ◌==◌, ◌||◌, if◌then◌else◌}
 use Rattle.mta_first_shape.specs.declared.text.TextClass.TheVariants.{Letters, Printable, Ia5}
 use Rattle.mta_first_shape.specs.Element.{AreOctets, element}
 use Rattle.mta_first_shape.specs.Text.{IsText}
@@ -137,3 +137,7 @@ pub record IsSpelled (octets : List ℕ) (m : MessageValue) : Type 0 where
 -- this MTA is responsible for the recipient: the first bit of the indicators (X.411, PerRecipientIndicators)
 abbrev pub is_responsible : MessageValue → Bool
 is_responsible m = nat_le 128 m.indicators
+
+-- a delivery report is asked for: the second bit, by the MTA that the message came from, or the fourth, by the originator
+abbrev pub asks_report : MessageValue → Bool
+asks_report m = ((m.indicators / 64) % 2 == 1) || ((m.indicators / 16) % 2 == 1)

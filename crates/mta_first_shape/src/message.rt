@@ -67,12 +67,19 @@ impl<'a> Model for Message<'a> {
 
 impl Message<'_> {
     ghost use Rattle.std.specs.Prelude.{◌≡◌};
-    ghost use Rattle.mta_first_shape.specs.Message.{is_responsible};
+    ghost use Rattle.mta_first_shape.specs.Message.{is_responsible, asks_report};
 
     /// Whether this MTA is responsible for the recipient (X.411, PerRecipientIndicators, bit 0).
     pub fn is_responsible(&self) -> bool
         ensures { result ≡ is_responsible self.now }
     {
         self.indicators >= 128
+    }
+
+    /// Whether a delivery report is asked for, by the MTA that it came from or by the originator (bits 1 and 3).
+    pub fn asks_report(&self) -> bool
+        ensures { result ≡ asks_report self.now }
+    {
+        (self.indicators / 64) % 2 == 1 || (self.indicators / 16) % 2 == 1
     }
 }

@@ -2,7 +2,7 @@
 use Rattle.std.proofs.Common.{◌≡◌, ◌≢◌, ℕ, ◌+◌, ◌-◌, ◌≤◌, ◌<◌, List, [], ◌∷◌, ◌++◌, length, take, drop, refl, sym, ap, ◌∙◌, append_assoc, arith}
 use Rattle.std.proofs.lemmas.List.{length-append, flat_map_more}
 use Rattle.mta_records.specs.declared.step.Step.{Step}
-use Rattle.mta_records.specs.declared.step.Step.TheVariants.{Tables, Accept}
+use Rattle.mta_records.specs.declared.step.Step.TheVariants.{Tables, Accept, Deliver}
 use Rattle.mta_records.specs.Body.{string, body_of, HasFields}
 use Rattle.mta_history.specs.Machine.{IsRun, at_start}
 use Rattle.mta_history.specs.History.{State, IsPossible, after_step, after_from, ArePossible, IsHistory, empty, project}
@@ -37,8 +37,9 @@ length-front-more steps step = ap length (front-more steps step) ∙ length-appe
 -- the machine's steps in a history are a run
 pub possible_run : (s : State) (steps : List Step) → ArePossible s steps → IsRun s.machine (project steps)
 possible_run s [] p = tt
-possible_run s (Tables text ∷ steps) p = (p.0, possible_run (after_step s (Tables text)) steps p.1)
+possible_run s (Tables text ∷ steps) p = (tt, possible_run (after_step s (Tables text)) steps p.1)
 possible_run s (Accept moment apdu ∷ steps) p = (p.0.0, possible_run (after_step s (Accept moment apdu)) steps p.1)
+possible_run s (Deliver item recipient moment ∷ steps) p = (p.0, possible_run (after_step s (Deliver item recipient moment)) steps p.1)
 
 pub history_run : (steps : List Step) → IsHistory steps → IsRun at_start (project steps)
 history_run steps p = possible_run empty steps p

@@ -1,2 +1,4 @@
-pub mod Unique
+pub mod Dues
 pub mod Histories
+pub mod Once
+pub mod Unique

@@ -5,8 +5,8 @@ use Rattle.std.specs.List.{flat_map}
 use Rattle.std.proofs.lemmas.List.{take_at, drop_at, append-nil, append_cancel_left}
 use Rattle.std.proofs.lemmas.Nat.{from_be_bytes-to_be_bytes_4, from_be_bytes-to_be_bytes_8}
 use Rattle.mta_records.specs.declared.step.Step.{Step}
-use Rattle.mta_records.specs.declared.step.Step.TheVariants.{Tables, Accept}
 use Rattle.mta_records.specs.Body.{string, body_of, HasFields}
+use Rattle.mta_records.proofs.Records.{body_same}
 use Rattle.mta_history.specs.Image.{magic, open_record, front, AreRecords, HasRecords, StandsFor}
 
 -- a string and what follows it are found again
@@ -17,21 +17,6 @@ string_split p q r s lp lq e =
     let len : length p ≡ length q = sym (from_be_bytes-to_be_bytes_4 (length p) lp) ∙ ap (from_be_bytes w32) four ∙ from_be_bytes-to_be_bytes_4 (length q) lq in
     let rest : p ++ r ≡ q ++ s = ap (drop 4) e in
     (sym (take_at p r (length p) refl) ∙ ap (take (length p)) rest ∙ take_at q s (length p) (sym len), sym (drop_at p r (length p) refl) ∙ ap (drop (length p)) rest ∙ drop_at q s (length p) (sym len))
-
-string_same : (p q : List ℕ) → length p < 2 ^ 32 → length q < 2 ^ 32 → string p ≡ string q → p ≡ q
-string_same p q lp lq e = (string_split p q [] [] lp lq (ap (λ (x : List ℕ). x ++ []) e)).0
-
--- a body is that of one step
-body_same : (a b : Step) → HasFields a → HasFields b → body_of a ≡ body_of b → a ≡ b
-body_same (Tables t) (Tables u) f g e = let tail : string t ≡ string u = ap (drop 1) e in ap Tables (string_same t u f g tail)
-body_same (Tables t) (Accept n b) f g e = absurd cc
-body_same (Accept m a) (Tables u) f g e = absurd cc
-body_same (Accept m a) (Accept n b) f g e =
-    let eight : to_be_bytes w64 m ≡ to_be_bytes w64 n = ap (λ (x : List ℕ). take 8 (drop 1 x)) e in
-    let when : m ≡ n = sym (from_be_bytes-to_be_bytes_8 m (omega (arith, f.0))) ∙ ap (from_be_bytes w64) eight ∙ from_be_bytes-to_be_bytes_8 n (omega (arith, g.0)) in
-    let tail : string a ≡ string b = ap (drop 9) e in
-    let apdu : a ≡ b = string_same a b f.1 g.1 tail in
-    cc
 
 same_steps : (s t : List Step) (g h : ℕ) (x y : List ℕ) → g ≢ 1 → h ≢ 1 → AreRecords s → AreRecords t → flat_map open_record s ++ g ∷ x ≡ flat_map open_record t ++ h ∷ y → s ≡ t
 same_steps [] [] g h x y cg ch fs ft e = refl

@@ -1,10 +1,13 @@
 -- Histories of the spool: which step is possible, what it leaves, and the machine's steps in it.
-use Rattle.std.specs.Prelude.{ℕ, ◌+◌, ◌≤◌, ◌<◌, ◌^◌, List, [], ◌∷◌, length}
+use Rattle.std.specs.Prelude.{◌≡◌, ◌≢◌, ◌⊎◌, ℕ, ◌+◌, ◌≤◌, ◌<◌, ◌^◌, List, [], ◌∷◌, length, Some, Ok}
 use Rattle.std.specs.List.{flat_map}
 use Rattle.mta_records.specs.declared.step.Step.{Step}
-use Rattle.mta_records.specs.declared.step.Step.TheVariants.{Tables, Accept}
+use Rattle.mta_records.specs.declared.step.Step.TheVariants.{Tables, Accept, Deliver}
+use Rattle.mta_tables.specs.Tables.{TablesValue, tables_of}
 use Rattle.mta_history.specs.declared.item.Origin.TheVariants.{Submitted}
-use Rattle.mta_history.specs.Machine.{Machine, MachineStep, set_tables, accept, Needs, machine_after, at_start}
+use Rattle.mta_history.specs.declared.item.Status.{Status}
+use Rattle.mta_history.specs.declared.item.Status.TheVariants.{Pending}
+use Rattle.mta_history.specs.Machine.{Machine, MachineStep, set_tables, accept, deliver, Needs, machine_after, at_start, IsRun, status_at, discharges}
 
 -- the machine, and what is kept beside it, so far nothing
 pub record State : Type 0 where
@@ -17,19 +20,26 @@ empty = record { machine = at_start }
 abbrev pub machine_steps : Step → List MachineStep
 machine_steps (Tables text) = set_tables text ∷ []
 machine_steps (Accept moment apdu) = accept apdu Submitted moment ∷ []
+machine_steps (Deliver item recipient moment) = deliver item recipient moment ∷ []
 
 abbrev pub project : List Step → List MachineStep
 project steps = flat_map machine_steps steps
 
--- What a step needs. Item numbers stay below 2 ^ 32, and an accepted APDU leaves room for a report about it.
+-- the grammar of tables reads the text
+abbrev pub IsTablesText : List ℕ → Type 0
+IsTablesText text = (t : TablesValue) × (tables_of text ≡ Ok t)
+
+-- What a step needs: tables that the grammar reads, an item number below 2 ^ 32, and what the machine needs.
 abbrev pub IsPossible : State → Step → Type 0
-IsPossible s (Tables text) = Needs s.machine (set_tables text)
-IsPossible s (Accept moment apdu) = Needs s.machine (accept apdu Submitted moment) × (length s.machine.items + 2 < 2 ^ 32)
+IsPossible s (Tables text) = IsTablesText text
+IsPossible s (Accept moment apdu) = Needs s.machine (accept apdu Submitted moment) × (length s.machine.items + 1 < 2 ^ 32)
+IsPossible s (Deliver item recipient moment) = Needs s.machine (deliver item recipient moment)
 
 -- what it leaves
 abbrev pub after_step : State → Step → State
 after_step s (Tables text) = record s { machine = machine_after s.machine (set_tables text) }
 after_step s (Accept moment apdu) = record s { machine = machine_after s.machine (accept apdu Submitted moment) }
+after_step s (Deliver item recipient moment) = record s { machine = machine_after s.machine (deliver item recipient moment) }
 
 abbrev pub after_from : State → List Step → State
 after_from s [] = s
@@ -46,3 +56,14 @@ after steps = after_from empty steps
 -- each step is possible in the state before it
 abbrev pub IsHistory : List Step → Type 0
 IsHistory steps = ArePossible empty steps
+
+-- The machine's steps are a run, and each recipient for whom this agent is responsible is pending and was not discharged,
+-- or is not pending and was discharged once.
+pub record RecipientsOnce (steps : List Step) : Type 0 where
+  pub run : IsRun at_start (project steps)
+  pub once : (i r : ℕ) (s : Status) → status_at (after steps).machine i r ≡ Some (Some s)
+      → ((s ≡ Pending) × (discharges (project steps) i r ≡ 0)) ⊎ ((s ≢ Pending) × (discharges (project steps) i r ≡ 1))
+
+-- in each history each recipient is pending or discharged, and never both or twice
+abbrev pub EachRecipientOnce : Type 0
+EachRecipientOnce = (steps : List Step) → IsHistory steps → RecipientsOnce steps

@@ -1,4 +1,6 @@
 pub mod Apdu
+pub mod Verdict
+pub mod Due
 pub mod Machine
 pub mod History
 pub mod Image

@@ -1,8 +1,8 @@
 //! Items and the statuses of their recipients.
 
-ghost use Rattle.std.specs.Prelude.{◌≡◌, [], ◌∷◌, IfOk, Some, None, true, if◌then◌else◌};
+ghost use Rattle.std.specs.Prelude.{◌≡◌, [], ◌∷◌, IfOk, Some, None, true, if◌then◌else◌, slice_set};
 
-use mta_ber::{Memory, Octets};
+use mta_ber::{Memory, Octets, Word};
 use std::alloc::Global;
 use std::marker::Model;
 
@@ -53,6 +53,15 @@ impl Statuses {
         Ok(Statuses { inner })
     }
 
+    /// The first recipient was delivered at this moment.
+    pub fn deliver_first(&mut self, moment: u64)
+        ensures { self.new ≡ slice_set self.old 0 (Some (Status.Delivered moment)) }
+    {
+        if let Some(status) = self.inner.first_mut() {
+            *status = Some(Status::Delivered(moment));
+        }
+    }
+
     /// The statuses, lent.
     pub fn as_slice(&self) -> &[Option<Status>]
         ensures { result.now ≡ self.now }
@@ -69,4 +78,12 @@ pub struct Item {
     pub arrival: u64,
     pub origin: Origin,
     pub statuses: Statuses,
+}
+
+/// One delivery: the mailbox, the number of the item, and when, in seconds since 1950-01-01 00:00:00 UTC.
+#[derive(Debug, Drop)]
+pub struct MailboxLine {
+    pub mailbox: Word,
+    pub item: u32,
+    pub moment: u64,
 }

@@ -4,6 +4,8 @@
 
 mod item;
 mod law;
+mod verdict;
 
-pub use item::{Item, Origin, Status, Statuses};
-pub use law::one_history;
+pub use item::{Item, MailboxLine, Origin, Status, Statuses};
+pub use law::{each_recipient_once, one_history};
+pub use verdict::Verdict;

@@ -1,0 +1,47 @@
+-- What becomes of a recipient of a message of the first shape, under the tables recorded last (X.411, clause 14).
+use Rattle.std.specs.Prelude.{ℕ, ◌+◌, Bool, true, false, List, [], ◌∷◌, Option, Some, None, Result, Ok, Err, nat_le, option_and_then, if◌then◌else◌}
+use Rattle.mta_first_shape.specs.Message.{NameValue, MessageValue, asks_report}
+use Rattle.mta_first_names.specs.declared.name.Attributes.{Attributes}
+use Rattle.mta_tables.specs.declared.mailbox.Hop.{Hop}
+use Rattle.mta_tables.specs.declared.mailbox.Hop.TheVariants as Hops
+use Rattle.mta_tables.specs.Reading.{Bad}
+use Rattle.mta_tables.specs.Tables.{TablesValue, tables_of, best_hop}
+use Rattle.mta_history.specs.declared.verdict.Verdict.{Verdict}
+use Rattle.mta_history.specs.declared.verdict.Verdict.TheVariants as Verdicts
+
+-- the seconds that a message of normal priority may wait for its delivery
+abbrev pub hold_time : ℕ
+hold_time = 86400
+
+-- the message has waited for its hold time since it arrived
+abbrev pub is_expired : ℕ → ℕ → Bool
+is_expired arrival moment = nat_le (arrival + hold_time) moment
+
+-- an O/R name of the first shape among all others
+abbrev pub attributes_of : NameValue → Attributes
+attributes_of n = record { country = Some n.country; admd = Some n.admd; surname = Some n.surname }
+
+-- an unrecognised name is reported as unable-to-transfer, and an expired message as a failed transfer
+abbrev pub verdict_at : Hop → Bool → Verdict
+verdict_at Hops.None expired = Verdicts.NonDeliver 1 0
+verdict_at (Hops.Local place) expired = if expired then Verdicts.NonDeliver 0 5 else Verdicts.Deliver place
+
+-- the verdict on the recipient of a message that arrived at one moment and is looked at at another
+unfoldable pub verdict_of_message : TablesValue → ℕ → ℕ → MessageValue → Verdict
+verdict_of_message tables arrival moment m = verdict_at (best_hop tables (attributes_of m.recipient)) (is_expired arrival moment)
+
+abbrev pub last_of : List (List ℕ) → Option (List ℕ)
+last_of [] = None
+last_of (t ∷ []) = Some t
+last_of (t ∷ u ∷ ts) = last_of (u ∷ ts)
+
+abbrev pub value_of : Result TablesValue Bad → Option TablesValue
+value_of (Ok t) = Some t
+value_of (Err bad) = None
+
+unfoldable pub tables_value : List ℕ → Option TablesValue
+tables_value text = value_of (tables_of text)
+
+-- the tables recorded last, where their text has a value
+unfoldable pub recorded : List (List ℕ) → Option TablesValue
+recorded texts = option_and_then tables_value (last_of texts)
