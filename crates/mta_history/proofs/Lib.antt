@@ -1,4 +1,5 @@
 pub mod Dues
 pub mod Histories
+pub mod NoSpool
 pub mod Once
 pub mod Unique

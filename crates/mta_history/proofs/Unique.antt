@@ -10,7 +10,7 @@ use Rattle.mta_records.proofs.Records.{body_same}
 use Rattle.mta_history.specs.Image.{magic, open_record, front, AreRecords, HasRecords, StandsFor}
 
 -- a string and what follows it are found again
-string_split : (p q r s : List ℕ) → length p < 2 ^ 32 → length q < 2 ^ 32 → string p ++ r ≡ string q ++ s → (p ≡ q) × (r ≡ s)
+pub string_split : (p q r s : List ℕ) → length p < 2 ^ 32 → length q < 2 ^ 32 → string p ++ r ≡ string q ++ s → (p ≡ q) × (r ≡ s)
 unfolding string
 string_split p q r s lp lq e =
     let four : to_be_bytes w32 (length p) ≡ to_be_bytes w32 (length q) = ap (take 4) e in

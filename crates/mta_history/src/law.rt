@@ -1,7 +1,7 @@
 //! Laws of the definitions.
 
 ghost use Rattle.mta_history.specs.History.{EachRecipientOnce};
-ghost use Rattle.mta_history.specs.Image.{OneHistory};
+ghost use Rattle.mta_history.specs.Image.{OneHistory, NoSpoolHasNoHistory};
 
 /// One image of the disk stands for one history.
 pub fn one_history()
@@ -11,4 +11,9 @@ pub fn one_history()
 /// In each history each recipient for whom this agent is responsible is pending with no discharge, or discharged once.
 pub fn each_recipient_once()
     ensures { EachRecipientOnce }
+{}
+
+/// An image that is no spool stands for no history.
+pub fn no_spool_has_no_history()
+    ensures { NoSpoolHasNoHistory }
 {}
