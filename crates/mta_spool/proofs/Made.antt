@@ -1,20 +1,26 @@
 -- A step that is put and shown is made.
-use Rattle.std.proofs.Common.{false, true, ◌≡◌, ◌≢◌, ℕ, ◌+◌, ◌≤◌, ◌<◌, ◌^◌, List, [], ◌∷◌, ◌++◌, length, take, Option, None, Some, Result, Ok, Err, IsErrOf, refl, sym, ap, subst, ◌∙◌, arith}
+use Rattle.std.proofs.Common.{false, true, ◌≡◌, ◌≢◌, ℕ, ◌+◌, ◌≤◌, ◌<◌, ◌^◌, List, [], ◌∷◌, ◌++◌, length, take, Option, None, Some, Result, Ok, Err, IsErrOf, ltb, inl, inr, refl, sym, ap, subst, ◌∙◌, arith}
 use Rattle.std.proofs.Math.Seq.{take-append_seam}
 use Rattle.mta_records.specs.declared.step.Step.{Step}
-use Rattle.mta_records.specs.declared.step.Step.TheVariants.{Tables, Accept}
+use Rattle.mta_records.specs.declared.step.Step.TheVariants.{Tables, Accept, Deliver}
 use Rattle.mta_records.specs.declared.fault.StepFault.{StepFault}
 use Rattle.mta_records.specs.declared.fault.StepFault.TheVariants as StepFaults
 use Rattle.mta_history.specs.declared.item.Item.{Item}
 use Rattle.mta_history.specs.declared.item.Origin.TheVariants.{Submitted}
 use Rattle.mta_history.specs.declared.item.Status.{Status}
 use Rattle.mta_history.specs.Apdu.{SpellsApdu, statuses_at_first}
-use Rattle.mta_history.specs.History.{State, IsPossible, after_step, after, empty}
+use Rattle.mta_tables.specs.Tables.{TablesValue, tables_of}
+use Rattle.mta_tables.specs.Reading.{Bad}
+use Rattle.std.proofs.lemmas.Bool.{cases_lt, lt-ltb}
+use Rattle.mta_history.specs.declared.item.MailboxLine.{MailboxLine}
+use Rattle.mta_history.specs.Verdict.{last_of, recorded, tables_value, value_of}
+use Rattle.mta_history.specs.History.{State, IsPossible, ArePossible, IsHistory, IsTablesText, after_step, after, after_from, empty}
 use Rattle.mta_history.proofs.Histories.{after_from-more, possible-more}
 use Rattle.mta_spool.specs.declared.current.Current.{Current}
 use Rattle.mta_spool.specs.Shown.{Shown}
-use Rattle.mta_spool.specs.Stands.{last_of, current_of, Stores, Stands, Appends, need_of, journal_limit}
-use Rattle.mta_spool.specs.Putting.{HasPut, with_item}
+use Rattle.mta_spool.specs.Current.{current_of, current_after, CanMake}
+use Rattle.mta_spool.specs.Stands.{Stores, Stands, Appends, need_of, journal_limit}
+use Rattle.mta_spool.specs.Putting.{HasPut, with_item, with_line}
 use Rattle.mta_first_shape.specs.Message.{longest}
 
 last_of-more : (ts : List (List ℕ)) (t : List ℕ) → last_of (ts ++ t ∷ []) ≡ Some t
@@ -22,21 +28,71 @@ last_of-more [] t = refl
 last_of-more (x ∷ []) t = refl
 last_of-more (x ∷ y ∷ ts) t = last_of-more (y ∷ ts) t
 
--- what a step does to the state in memory
-abbrev pub current_after : Current → Step → Current
-current_after current (Tables text) = record current { tables = Some text }
-current_after current (Accept moment apdu) = record current {
-  items = current.items ++ record { octets = apdu; arrival = moment; origin = Submitted; statuses = statuses_at_first apdu } ∷ [];
-  moment = moment;
-}
+-- the tables recorded last are those of the last text
+recorded-more : (ts : List (List ℕ)) (t : List ℕ) → recorded (ts ++ t ∷ []) ≡ tables_value t
+unfolding recorded
+recorded-more ts t = rw (last_of-more ts t) refl
 
 current_of-after_step : (s : State) (step : Step) → current_of (after_step s step) ≡ current_after (current_of s) step
-current_of-after_step s (Tables text) = ap (λ (t : Option (List ℕ)). record (current_of s) { tables = t }) (last_of-more s.machine.tables text)
+current_of-after_step s (Tables text) = ap (λ (t : Option TablesValue). record (current_of s) { tables = t }) (recorded-more s.machine.tables text)
 current_of-after_step s (Accept moment apdu) = refl
+current_of-after_step s (Deliver item recipient moment) = refl
 
-current-more : (steps : List Step) (step : Step) (current : Current) → current ≡ current_of (after steps) → current_after current step ≡ current_of (after (steps ++ step ∷ []))
+pub current-more : (steps : List Step) (step : Step) (current : Current) → current ≡ current_of (after steps) → current_after current step ≡ current_of (after (steps ++ step ∷ []))
 current-more steps step current e =
     ap (λ (s : Current). current_after s step) e ∙ sym (current_of-after_step (after steps) step) ∙ ap current_of (sym (after_from-more empty steps step))
+
+-- ---- what is possible, and how the state in memory shows it
+
+none_recorded : (ts : List (List ℕ)) → ts ≡ [] → recorded ts ≡ None
+unfolding recorded
+none_recorded ts e = rw e refl
+
+-- the text recorded last is read by the grammar
+abbrev IsLastRead : List (List ℕ) → Type 0
+IsLastRead ts = (t : List ℕ) → last_of ts ≡ Some t → IsTablesText t
+
+step_read : (s : State) (step : Step) → IsPossible s step → IsLastRead s.machine.tables → IsLastRead (after_step s step).machine.tables
+step_read s (Tables text) possible before t e = subst IsTablesText (some_same text t (sym (last_of-more s.machine.tables text) ∙ e)) possible where
+  some_same : (a b : List ℕ) → Some a ≡ Some b → a ≡ b
+  some_same a b w = cc
+step_read s (Accept moment apdu) possible before t e = before t e
+step_read s (Deliver item recipient moment) possible before t e = before t e
+
+last_read : (s : State) (steps : List Step) → ArePossible s steps → IsLastRead s.machine.tables → IsLastRead (after_from s steps).machine.tables
+last_read s [] possible before = before
+last_read s (step ∷ steps) possible before = last_read (after_step s step) steps possible.1 (step_read s step possible.0 before)
+
+nothing_read : IsLastRead []
+nothing_read t e = absurd cc
+
+value_there : (text : List ℕ) → IsTablesText text → tables_value text ≢ None
+unfolding tables_value
+value_there text is none = some_none (sym (ap value_of is.1) ∙ none) where
+  some_none : Some is.0 ≡ None → ⊥
+  some_none w = cc
+
+is_recorded : (ts : List (List ℕ)) → IsLastRead ts → ts ≢ [] → recorded ts ≢ None
+unfolding recorded
+is_recorded [] each some none = some refl
+is_recorded (t ∷ ts) each some none = last_of-some t ts (λ u e. value_there u (each u e) (rw e at none)) where
+  last_of-some : (x : List ℕ) (xs : List (List ℕ)) → ((u : List ℕ) → last_of (x ∷ xs) ≡ Some u → ⊥) → ⊥
+  last_of-some x [] h = h x refl
+  last_of-some x (y ∷ xs) h = last_of-some y xs h
+
+pub can_make_possible : (steps : List Step) (step : Step) (current : Current) → current ≡ current_of (after steps) → CanMake current step → IsPossible (after steps) step
+can_make_possible steps (Tables text) current is can = can
+can_make_possible steps (Accept moment apdu) current is can =
+    let c : CanMake (current_of (after steps)) (Accept moment apdu) = subst (λ (x : Current). CanMake x (Accept moment apdu)) is can in
+    ((c.0, λ e. c.1 (none_recorded (after steps).machine.tables e), c.2), c.3)
+can_make_possible steps (Deliver item recipient moment) current is can = subst (λ (x : Current). CanMake x (Deliver item recipient moment)) is can
+
+pub possible_can_make : (steps : List Step) (step : Step) (current : Current) → current ≡ current_of (after steps) → IsHistory steps → IsPossible (after steps) step → CanMake current step
+possible_can_make steps (Tables text) current is history possible = possible
+possible_can_make steps (Accept moment apdu) current is history possible =
+    let c : CanMake (current_of (after steps)) (Accept moment apdu) = (possible.0.0, is_recorded (after steps).machine.tables (last_read empty steps history nothing_read) possible.0.1, possible.0.2, possible.1) in
+    subst (λ (x : Current). CanMake x (Accept moment apdu)) (sym is) c
+possible_can_make steps (Deliver item recipient moment) current is history possible = subst (λ (x : Current). CanMake x (Deliver item recipient moment)) (sym is) possible
 
 -- the step is stored, shown and possible, so the spool stands for it too
 pub stands_more : {D C : Type 0} (content : D → Option (List ℕ)) (step : Step) (old new : Shown D C) (steps : List Step)
@@ -46,15 +102,6 @@ stands_more content step old new steps s stored current possible = record {
   current = current ∙ current-more steps step old.current s.current;
   history = possible-more empty steps step s.history possible;
 }
-
-not_empty : (ts : List (List ℕ)) → last_of ts ≢ None → ts ≢ []
-not_empty ts h e = h (ap last_of e)
-
--- an APDU is taken where tables are recorded and numbers are left
-pub can_accept : {D C : Type 0} (content : D → Option (List ℕ)) (old : Shown D C) (moment : ℕ) (apdu : List ℕ) (steps : List Step) → Stands content old steps
-    → SpellsApdu apdu → old.current.tables ≢ None → old.current.moment ≤ moment → length old.current.items + 2 < 2 ^ 32 → IsPossible (after steps) (Accept moment apdu)
-can_accept content old moment apdu steps s spells tables later room =
-    ((spells, not_empty (after steps).machine.tables (λ e. tables (ap (λ (x : Current). x.tables) s.current ∙ e)), subst (λ (x : Current). x.moment ≤ moment) s.current later), subst (λ (x : Current). length x.items + 2 < 2 ^ 32) s.current room)
 
 pub length-spelled : (apdu : List ℕ) → SpellsApdu apdu → length apdu ≤ longest
 length-spelled apdu spells = omega (arith, ap length spells.1.octets_are, spells.1.message.size)
@@ -111,3 +158,29 @@ pub item_added : {D C : Type 0} (view old : Shown D C) (items : List Item) (item
     → ◌≡◌ {A = Shown D C} (record view { current = record view.current { items = items } }) (record old { current = with_item old.current item })
 item_added view old items item e pushed =
     ap (λ (x : List Item). record view { current = record view.current { items = x } }) pushed ∙ ap (λ (v : Shown _ _). record v { current = with_item v.current item }) e
+
+pub line_added : {D C : Type 0} (view old : Shown D C) (lines : List MailboxLine) (line : MailboxLine) → view ≡ old → lines ≡ view.current.mailboxes ++ line ∷ []
+    → ◌≡◌ {A = Shown D C} (record view { current = record view.current { mailboxes = lines } }) (record old { current = with_line old.current line })
+line_added view old lines line e pushed =
+    ap (λ (x : List MailboxLine). record view { current = record view.current { mailboxes = x } }) pushed ∙ ap (λ (v : Shown _ _). record v { current = with_line v.current line }) e
+
+-- ---- tables
+
+pub short_tables : (text : List ℕ) (tables : TablesValue) → tables_of text ≡ Ok tables → length text ≤ 1048576
+unfolding tables_of
+short_tables text tables read =
+    elim (cases_lt 1048576 (length text)) [
+      | inl long ↦ (let test : ltb 1048576 (length text) ≡ true = lt-ltb _ _ long in absurd (bad_ok (rw test at read)))
+      | inr short ↦ short
+    ]
+  where
+  bad_ok : {b : Bad} → ◌≡◌ {A = Result TablesValue Bad} (Err b) (Ok tables) → ⊥
+  bad_ok w = cc
+
+-- the value of their text
+pub tables_there : (tables : TablesValue) {text : List ℕ} → text ≡ tables.text → tables_of text ≡ Ok tables → Some tables ≡ tables_value tables.text
+unfolding tables_value
+tables_there tables same read = sym (ap value_of (ap tables_of (sym same) ∙ read))
+
+pub is_tables_text : (tables : TablesValue) {text : List ℕ} → text ≡ tables.text → tables_of text ≡ Ok tables → IsTablesText tables.text
+is_tables_text tables same read = (tables, ap tables_of (sym same) ∙ read)

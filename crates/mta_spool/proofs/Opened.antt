@@ -6,7 +6,8 @@ use Rattle.mta_history.specs.Image.{magic, front, HasRecords}
 use Rattle.mta_history.proofs.Histories.{length-magic}
 use Rattle.mta_spool.specs.Opening.{IsMade}
 use Rattle.mta_spool.specs.Shown.{Shown, IsSound}
-use Rattle.mta_spool.specs.Stands.{Stands, current_of}
+use Rattle.mta_spool.specs.Stands.{Stands}
+use Rattle.mta_spool.specs.Current.{current_of}
 use Rattle.mta_history.specs.History.{after}
 
 pub is_made : (f g : List ℕ) → length f ≤ 9 → g ≡ written 0 (77 ∷ 84 ∷ 65 ∷ 83 ∷ 80 ∷ 76 ∷ 48 ∷ 49 ∷ 0 ∷ []) f → IsMade f g
@@ -29,7 +30,6 @@ pub sound_made : {D : Type 0} (content : D → Option (List ℕ)) (old new : D) 
 sound_made content old new goes = record {
   within = λ f told. let x = goes.back f told in length-made x.0 f x.2;
   begun = omega arith;
-  bounded = omega arith;
   fits = omega arith;
 }
 

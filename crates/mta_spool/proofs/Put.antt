@@ -17,8 +17,8 @@ use Rattle.mta_spool.specs.Putting.{HasPut}
 use Rattle.mta_spool.proofs.Records.{has_more, length-appended}
 
 pub sound_appended : {D : Type 0} (content : D → Option (List ℕ)) (old new : D) (size : ℕ) (body : List ℕ) (need moment : ℕ)
-    → IsSound content old size moment → Goes (AppendsRecord (size - 1) body) (content old) (content new) → need ≡ length body + 5 → size + need ≤ 2 ^ 28 → IsSound content new (size + need) moment
-sound_appended content old new size body need moment sound goes is fits = record {
+    → IsSound content old size moment → Goes (AppendsRecord (size - 1) body) (content old) (content new) → need ≡ length body + 5 → IsSound content new (size + need) moment
+sound_appended content old new size body need moment sound goes is = record {
   within = λ h told.
       let more = goes.back h told in
       let le = sound.within more.0 more.1 in
@@ -26,7 +26,6 @@ sound_appended content old new size body need moment sound goes is fits = record
       let long = length-appended (size - 1) body more.0 h (omega arith) more.2 in
       omega arith;
   begun = let begun = sound.begun in omega arith;
-  bounded = omega arith;
   fits = sound.fits;
 }
 
@@ -109,5 +108,5 @@ refused_from content faults step current old before mid new e was has is =
       not_spent = has.not_spent;
     }
 
-pub items_back : (items now : List Item) (item : Item) (n : ℕ) → now ≡ items ++ item ∷ [] → n ≡ length items → take n now ≡ items
+pub items_back : {A : Type 0} (items now : List A) (item : A) (n : ℕ) → now ≡ items ++ item ∷ [] → n ≡ length items → take n now ≡ items
 items_back items now item n pushed count = ap (take n) pushed ∙ ap (λ (k : ℕ). take k (items ++ item ∷ [])) count ∙ take-append_seam items (item ∷ [])

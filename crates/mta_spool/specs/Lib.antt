@@ -1,5 +1,8 @@
+pub mod Current
 pub mod Journal
 pub mod Opening
 pub mod Putting
+pub mod Replaying
 pub mod Shown
 pub mod Stands
+pub mod Turning

@@ -5,6 +5,7 @@ use Rattle.mta_records.specs.declared.fault.StepFault.TheVariants as StepFaults
 use Rattle.mta_edge.specs.Causes.{Rose}
 use Rattle.mta_records.specs.declared.step.Step.{Step}
 use Rattle.mta_history.specs.declared.item.Item.{Item}
+use Rattle.mta_history.specs.declared.item.MailboxLine.{MailboxLine}
 use Rattle.mta_spool.specs.declared.current.Current.{Current}
 use Rattle.mta_spool.specs.Shown.{Shown}
 use Rattle.mta_spool.specs.Stands.{Stores, need_of, journal_limit}
@@ -12,6 +13,10 @@ use Rattle.mta_spool.specs.Stands.{Stores, need_of, journal_limit}
 -- the state with one item more
 abbrev pub with_item : Current → Item → Current
 with_item current item = record current { items = current.items ++ item ∷ [] }
+
+-- the state with one delivery more
+abbrev pub with_line : Current → MailboxLine → Current
+with_line current line = record current { mailboxes = current.mailboxes ++ line ∷ [] }
 
 -- the step is on the disk, and the state in memory is this one; or all is as it was but for what the disk's fault changed
 pub record HasPut {D C T : Type 0} (content : D → Option (List ℕ)) (faults : D → ℕ) (step : Step) (current : Current) (old new : Shown D C) (result : Result T StepFault) : Type 0 where

@@ -7,18 +7,8 @@ use Rattle.mta_records.specs.declared.step.Step.{Step}
 use Rattle.mta_records.specs.Body.{body_of, last_moment}
 use Rattle.mta_history.specs.History.{State, after, IsHistory}
 use Rattle.mta_history.specs.Image.{front, HasRecords}
-use Rattle.mta_spool.specs.declared.current.Current.{Current}
+use Rattle.mta_spool.specs.Current.{current_of}
 use Rattle.mta_spool.specs.Shown.{Shown}
-
--- the last of a list
-abbrev pub last_of : List (List ℕ) → Option (List ℕ)
-last_of [] = None
-last_of (t ∷ []) = Some t
-last_of (t ∷ u ∷ ts) = last_of (u ∷ ts)
-
--- the state in memory of a history's state
-abbrev pub current_of : State → Current
-current_of s = record { tables = last_of s.machine.tables; items = s.machine.items; moment = s.machine.moment }
 
 -- the disk has these steps
 pub record Stores {D C : Type 0} (content : D → Option (List ℕ)) (spool : Shown D C) (steps : List Step) : Type 0 where

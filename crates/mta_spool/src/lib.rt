@@ -2,20 +2,25 @@
 #![tactic(auto)]
 
 mod apdu;
+mod bodies;
 mod current;
+mod due;
 mod items;
 mod journal;
+mod mailboxes;
 mod open;
+mod replay;
 mod spool;
-mod tables;
 
 pub use current::Current;
 pub use items::Items;
-pub use mta_history::{Item, Origin, Status, Statuses};
+pub use mailboxes::Mailboxes;
+pub use mta_history::{Item, MailboxLine, Origin, Status, Statuses};
+pub use mta_tables::Tables;
 pub use mta_records::{Step, StepFault};
 pub use open::{OpenWhy, SpoolOpen};
-pub use spool::{JOURNAL_LIMIT, Spool};
-pub use tables::Tables;
+pub use spool::{JOURNAL_LIMIT, Spool, Turned};
+
 
 #[cfg(test)]
 mod tests;

@@ -1,6 +1,7 @@
 //! The spool: its journal and its state.
 
-ghost use Rattle.std.specs.Prelude.{◌≡◌, ◌≢◌, ◌++◌, [], ◌∷◌, ◌+◌, ◌≤◌, ◌<◌, ◌^◌, List, ℕ, Some, None, length, IfOk, IsErrOf, false, ◌-◌};
+ghost use Rattle.std.specs.Prelude.{◌≡◌, ◌≢◌, ◌++◌, [], ◌∷◌, ◌+◌, ◌≤◌, ◌<◌, ◌^◌, List, ℕ, Some, None, length, IfOk, IsErrOf, IsTrue, ◌↔◌, true, false, ◌-◌, Ok, Err, if◌then◌else◌};
+ghost use Rattle.std.specs.Option.{option_copied};
 ghost use Rattle.mta_records.specs.declared.step.Step.{Step};
 ghost use Rattle.mta_records.specs.Body.{HasFields, body_of};
 ghost use Rattle.mta_history.specs.Apdu.{SpellsApdu};
@@ -10,11 +11,12 @@ use crate::apdu::statuses_at_first;
 use crate::current::Current;
 use crate::items::Items;
 use crate::journal::{PutFault, append};
-use crate::tables::Tables;
+use crate::mailboxes::Mailboxes;
 use mta_ber::Octets;
 use mta_edge::{Clock, Disk};
-use mta_history::{Item, Origin};
+use mta_history::{Item, MailboxLine, Origin};
 use mta_records::{Step, StepFault, write_record};
+use mta_tables::Tables;
 use std::alloc::Global;
 use std::marker::Model;
 
@@ -23,6 +25,15 @@ pub const JOURNAL_LIMIT: u64 = 268_435_456;
 
 // The last second of 2049, in seconds since 1950-01-01 00:00:00 UTC.
 const LAST_MOMENT: u64 = 3_155_759_999;
+
+/// What a turn did.
+#[derive(Debug, Drop)]
+pub enum Turned {
+    /// This step was due and is made.
+    Did(Step),
+    /// Nothing is due at this moment.
+    Quiet { moment: u64 },
+}
 
 /// A spool on one disk, which takes its moments from one clock.
 #[derive(Drop)]
@@ -48,7 +59,9 @@ impl<D: Disk + Drop, C: Clock + Drop> Model for Spool<D, C> {
 
 impl<D: Disk + Drop, C: Clock + Drop> Spool<D, C> {
     ghost use Rattle.mta_spool.specs.Stands.{Stores, Appends, step_moment};
-    ghost use Rattle.mta_spool.specs.Putting.{HasPut, with_item};
+    ghost use Rattle.mta_spool.specs.Putting.{HasPut, with_item, with_line};
+    ghost use Rattle.mta_spool.specs.Turning.{HasDelivered, Turns, IsRecorded};
+    ghost use Rattle.mta_history.specs.Due.{IsDue};
 
     // Puts a step on the disk. The state in memory stays.
     fn put(&mut self, step: &Step) -> Result<(), StepFault>
@@ -59,7 +72,7 @@ impl<D: Disk + Drop, C: Clock + Drop> Spool<D, C> {
     {
         let body = write_record(self.alloc, step)?;
         let need = body.len() as u64 + 5;
-        if self.size + need > JOURNAL_LIMIT {
+        if JOURNAL_LIMIT.saturating_sub(self.size) < need {
             return Err(StepFault::Full {
                 size: self.size,
                 need,
@@ -96,21 +109,63 @@ impl<D: Disk + Drop, C: Clock + Drop> Spool<D, C> {
         }
     }
 
-    /// Records these tables last.
-    pub fn set_tables(&mut self, tables: Tables) -> Result<(), StepFault>
-        ensures appends { Appends D.content D.faults (Step.Tables tables) self.old self.new result }
+    // Puts the step of a delivery on the disk, and its line behind the others.
+    fn add_line(&mut self, step: &Step, line: MailboxLine) -> Result<(), StepFault>
+        requires fields { HasFields step.now }
+        requires short { length (body_of step.now) ≤ longest_body }
+        requires going { self.old.ended ≡ false }
+        ensures { HasPut D.content D.faults step.now (with_line self.old.current line) self.old self.new result }
+    {
+        let count = self.current.mailboxes.len();
+        self.current.mailboxes.push(line)?;
+        match self.put(step) {
+            Ok(()) => Ok(()),
+            Err(fault) => {
+                self.current.mailboxes.truncate(count);
+                Err(fault)
+            }
+        }
+    }
+
+    // Whether the text of these tables is the one recorded last.
+    fn has_recorded(&self, tables: &Tables) -> bool
+        ensures { IsTrue result ↔ IsRecorded self.now.current.tables tables.now }
+    {
+        match &self.current.tables {
+            Some(recorded) => recorded.text() == tables.text(),
+            None => false,
+        }
+    }
+
+    // Records these tables last.
+    fn record_tables(&mut self, tables: Tables) -> Result<(), StepFault>
+        requires { self.old.ended ≡ false }
+        ensures appends { Appends D.content D.faults (Step.Tables tables.text) self.old self.new result }
         ensures clock { self.new.clock ≡ self.old.clock }
         ensures spent { (last : ℕ) → IsErrOf result (StepFault.Spent last) → ⊥ }
     {
-        if self.ended {
-            return Err(StepFault::Ended);
-        }
         let step = Step::Tables {
             text: Octets::from_slice(self.alloc, tables.text())?,
         };
         self.put(&step)?;
         self.current.tables = Some(tables);
         Ok(())
+    }
+
+    /// Records these tables last, or makes no step where their text is the one recorded last.
+    pub fn set_tables(&mut self, tables: Tables) -> Result<(), StepFault>
+        ensures same { IsRecorded self.old.current.tables tables → (self.new ≡ self.old) × (result ≡ (if self.old.ended then Err StepFault.Ended else Ok tt)) }
+        ensures appends { (IsRecorded self.old.current.tables tables → ⊥) → Appends D.content D.faults (Step.Tables tables.text) self.old self.new result }
+        ensures clock { self.new.clock ≡ self.old.clock }
+        ensures spent { (last : ℕ) → IsErrOf result (StepFault.Spent last) → ⊥ }
+    {
+        if self.ended {
+            return Err(StepFault::Ended);
+        }
+        if self.has_recorded(&tables) {
+            return Ok(());
+        }
+        self.record_tables(tables)
     }
 
     // The moment of a step that is made now.
@@ -155,11 +210,75 @@ impl<D: Disk + Drop, C: Clock + Drop> Spool<D, C> {
         Ok(last as u32 + 1)
     }
 
+    // Delivers the item at this place, from 0, to the mailbox at that place.
+    fn deliver(&mut self, place: usize, mailbox: u32, moment: u64) -> Result<Step, StepFault>
+        requires due { IsDue self.old.current.tables self.old.current.items (place + 1) 1 moment mailbox }
+        requires going { self.old.ended ≡ false }
+        requires later { self.old.current.moment ≤ moment }
+        requires fits { moment ≤ 3155759999 }
+        ensures { HasDelivered D.content D.faults (Step.Deliver (place + 1) 1 moment) self.old self.new result }
+    {
+        let last = self.current.items.len() as u64;
+        if last > 4_294_967_293 {
+            return Err(StepFault::Spent { last });
+        }
+        let item = place as u32 + 1;
+        let line = self.current.line_for(self.alloc, item, mailbox, moment)?;
+        let step = Step::Deliver {
+            item,
+            recipient: 1,
+            moment,
+        };
+        self.add_line(&step, line)?;
+        self.current.items.deliver(place, moment);
+        self.current.moment = moment;
+        Ok(step)
+    }
+
+    /// Makes the step that is due for the lowest item and recipient, or answers the moment at which none is due.
+    pub fn turn(&mut self) -> Result<Turned, StepFault>
+        ensures turned { (told : ℕ) × C.tells self.old.clock told × Turns D.content D.faults (step_moment told self.old.current.moment) self.old self.new result }
+        ensures clock { (m : ℕ) → C.tells self.new.clock m → C.tells self.old.clock m }
+    {
+        let moment = self.step_moment();
+        if self.ended {
+            return Err(StepFault::Ended);
+        }
+        match self.current.next_due(moment) {
+            None => Ok(Turned::Quiet { moment }),
+            Some((place, mailbox)) => match self.deliver(place, mailbox, moment) {
+                Ok(step) => Ok(Turned::Did(step)),
+                Err(fault) => Err(fault),
+            },
+        }
+    }
+
     /// The items.
     pub fn items(&self) -> &Items
         ensures { result.now ≡ self.now.current.items }
     {
         &self.current.items
+    }
+
+    /// What the mailboxes got.
+    pub fn mailboxes(&self) -> &Mailboxes
+        ensures { result.now ≡ self.now.current.mailboxes }
+    {
+        &self.current.mailboxes
+    }
+
+    /// The tables recorded last, or none.
+    pub fn tables(&self) -> Option<&Tables>
+        ensures { option_copied result ≡ self.now.current.tables }
+    {
+        self.current.tables.as_ref()
+    }
+
+    /// The last recorded moment, in seconds since 1950-01-01 00:00:00 UTC, or 0 where there is none.
+    pub fn moment(&self) -> u64
+        ensures { result ≡ self.now.current.moment }
+    {
+        self.current.moment
     }
 
     /// The disk.

@@ -4,7 +4,7 @@ use Rattle.mta_history.proofs.Histories.{length-string}
 use Rattle.mta_spool.specs.declared.current.Current.{Current}
 use Rattle.mta_spool.specs.Stands.{step_moment}
 use Rattle.mta_spool.specs.Shown.{Shown}
-use Rattle.mta_spool.proofs.Made.{appends, can_accept, length-spelled, accept_same, current_accepted, view_same, view_ended}
+use Rattle.mta_spool.proofs.Made.{appends, can_make_possible, length-spelled, accept_same, current_accepted, view_same, view_ended}
 use Rattle.mta_spool.proofs.spool.Spool.accept.Goals as goal
 
 pub add-requires-clause-short : goal.add-requires-clause-short
@@ -22,5 +22,5 @@ returns-clause-appends g c =
       m.1,
       appends _ _ (Accept when c.args.apdu.now) _ _ c.args.self.now c.step_moment-moment.new.self c.add.new.self _ _ c.in_ok-add.ensures (accept_same _ _ _ _ m.2 c.in_ok-from_slice-2.ensures) c.step_moment-moment.ensures.rest going (view_same _ c.add.new.self c.self-2.view_is)
           (current_accepted c.args.self.now.current c.step_moment-moment.new.self.current c.add.new.self.current c.self-2.inside.current _ c.args.apdu.now _ when _ before c.in_ok-from_slice.ensures c.in_ok-statuses_at_first.ensures m.2 (c.in_ok-add.ensures.shown refl) (ap (λ (v : Shown _ _). v.current) c.self-2.view_is))
-          (λ steps s. can_accept _ c.args.self.now when c.args.apdu.now steps s c.requires.apdu c.requires.tables (omega arith) room),
+          (λ steps s. can_make_possible steps (Accept when c.args.apdu.now) c.args.self.now.current s.current (c.requires.apdu, c.requires.tables, omega arith, omega (arith, room))),
     )
