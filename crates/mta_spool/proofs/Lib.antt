@@ -2,6 +2,9 @@ pub mod Disks
 pub mod Made
 pub mod Next
 pub mod Opened
+pub mod Openings
 pub mod Put
 pub mod Records
 pub mod Replays
+pub mod Rows
+pub mod Turns

@@ -1,5 +1,5 @@
 -- A step that is put and shown is made.
-use Rattle.std.proofs.Common.{false, true, ◌≡◌, ◌≢◌, ℕ, ◌+◌, ◌≤◌, ◌<◌, ◌^◌, List, [], ◌∷◌, ◌++◌, length, take, Option, None, Some, Result, Ok, Err, IsErrOf, ltb, inl, inr, refl, sym, ap, subst, ◌∙◌, arith}
+use Rattle.std.proofs.Common.{false, true, ◌≡◌, ◌≢◌, ℕ, ◌+◌, ◌≤◌, ◌<◌, ◌^◌, List, [], ◌∷◌, ◌++◌, length, take, Option, None, Some, Result, Ok, Err, IsErrOf, ltb, inl, inr, add-one, refl, sym, ap, subst, ◌∙◌, arith}
 use Rattle.std.proofs.Math.Seq.{take-append_seam}
 use Rattle.mta_records.specs.declared.step.Step.{Step}
 use Rattle.mta_records.specs.declared.step.Step.TheVariants.{Tables, Accept, Deliver}
@@ -13,6 +13,11 @@ use Rattle.mta_tables.specs.Tables.{TablesValue, tables_of}
 use Rattle.mta_tables.specs.Reading.{Bad}
 use Rattle.std.proofs.lemmas.Bool.{cases_lt, lt-ltb}
 use Rattle.mta_history.specs.declared.item.MailboxLine.{MailboxLine}
+use Rattle.mta_records.specs.Body.{recipient_fields}
+use Rattle.std.specs.Prelude.{slice_get}
+use Rattle.mta_history.specs.declared.item.Status.TheVariants.{Delivered}
+use Rattle.mta_history.specs.Due.{numbered, due_mailbox}
+use Rattle.mta_history.specs.Machine.{with_status, delivery}
 use Rattle.mta_history.specs.Verdict.{last_of, recorded, tables_value, value_of}
 use Rattle.mta_history.specs.History.{State, IsPossible, ArePossible, IsHistory, IsTablesText, after_step, after, after_from, empty}
 use Rattle.mta_history.proofs.Histories.{after_from-more, possible-more}
@@ -184,3 +189,21 @@ tables_there tables same read = sym (ap value_of (ap tables_of (sym same) ∙ re
 
 pub is_tables_text : (tables : TablesValue) {text : List ℕ} → text ≡ tables.text → tables_of text ≡ Ok tables → IsTablesText tables.text
 is_tables_text tables same read = (tables, ap tables_of (sym same) ∙ read)
+
+-- ---- deliveries
+
+pub length-recipient_fields : (item recipient moment : ℕ) → length (recipient_fields item recipient moment) ≡ 16
+unfolding recipient_fields
+length-recipient_fields item recipient moment = refl
+
+-- the state in memory with a line and a status more is that after the delivery
+pub current_delivered : (old inside new : Current) (place moment : ℕ) (line : MailboxLine) → inside ≡ with_line old line
+    → delivery (due_mailbox old.tables old.items (place + 1) 1 moment) (place + 1) moment ≡ line ∷ []
+    → new ≡ record inside { items = with_status inside.items (slice_get inside.items place) (place + 1) 1 (Delivered moment); moment = moment }
+    → new ≡ current_after old (Deliver (place + 1) 1 moment)
+current_delivered old inside new place moment line added lines is =
+    let number : numbered old.items (place + 1) ≡ slice_get old.items place = ap (numbered old.items) (add-one place) in
+    let moved : new ≡ record (with_line old line) { items = with_status old.items (slice_get old.items place) (place + 1) 1 (Delivered moment); moment = moment } =
+    is ∙ ap (λ (x : Current). record x { items = with_status x.items (slice_get x.items place) (place + 1) 1 (Delivered moment); moment = moment }) added in
+    moved ∙ ap (λ (ls : List MailboxLine). record old { items = with_status old.items (slice_get old.items place) (place + 1) 1 (Delivered moment); mailboxes = old.mailboxes ++ ls; moment = moment }) (sym lines)
+    ∙ ap (λ (o : Option Item). record old { items = with_status old.items o (place + 1) 1 (Delivered moment); mailboxes = old.mailboxes ++ delivery (due_mailbox old.tables old.items (place + 1) 1 moment) (place + 1) moment; moment = moment }) (sym number)

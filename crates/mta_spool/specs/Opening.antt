@@ -74,7 +74,7 @@ IsSpoolRead told size (Err Whys.Memory) = Unit {0}
 pub record IsOpened {D : Type 0} (content : D → Option (List ℕ)) (old new : D) (bodies : List (List ℕ)) (size : ℕ) : Type 0 where
   pub size_is : size ≡ length (front_of bodies) + 1
   pub short : AreShort bodies
-  pub was : (f : List ℕ) → content old ≡ Some f → ((length f ≤ 9) × (bodies ≡ [])) ⊎ ((9 < length f) × HasBodies f bodies)
+  pub was : (f : List ℕ) → content old ≡ Some f → ((length f ≤ 9) × (bodies ≡ [])) ⊎ ((9 < length f) × HasBodies f bodies × (content new ≡ Some f))
   pub is : (g : List ℕ) → content new ≡ Some g → HasBodies g bodies
 
 -- what a call answers that makes the disk a journal or reads it
@@ -97,4 +97,4 @@ pub record HasRefused {D : Type 0} (content : D → Option (List ℕ)) (faults :
   pub not_spool : (at : ℕ) → why ≡ Whys.NotSpool at → (f : List ℕ) → content old ≡ Some f → NoSpoolAt f at
   -- a disk that holds no spool is as it was, and another one stands for what it stood for
   pub left : (why ≡ Whys.Disk → ⊥) → (f : List ℕ) (steps : List Step) → content old ≡ Some f → StandsFor f steps → (g : List ℕ) → content new ≡ Some g → StandsFor g steps
-  pub same : (at : ℕ) → why ≡ Whys.NotSpool at → content new ≡ content old
+  pub same : (at : ℕ) → why ≡ Whys.NotSpool at → (f : List ℕ) → content old ≡ Some f → content new ≡ Some f

@@ -162,14 +162,15 @@ fn read_all<D: Disk>(alloc: Global, disk: &mut D, size: u64) -> Result<Opened, O
     let mut bodies = Vec::new(alloc);
     let mut gate = 8;
     loop {
-        match read_body(alloc, disk, gate, size)? {
-            None => {
+        match read_body(alloc, disk, gate, size) {
+            Err(why) => return Err(why),
+            Ok(None) => {
                 return Ok(Opened {
                     bodies,
                     size: gate + 1,
                 });
             }
-            Some(body) => {
+            Ok(Some(body)) => {
                 gate += body.len() as u64 + 5;
                 bodies.push(body)?;
             }
