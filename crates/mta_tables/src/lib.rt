@@ -6,6 +6,7 @@ mod cut;
 mod domain;
 mod draft;
 mod fault;
+mod laws;
 mod line;
 mod mailbox;
 mod reading;
@@ -13,5 +14,6 @@ mod tables;
 
 pub use domain::Domain;
 pub use fault::{LineKind, TablesFault};
+pub use laws::{first_bad_line_is_refused, tables_of_a_text_are_read};
 pub use mailbox::{Hop, Mailbox};
 pub use tables::Tables;
