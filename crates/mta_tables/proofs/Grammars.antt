@@ -1,17 +1,20 @@
 -- What is read of a text is what the grammar says of it: its tables, or its first bad line.
 use Rattle.std.proofs.Common.{◌≡◌, ℕ, zero, suc, ◌+◌, ◌<◌, ◌≤◌, Bool, true, false, cond, ltb, List, [], ◌∷◌, ◌++◌, length, map, Option, Some, None, Result, Ok, Err, refl, sym, ap, subst, ◌∙◌, inl, inr, ◌⊎◌, arith, append_assoc, append-nil, length-append}
-use Rattle.std.specs.Prelude.{All, option_to_list}
+use Rattle.std.specs.Prelude.{All, IfOk, option_to_list}
 use Rattle.std.proofs.lemmas.Bool.{cases_Bool, ltb-true, ltb-false, lt-ltb, le-ltb}
 use Rattle.std.proofs.lemmas.List.Elements.{All-nil, All-cons, All-head, All-tail}
 use Rattle.mta_tables.specs.declared.draft.Draft.{Draft}
 use Rattle.mta_tables.specs.declared.fault.LineKind.{LineKind}
 use Rattle.mta_tables.specs.declared.fault.LineKind.TheVariants as Kinds
+use Rattle.mta_tables.specs.declared.fault.TablesFault.{TablesFault}
+use Rattle.mta_tables.specs.declared.fault.TablesFault.TheVariants as Faults
 use Rattle.mta_tables.specs.declared.line.Line.{Line}
 use Rattle.mta_tables.specs.declared.mailbox.Mailbox.{Mailbox}
 use Rattle.mta_tables.specs.declared.reading.Lines.{Lines}
 use Rattle.mta_tables.specs.Domain.{DomainValue}
 use Rattle.mta_tables.specs.Lines.{◌>>=◌, cut_at, line_of}
-use Rattle.mta_tables.specs.Reading.{Bad, bad, nothing, add, take_line, ended_with, ended, unended, behind, read_lines}
+use Rattle.mta_tables.specs.Answers.{IsReadAs, IsRefusedAs}
+use Rattle.mta_tables.specs.Reading.{Bad, bad, nothing, add, take_line, ended_with, ended, unended, behind, read_lines, Reads}
 use Rattle.mta_tables.specs.Tables.{TablesValue, tables, tables_of}
 use Rattle.mta_tables.specs.Grammar.{Words, HasWords, Mean, IsOneLine, Row, IsRow, row_octets, text_of, said_by, domains_of, names_of, mailboxes_of, CanStand, IsTablesText, Says, IsSaid, IsOneTooMany, IsWrong, NextIsWrong, Lacks, EndsWrong, IsBadLine, IsFirstBadLine}
 use Rattle.mta_tables.proofs.Cuts.{line_cut, line_ends}
@@ -434,3 +437,41 @@ tables_read text t h =
       ap (read_lines 1 nothing []) all ∙ g.read_is ∙ closed (1 + length h.rows) (said_by h.rows) g.after t.domain t.own g.holds h.domain h.own
       ∙ ap (ok_lines t.domain t.own) mailboxes in
     rw (short, read) (ap good same)
+
+-- ---- what a reader answers
+
+pub read_only : (text : List ℕ) (r : Result TablesValue TablesFault) → Reads r (tables_of text) → (t : TablesValue) → IsTablesText text t → IsReadAs r t
+read_only text (Ok s) h t f = good_is s t (sym h ∙ tables_read text t f)
+read_only text (Err (Faults.BadLine line kind)) h t f = not_good (record { line = line; kind = kind }) t (sym h ∙ tables_read text t f)
+read_only text (Err Faults.Memory) h t f = tt
+
+pub read_found : (text : List ℕ) (r : Result TablesValue TablesFault) → Reads r (tables_of text) → IfOk r (IsTablesText text)
+read_found text (Ok t) h = tables_found text t h
+read_found text (Err e) h = tt
+
+abbrev fault_at : ℕ → LineKind → Result TablesValue TablesFault
+fault_at line kind = Err (Faults.BadLine line kind)
+
+no_fault : (t : TablesValue) (r : Result TablesValue TablesFault) (line : ℕ) (kind : LineKind) → r ≡ Ok t → r ≡ fault_at line kind → ⊥
+no_fault t r line kind e f = cc
+
+memory_fault : (r : Result TablesValue TablesFault) (line : ℕ) (kind : LineKind) → r ≡ Err Faults.Memory → r ≡ fault_at line kind → ⊥
+memory_fault r line kind e f = cc
+
+same_fault : (m n : ℕ) (k l : LineKind) → fault_at m k ≡ fault_at n l → (m ≡ n) × (k ≡ l)
+same_fault m n k l e = ((cc), (cc))
+
+pub read_fault : (text : List ℕ) (r : Result TablesValue TablesFault) → Reads r (tables_of text) → (line : ℕ) (kind : LineKind) → r ≡ Err (Faults.BadLine line kind) → IsFirstBadLine text line kind
+read_fault text (Ok t) h line kind e = absurd (no_fault t (Ok t) line kind refl e)
+read_fault text (Err (Faults.BadLine n why)) h line kind e =
+    let same = same_fault n line why kind e in
+    bad_found text line kind (h ∙ ap (λ m. bad m why) same.0 ∙ ap (bad line) same.1)
+read_fault text (Err Faults.Memory) h line kind e = absurd (memory_fault (Err Faults.Memory) line kind refl e)
+
+same_bad : (m n : ℕ) (k l : LineKind) → wrong (record { line = m; kind = k }) ≡ wrong (record { line = n; kind = l }) → (m ≡ n) × (k ≡ l)
+same_bad m n k l e = (let b = wrong_is (record { line = m; kind = k }) (record { line = n; kind = l }) e in (ap (λ x. x.line) b, ap (λ x. x.kind) b))
+
+pub read_refused : (text : List ℕ) (r : Result TablesValue TablesFault) → Reads r (tables_of text) → (line : ℕ) (kind : LineKind) → IsFirstBadLine text line kind → IsRefusedAs r line kind
+read_refused text (Ok t) h line kind f = not_good (record { line = line; kind = kind }) t (sym (bad_read text line kind f) ∙ h)
+read_refused text (Err (Faults.BadLine n why)) h line kind f = same_bad n line why kind (sym h ∙ bad_read text line kind f)
+read_refused text (Err Faults.Memory) h line kind f = tt

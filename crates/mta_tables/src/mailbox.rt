@@ -16,6 +16,19 @@ pub struct Mailbox {
     pub name: OrName,
 }
 
+impl Mailbox {
+    ghost use Rattle.std.specs.Prelude.{◌≡◌, IfOk};
+
+    /// An equal value.
+    pub fn copy(&self, alloc: Global) -> Result<Mailbox, Memory>
+        ensures { IfOk result (λ m. m ≡ self.now) }
+    {
+        let word = self.word.copy(alloc)?;
+        let name = self.name.copy(alloc)?;
+        Ok(Mailbox { word, name })
+    }
+}
+
 /// Where the messages for a name go next.
 #[derive(Clone, Copy, Debug, PartialEq, Eq)]
 pub enum Hop {
@@ -86,6 +99,17 @@ impl Mailboxes {
     {
         let Mailboxes { mut inner } = self;
         inner.push(mailbox)?;
+        Ok(Mailboxes { inner })
+    }
+
+    /// An equal value.
+    pub fn copy(&self, alloc: Global) -> Result<Mailboxes, Memory>
+        ensures { IfOk result (λ m. m ≡ self.now) }
+    {
+        let mut inner = Vec::new(alloc);
+        for mailbox in self.inner.iter() {
+            inner.push(mailbox.copy(alloc)?)?;
+        }
         Ok(Mailboxes { inner })
     }
 

@@ -1,12 +1,14 @@
 //! Tables.
 
 ghost use Rattle.std.specs.Prelude.{◌≡◌};
+ghost use Rattle.mta_tables.specs.Reading.{Reads};
+ghost use Rattle.mta_tables.specs.Tables.{tables_of};
 
 use crate::domain::Domain;
 use crate::fault::{LineKind, TablesFault};
 use crate::mailbox::{Hop, Mailbox, Mailboxes};
 use crate::reading::{Lines, read_lines};
-use mta_ber::{Octets, Word};
+use mta_ber::{Memory, Octets, Word};
 use mta_first_names::{NameRef, OrName};
 use std::alloc::Global;
 use std::marker::Model;
@@ -29,30 +31,49 @@ impl Model for Tables {
     ghost invariant = { λ t. tables_of t.text ≡ Ok (tables t.text t.lines) };
 }
 
+/// The tables of a text, by the reading function.
+#[tactic(auto, unfolding(crate::specs::Tables::tables_of))]
+fn read_tables(alloc: Global, text: &[u8]) -> Result<Tables, TablesFault>
+    ensures { Reads result (tables_of text.now) }
+{
+    if text.len() > Tables::LONGEST {
+        return Err(TablesFault::BadLine {
+            line: 1,
+            kind: LineKind::TooLong,
+        });
+    }
+    let kept = Octets::from_slice(alloc, text)?;
+    let lines = read_lines(alloc, text)?;
+    Ok(Tables { text: kept, lines })
+}
+
 impl Tables {
-    ghost use Rattle.std.specs.Prelude.{◌≡◌, Ok};
+    ghost use Rattle.std.specs.Prelude.{◌≡◌, ℕ, Ok, Err, IfOk};
     ghost use Rattle.mta_first_names.specs.Seen.{lent};
+    ghost use Rattle.mta_tables.specs.declared.fault.LineKind.{LineKind};
+    ghost use Rattle.mta_tables.specs.declared.fault.TablesFault.TheVariants as Faults;
+    ghost use Rattle.mta_tables.specs.Answers.{IsReadAs, IsRefusedAs};
+    ghost use Rattle.mta_tables.specs.Grammar.{IsTablesText, IsFirstBadLine};
     ghost use Rattle.mta_tables.specs.Reading.{Reads};
-    ghost use Rattle.mta_tables.specs.Tables.{tables_of, mailbox_of, best_hop};
+    ghost use Rattle.mta_tables.specs.Tables.{TablesValue, tables_of, mailbox_of, best_hop};
 
     /// The most octets of a text.
     pub const LONGEST: usize = 1_048_576;
 
     /// The tables of a text: lines that each end with a line feed. A line is empty, begins with `#`, or is `domain` with
     /// `C=COUNTRY;A=ADMD`, `name` with a word, or `mailbox` with a word and the text form of a name, each behind one space.
-    #[tactic(auto, unfolding(crate::specs::Tables::tables_of))]
     pub fn read(alloc: Global, text: &[u8]) -> Result<Tables, TablesFault>
         ensures exact { Reads result (tables_of text.now) }
+
+        // The text has what is answered, and the tables that a text has are answered, unless memory runs out.
+        ensures found { IfOk result (IsTablesText text.now) }
+        ensures only { (t : TablesValue) → IsTablesText text.now t → IsReadAs result t }
+
+        // Which line is refused, and that the first bad line is refused for what is wrong with it, unless memory runs out.
+        ensures fault { (line : ℕ) (kind : LineKind) → result ≡ Err (Faults.BadLine line kind) → IsFirstBadLine text.now line kind }
+        ensures refused { (line : ℕ) (kind : LineKind) → IsFirstBadLine text.now line kind → IsRefusedAs result line kind }
     {
-        if text.len() > Tables::LONGEST {
-            return Err(TablesFault::BadLine {
-                line: 1,
-                kind: LineKind::TooLong,
-            });
-        }
-        let kept = Octets::from_slice(alloc, text)?;
-        let lines = read_lines(alloc, text)?;
-        Ok(Tables { text: kept, lines })
+        read_tables(alloc, text)
     }
 
     /// The text that was read.
@@ -61,6 +82,15 @@ impl Tables {
         ensures read { tables_of result.now ≡ Ok self.now }
     {
         self.text.as_slice()
+    }
+
+    /// An equal value.
+    pub fn copy(&self, alloc: Global) -> Result<Tables, Memory>
+        ensures { IfOk result (λ t. t ≡ self.now) }
+    {
+        let text = self.text.copy(alloc)?;
+        let lines = self.lines.copy(alloc)?;
+        Ok(Tables { text, lines })
     }
 
     /// The agent's own domain.
