@@ -11,6 +11,8 @@ mod line;
 mod mailbox;
 mod reading;
 mod tables;
+#[cfg(test)]
+mod tests;
 
 pub use domain::Domain;
 pub use fault::{LineKind, TablesFault};
