@@ -1,5 +1,5 @@
 -- What is read of a text is what the grammar says of it: its tables, or its first bad line.
-use Rattle.std.proofs.Common.{◌≡◌, ℕ, zero, suc, ◌+◌, ◌<◌, ◌≤◌, Bool, true, false, cond, ltb, List, [], ◌∷◌, ◌++◌, length, map, Option, Some, None, Result, Ok, Err, refl, sym, ap, subst, ◌∙◌, inl, inr, ◌⊎◌, arith, append_assoc, append-nil, length-append}
+use Rattle.std.proofs.Common.{◌≡◌, ℕ, zero, suc, ◌+◌, ◌<◌, ◌≤◌, true, false, ltb, List, [], ◌∷◌, ◌++◌, length, Option, Some, None, Result, Ok, Err, refl, sym, ap, subst, ◌∙◌, inl, inr, ◌⊎◌, arith, append_assoc, append-nil, length-append}
 use Rattle.std.specs.Prelude.{All, IfOk, option_to_list}
 use Rattle.std.proofs.lemmas.Bool.{cases_Bool, ltb-true, ltb-false, lt-ltb, le-ltb}
 use Rattle.std.proofs.lemmas.List.Elements.{All-nil, All-cons, All-head, All-tail}
@@ -16,7 +16,7 @@ use Rattle.mta_tables.specs.Lines.{◌>>=◌, cut_at, line_of}
 use Rattle.mta_tables.specs.Answers.{IsReadAs, IsRefusedAs}
 use Rattle.mta_tables.specs.Reading.{Bad, bad, nothing, add, take_line, ended_with, ended, unended, behind, read_lines, Reads}
 use Rattle.mta_tables.specs.Tables.{TablesValue, tables, tables_of}
-use Rattle.mta_tables.specs.Grammar.{Words, HasWords, Mean, IsOneLine, Row, IsRow, row_octets, text_of, said_by, domains_of, names_of, mailboxes_of, CanStand, IsTablesText, Says, IsSaid, IsOneTooMany, IsWrong, NextIsWrong, Lacks, EndsWrong, IsBadLine, IsFirstBadLine}
+use Rattle.mta_tables.specs.Grammar.{Words, HasWords, Mean, IsOneLine, Row, IsRow, row_octets, text_of, said_by, domains_of, names_of, mailboxes_of, CanStand, IsTablesText, Says, IsWrong, NextIsWrong, Lacks, EndsWrong, IsBadLine, IsFirstBadLine}
 use Rattle.mta_tables.proofs.Cuts.{line_cut, line_ends}
 use Rattle.mta_tables.proofs.Wordings.{cut_made, cut_none, cut_clean, rejoined, cut_back, meant, words_read, words_found, meant_is, meaning_read, refused_name}
 use Rattle.mta_tables.proofs.Standing.{Holds, holds_nothing, nothing_stands, Added, added, stand_front, stands, twice, too_many}
@@ -365,12 +365,16 @@ row_goes said number d row text r h st =
     let front : (cut_at 10 (row_octets row ++ text)).0 ≡ row.octets = ap (λ (p : List ℕ × Option (List ℕ)). p.0) c in
     let behind-is : (cut_at 10 (row_octets row ++ text)).1 ≡ Some text = ap (λ (p : List ℕ × Option (List ℕ)). p.1) c in
     let e : line_of row.octets ≡ Ok row.says = said_is_read row.octets row.says (row.words, (r.has_words, r.meaning)) in
-    let next : Draft → Result Lines Bad = λ x. read_lines (number + 1) x [] text in
-    (s.after, (s.holds,
-      line_cut (row_octets row ++ text) [] number d text behind-is
-      ∙ ap (λ l. behind number next (line_of l >>= add d)) front
-      ∙ ap (λ x. behind number next (x >>= add d)) e
-      ∙ ap (behind number next) s.added_is))
+    let next : Draft → Result Lines Bad = λ x. read_lines (number + 1) x [] text in (
+      s.after,
+      (
+        s.holds,
+        line_cut (row_octets row ++ text) [] number d text behind-is
+            ∙ ap (λ l. behind number next (line_of l >>= add d)) front
+            ∙ ap (λ x. behind number next (x >>= add d)) e
+            ∙ ap (behind number next) s.added_is,
+      ),
+    )
 
 the_same : (n : ℕ) → n ≡ n + 0
 the_same n = omega arith
@@ -400,7 +404,7 @@ bad_line_read text number kind b =
     let g = rows_go b.before [] 1 nothing b.rest b.are_rows holds_nothing b.stand in
     let counted : 1 + length b.before ≡ number = (let n = b.number_is in omega arith) in
     let read : read_lines 1 nothing [] text ≡ bad number kind =
-      ap (read_lines 1 nothing []) b.text_is ∙ g.read_is ∙ ap (λ n. read_lines n g.after [] b.rest) counted ∙ fault_read (said_by b.before) number g.after b.rest kind g.holds b.stand b.fault in
+    ap (read_lines 1 nothing []) b.text_is ∙ g.read_is ∙ ap (λ n. read_lines n g.after [] b.rest) counted ∙ fault_read (said_by b.before) number g.after b.rest kind g.holds b.stand b.fault in
     rw (short, read) refl
 
 too_long_read : (text : List ℕ) (number : ℕ) → 1048576 < length text → number ≡ 1 → tables_of text ≡ bad number Kinds.TooLong
@@ -434,8 +438,8 @@ tables_read text t h =
     let lines : Lines = record { domain = t.domain; own = t.own; mailboxes = t.mailboxes } in
     let same : tables text lines ≡ t = ap (λ x. tables x lines) (sym h.kept) in
     let read : read_lines 1 nothing [] text ≡ Ok lines =
-      ap (read_lines 1 nothing []) all ∙ g.read_is ∙ closed (1 + length h.rows) (said_by h.rows) g.after t.domain t.own g.holds h.domain h.own
-      ∙ ap (ok_lines t.domain t.own) mailboxes in
+    ap (read_lines 1 nothing []) all ∙ g.read_is ∙ closed (1 + length h.rows) (said_by h.rows) g.after t.domain t.own g.holds h.domain h.own
+    ∙ ap (ok_lines t.domain t.own) mailboxes in
     rw (short, read) (ap good same)
 
 -- ---- what a reader answers

@@ -1,5 +1,5 @@
 -- What the lines so far have said, and whether one more can stand behind them.
-use Rattle.std.proofs.Common.{◌≡◌, ℕ, ◌+◌, ◌<◌, ◌≤◌, Bool, true, false, cond, leb, List, [], ◌∷◌, ◌++◌, length, get_or, Option, Some, None, Result, Ok, Err, refl, sym, ap, subst, ◌∙◌, inl, inr, arith, append_assoc, append-nil, length-append}
+use Rattle.std.proofs.Common.{◌≡◌, ℕ, ◌+◌, ◌<◌, ◌≤◌, true, false, cond, leb, List, [], ◌∷◌, ◌++◌, length, get_or, Option, Some, None, Result, Ok, Err, refl, sym, ap, subst, ◌∙◌, inl, inr, arith, append-nil, length-append}
 use Rattle.std.specs.Prelude.{option_to_list, is_some}
 use Rattle.std.specs.List.{flat_map, list_any, Any, AllPairs}
 use Rattle.std.specs.Str.{bytes_eq}
@@ -87,13 +87,15 @@ domain_added said d x None w h st =
     let domains : domains_of (said ++ s ∷ []) ≡ x ∷ [] = more domain_in said s ∙ ap (λ l. l ++ x ∷ []) (h.domain ∙ ap option_to_list w) in
     let names = more name_in said s ∙ append-nil (names_of said) in
     let mailboxes = more mailbox_in said s ∙ append-nil (mailboxes_of said) in
-    let one : length (domains_of (said ++ s ∷ [])) ≡ 1 = ap length domains in
-    (record { domain = domains; own = names ∙ h.own; mailboxes = mailboxes ∙ h.mailboxes }, record {
-      domain = omega arith;
-      own = subst (λ l. length l ≤ 1) (sym names) st.own;
-      apart = subst (AllPairs AreApart) (sym mailboxes) st.apart;
-      most = subst (λ l. length l ≤ 4096) (sym mailboxes) st.most;
-    })
+    let one : length (domains_of (said ++ s ∷ [])) ≡ 1 = ap length domains in (
+      record { domain = domains; own = names ∙ h.own; mailboxes = mailboxes ∙ h.mailboxes },
+      record {
+        domain = omega arith;
+        own = subst (λ l. length l ≤ 1) (sym names) st.own;
+        apart = subst (AllPairs AreApart) (sym mailboxes) st.apart;
+        most = subst (λ l. length l ≤ 4096) (sym mailboxes) st.most;
+      },
+    )
 
 name_added : (said : List Line) (d : Draft) (w : List ℕ) (o : Option (List ℕ)) → d.own ≡ o → Holds said d → CanStand said → Added said (Said.Name w) (cond (is_some o) (Err Kinds.Twice) (Ok (draft d.domain (Some w) d.mailboxes)))
 name_added said d w (Some y) v h st = (let e : length (names_of said) ≡ 1 = ap length (h.own ∙ ap option_to_list v) in omega arith)
@@ -102,13 +104,15 @@ name_added said d w None v h st =
     let domains = more domain_in said s ∙ append-nil (domains_of said) in
     let names : names_of (said ++ s ∷ []) ≡ w ∷ [] = more name_in said s ∙ ap (λ l. l ++ w ∷ []) (h.own ∙ ap option_to_list v) in
     let mailboxes = more mailbox_in said s ∙ append-nil (mailboxes_of said) in
-    let one : length (names_of (said ++ s ∷ [])) ≡ 1 = ap length names in
-    (record { domain = domains ∙ h.domain; own = names; mailboxes = mailboxes ∙ h.mailboxes }, record {
-      domain = subst (λ l. length l ≤ 1) (sym domains) st.domain;
-      own = omega arith;
-      apart = subst (AllPairs AreApart) (sym mailboxes) st.apart;
-      most = subst (λ l. length l ≤ 4096) (sym mailboxes) st.most;
-    })
+    let one : length (names_of (said ++ s ∷ [])) ≡ 1 = ap length names in (
+      record { domain = domains ∙ h.domain; own = names; mailboxes = mailboxes ∙ h.mailboxes },
+      record {
+        domain = subst (λ l. length l ≤ 1) (sym domains) st.domain;
+        own = omega arith;
+        apart = subst (AllPairs AreApart) (sym mailboxes) st.apart;
+        most = subst (λ l. length l ≤ 4096) (sym mailboxes) st.most;
+      },
+    )
 
 apart_more : (m : Mailbox) (ms : List Mailbox) → AllPairs AreApart ms → list_any (clashes m) ms ≡ false → AllPairs AreApart (ms ++ m ∷ [])
 apart_more m ms h none = all_pairs_push AreApart ms m h (λ k d l c. both_ways (list_any (clashes m) ms) none (list_any_at (clashes m) ms k d l (is_clash m (get_or ms k d) c)))
@@ -119,13 +123,15 @@ mailbox_fits said d m h st none room =
     let domains = more domain_in said s ∙ append-nil (domains_of said) in
     let names = more name_in said s ∙ append-nil (names_of said) in
     let mailboxes : mailboxes_of (said ++ s ∷ []) ≡ d.mailboxes ++ m ∷ [] = more mailbox_in said s ∙ ap (λ l. l ++ m ∷ []) h.mailboxes in
-    let longer : length (mailboxes_of (said ++ s ∷ [])) ≡ length d.mailboxes + 1 = ap length mailboxes ∙ length-append d.mailboxes (m ∷ []) in
-    (record { domain = domains ∙ h.domain; own = names ∙ h.own; mailboxes = mailboxes }, record {
-      domain = subst (λ l. length l ≤ 1) (sym domains) st.domain;
-      own = subst (λ l. length l ≤ 1) (sym names) st.own;
-      apart = subst (AllPairs AreApart) (sym mailboxes) (apart_more m d.mailboxes (subst (AllPairs AreApart) h.mailboxes st.apart) none);
-      most = omega arith;
-    })
+    let longer : length (mailboxes_of (said ++ s ∷ [])) ≡ length d.mailboxes + 1 = ap length mailboxes ∙ length-append d.mailboxes (m ∷ []) in (
+      record { domain = domains ∙ h.domain; own = names ∙ h.own; mailboxes = mailboxes },
+      record {
+        domain = subst (λ l. length l ≤ 1) (sym domains) st.domain;
+        own = subst (λ l. length l ≤ 1) (sym names) st.own;
+        apart = subst (AllPairs AreApart) (sym mailboxes) (apart_more m d.mailboxes (subst (AllPairs AreApart) h.mailboxes st.apart) none);
+        most = omega arith;
+      },
+    )
 
 mailbox_added : (said : List Line) (d : Draft) (m : Mailbox) → Holds said d → CanStand said → Added said (Said.Mailbox m) (add_mailbox d m)
 mailbox_added said d m h st =
@@ -133,8 +139,9 @@ mailbox_added said d m h st =
       | inl clash ↦ rw clash (subst (Any (Clash m)) (sym h.mailboxes) (any_clash m d.mailboxes clash))
       | inr none ↦ elim (cases_Bool (leb 4096 (length d.mailboxes))) [
         | inl full ↦ rw (none, full) (
-            (λ a. both_ways (list_any (clashes m) d.mailboxes) none (clash_any m d.mailboxes (subst (Any (Clash m)) h.mailboxes a))),
-            subst (λ l. 4096 ≤ length l) (sym h.mailboxes) (leb-true 4096 (length d.mailboxes) full))
+          (λ a. both_ways (list_any (clashes m) d.mailboxes) none (clash_any m d.mailboxes (subst (Any (Clash m)) h.mailboxes a))),
+          subst (λ l. 4096 ≤ length l) (sym h.mailboxes) (leb-true 4096 (length d.mailboxes) full),
+        )
         | inr room ↦ rw (none, room) (mailbox_fits said d m h st none (leb-false 4096 (length d.mailboxes) room))
       ]
     ]

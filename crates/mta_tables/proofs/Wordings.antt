@@ -1,20 +1,19 @@
 -- A line has one wording, and what is said of a line is what its words mean.
-use Rattle.std.proofs.Common.{◌≡◌, ◌≢◌, ℕ, ◌+◌, Bool, true, false, cond, eqb, List, [], ◌∷◌, ◌++◌, length, Option, Some, None, Result, Ok, Err, refl, sym, ap, subst, ◌∙◌, inl, inr, append_assoc, append-nil, codes}
-use Rattle.std.specs.Prelude.{All, IsTrue}
+use Rattle.std.proofs.Common.{◌≡◌, ◌≢◌, ℕ, Bool, true, false, cond, eqb, List, [], ◌∷◌, ◌++◌, Option, Some, None, Result, Ok, Err, refl, sym, ap, subst, ◌∙◌, inl, inr, codes}
+use Rattle.std.specs.Prelude.{All}
 use Rattle.std.specs.List.{list_all}
 use Rattle.std.specs.Str.{bytes_eq}
 use Rattle.std.proofs.lemmas.Bool.{cases_Bool, and_parts, eqb-true, eqb-false, eq-eqb, ne_eqb}
 use Rattle.std.proofs.lemmas.List.Elements.{All-nil, All-cons, All-head, All-tail}
 use Rattle.std.proofs.lemmas.Slice.Eq.{bytes_eq-Decides}
 use Rattle.mta_first_names.specs.declared.name.Attributes.{Attributes}
-use Rattle.mta_first_names.specs.Name.{IsTextForm}
 use Rattle.mta_first_names.specs.Reading.{name_of_text}
 use Rattle.mta_first_names.proofs.Again.{name_found, form_read}
 use Rattle.mta_tables.specs.declared.fault.LineKind.{LineKind}
 use Rattle.mta_tables.specs.declared.fault.LineKind.TheVariants as Kinds
 use Rattle.mta_tables.specs.declared.line.Line.{Line}
 use Rattle.mta_tables.specs.declared.line.Line.TheVariants as Said
-use Rattle.mta_tables.specs.Domain.{DomainValue, name_of_domain, domain_of, domain_from}
+use Rattle.mta_tables.specs.Domain.{name_of_domain, domain_of, domain_from}
 use Rattle.mta_tables.specs.Lines.{◌>>=◌, cut_at, is_word_octet, is_word, is_silent, word_of, named, name_of, domain_said, domain_line, name_line, mailbox_at, mailbox_line, command_of, line_of}
 use Rattle.mta_tables.specs.Grammar.{Words, SilentLine, DomainLine, NameLine, MailboxLine, HasWords, Mean}
 

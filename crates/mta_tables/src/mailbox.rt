@@ -1,6 +1,6 @@
 //! Mailboxes.
 
-ghost use Rattle.std.specs.Prelude.{◌≡◌};
+ghost use Rattle.std.specs.Prelude.{◌≡◌, IfOk};
 
 use crate::clash::clashes;
 use crate::cut::is_text;
@@ -36,6 +36,16 @@ pub enum Hop {
     Local(u32),
     /// Nowhere.
     None,
+}
+
+fn copied(alloc: Global, mailboxes: &[Mailbox]) -> Result<Vec<Mailbox>, Memory>
+    ensures { IfOk result (λ v. v.items ≡ mailboxes.now) }
+{
+    let mut copies = Vec::new(alloc);
+    for mailbox in mailboxes {
+        copies.push(mailbox.copy(alloc)?)?;
+    }
+    Ok(copies)
 }
 
 /// Mailboxes, in the order of their lines.
@@ -106,10 +116,7 @@ impl Mailboxes {
     pub fn copy(&self, alloc: Global) -> Result<Mailboxes, Memory>
         ensures { IfOk result (λ m. m ≡ self.now) }
     {
-        let mut inner = Vec::new(alloc);
-        for mailbox in self.inner.iter() {
-            inner.push(mailbox.copy(alloc)?)?;
-        }
+        let inner = copied(alloc, self.inner.as_slice())?;
         Ok(Mailboxes { inner })
     }
 

@@ -25,7 +25,11 @@ const BAD: [(&str, u32, LineKind); 36] = [
     ("name a b\n", 1, LineKind::Word),
     ("name a_b\n", 1, LineKind::Word),
     ("name a\r\n", 1, LineKind::Word),
-    ("name 012345678901234567890123456789012\n", 1, LineKind::Word),
+    (
+        "name 012345678901234567890123456789012\n",
+        1,
+        LineKind::Word,
+    ),
     ("domain\n", 1, LineKind::Word),
     ("mailbox watt\n", 1, LineKind::Word),
     ("mailbox  watt S=WATT\n", 1, LineKind::Word),
@@ -42,9 +46,17 @@ const BAD: [(&str, u32, LineKind); 36] = [
     ("mailbox watt  S=WATT\n", 1, LineKind::Name),
     ("mailbox watt S=\n", 1, LineKind::Name),
     ("name a\nname b\n", 2, LineKind::Twice),
-    ("domain C=GB;A=GOLD\n\ndomain C=FR;A=OR\n", 3, LineKind::Twice),
+    (
+        "domain C=GB;A=GOLD\n\ndomain C=FR;A=OR\n",
+        3,
+        LineKind::Twice,
+    ),
     ("mailbox a S=A\nmailbox a S=B\n", 2, LineKind::Twice),
-    ("mailbox a S=A B\n# a\nmailbox b S= a  b\n", 3, LineKind::Twice),
+    (
+        "mailbox a S=A B\n# a\nmailbox b S= a  b\n",
+        3,
+        LineKind::Twice,
+    ),
 ];
 
 fn fault_of(alloc: Global, text: &[u8]) -> Result<(u32, LineKind), Fail> {
@@ -69,7 +81,8 @@ fn other_texts_are_refused_at_their_first_bad_line(rt: HostRuntime) -> Result<()
 #[test]
 fn tables_are_read(rt: HostRuntime) -> Result<(), Fail> {
     let alloc = rt.alloc();
-    let text = b"# here\nmailbox ohm S=Ohm\n\ndomain C=GB;A=GOLD\nname mta-gold\nmailbox watt C=GB;A=GOLD;S=WATT\n";
+    let text =
+        b"# here\nmailbox ohm S=Ohm\n\ndomain C=GB;A=GOLD\nname mta-gold\nmailbox watt C=GB;A=GOLD;S=WATT\n";
     let tables = Tables::read(alloc, text.as_slice())?.copy(alloc)?;
     assert_eq!(rt; tables.text(), text.as_slice());
     assert_eq!(rt; tables.domain().country(), b"GB".as_slice());
