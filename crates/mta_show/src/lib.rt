@@ -1,0 +1,11 @@
+//! The texts that show what an agent holds: a message, the queue, and a mailbox. Each line ends with a line feed.
+#![tactic(auto)]
+
+mod mailbox;
+mod message;
+mod pieces;
+mod queue;
+
+pub use mailbox::{MailboxLine, show_mailbox};
+pub use message::show_message;
+pub use queue::show_queue;
