@@ -1,5 +1,5 @@
 -- Pieces that are appended one behind the other.
-use Rattle.std.proofs.Common.{◌≡◌, ℕ, List, [], ◌∷◌, ◌++◌, drop, Some, None, refl, sym, ap, ◌∙◌, append_assoc, append-nil, codes}
+use Rattle.std.proofs.Common.{◌≡◌, ℕ, List, [], ◌∷◌, ◌++◌, drop, refl, ap, ◌∙◌, append_assoc, append-nil, codes}
 use Rattle.mta_ber.specs.Canon.{ident_octets, length_octets, element, primitive}
 use Rattle.mta_ber.specs.Contents.{utc_content}
 use Rattle.mta_first_names.specs.Name.{text_form}
@@ -31,7 +31,7 @@ seven old a b c d k m l o1 o2 o3 o4 o5 o6 o7 e f g h i j n =
     let four = five_right old a b c d o1 o2 o3 o4 e f g h in
     let six = next old (a ++ (b ++ (c ++ d))) (k ++ m) o4 o6 four (j ∙ ap (λ x. x ++ m) i ∙ append_assoc o4 k m) in
     let right : (a ++ (b ++ (c ++ d))) ++ (k ++ m) ≡ a ++ (b ++ (c ++ (d ++ (k ++ m)))) =
-      append_assoc a (b ++ (c ++ d)) (k ++ m) ∙ ap (λ x. a ++ x) (append_assoc b (c ++ d) (k ++ m) ∙ ap (λ x. b ++ x) (append_assoc c d (k ++ m))) in
+    append_assoc a (b ++ (c ++ d)) (k ++ m) ∙ ap (λ x. a ++ x) (append_assoc b (c ++ d) (k ++ m) ∙ ap (λ x. b ++ x) (append_assoc c d (k ++ m))) in
     next old (a ++ (b ++ (c ++ (d ++ (k ++ m))))) l o6 o7 (six ∙ ap (λ x. old ++ x) right) n
 
 -- one line more, and the last

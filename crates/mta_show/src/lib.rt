@@ -5,6 +5,8 @@ mod mailbox;
 mod message;
 mod pieces;
 mod queue;
+#[cfg(test)]
+mod tests;
 
 pub use mailbox::{MailboxLine, show_mailbox};
 pub use message::show_message;

@@ -20,11 +20,7 @@ pub struct MailboxLine {
     pub moment: u64,
 }
 
-fn put_delivered_line(
-    alloc: Global,
-    out: &mut Octets,
-    line: &MailboxLine,
-) -> Result<(), Memory>
+fn put_delivered_line(alloc: Global, out: &mut Octets, line: &MailboxLine) -> Result<(), Memory>
     ensures { OnOk result (out.new ≡ out.old ++ lined (delivered_line line.now)) }
 {
     out.extend(b"delivered ")?;

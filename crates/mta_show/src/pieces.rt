@@ -21,7 +21,11 @@ fn hex_digit(number: u8) -> u8
     requires { number < 16 }
     ensures { result ≡ hex_digit number }
 {
-    if number < 10 { 48 + number } else { 87 + number }
+    if number < 10 {
+        48 + number
+    } else {
+        87 + number
+    }
 }
 
 fn hex_of(octet: u8) -> [u8; 2]

@@ -1,9 +1,8 @@
-use Rattle.std.proofs.Common.{◌≡◌, ◌++◌, [], ◌∷◌, length}
-use Rattle.std.specs.Prelude.{codes, decimal}
+use Rattle.std.proofs.Common.{[], ◌∷◌}
+use Rattle.std.specs.Prelude.{codes}
 use Rattle.std.proofs.lemmas.Result.{on_ok_weaker}
-use Rattle.mta_show.specs.Pieces.{hex_text, bits_text, moment_text, name_text, id_text}
-use Rattle.mta_show.specs.Queue.{status_text}
-use Rattle.mta_show.proofs.Chains.{three, five, seven}
+use Rattle.mta_show.specs.Pieces.{bits_text, name_text}
+use Rattle.mta_show.proofs.Chains.{five}
 use Rattle.mta_show.proofs.message.put_recipient_line.Goals as goal
 
 pub returns : goal.returns
