@@ -5,3 +5,4 @@ pub mod Reading
 pub mod Tables
 pub mod Grammar
 pub mod Answers
+pub mod Hops

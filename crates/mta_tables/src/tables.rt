@@ -48,12 +48,14 @@ fn read_tables(alloc: Global, text: &[u8]) -> Result<Tables, TablesFault>
 }
 
 impl Tables {
-    ghost use Rattle.std.specs.Prelude.{◌≡◌, ℕ, Ok, Err, IfOk};
+    ghost use Rattle.std.specs.Prelude.{◌≡◌, ℕ, Option, Ok, Err, IfOk};
     ghost use Rattle.mta_first_names.specs.Seen.{lent};
     ghost use Rattle.mta_tables.specs.declared.fault.LineKind.{LineKind};
     ghost use Rattle.mta_tables.specs.declared.fault.TablesFault.TheVariants as Faults;
     ghost use Rattle.mta_tables.specs.Answers.{IsReadAs, IsRefusedAs};
+    ghost use Rattle.mta_tables.specs.declared.mailbox.Hop.{Hop};
     ghost use Rattle.mta_tables.specs.Grammar.{IsTablesText, IsFirstBadLine};
+    ghost use Rattle.mta_tables.specs.Hops.{IsPlaceOfWord, IsBestHop};
     ghost use Rattle.mta_tables.specs.Reading.{Reads};
     ghost use Rattle.mta_tables.specs.Tables.{TablesValue, tables_of, mailbox_of, best_hop};
 
@@ -117,6 +119,10 @@ impl Tables {
     /// The place of the mailbox of this word, from 0.
     pub fn mailbox(&self, word: &[u8]) -> Option<u32>
         ensures exact { result ≡ mailbox_of self.now word.now }
+
+        // The place that is answered has the word, and there is no other.
+        ensures found { IsPlaceOfWord self.now word.now result }
+        ensures only { (place : Option ℕ) → IsPlaceOfWord self.now word.now place → result ≡ place }
     {
         self.lines.mailboxes.of_word(word)
     }
@@ -124,6 +130,10 @@ impl Tables {
     /// Where the messages for a name go next: to the mailbox whose name is the same.
     pub fn route(&self, name: &OrName) -> Hop
         ensures exact { result ≡ best_hop self.now name.now }
+
+        // The hop that is answered is the best one, and there is no other.
+        ensures found { IsBestHop self.now name.now result }
+        ensures only { (hop : Hop) → IsBestHop self.now name.now hop → result ≡ hop }
     {
         self.route_lent(&name.lent())
     }
@@ -131,6 +141,8 @@ impl Tables {
     /// As `route`, for a name that is lent.
     pub fn route_lent(&self, name: &NameRef) -> Hop
         ensures exact { result ≡ best_hop self.now (lent name.now) }
+        ensures found { IsBestHop self.now (lent name.now) result }
+        ensures only { (hop : Hop) → IsBestHop self.now (lent name.now) hop → result ≡ hop }
     {
         match self.lines.mailboxes.of_name(name) {
             Some(place) => Hop::Local(place),
