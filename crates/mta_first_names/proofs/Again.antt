@@ -1,5 +1,7 @@
 -- The text form of a name is read as that name.
-use Rattle.std.proofs.Common.{◌≡◌, ◌≤◌, ◌<◌, suc, length, take, arith, ℕ, ◌+◌, true, false, eqb, List, [], ◌∷◌, ◌++◌, Option, Some, None, Result, Ok, Err, refl, sym, ap, subst, ◌∙◌, append_assoc, append-nil}
+use Rattle.std.proofs.Common.{◌≡◌, ◌≤◌, ◌<◌, suc, length, take, drop, arith, ℕ, ◌+◌, true, false, eqb, List, [], ◌∷◌, ◌++◌, Option, Some, None, Result, Ok, Err, refl, sym, ap, subst, ◌∙◌, append_assoc, append-nil, inl, inr}
+use Rattle.std.proofs.lemmas.Bool.{cases_order}
+use Rattle.std.proofs.lemmas.List.{take-append-drop, take-take}
 use Rattle.mta_first_names.specs.declared.attribute.Attribute.{Attribute}
 use Rattle.mta_first_names.specs.declared.attribute.Attribute.TheVariants.{Country, Admd, Surname}
 use Rattle.mta_first_names.specs.declared.name.Attributes.{Attributes}
@@ -114,3 +116,29 @@ first_fault text at r =
           let read : read_on 0 start (take (suc at) text ++ b.0) ≡ Ok b.1 = form_read (take (suc at) text ++ b.0) b.1 b.2 in
           ok_err b.1 at (sym read ∙ subst (λ k. read_on 0 start (take (suc k) text ++ b.0) ≡ Err at) same stuck));
     }
+
+-- what begins what is begun is begun
+begun_before : (text : List ℕ) (k m : ℕ) → k ≤ m → IsBegun (take m text) → IsBegun (take k text)
+begun_before text k m l b =
+    let split : take m text ≡ take k text ++ drop k (take m text) = sym (take-append-drop k (take m text)) ∙ ap (λ x. x ++ drop k (take m text)) (take-take k m text l) in
+    (drop k (take m text) ++ b.0, b.1, subst (λ t. IsTextForm t b.1) (ap (λ x. x ++ b.0) split ∙ append_assoc (take k text) (drop k (take m text)) b.0) b.2)
+
+not_before : (text : List ℕ) (m n : ℕ) → IsFirstFault text m → IsFirstFault text n → m < n → ⊥
+not_before text m n f g l =
+    let inside : m < length text = (let w = g.within in omega arith) in
+    f.stops inside (begun_before text (suc m) n (omega arith) g.begun)
+
+one_fault : (text : List ℕ) (m n : ℕ) → IsFirstFault text m → IsFirstFault text n → m ≡ n
+one_fault text m n f g =
+    elim (cases_order m n) [
+      | inl same ↦ same
+      | inr (inl l) ↦ absurd (not_before text m n f g l)
+      | inr (inr l) ↦ absurd (not_before text n m g f l)
+    ]
+
+fault_of : (text : List ℕ) (at : ℕ) (r : Result Attributes ℕ) → name_of_text text ≡ r → IsFirstFault text at → r ≡ Err at
+fault_of text at (Ok n) e f = absurd (f.none n (name_found text n e))
+fault_of text at (Err k) e f = ap err (one_fault text k at (first_fault text k e) f)
+
+pub fault_read : (text : List ℕ) (at : ℕ) → IsFirstFault text at → name_of_text text ≡ Err at
+fault_read text at f = fault_of text at (name_of_text text) refl f

@@ -13,5 +13,8 @@ mod writing;
 
 pub use attribute::Attribute;
 pub use fault::NameFault;
-pub use laws::{one_text_form, text_form_is_read_again};
+pub use laws::{
+    first_faults_are_what_is_refused, one_text_form, text_form_is_read_again,
+    text_forms_are_what_is_read,
+};
 pub use name::{Attributes, NameRef, OrName};

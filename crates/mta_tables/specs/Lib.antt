@@ -3,3 +3,6 @@ pub mod Mailbox
 pub mod Lines
 pub mod Reading
 pub mod Tables
+pub mod Grammar
+pub mod Answers
+pub mod Hops

@@ -1,5 +1,5 @@
 -- The tables of a text.
-use Rattle.std.specs.Prelude.{◌≡◌, ℕ, List, [], length, Option, Some, None, Result, Ok, nat_lt, if◌then◌else◌}
+use Rattle.std.specs.Prelude.{ℕ, List, [], length, Option, Some, None, Result, Ok, nat_lt, if◌then◌else◌}
 use Rattle.std.specs.List.{position}
 use Rattle.mta_first_names.specs.declared.name.Attributes.{Attributes}
 use Rattle.mta_tables.specs.declared.fault.LineKind.TheVariants as Kinds
@@ -10,7 +10,7 @@ use Rattle.mta_tables.specs.declared.reading.Lines.{Lines}
 use Rattle.mta_tables.specs.Domain.{DomainValue}
 use Rattle.mta_tables.specs.Lines.{◌>>=◌}
 use Rattle.mta_tables.specs.Mailbox.{has_word, has_name}
-use Rattle.mta_tables.specs.Reading.{Bad, bad, nothing, read_lines, Reads}
+use Rattle.mta_tables.specs.Reading.{Bad, bad, nothing, read_lines}
 
 pub record TablesValue : Type 0 where
   pub text : List ℕ

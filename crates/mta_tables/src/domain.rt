@@ -2,8 +2,9 @@
 
 ghost use Rattle.std.specs.Prelude.{◌≡◌};
 
-use mta_ber::Text;
+use mta_ber::{Memory, Text};
 use mta_first_names::Attributes;
+use std::alloc::Global;
 use std::marker::Model;
 
 /// A management domain of a country and an administration domain (X.402, 14.1).
@@ -24,7 +25,7 @@ impl Model for Domain {
 }
 
 impl Domain {
-    ghost use Rattle.std.specs.Prelude.{◌≡◌};
+    ghost use Rattle.std.specs.Prelude.{◌≡◌, IfOk};
     ghost use Rattle.mta_first_names.specs.Name.{IsName};
     ghost use Rattle.mta_tables.specs.Domain.{IsDomain, domain_of};
 
@@ -58,5 +59,14 @@ impl Domain {
         ensures fits { IsDomain self.now }
     {
         self.admd.as_slice()
+    }
+
+    /// An equal value.
+    pub fn copy(&self, alloc: Global) -> Result<Domain, Memory>
+        ensures { IfOk result (λ d. d ≡ self.now) }
+    {
+        let country = self.country.copy(alloc)?;
+        let admd = self.admd.copy(alloc)?;
+        Ok(Domain { country, admd })
     }
 }

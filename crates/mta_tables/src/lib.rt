@@ -6,12 +6,17 @@ mod cut;
 mod domain;
 mod draft;
 mod fault;
+mod laws;
 mod line;
 mod mailbox;
 mod reading;
 mod tables;
+#[cfg(test)]
+mod tests;
 
+pub use cut::is_word;
 pub use domain::Domain;
 pub use fault::{LineKind, TablesFault};
+pub use laws::{first_bad_line_is_refused, tables_of_a_text_are_read};
 pub use mailbox::{Hop, Mailbox};
 pub use tables::Tables;

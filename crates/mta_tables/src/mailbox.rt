@@ -1,6 +1,6 @@
 //! Mailboxes.
 
-ghost use Rattle.std.specs.Prelude.{◌≡◌};
+ghost use Rattle.std.specs.Prelude.{◌≡◌, IfOk};
 
 use crate::clash::clashes;
 use crate::cut::is_text;
@@ -16,6 +16,19 @@ pub struct Mailbox {
     pub name: OrName,
 }
 
+impl Mailbox {
+    ghost use Rattle.std.specs.Prelude.{◌≡◌, IfOk};
+
+    /// An equal value.
+    pub fn copy(&self, alloc: Global) -> Result<Mailbox, Memory>
+        ensures { IfOk result (λ m. m ≡ self.now) }
+    {
+        let word = self.word.copy(alloc)?;
+        let name = self.name.copy(alloc)?;
+        Ok(Mailbox { word, name })
+    }
+}
+
 /// Where the messages for a name go next.
 #[derive(Clone, Copy, Debug, PartialEq, Eq)]
 pub enum Hop {
@@ -23,6 +36,16 @@ pub enum Hop {
     Local(u32),
     /// Nowhere.
     None,
+}
+
+fn copied(alloc: Global, mailboxes: &[Mailbox]) -> Result<Vec<Mailbox>, Memory>
+    ensures { IfOk result (λ v. v.items ≡ mailboxes.now) }
+{
+    let mut copies = Vec::new(alloc);
+    for mailbox in mailboxes {
+        copies.push(mailbox.copy(alloc)?)?;
+    }
+    Ok(copies)
 }
 
 /// Mailboxes, in the order of their lines.
@@ -86,6 +109,14 @@ impl Mailboxes {
     {
         let Mailboxes { mut inner } = self;
         inner.push(mailbox)?;
+        Ok(Mailboxes { inner })
+    }
+
+    /// An equal value.
+    pub fn copy(&self, alloc: Global) -> Result<Mailboxes, Memory>
+        ensures { IfOk result (λ m. m ≡ self.now) }
+    {
+        let inner = copied(alloc, self.inner.as_slice())?;
         Ok(Mailboxes { inner })
     }
 

@@ -8,7 +8,7 @@ use crate::domain::Domain;
 use crate::draft::{Draft, nothing, take_line};
 use crate::fault::{LineKind, TablesFault};
 use crate::mailbox::Mailboxes;
-use mta_ber::Word;
+use mta_ber::{Memory, Word};
 use std::alloc::Global;
 
 /// What the lines of a text say.
@@ -17,6 +17,24 @@ pub struct Lines {
     pub domain: Domain,
     pub own: Word,
     pub mailboxes: Mailboxes,
+}
+
+impl Lines {
+    ghost use Rattle.std.specs.Prelude.{IfOk};
+
+    /// An equal value.
+    pub fn copy(&self, alloc: Global) -> Result<Lines, Memory>
+        ensures { IfOk result (λ l. l ≡ self.now) }
+    {
+        let domain = self.domain.copy(alloc)?;
+        let own = self.own.copy(alloc)?;
+        let mailboxes = self.mailboxes.copy(alloc)?;
+        Ok(Lines {
+            domain,
+            own,
+            mailboxes,
+        })
+    }
 }
 
 /// What all lines have said, where `number` is the number of the line behind the last.

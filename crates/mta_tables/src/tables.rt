@@ -1,12 +1,14 @@
 //! Tables.
 
 ghost use Rattle.std.specs.Prelude.{◌≡◌};
+ghost use Rattle.mta_tables.specs.Reading.{Reads};
+ghost use Rattle.mta_tables.specs.Tables.{tables_of};
 
 use crate::domain::Domain;
 use crate::fault::{LineKind, TablesFault};
 use crate::mailbox::{Hop, Mailbox, Mailboxes};
 use crate::reading::{Lines, read_lines};
-use mta_ber::{Octets, Word};
+use mta_ber::{Memory, Octets, Word};
 use mta_first_names::{NameRef, OrName};
 use std::alloc::Global;
 use std::marker::Model;
@@ -29,30 +31,51 @@ impl Model for Tables {
     ghost invariant = { λ t. tables_of t.text ≡ Ok (tables t.text t.lines) };
 }
 
+/// The tables of a text, by the reading function.
+#[tactic(auto, unfolding(crate::specs::Tables::tables_of))]
+fn read_tables(alloc: Global, text: &[u8]) -> Result<Tables, TablesFault>
+    ensures { Reads result (tables_of text.now) }
+{
+    if text.len() > Tables::LONGEST {
+        return Err(TablesFault::BadLine {
+            line: 1,
+            kind: LineKind::TooLong,
+        });
+    }
+    let kept = Octets::from_slice(alloc, text)?;
+    let lines = read_lines(alloc, text)?;
+    Ok(Tables { text: kept, lines })
+}
+
 impl Tables {
-    ghost use Rattle.std.specs.Prelude.{◌≡◌, Ok};
+    ghost use Rattle.std.specs.Prelude.{◌≡◌, ℕ, Option, Ok, Err, IfOk};
     ghost use Rattle.mta_first_names.specs.Seen.{lent};
+    ghost use Rattle.mta_tables.specs.declared.fault.LineKind.{LineKind};
+    ghost use Rattle.mta_tables.specs.declared.fault.TablesFault.TheVariants as Faults;
+    ghost use Rattle.mta_tables.specs.Answers.{IsReadAs, IsRefusedAs};
+    ghost use Rattle.mta_tables.specs.declared.mailbox.Hop.{Hop};
+    ghost use Rattle.mta_tables.specs.Grammar.{IsTablesText, IsFirstBadLine};
+    ghost use Rattle.mta_tables.specs.Hops.{IsPlaceOfWord, IsBestHop};
     ghost use Rattle.mta_tables.specs.Reading.{Reads};
-    ghost use Rattle.mta_tables.specs.Tables.{tables_of, mailbox_of, best_hop};
+    ghost use Rattle.mta_tables.specs.Tables.{TablesValue, tables_of, mailbox_of, best_hop};
 
     /// The most octets of a text.
     pub const LONGEST: usize = 1_048_576;
 
     /// The tables of a text: lines that each end with a line feed. A line is empty, begins with `#`, or is `domain` with
     /// `C=COUNTRY;A=ADMD`, `name` with a word, or `mailbox` with a word and the text form of a name, each behind one space.
-    #[tactic(auto, unfolding(crate::specs::Tables::tables_of))]
     pub fn read(alloc: Global, text: &[u8]) -> Result<Tables, TablesFault>
         ensures exact { Reads result (tables_of text.now) }
+
+        // The text has what is answered, and the tables that a text has are answered, unless memory runs out.
+        ensures found { IfOk result (IsTablesText text.now) }
+        ensures only { (t : TablesValue) → IsTablesText text.now t → IsReadAs result t }
+
+        // Which line is refused, and that the first bad line is refused for what is wrong with it, unless memory runs out.
+        ensures fault { (line : ℕ) (kind : LineKind) → result ≡ Err (Faults.BadLine line kind) → IsFirstBadLine text.now line kind }
+        ensures refused { (line : ℕ) (kind : LineKind) → IsFirstBadLine text.now line kind → IsRefusedAs result line kind }
     {
-        if text.len() > Tables::LONGEST {
-            return Err(TablesFault::BadLine {
-                line: 1,
-                kind: LineKind::TooLong,
-            });
-        }
-        let kept = Octets::from_slice(alloc, text)?;
-        let lines = read_lines(alloc, text)?;
-        Ok(Tables { text: kept, lines })
+        read_tables(alloc, text)
     }
 
     /// The text that was read.
@@ -61,6 +84,15 @@ impl Tables {
         ensures read { tables_of result.now ≡ Ok self.now }
     {
         self.text.as_slice()
+    }
+
+    /// An equal value.
+    pub fn copy(&self, alloc: Global) -> Result<Tables, Memory>
+        ensures { IfOk result (λ t. t ≡ self.now) }
+    {
+        let text = self.text.copy(alloc)?;
+        let lines = self.lines.copy(alloc)?;
+        Ok(Tables { text, lines })
     }
 
     /// The agent's own domain.
@@ -87,6 +119,10 @@ impl Tables {
     /// The place of the mailbox of this word, from 0.
     pub fn mailbox(&self, word: &[u8]) -> Option<u32>
         ensures exact { result ≡ mailbox_of self.now word.now }
+
+        // The place that is answered has the word, and there is no other.
+        ensures found { IsPlaceOfWord self.now word.now result }
+        ensures only { (place : Option ℕ) → IsPlaceOfWord self.now word.now place → result ≡ place }
     {
         self.lines.mailboxes.of_word(word)
     }
@@ -94,6 +130,10 @@ impl Tables {
     /// Where the messages for a name go next: to the mailbox whose name is the same.
     pub fn route(&self, name: &OrName) -> Hop
         ensures exact { result ≡ best_hop self.now name.now }
+
+        // The hop that is answered is the best one, and there is no other.
+        ensures found { IsBestHop self.now name.now result }
+        ensures only { (hop : Hop) → IsBestHop self.now name.now hop → result ≡ hop }
     {
         self.route_lent(&name.lent())
     }
@@ -101,6 +141,8 @@ impl Tables {
     /// As `route`, for a name that is lent.
     pub fn route_lent(&self, name: &NameRef) -> Hop
         ensures exact { result ≡ best_hop self.now (lent name.now) }
+        ensures found { IsBestHop self.now (lent name.now) result }
+        ensures only { (hop : Hop) → IsBestHop self.now (lent name.now) hop → result ≡ hop }
     {
         match self.lines.mailboxes.of_name(name) {
             Some(place) => Hop::Local(place),

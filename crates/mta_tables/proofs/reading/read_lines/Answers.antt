@@ -1,5 +1,5 @@
 -- Each turn of the loop takes one line; the last octets have no line feed behind them.
-use Rattle.std.proofs.Common.{◌≡◌, ◌+◌, ◌<◌, ◌≤◌, [], length, Err, sym, ap, subst, ◌∙◌, arith}
+use Rattle.std.proofs.Common.{◌<◌, [], length, Err, sym, ap, subst, ◌∙◌, arith}
 use Rattle.std.specs.Option.{option_copied}
 use Rattle.mta_tables.specs.Reading.{unended, Reads}
 use Rattle.mta_tables.proofs.Cuts.{line_ends, line_taken, line_fault}

@@ -1,0 +1,4 @@
+pub mod Pieces
+pub mod Message
+pub mod Queue
+pub mod Mailbox
