@@ -1,6 +1,6 @@
 //! Reading elements from the front.
 
-ghost use Rattle.std.specs.Prelude.{◌≡◌, ◌+◌, ◌-◌, ◌<◌, ◌≤◌, ◌^◌, length, IfOk, OnOk, IfSome, IsTrue, IfNone, OnErr, IsOkAnd, IsSomeAnd, Ok, Err, true, [], ℕ, List, ◌++◌};
+ghost use Rattle.std.specs.Prelude.{◌≡◌, ◌+◌, ◌-◌, ◌<◌, ◌≤◌, ◌^◌, length, drop, IfOk, OnOk, IfSome, IsTrue, IfNone, OnErr, IsOkAnd, IsSomeAnd, Ok, Err, true, [], ℕ, List, ◌++◌};
 ghost use Rattle.mta_ber.specs.Element.{part, part_from, first, next_part, inner, alone, outermost, IsBehind};
 ghost use Rattle.mta_ber.specs.declared.tag.Tag.{Tag};
 ghost use Rattle.mta_ber.specs.declared.fault.Kind.TheVariants.{BadTag};
@@ -14,6 +14,15 @@ use crate::element::run_of;
 use crate::fault::{Fault, Kind};
 use crate::head::{Head, head_of};
 use crate::view::{Parts, View};
+
+/// What follows the first `used` octets.
+fn behind(bytes: &[u8], used: usize) -> &[u8]
+    requires { used ≤ length bytes.now }
+    ensures exact { result.now ≡ drop used bytes.now }
+    ensures tail { IsTail result bytes.entry }
+{
+    &bytes[used..]
+}
 
 #[tactic(auto, unfolding(crate::specs::Element::part_from))]
 fn view_of<'a>(bytes: &'a [u8], at: u32, depth: u8, head: Head<'a>) -> Result<View<'a>, Fault>
@@ -35,7 +44,8 @@ fn view_of<'a>(bytes: &'a [u8], at: u32, depth: u8, head: Head<'a>) -> Result<Vi
     match head.length {
         None => {
             let used = run_of(head.body, start, depth, true)?;
-            let (content, rest) = (&head.body[..used - 2], &head.body[used..]);
+            let content = &head.body[..used - 2];
+            let rest = behind(head.body, used);
             Ok(View {
                 tag: head.tag,
                 at,
@@ -47,7 +57,8 @@ fn view_of<'a>(bytes: &'a [u8], at: u32, depth: u8, head: Head<'a>) -> Result<Vi
             })
         }
         Some(count) => {
-            let (content, rest) = (&head.body[..count], &head.body[count..]);
+            let content = &head.body[..count];
+            let rest = behind(head.body, count);
             Ok(View {
                 tag: head.tag,
                 at,
