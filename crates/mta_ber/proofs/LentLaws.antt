@@ -6,7 +6,7 @@ use Rattle.mta_ber.specs.declared.fault.Fault.{Fault}
 use Rattle.mta_ber.specs.declared.fault.Kind.TheVariants.{BadTag}
 use Rattle.mta_ber.specs.declared.tag.Tag.{Tag}
 use Rattle.mta_ber.specs.declared.view.View.{View}
-use Rattle.mta_ber.specs.Head.{◌>>=◌, fault}
+use Rattle.mta_ber.specs.Head.{fault}
 use Rattle.mta_ber.specs.Element.{Part, part, inner, nothing_at, alone}
 use Rattle.mta_ber.specs.Octet.{IsOctets}
 use Rattle.mta_ber.specs.Oid.{oid_in, SpellsOid}

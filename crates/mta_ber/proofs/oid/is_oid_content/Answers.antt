@@ -1,4 +1,3 @@
-use Rattle.std.proofs.Common.{sym, ap, subst, ◌∙◌}
 use Rattle.mta_ber.proofs.OidLaws.{is_oid_is}
 use Rattle.mta_ber.proofs.oid.is_oid_content.Goals as goal
 

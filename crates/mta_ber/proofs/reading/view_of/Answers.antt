@@ -1,4 +1,4 @@
-use Rattle.std.proofs.Common.{◌≡◌, ◌+◌, ◌-◌, drop, length, arith, sym, ap, subst}
+use Rattle.std.proofs.Common.{◌+◌, ◌-◌, length, arith, sym, ap, subst}
 use Rattle.std.proofs.lemmas.List.{length-take, length-drop}
 use Rattle.mta_ber.specs.Octet.{IsOctets}
 use Rattle.mta_ber.proofs.RowLaws.{IsBytes-take, IsBytes-drop}
