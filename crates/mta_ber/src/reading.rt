@@ -226,6 +226,8 @@ impl<'a> Parts<'a> {
         ensures depth { self.new.depth ≡ self.old.depth }
         ensures deeper { IfOk result (λ o. IfSome o (λ v. v.depth ≡ self.old.depth + 1)) }
         ensures stays { OnErr result ((self.new.at ≡ self.old.at) × (self.new.left.now ≡ self.old.left.now)) }
+        ensures same { OnErr result (self.new.left ≡ self.old.left) }
+        ensures ends { IfOk result (λ o. IfNone o ((self.new.at ≡ self.old.at) × (self.new.left ≡ self.old.left))) }
     {
         if self.left.is_empty() {
             return Ok(None);
@@ -236,7 +238,7 @@ impl<'a> Parts<'a> {
         Ok(Some(view))
     }
 
-    /// The next part; `None` exactly at the end. An `Err` changes nothing.
+    /// The next part; `None` exactly at the end. An `Err` or `None` changes nothing.
     pub fn next(&mut self) -> Result<Option<View<'a>>, Fault>
         // Which element it is, or which fault comes first.
         ensures exact { Gives next_view result (next_part self.old.at (self.old.depth + 1) self.old.left.now) }
@@ -257,6 +259,8 @@ impl<'a> Parts<'a> {
         ensures depth { self.new.depth ≡ self.old.depth }
         ensures deeper { IfOk result (λ o. IfSome o (λ v. v.depth ≡ self.old.depth + 1)) }
         ensures stays { OnErr result ((self.new.at ≡ self.old.at) × (self.new.left.now ≡ self.old.left.now)) }
+        ensures same { OnErr result (self.new.left ≡ self.old.left) }
+        ensures ends { IfOk result (λ o. IfNone o ((self.new.at ≡ self.old.at) × (self.new.left ≡ self.old.left))) }
     {
         self.next_of()
     }
