@@ -7,7 +7,7 @@ use Rattle.mta_ber.specs.declared.fault.Fault.{Fault}
 use Rattle.mta_ber.specs.declared.fault.Kind.TheVariants.{BadTag}
 use Rattle.mta_ber.specs.Head.{◌>>=◌, fault}
 use Rattle.mta_ber.specs.Element.{Part, part, inner, nothing_at, alone, explicit}
-use Rattle.mta_ber.specs.Parts.{may_follow, in_order}
+use Rattle.mta_ber.specs.Parts.{in_order}
 use Rattle.mta_ber.specs.Octet.{IsOctets}
 use Rattle.mta_ber.specs.Spelling.{Stands, ending_of}
 use Rattle.mta_ber.specs.Explicit.{Spells, SpellsExplicit}

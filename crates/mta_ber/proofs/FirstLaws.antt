@@ -47,6 +47,11 @@ next_found at depth bytes (Ok None) octets g = tt
 next_found at depth bytes (Ok (Some v)) octets g = part_sound at depth bytes (view v) octets (next_is_part at depth bytes (view v) g)
 next_found at depth bytes (Err f) octets g = tt
 
+pub next_lent : (at depth : ℕ) (bytes : List ℕ) (r : Result (Option View) Fault) → IsBytes bytes → Gives next_view r (next_part at depth bytes) → IfOk r (λ o. IfSome o (λ v. IsLentAt at (view v) bytes))
+next_lent at depth bytes (Ok None) octets g = tt
+next_lent at depth bytes (Ok (Some v)) octets g = standing_lent at depth (view v) bytes (part_sound at depth bytes (view v) octets (next_is_part at depth bytes (view v) g))
+next_lent at depth bytes (Err f) octets g = tt
+
 abbrev Answers : Tag → List ℕ → List ℕ → List ℕ → View → Type 0
 Answers t content rest octets v = (v.tag ≡ t) × (v.content.now ≡ content) × (v.rest.now ≡ rest) × (v.octets.now ≡ octets)
 

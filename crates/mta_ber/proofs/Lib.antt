@@ -21,4 +21,5 @@ pub mod ComponentLaws
 pub mod ExplicitLaws
 pub mod IntLaws
 pub mod ExampleLaws
-pub mod OrderLaws
+pub mod OidLaws
+pub mod LentLaws

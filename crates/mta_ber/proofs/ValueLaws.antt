@@ -5,31 +5,34 @@ use Rattle.std.specs.Int.{to_be_bytes, bytes_high_first, byte_at}
 use Rattle.std.proofs.Math.Nat.{pow-succ', mod-eq_of_lt}
 use Rattle.std.proofs.lemmas.Nat.{shl-shr, shl_below}
 use Rattle.std.proofs.lemmas.Bool.{cases_lt, eqb-true, leb-true, le-ltb}
+use Rattle.std.proofs.lemmas.List.{append-nil}
 use Rattle.std.proofs.lemmas.Int.{ints, to_z-of_z}
 use Rattle.std.proofs.Math.Facts.{to_z-neg}
 use Rattle.mta_ber.specs.declared.fault.Fault.{Fault}
 use Rattle.mta_ber.specs.declared.tag.Tag.{Tag}
 use Rattle.mta_ber.specs.Head.{◌>>=◌, base}
-use Rattle.mta_ber.specs.Element.{Part, first, outermost}
+use Rattle.mta_ber.specs.Element.{Part, part, first, outermost, inner, alone, explicit}
 use Rattle.mta_ber.specs.Int.{is_short, signed, in_range, int_in, SpellsInteger}
 use Rattle.mta_ber.specs.Strings.{text_in}
 use Rattle.mta_ber.specs.Bits.{BitString, no_bits, with_bits, at_most_64, too_many, bits_in}
 use Rattle.mta_ber.specs.Segmented.{AddsBits, SpellsString, SpellsBits}
 use Rattle.mta_ber.specs.Canon.{IsTag, element}
 use Rattle.mta_ber.specs.Contents.{as_primitive, is_redundant, shortest, int_content, octet_count, unused_bits, bits_content}
-use Rattle.mta_ber.specs.Laws.{with_rest, beside, lent_of, ElementsAreReadAgain, NumbersAreReadAgain, BitsAreReadAgain, TextsAreReadAgain}
+use Rattle.mta_ber.specs.Oid.{oid_in}
+use Rattle.mta_ber.specs.Laws.{Lent, with_rest, beside, lent_of, ElementsAreReadAgain, NumbersAreReadAgain, BitsAreReadAgain, TextsAreReadAgain, OidsAreReadAgain, ExplicitTagsAreReadAgain}
 use Rattle.mta_ber.proofs.HeadLaws.{and_true}
 use Rattle.mta_ber.proofs.CanonLaws.{digits, digits_of, byte_small, lent}
-use Rattle.mta_ber.proofs.RoundTrip.{first_again, text_again}
+use Rattle.mta_ber.proofs.RoundTrip.{first_again, part_again, text_again, element_short}
 use Rattle.mta_ber.proofs.BitLaws.{octets_as_bits}
 use Rattle.mta_ber.proofs.Numbers.{signed_low}
 use Rattle.mta_ber.proofs.IntLaws.{int_full}
+use Rattle.mta_ber.proofs.OidLaws.{oid_full}
 use Rattle.mta_ber.proofs.StringLaws.{bits_in_full}
 
-low_outermost : (t : Tag) → outermost t ≤ 16
+low_outermost : (t : Tag) → outermost t ≤ 2
 low_outermost t = low_cond (eqb t.class 2 && eqb t.number 2)
   where
-    low_cond : (b : Bool) → cond b 2 1 ≤ 16
+    low_cond : (b : Bool) → cond b 2 1 ≤ 2
     low_cond true = omega arith
     low_cond false = omega arith
 
@@ -40,7 +43,7 @@ primitive_tag t h = record { class = h.class; number = h.number }
 pub again : {A : Type 0} (read : Part → Result A Fault) (v : A) (t : Tag) (content more : List ℕ) (at : ℕ) → IsTag t → length content < 2 ^ 64
     → ((depth : ℕ) → depth ≤ 16 → read (lent at depth t content more) ≡ Ok v) → (first at (element t content ++ more) >>= with_rest read) ≡ beside v more
 again read v t content more at h short f =
-    ap (λ x. x >>= with_rest read) (first_again at t content more h short) ∙ ap (λ x. x >>= λ v. beside v more) (f (outermost t) (low_outermost t))
+    ap (λ x. x >>= with_rest read) (first_again at t content more h short) ∙ ap (λ x. x >>= λ v. beside v more) (f (outermost t) (let low = low_outermost t in omega arith))
 
 pub elements_again : ElementsAreReadAgain
 elements_again t content more at h short = ap (λ x. x >>= with_rest lent_of) (first_again at t content more h short)
@@ -48,6 +51,29 @@ elements_again t content more at h short = ap (λ x. x >>= with_rest lent_of) (f
 pub texts_again : TextsAreReadAgain
 texts_again t class low high text more at h is short =
     again (text_in class low high) text (as_primitive t) text more at (primitive_tag t h) short (λ depth d. text_again class low high (lent at depth (as_primitive t) text more) refl d is)
+
+pub oids_again : OidsAreReadAgain
+oids_again t octets more at h is short =
+    again oid_in octets (as_primitive t) octets more at (primitive_tag t h) short (λ depth d. oid_full (lent at depth (as_primitive t) octets more) octets (record { primitive = refl; is_oid_of = is; kept = refl }))
+
+-- ---- explicit tags
+
+abbrev lent_element : Tag → List ℕ → Lent
+lent_element u content = record { tag = u; content = content; octets = element u content }
+
+inside_again : (p : Part) (u : Tag) (content : List ℕ) → p.tag.constructed ≡ true → p.depth ≤ 15 → p.content ≡ element u content → IsTag u → length content < 2 ^ 64 → explicit lent_of p ≡ Ok (lent_element u content)
+unfolding inner alone
+inside_again p u content c d is h short =
+    let found : part p.start (p.depth + 1) p.content ≡ Ok (lent p.start (p.depth + 1) u content []) =
+    ap (part p.start (p.depth + 1)) (is ∙ sym (append-nil (element u content))) ∙ part_again p.start (p.depth + 1) u content [] h short (omega arith) in
+    rw (c, found) refl
+
+pub explicit_again : ExplicitTagsAreReadAgain
+explicit_again t u content more at h c k short =
+    let long = element_short u content in
+    let low = low_outermost t in
+    ap (λ x. x >>= with_rest (explicit lent_of)) (first_again at t (element u content) more h (omega arith))
+    ∙ ap (λ x. x >>= λ v. beside v more) (inside_again (lent at (outermost t) t (element u content) more) u content c (omega arith) refl k (omega arith))
 
 -- ---- numbers
 

@@ -1,15 +1,16 @@
 -- Laws over values and octets.
-use Rattle.std.specs.Prelude.{◌≡◌, ℕ, ℤ, ◌≤◌, ◌<◌, ◌^◌, true, List, ◌++◌, length, Result, Ok, FitsSigned}
+use Rattle.std.specs.Prelude.{◌≡◌, ℕ, ℤ, ◌+◌, ◌≤◌, ◌<◌, ◌^◌, true, List, ◌++◌, length, Result, Ok, FitsSigned}
 use Rattle.std.specs.Int.{w64}
 use Rattle.mta_ber.specs.declared.fault.Fault.{Fault}
 use Rattle.mta_ber.specs.declared.tag.Tag.{Tag}
 use Rattle.mta_ber.specs.declared.text.TextClass.{TextClass}
 use Rattle.mta_ber.specs.Head.{◌>>=◌}
-use Rattle.mta_ber.specs.Element.{Part, first}
+use Rattle.mta_ber.specs.Element.{Part, first, explicit}
 use Rattle.mta_ber.specs.Int.{in_range, int_in}
 use Rattle.mta_ber.specs.Strings.{text_in, IsText}
 use Rattle.mta_ber.specs.Bits.{BitString, bits_in}
 use Rattle.mta_ber.specs.Times.{last_moment, utc_in}
+use Rattle.mta_ber.specs.Oid.{oid_in, IsOid}
 use Rattle.mta_ber.specs.Canon.{IsTag, element}
 use Rattle.mta_ber.specs.Contents.{as_primitive, canon_int, canon_bits, canon_utc}
 
@@ -49,3 +50,12 @@ MomentsAreReadAgain = (t : Tag) (moment : ℕ) (more : List ℕ) (at : ℕ) → 
 abbrev pub TextsAreReadAgain : Type 0
 TextsAreReadAgain = (t : Tag) (class : TextClass) (low high : ℕ) (text more : List ℕ) (at : ℕ) → IsTag t → IsText class low high text → length text < 2 ^ 64
     → (first at (element (as_primitive t) text ++ more) >>= with_rest (text_in class low high)) ≡ beside text more
+
+abbrev pub OidsAreReadAgain : Type 0
+OidsAreReadAgain = (t : Tag) (octets more : List ℕ) (at : ℕ) → IsTag t → IsOid octets → length octets < 2 ^ 64
+    → (first at (element (as_primitive t) octets ++ more) >>= with_rest oid_in) ≡ beside octets more
+
+-- an element that is written in an explicit tag is read again inside it, and it stands there alone
+abbrev pub ExplicitTagsAreReadAgain : Type 0
+ExplicitTagsAreReadAgain = (t u : Tag) (content more : List ℕ) (at : ℕ) → IsTag t → t.constructed ≡ true → IsTag u → length content + 14 < 2 ^ 64
+    → (first at (element t (element u content) ++ more) >>= with_rest (explicit lent_of)) ≡ beside (record { tag = u; content = content; octets = element u content }) more

@@ -19,4 +19,3 @@ pub mod Components
 pub mod Explicit
 pub mod Example
 pub mod Place
-pub mod Orders

@@ -1,7 +1,7 @@
 //! Laws over values and octets.
 
 ghost use Rattle.mta_ber.specs.Spelling.{NoSpellingBeginsAnother};
-ghost use Rattle.mta_ber.specs.Laws.{ElementsAreReadAgain, NumbersAreReadAgain, BitsAreReadAgain, MomentsAreReadAgain, TextsAreReadAgain};
+ghost use Rattle.mta_ber.specs.Laws.{ElementsAreReadAgain, NumbersAreReadAgain, BitsAreReadAgain, MomentsAreReadAgain, TextsAreReadAgain, OidsAreReadAgain, ExplicitTagsAreReadAgain};
 
 /// No spelling of an element begins another.
 pub fn no_spelling_begins_another()
@@ -31,4 +31,14 @@ pub fn texts_are_read_again()
 /// A time that is written is read again, whatever follows it.
 pub fn moments_are_read_again()
     ensures { MomentsAreReadAgain }
+{}
+
+/// The octets of an object identifier that are written are read again, whatever follows them.
+pub fn object_identifiers_are_read_again()
+    ensures { OidsAreReadAgain }
+{}
+
+/// An element that is written in an explicit tag is read again, whatever follows the tag.
+pub fn explicit_tags_are_read_again()
+    ensures { ExplicitTagsAreReadAgain }
 {}

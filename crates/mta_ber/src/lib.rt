@@ -31,8 +31,9 @@ pub use bits::Bits;
 pub use components::{bad, check_order, is_tag_of, take_required};
 pub use fault::{Fault, Kind, ReadFault};
 pub use laws::{
-    bits_are_read_again, elements_are_read_again, moments_are_read_again,
-    no_spelling_begins_another, numbers_are_read_again, texts_are_read_again,
+    bits_are_read_again, elements_are_read_again, explicit_tags_are_read_again,
+    moments_are_read_again, no_spelling_begins_another, numbers_are_read_again,
+    object_identifiers_are_read_again, texts_are_read_again,
 };
 pub use memory::Memory;
 pub use note::{Note, NoteParts};
@@ -47,6 +48,3 @@ pub use utc::LAST_MOMENT;
 pub use view::{Parts, View};
 pub use word::Word;
 pub use writer::Writer;
-
-#[cfg(test)]
-mod tests;

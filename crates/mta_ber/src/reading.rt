@@ -1,9 +1,11 @@
 //! Reading elements from the front.
 
-ghost use Rattle.std.specs.Prelude.{◌≡◌, ◌+◌, ◌-◌, ◌<◌, ◌≤◌, ◌^◌, length, IfOk, OnOk, IfSome, IsTrue, IfNone, OnErr, IsOkAnd, IsSomeAnd, ℕ, List, ◌++◌};
+ghost use Rattle.std.specs.Prelude.{◌≡◌, ◌+◌, ◌-◌, ◌<◌, ◌≤◌, ◌^◌, length, drop, IfOk, OnOk, IfSome, IsTrue, IfNone, OnErr, IsOkAnd, IsSomeAnd, Ok, Err, true, [], ℕ, List, ◌++◌};
 ghost use Rattle.mta_ber.specs.Element.{part, part_from, first, next_part, inner, alone, outermost, IsBehind};
 ghost use Rattle.mta_ber.specs.declared.tag.Tag.{Tag};
+ghost use Rattle.mta_ber.specs.declared.fault.Kind.TheVariants.{BadTag};
 ghost use Rattle.mta_ber.specs.Spelling.{Standing, Stands, IsLentAt};
+ghost use Rattle.mta_ber.specs.Explicit.{StandsInside};
 ghost use Rattle.mta_ber.specs.Octet.{IsOctets};
 ghost use Rattle.mta_ber.specs.Place.{IsTail, IsAt};
 ghost use Rattle.mta_ber.specs.Seen.{Gives, head_view, view, next_view};
@@ -12,6 +14,15 @@ use crate::element::run_of;
 use crate::fault::{Fault, Kind};
 use crate::head::{Head, head_of};
 use crate::view::{Parts, View};
+
+/// What follows the first `used` octets.
+fn behind(bytes: &[u8], used: usize) -> &[u8]
+    requires { used ≤ length bytes.now }
+    ensures exact { result.now ≡ drop used bytes.now }
+    ensures tail { IsTail result bytes.entry }
+{
+    &bytes[used..]
+}
 
 #[tactic(auto, unfolding(crate::specs::Element::part_from))]
 fn view_of<'a>(bytes: &'a [u8], at: u32, depth: u8, head: Head<'a>) -> Result<View<'a>, Fault>
@@ -33,7 +44,8 @@ fn view_of<'a>(bytes: &'a [u8], at: u32, depth: u8, head: Head<'a>) -> Result<Vi
     match head.length {
         None => {
             let used = run_of(head.body, start, depth, true)?;
-            let (content, rest) = (&head.body[..used - 2], &head.body[used..]);
+            let content = &head.body[..used - 2];
+            let rest = behind(head.body, used);
             Ok(View {
                 tag: head.tag,
                 at,
@@ -45,7 +57,8 @@ fn view_of<'a>(bytes: &'a [u8], at: u32, depth: u8, head: Head<'a>) -> Result<Vi
             })
         }
         Some(count) => {
-            let (content, rest) = (&head.body[..count], &head.body[count..]);
+            let content = &head.body[..count];
+            let rest = behind(head.body, count);
             Ok(View {
                 tag: head.tag,
                 at,
@@ -119,8 +132,28 @@ impl<'a> View<'a> {
 
     /// The one element inside an explicit tag (X.690, 8.14). BadTag where this element is primitive, and Truncated at the
     /// offset of its content where that is empty. That nothing stands behind it is for `alone` to say, once it was read.
-    #[tactic(auto, unfolding(crate::specs::Element::inner))]
     pub fn inner(&self) -> Result<View<'a>, Fault>
+        // Which element it is, or which fault comes first.
+        ensures exact { Gives view result (inner (view self.now)) }
+
+        // What is answered stands at the front of the content, and is the slice of the content at its place.
+        ensures found { IfOk result (λ v. StandsInside self.now.start self.now.depth self.now.tag.constructed self.now.content.now (view v)) }
+        ensures lent { IfOk result (λ v. IsLentAt self.now.start (view v) self.now.content.now) }
+
+        // And it is that memory.
+        ensures place { IfOk result (λ v. IsAt (v.start - self.now.start) v.content self.now.content) }
+        ensures front { IfOk result (λ v. IsAt 0 v.octets self.now.content) }
+        ensures tail { IfOk result (λ v. IsTail v.rest self.now.content) }
+
+        // What stands at the front of a constructed content is answered.
+        ensures only { (t : Tag) (content octets rest : List ℕ) → self.now.tag.constructed ≡ true → Stands (self.now.depth + 1) t content octets → self.now.content.now ≡ octets ++ rest
+            → IsOkAnd result (λ v. (v.tag ≡ t) × (v.content.now ≡ content) × (v.rest.now ≡ rest) × (v.octets.now ≡ octets)) }
+    {
+        self.inner_of()
+    }
+
+    #[tactic(auto, unfolding(crate::specs::Element::inner))]
+    fn inner_of(&self) -> Result<View<'a>, Fault>
         ensures exact { Gives view result (inner (view self.now)) }
         ensures place { IfOk result (λ v. IsAt (v.start - self.now.start) v.content self.now.content) }
         ensures front { IfOk result (λ v. IsAt 0 v.octets self.now.content) }
@@ -136,8 +169,22 @@ impl<'a> View<'a> {
     }
 
     /// That no element stands behind this one in what encloses it: else its fault, or BadTag there.
-    #[tactic(auto, unfolding(crate::specs::Element::alone))]
     pub fn alone(&self) -> Result<(), Fault>
+        ensures exact { result ≡ alone (view self.now) }
+
+        // Exactly where nothing follows.
+        ensures found { IfOk result (λ _. self.now.rest.now ≡ []) }
+        ensures only { self.now.rest.now ≡ [] → result ≡ Ok tt }
+
+        // An element that follows is not expected there.
+        ensures behind { (t : Tag) (content octets more : List ℕ) → Stands self.now.depth t content octets → self.now.rest.now ≡ octets ++ more
+            → result ≡ Err (record { at = self.now.at + length self.now.octets.now; kind = BadTag }) }
+    {
+        self.alone_of()
+    }
+
+    #[tactic(auto, unfolding(crate::specs::Element::alone))]
+    fn alone_of(&self) -> Result<(), Fault>
         ensures { result ≡ alone (view self.now) }
     {
         if self.rest.is_empty() {
@@ -156,6 +203,7 @@ impl<'a> View<'a> {
         ensures at { result.at ≡ self.now.start }
         ensures depth { result.depth ≡ self.now.depth }
         ensures left { result.left.now ≡ self.now.content.now }
+        ensures lent { result.left ≡ self.now.content }
     {
         Parts {
             at: self.start,
@@ -178,6 +226,8 @@ impl<'a> Parts<'a> {
         ensures depth { self.new.depth ≡ self.old.depth }
         ensures deeper { IfOk result (λ o. IfSome o (λ v. v.depth ≡ self.old.depth + 1)) }
         ensures stays { OnErr result ((self.new.at ≡ self.old.at) × (self.new.left.now ≡ self.old.left.now)) }
+        ensures same { OnErr result (self.new.left ≡ self.old.left) }
+        ensures ends { IfOk result (λ o. IfNone o ((self.new.at ≡ self.old.at) × (self.new.left ≡ self.old.left))) }
     {
         if self.left.is_empty() {
             return Ok(None);
@@ -188,7 +238,7 @@ impl<'a> Parts<'a> {
         Ok(Some(view))
     }
 
-    /// The next part; `None` exactly at the end. An `Err` changes nothing.
+    /// The next part; `None` exactly at the end. An `Err` or `None` changes nothing.
     pub fn next(&mut self) -> Result<Option<View<'a>>, Fault>
         // Which element it is, or which fault comes first.
         ensures exact { Gives next_view result (next_part self.old.at (self.old.depth + 1) self.old.left.now) }
@@ -197,6 +247,7 @@ impl<'a> Parts<'a> {
         ensures found { IfOk result (λ o. IfSome o (λ v. Standing self.old.at (self.old.depth + 1) (view v) self.old.left.now)) }
         ensures only { (t : Tag) (content octets rest : List ℕ) → Stands (self.old.depth + 1) t content octets → self.old.left.now ≡ octets ++ rest
             → IsOkAnd result (λ o. IsSomeAnd o (λ v. (v.tag ≡ t) × (v.content.now ≡ content) × (v.rest.now ≡ rest) × (v.octets.now ≡ octets))) }
+        ensures lent { IfOk result (λ o. IfSome o (λ v. IsLentAt self.old.at (view v) self.old.left.now)) }
 
         // What is left afterwards, and where the slices lie.
         ensures moved { IfOk result (λ o. IfSome o (λ v. IsBehind self.old.at self.old.left.now v.rest.now self.new.at self.new.left.now)) }
@@ -208,6 +259,8 @@ impl<'a> Parts<'a> {
         ensures depth { self.new.depth ≡ self.old.depth }
         ensures deeper { IfOk result (λ o. IfSome o (λ v. v.depth ≡ self.old.depth + 1)) }
         ensures stays { OnErr result ((self.new.at ≡ self.old.at) × (self.new.left.now ≡ self.old.left.now)) }
+        ensures same { OnErr result (self.new.left ≡ self.old.left) }
+        ensures ends { IfOk result (λ o. IfNone o ((self.new.at ≡ self.old.at) × (self.new.left ≡ self.old.left))) }
     {
         self.next_of()
     }

@@ -1,6 +1,6 @@
 //! Reading octet and character strings.
 
-ghost use Rattle.std.specs.Prelude.{◌≡◌, ◌-◌, ◌++◌, [], List, ℕ, Ok, IfOk, true, Some, None, if◌then◌else◌};
+ghost use Rattle.std.specs.Prelude.{◌≡◌, ◌-◌, ◌++◌, [], List, ℕ, Ok, IfOk, IfSome, IsSomeAnd, true, false, Some, None, if◌then◌else◌};
 ghost use Rattle.std.specs.List.{list_all};
 ghost use Rattle.mta_ber.specs.Parts.{Leaves, Reads, IsReadAs};
 ghost use Rattle.mta_ber.specs.Segmented.{SpellsOctets, SpellsText};
@@ -70,6 +70,16 @@ fn own_number_of(tag: Tag) -> u32
 impl<'a> View<'a> {
     /// The content where the element is primitive, and `None` exactly where it is constructed.
     pub fn plain(&self) -> Option<&'a [u8]>
+        ensures exact { result ≡ (if self.now.tag.constructed then None else Some self.now.content) }
+
+        // What is lent is a string that the content spells, and the one that a primitive content spells is lent.
+        ensures found { IfSome result (λ c. (own : ℕ) → SpellsOctets own self.now.depth self.now.tag.constructed self.now.content.now c.now) }
+        ensures only { (own : ℕ) (o : List ℕ) → self.now.tag.constructed ≡ false → SpellsOctets own self.now.depth self.now.tag.constructed self.now.content.now o → IsSomeAnd result (λ c. c.now ≡ o) }
+    {
+        self.plain_of()
+    }
+
+    fn plain_of(&self) -> Option<&'a [u8]>
         ensures { result ≡ (if self.now.tag.constructed then None else Some self.now.content) }
     {
         if self.tag.constructed {
