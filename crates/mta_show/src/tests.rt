@@ -5,7 +5,7 @@ use crate::message::show_message;
 use crate::queue::show_queue;
 use mta_ber::{Octets, Word};
 use mta_first_shape::{Identifier, Message, Name};
-use mta_history::{Item, Origin, Statuses};
+use mta_history::{Item, MailboxLine, Origin, Statuses};
 use std::alloc::Global;
 use std::test::Fail;
 
