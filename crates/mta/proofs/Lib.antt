@@ -1,5 +1,2 @@
-pub mod Added
-pub mod Ended
-pub mod Lines
 pub mod Pieces
-pub mod Stored
+pub mod Steps

@@ -1,30 +1,74 @@
 -- What is read before the disk is opened.
-use Rattle.std.specs.Prelude.{◌≡◌, ◌≤◌, ◌⊎◌, ℕ, List, length, Option, Some, Result, IsErrOf, IfOk}
+use Rattle.std.specs.Prelude.{◌≡◌, ◌≤◌, ◌⊎◌, ℕ, List, length, Option, Some, Result, Ok, Err}
 use Rattle.mta_edge.specs.Causes.{Rose}
+use Rattle.mta_tables.specs.Tables.{TablesValue}
+use Rattle.mta_tables.specs.Grammar.{IsFirstBadLine}
 use Rattle.mta_history.specs.Apdu.{SpellsApdu}
-use Rattle.mta.specs.declared.read.ReadFault.{ReadFault}
-use Rattle.mta.specs.declared.read.ReadFault.TheVariants as ReadFaults
 use Rattle.mta.specs.declared.stop.Stop.{Stop}
 use Rattle.mta.specs.declared.stop.Stop.TheVariants as Stops
 use Rattle.mta.specs.declared.gather.Gathered.{Gathered}
 
-abbrev pub stop_of_read : ReadFault → Stop
-stop_of_read ReadFaults.Source = Stops.Source
-stop_of_read ReadFaults.TooLong = Stops.NotBuilt
-stop_of_read ReadFaults.Memory = Stops.Memory
+-- the content, where it is told, is this
+abbrev pub IsTold : Option (List ℕ) → List ℕ → Type 0
+IsTold told text = (c : List ℕ) → told ≡ Some c → text ≡ c
 
--- the tables are not too long, and the input spells an APDU
-pub record IsAccepted (conf input : List ℕ) : Type 0 where
-  pub tables : length conf ≤ 1048576
-  pub message : SpellsApdu input
+-- the tables of the text, or why there are none
+abbrev pub AreTablesRead : Option (List ℕ) → ℕ → ℕ → Result TablesValue Stop → Type 0
+AreTablesRead conf before now (Ok t) = IsTold conf t.text
+AreTablesRead conf before now (Err (Stops.Tables line kind)) = (c : List ℕ) → conf ≡ Some c → IsFirstBadLine c line kind
+AreTablesRead conf before now (Err Stops.Source) = Rose before now
+AreTablesRead conf before now (Err Stops.Memory) = Unit {0}
+AreTablesRead conf before now (Err Stops.Usage) = ⊥
+AreTablesRead conf before now (Err (Stops.NotSpool at)) = ⊥
+AreTablesRead conf before now (Err Stops.Disk) = ⊥
+AreTablesRead conf before now (Err (Stops.Full size need)) = ⊥
+AreTablesRead conf before now (Err (Stops.Spent last)) = ⊥
+AreTablesRead conf before now (Err Stops.Sink) = ⊥
+AreTablesRead conf before now (Err (Stops.NoMailbox name)) = ⊥
+AreTablesRead conf before now (Err Stops.NotBuilt) = ⊥
+
+pub record HasTables (conf : Option (List ℕ)) (before now : ℕ) (result : Result TablesValue Stop) : Type 0 where
+  pub later : before ≤ now
+  pub read : AreTablesRead conf before now result
+
+-- a message of the first shape, or why there is none
+abbrev pub IsInputRead : Option (List ℕ) → ℕ → ℕ → Result (List ℕ) Stop → Type 0
+IsInputRead input before now (Ok apdu) = IsTold input apdu × SpellsApdu apdu
+IsInputRead input before now (Err Stops.NotBuilt) = (i : List ℕ) → input ≡ Some i → SpellsApdu i → ⊥
+IsInputRead input before now (Err Stops.Source) = Rose before now
+IsInputRead input before now (Err Stops.Memory) = Unit {0}
+IsInputRead input before now (Err (Stops.Tables line kind)) = ⊥
+IsInputRead input before now (Err Stops.Usage) = ⊥
+IsInputRead input before now (Err (Stops.NotSpool at)) = ⊥
+IsInputRead input before now (Err Stops.Disk) = ⊥
+IsInputRead input before now (Err (Stops.Full size need)) = ⊥
+IsInputRead input before now (Err (Stops.Spent last)) = ⊥
+IsInputRead input before now (Err Stops.Sink) = ⊥
+IsInputRead input before now (Err (Stops.NoMailbox name)) = ⊥
+
+pub record HasInput (input : Option (List ℕ)) (before now : ℕ) (result : Result (List ℕ) Stop) : Type 0 where
+  pub later : before ≤ now
+  pub read : IsInputRead input before now result
+
+-- what a stop of gathering means
+abbrev pub IsGatherStop : Option (List ℕ) → Option (List ℕ) → Type 0 → Stop → Type 0
+IsGatherStop conf input rose (Stops.Tables line kind) = (c : List ℕ) → conf ≡ Some c → IsFirstBadLine c line kind
+IsGatherStop conf input rose Stops.NotBuilt = (i : List ℕ) → input ≡ Some i → SpellsApdu i → ⊥
+IsGatherStop conf input rose Stops.Source = rose
+IsGatherStop conf input rose Stops.Memory = Unit {0}
+IsGatherStop conf input rose Stops.Usage = ⊥
+IsGatherStop conf input rose (Stops.NotSpool at) = ⊥
+IsGatherStop conf input rose Stops.Disk = ⊥
+IsGatherStop conf input rose (Stops.Full size need) = ⊥
+IsGatherStop conf input rose (Stops.Spent last) = ⊥
+IsGatherStop conf input rose Stops.Sink = ⊥
+IsGatherStop conf input rose (Stops.NoMailbox name) = ⊥
+
+abbrev pub AreGathered : Option (List ℕ) → Option (List ℕ) → Type 0 → Result Gathered Stop → Type 0
+AreGathered conf input rose (Ok x) = IsTold conf x.tables.text × IsTold input x.apdu × SpellsApdu x.apdu
+AreGathered conf input rose (Err stop) = IsGatherStop conf input rose stop
 
 pub record HasGathered (conf input : Option (List ℕ)) (conf_before conf_now input_before input_now : ℕ) (result : Result Gathered Stop) : Type 0 where
   pub conf_later : conf_before ≤ conf_now
   pub input_later : input_before ≤ input_now
-  pub tables : IfOk result (λ x. (c : List ℕ) → conf ≡ Some c → x.tables ≡ c)
-  pub apdu : IfOk result (λ x. (i : List ℕ) → input ≡ Some i → x.apdu ≡ i)
-  pub accepted : IfOk result (λ x. IsAccepted x.tables x.apdu)
-  pub source : IsErrOf result Stops.Source → Rose conf_before conf_now ⊎ Rose input_before input_now
-  pub not_built : IsErrOf result Stops.NotBuilt → (c i : List ℕ) → conf ≡ Some c → input ≡ Some i → IsAccepted c i → ⊥
-  pub not_disk : IsErrOf result Stops.Disk → ⊥
-  pub not_usage : IsErrOf result Stops.Usage → ⊥
+  pub read : AreGathered conf input (Rose conf_before conf_now ⊎ Rose input_before input_now) result

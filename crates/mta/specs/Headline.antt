@@ -1,67 +1,90 @@
 -- What a run leaves of everything that was handed in.
-use Rattle.std.specs.Prelude.{◌≡◌, ◌≢◌, ◌<◌, ◌≤◌, ◌⊎◌, ◌-◌, ◌^◌, ℕ, List, [], ◌∷◌, ◌++◌, length, Option, Some, slice_get}
-use Rattle.std.specs.declared.string.String.{String}
-use Rattle.std.specs.declared.alloc.Global.{Global}
+use Rattle.std.specs.Prelude.{◌≡◌, ◌≢◌, ◌⊎◌, ◌+◌, ◌<◌, ◌≤◌, ◌-◌, ◌^◌, ℕ, List, [], ◌∷◌, ◌++◌, length, Option, None, Some, Result, Ok, Err}
 use Rattle.mta_edge.specs.Causes.{Rose}
+use Rattle.mta_edge.specs.Outside.{Goes}
 use Rattle.mta_records.specs.declared.step.Step.{Step}
+use Rattle.mta_tables.specs.Tables.{TablesValue, tables_of}
 use Rattle.mta_history.specs.declared.item.Item.{Item}
-use Rattle.mta_history.specs.declared.item.Status.{Status}
-use Rattle.mta_history.specs.declared.item.Status.TheVariants.{Pending}
-use Rattle.mta_history.specs.Machine.{IsRun, at_start, discharges, status_at}
-use Rattle.mta_history.specs.History.{after, project}
+use Rattle.mta_history.specs.Apdu.{SpellsApdu}
+use Rattle.mta_history.specs.Verdict.{last_of, recorded}
+use Rattle.mta_history.specs.Due.{numbered, IsQuiet}
+use Rattle.mta_history.specs.History.{after, IsHistory, RecipientsOnce}
 use Rattle.mta_history.specs.Image.{StandsFor}
+use Rattle.mta_spool.specs.Stands.{step_moment}
 use Rattle.mta.specs.declared.stop.Stop.{Stop}
-use Rattle.mta.specs.Words.{IsSubmit}
+use Rattle.mta.specs.declared.stop.Stop.TheVariants as Stops
+use Rattle.mta.specs.declared.words.Words.{Words}
+use Rattle.mta.specs.declared.words.Words.TheVariants as Say
 use Rattle.mta.specs.Streams.{TakesFront}
-use Rattle.mta.specs.Telling.{accepted_line, line_of, status_of}
-use Rattle.mta.specs.Gathering.{IsAccepted}
-use Rattle.mta.specs.Storing.{IsAdded}
+use Rattle.mta.specs.Telling.{accepted_line}
+use Rattle.mta.specs.Working.{AreOwn, accepts}
+use Rattle.mta.specs.Ending.{ForHistory, mailbox_named, IsCause, IsText, IsFront, IsEnded}
 
--- the item with this number has these octets
-abbrev pub HasItem : List Step → ℕ → List ℕ → Type 0
-HasItem steps n octets = (item : Item) × (slice_get (after steps).machine.items (n - 1) ≡ Some item) × (item.octets ≡ octets)
+-- unless its count rose, the disk stands for what it stood for and these steps, and one that is no spool is as it was
+pub record DiskLeft {D : Type 0} (content : D → Option (List ℕ)) (faults : D → ℕ) (old new : D) (added : List Step) : Type 0 where
+  pub later : faults old ≤ faults new
+  pub stands : (Rose (faults old) (faults new) → ⊥) → (f g : List ℕ) (steps : List Step) → content old ≡ Some f → content new ≡ Some g → StandsFor f steps → StandsFor g (steps ++ added)
+  pub left : (Rose (faults old) (faults new) → ⊥) → (f : List ℕ) → content old ≡ Some f → ((steps : List Step) → StandsFor f steps → ⊥) → content new ≡ Some f
 
--- the machine's steps are a run, and each recipient for whom this agent is responsible is pending and was not discharged
-pub record RecipientsOnce (steps : List Step) : Type 0 where
-  pub run : IsRun at_start (project steps)
-  pub pending : (i r : ℕ) (s : Status) → status_at (after steps).machine i r ≡ Some (Some s) → (s ≡ Pending) × (discharges (project steps) i r ≡ 0)
+-- nothing is due after these steps, at a moment that is the greater of their last one and one that the clock tells
+abbrev pub IsSettled : (ℕ → Type 0) → List Step → Type 0
+IsSettled tells steps = (told : ℕ) × tells told × IsQuiet (recorded (after steps).machine.tables) (after steps).machine.items (step_moment told (after steps).machine.moment)
 
--- What the sink took: with status 0 the line `accepted 1`, with the status of a stop its line, and with 9 a front of one of these.
-pub data IsPrinted (before now : List ℕ) (status : ℕ) : Type 0 where
-  done : status ≡ 0 → now ≡ before ++ accepted_line 1 → IsPrinted before now status
-  stopped : (stop : Stop) → status ≡ status_of stop → now ≡ before ++ line_of stop → IsPrinted before now status
-  cut : (text : List ℕ) → (text ≡ accepted_line 1) ⊎ ((stop : Stop) × (text ≡ line_of stop)) → status ≡ 9 → TakesFront text before now → IsPrinted before now status
+-- a command ended, and printed what it prints, or nothing or that before a stop, or a front of it where the sink failed
+abbrev pub HasPrinted : (text : List ℕ → Type 0) (before now : Option (List ℕ)) → Result (Unit {0}) Stop → Type 0
+HasPrinted text before now (Ok done) = (t : List ℕ) × text t × Goes (λ a b. b ≡ a ++ t) before now
+HasPrinted text before now (Err stop) =
+    ((stop ≢ Stops.Sink) × (t : List ℕ) × IsFront text t × Goes (λ a b. b ≡ a ++ t) before now) ⊎ ((stop ≡ Stops.Sink) × (t : List ℕ) × text t × Goes (TakesFront t) before now)
 
--- What a run leaves, each part where the objects that it speaks of tell what they hold. `steps` is the history that the
--- returned disk stands for.
-pub record Ran {D : Type 0} (content : D → Option (List ℕ)) (faults : D → ℕ) (tells : ℕ → Type 0) (conf input before now : Option (List ℕ)) (old new : D) (status : ℕ) : Type 0 where
-  pub steps : List Step
-  -- unless its count rose, a disk that had at most nine octets stands for the steps as it reads; a longer one is left as it was
-  pub disk_stands : (Rose (faults old) (faults new) → ⊥) → (f g : List ℕ) → content old ≡ Some f → length f ≤ 9 → content new ≡ Some g → StandsFor g steps
-  pub disk_left : (Rose (faults old) (faults new) → ⊥) → (f : List ℕ) → content old ≡ Some f → 9 < length f → content new ≡ Some f
-  -- each recipient is pending with no discharge
-  pub recipients_once : RecipientsOnce steps
-  -- where the line `accepted N` was taken, item N is the input
-  pub acknowledged_kept : (i a b : List ℕ) → input ≡ Some i → before ≡ Some a → now ≡ Some b → (n : ℕ) (rest : List ℕ) → n < 2 ^ 32 → b ≡ a ++ accepted_line n ++ rest → HasItem steps n i
-  -- what was printed is what the status says
-  pub printed : (a b : List ℕ) → before ≡ Some a → now ≡ Some b → IsPrinted a b status
-  -- the steps are of the tables and the input of this call, and their moment is one that the clock told
-  pub provenance : (c i : List ℕ) → conf ≡ Some c → input ≡ Some i → IsAdded tells c i steps
+-- what a command leaves before its last line is printed
+pub record HasDone {D : Type 0} (content : D → Option (List ℕ)) (faults : D → ℕ) (tells : ℕ → Type 0) (words : Option Words) (conf input before now : Option (List ℕ)) (source_rose out_rose : Type 0) (old new : D) (result : Result (Unit {0}) Stop) : Type 0 where
+  pub added : List Step
+  pub disk : DiskLeft content faults old new added
+  pub history : ForHistory (content old) (λ steps. IsHistory (steps ++ added))
+  pub own : (c i : List ℕ) → conf ≡ Some c → input ≡ Some i → ForHistory (content old) (λ steps. AreOwn tells c i (after steps) added)
+  pub few : accepts added ≤ 1
+  pub only : (words ≡ Some Say.Submit → ⊥) → added ≡ []
+  pub printed : HasPrinted (IsText words conf input (content old) added) before now result
+  pub cause : (stop : Stop) → result ≡ Err stop → IsCause words conf input (content old) source_rose (Rose (faults old) (faults new)) out_rose added stop
+  pub settled : words ≡ Some Say.Submit → result ≡ Ok tt → ForHistory (content old) (λ steps. IsSettled tells (steps ++ added))
+  pub stood : result ≡ Ok tt → (f : List ℕ) → content old ≡ Some f → (steps : List Step) × StandsFor f steps
+  pub gathered : words ≡ Some Say.Submit → result ≡ Ok tt → (c i : List ℕ) → conf ≡ Some c → input ≡ Some i → ((t : TablesValue) × (tables_of c ≡ Ok t)) × SpellsApdu i
+  pub named : (name : List ℕ) → words ≡ Some (Say.Mailbox name) → result ≡ Ok tt → ForHistory (content old) (λ steps. mailbox_named (after steps) name ≢ None)
 
--- a status of this program so far
-abbrev pub IsStatus : ℕ → Type 0
-IsStatus n = (n ≡ 0) ⊎ (n ≡ 1) ⊎ (n ≡ 4) ⊎ (n ≡ 7) ⊎ (n ≡ 8) ⊎ (n ≡ 9) ⊎ (n ≡ 11)
+-- the item of this number has these octets, and is the next one after the steps
+pub record IsKept (steps added : List Step) (n : ℕ) (input : List ℕ) : Type 0 where
+  pub number : n ≡ length (after steps).machine.items + 1
+  pub item : Item
+  pub item_is : numbered (after (steps ++ added)).machine.items n ≡ Some item
+  pub octets : item.octets ≡ input
 
--- nothing that was handed in is left for a later version
-abbrev pub IsBuilt : Option (List ℕ) → Option (List ℕ) → Option (List ℕ) → Type 0
-IsBuilt conf input disk = (c i f : List ℕ) → conf ≡ Some c → input ≡ Some i → disk ≡ Some f → IsAccepted c i × (length f ≤ 9)
+-- What a run leaves, each part where the objects that it speaks of tell what they hold. `added` are the steps that it added
+-- to the history for which the disk stood.
+pub record Ran {D : Type 0} (content : D → Option (List ℕ)) (faults : D → ℕ) (tells : ℕ → Type 0) (words : Option Words) (conf input before now : Option (List ℕ)) (source_rose out_rose : Type 0) (old new : D) (status : ℕ) : Type 0 where
+  pub added : List Step
+  -- unless its count rose, the disk stands for the history with the added steps, and one that is no spool is as it was
+  pub disk_stands : DiskLeft content faults old new added
+  -- each recipient is pending with no discharge, or is not pending and has one
+  pub recipients_once : ForHistory (content old) (λ steps. RecipientsOnce (steps ++ added))
+  -- where `submit` printed the line `accepted N`, item N is the input
+  pub acknowledged_kept : words ≡ Some Say.Submit → (c i a b : List ℕ) → conf ≡ Some c → input ≡ Some i → before ≡ Some a → now ≡ Some b → (n : ℕ) (rest : List ℕ) → n < 2 ^ 32 → b ≡ a ++ accepted_line n ++ rest
+      → ForHistory (content old) (λ steps. IsKept steps added n i)
+  -- what was printed, the status, and why
+  pub printed : IsEnded (IsCause words conf input (content old) source_rose (Rose (faults old) (faults new)) out_rose added) (IsText words conf input (content old) added) out_rose before now status
+  -- the steps are of the tables and the input of this call, their moments are those of the clock, and only `submit` adds any
+  pub provenance : (c i : List ℕ) → conf ≡ Some c → input ≡ Some i → ForHistory (content old) (λ steps. AreOwn tells c i (after steps) added)
+  pub at_most_one : accepts added ≤ 1
+  pub only_submit : (words ≡ Some Say.Submit → ⊥) → added ≡ []
+  -- status 0 comes only where the words are in the grammar, the disk stood for a history, and what the command reads is in order
+  pub ended_well : status ≡ 0 → ((words ≡ None) → ⊥) × ((f : List ℕ) → content old ≡ Some f → (steps : List Step) × StandsFor f steps)
+  pub read_well : status ≡ 0 → words ≡ Some Say.Submit → (c i : List ℕ) → conf ≡ Some c → input ≡ Some i → ((t : TablesValue) × (tables_of c ≡ Ok t)) × SpellsApdu i
+  pub named_well : (name : List ℕ) → status ≡ 0 → words ≡ Some (Say.Mailbox name) → ForHistory (content old) (λ steps. mailbox_named (after steps) name ≢ None)
+  -- and with status 0 of `submit` nothing is due
+  pub settled : status ≡ 0 → words ≡ Some Say.Submit → ForHistory (content old) (λ steps. IsSettled tells (steps ++ added))
 
--- some thing that was handed in is left for a later version
-abbrev pub IsNotBuilt : Option (List ℕ) → Option (List ℕ) → Option (List ℕ) → Type 0
-IsNotBuilt conf input disk = (c i f : List ℕ) → conf ≡ Some c → input ≡ Some i → disk ≡ Some f → IsAccepted c i → 9 < length f
-
--- With the word, tables and an input that are accepted, a disk of at most nine octets and no fault, the status is 0 or 7.
-abbrev pub IsComplete : List (String Global) → Option (List ℕ) → Option (List ℕ) → Option (List ℕ) → Type 0 → Type 0 → Type 0 → Type 0 → ℕ → Type 0
-IsComplete words conf input disk disk_rose conf_rose input_rose out_rose status =
-    IsSubmit words → (disk_rose → ⊥) → (conf_rose → ⊥) → (input_rose → ⊥) → (out_rose → ⊥) → (c i f : List ℕ) → conf ≡ Some c → input ≡ Some i → disk ≡ Some f → IsAccepted c i → length f ≤ 9
-    → (status ≡ 0) ⊎ (status ≡ 7)
+-- With words in the grammar, acceptable tables and input, a disk that stands for a history, a mailbox that is named and no fault,
+-- the status is 0, or 7, or 5 where a step was refused for its numbers.
+abbrev pub IsComplete : (words : Option Words) (conf input disk : Option (List ℕ)) (source_rose disk_rose out_rose : Type 0) → ℕ → Type 0
+IsComplete words conf input disk source_rose disk_rose out_rose status =
+    (words ≡ None → ⊥) → (source_rose → ⊥) → (disk_rose → ⊥) → (out_rose → ⊥) → (c i f : List ℕ) (t : TablesValue) (steps : List Step) → conf ≡ Some c → input ≡ Some i → disk ≡ Some f → tables_of c ≡ Ok t → SpellsApdu i → StandsFor f steps
+    → ((name : List ℕ) → words ≡ Some (Say.Mailbox name) → mailbox_named (after steps) name ≢ None) → (status ≡ 0) ⊎ (status ≡ 5) ⊎ (status ≡ 7)

@@ -1,8 +1,8 @@
 -- What is printed.
-use Rattle.std.specs.Prelude.{◌≡◌, ◌⊎◌, ℕ, List, [], ◌∷◌, ◌++◌, Option, Result, Ok, Err, codes}
+use Rattle.std.specs.Prelude.{◌≡◌, ℕ, List, [], ◌∷◌, ◌++◌, codes}
 use Rattle.std.specs.Fmt.{decimal}
-use Rattle.mta_edge.specs.Outside.{Goes}
-use Rattle.mta.specs.Streams.{TakesFront}
+use Rattle.mta_tables.specs.declared.fault.LineKind.{LineKind}
+use Rattle.mta_tables.specs.declared.fault.LineKind.TheVariants as Kinds
 use Rattle.mta.specs.declared.stop.Stop.{Stop}
 use Rattle.mta.specs.declared.stop.Stop.TheVariants as Stops
 
@@ -10,31 +10,40 @@ use Rattle.mta.specs.declared.stop.Stop.TheVariants as Stops
 abbrev pub accepted_line : ℕ → List ℕ
 accepted_line n = codes "accepted " ++ decimal n ++ 10 ∷ []
 
+abbrev pub kind_text : LineKind → List ℕ
+kind_text Kinds.TooLong = codes "TooLong"
+kind_text Kinds.Word = codes "Word"
+kind_text Kinds.Number = codes "Number"
+kind_text Kinds.Name = codes "Name"
+kind_text Kinds.Unknown = codes "Unknown"
+kind_text Kinds.Twice = codes "Twice"
+kind_text Kinds.TooMany = codes "TooMany"
+kind_text Kinds.Missing = codes "Missing"
+
 -- the line of a stop
-abbrev pub line_of : Stop → List ℕ
+unfoldable pub line_of : Stop → List ℕ
 line_of Stops.Usage = codes "usage: mta submit or serve SESSIONS STATION... or spool or read MAILBOX or decode or drill N\n"
+line_of (Stops.Tables line kind) = codes "tables line " ++ (decimal line ++ (32 ∷ kind_text kind ++ 10 ∷ []))
+line_of (Stops.NotSpool at) = codes "not a spool at " ++ (decimal at ++ 10 ∷ [])
 line_of Stops.Disk = codes "disk fault\n"
+line_of (Stops.Full size need) = codes "spool full " ++ (decimal size ++ (32 ∷ decimal need ++ 10 ∷ []))
+line_of (Stops.Spent last) = codes "no number " ++ (decimal last ++ 10 ∷ [])
 line_of Stops.Memory = codes "out of memory\n"
 line_of Stops.Source = codes "source fault\n"
+line_of Stops.Sink = []
+line_of (Stops.NoMailbox name) = codes "no such mailbox " ++ (name ++ 10 ∷ [])
 line_of Stops.NotBuilt = codes "not built\n"
 
 -- the status of a stop
 abbrev pub status_of : Stop → ℕ
 status_of Stops.Usage = 1
+status_of (Stops.Tables line kind) = 2
+status_of (Stops.NotSpool at) = 3
 status_of Stops.Disk = 4
+status_of (Stops.Full size need) = 5
+status_of (Stops.Spent last) = 5
 status_of Stops.Memory = 7
 status_of Stops.Source = 8
+status_of Stops.Sink = 9
+status_of (Stops.NoMailbox name) = 10
 status_of Stops.NotBuilt = 11
-
--- the sink took this text, and the status is this one; or it failed, took a front of the text, and the status is 9
-abbrev pub HasToldText : List ℕ → ℕ → Option (List ℕ) → Option (List ℕ) → ℕ → Type 0
-HasToldText text own old new status =
-    ((status ≡ own) × Goes (λ f g. g ≡ f ++ text) old new) ⊎ ((status ≡ 9) × Goes (TakesFront text) old new)
-
-abbrev pub HasToldStop : Stop → Option (List ℕ) → Option (List ℕ) → ℕ → Type 0
-HasToldStop stop old new status = HasToldText (line_of stop) (status_of stop) old new status
-
--- what was printed of an answer; there may be no memory for its text
-abbrev pub HasTold : Result ℕ Stop → Option (List ℕ) → Option (List ℕ) → ℕ → Type 0
-HasTold (Ok n) old new status = HasToldText (accepted_line n) 0 old new status ⊎ HasToldStop Stops.Memory old new status
-HasTold (Err stop) old new status = HasToldStop stop old new status

@@ -1,10 +1,29 @@
 -- The words of the command line.
-use Rattle.std.specs.Prelude.{◌≡◌, List, [], ◌∷◌, codes, string_bytes}
+use Rattle.std.specs.Prelude.{ℕ, Bool, true, false, List, [], ◌∷◌, Option, Some, None, codes, string_bytes, not, ◌==◌, ◌&&◌, if◌then◌else◌}
+use Rattle.std.specs.Str.{bytes_eq}
 use Rattle.std.specs.declared.string.String.{String}
 use Rattle.std.specs.declared.alloc.Global.{Global}
+use Rattle.mta_tables.specs.Lines.{is_word}
+use Rattle.mta.specs.declared.words.Words.{Words}
+use Rattle.mta.specs.declared.words.Words.TheVariants as Say
 
--- the one word `submit`
-abbrev pub IsSubmit : List (String Global) → Type 0
-IsSubmit [] = ⊥
-IsSubmit (word ∷ []) = string_bytes word ≡ codes "submit"
-IsSubmit (word ∷ other ∷ words) = ⊥
+-- 1 to 32 letters, digits or -, and no - first
+abbrev pub is_name : List ℕ → Bool
+is_name [] = false
+is_name (c ∷ cs) = not (c == 45) && is_word (c ∷ cs)
+
+abbrev pub mailbox_of : List ℕ → Option Words
+mailbox_of name = if is_name name then Some (Say.Mailbox name) else None
+
+abbrev pub one_word : List ℕ → Option Words
+one_word word = if bytes_eq word (codes "submit") then Some Say.Submit else if bytes_eq word (codes "spool") then Some Say.Queue else None
+
+abbrev pub two_words : List ℕ → List ℕ → Option Words
+two_words word name = if bytes_eq word (codes "read") then mailbox_of name else None
+
+-- `submit`, `spool`, or `read` and the name of a mailbox
+abbrev pub command_of : List (String Global) → Option Words
+command_of [] = None
+command_of (word ∷ []) = one_word (string_bytes word)
+command_of (word ∷ name ∷ []) = two_words (string_bytes word) (string_bytes name)
+command_of (word ∷ name ∷ more ∷ words) = None

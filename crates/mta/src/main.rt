@@ -1,21 +1,22 @@
 //! `mta`, a message transfer agent of the X.400 family.
 #![tactic(auto)]
 
+mod command;
 mod gather;
 mod host;
 mod put;
 mod read;
 mod run;
 mod stop;
-mod store;
 mod tell;
 #[cfg(test)]
 mod tests;
 mod words;
+mod work;
 
 use crate::host::{FileDisk, Octets, Reading, SystemClock, Writing};
 use crate::run::run;
-use crate::words::is_submit;
+use crate::words::Words;
 use std::fs::{File, OpenOptions};
 use std::process::ExitCode;
 use std::{env, io};
@@ -42,14 +43,14 @@ fn spool_file(rt: &HostRuntime) -> Option<File> {
 fn main(rt: HostRuntime) -> ExitCode {
     let mut out = Writing::new(io::writer(&rt));
     let Ok(words) = arguments(&rt) else {
-        return ExitCode::from(tell::tell_stop(&mut out, stop::Stop::Memory));
+        return ExitCode::from(tell::tell(rt.alloc(), &mut out, &stop::Stop::Memory));
     };
     let mut conf = Reading::new(Octets::File(File::open(&rt, "mta.tables").ok()));
     let mut input = Reading::new(Octets::Stream(rt.reader()));
-    let disk = FileDisk::new(if is_submit(&words) {
-        spool_file(&rt)
-    } else {
-        None
+    // Words outside the grammar leave no file behind.
+    let disk = FileDisk::new(match Words::read(rt.alloc(), &words) {
+        Ok(Some(_)) => spool_file(&rt),
+        _ => None,
     });
     let clock = SystemClock::new(&rt);
     let finished = run(

@@ -1,64 +1,76 @@
 //! The top call.
 
-ghost use Rattle.std.specs.Prelude.{◌≡◌, ◌⊎◌};
+ghost use Rattle.std.specs.Prelude.{◌≡◌, ◌≤◌, ◌⊎◌, None, Some};
 ghost use Rattle.mta_edge.specs.Causes.{Rose};
-ghost use Rattle.mta.specs.Words.{IsSubmit};
-ghost use Rattle.mta.specs.Headline.{Ran, IsStatus, IsBuilt, IsNotBuilt, IsComplete};
+ghost use Rattle.mta.specs.declared.words.Words.TheVariants as Say;
+ghost use Rattle.mta.specs.Words.{command_of};
+ghost use Rattle.mta.specs.Headline.{HasDone, Ran, IsComplete};
 
-use crate::gather::gather;
+use crate::command::{Done, mailbox, queue, submit};
 use crate::stop::Stop;
-use crate::store::store;
-use crate::tell::{tell, tell_stop};
-use crate::words::is_submit;
+use crate::tell::tell;
+use crate::words::Words;
 use mta_edge::{Clock, Disk, Sink, Source};
 use std::alloc::Global;
 
-/// What a run gives back.
+/// How a run ended: its status, and the disk that was handed in.
 #[derive(Drop)]
 pub struct Finished<D: Drop> {
-    /// 0 where the work was done; else the status of the line that was printed last.
     pub status: u8,
     pub disk: D,
 }
 
-// `submit`, behind its words.
-fn submit<D: Disk + Drop, C: Clock + Drop, I: Source, O: Sink>(
+// Does what the words say.
+fn perform<D: Disk + Drop, C: Clock + Drop, I: Source, O: Sink>(
     alloc: Global,
+    words: Words,
     conf: &mut I,
     input: &mut I,
     out: &mut O,
     disk: D,
     clock: C,
-) -> Finished<D>
-    ensures ran { Ran D.content D.faults (C.tells clock) (I.left conf.old) (I.left input.old) (O.taken out.old) (O.taken out.new) disk result.disk result.status }
-    ensures done { result.status ≡ 0 → IsBuilt (I.left conf.old) (I.left input.old) (D.content disk) }
-    ensures usage { result.status ≡ 1 → ⊥ }
-    ensures disk_fault { result.status ≡ 4 → Rose (D.faults disk) (D.faults result.disk) }
-    ensures source_fault { result.status ≡ 8 → Rose (I.faults conf.old) (I.faults conf.new) ⊎ Rose (I.faults input.old) (I.faults input.new) }
-    ensures sink_fault { result.status ≡ 9 → Rose (O.faults out.old) (O.faults out.new) }
-    ensures not_built { result.status ≡ 11 → IsNotBuilt (I.left conf.old) (I.left input.old) (D.content disk) }
-    ensures status { IsStatus result.status }
-    ensures untouched { result.status ≡ 8 → result.disk ≡ disk }
+) -> Done<D>
+    ensures done { HasDone D.content D.faults (C.tells clock) (Some words) (I.left conf.old) (I.left input.old) (O.taken out.old) (O.taken out.new) (Rose (I.faults conf.old) (I.faults conf.new) ⊎ Rose (I.faults input.old) (I.faults input.new)) (Rose (O.faults out.old) (O.faults out.new)) disk result.disk result.outcome }
+    ensures later { O.faults out.old ≤ O.faults out.new }
 {
-    match gather(alloc, conf, input) {
-        Err(stop) => Finished {
-            status: tell_stop(out, stop),
-            disk,
-        },
-        Ok(gathered) => {
-            let stored = store(alloc, gathered, disk, clock);
-            Finished {
-                status: tell(alloc, out, stored.answer),
-                disk: stored.disk,
-            }
-        }
+    match words {
+        Words::Submit => submit(alloc, conf, input, out, disk, clock),
+        Words::Queue => queue(alloc, out, disk, clock),
+        Words::Mailbox(name) => mailbox(alloc, name, out, disk, clock),
     }
 }
 
-/// Does what the words say, over objects that are handed in, prints the last line and gives the disk back.
+// What the words say and what it left, or that they are outside the grammar.
+fn command<D: Disk + Drop, C: Clock + Drop, I: Source, O: Sink>(
+    alloc: Global,
+    words: &[String],
+    conf: &mut I,
+    input: &mut I,
+    out: &mut O,
+    disk: D,
+    clock: C,
+) -> Done<D>
+    ensures done { HasDone D.content D.faults (C.tells clock) (command_of words.now) (I.left conf.old) (I.left input.old) (O.taken out.old) (O.taken out.new) (Rose (I.faults conf.old) (I.faults conf.new) ⊎ Rose (I.faults input.old) (I.faults input.new)) (Rose (O.faults out.old) (O.faults out.new)) disk result.disk result.outcome }
+    ensures later { O.faults out.old ≤ O.faults out.new }
+{
+    match Words::read(alloc, words) {
+        Ok(Some(words)) => perform(alloc, words, conf, input, out, disk, clock),
+        Ok(None) => Done {
+            disk,
+            outcome: Err(Stop::Usage),
+        },
+        Err(_) => Done {
+            disk,
+            outcome: Err(Stop::Memory),
+        },
+    }
+}
+
+/// Does what the words say, over objects that are handed in, prints its text and the last line, and gives the disk back.
 ///
-/// So far the one command is `submit`: it reads the tables and the input to their ends, opens the disk, records the
-/// tables, takes the input as the first item and prints `accepted 1`. A disk of more than nine octets is not built.
+/// `submit` reads the tables and the input to their ends, opens the disk, records the tables where they changed, takes the
+/// message, prints `accepted N`, and delivers what is due until nothing is. `spool` prints the queue, and `read MAILBOX` what a
+/// mailbox got.
 pub fn run<D: Disk + Drop, C: Clock + Drop, I: Source, O: Sink>(
     alloc: Global,
     words: &[String],
@@ -68,28 +80,21 @@ pub fn run<D: Disk + Drop, C: Clock + Drop, I: Source, O: Sink>(
     disk: D,
     clock: C,
 ) -> Finished<D>
-    ensures ran { Ran D.content D.faults (C.tells clock) (I.left conf.old) (I.left input.old) (O.taken out.old) (O.taken out.new) disk result.disk result.status }
+    ensures ran { Ran D.content D.faults (C.tells clock) (command_of words.now) (I.left conf.old) (I.left input.old) (O.taken out.old) (O.taken out.new) (Rose (I.faults conf.old) (I.faults conf.new) ⊎ Rose (I.faults input.old) (I.faults input.new)) (Rose (O.faults out.old) (O.faults out.new)) disk result.disk result.status }
+    ensures complete { IsComplete (command_of words.now) (I.left conf.old) (I.left input.old) (D.content disk) (Rose (I.faults conf.old) (I.faults conf.new) ⊎ Rose (I.faults input.old) (I.faults input.new)) (Rose (D.faults disk) (D.faults result.disk)) (Rose (O.faults out.old) (O.faults out.new)) result.status }
 
-    // When each status comes. Want of memory, 7, is free.
-    ensures done { result.status ≡ 0 → IsSubmit words.now × IsBuilt (I.left conf.old) (I.left input.old) (D.content disk) }
-    ensures usage { result.status ≡ 1 → IsSubmit words.now → ⊥ }
-    ensures usage_always { (IsSubmit words.now → ⊥) → (result.status ≡ 1) ⊎ (result.status ≡ 9) }
+    // When each status comes that tells of the outside, and of the words. Want of memory, 7, is free; the causes of all others
+    // stand in `printed` of the record.
+    ensures usage { result.status ≡ 1 → command_of words.now ≡ None }
     ensures disk_fault { result.status ≡ 4 → Rose (D.faults disk) (D.faults result.disk) }
     ensures source_fault { result.status ≡ 8 → Rose (I.faults conf.old) (I.faults conf.new) ⊎ Rose (I.faults input.old) (I.faults input.new) }
     ensures sink_fault { result.status ≡ 9 → Rose (O.faults out.old) (O.faults out.new) }
-    ensures not_built { result.status ≡ 11 → IsNotBuilt (I.left conf.old) (I.left input.old) (D.content disk) }
-    ensures status { IsStatus result.status }
-    ensures complete { IsComplete words.now (I.left conf.old) (I.left input.old) (D.content disk) (Rose (D.faults disk) (D.faults result.disk)) (Rose (I.faults conf.old) (I.faults conf.new)) (Rose (I.faults input.old) (I.faults input.new)) (Rose (O.faults out.old) (O.faults out.new)) result.status }
-
-    // Where it ends before opening, the disk is as it was.
-    ensures untouched { (result.status ≡ 1) ⊎ (result.status ≡ 8) → result.disk ≡ disk }
 {
-    if is_submit(words) {
-        submit(alloc, conf, input, out, disk, clock)
-    } else {
-        Finished {
-            status: tell_stop(out, Stop::Usage),
-            disk,
-        }
-    }
+    let Done { disk, outcome } = command(alloc, words, conf, input, out, disk, clock);
+    let status = match outcome {
+        Ok(()) => 0,
+        Err(Stop::Sink) => 9,
+        Err(stop) => tell(alloc, out, &stop),
+    };
+    Finished { status, disk }
 }

@@ -1,16 +1,31 @@
 //! Why a command ended without its result.
 
+use mta_ber::Word;
+use mta_tables::LineKind;
+
 /// Each with its status and its line.
-#[derive(Clone, Copy, Debug, PartialEq, Eq)]
+#[derive(Debug, Drop)]
 pub enum Stop {
     /// The words are outside the grammar.
     Usage,
+    /// The text of the tables has this first bad line, from 1.
+    Tables { line: u32, kind: LineKind },
+    /// The disk holds no spool from this offset on.
+    NotSpool { at: u64 },
     /// The disk failed.
     Disk,
+    /// The journal has `size` octets, and with the `need` octets of the next record it would pass its limit.
+    Full { size: u64, need: u64 },
+    /// The numbers left above `last` are fewer than the next step needs.
+    Spent { last: u64 },
     /// No memory was left.
     Memory,
     /// The tables' file or the input failed.
     Source,
-    /// What was asked is not built yet.
+    /// The output failed.
+    Sink,
+    /// The tables recorded last do not name this mailbox, or none are recorded.
+    NoMailbox(Word),
+    /// The input is no message of the first shape.
     NotBuilt,
 }

@@ -1,75 +1,124 @@
-//! Printing the last line of a command.
+//! Printing the lines of a command.
 
-ghost use Rattle.std.specs.Prelude.{◌≡◌, ◌≤◌, ◌⊎◌, IfOk, string_bytes};
-ghost use Rattle.mta_edge.specs.Causes.{Rose};
-ghost use Rattle.mta_edge.specs.Outside.{Goes};
-ghost use Rattle.mta.specs.Telling.{accepted_line, status_of, line_of, HasTold, HasToldStop};
+ghost use Rattle.std.specs.Prelude.{◌≡◌, ◌≤◌, ◌++◌, IfOk};
+ghost use Rattle.mta_edge.specs.Causes.{Rose, HasCause};
+ghost use Rattle.mta.specs.Telling.{accepted_line, kind_text, status_of, line_of};
+ghost use Rattle.mta.specs.Ending.{HasTold};
 
 use crate::put::put_all;
 use crate::stop::Stop;
+use mta_ber::{Memory, Octets};
 use mta_edge::Sink;
-use std::alloc::{AllocError, Global};
+use mta_show::put_number;
+use mta_tables::LineKind;
+use std::alloc::Global;
 
-// The line of a stop.
-fn line_of(stop: Stop) -> &'static [u8]
-    ensures { result.now ≡ line_of stop }
+const USAGE: &[u8] =
+    b"usage: mta submit or serve SESSIONS STATION... or spool or read MAILBOX or decode or drill N\n";
+
+fn kind_text(kind: LineKind) -> &'static [u8]
+    ensures { result.now ≡ kind_text kind }
 {
-    match stop {
-        Stop::Usage => {
-            b"usage: mta submit or serve SESSIONS STATION... or spool or read MAILBOX or decode or drill N\n"
-        }
-        Stop::Disk => b"disk fault\n",
-        Stop::Memory => b"out of memory\n",
-        Stop::Source => b"source fault\n",
-        Stop::NotBuilt => b"not built\n",
+    match kind {
+        LineKind::TooLong => b"TooLong",
+        LineKind::Word => b"Word",
+        LineKind::Number => b"Number",
+        LineKind::Name => b"Name",
+        LineKind::Unknown => b"Unknown",
+        LineKind::Twice => b"Twice",
+        LineKind::TooMany => b"TooMany",
+        LineKind::Missing => b"Missing",
     }
 }
 
+// The line of a stop.
+#[tactic(auto, unfolding(crate::specs::Telling::line_of))]
+fn line_of(alloc: Global, stop: &Stop) -> Result<Octets, Memory>
+    ensures { IfOk result (λ line. line ≡ line_of stop.now) }
+{
+    let mut line = Octets::new(alloc);
+    match stop {
+        Stop::Usage => line.extend(USAGE)?,
+        Stop::Tables { line: number, kind } => {
+            line.extend(b"tables line ")?;
+            put_number(&mut line, u64::from(*number))?;
+            line.extend(b" ")?;
+            line.extend(kind_text(*kind))?;
+            line.extend(b"\n")?;
+        }
+        Stop::NotSpool { at } => {
+            line.extend(b"not a spool at ")?;
+            put_number(&mut line, *at)?;
+            line.extend(b"\n")?;
+        }
+        Stop::Disk => line.extend(b"disk fault\n")?,
+        Stop::Full { size, need } => {
+            line.extend(b"spool full ")?;
+            put_number(&mut line, *size)?;
+            line.extend(b" ")?;
+            put_number(&mut line, *need)?;
+            line.extend(b"\n")?;
+        }
+        Stop::Spent { last } => {
+            line.extend(b"no number ")?;
+            put_number(&mut line, *last)?;
+            line.extend(b"\n")?;
+        }
+        Stop::Memory => line.extend(b"out of memory\n")?,
+        Stop::Source => line.extend(b"source fault\n")?,
+        Stop::Sink => {}
+        Stop::NoMailbox(name) => {
+            line.extend(b"no such mailbox ")?;
+            line.extend(name.as_slice())?;
+            line.extend(b"\n")?;
+        }
+        Stop::NotBuilt => line.extend(b"not built\n")?,
+    }
+    Ok(line)
+}
+
 // The status of a stop.
-fn status_of(stop: Stop) -> u8
-    ensures { result ≡ status_of stop }
+fn status_of(stop: &Stop) -> u8
+    ensures { result ≡ status_of stop.now }
 {
     match stop {
         Stop::Usage => 1,
+        Stop::Tables { .. } => 2,
+        Stop::NotSpool { .. } => 3,
         Stop::Disk => 4,
+        Stop::Full { .. } | Stop::Spent { .. } => 5,
         Stop::Memory => 7,
         Stop::Source => 8,
+        Stop::Sink => 9,
+        Stop::NoMailbox(_) => 10,
         Stop::NotBuilt => 11,
     }
 }
 
-fn accepted_line(alloc: Global, number: u32) -> Result<String, AllocError>
-    ensures { IfOk result (λ s. string_bytes s ≡ accepted_line number) }
+/// The line for an item that was accepted.
+pub fn accepted_line(alloc: Global, number: u32) -> Result<Octets, Memory>
+    ensures { IfOk result (λ line. line ≡ accepted_line number) }
 {
-    format!(in alloc; "accepted {number}\n")
+    let mut line = Octets::from_slice(alloc, b"accepted ")?;
+    put_number(&mut line, u64::from(number))?;
+    line.extend(b"\n")?;
+    Ok(line)
 }
 
-/// Prints the line of a stop, and answers its status, or 9 where the sink fails.
-pub fn tell_stop<O: Sink>(out: &mut O, stop: Stop) -> u8
-    ensures told { HasToldStop stop (O.taken out.old) (O.taken out.new) result }
+/// Prints the line of a stop, or that memory is out where there is none for it, and answers the status, or 9 where the sink
+/// fails.
+pub fn tell<O: Sink>(alloc: Global, out: &mut O, stop: &Stop) -> u8
+    ensures told { HasTold stop.now (O.taken out.old) (O.taken out.new) (Rose (O.faults out.old) (O.faults out.new)) result }
     ensures later { O.faults out.old ≤ O.faults out.new }
-    ensures fault { result ≡ 9 → Rose (O.faults out.old) (O.faults out.new) }
 {
-    match put_all(out, line_of(stop)) {
-        Ok(()) => status_of(stop),
-        Err(_) => 9,
-    }
-}
-
-/// Prints the last line of a command, and answers its status, or 9 where the sink fails.
-pub fn tell<O: Sink>(alloc: Global, out: &mut O, answer: Result<u32, Stop>) -> u8
-    ensures told { HasTold answer (O.taken out.old) (O.taken out.new) result }
-    ensures later { O.faults out.old ≤ O.faults out.new }
-    ensures fault { result ≡ 9 → Rose (O.faults out.old) (O.faults out.new) }
-{
-    match answer {
-        Err(stop) => tell_stop(out, stop),
-        Ok(number) => match accepted_line(alloc, number) {
-            Err(_) => tell_stop(out, Stop::Memory),
-            Ok(line) => match put_all(out, line.as_bytes()) {
-                Ok(()) => 0,
-                Err(_) => 9,
-            },
+    match line_of(alloc, stop) {
+        Ok(line) => match put_all(out, line.as_slice()) {
+            Ok(()) => status_of(stop),
+            Err(_) => 9,
+        },
+        Err(_) => match put_all(out, b"out of memory\n") {
+            Ok(()) => 7,
+            Err(_) => 9,
         },
     }
 }

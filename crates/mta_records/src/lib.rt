@@ -4,12 +4,14 @@
 mod fault;
 mod laws;
 mod reading;
+mod reference;
 mod step;
 mod writing;
 
 pub use fault::{RecordFault, StepFault};
 pub use laws::{a_body_is_of_one_step, a_record_is_read_again};
 pub use reading::read_record;
+pub use reference::Reference;
 pub use step::Step;
 pub use writing::write_record;
 

@@ -10,4 +10,5 @@ mod tests;
 
 pub use mailbox::show_mailbox;
 pub use message::show_message;
+pub use pieces::put_number;
 pub use queue::show_queue;

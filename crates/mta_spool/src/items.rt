@@ -39,6 +39,13 @@ impl Items {
         }
     }
 
+    /// The items, lent.
+    pub fn as_slice(&self) -> &[Item]
+        ensures { result.now ≡ self.now }
+    {
+        self.inner.as_slice()
+    }
+
     /// How many items there are.
     pub fn len(&self) -> usize
         ensures { result ≡ length self.now }

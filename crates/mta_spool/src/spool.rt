@@ -1,6 +1,6 @@
 //! The spool: its journal and its state.
 
-ghost use Rattle.std.specs.Prelude.{◌≡◌, ◌≢◌, ◌++◌, [], ◌∷◌, ◌+◌, ◌≤◌, ◌<◌, ◌^◌, List, ℕ, Some, None, length, IfOk, IsErrOf, IsTrue, ◌↔◌, true, false, ◌-◌, Ok, Err, if◌then◌else◌};
+ghost use Rattle.std.specs.Prelude.{◌≡◌, ◌≢◌, ◌++◌, [], ◌∷◌, ◌+◌, ◌≤◌, ◌<◌, ◌^◌, List, ℕ, Some, None, length, IfOk, OnOk, IsErrOf, IsTrue, ◌↔◌, true, false, ◌-◌, Ok, Err, if◌then◌else◌};
 ghost use Rattle.std.specs.Option.{option_copied};
 ghost use Rattle.mta_records.specs.declared.step.Step.{Step};
 ghost use Rattle.mta_records.specs.Body.{HasFields, body_of};
@@ -141,6 +141,7 @@ impl<D: Disk + Drop, C: Clock + Drop> Spool<D, C> {
     fn record_tables(&mut self, tables: Tables) -> Result<(), StepFault>
         requires { self.old.ended ≡ false }
         ensures appends { Appends D.content D.faults (Step.Tables tables.text) self.old self.new result }
+        ensures recorded { OnOk result (IsRecorded self.new.current.tables tables) }
         ensures clock { self.new.clock ≡ self.old.clock }
         ensures spent { (last : ℕ) → IsErrOf result (StepFault.Spent last) → ⊥ }
     {
@@ -156,6 +157,7 @@ impl<D: Disk + Drop, C: Clock + Drop> Spool<D, C> {
     pub fn set_tables(&mut self, tables: Tables) -> Result<(), StepFault>
         ensures same { IsRecorded self.old.current.tables tables → (self.new ≡ self.old) × (result ≡ (if self.old.ended then Err StepFault.Ended else Ok tt)) }
         ensures appends { (IsRecorded self.old.current.tables tables → ⊥) → Appends D.content D.faults (Step.Tables tables.text) self.old self.new result }
+        ensures recorded { OnOk result (IsRecorded self.new.current.tables tables) }
         ensures clock { self.new.clock ≡ self.old.clock }
         ensures spent { (last : ℕ) → IsErrOf result (StepFault.Spent last) → ⊥ }
     {

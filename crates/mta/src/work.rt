@@ -1,0 +1,97 @@
+//! Working on an open spool.
+
+ghost use Rattle.std.specs.Prelude.{◌≡◌, ◌≤◌, IfOk, false};
+ghost use Rattle.mta_edge.specs.Causes.{Rose};
+ghost use Rattle.mta_history.specs.Apdu.{SpellsApdu};
+ghost use Rattle.mta.specs.Working.{HasStored, HasSettled, HasAcknowledged, HasWorked, stop_of_step};
+
+use crate::gather::Gathered;
+use crate::put::put_all;
+use crate::stop::Stop;
+use crate::tell::accepted_line;
+use mta_ber::Octets;
+use mta_edge::{Clock, Disk, Sink};
+use mta_spool::{Spool, StepFault, Tables, Turned};
+use std::alloc::Global;
+
+// Records the tables, where they changed, and takes the message; its number.
+fn store<D: Disk + Drop, C: Clock + Drop>(
+    spool: &mut Spool<D, C>,
+    tables: Tables,
+    apdu: &Octets,
+) -> Result<u32, StepFault>
+    requires going { spool.old.ended ≡ false }
+    requires message { SpellsApdu apdu.now }
+    ensures { HasStored D.content D.faults (C.tells spool.old.clock) tables.text apdu.now spool.old spool.new result }
+{
+    match spool.set_tables(tables) {
+        Ok(()) => spool.accept(apdu.as_slice()),
+        Err(fault) => Err(fault),
+    }
+}
+
+// Does what is due until nothing is.
+fn settle<D: Disk + Drop, C: Clock + Drop>(spool: &mut Spool<D, C>) -> Result<(), StepFault>
+    requires { spool.old.ended ≡ false }
+    ensures { HasSettled D.content D.faults (C.tells spool.old.clock) spool.old spool.new result }
+{
+    loop {
+        match spool.turn() {
+            Ok(Turned::Did(_)) => {}
+            Ok(Turned::Quiet { .. }) => return Ok(()),
+            Err(fault) => return Err(fault),
+        }
+    }
+}
+
+fn stop_of_step(fault: StepFault) -> Stop
+    ensures { result ≡ stop_of_step fault }
+{
+    match fault {
+        StepFault::Full { size, need } => Stop::Full { size, need },
+        StepFault::Disk | StepFault::Ended => Stop::Disk,
+        StepFault::Spent { last } => Stop::Spent { last },
+        StepFault::Memory => Stop::Memory,
+    }
+}
+
+// Prints the number of an item.
+fn acknowledge<O: Sink>(alloc: Global, out: &mut O, number: u32) -> Result<(), Stop>
+    ensures said { HasAcknowledged (O.taken out.old) (O.taken out.new) (Rose (O.faults out.old) (O.faults out.new)) number result }
+    ensures later { O.faults out.old ≤ O.faults out.new }
+{
+    let Ok(line) = accepted_line(alloc, number) else {
+        return Err(Stop::Memory);
+    };
+    match put_all(out, line.as_slice()) {
+        Ok(()) => Ok(()),
+        Err(_) => Err(Stop::Sink),
+    }
+}
+
+/// Records the tables, takes the message, prints its number, and does what is due until nothing is.
+pub fn work<D: Disk + Drop, C: Clock + Drop, O: Sink>(
+    alloc: Global,
+    spool: &mut Spool<D, C>,
+    gathered: Gathered,
+    out: &mut O,
+) -> Result<(), Stop>
+    requires going { spool.old.ended ≡ false }
+    requires message { SpellsApdu gathered.apdu }
+    ensures worked { HasWorked D.content D.faults (C.tells spool.old.clock) gathered.tables.text gathered.apdu (O.taken out.old) (O.taken out.new) (Rose (O.faults out.old) (O.faults out.new)) spool.old spool.new result }
+    ensures later { O.faults out.old ≤ O.faults out.new }
+{
+    let Gathered { tables, apdu } = gathered;
+    let number = match store(spool, tables, &apdu) {
+        Ok(number) => number,
+        Err(fault) => return Err(stop_of_step(fault)),
+    };
+    match acknowledge(alloc, out, number) {
+        Ok(()) => {}
+        Err(stop) => return Err(stop),
+    }
+    match settle(spool) {
+        Ok(()) => Ok(()),
+        Err(fault) => Err(stop_of_step(fault)),
+    }
+}
