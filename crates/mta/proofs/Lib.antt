@@ -1,2 +1,6 @@
+pub mod Dones
 pub mod Pieces
+pub mod Settles
 pub mod Steps
+pub mod Stores
+pub mod Works

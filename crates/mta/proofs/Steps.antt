@@ -11,6 +11,7 @@ use Rattle.mta_records.specs.declared.step.Step.TheVariants.{Tables, Accept, Del
 use Rattle.mta_records.specs.declared.fault.StepFault.{StepFault}
 use Rattle.mta_records.specs.declared.fault.StepFault.TheVariants as StepFaults
 use Rattle.mta_tables.specs.Tables.{TablesValue, tables_of, tables}
+use Rattle.mta_tables.specs.Lines.{◌>>=◌}
 use Rattle.mta_tables.specs.Reading.{Bad, bad, nothing, read_lines}
 use Rattle.mta_tables.specs.declared.reading.Lines.{Lines}
 use Rattle.mta_history.specs.declared.item.Item.{Item}
@@ -109,12 +110,11 @@ text_kept text t read =
   where
   bad_ok : {b : Bad} → ◌≡◌ {A = Result TablesValue Bad} (Err b) (Ok t) → ⊥
   bad_ok w = cc
-  made : (lines : Result Lines Bad) → (elim lines [ Ok ls ↦ Ok (tables text ls) | Err b ↦ Err b ]) ≡ Ok t → t.text ≡ text
-  made (Ok ls) e = sym (ap (λ (r : Result TablesValue Bad). text_of r) e)
-    where
-    text_of : Result TablesValue Bad → List ℕ
-    text_of (Ok v) = v.text
-    text_of (Err b) = []
+  text_of : Result TablesValue Bad → List ℕ
+  text_of (Ok v) = v.text
+  text_of (Err b) = []
+  made : (lines : Result Lines Bad) → (lines >>= λ ls. Ok (tables text ls)) ≡ Ok t → t.text ≡ text
+  made (Ok ls) e = sym (ap text_of e)
   made (Err b) e = absurd cc
 
 value_text : (text : List ℕ) (t : TablesValue) → tables_value text ≡ Some t → t.text ≡ text
@@ -128,3 +128,84 @@ value_text text t e = text_kept text t (was_ok (tables_of text) e) where
 pub last_recorded : (ts : List (List ℕ)) (t : TablesValue) → recorded ts ≡ Some t → last_of ts ≡ Some t.text
 unfolding recorded
 last_recorded ts t e = option_and_then_some tables_value (last_of ts) t e (λ text last value. last ∙ ap (λ (x : List ℕ). Some x) (sym (value_text text t value)))
+
+recorded_is : (o : Option TablesValue) (t : TablesValue) → IsRecorded o t → (v : TablesValue) × (o ≡ Some v) × (v.text ≡ t.text)
+recorded_is None t h = absurd h
+recorded_is (Some v) t h = (v, refl, h)
+
+-- where the tables are those recorded last, their text is the last one
+pub tables_last : (steps : List Step) (current : Current) (t : TablesValue) → current ≡ current_of (after steps) → IsRecorded current.tables t → last_of (after steps).machine.tables ≡ Some t.text
+tables_last steps current t is h =
+    let v = recorded_is current.tables t h in
+    last_recorded (after steps).machine.tables v.0 (sym (ap (λ (c : Current). c.tables) is) ∙ v.1) ∙ ap (λ (x : List ℕ). Some x) v.2
+
+-- ---- items
+
+numbered_more : {A : Type 0} (xs : List A) (x : A) → numbered (xs ++ x ∷ []) (length xs + 1) ≡ Some x
+numbered_more xs x = ap (numbered (xs ++ x ∷ [])) (next (length xs)) ∙ at_end xs x where
+  next : (n : ℕ) → n + 1 ≡ suc n
+  next n = omega arith
+  at_end : {A : Type 0} (ys : List A) (y : A) → slice_get (ys ++ y ∷ []) (length ys) ≡ Some y
+  at_end [] y = refl
+  at_end (z ∷ ys) y = at_end ys y
+
+-- the item of a message that was accepted behind these steps
+pub accepted_item : (steps added : List Step) (conf input : List ℕ) (moment n : ℕ) → last_of (after (steps ++ added)).machine.tables ≡ Some conf → length (after (steps ++ added)).machine.items ≡ length (after steps).machine.items
+    → n ≡ length (after (steps ++ added)).machine.items + 1 → IsAccepted steps (added ++ Accept moment input ∷ []) conf input n
+accepted_item steps added conf input moment n last same number = record {
+  number = omega (arith, number, same);
+  item = record { octets = input; arrival = moment; origin = Submitted; statuses = statuses_at_first input };
+  item_is =
+      rw number (subst (λ (s : State). numbered s.machine.items (length (after (steps ++ added)).machine.items + 1) ≡ Some (record { octets = input; arrival = moment; origin = Submitted; statuses = statuses_at_first input })) (sym there)
+      (numbered_more (after (steps ++ added)).machine.items (record { octets = input; arrival = moment; origin = Submitted; statuses = statuses_at_first input })));
+  octets = refl;
+  tables = subst (λ (s : State). last_of s.machine.tables ≡ Some conf) (sym there) last;
+} where
+  there : after (steps ++ (added ++ Accept moment input ∷ [])) ≡ after_step (after (steps ++ added)) (Accept moment input)
+  there = ap after (sym (append_assoc steps added (Accept moment input ∷ []))) ∙ after_append empty (steps ++ added) (Accept moment input ∷ [])
+
+get_set_same : {A : Type 0} (xs : List A) (k : ℕ) (x : A) → k < length xs → slice_get (set xs k x) k ≡ Some x
+get_set_same [] k x small = absurd (omega arith)
+get_set_same (y ∷ ys) zero x small = refl
+get_set_same (y ∷ ys) (suc k) x small = get_set_same ys k x (omega (arith, small))
+
+get_set_other : {A : Type 0} (xs : List A) (k j : ℕ) (x : A) → (j ≡ k → ⊥) → slice_get (set xs k x) j ≡ slice_get xs j
+get_set_other [] k j x other = refl
+get_set_other (y ∷ ys) zero zero x other = absurd (other refl)
+get_set_other (y ∷ ys) zero (suc j) x other = refl
+get_set_other (y ∷ ys) (suc k) zero x other = refl
+get_set_other (y ∷ ys) (suc k) (suc j) x other = get_set_other ys k j x (λ e. other (ap suc e))
+
+-- a status changes no item's octets
+abbrev KeepsOctets : List Item → List Item → Type 0
+KeepsOctets old new = (n : ℕ) (item : Item) → numbered old n ≡ Some item → (now : Item) × (numbered new n ≡ Some now) × (now.octets ≡ item.octets)
+
+some_item : (a b : Item) → Some a ≡ Some b → a ≡ b
+some_item a b w = cc
+
+status_keeps : (items : List Item) (found : Item) (j r moment : ℕ) → numbered items j ≡ Some found → KeepsOctets items (with_status items (Some found) j r (Delivered moment))
+status_keeps items found zero r moment is n item there = absurd cc
+status_keeps items found (suc j) r moment is zero item there = absurd cc
+status_keeps items found (suc j) r moment is (suc n) item there =
+    let back : suc j - 1 ≡ j = omega arith in
+    let now : Item = record found { statuses = set found.statuses (r - 1) (Some (Delivered moment)) } in
+    elim (cases_eq n j) [
+      | inl same ↦ (now, rw (back, same) (get_set_same items j now (slice_get_within items j found is)), ap (λ (x : Item). x.octets) (some_item found item (sym is ∙ ap (slice_get items) (sym same) ∙ there)))
+      | inr other ↦ (item, rw back (get_set_other items j n now other ∙ there), refl)
+    ]
+
+-- a delivery keeps the octets of all items, and the tables
+pub delivery_keeps : (steps : List Step) (conf input : List ℕ) (before added : List Step) (item recipient moment n : ℕ) → IsPossible (after (before ++ added)) (Deliver item recipient moment) → IsAccepted before added conf input n → IsAccepted before (added ++ Deliver item recipient moment ∷ []) conf input n
+delivery_keeps steps conf input before added item recipient moment n possible a =
+    let d : IsDue _ (after (before ++ added)).machine.items item recipient moment possible.0 = possible.1 in
+    let there : after (before ++ (added ++ Deliver item recipient moment ∷ [])) ≡ after_step (after (before ++ added)) (Deliver item recipient moment) =
+    ap after (sym (append_assoc before added (Deliver item recipient moment ∷ []))) ∙ after_append empty (before ++ added) (Deliver item recipient moment ∷ []) in
+    let kept = status_keeps (after (before ++ added)).machine.items d.item item recipient moment d.item_is n a.item a.item_is in
+    let now_is : numbered (with_status (after (before ++ added)).machine.items (numbered (after (before ++ added)).machine.items item) item recipient (Delivered moment)) n ≡ Some kept.0 = rw d.item_is kept.1 in
+    record {
+      number = a.number;
+      item = kept.0;
+      item_is = subst (λ (s : State). numbered s.machine.items n ≡ Some kept.0) (sym there) now_is;
+      octets = kept.2 ∙ a.octets;
+      tables = subst (λ (s : State). last_of s.machine.tables ≡ Some conf) (sym there) a.tables;
+    }

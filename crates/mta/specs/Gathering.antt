@@ -1,7 +1,7 @@
 -- What is read before the disk is opened.
 use Rattle.std.specs.Prelude.{◌≡◌, ◌≤◌, ◌⊎◌, ℕ, List, length, Option, Some, Result, Ok, Err}
 use Rattle.mta_edge.specs.Causes.{Rose}
-use Rattle.mta_tables.specs.Tables.{TablesValue}
+use Rattle.mta_tables.specs.Tables.{TablesValue, tables_of}
 use Rattle.mta_tables.specs.Grammar.{IsFirstBadLine}
 use Rattle.mta_history.specs.Apdu.{SpellsApdu}
 use Rattle.mta.specs.declared.stop.Stop.{Stop}
@@ -14,7 +14,7 @@ IsTold told text = (c : List ℕ) → told ≡ Some c → text ≡ c
 
 -- the tables of the text, or why there are none
 abbrev pub AreTablesRead : Option (List ℕ) → ℕ → ℕ → Result TablesValue Stop → Type 0
-AreTablesRead conf before now (Ok t) = IsTold conf t.text
+AreTablesRead conf before now (Ok t) = IsTold conf t.text × (tables_of t.text ≡ Ok t)
 AreTablesRead conf before now (Err (Stops.Tables line kind)) = (c : List ℕ) → conf ≡ Some c → IsFirstBadLine c line kind
 AreTablesRead conf before now (Err Stops.Source) = Rose before now
 AreTablesRead conf before now (Err Stops.Memory) = Unit {0}
@@ -65,7 +65,7 @@ IsGatherStop conf input rose Stops.Sink = ⊥
 IsGatherStop conf input rose (Stops.NoMailbox name) = ⊥
 
 abbrev pub AreGathered : Option (List ℕ) → Option (List ℕ) → Type 0 → Result Gathered Stop → Type 0
-AreGathered conf input rose (Ok x) = IsTold conf x.tables.text × IsTold input x.apdu × SpellsApdu x.apdu
+AreGathered conf input rose (Ok x) = IsTold conf x.tables.text × (tables_of x.tables.text ≡ Ok x.tables) × IsTold input x.apdu × SpellsApdu x.apdu
 AreGathered conf input rose (Err stop) = IsGatherStop conf input rose stop
 
 pub record HasGathered (conf input : Option (List ℕ)) (conf_before conf_now input_before input_now : ℕ) (result : Result Gathered Stop) : Type 0 where

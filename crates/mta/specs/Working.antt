@@ -78,6 +78,7 @@ pub record HasStored {D C : Type 0} (content : D → Option (List ℕ)) (faults 
   pub added : List Step
   pub worked : Worked content faults tells conf input old new added (result ≡ Err StepFaults.Disk)
   pub few : accepts added ≤ 1
+  pub small : (n : ℕ) → result ≡ Ok n → n < 2 ^ 32
   pub accepted : (n : ℕ) → result ≡ Ok n → (steps : List Step) → Stands content old steps → IsAccepted steps added conf input n
   pub refused : (fault : StepFault) → result ≡ Err fault → IsRefusal conf input new.current new.size (Rose (faults old.disk) (faults new.disk)) fault
   pub going : (n : ℕ) → result ≡ Ok n → new.ended ≡ false
@@ -88,7 +89,7 @@ pub record HasSettled {D C : Type 0} (content : D → Option (List ℕ)) (faults
   pub worked : (conf input : List ℕ) → Worked content faults tells conf input old new added (result ≡ Err StepFaults.Disk)
   pub none : accepts added ≡ 0
   -- items keep their octets, and the tables recorded last stay
-  pub kept : (steps : List Step) (conf input : List ℕ) (before : List Step) (n : ℕ) → IsAccepted before steps conf input n → IsAccepted before (steps ++ added) conf input n
+  pub kept : (before steps : List Step) (conf input : List ℕ) (n : ℕ) → Stands content old (before ++ steps) → IsAccepted before steps conf input n → IsAccepted before (steps ++ added) conf input n
   pub quiet : result ≡ Ok tt → (told : ℕ) × tells told × IsQuiet new.current.tables new.current.items (step_moment told new.current.moment)
   pub refused : (fault : StepFault) → result ≡ Err fault → (conf input : List ℕ) → IsRefusal conf input new.current new.size (Rose (faults old.disk) (faults new.disk)) fault
 

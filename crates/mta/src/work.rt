@@ -1,6 +1,8 @@
 //! Working on an open spool.
 
-ghost use Rattle.std.specs.Prelude.{◌≡◌, ◌≤◌, IfOk, false};
+ghost use Rattle.std.specs.Prelude.{◌≡◌, ◌≤◌, List, ℕ, false};
+ghost use Rattle.mta_records.specs.declared.step.Step.{Step};
+ghost use Rattle.mta_spool.specs.Stands.{Stands};
 ghost use Rattle.mta_edge.specs.Causes.{Rose};
 ghost use Rattle.mta_history.specs.Apdu.{SpellsApdu};
 ghost use Rattle.mta.specs.Working.{HasStored, HasSettled, HasAcknowledged, HasWorked, stop_of_step};
@@ -22,7 +24,9 @@ fn store<D: Disk + Drop, C: Clock + Drop>(
 ) -> Result<u32, StepFault>
     requires going { spool.old.ended ≡ false }
     requires message { SpellsApdu apdu.now }
-    ensures { HasStored D.content D.faults (C.tells spool.old.clock) tables.text apdu.now spool.old spool.new result }
+    requires stands { (steps : List Step) × Stands D.content spool.old steps }
+    ensures stored { HasStored D.content D.faults (C.tells spool.old.clock) tables.text apdu.now spool.old spool.new result }
+    ensures clock { (m : ℕ) → C.tells spool.new.clock m → C.tells spool.old.clock m }
 {
     match spool.set_tables(tables) {
         Ok(()) => spool.accept(apdu.as_slice()),
@@ -32,7 +36,8 @@ fn store<D: Disk + Drop, C: Clock + Drop>(
 
 // Does what is due until nothing is.
 fn settle<D: Disk + Drop, C: Clock + Drop>(spool: &mut Spool<D, C>) -> Result<(), StepFault>
-    requires { spool.old.ended ≡ false }
+    requires going { spool.old.ended ≡ false }
+    requires stands { (steps : List Step) × Stands D.content spool.old steps }
     ensures { HasSettled D.content D.faults (C.tells spool.old.clock) spool.old spool.new result }
 {
     loop {
@@ -78,6 +83,7 @@ pub fn work<D: Disk + Drop, C: Clock + Drop, O: Sink>(
 ) -> Result<(), Stop>
     requires going { spool.old.ended ≡ false }
     requires message { SpellsApdu gathered.apdu }
+    requires stands { (steps : List Step) × Stands D.content spool.old steps }
     ensures worked { HasWorked D.content D.faults (C.tells spool.old.clock) gathered.tables.text gathered.apdu (O.taken out.old) (O.taken out.new) (Rose (O.faults out.old) (O.faults out.new)) spool.old spool.new result }
     ensures later { O.faults out.old ≤ O.faults out.new }
 {

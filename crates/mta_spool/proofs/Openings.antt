@@ -144,7 +144,7 @@ replay_refused content faults old new bodies size at opened later stops = record
   disk = λ e. absurd cc;
   not_spool = λ n e f told. subst (NoSpoolAt f) (at_same at n e) (wrong f told);
   left = λ no_disk f steps told stands g now. absurd (no_history f at steps (wrong f told) stands);
-  same = λ n e f told. elim (opened.was f told) [ inl short ↦ absurd (not_nil _ _ _ (sym stops.bodies_are ∙ short.1)) | inr long ↦ long.2 ];
+  same = λ no_disk f told far. elim (opened.was f told) [ inl short ↦ absurd (omega (arith, far, short.0)) | inr long ↦ long.2 ];
 } where
   wrong : (f : List ℕ) → content old ≡ Some f → NoSpoolAt f at
   wrong f told = elim (opened.was f told) [ inl short ↦ absurd (not_nil _ _ _ (sym stops.bodies_are ∙ short.1)) | inr long ↦ long_stops f bodies at long.0 long.1 stops ]
@@ -165,7 +165,7 @@ replay_without_memory content faults old new bodies size opened later = record {
       | inl short ↦ subst (StandsFor g) (sym (short_history f steps short.0 stands)) (stands_for g [] (has_records g [] bodies (sym short.1) tt (opened.is g now)) tt)
       | inr long ↦ subst (λ (x : List ℕ). StandsFor x steps) (some_same f g (sym long.2 ∙ now)) stands
     ];
-  same = λ n e f told. absurd cc;
+  same = λ no_disk f told far. elim (opened.was f told) [ inl short ↦ absurd (omega (arith, far, short.0)) | inr long ↦ long.2 ];
 }
 
 -- a disk that was not opened
@@ -175,7 +175,7 @@ open_refused content faults old new (Whys.NotSpool at) journal cause = record {
   disk = λ e. absurd cc;
   not_spool = λ n e f told. subst (NoSpoolAt f) (at_same at n e) (journal.1 f told);
   left = λ no_disk f steps told stands g now. absurd (no_history f at steps (journal.1 f told) stands);
-  same = λ n e f told. journal.0 ∙ told;
+  same = λ no_disk f told far. journal.0 ∙ told;
 } where
   at_same : (a b : ℕ) → ◌≡◌ {A = OpenWhy} (Whys.NotSpool a) (Whys.NotSpool b) → a ≡ b
   at_same a b w = cc
@@ -184,14 +184,14 @@ open_refused content faults old new Whys.Disk journal cause = record {
   disk = λ e. cause.disk refl;
   not_spool = λ n e f told. absurd cc;
   left = λ no_disk. absurd (no_disk refl);
-  same = λ n e f told. absurd cc;
+  same = λ no_disk. absurd (no_disk refl);
 }
 open_refused content faults old new Whys.Memory journal cause = record {
   later = cause.later;
   disk = λ e. absurd cc;
   not_spool = λ n e f told. absurd cc;
   left = λ no_disk f steps told stands g now. subst (λ (x : List ℕ). StandsFor x steps) (some_same f g (sym (journal ∙ told) ∙ now)) stands;
-  same = λ n e f told. absurd cc;
+  same = λ no_disk f told far. journal ∙ told;
 }
 
 -- the bodies were not replayed

@@ -95,6 +95,7 @@ pub record HasRefused {D : Type 0} (content : D → Option (List ℕ)) (faults :
   pub disk : why ≡ Whys.Disk → Rose (faults old) (faults new)
   -- no spool, and from where on
   pub not_spool : (at : ℕ) → why ≡ Whys.NotSpool at → (f : List ℕ) → content old ≡ Some f → NoSpoolAt f at
-  -- a disk that holds no spool is as it was, and another one stands for what it stood for
+  -- a disk that stands for a history stands for it
   pub left : (why ≡ Whys.Disk → ⊥) → (f : List ℕ) (steps : List Step) → content old ≡ Some f → StandsFor f steps → (g : List ℕ) → content new ≡ Some g → StandsFor g steps
-  pub same : (at : ℕ) → why ≡ Whys.NotSpool at → (f : List ℕ) → content old ≡ Some f → content new ≡ Some f
+  -- a disk of more than nine octets is as it was
+  pub same : (why ≡ Whys.Disk → ⊥) → (f : List ℕ) → content old ≡ Some f → 9 < length f → content new ≡ Some f
