@@ -48,6 +48,36 @@ fn disks_keep_what_is_written(rt: HostRuntime) -> Result<(), Fail> {
     Ok(())
 }
 
+// A write of four octets behind two, by the digits 0 to 7, and then a sync, a cut that fails and a crash behind each call.
+#[test]
+fn images_are_what_a_crash_leaves(rt: HostRuntime) -> Result<(), Fail> {
+    let alloc = rt.alloc();
+    let mut disk = MemDisk::new(alloc, octets_of(alloc, &[7, 8])?, [3].to_vec(alloc)?);
+    assert_eq!(rt; disk.write_at(2, &[1, 2, 3, 4]), Ok(()));
+    assert_eq!(rt; disk.sync(), Ok(()));
+    assert_eq!(rt; disk.cut(2), Err(Failed));
+    assert_eq!(rt; disk.calls(), 3);
+    let rows: [(u64, u64, &[u8]); 13] = [
+        (0, 1, &[7, 8]),
+        (1, 0, &[7, 8]),
+        (1, 1, &[7, 8, 1, 2, 3, 4]),
+        (1, 2, &[7, 8, 1, 2]),
+        (1, 3, &[7, 8, 254, 253, 252, 251]),
+        (1, 4, &[7, 8, 254, 253]),
+        (1, 5, &[7, 8, 0, 0, 0, 0]),
+        (1, 6, &[7, 8, 1, 1, 1, 1]),
+        (1, 7, &[7, 8, 0, 0, 3, 4]),
+        (2, 3, &[7, 8, 1, 2, 3, 4]),
+        (3, 0, &[7, 8, 1, 2, 3, 4]),
+        (3, 1, &[7, 8]),
+        (9, 2, &[7, 8, 1, 2]),
+    ];
+    for (call, choice, octets) in rows {
+        assert_eq!(rt; disk.image(call, choice)?.as_slice(), octets);
+    }
+    Ok(())
+}
+
 #[test]
 fn clocks_answer_their_moments(rt: HostRuntime) -> Result<(), Fail> {
     let alloc = rt.alloc();
