@@ -1,0 +1,5 @@
+pub mod Bodies
+pub mod Faults
+pub mod Shown
+pub mod Opening
+pub mod Appending
