@@ -1,3 +1,6 @@
 pub mod Bodies
 pub mod Appended
 pub mod Answered
+pub mod Reading
+pub mod Walked
+pub mod Emptied

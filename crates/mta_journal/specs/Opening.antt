@@ -43,19 +43,23 @@ pub record Stored {D : Type 0} (content : D → Option (List ℕ)) (disk : D) (s
   pub file : (f : List ℕ) → content disk ≡ Some f → HasBodies f bodies
   pub size_is : size ≡ length (front bodies) + 1
 
+-- the disk is as it was, and no journal at this place
+abbrev pub IsRefused : ℕ → List ℕ → List ℕ → Type 0
+IsRefused at f g = (g ≡ f) × IsNoJournalAt f at
+
 -- why a disk was refused
 pub record HasRefused {D : Type 0} (content : D → Option (List ℕ)) (faults : D → ℕ) (old new : D) (why : OpenWhy) : Type 0 where
   pub later : faults old ≤ faults new
   pub disk : why ≡ Whys.Disk → Rose (faults old) (faults new)
-  pub not_spool : (at : ℕ) → why ≡ Whys.NotSpool at → Goes (λ f g. (g ≡ f) × IsNoJournalAt f at) (content old) (content new)
+  pub not_spool : (at : ℕ) → why ≡ Whys.NotSpool at → Goes (IsRefused at) (content old) (content new)
 
 -- a crash while the disk is opened leaves what one before might have left, or the same
 abbrev pub BeforeOrSame : (List ℕ → Type 0) → List ℕ → List ℕ → Type 0
 BeforeOrSame may_leave f g = may_leave g ⊎ IsSame f g
 
--- since a moment in the call a crash leaves the same
-pub record SameSince {D : Type 0} (content : D → Option (List ℕ)) (moment : D → ℕ) (left_since : D → ℕ → List ℕ → Type 0) (old new : D) : Type 0 where
+-- since a moment in the call, that of its first sync, a crash leaves the same
+pub record SameSince {D : Type 0} (moment : D → ℕ) (left_since : D → ℕ → List ℕ → Type 0) (f : List ℕ) (old new : D) : Type 0 where
   pub since : ℕ
   pub from : moment old ≤ since
   pub until : since ≤ moment new
-  pub same : (f : List ℕ) → content old ≡ Some f → (g : List ℕ) → left_since new since g → IsSame f g
+  pub same : (g : List ℕ) → left_since new since g → IsSame f g
