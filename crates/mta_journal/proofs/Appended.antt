@@ -81,7 +81,7 @@ module _ (bodies : List (List ℕ)) (body : List ℕ) (gate : ℕ) (place : gate
       let size : gate + 1 ≤ length g = omega (arith, ap length s.behind, length-drop (gate + 1) g, length-append (counted body) (0 ∷ s.rest)) in
       let back : drop gate h ≡ octet ∷ (counted body ++ 0 ∷ s.rest) = drop_more h gate 0 (omega (arith, size, torn.no_shorter)) ∙ ap (λ (x : List ℕ). octet ∷ x) (torn.after ∙ s.behind) in
       gated octet s.rest h f short has
-          (sym (take-append-drop gate h) ∙ ap (λ (x : List ℕ). x ++ drop gate h) (torn.before ∙ s.before) ∙ ap (λ (x : List ℕ). front bodies ++ x) back)
+      (sym (take-append-drop gate h) ∙ ap (λ (x : List ℕ). x ++ drop gate h) (torn.before ∙ s.before) ∙ ap (λ (x : List ℕ). front bodies ++ x) back)
 
   -- both writes put the body behind the others
   pub appended : (f g h : List ℕ) → length body ≤ longest_body → HasBodies f bodies → g ≡ written (gate + 1) (counted body ++ 0 ∷ []) f → h ≡ written gate (1 ∷ []) g → HasBodies h (bodies ++ body ∷ [])

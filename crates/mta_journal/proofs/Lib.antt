@@ -4,3 +4,4 @@ pub mod Answered
 pub mod Reading
 pub mod Walked
 pub mod Emptied
+pub mod Unique

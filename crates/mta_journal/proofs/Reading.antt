@@ -36,11 +36,11 @@ module _ (gate left : ℕ) (f head : List ℕ) (left_is : left ≡ length f - ga
         octets = begins ∙ ap (λ (n : ℕ). n ∷ rest) says.0;
         faulty = ⊎_elim {C = IsFaulty rest} (λ (short : left < 5). inl (omega (arith, behind, short)))
             (λ (more : (5 ≤ left) × ((longest_body < length_in head) ⊎ (left < length_in head + 6))).
-                let count : min left 5 ≡ 5 = omega (arith, more.0) in
-                let five : head ≡ take (1 + 4) (drop gate f) = head_is ∙ ap (λ (n : ℕ). take n (drop gate f)) count in
-                let same : length_in head ≡ from_be_bytes w32 (take 4 rest) = ap (λ (h : List ℕ). from_be_bytes w32 (drop 1 h)) five ∙ ap (from_be_bytes w32) (drop-take 1 4 (drop gate f)) in
-                ⊎_elim {C = IsFaulty rest} (λ (long : longest_body < length_in head). inr (subst (λ (n : ℕ). longest_body < n) same long))
-                    (λ (passes : left < length_in head + 6). inl (let here : left < from_be_bytes w32 (take 4 rest) + 6 = subst (λ (n : ℕ). left < n + 6) same passes in omega (arith, behind, here, more.0))) more.1) says.1;
+            let count : min left 5 ≡ 5 = omega (arith, more.0) in
+            let five : head ≡ take (1 + 4) (drop gate f) = head_is ∙ ap (λ (n : ℕ). take n (drop gate f)) count in
+            let same : length_in head ≡ from_be_bytes w32 (take 4 rest) = ap (λ (h : List ℕ). from_be_bytes w32 (drop 1 h)) five ∙ ap (from_be_bytes w32) (drop-take 1 4 (drop gate f)) in
+            ⊎_elim {C = IsFaulty rest} (λ (long : longest_body < length_in head). inr (subst (λ (n : ℕ). longest_body < n) same long))
+            (λ (passes : left < length_in head + 6). inl (let here : left < from_be_bytes w32 (take 4 rest) + 6 = subst (λ (n : ℕ). left < n + 6) same passes in omega (arith, behind, here, more.0))) more.1) says.1;
       }
 
   pub open_at : (n : ℕ) (body : List ℕ) → SaysHead head left (Open n) → body ≡ take n (drop (gate + 5) f) → StandsAt gate body f

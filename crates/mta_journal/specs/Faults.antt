@@ -29,3 +29,7 @@ IsNoJournalAt image at = (9 < length image) × (DiffersAt image at ⊎ FaultyAt 
 -- no image stands for bodies and is no journal
 abbrev pub NotBoth : Type 0
 NotBoth = (image : List ℕ) (bodies : List (List ℕ)) (at : ℕ) → StandsFor image bodies → IsNoJournalAt image at → ⊥
+
+-- one image is no journal at one place
+abbrev pub OnePlace : Type 0
+OnePlace = (image : List ℕ) (p q : ℕ) → IsNoJournalAt image p → IsNoJournalAt image q → p ≡ q

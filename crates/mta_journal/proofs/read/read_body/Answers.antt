@@ -37,7 +37,7 @@ returns-clause-body g c = λ f told.
     let some : 0 < c.args.size - c.args.gate = omega arith in
     let left : c.args.size - c.args.gate ≡ length f - c.args.gate = omega (arith, size) in
     open_at c.args.gate (c.args.size - c.args.gate) f c.as_slice.result.now left some (c.as_slice.ensures ∙ c.in_ok-head.ensures.octets f told ∙ ap (λ (n : ℕ). take n (drop c.args.gate f)) c.min.ensures)
-        c.in-Open.length c.in_ok-body-in-Open.body c.in-Open.ensures (c.in_ok-body-in-Open.ensures.octets f (c.read.ensures.content ∙ told))
+    c.in-Open.length c.in_ok-body-in-Open.body c.in-Open.ensures (c.in_ok-body-in-Open.ensures.octets f (c.read.ensures.content ∙ told))
 
 pub returns-clause-crash : goal.returns-clause-crash
 returns-clause-crash g c = Stays-then g.D.Disk.may_leave g.D.Disk.moment g.D.Disk.left_since g.met.D.Disk.counts_now _ _ _ c.read.ensures.crash c.read-in-Open.ensures.crash

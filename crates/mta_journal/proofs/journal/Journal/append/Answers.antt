@@ -12,14 +12,14 @@ pub returns-in-Ok : goal.returns-in-Ok
 returns-in-Ok g c =
     rw (sym c.self.view_is)
     (answers_ok g.D.Disk.content g.D.Disk.faults g.D.Disk.may_leave g.D.Disk.moment g.D.Disk.left_since c.args.body.now _ _ _ c.if-self.false c.if-self.false refl (omega arith)
-        c.in-Ok.ensures.cause.later (λ bodies holds. c.in-Ok.ensures.put bodies (gate_place _ _ _ bodies holds)) c.in-Ok.ensures.settled
-        (λ f told bodies holds. c.in-Ok.ensures.images f told bodies (gate_place _ _ _ bodies holds) (holds.file f told)))
+    c.in-Ok.ensures.cause.later (λ bodies holds. c.in-Ok.ensures.put bodies (gate_place _ _ _ bodies holds)) c.in-Ok.ensures.settled
+    (λ f told bodies holds. c.in-Ok.ensures.images f told bodies (gate_place _ _ _ bodies holds) (holds.file f told)))
 
 pub returns-in-Err-Memory : goal.returns-in-Err-Memory
 returns-in-Err-Memory g c =
     let same = c.in-Err-Memory.ensures.memory (ap Err c.in-Err-Memory.field-0-is) in
     let whole : ◌≡◌ {A = Shown g.row.D.Denot} (record { disk = c.put_record.new.disk; size = c.self.inside.size; ended = c.self.inside.ended }) (record { disk = c.self.inside.disk; size = c.self.inside.size; ended = c.self.inside.ended }) =
-        ap (λ (d : g.row.D.Denot). record { disk = d; size = c.self.inside.size; ended = c.self.inside.ended }) same in
+    ap (λ (d : g.row.D.Denot). record { disk = d; size = c.self.inside.size; ended = c.self.inside.ended }) same in
     rw (sym c.self.view_is)
     (answers_memory g.D.Disk.content g.D.Disk.faults g.D.Disk.may_leave g.D.Disk.moment g.D.Disk.left_since c.args.body.now g.met.D.Disk.only_now _ _ whole c.if-self.false (omega arith))
 
@@ -27,5 +27,5 @@ pub returns-in-Err-Disk : goal.returns-in-Err-Disk
 returns-in-Err-Disk g c =
     rw (sym c.self.view_is)
     (answers_disk g.D.Disk.content g.D.Disk.faults g.D.Disk.may_leave g.D.Disk.moment g.D.Disk.left_since c.args.body.now _ _ c.if-self.false refl (omega arith)
-        c.in-Err-Disk.ensures.cause.later (c.in-Err-Disk.ensures.cause.disk (ap Err c.in-Err-Disk.field-0-is))
-        (λ f told bodies holds. c.in-Err-Disk.ensures.images f told bodies (gate_place _ _ _ bodies holds) (holds.file f told)))
+    c.in-Err-Disk.ensures.cause.later (c.in-Err-Disk.ensures.cause.disk (ap Err c.in-Err-Disk.field-0-is))
+    (λ f told bodies holds. c.in-Err-Disk.ensures.images f told bodies (gate_place _ _ _ bodies holds) (holds.file f told)))
