@@ -1,20 +1,20 @@
 -- The image that a choice picks is one that a crash may leave.
-use Rattle.std.proofs.Common.{inl, inr, ⊎_elim, ◌≡◌, ◌⊎◌, ℕ, zero, suc, ◌+◌, ◌-◌, ◌/◌, ◌≤◌, ◌<◌, min, List, [], ◌∷◌, ◌++◌, length, take, drop, map, replicate, refl, sym, ap, ◌∙◌, subst, arith, Some, None}
+use Rattle.std.proofs.Common.{inl, inr, ⊎_elim, ◌≡◌, ◌⊎◌, ℕ, zero, suc, ◌≤◌, ◌<◌, min, List, [], ◌∷◌, length, take, refl, sym, ap, ◌∙◌, subst, arith, Some, None}
 use Rattle.std.specs.Prelude.{slice_get}
 use Rattle.std.proofs.lemmas.Bool.{cases_lt}
 use Rattle.std.proofs.lemmas.Bool.Decides.{nat_tests}
-use Rattle.std.proofs.lemmas.List.{length-append, length-take, length-drop, length-map, length-replicate, take_all, take_min}
+use Rattle.std.proofs.lemmas.List.{length-append, length-take, length-drop, length-map, length-replicate, take_min}
 use Rattle.mta_edge.specs.Outside.{Torn, written}
 use Rattle.mta_edge.specs.Crashes.{CutShort}
 use Rattle.mta_edge.specs.Held.{HeldDisk}
-use Rattle.mta_edge.specs.Tears.{others, piece_of, torn_write, kept_of, torn_cut, tear_of}
+use Rattle.mta_edge.specs.Tears.{piece_of, torn_write, kept_of, torn_cut, tear_of}
 use Rattle.mta_edge.specs.Images.{after_call, after_calls, MayLeave, seen_at, LeftAt, image_after, rest_after, image_from, image_of}
 use Rattle.mta_edge.specs.declared.log.Called.{Called}
 use Rattle.mta_edge.specs.declared.log.Done.{Done}
 use Rattle.mta_edge.specs.declared.log.Done.TheVariants.{Look, Write, Cut, Sync}
 use Rattle.mta_edge.specs.declared.tear.Tear.{Tear}
 use Rattle.mta_edge.specs.declared.tear.Tear.TheVariants.{Nothing, Whole, Half, Other, OtherHalf, Zeros, Ones, Late}
-use Rattle.mta_edge.proofs.Logged.{written_torn, Torn-same, CutShort-same}
+use Rattle.mta_edge.proofs.Logged.{written_torn, Torn-same}
 
 length-piece : (tear : Tear) (bytes : List ℕ) → length (piece_of tear bytes) ≤ length bytes
 length-piece Nothing bytes = omega arith

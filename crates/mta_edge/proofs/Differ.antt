@@ -1,9 +1,9 @@
 -- Different tears leave different images.
-use Rattle.std.proofs.Common.{◌≡◌, ◌≢◌, ℕ, ◌+◌, ◌-◌, ◌/◌, ◌≤◌, List, [], ◌∷◌, ◌++◌, length, take, drop, get_or, refl, sym, ap, ◌∙◌, subst, arith}
+use Rattle.std.proofs.Common.{◌≡◌, ◌≢◌, ℕ, ◌+◌, ◌-◌, ◌/◌, ◌≤◌, List, [], ◌∷◌, ◌++◌, length, take, drop, get_or, sym, ap, ◌∙◌, arith}
 use Rattle.std.proofs.lemmas.Bool.Decides.{nat_tests}
-use Rattle.std.proofs.lemmas.List.{length-append, length-take, length-drop, length-map, take_all, drop_all, append-nil, append_cancel_left}
+use Rattle.std.proofs.lemmas.List.{length-take, length-map, take_all, drop_all, append-nil, append_cancel_left}
 use Rattle.mta_edge.specs.Outside.{written}
-use Rattle.mta_edge.specs.Tears.{others, piece_of, torn_write, FourDiffer, TearsDiffer}
+use Rattle.mta_edge.specs.Tears.{others, piece_of, torn_write, TearsDiffer}
 use Rattle.mta_edge.specs.declared.tear.Tear.{Tear}
 use Rattle.mta_edge.specs.declared.tear.Tear.TheVariants.{Nothing, Whole, Half, Other}
 

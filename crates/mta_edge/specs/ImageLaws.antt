@@ -1,7 +1,7 @@
 -- The laws of a disk for the one in memory.
-use Rattle.std.specs.Prelude.{ℕ, zero, suc, ◌+◌, ◌≤◌, ◌<◌, ◌≡◌, ◌⊎◌, List, [], ◌∷◌, length, take, Option, Some}
-use mathlib.Core.Path.{sym, refl, ◌∙◌, ap, subst}
-use mathlib.Core.Logic.{inl, inr}
+use Rattle.std.specs.Prelude.{ℕ, zero, suc, ◌≤◌, ◌≡◌, List, [], ◌∷◌, length, take, Option, Some}
+use mathlib.Core.Path.{sym, refl, subst}
+use mathlib.Core.Logic.{inr}
 use Rattle.std.proofs.Common.{arith}
 use Rattle.std.proofs.lemmas.List.{take_all}
 use Rattle.mta_edge.specs.Held.{HeldDisk}

@@ -1,13 +1,12 @@
 -- The answers of an append.
-use Rattle.std.proofs.Common.{inl, inr, ◌≡◌, ◌≢◌, ◌⊎◌, ℕ, ◌+◌, ◌-◌, ◌≤◌, ◌<◌, Bool, false, true, List, [], ◌∷◌, ◌++◌, length, Option, Some, Result, Ok, Err, IsErrOf, refl, sym, ap, subst, ◌∙◌, arith}
+use Rattle.std.proofs.Common.{inl, ◌≡◌, ℕ, ◌+◌, ◌-◌, ◌≤◌, ◌<◌, false, true, List, [], ◌∷◌, ◌++◌, length, Option, Some, Ok, Err, refl, sym, ap, subst, ◌∙◌, arith}
 use Rattle.mta_edge.specs.Causes.{Rose}
 use Rattle.mta_edge.specs.Crashes.{AtAnyMoment, Settled}
 use Rattle.mta_edge.specs.Outside.{Goes}
 use Rattle.mta_disk.proofs.Writing.{settled_once}
-use Rattle.mta_journal.specs.Bodies.{longest_body, front, HasBodies, HasOrOneMore}
+use Rattle.mta_journal.specs.Bodies.{front, HasBodies, HasOrOneMore}
 use Rattle.mta_journal.specs.Shown.{Shown, Holds}
 use Rattle.mta_journal.specs.Appending.{Appends, journal_limit, need_of}
-use Rattle.mta_journal.specs.declared.journal.AppendFault.{AppendFault}
 use Rattle.mta_journal.specs.declared.journal.AppendFault.TheVariants as Faults
 use Rattle.mta_journal.proofs.Bodies.{length-front-more}
 

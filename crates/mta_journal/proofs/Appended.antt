@@ -1,11 +1,11 @@
 -- What the two writes of an append leave, and what a crash leaves of them.
-use Rattle.std.proofs.Common.{inl, inr, ⊎_elim, ◌≡◌, ◌≢◌, ◌⊎◌, ℕ, ◌+◌, ◌-◌, ◌≤◌, ◌<◌, List, [], ◌∷◌, ◌++◌, length, take, drop, get_or, refl, sym, ap, subst, ◌∙◌, append_assoc, arith}
+use Rattle.std.proofs.Common.{inl, inr, ⊎_elim, ◌≡◌, ◌≢◌, ℕ, ◌+◌, ◌≤◌, List, [], ◌∷◌, ◌++◌, length, take, drop, get_or, sym, ap, ◌∙◌, append_assoc, arith}
 use Rattle.std.proofs.lemmas.Bool.{cases_eq}
-use Rattle.std.proofs.lemmas.List.{take_at, drop_at, drop_more, length-append, length-take, length-take-le, length-drop, take-append-drop}
+use Rattle.std.proofs.lemmas.List.{take_at, drop_at, drop_more, length-append, length-take, length-drop, take-append-drop}
 use Rattle.mta_edge.specs.Outside.{Torn, written}
 use Rattle.mta_edge.proofs.Logged.{written_torn}
 use Rattle.mta_disk.specs.Records.{counted}
-use Rattle.mta_disk.proofs.Writing.{length-counted, length-closed}
+use Rattle.mta_disk.proofs.Writing.{length-closed}
 use Rattle.mta_journal.specs.Bodies.{longest_body, front, HasBodies, HasOrOneMore}
 use Rattle.mta_journal.proofs.Bodies.{AreShort-more, one_more}
 

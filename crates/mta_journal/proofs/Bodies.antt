@@ -1,9 +1,9 @@
 -- One body more.
-use Rattle.std.proofs.Common.{◌≡◌, ◌≢◌, ◌⊎◌, ℕ, ◌+◌, ◌≤◌, ◌<◌, List, [], ◌∷◌, ◌++◌, length, refl, sym, ap, ◌∙◌, append_assoc, arith}
+use Rattle.std.proofs.Common.{◌≡◌, ℕ, ◌+◌, ◌≤◌, List, [], ◌∷◌, ◌++◌, length, sym, ap, ◌∙◌, arith}
 use Rattle.std.proofs.lemmas.List.{length-append, flat_map_more}
 use Rattle.mta_disk.specs.Records.{counted}
 use Rattle.mta_disk.proofs.Writing.{length-counted}
-use Rattle.mta_journal.specs.Bodies.{magic, longest_body, open_record, front, AreShort, HasBodies}
+use Rattle.mta_journal.specs.Bodies.{magic, longest_body, open_record, front, AreShort}
 
 pub front-more : (bodies : List (List ℕ)) (body : List ℕ) → front (bodies ++ body ∷ []) ≡ front bodies ++ open_record body
 front-more bodies body = sym (flat_map_more open_record magic bodies body)

@@ -1,7 +1,7 @@
 -- A disk that is made an empty journal.
-use Rattle.std.proofs.Common.{◌≡◌, ℕ, ◌+◌, ◌≤◌, List, [], ◌∷◌, ◌++◌, length, drop, Option, Some, refl, sym, ap, subst, ◌∙◌, arith}
+use Rattle.std.proofs.Common.{◌≡◌, ℕ, List, [], ◌∷◌, drop, Option, sym, subst, arith}
 use Rattle.mta_edge.specs.Outside.{Goes, written}
-use Rattle.mta_journal.specs.Bodies.{magic, front, HasBodies}
+use Rattle.mta_journal.specs.Bodies.{magic, HasBodies}
 use Rattle.mta_journal.specs.Opening.{Stored}
 use Rattle.mta_journal.proofs.Walked.{length-front-none}
 

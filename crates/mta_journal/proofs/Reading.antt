@@ -1,14 +1,13 @@
 -- What the octets of a record say of the image that they stand in.
-use Rattle.std.proofs.Common.{inl, inr, ⊎_elim, ◌≡◌, ◌≢◌, ◌⊎◌, ℕ, zero, suc, ◌+◌, ◌-◌, ◌≤◌, ◌<◌, min, List, [], ◌∷◌, ◌++◌, length, take, drop, get_or, Result, Ok, Err, refl, sym, ap, subst, ◌∙◌, append_assoc, arith}
+use Rattle.std.proofs.Common.{inl, inr, ⊎_elim, ◌≡◌, ◌⊎◌, ℕ, zero, suc, ◌+◌, ◌-◌, ◌≤◌, ◌<◌, min, List, [], ◌∷◌, ◌++◌, length, take, drop, get_or, Result, Err, refl, sym, ap, subst, ◌∙◌, append_assoc, arith}
 use Rattle.std.specs.Int.{w32, from_be_bytes, to_be_bytes}
-use Rattle.std.proofs.lemmas.List.{take_at, drop_at, drop-drop, drop-take, length-append, length-take, length-take-le, length-drop, take-append-drop}
+use Rattle.std.proofs.lemmas.List.{drop-drop, drop-take, length-take-le, length-drop, take-append-drop}
 use Rattle.mta_edge.specs.Crashes.{Crash, Stays}
 use Rattle.mta_disk.specs.Records.{counted}
 use Rattle.mta_journal.specs.Bodies.{longest_body}
 use Rattle.mta_journal.specs.Faults.{IsFaulty}
 use Rattle.mta_journal.specs.Heads.{SaysHead, length_in}
 use Rattle.mta_journal.specs.Opening.{StandsAt, ClosedAt, BrokenAt}
-use Rattle.mta_journal.specs.declared.read.Head.{Head}
 use Rattle.mta_journal.specs.declared.why.OpenWhy.{OpenWhy}
 use Rattle.mta_journal.specs.declared.read.Head.TheVariants.{Closed, Broken, Open}
 

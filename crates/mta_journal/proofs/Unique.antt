@@ -1,5 +1,5 @@
 -- An image stands for one list of bodies, or is no journal at one place.
-use Rattle.std.proofs.Common.{inl, inr, ⊎_elim, ◌≡◌, ◌≢◌, ◌⊎◌, ℕ, ◌+◌, ◌≤◌, ◌<◌, ◌^◌, List, [], ◌∷◌, ◌++◌, length, take, drop, get_or, refl, sym, ap, subst, ◌∙◌, append_assoc, arith}
+use Rattle.std.proofs.Common.{inl, inr, ⊎_elim, ◌≡◌, ◌≢◌, ◌⊎◌, ℕ, ◌≤◌, ◌<◌, List, [], ◌∷◌, ◌++◌, length, take, drop, get_or, refl, sym, ap, subst, ◌∙◌, append_assoc, arith}
 use Rattle.std.specs.Int.{w32, to_be_bytes, from_be_bytes}
 use Rattle.std.specs.List.{flat_map}
 use Rattle.std.proofs.lemmas.Bool.{cases_lt}
@@ -7,8 +7,8 @@ use Rattle.std.proofs.lemmas.List.{take_at, drop_at, append_cancel_left, length-
 use Rattle.std.proofs.lemmas.Nat.{from_be_bytes-to_be_bytes_4}
 use Rattle.mta_disk.specs.Records.{counted}
 use Rattle.mta_disk.proofs.Writing.{length-counted}
-use Rattle.mta_journal.specs.Bodies.{magic, longest_body, open_record, front, AreShort, HasBodies, StandsFor, OneList}
-use Rattle.mta_journal.specs.Faults.{DiffersAt, IsFaulty, FaultyAt, IsNoJournalAt, NotBoth, OnePlace}
+use Rattle.mta_journal.specs.Bodies.{magic, longest_body, open_record, front, AreShort, HasBodies, OneList}
+use Rattle.mta_journal.specs.Faults.{DiffersAt, IsFaulty, FaultyAt, NotBoth, OnePlace}
 use Rattle.mta_journal.proofs.Walked.{length-magic}
 
 -- a counted body and what follows it are found again

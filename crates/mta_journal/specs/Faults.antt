@@ -1,5 +1,5 @@
 -- Where an image is no journal.
-use Rattle.std.specs.Prelude.{◌≡◌, ◌≢◌, ◌⊎◌, ◌+◌, ◌≤◌, ◌<◌, ℕ, List, [], ◌∷◌, ◌++◌, length, take, drop, slice_index}
+use Rattle.std.specs.Prelude.{◌≡◌, ◌≢◌, ◌⊎◌, ◌+◌, ◌<◌, ℕ, List, ◌∷◌, ◌++◌, length, take, slice_index}
 use Rattle.std.specs.Int.{w32, from_be_bytes}
 use Rattle.mta_journal.specs.Bodies.{magic, longest_body, front, AreShort, StandsFor}
 

@@ -1,10 +1,9 @@
 -- What opening finds and leaves.
-use Rattle.std.specs.Prelude.{◌≡◌, ◌⊎◌, ◌+◌, ◌≤◌, ◌<◌, ℕ, List, [], ◌∷◌, ◌++◌, length, drop, Option, Some, Result, IsErrOf, IsOk}
+use Rattle.std.specs.Prelude.{◌≡◌, ◌⊎◌, ◌+◌, ◌≤◌, ◌<◌, ℕ, List, ◌∷◌, ◌++◌, length, drop, Option, Some, Result, IsErrOf}
 use Rattle.mta_edge.specs.Causes.{Rose}
-use Rattle.mta_edge.specs.Crashes.{AtAnyMoment}
 use Rattle.mta_edge.specs.Outside.{Goes}
 use Rattle.mta_disk.specs.Records.{counted}
-use Rattle.mta_journal.specs.Bodies.{longest_body, front, HasBodies, StandsFor}
+use Rattle.mta_journal.specs.Bodies.{longest_body, front, HasBodies}
 use Rattle.mta_journal.specs.Faults.{IsFaulty, IsNoJournalAt}
 use Rattle.mta_journal.specs.declared.why.OpenWhy.{OpenWhy}
 use Rattle.mta_journal.specs.declared.why.OpenWhy.TheVariants as Whys

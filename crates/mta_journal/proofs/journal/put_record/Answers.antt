@@ -1,7 +1,7 @@
-use Rattle.std.proofs.Common.{◌≡◌, ◌+◌, ℕ, List, length, inl}
-use Rattle.mta_edge.specs.Outside.{Goes, Goes-then, Torn}
+use Rattle.std.proofs.Common.{◌+◌, length, inl}
+use Rattle.mta_edge.specs.Outside.{Goes-then, Torn}
 use Rattle.mta_edge.proofs.Moments.{weaken, joined}
-use Rattle.mta_journal.specs.Bodies.{HasBodies, HasOrOneMore}
+use Rattle.mta_journal.specs.Bodies.{HasOrOneMore}
 use Rattle.mta_journal.proofs.Appended.{behind_gate, at_gate, appended, long_enough}
 use Rattle.mta_journal.proofs.journal.put_record.Goals as goal
 

@@ -1,4 +1,4 @@
-use Rattle.std.proofs.Common.{◌≡◌, ◌<◌, length, arith}
+use Rattle.std.proofs.Common.{arith}
 use Rattle.std.proofs.lemmas.Result.{err_from_is_err_and}
 use Rattle.mta_journal.proofs.Reading.{carried, not_short}
 use Rattle.mta_journal.proofs.read.check_magic.Goals as goal

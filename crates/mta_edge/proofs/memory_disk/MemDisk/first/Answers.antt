@@ -1,4 +1,4 @@
-use Rattle.std.proofs.Common.{◌≡◌, List, refl, sym, ap, ◌∙◌}
+use Rattle.std.proofs.Common.{ap, ◌∙◌}
 use Rattle.mta_edge.specs.Held.{HeldDisk}
 use Rattle.mta_edge.proofs.Chosen.{seen_at_some, seen_at_none}
 use Rattle.mta_edge.proofs.memory_disk.MemDisk.first.Goals as goal

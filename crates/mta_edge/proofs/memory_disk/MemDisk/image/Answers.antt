@@ -1,6 +1,6 @@
 use Rattle.std.proofs.Common.{◌≡◌, min, length, sym, ap, subst, ◌∙◌, arith}
 use Rattle.mta_edge.specs.Held.{HeldDisk}
-use Rattle.mta_edge.specs.Images.{LeftAt, image_of}
+use Rattle.mta_edge.specs.Images.{LeftAt}
 use Rattle.mta_edge.proofs.Chosen.{image_is, image_left}
 use Rattle.mta_edge.proofs.memory_disk.MemDisk.image.Goals as goal
 

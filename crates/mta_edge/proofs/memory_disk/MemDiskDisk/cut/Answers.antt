@@ -1,4 +1,4 @@
-use Rattle.std.proofs.Common.{◌≡◌, take, refl, subst, sym, ap, ◌∙◌}
+use Rattle.std.proofs.Common.{◌≡◌, take, subst, sym, ap, ◌∙◌}
 use Rattle.mta_edge.specs.Crashes.{CutShort}
 use Rattle.mta_edge.specs.Held.{HeldDisk}
 use Rattle.mta_edge.proofs.Logged.{logged_cut, unlogged_from, CutShort-same, CutShort-cut}

@@ -1,5 +1,5 @@
-use Rattle.std.proofs.Common.{◌≡◌, ◌+◌, ◌≤◌, ℕ, List, Err, false, length, refl, sym, ap, subst, ◌∙◌, arith}
-use Rattle.mta_journal.specs.Shown.{Shown, Holds}
+use Rattle.std.proofs.Common.{◌≡◌, Err, refl, sym, ap, arith}
+use Rattle.mta_journal.specs.Shown.{Shown}
 use Rattle.mta_journal.proofs.Answered.{answers_full, answers_memory, answers_disk, answers_ok, gate_place}
 use Rattle.mta_journal.proofs.journal.Journal.append.Goals as goal
 
