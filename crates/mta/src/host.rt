@@ -109,9 +109,24 @@ impl FileDisk {
 }
 
 impl Disk for FileDisk {
+    ghost use Rattle.std.specs.Prelude.{None, Some, ◌≢◌, ◌≡◌, List, ℕ, Option};
+    ghost use Rattle.std.proofs.lemmas.Option.{none-some};
+
     ghost content = { λ _. None };
 
     ghost faults = { λ d. d.faults };
+
+    ghost may_leave = { λ _ _. ⊥ };
+
+    ghost moment = { λ _. 0 };
+
+    ghost left_since = { λ _ _ _. ⊥ };
+
+    ghost reads_image = { λ _ f told. absurd (none-some f told) };
+
+    ghost counts_now = { λ _ _ _ _ none. none };
+
+    ghost only_now = { λ _ _ none. none };
 
     fn size(&mut self) -> Result<u64, Failed> {
         if let Some(file) = &self.file {

@@ -1,9 +1,10 @@
 //! The calls of a memory form, counted from 1, and which of them fail.
 
-ghost use Rattle.std.specs.Prelude.{◌≡◌, ◌≤◌, OnErr};
+ghost use Rattle.std.specs.Prelude.{◌≡◌, ◌≤◌, IfOk, OnErr};
 ghost use Rattle.mta_edge.specs.Causes.{Rose};
 
 use crate::outside::Failed;
+use mta_ber::Memory;
 use std::alloc::Global;
 
 #[derive(Drop)]
@@ -54,5 +55,16 @@ impl Calls {
     {
         self.faults = self.faults.saturating_add(1);
         Failed
+    }
+    /// What memory was found for. Counts a fault where it was refused.
+    pub fn kept<T: Drop>(&mut self, found: Result<T, Memory>) -> Result<T, Failed>
+        ensures same { IfOk result (λ x. found ≡ Ok x) }
+        ensures later { self.old.faults ≤ self.new.faults }
+        ensures rose { OnErr result (Rose self.old.faults self.new.faults) }
+    {
+        match found {
+            Ok(value) => Ok(value),
+            Err(_) => Err(self.fault()),
+        }
     }
 }

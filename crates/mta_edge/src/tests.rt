@@ -1,31 +1,50 @@
 use super::*;
 use std::alloc::Global;
+use std::process::Abort;
 use std::test::Fail;
 
 fn octets_of(alloc: Global, bytes: &[u8]) -> Result<Octets, Fail> {
     Ok(Octets::from_slice(alloc, bytes)?)
 }
 
+// What each of the calls answers, and the octets that it gave.
+fn takes<S: Source>(rt: &impl Abort, source: &mut S, rows: &[(Result<usize, Failed>, [u8; 2])]) {
+    let mut buffer = [0u8; 2];
+    for (answer, octets) in rows {
+        assert_eq!(rt; source.take(&mut buffer), *answer);
+        assert_eq!(rt; buffer, *octets);
+    }
+}
+
 #[test]
-fn sources_give_their_octets_and_sinks_keep_them(rt: HostRuntime) -> Result<(), Fail> {
+fn sources_give_their_octets(rt: HostRuntime) -> Result<(), Fail> {
     let alloc = rt.alloc();
     let mut source = MemSource::new(octets_of(alloc, &[1, 2, 3])?, [2].to_vec(alloc)?);
+    takes(
+        &rt,
+        &mut source,
+        &[
+            (Ok(2), [1, 2]),
+            (Err(Failed), [1, 2]),
+            (Ok(1), [3, 2]),
+            (Ok(0), [3, 2]),
+        ],
+    );
     let mut safe = SafeSource::new(octets_of(alloc, &[4])?);
-    let mut buffer = [0u8; 2];
-    assert_eq!(rt; source.take(&mut buffer), Ok(2));
-    assert_eq!(rt; buffer, [1, 2]);
-    assert_eq!(rt; source.take(&mut buffer), Err(Failed));
-    assert_eq!(rt; source.take(&mut buffer), Ok(1));
-    assert_eq!(rt; source.take(&mut buffer), Ok(0));
-    assert_eq!(rt; safe.take(&mut buffer), Ok(1));
-    assert_eq!(rt; buffer, [4, 2]);
+    takes(&rt, &mut safe, &[(Ok(1), [4, 0]), (Ok(0), [4, 0])]);
+    Ok(())
+}
+
+#[test]
+fn sinks_keep_what_is_put(rt: HostRuntime) -> Result<(), Fail> {
+    let alloc = rt.alloc();
     let mut sink = MemSink::new(alloc, [1].to_vec(alloc)?);
     assert_eq!(rt; sink.put(&[7]), Err(Failed));
     assert_eq!(rt; sink.put(&[8, 9]), Ok(2));
     assert_eq!(rt; sink.octets(), [8, 9].as_slice());
-    let mut safe_sink = SafeSink::new(alloc);
-    assert_eq!(rt; safe_sink.put(&[8]), Ok(1));
-    assert_eq!(rt; safe_sink.octets(), [8].as_slice());
+    let mut safe = SafeSink::new(alloc);
+    assert_eq!(rt; safe.put(&[8]), Ok(1));
+    assert_eq!(rt; safe.octets(), [8].as_slice());
     Ok(())
 }
 
@@ -36,15 +55,53 @@ fn disks_keep_what_is_written(rt: HostRuntime) -> Result<(), Fail> {
     assert_eq!(rt; disk.octets().len(), 3);
     assert_eq!(rt; disk.write_at(2, &[8, 9]), Ok(()));
     assert_eq!(rt; disk.sync(), Err(Failed));
-    assert_eq!(rt; disk.octets().len(), 4);
     assert_eq!(rt; disk.size(), Ok(4));
+    assert_eq!(rt; disk.octets().len(), 4);
     assert_eq!(rt; disk.cut(3), Ok(()));
     assert_eq!(rt; disk.octets(), [1, 2, 8].as_slice());
+    Ok(())
+}
+
+#[test]
+fn safe_disks_are_read(rt: HostRuntime) -> Result<(), Fail> {
+    let alloc = rt.alloc();
     let mut safe = SafeDisk::new(alloc, octets_of(alloc, &[1, 2, 3])?);
     let mut buffer = [0u8; 4];
     assert_eq!(rt; safe.read(1, &mut buffer), Ok(2));
     assert_eq!(rt; buffer, [2, 3, 0, 0]);
     assert_eq!(rt; safe.octets().len(), 3);
+    Ok(())
+}
+
+// A write of four octets behind two, by the digits 0 to 7, and then a sync, a cut that fails and a crash behind each call.
+#[test]
+fn images_are_what_a_crash_leaves(rt: HostRuntime) -> Result<(), Fail> {
+    let alloc = rt.alloc();
+    let mut disk = MemDisk::new(alloc, octets_of(alloc, &[7, 8])?, [3].to_vec(alloc)?);
+    assert_eq!(rt; disk.octets().len(), 2);
+    assert_eq!(rt; disk.write_at(2, &[1, 2, 3, 4]), Ok(()));
+    assert_eq!(rt; disk.sync(), Ok(()));
+    assert_eq!(rt; disk.octets().len(), 6);
+    assert_eq!(rt; disk.cut(2), Err(Failed));
+    assert_eq!(rt; disk.calls(), 3);
+    let rows: [(u64, u64, &[u8]); 13] = [
+        (0, 1, &[7, 8]),
+        (1, 0, &[7, 8]),
+        (1, 1, &[7, 8, 1, 2, 3, 4]),
+        (1, 2, &[7, 8, 1, 2]),
+        (1, 3, &[7, 8, 254, 253, 252, 251]),
+        (1, 4, &[7, 8, 254, 253]),
+        (1, 5, &[7, 8, 0, 0, 0, 0]),
+        (1, 6, &[7, 8, 1, 1, 1, 1]),
+        (1, 7, &[7, 8, 0, 0, 3, 4]),
+        (2, 3, &[7, 8, 1, 2, 3, 4]),
+        (3, 0, &[7, 8, 1, 2, 3, 4]),
+        (3, 1, &[7, 8]),
+        (9, 2, &[7, 8, 1, 2]),
+    ];
+    for (call, choice, octets) in rows {
+        assert_eq!(rt; disk.image(call, choice)?.as_slice(), octets);
+    }
     Ok(())
 }
 

@@ -1,0 +1,4 @@
+pub mod Moments
+pub mod Logged
+pub mod Chosen
+pub mod Differ

@@ -1,0 +1,89 @@
+-- What the octets of a record say of the image that they stand in.
+use Rattle.std.proofs.Common.{inl, inr, ⊎_elim, ◌≡◌, ◌⊎◌, ℕ, zero, suc, ◌+◌, ◌-◌, ◌≤◌, ◌<◌, min, List, [], ◌∷◌, ◌++◌, length, take, drop, get_or, Result, Err, refl, sym, ap, subst, ◌∙◌, append_assoc, arith}
+use Rattle.std.specs.Int.{w32, from_be_bytes, to_be_bytes}
+use Rattle.std.proofs.lemmas.List.{drop-drop, drop-take, length-take-le, length-drop, take-append-drop}
+use Rattle.mta_edge.specs.Crashes.{Crash, Stays}
+use Rattle.mta_disk.specs.Records.{counted}
+use Rattle.mta_journal.specs.Bodies.{longest_body}
+use Rattle.mta_journal.specs.Faults.{IsFaulty}
+use Rattle.mta_journal.specs.Heads.{SaysHead, length_in}
+use Rattle.mta_journal.specs.Opening.{StandsAt, ClosedAt, BrokenAt}
+use Rattle.mta_journal.specs.declared.why.OpenWhy.{OpenWhy}
+use Rattle.mta_journal.specs.declared.read.Head.TheVariants.{Closed, Broken, Open}
+
+first_is : (n : ℕ) (tail : List ℕ) → 0 < n → 0 < length tail → tail ≡ get_or (take n tail) 0 0 ∷ drop 1 tail
+first_is n [] some long = absurd (omega arith)
+first_is zero (x ∷ tail) some long = absurd (omega arith)
+first_is (suc n) (x ∷ tail) some long = refl
+
+module _ (gate left : ℕ) (f head : List ℕ) (left_is : left ≡ length f - gate) (some : 0 < left) (head_is : head ≡ take (min left 5) (drop gate f)) where
+  size : length (drop gate f) ≡ left
+  size = simp length-drop (omega arith)
+
+  begins : drop gate f ≡ get_or head 0 0 ∷ drop 1 (drop gate f)
+  begins = first_is (min left 5) (drop gate f) (omega arith) (omega (arith, size)) ∙ ap (λ (h : List ℕ). get_or h 0 0 ∷ drop 1 (drop gate f)) (sym head_is)
+
+  pub closed_at : SaysHead head left Closed → ClosedAt gate f
+  closed_at says = record { octet = get_or head 0 0; rest = drop 1 (drop gate f); octets = begins; closed = says }
+
+  pub broken_at : SaysHead head left Broken → BrokenAt gate f
+  broken_at says =
+      let rest : List ℕ = drop 1 (drop gate f) in
+      let behind : length rest ≡ left - 1 = simp length-drop (omega (arith, size)) in
+      record {
+        rest = rest;
+        octets = begins ∙ ap (λ (n : ℕ). n ∷ rest) says.0;
+        faulty = ⊎_elim {C = IsFaulty rest} (λ (short : left < 5). inl (omega (arith, behind, short)))
+            (λ (more : (5 ≤ left) × ((longest_body < length_in head) ⊎ (left < length_in head + 6))).
+            let count : min left 5 ≡ 5 = omega (arith, more.0) in
+            let five : head ≡ take (1 + 4) (drop gate f) = head_is ∙ ap (λ (n : ℕ). take n (drop gate f)) count in
+            let same : length_in head ≡ from_be_bytes w32 (take 4 rest) = ap (λ (h : List ℕ). from_be_bytes w32 (drop 1 h)) five ∙ ap (from_be_bytes w32) (drop-take 1 4 (drop gate f)) in
+            ⊎_elim {C = IsFaulty rest} (λ (long : longest_body < length_in head). inr (subst (λ (n : ℕ). longest_body < n) same long))
+            (λ (passes : left < length_in head + 6). inl (let here : left < from_be_bytes w32 (take 4 rest) + 6 = subst (λ (n : ℕ). left < n + 6) same passes in omega (arith, behind, here, more.0))) more.1) says.1;
+      }
+
+  pub open_at : (n : ℕ) (body : List ℕ) → SaysHead head left (Open n) → body ≡ take n (drop (gate + 5) f) → StandsAt gate body f
+  unfolding counted
+  open_at n body says body_is =
+      let tail : List ℕ = drop (gate + 5) f in
+      let rest : List ℕ = drop n tail in
+      let behind : length tail ≡ left - 5 = simp length-drop (omega arith) in
+      let fits : n ≤ length tail = omega (arith, behind, says.2) in
+      let count : length body ≡ n = ap length body_is ∙ length-take-le n tail fits in
+      let whole : 5 ≡ min left 5 = omega (arith, says.2) in
+      let five : take 5 (drop gate f) ≡ 1 ∷ to_be_bytes w32 n = ap (λ (m : ℕ). take m (drop gate f)) whole ∙ sym head_is ∙ says.0 in
+      let split : tail ≡ body ++ rest = sym (take-append-drop n tail) ∙ ap (λ (x : List ℕ). x ++ rest) (sym body_is) in
+      record {
+        rest = rest;
+        octets = sym (take-append-drop 5 (drop gate f)) ∙ ap (λ (x : List ℕ). x ++ drop 5 (drop gate f)) five ∙ ap (λ (x : List ℕ). (1 ∷ to_be_bytes w32 n) ++ x) (drop-drop 5 gate f ∙ split)
+            ∙ sym (append_assoc (1 ∷ to_be_bytes w32 n) body rest) ∙ ap (λ (m : ℕ). ((1 ∷ to_be_bytes w32 m) ++ body) ++ rest) (sym count);
+        more = let l : length rest ≡ length tail - n = length-drop n tail in omega (arith, l, behind, says.2);
+        short = omega (arith, count, says.1);
+      }
+
+pub five_octets : (head : List ℕ) → length head ≡ 5 → head ≡ get_or head 0 0 ∷ get_or head 1 0 ∷ get_or head 2 0 ∷ get_or head 3 0 ∷ get_or head 4 0 ∷ []
+five_octets [] e = absurd (omega arith)
+five_octets (a ∷ []) e = absurd (omega arith)
+five_octets (a ∷ b ∷ []) e = absurd (omega arith)
+five_octets (a ∷ b ∷ c ∷ []) e = absurd (omega arith)
+five_octets (a ∷ b ∷ c ∷ d ∷ []) e = absurd (omega arith)
+five_octets (a ∷ b ∷ c ∷ d ∷ x ∷ []) e = refl
+five_octets (a ∷ b ∷ c ∷ d ∷ x ∷ y ∷ head) e = absurd (omega arith)
+
+-- an error that a call passed on
+pub carried : {T U : Type 0} (r : Result T OpenWhy) (s : Result U OpenWhy) (x y why : OpenWhy) → r ≡ Err x → s ≡ Err y → y ≡ x → s ≡ Err why → r ≡ Err why
+carried r s x y why was is same e = let one : Err y ≡ Err why = sym is ∙ e in let w : y ≡ why = cc in was ∙ ap Err (sym same ∙ w)
+
+-- where enough octets are left the disk does not end before them
+pub not_short : (gate count : ℕ) (f : List ℕ) → gate + count ≤ length f → length (drop gate f) < count → ⊥
+not_short gate count f fits short = let l : length (drop gate f) ≡ length f - gate = length-drop gate f in omega arith
+
+-- two calls that do nothing to the images
+pub Stays-then : {D : Type 0} (may_leave : D → List ℕ → Type 0) (moment : D → ℕ) (left_since : D → ℕ → List ℕ → Type 0) → ((d : D) (t : ℕ) (g : List ℕ) → t ≤ moment d → may_leave d g → left_since d t g) → (a b c : D) → Crash may_leave moment left_since Stays a b → Crash may_leave moment left_since Stays b c
+    → Crash may_leave moment left_since Stays a c
+Stays-then may_leave moment left_since counts_now a b c first second = record {
+  later = omega (arith, first.later, second.later);
+  image = λ h may. let x = second.image h may in let y = first.image x.0 x.1 in (y.0, y.1, x.2 ∙ y.2);
+  since = λ t h le left. ⊎_elim {C = left_since a t h ⊎ may_leave c h} (λ mid. ⊎_elim {C = left_since a t h ⊎ may_leave c h} (λ old. inl old) (λ now. let x = first.image h now in inl (counts_now a t h le (subst (may_leave a) (sym x.2) x.1))) (first.since t h le mid)) (λ now. inr now) (second.since t h (omega (arith, le, first.later)) left);
+  kept = λ t h le left. second.kept t h (omega (arith, le, first.later)) (first.kept t h le left);
+}

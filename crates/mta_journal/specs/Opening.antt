@@ -1,0 +1,64 @@
+-- What opening finds and leaves.
+use Rattle.std.specs.Prelude.{◌≡◌, ◌⊎◌, ◌+◌, ◌≤◌, ◌<◌, ℕ, List, ◌∷◌, ◌++◌, length, drop, Option, Some, Result, IsErrOf}
+use Rattle.mta_edge.specs.Causes.{Rose}
+use Rattle.mta_edge.specs.Outside.{Goes}
+use Rattle.mta_disk.specs.Records.{counted}
+use Rattle.mta_journal.specs.Bodies.{longest_body, front, HasBodies}
+use Rattle.mta_journal.specs.Faults.{IsFaulty, IsNoJournalAt}
+use Rattle.mta_journal.specs.declared.why.OpenWhy.{OpenWhy}
+use Rattle.mta_journal.specs.declared.why.OpenWhy.TheVariants as Whys
+
+-- it is the same image, or both are so short that they stand for no bodies
+abbrev pub IsSame : List ℕ → List ℕ → Type 0
+IsSame f g = (g ≡ f) ⊎ ((length f ≤ 9) × (length g ≤ 9))
+
+-- the disk's count of faults does not fall, and a disk fault is answered only where it rose
+pub record HasOpenCause {T : Type 0} (before now : ℕ) (result : Result T OpenWhy) : Type 0 where
+  pub later : before ≤ now
+  pub disk : IsErrOf result Whys.Disk → Rose before now
+
+-- a body stands in its record behind the open gate at this offset, and a gate behind it
+pub record StandsAt (gate : ℕ) (body f : List ℕ) : Type 0 where
+  pub rest : List ℕ
+  pub octets : drop gate f ≡ 1 ∷ counted body ++ rest
+  pub more : 0 < length rest
+  pub short : length body ≤ longest_body
+
+-- the gate at this offset is closed
+pub record ClosedAt (gate : ℕ) (f : List ℕ) : Type 0 where
+  pub octet : ℕ
+  pub rest : List ℕ
+  pub octets : drop gate f ≡ octet ∷ rest
+  pub closed : octet ≡ 1 → ⊥
+
+-- the gate at this offset is open and its record faulty
+pub record BrokenAt (gate : ℕ) (f : List ℕ) : Type 0 where
+  pub rest : List ℕ
+  pub octets : drop gate f ≡ 1 ∷ rest
+  pub faulty : IsFaulty rest
+
+-- the disk has these bodies now, and uses this many octets
+pub record Stored {D : Type 0} (content : D → Option (List ℕ)) (disk : D) (size : ℕ) (bodies : List (List ℕ)) : Type 0 where
+  pub file : (f : List ℕ) → content disk ≡ Some f → HasBodies f bodies
+  pub size_is : size ≡ length (front bodies) + 1
+
+-- the disk is as it was, and no journal at this place
+abbrev pub IsRefused : ℕ → List ℕ → List ℕ → Type 0
+IsRefused at f g = (g ≡ f) × IsNoJournalAt f at
+
+-- why a disk was refused
+pub record HasRefused {D : Type 0} (content : D → Option (List ℕ)) (faults : D → ℕ) (old new : D) (why : OpenWhy) : Type 0 where
+  pub later : faults old ≤ faults new
+  pub disk : why ≡ Whys.Disk → Rose (faults old) (faults new)
+  pub not_spool : (at : ℕ) → why ≡ Whys.NotSpool at → Goes (IsRefused at) (content old) (content new)
+
+-- a crash while the disk is opened leaves what one before might have left, or the same
+abbrev pub BeforeOrSame : (List ℕ → Type 0) → List ℕ → List ℕ → Type 0
+BeforeOrSame may_leave f g = may_leave g ⊎ IsSame f g
+
+-- since a moment in the call, that of its first sync, a crash leaves the same
+pub record SameSince {D : Type 0} (moment : D → ℕ) (left_since : D → ℕ → List ℕ → Type 0) (f : List ℕ) (old new : D) : Type 0 where
+  pub since : ℕ
+  pub from : moment old ≤ since
+  pub until : since ≤ moment new
+  pub same : (g : List ℕ) → left_since new since g → IsSame f g
