@@ -78,7 +78,7 @@ printed_nothing text told stop other = inl (other, [], inl refl, Goes-nothing to
 err_is : (a b : Stop) → ◌≡◌ {A = Result (Unit {0}) Stop} (Err a) (Err b) → a ≡ b
 err_is a b e = cc
 
-read_cause_open : {D : Type 0} (content : D → Option (List ℕ)) (faults : D → ℕ) (old new : D) (words : Words) (out_rose : Type 0) (why : OpenWhy) → HasRefused content faults old new why → IsReadCause words (content old) (Rose (faults old) (faults new)) out_rose (stop_of_open why)
+pub read_cause_open : {D : Type 0} (content : D → Option (List ℕ)) (faults : D → ℕ) (old new : D) (words : Words) (out_rose : Type 0) (why : OpenWhy) → HasRefused content faults old new why → IsReadCause words (content old) (Rose (faults old) (faults new)) out_rose (stop_of_open why)
 read_cause_open content faults old new words out_rose (Whys.NotSpool at) refused = refused.not_spool at refl
 read_cause_open content faults old new words out_rose Whys.Disk refused = refused.disk refl
 read_cause_open content faults old new words out_rose Whys.Memory refused = tt
@@ -206,7 +206,7 @@ mailbox_read content faults before now out_rose old spool base name text result 
 
 -- ---- as what a command leaves
 
-read_to_cause : (words : Words) (conf input disk : Option (List ℕ)) (source_rose disk_rose out_rose : Type 0) (stop : Stop) → IsReadCause words disk disk_rose out_rose stop → IsCause (Some words) conf input disk source_rose disk_rose out_rose [] stop
+pub read_to_cause : (words : Words) (conf input disk : Option (List ℕ)) (source_rose disk_rose out_rose : Type 0) (stop : Stop) → IsReadCause words disk disk_rose out_rose stop → IsCause (Some words) conf input disk source_rose disk_rose out_rose [] stop
 read_to_cause words conf input disk source_rose disk_rose out_rose (Stops.NotSpool at) c = c
 read_to_cause words conf input disk source_rose disk_rose out_rose Stops.Disk c = c
 read_to_cause words conf input disk source_rose disk_rose out_rose Stops.Memory c = c
@@ -219,7 +219,7 @@ read_to_cause words conf input disk source_rose disk_rose out_rose (Stops.Spent 
 read_to_cause words conf input disk source_rose disk_rose out_rose Stops.Source c = absurd c
 read_to_cause words conf input disk source_rose disk_rose out_rose Stops.NotBuilt c = absurd c
 
-stands_history : (f : List ℕ) (steps : List Step) → StandsFor f steps → IsHistory (steps ++ [])
+pub stands_history : (f : List ℕ) (steps : List Step) → StandsFor f steps → IsHistory (steps ++ [])
 stands_history f steps (inl s) = subst IsHistory (sym (append-nil steps)) (subst IsHistory (sym s.1) tt)
 stands_history f steps (inr s) = subst IsHistory (sym (append-nil steps)) s.2
 
