@@ -5,3 +5,5 @@ pub mod ListLaws
 pub mod ExtensionLaws
 pub mod StandardLaws
 pub mod NameLaws
+pub mod Written
+pub mod NormalLaws

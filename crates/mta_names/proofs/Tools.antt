@@ -1,5 +1,5 @@
 -- Tools for readers of components: slots, tags, lists, and what all components keep.
-use Rattle.std.proofs.Common.{◌≡◌, ℕ, ◌+◌, ◌≤◌, Bool, true, false, cond, eqb, List, [], ◌∷◌, ◌++◌, length, Option, Some, None, Result, Ok, refl, sym, ap, subst, ◌∙◌, arith}
+use Rattle.std.proofs.Common.{◌≡◌, ℕ, ◌+◌, ◌≤◌, Bool, true, false, cond, eqb, List, [], ◌∷◌, ◌++◌, length, Option, Some, None, Result, Ok, Err, refl, sym, ap, subst, ◌∙◌, arith}
 use Rattle.std.specs.Prelude.{IsTrue, not}
 use Rattle.std.proofs.lemmas.Bool.{eqb-true}
 use Rattle.std.proofs.lemmas.Bool.Decides.{nat_tests}
@@ -11,7 +11,9 @@ use Rattle.mta_ber.specs.Element.{Part}
 use Rattle.mta_ber.specs.Explicit.{Spells}
 use Rattle.mta_ber.specs.Head.{◌>>=◌, fault}
 use Rattle.mta_ber.specs.Octet.{IsOctets}
-use Rattle.mta_ber.specs.Parts.{components, parts_of, is_tag, in_order}
+use Rattle.mta_ber.specs.declared.fault.ReadFault.{ReadFault}
+use Rattle.mta_ber.specs.declared.fault.ReadFault.TheVariants as faults
+use Rattle.mta_ber.specs.Parts.{components, parts_of, is_tag, in_order, Fails, IsReadAs}
 use Rattle.mta_ber.specs.Spelling.{Stands}
 use Rattle.mta_ber.specs.Strings.{between}
 use Rattle.mta_ber.proofs.ComponentLaws.{StepSound, StepFull, parts_sound, parts_full}
@@ -117,3 +119,12 @@ module _ {X : Type 0} (is_item : Tag → Bool) (read : Part → Result X Fault) 
       → (low high depth : ℕ) (c : Bool) (content : List ℕ) (xs : List X) → SpellsList is_item spells low high depth c content xs → Each P xs
   list_each P good low high depth c content xs h =
       spelled_keep (AddsItem is_item spells) (Each P) (λ depth s t tag content octets stands m k. subst (Each P) (sym m.after_is) (each_more P s m.item k (good depth tag content octets m.item m.spelled))) depth [] xs content h.spelled tt
+
+-- ---- what readers answer
+
+pub ok_as : {X : Type 0} (read : Result X Fault) (x y : X) → read ≡ Ok x → read ≡ Ok y → x ≡ y
+ok_as read x y e f = ok_is x y (sym e ∙ f)
+
+pub fails_as : {X : Type 0} (e : ReadFault) (read : Result X Fault) (y : X) → Fails e read → read ≡ Ok y → IsReadAs {X = X} (Err e) y
+fails_as faults.Memory read y h e = tt
+fails_as (faults.Bad f) read y h e = absurd (let k = sym h ∙ e in cc)

@@ -6,3 +6,4 @@ pub mod Lists
 pub mod Extensions
 pub mod Standard
 pub mod Names
+pub mod Normal

@@ -107,8 +107,11 @@ pub record SpellsName (depth : ℕ) (constructed : Bool) (content : List ℕ) (n
 abbrev pub extensions_of : Attributes → ExtensionParts
 extensions_of n = record { common = n.common; extras = n.extras }
 
+abbrev pub kept : List ℕ → List ℕ
+kept octets = octets
+
 abbrev pub name_content : Attributes → List ℕ
-name_content n = canonical_standard n ++ listed canonical_pairs n.pairs ++ canonical_extensions (extensions_of n) ++ optional (λ o. o) n.directory
+name_content n = canonical_standard n ++ listed canonical_pairs n.pairs ++ canonical_extensions (extensions_of n) ++ optional kept n.directory
 
 -- under the tag that stands for a name at its place
 unfoldable pub canonical_name : Tag → Attributes → List ℕ

@@ -146,11 +146,14 @@ pub record SpellsStandard (depth : ℕ) (constructed : Bool) (content : List ℕ
 abbrev pub canonical_text : ℕ → List ℕ → List ℕ
 canonical_text number t = element (primitive 2 number) t
 
+abbrev pub canonical_named : Person → List ℕ
+canonical_named v = element (constructed 2 5) (canonical_person v)
+
 abbrev pub standard_content : Attributes → List ℕ
 standard_content n =
     optional (canonical_label 1 1) n.country ++ optional (canonical_label 1 2) n.admd ++ optional (canonical_text 0) n.network ++ optional (canonical_text 1) n.terminal
     ++ optional (canonical_label 2 2) n.prmd ++ optional (canonical_text 3) n.organization ++ optional (canonical_text 4) n.user
-    ++ optional (λ v. element (constructed 2 5) (canonical_person v)) n.person ++ listed canonical_units n.units
+    ++ optional canonical_named n.person ++ listed canonical_units n.units
 
 abbrev pub canonical_standard : Attributes → List ℕ
 canonical_standard n = element (constructed 0 16) (standard_content n)

@@ -5,12 +5,15 @@ mod attributes;
 mod extension;
 mod label;
 mod name;
+mod normal;
 mod pair;
 mod person;
 mod reading;
 mod row;
+mod same;
 mod standard;
 mod unit;
+mod writing;
 
 pub use attributes::{Attributes, Extra, Label, Pair, Person};
 pub use name::OrName;
