@@ -123,11 +123,11 @@ module _ (low high : ℕ) where
   label_back : (b : Bool) (t : List ℕ) → IsLabel low high (label b t) → IsString (label_good b) low high t
   label_back b t h = record { passes = h.characters; at_least = h.at_least; at_most = h.at_most }
 
-  label_choice_sound : ReadSound (label_choice low high) (SpellsChoice (IsLabel low high))
+  pub label_choice_sound : ReadSound (label_choice low high) (SpellsChoice (IsLabel low high))
   unfolding label_choice
   label_choice_sound l p shallow content octets e = choice_sound label_good (λ _. low) (λ _. high) (IsLabel low high) label_right label_back l p shallow content octets e
 
-  label_choice_full : ReadFull (label_choice low high) (SpellsChoice (IsLabel low high))
+  pub label_choice_full : ReadFull (label_choice low high) (SpellsChoice (IsLabel low high))
   unfolding label_choice
   label_choice_full l p shallow h = choice_full label_good (λ _. low) (λ _. high) (IsLabel low high) label_right label_back l p shallow h
 

@@ -51,7 +51,8 @@ fn copied(alloc: Global, text: &Option<Text>) -> Result<Option<Text>, Memory>
     }
 }
 
-fn copied_label(alloc: Global, label: &Option<Label>) -> Result<Option<Label>, Memory>
+/// An equal label, where it is there.
+pub fn copied_label(alloc: Global, label: &Option<Label>) -> Result<Option<Label>, Memory>
     ensures { IfOk result (λ l. l ≡ label.now) }
 {
     match label {
@@ -86,7 +87,8 @@ fn copied_person(alloc: Global, person: &Option<Person>) -> Result<Option<Person
     }
 }
 
-fn copied_raw(alloc: Global, raw: &Option<Octets>) -> Result<Option<Octets>, Memory>
+/// Equal octets, where they are there.
+pub fn copied_raw(alloc: Global, raw: &Option<Octets>) -> Result<Option<Octets>, Memory>
     ensures { IfOk result (λ o. o ≡ raw.now) }
 {
     match raw {

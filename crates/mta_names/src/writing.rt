@@ -16,7 +16,7 @@ use mta_ber::{Memory, Octets, Tag, Text, Writer, put_int};
 use std::alloc::Global;
 
 /// The tag of a constructed element.
-fn constructed(class: u8, number: u32) -> Tag
+pub fn constructed(class: u8, number: u32) -> Tag
     ensures { result ≡ constructed class number }
 {
     Tag {
@@ -27,7 +27,7 @@ fn constructed(class: u8, number: u32) -> Tag
 }
 
 /// The tag of a primitive element.
-fn primitive(class: u8, number: u32) -> Tag
+pub fn primitive(class: u8, number: u32) -> Tag
     ensures { result ≡ primitive class number }
 {
     Tag {
@@ -50,7 +50,7 @@ fn put_text(w: &mut Writer, number: u32, text: &Option<Text>) -> Result<(), Memo
 }
 
 /// Appends an element around what `inside` holds.
-fn put_around(w: &mut Writer, tag: Tag, inside: &Writer) -> Result<(), Memory>
+pub fn put_around(w: &mut Writer, tag: Tag, inside: &Writer) -> Result<(), Memory>
     requires { IsTag tag }
     ensures ok { OnOk result (w.new ≡ appended w.old (element tag inside.now.octets)) }
     ensures err { OnErr result (w.new ≡ w.old) }
@@ -58,13 +58,21 @@ fn put_around(w: &mut Writer, tag: Tag, inside: &Writer) -> Result<(), Memory>
     w.put(tag, inside.as_slice())
 }
 
-fn put_label(w: &mut Writer, class: u8, number: u32, label: &Label) -> Result<(), Memory>
+/// Appends a label with no tag around it.
+pub fn put_label_choice(w: &mut Writer, label: &Label) -> Result<(), Memory>
+    ensures ok { OnOk result (w.new ≡ appended w.old (canonical_choice label.now)) }
+{
+    let number = if label.numeric { 18 } else { 19 };
+    w.put(primitive(0, number), label.text.as_slice())
+}
+
+/// Appends a label inside an explicit tag.
+pub fn put_label(w: &mut Writer, class: u8, number: u32, label: &Label) -> Result<(), Memory>
     requires { IsTag (constructed class number) }
     ensures ok { OnOk result (w.new ≡ appended w.old (canonical_label class number label.now)) }
 {
     let mut inside = Writer::new(w.alloc());
-    let string = if label.numeric { 18 } else { 19 };
-    inside.put(primitive(0, string), label.text.as_slice())?;
+    put_label_choice(&mut inside, label)?;
     put_around(w, constructed(class, number), &inside)
 }
 
@@ -227,7 +235,7 @@ fn put_standard(w: &mut Writer, n: &Attributes) -> Result<(), Memory>
 
 /// Appends octets that are kept, where they are there.
 #[tactic(auto, using(crate::proofs::Written::appended_none))]
-fn put_raw_if(w: &mut Writer, raw: &Option<Octets>) -> Result<(), Memory>
+pub fn put_raw_if(w: &mut Writer, raw: &Option<Octets>) -> Result<(), Memory>
     ensures ok { OnOk result (w.new ≡ appended w.old (optional kept raw.now)) }
 {
     match raw {
