@@ -132,9 +132,10 @@ pub same_decides : (v w : DomainFields) (r : Bool) → r ≡ is_same_domain v w 
 same_decides v w r is =
     let a = label_decides v.country w.country in
     let b = label_decides v.admd w.admd in
-    let c = option_decides is_same_labels normal_label label_decides v.prmd w.prmd in
-    (λ e.
-        let z = and_parts (is_same_labels v.country w.country && is_same_labels v.admd w.admd) (is_same_option is_same_labels v.prmd w.prmd) (sym is ∙ e) in
-        let y = and_parts (is_same_labels v.country w.country) (is_same_labels v.admd w.admd) z.0 in
-        made_is (normal_label v.country) (normal_label w.country) (normal_label v.admd) (normal_label w.admd) (option_map normal_label v.prmd) (option_map normal_label w.prmd) (a.0 y.0) (b.0 y.1) (c.0 z.1),
-     λ e. is ∙ and_from _ _ (and_from _ _ (a.1 (ap (λ (n : NormalDomain). n.country) e)) (b.1 (ap (λ (n : NormalDomain). n.admd) e))) (c.1 (ap (λ (n : NormalDomain). n.prmd) e)))
+    let c = option_decides is_same_labels normal_label label_decides v.prmd w.prmd in (
+      λ e.
+          let z = and_parts (is_same_labels v.country w.country && is_same_labels v.admd w.admd) (is_same_option is_same_labels v.prmd w.prmd) (sym is ∙ e) in
+          let y = and_parts (is_same_labels v.country w.country) (is_same_labels v.admd w.admd) z.0 in
+          made_is (normal_label v.country) (normal_label w.country) (normal_label v.admd) (normal_label w.admd) (option_map normal_label v.prmd) (option_map normal_label w.prmd) (a.0 y.0) (b.0 y.1) (c.0 z.1),
+      λ e. is ∙ and_from _ _ (and_from _ _ (a.1 (ap (λ (n : NormalDomain). n.country) e)) (b.1 (ap (λ (n : NormalDomain). n.admd) e))) (c.1 (ap (λ (n : NormalDomain). n.prmd) e)),
+    )

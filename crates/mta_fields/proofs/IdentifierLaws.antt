@@ -104,6 +104,7 @@ id_is depth c content v h = subst (λ o. IfSome o (IsText Ia5 1 32)) h.local (sp
 pub id_decides : (v w : MtsIdFields) (r : Bool) → r ≡ is_same_id v w → (r ≡ true) ↔ IsSameId v w
 id_decides v w r is =
     let a = same_decides v.domain w.domain (is_same_domain v.domain w.domain) refl in
-    let b = bytes_eq-Decides v.local w.local in
-    (λ e. let z = and_parts (is_same_domain v.domain w.domain) (bytes_eq v.local w.local) (sym is ∙ e) in record { domain = a.0 z.0; local = b.0 z.1 },
-     λ e. is ∙ and_from _ _ (a.1 e.domain) (b.1 e.local))
+    let b = bytes_eq-Decides v.local w.local in (
+      λ e. let z = and_parts (is_same_domain v.domain w.domain) (bytes_eq v.local w.local) (sym is ∙ e) in record { domain = a.0 z.0; local = b.0 z.1 },
+      λ e. is ∙ and_from _ _ (a.1 e.domain) (b.1 e.local),
+    )

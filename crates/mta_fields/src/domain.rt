@@ -10,8 +10,8 @@ use mta_ber::{
     take_parts, take_required,
 };
 use mta_names::{
-    Label, constructed, put_around, put_label, put_label_choice, read_country,
-    read_label, read_label_choice, same_label, same_text,
+    Label, constructed, put_around, put_label, put_label_choice, read_country, read_label,
+    read_label_choice, same_label, same_text,
 };
 use std::alloc::Global;
 use std::marker::Model;
@@ -177,8 +177,10 @@ fn put_fields(alloc: Global, domain: &DomainFields) -> Result<Writer, Memory>
 pub fn is_same(first: &DomainFields, second: &DomainFields) -> bool
     ensures { result ≡ is_same_domain first.now second.now }
 {
-    same_text(first.country.text.as_slice(), second.country.text.as_slice())
-        && same_text(first.admd.text.as_slice(), second.admd.text.as_slice())
+    same_text(
+        first.country.text.as_slice(),
+        second.country.text.as_slice(),
+    ) && same_text(first.admd.text.as_slice(), second.admd.text.as_slice())
         && same_label(&first.prmd, &second.prmd)
 }
 

@@ -264,7 +264,11 @@ fn put_criticality(
     if !submission && !transfer && !delivery {
         return Ok(());
     }
-    put_bits(w, primitive(2, 1), three_bits_of(submission, transfer, delivery))
+    put_bits(
+        w,
+        primitive(2, 1),
+        three_bits_of(submission, transfer, delivery),
+    )
 }
 
 fn is_null(value: &[u8]) -> bool
@@ -290,7 +294,12 @@ fn put_fields(alloc: Global, field: &ExtFields) -> Result<Writer, Memory>
 {
     let mut inside = Writer::new(alloc);
     put_kind(&mut inside, &field.kind)?;
-    put_criticality(&mut inside, field.submission, field.transfer, field.delivery)?;
+    put_criticality(
+        &mut inside,
+        field.submission,
+        field.transfer,
+        field.delivery,
+    )?;
     put_value(&mut inside, field.value.as_slice())?;
     Ok(inside)
 }

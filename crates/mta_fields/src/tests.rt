@@ -67,7 +67,10 @@ fn trace_elements_are_read_and_written(rt: HostRuntime) -> Result<(), Fail> {
 #[test]
 fn extension_fields_are_read_and_written(rt: HostRuntime) -> Result<(), Fail> {
     let cases: [(&[u8], &[u8]); 5] = [
-        (&[0x30, 0x03, 0x80, 0x01, 0x1A], &[0x30, 0x03, 0x80, 0x01, 0x1A]),
+        (
+            &[0x30, 0x03, 0x80, 0x01, 0x1A],
+            &[0x30, 0x03, 0x80, 0x01, 0x1A],
+        ),
         (
             &[0x30, 0x05, 0xA0, 0x03, 0x80, 0x01, 0x1A],
             &[0x30, 0x03, 0x80, 0x01, 0x1A],
@@ -83,7 +86,9 @@ fn extension_fields_are_read_and_written(rt: HostRuntime) -> Result<(), Fail> {
         ),
         // further bits of the criticality do not count
         (
-            &[0x30, 0x0B, 0x83, 0x02, 0x2A, 0x03, 0x81, 0x02, 0x04, 0x5F, 0xA2, 0x01, 0x00],
+            &[
+                0x30, 0x0B, 0x83, 0x02, 0x2A, 0x03, 0x81, 0x02, 0x04, 0x5F, 0xA2, 0x01, 0x00,
+            ],
             &[],
         ),
     ];
@@ -91,7 +96,13 @@ fn extension_fields_are_read_and_written(rt: HostRuntime) -> Result<(), Fail> {
         match written_field(rt.alloc(), octets) {
             Ok(w) => assert_eq!(rt; w.as_slice(), canonical),
             Err(ReadFault::Bad(fault)) => {
-                assert_eq!(rt; fault, Fault { at: 12, kind: Kind::Truncated });
+                assert_eq!(rt;
+                    fault,
+                    Fault {
+                        at: 12,
+                        kind: Kind::Truncated
+                    }
+                );
             }
             Err(ReadFault::Memory) => assert!(rt; false),
         }

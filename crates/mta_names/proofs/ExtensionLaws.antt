@@ -247,15 +247,15 @@ held : Keeps MakesAttribute Held
 held depth s t tag content octets stands h k =
     elim h [
       | inl m ↦ subst Held (sym m.after_is) (record {
-          small = number_small 0 32767 m.number tag.constructed content m.spelled;
-          fits = λ n e. nothing_fits (FitsAs (eqb n 1)) s.value (k.none m.absent);
-          none = λ e. absurd (cc e);
-        })
+        small = number_small 0 32767 m.number tag.constructed content m.spelled;
+        fits = λ n e. nothing_fits (FitsAs (eqb n 1)) s.value (k.none m.absent);
+        none = λ e. absurd (cc e);
+      })
       | inr m ↦ subst Held (sym m.puts.after_is) (record {
-          small = k.small;
-          fits = λ n e. subst (λ j. FitsAs (eqb j 1) m.puts.value) (number_is m.number n (sym m.typed_so ∙ e)) (value_fits (eqb m.number 1) depth tag content octets m.puts.value m.is_tag_of stands m.puts.value_spelled);
-          none = λ e. absurd (let f = sym m.typed_so ∙ e in cc f);
-        })
+        small = k.small;
+        fits = λ n e. subst (λ j. FitsAs (eqb j 1) m.puts.value) (number_is m.number n (sym m.typed_so ∙ e)) (value_fits (eqb m.number 1) depth tag content octets m.puts.value m.is_tag_of stands m.puts.value_spelled);
+        none = λ e. absurd (let f = sym m.typed_so ∙ e in cc f);
+      })
     ]
 
 record Fits (x : Extra) : Type 0 where

@@ -53,19 +53,21 @@ step_sound : StepSound pair_step MakesPair
 unfolding pair_step
 step_sound s t p shallow content octets e =
     let c = taken (is_printable p.tag) (pair_text s p) _ t e in
-    let v = passed (is_some s.value) _ _ t c.1 in
-    (c.0, elim (chosen (is_some s.kind) _ _ _ v.1) [
-      | inl y ↦ inr (record {
+    let v = passed (is_some s.value) _ _ t c.1 in (
+      c.0,
+      elim (chosen (is_some s.kind) _ _ _ v.1) [
+        | inl y ↦ inr (record {
           some_kind = y.0;
           no_value = none_so s.value v.0;
           puts = puts_sound (text_in Printable 1 128 p) (λ x. record s { value = Some x }) t (SpellsText Printable 1 128 p.depth p.tag.constructed p.content) (λ x r. text_sound Printable 1 128 p x shallow content r) y.1;
         })
-      | inr n ↦ inl (record {
+        | inr n ↦ inl (record {
           no_kind = none_so s.kind n.0;
           no_value = none_so s.value v.0;
           puts = puts_sound (text_in Printable 1 8 p) (λ x. record s { kind = Some x }) t (SpellsText Printable 1 8 p.depth p.tag.constructed p.content) (λ x r. text_sound Printable 1 8 p x shallow content r) n.1;
         })
-    ])
+      ],
+    )
 
 step_full : StepFull pair_step MakesPair
 unfolding pair_step

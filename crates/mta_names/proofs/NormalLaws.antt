@@ -77,9 +77,10 @@ list_decides same normal d [] [] = (λ e. refl, λ e. refl)
 list_decides same normal d [] (y ∷ ys) = (λ e. absurd cc, λ e. absurd (nil_cons (normal y) (map normal ys) e))
 list_decides same normal d (x ∷ xs) [] = (λ e. absurd cc, λ e. absurd (nil_cons (normal x) (map normal xs) (sym e)))
 list_decides same normal d (x ∷ xs) (y ∷ ys) =
-    let r = list_decides same normal d xs ys in
-    (λ e. let a = and_parts (same x y) (is_same_list same xs ys) e in is_cons (normal x) (normal y) (map normal xs) (map normal ys) ((d x y).0 a.0) (r.0 a.1),
-     λ e. let c = cons_is (normal x) (normal y) (map normal xs) (map normal ys) e in and_from (same x y) (is_same_list same xs ys) ((d x y).1 c.0) (r.1 c.1))
+    let r = list_decides same normal d xs ys in (
+      λ e. let a = and_parts (same x y) (is_same_list same xs ys) e in is_cons (normal x) (normal y) (map normal xs) (map normal ys) ((d x y).0 a.0) (r.0 a.1),
+      λ e. let c = cons_is (normal x) (normal y) (map normal xs) (map normal ys) e in and_from (same x y) (is_same_list same xs ys) ((d x y).1 c.0) (r.1 c.1),
+    )
 
 label_decides : Decides is_same_labels normal_label
 label_decides l m = text_decides l.text m.text
@@ -101,13 +102,14 @@ person_decides p q =
     let a = text_decides p.surname q.surname in
     let b = value_decides p.given q.given in
     let c = value_decides p.initials q.initials in
-    let d = value_decides p.generation q.generation in
-    (λ e.
-        let z = and_parts (is_same_text p.surname q.surname && is_same_value p.given q.given && is_same_value p.initials q.initials) (is_same_value p.generation q.generation) e in
-        let y = and_parts (is_same_text p.surname q.surname && is_same_value p.given q.given) (is_same_value p.initials q.initials) z.0 in
-        let x = and_parts (is_same_text p.surname q.surname) (is_same_value p.given q.given) y.0 in
-        person_is (normal_person p) (normal_person q) (a.0 x.0) (b.0 x.1) (c.0 y.1) (d.0 z.1),
-     λ e. and_from _ _ (and_from _ _ (and_from _ _ (a.1 (ap (λ (n : NormalPerson). n.surname) e)) (b.1 (ap (λ (n : NormalPerson). n.given) e))) (c.1 (ap (λ (n : NormalPerson). n.initials) e))) (d.1 (ap (λ (n : NormalPerson). n.generation) e)))
+    let d = value_decides p.generation q.generation in (
+      λ e.
+          let z = and_parts (is_same_text p.surname q.surname && is_same_value p.given q.given && is_same_value p.initials q.initials) (is_same_value p.generation q.generation) e in
+          let y = and_parts (is_same_text p.surname q.surname && is_same_value p.given q.given) (is_same_value p.initials q.initials) z.0 in
+          let x = and_parts (is_same_text p.surname q.surname) (is_same_value p.given q.given) y.0 in
+          person_is (normal_person p) (normal_person q) (a.0 x.0) (b.0 x.1) (c.0 y.1) (d.0 z.1),
+      λ e. and_from _ _ (and_from _ _ (and_from _ _ (a.1 (ap (λ (n : NormalPerson). n.surname) e)) (b.1 (ap (λ (n : NormalPerson). n.given) e))) (c.1 (ap (λ (n : NormalPerson). n.initials) e))) (d.1 (ap (λ (n : NormalPerson). n.generation) e)),
+    )
 
 abbrev made_pair : List ℕ → List ℕ → NormalPair
 made_pair a b = record { kind = a; value = b }
@@ -121,9 +123,10 @@ pair_is p q a b = pair_of p.kind q.kind p.value q.value a b
 pair_decides : Decides is_same_pair normal_pair
 pair_decides p q =
     let a = text_decides p.kind q.kind in
-    let b = text_decides p.value q.value in
-    (λ e. let x = and_parts (is_same_text p.kind q.kind) (is_same_text p.value q.value) e in pair_is (normal_pair p) (normal_pair q) (a.0 x.0) (b.0 x.1),
-     λ e. and_from _ _ (a.1 (ap (λ (n : NormalPair). n.kind) e)) (b.1 (ap (λ (n : NormalPair). n.value) e)))
+    let b = text_decides p.value q.value in (
+      λ e. let x = and_parts (is_same_text p.kind q.kind) (is_same_text p.value q.value) e in pair_is (normal_pair p) (normal_pair q) (a.0 x.0) (b.0 x.1),
+      λ e. and_from _ _ (a.1 (ap (λ (n : NormalPair). n.kind) e)) (b.1 (ap (λ (n : NormalPair). n.value) e)),
+    )
 
 -- one field after another is the other list's
 list_is : (m n : NormalList) → m.country ≡ n.country → m.admd ≡ n.admd → m.prmd ≡ n.prmd → m.organization ≡ n.organization → m.units ≡ n.units → m.person ≡ n.person → m.common ≡ n.common
@@ -149,23 +152,24 @@ name_decides m n =
     let h = value_decides m.network n.network in
     let i = value_decides m.terminal n.terminal in
     let j = value_decides m.user n.user in
-    let k = list_decides is_same_pair normal_pair pair_decides m.pairs n.pairs in
-    (λ t.
-        let tk = and_parts _ (is_same_pairs m.pairs n.pairs) t in
-        let tj = and_parts _ (is_same_value m.user n.user) tk.0 in
-        let ti = and_parts _ (is_same_value m.terminal n.terminal) tj.0 in
-        let th = and_parts _ (is_same_value m.network n.network) ti.0 in
-        let tg = and_parts _ (is_same_value m.common n.common) th.0 in
-        let tf = and_parts _ (is_same_persons m.person n.person) tg.0 in
-        let te = and_parts _ (is_same_texts m.units n.units) tf.0 in
-        let td = and_parts _ (is_same_value m.organization n.organization) te.0 in
-        let tc = and_parts _ (is_same_label m.prmd n.prmd) td.0 in
-        let tb = and_parts (is_same_label m.country n.country) (is_same_label m.admd n.admd) tc.0 in
-        list_is (normal_list m) (normal_list n) (a.0 tb.0) (b.0 tb.1) (c.0 tc.1) (d.0 td.1) (e.0 te.1) (f.0 tf.1) (g.0 tg.1) (h.0 th.1) (i.0 ti.1) (j.0 tj.1) (k.0 tk.1),
-     λ t.
-        and_from _ _ (and_from _ _ (and_from _ _ (and_from _ _ (and_from _ _ (and_from _ _ (and_from _ _ (and_from _ _ (and_from _ _ (and_from _ _ (a.1 (ap (λ (l : NormalList). l.country) t)) (b.1 (ap (λ (l : NormalList). l.admd) t))) (c.1 (ap (λ (l : NormalList). l.prmd) t)))
-        (d.1 (ap (λ (l : NormalList). l.organization) t))) (e.1 (ap (λ (l : NormalList). l.units) t))) (f.1 (ap (λ (l : NormalList). l.person) t))) (g.1 (ap (λ (l : NormalList). l.common) t))) (h.1 (ap (λ (l : NormalList). l.network) t))) (i.1 (ap (λ (l : NormalList). l.terminal) t)))
-        (j.1 (ap (λ (l : NormalList). l.user) t))) (k.1 (ap (λ (l : NormalList). l.pairs) t)))
+    let k = list_decides is_same_pair normal_pair pair_decides m.pairs n.pairs in (
+      λ t.
+          let tk = and_parts _ (is_same_pairs m.pairs n.pairs) t in
+          let tj = and_parts _ (is_same_value m.user n.user) tk.0 in
+          let ti = and_parts _ (is_same_value m.terminal n.terminal) tj.0 in
+          let th = and_parts _ (is_same_value m.network n.network) ti.0 in
+          let tg = and_parts _ (is_same_value m.common n.common) th.0 in
+          let tf = and_parts _ (is_same_persons m.person n.person) tg.0 in
+          let te = and_parts _ (is_same_texts m.units n.units) tf.0 in
+          let td = and_parts _ (is_same_value m.organization n.organization) te.0 in
+          let tc = and_parts _ (is_same_label m.prmd n.prmd) td.0 in
+          let tb = and_parts (is_same_label m.country n.country) (is_same_label m.admd n.admd) tc.0 in
+          list_is (normal_list m) (normal_list n) (a.0 tb.0) (b.0 tb.1) (c.0 tc.1) (d.0 td.1) (e.0 te.1) (f.0 tf.1) (g.0 tg.1) (h.0 th.1) (i.0 ti.1) (j.0 tj.1) (k.0 tk.1),
+      λ t.
+          and_from _ _ (and_from _ _ (and_from _ _ (and_from _ _ (and_from _ _ (and_from _ _ (and_from _ _ (and_from _ _ (and_from _ _ (and_from _ _ (a.1 (ap (λ (l : NormalList). l.country) t)) (b.1 (ap (λ (l : NormalList). l.admd) t))) (c.1 (ap (λ (l : NormalList). l.prmd) t)))
+          (d.1 (ap (λ (l : NormalList). l.organization) t))) (e.1 (ap (λ (l : NormalList). l.units) t))) (f.1 (ap (λ (l : NormalList). l.person) t))) (g.1 (ap (λ (l : NormalList). l.common) t))) (h.1 (ap (λ (l : NormalList). l.network) t))) (i.1 (ap (λ (l : NormalList). l.terminal) t)))
+          (j.1 (ap (λ (l : NormalList). l.user) t))) (k.1 (ap (λ (l : NormalList). l.pairs) t)),
+    )
 
 pub same_decides : (m n : Attributes) (r : Bool) → r ≡ is_same_name m n → (r ≡ true) ↔ IsSameName m n
 same_decides m n r e = (λ h. (name_decides m n).0 (sym e ∙ h), λ h. e ∙ (name_decides m n).1 h)

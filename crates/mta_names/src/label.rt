@@ -102,7 +102,12 @@ fn read_country_choice(alloc: Global, part: &View) -> Result<Label, ReadFault>
 
 /// A label of `low` to `high` characters, with no tag around it.
 #[tactic(auto, unfolding(crate::specs::Labels::label_choice))]
-pub fn read_label_choice(alloc: Global, part: &View, low: u32, high: u32) -> Result<Label, ReadFault>
+pub fn read_label_choice(
+    alloc: Global,
+    part: &View,
+    low: u32,
+    high: u32,
+) -> Result<Label, ReadFault>
     ensures { Reads result (label_choice low high (view part.now)) }
 {
     if is_tag_of(part.tag, 0, 18) {

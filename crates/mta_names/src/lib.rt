@@ -28,6 +28,4 @@ pub use normal::{same_label, same_text};
 pub use row::Row;
 pub use same::{copied_label, copied_raw};
 pub use standard::nothing;
-pub use writing::{
-    constructed, primitive, put_around, put_label, put_label_choice, put_raw_if,
-};
+pub use writing::{constructed, primitive, put_around, put_label, put_label_choice, put_raw_if};

@@ -83,9 +83,7 @@ pub fn same_label(first: &Option<Label>, second: &Option<Label>) -> bool
 {
     match (first, second) {
         (None, None) => true,
-        (Some(first), Some(second)) => {
-            same_text(first.text.as_slice(), second.text.as_slice())
-        }
+        (Some(first), Some(second)) => { same_text(first.text.as_slice(), second.text.as_slice()) }
         _ => false,
     }
 }

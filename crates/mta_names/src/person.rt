@@ -12,7 +12,10 @@ ghost use Rattle.mta_names.specs.Values.{IsPerson};
 ghost use Rattle.mta_names.specs.declared.attributes.Person.{Person as PersonValue};
 
 use crate::attributes::Person;
-use mta_ber::{Components, Kind, ReadFault, Tag, Text, TextClass, View, bad, is_tag_of, take_parts, take_required};
+use mta_ber::{
+    Components, Kind, ReadFault, Tag, Text, TextClass, View, bad, is_tag_of, take_parts,
+    take_required,
+};
 use std::alloc::Global;
 
 /// The components of a personal name.
@@ -50,12 +53,7 @@ fn part_of(tag: Tag) -> Option<PersonPart>
 }
 
 /// A text of at most `high` characters for a place that is empty. Twice where it is not.
-fn read_once(
-    alloc: Global,
-    held: &Option<Text>,
-    high: u32,
-    part: &View,
-) -> Result<Text, ReadFault>
+fn read_once(alloc: Global, held: &Option<Text>, high: u32, part: &View) -> Result<Text, ReadFault>
     ensures { Reads result (once held.now part.now.at (text_in Printable 1 high (view part.now))) }
 {
     if held.is_some() {

@@ -121,8 +121,7 @@ impl StandardParts {
                 self.attributes.prmd = Some(read_label(alloc, part, 1, 16)?);
             }
             StandardPart::Organization => {
-                self.attributes.organization =
-                    Some(part.text(alloc, TextClass::Printable, 1, 64)?);
+                self.attributes.organization = Some(part.text(alloc, TextClass::Printable, 1, 64)?);
             }
             StandardPart::User => {
                 self.attributes.user = Some(part.text(alloc, TextClass::Numeric, 1, 32)?);

@@ -153,7 +153,13 @@ fn an_organization_has_at_most_64_characters(rt: HostRuntime) -> Result<(), Fail
     longer[5] = 65;
     match read(rt.alloc(), &longer) {
         Err(ReadFault::Bad(fault)) => {
-            assert_eq!(rt; fault, Fault { at: 4, kind: Kind::BadSize });
+            assert_eq!(rt;
+                fault,
+                Fault {
+                    at: 4,
+                    kind: Kind::BadSize
+                }
+            );
         }
         _ => assert!(rt; false),
     }

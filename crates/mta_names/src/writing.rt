@@ -78,12 +78,7 @@ pub fn put_label(w: &mut Writer, class: u8, number: u32, label: &Label) -> Resul
 
 /// Appends a label inside an explicit tag, where it is there.
 #[tactic(auto, using(crate::proofs::Written::appended_none))]
-fn put_label_if(
-    w: &mut Writer,
-    class: u8,
-    number: u32,
-    label: &Option<Label>,
-) -> Result<(), Memory>
+fn put_label_if(w: &mut Writer, class: u8, number: u32, label: &Option<Label>) -> Result<(), Memory>
     requires { IsTag (constructed class number) }
     ensures ok { OnOk result (w.new ≡ appended w.old (optional (canonical_label class number) label.now)) }
 {
