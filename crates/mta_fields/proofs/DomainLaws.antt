@@ -1,9 +1,8 @@
 -- Domains are read exactly where they are spelled, and when two are the same.
-use Rattle.std.proofs.Common.{◌≡◌, ℕ, ◌≤◌, ◌<◌, Bool, true, List, Option, Some, None, Result, Ok, refl, sym, ap, subst, ◌∙◌, ◌↔◌}
+use Rattle.std.proofs.Common.{◌≡◌, ℕ, ◌≤◌, Bool, true, List, Option, Some, None, Ok, refl, sym, ap, subst, ◌∙◌, ◌↔◌}
 use Rattle.std.specs.Prelude.{IfSome, ◌&&◌, ◌||◌}
 use Rattle.std.specs.Option.{option_map}
 use Rattle.std.proofs.lemmas.Bool.{and_parts, and_from}
-use Rattle.mta_ber.specs.declared.fault.Fault.{Fault}
 use Rattle.mta_ber.specs.declared.tag.Tag.{Tag}
 use Rattle.mta_ber.specs.Element.{Part}
 use Rattle.mta_ber.specs.Head.{◌>>=◌}
@@ -24,7 +23,7 @@ use Rattle.mta_fields.specs.declared.domain.DomainFields.{DomainFields}
 use Rattle.mta_fields.specs.declared.domain.DomainPart.{DomainPart}
 use Rattle.mta_fields.specs.declared.domain.DomainPart.TheVariants.{Country, Admd, Prmd}
 use Rattle.mta_fields.specs.declared.domain.DomainParts.{DomainParts}
-use Rattle.mta_fields.specs.Domains.{IsDomain, domain_part_of, is_domain_tag, domain_place, domain_needed, with_country, with_admd, with_prmd, domain_part_in, domain_step_of, domain_step, no_domain, domain, domain_in, MakesDomainPart, MakesDomain, SpellsDomain, NormalDomain, normal_domain, IsSameDomain, is_same_domain}
+use Rattle.mta_fields.specs.Domains.{IsDomain, domain_part_of, is_domain_tag, domain_place, domain_needed, with_country, with_admd, with_prmd, domain_part_in, domain_step_of, domain_step, no_domain, domain, domain_in, MakesDomainPart, MakesDomain, SpellsDomain, NormalDomain, IsSameDomain, is_same_domain}
 
 abbrev HasTag : Tag → DomainPart → Type 0
 HasTag t k = is_domain_tag k t ≡ true

@@ -1,27 +1,23 @@
 -- Extension fields are read exactly where they are spelled.
-use Rattle.std.proofs.Common.{◌≡◌, ℕ, ◌+◌, ◌≤◌, ◌<◌, Bool, true, false, cond, List, [], ◌∷◌, ◌++◌, length, Option, Some, None, Result, Ok, refl, sym, ap, subst, ◌∙◌, inl, inr, ◌⊎◌, arith}
+use Rattle.std.proofs.Common.{◌≡◌, ℕ, ◌+◌, ◌≤◌, Bool, true, false, cond, List, [], ◌∷◌, Option, Some, None, Ok, refl, sym, ap, subst, ◌∙◌, inl, inr, arith}
 use Rattle.std.specs.Prelude.{IfSome, IsTrue, unwrap_or, ◌&&◌, ◌||◌}
-use Rattle.std.proofs.lemmas.Bool.{cases_Bool}
-use Rattle.mta_ber.specs.declared.fault.Fault.{Fault}
-use Rattle.mta_ber.specs.declared.fault.Kind.TheVariants.{BadTag, BadText}
+use Rattle.mta_ber.specs.declared.fault.Kind.TheVariants.{BadText}
 use Rattle.mta_ber.specs.declared.tag.Tag.{Tag}
 use Rattle.mta_ber.specs.Bits.{bits_in}
-use Rattle.mta_ber.specs.Canon.{element, primitive}
+use Rattle.mta_ber.specs.Canon.{primitive}
 use Rattle.mta_ber.specs.Element.{Part, explicit}
 use Rattle.mta_ber.specs.Explicit.{SpellsExplicit}
-use Rattle.mta_ber.specs.Head.{◌>>=◌, fault}
+use Rattle.mta_ber.specs.Head.{◌>>=◌}
 use Rattle.mta_ber.specs.Octet.{IsOctets}
 use Rattle.mta_ber.specs.Oid.{is_oid, oid_in}
 use Rattle.mta_ber.specs.Parts.{components, is_tag, required}
 use Rattle.mta_ber.specs.Segmented.{SpellsBits}
-use Rattle.mta_ber.specs.Spelling.{Stands}
-use Rattle.mta_ber.proofs.CanonLaws.{header_octets, header_spelled, element_split}
 use Rattle.mta_ber.proofs.ComponentLaws.{StepSound, StepFull}
 use Rattle.mta_ber.proofs.ExplicitLaws.{ReadSound, ReadFull, explicit_sound, explicit_full, in_order_full}
 use Rattle.mta_ber.proofs.HeadLaws.{and_true}
 use Rattle.mta_ber.proofs.Steps.{bind_ok, chosen, ok_is, passed, taken, required_so}
 use Rattle.mta_ber.proofs.StringLaws.{bits_in_sound, bits_in_full}
-use Rattle.mta_names.specs.Strings.{number_in, SpellsNumber}
+use Rattle.mta_names.specs.Strings.{number_in}
 use Rattle.mta_names.proofs.ExtensionLaws.{number_sound, number_full, number_small}
 use Rattle.mta_names.proofs.Tools.{puts_sound, puts_full, tag_is, picked, not_none, components_sound, components_full, Keeps, spelled_keep}
 use Rattle.mta_names.proofs.StandardLaws.{ordered}
@@ -31,7 +27,7 @@ use Rattle.mta_fields.specs.declared.extension.ExtFields.{ExtFields}
 use Rattle.mta_fields.specs.declared.extension.ExtPart.{ExtPart}
 use Rattle.mta_fields.specs.declared.extension.ExtPart.TheVariants.{ExtType, Criticality, Value}
 use Rattle.mta_fields.specs.declared.extension.ExtParts.{ExtParts}
-use Rattle.mta_fields.specs.ExtensionFields.{IsKind, IsElement, IsExtField, null, standard_in, private_in, plain_kind_in, kind_in, SpellsPlainKind, SpellsKind, ext_part_of, is_ext_tag, ext_place, ext_needed, with_kind, with_criticality, with_value, whole_in, ext_part_in, ext_step_of, ext_step, no_ext, ext_field, ext_in, SpellsWhole, MakesExtPart, MakesExt, SpellsExtField}
+use Rattle.mta_fields.specs.ExtensionFields.{IsKind, IsElement, IsExtField, null, plain_kind_in, kind_in, SpellsPlainKind, SpellsKind, ext_part_of, is_ext_tag, ext_place, ext_needed, with_kind, with_criticality, with_value, whole_in, ext_part_in, ext_step_of, ext_step, no_ext, ext_field, ext_in, SpellsWhole, MakesExtPart, MakesExt, SpellsExtField}
 
 -- ---- types
 

@@ -1,5 +1,5 @@
 -- The fault of a step is the fault of all that follows it.
-use Rattle.std.proofs.Common.{◌≡◌, ℕ, Bool, true, cond, Option, Result, Ok, Err, refl, sym, ap, subst, ◌∙◌}
+use Rattle.std.proofs.Common.{◌≡◌, true, cond, Result, Ok, refl, sym, ap, subst, ◌∙◌}
 use Rattle.mta_ber.specs.declared.fault.Fault.{Fault}
 use Rattle.mta_ber.specs.declared.fault.Kind.TheVariants.{BadTag}
 use Rattle.mta_ber.specs.declared.fault.ReadFault.{ReadFault}

@@ -1,5 +1,5 @@
 -- MTS identifiers are read exactly where they are spelled.
-use Rattle.std.proofs.Common.{◌≡◌, ℕ, ◌≤◌, ◌<◌, Bool, true, List, Option, Some, None, Result, Ok, refl, sym, ap, subst, ◌∙◌, ◌↔◌}
+use Rattle.std.proofs.Common.{◌≡◌, ℕ, ◌≤◌, Bool, true, List, Option, Some, None, Ok, refl, sym, ap, subst, ◌∙◌, ◌↔◌}
 use Rattle.std.specs.Prelude.{IfSome}
 use Rattle.std.specs.Str.{bytes_eq}
 use Rattle.std.proofs.lemmas.Bool.{and_parts, and_from}

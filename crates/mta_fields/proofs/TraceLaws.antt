@@ -1,5 +1,5 @@
 -- Trace elements are read exactly where they are spelled.
-use Rattle.std.proofs.Common.{◌≡◌, ℕ, ◌≤◌, ◌<◌, Bool, true, List, Option, Some, None, Result, Ok, refl, sym, ap, subst, ◌∙◌}
+use Rattle.std.proofs.Common.{◌≡◌, ℕ, ◌≤◌, Bool, true, List, Option, Some, None, Ok, refl, sym, ap, subst, ◌∙◌}
 use Rattle.std.specs.Prelude.{IfSome}
 use Rattle.mta_ber.specs.declared.tag.Tag.{Tag}
 use Rattle.mta_ber.specs.Element.{Part}

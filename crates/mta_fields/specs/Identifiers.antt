@@ -6,7 +6,7 @@ use Rattle.mta_ber.specs.declared.fault.Kind.TheVariants.{BadTag}
 use Rattle.mta_ber.specs.declared.tag.Tag.{Tag}
 use Rattle.mta_ber.specs.declared.text.TextClass.TheVariants.{Ia5}
 use Rattle.mta_ber.specs.Canon.{element, constructed, primitive}
-use Rattle.mta_ber.specs.Components.{Makes, SpellsComponents}
+use Rattle.mta_ber.specs.Components.{SpellsComponents}
 use Rattle.mta_ber.specs.Element.{Part}
 use Rattle.mta_ber.specs.Head.{◌>>=◌, fault}
 use Rattle.mta_ber.specs.Parts.{components, is_tag, in_order, required}

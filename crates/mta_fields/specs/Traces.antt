@@ -1,16 +1,16 @@
 -- Trace elements (X.411, TraceInformationElement): a SEQUENCE of a domain and a SET of what that domain did.
-use Rattle.std.specs.Prelude.{◌≡◌, ℕ, pos, ◌+◌, ◌*◌, ◌<◌, ◌≤◌, ◌⊎◌, Bool, true, false, List, [], ◌++◌, Option, Some, None, IfSome, Result, Ok, ◌==◌, ◌&&◌, ◌||◌, if◌then◌else◌}
+use Rattle.std.specs.Prelude.{◌≡◌, ℕ, pos, ◌+◌, ◌*◌, ◌≤◌, Bool, true, false, List, [], ◌++◌, Option, Some, None, IfSome, Result, Ok, ◌==◌, ◌||◌, if◌then◌else◌}
 use Rattle.mta_ber.specs.declared.fault.Fault.{Fault}
 use Rattle.mta_ber.specs.declared.fault.Kind.TheVariants.{BadTag}
 use Rattle.mta_ber.specs.declared.tag.Tag.{Tag}
 use Rattle.mta_ber.specs.Bits.{BitString, bit, bits_in}
 use Rattle.mta_ber.specs.Canon.{element, constructed, primitive, optional}
-use Rattle.mta_ber.specs.Components.{Makes, SpellsComponents}
+use Rattle.mta_ber.specs.Components.{SpellsComponents}
 use Rattle.mta_ber.specs.Contents.{canon_int, canon_bits, canon_utc}
 use Rattle.mta_ber.specs.Element.{Part}
 use Rattle.mta_ber.specs.Head.{◌>>=◌, fault}
 use Rattle.mta_ber.specs.Moments.{SpellsMoment}
-use Rattle.mta_ber.specs.Parts.{components, is_tag, in_order, once, required}
+use Rattle.mta_ber.specs.Parts.{components, is_tag, once, required}
 use Rattle.mta_ber.specs.Segmented.{SpellsBits}
 use Rattle.mta_ber.specs.Times.{utc_in, last_moment}
 use Rattle.mta_names.specs.Names.{kept}

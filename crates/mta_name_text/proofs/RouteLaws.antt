@@ -1,7 +1,6 @@
 -- The test of a route decides it.
 use Rattle.std.proofs.Common.{◌≡◌, ℕ, ◌≤◌, Bool, true, false, List, [], ◌∷◌, length, Option, Some, refl, sym, ◌∙◌, ◌↔◌, arith}
-use Rattle.std.specs.Prelude.{◌&&◌, map}
-use Rattle.std.specs.Option.{option_map}
+use Rattle.std.specs.Prelude.{map}
 use Rattle.std.proofs.lemmas.Bool.{and_parts, and_from}
 use Rattle.mta_names.specs.declared.attributes.Attributes.{Attributes}
 use Rattle.mta_names.specs.Normal.{normal_text, is_same_text, is_same_value}

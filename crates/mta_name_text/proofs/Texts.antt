@@ -1,9 +1,8 @@
 -- What is written part by part is the text form.
-use Rattle.std.proofs.Common.{◌≡◌, ℕ, suc, ◌+◌, ◌≤◌, ◌<◌, List, [], ◌∷◌, ◌++◌, length, drop, get_or, refl, sym, ap, subst, ◌∙◌, append_assoc, append-nil, add-one, arith, length-append}
+use Rattle.std.proofs.Common.{◌≡◌, ℕ, suc, ◌+◌, ◌≤◌, ◌<◌, List, [], ◌∷◌, ◌++◌, length, drop, get_or, refl, sym, ap, ◌∙◌, append_assoc, append-nil, add-one, arith, length-append}
 use Rattle.std.specs.Prelude.{map}
 use Rattle.std.specs.List.{flat_map}
 use Rattle.std.proofs.Math.Seq.{drop-cons}
-use Rattle.mta_name_text.specs.declared.key.Key.{Key}
 use Rattle.mta_names.specs.declared.attributes.Attributes.{Attributes}
 use Rattle.mta_name_text.specs.declared.key.Key.TheVariants as Keys
 use Rattle.mta_name_text.specs.Forms.{key_text, Keyed, keyed_if, labelled_if, units_keyed, person_keyed, pairs_keyed, keyed_of, part_text, behind_semicolon, joined, text_form, followed, followed_all}

@@ -1,5 +1,5 @@
 -- Which names are on a route: each part of a pattern is there with equal normal text.
-use Rattle.std.specs.Prelude.{◌≡◌, ℕ, Bool, true, false, List, [], ◌∷◌, map, Option, Some, None, ◌&&◌}
+use Rattle.std.specs.Prelude.{◌≡◌, ℕ, Bool, true, false, List, [], ◌∷◌, map, Option, Some, ◌&&◌}
 use Rattle.std.specs.Option.{option_map}
 use Rattle.mta_names.specs.declared.attributes.Attributes.{Attributes}
 use Rattle.mta_names.specs.Normal.{normal_text, is_same_value}

@@ -1,10 +1,9 @@
 -- Extension attributes are read exactly where they are spelled.
-use Rattle.std.proofs.Common.{◌≡◌, ◌≢◌, ℕ, ◌+◌, ◌≤◌, Bool, true, false, cond, eqb, List, [], ◌∷◌, ◌++◌, length, Option, Some, None, Result, Ok, refl, sym, ap, subst, ◌∙◌, arith, inl, inr, ℤ, pos}
-use Rattle.std.specs.Prelude.{IfSome, is_some, ◌&&◌, unsigned_abs, negsuc, not, int_lt, ◌||◌}
-use Rattle.std.proofs.lemmas.Bool.{eqb-true, eqb-false, or_parts, ltb-false}
+use Rattle.std.proofs.Common.{◌≡◌, ℕ, ◌+◌, ◌≤◌, Bool, true, false, cond, eqb, List, [], ◌∷◌, ◌++◌, Option, Some, None, Ok, refl, sym, ap, subst, ◌∙◌, arith, inl, inr, ℤ, pos}
+use Rattle.std.specs.Prelude.{IfSome, is_some, ◌&&◌, unsigned_abs, negsuc}
+use Rattle.std.proofs.lemmas.Bool.{eqb-false}
 use Rattle.std.proofs.lemmas.Bool.Decides.{nat_tests}
-use Rattle.mta_ber.specs.declared.fault.Fault.{Fault}
-use Rattle.mta_ber.specs.declared.fault.Kind.TheVariants.{BadTag, BadSize, Twice}
+use Rattle.mta_ber.specs.declared.fault.Kind.TheVariants.{BadTag, BadSize}
 use Rattle.mta_ber.specs.declared.tag.Tag.{Tag}
 use Rattle.mta_ber.specs.declared.text.TextClass.TheVariants.{Printable}
 use Rattle.mta_ber.specs.Components.{AreComponents, SpellsComponents}
@@ -25,8 +24,8 @@ use Rattle.mta_names.specs.declared.extension.AttributeParts.{AttributeParts}
 use Rattle.mta_names.specs.declared.extension.ExtensionParts.{ExtensionParts}
 use Rattle.mta_names.specs.Extensions.{common_choice, value_in, typed, type_in, valued, attribute_step, no_attribute, attribute, attribute_in, with_attribute, extension_step, no_extensions, extension_count, extensions_in, SpellsPrintable, SpellsAttributeValue, MakesType, MakesAttributeValue, MakesAttribute, SpellsAttribute, MakesExtension, SpellsExtensions}
 use Rattle.mta_names.specs.Lists.{is_printable, is_sequence}
-use Rattle.mta_names.specs.Strings.{number_in, SpellsNumber, Puts}
-use Rattle.mta_names.specs.Values.{Each, IsRaw, IsExtra, count_of}
+use Rattle.mta_names.specs.Strings.{number_in, SpellsNumber}
+use Rattle.mta_names.specs.Values.{Each, IsRaw, IsExtra}
 use Rattle.mta_names.proofs.Tools.{puts_sound, puts_full, tag_is, components_sound, components_full, counted_so, so_between, each_more, Keeps, spelled_keep}
 
 -- ---- numbers

@@ -1,18 +1,16 @@
 -- Labels are read exactly where they are spelled.
-use Rattle.std.proofs.Common.{◌≡◌, ℕ, ◌≤◌, Bool, true, false, cond, List, length, Result, Ok, refl, sym, ap, subst, ◌∙◌, arith, inl, inr}
-use Rattle.std.specs.Prelude.{IsTrue, not}
+use Rattle.std.proofs.Common.{◌≡◌, ℕ, ◌≤◌, Bool, true, false, List, length, Result, Ok, refl, sym, subst, arith, inl, inr}
+use Rattle.std.specs.Prelude.{not}
 use Rattle.std.specs.List.{list_all}
 use Rattle.std.proofs.lemmas.Bool.{not-false}
 use Rattle.mta_ber.specs.declared.fault.Fault.{Fault}
-use Rattle.mta_ber.specs.declared.fault.Kind.TheVariants.{BadTag, BadText, BadSize}
 use Rattle.mta_ber.specs.declared.tag.Tag.{Tag}
-use Rattle.mta_ber.specs.Element.{Part, explicit}
-use Rattle.mta_ber.specs.Explicit.{SpellsExplicit}
-use Rattle.mta_ber.specs.Head.{◌>>=◌, fault}
+use Rattle.mta_ber.specs.Element.{Part}
+use Rattle.mta_ber.specs.Head.{◌>>=◌}
 use Rattle.mta_ber.specs.Octet.{IsOctets}
 use Rattle.mta_ber.specs.Parts.{is_tag}
 use Rattle.mta_ber.specs.Segmented.{SpellsOctets}
-use Rattle.mta_ber.specs.Strings.{joined, joined_as, own_number, in_class, between, IsText}
+use Rattle.mta_ber.specs.Strings.{joined, own_number, in_class, between}
 use Rattle.mta_ber.proofs.ExplicitLaws.{ReadSound, ReadFull, explicit_sound, explicit_full}
 use Rattle.mta_ber.proofs.Steps.{bind_ok, chosen, ok_is, passed}
 use Rattle.mta_ber.proofs.StringLaws.{joined_sound, joined_full}

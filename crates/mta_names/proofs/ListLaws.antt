@@ -1,12 +1,10 @@
 -- Unit names and domain-defined attributes are read exactly where they are spelled.
-use Rattle.std.proofs.Common.{◌≡◌, ℕ, ◌≤◌, ◌⊎◌, Bool, true, false, cond, List, [], length, Option, Some, None, Result, Ok, refl, sym, ap, subst, ◌∙◌, inl, inr}
+use Rattle.std.proofs.Common.{◌≡◌, ℕ, Bool, false, List, Option, Some, None, Ok, refl, sym, ap, subst, ◌∙◌, inl, inr}
 use Rattle.std.specs.Prelude.{IfSome, is_some}
-use Rattle.mta_ber.specs.declared.fault.Fault.{Fault}
-use Rattle.mta_ber.specs.declared.fault.Kind.TheVariants.{BadTag}
 use Rattle.mta_ber.specs.declared.tag.Tag.{Tag}
 use Rattle.mta_ber.specs.declared.text.TextClass.TheVariants.{Printable}
 use Rattle.mta_ber.specs.Element.{Part}
-use Rattle.mta_ber.specs.Head.{◌>>=◌, fault}
+use Rattle.mta_ber.specs.Head.{◌>>=◌}
 use Rattle.mta_ber.specs.Octet.{IsOctets}
 use Rattle.mta_ber.specs.Parts.{components, required}
 use Rattle.mta_ber.specs.Segmented.{SpellsText}
@@ -17,7 +15,7 @@ use Rattle.mta_ber.proofs.Steps.{bind_ok, chosen, ok_is, passed, taken, required
 use Rattle.mta_ber.proofs.StringLaws.{text_sound, text_full}
 use Rattle.mta_names.specs.declared.attributes.Pair.{Pair}
 use Rattle.mta_names.specs.declared.pair.PairParts.{PairParts}
-use Rattle.mta_names.specs.Lists.{is_printable, is_sequence, units_in, SpellsUnit, SpellsUnits, pair_text, pair_step, no_pair, pair, pair_in, pairs_in, MakesKind, MakesValue, MakesPair, SpellsPair, SpellsPairs}
+use Rattle.mta_names.specs.Lists.{is_printable, is_sequence, units_in, SpellsUnit, SpellsUnits, pair_text, pair_step, no_pair, pair, pair_in, pairs_in, MakesPair, SpellsPair, SpellsPairs}
 use Rattle.mta_names.specs.Values.{Each, IsPair}
 use Rattle.mta_names.proofs.Tools.{puts_sound, puts_full, components_sound, components_full, list_sound, list_full, list_each, Keeps, spelled_keep}
 

@@ -6,9 +6,6 @@ use Rattle.std.proofs.lemmas.Bool.{cases_Bool, and_parts, and_from, eq-eqb}
 use Rattle.std.proofs.lemmas.List.{take_rest}
 use Rattle.std.proofs.lemmas.Slice.Eq.{bytes_eq-Decides}
 use Rattle.mta_names.specs.declared.attributes.Attributes.{Attributes}
-use Rattle.mta_names.specs.declared.attributes.Label.{Label}
-use Rattle.mta_names.specs.declared.attributes.Pair.{Pair}
-use Rattle.mta_names.specs.declared.attributes.Person.{Person}
 use Rattle.mta_names.specs.Normal.{unspaced, squeezed, normal_text, normal_label, NormalPerson, NormalPair, NormalList, normal_person, normal_pair, normal_list, is_same_text, is_same_option, is_same_list, is_same_value, is_same_labels, is_same_label, is_same_person, is_same_persons, is_same_texts, is_same_pair, is_same_pairs, is_same_name, IsSameName}
 
 -- a space that waits, before a text without spaces at its beginning

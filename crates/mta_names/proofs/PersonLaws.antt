@@ -1,12 +1,10 @@
 -- Personal names are read exactly where they are spelled.
-use Rattle.std.proofs.Common.{◌≡◌, ℕ, ◌≤◌, Bool, true, List, Option, Some, None, Result, Ok, refl, sym, ap, subst, ◌∙◌}
+use Rattle.std.proofs.Common.{◌≡◌, ℕ, Bool, true, List, Option, Some, None, Ok, refl, sym, ap, subst, ◌∙◌}
 use Rattle.std.specs.Prelude.{IfSome}
-use Rattle.mta_ber.specs.declared.fault.Fault.{Fault}
-use Rattle.mta_ber.specs.declared.fault.Kind.TheVariants.{BadTag}
 use Rattle.mta_ber.specs.declared.tag.Tag.{Tag}
 use Rattle.mta_ber.specs.declared.text.TextClass.TheVariants.{Printable}
 use Rattle.mta_ber.specs.Element.{Part}
-use Rattle.mta_ber.specs.Head.{◌>>=◌, fault}
+use Rattle.mta_ber.specs.Head.{◌>>=◌}
 use Rattle.mta_ber.specs.Octet.{IsOctets}
 use Rattle.mta_ber.specs.Parts.{components, is_tag, once, required}
 use Rattle.mta_ber.specs.Segmented.{SpellsText}
@@ -18,7 +16,7 @@ use Rattle.mta_names.specs.declared.attributes.Person.{Person}
 use Rattle.mta_names.specs.declared.person.PersonParts.{PersonParts}
 use Rattle.mta_names.specs.declared.person.PersonPart.{PersonPart}
 use Rattle.mta_names.specs.declared.person.PersonPart.TheVariants.{Surname, Given, Initials, Generation}
-use Rattle.mta_names.specs.Persons.{person_number, person_size, person_part_of, person_slot, with_person_part, person_part_in, person_step_of, person_step, no_person, person, person_in, MakesPersonPart, MakesPerson, SpellsPerson}
+use Rattle.mta_names.specs.Persons.{person_number, person_size, person_part_of, person_slot, with_person_part, person_step_of, person_step, no_person, person, person_in, MakesPersonPart, MakesPerson, SpellsPerson}
 use Rattle.mta_names.specs.Values.{IsPerson}
 use Rattle.mta_names.proofs.Tools.{puts_full, tag_is, picked, not_none, components_sound, components_full, Keeps, spelled_keep}
 

@@ -7,7 +7,7 @@ use Rattle.mta_ber.specs.declared.text.TextClass.TheVariants.{Numeric, Printable
 use Rattle.mta_ber.specs.Element.{Part}
 use Rattle.mta_ber.specs.Head.{◌>>=◌}
 use Rattle.mta_ber.specs.Octet.{IsOctets}
-use Rattle.mta_ber.specs.Parts.{components, is_tag, in_order, may_follow}
+use Rattle.mta_ber.specs.Parts.{components, is_tag, in_order}
 use Rattle.mta_ber.specs.Segmented.{SpellsText}
 use Rattle.mta_ber.specs.Strings.{text_in, IsText}
 use Rattle.mta_ber.proofs.ComponentLaws.{StepSound, StepFull}

@@ -1,6 +1,5 @@
 -- Tools for readers of components: slots, tags, lists, and what all components keep.
 use Rattle.std.proofs.Common.{◌≡◌, ℕ, ◌+◌, ◌≤◌, Bool, true, false, cond, eqb, List, [], ◌∷◌, ◌++◌, length, Option, Some, None, Result, Ok, Err, refl, sym, ap, subst, ◌∙◌, arith}
-use Rattle.std.specs.Prelude.{IsTrue, not}
 use Rattle.std.proofs.lemmas.Bool.{eqb-true}
 use Rattle.std.proofs.lemmas.Bool.Decides.{nat_tests}
 use Rattle.mta_ber.specs.declared.fault.Fault.{Fault}
@@ -13,7 +12,7 @@ use Rattle.mta_ber.specs.Head.{◌>>=◌, fault}
 use Rattle.mta_ber.specs.Octet.{IsOctets}
 use Rattle.mta_ber.specs.declared.fault.ReadFault.{ReadFault}
 use Rattle.mta_ber.specs.declared.fault.ReadFault.TheVariants as faults
-use Rattle.mta_ber.specs.Parts.{components, parts_of, is_tag, in_order, Fails, IsReadAs}
+use Rattle.mta_ber.specs.Parts.{components, parts_of, is_tag, Fails, IsReadAs}
 use Rattle.mta_ber.specs.Spelling.{Stands}
 use Rattle.mta_ber.specs.Strings.{between}
 use Rattle.mta_ber.proofs.ComponentLaws.{StepSound, StepFull, parts_sound, parts_full}

@@ -7,7 +7,7 @@ use Rattle.mta_ber.specs.declared.fault.Kind.TheVariants.{BadTag}
 use Rattle.mta_ber.specs.declared.tag.Tag.{Tag}
 use Rattle.mta_ber.specs.Canon.{element, constructed, primitive}
 use Rattle.mta_ber.specs.Element.{Part, explicit}
-use Rattle.mta_ber.specs.Explicit.{Spells, SpellsExplicit}
+use Rattle.mta_ber.specs.Explicit.{SpellsExplicit}
 use Rattle.mta_ber.specs.Head.{◌>>=◌, fault}
 use Rattle.mta_ber.specs.Parts.{is_tag}
 use Rattle.mta_ber.specs.Segmented.{SpellsOctets}

@@ -4,7 +4,7 @@ use Rattle.mta_ber.specs.declared.fault.Fault.{Fault}
 use Rattle.mta_ber.specs.declared.fault.Kind.TheVariants.{BadTag}
 use Rattle.mta_ber.specs.declared.tag.Tag.{Tag}
 use Rattle.mta_ber.specs.declared.text.TextClass.TheVariants.{Printable}
-use Rattle.mta_ber.specs.Canon.{element, constructed, primitive, optional}
+use Rattle.mta_ber.specs.Canon.{element, primitive, optional}
 use Rattle.mta_ber.specs.Components.{Makes, SpellsComponents}
 use Rattle.mta_ber.specs.Element.{Part}
 use Rattle.mta_ber.specs.Head.{◌>>=◌, fault}

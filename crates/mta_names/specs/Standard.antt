@@ -3,10 +3,9 @@ use Rattle.std.specs.Prelude.{◌≡◌, ℕ, ◌<◌, Bool, true, List, ◌++�
 use Rattle.mta_ber.specs.declared.fault.Fault.{Fault}
 use Rattle.mta_ber.specs.declared.fault.Kind.TheVariants.{BadTag}
 use Rattle.mta_ber.specs.declared.tag.Tag.{Tag}
-use Rattle.mta_ber.specs.declared.text.TextClass.{TextClass}
 use Rattle.mta_ber.specs.declared.text.TextClass.TheVariants.{Numeric, Printable}
 use Rattle.mta_ber.specs.Canon.{element, constructed, primitive, optional}
-use Rattle.mta_ber.specs.Components.{Makes, SpellsComponents}
+use Rattle.mta_ber.specs.Components.{SpellsComponents}
 use Rattle.mta_ber.specs.Element.{Part}
 use Rattle.mta_ber.specs.Head.{◌>>=◌, fault}
 use Rattle.mta_ber.specs.Parts.{components, is_tag, in_order}

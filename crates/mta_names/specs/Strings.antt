@@ -3,12 +3,10 @@ use Rattle.std.specs.Prelude.{◌≡◌, ℕ, pos, Bool, true, List, [], ◌∷�
 use Rattle.mta_ber.specs.declared.fault.Fault.{Fault}
 use Rattle.mta_ber.specs.declared.fault.Kind.TheVariants.{BadTag, BadText, BadSize}
 use Rattle.mta_ber.specs.declared.tag.Tag.{Tag}
-use Rattle.mta_ber.specs.Components.{Makes}
 use Rattle.mta_ber.specs.Element.{Part}
 use Rattle.mta_ber.specs.Explicit.{Spells}
 use Rattle.mta_ber.specs.Head.{◌>>=◌, fault}
 use Rattle.mta_ber.specs.Int.{int_in, SpellsInteger}
-use Rattle.mta_ber.specs.Parts.{components}
 use Rattle.mta_ber.specs.Strings.{joined, between}
 
 -- a string of no known type, whose octets pass a test and whose size is in a range

@@ -1,8 +1,5 @@
-use Rattle.std.proofs.Common.{◌≡◌, true, Ok, subst, sym}
 use Rattle.std.proofs.lemmas.Result.{err_from_is_err_and}
-use Rattle.mta_ber.specs.Parts.{Reads}
 use Rattle.mta_ber.specs.Seen.{view}
-use Rattle.mta_fields.specs.Expansions.{expansion_in}
 use Rattle.mta_fields.proofs.Failing.{parts_fail, moment_fails}
 use Rattle.mta_fields.proofs.expansion.read_fields.Goals as goal
 

@@ -1,5 +1,4 @@
 use Rattle.mta_ber.specs.Seen.{view}
-use Rattle.mta_ber.proofs.StringLaws.{reads_as}
 use Rattle.mta_names.specs.Names.{name_in}
 use Rattle.mta_names.proofs.NameLaws.{name_sound, name_full, name_is}
 use Rattle.mta_names.proofs.Tools.{fails_as, ok_as}
