@@ -25,6 +25,9 @@ const TRACE: [u8; 38] = [
 ];
 
 fn written_id(alloc: Global, octets: &[u8]) -> Result<Writer, ReadFault> {
+    if octets.len() > 4096 {
+        return Err(ReadFault::Memory);
+    }
     let view = View::first(octets, 0)?;
     let id = MtsId::read(alloc, &view)?;
     let mut w = Writer::new(alloc);
@@ -33,6 +36,9 @@ fn written_id(alloc: Global, octets: &[u8]) -> Result<Writer, ReadFault> {
 }
 
 fn written_field(alloc: Global, octets: &[u8]) -> Result<Writer, ReadFault> {
+    if octets.len() > 4096 {
+        return Err(ReadFault::Memory);
+    }
     let view = View::first(octets, 0)?;
     let field = ExtField::read(alloc, &view)?;
     let mut w = Writer::new(alloc);

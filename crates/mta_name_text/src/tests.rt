@@ -2,7 +2,7 @@
 
 use crate::{has_route, name_text};
 use mta_ber::{ReadFault, Text, View};
-use mta_names::OrName;
+use mta_names::{OrName, Row};
 use std::alloc::Global;
 use std::test::Fail;
 
@@ -20,6 +20,9 @@ const PAIR: [u8; 28] = [
 ];
 
 fn read(alloc: Global, octets: &[u8]) -> Result<OrName, ReadFault> {
+    if octets.len() > 4096 {
+        return Err(ReadFault::Memory);
+    }
     let view = View::first(octets, 0)?;
     OrName::read(alloc, &view)
 }
@@ -41,13 +44,13 @@ fn names_have_text_forms(rt: HostRuntime) -> Result<(), Fail> {
 #[test]
 fn routes_go_by_normal_texts(rt: HostRuntime) -> Result<(), Fail> {
     let name = read(rt.alloc(), &NAME)?;
-    let country = Text::from_slice(rt.alloc(), b"gb")?;
-    let admd = Text::from_slice(rt.alloc(), b" Gold ")?;
-    let prmd = Text::from_slice(rt.alloc(), b"ACME")?;
-    let on = [country, admd];
-    assert!(rt; has_route(&name, &on));
-    let [country, admd] = on;
-    let off = [country, admd, prmd];
-    assert!(rt; !has_route(&name, &off));
+    let mut parts: Row<Text> = Row::new(rt.alloc());
+    parts.push(Text::from_slice(rt.alloc(), b"gb")?)?;
+    parts.push(Text::from_slice(rt.alloc(), b" Gold ")?)?;
+    let on = has_route(&name, parts.as_slice());
+    assert!(rt; on);
+    parts.push(Text::from_slice(rt.alloc(), b"ACME")?)?;
+    let off = has_route(&name, parts.as_slice());
+    assert!(rt; !off);
     Ok(())
 }

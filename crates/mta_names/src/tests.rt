@@ -91,6 +91,9 @@ const FAULTY: [(&[u8], u32, Kind); 9] = [
 ];
 
 fn read(alloc: Global, octets: &[u8]) -> Result<OrName, ReadFault> {
+    if octets.len() > 4096 {
+        return Err(ReadFault::Memory);
+    }
     let view = View::first(octets, 0)?;
     OrName::read(alloc, &view)
 }
