@@ -2,10 +2,12 @@
 #![tactic(auto)]
 
 mod fault;
+mod reference;
 mod step;
 mod writing;
 
 pub use fault::StepFault;
+pub use reference::Reference;
 pub use step::Step;
 pub use writing::write_record;
 
