@@ -1,0 +1,6 @@
+pub mod Kind
+pub mod Front
+pub mod Fixed
+pub mod Body
+pub mod Look
+pub mod Feed

@@ -1,0 +1,99 @@
+//! Units of a stream that comes in pieces.
+
+ghost use Rattle.std.specs.Prelude.{◌≡◌, ◌≤◌, drop, vec_len};
+
+use crate::front::BadUnit;
+use crate::look::{Look, look_at};
+use crate::next::Next;
+use mta_ber::Memory;
+use std::alloc::Global;
+use std::marker::Model;
+
+/// A stream of units, fed in pieces of any size: what was fed and not yet taken. A fault, once found, is kept.
+#[derive(Debug, Drop)]
+pub struct Frames {
+    alloc: Global,
+    octets: Vec<u8>,
+    taken: usize,
+    at: u64,
+    bad: Option<BadUnit>,
+}
+
+impl Model for Frames {
+    ghost use Rattle.std.specs.Prelude.{◌≤◌, ◌+◌, ◌<◌, ◌^◌, length, drop};
+    ghost use Rattle.mta_units.specs.Feed.{Feed};
+
+    ghost Value = { Feed };
+
+    ghost view = { λ f. record { at = f.at; left = drop f.taken f.octets.items; bad = f.bad } };
+
+    ghost invariant = { λ f. (f.taken ≤ length f.octets.items) × (f.at + length (drop f.taken f.octets.items) < 2 ^ 64) };
+}
+
+/// Drops the first `taken` octets, where they are no fewer than those behind them.
+fn forget(octets: &mut Vec<u8>, taken: usize) -> usize
+    requires { taken ≤ vec_len octets.old }
+    ensures left { drop result octets.new.items ≡ drop taken octets.old.items }
+    ensures within { result ≤ vec_len octets.new }
+{
+    let left = octets.len() - taken;
+    if taken < left || taken == 0 {
+        return taken;
+    }
+    octets.copy_within(taken.., 0);
+    octets.truncate(left);
+    0
+}
+
+impl Frames {
+    ghost use Rattle.std.specs.Prelude.{◌≡◌, ◌+◌, ◌<◌, ◌≤◌, ◌^◌, false, length, drop, vec_len, OnOk, OnErr, IfOk, IsOk};
+    ghost use Rattle.mta_units.specs.Front.{front, may_take_memory};
+    ghost use Rattle.mta_units.specs.Feed.{no_feed, fed, Goes};
+
+    /// No octets fed.
+    pub fn new(alloc: Global) -> Frames
+        ensures { result ≡ no_feed }
+    {
+        Frames {
+            alloc,
+            octets: Vec::new(alloc),
+            taken: 0,
+            at: 0,
+            bad: None,
+        }
+    }
+
+    /// The stream so far is followed by the piece.
+    pub fn feed(&mut self, piece: &[u8]) -> Result<(), Memory>
+        requires { self.old.at + length self.old.left + length piece.now < 2 ^ 64 }
+        ensures ok { OnOk result (self.new ≡ fed self.old piece.now) }
+        ensures err { OnErr result (self.new ≡ self.old) }
+    {
+        self.taken = forget(&mut self.octets, self.taken);
+        self.octets.extend_from_slice(piece)?;
+        Ok(())
+    }
+
+    /// What comes next.
+    pub fn next(&mut self) -> Result<Next, Memory>
+        ensures exact { IfOk result (λ n. Goes self.old n self.new) }
+        ensures err { OnErr result (self.new ≡ self.old) }
+        ensures memory { may_take_memory (front self.old.left) ≡ false → IsOk result }
+    {
+        if let Some(kind) = self.bad {
+            return Ok(Next::Bad { at: self.at, kind });
+        }
+        match look_at(self.alloc, &self.octets[self.taken..])? {
+            Look::Cut => Ok(Next::More),
+            Look::Faulty(kind) => {
+                self.bad = Some(kind);
+                Ok(Next::Bad { at: self.at, kind })
+            }
+            Look::Read(unit, size) => {
+                self.taken += size;
+                self.at += size as u64;
+                Ok(Next::Unit(unit))
+            }
+        }
+    }
+}

@@ -1,0 +1,18 @@
+//! The units of an association, and their framing: units are read from a stream that comes in pieces of any size.
+#![tactic(auto)]
+
+mod body;
+mod fixed;
+mod frames;
+mod front;
+mod kind;
+mod look;
+mod next;
+mod unit;
+
+pub use frames::Frames;
+pub use front::BadUnit;
+pub use mta_records::Reference;
+pub use mta_rtse::{Answer, Request};
+pub use next::Next;
+pub use unit::{OpenUnit, Unit};
