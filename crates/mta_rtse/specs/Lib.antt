@@ -5,3 +5,4 @@ pub mod Connection
 pub mod Request
 pub mod Answer
 pub mod Reason
+pub mod Canon

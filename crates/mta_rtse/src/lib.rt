@@ -10,6 +10,7 @@ mod reason;
 mod request;
 mod types;
 mod values;
+mod writing;
 
 pub use answer::read_answer;
 pub use identifier::read_reference;
@@ -17,3 +18,4 @@ pub use reason::{read_abort, read_refusal};
 pub use request::read_request;
 pub use types::{Answer, OpenAnswer, OpenRequest, Request};
 pub use values::{read_number, read_word};
+pub use writing::{put_abort, put_answer, put_reference, put_refusal, put_request};
