@@ -4,3 +4,4 @@ pub mod Fixed
 pub mod Body
 pub mod Look
 pub mod Feed
+pub mod Canon

@@ -9,6 +9,7 @@ mod kind;
 mod look;
 mod next;
 mod unit;
+mod writing;
 
 pub use frames::Frames;
 pub use front::BadUnit;
@@ -16,3 +17,4 @@ pub use mta_records::Reference;
 pub use mta_rtse::{Answer, Request};
 pub use next::Next;
 pub use unit::{OpenUnit, Unit};
+pub use writing::write_unit;

@@ -13,8 +13,9 @@ overflow_sub-result c = (whole_end c.args.octets.now c.in-Whole.kind c.in-Whole.
 pub returns-in-Ok-clause-exact : goal.returns-in-Ok-clause-exact
 unfolding look
 returns-in-Ok-clause-exact c =
-    let w = whole_end c.args.octets.now c.in-Whole.kind c.in-Whole.body.now c.in-Whole.rest.now c.in-Whole.ensures.exact in
-    ( ap look_behind c.in-Whole.ensures.exact
-      ∙ ap (λ r. with_body r c.in-Whole.rest.now) c.in-Ok.ensures.exact
-      ∙ ap (λ (l : List ℕ). Reads c.in-Ok.unit l) w.rest_is
-    , omega (arith, w.within) )
+    let w = whole_end c.args.octets.now c.in-Whole.kind c.in-Whole.body.now c.in-Whole.rest.now c.in-Whole.ensures.exact in (
+      ap look_behind c.in-Whole.ensures.exact
+          ∙ ap (λ r. with_body r c.in-Whole.rest.now) c.in-Ok.ensures.exact
+          ∙ ap (λ (l : List ℕ). Reads c.in-Ok.unit l) w.rest_is,
+      omega (arith, w.within),
+    )

@@ -1,0 +1,87 @@
+-- The octets that are written of a unit.
+use Rattle.std.specs.Prelude.{◌≡◌, ℕ, pos, ◌≤◌, List, [], ◌∷◌, ◌++◌, length}
+use Rattle.std.specs.Int.{w32, to_be_bytes}
+use Rattle.mta_ber.specs.Canon.{element, primitive, constructed}
+use Rattle.mta_ber.specs.Contents.{canon_int}
+use Rattle.mta_rtse.specs.Canon.{canon_reference, canon_rtorq, canon_rtoac, canon_reason, IsWritableName, IsWritableRequest, IsWritableAnswer}
+use Rattle.mta_units.specs.declared.kind.UnitKind.{UnitKind}
+use Rattle.mta_units.specs.declared.kind.UnitKind.TheVariants as kind
+use Rattle.mta_units.specs.declared.unit.Unit.{Unit as AnyUnit}
+use Rattle.mta_units.specs.declared.unit.Unit.TheVariants as unit
+use Rattle.mta_units.specs.declared.unit.OpenUnit.{OpenUnit}
+use Rattle.mta_units.specs.Kind.{kind_number}
+use Rattle.mta_units.specs.Front.{longest_body}
+
+abbrev pub kind_of : AnyUnit → UnitKind
+kind_of (unit.Open o) = kind.Open
+kind_of (unit.Accept checkpoint window answer) = kind.Accept
+kind_of (unit.Reject reason) = kind.Reject
+kind_of (unit.Start activity) = kind.Start
+kind_of (unit.Piece octets) = kind.Piece
+kind_of (unit.Sync number) = kind.Sync
+kind_of (unit.SyncAck number) = kind.SyncAck
+kind_of (unit.End activity) = kind.End
+kind_of (unit.EndAck activity) = kind.EndAck
+kind_of (unit.Resume activity number) = kind.Resume
+kind_of (unit.ResumeAck activity number) = kind.ResumeAck
+kind_of (unit.Discard activity) = kind.Discard
+kind_of (unit.DiscardAck activity) = kind.DiscardAck
+kind_of (unit.Please priority) = kind.Please
+kind_of unit.Give = kind.Give
+kind_of (unit.Exception k at) = kind.Exception
+kind_of (unit.Abort reason) = kind.Abort
+kind_of unit.Close = kind.Close
+kind_of unit.CloseAck = kind.CloseAck
+
+-- a number of four octets, the most significant first
+abbrev pub number_octets : ℕ → List ℕ
+number_octets n = to_be_bytes w32 n
+
+unfoldable pub open_octets : OpenUnit → List ℕ
+open_octets o = element (primitive 0 22) o.name ++ canon_reference (constructed 0 16) o.reference ++ canon_rtorq o.checkpoint o.window o.twa o.request
+
+abbrev pub body_octets : AnyUnit → List ℕ
+body_octets (unit.Open o) = open_octets o
+body_octets (unit.Accept checkpoint window answer) = canon_rtoac checkpoint window answer
+body_octets (unit.Reject reason) = canon_reason 18 reason
+body_octets (unit.Start activity) = number_octets activity
+body_octets (unit.Piece octets) = element (primitive 0 4) octets
+body_octets (unit.Sync number) = number_octets number
+body_octets (unit.SyncAck number) = number_octets number
+body_octets (unit.End activity) = number_octets activity
+body_octets (unit.EndAck activity) = number_octets activity
+body_octets (unit.Resume activity number) = number_octets activity ++ number_octets number
+body_octets (unit.ResumeAck activity number) = number_octets activity ++ number_octets number
+body_octets (unit.Discard activity) = number_octets activity
+body_octets (unit.DiscardAck activity) = number_octets activity
+body_octets (unit.Please priority) = canon_int (primitive 0 2) (pos priority)
+body_octets unit.Give = []
+body_octets (unit.Exception k at) = k ∷ number_octets at
+body_octets (unit.Abort reason) = canon_reason 22 reason
+body_octets unit.Close = []
+body_octets unit.CloseAck = []
+
+-- the canonical octets of a unit
+unfoldable pub unit_octets : AnyUnit → List ℕ
+unit_octets u = number_octets (length (body_octets u)) ++ kind_number (kind_of u) ∷ body_octets u
+
+-- the number of a kind of fault
+pub record IsFaultNumber (k : ℕ) : Type 0 where
+  pub first : 1 ≤ k
+  pub last : k ≤ 12
+
+pub record IsWritableOpen (o : OpenUnit) : Type 0 where
+  pub name_fits : IsWritableName o.name
+  pub request_fits : IsWritableRequest o.request
+
+-- names and passwords that an IA5String can have, and kinds of faults that there are
+abbrev pub HasWritableFields : AnyUnit → Type 0
+HasWritableFields (unit.Open o) = IsWritableOpen o
+HasWritableFields (unit.Accept checkpoint window answer) = IsWritableAnswer answer
+HasWritableFields (unit.Exception k at) = IsFaultNumber k
+HasWritableFields _ = Unit {0}
+
+-- what can be written
+pub record IsWritable (u : AnyUnit) : Type 0 where
+  pub fields : HasWritableFields u
+  pub short : length (body_octets u) ≤ longest_body
