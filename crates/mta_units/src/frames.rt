@@ -63,6 +63,14 @@ impl Frames {
         }
     }
 
+    /// How many octets may still be fed.
+    pub fn room(&self) -> u64
+        ensures { result + (self.now.at + length self.now.left) ≡ u64.MAX }
+    {
+        let left = (self.octets.len() - self.taken) as u64;
+        u64::MAX - (self.at + left)
+    }
+
     /// The stream so far is followed by the piece.
     pub fn feed(&mut self, piece: &[u8]) -> Result<(), Memory>
         requires { self.old.at + length self.old.left + length piece.now < 2 ^ 64 }
