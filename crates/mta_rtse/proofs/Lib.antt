@@ -1,1 +1,7 @@
 pub mod IdentifierLaws
+pub mod Slots
+pub mod ValueLaws
+pub mod ReferenceLaws
+pub mod BindLaws
+pub mod ConnectionLaws
+pub mod ApduLaws

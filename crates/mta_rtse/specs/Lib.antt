@@ -6,3 +6,4 @@ pub mod Request
 pub mod Answer
 pub mod Reason
 pub mod Canon
+pub mod Spelling
