@@ -5,3 +5,4 @@ pub mod Body
 pub mod Look
 pub mod Feed
 pub mod Canon
+pub mod Spelling
