@@ -1,3 +1,4 @@
 pub mod FrontLaws
 pub mod BodyLaws
 pub mod UnitLaws
+pub mod LookLaws
