@@ -2,3 +2,5 @@ pub mod FrontLaws
 pub mod BodyLaws
 pub mod UnitLaws
 pub mod LookLaws
+pub mod GrowthLaws
+pub mod ReadingLaws

@@ -51,16 +51,16 @@ open_sound body u bytes e =
     let reference = bind_ok (tagged_reference_in q.0) (after_reference name.0 q.0) u q.2 in
     let m = first_read tagged_reference_in (Tagged 0 16 SpellsReference) tagged_reference_sound p.0.rest q.0 reference.0 n.rest_octets q.1 reference.1 in
     made kind.Open body (only_in rtorq_in q.0.rest) (λ r. unit.Open (record { name = name.0; reference = reference.0; checkpoint = r.checkpoint; window = r.window; twa = r.twa; request = r.request })) u
-      (λ r h. record {
-        kind_is = refl;
-        spelled = record {
-          behind_name = p.0.rest;
-          behind_reference = q.0.rest;
-          name = n.spelled;
-          reference = m.spelled;
-          request = only_sound rtorq_in SpellsRtorq rtorq_sound q.0.rest r m.rest_octets h;
-        };
-      }) reference.2
+    (λ r h. record {
+      kind_is = refl;
+      spelled = record {
+        behind_name = p.0.rest;
+        behind_reference = q.0.rest;
+        name = n.spelled;
+        reference = m.spelled;
+        request = only_sound rtorq_in SpellsRtorq rtorq_sound q.0.rest r m.rest_octets h;
+      };
+    }) reference.2
 
 open_full : (body : List ℕ) (o : OpenUnit) → SpellsOpen body o → open_in body ≡ Ok (unit.Open o)
 unfolding open_in

@@ -6,3 +6,4 @@ pub mod Look
 pub mod Feed
 pub mod Canon
 pub mod Spelling
+pub mod Reading

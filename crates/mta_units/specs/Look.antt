@@ -1,5 +1,5 @@
 -- The unit at the front of a stream.
-use Rattle.std.specs.Prelude.{◌≡◌, ℕ, ◌+◌, ◌-◌, ◌≤◌, List, length, take, drop, Result, Ok, Err}
+use Rattle.std.specs.Prelude.{◌≡◌, ℕ, ◌+◌, ◌-◌, ◌≤◌, List, length, drop, Option, Some, None, Result, Ok, Err}
 use Rattle.mta_ber.specs.declared.fault.Fault.{Fault}
 use Rattle.mta_ber.specs.declared.memory.Memory.{Memory}
 use Rattle.mta_units.specs.declared.front.BadUnit.{BadUnit}
@@ -33,3 +33,8 @@ abbrev pub IsLook : List ℕ → Found → Type 0
 IsLook octets found.Cut = look octets ≡ Nothing
 IsLook octets (found.Faulty k) = look octets ≡ Fails k
 IsLook octets (found.Read u size) = (look octets ≡ Reads u (drop size octets)) × (size ≤ length octets)
+
+-- a fault that is kept is the one that stands there
+abbrev pub KeepsFault : Option BadUnit → List ℕ → Type 0
+KeepsFault None octets = Unit {0}
+KeepsFault (Some k) octets = look octets ≡ Fails k

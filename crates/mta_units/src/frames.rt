@@ -22,12 +22,13 @@ pub struct Frames {
 impl Model for Frames {
     ghost use Rattle.std.specs.Prelude.{◌≤◌, ◌+◌, ◌<◌, ◌^◌, length, drop};
     ghost use Rattle.mta_units.specs.Feed.{Feed};
+    ghost use Rattle.mta_units.specs.Look.{KeepsFault};
 
     ghost Value = { Feed };
 
     ghost view = { λ f. record { at = f.at; left = drop f.taken f.octets.items; bad = f.bad } };
 
-    ghost invariant = { λ f. (f.taken ≤ length f.octets.items) × (f.at + length (drop f.taken f.octets.items) < 2 ^ 64) };
+    ghost invariant = { λ f. (f.taken ≤ length f.octets.items) × (f.at + length (drop f.taken f.octets.items) < 2 ^ 64) × KeepsFault f.bad (drop f.taken f.octets.items) };
 }
 
 /// Drops the first `taken` octets, where they are no fewer than those behind them.
@@ -46,13 +47,20 @@ fn forget(octets: &mut Vec<u8>, taken: usize) -> usize
 }
 
 impl Frames {
-    ghost use Rattle.std.specs.Prelude.{◌≡◌, ◌+◌, ◌<◌, ◌≤◌, ◌^◌, false, length, drop, vec_len, OnOk, OnErr, IfOk, IsOk};
+    ghost use Rattle.std.specs.Prelude.{◌≡◌, ◌+◌, ◌++◌, ◌<◌, ◌≤◌, ◌^◌, false, List, [], ℕ, length, drop, OnOk, OnErr, IfOk, IsOk};
     ghost use Rattle.mta_units.specs.Front.{front, may_take_memory};
+    ghost use Rattle.mta_ber.specs.Octet.{IsOctets};
+    ghost use Rattle.mta_units.specs.declared.front.BadUnit.{BadUnit as TheBadUnit};
+    ghost use Rattle.mta_units.specs.declared.unit.Unit.{Unit as AnyUnit};
+    ghost use Rattle.mta_units.specs.Look.{KeepsFault};
+    ghost use Rattle.mta_units.specs.Spelling.{SpellsUnit, HasFault, IsCutOff};
     ghost use Rattle.mta_units.specs.Feed.{no_feed, fed, Goes};
+    ghost use Rattle.mta_units.specs.Reading.{HasRead, and_next, Says};
 
     /// No octets fed.
     pub fn new(alloc: Global) -> Frames
-        ensures { result ≡ no_feed }
+        ensures exact { result ≡ no_feed }
+        ensures reading { HasRead [] [] result }
     {
         Frames {
             alloc,
@@ -75,6 +83,7 @@ impl Frames {
     pub fn feed(&mut self, piece: &[u8]) -> Result<(), Memory>
         requires { self.old.at + length self.old.left + length piece.now < 2 ^ 64 }
         ensures ok { OnOk result (self.new ≡ fed self.old piece.now) }
+        ensures reading { (us : List AnyUnit) (stream : List ℕ) → HasRead us stream self.old → OnOk result (HasRead us (stream ++ piece.now) self.new) }
         ensures err { OnErr result (self.new ≡ self.old) }
     {
         self.taken = forget(&mut self.octets, self.taken);
@@ -82,11 +91,12 @@ impl Frames {
         Ok(())
     }
 
-    /// What comes next.
-    pub fn next(&mut self) -> Result<Next, Memory>
+    fn next_of(&mut self) -> Result<Next, Memory>
         ensures exact { IfOk result (λ n. Goes self.old n self.new) }
         ensures err { OnErr result (self.new ≡ self.old) }
         ensures memory { may_take_memory (front self.old.left) ≡ false → IsOk result }
+        ensures bytes { IsOctets self.old.left }
+        ensures kept { KeepsFault self.old.bad self.old.left }
     {
         if let Some(kind) = self.bad {
             return Ok(Next::Bad { at: self.at, kind });
@@ -103,5 +113,27 @@ impl Frames {
                 Ok(Next::Unit(unit))
             }
         }
+    }
+
+    /// What comes next: the next unit; that a whole unit has not come yet, and no fault; or why none comes from an offset of the
+    /// stream on, which is answered for good.
+    pub fn next(&mut self) -> Result<Next, Memory>
+        ensures exact { IfOk result (λ n. Goes self.old n self.new) }
+        ensures err { OnErr result (self.new ≡ self.old) }
+
+        // A unit of one size takes no memory, nor does a fault that was found.
+        ensures memory { may_take_memory (front self.old.left) ≡ false → IsOk result }
+
+        // The units answered so far, with what was not taken, are all that was fed; and what is left begins with no unit where
+        // none is answered.
+        ensures reading { (us : List AnyUnit) (stream : List ℕ) → HasRead us stream self.old → IfOk result (λ n. HasRead (and_next us n) stream self.new) }
+        ensures says { IfOk result (λ n. Says n self.new) }
+
+        // And what stands in what was fed and not taken is answered.
+        ensures more { IsCutOff self.old.left → IfOk result (λ n. n ≡ Next.More) }
+        ensures bad { (k : TheBadUnit) → HasFault k self.old.left → IfOk result (λ n. n ≡ Next.Bad self.old.at k) }
+        ensures unit { (u : AnyUnit) (first rest : List ℕ) → SpellsUnit u first → self.old.left ≡ first ++ rest → IfOk result (λ n. n ≡ Next.Unit u) }
+    {
+        self.next_of()
     }
 }
