@@ -1,9 +1,10 @@
 -- A fault that a stream shows stays as more is fed.
-use Rattle.std.proofs.Common.{◌≡◌, ℕ, ◌+◌, ◌≤◌, ◌<◌, ◌⊎◌, Bool, true, false, cond, ltb, List, [], ◌∷◌, ◌++◌, length, take, drop, Option, Some, None, Result, Ok, Err, refl, sym, ap, subst, ◌∙◌, inl, inr, arith}
+use Rattle.std.proofs.Common.{◌≡◌, ℕ, zero, suc, ◌+◌, ◌^◌, ◌≤◌, ◌<◌, ◌⊎◌, Bool, true, false, cond, ltb, List, [], ◌∷◌, ◌++◌, length, take, drop, Option, Some, None, Result, Ok, Err, refl, sym, ap, subst, ◌∙◌, inl, inr, arith}
 use Rattle.std.specs.Int.{w32, from_be_bytes}
 use Rattle.std.proofs.lemmas.Bool.{ltb-false, le-ltb}
 use Rattle.std.proofs.lemmas.List.{length-append, take-append-le, drop-append-le}
 use Rattle.mta_ber.specs.declared.fault.Fault.{Fault}
+use Rattle.mta_ber.specs.Octet.{IsOctets}
 use Rattle.mta_units.specs.declared.front.BadUnit.{BadUnit}
 use Rattle.mta_units.specs.declared.front.BadUnit.TheVariants as bad
 use Rattle.mta_units.specs.declared.kind.UnitKind.{UnitKind}
@@ -12,6 +13,7 @@ use Rattle.mta_units.specs.Kind.{kind_at}
 use Rattle.mta_units.specs.Front.{Front, Cut, Faulty, Whole, front, sized, kinded, listed, longest_body}
 use Rattle.mta_units.specs.Body.{body_in}
 use Rattle.mta_units.specs.Look.{Look, Nothing, Fails, Reads, with_body, look_behind, look, KeepsFault}
+use Rattle.mta_units.specs.Feed.{Holds}
 
 abbrev grown : Front → List ℕ → Front
 grown Cut more = Cut
@@ -72,3 +74,25 @@ fault_stays k octets more e =
 pub kept_stays : (o : Option BadUnit) (octets more : List ℕ) → KeepsFault o octets → KeepsFault o (octets ++ more)
 kept_stays None octets more h = tt
 kept_stays (Some k) octets more h = fault_stays k octets more h
+
+-- octets behind octets
+pub octets_join : (a b : List ℕ) → IsOctets a → IsOctets b → IsOctets (a ++ b)
+octets_join [] b h g = g
+octets_join (x ∷ a) b h g = octets_cons x (a ++ b) (h 0) (octets_join a b (λ i. h (suc i)) g)
+  where
+    octets_cons : (y : ℕ) (ys : List ℕ) → y < 256 → IsOctets ys → IsOctets (y ∷ ys)
+    octets_cons y ys small rest zero = small
+    octets_cons y ys small rest (suc i) = rest i
+
+-- what holds of a stream holds when a piece more is fed
+pub feed_holds : (taken taken' : ℕ) (octets octets' piece all : List ℕ) (at : ℕ) (o : Option BadUnit) → Holds taken octets at o → drop taken' octets' ≡ drop taken octets → taken' ≤ length octets' → all ≡ octets' ++ piece
+    → IsOctets piece → at + length (drop taken octets) + length piece < 2 ^ 64 → Holds taken' all at o
+feed_holds taken taken' octets octets' piece all at o h left within all_is bytes room =
+    let left_is : drop taken' all ≡ drop taken octets ++ piece = ap (drop taken') all_is ∙ drop-append-le taken' octets' piece within ∙ ap (λ l. l ++ piece) left in
+    let sizes : length (drop taken' all) ≡ length (drop taken octets) + length piece = ap length left_is ∙ length-append (drop taken octets) piece in
+    record {
+      within = omega (arith, within, ap length all_is, length-append octets' piece);
+      room = omega (arith, room, sizes);
+      bytes = subst IsOctets (sym left_is) (octets_join (drop taken octets) piece h.bytes bytes);
+      kept = subst (KeepsFault o) (sym left_is) (kept_stays o (drop taken octets) piece h.kept);
+    }

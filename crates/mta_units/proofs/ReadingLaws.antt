@@ -1,5 +1,6 @@
 -- What is answered continues the one reading of a stream.
-use Rattle.std.proofs.Common.{◌≡◌, append_assoc, ℕ, zero, suc, ◌+◌, ◌-◌, ◌≤◌, ◌<◌, ◌⊎◌, List, [], ◌∷◌, ◌++◌, length, Option, Some, None, refl, sym, ap, subst, ◌∙◌, inl, inr, arith}
+use Rattle.std.proofs.Common.{◌≡◌, append_assoc, ℕ, zero, suc, ◌+◌, ◌-◌, ◌≤◌, ◌<◌, ◌⊎◌, List, [], ◌∷◌, ◌++◌, length, Option, Some, None, Result, Ok, Err, refl, sym, ap, subst, ◌∙◌, inl, inr, arith}
+use Rattle.std.specs.Prelude.{IfOk}
 use Rattle.std.proofs.lemmas.List.{append-nil, length-append}
 use Rattle.mta_ber.specs.Octet.{IsOctets}
 use Rattle.mta_ber.proofs.RowLaws.{IsBytes-back}
@@ -113,3 +114,8 @@ pub one_reading : StreamsHaveOneReading
 one_reading stream us us' rest rest' bytes h h' =
     let s = same us us' h.front h'.front rest rest' (subst IsOctets h.stream_is bytes) h.spelled h'.spelled (sym h.stream_is ∙ h'.stream_is) h.none h'.none in
     (s.units, s.rests)
+
+-- what holds of a value that was answered
+pub if_ok : {X E : Type 0} (r : Result X E) (P Q : X → Type 0) → IfOk r P → ((x : X) → P x → Q x) → IfOk r Q
+if_ok (Ok x) P Q h f = f x h
+if_ok (Err e) P Q h f = tt

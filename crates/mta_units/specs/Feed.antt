@@ -1,10 +1,11 @@
 -- A stream that is fed in pieces, as far as it was taken.
-use Rattle.std.specs.Prelude.{◌≡◌, ℕ, ◌+◌, ◌-◌, ◌≤◌, List, [], ◌++◌, length, Option, Some, None}
+use Rattle.std.specs.Prelude.{◌≡◌, ℕ, ◌+◌, ◌-◌, ◌^◌, ◌<◌, ◌≤◌, List, [], ◌++◌, length, drop, Option, Some, None}
 use Rattle.mta_units.specs.declared.front.BadUnit.{BadUnit}
 use Rattle.mta_units.specs.declared.unit.Unit.{Unit as AnyUnit}
 use Rattle.mta_units.specs.declared.next.Next.{Next}
 use Rattle.mta_units.specs.declared.next.Next.TheVariants as next
-use Rattle.mta_units.specs.Look.{Look, Nothing, Fails, Reads, look}
+use Rattle.mta_ber.specs.Octet.{IsOctets}
+use Rattle.mta_units.specs.Look.{Look, Nothing, Fails, Reads, look, KeepsFault}
 
 -- how many octets were taken, what was fed and not yet taken, and the fault that was found
 pub record Feed : Type 0 where
@@ -42,3 +43,10 @@ after f (Reads u rest) = record { at = f.at + (length f.left - length rest); lef
 pub record Goes (old : Feed) (n : Next) (new : Feed) : Type 0 where
   pub answer : n ≡ answered old.at (seen old)
   pub left : new ≡ after old (seen old)
+
+-- what a value of the stream's type holds: octets, of which so many were taken
+pub record Holds (taken : ℕ) (octets : List ℕ) (at : ℕ) (bad : Option BadUnit) : Type 0 where
+  pub within : taken ≤ length octets
+  pub room : at + length (drop taken octets) < 2 ^ 64
+  pub bytes : IsOctets (drop taken octets)
+  pub kept : KeepsFault bad (drop taken octets)

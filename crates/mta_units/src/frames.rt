@@ -1,6 +1,6 @@
 //! Units of a stream that comes in pieces.
 
-ghost use Rattle.std.specs.Prelude.{◌≡◌, ◌≤◌, drop, vec_len};
+ghost use Rattle.std.specs.Prelude.{◌≡◌, ◌≤◌, drop, length};
 
 use crate::front::BadUnit;
 use crate::look::{Look, look_at};
@@ -20,22 +20,21 @@ pub struct Frames {
 }
 
 impl Model for Frames {
-    ghost use Rattle.std.specs.Prelude.{◌≤◌, ◌+◌, ◌<◌, ◌^◌, length, drop};
-    ghost use Rattle.mta_units.specs.Feed.{Feed};
-    ghost use Rattle.mta_units.specs.Look.{KeepsFault};
+    ghost use Rattle.std.specs.Prelude.{drop};
+    ghost use Rattle.mta_units.specs.Feed.{Feed, Holds};
 
     ghost Value = { Feed };
 
     ghost view = { λ f. record { at = f.at; left = drop f.taken f.octets.items; bad = f.bad } };
 
-    ghost invariant = { λ f. (f.taken ≤ length f.octets.items) × (f.at + length (drop f.taken f.octets.items) < 2 ^ 64) × KeepsFault f.bad (drop f.taken f.octets.items) };
+    ghost invariant = { λ f. Holds f.taken f.octets.items f.at f.bad };
 }
 
 /// Drops the first `taken` octets, where they are no fewer than those behind them.
 fn forget(octets: &mut Vec<u8>, taken: usize) -> usize
-    requires { taken ≤ vec_len octets.old }
+    requires { taken ≤ length octets.old.items }
     ensures left { drop result octets.new.items ≡ drop taken octets.old.items }
-    ensures within { result ≤ vec_len octets.new }
+    ensures within { result ≤ length octets.new.items }
 {
     let left = octets.len() - taken;
     if taken < left || taken == 0 {
