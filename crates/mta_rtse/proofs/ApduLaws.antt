@@ -60,10 +60,10 @@ request_step_full s t p shallow (inr (inr (inl a))) =
     pass _ (not_tag 2 2 2 0 p.tag a.is_tag_of refl) (pass _ (not_tag 2 2 2 1 p.tag a.is_tag_of refl) (pick _ a.is_tag_of (fills_full flag_in flag_full s t p shallow a)))
 request_step_full s t p shallow (inr (inr (inr (inl a)))) =
     pass _ (not_tag 2 3 2 0 p.tag a.is_tag_of refl) (pass _ (not_tag 2 3 2 1 p.tag a.is_tag_of refl) (pass _ (not_tag 2 3 2 2 p.tag a.is_tag_of refl)
-      (pick _ a.is_tag_of (fills_full request_in request_data_full s t p shallow a))))
+    (pick _ a.is_tag_of (fills_full request_in request_data_full s t p shallow a))))
 request_step_full s t p shallow (inr (inr (inr (inr a)))) =
     pass _ (not_tag 2 4 2 0 p.tag a.is_tag_of refl) (pass _ (not_tag 2 4 2 1 p.tag a.is_tag_of refl) (pass _ (not_tag 2 4 2 2 p.tag a.is_tag_of refl) (pass _ (not_tag 2 4 2 3 p.tag a.is_tag_of refl)
-      (pick _ a.is_tag_of (fills_full nothing_read anything_full s t p shallow a)))))
+    (pick _ a.is_tag_of (fills_full nothing_read anything_full s t p shallow a)))))
 
 abbrev open_request : ℕ → ℕ → Bool → Request → OpenRequest
 open_request checkpoint window twa r = record { checkpoint = checkpoint; window = window; twa = twa; request = r }
@@ -96,9 +96,9 @@ pub rtorq_full : ReadFull rtorq_in SpellsRtorq
 unfolding rtorq_in rtorq_parts_in
 rtorq_full v p shallow h =
     pick _ h.is_tag_of (
-      ap (λ r. r >>= requested p.at) (components_full rtorq_step MakesRequest request_step_full no_request h.parts p h.is_constructed h.spelled)
-      ∙ ap (λ o. required o p.at >>= λ r. Ok (open_request (unwrap_or h.parts.checkpoint 0) (unwrap_or h.parts.window default_window) (unwrap_or h.parts.twa false) r)) h.request
-      ∙ ap (λ (x : OpenRequest). Ok x) (open_request_is _ _ _ _ _ _ v.request (sym h.checkpoint) (sym h.window) (sym h.twa)))
+    ap (λ r. r >>= requested p.at) (components_full rtorq_step MakesRequest request_step_full no_request h.parts p h.is_constructed h.spelled)
+    ∙ ap (λ o. required o p.at >>= λ r. Ok (open_request (unwrap_or h.parts.checkpoint 0) (unwrap_or h.parts.window default_window) (unwrap_or h.parts.twa false) r)) h.request
+    ∙ ap (λ (x : OpenRequest). Ok x) (open_request_is _ _ _ _ _ _ v.request (sym h.checkpoint) (sym h.window) (sym h.twa)))
 
 -- ---- RTOAC
 
@@ -154,9 +154,9 @@ pub rtoac_full : ReadFull rtoac_in SpellsRtoac
 unfolding rtoac_in rtoac_parts_in
 rtoac_full v p shallow h =
     pick _ h.is_tag_of (
-      ap (λ r. r >>= answered p.at) (components_full rtoac_step MakesAnswer answer_step_full no_answer h.parts p h.is_constructed h.spelled)
-      ∙ ap (λ o. required o p.at >>= λ a. Ok (open_answer (unwrap_or h.parts.checkpoint 0) (unwrap_or h.parts.window default_window) a)) h.answer
-      ∙ ap (λ (x : OpenAnswer). Ok x) (open_answer_is _ _ _ _ v.answer (sym h.checkpoint) (sym h.window)))
+    ap (λ r. r >>= answered p.at) (components_full rtoac_step MakesAnswer answer_step_full no_answer h.parts p h.is_constructed h.spelled)
+    ∙ ap (λ o. required o p.at >>= λ a. Ok (open_answer (unwrap_or h.parts.checkpoint 0) (unwrap_or h.parts.window default_window) a)) h.answer
+    ∙ ap (λ (x : OpenAnswer). Ok x) (open_answer_is _ _ _ _ v.answer (sym h.checkpoint) (sym h.window)))
 
 -- ---- RTORJ and RTAB
 
@@ -192,8 +192,8 @@ reason_step_full s t p shallow (inr (inl a)) =
     pass _ (not_tag 2 1 2 0 p.tag a.is_tag_of refl) (pick _ a.is_tag_of (fills_full nothing_read anything_full s t p shallow a))
 reason_step_full s t p shallow (inr (inr a)) =
     pass _ (not_tag 2 2 2 0 p.tag a.is_tag_of refl) (pass _ (not_tag 2 2 2 1 p.tag a.is_tag_of refl)
-      (pick _ (both s.aborts (is_tag 2 2 p.tag) a.aborts a.is_tag_of)
-        (ap (λ b. vacant b p.at (Ok tt) >>= λ (_ : Unit {0}). Ok (record s { second = true })) a.absent ∙ ap (λ (x : ReasonParts). Ok x) (sym a.after_is))))
+    (pick _ (both s.aborts (is_tag 2 2 p.tag) a.aborts a.is_tag_of)
+    (ap (λ b. vacant b p.at (Ok tt) >>= λ (_ : Unit {0}). Ok (record s { second = true })) a.absent ∙ ap (λ (x : ReasonParts). Ok x) (sym a.after_is))))
 
 abbrev reasoned : ReasonParts → Result ℕ Fault
 reasoned s = Ok (unwrap_or s.reason 0)
@@ -210,8 +210,8 @@ reason_full : (number : ℕ) (aborts : Bool) (n : ℕ) (p : Part) → SpellsReas
 unfolding reason_in
 reason_full number aborts n p h =
     pick _ h.is_tag_of (
-      ap (λ r. r >>= reasoned) (components_full reason_step MakesReason reason_step_full (no_reason aborts) h.parts p h.is_constructed h.spelled)
-      ∙ ap (λ (x : ℕ). Ok x) (sym h.reason_is))
+    ap (λ r. r >>= reasoned) (components_full reason_step MakesReason reason_step_full (no_reason aborts) h.parts p h.is_constructed h.spelled)
+    ∙ ap (λ (x : ℕ). Ok x) (sym h.reason_is))
 
 pub rtorj_sound : ReadSound rtorj_in SpellsRtorj
 unfolding rtorj_in

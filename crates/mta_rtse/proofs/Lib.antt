@@ -5,3 +5,4 @@ pub mod ReferenceLaws
 pub mod BindLaws
 pub mod ConnectionLaws
 pub mod ApduLaws
+pub mod SizeLaws

@@ -1,12 +1,12 @@
 -- The octets that are written: definite minimal lengths, SETs in the order of their tags, no component that equals its default, and
 -- nothing that is passed over when it is read. A password is written as IA5String.
-use Rattle.std.specs.Prelude.{◌≡◌, ℕ, pos, Bool, true, false, List, [], ◌++◌, Option, ◌==◌, if◌then◌else◌}
+use Rattle.std.specs.Prelude.{◌≡◌, ℕ, ◌≤◌, pos, Bool, List, [], ◌++◌, length, Option, ◌==◌, if◌then◌else◌}
 use Rattle.mta_ber.specs.declared.tag.Tag.{Tag}
-use Rattle.mta_ber.specs.Canon.{element, primitive, constructed, optional, Written, appended}
+use Rattle.mta_ber.specs.Canon.{element, primitive, constructed, optional}
 use Rattle.mta_ber.specs.Contents.{canon_int, canon_utc}
 use Rattle.mta_ber.specs.declared.text.TextClass.TheVariants.{Ia5}
 use Rattle.mta_ber.specs.Strings.{IsText}
-use Rattle.mta_records.specs.Reference.{Identifier}
+use Rattle.mta_records.specs.Reference.{Identifier, IsIdentifier}
 use Rattle.mta_rtse.specs.declared.types.Request.{Request}
 use Rattle.mta_rtse.specs.declared.types.Request.TheVariants as ask
 use Rattle.mta_rtse.specs.declared.types.Answer.{Answer}
@@ -55,22 +55,18 @@ canon_rtoac checkpoint window answer =
 unfoldable pub canon_reason : ℕ → ℕ → List ℕ
 canon_reason number reason = element (constructed 2 number) (canon_int (primitive 2 0) (pos reason))
 
--- what can be written: passwords and names of IA5String
-abbrev pub IsWritablePassword : List ℕ → Type 0
-IsWritablePassword password = IsText Ia5 0 longest_password password
+-- a reference that a request holds is one
+abbrev pub HasIdentifier : Request → Type 0
+HasIdentifier ask.Null = Unit {0}
+HasIdentifier (ask.Bind name password) = Unit {0}
+HasIdentifier (ask.Recover reference) = IsIdentifier reference
 
-abbrev pub IsWritableName : List ℕ → Type 0
-IsWritableName name = IsText Ia5 1 32 name
-
+-- what can be written: names of 1 to 32 characters of IA5String, and passwords that are no longer than they may be
 pub record IsWritableBind (name password : List ℕ) : Type 0 where
-  pub name_fits : IsWritableName name
-  pub password_fits : IsWritablePassword password
+  pub name_fits : IsText Ia5 1 32 name
+  pub password_fits : length password ≤ longest_password
 
 abbrev pub IsWritableRequest : Request → Type 0
 IsWritableRequest ask.Null = Unit {0}
 IsWritableRequest (ask.Bind name password) = IsWritableBind name password
 IsWritableRequest (ask.Recover reference) = Unit {0}
-
-abbrev pub IsWritableAnswer : Answer → Type 0
-IsWritableAnswer (reply.Bind name password) = IsWritableBind name password
-IsWritableAnswer (reply.Recover reference) = Unit {0}

@@ -4,7 +4,9 @@ ghost use Rattle.std.specs.Prelude.{◌≡◌, ◌<◌, OnOk, Option};
 ghost use Rattle.std.specs.Option.{option_copied};
 ghost use Rattle.mta_ber.specs.Canon.{IsTag, appended, element, optional, primitive, constructed};
 ghost use Rattle.mta_ber.specs.Contents.{canon_int};
-ghost use Rattle.mta_rtse.specs.Canon.{canon_reference, canon_bind, canon_null, canon_request_data, canon_answer_data, canon_unless, canon_flag, canon_rtorq, canon_rtoac, canon_reason};
+ghost use Rattle.mta_rtse.specs.Canon.{canon_reference, canon_bind, canon_null, canon_request_data, canon_answer_data, canon_unless, canon_flag, canon_rtorq, canon_rtoac, canon_reason, HasIdentifier};
+ghost use Rattle.mta_rtse.specs.Spelling.{request_of};
+ghost use Rattle.mta_records.specs.Reference.{IsIdentifier};
 
 use crate::request::DEFAULT_WINDOW;
 use crate::types::{Answer, Request};
@@ -44,7 +46,8 @@ fn put_optional(w: &mut Writer, octets: Option<&[u8]>) -> Result<(), Memory>
 #[tactic(auto, unfolding(crate::specs::Canon::canon_reference))]
 pub fn put_reference(w: &mut Writer, tag: Tag, reference: &Reference) -> Result<(), Memory>
     requires { IsTag tag }
-    ensures { OnOk result (w.new ≡ appended w.old (canon_reference tag reference.now)) }
+    ensures exact { OnOk result (w.new ≡ appended w.old (canon_reference tag reference.now)) }
+    ensures fits { OnOk result (IsIdentifier reference.now) }
 {
     w.begin(tag)?;
     w.put(primitive_tag(0, 4), reference.calling())?;
@@ -77,7 +80,8 @@ fn put_null(w: &mut Writer) -> Result<(), Memory>
 }
 
 fn put_request_data(w: &mut Writer, request: &Request) -> Result<(), Memory>
-    ensures { OnOk result (w.new ≡ appended w.old (canon_request_data request.now)) }
+    ensures exact { OnOk result (w.new ≡ appended w.old (canon_request_data request.now)) }
+    ensures fits { OnOk result (HasIdentifier request.now) }
 {
     match request {
         Request::Null => put_null(w),
@@ -87,7 +91,8 @@ fn put_request_data(w: &mut Writer, request: &Request) -> Result<(), Memory>
 }
 
 fn put_answer_data(w: &mut Writer, answer: &Answer) -> Result<(), Memory>
-    ensures { OnOk result (w.new ≡ appended w.old (canon_answer_data answer.now)) }
+    ensures exact { OnOk result (w.new ≡ appended w.old (canon_answer_data answer.now)) }
+    ensures fits { OnOk result (HasIdentifier (request_of answer.now)) }
 {
     match answer {
         Answer::Bind { name, password } => put_bind(w, name.as_slice(), password.as_slice()),
@@ -125,7 +130,8 @@ pub fn put_request(
     twa: bool,
     request: &Request,
 ) -> Result<(), Memory>
-    ensures { OnOk result (w.new ≡ appended w.old (canon_rtorq checkpoint window twa request.now)) }
+    ensures exact { OnOk result (w.new ≡ appended w.old (canon_rtorq checkpoint window twa request.now)) }
+    ensures fits { OnOk result (HasIdentifier request.now) }
 {
     w.begin(constructed_tag(2, 16))?;
     put_unless(w, 0, 0, checkpoint)?;
@@ -145,7 +151,8 @@ pub fn put_answer(
     window: u32,
     answer: &Answer,
 ) -> Result<(), Memory>
-    ensures { OnOk result (w.new ≡ appended w.old (canon_rtoac checkpoint window answer.now)) }
+    ensures exact { OnOk result (w.new ≡ appended w.old (canon_rtoac checkpoint window answer.now)) }
+    ensures fits { OnOk result (HasIdentifier (request_of answer.now)) }
 {
     w.begin(constructed_tag(2, 17))?;
     put_unless(w, 0, 0, checkpoint)?;
