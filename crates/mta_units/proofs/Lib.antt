@@ -4,3 +4,4 @@ pub mod UnitLaws
 pub mod LookLaws
 pub mod GrowthLaws
 pub mod ReadingLaws
+pub mod SizeLaws

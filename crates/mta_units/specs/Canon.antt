@@ -2,15 +2,18 @@
 use Rattle.std.specs.Prelude.{◌≡◌, ℕ, pos, ◌≤◌, List, [], ◌∷◌, ◌++◌, length}
 use Rattle.std.specs.Int.{w32, to_be_bytes}
 use Rattle.mta_ber.specs.Canon.{element, primitive, constructed}
+use Rattle.mta_ber.specs.declared.text.TextClass.TheVariants.{Ia5}
 use Rattle.mta_ber.specs.Contents.{canon_int}
-use Rattle.mta_rtse.specs.Canon.{canon_reference, canon_rtorq, canon_rtoac, canon_reason, IsWritableName, IsWritableRequest, IsWritableAnswer}
+use Rattle.mta_ber.specs.Strings.{IsText}
+use Rattle.mta_records.specs.Reference.{IsIdentifier}
+use Rattle.mta_rtse.specs.Canon.{canon_reference, canon_rtorq, canon_rtoac, canon_reason, IsWritableRequest, HasIdentifier}
+use Rattle.mta_rtse.specs.Spelling.{request_of}
 use Rattle.mta_units.specs.declared.kind.UnitKind.{UnitKind}
 use Rattle.mta_units.specs.declared.kind.UnitKind.TheVariants as kind
 use Rattle.mta_units.specs.declared.unit.Unit.{Unit as AnyUnit}
 use Rattle.mta_units.specs.declared.unit.Unit.TheVariants as unit
 use Rattle.mta_units.specs.declared.unit.OpenUnit.{OpenUnit}
 use Rattle.mta_units.specs.Kind.{kind_number}
-use Rattle.mta_units.specs.Front.{longest_body}
 
 abbrev pub kind_of : AnyUnit → UnitKind
 kind_of (unit.Open o) = kind.Open
@@ -71,17 +74,28 @@ pub record IsFaultNumber (k : ℕ) : Type 0 where
   pub last : k ≤ 12
 
 pub record IsWritableOpen (o : OpenUnit) : Type 0 where
-  pub name_fits : IsWritableName o.name
+  pub name_fits : IsText Ia5 1 32 o.name
   pub request_fits : IsWritableRequest o.request
 
--- names and passwords that an IA5String can have, and kinds of faults that there are
-abbrev pub HasWritableFields : AnyUnit → Type 0
-HasWritableFields (unit.Open o) = IsWritableOpen o
-HasWritableFields (unit.Accept checkpoint window answer) = IsWritableAnswer answer
-HasWritableFields (unit.Exception k at) = IsFaultNumber k
-HasWritableFields _ = Unit {0}
+-- the most octets of a piece
+abbrev pub longest_piece : ℕ
+longest_piece = 2097152
 
--- what can be written
-pub record IsWritable (u : AnyUnit) : Type 0 where
-  pub fields : HasWritableFields u
-  pub short : length (body_octets u) ≤ longest_body
+-- what can be written: names of 1 to 32 characters of IA5String, passwords and pieces that are no longer than they may be, and kinds
+-- of faults that there are
+abbrev pub IsWritable : AnyUnit → Type 0
+IsWritable (unit.Open o) = IsWritableOpen o
+IsWritable (unit.Accept checkpoint window answer) = IsWritableRequest (request_of answer)
+IsWritable (unit.Piece octets) = length octets ≤ longest_piece
+IsWritable (unit.Exception k at) = IsFaultNumber k
+IsWritable _ = Unit {0}
+
+-- the references that a unit holds are some
+pub record HoldsReferences (o : OpenUnit) : Type 0 where
+  pub own : IsIdentifier o.reference
+  pub asked : HasIdentifier o.request
+
+abbrev pub HasReferences : AnyUnit → Type 0
+HasReferences (unit.Open o) = HoldsReferences o
+HasReferences (unit.Accept checkpoint window answer) = HasIdentifier (request_of answer)
+HasReferences _ = Unit {0}

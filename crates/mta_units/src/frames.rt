@@ -46,7 +46,7 @@ fn forget(octets: &mut Vec<u8>, taken: usize) -> usize
 }
 
 impl Frames {
-    ghost use Rattle.std.specs.Prelude.{◌≡◌, ◌+◌, ◌++◌, ◌<◌, ◌≤◌, ◌^◌, false, List, [], ℕ, length, drop, OnOk, OnErr, IfOk, IsOk};
+    ghost use Rattle.std.specs.Prelude.{◌≡◌, ◌+◌, ◌++◌, ◌<◌, ◌≤◌, ◌^◌, false, List, [], ℕ, length, drop, OnOk, OnErr, IfOk, IsOk, IsSome};
     ghost use Rattle.mta_units.specs.Front.{front, may_take_memory};
     ghost use Rattle.mta_ber.specs.Octet.{IsOctets};
     ghost use Rattle.mta_units.specs.declared.front.BadUnit.{BadUnit as TheBadUnit};
@@ -94,6 +94,7 @@ impl Frames {
         ensures exact { IfOk result (λ n. Goes self.old n self.new) }
         ensures err { OnErr result (self.new ≡ self.old) }
         ensures memory { may_take_memory (front self.old.left) ≡ false → IsOk result }
+        ensures found { IsSome self.old.bad → IsOk result }
         ensures bytes { IsOctets self.old.left }
         ensures kept { KeepsFault self.old.bad self.old.left }
     {
@@ -122,6 +123,7 @@ impl Frames {
 
         // A unit of one size takes no memory, nor does a fault that was found.
         ensures memory { may_take_memory (front self.old.left) ≡ false → IsOk result }
+        ensures found { IsSome self.old.bad → IsOk result }
 
         // The units answered so far, with what was not taken, are all that was fed; and what is left begins with no unit where
         // none is answered.

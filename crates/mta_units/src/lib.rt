@@ -6,6 +6,7 @@ mod fixed;
 mod frames;
 mod front;
 mod kind;
+mod laws;
 mod look;
 mod next;
 mod unit;
@@ -13,6 +14,7 @@ mod writing;
 
 pub use frames::Frames;
 pub use front::BadUnit;
+pub use laws::streams_have_one_reading;
 pub use mta_records::Reference;
 pub use mta_rtse::{Answer, Request};
 pub use next::Next;

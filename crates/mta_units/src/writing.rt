@@ -1,11 +1,10 @@
 //! Writing units in their canonical octets.
 
-ghost use Rattle.std.specs.Prelude.{◌≡◌, ◌≤◌, ◌<◌, ◌-◌, ◌^◌, drop, vec_len, ◌++◌, ◌∷◌, [], length, OnOk, IfOk};
+ghost use Rattle.std.specs.Prelude.{◌≡◌, ◌≤◌, ◌<◌, ◌-◌, ◌^◌, drop, ◌++◌, ◌∷◌, [], length, OnOk, IfOk};
 ghost use Rattle.mta_ber.specs.Canon.{appended, constructed, primitive};
 ghost use Rattle.mta_ber.specs.Contents.{canon_int};
-ghost use Rattle.mta_units.specs.Front.{longest_body};
 ghost use Rattle.mta_units.specs.Kind.{kind_number};
-ghost use Rattle.mta_units.specs.Canon.{kind_of, number_octets, open_octets, body_octets, unit_octets, IsWritable};
+ghost use Rattle.mta_units.specs.Canon.{kind_of, number_octets, open_octets, body_octets, unit_octets, IsWritable, HoldsReferences, HasReferences};
 
 use crate::kind::UnitKind;
 use crate::unit::{OpenUnit, Unit};
@@ -46,7 +45,8 @@ fn put_exception(w: &mut Writer, kind: u8, at: u32) -> Result<(), Memory>
 /// A name, a reference and RTORQ, one behind the other.
 #[tactic(auto, unfolding(crate::specs::Canon::open_octets))]
 fn put_open(w: &mut Writer, opening: &OpenUnit) -> Result<(), Memory>
-    ensures { OnOk result (w.new ≡ appended w.old (open_octets opening.now)) }
+    ensures exact { OnOk result (w.new ≡ appended w.old (open_octets opening.now)) }
+    ensures fits { OnOk result (HoldsReferences opening.now) }
 {
     w.put(universal(false, 22), opening.name.as_slice())?;
     rtse::put_reference(w, universal(true, 16), &opening.reference)?;
@@ -86,7 +86,8 @@ fn kind_of_unit(unit: &Unit) -> UnitKind
 }
 
 fn put_body(w: &mut Writer, unit: &Unit) -> Result<(), Memory>
-    ensures { OnOk result (w.new ≡ appended w.old (body_octets unit.now)) }
+    ensures exact { OnOk result (w.new ≡ appended w.old (body_octets unit.now)) }
+    ensures fits { OnOk result (HasReferences unit.now) }
 {
     match unit {
         Unit::Open(opening) => put_open(w, opening),
@@ -115,9 +116,9 @@ fn put_body(w: &mut Writer, unit: &Unit) -> Result<(), Memory>
 
 /// Writes the length of what stands behind the first five octets into the first four.
 fn put_length(octets: &mut Vec<u8>)
-    requires some { 5 ≤ vec_len octets.old }
-    requires fits { vec_len octets.old < 2 ^ 32 }
-    ensures { octets.new.items ≡ number_octets (vec_len octets.old - 5) ++ drop 4 octets.old.items }
+    requires some { 5 ≤ length octets.old.items }
+    requires fits { length octets.old.items < 2 ^ 32 }
+    ensures { octets.new.items ≡ number_octets (length octets.old.items - 5) ++ drop 4 octets.old.items }
 {
     let size = (octets.len() - 5) as u32;
     let digits = size.to_be_bytes();
