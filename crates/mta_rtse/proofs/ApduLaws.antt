@@ -74,9 +74,9 @@ requested at s = required s.request at >>= λ r. Ok (open_request (unwrap_or s.c
 open_request_is : (c c' w w' : ℕ) (b b' : Bool) (r : Request) → c ≡ c' → w ≡ w' → b ≡ b' → open_request c w b r ≡ open_request c' w' b' r
 open_request_is c c' w w' b b' r e f g = cc
 
-pub rtorq_sound : ReadSound rtorq_in SpellsRtorq
+pub rtorq_found : (v : OpenRequest) (p : Part) → IsOctets p.content → rtorq_in p ≡ Ok v → SpellsRtorq p.depth p.tag p.content p.octets v
 unfolding rtorq_in rtorq_parts_in
-rtorq_sound v p shallow octets own e =
+rtorq_found v p octets e =
     let q = taken (is_tag 2 16 p.tag) (components rtorq_step no_request p >>= requested p.at) _ v e in
     let a = bind_ok (components rtorq_step no_request p) (requested p.at) v q.1 in
     let c = components_sound rtorq_step MakesRequest request_step_sound no_request a.0 p octets a.1 in
@@ -91,6 +91,9 @@ rtorq_sound v p shallow octets own e =
       twa = refl;
       request = required_so a.0.request p.at b.0 b.1;
     })
+
+pub rtorq_sound : ReadSound rtorq_in SpellsRtorq
+rtorq_sound v p shallow octets own e = rtorq_found v p octets e
 
 pub rtorq_full : ReadFull rtorq_in SpellsRtorq
 unfolding rtorq_in rtorq_parts_in
@@ -133,9 +136,9 @@ answered at s = required s.answer at >>= λ a. Ok (open_answer (unwrap_or s.chec
 open_answer_is : (c c' w w' : ℕ) (a : Answer) → c ≡ c' → w ≡ w' → open_answer c w a ≡ open_answer c' w' a
 open_answer_is c c' w w' a e f = cc
 
-pub rtoac_sound : ReadSound rtoac_in SpellsRtoac
+pub rtoac_found : (v : OpenAnswer) (p : Part) → IsOctets p.content → rtoac_in p ≡ Ok v → SpellsRtoac p.depth p.tag p.content p.octets v
 unfolding rtoac_in rtoac_parts_in
-rtoac_sound v p shallow octets own e =
+rtoac_found v p octets e =
     let q = taken (is_tag 2 17 p.tag) (components rtoac_step no_answer p >>= answered p.at) _ v e in
     let a = bind_ok (components rtoac_step no_answer p) (answered p.at) v q.1 in
     let c = components_sound rtoac_step MakesAnswer answer_step_sound no_answer a.0 p octets a.1 in
@@ -149,6 +152,9 @@ rtoac_sound v p shallow octets own e =
       window = refl;
       answer = required_so a.0.answer p.at b.0 b.1;
     })
+
+pub rtoac_sound : ReadSound rtoac_in SpellsRtoac
+rtoac_sound v p shallow octets own e = rtoac_found v p octets e
 
 pub rtoac_full : ReadFull rtoac_in SpellsRtoac
 unfolding rtoac_in rtoac_parts_in
@@ -213,17 +219,23 @@ reason_full number aborts n p h =
     ap (λ r. r >>= reasoned) (components_full reason_step MakesReason reason_step_full (no_reason aborts) h.parts p h.is_constructed h.spelled)
     ∙ ap (λ (x : ℕ). Ok x) (sym h.reason_is))
 
-pub rtorj_sound : ReadSound rtorj_in SpellsRtorj
+pub rtorj_found : (n : ℕ) (p : Part) → IsOctets p.content → rtorj_in p ≡ Ok n → SpellsRtorj p.depth p.tag p.content p.octets n
 unfolding rtorj_in
-rtorj_sound n p shallow octets own e = reason_sound 18 false n p octets e
+rtorj_found n p octets e = reason_sound 18 false n p octets e
+
+pub rtorj_sound : ReadSound rtorj_in SpellsRtorj
+rtorj_sound n p shallow octets own e = rtorj_found n p octets e
 
 pub rtorj_full : ReadFull rtorj_in SpellsRtorj
 unfolding rtorj_in
 rtorj_full n p shallow h = reason_full 18 false n p h
 
-pub rtab_sound : ReadSound rtab_in SpellsRtab
+pub rtab_found : (n : ℕ) (p : Part) → IsOctets p.content → rtab_in p ≡ Ok n → SpellsRtab p.depth p.tag p.content p.octets n
 unfolding rtab_in
-rtab_sound n p shallow octets own e = reason_sound 22 true n p octets e
+rtab_found n p octets e = reason_sound 22 true n p octets e
+
+pub rtab_sound : ReadSound rtab_in SpellsRtab
+rtab_sound n p shallow octets own e = rtab_found n p octets e
 
 pub rtab_full : ReadFull rtab_in SpellsRtab
 unfolding rtab_in

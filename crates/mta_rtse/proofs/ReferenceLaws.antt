@@ -46,9 +46,9 @@ with_common at c additional common = required common at >>= λ m. Ok (identifier
 abbrev finished : ℕ → ReferenceParts → Result Identifier Fault
 finished at s = required s.calling at >>= λ c. with_common at c s.additional s.common
 
-pub reference_sound : ReadSound reference_in SpellsReference
+pub reference_found : (v : Identifier) (p : Part) → IsOctets p.content → reference_in p ≡ Ok v → SpellsReference p.depth p.tag p.content p.octets v
 unfolding reference_in
-reference_sound v p shallow octets own e =
+reference_found v p octets e =
     let a = bind_ok (components reference_step no_reference p) (finished p.at) v e in
     let c = components_sound reference_step MakesReference step_sound no_reference a.0 p octets a.1 in
     let b = bind_ok (required a.0.calling p.at) (λ c. with_common p.at c a.0.additional a.0.common) v a.2 in
@@ -61,6 +61,9 @@ reference_sound v p shallow octets own e =
       common = required_so a.0.common p.at d.0 d.1;
       additional = refl;
     })
+
+pub reference_sound : ReadSound reference_in SpellsReference
+reference_sound v p shallow octets own e = reference_found v p octets e
 
 pub reference_full : ReadFull reference_in SpellsReference
 unfolding reference_in

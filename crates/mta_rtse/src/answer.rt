@@ -1,7 +1,9 @@
 //! Reading RTOAC.
 
-ghost use Rattle.std.specs.Prelude.{◌≡◌};
-ghost use Rattle.mta_ber.specs.Parts.{Leaves, Reads};
+ghost use Rattle.std.specs.Prelude.{◌≡◌, ℕ, IfOk};
+ghost use Rattle.mta_ber.specs.Parts.{Leaves, Reads, IsReadAs};
+ghost use Rattle.mta_rtse.specs.declared.types.OpenAnswer.{OpenAnswer as TheOpenAnswer};
+ghost use Rattle.mta_rtse.specs.Spelling.{SpellsRtoac};
 ghost use Rattle.mta_ber.specs.Seen.{view};
 ghost use Rattle.mta_rtse.specs.Answer.{rtoac_step, rtoac_parts_in, rtoac_in};
 
@@ -48,8 +50,18 @@ impl Components for AnswerParts {
 }
 
 /// RTOAC, `[17]` SET.
-#[tactic(auto, unfolding(crate::specs::Answer::rtoac_in))]
 pub fn read_answer(alloc: Global, whole: &View) -> Result<OpenAnswer, ReadFault>
+    ensures exact { Reads result (rtoac_in (view whole.now)) }
+
+    // What is answered is spelled by the element, and what the element spells is answered.
+    ensures found { IfOk result (SpellsRtoac whole.now.depth whole.now.tag whole.now.content.now whole.now.octets.now) }
+    ensures only { (v : TheOpenAnswer) → SpellsRtoac whole.now.depth whole.now.tag whole.now.content.now whole.now.octets.now v → IsReadAs result v }
+{
+    answer_from(alloc, whole)
+}
+
+#[tactic(auto, unfolding(crate::specs::Answer::rtoac_in))]
+fn answer_from(alloc: Global, whole: &View) -> Result<OpenAnswer, ReadFault>
     ensures { Reads result (rtoac_in (view whole.now)) }
 {
     if !is_tag_of(whole.tag, 2, 17) {

@@ -1,7 +1,9 @@
 //! Reading session connection identifiers.
 
-ghost use Rattle.std.specs.Prelude.{◌≡◌};
-ghost use Rattle.mta_ber.specs.Parts.{Leaves, Reads};
+ghost use Rattle.std.specs.Prelude.{◌≡◌, ℕ, IfOk};
+ghost use Rattle.mta_ber.specs.Parts.{Leaves, Reads, IsReadAs};
+ghost use Rattle.mta_records.specs.Reference.{Identifier};
+ghost use Rattle.mta_rtse.specs.Spelling.{SpellsReference};
 ghost use Rattle.mta_ber.specs.Seen.{view};
 ghost use Rattle.mta_rtse.specs.Identifier.{reference_step, reference_in};
 
@@ -51,8 +53,18 @@ impl Components for ReferenceParts {
 
 /// The reference of a SEQUENCE of a calling reference, OCTET STRING, a common reference, UTCTime, and an additional reference, `[0]`,
 /// which may be absent (X.228, SessionConnectionIdentifier).
-#[tactic(auto, unfolding(crate::specs::Identifier::reference_in))]
 pub fn read_reference(alloc: Global, whole: &View) -> Result<Reference, ReadFault>
+    ensures exact { Reads result (reference_in (view whole.now)) }
+
+    // What is answered is spelled by the element, and what the element spells is answered.
+    ensures found { IfOk result (SpellsReference whole.now.depth whole.now.tag whole.now.content.now whole.now.octets.now) }
+    ensures only { (v : Identifier) → SpellsReference whole.now.depth whole.now.tag whole.now.content.now whole.now.octets.now v → IsReadAs result v }
+{
+    reference_from(alloc, whole)
+}
+
+#[tactic(auto, unfolding(crate::specs::Identifier::reference_in))]
+fn reference_from(alloc: Global, whole: &View) -> Result<Reference, ReadFault>
     ensures { Reads result (reference_in (view whole.now)) }
 {
     if !whole.tag.constructed {

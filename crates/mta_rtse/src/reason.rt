@@ -1,7 +1,8 @@
 //! Reading RTORJ and RTAB, of which only the reason is looked at.
 
-ghost use Rattle.std.specs.Prelude.{◌≡◌};
-ghost use Rattle.mta_ber.specs.Parts.{Leaves, Reads};
+ghost use Rattle.std.specs.Prelude.{◌≡◌, ℕ, IfOk};
+ghost use Rattle.mta_ber.specs.Parts.{Leaves, Reads, IsReadAs};
+ghost use Rattle.mta_rtse.specs.Spelling.{SpellsRtorj, SpellsRtab};
 ghost use Rattle.mta_ber.specs.Seen.{view};
 ghost use Rattle.mta_rtse.specs.Reason.{reason_step, reason_in, rtorj_in, rtab_in};
 
@@ -63,8 +64,18 @@ fn read_reason(alloc: Global, whole: &View, aborts: bool) -> Result<u32, ReadFau
 }
 
 /// The reason of RTORJ, `[18]` SET; 0 where it is absent.
-#[tactic(auto, unfolding(crate::specs::Reason::rtorj_in))]
 pub fn read_refusal(alloc: Global, whole: &View) -> Result<u32, ReadFault>
+    ensures exact { Reads result (rtorj_in (view whole.now)) }
+
+    // What is answered is spelled by the element, and what the element spells is answered.
+    ensures found { IfOk result (SpellsRtorj whole.now.depth whole.now.tag whole.now.content.now whole.now.octets.now) }
+    ensures only { (v : ℕ) → SpellsRtorj whole.now.depth whole.now.tag whole.now.content.now whole.now.octets.now v → IsReadAs result v }
+{
+    refusal_from(alloc, whole)
+}
+
+#[tactic(auto, unfolding(crate::specs::Reason::rtorj_in))]
+fn refusal_from(alloc: Global, whole: &View) -> Result<u32, ReadFault>
     ensures { Reads result (rtorj_in (view whole.now)) }
 {
     if !is_tag_of(whole.tag, 2, 18) {
@@ -74,8 +85,18 @@ pub fn read_refusal(alloc: Global, whole: &View) -> Result<u32, ReadFault>
 }
 
 /// The reason of RTAB, `[22]` SET; 0 where it is absent.
-#[tactic(auto, unfolding(crate::specs::Reason::rtab_in))]
 pub fn read_abort(alloc: Global, whole: &View) -> Result<u32, ReadFault>
+    ensures exact { Reads result (rtab_in (view whole.now)) }
+
+    // What is answered is spelled by the element, and what the element spells is answered.
+    ensures found { IfOk result (SpellsRtab whole.now.depth whole.now.tag whole.now.content.now whole.now.octets.now) }
+    ensures only { (v : ℕ) → SpellsRtab whole.now.depth whole.now.tag whole.now.content.now whole.now.octets.now v → IsReadAs result v }
+{
+    abort_from(alloc, whole)
+}
+
+#[tactic(auto, unfolding(crate::specs::Reason::rtab_in))]
+fn abort_from(alloc: Global, whole: &View) -> Result<u32, ReadFault>
     ensures { Reads result (rtab_in (view whole.now)) }
 {
     if !is_tag_of(whole.tag, 2, 22) {

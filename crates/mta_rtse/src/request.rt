@@ -1,7 +1,9 @@
 //! Reading RTORQ.
 
-ghost use Rattle.std.specs.Prelude.{◌≡◌};
-ghost use Rattle.mta_ber.specs.Parts.{Leaves, Reads};
+ghost use Rattle.std.specs.Prelude.{◌≡◌, ℕ, IfOk};
+ghost use Rattle.mta_ber.specs.Parts.{Leaves, Reads, IsReadAs};
+ghost use Rattle.mta_rtse.specs.declared.types.OpenRequest.{OpenRequest as TheOpenRequest};
+ghost use Rattle.mta_rtse.specs.Spelling.{SpellsRtorq};
 ghost use Rattle.mta_ber.specs.Seen.{view};
 ghost use Rattle.mta_rtse.specs.Request.{rtorq_step, rtorq_parts_in, rtorq_in};
 
@@ -62,8 +64,18 @@ impl Components for RequestParts {
 }
 
 /// RTORQ, `[16]` SET.
-#[tactic(auto, unfolding(crate::specs::Request::rtorq_in))]
 pub fn read_request(alloc: Global, whole: &View) -> Result<OpenRequest, ReadFault>
+    ensures exact { Reads result (rtorq_in (view whole.now)) }
+
+    // What is answered is spelled by the element, and what the element spells is answered.
+    ensures found { IfOk result (SpellsRtorq whole.now.depth whole.now.tag whole.now.content.now whole.now.octets.now) }
+    ensures only { (v : TheOpenRequest) → SpellsRtorq whole.now.depth whole.now.tag whole.now.content.now whole.now.octets.now v → IsReadAs result v }
+{
+    request_from(alloc, whole)
+}
+
+#[tactic(auto, unfolding(crate::specs::Request::rtorq_in))]
+fn request_from(alloc: Global, whole: &View) -> Result<OpenRequest, ReadFault>
     ensures { Reads result (rtorq_in (view whole.now)) }
 {
     if !is_tag_of(whole.tag, 2, 16) {

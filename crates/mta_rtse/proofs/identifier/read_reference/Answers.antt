@@ -1,10 +1,16 @@
 use Rattle.mta_ber.specs.Seen.{view}
-use Rattle.mta_ber.proofs.Steps.{required_so}
-use Rattle.mta_rtse.proofs.IdentifierLaws.{parts_fit}
+use Rattle.mta_ber.proofs.StringLaws.{reads_found, reads_as}
+use Rattle.mta_rtse.specs.Identifier.{reference_in}
+use Rattle.mta_rtse.specs.Spelling.{SpellsReference}
+use Rattle.mta_rtse.proofs.ReferenceLaws.{reference_found, reference_full}
 use Rattle.mta_rtse.proofs.identifier.read_reference.Goals as goal
 
-pub new-requires : goal.new-requires
-new-requires c =
-    let calling = required_so _ _ _ c.in_ok-calling.ensures in
-    let common = required_so _ _ _ c.in_ok-common.ensures in
-    parts_fit (view c.args.whole.now) _ _ _ c.in_ok-take_parts.ensures calling common
+pub returns-clause-found : goal.returns-clause-found
+returns-clause-found c =
+    let v = c.args.whole.now in
+    reads_found (SpellsReference v.depth v.tag v.content.now v.octets.now) c.reference_from.result (reference_in (view v)) c.reference_from.ensures (λ x e. reference_found x (view v) v.bytes e)
+
+pub returns-clause-only : goal.returns-clause-only
+returns-clause-only c = λ x h.
+    let v = c.args.whole.now in
+    reads_as c.reference_from.result (reference_in (view v)) x c.reference_from.ensures (reference_full x (view v) v.shallow h)
