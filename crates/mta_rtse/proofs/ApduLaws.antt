@@ -1,15 +1,15 @@
 -- RTORQ, RTOAC, RTORJ and RTAB are read exactly where they are spelled.
-use Rattle.std.proofs.Common.{◌≡◌, ℕ, ◌≤◌, Bool, true, false, cond, List, Option, Some, None, Result, Ok, Err, refl, sym, ap, subst, ◌∙◌, inl, inr}
+use Rattle.std.proofs.Common.{◌≡◌, ℕ, Bool, true, false, cond, Result, Ok, refl, sym, ap, subst, ◌∙◌, inl, inr}
 use Rattle.std.specs.Prelude.{unwrap_or, ◌&&◌}
 use Rattle.mta_ber.specs.declared.fault.Fault.{Fault}
-use Rattle.mta_ber.specs.declared.fault.Kind.TheVariants.{BadTag, BadSize, Twice}
+use Rattle.mta_ber.specs.declared.fault.Kind.TheVariants.{BadTag, Twice}
 use Rattle.mta_ber.specs.Head.{◌>>=◌, fault}
 use Rattle.mta_ber.specs.Octet.{IsOctets}
-use Rattle.mta_ber.specs.Element.{Part, explicit}
-use Rattle.mta_ber.specs.Parts.{components, parts_of, is_tag, required}
+use Rattle.mta_ber.specs.Element.{Part}
+use Rattle.mta_ber.specs.Parts.{components, is_tag, required}
 use Rattle.mta_ber.proofs.Steps.{bind_ok, chosen, ok_is, taken, required_so}
 use Rattle.mta_ber.proofs.ComponentLaws.{StepSound, StepFull}
-use Rattle.mta_ber.proofs.ExplicitLaws.{ReadSound, ReadFull, explicit_sound, explicit_full}
+use Rattle.mta_ber.proofs.ExplicitLaws.{ReadSound, ReadFull}
 use Rattle.mta_ber.proofs.HeadLaws.{and_true}
 use Rattle.mta_rtse.specs.declared.request.RequestParts.{RequestParts}
 use Rattle.mta_rtse.specs.declared.answer.AnswerParts.{AnswerParts}

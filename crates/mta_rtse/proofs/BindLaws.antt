@@ -1,21 +1,20 @@
 -- Binds are read exactly where they are spelled.
-use Rattle.std.proofs.Common.{◌≡◌, ℕ, ◌≤◌, Bool, true, false, cond, List, [], ◌∷◌, Option, Some, None, Result, Ok, Err, refl, sym, ap, subst, ◌∙◌, inl, inr}
+use Rattle.std.proofs.Common.{◌≡◌, ℕ, cond, List, [], ◌∷◌, Option, Result, Ok, refl, sym, ap, ◌∙◌, inl, inr}
 use Rattle.mta_ber.specs.declared.fault.Fault.{Fault}
-use Rattle.mta_ber.specs.declared.fault.Kind.TheVariants.{BadTag, BadSize}
+use Rattle.mta_ber.specs.declared.fault.Kind.TheVariants.{BadSize}
 use Rattle.mta_ber.specs.Head.{◌>>=◌, fault}
-use Rattle.mta_ber.specs.Octet.{IsOctets}
-use Rattle.mta_ber.specs.Element.{Part, explicit}
-use Rattle.mta_ber.specs.Parts.{components, parts_of, is_tag, required}
-use Rattle.mta_ber.proofs.Steps.{bind_ok, chosen, ok_is, taken, required_so}
+use Rattle.mta_ber.specs.Element.{Part}
+use Rattle.mta_ber.specs.Parts.{components, is_tag, required}
+use Rattle.mta_ber.proofs.Steps.{bind_ok, chosen, ok_is, required_so}
 use Rattle.mta_ber.proofs.ComponentLaws.{StepSound, StepFull}
 use Rattle.mta_ber.proofs.ExplicitLaws.{ReadSound, ReadFull, explicit_sound, explicit_full}
 use Rattle.mta_ber.specs.declared.text.TextClass.TheVariants.{Ia5}
-use Rattle.mta_ber.specs.Strings.{text_in, is_empty}
+use Rattle.mta_ber.specs.Strings.{is_empty}
 use Rattle.mta_ber.proofs.StringLaws.{text_sound, text_full}
 use Rattle.mta_rtse.specs.declared.bind.BindParts.{BindParts}
 use Rattle.mta_rtse.specs.declared.types.Request.{Request}
 use Rattle.mta_rtse.specs.declared.types.Request.TheVariants.{Null, Bind}
-use Rattle.mta_rtse.specs.Values.{octets_in, word_in}
+use Rattle.mta_rtse.specs.Values.{word_in}
 use Rattle.mta_rtse.specs.Bind.{longest_password, password_in, explicit_password_in, bind_step, no_bind, bind_in, null_in, open_in}
 use Rattle.mta_rtse.specs.Spelling.{SpellsPassword, SpellsCredentials, MakesBind, SpellsBind, SpellsNull, SpellsOpened}
 use Rattle.mta_rtse.proofs.Slots.{not_tag, pick, pass, fills_sound, fills_full, components_sound, components_full}

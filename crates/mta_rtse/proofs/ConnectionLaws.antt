@@ -1,15 +1,9 @@
 -- Connection data is read exactly where it is spelled.
-use Rattle.std.proofs.Common.{◌≡◌, ℕ, ◌≤◌, Bool, true, false, cond, List, Result, Ok, Err, refl, sym, ap, subst, ◌∙◌, inl, inr}
-use Rattle.mta_ber.specs.declared.fault.Fault.{Fault}
-use Rattle.mta_ber.specs.declared.fault.Kind.TheVariants.{BadTag, BadSize}
-use Rattle.mta_ber.specs.Head.{◌>>=◌, fault}
-use Rattle.mta_ber.specs.Octet.{IsOctets}
-use Rattle.mta_ber.specs.Element.{Part, explicit}
-use Rattle.mta_ber.specs.Parts.{components, parts_of, is_tag, required}
-use Rattle.mta_ber.proofs.Steps.{bind_ok, chosen, ok_is, taken, required_so}
-use Rattle.mta_ber.proofs.ComponentLaws.{StepSound, StepFull}
+use Rattle.std.proofs.Common.{◌≡◌, ℕ, Ok, refl, sym, ap, subst, ◌∙◌, inl, inr}
+use Rattle.mta_ber.specs.Head.{◌>>=◌}
+use Rattle.mta_ber.specs.Parts.{is_tag}
+use Rattle.mta_ber.proofs.Steps.{bind_ok, chosen, ok_is}
 use Rattle.mta_ber.proofs.ExplicitLaws.{ReadSound, ReadFull, explicit_sound, explicit_full}
-use Rattle.mta_records.specs.Reference.{Identifier}
 use Rattle.mta_rtse.specs.declared.types.Request.{Request}
 use Rattle.mta_rtse.specs.declared.types.Request.TheVariants as ask
 use Rattle.mta_rtse.specs.declared.types.Answer.{Answer}

@@ -1,12 +1,11 @@
 -- What is read of a reference is in its range.
-use Rattle.std.proofs.Common.{◌≡◌, ℕ, ◌≤◌, Bool, true, false, cond, ltb, List, length, Option, Some, None, Result, Ok, Err, refl, ap, subst, inl, inr, arith}
+use Rattle.std.proofs.Common.{◌≡◌, ℕ, ◌≤◌, cond, ltb, List, length, Option, Some, None, Ok, ap, subst, inl, inr}
 use Rattle.std.specs.Prelude.{IfSome}
 use Rattle.std.proofs.lemmas.Bool.{ltb-false}
-use Rattle.mta_ber.specs.declared.fault.Fault.{Fault}
 use Rattle.mta_ber.specs.declared.fault.Kind.TheVariants.{BadSize}
-use Rattle.mta_ber.specs.Head.{◌>>=◌, fault}
+use Rattle.mta_ber.specs.Head.{fault}
 use Rattle.mta_ber.specs.Element.{Part}
-use Rattle.mta_ber.specs.Parts.{is_tag, in_order, components, parts_of, required}
+use Rattle.mta_ber.specs.Parts.{is_tag, parts_of}
 use Rattle.mta_ber.specs.Strings.{joined, joined_as}
 use Rattle.mta_ber.specs.Times.{utc_in, moment_of, timed, last_moment}
 use Rattle.mta_ber.proofs.Steps.{bind_ok, chosen, passed, ok_is, parts_of_keep}

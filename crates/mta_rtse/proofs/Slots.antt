@@ -1,18 +1,17 @@
 -- What a step of a reader of components answers is what a component makes, and the other way round.
-use Rattle.std.proofs.Common.{◌≡◌, ℕ, ◌+◌, ◌≤◌, ◌<◌, Bool, true, false, cond, eqb, List, Option, Some, None, Result, Ok, Err, refl, sym, ap, subst, ◌∙◌}
+use Rattle.std.proofs.Common.{◌≡◌, ℕ, ◌≤◌, Bool, true, false, cond, eqb, Result, Ok, Err, refl, sym, ap, ◌∙◌}
 use Rattle.std.specs.Prelude.{◌&&◌}
 use Rattle.std.proofs.lemmas.Bool.{eqb-true}
 use Rattle.mta_ber.specs.declared.fault.Fault.{Fault}
-use Rattle.mta_ber.specs.declared.fault.Kind.TheVariants.{BadTag}
 use Rattle.mta_ber.specs.declared.tag.Tag.{Tag}
-use Rattle.mta_ber.specs.Head.{◌>>=◌, fault}
+use Rattle.mta_ber.specs.Head.{◌>>=◌}
 use Rattle.mta_ber.specs.Octet.{IsOctets}
 use Rattle.mta_ber.specs.Element.{Part}
 use Rattle.mta_ber.specs.Parts.{components, parts_of, is_tag, in_order}
 use Rattle.mta_ber.specs.Components.{Makes, SpellsComponents}
 use Rattle.mta_ber.specs.Explicit.{Spells}
 use Rattle.mta_ber.proofs.HeadLaws.{and_true}
-use Rattle.mta_ber.proofs.Steps.{bind_ok, ok_is, taken}
+use Rattle.mta_ber.proofs.Steps.{ok_is, taken}
 use Rattle.mta_ber.proofs.ComponentLaws.{StepSound, StepFull, parts_sound, parts_full}
 use Rattle.mta_ber.proofs.ExplicitLaws.{ReadSound, ReadFull, placed_in_order, in_order_full}
 use Rattle.mta_rtse.specs.Bind.{vacant}

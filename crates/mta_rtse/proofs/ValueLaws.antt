@@ -1,12 +1,11 @@
 -- Numbers, words and octets are read exactly where they are spelled.
-use Rattle.std.proofs.Common.{◌≡◌, ℕ, zero, suc, ◌≤◌, ◌<◌, Bool, true, false, cond, eqb, ltb, List, length, Result, Ok, Err, refl, sym, ap, subst, ◌∙◌, arith, ℤ, pos, negsuc}
+use Rattle.std.proofs.Common.{◌≡◌, ℕ, zero, suc, ◌≤◌, Bool, true, false, cond, eqb, ltb, length, Result, Ok, refl, sym, ap, subst, ◌∙◌, arith, ℤ, pos, negsuc}
 use Rattle.std.specs.Prelude.{unsigned_abs, not, ◌||◌}
 use Rattle.std.proofs.lemmas.Bool.{ltb-false, le-ltb}
 use Rattle.mta_ber.specs.declared.fault.Fault.{Fault}
 use Rattle.mta_ber.specs.declared.fault.Kind.TheVariants.{BadSize}
 use Rattle.mta_ber.specs.declared.text.TextClass.TheVariants.{Ia5}
 use Rattle.mta_ber.specs.Head.{◌>>=◌, fault}
-use Rattle.mta_ber.specs.Octet.{IsOctets}
 use Rattle.mta_ber.specs.Element.{Part}
 use Rattle.mta_ber.specs.Int.{in_range, int_in, SpellsInteger}
 use Rattle.mta_ber.specs.Strings.{own_number, joined}

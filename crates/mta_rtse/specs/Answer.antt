@@ -1,5 +1,5 @@
 -- RTOAC (X.228): a SET of the checkpoint size, the window and connection data.
-use Rattle.std.specs.Prelude.{ℕ, Option, Some, None, is_some, unwrap_or, Result, Ok, if◌then◌else◌}
+use Rattle.std.specs.Prelude.{Some, None, is_some, unwrap_or, Result, Ok, if◌then◌else◌}
 use Rattle.mta_ber.specs.declared.fault.Fault.{Fault}
 use Rattle.mta_ber.specs.declared.fault.Kind.TheVariants.{BadTag}
 use Rattle.mta_ber.specs.Head.{◌>>=◌, fault}

@@ -1,6 +1,6 @@
 -- The octets that are written: definite minimal lengths, SETs in the order of their tags, no component that equals its default, and
 -- nothing that is passed over when it is read. A password is written as IA5String.
-use Rattle.std.specs.Prelude.{◌≡◌, ℕ, ◌≤◌, pos, Bool, List, [], ◌++◌, length, Option, ◌==◌, if◌then◌else◌}
+use Rattle.std.specs.Prelude.{ℕ, ◌≤◌, pos, Bool, List, [], ◌++◌, length, ◌==◌, if◌then◌else◌}
 use Rattle.mta_ber.specs.declared.tag.Tag.{Tag}
 use Rattle.mta_ber.specs.Canon.{element, primitive, constructed, optional}
 use Rattle.mta_ber.specs.Contents.{canon_int, canon_utc}

@@ -1,5 +1,5 @@
 -- RTORJ and RTAB (X.228): a SET of a reason, which is 0 where it is absent, and of components that are passed over.
-use Rattle.std.specs.Prelude.{ℕ, Bool, true, false, Option, Some, None, is_some, unwrap_or, Result, Ok, if◌then◌else◌, ◌&&◌}
+use Rattle.std.specs.Prelude.{ℕ, Bool, true, false, Some, None, is_some, unwrap_or, Result, Ok, if◌then◌else◌, ◌&&◌}
 use Rattle.mta_ber.specs.declared.fault.Fault.{Fault}
 use Rattle.mta_ber.specs.declared.fault.Kind.TheVariants.{BadTag}
 use Rattle.mta_ber.specs.Head.{◌>>=◌, fault}
