@@ -1,3 +1,8 @@
+ghost use Rattle.std.specs.Prelude.{◌≤◌, length, IfOk};
+ghost use Rattle.mta_ber.specs.declared.text.TextClass.TheVariants.{Ia5};
+ghost use Rattle.mta_ber.specs.Strings.{IsText};
+ghost use Rattle.mta_units.specs.Canon.{IsWritable};
+
 use super::*;
 use mta_ber::{Memory, Octets, Word};
 use std::alloc::{AllocError, Global};
@@ -261,87 +266,102 @@ fn cuts_do_not_matter(rt: HostRuntime) -> Result<(), Fail> {
     Ok(())
 }
 
-#[test]
-fn units_are_written(rt: HostRuntime) -> Result<(), Fail> {
-    let alloc = rt.alloc();
-    let sync = write_unit(alloc, &Unit::Sync { number: 1 })?;
-    assert_eq!(rt; sync.as_slice(), b"\0\0\0\x04\x06\0\0\0\x01".as_slice());
-    let resume = write_unit(
-        alloc,
-        &Unit::Resume {
-            activity: 1,
-            number: 3,
-        },
-    )?;
-    assert_eq!(rt;
-        resume.as_slice(),
-        b"\0\0\0\x08\x0A\0\0\0\x01\0\0\0\x03".as_slice()
-    );
-    let exception = write_unit(
-        alloc,
-        &Unit::Exception {
-            kind: 11,
-            at: 2_097_152,
-        },
-    )?;
-    assert_eq!(rt;
-        exception.as_slice(),
-        b"\0\0\0\x05\x10\x0B\0\x20\0\0".as_slice()
-    );
-    let give = write_unit(alloc, &Unit::Give)?;
-    assert_eq!(rt; give.as_slice(), b"\0\0\0\0\x0F".as_slice());
-    let please = write_unit(alloc, &Unit::Please { priority: 0 })?;
-    assert_eq!(rt; please.as_slice(), b"\0\0\0\x03\x0E\x02\x01\0".as_slice());
-    let reject = write_unit(alloc, &Unit::Reject { reason: 2 })?;
-    assert_eq!(rt;
-        reject.as_slice(),
-        b"\0\0\0\x05\x03\xB2\x03\x80\x01\x02".as_slice()
-    );
-    let abort = write_unit(alloc, &Unit::Abort { reason: 7 })?;
-    assert_eq!(rt;
-        abort.as_slice(),
-        b"\0\0\0\x05\x11\xB6\x03\x80\x01\x07".as_slice()
-    );
-    let piece = write_unit(alloc, &Unit::Piece(Octets::from_slice(alloc, b"Hi")?))?;
-    assert_eq!(rt; piece.as_slice(), b"\0\0\0\x04\x05\x04\x02Hi".as_slice());
-    Ok(())
+/// Whether the canonical octets of a unit are these.
+fn is_written_as(alloc: Global, unit: &Unit, expected: &str) -> Result<bool, Fail>
+    requires { IsWritable unit.now }
+{
+    let written = write_unit(alloc, unit)?;
+    let expected = octets_of(alloc, expected)?;
+    Ok(written.as_slice() == expected.as_slice())
 }
 
 #[test]
-fn an_association_is_opened(rt: HostRuntime) -> Result<(), Fail> {
+fn units_are_written(rt: HostRuntime) -> Result<(), Fail> {
     let alloc = rt.alloc();
-    let name = Octets::from_slice(alloc, b"GOLD-1")?;
-    let accept = Unit::Accept {
+    let (activity, number) = (1, 3);
+    let piece = Unit::Piece(Octets::from_slice(alloc, b"Hi")?);
+    let sync = "00 00 00 04 06 00 00 00 03";
+    assert!(rt; is_written_as(alloc, &Unit::Sync { number }, sync)?);
+    let resume = "00 00 00 08 0A 00 00 00 01 00 00 00 03";
+    assert!(rt; is_written_as(alloc, &Unit::Resume { activity, number }, resume)?);
+    let exception = "00 00 00 05 10 0B 00 20 00 00";
+    assert!(rt;
+        is_written_as(
+            alloc,
+            &Unit::Exception {
+                kind: 11,
+                at: 2_097_152
+            },
+            exception
+        )?
+    );
+    assert!(rt; is_written_as(alloc, &Unit::Give, "00 00 00 00 0F")?);
+    assert!(rt;
+        is_written_as(
+            alloc,
+            &Unit::Please { priority: 0 },
+            "00 00 00 03 0E 02 01 00"
+        )?
+    );
+    let reject = "00 00 00 05 03 B2 03 80 01 02";
+    assert!(rt; is_written_as(alloc, &Unit::Reject { reason: 2 }, reject)?);
+    let abort = "00 00 00 05 11 B6 03 80 01 07";
+    assert!(rt; is_written_as(alloc, &Unit::Abort { reason: 7 }, abort)?);
+    assert!(rt; is_written_as(alloc, &piece, "00 00 00 04 05 04 02 48 69")?);
+    Ok(())
+}
+
+fn bind_of(name: Octets, password: Octets) -> Result<Unit, Fail>
+    requires name { IsText Ia5 1 32 name }
+    requires password { length password ≤ 62 }
+    ensures { IfOk result IsWritable }
+{
+    let answer = Answer::Bind {
+        name: Word::from_octets(name).ok_or("no word")?,
+        password,
+    };
+    Ok(Unit::Accept {
         checkpoint: 4,
         window: 3,
-        answer: Answer::Bind {
-            name: Word::from_octets(name).ok_or("no word")?,
-            password: Octets::from_slice(alloc, b"pw")?,
-        },
-    };
-    let written = write_unit(alloc, &accept)?;
-    let expected = octets_of(
-        alloc,
-        "00 00 00 19 02 B1 17 80 01 04 A2 12 A0 10 A1 0E 80 06 47 4F 4C 44 2D 31 A1 04 16 02 70 77",
-    )?;
-    assert_eq!(rt; written.as_slice(), expected.as_slice());
-    let name = Octets::from_slice(alloc, b"EAST")?;
-    let calling = Octets::from_slice(alloc, b"EAST")?;
-    let additional = Octets::from_slice(alloc, b"0000000007")?;
-    let opening = Unit::Open(OpenUnit {
+        answer,
+    })
+}
+
+#[test]
+fn an_answer_is_written(rt: HostRuntime) -> Result<(), Fail> {
+    let alloc = rt.alloc();
+    let name = Octets::from_slice(alloc, b"GOLD-1")?;
+    let password = Octets::from_slice(alloc, b"pw")?;
+    let accept = bind_of(name, password)?;
+    let expected =
+        "00 00 00 19 02 B1 17 80 01 04 A2 12 A0 10 A1 0E 80 06 47 4F 4C 44 2D 31 A1 04 16 02 70 77";
+    assert!(rt; is_written_as(alloc, &accept, expected)?);
+    Ok(())
+}
+
+fn opening_of(name: Octets, reference: Reference) -> Result<Unit, Fail>
+    requires { IsText Ia5 1 32 name }
+    ensures { IfOk result IsWritable }
+{
+    Ok(Unit::Open(OpenUnit {
         name: Word::from_octets(name).ok_or("no word")?,
-        reference: Reference::new(calling, 0, Some(additional)),
+        reference,
         checkpoint: 4,
         window: 3,
         twa: true,
         request: Request::Null,
-    });
-    let written = write_unit(alloc, &opening)?;
-    let expected = octets_of(
-        alloc,
-        "00 00 00 37 01 16 04 45 41 53 54 30 21 04 04 45 41 53 54 17 0D 35 30 30 31 30 31 30 30 30 30 30 30 5A 80 0A 30 30 30 30 30 30 30 30 30 37 \
-         B0 0C 80 01 04 82 01 01 A3 04 A0 02 05 00",
-    )?;
-    assert_eq!(rt; written.as_slice(), expected.as_slice());
+    }))
+}
+
+#[test]
+fn an_opening_is_written(rt: HostRuntime) -> Result<(), Fail> {
+    let alloc = rt.alloc();
+    let name = Octets::from_slice(alloc, b"EAST")?;
+    let calling = Octets::from_slice(alloc, b"EAST")?;
+    let additional = Octets::from_slice(alloc, b"0000000007")?;
+    let opening = opening_of(name, Reference::new(calling, 0, Some(additional)))?;
+    let expected =
+        "00 00 00 37 01 16 04 45 41 53 54 30 21 04 04 45 41 53 54 17 0D 35 30 30 31 30 31 30 30 30 30 30 30 5A 80 0A 30 30 30 30 30 30 30 30 30 37 B0 0C 80 01 04 82 01 01 A3 04 A0 02 05 00";
+    assert!(rt; is_written_as(alloc, &opening, expected)?);
     Ok(())
 }

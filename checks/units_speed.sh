@@ -1,0 +1,22 @@
+#!/usr/bin/env bash
+# How many octets a second mta_units reads of a stream of pieces of 4 KiB that is fed in parts of 1,500 octets, beside copying them in
+# such parts. Run it at the top of the repository.
+set -u
+cd "$(dirname "$0")/.." || exit 2
+command -v rt >/dev/null || { echo "skipped: no rt"; exit 0; }
+[ -e /proc/self/stat ] || { echo "skipped: no processor times"; exit 0; }
+(cd crates/mta_units_bench && rt run >/dev/null 2>&1) || { echo "the program was not built"; exit 1; }
+program=crates/mta_units_bench/out/mta_units_bench
+TIMEFORMAT=%U
+for word in units copies; do
+  best=""
+  worst=""
+  for _ in 1 2 3 4 5 6 7; do
+    seconds=$( { time "$program" "$word" >/dev/null; } 2>&1 )
+    [ -z "$best" ] && best=$seconds && worst=$seconds
+    best=$(printf '%s\n%s\n' "$best" "$seconds" | sort -n | head -n 1)
+    worst=$(printf '%s\n%s\n' "$worst" "$seconds" | sort -n | tail -n 1)
+  done
+  awk -v word="$word" -v best="$best" -v worst="$worst" 'BEGIN {
+    printf "%s: %.0f million octets a second (%.0f in the slowest of seven runs)\n", word, 210.176 / best, 210.176 / worst }'
+done
