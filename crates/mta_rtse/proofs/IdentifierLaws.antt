@@ -25,7 +25,7 @@ octets_short most p o e =
     let P : List ℕ → Type 0 = λ l. length l ≤ most in
     subst P (ok_is j.0 o c.1) (ltb-false most (length j.0) c.0)
 
-timed_so : (at : ℕ) (o : Option ℕ) (m : ℕ) → timed at o ≡ Ok m → o ≡ Some m
+pub timed_so : (at : ℕ) (o : Option ℕ) (m : ℕ) → timed at o ≡ Ok m → o ≡ Some m
 timed_so at None m e = absurd cc
 timed_so at (Some n) m e = ap (λ z. Some z) (ok_is n m e)
 

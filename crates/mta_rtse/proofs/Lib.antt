@@ -6,3 +6,5 @@ pub mod BindLaws
 pub mod ConnectionLaws
 pub mod ApduLaws
 pub mod SizeLaws
+pub mod AgainLaws
+pub mod ApduAgain

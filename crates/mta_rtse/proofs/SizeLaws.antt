@@ -32,7 +32,7 @@ thirteen : (m : ℕ) → length (utc_content m) ≡ 13
 unfolding utc_content
 thirteen m = refl
 
-utc_short : (t : Tag) (m : ℕ) → length (canon_utc t m) ≤ 27
+pub utc_short : (t : Tag) (m : ℕ) → length (canon_utc t m) ≤ 27
 utc_short t m = omega (arith, element_short (as_primitive t) (utc_content m), thirteen m)
 
 additional_short : (o : Option (List ℕ)) (most : ℕ) → IfSome o (λ octets. length octets ≤ most) → length (optional (element (primitive 2 0)) o) ≤ 14 + most
@@ -79,7 +79,7 @@ null_short : length canon_null ≤ 28
 unfolding canon_null
 null_short = omega (arith, element_short (primitive 0 5) [], element_short (constructed 2 0) (element (primitive 0 5) []))
 
-request_data_short : (r : Request) → IsWritableRequest r → HasIdentifier r → length (canon_request_data r) ≤ 2117
+pub request_data_short : (r : Request) → IsWritableRequest r → HasIdentifier r → length (canon_request_data r) ≤ 2117
 request_data_short ask.Null w h = omega (arith, null_short)
 request_data_short (ask.Bind name password) w h = omega (arith, bind_short name password w.name_fits.at_most w.password_fits)
 request_data_short (ask.Recover reference) w h = reference_short (constructed 2 1) reference h

@@ -70,3 +70,13 @@ abbrev pub IsWritableRequest : Request → Type 0
 IsWritableRequest ask.Null = Unit {0}
 IsWritableRequest (ask.Bind name password) = IsWritableBind name password
 IsWritableRequest (ask.Recover reference) = Unit {0}
+
+-- what is read again once it is written: passwords of IA5String too
+pub record IsReadBind (name password : List ℕ) : Type 0 where
+  pub name_fits : IsText Ia5 1 32 name
+  pub password_fits : IsText Ia5 0 longest_password password
+
+abbrev pub IsReadAgain : Request → Type 0
+IsReadAgain ask.Null = Unit {0}
+IsReadAgain (ask.Bind name password) = IsReadBind name password
+IsReadAgain (ask.Recover reference) = IsIdentifier reference
