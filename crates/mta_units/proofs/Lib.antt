@@ -5,3 +5,4 @@ pub mod LookLaws
 pub mod GrowthLaws
 pub mod ReadingLaws
 pub mod SizeLaws
+pub mod AgainLaws

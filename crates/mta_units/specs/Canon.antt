@@ -1,12 +1,13 @@
 -- The octets that are written of a unit.
-use Rattle.std.specs.Prelude.{◌≡◌, ℕ, pos, ◌≤◌, List, [], ◌∷◌, ◌++◌, length}
+use Rattle.std.specs.Prelude.{◌≡◌, ℕ, pos, ◌^◌, ◌<◌, ◌≤◌, List, [], ◌∷◌, ◌++◌, length}
 use Rattle.std.specs.Int.{w32, to_be_bytes}
 use Rattle.mta_ber.specs.Canon.{element, primitive, constructed}
 use Rattle.mta_ber.specs.declared.text.TextClass.TheVariants.{Ia5}
 use Rattle.mta_ber.specs.Contents.{canon_int}
 use Rattle.mta_ber.specs.Strings.{IsText}
 use Rattle.mta_records.specs.Reference.{IsIdentifier}
-use Rattle.mta_rtse.specs.Canon.{canon_reference, canon_rtorq, canon_rtoac, canon_reason, IsWritableRequest, HasIdentifier}
+use Rattle.mta_rtse.specs.Canon.{canon_reference, canon_rtorq, canon_rtoac, canon_reason, IsWritableRequest, HasIdentifier, IsReadAgain}
+use Rattle.mta_rtse.specs.declared.types.Answer.{Answer}
 use Rattle.mta_rtse.specs.Spelling.{request_of}
 use Rattle.mta_units.specs.declared.kind.UnitKind.{UnitKind}
 use Rattle.mta_units.specs.declared.kind.UnitKind.TheVariants as kind
@@ -99,3 +100,37 @@ abbrev pub HasReferences : AnyUnit → Type 0
 HasReferences (unit.Open o) = HoldsReferences o
 HasReferences (unit.Accept checkpoint window answer) = HasIdentifier (request_of answer)
 HasReferences _ = Unit {0}
+
+-- a unit whose fields are in their ranges, with passwords of IA5String: what is read again once it is written
+pub record IsOpenUnit (o : OpenUnit) : Type 0 where
+  pub name : IsText Ia5 1 32 o.name
+  pub reference : IsIdentifier o.reference
+  pub checkpoint : o.checkpoint < 2 ^ 32
+  pub window : o.window < 2 ^ 32
+  pub request : IsReadAgain o.request
+
+pub record IsAcceptUnit (size places : ℕ) (reply : Answer) : Type 0 where
+  pub checkpoint : size < 2 ^ 32
+  pub window : places < 2 ^ 32
+  pub answer : IsReadAgain (request_of reply)
+
+abbrev pub IsUnit : AnyUnit → Type 0
+IsUnit (unit.Open o) = IsOpenUnit o
+IsUnit (unit.Accept checkpoint window answer) = IsAcceptUnit checkpoint window answer
+IsUnit (unit.Reject reason) = reason < 2 ^ 32
+IsUnit (unit.Start activity) = activity < 2 ^ 32
+IsUnit (unit.Piece octets) = length octets ≤ longest_piece
+IsUnit (unit.Sync number) = number < 2 ^ 32
+IsUnit (unit.SyncAck number) = number < 2 ^ 32
+IsUnit (unit.End activity) = activity < 2 ^ 32
+IsUnit (unit.EndAck activity) = activity < 2 ^ 32
+IsUnit (unit.Resume activity number) = (activity < 2 ^ 32) × (number < 2 ^ 32)
+IsUnit (unit.ResumeAck activity number) = (activity < 2 ^ 32) × (number < 2 ^ 32)
+IsUnit (unit.Discard activity) = activity < 2 ^ 32
+IsUnit (unit.DiscardAck activity) = activity < 2 ^ 32
+IsUnit (unit.Please priority) = priority < 2 ^ 32
+IsUnit unit.Give = Unit {0}
+IsUnit (unit.Exception k at) = IsFaultNumber k × (at < 2 ^ 32)
+IsUnit (unit.Abort reason) = reason < 2 ^ 32
+IsUnit unit.Close = Unit {0}
+IsUnit unit.CloseAck = Unit {0}

@@ -5,6 +5,8 @@ use Rattle.mta_units.specs.declared.front.BadUnit.{BadUnit}
 use Rattle.mta_units.specs.declared.unit.Unit.{Unit as AnyUnit}
 use Rattle.mta_units.specs.declared.next.Next.{Next}
 use Rattle.mta_units.specs.declared.next.Next.TheVariants as next
+use Rattle.mta_units.specs.Canon.{unit_octets, IsUnit}
+use Rattle.mta_units.specs.Look.{Reads, look}
 use Rattle.mta_units.specs.Spelling.{SpellsUnit, SpellsUnits, HasFault, IsCutOff}
 use Rattle.mta_units.specs.Feed.{Feed}
 
@@ -41,3 +43,7 @@ pub record IsReading (stream : List ℕ) (us : List AnyUnit) (rest : List ℕ) :
 -- each stream has one reading
 abbrev pub StreamsHaveOneReading : Type 0
 StreamsHaveOneReading = (stream : List ℕ) (us us' : List AnyUnit) (rest rest' : List ℕ) → IsOctets stream → IsReading stream us rest → IsReading stream us' rest' → (us ≡ us') × (rest ≡ rest')
+
+-- a unit that is written is read again, whatever follows it
+abbrev pub UnitsAreReadAgain : Type 0
+UnitsAreReadAgain = (u : AnyUnit) (more : List ℕ) → IsUnit u → look (unit_octets u ++ more) ≡ Reads u more

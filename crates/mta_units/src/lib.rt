@@ -14,7 +14,7 @@ mod writing;
 
 pub use frames::Frames;
 pub use front::BadUnit;
-pub use laws::streams_have_one_reading;
+pub use laws::{streams_have_one_reading, units_are_read_again};
 pub use mta_records::Reference;
 pub use mta_rtse::{Answer, Request};
 pub use next::Next;
