@@ -1,8 +1,8 @@
 -- What is written of the protocol data units is read again.
-use Rattle.std.proofs.Common.{◌≡◌, append_assoc, ℕ, zero, suc, ◌+◌, ◌-◌, ◌^◌, ◌≤◌, ◌<◌, Bool, true, false, cond, eqb, ltb, List, [], ◌∷◌, ◌++◌, length, Option, Some, None, Result, Ok, Err, refl, sym, ap, subst, ◌∙◌, arith, ℤ, pos}
-use Rattle.std.specs.Prelude.{unwrap_or, IfSome, FitsSigned}
+use Rattle.std.proofs.Common.{◌≡◌, append_assoc, ℕ, ◌+◌, ◌^◌, ◌≤◌, ◌<◌, Bool, true, false, ltb, List, [], ◌++◌, length, Option, Some, None, Result, Ok, refl, sym, ap, subst, ◌∙◌, arith, ℤ, pos}
+use Rattle.std.specs.Prelude.{IfSome, FitsSigned}
 use Rattle.std.specs.Int.{w64}
-use Rattle.std.proofs.lemmas.List.{append-nil, length-append}
+use Rattle.std.proofs.lemmas.List.{append-nil}
 use Rattle.std.proofs.lemmas.Bool.{le-ltb}
 use Rattle.std.proofs.lemmas.Int.{fits_signed_from_abs}
 use Rattle.mta_ber.specs.declared.fault.Fault.{Fault}
@@ -10,17 +10,17 @@ use Rattle.mta_ber.specs.declared.tag.Tag.{Tag}
 use Rattle.mta_ber.specs.declared.text.TextClass.TheVariants.{Ia5}
 use Rattle.mta_ber.specs.Head.{◌>>=◌}
 use Rattle.mta_ber.specs.Element.{Part, part, first, outermost, inner, alone, explicit}
-use Rattle.mta_ber.specs.Parts.{components, required}
+use Rattle.mta_ber.specs.Parts.{required}
 use Rattle.mta_ber.specs.Int.{in_range, int_in, SpellsInteger}
 use Rattle.mta_ber.specs.Strings.{joined_as, IsText}
 use Rattle.mta_ber.specs.Times.{last_moment, utc_in, moment_of, timed}
 use Rattle.mta_ber.specs.Moments.{IsMomentText}
 use Rattle.mta_ber.specs.Canon.{IsTag, element, primitive, constructed, optional}
-use Rattle.mta_ber.specs.Contents.{int_content, canon_int, utc_content, canon_utc}
+use Rattle.mta_ber.specs.Contents.{int_content, utc_content, canon_utc}
 use Rattle.mta_ber.specs.Laws.{with_rest, beside}
 use Rattle.mta_ber.proofs.Steps.{bind_ok, ok_is}
 use Rattle.mta_ber.proofs.CanonLaws.{lent}
-use Rattle.mta_ber.proofs.RoundTrip.{part_again, first_again, element_long, text_again, Taken, one_taken, last_taken, whole_taken}
+use Rattle.mta_ber.proofs.RoundTrip.{part_again, first_again, element_long, Taken, one_taken, last_taken, whole_taken}
 use Rattle.mta_ber.proofs.IntLaws.{int_sound}
 use Rattle.mta_ber.proofs.StringLaws.{octets_spelled, joined_full}
 use Rattle.mta_ber.proofs.ValueLaws.{numbers_again}
@@ -28,7 +28,6 @@ use Rattle.mta_ber.proofs.TimeAgain.{moments_again}
 use Rattle.mta_ber.proofs.MomentLaws.{moment_sound}
 use Rattle.mta_records.specs.Reference.{Identifier, identifier, longest_reference, IsIdentifier}
 use Rattle.mta_rtse.specs.declared.identifier.ReferenceParts.{ReferenceParts}
-use Rattle.mta_rtse.specs.declared.bind.BindParts.{BindParts}
 use Rattle.mta_rtse.specs.Values.{last_number, number_in, flag_in, octets_in, word_in}
 use Rattle.mta_rtse.specs.Identifier.{reference_step, no_reference, reference_in}
 use Rattle.mta_rtse.proofs.ValueLaws.{number_full, flag_full, short_full, time_full, word_full}
@@ -135,10 +134,10 @@ module _ (c : List ℕ) (m : ℕ) (depth : ℕ) (short : length c ≤ longest_re
   rest_taken : (o : Option (List ℕ)) → IfSome o (λ a. length a ≤ longest_reference) → Taken reference_step (depth + 1) (parts 1 (Some c) None None) (canon_utc (primitive 0 23) m ++ optional (element (primitive 2 0)) o) (parts (place o) (Some c) (Some m) o)
   rest_taken None h =
       subst (λ bytes. Taken reference_step (depth + 1) (parts 1 (Some c) None None) bytes (parts 2 (Some c) (Some m) None)) (sym (append-nil (canon_utc (primitive 0 23) m)))
-        (last_taken reference_step (depth + 1) (parts 1 (Some c) None None) (parts 2 (Some c) (Some m) None) (primitive 0 23) (utc_content m) (universal false 23 (omega arith)) (omega (arith, utc_fits m)) d common_taken)
+      (last_taken reference_step (depth + 1) (parts 1 (Some c) None None) (parts 2 (Some c) (Some m) None) (primitive 0 23) (utc_content m) (universal false 23 (omega arith)) (omega (arith, utc_fits m)) d common_taken)
   rest_taken (Some a) h =
       one_taken reference_step (depth + 1) (parts 1 (Some c) None None) (parts 2 (Some c) (Some m) None) (parts 3 (Some c) (Some m) (Some a)) (primitive 0 23) (utc_content m) (element (primitive 2 0) a) (universal false 23 (omega arith)) (omega (arith, utc_fits m)) d common_taken
-        (last_taken reference_step (depth + 1) (parts 2 (Some c) (Some m) None) (parts 3 (Some c) (Some m) (Some a)) (primitive 2 0) a (context false 0 (omega arith)) (omega (arith, h)) d (additional_taken a h))
+      (last_taken reference_step (depth + 1) (parts 2 (Some c) (Some m) None) (parts 3 (Some c) (Some m) (Some a)) (primitive 2 0) a (context false 0 (omega arith)) (omega (arith, h)) d (additional_taken a h))
 
 abbrev pub reference_content : Identifier → List ℕ
 reference_content i = element (primitive 0 4) i.calling ++ canon_utc (primitive 0 23) i.common ++ optional (element (primitive 2 0)) i.additional
@@ -152,6 +151,6 @@ reference_again i h at depth class number r d =
     let whole = lent at depth (constructed class number) (reference_content i) r in
     let last = parts (place i.additional) (Some i.calling) (Some i.common) i.additional in
     let taken = one_taken reference_step (depth + 1) no_reference (parts 1 (Some i.calling) None None) last (primitive 0 4) i.calling (canon_utc (primitive 0 23) i.common ++ optional (element (primitive 2 0)) i.additional)
-      (universal false 4 (omega arith)) (omega (arith, h.calling_short)) d (calling_taken i.calling i.common depth h.calling_short h.in_time d) (rest_taken i.calling i.common depth h.calling_short h.in_time d i.additional h.additional_short) in
+    (universal false 4 (omega arith)) (omega (arith, h.calling_short)) d (calling_taken i.calling i.common depth h.calling_short h.in_time d) (rest_taken i.calling i.common depth h.calling_short h.in_time d i.additional h.additional_short) in
     let all = subst (λ bytes. Taken reference_step (depth + 1) no_reference bytes last) (sym (simp append_assoc)) taken in
     ap (λ r. r >>= finished at) (whole_taken reference_step no_reference last whole all)

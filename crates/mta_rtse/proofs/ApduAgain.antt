@@ -1,15 +1,15 @@
 -- What is written of RTORQ, RTOAC, RTORJ and RTAB is read again.
-use Rattle.std.proofs.Common.{◌≡◌, append_assoc, ℕ, zero, suc, ◌+◌, ◌-◌, ◌^◌, ◌≤◌, ◌<◌, Bool, true, false, cond, eqb, List, [], ◌∷◌, ◌++◌, length, Option, Some, None, Result, Ok, Err, refl, sym, ap, subst, ◌∙◌, arith, ℤ, pos}
+use Rattle.std.proofs.Common.{◌≡◌, append_assoc, ℕ, ◌+◌, ◌^◌, ◌≤◌, ◌<◌, Bool, true, false, cond, eqb, List, [], ◌++◌, length, Option, Some, None, Result, Ok, refl, sym, ap, subst, ◌∙◌, arith, pos}
 use Rattle.std.specs.Prelude.{unwrap_or}
 use Rattle.std.proofs.lemmas.Bool.{eqb-true}
 use Rattle.std.proofs.lemmas.List.{length-append}
 use Rattle.mta_ber.specs.declared.fault.Fault.{Fault}
 use Rattle.mta_ber.specs.declared.text.TextClass.TheVariants.{Ia5}
 use Rattle.mta_ber.specs.Head.{◌>>=◌}
-use Rattle.mta_ber.specs.Element.{Part, explicit}
-use Rattle.mta_ber.specs.Parts.{components, required}
+use Rattle.mta_ber.specs.Element.{Part}
+use Rattle.mta_ber.specs.Parts.{required}
 use Rattle.mta_ber.specs.Strings.{IsText}
-use Rattle.mta_ber.specs.Canon.{IsTag, element, primitive, constructed}
+use Rattle.mta_ber.specs.Canon.{element, primitive, constructed}
 use Rattle.mta_ber.specs.Contents.{int_content, canon_int}
 use Rattle.mta_ber.proofs.CanonLaws.{lent}
 use Rattle.mta_ber.proofs.RoundTrip.{element_long, element_short, text_again, Taken, one_taken, last_taken, whole_taken}
@@ -28,9 +28,9 @@ use Rattle.mta_rtse.specs.Bind.{longest_password, password_in, explicit_password
 use Rattle.mta_rtse.specs.Connection.{explicit_open_in, recover_in, connection_in, request_in, answer_of, answer_in}
 use Rattle.mta_rtse.specs.Request.{default_window, rtorq_step, no_request, rtorq_parts_in, rtorq_in}
 use Rattle.mta_rtse.specs.Answer.{rtoac_step, no_answer, rtoac_parts_in, rtoac_in}
-use Rattle.mta_rtse.specs.Reason.{reason_step, no_reason, reason_in, rtorj_in, rtab_in}
+use Rattle.mta_rtse.specs.Reason.{reason_step, reason_in, rtorj_in, rtab_in}
 use Rattle.mta_rtse.specs.Spelling.{request_of}
-use Rattle.mta_rtse.specs.Canon.{canon_reference, canon_bind, canon_null, canon_request_data, canon_answer_data, canon_unless, canon_flag, canon_rtorq, canon_rtoac, canon_reason, HasIdentifier, IsWritableRequest, IsReadAgain}
+use Rattle.mta_rtse.specs.Canon.{canon_reference, canon_bind, canon_null, canon_request_data, canon_answer_data, canon_unless, canon_flag, HasIdentifier, IsWritableRequest, IsReadAgain}
 use Rattle.mta_rtse.proofs.SizeLaws.{reference_short}
 use Rattle.mta_rtse.proofs.AgainLaws.{context, universal, int_fits, number_again, flag_again, word_again, explicit_again, reference_content, reference_again}
 
@@ -66,7 +66,7 @@ password_taken : (name password : List ℕ) → IsText Ia5 0 longest_password pa
 unfolding bind_step explicit_password_in
 password_taken name password h fits depth d at r =
     ap (λ x. x >>= λ o. Ok (bind_parts (Some name) (Some o)))
-      (explicit_again password_in password at depth 1 (primitive 0 22) password r (universal false 22 (omega arith)) (omega (arith, h.at_most)) d (λ at. password_again password h at (depth + 1) [] d))
+    (explicit_again password_in password at depth 1 (primitive 0 22) password r (universal false 22 (omega arith)) (omega (arith, h.at_most)) d (λ at. password_again password h at (depth + 1) [] d))
 
 abbrev bind_finished : ℕ → BindParts → Result Request Fault
 bind_finished at s = required s.name at >>= λ w. required s.password at >>= λ o. Ok (ask.Bind w o)
@@ -80,8 +80,8 @@ bind_again name password h g fits at depth r d =
     let shallow : depth + 1 ≤ 16 = omega arith in
     let deeper : depth + 1 + 1 ≤ 16 = omega arith in
     let taken = one_taken bind_step (depth + 1) no_bind (bind_parts (Some name) None) last (primitive 2 0) name (element (constructed 2 1) (element (primitive 0 22) password)) (context false 0 (omega arith)) (omega (arith, h.at_most)) shallow
-      (name_taken name h (depth + 1) shallow)
-      (last_taken bind_step (depth + 1) (bind_parts (Some name) None) last (constructed 2 1) (element (primitive 0 22) password) (context true 1 (omega arith)) fits shallow (password_taken name password g fits (depth + 1) deeper)) in
+    (name_taken name h (depth + 1) shallow)
+    (last_taken bind_step (depth + 1) (bind_parts (Some name) None) last (constructed 2 1) (element (primitive 0 22) password) (context true 1 (omega arith)) fits shallow (password_taken name password g fits (depth + 1) deeper)) in
     ap (λ r. r >>= bind_finished at) (whole_taken bind_step no_bind last whole taken)
 
 null_again : (at depth : ℕ) (r : List ℕ) → open_in (lent at depth (primitive 0 5) [] r) ≡ Ok ask.Null
@@ -108,7 +108,7 @@ null_data_again : (at depth number : ℕ) (r : List ℕ) → depth + 4 ≤ 16 �
 unfolding request_in connection_in explicit_open_in canon_null
 null_data_again at depth number r d =
     explicit_again connection_in ask.Null at depth number (constructed 2 0) (element (primitive 0 5) []) r (context true 0 (omega arith)) (omega (arith, element_short (primitive 0 5) [])) (omega arith)
-      (λ at. explicit_again open_in ask.Null at (depth + 1) 0 (primitive 0 5) [] [] (universal false 5 (omega arith)) (omega arith) (omega arith) (λ at. null_again at (depth + 1 + 1) []))
+    (λ at. explicit_again open_in ask.Null at (depth + 1) 0 (primitive 0 5) [] [] (universal false 5 (omega arith)) (omega arith) (omega arith) (λ at. null_again at (depth + 1 + 1) []))
 
 bind_data_again : (name password : List ℕ) → IsText Ia5 1 32 name → IsText Ia5 0 longest_password password → (at depth number : ℕ) (r : List ℕ) → depth + 4 ≤ 16
     → request_in (lent at depth (constructed 2 number) (canon_bind name password) r) ≡ Ok (ask.Bind name password)
@@ -118,8 +118,8 @@ bind_data_again name password h g at depth number r d =
     let set = element (constructed 2 1) content in
     let s = small name password h.at_most g.at_most in
     explicit_again connection_in (ask.Bind name password) at depth number (constructed 2 0) set r (context true 0 (omega arith)) (omega (arith, s.set)) (omega arith)
-      (λ at. explicit_again open_in (ask.Bind name password) at (depth + 1) 0 (constructed 2 1) content [] (context true 1 (omega arith)) (omega (arith, s.content)) (omega arith)
-        (λ at. bind_again name password h g (omega (arith, s.word)) at (depth + 1 + 1) [] (omega arith)))
+    (λ at. explicit_again open_in (ask.Bind name password) at (depth + 1) 0 (constructed 2 1) content [] (context true 1 (omega arith)) (omega (arith, s.content)) (omega arith)
+    (λ at. bind_again name password h g (omega (arith, s.word)) at (depth + 1 + 1) [] (omega arith)))
 
 recover_data_again : (i : Identifier) → IsIdentifier i → (at depth number : ℕ) (r : List ℕ) → depth + 4 ≤ 16 → request_in (lent at depth (constructed 2 number) (canon_reference (constructed 2 1) i) r) ≡ Ok (ask.Recover i)
 unfolding request_in connection_in recover_in canon_reference
@@ -127,7 +127,7 @@ recover_data_again i h at depth number r d =
     let content = reference_content i in
     let long = reference_short (constructed 2 1) i h in
     explicit_again connection_in (ask.Recover i) at depth number (constructed 2 1) content r (context true 1 (omega arith)) (omega (arith, long, element_long (constructed 2 1) content)) (omega arith)
-      (λ at. ap (λ r. r >>= λ r. Ok (ask.Recover r)) (reference_again i h at (depth + 1) 2 1 [] (omega arith)))
+    (λ at. ap (λ r. r >>= λ r. Ok (ask.Recover r)) (reference_again i h at (depth + 1) 2 1 [] (omega arith)))
 
 pub request_data_again : (q : Request) → IsReadAgain q → (at depth number : ℕ) (r : List ℕ) → depth + 4 ≤ 16 → request_in (lent at depth (constructed 2 number) (canon_request_data q) r) ≡ Ok q
 request_data_again ask.Null h at depth number r d = null_data_again at depth number r d
@@ -217,10 +217,10 @@ module _ (c w : ℕ) (b : Bool) (q : Request) (small_c : c < 2 ^ 32) (small_w : 
   request_taken : Taken rtorq_step 2 no_request (canon_unless 0 0 c ++ (canon_unless default_window 1 w ++ (canon_flag 2 b ++ element (constructed 2 3) (canon_request_data q)))) last_request
   request_taken =
       unless_taken rtorq_step 2 (omega arith) (λ o. request_parts o None None None) last_request 0 0 c (canon_unless default_window 1 w ++ (canon_flag 2 b ++ element (constructed 2 3) (canon_request_data q))) (omega arith) first_taken
-        (unless_taken rtorq_step 2 (omega arith) (λ o. request_parts (given 0 c) o None None) last_request default_window 1 w (canon_flag 2 b ++ element (constructed 2 3) (canon_request_data q)) (omega arith) (second_taken (given 0 c))
-          (flag_taken rtorq_step 2 (omega arith) (λ o. request_parts (given 0 c) (given default_window w) o None) last_request b (element (constructed 2 3) (canon_request_data q)) (third_taken (given 0 c) (given default_window w))
-            (last_taken rtorq_step 2 (request_parts (given 0 c) (given default_window w) (flagged b) None) last_request (constructed 2 3) (canon_request_data q) (context true 3 (omega arith)) fits (omega arith)
-              (fourth_taken (given 0 c) (given default_window w) (flagged b)))))
+      (unless_taken rtorq_step 2 (omega arith) (λ o. request_parts (given 0 c) o None None) last_request default_window 1 w (canon_flag 2 b ++ element (constructed 2 3) (canon_request_data q)) (omega arith) (second_taken (given 0 c))
+      (flag_taken rtorq_step 2 (omega arith) (λ o. request_parts (given 0 c) (given default_window w) o None) last_request b (element (constructed 2 3) (canon_request_data q)) (third_taken (given 0 c) (given default_window w))
+      (last_taken rtorq_step 2 (request_parts (given 0 c) (given default_window w) (flagged b) None) last_request (constructed 2 3) (canon_request_data q) (context true 3 (omega arith)) fits (omega arith)
+      (fourth_taken (given 0 c) (given default_window w) (flagged b)))))
 
 abbrev pub open_request : ℕ → ℕ → Bool → Request → OpenRequest
 open_request checkpoint window twa r = record { checkpoint = checkpoint; window = window; twa = twa; request = r }
@@ -276,8 +276,8 @@ module _ (c w : ℕ) (a : Answer) (small_c : c < 2 ^ 32) (small_w : w < 2 ^ 32) 
   answers_taken : Taken rtoac_step 2 no_answer (canon_unless 0 0 c ++ (canon_unless default_window 1 w ++ element (constructed 2 2) (canon_answer_data a))) last_answer
   answers_taken =
       unless_taken rtoac_step 2 (omega arith) (λ o. answer_parts o None None) last_answer 0 0 c (canon_unless default_window 1 w ++ element (constructed 2 2) (canon_answer_data a)) (omega arith) checkpoint_taken
-        (unless_taken rtoac_step 2 (omega arith) (λ o. answer_parts (given 0 c) o None) last_answer default_window 1 w (element (constructed 2 2) (canon_answer_data a)) (omega arith) (window_taken (given 0 c))
-          (last_taken rtoac_step 2 (answer_parts (given 0 c) (given default_window w) None) last_answer (constructed 2 2) (canon_answer_data a) (context true 2 (omega arith)) fits (omega arith) (answer_taken (given 0 c) (given default_window w))))
+      (unless_taken rtoac_step 2 (omega arith) (λ o. answer_parts (given 0 c) o None) last_answer default_window 1 w (element (constructed 2 2) (canon_answer_data a)) (omega arith) (window_taken (given 0 c))
+      (last_taken rtoac_step 2 (answer_parts (given 0 c) (given default_window w) None) last_answer (constructed 2 2) (canon_answer_data a) (context true 2 (omega arith)) fits (omega arith) (answer_taken (given 0 c) (given default_window w))))
 
 pub rtoac_again : (c w : ℕ) (a : Answer) → c < 2 ^ 32 → w < 2 ^ 32 → IsReadAgain (request_of a) → length (canon_answer_data a) < 2 ^ 64 → (at : ℕ) (r : List ℕ) → rtoac_in (lent at 1 (constructed 2 17) (answer_content c w a) r) ≡ Ok (open_answer c w a)
 unfolding rtoac_in rtoac_parts_in
