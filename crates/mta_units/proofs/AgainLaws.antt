@@ -1,6 +1,6 @@
 -- A unit that is written is read again, whatever follows it.
-use Rattle.std.proofs.Common.{◌≡◌, append_assoc, ℕ, zero, suc, ◌+◌, ◌-◌, ◌*◌, ◌/◌, ◌%◌, ◌^◌, ◌≤◌, ◌<◌, Bool, true, false, cond, ltb, List, [], ◌∷◌, ◌++◌, length, Result, Ok, Err, refl, sym, ap, subst, ◌∙◌, arith, pos}
-use Rattle.std.specs.Int.{w32, w64, to_be_bytes}
+use Rattle.std.proofs.Common.{◌≡◌, append_assoc, ℕ, ◌+◌, ◌/◌, ◌%◌, ◌^◌, ◌≤◌, ◌<◌, Bool, true, false, cond, ltb, List, [], ◌∷◌, ◌++◌, length, Result, Ok, refl, sym, ap, ◌∙◌, arith, pos}
+use Rattle.std.specs.Int.{w64, to_be_bytes}
 use Rattle.std.proofs.lemmas.List.{append-nil, length-append}
 use Rattle.mta_ber.specs.declared.fault.Fault.{Fault}
 use Rattle.mta_ber.specs.declared.tag.Tag.{Tag}
@@ -25,10 +25,9 @@ use Rattle.mta_ber.specs.Strings.{IsText}
 use Rattle.mta_units.specs.declared.unit.Unit.{Unit as AnyUnit}
 use Rattle.mta_units.specs.declared.unit.Unit.TheVariants as unit
 use Rattle.mta_units.specs.declared.unit.OpenUnit.{OpenUnit}
-use Rattle.mta_units.specs.Kind.{kind_number}
 use Rattle.mta_units.specs.Front.{longest_body}
 use Rattle.mta_units.specs.Body.{only_in, ended, rttr_in, rttp_in, name_in, tagged_reference_in, open_in, accept_in, reject_in, piece_in, please_in, abort_in, other_in, fixed_in, body_in}
-use Rattle.mta_units.specs.Look.{Look, Reads, with_body, look_behind, look}
+use Rattle.mta_units.specs.Look.{with_body, look_behind, look}
 use Rattle.mta_units.specs.Canon.{kind_of, number_octets, open_octets, body_octets, unit_octets, IsUnit, IsOpenUnit, longest_piece}
 use Rattle.mta_units.specs.Reading.{UnitsAreReadAgain}
 use Rattle.mta_units.specs.Spelling.{framed}

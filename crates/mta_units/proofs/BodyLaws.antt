@@ -1,18 +1,17 @@
 -- A body is read as a unit exactly where it is spelled.
-use Rattle.std.proofs.Common.{◌≡◌, ℕ, zero, suc, ◌+◌, ◌*◌, ◌^◌, ◌≤◌, ◌<◌, Bool, true, false, cond, ltb, List, [], ◌∷◌, ◌++◌, length, get_or, Option, Result, Ok, Err, refl, sym, ap, subst, ◌∙◌, arith}
+use Rattle.std.proofs.Common.{◌≡◌, ℕ, ◌^◌, ◌≤◌, ◌<◌, Bool, false, cond, ltb, List, [], ◌∷◌, ◌++◌, length, Result, Ok, refl, sym, ap, subst, ◌∙◌, arith}
 use Rattle.std.specs.Prelude.{◌||◌}
-use Rattle.std.specs.Int.{w32, to_be_bytes, from_be_bytes}
+use Rattle.std.specs.Int.{w32, from_be_bytes}
 use Rattle.std.proofs.lemmas.Nat.{be_bytes_4, from_be_bytes-to_be_bytes_4}
 use Rattle.std.proofs.lemmas.Bool.{ltb-false, le-ltb}
-use Rattle.std.proofs.lemmas.List.{append-nil}
 use Rattle.mta_ber.specs.declared.fault.Fault.{Fault}
-use Rattle.mta_ber.specs.declared.fault.Kind.TheVariants.{BadTag, BadSize, Trailing}
+use Rattle.mta_ber.specs.declared.fault.Kind.TheVariants.{BadTag, Trailing}
 use Rattle.mta_ber.specs.Head.{◌>>=◌, fault}
 use Rattle.mta_ber.specs.Octet.{IsOctets}
 use Rattle.mta_ber.specs.Element.{Part, first, outermost}
 use Rattle.mta_ber.specs.Parts.{is_tag}
 use Rattle.mta_ber.specs.Strings.{joined, is_empty, own_number}
-use Rattle.mta_ber.specs.Spelling.{Stands, ending_of}
+use Rattle.mta_ber.specs.Spelling.{ending_of}
 use Rattle.mta_ber.specs.Explicit.{Spells}
 use Rattle.mta_ber.proofs.HeadLaws.{or_false}
 use Rattle.mta_ber.proofs.Steps.{bind_ok, ok_is, taken, passed}
@@ -21,17 +20,13 @@ use Rattle.mta_ber.proofs.StringLaws.{IsBytes-front, joined_sound, joined_full}
 use Rattle.mta_ber.proofs.ExplicitLaws.{ReadSound, ReadFull}
 use Rattle.mta_rtse.specs.Values as values
 use Rattle.mta_rtse.specs.Identifier.{reference_in}
-use Rattle.mta_rtse.specs.Request.{rtorq_in}
-use Rattle.mta_rtse.specs.Answer.{rtoac_in}
-use Rattle.mta_rtse.specs.Reason.{rtorj_in, rtab_in}
-use Rattle.mta_rtse.specs.Spelling.{SpellsNumber, SpellsWord, SpellsReference, SpellsRtorq, SpellsRtoac, SpellsRtorj, SpellsRtab}
-use Rattle.mta_rtse.proofs.Slots.{pick, pass}
+use Rattle.mta_rtse.specs.Spelling.{SpellsNumber, SpellsWord, SpellsReference}
+use Rattle.mta_rtse.proofs.Slots.{pass}
 use Rattle.mta_rtse.proofs.ValueLaws.{number_sound, number_full, word_sound, word_full}
 use Rattle.mta_rtse.proofs.ReferenceLaws.{reference_sound, reference_full}
-use Rattle.mta_rtse.proofs.ApduLaws.{rtorq_sound, rtorq_full, rtoac_sound, rtoac_full, rtorj_sound, rtorj_full, rtab_sound, rtab_full}
-use Rattle.mta_units.specs.Fixed.{number_in, pair_in, exception_in, nothing_in, bad_size}
+use Rattle.mta_units.specs.Fixed.{number_in, pair_in, exception_in, nothing_in}
 use Rattle.mta_units.specs.Body.{tagged, ended, only_in, rttr_in, rttp_in, name_in, tagged_reference_in}
-use Rattle.mta_units.specs.Canon.{number_octets, IsFaultNumber}
+use Rattle.mta_units.specs.Canon.{number_octets}
 use Rattle.mta_units.specs.Spelling.{SpellsFirst, SpellsOnly, Tagged, SpellsString, SpellsRttr, SpellsRttp, IsNumber, IsPair, IsException}
 
 -- ---- elements

@@ -1,5 +1,5 @@
 -- What a whole body at the front says of the octets.
-use Rattle.std.proofs.Common.{◌≡◌, append_assoc, ℕ, zero, suc, ◌+◌, ◌-◌, ◌≤◌, ◌<◌, Bool, true, false, cond, eqb, ltb, List, [], ◌∷◌, ◌++◌, length, take, drop, Option, Some, None, refl, sym, ap, subst, ◌∙◌, arith}
+use Rattle.std.proofs.Common.{◌≡◌, append_assoc, ℕ, ◌+◌, ◌-◌, ◌≤◌, Bool, true, false, cond, eqb, ltb, List, [], ◌∷◌, ◌++◌, length, take, drop, Option, Some, None, refl, sym, ap, subst, ◌∙◌, arith}
 use Rattle.std.specs.Prelude.{find}
 use Rattle.std.proofs.lemmas.Bool.{ltb-false, eqb-true}
 use Rattle.std.proofs.lemmas.List.{length-append, length-take, take-append-drop}
@@ -7,7 +7,7 @@ use Rattle.std.specs.Int.{w32, from_be_bytes}
 use Rattle.mta_units.specs.declared.front.BadUnit.TheVariants as bad
 use Rattle.mta_units.specs.declared.kind.UnitKind.{UnitKind}
 use Rattle.mta_units.specs.Kind.{kind_number, all_kinds, kind_at}
-use Rattle.mta_units.specs.Front.{Front, Cut, Faulty, Whole, front, sized, kinded, listed, longest_body}
+use Rattle.mta_units.specs.Front.{Cut, Faulty, Whole, front, sized, kinded, listed, longest_body}
 
 -- what is found passes the test
 found_passes : {A : Type 0} (test : A → Bool) (xs : List A) (x : A) → find test xs ≡ Some x → test x ≡ true

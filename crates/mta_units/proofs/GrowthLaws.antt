@@ -10,9 +10,9 @@ use Rattle.mta_units.specs.declared.front.BadUnit.TheVariants as bad
 use Rattle.mta_units.specs.declared.kind.UnitKind.{UnitKind}
 use Rattle.mta_units.specs.declared.unit.Unit.{Unit as AnyUnit}
 use Rattle.mta_units.specs.Kind.{kind_at}
-use Rattle.mta_units.specs.Front.{Front, Cut, Faulty, Whole, front, sized, kinded, listed, longest_body}
+use Rattle.mta_units.specs.Front.{Front, Cut, Faulty, Whole, front, kinded, listed, longest_body}
 use Rattle.mta_units.specs.Body.{body_in}
-use Rattle.mta_units.specs.Look.{Look, Nothing, Fails, Reads, with_body, look_behind, look, KeepsFault}
+use Rattle.mta_units.specs.Look.{Nothing, Fails, with_body, look_behind, look, KeepsFault}
 use Rattle.mta_units.specs.Feed.{Holds}
 
 abbrev grown : Front → List ℕ → Front

@@ -1,12 +1,11 @@
 -- What is seen at the front of a stream is what stands there, and the other way round.
-use Rattle.std.proofs.Common.{◌≡◌, append_assoc, ℕ, zero, suc, ◌+◌, ◌^◌, ◌≤◌, ◌<◌, ◌⊎◌, Bool, true, false, cond, ltb, List, [], ◌∷◌, ◌++◌, length, take, drop, Option, Some, None, Result, Ok, Err, refl, sym, ap, subst, ◌∙◌, inl, inr, arith}
-use Rattle.std.specs.Int.{w32, to_be_bytes, from_be_bytes}
+use Rattle.std.proofs.Common.{◌≡◌, append_assoc, ℕ, ◌^◌, ◌≤◌, ◌<◌, ◌⊎◌, Bool, true, false, cond, ltb, List, [], ◌∷◌, ◌++◌, length, take, drop, Option, Some, None, Result, Ok, Err, refl, sym, ap, subst, ◌∙◌, inl, inr, arith}
+use Rattle.std.specs.Int.{w32, from_be_bytes}
 use Rattle.std.proofs.lemmas.Nat.{from_be_bytes-to_be_bytes_4}
 use Rattle.std.proofs.lemmas.Bool.{ltb-true, ltb-false, lt-ltb, le-ltb}
 use Rattle.std.proofs.lemmas.List.{append-nil, length-append, length-take, take-append-drop}
 use Rattle.mta_ber.specs.declared.fault.Fault.{Fault}
 use Rattle.mta_ber.specs.Octet.{IsOctets}
-use Rattle.mta_ber.proofs.Steps.{ok_is}
 use Rattle.mta_ber.proofs.RowLaws.{IsBytes-back}
 use Rattle.mta_ber.proofs.StringLaws.{IsBytes-front}
 use Rattle.mta_units.specs.declared.front.BadUnit.{BadUnit}
@@ -19,7 +18,7 @@ use Rattle.mta_units.specs.Front.{Front, Cut, Faulty, Whole, front, sized, kinde
 use Rattle.mta_units.specs.Body.{body_in}
 use Rattle.mta_units.specs.Look.{Look, Nothing, Fails, Reads, with_body, look_behind, look}
 use Rattle.mta_units.specs.Canon.{kind_of, number_octets}
-use Rattle.mta_units.specs.Spelling.{SpellsBody, framed, SpellsUnit, HasLongBody, HasNoKind, HasNoUnit, HasFault, IsCutBody, IsCutOff}
+use Rattle.mta_units.specs.Spelling.{SpellsBody, framed, SpellsUnit, HasLongBody, HasNoKind, HasFault, IsCutOff}
 use Rattle.mta_units.proofs.FrontLaws.{kind_so}
 use Rattle.mta_units.proofs.BodyLaws.{four}
 use Rattle.mta_units.proofs.UnitLaws.{body_sound, body_full}

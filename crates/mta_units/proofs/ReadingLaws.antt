@@ -1,5 +1,5 @@
 -- What is answered continues the one reading of a stream.
-use Rattle.std.proofs.Common.{◌≡◌, append_assoc, ℕ, zero, suc, ◌+◌, ◌-◌, ◌≤◌, ◌<◌, ◌⊎◌, List, [], ◌∷◌, ◌++◌, length, Option, Some, None, Result, Ok, Err, refl, sym, ap, subst, ◌∙◌, inl, inr, arith}
+use Rattle.std.proofs.Common.{◌≡◌, append_assoc, ℕ, List, [], ◌∷◌, ◌++◌, length, Option, Some, None, Result, Ok, Err, refl, sym, ap, subst, ◌∙◌, inl, inr, arith}
 use Rattle.std.specs.Prelude.{IfOk}
 use Rattle.std.proofs.lemmas.List.{append-nil, length-append}
 use Rattle.mta_ber.specs.Octet.{IsOctets}
@@ -10,9 +10,9 @@ use Rattle.mta_units.specs.declared.next.Next.{Next}
 use Rattle.mta_units.specs.declared.next.Next.TheVariants as next
 use Rattle.mta_units.specs.Look.{Look, Nothing, Fails, Reads, look, KeepsFault}
 use Rattle.mta_units.specs.Spelling.{SpellsUnit, SpellsUnits, HasFault, IsCutOff}
-use Rattle.mta_units.specs.Feed.{Feed, no_feed, fed, seen_by, seen, answered, after, Goes}
-use Rattle.mta_units.specs.Reading.{HasRead, and_next, Says, BeginsNone, IsReading, StreamsHaveOneReading}
-use Rattle.mta_units.proofs.LookLaws.{BeginsWith, Sees, look_sound, cut_seen, fault_seen, unit_seen}
+use Rattle.mta_units.specs.Feed.{Feed, no_feed, fed, seen_by, answered, after, Goes}
+use Rattle.mta_units.specs.Reading.{HasRead, and_next, Says, BeginsNone, StreamsHaveOneReading}
+use Rattle.mta_units.proofs.LookLaws.{Sees, look_sound, cut_seen, fault_seen, unit_seen}
 
 -- a unit behind units
 units_more : (us : List AnyUnit) (front : List ℕ) (u : AnyUnit) (first : List ℕ) → SpellsUnits us front → SpellsUnit u first → SpellsUnits (us ++ u ∷ []) (front ++ first)

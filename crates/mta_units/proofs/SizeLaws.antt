@@ -1,7 +1,6 @@
 -- How long the body of a unit is at most that can be written.
-use Rattle.std.proofs.Common.{◌≡◌, ℕ, ◌+◌, ◌≤◌, List, [], ◌∷◌, ◌++◌, length, refl, arith, pos}
+use Rattle.std.proofs.Common.{◌≤◌, ◌++◌, length, arith, pos}
 use Rattle.std.proofs.lemmas.List.{length-append}
-use Rattle.std.specs.Int.{w32, to_be_bytes}
 use Rattle.mta_ber.specs.Canon.{element, primitive, constructed}
 use Rattle.mta_ber.proofs.RoundTrip.{element_short}
 use Rattle.mta_rtse.specs.Canon.{canon_reference, canon_rtorq}
@@ -9,7 +8,7 @@ use Rattle.mta_rtse.proofs.SizeLaws.{int_short, reference_short, rtorq_short, rt
 use Rattle.mta_units.specs.declared.unit.Unit.{Unit as AnyUnit}
 use Rattle.mta_units.specs.declared.unit.Unit.TheVariants as unit
 use Rattle.mta_units.specs.declared.unit.OpenUnit.{OpenUnit}
-use Rattle.mta_units.specs.Canon.{number_octets, open_octets, body_octets, IsWritable, IsWritableOpen, HasReferences, HoldsReferences}
+use Rattle.mta_units.specs.Canon.{open_octets, body_octets, IsWritable, IsWritableOpen, HasReferences, HoldsReferences}
 
 pub open_short : (o : OpenUnit) → IsWritableOpen o → HoldsReferences o → length (open_octets o) ≤ 4374
 unfolding open_octets

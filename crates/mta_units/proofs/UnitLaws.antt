@@ -1,12 +1,11 @@
 -- The body of a kind is read as a unit exactly where it is spelled.
-use Rattle.std.proofs.Common.{◌≡◌, ℕ, List, [], Result, Ok, Err, refl, sym, ap, subst, ◌∙◌}
+use Rattle.std.proofs.Common.{◌≡◌, ℕ, List, Result, Ok, refl, ap, subst, ◌∙◌}
 use Rattle.mta_ber.specs.declared.fault.Fault.{Fault}
 use Rattle.mta_ber.specs.Head.{◌>>=◌}
 use Rattle.mta_ber.specs.Octet.{IsOctets}
 use Rattle.mta_ber.specs.Element.{Part, first}
 use Rattle.mta_ber.proofs.Steps.{bind_ok, ok_is}
 use Rattle.mta_records.specs.Reference.{Identifier}
-use Rattle.mta_rtse.specs.declared.types.OpenRequest.{OpenRequest}
 use Rattle.mta_rtse.specs.declared.types.OpenAnswer.{OpenAnswer}
 use Rattle.mta_rtse.specs.Request.{rtorq_in}
 use Rattle.mta_rtse.specs.Answer.{rtoac_in}
@@ -21,7 +20,7 @@ use Rattle.mta_units.specs.declared.unit.OpenUnit.{OpenUnit}
 use Rattle.mta_units.specs.Fixed.{number_in, pair_in, exception_in, nothing_in}
 use Rattle.mta_units.specs.Body.{only_in, rttr_in, rttp_in, name_in, tagged_reference_in, open_in, accept_in, reject_in, piece_in, please_in, abort_in, other_in, fixed_in, body_in}
 use Rattle.mta_units.specs.Canon.{kind_of}
-use Rattle.mta_units.specs.Spelling.{SpellsFirst, Tagged, SpellsOpen, SpellsRttr, SpellsRttp, SpellsBody, request_part}
+use Rattle.mta_units.specs.Spelling.{Tagged, SpellsOpen, SpellsRttr, SpellsRttp, SpellsBody, request_part}
 use Rattle.mta_units.proofs.BodyLaws.{first_read, only_sound, read_first, only_full, rttr_sound, rttr_full, rttp_sound, rttp_full, name_sound, name_full, tagged_reference_sound, tagged_reference_full, number_so, number_again, pair_so, pair_again, exception_so, exception_again, nothing_so}
 
 -- a unit of a kind with this body

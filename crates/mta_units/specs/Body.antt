@@ -1,5 +1,5 @@
 -- What the bodies of units say, by their kinds.
-use Rattle.std.specs.Prelude.{◌≡◌, ℕ, Bool, List, Result, Ok, Err, if◌then◌else◌}
+use Rattle.std.specs.Prelude.{ℕ, List, Result, Ok, Err, if◌then◌else◌}
 use Rattle.mta_ber.specs.declared.fault.Fault.{Fault}
 use Rattle.mta_ber.specs.declared.fault.Kind.TheVariants.{BadTag, Trailing}
 use Rattle.mta_ber.specs.declared.fault.ReadFault.{ReadFault}
@@ -18,7 +18,6 @@ use Rattle.mta_units.specs.declared.kind.UnitKind.{UnitKind}
 use Rattle.mta_units.specs.declared.kind.UnitKind.TheVariants as kind
 use Rattle.mta_units.specs.declared.unit.Unit.{Unit as AnyUnit}
 use Rattle.mta_units.specs.declared.unit.Unit.TheVariants as unit
-use Rattle.mta_units.specs.declared.unit.OpenUnit.{OpenUnit}
 use Rattle.mta_units.specs.Fixed.{number_in, pair_in, exception_in, nothing_in, bad_size}
 
 abbrev pub tagged : ℕ → ℕ → Part → Result (Unit {0}) Fault

@@ -1,5 +1,5 @@
 -- The octets that are written of a unit.
-use Rattle.std.specs.Prelude.{◌≡◌, ℕ, pos, ◌^◌, ◌<◌, ◌≤◌, List, [], ◌∷◌, ◌++◌, length}
+use Rattle.std.specs.Prelude.{ℕ, pos, ◌^◌, ◌<◌, ◌≤◌, List, [], ◌∷◌, ◌++◌, length}
 use Rattle.std.specs.Int.{w32, to_be_bytes}
 use Rattle.mta_ber.specs.Canon.{element, primitive, constructed}
 use Rattle.mta_ber.specs.declared.text.TextClass.TheVariants.{Ia5}

@@ -1,7 +1,6 @@
 -- A stream that is fed in pieces, as far as it was taken.
 use Rattle.std.specs.Prelude.{◌≡◌, ℕ, ◌+◌, ◌-◌, ◌^◌, ◌<◌, ◌≤◌, List, [], ◌++◌, length, drop, Option, Some, None}
 use Rattle.mta_units.specs.declared.front.BadUnit.{BadUnit}
-use Rattle.mta_units.specs.declared.unit.Unit.{Unit as AnyUnit}
 use Rattle.mta_units.specs.declared.next.Next.{Next}
 use Rattle.mta_units.specs.declared.next.Next.TheVariants as next
 use Rattle.mta_ber.specs.Octet.{IsOctets}

@@ -1,5 +1,5 @@
 -- Bodies of one size.
-use Rattle.std.specs.Prelude.{ℕ, Bool, List, [], ◌∷◌, Result, Ok, nat_lt, if◌then◌else◌, ◌||◌}
+use Rattle.std.specs.Prelude.{ℕ, List, [], ◌∷◌, Result, Ok, nat_lt, if◌then◌else◌, ◌||◌}
 use Rattle.std.specs.Int.{w32, from_be_bytes}
 use Rattle.mta_ber.specs.declared.fault.Fault.{Fault}
 use Rattle.mta_ber.specs.declared.fault.Kind.TheVariants.{BadSize}

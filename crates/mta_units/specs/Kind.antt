@@ -1,5 +1,5 @@
 -- The kinds of units, and their kind octets.
-use Rattle.std.specs.Prelude.{ℕ, Bool, true, false, List, [], ◌∷◌, Option, Some, None, find, ◌==◌}
+use Rattle.std.specs.Prelude.{ℕ, Bool, true, false, List, [], ◌∷◌, Option, find, ◌==◌}
 use Rattle.mta_units.specs.declared.kind.UnitKind.{UnitKind}
 use Rattle.mta_units.specs.declared.kind.UnitKind.TheVariants as kind
 

@@ -1,7 +1,6 @@
 -- The unit at the front of a stream.
-use Rattle.std.specs.Prelude.{◌≡◌, ℕ, ◌+◌, ◌-◌, ◌≤◌, List, length, drop, Option, Some, None, Result, Ok, Err}
+use Rattle.std.specs.Prelude.{◌≡◌, ℕ, ◌≤◌, List, length, drop, Option, Some, None, Result, Ok, Err}
 use Rattle.mta_ber.specs.declared.fault.Fault.{Fault}
-use Rattle.mta_ber.specs.declared.memory.Memory.{Memory}
 use Rattle.mta_units.specs.declared.front.BadUnit.{BadUnit}
 use Rattle.mta_units.specs.declared.front.BadUnit.TheVariants as bad
 use Rattle.mta_units.specs.declared.look.Look.{Look as Found}

@@ -1,5 +1,5 @@
 -- The one reading of a stream: the longest list of whole units at its front, and what follows it.
-use Rattle.std.specs.Prelude.{◌≡◌, ℕ, ◌⊎◌, List, [], ◌∷◌, ◌++◌, length, Option, Some, None}
+use Rattle.std.specs.Prelude.{◌≡◌, ℕ, ◌⊎◌, List, [], ◌∷◌, ◌++◌, length}
 use Rattle.mta_ber.specs.Octet.{IsOctets}
 use Rattle.mta_units.specs.declared.front.BadUnit.{BadUnit}
 use Rattle.mta_units.specs.declared.unit.Unit.{Unit as AnyUnit}
@@ -7,7 +7,7 @@ use Rattle.mta_units.specs.declared.next.Next.{Next}
 use Rattle.mta_units.specs.declared.next.Next.TheVariants as next
 use Rattle.mta_units.specs.Canon.{unit_octets, IsUnit}
 use Rattle.mta_units.specs.Look.{Reads, look}
-use Rattle.mta_units.specs.Spelling.{SpellsUnit, SpellsUnits, HasFault, IsCutOff}
+use Rattle.mta_units.specs.Spelling.{SpellsUnits, HasFault, IsCutOff}
 use Rattle.mta_units.specs.Feed.{Feed}
 
 -- the units that were answered, with what was not taken, are all that was fed

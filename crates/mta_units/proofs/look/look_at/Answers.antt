@@ -1,7 +1,7 @@
 -- A whole body fits the octets, and what follows it is their end.
-use Rattle.std.proofs.Common.{◌≡◌, ◌<◌, ◌-◌, List, ℕ, length, drop, ap, ◌∙◌, arith}
+use Rattle.std.proofs.Common.{List, ℕ, ap, ◌∙◌, arith}
 use Rattle.mta_units.specs.Look.{look, look_behind, with_body, Reads}
-use Rattle.mta_units.proofs.FrontLaws.{IsEnd, whole_end}
+use Rattle.mta_units.proofs.FrontLaws.{whole_end}
 use Rattle.mta_units.proofs.look.look_at.Goals as goal
 
 pub read_body-requires : goal.read_body-requires

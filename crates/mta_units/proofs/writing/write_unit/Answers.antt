@@ -1,5 +1,5 @@
 -- What is written is short enough that its length has four octets.
-use Rattle.std.proofs.Common.{◌≡◌, ◌<◌, ◌++◌, ◌∷◌, [], List, ℕ, length, ap, ◌∙◌, arith}
+use Rattle.std.proofs.Common.{◌≡◌, ◌++◌, ◌∷◌, [], List, ℕ, length, ap, ◌∙◌, arith}
 use Rattle.std.proofs.lemmas.List.{length-append}
 use Rattle.mta_ber.specs.Canon.{Written}
 use Rattle.mta_units.specs.Canon.{body_octets}

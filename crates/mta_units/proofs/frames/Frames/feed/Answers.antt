@@ -1,5 +1,5 @@
 -- What is left grows by the piece, and a fault that was kept stays.
-use Rattle.std.proofs.Common.{ℕ, ◌+◌, ◌^◌, ◌<◌, length, sym, subst, arith}
+use Rattle.std.proofs.Common.{◌+◌, ◌^◌, ◌<◌, length, sym, subst, arith}
 use Rattle.mta_units.specs.Feed.{Feed}
 use Rattle.mta_units.proofs.GrowthLaws.{feed_holds}
 use Rattle.mta_units.proofs.frames.Frames.feed.Goals as goal
