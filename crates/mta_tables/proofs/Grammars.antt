@@ -479,3 +479,21 @@ pub read_refused : (text : List ℕ) (r : Result TablesValue TablesFault) → Re
 read_refused text (Ok t) h line kind f = not_good (record { line = line; kind = kind }) t (sym (bad_read text line kind f) ∙ h)
 read_refused text (Err (Faults.BadLine n why)) h line kind f = same_bad n line why kind (sym h ∙ bad_read text line kind f)
 read_refused text (Err Faults.Memory) h line kind f = tt
+
+-- ---- no text goes on with a wrong line
+
+pub wrong_ends : (before : List Row) (line more : List ℕ) (kind : LineKind) (t : TablesValue) → All IsRow before → CanStand (said_by before) → IsOneLine line → IsWrong (said_by before) line kind
+    → IsTablesText (text_of before ++ (line ++ 10 ∷ more)) t → ⊥
+wrong_ends before line more kind t rows st one w h =
+    let text = text_of before ++ (line ++ 10 ∷ more) in
+    let b : IsBadLine text (suc (length before)) kind = record {
+      fits = h.fits;
+      before = before;
+      are_rows = rows;
+      stand = st;
+      rest = line ++ 10 ∷ more;
+      text_is = refl;
+      number_is = refl;
+      fault = inl (record { line = line; more = more; one_line = one; rest_is = refl; wrong = w });
+    } in
+    not_good (record { line = suc (length before); kind = kind }) t (sym (bad_line_read text (suc (length before)) kind b) ∙ tables_read text t h)
