@@ -379,7 +379,7 @@ row_goes said number d row text r h st =
 the_same : (n : ℕ) → n ≡ n + 0
 the_same n = omega arith
 
-rows_go : (rows : List Row) (said : List Line) (number : ℕ) (d : Draft) (rest : List ℕ) → All IsRow rows → Holds said d → CanStand (said ++ said_by rows) → Goes said number d rows rest
+pub rows_go : (rows : List Row) (said : List Line) (number : ℕ) (d : Draft) (rest : List ℕ) → All IsRow rows → Holds said d → CanStand (said ++ said_by rows) → Goes said number d rows rest
 rows_go [] said number d rest a h st = record {
   after = d;
   holds = subst (λ s. Holds s d) (sym (append-nil said)) h;

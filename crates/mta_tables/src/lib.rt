@@ -17,7 +17,8 @@ mod tests;
 pub use domain::Domain;
 pub use fault::{LineKind, TablesFault};
 pub use laws::{
-    first_bad_line_is_refused, no_text_goes_on_with_a_wrong_line, tables_of_a_text_are_read,
+    a_text_goes_on_behind_lines_that_can_stand, first_bad_line_is_refused,
+    no_text_goes_on_with_a_wrong_line, tables_of_a_text_are_read,
 };
 pub use mailbox::{Hop, Mailbox};
 pub use tables::Tables;
