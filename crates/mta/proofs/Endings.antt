@@ -19,7 +19,7 @@ use Rattle.mta.specs.declared.words.Words.{Words}
 use Rattle.mta.specs.declared.words.Words.TheVariants as Say
 use Rattle.mta.specs.Streams.{TakesBut, TakesFront}
 use Rattle.mta.specs.Telling.{line_of, status_of}
-use Rattle.mta.specs.Ending.{mailbox_named, IsCause, IsText, IsFront, IsEnded, done, stopped, cut_text, cut_line, HasTold, told, short, failed, short_failed}
+use Rattle.mta.specs.Ending.{mailbox_named, IsCause, IsText, IsFront, IsEnded, done, stopped, cut_text, cut_line, HasClosed, HasTold, told, short, failed, short_failed}
 use Rattle.mta.specs.Headline.{HasPrinted, IsComplete}
 
 -- ---- what was printed before the last line, and that line
@@ -42,23 +42,26 @@ front_behind t line before mid now p q = Goes-then (λ a b g was first then. fro
 memory_no_sink : Stops.Memory ≡ Stops.Sink → ⊥
 memory_no_sink e = cc
 
--- the command did what it does
-pub ended_done : (cause : Stop → Type 0) (text : List ℕ → Type 0) (rose : Type 0) (before now : Option (List ℕ)) → HasPrinted text before now (Ok tt) → IsEnded cause text rose before now 0
-ended_done cause text rose before now p = done refl p.0 p.1 p.2
-
--- the sink failed
-pub ended_cut : (cause : Stop → Type 0) (text : List ℕ → Type 0) (rose : Type 0) (before now : Option (List ℕ)) → rose → HasPrinted text before now (Err Stops.Sink) → IsEnded cause text rose before now 9
-ended_cut cause text rose before now r (inl p) = absurd (p.0 refl)
-ended_cut cause text rose before now r (inr p) = cut_text refl r p.1 p.2 p.3
-
 -- another stop was told
-pub ended_told : (cause : Stop → Type 0) (text : List ℕ → Type 0) (tell_rose rose : Type 0) (before mid now : Option (List ℕ)) (stop : Stop) (status : ℕ) → cause stop → cause Stops.Memory → (tell_rose → rose) → (stop ≡ Stops.Sink → ⊥)
+ended_told : (cause : Stop → Type 0) (text : List ℕ → Type 0) (tell_rose rose : Type 0) (before mid now : Option (List ℕ)) (stop : Stop) (status : ℕ) → cause stop → cause Stops.Memory → (tell_rose → rose) → (stop ≡ Stops.Sink → ⊥)
     → HasPrinted text before mid (Err stop) → HasTold stop mid now tell_rose status → IsEnded cause text rose before now status
 ended_told cause text tell_rose rose before mid now stop status why memory more other (inr p) has = absurd (other p.0)
 ended_told cause text tell_rose rose before mid now stop status why memory more other (inl p) (told is goes) = stopped stop why other is p.1 p.2 (line_behind p.1 (line_of stop) before mid now p.3 goes)
 ended_told cause text tell_rose rose before mid now stop status why memory more other (inl p) (short is goes) = stopped Stops.Memory memory memory_no_sink is p.1 p.2 (line_behind p.1 (line_of Stops.Memory) before mid now p.3 goes)
 ended_told cause text tell_rose rose before mid now stop status why memory more other (inl p) (failed is r goes) = cut_line is (more r) stop why p.1 p.2 (front_behind p.1 (line_of stop) before mid now p.3 goes)
 ended_told cause text tell_rose rose before mid now stop status why memory more other (inl p) (short_failed is r goes) = cut_line is (more r) Stops.Memory memory p.1 p.2 (front_behind p.1 (line_of Stops.Memory) before mid now p.3 goes)
+
+ended_stop : (cause : Stop → Type 0) (text : List ℕ → Type 0) (close_rose rose : Type 0) (before mid now : Option (List ℕ)) (stop : Stop) (status : ℕ) → cause stop → cause Stops.Memory → (stop ≡ Stops.Sink → rose) → (close_rose → rose) → HasPrinted text before mid (Err stop)
+    → HasClosed (Err stop) mid now close_rose status → IsEnded cause text rose before now status
+ended_stop cause text close_rose rose before mid now stop status why memory sink more (inl p) (inl q) = absurd (p.0 q.0)
+ended_stop cause text close_rose rose before mid now stop status why memory sink more (inr p) (inl q) = cut_text q.1 (sink q.0) p.1 p.2 (subst (λ (t : Option (List ℕ)). Goes (TakesFront p.1) before t) (sym q.2) p.3)
+ended_stop cause text close_rose rose before mid now stop status why memory sink more p (inr q) = ended_told cause text close_rose rose before mid now stop status why memory more q.0 p q.1
+
+-- what was printed, and the status, from what the command printed and what its end added
+pub ended : (cause : Stop → Type 0) (text : List ℕ → Type 0) (close_rose rose : Type 0) (before mid now : Option (List ℕ)) (outcome : Result (Unit {0}) Stop) (status : ℕ) → ((stop : Stop) → outcome ≡ Err stop → cause stop) → cause Stops.Memory → (cause Stops.Sink → rose) → (close_rose → rose)
+    → HasPrinted text before mid outcome → HasClosed outcome mid now close_rose status → IsEnded cause text rose before now status
+ended cause text close_rose rose before mid now (Ok d) status why memory sink more p q = done q.0 p.0 p.1 (subst (λ (t : Option (List ℕ)). Goes (λ a b. b ≡ a ++ p.0) before t) (sym q.1) p.2)
+ended cause text close_rose rose before mid now (Err stop) status why memory sink more p q = ended_stop cause text close_rose rose before mid now stop status (why stop refl) memory (λ e. sink (subst cause e (why stop refl))) more p q
 
 -- ---- causes
 
@@ -107,7 +110,7 @@ ended_tells words conf input disk source_rose disk_rose out_rose added text befo
 ended_tells words conf input disk source_rose disk_rose out_rose added text before now status (cut_line e r stop why t front goes) = tells_nine words source_rose disk_rose out_rose status e r
 
 -- no stop has status 0
-pub some_status : (stop : Stop) (status : ℕ) → status ≡ status_of stop → status ≡ 0 → ⊥
+some_status : (stop : Stop) (status : ℕ) → status ≡ status_of stop → status ≡ 0 → ⊥
 some_status Stops.Usage status e z = omega (arith, e, z)
 some_status (Stops.Tables line kind) status e z = omega (arith, e, z)
 some_status (Stops.NotSpool at) status e z = omega (arith, e, z)
@@ -120,12 +123,17 @@ some_status Stops.Sink status e z = omega (arith, e, z)
 some_status (Stops.NoMailbox name) status e z = omega (arith, e, z)
 some_status Stops.NotBuilt status e z = omega (arith, e, z)
 
--- the telling of a stop answers no 0
-pub told_some : (stop : Stop) (before now : Option (List ℕ)) (rose : Type 0) (status : ℕ) → HasTold stop before now rose status → status ≡ 0 → ⊥
+told_some : (stop : Stop) (before now : Option (List ℕ)) (rose : Type 0) (status : ℕ) → HasTold stop before now rose status → status ≡ 0 → ⊥
 told_some stop before now rose status (told e goes) z = some_status stop status e z
 told_some stop before now rose status (short e goes) z = omega (arith, e, z)
 told_some stop before now rose status (failed e r goes) z = omega (arith, e, z)
 told_some stop before now rose status (short_failed e r goes) z = omega (arith, e, z)
+
+-- status 0 comes only where the command did what it does
+pub closed_well : (outcome : Result (Unit {0}) Stop) (before now : Option (List ℕ)) (rose : Type 0) (status : ℕ) → HasClosed outcome before now rose status → status ≡ 0 → outcome ≡ Ok tt
+closed_well (Ok d) before now rose status q z = refl
+closed_well (Err stop) before now rose status (inl q) z = absurd (omega (arith, q.1, z))
+closed_well (Err stop) before now rose status (inr q) z = absurd (told_some stop before now rose status q.1 z)
 
 -- ---- where all is in order
 

@@ -17,8 +17,9 @@ use Rattle.mta.specs.declared.words.Words.TheVariants as Say
 use Rattle.mta.specs.Streams.{TakesBut, TakesFront}
 use Rattle.mta.specs.Telling.{accepted_line, line_of, status_of}
 use Rattle.mta.specs.Working.{IsAccepted}
-use Rattle.mta.specs.Ending.{ForHistory, IsCause, IsText, IsFront, IsEnded, done, stopped, cut_text, cut_line}
+use Rattle.mta.specs.Ending.{ForHistory, IsCause, IsText, IsFront, IsEnded, done, stopped, cut_text, cut_line, HasClosed}
 use Rattle.mta.specs.Headline.{HasPrinted, HasDone, IsKept, Ran}
+use Rattle.mta.proofs.Endings.{ended, cause_later, closed_well}
 
 -- ---- the lines that are printed are told from one another
 
@@ -119,10 +120,10 @@ no_words : (words : Option Words) (conf input disk : Option (List ℕ)) (added :
 no_words words conf input disk added before now (Ok d) p e none = absurd (subst (λ (w : Option Words). IsText w conf input disk added p.0) none p.1)
 no_words words conf input disk added before now (Err stop) p e none = absurd cc
 
-pub ran_done : {D : Type 0} (content : D → Option (List ℕ)) (faults : D → ℕ) (tells : ℕ → Type 0) (words : Option Words) (conf input before mid now : Option (List ℕ)) (source_rose out_rose rose : Type 0) (old new : D) (outcome : Result (Unit {0}) Stop) (status : ℕ)
+ran_ended : {D : Type 0} (content : D → Option (List ℕ)) (faults : D → ℕ) (tells : ℕ → Type 0) (words : Option Words) (conf input before mid now : Option (List ℕ)) (source_rose out_rose rose : Type 0) (old new : D) (outcome : Result (Unit {0}) Stop) (status : ℕ)
     → (has : HasDone content faults tells words conf input before mid source_rose out_rose old new outcome) → IsEnded (IsCause words conf input (content old) source_rose (Rose (faults old) (faults new)) rose has.added) (IsText words conf input (content old) has.added) rose before now status
     → (status ≡ 0 → outcome ≡ Ok tt) → Ran content faults tells words conf input before now source_rose rose old new status
-ran_done content faults tells words conf input before mid now source_rose out_rose rose old new outcome status has ended well = record {
+ran_ended content faults tells words conf input before mid now source_rose out_rose rose old new outcome status has ended well = record {
   added = has.added;
   disk_stands = has.disk;
   recipients_once = λ f steps was st. each_recipient_once (steps ++ has.added) (has.history f steps was st);
@@ -139,3 +140,15 @@ ran_done content faults tells words conf input before mid now source_rose out_ro
 } where
   cause : Stop → Type 0
   cause stop = IsCause words conf input (content old) source_rose (Rose (faults old) (faults new)) rose has.added stop
+
+pub ran_done : {D : Type 0} (content : D → Option (List ℕ)) (faults : D → ℕ) (tells : ℕ → Type 0) (words : Option Words) (conf input before mid now : Option (List ℕ)) (source_rose : Type 0) (out_before out_mid out_now : ℕ) (old new : D) (outcome : Result (Unit {0}) Stop) (status : ℕ)
+    → HasDone content faults tells words conf input before mid source_rose (Rose out_before out_mid) old new outcome → HasClosed outcome mid now (Rose out_mid out_now) status → out_before ≤ out_mid → out_mid ≤ out_now
+    → Ran content faults tells words conf input before now source_rose (Rose out_before out_now) old new status
+ran_done content faults tells words conf input before mid now source_rose out_before out_mid out_now old new outcome status has closed first then =
+    let disk_rose = Rose (faults old) (faults new) in
+    let cause = λ (stop : Stop). IsCause words conf input (content old) source_rose disk_rose (Rose out_before out_now) has.added stop in
+    ran_ended content faults tells words conf input before mid now source_rose (Rose out_before out_mid) (Rose out_before out_now) old new outcome status has
+        (ended cause (IsText words conf input (content old) has.added) (Rose out_mid out_now) (Rose out_before out_now) before mid now outcome status
+            (λ stop e. cause_later words conf input (content old) source_rose disk_rose (Rose out_before out_mid) (Rose out_before out_now) has.added stop (λ r. omega (arith, r, first, then)) (has.cause stop e))
+            tt (λ r. r) (λ r. omega (arith, r, first, then)) has.printed closed)
+        (closed_well outcome mid now (Rose out_mid out_now) status closed)

@@ -1,5 +1,5 @@
 -- How a run ends: its status, why, and what it printed.
-use Rattle.std.specs.Prelude.{◌≡◌, ◌⊎◌, ◌-◌, ◌^◌, ℕ, ◌+◌, ◌≤◌, ◌<◌, List, [], ◌∷◌, ◌++◌, length, Option, None, Some, option_and_then}
+use Rattle.std.specs.Prelude.{◌≡◌, ◌≢◌, ◌⊎◌, ◌-◌, ◌^◌, ℕ, ◌+◌, ◌≤◌, ◌<◌, List, [], ◌∷◌, ◌++◌, length, Option, None, Some, Result, Ok, Err, option_and_then}
 use Rattle.mta_edge.specs.Outside.{Goes}
 use Rattle.mta_records.specs.declared.step.Step.{Step}
 use Rattle.mta_tables.specs.Tables.{TablesValue, mailbox_of as place_of_mailbox}
@@ -67,3 +67,8 @@ pub data HasTold (stop : Stop) (before now : Option (List ℕ)) (out_rose : Type
   short : status ≡ 7 → Goes (λ a b. b ≡ a ++ line_of Stops.Memory) before now → HasTold stop before now out_rose status
   failed : status ≡ 9 → out_rose → Goes (TakesFront (line_of stop)) before now → HasTold stop before now out_rose status
   short_failed : status ≡ 9 → out_rose → Goes (TakesFront (line_of Stops.Memory)) before now → HasTold stop before now out_rose status
+
+-- what the end of a run adds to what its command left: nothing with 0, nothing with 9 where the sink failed already, or a stop that is told
+abbrev pub HasClosed : Result (Unit {0}) Stop → (before now : Option (List ℕ)) → (out_rose : Type 0) → (status : ℕ) → Type 0
+HasClosed (Ok done) before now out_rose status = (status ≡ 0) × (now ≡ before)
+HasClosed (Err stop) before now out_rose status = ((stop ≡ Stops.Sink) × (status ≡ 9) × (now ≡ before)) ⊎ ((stop ≢ Stops.Sink) × HasTold stop before now out_rose status)

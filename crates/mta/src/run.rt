@@ -8,7 +8,7 @@ ghost use Rattle.mta.specs.Headline.{HasDone, Ran, IsComplete};
 
 use crate::command::{Done, mailbox, queue, submit};
 use crate::stop::Stop;
-use crate::tell::tell;
+use crate::tell::close;
 use crate::words::Words;
 use mta_edge::{Clock, Disk, Sink, Source};
 use std::alloc::Global;
@@ -91,10 +91,6 @@ pub fn run<D: Disk + Drop, C: Clock + Drop, I: Source, O: Sink>(
     ensures sink_fault { result.status ≡ 9 → Rose (O.faults out.old) (O.faults out.new) }
 {
     let Done { disk, outcome } = command(alloc, words, conf, input, out, disk, clock);
-    let status = match outcome {
-        Ok(()) => 0,
-        Err(Stop::Sink) => 9,
-        Err(stop) => tell(alloc, out, &stop),
-    };
+    let status = close(alloc, out, outcome);
     Finished { status, disk }
 }

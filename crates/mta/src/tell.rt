@@ -1,9 +1,10 @@
 //! Printing the lines of a command.
 
-ghost use Rattle.std.specs.Prelude.{◌≡◌, ◌≤◌, ◌++◌, IfOk};
+ghost use Rattle.std.specs.Prelude.{◌≡◌, ◌≤◌, ◌++◌, ◌↔◌, IfOk, IsTrue};
 ghost use Rattle.mta_edge.specs.Causes.{Rose, HasCause};
 ghost use Rattle.mta.specs.Telling.{accepted_line, kind_text, status_of, line_of};
-ghost use Rattle.mta.specs.Ending.{HasTold};
+ghost use Rattle.mta.specs.declared.stop.Stop.TheVariants as Stops;
+ghost use Rattle.mta.specs.Ending.{HasTold, HasClosed};
 
 use crate::put::put_all;
 use crate::stop::Stop;
@@ -120,5 +121,28 @@ pub fn tell<O: Sink>(alloc: Global, out: &mut O, stop: &Stop) -> u8
             Ok(()) => 7,
             Err(_) => 9,
         },
+    }
+}
+
+fn is_sink(stop: &Stop) -> bool
+    ensures { IsTrue result ↔ (stop.now ≡ Stops.Sink) }
+{
+    matches!(stop, Stop::Sink)
+}
+
+/// Tells the stop of a command, unless the sink failed already, and answers the status of the run.
+pub fn close<O: Sink>(alloc: Global, out: &mut O, outcome: Result<(), Stop>) -> u8
+    ensures closed { HasClosed outcome (O.taken out.old) (O.taken out.new) (Rose (O.faults out.old) (O.faults out.new)) result }
+    ensures later { O.faults out.old ≤ O.faults out.new }
+{
+    match outcome {
+        Ok(()) => 0,
+        Err(stop) => {
+            if is_sink(&stop) {
+                9
+            } else {
+                tell(alloc, out, &stop)
+            }
+        }
     }
 }

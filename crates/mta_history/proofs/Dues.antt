@@ -65,16 +65,16 @@ is_due (Some tables) items i (suc (suc r)) moment place e = absurd cc
 is_due (Some tables) items i (suc zero) moment place e =
     option_and_then_some (place_of_item tables moment) (numbered items i) place e
     (λ item is placed.
-      let w = item_due tables item moment place placed in
-      record {
-        value = tables;
-        tables_are = refl;
-        item = item;
-        item_is = is;
-        pending = w.0;
-        first = refl;
-        message = w.1.message;
-        message_is = w.1.message_is;
-        no_report = w.1.no_report;
-        verdict = w.1.verdict;
-      })
+    let w = item_due tables item moment place placed in
+    record {
+      value = tables;
+      tables_are = refl;
+      item = item;
+      item_is = is;
+      pending = w.0;
+      first = refl;
+      message = w.1.message;
+      message_is = w.1.message_is;
+      no_report = w.1.no_report;
+      verdict = w.1.verdict;
+    })

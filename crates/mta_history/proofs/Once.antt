@@ -147,9 +147,12 @@ step_once s (Accept moment apdu) count once p =
     (accept apdu _ moment, refl, λ i r. subst (IsOnce (status_at (after_step s (Accept moment apdu)).machine i r)) (omega arith) (once_more s.machine.items _ i r (count i r) (read_once (first_shape_of apdu)) (once i r)))
 step_once s (Deliver j q moment) count once p =
     let d : IsDue _ s.machine.items j q moment p.0.0 = p.0.1 in
-    let pending : numbered d.item.statuses 1 ≡ Some (Some Pending) = ap (numbered d.item.statuses) (sym d.first) ∙ d.pending in
-    (deliver j q moment, refl, λ i r.
-      rw (d.item_is, d.first) (delivered_once s.machine.items d.item j moment i r (count i r) d.item_is pending (once i r)))
+    let pending : numbered d.item.statuses 1 ≡ Some (Some Pending) = ap (numbered d.item.statuses) (sym d.first) ∙ d.pending in (
+      deliver j q moment,
+      refl,
+      λ i r.
+          rw (d.item_is, d.first) (delivered_once s.machine.items d.item j moment i r (count i r) d.item_is pending (once i r)),
+    )
 
 all_once : (s : State) (steps : List Step) (count : ℕ → ℕ → ℕ) → AreOnce s.machine count → ArePossible s steps → AreOnce (after_from s steps).machine (with_steps count steps)
 all_once s [] count once p = once_along s.machine count (with_steps count []) (λ i r. omega arith) once
