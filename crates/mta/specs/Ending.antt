@@ -70,5 +70,5 @@ pub data HasTold (stop : Stop) (before now : Option (List ℕ)) (out_rose : Type
 
 -- what the end of a run adds to what its command left: nothing with 0, nothing with 9 where the sink failed already, or a stop that is told
 abbrev pub HasClosed : Result (Unit {0}) Stop → (before now : Option (List ℕ)) → (out_rose : Type 0) → (status : ℕ) → Type 0
-HasClosed (Ok done) before now out_rose status = (status ≡ 0) × (now ≡ before)
+HasClosed (Ok nothing) before now out_rose status = (status ≡ 0) × (now ≡ before)
 HasClosed (Err stop) before now out_rose status = ((stop ≡ Stops.Sink) × (status ≡ 9) × (now ≡ before)) ⊎ ((stop ≢ Stops.Sink) × HasTold stop before now out_rose status)

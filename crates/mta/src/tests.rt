@@ -27,32 +27,47 @@ const USAGE: &[u8] =
 // What is handed in to a run, and the first call that fails of the input, the sink and the disk, or 0.
 #[derive(Drop)]
 struct Given {
-    word: &'static str,
+    words: &'static [&'static str],
+    tables: &'static [u8],
     input: &'static [u8],
-    disk: &'static [u8],
     input_fails: u64,
     sink_fails: u64,
     disk_fails: u64,
 }
 
-// A run of `submit` of the sample message on no octets, where nothing fails.
+// A run of `submit` of the sample message, where nothing fails.
 const PLAIN: Given = Given {
-    word: "submit",
+    words: &["submit"],
+    tables: TABLES,
     input: &MESSAGE,
-    disk: b"",
     input_fails: 0,
     sink_fails: 0,
     disk_fails: 0,
 };
 
+// What a run leaves: the status, what was printed, and what the disk holds.
+#[derive(Drop)]
+struct Left {
+    status: u8,
+    text: Vec<u8>,
+    disk: Vec<u8>,
+}
+
 fn octets(alloc: Global, bytes: &[u8]) -> Result<Octets, Fail> {
     Ok(Octets::from_slice(alloc, bytes)?)
 }
 
-// The status, what was printed, and what the disk holds.
-fn outcome(alloc: Global, given: &Given) -> Result<(u8, Vec<u8>, Vec<u8>), Fail> {
-    let words = vec![in alloc; String::from_str(alloc, given.word)?]?;
-    let mut conf = MemSource::new(octets(alloc, TABLES)?, Vec::new(alloc));
+fn words(alloc: Global, given: &[&'static str]) -> Result<Vec<String>, Fail> {
+    let mut words = Vec::new(alloc);
+    for word in given.iter() {
+        words.push(String::from_str(alloc, word)?)?;
+    }
+    Ok(words)
+}
+
+fn outcome(alloc: Global, given: &Given, disk: &[u8]) -> Result<Left, Fail> {
+    let words = words(alloc, given.words)?;
+    let mut conf = MemSource::new(octets(alloc, given.tables)?, Vec::new(alloc));
     let mut input = MemSource::new(
         octets(alloc, given.input)?,
         [given.input_fails].to_vec(alloc)?,
@@ -60,36 +75,62 @@ fn outcome(alloc: Global, given: &Given) -> Result<(u8, Vec<u8>, Vec<u8>), Fail>
     let mut out = MemSink::new(alloc, [given.sink_fails].to_vec(alloc)?);
     let disk = MemDisk::new(
         alloc,
-        octets(alloc, given.disk)?,
+        octets(alloc, disk)?,
         [given.disk_fails].to_vec(alloc)?,
     );
     let clock = MemClock::new([1000].to_vec(alloc)?);
     let finished = run(alloc, &words, &mut conf, &mut input, &mut out, disk, clock);
-    Ok((
-        finished.status,
-        out.octets().to_vec(alloc)?,
-        finished.disk.octets().to_vec(alloc)?,
-    ))
+    Ok(Left {
+        status: finished.status,
+        text: out.octets().to_vec(alloc)?,
+        disk: finished.disk.octets().to_vec(alloc)?,
+    })
+}
+
+// The journal of the sample message, which was taken and delivered at moment 1000.
+fn journal(alloc: Global) -> Result<Vec<u8>, Fail> {
+    Ok([
+        b"MTASPL01\x01\0\0\0\x44\x01\0\0\0\x3F".as_slice(),
+        TABLES,
+        b"\x01\0\0\0\x72\x02\0\0\0\0\0\0\x03\xE8\0\0\0\x65",
+        &MESSAGE,
+        b"\x01\0\0\0\x11\x03\0\0\0\x01\0\0\0\x01\0\0\0\0\0\0\x03\xE8\0",
+    ]
+    .concat(alloc)?)
 }
 
 #[test]
-fn submit_journals_the_tables_and_the_message(rt: HostRuntime) -> Result<(), Fail> {
+fn submit_journals_what_it_prints(rt: HostRuntime) -> Result<(), Fail> {
     let alloc = rt.alloc();
     for disk in [b"".as_slice(), b"any nine."] {
-        let given = Given { disk, ..PLAIN };
-        let (status, text, disk) = outcome(alloc, &given)?;
-        assert_eq!(rt; status, 0);
-        assert_eq!(rt; text.as_slice(), b"accepted 1\n".as_slice());
-        assert_eq!(rt; disk.len(), 201);
-        let expected = [
-            b"MTASPL01\x01\0\0\0\x44\x01\0\0\0\x3F".as_slice(),
-            TABLES,
-            b"\x01\0\0\0\x72\x02\0\0\0\0\0\0\x03\xE8\0\0\0\x65",
-            &MESSAGE,
-            b"\0",
-        ]
-        .concat(alloc)?;
-        assert_eq!(rt; disk.as_slice(), expected.as_slice());
+        let left = outcome(alloc, &PLAIN, disk)?;
+        assert_eq!(rt; left.status, 0);
+        assert_eq!(rt; left.text.as_slice(), b"accepted 1\n".as_slice());
+        assert_eq!(rt; left.disk.as_slice(), journal(alloc)?.as_slice());
+    }
+    Ok(())
+}
+
+#[test]
+fn the_queue_and_the_mailbox_are_printed(rt: HostRuntime) -> Result<(), Fail> {
+    let alloc = rt.alloc();
+    let table: [(&'static [&'static str], &str); 2] = [
+        (
+            &["spool"],
+            "item 1 message C=GB;A=GOLD/M0001 arrived 500101001640Z\nrecipient 1 delivered 500101001640Z C=GB;A=GOLD;S=WATT\n",
+        ),
+        (
+            &["read", "watt"],
+            "delivered 500101001640Z item 1\nmessage C=GB;A=GOLD/M0001\noriginator C=GB;A=GOLD;S=BELL\ncontent-type 22\npriority normal\nindicators 00000000\nrecipient 1 10101000 C=GB;A=GOLD;S=WATT\ncontent 2 4869\n",
+        ),
+    ];
+    for (words, text) in table.iter() {
+        let given = Given { words, ..PLAIN };
+        let disk = journal(alloc)?;
+        let left = outcome(alloc, &given, &disk)?;
+        assert_eq!(rt; left.status, 0);
+        assert_eq!(rt; left.text.as_slice(), text.as_bytes());
+        assert_eq!(rt; left.disk.as_slice(), disk.as_slice());
     }
     Ok(())
 }
@@ -97,99 +138,95 @@ fn submit_journals_the_tables_and_the_message(rt: HostRuntime) -> Result<(), Fai
 #[test]
 fn other_ends_have_their_line(rt: HostRuntime) -> Result<(), Fail> {
     let alloc = rt.alloc();
-    let table: [(&str, Given, u8, &[u8], usize); 7] = [
+    let table: [(Given, &[u8], u8, &[u8], usize); 9] = [
         (
-            "cut",
             Given {
                 input: &MESSAGE[..100],
                 ..PLAIN
             },
+            b"",
             11,
             b"not built\n",
             0,
         ),
         (
-            "long disk",
             Given {
-                disk: b"MTASPL01\0\0",
+                tables: b"domain C=GB;A=GOLD\nname\n",
                 ..PLAIN
             },
-            11,
-            b"not built\n",
-            10,
+            b"",
+            2,
+            b"tables line 2 Word\n",
+            0,
         ),
+        (PLAIN, b"MTASPX01\0\0", 3, b"not a spool at 5\n", 10),
         (
-            "word",
             Given {
-                word: "serve",
+                words: &["serve"],
                 ..PLAIN
             },
+            b"",
             1,
             USAGE,
             0,
         ),
         (
-            "source",
+            Given {
+                words: &[],
+                ..PLAIN
+            },
+            b"",
+            1,
+            USAGE,
+            0,
+        ),
+        (
+            Given {
+                words: &["read", "nobody"],
+                ..PLAIN
+            },
+            b"",
+            10,
+            b"no such mailbox nobody\n",
+            9,
+        ),
+        (
             Given {
                 input_fails: 1,
                 ..PLAIN
             },
+            b"",
             8,
             b"source fault\n",
             0,
         ),
         (
-            "sink",
             Given {
                 sink_fails: 1,
                 ..PLAIN
             },
+            b"",
             9,
             b"",
             201,
         ),
         (
-            "disk",
             Given {
                 disk_fails: 1,
                 ..PLAIN
             },
+            b"",
             4,
             b"disk fault\n",
             0,
         ),
-        (
-            "last sync",
-            Given {
-                disk_fails: 12,
-                ..PLAIN
-            },
-            4,
-            b"disk fault\n",
-            201,
-        ),
     ];
-    for (what, given, wanted, line, size) in table.iter() {
-        let (status, text, disk) = outcome(alloc, given)?;
-        assert_eq!(rt; status, *wanted, "{what}");
-        assert_eq!(rt; text.as_slice(), *line, "{what}");
-        assert_eq!(rt; disk.len(), *size, "{what}");
+    for (given, disk, status, line, size) in table.iter() {
+        let left = outcome(alloc, given, disk)?;
+        assert_eq!(rt; left.status, *status);
+        assert_eq!(rt; left.text.as_slice(), *line);
+        assert_eq!(rt; left.disk.len(), *size);
     }
-    Ok(())
-}
-
-#[test]
-fn no_words_are_outside_the_grammar(rt: HostRuntime) -> Result<(), Fail> {
-    let alloc = rt.alloc();
-    let words: Vec<String> = Vec::new(alloc);
-    let mut conf = MemSource::new(octets(alloc, TABLES)?, Vec::new(alloc));
-    let mut input = MemSource::new(octets(alloc, &MESSAGE)?, Vec::new(alloc));
-    let mut out = MemSink::new(alloc, Vec::new(alloc));
-    let disk = MemDisk::new(alloc, Octets::new(alloc), Vec::new(alloc));
-    let clock = MemClock::new(Vec::new(alloc));
-    let finished = run(alloc, &words, &mut conf, &mut input, &mut out, disk, clock);
-    assert_eq!(rt; finished.status, 1);
-    assert_eq!(rt; out.octets(), USAGE);
     Ok(())
 }
 
