@@ -189,10 +189,10 @@ mailbox_stop : {D C : Type 0} (content : D → Option (List ℕ)) (disk_rose out
     → (stop ≡ Stops.Memory) ⊎ ((stop ≡ Stops.NoMailbox name) × (Names spool.current name ≡ None)) → (stop ≢ Stops.Sink) × IsReadCause (Say.Mailbox name) (content old) disk_rose out_rose stop
 mailbox_stop content disk_rose out_rose old spool base name stop stands opened (inl memory) = (memory_is_no_sink stop memory, subst (IsReadCause (Say.Mailbox name) (content old) disk_rose out_rose) (sym memory) tt)
 mailbox_stop content disk_rose out_rose old spool base name stop stands opened (inr none) = (
-      λ e. mailbox_is_no_sink name (sym none.0 ∙ e),
-      subst (IsReadCause (Say.Mailbox name) (content old) disk_rose out_rose) (sym none.0)
-          (refl, λ f steps was st. ap (λ (x : List Step). mailbox_named (after x) name) (sym (same_steps content old base opened f steps was st)) ∙ ap (λ (c : Current). Names c name) (sym stands.current) ∙ none.1),
-    )
+  λ e. mailbox_is_no_sink name (sym none.0 ∙ e),
+  subst (IsReadCause (Say.Mailbox name) (content old) disk_rose out_rose) (sym none.0)
+      (refl, λ f steps was st. ap (λ (x : List Step). mailbox_named (after x) name) (sym (same_steps content old base opened f steps was st)) ∙ ap (λ (c : Current). Names c name) (sym stands.current) ∙ none.1),
+)
 
 pub mailbox_read : {D C : Type 0} (content : D → Option (List ℕ)) (faults : D → ℕ) (before now : Option (List ℕ)) (out_rose : Type 0) (old : D) (spool : Shown D C) (base : List Step) (name : List ℕ) (text : Result (List ℕ) Stop) (result : Result (Unit {0}) Stop)
     → Stands content spool base → ((f : List ℕ) → content old ≡ Some f → StandsFor f base) → faults old ≤ faults spool.disk → IsMailboxShown spool.current name text → HasShown text before now out_rose result
@@ -202,7 +202,7 @@ mailbox_read content faults before now out_rose old spool base name text result 
     (λ t e f steps was st. (shown_mailbox spool.current name text t is e).0 ∙ ap (λ (c : Current). mailbox_text name c.items c.mailboxes) stands.current ∙ ap (λ (x : List Step). mailbox_text name (after x).machine.items (after x).machine.mailboxes) (same_steps content old base opened f steps was st))
     (λ stop e. mailbox_stop content (Rose (faults old) (faults spool.disk)) out_rose old spool base name stop stands opened (stopped_mailbox spool.current name text stop is e))
     (λ other t w e f steps was st none. (shown_mailbox spool.current name text t is e).1
-      (ap (λ (c : Current). Names c name) stands.current ∙ ap (λ (x : List Step). mailbox_named (after x) name) (same_steps content old base opened f steps was st) ∙ ap (λ (x : List ℕ). mailbox_named (after steps) x) (name_same name other w) ∙ none)) shown
+    (ap (λ (c : Current). Names c name) stands.current ∙ ap (λ (x : List Step). mailbox_named (after x) name) (same_steps content old base opened f steps was st) ∙ ap (λ (x : List ℕ). mailbox_named (after steps) x) (name_same name other w) ∙ none)) shown
 
 -- ---- as what a command leaves
 
@@ -245,9 +245,11 @@ read_done content faults tells words conf input before now source_rose out_rose 
 } where
   none : accepts [] ≤ 1
   none = omega arith
+
   front_as : (p q : List ℕ → Type 0) (t : List ℕ) → ((x : List ℕ) → p x → q x) → IsFront p t → IsFront q t
   front_as p q t more (inl e) = inl e
   front_as p q t more (inr x) = inr (more t x)
+
   printed_as : (p q : List ℕ → Type 0) (b n : Option (List ℕ)) (r : Result (Unit {0}) Stop) → ((x : List ℕ) → p x → q x) → HasPrinted p b n r → HasPrinted q b n r
   printed_as p q b n (Ok done) more h = (h.0, more h.0 h.1, h.2)
   printed_as p q b n (Err stop) more (inl h) = inl (h.0, h.1, front_as p q h.1 more h.2, h.3)

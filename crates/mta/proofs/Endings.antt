@@ -31,10 +31,13 @@ line_behind : (t line : List ℕ) (before mid now : Option (List ℕ)) → Goes 
 line_behind t line before mid now p q = Goes-then (λ a b g was first then. joined t line a b g first then) p q
 
 front_joined : (t line a b g : List ℕ) → b ≡ a ++ t → TakesFront line b g → TakesFront (t ++ line) a g
-front_joined t line a b g first front = (front.0, record {
-      whole = front.1.whole ∙ ap (λ (x : List ℕ). x ++ line) first ∙ append_assoc a t line;
-      longer = omega (arith, front.1.longer, ap length first, length-append a t);
-    })
+front_joined t line a b g first front = (
+  front.0,
+  record {
+    whole = front.1.whole ∙ ap (λ (x : List ℕ). x ++ line) first ∙ append_assoc a t line;
+    longer = omega (arith, front.1.longer, ap length first, length-append a t);
+  },
+)
 
 front_behind : (t line : List ℕ) (before mid now : Option (List ℕ)) → Goes (λ a b. b ≡ a ++ t) before mid → Goes (TakesFront line) mid now → Goes (TakesFront (t ++ line)) before now
 front_behind t line before mid now p q = Goes-then (λ a b g was first then. front_joined t line a b g first then) p q
@@ -179,4 +182,4 @@ pub ended_complete : (words : Option Words) (conf input disk : Option (List ℕ)
     → IsEnded (IsCause words conf input disk source_rose disk_rose out_rose added) text out_rose before now status → IsComplete words conf input disk source_rose disk_rose out_rose status
 ended_complete words conf input disk source_rose disk_rose out_rose added text before now status ended = λ word source calm sink c i f t steps e1 e2 e3 good message stands named.
     complete_ended words conf input disk source_rose disk_rose out_rose added text before now status c i f t steps
-        (record { word = word; source = source; calm = calm; sink = sink; conf_is = e1; input_is = e2; disk_is = e3; tables = good; message = message; stands = stands; named = named }) ended
+    (record { word = word; source = source; calm = calm; sink = sink; conf_is = e1; input_is = e2; disk_is = e3; tables = good; message = message; stands = stands; named = named }) ended

@@ -148,7 +148,7 @@ ran_done content faults tells words conf input before mid now source_rose out_be
     let disk_rose = Rose (faults old) (faults new) in
     let cause = λ (stop : Stop). IsCause words conf input (content old) source_rose disk_rose (Rose out_before out_now) has.added stop in
     ran_ended content faults tells words conf input before mid now source_rose (Rose out_before out_mid) (Rose out_before out_now) old new outcome status has
-        (ended cause (IsText words conf input (content old) has.added) (Rose out_mid out_now) (Rose out_before out_now) before mid now outcome status
-            (λ stop e. cause_later words conf input (content old) source_rose disk_rose (Rose out_before out_mid) (Rose out_before out_now) has.added stop (λ r. omega (arith, r, first, then)) (has.cause stop e))
-            tt (λ r. r) (λ r. omega (arith, r, first, then)) has.printed closed)
-        (closed_well outcome mid now (Rose out_mid out_now) status closed)
+    (ended cause (IsText words conf input (content old) has.added) (Rose out_mid out_now) (Rose out_before out_now) before mid now outcome status
+    (λ stop e. cause_later words conf input (content old) source_rose disk_rose (Rose out_before out_mid) (Rose out_before out_now) has.added stop (λ r. omega (arith, r, first, then)) (has.cause stop e))
+    tt (λ r. r) (λ r. omega (arith, r, first, then)) has.printed closed)
+    (closed_well outcome mid now (Rose out_mid out_now) status closed)

@@ -118,6 +118,7 @@ settling_refused {D} {C} content faults tells old mid new added moment fault so 
 } where
   fault_is : (a b : StepFault) → ◌≡◌ {A = Result (Unit {0}) StepFault} (Err a) (Err b) → a ≡ b
   fault_is a b w = cc
+
   refusal : (conf input : List ℕ) (f : StepFault) → IsTurnRefused faults moment mid new f → IsRefusal conf input new.current new.size (Rose (faults old.disk) (faults new.disk)) f
   refusal conf input (StepFaults.Full used need) r =
       let same : new ≡ record mid { clock = new.clock } = r.kept (λ e. absurd cc) in
@@ -130,6 +131,6 @@ settling_refused {D} {C} content faults tells old mid new added moment fault so 
   refusal conf input StepFaults.Disk r = let rose = r.disk refl in let later = (so.worked [] []).later in omega (arith, rose, later)
   refusal conf input StepFaults.Ended r = let ended = r.ended.0 refl in absurd (true_false (sym ended ∙ so.going))
     where
-    true_false : true ≡ false → ⊥
-    true_false w = cc
+      true_false : true ≡ false → ⊥
+      true_false w = cc
   refusal conf input StepFaults.Memory r = tt

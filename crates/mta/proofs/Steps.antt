@@ -108,14 +108,16 @@ text_kept text t read =
       | inr short ↦ (let test : ltb 1048576 (length text) ≡ false = le-ltb _ _ short in made (read_lines 1 nothing [] text) (rw test at read))
     ]
   where
-  bad_ok : {b : Bad} → ◌≡◌ {A = Result TablesValue Bad} (Err b) (Ok t) → ⊥
-  bad_ok w = cc
-  text_of : Result TablesValue Bad → List ℕ
-  text_of (Ok v) = v.text
-  text_of (Err b) = []
-  made : (lines : Result Lines Bad) → (lines >>= λ ls. Ok (tables text ls)) ≡ Ok t → t.text ≡ text
-  made (Ok ls) e = sym (ap text_of e)
-  made (Err b) e = absurd cc
+    bad_ok : {b : Bad} → ◌≡◌ {A = Result TablesValue Bad} (Err b) (Ok t) → ⊥
+    bad_ok w = cc
+
+    text_of : Result TablesValue Bad → List ℕ
+    text_of (Ok v) = v.text
+    text_of (Err b) = []
+
+    made : (lines : Result Lines Bad) → (lines >>= λ ls. Ok (tables text ls)) ≡ Ok t → t.text ≡ text
+    made (Ok ls) e = sym (ap text_of e)
+    made (Err b) e = absurd cc
 
 value_text : (text : List ℕ) (t : TablesValue) → tables_value text ≡ Some t → t.text ≡ text
 unfolding tables_value
@@ -145,6 +147,7 @@ numbered_more : {A : Type 0} (xs : List A) (x : A) → numbered (xs ++ x ∷ [])
 numbered_more xs x = ap (numbered (xs ++ x ∷ [])) (next (length xs)) ∙ at_end xs x where
   next : (n : ℕ) → n + 1 ≡ suc n
   next n = omega arith
+
   at_end : {A : Type 0} (ys : List A) (y : A) → slice_get (ys ++ y ∷ []) (length ys) ≡ Some y
   at_end [] y = refl
   at_end (z ∷ ys) y = at_end ys y

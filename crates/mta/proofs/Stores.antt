@@ -34,16 +34,17 @@ same_text (x ∷ xs) [] = inr (λ e. absurd cc)
 same_text (x ∷ xs) (y ∷ ys) =
     elim (cases_eq x y) [
       | inl first ↦ elim (same_text xs ys) [
-          | inl rest ↦ inl (ap (λ (h : ℕ). h ∷ xs) first ∙ ap (λ (t : List ℕ). y ∷ t) rest)
-          | inr other ↦ inr (λ e. other (tail_same e))
-        ]
+        | inl rest ↦ inl (ap (λ (h : ℕ). h ∷ xs) first ∙ ap (λ (t : List ℕ). y ∷ t) rest)
+        | inr other ↦ inr (λ e. other (tail_same e))
+      ]
       | inr other ↦ inr (λ e. other (head_same e))
     ]
   where
-  tail_same : x ∷ xs ≡ y ∷ ys → xs ≡ ys
-  tail_same e = cc
-  head_same : x ∷ xs ≡ y ∷ ys → x ≡ y
-  head_same e = cc
+    tail_same : x ∷ xs ≡ y ∷ ys → xs ≡ ys
+    tail_same e = cc
+
+    head_same : x ∷ xs ≡ y ∷ ys → x ≡ y
+    head_same e = cc
 
 -- whether they are those recorded last
 is_recorded : (o : Option TablesValue) (t : TablesValue) → IsRecorded o t ⊎ (IsRecorded o t → ⊥)
@@ -103,10 +104,11 @@ stored content faults tells now conf input old mid new added told n so tell more
       going = λ k e. appends.still (λ w. absurd cc) ∙ so.going;
     }
   where
-  ok_is : (a b : ℕ) → ◌≡◌ {A = Result ℕ StepFault} (Ok a) (Ok b) → a ≡ b
-  ok_is a b w = cc
-  one_accept : (m : ℕ) (i : List ℕ) → accepts (Accept m i ∷ []) ≡ 1
-  one_accept m i = refl
+    ok_is : (a b : ℕ) → ◌≡◌ {A = Result ℕ StepFault} (Ok a) (Ok b) → a ≡ b
+    ok_is a b w = cc
+
+    one_accept : (m : ℕ) (i : List ℕ) → accepts (Accept m i ∷ []) ≡ 1
+    one_accept m i = refl
 
 -- a refused step leaves the size and the state, where the disk did not fail
 unchanged : {D C T : Type 0} (content : D → Option (List ℕ)) (faults : D → ℕ) (step : Step) (mid new : Shown D C) (fault : StepFault) → (fault ≡ StepFaults.Disk → ⊥) → ((steps : List Step) × Stands content mid steps) → Appends {T = T} content faults step mid new (Err fault)
@@ -115,8 +117,8 @@ unchanged {T = T} content faults step mid new fault calm here appends =
     let now = appends.kept refl (λ e. calm (err_is fault StepFaults.Disk e)) here.0 here.1 in
     (now.stored.size ∙ sym here.1.stored.size, now.current ∙ sym here.1.current)
   where
-  err_is : (a b : StepFault) → ◌≡◌ {A = Result T StepFault} (Err a) (Err b) → a ≡ b
-  err_is a b w = cc
+    err_is : (a b : StepFault) → ◌≡◌ {A = Result T StepFault} (Err a) (Err b) → a ≡ b
+    err_is a b w = cc
 
 refusal : {D C T : Type 0} (content : D → Option (List ℕ)) (faults : D → ℕ) (conf input : List ℕ) (step : Step) (mid new : Shown D C) (fault : StepFault) (before : ℕ) → before ≤ faults mid.disk → mid.ended ≡ false → ((steps : List Step) × Stands content mid steps)
     → ((current : Current) → IsWanted conf input current step) → ((last : ℕ) → fault ≡ StepFaults.Spent last → (last ≡ length mid.current.items) × (2 ^ 32 - 3 < last)) → Appends {T = T} content faults step mid new (Err fault)
@@ -149,6 +151,7 @@ accept_refused content faults tells conf input old mid new added moment fault so
 } where
   err_is : (a b : StepFault) → ◌≡◌ {A = Result ℕ StepFault} (Err a) (Err b) → a ≡ b
   err_is a b w = cc
+
   no_accept : accepts [] ≡ 0
   no_accept = refl
 
@@ -167,6 +170,7 @@ tables_refused content faults tells conf input old new fault going here appends 
 } where
   err_is : (a b : StepFault) → ◌≡◌ {A = Result (Unit {0}) StepFault} (Err a) (Err b) → a ≡ b
   err_is a b w = cc
+
   fault_is : (a b : StepFault) → ◌≡◌ {A = Result ℕ StepFault} (Err a) (Err b) → a ≡ b
   fault_is a b w = cc
 

@@ -73,16 +73,20 @@ pub submit_not_opened : {D : Type 0} (content : D → Option (List ℕ)) (faults
     → HasRefused content faults old new why → HasDone content faults tells (Some Say.Submit) conf input told told source_rose out_rose old new (Err (stop_of_open why))
 submit_not_opened content faults tells conf input told source_rose out_rose old new why refused =
     stopped_done content faults tells (Some Say.Submit) conf input told source_rose out_rose old new (stop_of_open why) (disk_refused content faults old new why refused) (open_no_sink why)
-        (read_to_cause Say.Submit conf input (content old) source_rose (Rose (faults old) (faults new)) out_rose (stop_of_open why) (read_cause_open content faults old new Say.Submit out_rose why refused))
+    (read_to_cause Say.Submit conf input (content old) source_rose (Rose (faults old) (faults new)) out_rose (stop_of_open why) (read_cause_open content faults old new Say.Submit out_rose why refused))
 
 -- ---- a spool that was worked on
 
 -- the acceptance for the tables and the input that the sources told, and the history for which the disk stood
 said_text : (conf input disk : Option (List ℕ)) (text apdu : List ℕ) (base added : List Step) (n : ℕ) → IsTold conf text → IsTold input apdu → ((f : List ℕ) (steps : List Step) → disk ≡ Some f → StandsFor f steps → base ≡ steps)
     → n < 2 ^ 32 → IsAccepted base added text apdu n → IsText (Some Say.Submit) conf input disk added (accepted_line n)
-said_text conf input disk text apdu base added n told_conf told_input same small accepted =
-    (n, small, refl, λ c i e w f steps was st.
-    subst (λ (x : List Step). IsAccepted x added c i n) (same f steps was st) (subst (λ (x : List ℕ). IsAccepted base added c x n) (told_input i w) (subst (λ (x : List ℕ). IsAccepted base added x apdu n) (told_conf c e) accepted)))
+said_text conf input disk text apdu base added n told_conf told_input same small accepted = (
+  n,
+  small,
+  refl,
+  λ c i e w f steps was st.
+      subst (λ (x : List Step). IsAccepted x added c i n) (same f steps was st) (subst (λ (x : List ℕ). IsAccepted base added c x n) (told_input i w) (subst (λ (x : List ℕ). IsAccepted base added x apdu n) (told_conf c e) accepted)),
+)
 
 said_printed : (text : List ℕ → Type 0) (numbers : ℕ → Type 0) (before now : Option (List ℕ)) (result : Result (Unit {0}) Stop) → ((n : ℕ) → n < 2 ^ 32 → numbers n → text (accepted_line n)) → IsSaid numbers before now result → HasPrinted text before now result
 said_printed text numbers before now _ texts (silent stop other same) = inl (other, [], inl refl, subst (λ (t : Option (List ℕ)). Goes (λ a b. b ≡ a ++ []) before t) (sym same) (Goes-nothing before))
@@ -100,7 +104,7 @@ refused_later : {D C : Type 0} (content : D → Option (List ℕ)) (conf input d
     → (c i : List ℕ) → conf ≡ Some c → input ≡ Some i → ForHistory disk (λ steps. IsRefusal c i (current_of (after (steps ++ added))) (length (front (steps ++ added)) + 1) rose fault)
 refused_later content conf input disk rose text apdu spool base added fault told_conf told_input same stands refusal c i e w f steps was st =
     subst (λ (x : List Step). IsRefusal c i (current_of (after (x ++ added))) (length (front (x ++ added)) + 1) rose fault) (same f steps was st)
-        (refusal_as text c apdu i spool.current (current_of (after (base ++ added))) spool.size (length (front (base ++ added)) + 1) rose fault (told_conf c e) (told_input i w) stands.current stands.stored.size refusal)
+    (refusal_as text c apdu i spool.current (current_of (after (base ++ added))) spool.size (length (front (base ++ added)) + 1) rose fault (told_conf c e) (told_input i w) stands.current stands.stored.size refusal)
 
 work_cause : {D C : Type 0} (content : D → Option (List ℕ)) (conf input disk : Option (List ℕ)) (source_rose work_rose disk_rose out_rose : Type 0) (text apdu : List ℕ) (spool : Shown D C) (base added : List Step) (stop : Stop) → IsTold conf text → IsTold input apdu
     → ((f : List ℕ) (steps : List Step) → disk ≡ Some f → StandsFor f steps → base ≡ steps) → ((stop ≡ Stops.Disk → ⊥) → Stands content spool (base ++ added)) → (work_rose → disk_rose)
@@ -119,12 +123,11 @@ work_cause content conf input disk source_rose work_rose disk_rose out_rose text
 work_cause content conf input disk source_rose work_rose disk_rose out_rose text apdu spool base added (Stops.NoMailbox name) told_conf told_input same stands rose why = absurd why
 work_cause content conf input disk source_rose work_rose disk_rose out_rose text apdu spool base added Stops.NotBuilt told_conf told_input same stands rose why = absurd why
 
-
 settled_later : {D C : Type 0} (content : D → Option (List ℕ)) (tells : ℕ → Type 0) (spool : Shown D C) (base steps added : List Step) → base ≡ steps → Stands content spool (base ++ added)
     → (told : ℕ) × tells told × IsQuiet spool.current.tables spool.current.items (step_moment told spool.current.moment) → IsSettled tells (steps ++ added)
 settled_later content tells spool base steps added same stands quiet =
     subst (λ (x : List Step). IsSettled tells (x ++ added)) same
-        (subst (λ (c : Current). (told : ℕ) × tells told × IsQuiet c.tables c.items (step_moment told c.moment)) stands.current quiet)
+    (subst (λ (c : Current). (told : ℕ) × tells told × IsQuiet c.tables c.items (step_moment told c.moment)) stands.current quiet)
 
 disk_err : (stop : Stop) → (stop ≡ Stops.Disk → ⊥) → ◌≡◌ {A = Result (Unit {0}) Stop} (Err stop) (Err Stops.Disk) → ⊥
 disk_err stop other e = other (err_is stop Stops.Disk e)
@@ -154,7 +157,9 @@ submit_worked content faults tells conf input before now source_rose out_rose ol
   where
     risen : Rose (faults spool.disk) (faults new.disk) → Rose (faults old) (faults new.disk)
     risen r = omega (arith, later, r)
+
     ok_err : ◌≡◌ {A = Result (Unit {0}) Stop} (Ok tt) (Err Stops.Disk) → ⊥
     ok_err e = cc
+
     other : (name : List ℕ) → Some Say.Submit ≡ Some (Say.Mailbox name) → ⊥
     other name e = cc

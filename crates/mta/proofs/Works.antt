@@ -62,21 +62,21 @@ calm_ok e = cc
 pub work_unsaid : {D C : Type 0} (content : D → Option (List ℕ)) (faults : D → ℕ) (tells : ℕ → Type 0) (conf input : List ℕ) (before now : Option (List ℕ)) (out_rose : Type 0) (old new : Shown D C) (n : ℕ) (stop : Stop)
     → HasStored content faults tells conf input old new (Ok n) → HasAcknowledged before now out_rose n (Err stop) → HasWorked content faults tells conf input before now out_rose old new (Err stop)
 work_unsaid {D} {C} content faults tells conf input before now out_rose old new n stop has (inl memory) = subst (λ (s : Stop). HasWorked content faults tells conf input before now out_rose old new (Err s)) (sym memory.0) (record {
-      added = has.added;
-      worked = worked_unless content faults tells conf input old new has.added _ _ (λ e. absurd (calm_ok e)) has.worked;
-      few = has.few;
-      said = silent Stops.Memory (λ e. absurd cc) memory.1;
-      quiet = λ ok. absurd cc;
-      refused = λ other e. subst (IsWorkStop conf input new.current new.size (Rose (faults old.disk) (faults new.disk)) out_rose) (stop_is Stops.Memory other e) tt;
-    })
+  added = has.added;
+  worked = worked_unless content faults tells conf input old new has.added _ _ (λ e. absurd (calm_ok e)) has.worked;
+  few = has.few;
+  said = silent Stops.Memory (λ e. absurd cc) memory.1;
+  quiet = λ ok. absurd cc;
+  refused = λ other e. subst (IsWorkStop conf input new.current new.size (Rose (faults old.disk) (faults new.disk)) out_rose) (stop_is Stops.Memory other e) tt;
+})
 work_unsaid {D} {C} content faults tells conf input before now out_rose old new n stop has (inr sink) = subst (λ (s : Stop). HasWorked content faults tells conf input before now out_rose old new (Err s)) (sym sink.0) (record {
-      added = has.added;
-      worked = worked_unless content faults tells conf input old new has.added _ _ (λ e. absurd (calm_ok e)) has.worked;
-      few = has.few;
-      said = cut n (has.small n refl) (has.accepted n refl) sink.2;
-      quiet = λ ok. absurd cc;
-      refused = λ other e. subst (IsWorkStop conf input new.current new.size (Rose (faults old.disk) (faults new.disk)) out_rose) (stop_is Stops.Sink other e) sink.1;
-    })
+  added = has.added;
+  worked = worked_unless content faults tells conf input old new has.added _ _ (λ e. absurd (calm_ok e)) has.worked;
+  few = has.few;
+  said = cut n (has.small n refl) (has.accepted n refl) sink.2;
+  quiet = λ ok. absurd cc;
+  refused = λ other e. subst (IsWorkStop conf input new.current new.size (Rose (faults old.disk) (faults new.disk)) out_rose) (stop_is Stops.Sink other e) sink.1;
+})
 
 -- a refusal as it is seen from before
 earlier : (conf input : List ℕ) (current : Current) (size before mid now : ℕ) (fault : StepFault) → before ≤ mid → IsRefusal conf input current size (Rose mid now) fault → IsRefusal conf input current size (Rose before now) fault

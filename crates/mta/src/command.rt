@@ -91,7 +91,10 @@ fn print<O: Sink>(out: &mut O, text: Result<Octets, Stop>) -> Result<(), Stop>
     }
 }
 
-fn queue_of<D: Disk + Drop, C: Clock + Drop>(alloc: Global, spool: &Spool<D, C>) -> Result<Octets, Stop>
+fn queue_of<D: Disk + Drop, C: Clock + Drop>(
+    alloc: Global,
+    spool: &Spool<D, C>,
+) -> Result<Octets, Stop>
     ensures { IsShown (queue_text spool.now.current.items) result }
 {
     match show_queue(alloc, spool.items().as_slice()) {

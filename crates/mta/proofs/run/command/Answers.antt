@@ -11,11 +11,11 @@ use Rattle.mta.proofs.run.command.Goals as goal
 pub returns-in-Ok-None-clause-done : goal.returns-in-Ok-None-clause-done
 returns-in-Ok-None-clause-done g c =
     stopped_done g.D.Disk.content g.D.Disk.faults (g.C.Clock.tells c.args.clock) (command_of c.args.words.now) (g.I.Source.left c.args.conf.now) (g.I.Source.left c.args.input.now) (g.O.Sink.taken c.args.out.now)
-        (Rose (g.I.Source.faults c.args.conf.now) (g.I.Source.faults c.args.conf.now) ⊎ Rose (g.I.Source.faults c.args.input.now) (g.I.Source.faults c.args.input.now)) (Rose (g.O.Sink.faults c.args.out.now) (g.O.Sink.faults c.args.out.now))
-        c.args.disk c.args.disk Stops.Usage (left_alone g.D.Disk.content g.D.Disk.faults c.args.disk) (λ e. absurd cc) (sym c.in-Ok-None.ensures ∙ c.in-Ok-None.field-0-is)
+    (Rose (g.I.Source.faults c.args.conf.now) (g.I.Source.faults c.args.conf.now) ⊎ Rose (g.I.Source.faults c.args.input.now) (g.I.Source.faults c.args.input.now)) (Rose (g.O.Sink.faults c.args.out.now) (g.O.Sink.faults c.args.out.now))
+    c.args.disk c.args.disk Stops.Usage (left_alone g.D.Disk.content g.D.Disk.faults c.args.disk) (λ e. absurd cc) (sym c.in-Ok-None.ensures ∙ c.in-Ok-None.field-0-is)
 
 pub returns-in-Err-clause-done : goal.returns-in-Err-clause-done
 returns-in-Err-clause-done g c =
     stopped_done g.D.Disk.content g.D.Disk.faults (g.C.Clock.tells c.args.clock) (command_of c.args.words.now) (g.I.Source.left c.args.conf.now) (g.I.Source.left c.args.input.now) (g.O.Sink.taken c.args.out.now)
-        (Rose (g.I.Source.faults c.args.conf.now) (g.I.Source.faults c.args.conf.now) ⊎ Rose (g.I.Source.faults c.args.input.now) (g.I.Source.faults c.args.input.now)) (Rose (g.O.Sink.faults c.args.out.now) (g.O.Sink.faults c.args.out.now))
-        c.args.disk c.args.disk Stops.Memory (left_alone g.D.Disk.content g.D.Disk.faults c.args.disk) (λ e. absurd cc) tt
+    (Rose (g.I.Source.faults c.args.conf.now) (g.I.Source.faults c.args.conf.now) ⊎ Rose (g.I.Source.faults c.args.input.now) (g.I.Source.faults c.args.input.now)) (Rose (g.O.Sink.faults c.args.out.now) (g.O.Sink.faults c.args.out.now))
+    c.args.disk c.args.disk Stops.Memory (left_alone g.D.Disk.content g.D.Disk.faults c.args.disk) (λ e. absurd cc) tt

@@ -17,7 +17,7 @@ returns-in-Queue-clause-done g c =
     let out_rose = Rose (g.O.Sink.faults c.args.out.now) (g.O.Sink.faults c.queue.new.out) in
     let tells = g.C.Clock.tells c.args.clock in
     subst (λ (w : Words). HasDone g.D.Disk.content g.D.Disk.faults tells (Some w) conf input before now source_rose out_rose c.args.disk c.queue.result.disk c.queue.result.outcome) (sym c.in-Queue.is)
-        (read_done g.D.Disk.content g.D.Disk.faults tells Say.Queue conf input before now source_rose out_rose c.args.disk c.queue.result.disk c.queue.result.outcome (λ e. absurd cc) (λ t x. x) c.queue.ensures.done)
+    (read_done g.D.Disk.content g.D.Disk.faults tells Say.Queue conf input before now source_rose out_rose c.args.disk c.queue.result.disk c.queue.result.outcome (λ e. absurd cc) (λ t x. x) c.queue.ensures.done)
 
 pub returns-in-Mailbox-clause-done : goal.returns-in-Mailbox-clause-done
 returns-in-Mailbox-clause-done g c =
@@ -29,4 +29,4 @@ returns-in-Mailbox-clause-done g c =
     let out_rose = Rose (g.O.Sink.faults c.args.out.now) (g.O.Sink.faults c.mailbox.new.out) in
     let tells = g.C.Clock.tells c.args.clock in
     subst (λ (w : Words). HasDone g.D.Disk.content g.D.Disk.faults tells (Some w) conf input before now source_rose out_rose c.args.disk c.mailbox.result.disk c.mailbox.result.outcome) (sym c.in-Mailbox.is)
-        (read_done g.D.Disk.content g.D.Disk.faults tells (Say.Mailbox c.in-Mailbox.name) conf input before now source_rose out_rose c.args.disk c.mailbox.result.disk c.mailbox.result.outcome (λ e. absurd cc) (λ t x. x) c.mailbox.ensures.done)
+    (read_done g.D.Disk.content g.D.Disk.faults tells (Say.Mailbox c.in-Mailbox.name) conf input before now source_rose out_rose c.args.disk c.mailbox.result.disk c.mailbox.result.outcome (λ e. absurd cc) (λ t x. x) c.mailbox.ensures.done)
