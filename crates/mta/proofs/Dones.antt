@@ -1,37 +1,31 @@
 -- What the commands leave before their last line.
-use Rattle.std.proofs.Common.{◌≡◌, ◌≢◌, ℕ, ◌+◌, ◌-◌, ◌≤◌, ◌<◌, ◌^◌, List, [], ◌∷◌, ◌++◌, length, Option, Some, None, Result, Ok, Err, refl, sym, ap, subst, ◌∙◌, arith, inl, inr}
+use Rattle.std.proofs.Common.{◌≡◌, ◌≢◌, ℕ, ◌≤◌, ◌<◌, List, [], ◌++◌, length, Option, Some, None, Result, Ok, Err, refl, sym, ap, subst, ◌∙◌, arith, inl, inr}
 use Rattle.std.specs.Prelude.{◌⊎◌}
 use Rattle.std.proofs.lemmas.Bool.{cases_lt}
 use Rattle.std.proofs.lemmas.List.{append-nil}
 use Rattle.mta_edge.specs.Causes.{Rose}
 use Rattle.mta_edge.specs.Outside.{Goes}
 use Rattle.mta_records.specs.declared.step.Step.{Step}
-use Rattle.mta_records.specs.declared.fault.StepFault.TheVariants as StepFaults
-use Rattle.mta_tables.specs.Tables.{TablesValue, tables_of}
-use Rattle.mta_history.specs.Apdu.{SpellsApdu}
-use Rattle.mta_history.specs.Due.{IsQuiet}
-use Rattle.mta_history.specs.History.{State, after, IsHistory}
-use Rattle.mta_history.specs.Image.{front, StandsFor, NoSpoolAt}
+use Rattle.mta_history.specs.History.{after, IsHistory}
+use Rattle.mta_history.specs.Image.{StandsFor}
 use Rattle.mta_history.proofs.Unique.{one_history}
 use Rattle.mta_spool.specs.declared.current.Current.{Current}
 use Rattle.mta_spool.specs.declared.open.OpenWhy.{OpenWhy}
 use Rattle.mta_spool.specs.declared.open.OpenWhy.TheVariants as Whys
-use Rattle.mta_spool.specs.Current.{current_of}
 use Rattle.mta_spool.specs.Opening.{HasRefused}
 use Rattle.mta_spool.specs.Shown.{Shown}
-use Rattle.mta_spool.specs.Stands.{Stands, step_moment}
+use Rattle.mta_spool.specs.Stands.{Stands}
 use Rattle.mta_spool.proofs.Openings.{stands_for}
 use Rattle.mta.specs.declared.stop.Stop.{Stop}
 use Rattle.mta.specs.declared.stop.Stop.TheVariants as Stops
 use Rattle.mta.specs.declared.words.Words.{Words}
 use Rattle.mta.specs.declared.words.Words.TheVariants as Say
-use Rattle.mta.specs.Streams.{TakesFront}
 use Rattle.mta.specs.Ending.{ForHistory, mailbox_named, IsText, IsFront, IsCause}
 use Rattle.mta.specs.Headline.{DiskLeft, HasPrinted, HasDone}
 use Rattle.mta_show.specs.Queue.{queue_text}
 use Rattle.mta_show.specs.Mailbox.{mailbox_text}
 use Rattle.mta.specs.Showing.{stop_of_open, IsShown, IsMailboxShown, Names, HasShown, IsReadCause, HasRead}
-use Rattle.mta.specs.Working.{AreOwn, accepts}
+use Rattle.mta.specs.Working.{accepts}
 
 -- ---- the outside is as it was
 

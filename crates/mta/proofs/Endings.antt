@@ -1,8 +1,7 @@
 -- How a run ends, from what its command left and how its stop was told.
-use Rattle.std.proofs.Common.{◌≡◌, ◌≢◌, ℕ, ◌+◌, ◌-◌, ◌≤◌, ◌<◌, ◌^◌, List, [], ◌∷◌, ◌++◌, length, Option, Some, None, Result, Ok, Err, refl, sym, ap, subst, ◌∙◌, arith, append_assoc, inl, inr}
+use Rattle.std.proofs.Common.{◌≡◌, ◌≢◌, ℕ, List, ◌++◌, length, Option, Some, None, Result, Ok, Err, refl, sym, ap, subst, ◌∙◌, arith, append_assoc, inl, inr}
 use Rattle.std.specs.Prelude.{◌⊎◌}
 use Rattle.std.proofs.lemmas.List.{length-append}
-use Rattle.mta_edge.specs.Causes.{Rose}
 use Rattle.mta_edge.specs.Outside.{Goes, Goes-then}
 use Rattle.mta_records.specs.declared.step.Step.{Step}
 use Rattle.mta_tables.specs.Tables.{TablesValue, tables_of}
@@ -17,9 +16,9 @@ use Rattle.mta.specs.declared.stop.Stop.{Stop}
 use Rattle.mta.specs.declared.stop.Stop.TheVariants as Stops
 use Rattle.mta.specs.declared.words.Words.{Words}
 use Rattle.mta.specs.declared.words.Words.TheVariants as Say
-use Rattle.mta.specs.Streams.{TakesBut, TakesFront}
+use Rattle.mta.specs.Streams.{TakesFront}
 use Rattle.mta.specs.Telling.{line_of, status_of}
-use Rattle.mta.specs.Ending.{mailbox_named, IsCause, IsText, IsFront, IsEnded, done, stopped, cut_text, cut_line, HasClosed, HasTold, told, short, failed, short_failed}
+use Rattle.mta.specs.Ending.{mailbox_named, IsCause, IsEnded, done, stopped, cut_text, cut_line, HasClosed, HasTold, told, short, failed, short_failed}
 use Rattle.mta.specs.Headline.{HasPrinted, IsComplete}
 
 -- ---- what was printed before the last line, and that line

@@ -1,21 +1,18 @@
 -- An item whose number was printed is kept, and what a run leaves.
-use Rattle.std.proofs.Common.{◌≡◌, ◌≢◌, ℕ, zero, suc, ◌+◌, ◌-◌, ◌*◌, ◌/◌, ◌%◌, ◌≤◌, ◌<◌, ◌^◌, List, [], ◌∷◌, ◌++◌, length, Option, Some, None, Result, Ok, Err, refl, sym, ap, subst, ◌∙◌, arith, append_assoc, inl, inr, get_or}
-use Rattle.std.specs.Prelude.{◌⊎◌, codes}
+use Rattle.std.proofs.Common.{◌≡◌, ℕ, ◌+◌, ◌%◌, ◌≤◌, ◌<◌, ◌^◌, List, [], ◌∷◌, ◌++◌, length, Option, Some, None, Result, Ok, Err, refl, sym, ap, subst, ◌∙◌, arith, append_assoc, inl, inr, get_or}
 use Rattle.std.specs.Fmt.{decimal}
 use Rattle.std.proofs.lemmas.Fmt.{decimal_injective, decimal_by_steps}
 use Rattle.std.proofs.lemmas.List.{append_cancel_left, append-nil, length-append}
 use Rattle.mta_edge.specs.Causes.{Rose}
 use Rattle.mta_edge.specs.Outside.{Goes}
 use Rattle.mta_records.specs.declared.step.Step.{Step}
-use Rattle.mta_history.specs.History.{after}
-use Rattle.mta_history.specs.Image.{StandsFor}
 use Rattle.mta_history.proofs.Once.{each_recipient_once}
 use Rattle.mta.specs.declared.stop.Stop.{Stop}
 use Rattle.mta.specs.declared.stop.Stop.TheVariants as Stops
 use Rattle.mta.specs.declared.words.Words.{Words}
 use Rattle.mta.specs.declared.words.Words.TheVariants as Say
-use Rattle.mta.specs.Streams.{TakesBut, TakesFront}
-use Rattle.mta.specs.Telling.{accepted_line, line_of, status_of}
+use Rattle.mta.specs.Streams.{TakesFront}
+use Rattle.mta.specs.Telling.{accepted_line, line_of}
 use Rattle.mta.specs.Working.{IsAccepted}
 use Rattle.mta.specs.Ending.{ForHistory, IsCause, IsText, IsFront, IsEnded, done, stopped, cut_text, cut_line, HasClosed}
 use Rattle.mta.specs.Headline.{HasPrinted, HasDone, IsKept, Ran}

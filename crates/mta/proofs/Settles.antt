@@ -1,5 +1,5 @@
 -- Turns that are made until nothing is due.
-use Rattle.std.proofs.Common.{◌≡◌, ◌≢◌, ℕ, zero, suc, ◌+◌, ◌-◌, ◌≤◌, ◌<◌, List, [], ◌∷◌, ◌++◌, length, Option, Some, Result, Ok, Err, false, true, refl, sym, ap, subst, ◌∙◌, append_assoc, arith}
+use Rattle.std.proofs.Common.{◌≡◌, ℕ, ◌-◌, ◌<◌, List, [], ◌∷◌, ◌++◌, length, Option, Result, Ok, Err, false, true, refl, sym, ap, subst, ◌∙◌, append_assoc, arith}
 use Rattle.std.proofs.lemmas.List.{append-nil}
 use Rattle.mta_edge.specs.Causes.{Rose}
 use Rattle.mta_records.specs.declared.step.Step.{Step}
@@ -8,14 +8,11 @@ use Rattle.mta_records.specs.declared.fault.StepFault.{StepFault}
 use Rattle.mta_records.specs.declared.fault.StepFault.TheVariants as StepFaults
 use Rattle.mta_history.specs.Due.{IsQuiet}
 use Rattle.mta_history.specs.History.{State, IsPossible, ArePossible, after, after_from, after_step, empty}
-use Rattle.mta_history.specs.Image.{front}
 use Rattle.mta_history.proofs.Histories.{length-front-more}
 use Rattle.mta_spool.specs.declared.current.Current.{Current}
-use Rattle.mta_spool.specs.declared.spool.Turned.{Turned}
-use Rattle.mta_spool.specs.declared.spool.Turned.TheVariants.{Did, Quiet}
 use Rattle.mta_spool.specs.Shown.{Shown}
-use Rattle.mta_spool.specs.Stands.{Stands, Appends, step_moment, need_of, journal_limit}
-use Rattle.mta_spool.specs.Turning.{IsNext, IsTurnRefused, Turns}
+use Rattle.mta_spool.specs.Stands.{Stands, Appends, step_moment, journal_limit}
+use Rattle.mta_spool.specs.Turning.{IsNext, IsTurnRefused}
 use Rattle.mta_spool.proofs.Turns.{stands_along}
 use Rattle.mta.specs.Working.{IsOwn, accepts, Worked, IsAccepted, HasSettled, IsRefusal, due as wants_due}
 use Rattle.mta.proofs.Steps.{worked_none, worked_one, worked_then, worked_more, accepts_append, delivery_keeps}

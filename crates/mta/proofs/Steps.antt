@@ -1,18 +1,15 @@
 -- Steps that are added to a spool.
-use Rattle.std.proofs.Common.{◌≡◌, ◌≢◌, ℕ, zero, suc, ◌+◌, ◌-◌, ◌≤◌, ◌<◌, ◌^◌, List, [], ◌∷◌, ◌++◌, length, set, Option, None, Some, Result, Ok, Err, IsErrOf, Bool, true, false, cond, ltb, min, max, refl, sym, ap, subst, ◌∙◌, append_assoc, arith, inl, inr}
-use Rattle.std.specs.Prelude.{◌⊎◌, IsOk, IsErr, slice_get, count_by}
+use Rattle.std.proofs.Common.{◌≡◌, ℕ, zero, suc, ◌+◌, ◌-◌, ◌≤◌, ◌<◌, List, [], ◌∷◌, ◌++◌, length, set, Option, None, Some, Result, Ok, Err, true, false, cond, ltb, refl, sym, ap, subst, ◌∙◌, append_assoc, arith, inl, inr}
+use Rattle.std.specs.Prelude.{slice_get}
 use Rattle.std.proofs.lemmas.Bool.{cases_lt, cases_eq, lt-ltb, le-ltb}
-use Rattle.std.proofs.lemmas.List.{append-nil, length-append}
+use Rattle.std.proofs.lemmas.List.{append-nil}
 use Rattle.std.proofs.lemmas.List.Sums.{sum_by-cons}
 use Rattle.std.proofs.lemmas.Option.{option_and_then_some, slice_get_within}
-use Rattle.mta_edge.specs.Causes.{Rose}
 use Rattle.mta_records.specs.declared.step.Step.{Step}
 use Rattle.mta_records.specs.declared.step.Step.TheVariants.{Tables, Accept, Deliver}
-use Rattle.mta_records.specs.declared.fault.StepFault.{StepFault}
-use Rattle.mta_records.specs.declared.fault.StepFault.TheVariants as StepFaults
 use Rattle.mta_tables.specs.Tables.{TablesValue, tables_of, tables}
 use Rattle.mta_tables.specs.Lines.{◌>>=◌}
-use Rattle.mta_tables.specs.Reading.{Bad, bad, nothing, read_lines}
+use Rattle.mta_tables.specs.Reading.{Bad, nothing, read_lines}
 use Rattle.mta_tables.specs.declared.reading.Lines.{Lines}
 use Rattle.mta_history.specs.declared.item.Item.{Item}
 use Rattle.mta_history.specs.declared.item.Origin.TheVariants.{Submitted}
@@ -20,14 +17,14 @@ use Rattle.mta_history.specs.declared.item.Status.TheVariants.{Delivered}
 use Rattle.mta_history.specs.Apdu.{statuses_at_first}
 use Rattle.mta_history.specs.Verdict.{last_of, recorded, tables_value, value_of}
 use Rattle.mta_history.specs.Due.{numbered, IsDue}
-use Rattle.mta_history.specs.Machine.{Machine, with_status}
-use Rattle.mta_history.specs.History.{State, IsHistory, ArePossible, IsPossible, after, after_step, after_from, empty}
+use Rattle.mta_history.specs.Machine.{with_status}
+use Rattle.mta_history.specs.History.{State, IsHistory, IsPossible, after, after_step, after_from, empty}
 use Rattle.mta_spool.specs.declared.current.Current.{Current}
 use Rattle.mta_spool.specs.Current.{current_of}
 use Rattle.mta_spool.specs.Shown.{Shown}
-use Rattle.mta_spool.specs.Stands.{Stands, Appends, step_moment, need_of, journal_limit}
-use Rattle.mta_spool.specs.Turning.{IsNext, IsRecorded, IsTurnRefused}
-use Rattle.mta.specs.Working.{IsTimed, IsOwn, AreOwn, accepts, is_accept, Worked, IsWanted, tables as wants_tables, accept as wants_accept, due as wants_due, IsRefusal, IsAccepted}
+use Rattle.mta_spool.specs.Stands.{Stands, Appends}
+use Rattle.mta_spool.specs.Turning.{IsRecorded}
+use Rattle.mta.specs.Working.{IsTimed, IsOwn, AreOwn, accepts, is_accept, Worked, IsAccepted}
 
 -- ---- histories
 

@@ -1,5 +1,5 @@
 -- The tables and then a message are stored.
-use Rattle.std.proofs.Common.{◌≡◌, ◌≢◌, ℕ, zero, suc, ◌+◌, ◌-◌, ◌≤◌, ◌<◌, ◌^◌, List, [], ◌∷◌, ◌++◌, length, Option, Some, None, Result, Ok, Err, IsErrOf, Bool, false, true, cond, refl, sym, ap, subst, ◌∙◌, true≢false, append_assoc, arith, inl, inr}
+use Rattle.std.proofs.Common.{◌≡◌, ℕ, ◌+◌, ◌-◌, ◌≤◌, ◌<◌, ◌^◌, List, [], ◌∷◌, ◌++◌, length, Option, Some, None, Result, Ok, Err, IsErrOf, Bool, false, true, refl, sym, ap, subst, ◌∙◌, true≢false, arith, inl, inr}
 use Rattle.std.specs.Prelude.{◌⊎◌, if◌then◌else◌, IfOk}
 use Rattle.std.proofs.lemmas.Bool.{cases_eq}
 use Rattle.std.proofs.lemmas.List.{append-nil}
@@ -12,12 +12,11 @@ use Rattle.mta_tables.specs.Tables.{TablesValue}
 use Rattle.mta_history.specs.Verdict.{last_of}
 use Rattle.mta_history.specs.History.{State, after, empty}
 use Rattle.mta_spool.specs.declared.current.Current.{Current}
-use Rattle.mta_spool.specs.Current.{current_of}
 use Rattle.mta_spool.specs.Shown.{Shown}
-use Rattle.mta_spool.specs.Stands.{Stands, Appends, step_moment, need_of, journal_limit}
+use Rattle.mta_spool.specs.Stands.{Stands, Appends, step_moment}
 use Rattle.mta_spool.specs.Turning.{IsRecorded}
-use Rattle.mta.specs.Working.{IsOwn, accepts, Worked, IsAccepted, HasStored, IsRefusal, IsWanted, tables as wants_tables, accept as wants_accept}
-use Rattle.mta.proofs.Steps.{worked_none, worked_one, worked_then, worked_more, worked_unless, accepts_append, after_append, tables_last, accepted_item}
+use Rattle.mta.specs.Working.{accepts, Worked, HasStored, IsRefusal, IsWanted, tables as wants_tables, accept as wants_accept}
+use Rattle.mta.proofs.Steps.{worked_none, worked_one, worked_then, accepts_append, after_append, tables_last, accepted_item}
 
 -- what recording the tables leaves
 pub record Recording {D C : Type 0} (content : D → Option (List ℕ)) (faults : D → ℕ) (tells : ℕ → Type 0) (conf input : List ℕ) (old mid : Shown D C) (added : List Step) : Type 0 where

@@ -1,15 +1,14 @@
 -- What `submit` leaves before its last line, and a command that stopped before it opened a disk.
-use Rattle.std.proofs.Common.{◌≡◌, ◌≢◌, ℕ, ◌+◌, ◌-◌, ◌≤◌, ◌<◌, ◌^◌, List, [], ◌∷◌, ◌++◌, length, Option, Some, None, Result, Ok, Err, refl, sym, ap, subst, ◌∙◌, arith, inl, inr}
-use Rattle.std.specs.Prelude.{◌⊎◌}
+use Rattle.std.proofs.Common.{◌≡◌, ℕ, ◌+◌, ◌≤◌, ◌<◌, ◌^◌, List, [], ◌++◌, length, Option, Some, Result, Ok, Err, refl, sym, ap, subst, ◌∙◌, arith, inl, inr}
 use Rattle.mta_edge.specs.Causes.{Rose}
 use Rattle.mta_edge.specs.Outside.{Goes}
 use Rattle.mta_records.specs.declared.step.Step.{Step}
 use Rattle.mta_records.specs.declared.fault.StepFault.{StepFault}
 use Rattle.mta_records.specs.declared.fault.StepFault.TheVariants as StepFaults
-use Rattle.mta_tables.specs.Tables.{TablesValue, tables_of}
+use Rattle.mta_tables.specs.Tables.{tables_of}
 use Rattle.mta_history.specs.Apdu.{SpellsApdu}
 use Rattle.mta_history.specs.Due.{IsQuiet}
-use Rattle.mta_history.specs.History.{State, after, IsHistory}
+use Rattle.mta_history.specs.History.{after, IsHistory}
 use Rattle.mta_history.specs.Image.{front, StandsFor}
 use Rattle.mta_spool.specs.declared.current.Current.{Current}
 use Rattle.mta_spool.specs.Current.{current_of}

@@ -1,19 +1,15 @@
 -- What `submit` leaves of an open spool.
-use Rattle.std.proofs.Common.{◌≡◌, ◌≢◌, ℕ, ◌+◌, ◌-◌, ◌≤◌, ◌<◌, ◌^◌, List, [], ◌∷◌, ◌++◌, length, Option, Some, None, Result, Ok, Err, refl, sym, ap, subst, ◌∙◌, arith, inl, inr}
-use Rattle.std.specs.Prelude.{◌⊎◌}
+use Rattle.std.proofs.Common.{◌≡◌, ℕ, ◌≤◌, List, ◌++◌, Option, Result, Ok, Err, refl, sym, ap, subst, arith, inl, inr}
 use Rattle.mta_edge.specs.Causes.{Rose}
 use Rattle.mta_edge.specs.Outside.{Goes}
-use Rattle.mta_records.specs.declared.step.Step.{Step}
 use Rattle.mta_records.specs.declared.fault.StepFault.{StepFault}
 use Rattle.mta_records.specs.declared.fault.StepFault.TheVariants as StepFaults
 use Rattle.mta_spool.specs.declared.current.Current.{Current}
 use Rattle.mta_spool.specs.Shown.{Shown}
-use Rattle.mta_spool.specs.Stands.{Stands}
 use Rattle.mta.specs.declared.stop.Stop.{Stop}
 use Rattle.mta.specs.declared.stop.Stop.TheVariants as Stops
-use Rattle.mta.specs.Streams.{TakesFront}
 use Rattle.mta.specs.Telling.{accepted_line}
-use Rattle.mta.specs.Working.{accepts, Worked, IsAccepted, HasStored, HasSettled, IsRefusal, IsSaid, silent, said, cut, IsWorkStop, stop_of_step, HasAcknowledged, HasWorked}
+use Rattle.mta.specs.Working.{HasStored, HasSettled, IsRefusal, silent, said, cut, IsWorkStop, stop_of_step, HasAcknowledged, HasWorked}
 use Rattle.mta.proofs.Steps.{worked_then, worked_more, worked_unless, accepts_append}
 
 -- a refused step is that stop

@@ -1,12 +1,12 @@
 -- What a run leaves of everything that was handed in.
-use Rattle.std.specs.Prelude.{◌≡◌, ◌≢◌, ◌⊎◌, ◌+◌, ◌<◌, ◌≤◌, ◌-◌, ◌^◌, ℕ, List, [], ◌∷◌, ◌++◌, length, Option, None, Some, Result, Ok, Err}
+use Rattle.std.specs.Prelude.{◌≡◌, ◌≢◌, ◌⊎◌, ◌+◌, ◌<◌, ◌≤◌, ◌^◌, ℕ, List, [], ◌++◌, length, Option, None, Some, Result, Ok, Err}
 use Rattle.mta_edge.specs.Causes.{Rose}
 use Rattle.mta_edge.specs.Outside.{Goes}
 use Rattle.mta_records.specs.declared.step.Step.{Step}
 use Rattle.mta_tables.specs.Tables.{TablesValue, tables_of}
 use Rattle.mta_history.specs.declared.item.Item.{Item}
 use Rattle.mta_history.specs.Apdu.{SpellsApdu}
-use Rattle.mta_history.specs.Verdict.{last_of, recorded}
+use Rattle.mta_history.specs.Verdict.{recorded}
 use Rattle.mta_history.specs.Due.{numbered, IsQuiet}
 use Rattle.mta_history.specs.History.{after, IsHistory, RecipientsOnce}
 use Rattle.mta_history.specs.Image.{StandsFor}

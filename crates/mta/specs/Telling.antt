@@ -1,5 +1,5 @@
 -- What is printed.
-use Rattle.std.specs.Prelude.{◌≡◌, ℕ, List, [], ◌∷◌, ◌++◌, codes}
+use Rattle.std.specs.Prelude.{ℕ, List, [], ◌∷◌, ◌++◌, codes}
 use Rattle.std.specs.Fmt.{decimal}
 use Rattle.mta_tables.specs.declared.fault.LineKind.{LineKind}
 use Rattle.mta_tables.specs.declared.fault.LineKind.TheVariants as Kinds

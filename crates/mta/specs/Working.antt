@@ -1,5 +1,5 @@
 -- What `submit` adds to a spool.
-use Rattle.std.specs.Prelude.{◌≡◌, ◌⊎◌, ◌-◌, ◌^◌, ℕ, ◌+◌, ◌≤◌, ◌<◌, List, [], ◌∷◌, ◌++◌, length, Bool, true, false, count_by, Option, Some, Result, Ok, Err, slice_get}
+use Rattle.std.specs.Prelude.{◌≡◌, ◌⊎◌, ◌-◌, ◌^◌, ℕ, ◌+◌, ◌≤◌, ◌<◌, List, [], ◌∷◌, ◌++◌, length, Bool, true, false, count_by, Option, Some, Result, Ok, Err}
 use Rattle.mta_edge.specs.Causes.{Rose}
 use Rattle.mta_edge.specs.Outside.{Goes}
 use Rattle.mta_records.specs.declared.step.Step.{Step}
@@ -7,12 +7,10 @@ use Rattle.mta_records.specs.declared.step.Step.TheVariants.{Tables, Accept, Del
 use Rattle.mta_records.specs.declared.fault.StepFault.{StepFault}
 use Rattle.mta_records.specs.declared.fault.StepFault.TheVariants as StepFaults
 use Rattle.mta_history.specs.declared.item.Item.{Item}
-use Rattle.mta_history.specs.Verdict.{last_of, recorded}
+use Rattle.mta_history.specs.Verdict.{last_of}
 use Rattle.mta_history.specs.Due.{numbered, IsQuiet}
 use Rattle.mta_history.specs.History.{State, IsHistory, after, after_step}
-use Rattle.mta_history.specs.Image.{front}
 use Rattle.mta_spool.specs.declared.current.Current.{Current}
-use Rattle.mta_spool.specs.Current.{current_of}
 use Rattle.mta_spool.specs.Shown.{Shown}
 use Rattle.mta_spool.specs.Stands.{Stands, step_moment, need_of, journal_limit}
 use Rattle.mta_spool.specs.Turning.{IsNext}

@@ -1,8 +1,5 @@
-use Rattle.std.proofs.Common.{◌≡◌, Result, Err, refl, sym, ap, subst, ◌∙◌}
 use Rattle.mta_edge.specs.Causes.{Rose}
-use Rattle.mta.specs.declared.stop.Stop.{Stop}
 use Rattle.mta.specs.declared.words.Words.TheVariants as Say
-use Rattle.mta.specs.Showing.{HasRead, stop_of_open}
 use Rattle.mta.proofs.Dones.{read_not_opened, mailbox_read}
 use Rattle.mta.proofs.command.mailbox.Goals as goal
 

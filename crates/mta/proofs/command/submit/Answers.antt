@@ -1,9 +1,8 @@
-use Rattle.std.proofs.Common.{◌≡◌, Result, Ok, Err, refl, sym, ap, subst, ◌∙◌, inl, inr}
+use Rattle.std.proofs.Common.{subst}
 use Rattle.std.specs.Prelude.{◌⊎◌, Some}
 use Rattle.mta_edge.specs.Causes.{Rose}
 use Rattle.mta.specs.declared.words.Words.TheVariants as Say
 use Rattle.mta.specs.Working.{HasWorked}
-use Rattle.mta.specs.Headline.{HasDone}
 use Rattle.mta.proofs.Dones.{left_alone}
 use Rattle.mta.proofs.Submits.{stopped_done, gather_cause, gather_no_sink, submit_not_opened, submit_worked}
 use Rattle.mta.proofs.command.submit.Goals as goal

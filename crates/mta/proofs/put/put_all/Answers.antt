@@ -1,5 +1,5 @@
-use Rattle.std.proofs.Common.{◌≡◌, ◌≤◌, ◌++◌, ℕ, List, length, take, drop, sym, ap, ◌∙◌, refl, append_assoc, arith, rules}
-use Rattle.mta_edge.specs.Outside.{Goes, Goes-then}
+use Rattle.std.proofs.Common.{arith, rules}
+use Rattle.mta_edge.specs.Outside.{Goes-then}
 use Rattle.mta.proofs.Pieces.{takes_more}
 use Rattle.mta.proofs.put.put_all.Goals as goal
 

@@ -1,4 +1,4 @@
-use Rattle.std.proofs.Common.{◌≡◌, ◌≤◌, ◌++◌, ℕ, length}
+use Rattle.std.proofs.Common.{◌≤◌, length}
 use Rattle.mta_edge.specs.Outside.{Goes}
 use Rattle.mta.specs.Streams.{TakesBut}
 use Rattle.mta.proofs.put.put_all.Given as goal

@@ -1,9 +1,8 @@
-use Rattle.std.proofs.Common.{◌≡◌, ℕ, List, Result, Ok, Err, refl, sym, ap, subst, ◌∙◌}
-use Rattle.std.specs.Prelude.{◌⊎◌, None}
+use Rattle.std.proofs.Common.{sym, ◌∙◌}
+use Rattle.std.specs.Prelude.{◌⊎◌}
 use Rattle.mta_edge.specs.Causes.{Rose}
 use Rattle.mta.specs.declared.stop.Stop.TheVariants as Stops
 use Rattle.mta.specs.Words.{command_of}
-use Rattle.mta.specs.Headline.{HasDone}
 use Rattle.mta.proofs.Dones.{left_alone}
 use Rattle.mta.proofs.Submits.{stopped_done}
 use Rattle.mta.proofs.run.command.Goals as goal

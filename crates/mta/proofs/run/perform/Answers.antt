@@ -1,4 +1,4 @@
-use Rattle.std.proofs.Common.{◌≡◌, ℕ, List, Result, Ok, Err, refl, sym, ap, subst, ◌∙◌}
+use Rattle.std.proofs.Common.{sym, subst}
 use Rattle.std.specs.Prelude.{◌⊎◌, Some}
 use Rattle.mta_edge.specs.Causes.{Rose}
 use Rattle.mta.specs.declared.words.Words.{Words}

@@ -1,6 +1,6 @@
 use Rattle.std.proofs.Common.{refl}
 use Rattle.mta.specs.Telling.{line_of}
-use Rattle.mta.specs.Ending.{told, short, failed, short_failed}
+use Rattle.mta.specs.Ending.{short, short_failed}
 use Rattle.mta.proofs.tell.tell.Goals as goal
 
 pub returns-in-Ok-put_all-2-clause-told : goal.returns-in-Ok-put_all-2-clause-told

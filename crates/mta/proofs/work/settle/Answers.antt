@@ -1,4 +1,4 @@
-use Rattle.std.proofs.Common.{◌≡◌, ◌++◌, ◌∷◌, [], ℕ, List, Ok, subst}
+use Rattle.std.proofs.Common.{◌++◌, ◌∷◌, [], Ok, subst}
 use Rattle.mta_spool.specs.declared.spool.Turned.{Turned}
 use Rattle.mta_spool.specs.Stands.{step_moment}
 use Rattle.mta_spool.specs.Turning.{Turns}

@@ -1,8 +1,5 @@
-use Rattle.std.proofs.Common.{◌≡◌, ◌++◌, ℕ, List, Ok, Err, Result, Bool, false, cond, refl, sym, ap, subst, ◌∙◌}
-use Rattle.std.specs.Prelude.{if◌then◌else◌}
+use Rattle.std.proofs.Common.{ℕ, List, Err, ap, subst}
 use Rattle.mta_records.specs.declared.step.Step.TheVariants.{Accept}
-use Rattle.mta_records.specs.declared.fault.StepFault.{StepFault}
-use Rattle.mta_records.specs.declared.fault.StepFault.TheVariants as StepFaults
 use Rattle.mta_spool.specs.Stands.{Appends, step_moment}
 use Rattle.mta.proofs.Stores.{recording, store_result, tables_refused, not_same}
 use Rattle.mta.proofs.work.store.Goals as goal

@@ -1,7 +1,7 @@
-use Rattle.std.proofs.Common.{◌≡◌, ◌<◌, ◌^◌, ℕ, List, Ok, Err, Result, refl, sym, ap, subst, ◌∙◌}
+use Rattle.std.proofs.Common.{Err, sym, subst}
 use Rattle.mta_edge.specs.Causes.{Rose}
 use Rattle.mta.specs.declared.stop.Stop.{Stop}
-use Rattle.mta.specs.Working.{HasStored, HasWorked}
+use Rattle.mta.specs.Working.{HasWorked}
 use Rattle.mta.proofs.Works.{work_refused, work_unsaid, work_settled, work_unsettled}
 use Rattle.mta.proofs.work.work.Goals as goal
 
