@@ -1,4 +1,6 @@
 pub mod Dones
+pub mod Endings
+pub mod Keepings
 pub mod Pieces
 pub mod Settles
 pub mod Steps

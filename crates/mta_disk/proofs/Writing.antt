@@ -1,5 +1,5 @@
 -- A write on a disk with nothing pending, and what a crash leaves until it is synced.
-use Rattle.std.proofs.Common.{◌≡◌, ℕ, ◌+◌, ◌≤◌, List, [], ◌∷◌, ◌++◌, length, Option, Some, sym, ap, subst, ◌∙◌, arith, length-append}
+use Rattle.std.proofs.Common.{◌≡◌, ℕ, ◌+◌, ◌≤◌, List, [], ◌∷◌, ◌++◌, length, Option, Some, sym, subst, arith, length-append}
 use Rattle.mta_edge.specs.Crashes.{Crash, AtAnyMoment, Settled, Stays}
 use Rattle.mta_edge.specs.Outside.{Torn}
 use Rattle.mta_edge.proofs.Moments.{at_once, goes_on}

@@ -1,5 +1,5 @@
 -- Why a call on a disk refuses.
-use Rattle.std.specs.Prelude.{ℕ, ◌≡◌, ◌≤◌, ◌<◌, List, length, drop, Option, Some, Result, IsErrOf}
+use Rattle.std.specs.Prelude.{ℕ, ◌≡◌, ◌≤◌, ◌<◌, List, length, drop, Result, IsErrOf}
 use Rattle.mta_edge.specs.Causes.{Rose}
 use Rattle.mta_disk.specs.declared.gate.PutFault.{PutFault}
 use Rattle.mta_disk.specs.declared.gate.PutFault.TheVariants as PutFaults

@@ -2,8 +2,7 @@
 //! `journal` or `plain`, the file, the number of bodies and the octets of each. A script times it (checks/journal_speed.sh).
 #![tactic(auto)]
 
-ghost use Rattle.std.specs.Prelude.{None, ◌≡◌, ◌≤◌, ◌<◌, ◌+◌, ◌^◌, length, IfOk};
-ghost use Rattle.mta_edge.specs.Causes.{Rose};
+ghost use Rattle.std.specs.Prelude.{◌≤◌, length};
 
 mod disk;
 
@@ -19,6 +18,7 @@ use std::os::unix::fs::FileExt;
 const LONGEST: usize = 1_000_000;
 
 /// What the words say.
+#[derive(Drop)]
 struct Words {
     journal: bool,
     path: String,
@@ -26,7 +26,7 @@ struct Words {
     size: usize,
 }
 
-fn words(rt: &HostRuntime) -> Option<Words> {
+fn asked(rt: &HostRuntime) -> Option<Words> {
     let mut words = env::args(rt).ok()?.skip(1);
     let kind = words.next()?;
     let path = words.next()?;
@@ -70,7 +70,7 @@ fn write_all(file: &File, body: &[u8], count: u32) -> Result<()> {
 }
 
 fn main(rt: HostRuntime) -> Result<()> {
-    let Some(words) = words(&rt) else {
+    let Some(words) = asked(&rt) else {
         println!(rt; "usage: mta_journal_bench journal|plain FILE BODIES OCTETS")?;
         return Ok(());
     };

@@ -379,7 +379,7 @@ row_goes said number d row text r h st =
 the_same : (n : ℕ) → n ≡ n + 0
 the_same n = omega arith
 
-rows_go : (rows : List Row) (said : List Line) (number : ℕ) (d : Draft) (rest : List ℕ) → All IsRow rows → Holds said d → CanStand (said ++ said_by rows) → Goes said number d rows rest
+pub rows_go : (rows : List Row) (said : List Line) (number : ℕ) (d : Draft) (rest : List ℕ) → All IsRow rows → Holds said d → CanStand (said ++ said_by rows) → Goes said number d rows rest
 rows_go [] said number d rest a h st = record {
   after = d;
   holds = subst (λ s. Holds s d) (sym (append-nil said)) h;
@@ -479,3 +479,21 @@ pub read_refused : (text : List ℕ) (r : Result TablesValue TablesFault) → Re
 read_refused text (Ok t) h line kind f = not_good (record { line = line; kind = kind }) t (sym (bad_read text line kind f) ∙ h)
 read_refused text (Err (Faults.BadLine n why)) h line kind f = same_bad n line why kind (sym h ∙ bad_read text line kind f)
 read_refused text (Err Faults.Memory) h line kind f = tt
+
+-- ---- no text goes on with a wrong line
+
+pub wrong_ends : (before : List Row) (line more : List ℕ) (kind : LineKind) (t : TablesValue) → All IsRow before → CanStand (said_by before) → IsOneLine line → IsWrong (said_by before) line kind
+    → IsTablesText (text_of before ++ (line ++ 10 ∷ more)) t → ⊥
+wrong_ends before line more kind t rows st one w h =
+    let text = text_of before ++ (line ++ 10 ∷ more) in
+    let b : IsBadLine text (suc (length before)) kind = record {
+      fits = h.fits;
+      before = before;
+      are_rows = rows;
+      stand = st;
+      rest = line ++ 10 ∷ more;
+      text_is = refl;
+      number_is = refl;
+      fault = inl (record { line = line; more = more; one_line = one; rest_is = refl; wrong = w });
+    } in
+    not_good (record { line = suc (length before); kind = kind }) t (sym (bad_line_read text (suc (length before)) kind b) ∙ tables_read text t h)

@@ -80,7 +80,7 @@ nothing_added said d h st =
     let mailboxes = more mailbox_in said Said.Nothing ∙ append-nil (mailboxes_of said) in
     (record { domain = domains ∙ h.domain; own = names ∙ h.own; mailboxes = mailboxes ∙ h.mailboxes }, same_stand _ said domains names mailboxes st)
 
-domain_added : (said : List Line) (d : Draft) (x : DomainValue) (o : Option DomainValue) → d.domain ≡ o → Holds said d → CanStand said → Added said (Said.Domain x) (cond (is_some o) (Err Kinds.Twice) (Ok (draft (Some x) d.own d.mailboxes)))
+pub domain_added : (said : List Line) (d : Draft) (x : DomainValue) (o : Option DomainValue) → d.domain ≡ o → Holds said d → CanStand said → Added said (Said.Domain x) (cond (is_some o) (Err Kinds.Twice) (Ok (draft (Some x) d.own d.mailboxes)))
 domain_added said d x (Some y) w h st = (let e : length (domains_of said) ≡ 1 = ap length (h.domain ∙ ap option_to_list w) in omega arith)
 domain_added said d x None w h st =
     let s = Said.Domain x in
@@ -97,7 +97,7 @@ domain_added said d x None w h st =
       },
     )
 
-name_added : (said : List Line) (d : Draft) (w : List ℕ) (o : Option (List ℕ)) → d.own ≡ o → Holds said d → CanStand said → Added said (Said.Name w) (cond (is_some o) (Err Kinds.Twice) (Ok (draft d.domain (Some w) d.mailboxes)))
+pub name_added : (said : List Line) (d : Draft) (w : List ℕ) (o : Option (List ℕ)) → d.own ≡ o → Holds said d → CanStand said → Added said (Said.Name w) (cond (is_some o) (Err Kinds.Twice) (Ok (draft d.domain (Some w) d.mailboxes)))
 name_added said d w (Some y) v h st = (let e : length (names_of said) ≡ 1 = ap length (h.own ∙ ap option_to_list v) in omega arith)
 name_added said d w None v h st =
     let s = Said.Name w in

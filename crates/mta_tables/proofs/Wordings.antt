@@ -61,7 +61,7 @@ cut_back s (c ∷ cs) =
       | inr other ↦ rw other (ap (λ x. c ∷ x) (cut_back s cs) ∙ rejoined_more s c (cut_at s cs).0 (cut_at s cs).1)
     ]
 
-none_of : (p : ℕ → Bool) (s : ℕ) (text : List ℕ) → p s ≡ false → list_all p text ≡ true → All (λ c. c ≢ s) text
+pub none_of : (p : ℕ → Bool) (s : ℕ) (text : List ℕ) → p s ≡ false → list_all p text ≡ true → All (λ c. c ≢ s) text
 none_of p s [] lacks h = All-nil (λ x. x ≢ s)
 none_of p s (c ∷ cs) lacks h =
     let a = and_parts (p c) (list_all p cs) h in

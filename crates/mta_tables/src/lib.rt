@@ -17,6 +17,9 @@ mod tests;
 pub use cut::is_word;
 pub use domain::Domain;
 pub use fault::{LineKind, TablesFault};
-pub use laws::{first_bad_line_is_refused, tables_of_a_text_are_read};
+pub use laws::{
+    a_text_goes_on_behind_lines_that_can_stand, first_bad_line_is_refused,
+    no_text_goes_on_with_a_wrong_line, tables_of_a_text_are_read,
+};
 pub use mailbox::{Hop, Mailbox};
 pub use tables::Tables;

@@ -72,8 +72,10 @@ impl Tables {
         ensures only { (t : TablesValue) → IsTablesText text.now t → IsReadAs result t }
 
         // Which line is refused, and that the first bad line is refused for what is wrong with it, unless memory runs out.
-        ensures fault { (line : ℕ) (kind : LineKind) → result ≡ Err (Faults.BadLine line kind) → IsFirstBadLine text.now line kind }
-        ensures refused { (line : ℕ) (kind : LineKind) → IsFirstBadLine text.now line kind → IsRefusedAs result line kind }
+        ensures fault { (line : ℕ) (kind : LineKind) → result ≡ Err (Faults.BadLine line kind)
+            → IsFirstBadLine text.now line kind }
+        ensures refused { (line : ℕ) (kind : LineKind) → IsFirstBadLine text.now line kind
+            → IsRefusedAs result line kind }
     {
         read_tables(alloc, text)
     }

@@ -1,0 +1,6 @@
+pub mod Domains
+pub mod Identifiers
+pub mod Expansions
+pub mod Traces
+pub mod TraceElements
+pub mod ExtensionFields

@@ -1,0 +1,31 @@
+//! O/R names whole (X.402, clause 18; X.411): every spelling of them is read, the one canonical spelling is written.
+#![tactic(auto)]
+
+mod attributes;
+mod extension;
+mod label;
+mod name;
+mod normal;
+mod pair;
+mod person;
+mod reading;
+mod row;
+mod same;
+mod standard;
+#[cfg(test)]
+mod tests;
+mod unit;
+mod writing;
+
+pub use attributes::{Attributes, Extra, Label, Pair, Person};
+pub use extension::read_number;
+pub use label::{
+    are_country_characters, country_size_of, label_class_of, read_country, read_label,
+    read_label_choice,
+};
+pub use name::OrName;
+pub use normal::{same_label, same_text};
+pub use row::Row;
+pub use same::{copied_label, copied_raw};
+pub use standard::nothing;
+pub use writing::{constructed, primitive, put_around, put_label, put_label_choice, put_raw_if};
