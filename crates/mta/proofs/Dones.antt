@@ -67,7 +67,7 @@ disk_refused content faults old new why refused = record {
   left = λ calm f was none. refused.same (λ e. calm (refused.disk e)) f was (no_history_long f none);
 }
 
-open_no_sink : (why : OpenWhy) → stop_of_open why ≡ Stops.Sink → ⊥
+pub open_no_sink : (why : OpenWhy) → stop_of_open why ≡ Stops.Sink → ⊥
 open_no_sink (Whys.NotSpool at) e = absurd cc
 open_no_sink Whys.Disk e = absurd cc
 open_no_sink Whys.Memory e = absurd cc
@@ -75,7 +75,7 @@ open_no_sink Whys.Memory e = absurd cc
 pub printed_nothing : (text : List ℕ → Type 0) (told : Option (List ℕ)) (stop : Stop) → (stop ≡ Stops.Sink → ⊥) → HasPrinted text told told (Err stop)
 printed_nothing text told stop other = inl (other, [], inl refl, Goes-nothing told)
 
-err_is : (a b : Stop) → ◌≡◌ {A = Result (Unit {0}) Stop} (Err a) (Err b) → a ≡ b
+pub err_is : (a b : Stop) → ◌≡◌ {A = Result (Unit {0}) Stop} (Err a) (Err b) → a ≡ b
 err_is a b e = cc
 
 pub read_cause_open : {D : Type 0} (content : D → Option (List ℕ)) (faults : D → ℕ) (old new : D) (words : Words) (out_rose : Type 0) (why : OpenWhy) → HasRefused content faults old new why → IsReadCause words (content old) (Rose (faults old) (faults new)) out_rose (stop_of_open why)

@@ -50,6 +50,7 @@ accepted_number n k x y small low e =
 
 -- no stop's line begins as that of an acceptance
 no_stop : (stop : Stop) (n : ℕ) (x : List ℕ) → accepted_line n ++ x ≡ line_of stop → ⊥
+unfolding line_of
 no_stop Stops.Usage n x e = let h : ◌≡◌ {A = ℕ} 97 117 = ap (λ (l : List ℕ). get_or l 0 0) e in omega (arith, h)
 no_stop (Stops.Tables line kind) n x e = let h : ◌≡◌ {A = ℕ} 97 116 = ap (λ (l : List ℕ). get_or l 0 0) e in omega (arith, h)
 no_stop (Stops.NotSpool at) n x e = let h : ◌≡◌ {A = ℕ} 97 110 = ap (λ (l : List ℕ). get_or l 0 0) e in omega (arith, h)
@@ -121,7 +122,7 @@ no_words words conf input disk added before now (Err stop) p e none = absurd cc
 pub ran_done : {D : Type 0} (content : D → Option (List ℕ)) (faults : D → ℕ) (tells : ℕ → Type 0) (words : Option Words) (conf input before mid now : Option (List ℕ)) (source_rose out_rose rose : Type 0) (old new : D) (outcome : Result (Unit {0}) Stop) (status : ℕ)
     → (has : HasDone content faults tells words conf input before mid source_rose out_rose old new outcome) → IsEnded (IsCause words conf input (content old) source_rose (Rose (faults old) (faults new)) rose has.added) (IsText words conf input (content old) has.added) rose before now status
     → (status ≡ 0 → outcome ≡ Ok tt) → Ran content faults tells words conf input before now source_rose rose old new status
-ran_done content faults tells words conf input before mid now source_rose out_rose rose old new outcome status has ended zero = record {
+ran_done content faults tells words conf input before mid now source_rose out_rose rose old new outcome status has ended well = record {
   added = has.added;
   disk_stands = has.disk;
   recipients_once = λ f steps was st. each_recipient_once (steps ++ has.added) (has.history f steps was st);
@@ -131,10 +132,10 @@ ran_done content faults tells words conf input before mid now source_rose out_ro
   provenance = has.own;
   at_most_one = has.few;
   only_submit = has.only;
-  ended_well = λ z. (no_words words conf input (content old) has.added before mid outcome has.printed (zero z), has.stood (zero z));
-  read_well = λ z w. has.gathered w (zero z);
-  named_well = λ name z w. has.named name w (zero z);
-  settled = λ z w. has.settled w (zero z);
+  ended_well = λ z. (no_words words conf input (content old) has.added before mid outcome has.printed (well z), has.stood (well z));
+  read_well = λ z w. has.gathered w (well z);
+  named_well = λ name z w. has.named name w (well z);
+  settled = λ z w. has.settled w (well z);
 } where
   cause : Stop → Type 0
   cause stop = IsCause words conf input (content old) source_rose (Rose (faults old) (faults new)) rose has.added stop

@@ -86,8 +86,8 @@ said_text conf input disk text apdu base added n told_conf told_input same small
 
 said_printed : (text : List ℕ → Type 0) (numbers : ℕ → Type 0) (before now : Option (List ℕ)) (result : Result (Unit {0}) Stop) → ((n : ℕ) → n < 2 ^ 32 → numbers n → text (accepted_line n)) → IsSaid numbers before now result → HasPrinted text before now result
 said_printed text numbers before now _ texts (silent stop other same) = inl (other, [], inl refl, subst (λ (t : Option (List ℕ)). Goes (λ a b. b ≡ a ++ []) before t) (sym same) (Goes-nothing before))
-said_printed text numbers before now _ texts (said (Ok done) n small number no goes) = (accepted_line n, texts n small number, goes)
-said_printed text numbers before now _ texts (said (Err stop) n small number no goes) = inl (λ e. no (ap (λ (s : Stop). Err s) e), accepted_line n, inr (texts n small number), goes)
+said_printed text numbers before now _ texts (said (Ok done) n small number other goes) = (accepted_line n, texts n small number, goes)
+said_printed text numbers before now _ texts (said (Err stop) n small number other goes) = inl (λ e. other (ap (λ (s : Stop). Err s) e), accepted_line n, inr (texts n small number), goes)
 said_printed text numbers before now _ texts (cut n small number goes) = inr (refl, accepted_line n, texts n small number, goes)
 
 refusal_as : (text c apdu i : List ℕ) (current other : Current) (size same : ℕ) (rose : Type 0) (fault : StepFault) → text ≡ c → apdu ≡ i → current ≡ other → size ≡ same → IsRefusal text apdu current size rose fault → IsRefusal c i other same rose fault
@@ -127,7 +127,7 @@ settled_later content tells spool base steps added same stands quiet =
         (subst (λ (c : Current). (told : ℕ) × tells told × IsQuiet c.tables c.items (step_moment told c.moment)) stands.current quiet)
 
 disk_err : (stop : Stop) → (stop ≡ Stops.Disk → ⊥) → ◌≡◌ {A = Result (Unit {0}) Stop} (Err stop) (Err Stops.Disk) → ⊥
-disk_err stop no e = no (err_is stop Stops.Disk e)
+disk_err stop other e = other (err_is stop Stops.Disk e)
 
 pub submit_worked : {D C : Type 0} (content : D → Option (List ℕ)) (faults : D → ℕ) (tells : ℕ → Type 0) (conf input before now : Option (List ℕ)) (source_rose out_rose : Type 0) (old : D) (x : Gathered) (spool new : Shown D C) (base : List Step) (result : Result (Unit {0}) Stop)
     → AreGathered conf input source_rose (Ok x) → Stands content spool base → ((f : List ℕ) → content old ≡ Some f → StandsFor f base) → faults old ≤ faults spool.disk

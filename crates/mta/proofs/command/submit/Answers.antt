@@ -16,7 +16,7 @@ returns-in-Err-clause-done g c =
     let input = g.I.Source.left c.args.input.now in
     let source_rose = Rose (g.I.Source.faults c.args.conf.now) (g.I.Source.faults c.gather.new.conf) ⊎ Rose (g.I.Source.faults c.args.input.now) (g.I.Source.faults c.gather.new.input) in
     let out_rose = Rose (g.O.Sink.faults c.args.out.now) (g.O.Sink.faults c.args.out.now) in
-    let stop = c.in-Err.ensures.gathered.read in
+    let stop = c.in-Err.ensures.read in
     stopped_done content faults (g.C.Clock.tells c.args.clock) (Some Say.Submit) conf input (g.O.Sink.taken c.args.out.now) source_rose out_rose c.args.disk c.args.disk c.in-Err.stop (left_alone content faults c.args.disk)
         (gather_no_sink conf input source_rose c.in-Err.stop stop) (gather_cause conf input (content c.args.disk) source_rose (Rose (faults c.args.disk) (faults c.args.disk)) out_rose c.in-Err.stop stop)
 
@@ -39,4 +39,4 @@ returns-in-Ok-open-clause-done g c =
     let o = c.in-Ok-open.ensures.opened in
     let worked = subst (λ k. HasWorked g.D.Disk.content g.D.Disk.faults (g.C.Clock.tells k) c.in-Ok.gathered.tables.text c.in-Ok.gathered.apdu before now out_rose c.in-Ok-open.spool c.work-outcome.new.spool c.work-outcome.result) c.in-Ok-open.ensures.clock c.work-outcome.ensures.worked in
     rw c.end.ensures (submit_worked g.D.Disk.content g.D.Disk.faults (g.C.Clock.tells c.args.clock) conf input before now source_rose out_rose c.args.disk c.in-Ok.gathered c.in-Ok-open.spool c.work-outcome.new.spool o.0 c.work-outcome.result
-        c.in-Ok.ensures.gathered.read o.1 o.2 c.in-Ok-open.ensures.later worked)
+        c.in-Ok.ensures.read o.1 o.2 c.in-Ok-open.ensures.later worked)
