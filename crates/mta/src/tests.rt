@@ -6,6 +6,7 @@ use mta_edge::{Clock, Disk, Failed, MemClock, MemDisk, MemSink, MemSource, Octet
 use std::alloc::Global;
 use std::fs::{self, File, OpenOptions};
 use std::io::Empty;
+use std::process::Abort;
 use std::test::Fail;
 
 const TABLES: &[u8] = b"domain C=GB;A=GOLD\nname GOLD-1\nmailbox watt C=GB;A=GOLD;S=WATT\n";
@@ -135,92 +136,10 @@ fn the_queue_and_the_mailbox_are_printed(rt: HostRuntime) -> Result<(), Fail> {
     Ok(())
 }
 
-#[test]
-fn other_ends_have_their_line(rt: HostRuntime) -> Result<(), Fail> {
-    let alloc = rt.alloc();
-    let table: [(Given, &[u8], u8, &[u8], usize); 9] = [
-        (
-            Given {
-                input: &MESSAGE[..100],
-                ..PLAIN
-            },
-            b"",
-            11,
-            b"not built\n",
-            0,
-        ),
-        (
-            Given {
-                tables: b"domain C=GB;A=GOLD\nname\n",
-                ..PLAIN
-            },
-            b"",
-            2,
-            b"tables line 2 Word\n",
-            0,
-        ),
-        (PLAIN, b"MTASPX01\0\0", 3, b"not a spool at 5\n", 10),
-        (
-            Given {
-                words: &["serve"],
-                ..PLAIN
-            },
-            b"",
-            1,
-            USAGE,
-            0,
-        ),
-        (
-            Given {
-                words: &[],
-                ..PLAIN
-            },
-            b"",
-            1,
-            USAGE,
-            0,
-        ),
-        (
-            Given {
-                words: &["read", "nobody"],
-                ..PLAIN
-            },
-            b"",
-            10,
-            b"no such mailbox nobody\n",
-            9,
-        ),
-        (
-            Given {
-                input_fails: 1,
-                ..PLAIN
-            },
-            b"",
-            8,
-            b"source fault\n",
-            0,
-        ),
-        (
-            Given {
-                sink_fails: 1,
-                ..PLAIN
-            },
-            b"",
-            9,
-            b"",
-            201,
-        ),
-        (
-            Given {
-                disk_fails: 1,
-                ..PLAIN
-            },
-            b"",
-            4,
-            b"disk fault\n",
-            0,
-        ),
-    ];
+// A run, the octets of its disk, and the status, the line and the count of octets that it leaves.
+type End = (Given, &'static [u8], u8, &'static [u8], usize);
+
+fn check(rt: &impl Abort, alloc: Global, table: &[End]) -> Result<(), Fail> {
     for (given, disk, status, line, size) in table.iter() {
         let left = outcome(alloc, given, disk)?;
         assert_eq!(rt; left.status, *status);
@@ -228,6 +147,77 @@ fn other_ends_have_their_line(rt: HostRuntime) -> Result<(), Fail> {
         assert_eq!(rt; left.disk.len(), *size);
     }
     Ok(())
+}
+
+#[test]
+fn what_is_read_is_refused(rt: HostRuntime) -> Result<(), Fail> {
+    let cut = Given {
+        input: &MESSAGE[..100],
+        ..PLAIN
+    };
+    let tables = Given {
+        tables: b"domain C=GB;A=GOLD\nname\n",
+        ..PLAIN
+    };
+    check(
+        &rt,
+        rt.alloc(),
+        &[
+            (cut, b"", 11, b"not built\n", 0),
+            (tables, b"", 2, b"tables line 2 Word\n", 0),
+            (PLAIN, b"MTASPX01\0\0", 3, b"not a spool at 5\n", 10),
+        ],
+    )
+}
+
+#[test]
+fn words_are_refused(rt: HostRuntime) -> Result<(), Fail> {
+    let serve = Given {
+        words: &["serve"],
+        ..PLAIN
+    };
+    let none = Given {
+        words: &[],
+        ..PLAIN
+    };
+    let nobody = Given {
+        words: &["read", "nobody"],
+        ..PLAIN
+    };
+    check(
+        &rt,
+        rt.alloc(),
+        &[
+            (serve, b"", 1, USAGE, 0),
+            (none, b"", 1, USAGE, 0),
+            (nobody, b"", 10, b"no such mailbox nobody\n", 9),
+        ],
+    )
+}
+
+#[test]
+fn the_outside_fails(rt: HostRuntime) -> Result<(), Fail> {
+    let input = Given {
+        input_fails: 1,
+        ..PLAIN
+    };
+    let sink = Given {
+        sink_fails: 1,
+        ..PLAIN
+    };
+    let disk = Given {
+        disk_fails: 1,
+        ..PLAIN
+    };
+    check(
+        &rt,
+        rt.alloc(),
+        &[
+            (input, b"", 8, b"source fault\n", 0),
+            (sink, b"", 9, b"", 201),
+            (disk, b"", 4, b"disk fault\n", 0),
+        ],
+    )
 }
 
 #[test]
