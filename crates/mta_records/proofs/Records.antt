@@ -57,12 +57,12 @@ fields_are kind octets read each e =
     elim (chosen (eqb kind 1) (tables_at octets) (cond (eqb kind 2) (accept_at octets) (cond (eqb kind 3) (deliver_at octets) (Err (length octets + 1)))) (Ok read) e) [
       | inl one ↦ subst (λ (k : ℕ). IsStepAt k octets read) (sym (eqb-true kind 1 one.0)) (tables_is octets read each one.1)
       | inr not-one ↦ elim (chosen (eqb kind 2) (accept_at octets) (cond (eqb kind 3) (deliver_at octets) (Err (length octets + 1))) (Ok read) not-one.1) [
-          | inl two ↦ subst (λ (k : ℕ). IsStepAt k octets read) (sym (eqb-true kind 2 two.0)) (accept_is octets read each two.1)
-          | inr not-two ↦ elim (chosen (eqb kind 3) (deliver_at octets) (Err (length octets + 1)) (Ok read) not-two.1) [
-              | inl three ↦ subst (λ (k : ℕ). IsStepAt k octets read) (sym (eqb-true kind 3 three.0)) (deliver_is octets read each three.1)
-              | inr other ↦ absurd cc
-            ]
+        | inl two ↦ subst (λ (k : ℕ). IsStepAt k octets read) (sym (eqb-true kind 2 two.0)) (accept_is octets read each two.1)
+        | inr not-two ↦ elim (chosen (eqb kind 3) (deliver_at octets) (Err (length octets + 1)) (Ok read) not-two.1) [
+          | inl three ↦ subst (λ (k : ℕ). IsStepAt k octets read) (sym (eqb-true kind 3 three.0)) (deliver_is octets read each three.1)
+          | inr other ↦ absurd cc
         ]
+      ]
     ]
 
 ended : (b : Bool) (left : ℕ) (x y : Step) → cond b (Ok x) (Err left) ≡ Ok y → (b ≡ true) × (x ≡ y)

@@ -7,9 +7,14 @@ use mta_ber::Octets;
 #[derive(Debug, Drop)]
 pub enum Step {
     /// These tables are recorded last.
-    Tables { text: Octets },
+    Tables {
+        text: Octets,
+    },
     /// A submitted APDU becomes the next item.
-    Accept { moment: u64, apdu: Octets },
+    Accept {
+        moment: u64,
+        apdu: Octets,
+    },
     /// A recipient of an item gets it in a mailbox.
     Deliver {
         item: u32,

@@ -19,9 +19,9 @@ reads_all f into at n fits read inside =
     let whole : take n into ≡ into = ap (λ (k : ℕ). take k into) full ∙ take_whole into in
     (eq-eqb n (length into) full, sym whole ∙ read)
   where
-  take_whole : (xs : List ℕ) → take (length xs) xs ≡ xs
-  take_whole [] = refl
-  take_whole (x ∷ xs) = ap (λ (t : List ℕ). x ∷ t) (take_whole xs)
+    take_whole : (xs : List ℕ) → take (length xs) xs ≡ xs
+    take_whole [] = refl
+    take_whole (x ∷ xs) = ap (λ (t : List ℕ). x ∷ t) (take_whole xs)
 
 -- four octets are a length
 pub is_length : (f octets : List ℕ) (at n : ℕ) → length octets ≡ 4 → n < 2 ^ 32 → to_be_bytes w32 n ≡ octets → octets ≡ take (length octets) (drop at f) → IsLengthAt f at (Some n)
@@ -57,11 +57,11 @@ body_inside f body at n is inside read size =
     let whole : drop at f ≡ to_be_bytes w32 n ++ (body ++ behind) =
     sym (take-append-drop 4 (drop at f)) ∙ ap (λ (x : List ℕ). x ++ drop 4 (drop at f)) is.1 ∙ ap (λ (x : List ℕ). to_be_bytes w32 n ++ x) (tail ∙ sym (take-append-drop n (drop (at + 4) f)) ∙ ap (λ (x : List ℕ). x ++ behind) (sym read)) in
     first_of behind some (λ next rest e.
-      (next, rest, whole ∙ ap (λ (x : List ℕ). to_be_bytes w32 n ++ (body ++ x)) e ∙ sym (append_assoc (to_be_bytes w32 n) body (next ∷ rest)) ∙ ap (λ (k : ℕ). (to_be_bytes w32 k ++ body) ++ next ∷ rest) (sym size)))
+    (next, rest, whole ∙ ap (λ (x : List ℕ). to_be_bytes w32 n ++ (body ++ x)) e ∙ sym (append_assoc (to_be_bytes w32 n) body (next ∷ rest)) ∙ ap (λ (k : ℕ). (to_be_bytes w32 k ++ body) ++ next ∷ rest) (sym size)))
   where
-  first_of : {P : Type 0} (xs : List ℕ) → 0 < length xs → ((x : ℕ) (rest : List ℕ) → xs ≡ x ∷ rest → P) → P
-  first_of [] some use_it = absurd (omega arith)
-  first_of (x ∷ xs) some use_it = use_it x xs refl
+    first_of : {P : Type 0} (xs : List ℕ) → 0 < length xs → ((x : ℕ) (rest : List ℕ) → xs ≡ x ∷ rest → P) → P
+    first_of [] some use_it = absurd (omega arith)
+    first_of (x ∷ xs) some use_it = use_it x xs refl
 
 pub some_same : (a b : List ℕ) → Some a ≡ Some b → a ≡ b
 some_same a b w = cc

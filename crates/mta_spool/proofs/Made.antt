@@ -179,8 +179,8 @@ short_tables text tables read =
       | inr short ↦ short
     ]
   where
-  bad_ok : {b : Bad} → ◌≡◌ {A = Result TablesValue Bad} (Err b) (Ok tables) → ⊥
-  bad_ok w = cc
+    bad_ok : {b : Bad} → ◌≡◌ {A = Result TablesValue Bad} (Err b) (Ok tables) → ⊥
+    bad_ok w = cc
 
 -- the value of their text
 pub tables_there : (tables : TablesValue) {text : List ℕ} → text ≡ tables.text → tables_of text ≡ Ok tables → Some tables ≡ tables_value tables.text

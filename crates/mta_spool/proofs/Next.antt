@@ -49,8 +49,8 @@ due_in tables items moment zero place past e = absurd cc
 due_in tables items moment (suc i) place past e =
     option_and_then_some (place_of_item tables moment) (slice_get items i) place e
     (λ item is placed.
-      let fails : is_some (place_of_item tables moment item) ≡ false = never (λ (x : Item). is_some (place_of_item tables moment x)) items i item past is in
-      true≢false (sym (some_is (place_of_item tables moment item) place placed) ∙ fails))
+    let fails : is_some (place_of_item tables moment item) ≡ false = never (λ (x : Item). is_some (place_of_item tables moment x)) items i item past is in
+    true≢false (sym (some_is (place_of_item tables moment item) place placed) ∙ fails))
 
 -- where no item passes, nothing is due
 pub quiet_where_none : (tables : TablesValue) (items : List Item) (moment : ℕ) → position (λ (item : Item). is_some (place_of_item tables moment item)) items ≡ None → IsQuiet (Some tables) items moment
@@ -74,17 +74,17 @@ lowest_of tables items moment k at zero r place one e = absurd cc
 lowest_of tables items moment k at (suc i) r place one e =
     option_and_then_some (place_of_item tables moment) (slice_get items i) place e
     (λ item is placed.
-      elim (cases_lt i k) [
-        | inl before ↦ (
-            let first = position-Some (λ (x : Item). is_some (place_of_item tables moment x)) items k item at in
-            let fails : is_some (place_of_item tables moment (get_or items i item)) ≡ false = first.2 i before in
-            let passes : is_some (place_of_item tables moment (get_or items i item)) ≡ true = test_at (λ (x : Item). is_some (place_of_item tables moment x)) items i item is ∙ some_is (place_of_item tables moment item) place placed in
-            absurd (true≢false (sym passes ∙ fails)))
-        | inr past ↦ elim (cases_eq k i) [
-            | inl same ↦ inr (omega (arith, same), omega (arith, one))
-            | inr other ↦ inl (omega (arith, past, other))
-          ]
-      ])
+    elim (cases_lt i k) [
+      | inl before ↦ (
+          let first = position-Some (λ (x : Item). is_some (place_of_item tables moment x)) items k item at in
+          let fails : is_some (place_of_item tables moment (get_or items i item)) ≡ false = first.2 i before in
+          let passes : is_some (place_of_item tables moment (get_or items i item)) ≡ true = test_at (λ (x : Item). is_some (place_of_item tables moment x)) items i item is ∙ some_is (place_of_item tables moment item) place placed in
+          absurd (true≢false (sym passes ∙ fails)))
+      | inr past ↦ elim (cases_eq k i) [
+        | inl same ↦ inr (omega (arith, same), omega (arith, one))
+        | inr other ↦ inl (omega (arith, past, other))
+      ]
+    ])
 
 pub lowest_at_first : (tables : TablesValue) (items : List Item) (moment k : ℕ) → position (λ (item : Item). is_some (place_of_item tables moment item)) items ≡ Some k → IsLowest (Some tables) items (k + 1) 1 moment
 lowest_at_first tables items moment k at j s place d =

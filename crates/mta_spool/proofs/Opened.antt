@@ -13,4 +13,3 @@ use Rattle.mta_history.specs.History.{after}
 pub is_made : (f g : List ℕ) → length f ≤ 9 → g ≡ written 0 (77 ∷ 84 ∷ 65 ∷ 83 ∷ 80 ∷ 76 ∷ 48 ∷ 49 ∷ 0 ∷ []) f → IsMade f g
 unfolding magic
 is_made f g short e = record { short = short; rest = drop 9 f; empty = e }
-

@@ -55,11 +55,11 @@ made_bodies f g made = record { gate = 0; rest = made.rest; octets = made.empty 
 -- a short disk that was made a journal
 pub journal_made : {D : Type 0} (content : D → Option (List ℕ)) (old mid new : D) (bodies : List (List ℕ)) → content mid ≡ content old → Goes IsMade (content mid) (content new) → ((f : List ℕ) → content old ≡ Some f → length f ≤ 9) → bodies ≡ [] → IsOpened content old new bodies 9
 journal_made content old mid new bodies before goes short none = subst (λ (bs : List (List ℕ)). IsOpened content old new bs 9) (sym none) (record {
-      size_is = omega (arith, length-front_none);
-      short = tt;
-      was = λ f told. inl (short f told, refl);
-      is = λ g told. let x = goes.back g told in made_bodies x.0 g x.2;
-    })
+  size_is = omega (arith, length-front_none);
+  short = tt;
+  was = λ f told. inl (short f told, refl);
+  is = λ g told. let x = goes.back g told in made_bodies x.0 g x.2;
+})
 
 -- ---- the spool
 
@@ -114,19 +114,19 @@ sound_opened content old new bodies size current steps opened is = record {
 pub stands_opened : {D C : Type 0} (content : D → Option (List ℕ)) (old : D) (spool : Shown D C) (bodies : List (List ℕ)) (steps : List Step) → IsOpened content old spool.disk bodies spool.size → IsReplay bodies spool.current steps
     → Stands content spool steps × ((f : List ℕ) → content old ≡ Some f → StandsFor f steps)
 stands_opened content old spool bodies steps opened is = (
-      record {
-        stored = record {
-          file = λ g told. has_records g steps bodies is.bodies_are is.each (opened.is g told);
-          size = omega (arith, opened.size_is, length-front steps bodies is.bodies_are);
-        };
-        current = is.current_is;
-        history = is.history;
-      },
-      λ f told. elim (opened.was f told) [
-          | inl short ↦ inl (short.0, no_steps steps (is.bodies_are ∙ short.1))
-          | inr long ↦ inr (long.0, has_records f steps bodies is.bodies_are is.each long.1, is.history)
-        ],
-    )
+  record {
+    stored = record {
+      file = λ g told. has_records g steps bodies is.bodies_are is.each (opened.is g told);
+      size = omega (arith, opened.size_is, length-front steps bodies is.bodies_are);
+    };
+    current = is.current_is;
+    history = is.history;
+  },
+  λ f told. elim (opened.was f told) [
+    | inl short ↦ inl (short.0, no_steps steps (is.bodies_are ∙ short.1))
+    | inr long ↦ inr (long.0, has_records f steps bodies is.bodies_are is.each long.1, is.history)
+  ],
+)
 
 -- ---- refusals
 
@@ -148,6 +148,7 @@ replay_refused content faults old new bodies size at opened later stops = record
 } where
   wrong : (f : List ℕ) → content old ≡ Some f → NoSpoolAt f at
   wrong f told = elim (opened.was f told) [ inl short ↦ absurd (not_nil _ _ _ (sym stops.bodies_are ∙ short.1)) | inr long ↦ long_stops f bodies at long.0 long.1 stops ]
+
   at_same : (a b : ℕ) → ◌≡◌ {A = OpenWhy} (Whys.NotSpool a) (Whys.NotSpool b) → a ≡ b
   at_same a b w = cc
 
@@ -162,9 +163,9 @@ replay_without_memory content faults old new bodies size opened later = record {
   disk = λ e. absurd cc;
   not_spool = λ n e f told. absurd cc;
   left = λ no_disk f steps told stands g now. elim (opened.was f told) [
-      | inl short ↦ subst (StandsFor g) (sym (short_history f steps short.0 stands)) (stands_for g [] (has_records g [] bodies (sym short.1) tt (opened.is g now)) tt)
-      | inr long ↦ subst (λ (x : List ℕ). StandsFor x steps) (some_same f g (sym long.2 ∙ now)) stands
-    ];
+    | inl short ↦ subst (StandsFor g) (sym (short_history f steps short.0 stands)) (stands_for g [] (has_records g [] bodies (sym short.1) tt (opened.is g now)) tt)
+    | inr long ↦ subst (λ (x : List ℕ). StandsFor x steps) (some_same f g (sym long.2 ∙ now)) stands
+  ];
   same = λ no_disk f told far. elim (opened.was f told) [ inl short ↦ absurd (omega (arith, far, short.0)) | inr long ↦ long.2 ];
 }
 

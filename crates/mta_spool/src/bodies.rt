@@ -106,12 +106,7 @@ fn read_octet<D: Disk>(disk: &mut D, at: u64) -> Result<Option<u8>, Failed>
 }
 
 // The body behind the open gate at a place of a disk of `size` octets.
-fn read_open<D: Disk>(
-    alloc: Global,
-    disk: &mut D,
-    gate: u64,
-    size: u64,
-) -> Result<Octets, OpenWhy>
+fn read_open<D: Disk>(alloc: Global, disk: &mut D, gate: u64, size: u64) -> Result<Octets, OpenWhy>
     requires { gate < size }
     ensures body { IsOpenRead (D.content disk.old) gate size result }
     ensures content { D.content disk.new ≡ D.content disk.old }

@@ -16,11 +16,10 @@ pub use current::Current;
 pub use items::Items;
 pub use mailboxes::Mailboxes;
 pub use mta_history::{Item, MailboxLine, Origin, Status, Statuses};
-pub use mta_tables::Tables;
 pub use mta_records::{Step, StepFault};
+pub use mta_tables::Tables;
 pub use open::{OpenWhy, SpoolOpen};
 pub use spool::{JOURNAL_LIMIT, Spool, Turned};
-
 
 #[cfg(test)]
 mod tests;

@@ -6,13 +6,13 @@ use Rattle.mta_spool.proofs.bodies.read_all.Goals as goal
 
 pub loop-why-init : goal.loop-why-init
 loop-why-init g c = rw c.new-bodies.ensures.items (record {
-      place = sym length-front_none;
-      inside = omega (arith, c.requires);
-      each = tt;
-      content = refl;
-      later = omega arith;
-      front = λ f told len front. begins f front;
-    })
+  place = sym length-front_none;
+  inside = omega (arith, c.requires);
+  each = tt;
+  content = refl;
+  later = omega arith;
+  front = λ f told len front. begins f front;
+})
 
 pub returns-in-Err-clause-bodies : goal.returns-in-Err-clause-bodies
 returns-in-Err-clause-bodies g c = fault_of (g.D.Disk.content c.args.disk.now) c.args.size c.loop-why.gate c.loop-why.bodies.items c.in-Err.why c.requires c.loop-why.invariant.place c.loop-why.invariant.each c.loop-why.invariant.front

@@ -12,6 +12,7 @@ returns-in-None-clause-quiet c = subst (λ (t : Option TablesValue). IsQuiet t c
 
 pub returns-in-Some-place_of_item-clause-due : goal.returns-in-Some-place_of_item-clause-due
 returns-in-Some-place_of_item-clause-due c =
-    subst (λ (t : Option TablesValue). IsDue t c.args.self.now.items (c.in-Some-first_due.place + 1) 1 c.args.moment c.in-Some-place_of_item.mailbox × IsLowest t c.args.self.now.items (c.in-Some-first_due.place + 1) 1 c.args.moment) (sym c.in-Some.is)
-    (due_at_first c.in-Some.tables c.args.self.now.items c.args.moment c.in-Some-first_due.place c.in-Some-place_of_item.mailbox c.at.result.now c.at.ensures (sym c.in-Some-place_of_item.ensures),
-    lowest_at_first c.in-Some.tables c.args.self.now.items c.args.moment c.in-Some-first_due.place (sym c.in-Some-first_due.ensures))
+    subst (λ (t : Option TablesValue). IsDue t c.args.self.now.items (c.in-Some-first_due.place + 1) 1 c.args.moment c.in-Some-place_of_item.mailbox × IsLowest t c.args.self.now.items (c.in-Some-first_due.place + 1) 1 c.args.moment) (sym c.in-Some.is) (
+      due_at_first c.in-Some.tables c.args.self.now.items c.args.moment c.in-Some-first_due.place c.in-Some-place_of_item.mailbox c.at.result.now c.at.ensures (sym c.in-Some-place_of_item.ensures),
+      lowest_at_first c.in-Some.tables c.args.self.now.items c.args.moment c.in-Some-first_due.place (sym c.in-Some-first_due.ensures),
+    )

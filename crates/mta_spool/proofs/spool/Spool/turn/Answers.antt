@@ -27,9 +27,15 @@ returns-in-Ok-clause-turned g c =
     let going : c.args.self.now.ended ≡ false = sym (ap (λ (v : Shown _ _). v.ended) rest) ∙ view_ended _ _ c.self.view_is c.if-self.false in
     let due = subst (λ (x : Current). IsDue x.tables x.items (c.in-Some.place + 1) 1 when c.in-Some.mailbox × IsLowest x.tables x.items (c.in-Some.place + 1) 1 when) current
     (subst (λ (t : ℕ). IsDue c.self.inside.current.tables c.self.inside.current.items (c.in-Some.place + 1) 1 t c.in-Some.mailbox × IsLowest c.self.inside.current.tables c.self.inside.current.items (c.in-Some.place + 1) 1 t) m.2 c.in-Some.ensures.due) in
-    let made : c.in-Ok.step ≡ Deliver (c.in-Some.place + 1) 1 when = c.in-Ok.ensures.0 ∙ ap (Deliver (c.in-Some.place + 1) 1) m.2 in
-    (m.0, m.1, (going, subst (IsNext c.args.self.now.current when) (sym made) (is_next c.args.self.now.current when c.in-Some.place c.in-Some.mailbox due.0 due.1),
-        subst (λ (s : Step). Appends {T = Unit {0}} g.D.Disk.content g.D.Disk.faults s c.args.self.now c.deliver.new.self (Ok tt)) (sym c.in-Ok.ensures.0) (appends_from _ _ _ c.args.self.now c.step_moment-moment.new.self c.deliver.new.self rest c.in-Ok.ensures.3)))
+    let made : c.in-Ok.step ≡ Deliver (c.in-Some.place + 1) 1 when = c.in-Ok.ensures.0 ∙ ap (Deliver (c.in-Some.place + 1) 1) m.2 in (
+      m.0,
+      m.1,
+      (
+        going,
+        subst (IsNext c.args.self.now.current when) (sym made) (is_next c.args.self.now.current when c.in-Some.place c.in-Some.mailbox due.0 due.1),
+        subst (λ (s : Step). Appends {T = Unit {0}} g.D.Disk.content g.D.Disk.faults s c.args.self.now c.deliver.new.self (Ok tt)) (sym c.in-Ok.ensures.0) (appends_from _ _ _ c.args.self.now c.step_moment-moment.new.self c.deliver.new.self rest c.in-Ok.ensures.3),
+      ),
+    )
 
 pub returns-in-Err-clause-turned : goal.returns-in-Err-clause-turned
 returns-in-Err-clause-turned g c =
