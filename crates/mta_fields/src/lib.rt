@@ -7,8 +7,6 @@ mod expansion;
 mod extension;
 mod identifier;
 mod supplied;
-#[cfg(test)]
-mod tests;
 mod trace;
 
 pub use domain::{Domain, DomainFields};

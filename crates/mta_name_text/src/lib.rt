@@ -4,8 +4,6 @@
 mod form;
 mod key;
 mod route;
-#[cfg(test)]
-mod tests;
 
 pub use form::name_text;
 pub use key::Key;

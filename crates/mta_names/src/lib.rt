@@ -12,8 +12,6 @@ mod reading;
 mod row;
 mod same;
 mod standard;
-#[cfg(test)]
-mod tests;
 mod unit;
 mod writing;
 
