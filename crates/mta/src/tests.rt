@@ -1,7 +1,7 @@
 //! Runs over objects in memory, and the adapters over real ones.
 
 use crate::host::{FileDisk, Octets as Stream, Reading, SystemClock, Writing};
-use crate::run::run;
+use crate::run::{Finished, run};
 use mta_edge::{Clock, Disk, Failed, MemClock, MemDisk, MemSink, MemSource, Octets, Sink, Source};
 use std::alloc::Global;
 use std::fs::{self, File, OpenOptions};
@@ -25,10 +25,17 @@ const MESSAGE: [u8; 101] = [
 const USAGE: &[u8] =
     b"usage: mta submit or serve SESSIONS STATION... or spool or read MAILBOX or decode or drill N\n";
 
+const QUEUE: &[u8] =
+    b"item 1 message C=GB;A=GOLD/M0001 arrived 500101001640Z\nrecipient 1 delivered 500101001640Z C=GB;A=GOLD;S=WATT\n";
+
+const MAILBOX: &[u8] =
+    b"delivered 500101001640Z item 1\nmessage C=GB;A=GOLD/M0001\noriginator C=GB;A=GOLD;S=BELL\ncontent-type 22\npriority normal\nindicators 00000000\nrecipient 1 10101000 C=GB;A=GOLD;S=WATT\ncontent 2 4869\n";
+
 // What is handed in to a run, and the first call that fails of the input, the sink and the disk, or 0.
 #[derive(Drop)]
 struct Given {
-    words: &'static [&'static str],
+    word: &'static str,
+    name: Option<&'static str>,
     tables: &'static [u8],
     input: &'static [u8],
     input_fails: u64,
@@ -38,7 +45,8 @@ struct Given {
 
 // A run of `submit` of the sample message, where nothing fails.
 const PLAIN: Given = Given {
-    words: &["submit"],
+    word: "submit",
+    name: None,
     tables: TABLES,
     input: &MESSAGE,
     input_fails: 0,
@@ -58,34 +66,63 @@ fn octets(alloc: Global, bytes: &[u8]) -> Result<Octets, Fail> {
     Ok(Octets::from_slice(alloc, bytes)?)
 }
 
-fn words(alloc: Global, given: &[&'static str]) -> Result<Vec<String>, Fail> {
-    let mut words = Vec::new(alloc);
-    for word in given.iter() {
-        words.push(String::from_str(alloc, word)?)?;
+fn words(
+    alloc: Global,
+    word: &'static str,
+    name: Option<&'static str>,
+) -> Result<Vec<String>, Fail> {
+    let word = String::from_str(alloc, word)?;
+    match name {
+        Some(name) => {
+            let name = String::from_str(alloc, name)?;
+            Ok(vec![in alloc; word, name]?)
+        }
+        None => Ok(vec![in alloc; word]?),
     }
-    Ok(words)
+}
+
+fn source(alloc: Global, bytes: &[u8], fails: u64) -> Result<MemSource, Fail> {
+    let octets = octets(alloc, bytes)?;
+    Ok(MemSource::new(octets, [fails].to_vec(alloc)?))
+}
+
+fn disk_of(alloc: Global, bytes: &[u8], fails: u64) -> Result<MemDisk, Fail> {
+    let octets = octets(alloc, bytes)?;
+    Ok(MemDisk::new(alloc, octets, [fails].to_vec(alloc)?))
+}
+
+// The run alone, since nothing behind it asks for its clauses.
+fn called(
+    alloc: Global,
+    words: &[String],
+    mut conf: MemSource,
+    mut input: MemSource,
+    out: &mut MemSink,
+    disk: MemDisk,
+    clock: MemClock,
+) -> Finished<MemDisk> {
+    run(alloc, words, &mut conf, &mut input, out, disk, clock)
+}
+
+fn read_back(alloc: Global, out: &MemSink, finished: &Finished<MemDisk>) -> Result<Left, Fail> {
+    let text = out.octets().to_vec(alloc)?;
+    let disk = finished.disk.octets().to_vec(alloc)?;
+    Ok(Left {
+        status: finished.status,
+        text,
+        disk,
+    })
 }
 
 fn outcome(alloc: Global, given: &Given, disk: &[u8]) -> Result<Left, Fail> {
-    let words = words(alloc, given.words)?;
-    let mut conf = MemSource::new(octets(alloc, given.tables)?, Vec::new(alloc));
-    let mut input = MemSource::new(
-        octets(alloc, given.input)?,
-        [given.input_fails].to_vec(alloc)?,
-    );
-    let mut out = MemSink::new(alloc, [given.sink_fails].to_vec(alloc)?);
-    let disk = MemDisk::new(
-        alloc,
-        octets(alloc, disk)?,
-        [given.disk_fails].to_vec(alloc)?,
-    );
+    let words = words(alloc, given.word, given.name)?;
+    let conf = source(alloc, given.tables, 0)?;
+    let input = source(alloc, given.input, given.input_fails)?;
+    let disk = disk_of(alloc, disk, given.disk_fails)?;
     let clock = MemClock::new([1000].to_vec(alloc)?);
-    let finished = run(alloc, &words, &mut conf, &mut input, &mut out, disk, clock);
-    Ok(Left {
-        status: finished.status,
-        text: out.octets().to_vec(alloc)?,
-        disk: finished.disk.octets().to_vec(alloc)?,
-    })
+    let mut out = MemSink::new(alloc, [given.sink_fails].to_vec(alloc)?);
+    let finished = called(alloc, &words, conf, input, &mut out, disk, clock);
+    read_back(alloc, &out, &finished)
 }
 
 // The journal of the sample message, which was taken and delivered at moment 1000.
@@ -112,45 +149,50 @@ fn submit_journals_what_it_prints(rt: HostRuntime) -> Result<(), Fail> {
     Ok(())
 }
 
-#[test]
-fn the_queue_and_the_mailbox_are_printed(rt: HostRuntime) -> Result<(), Fail> {
-    let alloc = rt.alloc();
-    let table: [(&'static [&'static str], &str); 2] = [
-        (
-            &["spool"],
-            "item 1 message C=GB;A=GOLD/M0001 arrived 500101001640Z\nrecipient 1 delivered 500101001640Z C=GB;A=GOLD;S=WATT\n",
-        ),
-        (
-            &["read", "watt"],
-            "delivered 500101001640Z item 1\nmessage C=GB;A=GOLD/M0001\noriginator C=GB;A=GOLD;S=BELL\ncontent-type 22\npriority normal\nindicators 00000000\nrecipient 1 10101000 C=GB;A=GOLD;S=WATT\ncontent 2 4869\n",
-        ),
-    ];
-    for (words, text) in table.iter() {
-        let given = Given { words, ..PLAIN };
-        let disk = journal(alloc)?;
-        let left = outcome(alloc, &given, &disk)?;
-        assert_eq!(rt; left.status, 0);
-        assert_eq!(rt; left.text.as_slice(), text.as_bytes());
-        assert_eq!(rt; left.disk.as_slice(), disk.as_slice());
-    }
+fn prints(
+    rt: &impl Abort,
+    alloc: Global,
+    word: &'static str,
+    name: Option<&'static str>,
+    text: &[u8],
+) -> Result<(), Fail> {
+    let given = Given {
+        word,
+        name,
+        ..PLAIN
+    };
+    let disk = journal(alloc)?;
+    let left = outcome(alloc, &given, &disk)?;
+    assert_eq!(rt; left.status, 0);
+    assert_eq!(rt; left.text.as_slice(), text);
+    assert_eq!(rt; left.disk.as_slice(), disk.as_slice());
     Ok(())
 }
 
-// A run, the octets of its disk, and the status, the line and the count of octets that it leaves.
-type End = (Given, &'static [u8], u8, &'static [u8], usize);
+#[test]
+fn the_queue_and_the_mailbox_are_printed(rt: HostRuntime) -> Result<(), Fail> {
+    let alloc = rt.alloc();
+    prints(&rt, alloc, "spool", None, QUEUE)?;
+    prints(&rt, alloc, "read", Some("watt"), MAILBOX)
+}
 
-fn check(rt: &impl Abort, alloc: Global, table: &[End]) -> Result<(), Fail> {
-    for (given, disk, status, line, size) in table.iter() {
-        let left = outcome(alloc, given, disk)?;
-        assert_eq!(rt; left.status, *status);
-        assert_eq!(rt; left.text.as_slice(), *line);
-        assert_eq!(rt; left.disk.len(), *size);
-    }
+fn ends(
+    rt: &impl Abort,
+    alloc: Global,
+    given: &Given,
+    disk: &[u8],
+    status: u8,
+    line: &[u8],
+) -> Result<(), Fail> {
+    let left = outcome(alloc, given, disk)?;
+    assert_eq!(rt; left.status, status);
+    assert_eq!(rt; left.text.as_slice(), line);
     Ok(())
 }
 
 #[test]
 fn what_is_read_is_refused(rt: HostRuntime) -> Result<(), Fail> {
+    let alloc = rt.alloc();
     let cut = Given {
         input: &MESSAGE[..100],
         ..PLAIN
@@ -159,44 +201,37 @@ fn what_is_read_is_refused(rt: HostRuntime) -> Result<(), Fail> {
         tables: b"domain C=GB;A=GOLD\nname\n",
         ..PLAIN
     };
-    check(
+    ends(&rt, alloc, &cut, b"", 11, b"not built\n")?;
+    ends(&rt, alloc, &tables, b"", 2, b"tables line 2 Word\n")?;
+    ends(
         &rt,
-        rt.alloc(),
-        &[
-            (cut, b"", 11, b"not built\n", 0),
-            (tables, b"", 2, b"tables line 2 Word\n", 0),
-            (PLAIN, b"MTASPX01\0\0", 3, b"not a spool at 5\n", 10),
-        ],
+        alloc,
+        &PLAIN,
+        b"MTASPX01\0\0",
+        3,
+        b"not a spool at 5\n",
     )
 }
 
 #[test]
 fn words_are_refused(rt: HostRuntime) -> Result<(), Fail> {
+    let alloc = rt.alloc();
     let serve = Given {
-        words: &["serve"],
-        ..PLAIN
-    };
-    let none = Given {
-        words: &[],
+        word: "serve",
         ..PLAIN
     };
     let nobody = Given {
-        words: &["read", "nobody"],
+        word: "read",
+        name: Some("nobody"),
         ..PLAIN
     };
-    check(
-        &rt,
-        rt.alloc(),
-        &[
-            (serve, b"", 1, USAGE, 0),
-            (none, b"", 1, USAGE, 0),
-            (nobody, b"", 10, b"no such mailbox nobody\n", 9),
-        ],
-    )
+    ends(&rt, alloc, &serve, b"", 1, USAGE)?;
+    ends(&rt, alloc, &nobody, b"", 10, b"no such mailbox nobody\n")
 }
 
 #[test]
 fn the_outside_fails(rt: HostRuntime) -> Result<(), Fail> {
+    let alloc = rt.alloc();
     let input = Given {
         input_fails: 1,
         ..PLAIN
@@ -209,15 +244,9 @@ fn the_outside_fails(rt: HostRuntime) -> Result<(), Fail> {
         disk_fails: 1,
         ..PLAIN
     };
-    check(
-        &rt,
-        rt.alloc(),
-        &[
-            (input, b"", 8, b"source fault\n", 0),
-            (sink, b"", 9, b"", 201),
-            (disk, b"", 4, b"disk fault\n", 0),
-        ],
-    )
+    ends(&rt, alloc, &input, b"", 8, b"source fault\n")?;
+    ends(&rt, alloc, &sink, b"", 9, b"")?;
+    ends(&rt, alloc, &disk, b"", 4, b"disk fault\n")
 }
 
 #[test]
