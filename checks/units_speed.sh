@@ -1,0 +1,28 @@
+#!/usr/bin/env bash
+# Octets a second that mta_units reads of a stream of Data units of 4 KiB fed in cuts of 1,500 octets, beside memcpy of the same cuts
+# in C, in one run on this machine. Run it at the top of the repository.
+set -eu
+cd "$(dirname "$0")/.."
+command -v rt >/dev/null || { echo "skipped: rt is not on the PATH"; exit 0; }
+command -v gcc >/dev/null || { echo "skipped: gcc is not on the PATH"; exit 0; }
+made=$(mktemp -d)
+trap 'rm -rf "$made"' EXIT
+gcc -O2 -o "$made/copy" checks/units_speed.c
+(cd crates/mta_units_bench && rt run) >"$made/log" 2>&1 || { cat "$made/log"; exit 1; }
+ours=crates/mta_units_bench/out/mta_units_bench
+[ "$("$ours")" = "$(cat crates/mta_units_bench/stdout)" ] || { echo "$ours printed something else"; exit 1; }
+
+# the seconds of user time of the fastest of seven runs of the program $1
+TIMEFORMAT=%U
+fastest() {
+  for _ in 1 2 3 4 5 6 7; do
+    { time "$1" >/dev/null; } 2>&1
+  done | sort -n | head -n 1
+}
+
+a=$(fastest "$ours")
+b=$(fastest "$made/copy")
+echo "processors: $(nproc), load before: $(cut -d' ' -f1 /proc/loadavg)"
+awk -v a="$a" -v b="$b" 'BEGIN {
+  octets = 4105 * 750 * 300 / 1000000
+  printf "units: %.0f million octets a second; memcpy: %.0f million; ratio %.3f\n", octets / (a + 0.001), octets / (b + 0.001), b / a }'
