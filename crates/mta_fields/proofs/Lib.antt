@@ -6,3 +6,6 @@ pub mod ExpansionLaws
 pub mod SuppliedLaws
 pub mod TraceLaws
 pub mod ExtLaws
+pub mod FieldAgain
+pub mod ExtensionAgain
+pub mod Kept

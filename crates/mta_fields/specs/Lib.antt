@@ -4,3 +4,4 @@ pub mod Expansions
 pub mod Traces
 pub mod TraceElements
 pub mod ExtensionFields
+pub mod Laws

@@ -7,3 +7,8 @@ pub mod StandardLaws
 pub mod NameLaws
 pub mod Written
 pub mod NormalLaws
+pub mod Rows
+pub mod Again
+pub mod ExtensionAgain
+pub mod NameAgain
+pub mod Kept

@@ -7,3 +7,4 @@ pub mod Extensions
 pub mod Standard
 pub mod Names
 pub mod Normal
+pub mod Laws

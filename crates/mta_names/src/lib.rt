@@ -4,6 +4,7 @@
 mod attributes;
 mod extension;
 mod label;
+mod laws;
 mod name;
 mod normal;
 mod pair;
@@ -20,6 +21,12 @@ pub use extension::read_number;
 pub use label::{
     are_country_characters, country_size_of, label_class_of, read_country, read_label,
     read_label_choice,
+};
+pub use laws::{
+    domain_defined_attributes_are_read_again, extension_attributes_are_read_again,
+    labels_are_read_again, names_are_read_again, names_that_were_read_are_read_again,
+    no_name_begins_another, personal_names_are_read_again, standard_attributes_are_read_again,
+    unit_names_are_read_again,
 };
 pub use name::OrName;
 pub use normal::{same_label, same_text};

@@ -1,0 +1,176 @@
+-- What is kept unread stands in the level of the place where it was read, and in each level above.
+use Rattle.std.proofs.Common.{◌≡◌, ℕ, zero, suc, ◌+◌, ◌-◌, ◌≤◌, Bool, true, false, cond, eqb, List, [], ◌∷◌, ◌++◌, Option, Some, None, refl, sym, subst, ◌∙◌, arith, inl, inr}
+use Rattle.std.specs.Prelude.{IfSome, IfNone, is_some}
+use Rattle.mta_ber.specs.declared.tag.Tag.{Tag}
+use Rattle.mta_ber.specs.Components.{Makes, AreComponents, SpellsComponents}
+use Rattle.mta_ber.specs.Parts.{is_tag}
+use Rattle.mta_ber.specs.Spelling.{IsRow, Row, IsContent, Whole, Stands}
+use Rattle.mta_names.specs.declared.attributes.Attributes.{Attributes}
+use Rattle.mta_names.specs.declared.attributes.Extra.{Extra}
+use Rattle.mta_names.specs.declared.extension.AttributeParts.{AttributeParts}
+use Rattle.mta_names.specs.declared.extension.ExtensionParts.{ExtensionParts}
+use Rattle.mta_names.specs.declared.reading.NameParts.{NameParts}
+use Rattle.mta_names.specs.declared.reading.NamePart.{NamePart}
+use Rattle.mta_names.specs.declared.reading.NamePart.TheVariants.{Standard, Pairs, Extensions, Directory}
+use Rattle.mta_names.specs.Extensions.{no_attribute, no_extensions, SpellsAttributeValue, MakesAttribute, SpellsAttribute, MakesExtension, SpellsExtensions}
+use Rattle.mta_names.specs.Laws.{IsRawAt, AreKeptAt, ReadNamesAreKept, KeptNamesAreKeptAbove, ReadNamesAreReadAgain}
+use Rattle.mta_names.specs.Names.{name_class, name_number, name_parts, MakesNamePart, MakesName}
+use Rattle.mta_names.specs.Values.{Each, nothing}
+use Rattle.mta_names.proofs.NameAgain.{names_again}
+use Rattle.mta_names.proofs.NameLaws.{name_is}
+use Rattle.mta_names.proofs.StandardLaws.{standard_is}
+use Rattle.mta_names.proofs.Tools.{each_more}
+
+-- ---- levels above: there is more room for what is inside
+
+each_whole : (P Q : List ℕ → Type 0) → ((e : List ℕ) → P e → Q e) → (marked : Bool) (es : List (List ℕ)) → IsRow P marked es → IsRow Q marked es
+each_whole P Q f marked [] h = tt
+each_whole P Q f marked (e ∷ es) h = (f e h.0, h.1, each_whole P Q f marked es h.2)
+
+row_whole : (P Q : List ℕ → Type 0) → ((e : List ℕ) → P e → Q e) → (marked : Bool) (content : List ℕ) → Row P marked content → Row Q marked content
+row_whole P Q f marked content h = record { elements = h.elements; each = each_whole P Q f marked h.elements h.each; joined = h.joined }
+
+content_whole : (P Q : List ℕ → Type 0) → ((e : List ℕ) → P e → Q e) → (c : Bool) (count : Option ℕ) (content : List ℕ) → IsContent P c count content → IsContent Q c count content
+content_whole P Q f c (Some n) content h = (h.0, λ e. row_whole P Q f false content (h.1 e))
+content_whole P Q f c None content h = row_whole P Q f true content h
+
+whole_in_more : (left more : ℕ) → left ≤ more → (e : List ℕ) → Whole left e → Whole more e
+whole_in_more zero more le e h = absurd h
+whole_in_more (suc left) zero le e h = absurd (omega arith)
+whole_in_more (suc left) (suc more) le e h = record {
+  tag = h.tag;
+  count = h.count;
+  header = h.header;
+  content = h.content;
+  is_header = h.is_header;
+  is_content = content_whole (Whole left) (Whole more) (whole_in_more left more (omega arith)) h.tag.constructed h.count h.content h.is_content;
+  octets_are = h.octets_are;
+}
+
+none_so : {A B : Type 0} (count : Option ℕ) → (A → B) → IfNone count A → IfNone count B
+none_so None f h = f h
+none_so (Some n) f h = tt
+
+-- an element of a level stands in each level above
+pub stands_above : (depth above : ℕ) (t : Tag) (content octets : List ℕ) → above ≤ depth → Stands depth t content octets → Stands above t content octets
+stands_above depth above t content octets le h = record {
+  count = h.count;
+  header = h.header;
+  is_header = h.is_header;
+  shallow = let s = h.shallow in omega arith;
+  definite = h.definite;
+  indefinite = none_so {A = Row (Whole (16 - depth)) true content} {B = Row (Whole (16 - above)) true content} h.count (row_whole (Whole (16 - depth)) (Whole (16 - above)) (whole_in_more (16 - depth) (16 - above) (omega arith)) true content) h.indefinite;
+  octets_are = h.octets_are;
+}
+
+pub raw_above : (depth above class number : ℕ) (octets : List ℕ) → above ≤ depth → IsRawAt depth class number octets → IsRawAt above class number octets
+raw_above depth above class number octets le h = record { tag = h.tag; content = h.content; is_tag_of = h.is_tag_of; stands = stands_above depth above h.tag h.content octets le h.stands }
+
+pub some_so : {A : Type 0} (P Q : A → Type 0) → ((x : A) → P x → Q x) → (o : Option A) → IfSome o P → IfSome o Q
+some_so P Q f None h = tt
+some_so P Q f (Some x) h = f x h
+
+each_so : {A : Type 0} (P Q : A → Type 0) → ((x : A) → P x → Q x) → (xs : List A) → Each P xs → Each Q xs
+each_so P Q f [] h = tt
+each_so P Q f (x ∷ xs) h = (f x h.0, each_so P Q f xs h.1)
+
+pub name_above : KeptNamesAreKeptAbove
+name_above depth above n le h = record {
+  extras = each_so (λ x. IsRawAt (depth + 3) 2 1 x.raw) (λ x. IsRawAt (above + 3) 2 1 x.raw) (λ x k. raw_above (depth + 3) (above + 3) 2 1 x.raw (omega arith) k) n.extras h.extras;
+  directory = some_so (IsRawAt (depth + 1) 2 0) (IsRawAt (above + 1) 2 0) (λ x k. raw_above (depth + 1) (above + 1) 2 0 x (omega arith) k) n.directory h.directory;
+}
+
+-- ---- what each component of a level keeps, all of them keep
+
+module _ {S : Type 0} (makes : Makes S) (P : S → Type 0) (depth : ℕ) where
+  abbrev pub KeepsAt : Type 0
+  KeepsAt = (s t : S) (tag : Tag) (content octets : List ℕ) → Stands depth tag content octets → makes depth s tag content octets t → P s → P t
+
+  pub are_kept : KeepsAt → (s t : S) (es : List (List ℕ)) → AreComponents makes depth s es t → P s → P t
+  are_kept keeps s t [] h k = subst P h k
+  are_kept keeps s t (e ∷ es) h k = are_kept keeps h.0 t es h.2 (keeps s h.0 h.1.tag h.1.content e h.1.stands h.1.made k)
+
+pub spelled_kept : {S : Type 0} (makes : Makes S) (P : S → Type 0) (depth : ℕ) → KeepsAt makes P (depth + 1) → (s t : S) (content : List ℕ) → SpellsComponents makes depth s content t → P s → P t
+spelled_kept makes P depth keeps s t content h k = are_kept makes P (depth + 1) keeps s t h.components h.are k
+
+-- ---- extension attributes
+
+-- a value that is not a common name is kept
+abbrev KeptAs : Bool → ℕ → List ℕ → Type 0
+KeptAs true depth v = Unit {0}
+KeptAs false depth v = IsRawAt depth 2 1 v
+
+value_kept : (b : Bool) (depth : ℕ) (tag : Tag) (content octets v : List ℕ) → is_tag 2 1 tag ≡ true → Stands depth tag content octets → SpellsAttributeValue b depth tag content octets v → KeptAs b depth v
+value_kept true depth tag content octets v is stands h = tt
+value_kept false depth tag content octets v is stands h = subst (IsRawAt depth 2 1) (sym h) (record { tag = tag; content = content; is_tag_of = is; stands = stands })
+
+record Held (depth : ℕ) (s : AttributeParts) : Type 0 where
+  kept : (n : ℕ) → s.number ≡ Some n → IfSome s.value (KeptAs (eqb n 1) depth)
+  none : s.number ≡ None → s.value ≡ None
+
+nothing_kept : (P : List ℕ → Type 0) (o : Option (List ℕ)) → o ≡ None → IfSome o P
+nothing_kept P o e = subst (λ x. IfSome x P) (sym e) tt
+
+abbrev some_number : ℕ → Option ℕ
+some_number n = Some n
+
+number_is : (m n : ℕ) → some_number m ≡ some_number n → m ≡ n
+number_is m n e = cc
+
+held : (depth : ℕ) → KeepsAt MakesAttribute (Held depth) depth
+held depth s t tag content octets stands h k =
+    elim h [
+      | inl m ↦ subst (Held depth) (sym m.after_is) (record { kept = λ n e. nothing_kept (KeptAs (eqb n 1) depth) s.value (k.none m.absent); none = λ e. absurd (cc e) })
+      | inr m ↦ subst (Held depth) (sym m.puts.after_is) (record {
+        kept = λ n e. subst (λ j. KeptAs (eqb j 1) depth m.puts.value) (number_is m.number n (sym m.typed_so ∙ e)) (value_kept (eqb m.number 1) depth tag content octets m.puts.value m.is_tag_of stands m.puts.value_spelled);
+        none = λ e. absurd (let f = sym m.typed_so ∙ e in cc f);
+      })
+    ]
+
+attribute_kept : (taken : Bool) (depth : ℕ) (c : Bool) (content : List ℕ) (x : Extra) → SpellsAttribute taken depth c content x → KeptAs (eqb x.number 1) (depth + 1) x.raw
+attribute_kept taken depth c content x h =
+    let k = spelled_kept MakesAttribute (Held (depth + 1)) depth (held (depth + 1)) (no_attribute taken h.at) h.parts content h.spelled (record { kept = λ n e. tt; none = λ e. refl }) in
+    subst (λ o. IfSome o (KeptAs (eqb x.number 1) (depth + 1))) h.value (k.kept x.number h.number)
+
+abbrev Extended : ℕ → ExtensionParts → Type 0
+Extended depth s = AreKeptAt (depth + 1) s.extras
+
+extended_as : (b : Bool) (depth : ℕ) (s : ExtensionParts) (x : Extra) → KeptAs b (depth + 1) x.raw → Extended depth s → Extended depth (cond b (record s { common = Some x.raw }) (record s { extras = s.extras ++ x ∷ [] }))
+extended_as true depth s x h k = k
+extended_as false depth s x h k = each_more (λ y. IsRawAt (depth + 1) 2 1 y.raw) s.extras x k h
+
+extended : (depth : ℕ) → KeepsAt MakesExtension (Extended depth) depth
+extended depth s t tag content octets stands m k =
+    let h = attribute_kept (is_some s.common) depth tag.constructed content m.puts.value m.puts.value_spelled in
+    subst (Extended depth) (sym m.puts.after_is) (extended_as (eqb m.puts.value.number 1) depth s m.puts.value h k)
+
+pub extensions_kept : (depth : ℕ) (c : Bool) (content : List ℕ) (s : ExtensionParts) → SpellsExtensions depth c content s → AreKeptAt (depth + 2) s.extras
+extensions_kept depth c content s h =
+    subst (λ k. AreKeptAt k s.extras) (let e : depth + 1 + 1 ≡ depth + 2 = omega arith in e) (spelled_kept MakesExtension (Extended (depth + 1)) depth (extended (depth + 1)) no_extensions s content h.spelled tt)
+
+-- ---- names
+
+record Named (depth : ℕ) (n : Attributes) : Type 0 where
+  extras : AreKeptAt (depth + 2) n.extras
+  directory : IfSome n.directory (IsRawAt depth 2 0)
+
+part_kept : (k : NamePart) (depth : ℕ) (n : Attributes) (tag : Tag) (content octets : List ℕ) (t : NameParts) → is_tag (name_class k) (name_number k) tag ≡ true → Stands depth tag content octets → MakesNamePart k depth n tag content octets t → Named depth n → Named depth t.attributes
+part_kept Standard depth n tag content octets t is stands m h =
+    let alone = (standard_is depth tag.constructed content m.value m.value_spelled).alone in
+    subst (λ (s : NameParts). Named depth s.attributes) (sym m.after_is) (record { extras = subst (AreKeptAt (depth + 2)) (sym alone.no_extras) tt; directory = subst (λ o. IfSome o (IsRawAt depth 2 0)) (sym alone.no_directory) tt })
+part_kept Pairs depth n tag content octets t is stands m h = subst (λ (s : NameParts). Named depth s.attributes) (sym m.after_is) (record { extras = h.extras; directory = h.directory })
+part_kept Extensions depth n tag content octets t is stands m h =
+    subst (λ (s : NameParts). Named depth s.attributes) (sym m.after_is) (record { extras = extensions_kept depth tag.constructed content m.value m.value_spelled; directory = h.directory })
+part_kept Directory depth n tag content octets t is stands m h =
+    subst (λ (s : NameParts). Named depth s.attributes) (sym m) (record { extras = h.extras; directory = record { tag = tag; content = content; is_tag_of = is; stands = stands } })
+
+named : (depth : ℕ) → KeepsAt MakesName (λ s. Named depth s.attributes) depth
+named depth s t tag content octets stands m k = part_kept m.part depth s.attributes tag content octets t m.is_tag_of stands m.made k
+
+pub name_kept : ReadNamesAreKept
+name_kept depth c content n h =
+    let k = spelled_kept MakesName (λ s. Named (depth + 1) s.attributes) depth (named (depth + 1)) (name_parts 0 nothing) (name_parts h.last n) content h.spelled (record { extras = tt; directory = tt }) in
+    record { extras = subst (λ d. AreKeptAt d n.extras) (let e : depth + 1 + 2 ≡ depth + 3 = omega arith in e) k.extras; directory = k.directory }
+
+pub read_names_again : ReadNamesAreReadAgain
+read_names_again tag depth above c content n low is h le d = names_again tag above n low is (name_is depth c content n h) (name_above depth above n le (name_kept depth c content n h)) d
