@@ -1,2 +1,11 @@
 pub mod Texts
 pub mod RouteLaws
+pub mod ShapeLaws
+pub mod KeyLaws
+pub mod Drafts
+pub mod Again
+pub mod MadeLaws
+pub mod NameFits
+pub mod NamesAgain
+pub mod FormsWritten
+pub mod FormsTold

@@ -6,6 +6,7 @@ ghost use Rattle.mta_names.specs.Normal.{is_same_value};
 ghost use Rattle.mta_name_text.specs.Forms.{label_text};
 ghost use Rattle.mta_name_text.specs.Routes.{present, route_attributes, has_parts, HasRoute};
 
+use crate::pattern::Pattern;
 use mta_ber::Text;
 use mta_names::{Attributes, Label, OrName, same_text};
 
@@ -82,8 +83,8 @@ fn from_country(parts: &[Text], n: &Attributes) -> bool
 
 /// Whether each part of a pattern is in the name with equal normal text: the parts are a country, an administration domain, a
 /// private domain, an organization and units, and leave out none before their last.
-pub fn has_route(name: &OrName, parts: &[Text]) -> bool
-    ensures { IsTrue result ↔ HasRoute name.now parts.now }
+pub fn has_route(name: &OrName, pattern: &Pattern) -> bool
+    ensures { IsTrue result ↔ HasRoute name.now pattern.now }
 {
-    from_country(parts, name.attributes())
+    from_country(pattern.parts(), name.attributes())
 }
