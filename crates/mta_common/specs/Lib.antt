@@ -1,0 +1,5 @@
+pub mod ContentKinds
+pub mod TraceLists
+pub mod ExtensionLists
+pub mod Indicators
+pub mod ContentIdentifiers
