@@ -1,0 +1,155 @@
+-- What was read of an envelope stands and says the same in the level of its place, so a message or a probe that was read is written so
+-- that it is read again.
+use Rattle.std.proofs.Common.{◌≡◌, ℕ, ◌+◌, ◌≤◌, Bool, true, false, List, [], ◌∷◌, Option, Some, None, refl, sym, ap, subst, ◌∙◌, arith}
+use Rattle.std.specs.Prelude.{IfSome}
+use Rattle.mta_ber.specs.declared.tag.Tag.{Tag}
+use Rattle.mta_ber.specs.Spelling.{Stands}
+use Rattle.mta_names.specs.Laws.{IsRawAt, KeepsName}
+use Rattle.mta_names.specs.Lists.{is_sequence}
+use Rattle.mta_names.specs.Strings.{AddsItem}
+use Rattle.mta_names.specs.Values.{Each, IsName}
+use Rattle.mta_names.proofs.Kept.{KeepsAt, spelled_kept, name_kept}
+use Rattle.mta_names.proofs.NameLaws.{name_is}
+use Rattle.mta_names.proofs.Rows.{none_begins}
+use Rattle.mta_names.proofs.Tools.{each_more}
+use Rattle.mta_fields.specs.declared.expansion.ExpansionFields.{ExpansionFields}
+use Rattle.mta_fields.specs.declared.trace.TraceFields.{TraceFields}
+use Rattle.mta_fields.specs.Laws.{IsWholeId, IsWholeTrace, KeepsTrace}
+use Rattle.mta_fields.proofs.Kept.{identifier_whole, trace_kept, trace_whole}
+use Rattle.mta_common.specs.TraceLists.{SpellsTraceItem, SpellsTraceList}
+use Rattle.mta_extensions.specs.declared.extensions.Extensions.{Extensions}
+use Rattle.mta_extensions.specs.declared.value.Topic.TheVariants.{ExpansionHistory}
+use Rattle.mta_extensions.specs.Laws.{SaysAt, AreToldAt}
+use Rattle.mta_extensions.specs.Told.{history_said, values_of}
+use Rattle.mta_extensions.proofs.ExtKept.{extensions_kept}
+use Rattle.mta_recipient.specs.Laws.{IsWholeRecipient, KeepsRecipient}
+use Rattle.mta_recipient.proofs.Again.{IsKeptRecipient}
+use Rattle.mta_recipient.proofs.RecKept.{each_first, each_second, recipients_kept}
+use Rattle.mta_envelope.specs.declared.envelope.EnvelopeFields.{EnvelopeFields}
+use Rattle.mta_envelope.specs.declared.parts.EnvelopePart.{EnvelopePart}
+use Rattle.mta_envelope.specs.declared.parts.EnvelopePart.TheVariants.{Originator, Identifier, InformationTypes, ContentType, MessagePriority, Indicators, TraceList, ContentIdentifier, Deferral, Length, Bilateral, RecipientList, ExtensionSet}
+use Rattle.mta_envelope.specs.declared.parts.EnvelopeParts.{EnvelopeParts}
+use Rattle.mta_envelope.specs.Components.{is_envelope_tag, no_envelope, MakesEnvelopePart, MakesEnvelope}
+use Rattle.mta_envelope.specs.Envelopes.{told_history, told_or_none, history_or_none, envelope_in, SpellsEnvelope}
+use Rattle.mta_envelope.specs.Laws.{told_of, IsWholeEnvelope, KeepsEnvelope, ReadEnvelopesAreKept, ReadMessagesAreReadAgain, ReadProbesAreReadAgain, NoMessageBeginsAnother, NoProbeBeginsAnother}
+use Rattle.mta_envelope.specs.Messages.{message_in, SpellsMessage}
+use Rattle.mta_envelope.proofs.EnvelopeLaws.{envelope_full, envelope_is, envelope_kind}
+use Rattle.mta_envelope.proofs.MessageAgain.{messages_again, probes_again}
+use Rattle.mta_envelope.proofs.MessageLaws.{message_full}
+
+-- ---- traces
+
+abbrev IsKeptTrace : ℕ → TraceFields → Type 0
+IsKeptTrace depth v = IsWholeTrace v × KeepsTrace depth v
+
+trace_more : (depth : ℕ) → KeepsAt (AddsItem is_sequence SpellsTraceItem) (Each (IsKeptTrace depth)) depth
+trace_more depth s t tag content octets stands m h =
+    let x = m.spelled in
+    subst (Each (IsKeptTrace depth)) (sym m.after_is) (each_more (IsKeptTrace depth) s m.item h (trace_whole depth tag.constructed content m.item x, trace_kept depth tag.constructed content m.item x))
+
+trace_list_kept : (depth : ℕ) (c : Bool) (content : List ℕ) (vs : List TraceFields) → SpellsTraceList depth c content vs → Each (IsKeptTrace (depth + 1)) vs
+trace_list_kept depth c content vs h = spelled_kept (AddsItem is_sequence SpellsTraceItem) (Each (IsKeptTrace (depth + 1))) depth (trace_more (depth + 1)) [] vs content h.spelled tt
+
+-- ---- components
+
+record Holds (depth : ℕ) (s : EnvelopeParts) : Type 0 where
+  originator : IfSome s.originator (λ n. KeepsName depth n × IsName n)
+  id : IfSome s.id IsWholeId
+  eits : IfSome s.eits (IsRawAt depth 1 5)
+  bilateral : IfSome s.bilateral (IsRawAt depth 2 1)
+  recipients : IfSome s.recipients (Each (IsKeptRecipient (depth + 1)))
+  trace : IfSome s.trace (Each (IsKeptTrace (depth + 1)))
+  extensions : IfSome s.extensions (AreToldAt depth)
+
+part_kept : (b : Bool) (k : EnvelopePart) (depth : ℕ) (s t : EnvelopeParts) (tag : Tag) (content octets : List ℕ) → depth + 6 ≤ 16 → is_envelope_tag b k tag ≡ true → Stands depth tag content octets → MakesEnvelopePart k depth s tag content octets t → Holds depth s → Holds depth t
+part_kept b Originator depth s t tag content octets d is stands m h = subst (Holds depth) (sym m.1.after_is) (record { originator = (name_kept depth tag.constructed content m.1.value m.1.value_spelled, name_is depth tag.constructed content m.1.value m.1.value_spelled); id = h.id; eits = h.eits; bilateral = h.bilateral; recipients = h.recipients; trace = h.trace; extensions = h.extensions })
+part_kept b Identifier depth s t tag content octets d is stands m h = subst (Holds depth) (sym m.1.after_is) (record { originator = h.originator; id = identifier_whole depth tag.constructed content m.1.value m.1.value_spelled; eits = h.eits; bilateral = h.bilateral; recipients = h.recipients; trace = h.trace; extensions = h.extensions })
+part_kept b InformationTypes depth s t tag content octets d is stands m h = subst (Holds depth) (sym m.1.after_is) (record { originator = h.originator; id = h.id; eits = subst (IsRawAt depth 1 5) (sym m.1.value_spelled) (record { tag = tag; content = content; is_tag_of = is; stands = stands }); bilateral = h.bilateral; recipients = h.recipients; trace = h.trace; extensions = h.extensions })
+part_kept b ContentType depth s t tag content octets d is stands m h = subst (Holds depth) (sym m.1.after_is) (record { originator = h.originator; id = h.id; eits = h.eits; bilateral = h.bilateral; recipients = h.recipients; trace = h.trace; extensions = h.extensions })
+part_kept b MessagePriority depth s t tag content octets d is stands m h = subst (Holds depth) (sym m.1.after_is) (record { originator = h.originator; id = h.id; eits = h.eits; bilateral = h.bilateral; recipients = h.recipients; trace = h.trace; extensions = h.extensions })
+part_kept b Indicators depth s t tag content octets d is stands m h = subst (Holds depth) (sym m.1.after_is) (record { originator = h.originator; id = h.id; eits = h.eits; bilateral = h.bilateral; recipients = h.recipients; trace = h.trace; extensions = h.extensions })
+part_kept b TraceList depth s t tag content octets d is stands m h = subst (Holds depth) (sym m.1.after_is) (record { originator = h.originator; id = h.id; eits = h.eits; bilateral = h.bilateral; recipients = h.recipients; trace = trace_list_kept depth tag.constructed content m.1.value m.1.value_spelled; extensions = h.extensions })
+part_kept b ContentIdentifier depth s t tag content octets d is stands m h = subst (Holds depth) (sym m.1.after_is) (record { originator = h.originator; id = h.id; eits = h.eits; bilateral = h.bilateral; recipients = h.recipients; trace = h.trace; extensions = h.extensions })
+part_kept b Deferral depth s t tag content octets d is stands m h = subst (Holds depth) (sym m.1.after_is) (record { originator = h.originator; id = h.id; eits = h.eits; bilateral = h.bilateral; recipients = h.recipients; trace = h.trace; extensions = h.extensions })
+part_kept b Length depth s t tag content octets d is stands m h = subst (Holds depth) (sym m.1.after_is) (record { originator = h.originator; id = h.id; eits = h.eits; bilateral = h.bilateral; recipients = h.recipients; trace = h.trace; extensions = h.extensions })
+part_kept b Bilateral depth s t tag content octets d is stands m h = subst (Holds depth) (sym m.1.after_is) (record { originator = h.originator; id = h.id; eits = h.eits; bilateral = subst (IsRawAt depth 2 1) (sym m.1.value_spelled) (record { tag = tag; content = content; is_tag_of = is; stands = stands }); recipients = h.recipients; trace = h.trace; extensions = h.extensions })
+part_kept b RecipientList depth s t tag content octets d is stands m h = subst (Holds depth) (sym m.1.after_is) (record { originator = h.originator; id = h.id; eits = h.eits; bilateral = h.bilateral; recipients = recipients_kept depth tag.constructed content m.1.value m.1.value_spelled d; trace = h.trace; extensions = h.extensions })
+part_kept b ExtensionSet depth s t tag content octets d is stands m h = subst (Holds depth) (sym m.1.after_is) (record { originator = h.originator; id = h.id; eits = h.eits; bilateral = h.bilateral; recipients = h.recipients; trace = h.trace; extensions = extensions_kept depth tag.constructed content m.1.value m.1.value_spelled (omega arith) })
+
+kept : (b : Bool) (depth : ℕ) → depth + 6 ≤ 16 → KeepsAt MakesEnvelope (Holds depth) depth
+kept b depth d s t tag content octets stands m h = part_kept s.probe m.part depth s t tag content octets d m.is_tag_of stands m.made h
+
+-- ---- extension fields
+
+told_so : (depth : ℕ) (o : Option Extensions) → IfSome o (AreToldAt depth) → AreToldAt depth (told_or_none o)
+told_so depth None h = record { fields = tt; kept = tt; history = tt; latest = tt; prohibited = tt }
+told_so depth (Some x) h = h
+
+-- a history that is told has an expansion
+some_history : (depth : ℕ) (vs : List (List ℕ)) (o : Option (List ExpansionFields)) → SaysAt depth ExpansionHistory vs (history_said o) → o ≡ told_history (history_or_none o)
+some_history depth vs None h = refl
+some_history depth [] (Some []) h = absurd h
+some_history depth (v ∷ []) (Some []) h = absurd (let n = h.spelled.1.at_least in omega arith)
+some_history depth (v ∷ w ∷ vs) (Some []) h = absurd h
+some_history depth vs (Some (x ∷ xs)) h = refl
+
+told_as : (depth : ℕ) (e : Extensions) (v : EnvelopeFields) → v.extensions ≡ e.fields → v.history ≡ history_or_none e.history → v.latest ≡ e.latest → AreToldAt depth e → AreToldAt depth (told_of v e.prohibited)
+told_as depth e v f x l h =
+    let history : e.history ≡ told_history v.history = some_history (depth + 3) (values_of ExpansionHistory e.fields) e.history h.history ∙ ap told_history (sym x) in
+    subst (λ (t : Extensions). AreToldAt depth t) (same e.fields v.extensions e.history (told_history v.history) e.latest v.latest (sym f) history (sym l)) h
+  where
+    same : (f f' : _) (h h' : Option (List ExpansionFields)) (l l' : Option ℕ) → f ≡ f' → h ≡ h' → l ≡ l'
+        → ◌≡◌ {A = Extensions} (record { fields = f; history = h; latest = l; prohibited = e.prohibited }) (record { fields = f'; history = h'; latest = l'; prohibited = e.prohibited })
+    same f f' h h' l l' a b c = cc
+
+-- ---- envelopes
+
+envelope_both : (b : Bool) (depth : ℕ) (c : Bool) (content : List ℕ) (v : EnvelopeFields) → SpellsEnvelope b depth c content v → depth + 7 ≤ 16 → KeepsEnvelope depth v × IsWholeEnvelope v
+envelope_both b depth c content v h d =
+    let k = spelled_kept MakesEnvelope (Holds (depth + 1)) depth (kept b (depth + 1) (omega arith)) (no_envelope b) h.parts content h.spelled (record { originator = tt; id = tt; eits = tt; bilateral = tt; recipients = tt; trace = tt; extensions = tt }) in
+    let e : Extensions = told_or_none h.parts.extensions in
+    let level : depth + 1 + 1 ≡ depth + 2 = omega arith in
+    let name : KeepsName (depth + 1) v.originator × IsName v.originator = subst (λ o. IfSome o (λ n. KeepsName (depth + 1) n × IsName n)) h.originator k.originator in
+    let id : IsWholeId v.id = subst (λ o. IfSome o IsWholeId) h.id k.id in
+    let recipients : Each (IsKeptRecipient (depth + 1 + 1)) v.recipients = subst (λ o. IfSome o (Each (IsKeptRecipient (depth + 1 + 1)))) h.recipients k.recipients in
+    let trace : Each (IsKeptTrace (depth + 1 + 1)) v.trace = subst (λ o. IfSome o (Each (IsKeptTrace (depth + 1 + 1)))) h.trace k.trace in (
+      record {
+        originator = name.0;
+        eits = subst (λ o. IfSome o (IsRawAt (depth + 1) 1 5)) (sym (ap (λ (x : EnvelopeFields). x.eits) h.value)) k.eits;
+        bilateral = subst (λ o. IfSome o (IsRawAt (depth + 1) 2 1)) (sym (ap (λ (x : EnvelopeFields). x.bilateral) h.value)) k.bilateral;
+        recipients = subst (λ n. Each (KeepsRecipient n) v.recipients) level (each_second IsWholeRecipient (KeepsRecipient (depth + 1 + 1)) v.recipients recipients);
+        trace = subst (λ n. Each (KeepsTrace n) v.trace) level (each_second IsWholeTrace (KeepsTrace (depth + 1 + 1)) v.trace trace);
+        prohibition = e.prohibited;
+        prohibited_is = ap (λ (x : EnvelopeFields). x.dl_prohibited) h.value;
+        told = told_as (depth + 1) e v (ap (λ (x : EnvelopeFields). x.extensions) h.value) (ap (λ (x : EnvelopeFields). x.history) h.value) (ap (λ (x : EnvelopeFields). x.latest) h.value) (told_so (depth + 1) h.parts.extensions k.extensions);
+      },
+      record {
+        envelope = envelope_is b depth c content v h;
+        originator = name.1;
+        id = id;
+        recipients = each_first IsWholeRecipient (KeepsRecipient (depth + 1 + 1)) v.recipients recipients;
+        trace = each_first IsWholeTrace (KeepsTrace (depth + 1 + 1)) v.trace trace;
+      },
+    )
+
+pub envelope_kept : ReadEnvelopesAreKept
+envelope_kept b depth c content v h d = envelope_both b depth c content v h d
+
+-- ---- messages and probes
+
+pub read_messages_again : ReadMessagesAreReadAgain
+read_messages_again content v more at h short =
+    let e = h.envelope in
+    let k = envelope_both false 2 e.tag.constructed e.content v.envelope e.spelled (omega arith) in
+    messages_again v.envelope v.content.octets more at k.1 (envelope_kind false 2 e.tag.constructed e.content v.envelope e.spelled) k.0 short
+
+pub read_probes_again : ReadProbesAreReadAgain
+read_probes_again content v more at h short =
+    let k = envelope_both true 2 true content v h (omega arith) in
+    probes_again v more at k.1 (envelope_kind true 2 true content v h) k.0 short
+
+pub no_message_begins : NoMessageBeginsAnother
+no_message_begins = none_begins message_in SpellsMessage (λ v p d h. message_full v p h)
+
+pub no_probe_begins : NoProbeBeginsAnother
+no_probe_begins = none_begins (envelope_in true) (SpellsEnvelope true) (λ v p d h. envelope_full true v p h)

@@ -1,0 +1,6 @@
+pub mod Priorities
+pub mod Components
+pub mod Envelopes
+pub mod Contents
+pub mod Messages
+pub mod Laws

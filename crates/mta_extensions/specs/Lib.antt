@@ -1,0 +1,4 @@
+pub mod Topics
+pub mod Fields
+pub mod Told
+pub mod Laws

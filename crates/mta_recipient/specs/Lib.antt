@@ -1,0 +1,3 @@
+pub mod Recipients
+pub mod Lists
+pub mod Laws
