@@ -1,0 +1,4 @@
+pub mod EnvelopeLaws
+pub mod ContentLaws
+pub mod ReportLaws
+pub mod ReportAgain

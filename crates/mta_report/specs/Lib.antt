@@ -1,0 +1,5 @@
+pub mod ReportValues
+pub mod ReportEnvelopes
+pub mod ReportContents
+pub mod Reports
+pub mod Laws

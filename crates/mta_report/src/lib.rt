@@ -1,0 +1,14 @@
+//! Reports (X.411, ReportTransferEnvelope and ReportTransferContent): every spelling of them is read, the one canonical spelling is written.
+#![tactic(auto)]
+
+mod content;
+mod envelope;
+mod fields;
+mod laws;
+mod reading;
+mod report;
+
+pub use fields::ReportFields;
+pub use laws::reports_are_read_again;
+pub use mta_reported::{Outcome, Reported, ReportedFields};
+pub use report::Report;

@@ -1,0 +1,9 @@
+pub mod Written
+pub mod AbsentParts
+pub mod Failing
+pub mod DeliveryLaws
+pub mod FailureLaws
+pub mod OutcomeLaws
+pub mod LastLaws
+pub mod ReportedLaws
+pub mod ReportedAgain

@@ -1,0 +1,7 @@
+pub mod Values
+pub mod Deliveries
+pub mod Failures
+pub mod Outcomes
+pub mod LastTraces
+pub mod ReportedRecipients
+pub mod Laws
