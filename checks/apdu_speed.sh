@@ -1,0 +1,41 @@
+#!/usr/bin/env bash
+# Recipients a second in messages of 1, 40 and 1,000 recipients that mta_apdu reads and writes, 40,000 recipients of each, beside tshark, which
+# dissects and prints the same octets in one run. User time on this machine. Run it at the top of the repository.
+set -u
+cd "$(dirname "$0")/.." || exit 2
+command -v rt >/dev/null || { echo "skipped: no rt"; exit 0; }
+(cd crates/mta_apdu_bench && rt run >/dev/null 2>&1) || { echo "the program was not built"; exit 1; }
+program=crates/mta_apdu_bench/out/mta_apdu_bench
+TIMEFORMAT=%U
+told() { awk -v word="$1" -v best="$2" 'BEGIN { printf "%s: %.2f million recipients a second\n", word, 0.12 / best }'; }
+for word in read write; do
+  told "$word" "$(for _ in 1 2 3 4 5 6 7; do { time "$program" "$word" >/dev/null; } 2>&1; done | sort -n | head -n 1)"
+done
+for tool in tshark python3; do
+  command -v "$tool" >/dev/null || { echo "skipped: $tool is not on the PATH"; exit 0; }
+done
+made=$(mktemp -d)
+trap 'rm -rf "$made"' EXIT
+python3 - "$made/pcap" <<'PYTHON'
+import struct, sys
+sample = open("samples/message.ber", "rb").read()
+fields, recipient = sample[4:60], sample[62:97]
+
+
+def length(n):
+    octets = n.to_bytes((n.bit_length() + 7) // 8, "big")
+    return bytes([n]) if n < 128 else bytes([0x80 | len(octets)]) + octets
+
+
+def element(tag, content):
+    return tag + length(len(content)) + content
+
+
+with open(sys.argv[1], "wb") as pcap:
+    pcap.write(struct.pack("<IHHiIII", 0xA1B2C3D4, 2, 4, 0, 0, 262144, 147))
+    for count in (1, 40, 1000):
+        envelope = element(b"\x31", fields + element(b"\xA2", recipient * count))
+        apdu = element(b"\xA0", envelope + element(b"\x04", b"Hi"))
+        pcap.write((struct.pack("<IIII", 0, 0, len(apdu), len(apdu)) + apdu) * (40000 // count))
+PYTHON
+told tshark "$( { time tshark -r "$made/pcap" -X lua_script:checks/outside.lua -V >/dev/null 2>&1; } 2>&1 )"

@@ -1,0 +1,160 @@
+//! APDUs.
+
+ghost use Rattle.std.specs.Prelude.{◌≡◌, ◌<◌, ◌≤◌, ◌^◌, ◌+◌, ◌-◌, length, IfOk, Ok};
+ghost use Rattle.mta_ber.specs.Element.{first};
+ghost use Rattle.mta_ber.specs.Place.{IsAt};
+ghost use Rattle.mta_ber.specs.Seen.{view};
+ghost use Rattle.mta_envelope.specs.Contents.{ReadsSeen};
+ghost use Rattle.mta_apdu.specs.Apdus.{apdu_value, apdu_as, apdu_in, ends, whole_in, front_in, apdu_of, longest_apdu, IsLentEnd, IsLentIn};
+
+use crate::kind::{ApduKind, kind_of};
+use mta_ber::{Kind, Memory, Octets, ReadFault, View, bad};
+use mta_envelope::{Message, Probe};
+use mta_report::Report;
+use std::alloc::Global;
+
+/// The most octets of an APDU.
+pub const LONGEST_APDU: u32 = 2_097_152;
+
+/// An APDU (X.411, MTS-APDU). The content of a message is lent where it stands in one piece.
+#[derive(Debug, Drop)]
+pub enum Apdu<'a> {
+    Message(Message<'a>),
+    Probe(Probe),
+    Report(Report),
+}
+
+fn discard_message(_message: Message<'_>) {}
+
+fn discard_probe(_probe: Probe) {}
+
+fn discard_report(_report: Report) {}
+
+/// The APDU of this choice.
+#[tactic(auto, unfolding(crate::specs::Apdus::apdu_as))]
+fn read_as<'a>(alloc: Global, kind: ApduKind, whole: &View<'a>) -> Result<Apdu<'a>, ReadFault>
+    ensures exact { ReadsSeen apdu_value result (apdu_as kind (view whole.now)) }
+    ensures lent { IfOk result (IsLentEnd whole.now.content) }
+{
+    match kind {
+        ApduKind::OfMessage => {
+            let message = Message::read(alloc, whole)?;
+            Ok(Apdu::Message(message))
+        }
+        ApduKind::OfReport => {
+            let report = Report::read(alloc, whole)?;
+            Ok(Apdu::Report(report))
+        }
+        ApduKind::OfProbe => {
+            let probe = Probe::read(alloc, whole)?;
+            Ok(Apdu::Probe(probe))
+        }
+    }
+}
+
+/// The APDU that an element spells.
+#[tactic(auto, unfolding(crate::specs::Apdus::apdu_in))]
+fn read_element<'a>(alloc: Global, whole: &View<'a>) -> Result<Apdu<'a>, ReadFault>
+    ensures exact { ReadsSeen apdu_value result (apdu_in (view whole.now)) }
+    ensures lent { IfOk result (IsLentEnd whole.now.content) }
+{
+    match kind_of(whole.tag) {
+        None => bad(whole.at, Kind::BadTag),
+        Some(kind) => read_as(alloc, kind, whole),
+    }
+}
+
+/// The element at the front of octets that are not too many.
+fn first_of(bytes: &[u8]) -> Result<View<'_>, ReadFault>
+    requires { length bytes.now ≤ longest_apdu }
+    ensures exact { ReadsSeen view result (first 0 bytes.now) }
+    ensures place { IfOk result (λ v. IsAt (v.start - 0) v.content bytes.entry) }
+{
+    let whole = View::first(bytes, 0)?;
+    Ok(whole)
+}
+
+/// The APDU that an element spells, where nothing is behind it.
+#[tactic(auto, unfolding(crate::specs::Apdus::ends))]
+fn read_alone<'a>(alloc: Global, whole: &View<'a>) -> Result<Apdu<'a>, ReadFault>
+    ensures exact { ReadsSeen apdu_value result (whole_in (view whole.now)) }
+    ensures lent { IfOk result (IsLentEnd whole.now.content) }
+{
+    match read_element(alloc, whole) {
+        Err(fault) => Err(fault),
+        Ok(apdu) => {
+            if whole.rest.is_empty() {
+                Ok(apdu)
+            } else {
+                apdu.discard();
+                bad(whole.at + whole.octets.len() as u32, Kind::Trailing)
+            }
+        }
+    }
+}
+
+/// The APDU of octets that are not too many.
+fn read_front<'a>(alloc: Global, bytes: &'a [u8]) -> Result<Apdu<'a>, ReadFault>
+    requires { length bytes.now ≤ longest_apdu }
+    ensures exact { ReadsSeen apdu_value result (front_in bytes.now) }
+    ensures lent { IfOk result (IsLentIn bytes.entry) }
+{
+    let whole = first_of(bytes)?;
+    read_alone(alloc, &whole)
+}
+
+#[tactic(auto, unfolding(crate::specs::Apdus::apdu_of))]
+fn read_whole<'a>(alloc: Global, bytes: &'a [u8]) -> Result<Apdu<'a>, ReadFault>
+    ensures exact { ReadsSeen apdu_value result (apdu_of bytes.now) }
+    ensures lent { IfOk result (IsLentIn bytes.entry) }
+{
+    if bytes.len() > LONGEST_APDU as usize {
+        return bad(LONGEST_APDU, Kind::TooLong);
+    }
+    read_front(alloc, bytes)
+}
+
+impl<'a> Apdu<'a> {
+    ghost use Rattle.std.specs.Prelude.{◌≡◌, List, ℕ, IfOk};
+    ghost use Rattle.mta_envelope.specs.Contents.{ReadsSeen, IsSeenAs};
+    ghost use Rattle.mta_apdu.specs.Apdus.{ApduValue, apdu_value, apdu_of, SpellsApdu, canonical_apdu, IsLentIn};
+
+    /// The APDU that octets spell. TooLong at 2,097,152 where there are more octets, before all else; then the first fault of the
+    /// element at their front; then Trailing at the first octet behind it.
+    pub fn read(alloc: Global, bytes: &'a [u8]) -> Result<Apdu<'a>, ReadFault>
+        // Which APDU it is, or which fault comes first. A message's content is lent exactly where it is primitive.
+        ensures exact { ReadsSeen apdu_value result (apdu_of bytes.now) }
+
+        // What is answered is spelled by the octets, and what they spell is answered.
+        ensures found { IfOk result (λ a. SpellsApdu bytes.now (apdu_value a)) }
+        ensures only { (v : ApduValue) → SpellsApdu bytes.now v → IsSeenAs apdu_value result v }
+
+        // What is lent is a slice of the input itself.
+        ensures lent { IfOk result (IsLentIn bytes.entry) }
+    {
+        match read_whole(alloc, bytes) {
+            Ok(apdu) => Ok(apdu),
+            Err(fault) => Err(fault),
+        }
+    }
+
+    /// Lets the APDU go. In a call of its own, so that no caller's proof goes through all its parts.
+    pub fn discard(self) {
+        match self {
+            Apdu::Message(message) => discard_message(message),
+            Apdu::Probe(probe) => discard_probe(probe),
+            Apdu::Report(report) => discard_report(report),
+        }
+    }
+
+    /// The canonical octets.
+    pub fn write(&self, alloc: Global) -> Result<Octets, Memory>
+        ensures { IfOk result (λ o. o ≡ canonical_apdu (apdu_value self.now)) }
+    {
+        match self {
+            Apdu::Message(message) => message.write(alloc),
+            Apdu::Probe(probe) => probe.write(alloc),
+            Apdu::Report(report) => report.write(alloc),
+        }
+    }
+}
