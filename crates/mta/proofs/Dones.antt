@@ -200,18 +200,21 @@ mailbox_read content faults before now out_rose old spool base name text result 
 
 -- ---- as what a command leaves
 
-pub read_to_cause : (words : Words) (conf input disk : Option (List ℕ)) (source_rose disk_rose out_rose : Type 0) (stop : Stop) → IsReadCause words disk disk_rose out_rose stop → IsCause (Some words) conf input disk source_rose disk_rose out_rose [] stop
-read_to_cause words conf input disk source_rose disk_rose out_rose (Stops.NotSpool at) c = c
-read_to_cause words conf input disk source_rose disk_rose out_rose Stops.Disk c = c
-read_to_cause words conf input disk source_rose disk_rose out_rose Stops.Memory c = c
-read_to_cause words conf input disk source_rose disk_rose out_rose Stops.Sink c = c
-read_to_cause words conf input disk source_rose disk_rose out_rose (Stops.NoMailbox name) c = (ap (λ (w : Words). Some w) c.0, c.1)
-read_to_cause words conf input disk source_rose disk_rose out_rose Stops.Usage c = absurd c
-read_to_cause words conf input disk source_rose disk_rose out_rose (Stops.Tables line kind) c = absurd c
-read_to_cause words conf input disk source_rose disk_rose out_rose (Stops.Full size need) c = absurd c
-read_to_cause words conf input disk source_rose disk_rose out_rose (Stops.Spent last) c = absurd c
-read_to_cause words conf input disk source_rose disk_rose out_rose Stops.Source c = absurd c
-read_to_cause words conf input disk source_rose disk_rose out_rose Stops.NotBuilt c = absurd c
+decode_same : (words : Words) → Some words ≡ Some Say.Decode → words ≡ Say.Decode
+decode_same words e = cc
+
+pub read_to_cause : (words : Words) → (words ≡ Say.Decode → ⊥) → (conf input disk : Option (List ℕ)) (source_rose disk_rose out_rose : Type 0) (stop : Stop) → IsReadCause words disk disk_rose out_rose stop → IsCause (Some words) conf input disk source_rose disk_rose out_rose [] stop
+read_to_cause words other conf input disk source_rose disk_rose out_rose (Stops.NotSpool at) c = (λ e. other (decode_same words e), c)
+read_to_cause words other conf input disk source_rose disk_rose out_rose Stops.Disk c = (λ e. other (decode_same words e), c)
+read_to_cause words other conf input disk source_rose disk_rose out_rose Stops.Memory c = c
+read_to_cause words other conf input disk source_rose disk_rose out_rose Stops.Sink c = c
+read_to_cause words other conf input disk source_rose disk_rose out_rose (Stops.NoMailbox name) c = (ap (λ (w : Words). Some w) c.0, c.1)
+read_to_cause words other conf input disk source_rose disk_rose out_rose Stops.Usage c = absurd c
+read_to_cause words other conf input disk source_rose disk_rose out_rose (Stops.Tables line kind) c = absurd c
+read_to_cause words other conf input disk source_rose disk_rose out_rose (Stops.Full size need) c = absurd c
+read_to_cause words other conf input disk source_rose disk_rose out_rose (Stops.Spent last) c = absurd c
+read_to_cause words other conf input disk source_rose disk_rose out_rose Stops.Source c = absurd c
+read_to_cause words other conf input disk source_rose disk_rose out_rose (Stops.BadApdu at kind) c = absurd c
 
 pub stands_history : (f : List ℕ) (steps : List Step) → StandsFor f steps → IsHistory (steps ++ [])
 stands_history f steps (inl s) = subst IsHistory (sym (append-nil steps)) (subst IsHistory (sym s.1) tt)
@@ -221,9 +224,9 @@ words_some : (a b : Words) → Some a ≡ Some b → a ≡ b
 words_some a b e = cc
 
 pub read_done : {D : Type 0} (content : D → Option (List ℕ)) (faults : D → ℕ) (tells : ℕ → Type 0) (words : Words) (conf input before now : Option (List ℕ)) (source_rose out_rose : Type 0) (old new : D) (result : Result (Unit {0}) Stop)
-    → (words ≡ Say.Submit → ⊥) → ((t : List ℕ) → IsText (Some words) None None (content old) [] t → IsText (Some words) conf input (content old) [] t)
+    → (words ≡ Say.Submit → ⊥) → (words ≡ Say.Decode → ⊥) → ((t : List ℕ) → IsText (Some words) None None (content old) [] t → IsText (Some words) conf input (content old) [] t)
     → HasRead content faults words before now out_rose old new result → HasDone content faults tells (Some words) conf input before now source_rose out_rose old new result
-read_done content faults tells words conf input before now source_rose out_rose old new result other texts has = record {
+read_done content faults tells words conf input before now source_rose out_rose old new result other undecoded texts has = record {
   added = [];
   disk = has.disk;
   history = λ f steps was st. stands_history f steps st;
@@ -231,9 +234,9 @@ read_done content faults tells words conf input before now source_rose out_rose 
   few = none;
   only = λ e. refl;
   printed = printed_as (IsText (Some words) None None (content old) []) (IsText (Some words) conf input (content old) []) before now result texts has.printed;
-  cause = λ stop e. read_to_cause words conf input (content old) source_rose (Rose (faults old) (faults new)) out_rose stop (has.cause stop e);
+  cause = λ stop e. read_to_cause words undecoded conf input (content old) source_rose (Rose (faults old) (faults new)) out_rose stop (has.cause stop e);
   settled = λ e. absurd (other (words_some words Say.Submit e));
-  stood = has.stood;
+  stood = λ e. has.stood;
   gathered = λ e. absurd (other (words_some words Say.Submit e));
   named = λ name e ok. has.named name (words_some words (Say.Mailbox name) e) ok;
 } where

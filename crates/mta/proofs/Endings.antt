@@ -2,7 +2,9 @@
 use Rattle.std.proofs.Common.{◌≡◌, ◌≢◌, ℕ, List, ◌++◌, length, Option, Some, None, Result, Ok, Err, refl, sym, ap, subst, ◌∙◌, arith, append_assoc, inl, inr}
 use Rattle.std.specs.Prelude.{◌⊎◌}
 use Rattle.std.proofs.lemmas.List.{length-append}
+use Rattle.mta_ber.specs.declared.fault.Fault.{Fault}
 use Rattle.mta_edge.specs.Outside.{Goes, Goes-then}
+use Rattle.mta_apdu.specs.Apdus.{ApduValue, apdu_of}
 use Rattle.mta_records.specs.declared.step.Step.{Step}
 use Rattle.mta_tables.specs.Tables.{TablesValue, tables_of}
 use Rattle.mta_tables.specs.Reading.{bad}
@@ -19,7 +21,7 @@ use Rattle.mta.specs.declared.words.Words.TheVariants as Say
 use Rattle.mta.specs.Streams.{TakesFront}
 use Rattle.mta.specs.Telling.{line_of, status_of}
 use Rattle.mta.specs.Ending.{mailbox_named, IsCause, IsEnded, done, stopped, cut_text, cut_line, HasClosed, HasTold, told, short, failed, short_failed}
-use Rattle.mta.specs.Headline.{HasPrinted, IsComplete}
+use Rattle.mta.specs.Headline.{HasPrinted, IsComplete, IsDecoded}
 
 -- ---- what was printed before the last line, and that line
 
@@ -79,7 +81,7 @@ cause_later words conf input disk source_rose disk_rose out_rose rose added Stop
 cause_later words conf input disk source_rose disk_rose out_rose rose added Stops.Source more c = c
 cause_later words conf input disk source_rose disk_rose out_rose rose added Stops.Sink more c = more c
 cause_later words conf input disk source_rose disk_rose out_rose rose added (Stops.NoMailbox name) more c = c
-cause_later words conf input disk source_rose disk_rose out_rose rose added Stops.NotBuilt more c = c
+cause_later words conf input disk source_rose disk_rose out_rose rose added (Stops.BadApdu at kind) more c = c
 
 -- what a status tells of the words and of the outside
 pub record Tells (words : Option Words) (source_rose disk_rose out_rose : Type 0) (status : ℕ) : Type 0 where
@@ -92,14 +94,14 @@ tells_stop : (words : Option Words) (conf input disk : Option (List ℕ)) (sourc
 tells_stop words conf input disk source_rose disk_rose out_rose added Stops.Usage status c e = record { usage = λ x. c; disk = λ x. absurd (omega (arith, x, e)); source = λ x. absurd (omega (arith, x, e)); sink = λ x. absurd (omega (arith, x, e)) }
 tells_stop words conf input disk source_rose disk_rose out_rose added (Stops.Tables line kind) status c e = record { usage = λ x. absurd (omega (arith, x, e)); disk = λ x. absurd (omega (arith, x, e)); source = λ x. absurd (omega (arith, x, e)); sink = λ x. absurd (omega (arith, x, e)) }
 tells_stop words conf input disk source_rose disk_rose out_rose added (Stops.NotSpool at) status c e = record { usage = λ x. absurd (omega (arith, x, e)); disk = λ x. absurd (omega (arith, x, e)); source = λ x. absurd (omega (arith, x, e)); sink = λ x. absurd (omega (arith, x, e)) }
-tells_stop words conf input disk source_rose disk_rose out_rose added Stops.Disk status c e = record { usage = λ x. absurd (omega (arith, x, e)); disk = λ x. c; source = λ x. absurd (omega (arith, x, e)); sink = λ x. absurd (omega (arith, x, e)) }
+tells_stop words conf input disk source_rose disk_rose out_rose added Stops.Disk status c e = record { usage = λ x. absurd (omega (arith, x, e)); disk = λ x. c.1; source = λ x. absurd (omega (arith, x, e)); sink = λ x. absurd (omega (arith, x, e)) }
 tells_stop words conf input disk source_rose disk_rose out_rose added (Stops.Full size need) status c e = record { usage = λ x. absurd (omega (arith, x, e)); disk = λ x. absurd (omega (arith, x, e)); source = λ x. absurd (omega (arith, x, e)); sink = λ x. absurd (omega (arith, x, e)) }
 tells_stop words conf input disk source_rose disk_rose out_rose added (Stops.Spent last) status c e = record { usage = λ x. absurd (omega (arith, x, e)); disk = λ x. absurd (omega (arith, x, e)); source = λ x. absurd (omega (arith, x, e)); sink = λ x. absurd (omega (arith, x, e)) }
 tells_stop words conf input disk source_rose disk_rose out_rose added Stops.Memory status c e = record { usage = λ x. absurd (omega (arith, x, e)); disk = λ x. absurd (omega (arith, x, e)); source = λ x. absurd (omega (arith, x, e)); sink = λ x. absurd (omega (arith, x, e)) }
 tells_stop words conf input disk source_rose disk_rose out_rose added Stops.Source status c e = record { usage = λ x. absurd (omega (arith, x, e)); disk = λ x. absurd (omega (arith, x, e)); source = λ x. c; sink = λ x. absurd (omega (arith, x, e)) }
 tells_stop words conf input disk source_rose disk_rose out_rose added Stops.Sink status c e = record { usage = λ x. absurd (omega (arith, x, e)); disk = λ x. absurd (omega (arith, x, e)); source = λ x. absurd (omega (arith, x, e)); sink = λ x. c }
 tells_stop words conf input disk source_rose disk_rose out_rose added (Stops.NoMailbox name) status c e = record { usage = λ x. absurd (omega (arith, x, e)); disk = λ x. absurd (omega (arith, x, e)); source = λ x. absurd (omega (arith, x, e)); sink = λ x. absurd (omega (arith, x, e)) }
-tells_stop words conf input disk source_rose disk_rose out_rose added Stops.NotBuilt status c e = record { usage = λ x. absurd (omega (arith, x, e)); disk = λ x. absurd (omega (arith, x, e)); source = λ x. absurd (omega (arith, x, e)); sink = λ x. absurd (omega (arith, x, e)) }
+tells_stop words conf input disk source_rose disk_rose out_rose added (Stops.BadApdu at kind) status c e = record { usage = λ x. absurd (omega (arith, x, e)); disk = λ x. absurd (omega (arith, x, e)); source = λ x. absurd (omega (arith, x, e)); sink = λ x. absurd (omega (arith, x, e)) }
 
 tells_nine : (words : Option Words) (source_rose disk_rose out_rose : Type 0) (status : ℕ) → status ≡ 9 → out_rose → Tells words source_rose disk_rose out_rose status
 tells_nine words source_rose disk_rose out_rose status e r = record { usage = λ x. absurd (omega (arith, x, e)); disk = λ x. absurd (omega (arith, x, e)); source = λ x. absurd (omega (arith, x, e)); sink = λ x. r }
@@ -123,7 +125,7 @@ some_status Stops.Memory status e z = omega (arith, e, z)
 some_status Stops.Source status e z = omega (arith, e, z)
 some_status Stops.Sink status e z = omega (arith, e, z)
 some_status (Stops.NoMailbox name) status e z = omega (arith, e, z)
-some_status Stops.NotBuilt status e z = omega (arith, e, z)
+some_status (Stops.BadApdu at kind) status e z = omega (arith, e, z)
 
 told_some : (stop : Stop) (before now : Option (List ℕ)) (rose : Type 0) (status : ℕ) → HasTold stop before now rose status → status ≡ 0 → ⊥
 told_some stop before now rose status (told e goes) z = some_status stop status e z
@@ -156,19 +158,22 @@ record InOrder (words : Option Words) (conf input disk : Option (List ℕ)) (sou
 no_bad : (c : List ℕ) (t : TablesValue) (line : ℕ) (kind : LineKind) → tables_of c ≡ Ok t → tables_of c ≡ bad line kind → ⊥
 no_bad c t line kind good wrong = cc
 
+no_fault : (r : Result ApduValue Fault) (v : ApduValue) (f : Fault) → r ≡ Ok v → r ≡ Err f → ⊥
+no_fault r v f good wrong = cc
+
 complete_stop : (words : Option Words) (conf input disk : Option (List ℕ)) (source_rose disk_rose out_rose : Type 0) (added : List Step) (c i f : List ℕ) (t : TablesValue) (steps : List Step) (stop : Stop) (status : ℕ)
     → InOrder words conf input disk source_rose disk_rose out_rose c i f t steps → IsCause words conf input disk source_rose disk_rose out_rose added stop → status ≡ status_of stop → (status ≡ 0) ⊎ (status ≡ 5) ⊎ (status ≡ 7)
 complete_stop words conf input disk source_rose disk_rose out_rose added c i f t steps Stops.Usage status o why e = absurd (o.word why)
 complete_stop words conf input disk source_rose disk_rose out_rose added c i f t steps (Stops.Tables line kind) status o why e = absurd (no_bad c t line kind o.tables (bad_read c line kind (why.1 c o.conf_is)))
-complete_stop words conf input disk source_rose disk_rose out_rose added c i f t steps (Stops.NotSpool at) status o why e = absurd (no_history f at steps (why f o.disk_is) o.stands)
-complete_stop words conf input disk source_rose disk_rose out_rose added c i f t steps Stops.Disk status o why e = absurd (o.calm why)
+complete_stop words conf input disk source_rose disk_rose out_rose added c i f t steps (Stops.NotSpool at) status o why e = absurd (no_history f at steps (why.1 f o.disk_is) o.stands)
+complete_stop words conf input disk source_rose disk_rose out_rose added c i f t steps Stops.Disk status o why e = absurd (o.calm why.1)
 complete_stop words conf input disk source_rose disk_rose out_rose added c i f t steps (Stops.Full size need) status o why e = inr (inl e)
 complete_stop words conf input disk source_rose disk_rose out_rose added c i f t steps (Stops.Spent last) status o why e = inr (inl e)
 complete_stop words conf input disk source_rose disk_rose out_rose added c i f t steps Stops.Memory status o why e = inr (inr e)
 complete_stop words conf input disk source_rose disk_rose out_rose added c i f t steps Stops.Source status o why e = absurd (o.source why)
 complete_stop words conf input disk source_rose disk_rose out_rose added c i f t steps Stops.Sink status o why e = absurd (o.sink why)
 complete_stop words conf input disk source_rose disk_rose out_rose added c i f t steps (Stops.NoMailbox name) status o why e = absurd (o.named name why.0 (why.1 f steps o.disk_is o.stands))
-complete_stop words conf input disk source_rose disk_rose out_rose added c i f t steps Stops.NotBuilt status o why e = absurd (why.1 i o.input_is o.message)
+complete_stop words conf input disk source_rose disk_rose out_rose added c i f t steps (Stops.BadApdu at kind) status o why e = absurd (no_fault (apdu_of i) o.message.0 (record { at = at; kind = kind }) o.message.1 (why.1 i o.input_is))
 
 complete_ended : (words : Option Words) (conf input disk : Option (List ℕ)) (source_rose disk_rose out_rose : Type 0) (added : List Step) (text : List ℕ → Type 0) (before now : Option (List ℕ)) (status : ℕ) (c i f : List ℕ) (t : TablesValue) (steps : List Step)
     → InOrder words conf input disk source_rose disk_rose out_rose c i f t steps → IsEnded (IsCause words conf input disk source_rose disk_rose out_rose added) text out_rose before now status → (status ≡ 0) ⊎ (status ≡ 5) ⊎ (status ≡ 7)
@@ -182,3 +187,38 @@ pub ended_complete : (words : Option Words) (conf input disk : Option (List ℕ)
 ended_complete words conf input disk source_rose disk_rose out_rose added text before now status ended = λ word source calm sink c i f t steps e1 e2 e3 good message stands named.
     complete_ended words conf input disk source_rose disk_rose out_rose added text before now status c i f t steps
     (record { word = word; source = source; calm = calm; sink = sink; conf_is = e1; input_is = e2; disk_is = e3; tables = good; message = message; stands = stands; named = named }) ended
+
+-- ---- where the input of `decode` is in order
+
+other_words : (words : Option Words) (a b : Words) → (Some a ≡ Some b → ⊥) → words ≡ Some a → words ≡ Some b → ⊥
+other_words words a b apart first second = apart (sym first ∙ second)
+
+no_none : (words : Option Words) (a : Words) → words ≡ Some a → words ≡ None → ⊥
+no_none words a some none = cc
+
+submit_apart : Some Say.Submit ≡ Some Say.Decode → ⊥
+submit_apart e = cc
+
+mailbox_apart : (name : List ℕ) → Some (Say.Mailbox name) ≡ Some Say.Decode → ⊥
+mailbox_apart name e = cc
+
+decoded_stop : (words : Option Words) (conf input disk : Option (List ℕ)) (source_rose disk_rose out_rose : Type 0) (added : List Step) (i : List ℕ) (stop : Stop) (status : ℕ) → words ≡ Some Say.Decode → (source_rose → ⊥) → (out_rose → ⊥) → input ≡ Some i → SpellsApdu i
+    → IsCause words conf input disk source_rose disk_rose out_rose added stop → status ≡ status_of stop → (status ≡ 0) ⊎ (status ≡ 7)
+decoded_stop words conf input disk source_rose disk_rose out_rose added i Stops.Usage status w source sink input_is spelled why e = absurd (no_none words Say.Decode w why)
+decoded_stop words conf input disk source_rose disk_rose out_rose added i (Stops.Tables line kind) status w source sink input_is spelled why e = absurd (other_words words Say.Submit Say.Decode submit_apart why.0 w)
+decoded_stop words conf input disk source_rose disk_rose out_rose added i (Stops.NotSpool at) status w source sink input_is spelled why e = absurd (why.0 w)
+decoded_stop words conf input disk source_rose disk_rose out_rose added i Stops.Disk status w source sink input_is spelled why e = absurd (why.0 w)
+decoded_stop words conf input disk source_rose disk_rose out_rose added i (Stops.Full size need) status w source sink input_is spelled why e = absurd (other_words words Say.Submit Say.Decode submit_apart why.0 w)
+decoded_stop words conf input disk source_rose disk_rose out_rose added i (Stops.Spent last) status w source sink input_is spelled why e = absurd (other_words words Say.Submit Say.Decode submit_apart why.0 w)
+decoded_stop words conf input disk source_rose disk_rose out_rose added i Stops.Memory status w source sink input_is spelled why e = inr e
+decoded_stop words conf input disk source_rose disk_rose out_rose added i Stops.Source status w source sink input_is spelled why e = absurd (source why)
+decoded_stop words conf input disk source_rose disk_rose out_rose added i Stops.Sink status w source sink input_is spelled why e = absurd (sink why)
+decoded_stop words conf input disk source_rose disk_rose out_rose added i (Stops.NoMailbox name) status w source sink input_is spelled why e = absurd (other_words words (Say.Mailbox name) Say.Decode (mailbox_apart name) why.0 w)
+decoded_stop words conf input disk source_rose disk_rose out_rose added i (Stops.BadApdu at kind) status w source sink input_is spelled why e = absurd (no_fault (apdu_of i) spelled.0 (record { at = at; kind = kind }) spelled.1 (why.1 i input_is))
+
+pub ended_decoded : (words : Option Words) (conf input disk : Option (List ℕ)) (source_rose disk_rose out_rose : Type 0) (added : List Step) (text : List ℕ → Type 0) (before now : Option (List ℕ)) (status : ℕ)
+    → IsEnded (IsCause words conf input disk source_rose disk_rose out_rose added) text out_rose before now status → IsDecoded words input source_rose out_rose status
+ended_decoded words conf input disk source_rose disk_rose out_rose added text before now status (done e x is goes) = λ w source sink i input_is spelled. inl e
+ended_decoded words conf input disk source_rose disk_rose out_rose added text before now status (stopped stop why other e x front goes) = λ w source sink i input_is spelled. decoded_stop words conf input disk source_rose disk_rose out_rose added i stop status w source sink input_is spelled why e
+ended_decoded words conf input disk source_rose disk_rose out_rose added text before now status (cut_text e r x is goes) = λ w source sink i input_is spelled. absurd (sink r)
+ended_decoded words conf input disk source_rose disk_rose out_rose added text before now status (cut_line e r stop why x front goes) = λ w source sink i input_is spelled. absurd (sink r)

@@ -59,7 +59,7 @@ no_stop Stops.Memory n x e = let h : ◌≡◌ {A = ℕ} 97 111 = ap (λ (l : Li
 no_stop Stops.Source n x e = let h : ◌≡◌ {A = ℕ} 97 115 = ap (λ (l : List ℕ). get_or l 0 0) e in omega (arith, h)
 no_stop Stops.Sink n x e = let h : ◌≡◌ {A = ℕ} 97 0 = ap (λ (l : List ℕ). get_or l 0 0) e in omega (arith, h)
 no_stop (Stops.NoMailbox name) n x e = let h : ◌≡◌ {A = ℕ} 97 110 = ap (λ (l : List ℕ). get_or l 0 0) e in omega (arith, h)
-no_stop Stops.NotBuilt n x e = let h : ◌≡◌ {A = ℕ} 97 110 = ap (λ (l : List ℕ). get_or l 0 0) e in omega (arith, h)
+no_stop (Stops.BadApdu at kind) n x e = let h : ◌≡◌ {A = ℕ} 97 98 = ap (λ (l : List ℕ). get_or l 0 0) e in omega (arith, h)
 
 -- what was taken, where both contents are told
 at_told : {step : List ℕ → List ℕ → Type 0} {old new : Option (List ℕ)} (a b : List ℕ) → Goes step old new → old ≡ Some a → new ≡ Some b → step a b
@@ -130,7 +130,7 @@ ran_ended content faults tells words conf input before mid now source_rose out_r
   provenance = has.own;
   at_most_one = has.few;
   only_submit = has.only;
-  ended_well = λ z. (no_words words conf input (content old) has.added before mid outcome has.printed (well z), has.stood (well z));
+  ended_well = λ z. (no_words words conf input (content old) has.added before mid outcome has.printed (well z), λ other. has.stood other (well z));
   read_well = λ z w. has.gathered w (well z);
   named_well = λ name z w. has.named name w (well z);
   settled = λ z w. has.settled w (well z);

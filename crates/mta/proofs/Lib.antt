@@ -1,5 +1,7 @@
+pub mod Decodes
 pub mod Dones
 pub mod Endings
+pub mod Inputs
 pub mod Keepings
 pub mod Pieces
 pub mod Settles

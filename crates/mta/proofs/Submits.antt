@@ -31,7 +31,7 @@ use Rattle.mta.proofs.Dones.{Goes-nothing, printed_nothing, err_is, stands_histo
 
 -- ---- a command that stopped before it opened a disk
 
-none_accepted : accepts [] ≤ 1
+pub none_accepted : accepts [] ≤ 1
 none_accepted = omega arith
 
 pub stopped_done : {D : Type 0} (content : D → Option (List ℕ)) (faults : D → ℕ) (tells : ℕ → Type 0) (words : Option Words) (conf input told : Option (List ℕ)) (source_rose out_rose : Type 0) (old new : D) (stop : Stop)
@@ -47,14 +47,14 @@ stopped_done content faults tells words conf input told source_rose out_rose old
   printed = printed_nothing (IsText words conf input (content old) []) told stop other;
   cause = λ s e. subst (IsCause words conf input (content old) source_rose (Rose (faults old) (faults new)) out_rose []) (err_is stop s e) why;
   settled = λ e ok. absurd cc;
-  stood = λ ok. absurd cc;
+  stood = λ other_words ok. absurd cc;
   gathered = λ e ok. absurd cc;
   named = λ name e ok. absurd cc;
 }
 
 pub gather_cause : (conf input disk : Option (List ℕ)) (source_rose disk_rose out_rose : Type 0) (stop : Stop) → IsGatherStop conf input source_rose stop → IsCause (Some Say.Submit) conf input disk source_rose disk_rose out_rose [] stop
 gather_cause conf input disk source_rose disk_rose out_rose (Stops.Tables line kind) c = (refl, c)
-gather_cause conf input disk source_rose disk_rose out_rose Stops.NotBuilt c = (refl, c)
+gather_cause conf input disk source_rose disk_rose out_rose (Stops.BadApdu at kind) c = (inl refl, c)
 gather_cause conf input disk source_rose disk_rose out_rose Stops.Source c = c
 gather_cause conf input disk source_rose disk_rose out_rose Stops.Memory c = tt
 gather_cause conf input disk source_rose disk_rose out_rose Stops.Usage c = absurd c
@@ -72,7 +72,7 @@ pub submit_not_opened : {D : Type 0} (content : D → Option (List ℕ)) (faults
     → HasRefused content faults old new why → HasDone content faults tells (Some Say.Submit) conf input told told source_rose out_rose old new (Err (stop_of_open why))
 submit_not_opened content faults tells conf input told source_rose out_rose old new why refused =
     stopped_done content faults tells (Some Say.Submit) conf input told source_rose out_rose old new (stop_of_open why) (disk_refused content faults old new why refused) (open_no_sink why)
-    (read_to_cause Say.Submit conf input (content old) source_rose (Rose (faults old) (faults new)) out_rose (stop_of_open why) (read_cause_open content faults old new Say.Submit out_rose why refused))
+    (read_to_cause Say.Submit (λ e. absurd cc) conf input (content old) source_rose (Rose (faults old) (faults new)) out_rose (stop_of_open why) (read_cause_open content faults old new Say.Submit out_rose why refused))
 
 -- ---- a spool that was worked on
 
@@ -112,7 +112,7 @@ work_cause content conf input disk source_rose work_rose disk_rose out_rose text
     (refl, refused_later content conf input disk disk_rose text apdu spool base added (StepFaults.Full used need) told_conf told_input same (stands (λ e. absurd cc)) why)
 work_cause content conf input disk source_rose work_rose disk_rose out_rose text apdu spool base added (Stops.Spent last) told_conf told_input same stands rose why =
     (refl, refused_later content conf input disk disk_rose text apdu spool base added (StepFaults.Spent last) told_conf told_input same (stands (λ e. absurd cc)) why)
-work_cause content conf input disk source_rose work_rose disk_rose out_rose text apdu spool base added Stops.Disk told_conf told_input same stands rose why = rose why
+work_cause content conf input disk source_rose work_rose disk_rose out_rose text apdu spool base added Stops.Disk told_conf told_input same stands rose why = (λ e. absurd cc, rose why)
 work_cause content conf input disk source_rose work_rose disk_rose out_rose text apdu spool base added Stops.Memory told_conf told_input same stands rose why = tt
 work_cause content conf input disk source_rose work_rose disk_rose out_rose text apdu spool base added Stops.Sink told_conf told_input same stands rose why = why
 work_cause content conf input disk source_rose work_rose disk_rose out_rose text apdu spool base added Stops.Usage told_conf told_input same stands rose why = absurd why
@@ -120,7 +120,7 @@ work_cause content conf input disk source_rose work_rose disk_rose out_rose text
 work_cause content conf input disk source_rose work_rose disk_rose out_rose text apdu spool base added (Stops.NotSpool at) told_conf told_input same stands rose why = absurd why
 work_cause content conf input disk source_rose work_rose disk_rose out_rose text apdu spool base added Stops.Source told_conf told_input same stands rose why = absurd why
 work_cause content conf input disk source_rose work_rose disk_rose out_rose text apdu spool base added (Stops.NoMailbox name) told_conf told_input same stands rose why = absurd why
-work_cause content conf input disk source_rose work_rose disk_rose out_rose text apdu spool base added Stops.NotBuilt told_conf told_input same stands rose why = absurd why
+work_cause content conf input disk source_rose work_rose disk_rose out_rose text apdu spool base added (Stops.BadApdu at kind) told_conf told_input same stands rose why = absurd why
 
 settled_later : {D C : Type 0} (content : D → Option (List ℕ)) (tells : ℕ → Type 0) (spool : Shown D C) (base steps added : List Step) → base ≡ steps → Stands content spool (base ++ added)
     → (told : ℕ) × tells told × IsQuiet spool.current.tables spool.current.items (step_moment told spool.current.moment) → IsSettled tells (steps ++ added)
@@ -149,7 +149,7 @@ submit_worked content faults tells conf input before now source_rose out_rose ol
       cause = λ stop e. work_cause content conf input (content old) source_rose (Rose (faults spool.disk) (faults new.disk)) (Rose (faults old) (faults new.disk)) out_rose x.tables.text x.apdu new base has.added stop read.0 read.2 same
           (λ no. has.worked.stands (λ w. disk_err stop no (sym e ∙ w)) base stands) risen (has.refused stop e);
       settled = λ e ok f steps was st. settled_later content tells new base steps has.added (same f steps was st) (has.worked.stands (λ w. absurd (ok_err (sym ok ∙ w))) base stands) (has.quiet ok);
-      stood = λ ok f was. (base, opened f was);
+      stood = λ other_words ok f was. (base, opened f was);
       gathered = λ e ok c i w v. ((x.tables, subst (λ (y : List ℕ). tables_of y ≡ Ok x.tables) (read.0 c w) read.1), subst SpellsApdu (read.2 i v) read.3);
       named = λ name e ok. absurd (other name e);
     }

@@ -4,12 +4,13 @@ use Rattle.mta_edge.specs.Outside.{Goes}
 use Rattle.mta_records.specs.declared.step.Step.{Step}
 use Rattle.mta_tables.specs.Tables.{TablesValue, mailbox_of as place_of_mailbox}
 use Rattle.mta_tables.specs.Grammar.{IsFirstBadLine}
-use Rattle.mta_history.specs.Apdu.{SpellsApdu}
+use Rattle.mta_apdu.specs.Apdus.{ApduValue, apdu_of}
 use Rattle.mta_history.specs.Verdict.{recorded}
 use Rattle.mta_history.specs.History.{State, after}
 use Rattle.mta_history.specs.Image.{front, StandsFor, NoSpoolAt}
 use Rattle.mta_records.specs.declared.fault.StepFault.TheVariants as StepFaults
 use Rattle.mta_spool.specs.Current.{current_of}
+use Rattle.mta_apdu_text.specs.Apdus.{apdu_text}
 use Rattle.mta_show.specs.Queue.{queue_text}
 use Rattle.mta_show.specs.Mailbox.{mailbox_text}
 use Rattle.mta.specs.declared.stop.Stop.{Stop}
@@ -17,6 +18,7 @@ use Rattle.mta.specs.declared.stop.Stop.TheVariants as Stops
 use Rattle.mta.specs.declared.words.Words.{Words}
 use Rattle.mta.specs.declared.words.Words.TheVariants as Say
 use Rattle.mta.specs.Streams.{TakesFront}
+use Rattle.mta.specs.Gathering.{HasFirstFault}
 use Rattle.mta.specs.Telling.{accepted_line, line_of, status_of}
 use Rattle.mta.specs.Working.{IsRefusal, IsAccepted}
 
@@ -28,25 +30,38 @@ ForHistory disk P = (f : List ℕ) (steps : List Step) → disk ≡ Some f → S
 abbrev pub mailbox_named : State → List ℕ → Option ℕ
 mailbox_named s name = option_and_then (λ (t : TablesValue). place_of_mailbox t name) (recorded s.machine.tables)
 
+-- another command than `decode`, which does nothing with the disk
+abbrev pub IsOther : Option Words → Type 0
+IsOther words = words ≡ Some Say.Decode → ⊥
+
+-- a command that reads an APDU from the input
+abbrev pub ReadsApdu : Option Words → Type 0
+ReadsApdu words = (words ≡ Some Say.Submit) ⊎ (words ≡ Some Say.Decode)
+
+-- the text of the APDU that the input is read as
+abbrev pub IsDecodeText : Option (List ℕ) → List ℕ → Type 0
+IsDecodeText input text = (i : List ℕ) → input ≡ Some i → (v : ApduValue) × (apdu_of i ≡ Ok v) × (text ≡ apdu_text v)
+
 -- why a run stopped so
 abbrev pub IsCause : (words : Option Words) (conf input disk : Option (List ℕ)) (source_rose disk_rose out_rose : Type 0) (added : List Step) → Stop → Type 0
 IsCause words conf input disk source_rose disk_rose out_rose added Stops.Usage = words ≡ None
 IsCause words conf input disk source_rose disk_rose out_rose added (Stops.Tables line kind) = (words ≡ Some Say.Submit) × ((c : List ℕ) → conf ≡ Some c → IsFirstBadLine c line kind)
-IsCause words conf input disk source_rose disk_rose out_rose added (Stops.NotSpool at) = (f : List ℕ) → disk ≡ Some f → NoSpoolAt f at
-IsCause words conf input disk source_rose disk_rose out_rose added Stops.Disk = disk_rose
+IsCause words conf input disk source_rose disk_rose out_rose added (Stops.NotSpool at) = IsOther words × ((f : List ℕ) → disk ≡ Some f → NoSpoolAt f at)
+IsCause words conf input disk source_rose disk_rose out_rose added Stops.Disk = IsOther words × disk_rose
 IsCause words conf input disk source_rose disk_rose out_rose added (Stops.Full size need) = (words ≡ Some Say.Submit) × ((c i : List ℕ) → conf ≡ Some c → input ≡ Some i → ForHistory disk (λ steps. IsRefusal c i (current_of (after (steps ++ added))) (length (front (steps ++ added)) + 1) disk_rose (StepFaults.Full size need)))
 IsCause words conf input disk source_rose disk_rose out_rose added (Stops.Spent last) = (words ≡ Some Say.Submit) × ((c i : List ℕ) → conf ≡ Some c → input ≡ Some i → ForHistory disk (λ steps. IsRefusal c i (current_of (after (steps ++ added))) (length (front (steps ++ added)) + 1) disk_rose (StepFaults.Spent last)))
 IsCause words conf input disk source_rose disk_rose out_rose added Stops.Memory = Unit {0}
 IsCause words conf input disk source_rose disk_rose out_rose added Stops.Source = source_rose
 IsCause words conf input disk source_rose disk_rose out_rose added Stops.Sink = out_rose
 IsCause words conf input disk source_rose disk_rose out_rose added (Stops.NoMailbox name) = (words ≡ Some (Say.Mailbox name)) × ForHistory disk (λ steps. mailbox_named (after steps) name ≡ None)
-IsCause words conf input disk source_rose disk_rose out_rose added Stops.NotBuilt = (words ≡ Some Say.Submit) × ((i : List ℕ) → input ≡ Some i → SpellsApdu i → ⊥)
+IsCause words conf input disk source_rose disk_rose out_rose added (Stops.BadApdu at kind) = ReadsApdu words × HasFirstFault input at kind
 
--- what a command prints where it does not stop: `submit` the number of the item, `spool` the queue, and `read` the mailbox
+-- what a command prints where it does not stop: `submit` the number of the item, `spool` the queue, `read` the mailbox, and `decode` the APDU
 abbrev pub IsText : (words : Option Words) (conf input disk : Option (List ℕ)) (added : List Step) → List ℕ → Type 0
 IsText None conf input disk added text = ⊥
 IsText (Some Say.Submit) conf input disk added text = (n : ℕ) × (n < 2 ^ 32) × (text ≡ accepted_line n) × ((c i : List ℕ) → conf ≡ Some c → input ≡ Some i → ForHistory disk (λ steps. IsAccepted steps added c i n))
 IsText (Some Say.Queue) conf input disk added text = ForHistory disk (λ steps. text ≡ queue_text (after steps).machine.items)
+IsText (Some Say.Decode) conf input disk added text = IsDecodeText input text
 IsText (Some (Say.Mailbox name)) conf input disk added text = ForHistory disk (λ steps. text ≡ mailbox_text name (after steps).machine.items (after steps).machine.mailboxes)
 
 -- nothing, or what the command prints

@@ -1,9 +1,10 @@
 -- What is read before the disk is opened.
 use Rattle.std.specs.Prelude.{◌≡◌, ◌≤◌, ◌⊎◌, ℕ, List, Option, Some, Result, Ok, Err}
+use Rattle.mta_ber.specs.declared.fault.Kind.{Kind}
 use Rattle.mta_edge.specs.Causes.{Rose}
 use Rattle.mta_tables.specs.Tables.{TablesValue, tables_of}
 use Rattle.mta_tables.specs.Grammar.{IsFirstBadLine}
-use Rattle.mta_history.specs.Apdu.{SpellsApdu}
+use Rattle.mta_history.specs.Apdu.{SpellsApdu, HasFault}
 use Rattle.mta.specs.declared.stop.Stop.{Stop}
 use Rattle.mta.specs.declared.stop.Stop.TheVariants as Stops
 use Rattle.mta.specs.declared.gather.Gathered.{Gathered}
@@ -25,35 +26,57 @@ AreTablesRead conf before now (Err (Stops.Full size need)) = ⊥
 AreTablesRead conf before now (Err (Stops.Spent last)) = ⊥
 AreTablesRead conf before now (Err Stops.Sink) = ⊥
 AreTablesRead conf before now (Err (Stops.NoMailbox name)) = ⊥
-AreTablesRead conf before now (Err Stops.NotBuilt) = ⊥
+AreTablesRead conf before now (Err (Stops.BadApdu at kind)) = ⊥
 
 pub record HasTables (conf : Option (List ℕ)) (before now : ℕ) (result : Result TablesValue Stop) : Type 0 where
   pub later : before ≤ now
   pub read : AreTablesRead conf before now result
 
--- a message of the first shape, or why there is none
-abbrev pub IsInputRead : Option (List ℕ) → ℕ → ℕ → Result (List ℕ) Stop → Type 0
-IsInputRead input before now (Ok apdu) = IsTold input apdu × SpellsApdu apdu
-IsInputRead input before now (Err Stops.NotBuilt) = (i : List ℕ) → input ≡ Some i → SpellsApdu i → ⊥
-IsInputRead input before now (Err Stops.Source) = Rose before now
-IsInputRead input before now (Err Stops.Memory) = Unit {0}
-IsInputRead input before now (Err (Stops.Tables line kind)) = ⊥
-IsInputRead input before now (Err Stops.Usage) = ⊥
-IsInputRead input before now (Err (Stops.NotSpool at)) = ⊥
-IsInputRead input before now (Err Stops.Disk) = ⊥
-IsInputRead input before now (Err (Stops.Full size need)) = ⊥
-IsInputRead input before now (Err (Stops.Spent last)) = ⊥
-IsInputRead input before now (Err Stops.Sink) = ⊥
-IsInputRead input before now (Err (Stops.NoMailbox name)) = ⊥
+-- the input, where it is told, has this first fault
+abbrev pub HasFirstFault : Option (List ℕ) → ℕ → Kind → Type 0
+HasFirstFault input at kind = (i : List ℕ) → input ≡ Some i → HasFault i (record { at = at; kind = kind })
+
+-- why the input, or an APDU in it, was not read
+abbrev pub IsInputStop : Option (List ℕ) → Type 0 → Stop → Type 0
+IsInputStop input rose (Stops.BadApdu at kind) = HasFirstFault input at kind
+IsInputStop input rose Stops.Source = rose
+IsInputStop input rose Stops.Memory = Unit {0}
+IsInputStop input rose (Stops.Tables line kind) = ⊥
+IsInputStop input rose Stops.Usage = ⊥
+IsInputStop input rose (Stops.NotSpool at) = ⊥
+IsInputStop input rose Stops.Disk = ⊥
+IsInputStop input rose (Stops.Full size need) = ⊥
+IsInputStop input rose (Stops.Spent last) = ⊥
+IsInputStop input rose Stops.Sink = ⊥
+IsInputStop input rose (Stops.NoMailbox name) = ⊥
+
+-- the octets of an input that is not too long for an APDU, or why they are not there
+abbrev pub AreOctetsRead : Option (List ℕ) → Type 0 → Result (List ℕ) Stop → Type 0
+AreOctetsRead input rose (Ok octets) = IsTold input octets
+AreOctetsRead input rose (Err stop) = IsInputStop input rose stop
+
+pub record HasOctets (input : Option (List ℕ)) (before now : ℕ) (result : Result (List ℕ) Stop) : Type 0 where
+  pub later : before ≤ now
+  pub read : AreOctetsRead input (Rose before now) result
+
+-- octets that are read as an APDU, or why they are not
+abbrev pub IsChecked : List ℕ → Result (Unit {0}) Stop → Type 0
+IsChecked octets (Ok done) = SpellsApdu octets
+IsChecked octets (Err stop) = IsInputStop (Some octets) ⊥ stop
+
+-- an APDU, or why there is none
+abbrev pub IsInputRead : Option (List ℕ) → Type 0 → Result (List ℕ) Stop → Type 0
+IsInputRead input rose (Ok apdu) = IsTold input apdu × SpellsApdu apdu
+IsInputRead input rose (Err stop) = IsInputStop input rose stop
 
 pub record HasInput (input : Option (List ℕ)) (before now : ℕ) (result : Result (List ℕ) Stop) : Type 0 where
   pub later : before ≤ now
-  pub read : IsInputRead input before now result
+  pub read : IsInputRead input (Rose before now) result
 
 -- what a stop of gathering means
 abbrev pub IsGatherStop : Option (List ℕ) → Option (List ℕ) → Type 0 → Stop → Type 0
 IsGatherStop conf input rose (Stops.Tables line kind) = (c : List ℕ) → conf ≡ Some c → IsFirstBadLine c line kind
-IsGatherStop conf input rose Stops.NotBuilt = (i : List ℕ) → input ≡ Some i → SpellsApdu i → ⊥
+IsGatherStop conf input rose (Stops.BadApdu at kind) = HasFirstFault input at kind
 IsGatherStop conf input rose Stops.Source = rose
 IsGatherStop conf input rose Stops.Memory = Unit {0}
 IsGatherStop conf input rose Stops.Usage = ⊥

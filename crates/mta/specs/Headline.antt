@@ -18,7 +18,7 @@ use Rattle.mta.specs.declared.words.Words.TheVariants as Say
 use Rattle.mta.specs.Streams.{TakesFront}
 use Rattle.mta.specs.Telling.{accepted_line}
 use Rattle.mta.specs.Working.{AreOwn, accepts}
-use Rattle.mta.specs.Ending.{ForHistory, mailbox_named, IsCause, IsText, IsFront, IsEnded}
+use Rattle.mta.specs.Ending.{ForHistory, mailbox_named, IsOther, IsCause, IsText, IsFront, IsEnded}
 
 -- unless its count rose, the disk stands for what it stood for and these steps, and one that is no spool is as it was
 pub record DiskLeft {D : Type 0} (content : D → Option (List ℕ)) (faults : D → ℕ) (old new : D) (added : List Step) : Type 0 where
@@ -47,7 +47,7 @@ pub record HasDone {D : Type 0} (content : D → Option (List ℕ)) (faults : D 
   pub printed : HasPrinted (IsText words conf input (content old) added) before now result
   pub cause : (stop : Stop) → result ≡ Err stop → IsCause words conf input (content old) source_rose (Rose (faults old) (faults new)) out_rose added stop
   pub settled : words ≡ Some Say.Submit → result ≡ Ok tt → ForHistory (content old) (λ steps. IsSettled tells (steps ++ added))
-  pub stood : result ≡ Ok tt → (f : List ℕ) → content old ≡ Some f → (steps : List Step) × StandsFor f steps
+  pub stood : IsOther words → result ≡ Ok tt → (f : List ℕ) → content old ≡ Some f → (steps : List Step) × StandsFor f steps
   pub gathered : words ≡ Some Say.Submit → result ≡ Ok tt → (c i : List ℕ) → conf ≡ Some c → input ≡ Some i → ((t : TablesValue) × (tables_of c ≡ Ok t)) × SpellsApdu i
   pub named : (name : List ℕ) → words ≡ Some (Say.Mailbox name) → result ≡ Ok tt → ForHistory (content old) (λ steps. mailbox_named (after steps) name ≢ None)
 
@@ -75,12 +75,17 @@ pub record Ran {D : Type 0} (content : D → Option (List ℕ)) (faults : D → 
   pub provenance : (c i : List ℕ) → conf ≡ Some c → input ≡ Some i → ForHistory (content old) (λ steps. AreOwn tells c i (after steps) added)
   pub at_most_one : accepts added ≤ 1
   pub only_submit : (words ≡ Some Say.Submit → ⊥) → added ≡ []
-  -- status 0 comes only where the words are in the grammar, the disk stood for a history, and what the command reads is in order
-  pub ended_well : status ≡ 0 → ((words ≡ None) → ⊥) × ((f : List ℕ) → content old ≡ Some f → (steps : List Step) × StandsFor f steps)
+  -- status 0 comes only where the words are in the grammar, the disk stood for a history unless the command is `decode`, and what the
+  -- command reads is in order
+  pub ended_well : status ≡ 0 → ((words ≡ None) → ⊥) × (IsOther words → (f : List ℕ) → content old ≡ Some f → (steps : List Step) × StandsFor f steps)
   pub read_well : status ≡ 0 → words ≡ Some Say.Submit → (c i : List ℕ) → conf ≡ Some c → input ≡ Some i → ((t : TablesValue) × (tables_of c ≡ Ok t)) × SpellsApdu i
   pub named_well : (name : List ℕ) → status ≡ 0 → words ≡ Some (Say.Mailbox name) → ForHistory (content old) (λ steps. mailbox_named (after steps) name ≢ None)
   -- and with status 0 of `submit` nothing is due
   pub settled : status ≡ 0 → words ≡ Some Say.Submit → ForHistory (content old) (λ steps. IsSettled tells (steps ++ added))
+
+-- With the word `decode`, an input that is read as an APDU and no fault of the input and the output, the status is 0 or 7.
+abbrev pub IsDecoded : (words : Option Words) (input : Option (List ℕ)) (source_rose out_rose : Type 0) → ℕ → Type 0
+IsDecoded words input source_rose out_rose status = words ≡ Some Say.Decode → (source_rose → ⊥) → (out_rose → ⊥) → (i : List ℕ) → input ≡ Some i → SpellsApdu i → (status ≡ 0) ⊎ (status ≡ 7)
 
 -- With words in the grammar, acceptable tables and input, a disk that stands for a history, a mailbox that is named and no fault,
 -- the status is 0, or 7, or 5 where a step was refused for its numbers.

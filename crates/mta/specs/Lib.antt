@@ -5,4 +5,5 @@ pub mod Gathering
 pub mod Working
 pub mod Ending
 pub mod Headline
+pub mod Decoding
 pub mod Showing

@@ -56,7 +56,7 @@ IsReadCause words disk disk_rose out_rose (Stops.Tables line kind) = ⊥
 IsReadCause words disk disk_rose out_rose (Stops.Full size need) = ⊥
 IsReadCause words disk disk_rose out_rose (Stops.Spent last) = ⊥
 IsReadCause words disk disk_rose out_rose Stops.Source = ⊥
-IsReadCause words disk disk_rose out_rose Stops.NotBuilt = ⊥
+IsReadCause words disk disk_rose out_rose (Stops.BadApdu at kind) = ⊥
 
 -- what a command that prints leaves before its last line is printed
 pub record HasRead {D : Type 0} (content : D → Option (List ℕ)) (faults : D → ℕ) (words : Words) (before now : Option (List ℕ)) (out_rose : Type 0) (old new : D) (result : Result (Unit {0}) Stop) : Type 0 where

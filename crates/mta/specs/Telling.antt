@@ -1,6 +1,8 @@
 -- What is printed.
 use Rattle.std.specs.Prelude.{ℕ, List, [], ◌∷◌, ◌++◌, codes}
 use Rattle.std.specs.Fmt.{decimal}
+use Rattle.mta_ber.specs.declared.fault.Kind.{Kind}
+use Rattle.mta_ber.specs.declared.fault.Kind.TheVariants as Faults
 use Rattle.mta_tables.specs.declared.fault.LineKind.{LineKind}
 use Rattle.mta_tables.specs.declared.fault.LineKind.TheVariants as Kinds
 use Rattle.mta.specs.declared.stop.Stop.{Stop}
@@ -20,6 +22,20 @@ kind_text Kinds.Twice = codes "Twice"
 kind_text Kinds.TooMany = codes "TooMany"
 kind_text Kinds.Missing = codes "Missing"
 
+abbrev pub fault_text : Kind → List ℕ
+fault_text Faults.Truncated = codes "Truncated"
+fault_text Faults.BadLength = codes "BadLength"
+fault_text Faults.BadTag = codes "BadTag"
+fault_text Faults.TooDeep = codes "TooDeep"
+fault_text Faults.BadInt = codes "BadInt"
+fault_text Faults.BadText = codes "BadText"
+fault_text Faults.BadTime = codes "BadTime"
+fault_text Faults.Missing = codes "Missing"
+fault_text Faults.Twice = codes "Twice"
+fault_text Faults.BadSize = codes "BadSize"
+fault_text Faults.TooLong = codes "TooLong"
+fault_text Faults.Trailing = codes "Trailing"
+
 -- the line of a stop
 unfoldable pub line_of : Stop → List ℕ
 line_of Stops.Usage = codes "usage: mta submit or serve SESSIONS STATION... or spool or read MAILBOX or decode or drill N\n"
@@ -32,7 +48,7 @@ line_of Stops.Memory = codes "out of memory\n"
 line_of Stops.Source = codes "source fault\n"
 line_of Stops.Sink = []
 line_of (Stops.NoMailbox name) = codes "no such mailbox " ++ (name ++ 10 ∷ [])
-line_of Stops.NotBuilt = codes "not built\n"
+line_of (Stops.BadApdu at kind) = codes "bad APDU at " ++ (decimal at ++ (32 ∷ fault_text kind ++ 10 ∷ []))
 
 -- the status of a stop
 abbrev pub status_of : Stop → ℕ
@@ -46,4 +62,4 @@ status_of Stops.Memory = 7
 status_of Stops.Source = 8
 status_of Stops.Sink = 9
 status_of (Stops.NoMailbox name) = 10
-status_of Stops.NotBuilt = 11
+status_of (Stops.BadApdu at kind) = 6

@@ -16,12 +16,12 @@ abbrev pub mailbox_of : List ℕ → Option Words
 mailbox_of name = if is_name name then Some (Say.Mailbox name) else None
 
 abbrev pub one_word : List ℕ → Option Words
-one_word word = if bytes_eq word (codes "submit") then Some Say.Submit else if bytes_eq word (codes "spool") then Some Say.Queue else None
+one_word word = if bytes_eq word (codes "submit") then Some Say.Submit else if bytes_eq word (codes "spool") then Some Say.Queue else if bytes_eq word (codes "decode") then Some Say.Decode else None
 
 abbrev pub two_words : List ℕ → List ℕ → Option Words
 two_words word name = if bytes_eq word (codes "read") then mailbox_of name else None
 
--- `submit`, `spool`, or `read` and the name of a mailbox
+-- `submit`, `spool`, `decode`, or `read` and the name of a mailbox
 abbrev pub command_of : List (String Global) → Option Words
 command_of [] = None
 command_of (word ∷ []) = one_word (string_bytes word)

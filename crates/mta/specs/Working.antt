@@ -109,7 +109,7 @@ IsWorkStop conf input current size disk_rose out_rose (Stops.Tables line kind) =
 IsWorkStop conf input current size disk_rose out_rose (Stops.NotSpool at) = ⊥
 IsWorkStop conf input current size disk_rose out_rose Stops.Source = ⊥
 IsWorkStop conf input current size disk_rose out_rose (Stops.NoMailbox name) = ⊥
-IsWorkStop conf input current size disk_rose out_rose Stops.NotBuilt = ⊥
+IsWorkStop conf input current size disk_rose out_rose (Stops.BadApdu at kind) = ⊥
 
 abbrev pub stop_of_step : StepFault → Stop
 stop_of_step (StepFaults.Full size need) = Stops.Full size need

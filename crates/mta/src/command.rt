@@ -77,8 +77,8 @@ pub fn submit<D: Disk + Drop, C: Clock + Drop, I: Source, O: Sink>(
     }
 }
 
-// Prints a text, or tells that there was no memory for it.
-fn print<O: Sink>(out: &mut O, text: Result<Octets, Stop>) -> Result<(), Stop>
+/// Prints a text, or hands on why there is none.
+pub fn print<O: Sink>(out: &mut O, text: Result<Octets, Stop>) -> Result<(), Stop>
     ensures printed { HasShown text (O.taken out.old) (O.taken out.new) (Rose (O.faults out.old) (O.faults out.new)) result }
     ensures later { O.faults out.old ≤ O.faults out.new }
 {

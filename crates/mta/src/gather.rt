@@ -1,9 +1,11 @@
 //! Reading what `submit` needs before it opens the disk.
 
-ghost use Rattle.mta.specs.Gathering.{HasTables, HasInput, HasGathered};
+ghost use Rattle.mta.specs.Gathering.{HasTables, HasOctets, IsChecked, HasInput, HasGathered};
 
 use crate::read::{ReadFault, read_all};
 use crate::stop::Stop;
+use mta_apdu::{Apdu, LONGEST_APDU};
+use mta_ber::Kind;
 use mta_edge::{Octets, Source};
 use mta_tables::{LineKind, Tables, TablesFault};
 use std::alloc::Global;
@@ -11,10 +13,7 @@ use std::alloc::Global;
 // The most octets of tables.
 const LONGEST_TABLES: u32 = 1_048_576;
 
-// The most octets of an APDU.
-const LONGEST_APDU: u32 = 2_097_152;
-
-/// The tables, and a message of the first shape.
+/// The tables, and the octets of an APDU.
 #[derive(Drop)]
 pub struct Gathered {
     pub tables: Tables,
@@ -43,20 +42,44 @@ fn tables_of<I: Source>(alloc: Global, conf: &mut I) -> Result<Tables, Stop>
     }
 }
 
-// Reads the input to its end.
+/// Reads an input to its end, or to the first octet that is too many for an APDU.
+pub fn octets_of<I: Source>(alloc: Global, input: &mut I) -> Result<Octets, Stop>
+    ensures { HasOctets (I.left input.old) (I.faults input.old) (I.faults input.new) result }
+{
+    match read_all(alloc, input, LONGEST_APDU) {
+        Ok(octets) => Ok(octets),
+        Err(ReadFault::Source) => Err(Stop::Source),
+        Err(ReadFault::TooLong) => Err(Stop::BadApdu {
+            at: LONGEST_APDU,
+            kind: Kind::TooLong,
+        }),
+        Err(ReadFault::Memory) => Err(Stop::Memory),
+    }
+}
+
+fn check(alloc: Global, octets: &Octets) -> Result<(), Stop>
+    ensures { IsChecked octets.now result }
+{
+    match Apdu::read(alloc, octets.as_slice()) {
+        Ok(apdu) => {
+            apdu.discard();
+            Ok(())
+        }
+        Err(mta_ber::ReadFault::Bad(fault)) => Err(Stop::BadApdu {
+            at: fault.at,
+            kind: fault.kind,
+        }),
+        Err(mta_ber::ReadFault::Memory) => Err(Stop::Memory),
+    }
+}
+
+// Reads an APDU.
 fn input_of<I: Source>(alloc: Global, input: &mut I) -> Result<Octets, Stop>
     ensures { HasInput (I.left input.old) (I.faults input.old) (I.faults input.new) result }
 {
-    let apdu = match read_all(alloc, input, LONGEST_APDU) {
-        Ok(apdu) => apdu,
-        Err(ReadFault::Source) => return Err(Stop::Source),
-        Err(ReadFault::TooLong) => return Err(Stop::NotBuilt),
-        Err(ReadFault::Memory) => return Err(Stop::Memory),
-    };
-    if mta_first_shape::read(apdu.as_slice()).is_none() {
-        return Err(Stop::NotBuilt);
-    }
-    Ok(apdu)
+    let octets = octets_of(alloc, input)?;
+    check(alloc, &octets)?;
+    Ok(octets)
 }
 
 /// Reads the tables and then the input to their ends.

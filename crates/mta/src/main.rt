@@ -2,6 +2,7 @@
 #![tactic(auto)]
 
 mod command;
+mod decode;
 mod gather;
 mod host;
 mod put;
@@ -47,10 +48,10 @@ fn main(rt: HostRuntime) -> ExitCode {
     };
     let mut conf = Reading::new(Octets::File(File::open(&rt, "mta.tables").ok()));
     let mut input = Reading::new(Octets::Stream(rt.reader()));
-    // Words outside the grammar leave no file behind.
+    // Words outside the grammar leave no file behind, nor does `decode`, which calls no disk.
     let disk = FileDisk::new(match Words::read(rt.alloc(), &words) {
+        Ok(Some(Words::Decode)) | Ok(None) | Err(_) => None,
         Ok(Some(_)) => spool_file(&rt),
-        _ => None,
     });
     let clock = SystemClock::new(&rt);
     let finished = run(

@@ -4,9 +4,10 @@ ghost use Rattle.std.specs.Prelude.{◌≡◌, ◌≤◌, ◌⊎◌, None, Some}
 ghost use Rattle.mta_edge.specs.Causes.{Rose};
 ghost use Rattle.mta.specs.declared.words.Words.TheVariants as Say;
 ghost use Rattle.mta.specs.Words.{command_of};
-ghost use Rattle.mta.specs.Headline.{HasDone, Ran, IsComplete};
+ghost use Rattle.mta.specs.Headline.{HasDone, Ran, IsComplete, IsDecoded};
 
 use crate::command::{Done, mailbox, queue, submit};
+use crate::decode::decode;
 use crate::stop::Stop;
 use crate::tell::close;
 use crate::words::Words;
@@ -37,6 +38,10 @@ fn perform<D: Disk + Drop, C: Clock + Drop, I: Source, O: Sink>(
         Words::Submit => submit(alloc, conf, input, out, disk, clock),
         Words::Queue => queue(alloc, out, disk, clock),
         Words::Mailbox(name) => mailbox(alloc, name, out, disk, clock),
+        Words::Decode => Done {
+            disk,
+            outcome: decode(alloc, input, out),
+        },
     }
 }
 
@@ -69,8 +74,8 @@ fn command<D: Disk + Drop, C: Clock + Drop, I: Source, O: Sink>(
 /// Does what the words say, over objects that are handed in, prints its text and the last line, and gives the disk back.
 ///
 /// `submit` reads the tables and the input to their ends, opens the disk, records the tables where they changed, takes the
-/// message, prints `accepted N`, and delivers what is due until nothing is. `spool` prints the queue, and `read MAILBOX` what a
-/// mailbox got.
+/// APDU, prints `accepted N`, and delivers what is due until nothing is. `spool` prints the queue, `read MAILBOX` what a mailbox
+/// got, and `decode` the APDU that the input is.
 pub fn run<D: Disk + Drop, C: Clock + Drop, I: Source, O: Sink>(
     alloc: Global,
     words: &[String],
@@ -82,6 +87,8 @@ pub fn run<D: Disk + Drop, C: Clock + Drop, I: Source, O: Sink>(
 ) -> Finished<D>
     ensures ran { Ran D.content D.faults (C.tells clock) (command_of words.now) (I.left conf.old) (I.left input.old) (O.taken out.old) (O.taken out.new) (Rose (I.faults conf.old) (I.faults conf.new) ⊎ Rose (I.faults input.old) (I.faults input.new)) (Rose (O.faults out.old) (O.faults out.new)) disk result.disk result.status }
     ensures complete { IsComplete (command_of words.now) (I.left conf.old) (I.left input.old) (D.content disk) (Rose (I.faults conf.old) (I.faults conf.new) ⊎ Rose (I.faults input.old) (I.faults input.new)) (Rose (D.faults disk) (D.faults result.disk)) (Rose (O.faults out.old) (O.faults out.new)) result.status }
+
+    ensures decoded { IsDecoded (command_of words.now) (I.left input.old) (Rose (I.faults conf.old) (I.faults conf.new) ⊎ Rose (I.faults input.old) (I.faults input.new)) (Rose (O.faults out.old) (O.faults out.new)) result.status }
 
     // When each status comes that tells of the outside, and of the words. Want of memory, 7, is free; the causes of all others
     // stand in `printed` of the record.

@@ -1,6 +1,6 @@
 //! Why a command ended without its result.
 
-use mta_ber::Word;
+use mta_ber::{Kind, Word};
 use mta_tables::LineKind;
 
 /// Each with its status and its line.
@@ -26,6 +26,6 @@ pub enum Stop {
     Sink,
     /// The tables recorded last do not name this mailbox, or none are recorded.
     NoMailbox(Word),
-    /// The input is no message of the first shape.
-    NotBuilt,
+    /// The input is no APDU, for this first fault at this offset.
+    BadApdu { at: u32, kind: Kind },
 }

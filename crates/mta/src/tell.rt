@@ -2,13 +2,13 @@
 
 ghost use Rattle.std.specs.Prelude.{◌≡◌, ◌≤◌, ◌++◌, ◌↔◌, IfOk, IsTrue};
 ghost use Rattle.mta_edge.specs.Causes.{Rose, HasCause};
-ghost use Rattle.mta.specs.Telling.{accepted_line, kind_text, status_of, line_of};
+ghost use Rattle.mta.specs.Telling.{accepted_line, kind_text, fault_text, status_of, line_of};
 ghost use Rattle.mta.specs.declared.stop.Stop.TheVariants as Stops;
 ghost use Rattle.mta.specs.Ending.{HasTold, HasClosed};
 
 use crate::put::put_all;
 use crate::stop::Stop;
-use mta_ber::{Memory, Octets};
+use mta_ber::{Kind, Memory, Octets};
 use mta_edge::Sink;
 use mta_show::put_number;
 use mta_tables::LineKind;
@@ -29,6 +29,25 @@ fn kind_text(kind: LineKind) -> &'static [u8]
         LineKind::Twice => b"Twice",
         LineKind::TooMany => b"TooMany",
         LineKind::Missing => b"Missing",
+    }
+}
+
+fn fault_text(kind: Kind) -> &'static [u8]
+    ensures { result.now ≡ fault_text kind }
+{
+    match kind {
+        Kind::Truncated => b"Truncated",
+        Kind::BadLength => b"BadLength",
+        Kind::BadTag => b"BadTag",
+        Kind::TooDeep => b"TooDeep",
+        Kind::BadInt => b"BadInt",
+        Kind::BadText => b"BadText",
+        Kind::BadTime => b"BadTime",
+        Kind::Missing => b"Missing",
+        Kind::Twice => b"Twice",
+        Kind::BadSize => b"BadSize",
+        Kind::TooLong => b"TooLong",
+        Kind::Trailing => b"Trailing",
     }
 }
 
@@ -73,7 +92,13 @@ fn line_of(alloc: Global, stop: &Stop) -> Result<Octets, Memory>
             line.extend(name.as_slice())?;
             line.extend(b"\n")?;
         }
-        Stop::NotBuilt => line.extend(b"not built\n")?,
+        Stop::BadApdu { at, kind } => {
+            line.extend(b"bad APDU at ")?;
+            put_number(&mut line, u64::from(*at))?;
+            line.extend(b" ")?;
+            line.extend(fault_text(*kind))?;
+            line.extend(b"\n")?;
+        }
     }
     Ok(line)
 }
@@ -88,11 +113,11 @@ fn status_of(stop: &Stop) -> u8
         Stop::NotSpool { .. } => 3,
         Stop::Disk => 4,
         Stop::Full { .. } | Stop::Spent { .. } => 5,
+        Stop::BadApdu { .. } => 6,
         Stop::Memory => 7,
         Stop::Source => 8,
         Stop::Sink => 9,
         Stop::NoMailbox(_) => 10,
-        Stop::NotBuilt => 11,
     }
 }
 

@@ -22,6 +22,20 @@ const MESSAGE: [u8; 101] = [
     0xA8, 0x04, 0x02, 0x48, 0x69,
 ];
 
+// The same with its components in reverse order, and its content in two segments.
+const REVERSED: [u8; 105] = [
+    0xA0, 0x67, 0x31, 0x5D, 0xA2, 0x23, 0x31, 0x21, 0x81, 0x02, 0x00, 0xA8, 0x80, 0x01, 0x01, 0x60,
+    0x18, 0x30, 0x16, 0x61, 0x04, 0x13, 0x02, 0x47, 0x42, 0x62, 0x06, 0x13, 0x04, 0x47, 0x4F, 0x4C,
+    0x44, 0xA5, 0x06, 0x80, 0x04, 0x57, 0x41, 0x54, 0x54, 0x69, 0x00, 0x46, 0x01, 0x16, 0x64, 0x17,
+    0x63, 0x0E, 0x61, 0x04, 0x13, 0x02, 0x47, 0x42, 0x62, 0x06, 0x13, 0x04, 0x47, 0x4F, 0x4C, 0x44,
+    0x16, 0x05, 0x4D, 0x30, 0x30, 0x30, 0x31, 0x60, 0x18, 0x30, 0x16, 0x61, 0x04, 0x13, 0x02, 0x47,
+    0x42, 0x62, 0x06, 0x13, 0x04, 0x47, 0x4F, 0x4C, 0x44, 0xA5, 0x06, 0x80, 0x04, 0x42, 0x45, 0x4C,
+    0x4C, 0x24, 0x06, 0x04, 0x01, 0x48, 0x04, 0x01, 0x69,
+];
+
+const WAITING: &[u8] =
+    b"item 1 message C=GB;A=GOLD/M0001 arrived 500101001640Z\nrecipient 1 pending C=GB;A=GOLD;S=WATT\n";
+
 const USAGE: &[u8] =
     b"usage: mta submit or serve SESSIONS STATION... or spool or read MAILBOX or decode or drill N\n";
 
@@ -201,7 +215,7 @@ fn what_is_read_is_refused(rt: HostRuntime) -> Result<(), Fail> {
         tables: b"domain C=GB;A=GOLD\nname\n",
         ..PLAIN
     };
-    ends(&rt, alloc, &cut, b"", 11, b"not built\n")?;
+    ends(&rt, alloc, &cut, b"", 6, b"bad APDU at 0 Truncated\n")?;
     ends(&rt, alloc, &tables, b"", 2, b"tables line 2 Word\n")?;
     ends(
         &rt,
@@ -211,6 +225,40 @@ fn what_is_read_is_refused(rt: HostRuntime) -> Result<(), Fail> {
         3,
         b"not a spool at 5\n",
     )
+}
+
+#[test]
+fn an_apdu_is_decoded(rt: HostRuntime) -> Result<(), Fail> {
+    let alloc = rt.alloc();
+    let decode = Given {
+        word: "decode",
+        disk_fails: 1,
+        ..PLAIN
+    };
+    let cut = Given {
+        word: "decode",
+        input: &MESSAGE[..59],
+        ..PLAIN
+    };
+    // the mailbox's text without its first line, which tells the delivery
+    ends(&rt, alloc, &decode, b"no spool", 0, &MAILBOX[31..])?;
+    ends(&rt, alloc, &cut, b"", 6, b"bad APDU at 0 Truncated\n")
+}
+
+#[test]
+fn a_message_of_another_shape_waits(rt: HostRuntime) -> Result<(), Fail> {
+    let alloc = rt.alloc();
+    let reversed = Given {
+        input: &REVERSED,
+        ..PLAIN
+    };
+    let queue = Given {
+        word: "spool",
+        ..PLAIN
+    };
+    let left = outcome(alloc, &reversed, b"")?;
+    assert_eq!(rt; left.text.as_slice(), b"accepted 1\n".as_slice());
+    ends(&rt, alloc, &queue, &left.disk, 0, WAITING)
 }
 
 #[test]

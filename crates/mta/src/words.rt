@@ -15,6 +15,8 @@ pub enum Words {
     Queue,
     /// Print what this mailbox got.
     Mailbox(Word),
+    /// Print the APDU on standard input.
+    Decode,
 }
 
 // Whether the word may name a mailbox: 1 to 32 letters, digits or `-`, and no `-` first.
@@ -48,6 +50,7 @@ impl Words {
         match words {
             [word] if word.as_str() == "submit" => Ok(Some(Words::Submit)),
             [word] if word.as_str() == "spool" => Ok(Some(Words::Queue)),
+            [word] if word.as_str() == "decode" => Ok(Some(Words::Decode)),
             [word, name] if word.as_str() == "read" => mailbox(alloc, name.as_bytes()),
             _ => Ok(None),
         }

@@ -1,17 +1,19 @@
 -- Each recipient is pending and was not discharged, or is not pending and was discharged once.
-use Rattle.std.proofs.Common.{◌≡◌, ◌≢◌, ℕ, zero, suc, ◌+◌, ◌-◌, ◌≤◌, ◌<◌, Bool, true, false, cond, eqb, List, [], ◌∷◌, ◌++◌, length, set, Option, Some, None, refl, sym, ap, subst, ◌∙◌, arith, inl, inr}
+use Rattle.std.proofs.Common.{◌≡◌, ◌≢◌, ℕ, zero, suc, ◌+◌, ◌-◌, ◌≤◌, ◌<◌, Bool, true, false, cond, eqb, List, [], ◌∷◌, ◌++◌, length, map, set, Option, Some, None, Result, Ok, Err, refl, sym, ap, subst, ◌∙◌, arith, inl, inr}
 use Rattle.std.specs.Prelude.{◌⊎◌, ◌&&◌, slice_get, option_and_then, count_by}
 use Rattle.std.proofs.lemmas.Bool.{cases_Bool, cases_eq, eq-eqb, eqb-true}
 use Rattle.std.proofs.lemmas.List.Sums.{sum_by-cons}
 use Rattle.std.proofs.lemmas.Option.{slice_get_within}
-use Rattle.mta_first_shape.specs.Message.{MessageValue, is_responsible}
-use Rattle.mta_first_shape.specs.Reading.{first_shape_of}
+use Rattle.mta_ber.specs.declared.fault.Fault.{Fault}
+use Rattle.mta_ber.specs.Bits.{bit}
+use Rattle.mta_recipient.specs.declared.recipient.RecipientFields.{RecipientFields}
+use Rattle.mta_apdu.specs.Apdus.{ApduValue, message, probe, report, apdu_of}
 use Rattle.mta_records.specs.declared.step.Step.{Step}
 use Rattle.mta_records.specs.declared.step.Step.TheVariants.{Tables, Accept, Deliver}
 use Rattle.mta_history.specs.declared.item.Item.{Item}
 use Rattle.mta_history.specs.declared.item.Status.{Status}
 use Rattle.mta_history.specs.declared.item.Status.TheVariants.{Pending, Delivered}
-use Rattle.mta_history.specs.Apdu.{statuses_read, statuses_at_first}
+use Rattle.mta_history.specs.Apdu.{status_of, statuses_of, statuses_read, statuses_at_first}
 use Rattle.mta_history.specs.Due.{numbered, IsDue}
 use Rattle.mta_history.specs.Machine.{Machine, MachineStep, set_tables, accept, deliver, status_at, with_status, discharges, discharges_one, machine_after}
 use Rattle.mta_history.specs.History.{State, after_step, after_from, ArePossible, IsHistory, empty, machine_steps, project, RecipientsOnce, EachRecipientOnce}
@@ -53,18 +55,30 @@ abbrev AreOnce : Machine → (ℕ → ℕ → ℕ) → Type 0
 AreOnce m count = (i r : ℕ) → IsOnce (status_at m i r) (count i r)
 
 -- a new recipient was not discharged
-first_once : (b : Bool) (r : ℕ) → IsOnce (numbered (cond b (Some Pending) None ∷ []) r) 0
-first_once true zero = refl
-first_once true (suc zero) = refl
-first_once true (suc (suc r)) = refl
-first_once false zero = refl
-first_once false (suc zero) = refl
-first_once false (suc (suc r)) = refl
+first_once : (b : Bool) → IsOnce (Some (cond b (Some Pending) None)) 0
+first_once true = refl
+first_once false = refl
 
-read_once : (m : Option MessageValue) (r : ℕ) → IsOnce (numbered (statuses_read m) r) 0
-read_once None zero = refl
-read_once None (suc r) = refl
-read_once (Some m) r = first_once (is_responsible m) r
+listed_once : (rs : List RecipientFields) (k : ℕ) → IsOnce (slice_get (map status_of rs) k) 0
+listed_once [] k = refl
+listed_once (r ∷ rs) zero = first_once (bit r.indicators 0)
+listed_once (r ∷ rs) (suc k) = listed_once rs k
+
+numbered_once : (rs : List RecipientFields) (k : ℕ) → IsOnce (numbered (map status_of rs) k) 0
+numbered_once rs zero = refl
+numbered_once rs (suc k) = listed_once rs k
+
+value_once : (v : ApduValue) (k : ℕ) → IsOnce (numbered (statuses_of v) k) 0
+value_once (message v) k = numbered_once v.envelope.recipients k
+value_once (probe v) k = numbered_once v.recipients k
+value_once (report v) zero = refl
+value_once (report v) (suc zero) = refl
+value_once (report v) (suc (suc k)) = refl
+
+read_once : (r : Result ApduValue Fault) (k : ℕ) → IsOnce (numbered (statuses_read r) k) 0
+read_once (Err fault) zero = refl
+read_once (Err fault) (suc k) = refl
+read_once (Ok v) k = value_once v k
 
 -- an item more
 once_more : (items : List Item) (item : Item) (i r n : ℕ) → ((k : ℕ) → IsOnce (numbered item.statuses k) 0) → IsOnce (option_and_then (λ (x : Item). numbered x.statuses r) (numbered items i)) n
@@ -144,7 +158,7 @@ counts count step rest i r = omega (arith, discharges-cons step rest i r)
 step_once : (s : State) (step : Step) (count : ℕ → ℕ → ℕ) → AreOnce s.machine count → ArePossible s (step ∷ []) → (one : MachineStep) × (machine_steps step ≡ one ∷ []) × AreOnce (after_step s step).machine (with_one count one)
 step_once s (Tables text) count once p = (set_tables text, refl, λ i r. subst (IsOnce (status_at s.machine i r)) (omega arith) (once i r))
 step_once s (Accept moment apdu) count once p =
-    (accept apdu _ moment, refl, λ i r. subst (IsOnce (status_at (after_step s (Accept moment apdu)).machine i r)) (omega arith) (once_more s.machine.items _ i r (count i r) (read_once (first_shape_of apdu)) (once i r)))
+    (accept apdu _ moment, refl, λ i r. subst (IsOnce (status_at (after_step s (Accept moment apdu)).machine i r)) (omega arith) (once_more s.machine.items _ i r (count i r) (read_once (apdu_of apdu)) (once i r)))
 step_once s (Deliver j q moment) count once p =
     let d : IsDue _ s.machine.items j q moment p.0.0 = p.0.1 in
     let pending : numbered d.item.statuses 1 ≡ Some (Some Pending) = ap (numbered d.item.statuses) (sym d.first) ∙ d.pending in (

@@ -1,21 +1,33 @@
--- What the octets of an item spell. So far an APDU is a message of the first shape, which has one recipient.
-use Rattle.std.specs.Prelude.{ℕ, List, [], ◌∷◌, Option, Some, None, if◌then◌else◌}
-use Rattle.mta_first_shape.specs.Message.{MessageValue, IsSpelled, is_responsible}
-use Rattle.mta_first_shape.specs.Reading.{first_shape_of}
+-- What the octets of an item spell, and the statuses of its recipients at first.
+use Rattle.std.specs.Prelude.{◌≡◌, ℕ, List, [], ◌∷◌, map, Option, Some, None, Result, Ok, Err, if◌then◌else◌}
+use Rattle.mta_ber.specs.declared.fault.Fault.{Fault}
+use Rattle.mta_ber.specs.Bits.{bit}
+use Rattle.mta_recipient.specs.declared.recipient.RecipientFields.{RecipientFields}
+use Rattle.mta_apdu.specs.Apdus.{ApduValue, message, probe, report, apdu_of}
 use Rattle.mta_history.specs.declared.item.Status.{Status}
 use Rattle.mta_history.specs.declared.item.Status.TheVariants.{Pending}
 
--- the octets spell an APDU (X.411, MTS-APDU)
+-- the octets are read as an APDU (X.411, MTS-APDU)
 abbrev pub SpellsApdu : List ℕ → Type 0
-SpellsApdu octets = (m : MessageValue) × IsSpelled octets m
+SpellsApdu octets = (v : ApduValue) × (apdu_of octets ≡ Ok v)
 
--- the status of each recipient at first: pending where this agent is responsible, and none elsewhere
-abbrev pub statuses_of : MessageValue → List (Option Status)
-statuses_of m = (if is_responsible m then Some Pending else None) ∷ []
+-- the octets are read as no APDU, for this fault, which is the first one
+abbrev pub HasFault : List ℕ → Fault → Type 0
+HasFault octets fault = apdu_of octets ≡ Err fault
 
-abbrev pub statuses_read : Option MessageValue → List (Option Status)
-statuses_read None = []
-statuses_read (Some m) = statuses_of m
+-- a recipient is pending at first where this agent is responsible, and has no status elsewhere
+abbrev pub status_of : RecipientFields → Option Status
+status_of r = if bit r.indicators 0 then Some Pending else None
+
+-- a report has one recipient, to whom it goes, and this agent is responsible for it
+abbrev pub statuses_of : ApduValue → List (Option Status)
+statuses_of (message v) = map status_of v.envelope.recipients
+statuses_of (probe v) = map status_of v.recipients
+statuses_of (report v) = Some Pending ∷ []
+
+abbrev pub statuses_read : Result ApduValue Fault → List (Option Status)
+statuses_read (Ok v) = statuses_of v
+statuses_read (Err fault) = []
 
 abbrev pub statuses_at_first : List ℕ → List (Option Status)
-statuses_at_first octets = statuses_read (first_shape_of octets)
+statuses_at_first octets = statuses_read (apdu_of octets)

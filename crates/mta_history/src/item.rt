@@ -1,8 +1,12 @@
 //! Items and the statuses of their recipients.
 
-ghost use Rattle.std.specs.Prelude.{◌≡◌, [], ◌∷◌, IfOk, Some, None, true, if◌then◌else◌, slice_set};
+ghost use Rattle.std.specs.Prelude.{◌≡◌, [], ◌∷◌, IfOk, Some, None, map, slice_set};
+ghost use Rattle.mta_apdu.specs.Apdus.{apdu_value};
+ghost use Rattle.mta_history.specs.Apdu.{status_of, statuses_of};
 
+use mta_apdu::Apdu;
 use mta_ber::{Memory, Octets, Word};
+use mta_recipient::Recipient;
 use std::alloc::Global;
 use std::marker::Model;
 
@@ -41,15 +45,50 @@ impl Model for Statuses {
     ghost view = { λ s. s.inner.items };
 }
 
-impl Statuses {
-    ghost use Rattle.mta_history.specs.declared.item.Status.TheVariants.{Pending};
+/// Bit 0 of the indicators is the responsibility.
+fn status_of(recipient: &Recipient) -> Option<Status>
+    ensures { result ≡ status_of recipient.now }
+{
+    let responsible = recipient.fields().indicators.is_set(0);
+    responsible.then_some(Status::Pending)
+}
 
-    /// The statuses of an APDU with one recipient, who is pending where this agent is responsible.
-    pub fn of_one(alloc: Global, responsible: bool) -> Result<Statuses, Memory>
-        ensures { IfOk result (λ s. s ≡ (if responsible then Some Pending else None) ∷ []) }
+fn statuses_of_recipients(
+    alloc: Global,
+    recipients: &[Recipient],
+) -> Result<Vec<Option<Status>>, Memory>
+    ensures { IfOk result (λ s. s.items ≡ map status_of recipients.now) }
+{
+    let mut statuses = Vec::new(alloc);
+    for recipient in recipients {
+        statuses.push(status_of(recipient))?;
+    }
+    Ok(statuses)
+}
+
+fn statuses_of_destination(alloc: Global) -> Result<Vec<Option<Status>>, Memory>
+    ensures { IfOk result (λ s. s.items ≡ Some Status.Pending ∷ []) }
+{
+    let mut statuses = Vec::new(alloc);
+    statuses.push(Some(Status::Pending))?;
+    Ok(statuses)
+}
+
+impl Statuses {
+    /// The statuses of an APDU's recipients at first: of a message or a probe those are pending for whom this agent is responsible,
+    /// and the one recipient of a report is its destination, who is pending.
+    pub fn of_apdu(alloc: Global, apdu: &Apdu<'_>) -> Result<Statuses, Memory>
+        ensures { IfOk result (λ s. s ≡ statuses_of (apdu_value apdu.now)) }
     {
-        let mut inner = Vec::new(alloc);
-        inner.push(responsible.then_some(Status::Pending))?;
+        let inner = match apdu {
+            Apdu::Message(message) => {
+                statuses_of_recipients(alloc, message.envelope.fields().recipients.as_slice())?
+            }
+            Apdu::Probe(probe) => {
+                statuses_of_recipients(alloc, probe.envelope.fields().recipients.as_slice())?
+            }
+            Apdu::Report(_) => statuses_of_destination(alloc)?,
+        };
         Ok(Statuses { inner })
     }
 

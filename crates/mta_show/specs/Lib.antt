@@ -1,4 +1,3 @@
-pub mod Pieces
-pub mod Message
+pub use Rattle.mta_apdu_text.specs.Apdus
 pub mod Queue
 pub mod Mailbox

@@ -1,36 +1,67 @@
 -- The text of the queue: the items, numbered from 1, and what became of each recipient for whom this agent is responsible.
-use Rattle.std.specs.Prelude.{ℕ, ◌+◌, List, [], ◌∷◌, ◌++◌, Option, Some, None, codes, decimal}
-use Rattle.mta_first_shape.specs.Message.{NameValue, IdentifierValue, MessageValue}
-use Rattle.mta_first_shape.specs.Reading.{first_shape_of}
+use Rattle.std.specs.Prelude.{ℕ, ◌+◌, List, [], ◌∷◌, ◌++◌, Option, Some, None, unwrap_or, Result, Ok, Err, slice_get, codes, decimal}
+use Rattle.mta_ber.specs.declared.fault.Fault.{Fault}
+use Rattle.mta_names.specs.declared.attributes.Attributes.{Attributes}
+use Rattle.mta_name_text.specs.Forms.{text_form}
+use Rattle.mta_fields.specs.declared.identifier.MtsIdFields.{MtsIdFields}
+use Rattle.mta_recipient.specs.declared.recipient.RecipientFields.{RecipientFields}
+use Rattle.mta_apdu.specs.Apdus.{ApduValue, message, probe, report, apdu_of}
+use Rattle.mta_apdu_text.specs.Pieces.{moment_text, id_text}
 use Rattle.mta_history.specs.declared.item.Item.{Item}
 use Rattle.mta_history.specs.declared.item.Status.{Status}
 use Rattle.mta_history.specs.declared.item.Status.TheVariants.{Pending, Delivered}
-use Rattle.mta_show.specs.Pieces.{text_of_lines, moment_text, name_text, id_text}
 
-abbrev pub item_line : ℕ → ℕ → IdentifierValue → List ℕ
-item_line number arrival id = codes "item " ++ (decimal number ++ (codes " message " ++ (id_text id ++ (codes " arrived " ++ moment_text arrival))))
+abbrev pub word_of : ApduValue → List ℕ
+word_of (message m) = codes " message "
+word_of (probe e) = codes " probe "
+word_of (report r) = codes " report "
+
+abbrev pub id_of : ApduValue → MtsIdFields
+id_of (message m) = m.envelope.id
+id_of (probe e) = e.id
+id_of (report r) = r.id
+
+unfoldable pub item_line : ℕ → ℕ → ApduValue → List ℕ
+item_line number arrival v = codes "item " ++ (decimal number ++ (word_of v ++ (id_text (id_of v) ++ (codes " arrived " ++ (moment_text arrival ++ 10 ∷ [])))))
 
 -- what became of it, in words
 abbrev pub status_text : Status → List ℕ
 status_text Pending = codes "pending"
 status_text (Delivered moment) = codes "delivered " ++ moment_text moment
 
-abbrev pub recipient_line : NameValue → Status → List ℕ
-recipient_line name status = codes "recipient 1 " ++ (status_text status ++ 32 ∷ name_text name)
+unfoldable pub status_line : ℕ → Status → Attributes → List ℕ
+status_line number status name = codes "recipient " ++ (decimal number ++ (32 ∷ status_text status ++ (32 ∷ text_form name ++ 10 ∷ [])))
 
--- the one recipient, where it has a status
-abbrev pub recipient_lines : NameValue → List (Option Status) → List (List ℕ)
-recipient_lines name [] = []
-recipient_lines name (None ∷ others) = []
-recipient_lines name (Some status ∷ others) = recipient_line name status ∷ []
+-- nothing for a recipient that has no status
+abbrev pub status_line_if : ℕ → Option Status → Attributes → List ℕ
+status_line_if number None name = []
+status_line_if number (Some status) name = status_line number status name
 
--- nothing where the octets are no message, which those of an item always are
-abbrev pub lines_if : ℕ → Item → Option MessageValue → List (List ℕ)
-lines_if number item None = []
-lines_if number item (Some m) = item_line number item.arrival m.id ∷ recipient_lines m.recipient item.statuses
+-- the status at an index; none past the last one
+abbrev pub status_at : List (Option Status) → ℕ → Option Status
+status_at statuses i = unwrap_or (slice_get statuses i) None
 
-abbrev pub item_text : ℕ → Item → List ℕ
-item_text number item = text_of_lines (lines_if number item (first_shape_of item.octets))
+-- recipients from an index on, each numbered by its position from 1
+abbrev pub recipients_from : ℕ → List (Option Status) → List RecipientFields → List ℕ
+recipients_from i statuses [] = []
+recipients_from i statuses (r ∷ rs) = status_line_if (i + 1) (status_at statuses i) r.name ++ recipients_from (i + 1) statuses rs
+
+unfoldable pub recipient_lines : List (Option Status) → List RecipientFields → List ℕ
+recipient_lines statuses rs = recipients_from 0 statuses rs
+
+-- a report has one recipient, its destination
+abbrev pub status_lines : List (Option Status) → ApduValue → List ℕ
+status_lines statuses (message m) = recipient_lines statuses m.envelope.recipients
+status_lines statuses (probe e) = recipient_lines statuses e.recipients
+status_lines statuses (report r) = status_line_if 1 (status_at statuses 0) r.destination
+
+-- nothing where the octets are no APDU, which those of an item always are
+abbrev pub lines_if : ℕ → Item → Result ApduValue Fault → List ℕ
+lines_if number item (Err fault) = []
+lines_if number item (Ok v) = item_line number item.arrival v ++ status_lines item.statuses v
+
+unfoldable pub item_text : ℕ → Item → List ℕ
+item_text number item = lines_if number item (apdu_of item.octets)
 
 -- the items from this number on
 abbrev pub items_text : ℕ → List Item → List ℕ

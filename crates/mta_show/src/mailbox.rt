@@ -2,35 +2,47 @@
 
 ghost use Rattle.std.specs.Prelude.{◌≡◌, ◌++◌, IfOk, OnOk};
 ghost use Rattle.std.specs.Option.{option_copied};
-ghost use Rattle.mta_show.specs.Pieces.{lined};
-ghost use Rattle.mta_show.specs.Mailbox.{delivered_line, item_if, delivered_text, mailbox_text};
+ghost use Rattle.mta_show.specs.Mailbox.{delivered_line, octets_text, item_if, delivered_text, mailbox_text};
 
-use crate::message::put_message;
-use crate::pieces::{put_moment, put_number};
-use mta_ber::{Memory, Octets};
-use mta_first_shape::read;
+use mta_apdu::Apdu;
+use mta_apdu_text::{put_apdu, put_moment, put_number};
+use mta_ber::{Memory, Octets, ReadFault};
 use mta_history::{Item, MailboxLine};
 use std::alloc::Global;
 
+#[tactic(auto, unfolding(crate::specs::Mailbox::delivered_line))]
 fn put_delivered_line(alloc: Global, out: &mut Octets, line: &MailboxLine) -> Result<(), Memory>
-    ensures { OnOk result (out.new ≡ out.old ++ lined (delivered_line line.now)) }
+    ensures { OnOk result (out.new ≡ out.old ++ delivered_line line.now) }
 {
     out.extend(b"delivered ")?;
     put_moment(alloc, out, line.moment)?;
     out.extend(b" item ")?;
-    put_number(out, line.item as u64)?;
+    put_number(out, u64::from(line.item))?;
     out.extend(b"\n")
 }
 
-fn put_item(out: &mut Octets, item: Option<&Item>) -> Result<(), Memory>
+/// The lines of the APDU that octets spell.
+#[tactic(auto, unfolding(crate::specs::Mailbox::octets_text))]
+fn put_octets(alloc: Global, out: &mut Octets, octets: &[u8]) -> Result<(), Memory>
+    ensures { OnOk result (out.new ≡ out.old ++ octets_text octets.now) }
+{
+    match Apdu::read(alloc, octets) {
+        Ok(apdu) => {
+            let outcome = put_apdu(alloc, out, &apdu);
+            apdu.discard();
+            outcome
+        }
+        Err(ReadFault::Bad(_)) => Ok(()),
+        Err(ReadFault::Memory) => Err(Memory),
+    }
+}
+
+fn put_item(alloc: Global, out: &mut Octets, item: Option<&Item>) -> Result<(), Memory>
     ensures { OnOk result (out.new ≡ out.old ++ item_if (option_copied item.entry)) }
 {
-    let Some(item) = item else {
-        return Ok(());
-    };
-    match read(item.octets.as_slice()) {
+    match item {
         None => Ok(()),
-        Some(message) => put_message(out, &message),
+        Some(item) => put_octets(alloc, out, item.octets.as_slice()),
     }
 }
 
@@ -43,7 +55,7 @@ fn put_delivered(
     ensures { OnOk result (out.new ≡ out.old ++ delivered_text items.now line.now) }
 {
     put_delivered_line(alloc, out, line)?;
-    put_item(out, items.get(line.item.saturating_sub(1) as usize))
+    put_item(alloc, out, items.get(line.item.saturating_sub(1) as usize))
 }
 
 /// What was delivered to the mailbox of this word, in the order of the deliveries: the moment, the number of the item, and its lines.

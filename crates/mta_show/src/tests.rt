@@ -1,10 +1,10 @@
-//! Printed texts of the sample message.
+//! Printed texts of the sample message, of a probe and of a report.
 
 use crate::mailbox::show_mailbox;
-use crate::message::show_message;
 use crate::queue::show_queue;
+use mta_apdu::Apdu;
+use mta_apdu_text::show_apdu;
 use mta_ber::{Octets, Word};
-use mta_first_shape::{Identifier, Message, Name};
 use mta_history::{Item, MailboxLine, Origin, Statuses};
 use std::alloc::Global;
 use std::test::Fail;
@@ -31,16 +31,17 @@ recipient 1 10101000 C=GB;A=GOLD;S=WATT
 content 2 4869
 ";
 
-/// What is shown of it in the queue, three times with other arrivals, where this agent is not responsible the second time.
-const QUEUE: &str = "item 1 message C=GB;A=GOLD/M0001 arrived 500101000000Z
-recipient 1 pending C=GB;A=GOLD;S=WATT
-item 2 message C=GB;A=GOLD/M0001 arrived 500101001640Z
-item 3 message C=GB;A=GOLD/M0001 arrived 491231235959Z
-recipient 1 pending C=GB;A=GOLD;S=WATT
-";
+/// A message whose identifier has octets that are not printed as they are, and whose content is empty.
+const ESCAPED: [u8; 82] = [
+    0xA0, 0x50, 0x31, 0x4C, 0x60, 0x11, 0x30, 0x0F, 0x61, 0x04, 0x13, 0x02, 0x46, 0x52, 0x62, 0x02,
+    0x13, 0x00, 0xA5, 0x03, 0x80, 0x01, 0x41, 0x64, 0x13, 0x63, 0x0A, 0x61, 0x04, 0x13, 0x02, 0x46,
+    0x52, 0x62, 0x02, 0x13, 0x00, 0x16, 0x05, 0x20, 0x09, 0x5C, 0x7E, 0x7F, 0x46, 0x02, 0x7F, 0xFF,
+    0x69, 0x00, 0xA2, 0x1C, 0x31, 0x1A, 0x60, 0x11, 0x30, 0x0F, 0x61, 0x04, 0x13, 0x02, 0x46, 0x52,
+    0x62, 0x02, 0x13, 0x00, 0xA5, 0x03, 0x80, 0x01, 0x42, 0x80, 0x01, 0x01, 0x81, 0x02, 0x00, 0x16,
+    0x04, 0x00,
+];
 
-/// An identifier with octets that are not printed as they are, and no content.
-const ESCAPED: &str = "message C=FR;A=/ \\09\\~\\7f
+const ESCAPED_TEXT: &str = "message C=FR;A=/ \\09\\~\\7f
 originator C=FR;A=;S=A
 content-type 32767
 priority normal
@@ -49,12 +50,82 @@ recipient 1 00010110 C=FR;A=;S=B
 content 0 
 ";
 
-fn item(alloc: Global, arrival: u64, responsible: bool) -> Result<Item, Fail> {
+/// A probe of a private domain that has each part that a probe may have, and ten indicators.
+const PROBE: [u8; 177] = [
+    0xA2, 0x81, 0xAE, 0x60, 0x18, 0x30, 0x16, 0x61, 0x04, 0x13, 0x02, 0x47, 0x42, 0x62, 0x06, 0x13,
+    0x04, 0x47, 0x4F, 0x4C, 0x44, 0xA5, 0x06, 0x80, 0x04, 0x42, 0x45, 0x4C, 0x4C, 0x64, 0x1A, 0x63,
+    0x14, 0x61, 0x04, 0x13, 0x02, 0x47, 0x42, 0x62, 0x06, 0x13, 0x04, 0x47, 0x4F, 0x4C, 0x44, 0x13,
+    0x04, 0x56, 0x4F, 0x4C, 0x54, 0x16, 0x02, 0x50, 0x31, 0x65, 0x01, 0x01, 0x06, 0x02, 0x2A, 0x4A,
+    0x48, 0x03, 0x06, 0xA0, 0x40, 0x69, 0x30, 0x30, 0x2E, 0x63, 0x14, 0x61, 0x04, 0x13, 0x02, 0x47,
+    0x42, 0x62, 0x06, 0x13, 0x04, 0x47, 0x4F, 0x4C, 0x44, 0x13, 0x04, 0x56, 0x4F, 0x4C, 0x54, 0x31,
+    0x16, 0x80, 0x0D, 0x35, 0x30, 0x30, 0x31, 0x30, 0x31, 0x30, 0x30, 0x31, 0x36, 0x34, 0x30, 0x5A,
+    0x82, 0x01, 0x01, 0x83, 0x02, 0x06, 0xC0, 0x4A, 0x06, 0x6D, 0x65, 0x6D, 0x6F, 0x20, 0x37, 0x80,
+    0x02, 0x03, 0xE8, 0xA1, 0x00, 0xA2, 0x22, 0x31, 0x20, 0x60, 0x17, 0x30, 0x15, 0x61, 0x04, 0x13,
+    0x02, 0x47, 0x42, 0x62, 0x06, 0x13, 0x04, 0x47, 0x4F, 0x4C, 0x44, 0xA5, 0x05, 0x80, 0x03, 0x4F,
+    0x48, 0x4D, 0x80, 0x01, 0x07, 0x81, 0x02, 0x03, 0xA0, 0xA3, 0x06, 0x30, 0x04, 0x83, 0x02, 0x2A,
+    0x03,
+];
+
+const PROBE_TEXT: &str = "probe C=GB;A=GOLD;P=VOLT/P1
+originator C=GB;A=GOLD;S=BELL
+content-type oid 2a4a
+content-identifier memo 7
+indicators 1010000001
+length 1000
+types 3 octets
+bilateral 2 octets
+trace C=GB;A=GOLD;P=VOLT 500101001640Z rerouted redirected dl
+extension oid 2a03 000 2 octets
+recipient 7 10100000 C=GB;A=GOLD;S=OHM
+";
+
+/// A report of the sample message: it was not delivered to WATT, by reason 1, unable-to-transfer.
+const REPORT: [u8; 143] = [
+    0xA1, 0x81, 0x8C, 0x31, 0x32, 0x60, 0x18, 0x30, 0x16, 0x61, 0x04, 0x13, 0x02, 0x47, 0x42, 0x62,
+    0x06, 0x13, 0x04, 0x47, 0x4F, 0x4C, 0x44, 0xA5, 0x06, 0x80, 0x04, 0x42, 0x45, 0x4C, 0x4C, 0x64,
+    0x14, 0x63, 0x0E, 0x61, 0x04, 0x13, 0x02, 0x47, 0x42, 0x62, 0x06, 0x13, 0x04, 0x47, 0x4F, 0x4C,
+    0x44, 0x16, 0x02, 0x52, 0x31, 0x69, 0x00, 0x31, 0x56, 0x64, 0x17, 0x63, 0x0E, 0x61, 0x04, 0x13,
+    0x02, 0x47, 0x42, 0x62, 0x06, 0x13, 0x04, 0x47, 0x4F, 0x4C, 0x44, 0x16, 0x05, 0x4D, 0x30, 0x30,
+    0x30, 0x31, 0xA0, 0x3B, 0x31, 0x39, 0xA0, 0x18, 0x30, 0x16, 0x61, 0x04, 0x13, 0x02, 0x47, 0x42,
+    0x62, 0x06, 0x13, 0x04, 0x47, 0x4F, 0x4C, 0x44, 0xA5, 0x06, 0x80, 0x04, 0x57, 0x41, 0x54, 0x54,
+    0x81, 0x01, 0x01, 0x82, 0x02, 0x00, 0xA8, 0xA3, 0x16, 0x80, 0x0D, 0x35, 0x30, 0x30, 0x31, 0x30,
+    0x31, 0x30, 0x30, 0x31, 0x36, 0x34, 0x30, 0x5A, 0xA1, 0x05, 0xA1, 0x03, 0x80, 0x01, 0x01,
+];
+
+const REPORT_TEXT: &str = "report C=GB;A=GOLD/R1
+destination C=GB;A=GOLD;S=BELL
+subject C=GB;A=GOLD/M0001
+recipient 1 10101000 non-delivery 1 - arrived 500101001640Z C=GB;A=GOLD;S=WATT
+";
+
+/// What is shown of these in the queue: for the second message this agent is not responsible, and the probe's recipient, whose number is 7,
+/// is its first.
+const QUEUE: &str = "item 1 message C=GB;A=GOLD/M0001 arrived 500101000000Z
+recipient 1 pending C=GB;A=GOLD;S=WATT
+item 2 message C=FR;A=/ \\09\\~\\7f arrived 500101001640Z
+item 3 probe C=GB;A=GOLD;P=VOLT/P1 arrived 500101001640Z
+recipient 1 pending C=GB;A=GOLD;S=OHM
+item 4 report C=GB;A=GOLD/R1 arrived 491231235959Z
+recipient 1 pending C=GB;A=GOLD;S=BELL
+";
+
+fn statuses_of(alloc: Global, octets: &[u8]) -> Option<Statuses> {
+    match Apdu::read(alloc, octets) {
+        Err(_) => None,
+        Ok(apdu) => {
+            let statuses = Statuses::of_apdu(alloc, &apdu).ok();
+            apdu.discard();
+            statuses
+        }
+    }
+}
+
+fn item(alloc: Global, octets: &[u8], arrival: u64) -> Result<Item, Fail> {
     Ok(Item {
-        octets: Octets::from_slice(alloc, &SAMPLE)?,
+        octets: Octets::from_slice(alloc, octets)?,
         arrival,
         origin: Origin::Submitted,
-        statuses: Statuses::of_one(alloc, responsible)?,
+        statuses: statuses_of(alloc, octets).ok_or("no APDU")?,
     })
 }
 
@@ -67,37 +138,42 @@ fn line(alloc: Global, word: &[u8], item: u32, moment: u64) -> Result<MailboxLin
     })
 }
 
+/// The text of the APDU that octets spell.
+fn text_of(alloc: Global, octets: &[u8]) -> Option<Octets> {
+    match Apdu::read(alloc, octets) {
+        Err(_) => None,
+        Ok(apdu) => {
+            let text = show_apdu(alloc, &apdu).ok();
+            apdu.discard();
+            text
+        }
+    }
+}
+
+fn is_text(alloc: Global, octets: &[u8], expected: &str) -> bool {
+    match text_of(alloc, octets) {
+        None => false,
+        Some(text) => text.as_slice() == expected.as_bytes(),
+    }
+}
+
 #[test]
-fn printed_texts(rt: HostRuntime) -> Result<(), Fail> {
+fn texts_of_apdus(rt: HostRuntime) -> Result<(), Fail> {
     let alloc = rt.alloc();
-    let message = Message {
-        originator: Name {
-            country: b"FR",
-            admd: b"",
-            surname: b"A",
-        },
-        id: Identifier {
-            country: b"FR",
-            admd: b"",
-            local: b" \x09\\~\x7F",
-        },
-        content_kind: 32_767,
-        recipient: Name {
-            country: b"FR",
-            admd: b"",
-            surname: b"B",
-        },
-        indicators: 0x16,
-        content: b"",
-    };
-    assert_eq!(rt;
-        show_message(alloc, &message)?.as_slice(),
-        ESCAPED.as_bytes()
-    );
+    assert!(rt; is_text(alloc, &ESCAPED, ESCAPED_TEXT));
+    assert!(rt; is_text(alloc, &PROBE, PROBE_TEXT));
+    assert!(rt; is_text(alloc, &REPORT, REPORT_TEXT));
+    Ok(())
+}
+
+#[test]
+fn texts_of_what_is_held(rt: HostRuntime) -> Result<(), Fail> {
+    let alloc = rt.alloc();
     let items = vec![in alloc;
-        item(alloc, 0, true)?,
-        item(alloc, 1_000, false)?,
-        item(alloc, 3_155_759_999, true)?,
+        item(alloc, &SAMPLE, 0)?,
+        item(alloc, &ESCAPED, 1_000)?,
+        item(alloc, &PROBE, 1_000)?,
+        item(alloc, &REPORT, 3_155_759_999)?,
     ]?;
     assert_eq!(rt;
         show_queue(alloc, items.as_slice())?.as_slice(),

@@ -26,7 +26,8 @@ use Rattle.mta_spool.specs.Shown.{Shown}
 use Rattle.mta_spool.specs.Current.{current_of, current_after, CanMake}
 use Rattle.mta_spool.specs.Stands.{Stores, Stands, Appends, need_of, journal_limit}
 use Rattle.mta_spool.specs.Putting.{HasPut, with_item, with_line}
-use Rattle.mta_first_shape.specs.Message.{longest}
+use Rattle.mta_apdu.specs.Apdus.{longest_apdu}
+use Rattle.mta_apdu.proofs.ApduLaws.{read_short}
 
 last_of-more : (ts : List (List ℕ)) (t : List ℕ) → last_of (ts ++ t ∷ []) ≡ Some t
 last_of-more [] t = refl
@@ -108,8 +109,8 @@ stands_more content step old new steps s stored current possible = record {
   history = possible-more empty steps step s.history possible;
 }
 
-pub length-spelled : (apdu : List ℕ) → SpellsApdu apdu → length apdu ≤ longest
-length-spelled apdu spells = omega (arith, ap length spells.1.octets_are, spells.1.message.size)
+pub length-spelled : (apdu : List ℕ) → SpellsApdu apdu → length apdu ≤ longest_apdu
+length-spelled apdu spells = read_short apdu spells.0 spells.1
 
 -- where the disk and the size are the same
 Stores-along : {D C : Type 0} (content : D → Option (List ℕ)) (a b : Shown D C) (steps : List Step) → b.disk ≡ a.disk → b.size ≡ a.size → Stores content a steps → Stores content b steps

@@ -7,7 +7,7 @@ ghost use Rattle.mta_history.specs.Machine.{delivery};
 ghost use Rattle.mta_spool.specs.Current.{HasApplied};
 ghost use Rattle.mta_spool.specs.Replaying.{HasTaken, Replays};
 
-use crate::apdu::statuses_at_first;
+use crate::apdu::read_statuses;
 use crate::current::Current;
 use crate::due::place_of_item;
 use crate::items::Items;
@@ -125,14 +125,15 @@ impl Current {
     fn apply_accept(&mut self, alloc: Global, moment: u64, apdu: Octets) -> Result<(), NotMade>
         ensures { HasApplied (Steps.Accept moment apdu) self.old self.new result }
     {
-        let taken = mta_first_shape::read(apdu.as_slice()).is_some();
-        if !taken || self.tables.is_none() || moment < self.moment {
+        if self.tables.is_none() || moment < self.moment {
             return Err(NotMade::Impossible);
         }
         if self.items.len() > 4_294_967_294 {
             return Err(NotMade::Impossible);
         }
-        let statuses = statuses_at_first(alloc, apdu.as_slice())?;
+        let Some(statuses) = read_statuses(alloc, apdu.as_slice())? else {
+            return Err(NotMade::Impossible);
+        };
         self.items.push(Item {
             octets: apdu,
             arrival: moment,

@@ -175,6 +175,7 @@ impl<D: Disk + Drop, C: Clock + Drop> Spool<D, C> {
         ensures moment { (told : ℕ) × C.tells self.old.clock told × (result ≡ step_moment told self.old.current.moment) }
         ensures clock { (m : ℕ) → C.tells self.new.clock m → C.tells self.old.clock m }
         ensures rest { self.new ≡ record self.old { clock = self.new.clock } }
+        ensures fits { result ≤ 3155759999 }
     {
         self.clock.now().min(LAST_MOMENT).max(self.current.moment)
     }

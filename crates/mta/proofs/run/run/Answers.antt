@@ -2,7 +2,7 @@ use Rattle.std.specs.Prelude.{◌⊎◌}
 use Rattle.mta_edge.specs.Causes.{Rose}
 use Rattle.mta.specs.Words.{command_of}
 use Rattle.mta.specs.Ending.{IsText}
-use Rattle.mta.proofs.Endings.{ended_tells, ended_complete}
+use Rattle.mta.proofs.Endings.{ended_tells, ended_complete, ended_decoded}
 use Rattle.mta.proofs.Keepings.{ran_done}
 use Rattle.mta.proofs.run.run.Goals as goal
 
@@ -23,6 +23,17 @@ returns-clause-complete g c =
     let words = command_of c.args.words.now in
     let source_rose = Rose (g.I.Source.faults c.args.conf.now) (g.I.Source.faults c.command-disk.new.conf) ⊎ Rose (g.I.Source.faults c.args.input.now) (g.I.Source.faults c.command-disk.new.input) in
     ended_complete words conf input disk source_rose (Rose (g.D.Disk.faults c.args.disk) (g.D.Disk.faults c.command-disk.result.disk)) (Rose (g.O.Sink.faults c.args.out.now) (g.O.Sink.faults c.close-status.new.out))
+    ran.added (IsText words conf input disk ran.added) (g.O.Sink.taken c.args.out.now) (g.O.Sink.taken c.close-status.new.out) c.close-status.result ran.printed
+
+pub returns-clause-decoded : goal.returns-clause-decoded
+returns-clause-decoded g c =
+    let ran = returns-clause-ran g c in
+    let conf = g.I.Source.left c.args.conf.now in
+    let input = g.I.Source.left c.args.input.now in
+    let disk = g.D.Disk.content c.args.disk in
+    let words = command_of c.args.words.now in
+    let source_rose = Rose (g.I.Source.faults c.args.conf.now) (g.I.Source.faults c.command-disk.new.conf) ⊎ Rose (g.I.Source.faults c.args.input.now) (g.I.Source.faults c.command-disk.new.input) in
+    ended_decoded words conf input disk source_rose (Rose (g.D.Disk.faults c.args.disk) (g.D.Disk.faults c.command-disk.result.disk)) (Rose (g.O.Sink.faults c.args.out.now) (g.O.Sink.faults c.close-status.new.out))
     ran.added (IsText words conf input disk ran.added) (g.O.Sink.taken c.args.out.now) (g.O.Sink.taken c.close-status.new.out) c.close-status.result ran.printed
 
 pub returns-clause-usage : goal.returns-clause-usage

@@ -10,6 +10,9 @@ use Rattle.mta_spool.proofs.spool.Spool.accept.Goals as goal
 pub add-requires-clause-short : goal.add-requires-clause-short
 add-requires-clause-short g c = omega (arith, length-string c.in_ok-from_slice-2.field-0, ap length c.in_ok-from_slice-2.ensures, length-spelled c.args.apdu.now c.requires.apdu)
 
+pub add-requires-clause-fields : goal.add-requires-clause-fields
+add-requires-clause-fields g c = (c.step_moment-moment.ensures.fits, omega (arith, ap length c.in_ok-from_slice-2.ensures, length-spelled c.args.apdu.now c.requires.apdu))
+
 pub returns-clause-appends : goal.returns-clause-appends
 returns-clause-appends g c =
     let m = c.step_moment-moment.ensures.moment in

@@ -1,0 +1,48 @@
+-- What `decode` leaves.
+use Rattle.std.specs.Prelude.{◌≡◌, ℕ, List, Option, Result, Ok, Err}
+use Rattle.mta_apdu.specs.Apdus.{ApduValue, apdu_of}
+use Rattle.mta_history.specs.Apdu.{HasFault}
+use Rattle.mta_apdu_text.specs.Apdus.{apdu_text}
+use Rattle.mta.specs.declared.stop.Stop.{Stop}
+use Rattle.mta.specs.declared.stop.Stop.TheVariants as Stops
+use Rattle.mta.specs.Gathering.{HasFirstFault}
+use Rattle.mta.specs.Ending.{IsDecodeText}
+use Rattle.mta.specs.Headline.{HasPrinted}
+
+-- why there is no text of an APDU
+abbrev pub IsTextStop : List ℕ → Stop → Type 0
+IsTextStop octets (Stops.BadApdu at kind) = HasFault octets (record { at = at; kind = kind })
+IsTextStop octets Stops.Memory = Unit {0}
+IsTextStop octets Stops.Source = ⊥
+IsTextStop octets (Stops.Tables line kind) = ⊥
+IsTextStop octets Stops.Usage = ⊥
+IsTextStop octets (Stops.NotSpool at) = ⊥
+IsTextStop octets Stops.Disk = ⊥
+IsTextStop octets (Stops.Full size need) = ⊥
+IsTextStop octets (Stops.Spent last) = ⊥
+IsTextStop octets Stops.Sink = ⊥
+IsTextStop octets (Stops.NoMailbox name) = ⊥
+
+-- the text of the APDU that octets are read as, or why there is none
+abbrev pub IsDecodedAs : List ℕ → Result (List ℕ) Stop → Type 0
+IsDecodedAs octets (Ok text) = (v : ApduValue) × (apdu_of octets ≡ Ok v) × (text ≡ apdu_text v)
+IsDecodedAs octets (Err stop) = IsTextStop octets stop
+
+-- why `decode` stopped
+abbrev pub IsDecodeStop : Option (List ℕ) → Type 0 → Type 0 → Stop → Type 0
+IsDecodeStop input source_rose out_rose (Stops.BadApdu at kind) = HasFirstFault input at kind
+IsDecodeStop input source_rose out_rose Stops.Source = source_rose
+IsDecodeStop input source_rose out_rose Stops.Memory = Unit {0}
+IsDecodeStop input source_rose out_rose Stops.Sink = out_rose
+IsDecodeStop input source_rose out_rose (Stops.Tables line kind) = ⊥
+IsDecodeStop input source_rose out_rose Stops.Usage = ⊥
+IsDecodeStop input source_rose out_rose (Stops.NotSpool at) = ⊥
+IsDecodeStop input source_rose out_rose Stops.Disk = ⊥
+IsDecodeStop input source_rose out_rose (Stops.Full size need) = ⊥
+IsDecodeStop input source_rose out_rose (Stops.Spent last) = ⊥
+IsDecodeStop input source_rose out_rose (Stops.NoMailbox name) = ⊥
+
+-- what it leaves before its last line is printed
+pub record HasDecoded (input before now : Option (List ℕ)) (source_rose out_rose : Type 0) (result : Result (Unit {0}) Stop) : Type 0 where
+  pub printed : HasPrinted (IsDecodeText input) before now result
+  pub cause : (stop : Stop) → result ≡ Err stop → IsDecodeStop input source_rose out_rose stop
