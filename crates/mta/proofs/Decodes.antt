@@ -5,7 +5,7 @@ use Rattle.mta_ber.specs.declared.fault.Kind.{Kind}
 use Rattle.mta_edge.specs.Causes.{Rose}
 use Rattle.mta_edge.specs.Outside.{Goes}
 use Rattle.mta_records.specs.declared.step.Step.{Step}
-use Rattle.mta_apdu.specs.Apdus.{ApduValue, apdu_of}
+use Rattle.mta_apdu.specs.Apdus.{ApduValue, SpellsApdu}
 use Rattle.mta_history.specs.Apdu.{HasFault}
 use Rattle.mta_apdu_text.specs.Apdus.{apdu_text}
 use Rattle.mta.specs.declared.stop.Stop.{Stop}
@@ -25,7 +25,7 @@ told_fault : (input : Option (List ℕ)) (octets : List ℕ) (at : ℕ) (kind : 
 told_fault input octets at kind told has i e = subst (λ (x : List ℕ). HasFault x (record { at = at; kind = kind })) (told i e) has
 
 told_text : (input : Option (List ℕ)) (octets text : List ℕ) → IsTold input octets → IsDecodedAs octets (Ok text) → IsDecodeText input text
-told_text input octets text told is i e = subst (λ (x : List ℕ). (v : ApduValue) × (apdu_of x ≡ Ok v) × (text ≡ apdu_text v)) (told i e) is
+told_text input octets text told is i e = subst (λ (x : List ℕ). (v : ApduValue) × SpellsApdu x v × (text ≡ apdu_text v)) (told i e) is
 
 text_stop : (input : Option (List ℕ)) (octets : List ℕ) (source_rose out_rose : Type 0) (stop : Stop) → IsTold input octets → IsTextStop octets stop → (stop ≡ Stops.Sink → ⊥) × IsDecodeStop input source_rose out_rose stop
 text_stop input octets source_rose out_rose (Stops.BadApdu at kind) told is = (λ e. absurd cc, told_fault input octets at kind told is)

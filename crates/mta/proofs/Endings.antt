@@ -5,12 +5,13 @@ use Rattle.std.proofs.lemmas.List.{length-append}
 use Rattle.mta_ber.specs.declared.fault.Fault.{Fault}
 use Rattle.mta_edge.specs.Outside.{Goes, Goes-then}
 use Rattle.mta_apdu.specs.Apdus.{ApduValue, apdu_of}
+use Rattle.mta_apdu.proofs.ApduLaws.{apdu_full}
 use Rattle.mta_records.specs.declared.step.Step.{Step}
 use Rattle.mta_tables.specs.Tables.{TablesValue, tables_of}
 use Rattle.mta_tables.specs.Reading.{bad}
 use Rattle.mta_tables.specs.declared.fault.LineKind.{LineKind}
 use Rattle.mta_tables.proofs.Grammars.{bad_read}
-use Rattle.mta_history.specs.Apdu.{SpellsApdu}
+use Rattle.mta_history.specs.Apdu.{IsApdu}
 use Rattle.mta_history.specs.History.{after}
 use Rattle.mta_history.specs.Image.{StandsFor}
 use Rattle.mta_history.proofs.NoSpool.{no_history}
@@ -151,7 +152,7 @@ record InOrder (words : Option Words) (conf input disk : Option (List ℕ)) (sou
   input_is : input ≡ Some i
   disk_is : disk ≡ Some f
   tables : tables_of c ≡ Ok t
-  message : SpellsApdu i
+  message : IsApdu i
   stands : StandsFor f steps
   named : (name : List ℕ) → words ≡ Some (Say.Mailbox name) → mailbox_named (after steps) name ≢ None
 
@@ -173,7 +174,7 @@ complete_stop words conf input disk source_rose disk_rose out_rose added c i f t
 complete_stop words conf input disk source_rose disk_rose out_rose added c i f t steps Stops.Source status o why e = absurd (o.source why)
 complete_stop words conf input disk source_rose disk_rose out_rose added c i f t steps Stops.Sink status o why e = absurd (o.sink why)
 complete_stop words conf input disk source_rose disk_rose out_rose added c i f t steps (Stops.NoMailbox name) status o why e = absurd (o.named name why.0 (why.1 f steps o.disk_is o.stands))
-complete_stop words conf input disk source_rose disk_rose out_rose added c i f t steps (Stops.BadApdu at kind) status o why e = absurd (no_fault (apdu_of i) o.message.0 (record { at = at; kind = kind }) o.message.1 (why.1 i o.input_is))
+complete_stop words conf input disk source_rose disk_rose out_rose added c i f t steps (Stops.BadApdu at kind) status o why e = absurd (no_fault (apdu_of i) o.message.0 (record { at = at; kind = kind }) (apdu_full i o.message.0 o.message.1) (why.1 i o.input_is))
 
 complete_ended : (words : Option Words) (conf input disk : Option (List ℕ)) (source_rose disk_rose out_rose : Type 0) (added : List Step) (text : List ℕ → Type 0) (before now : Option (List ℕ)) (status : ℕ) (c i f : List ℕ) (t : TablesValue) (steps : List Step)
     → InOrder words conf input disk source_rose disk_rose out_rose c i f t steps → IsEnded (IsCause words conf input disk source_rose disk_rose out_rose added) text out_rose before now status → (status ≡ 0) ⊎ (status ≡ 5) ⊎ (status ≡ 7)
@@ -202,7 +203,7 @@ submit_apart e = cc
 mailbox_apart : (name : List ℕ) → Some (Say.Mailbox name) ≡ Some Say.Decode → ⊥
 mailbox_apart name e = cc
 
-decoded_stop : (words : Option Words) (conf input disk : Option (List ℕ)) (source_rose disk_rose out_rose : Type 0) (added : List Step) (i : List ℕ) (stop : Stop) (status : ℕ) → words ≡ Some Say.Decode → (source_rose → ⊥) → (out_rose → ⊥) → input ≡ Some i → SpellsApdu i
+decoded_stop : (words : Option Words) (conf input disk : Option (List ℕ)) (source_rose disk_rose out_rose : Type 0) (added : List Step) (i : List ℕ) (stop : Stop) (status : ℕ) → words ≡ Some Say.Decode → (source_rose → ⊥) → (out_rose → ⊥) → input ≡ Some i → IsApdu i
     → IsCause words conf input disk source_rose disk_rose out_rose added stop → status ≡ status_of stop → (status ≡ 0) ⊎ (status ≡ 7)
 decoded_stop words conf input disk source_rose disk_rose out_rose added i Stops.Usage status w source sink input_is spelled why e = absurd (no_none words Say.Decode w why)
 decoded_stop words conf input disk source_rose disk_rose out_rose added i (Stops.Tables line kind) status w source sink input_is spelled why e = absurd (other_words words Say.Submit Say.Decode submit_apart why.0 w)
@@ -214,7 +215,7 @@ decoded_stop words conf input disk source_rose disk_rose out_rose added i Stops.
 decoded_stop words conf input disk source_rose disk_rose out_rose added i Stops.Source status w source sink input_is spelled why e = absurd (source why)
 decoded_stop words conf input disk source_rose disk_rose out_rose added i Stops.Sink status w source sink input_is spelled why e = absurd (sink why)
 decoded_stop words conf input disk source_rose disk_rose out_rose added i (Stops.NoMailbox name) status w source sink input_is spelled why e = absurd (other_words words (Say.Mailbox name) Say.Decode (mailbox_apart name) why.0 w)
-decoded_stop words conf input disk source_rose disk_rose out_rose added i (Stops.BadApdu at kind) status w source sink input_is spelled why e = absurd (no_fault (apdu_of i) spelled.0 (record { at = at; kind = kind }) spelled.1 (why.1 i input_is))
+decoded_stop words conf input disk source_rose disk_rose out_rose added i (Stops.BadApdu at kind) status w source sink input_is spelled why e = absurd (no_fault (apdu_of i) spelled.0 (record { at = at; kind = kind }) (apdu_full i spelled.0 spelled.1) (why.1 i input_is))
 
 pub ended_decoded : (words : Option Words) (conf input disk : Option (List ℕ)) (source_rose disk_rose out_rose : Type 0) (added : List Step) (text : List ℕ → Type 0) (before now : Option (List ℕ)) (status : ℕ)
     → IsEnded (IsCause words conf input disk source_rose disk_rose out_rose added) text out_rose before now status → IsDecoded words input source_rose out_rose status

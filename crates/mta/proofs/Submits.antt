@@ -6,7 +6,7 @@ use Rattle.mta_records.specs.declared.step.Step.{Step}
 use Rattle.mta_records.specs.declared.fault.StepFault.{StepFault}
 use Rattle.mta_records.specs.declared.fault.StepFault.TheVariants as StepFaults
 use Rattle.mta_tables.specs.Tables.{tables_of}
-use Rattle.mta_history.specs.Apdu.{SpellsApdu}
+use Rattle.mta_history.specs.Apdu.{IsApdu}
 use Rattle.mta_history.specs.Due.{IsQuiet}
 use Rattle.mta_history.specs.History.{after, IsHistory}
 use Rattle.mta_history.specs.Image.{front, StandsFor}
@@ -150,7 +150,7 @@ submit_worked content faults tells conf input before now source_rose out_rose ol
           (λ no. has.worked.stands (λ w. disk_err stop no (sym e ∙ w)) base stands) risen (has.refused stop e);
       settled = λ e ok f steps was st. settled_later content tells new base steps has.added (same f steps was st) (has.worked.stands (λ w. absurd (ok_err (sym ok ∙ w))) base stands) (has.quiet ok);
       stood = λ other_words ok f was. (base, opened f was);
-      gathered = λ e ok c i w v. ((x.tables, subst (λ (y : List ℕ). tables_of y ≡ Ok x.tables) (read.0 c w) read.1), subst SpellsApdu (read.2 i v) read.3);
+      gathered = λ e ok c i w v. ((x.tables, subst (λ (y : List ℕ). tables_of y ≡ Ok x.tables) (read.0 c w) read.1), subst IsApdu (read.2 i v) read.3);
       named = λ name e ok. absurd (other name e);
     }
   where

@@ -1,6 +1,6 @@
 -- What `decode` leaves.
 use Rattle.std.specs.Prelude.{◌≡◌, ℕ, List, Option, Result, Ok, Err}
-use Rattle.mta_apdu.specs.Apdus.{ApduValue, apdu_of}
+use Rattle.mta_apdu.specs.Apdus.{ApduValue, SpellsApdu}
 use Rattle.mta_history.specs.Apdu.{HasFault}
 use Rattle.mta_apdu_text.specs.Apdus.{apdu_text}
 use Rattle.mta.specs.declared.stop.Stop.{Stop}
@@ -25,7 +25,7 @@ IsTextStop octets (Stops.NoMailbox name) = ⊥
 
 -- the text of the APDU that octets are read as, or why there is none
 abbrev pub IsDecodedAs : List ℕ → Result (List ℕ) Stop → Type 0
-IsDecodedAs octets (Ok text) = (v : ApduValue) × (apdu_of octets ≡ Ok v) × (text ≡ apdu_text v)
+IsDecodedAs octets (Ok text) = (v : ApduValue) × SpellsApdu octets v × (text ≡ apdu_text v)
 IsDecodedAs octets (Err stop) = IsTextStop octets stop
 
 -- why `decode` stopped

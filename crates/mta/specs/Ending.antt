@@ -4,7 +4,7 @@ use Rattle.mta_edge.specs.Outside.{Goes}
 use Rattle.mta_records.specs.declared.step.Step.{Step}
 use Rattle.mta_tables.specs.Tables.{TablesValue, mailbox_of as place_of_mailbox}
 use Rattle.mta_tables.specs.Grammar.{IsFirstBadLine}
-use Rattle.mta_apdu.specs.Apdus.{ApduValue, apdu_of}
+use Rattle.mta_apdu.specs.Apdus.{ApduValue, SpellsApdu}
 use Rattle.mta_history.specs.Verdict.{recorded}
 use Rattle.mta_history.specs.History.{State, after}
 use Rattle.mta_history.specs.Image.{front, StandsFor, NoSpoolAt}
@@ -31,23 +31,23 @@ abbrev pub mailbox_named : State → List ℕ → Option ℕ
 mailbox_named s name = option_and_then (λ (t : TablesValue). place_of_mailbox t name) (recorded s.machine.tables)
 
 -- another command than `decode`, which does nothing with the disk
-abbrev pub IsOther : Option Words → Type 0
-IsOther words = words ≡ Some Say.Decode → ⊥
+abbrev pub IsNotDecode : Option Words → Type 0
+IsNotDecode words = words ≡ Some Say.Decode → ⊥
 
 -- a command that reads an APDU from the input
 abbrev pub ReadsApdu : Option Words → Type 0
 ReadsApdu words = (words ≡ Some Say.Submit) ⊎ (words ≡ Some Say.Decode)
 
--- the text of the APDU that the input is read as
+-- the text of the APDU that the input spells
 abbrev pub IsDecodeText : Option (List ℕ) → List ℕ → Type 0
-IsDecodeText input text = (i : List ℕ) → input ≡ Some i → (v : ApduValue) × (apdu_of i ≡ Ok v) × (text ≡ apdu_text v)
+IsDecodeText input text = (i : List ℕ) → input ≡ Some i → (v : ApduValue) × SpellsApdu i v × (text ≡ apdu_text v)
 
 -- why a run stopped so
 abbrev pub IsCause : (words : Option Words) (conf input disk : Option (List ℕ)) (source_rose disk_rose out_rose : Type 0) (added : List Step) → Stop → Type 0
 IsCause words conf input disk source_rose disk_rose out_rose added Stops.Usage = words ≡ None
 IsCause words conf input disk source_rose disk_rose out_rose added (Stops.Tables line kind) = (words ≡ Some Say.Submit) × ((c : List ℕ) → conf ≡ Some c → IsFirstBadLine c line kind)
-IsCause words conf input disk source_rose disk_rose out_rose added (Stops.NotSpool at) = IsOther words × ((f : List ℕ) → disk ≡ Some f → NoSpoolAt f at)
-IsCause words conf input disk source_rose disk_rose out_rose added Stops.Disk = IsOther words × disk_rose
+IsCause words conf input disk source_rose disk_rose out_rose added (Stops.NotSpool at) = IsNotDecode words × ((f : List ℕ) → disk ≡ Some f → NoSpoolAt f at)
+IsCause words conf input disk source_rose disk_rose out_rose added Stops.Disk = IsNotDecode words × disk_rose
 IsCause words conf input disk source_rose disk_rose out_rose added (Stops.Full size need) = (words ≡ Some Say.Submit) × ((c i : List ℕ) → conf ≡ Some c → input ≡ Some i → ForHistory disk (λ steps. IsRefusal c i (current_of (after (steps ++ added))) (length (front (steps ++ added)) + 1) disk_rose (StepFaults.Full size need)))
 IsCause words conf input disk source_rose disk_rose out_rose added (Stops.Spent last) = (words ≡ Some Say.Submit) × ((c i : List ℕ) → conf ≡ Some c → input ≡ Some i → ForHistory disk (λ steps. IsRefusal c i (current_of (after (steps ++ added))) (length (front (steps ++ added)) + 1) disk_rose (StepFaults.Spent last)))
 IsCause words conf input disk source_rose disk_rose out_rose added Stops.Memory = Unit {0}

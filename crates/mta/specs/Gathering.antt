@@ -4,7 +4,7 @@ use Rattle.mta_ber.specs.declared.fault.Kind.{Kind}
 use Rattle.mta_edge.specs.Causes.{Rose}
 use Rattle.mta_tables.specs.Tables.{TablesValue, tables_of}
 use Rattle.mta_tables.specs.Grammar.{IsFirstBadLine}
-use Rattle.mta_history.specs.Apdu.{SpellsApdu, HasFault}
+use Rattle.mta_history.specs.Apdu.{IsApdu, HasFault}
 use Rattle.mta.specs.declared.stop.Stop.{Stop}
 use Rattle.mta.specs.declared.stop.Stop.TheVariants as Stops
 use Rattle.mta.specs.declared.gather.Gathered.{Gathered}
@@ -61,12 +61,12 @@ pub record HasOctets (input : Option (List ℕ)) (before now : ℕ) (result : Re
 
 -- octets that are read as an APDU, or why they are not
 abbrev pub IsChecked : List ℕ → Result (Unit {0}) Stop → Type 0
-IsChecked octets (Ok done) = SpellsApdu octets
+IsChecked octets (Ok done) = IsApdu octets
 IsChecked octets (Err stop) = IsInputStop (Some octets) ⊥ stop
 
 -- an APDU, or why there is none
 abbrev pub IsInputRead : Option (List ℕ) → Type 0 → Result (List ℕ) Stop → Type 0
-IsInputRead input rose (Ok apdu) = IsTold input apdu × SpellsApdu apdu
+IsInputRead input rose (Ok apdu) = IsTold input apdu × IsApdu apdu
 IsInputRead input rose (Err stop) = IsInputStop input rose stop
 
 pub record HasInput (input : Option (List ℕ)) (before now : ℕ) (result : Result (List ℕ) Stop) : Type 0 where
@@ -88,7 +88,7 @@ IsGatherStop conf input rose Stops.Sink = ⊥
 IsGatherStop conf input rose (Stops.NoMailbox name) = ⊥
 
 abbrev pub AreGathered : Option (List ℕ) → Option (List ℕ) → Type 0 → Result Gathered Stop → Type 0
-AreGathered conf input rose (Ok x) = IsTold conf x.tables.text × (tables_of x.tables.text ≡ Ok x.tables) × IsTold input x.apdu × SpellsApdu x.apdu
+AreGathered conf input rose (Ok x) = IsTold conf x.tables.text × (tables_of x.tables.text ≡ Ok x.tables) × IsTold input x.apdu × IsApdu x.apdu
 AreGathered conf input rose (Err stop) = IsGatherStop conf input rose stop
 
 pub record HasGathered (conf input : Option (List ℕ)) (conf_before conf_now input_before input_now : ℕ) (result : Result Gathered Stop) : Type 0 where

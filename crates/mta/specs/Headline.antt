@@ -5,7 +5,7 @@ use Rattle.mta_edge.specs.Outside.{Goes}
 use Rattle.mta_records.specs.declared.step.Step.{Step}
 use Rattle.mta_tables.specs.Tables.{TablesValue, tables_of}
 use Rattle.mta_history.specs.declared.item.Item.{Item}
-use Rattle.mta_history.specs.Apdu.{SpellsApdu}
+use Rattle.mta_history.specs.Apdu.{IsApdu}
 use Rattle.mta_history.specs.Verdict.{recorded}
 use Rattle.mta_history.specs.Due.{numbered, IsQuiet}
 use Rattle.mta_history.specs.History.{after, IsHistory, RecipientsOnce}
@@ -18,7 +18,7 @@ use Rattle.mta.specs.declared.words.Words.TheVariants as Say
 use Rattle.mta.specs.Streams.{TakesFront}
 use Rattle.mta.specs.Telling.{accepted_line}
 use Rattle.mta.specs.Working.{AreOwn, accepts}
-use Rattle.mta.specs.Ending.{ForHistory, mailbox_named, IsOther, IsCause, IsText, IsFront, IsEnded}
+use Rattle.mta.specs.Ending.{ForHistory, mailbox_named, IsNotDecode, IsCause, IsText, IsFront, IsEnded}
 
 -- unless its count rose, the disk stands for what it stood for and these steps, and one that is no spool is as it was
 pub record DiskLeft {D : Type 0} (content : D → Option (List ℕ)) (faults : D → ℕ) (old new : D) (added : List Step) : Type 0 where
@@ -47,8 +47,8 @@ pub record HasDone {D : Type 0} (content : D → Option (List ℕ)) (faults : D 
   pub printed : HasPrinted (IsText words conf input (content old) added) before now result
   pub cause : (stop : Stop) → result ≡ Err stop → IsCause words conf input (content old) source_rose (Rose (faults old) (faults new)) out_rose added stop
   pub settled : words ≡ Some Say.Submit → result ≡ Ok tt → ForHistory (content old) (λ steps. IsSettled tells (steps ++ added))
-  pub stood : IsOther words → result ≡ Ok tt → (f : List ℕ) → content old ≡ Some f → (steps : List Step) × StandsFor f steps
-  pub gathered : words ≡ Some Say.Submit → result ≡ Ok tt → (c i : List ℕ) → conf ≡ Some c → input ≡ Some i → ((t : TablesValue) × (tables_of c ≡ Ok t)) × SpellsApdu i
+  pub stood : IsNotDecode words → result ≡ Ok tt → (f : List ℕ) → content old ≡ Some f → (steps : List Step) × StandsFor f steps
+  pub gathered : words ≡ Some Say.Submit → result ≡ Ok tt → (c i : List ℕ) → conf ≡ Some c → input ≡ Some i → ((t : TablesValue) × (tables_of c ≡ Ok t)) × IsApdu i
   pub named : (name : List ℕ) → words ≡ Some (Say.Mailbox name) → result ≡ Ok tt → ForHistory (content old) (λ steps. mailbox_named (after steps) name ≢ None)
 
 -- the item of this number has these octets, and is the next one after the steps
@@ -77,19 +77,19 @@ pub record Ran {D : Type 0} (content : D → Option (List ℕ)) (faults : D → 
   pub only_submit : (words ≡ Some Say.Submit → ⊥) → added ≡ []
   -- status 0 comes only where the words are in the grammar, the disk stood for a history unless the command is `decode`, and what the
   -- command reads is in order
-  pub ended_well : status ≡ 0 → ((words ≡ None) → ⊥) × (IsOther words → (f : List ℕ) → content old ≡ Some f → (steps : List Step) × StandsFor f steps)
-  pub read_well : status ≡ 0 → words ≡ Some Say.Submit → (c i : List ℕ) → conf ≡ Some c → input ≡ Some i → ((t : TablesValue) × (tables_of c ≡ Ok t)) × SpellsApdu i
+  pub ended_well : status ≡ 0 → ((words ≡ None) → ⊥) × (IsNotDecode words → (f : List ℕ) → content old ≡ Some f → (steps : List Step) × StandsFor f steps)
+  pub read_well : status ≡ 0 → words ≡ Some Say.Submit → (c i : List ℕ) → conf ≡ Some c → input ≡ Some i → ((t : TablesValue) × (tables_of c ≡ Ok t)) × IsApdu i
   pub named_well : (name : List ℕ) → status ≡ 0 → words ≡ Some (Say.Mailbox name) → ForHistory (content old) (λ steps. mailbox_named (after steps) name ≢ None)
   -- and with status 0 of `submit` nothing is due
   pub settled : status ≡ 0 → words ≡ Some Say.Submit → ForHistory (content old) (λ steps. IsSettled tells (steps ++ added))
 
 -- With the word `decode`, an input that is read as an APDU and no fault of the input and the output, the status is 0 or 7.
 abbrev pub IsDecoded : (words : Option Words) (input : Option (List ℕ)) (source_rose out_rose : Type 0) → ℕ → Type 0
-IsDecoded words input source_rose out_rose status = words ≡ Some Say.Decode → (source_rose → ⊥) → (out_rose → ⊥) → (i : List ℕ) → input ≡ Some i → SpellsApdu i → (status ≡ 0) ⊎ (status ≡ 7)
+IsDecoded words input source_rose out_rose status = words ≡ Some Say.Decode → (source_rose → ⊥) → (out_rose → ⊥) → (i : List ℕ) → input ≡ Some i → IsApdu i → (status ≡ 0) ⊎ (status ≡ 7)
 
 -- With words in the grammar, acceptable tables and input, a disk that stands for a history, a mailbox that is named and no fault,
 -- the status is 0, or 7, or 5 where a step was refused for its numbers.
 abbrev pub IsComplete : (words : Option Words) (conf input disk : Option (List ℕ)) (source_rose disk_rose out_rose : Type 0) → ℕ → Type 0
 IsComplete words conf input disk source_rose disk_rose out_rose status =
-    (words ≡ None → ⊥) → (source_rose → ⊥) → (disk_rose → ⊥) → (out_rose → ⊥) → (c i f : List ℕ) (t : TablesValue) (steps : List Step) → conf ≡ Some c → input ≡ Some i → disk ≡ Some f → tables_of c ≡ Ok t → SpellsApdu i → StandsFor f steps
+    (words ≡ None → ⊥) → (source_rose → ⊥) → (disk_rose → ⊥) → (out_rose → ⊥) → (c i f : List ℕ) (t : TablesValue) (steps : List Step) → conf ≡ Some c → input ≡ Some i → disk ≡ Some f → tables_of c ≡ Ok t → IsApdu i → StandsFor f steps
     → ((name : List ℕ) → words ≡ Some (Say.Mailbox name) → mailbox_named (after steps) name ≢ None) → (status ≡ 0) ⊎ (status ≡ 5) ⊎ (status ≡ 7)

@@ -4,7 +4,7 @@ ghost use Rattle.std.specs.Prelude.{◌≡◌, ◌≤◌, List, ℕ, false};
 ghost use Rattle.mta_records.specs.declared.step.Step.{Step};
 ghost use Rattle.mta_spool.specs.Stands.{Stands};
 ghost use Rattle.mta_edge.specs.Causes.{Rose};
-ghost use Rattle.mta_history.specs.Apdu.{SpellsApdu};
+ghost use Rattle.mta_history.specs.Apdu.{IsApdu};
 ghost use Rattle.mta.specs.Working.{HasStored, HasSettled, HasAcknowledged, HasWorked, stop_of_step};
 
 use crate::gather::Gathered;
@@ -23,7 +23,7 @@ fn store<D: Disk + Drop, C: Clock + Drop>(
     apdu: &Octets,
 ) -> Result<u32, StepFault>
     requires going { spool.old.ended ≡ false }
-    requires message { SpellsApdu apdu.now }
+    requires message { IsApdu apdu.now }
     requires stands { (steps : List Step) × Stands D.content spool.old steps }
     ensures stored { HasStored D.content D.faults (C.tells spool.old.clock) tables.text apdu.now spool.old spool.new result }
     ensures clock { (m : ℕ) → C.tells spool.new.clock m → C.tells spool.old.clock m }
@@ -82,7 +82,7 @@ pub fn work<D: Disk + Drop, C: Clock + Drop, O: Sink>(
     out: &mut O,
 ) -> Result<(), Stop>
     requires going { spool.old.ended ≡ false }
-    requires message { SpellsApdu gathered.apdu }
+    requires message { IsApdu gathered.apdu }
     requires stands { (steps : List Step) × Stands D.content spool.old steps }
     ensures worked { HasWorked D.content D.faults (C.tells spool.old.clock) gathered.tables.text gathered.apdu (O.taken out.old) (O.taken out.new) (Rose (O.faults out.old) (O.faults out.new)) spool.old spool.new result }
     ensures later { O.faults out.old ≤ O.faults out.new }

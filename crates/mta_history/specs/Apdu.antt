@@ -3,15 +3,15 @@ use Rattle.std.specs.Prelude.{◌≡◌, ℕ, List, [], ◌∷◌, map, Option, 
 use Rattle.mta_ber.specs.declared.fault.Fault.{Fault}
 use Rattle.mta_ber.specs.Bits.{bit}
 use Rattle.mta_recipient.specs.declared.recipient.RecipientFields.{RecipientFields}
-use Rattle.mta_apdu.specs.Apdus.{ApduValue, message, probe, report, apdu_of}
+use Rattle.mta_apdu.specs.Apdus.{ApduValue, message, probe, report, apdu_of, SpellsApdu}
 use Rattle.mta_history.specs.declared.item.Status.{Status}
 use Rattle.mta_history.specs.declared.item.Status.TheVariants.{Pending}
 
--- the octets are read as an APDU (X.411, MTS-APDU)
-abbrev pub SpellsApdu : List ℕ → Type 0
-SpellsApdu octets = (v : ApduValue) × (apdu_of octets ≡ Ok v)
+-- the octets spell an APDU (X.411, MTS-APDU)
+abbrev pub IsApdu : List ℕ → Type 0
+IsApdu octets = (v : ApduValue) × SpellsApdu octets v
 
--- the octets are read as no APDU, for this fault, which is the first one
+-- the octets spell none, and this is their first fault
 abbrev pub HasFault : List ℕ → Fault → Type 0
 HasFault octets fault = apdu_of octets ≡ Err fault
 

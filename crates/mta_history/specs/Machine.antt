@@ -6,7 +6,7 @@ use Rattle.mta_history.specs.declared.item.MailboxLine.{MailboxLine}
 use Rattle.mta_history.specs.declared.item.Status.{Status}
 use Rattle.mta_history.specs.declared.item.Status.TheVariants.{Delivered}
 use Rattle.mta_history.specs.declared.item.Origin.{Origin}
-use Rattle.mta_history.specs.Apdu.{SpellsApdu, statuses_at_first}
+use Rattle.mta_history.specs.Apdu.{IsApdu, statuses_at_first}
 use Rattle.mta_history.specs.Verdict.{recorded}
 use Rattle.mta_history.specs.Due.{numbered, IsDue, due_mailbox}
 
@@ -34,7 +34,7 @@ status_at m i r = option_and_then (λ (item : Item). numbered item.statuses r) (
 -- What a step needs. What is delivered is due under the tables recorded last.
 abbrev pub Needs : Machine → MachineStep → Type 0
 Needs m (set_tables text) = Unit {0}
-Needs m (accept octets origin moment) = SpellsApdu octets × (m.tables ≢ []) × (m.moment ≤ moment)
+Needs m (accept octets origin moment) = IsApdu octets × (m.tables ≢ []) × (m.moment ≤ moment)
 Needs m (deliver i r moment) = (place : ℕ) × IsDue (recorded m.tables) m.items i r moment place × (m.moment ≤ moment)
 
 -- the items with this status of a recipient

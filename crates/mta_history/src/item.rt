@@ -49,8 +49,7 @@ impl Model for Statuses {
 fn status_of(recipient: &Recipient) -> Option<Status>
     ensures { result ≡ status_of recipient.now }
 {
-    let responsible = recipient.fields().indicators.is_set(0);
-    responsible.then_some(Status::Pending)
+    recipient.is_responsible().then_some(Status::Pending)
 }
 
 fn statuses_of_recipients(

@@ -8,7 +8,7 @@ use Rattle.mta_records.specs.declared.fault.StepFault.TheVariants as StepFaults
 use Rattle.mta_history.specs.declared.item.Item.{Item}
 use Rattle.mta_history.specs.declared.item.Origin.TheVariants.{Submitted}
 use Rattle.mta_history.specs.declared.item.Status.{Status}
-use Rattle.mta_history.specs.Apdu.{SpellsApdu, statuses_at_first}
+use Rattle.mta_history.specs.Apdu.{IsApdu, statuses_at_first}
 use Rattle.mta_tables.specs.Tables.{TablesValue, tables_of}
 use Rattle.mta_tables.specs.Reading.{Bad}
 use Rattle.std.proofs.lemmas.Bool.{cases_lt, lt-ltb}
@@ -27,7 +27,6 @@ use Rattle.mta_spool.specs.Current.{current_of, current_after, CanMake}
 use Rattle.mta_spool.specs.Stands.{Stores, Stands, Appends, need_of, journal_limit}
 use Rattle.mta_spool.specs.Putting.{HasPut, with_item, with_line}
 use Rattle.mta_apdu.specs.Apdus.{longest_apdu}
-use Rattle.mta_apdu.proofs.ApduLaws.{read_short}
 
 last_of-more : (ts : List (List ℕ)) (t : List ℕ) → last_of (ts ++ t ∷ []) ≡ Some t
 last_of-more [] t = refl
@@ -109,8 +108,8 @@ stands_more content step old new steps s stored current possible = record {
   history = possible-more empty steps step s.history possible;
 }
 
-pub length-spelled : (apdu : List ℕ) → SpellsApdu apdu → length apdu ≤ longest_apdu
-length-spelled apdu spells = read_short apdu spells.0 spells.1
+pub length-spelled : (apdu : List ℕ) → IsApdu apdu → length apdu ≤ longest_apdu
+length-spelled apdu spells = spells.1.short
 
 -- where the disk and the size are the same
 Stores-along : {D C : Type 0} (content : D → Option (List ℕ)) (a b : Shown D C) (steps : List Step) → b.disk ≡ a.disk → b.size ≡ a.size → Stores content a steps → Stores content b steps

@@ -5,7 +5,7 @@ use Rattle.mta_records.specs.declared.step.Step.TheVariants.{Tables, Accept, Del
 use Rattle.mta_history.specs.declared.item.Origin.TheVariants.{Submitted}
 use Rattle.mta_history.specs.declared.item.Status.{Status}
 use Rattle.mta_history.specs.declared.item.Status.TheVariants.{Delivered}
-use Rattle.mta_history.specs.Apdu.{SpellsApdu, statuses_at_first}
+use Rattle.mta_history.specs.Apdu.{IsApdu, statuses_at_first}
 use Rattle.mta_history.specs.Verdict.{recorded, tables_value}
 use Rattle.mta_history.specs.Due.{numbered, IsDue, due_mailbox}
 use Rattle.mta_history.specs.Machine.{with_status, delivery}
@@ -34,13 +34,13 @@ current_after c (Deliver item recipient moment) = record c {
 -- the step is possible, as the state in memory shows it
 abbrev pub CanMake : Current → Step → Type 0
 CanMake c (Tables text) = IsTablesText text
-CanMake c (Accept moment apdu) = SpellsApdu apdu × (c.tables ≢ None) × (c.moment ≤ moment) × (length c.items + 1 < 2 ^ 32)
+CanMake c (Accept moment apdu) = IsApdu apdu × (c.tables ≢ None) × (c.moment ≤ moment) × (length c.items + 1 < 2 ^ 32)
 CanMake c (Deliver item recipient moment) = (place : ℕ) × IsDue c.tables c.items item recipient moment place × (c.moment ≤ moment)
 
 -- the statuses of an APDU's recipients at first, or none where the octets are read as no APDU
 abbrev pub AreStatuses : List ℕ → Option (List (Option Status)) → Type 0
-AreStatuses apdu (Some statuses) = SpellsApdu apdu × (statuses ≡ statuses_at_first apdu)
-AreStatuses apdu None = SpellsApdu apdu → ⊥
+AreStatuses apdu (Some statuses) = IsApdu apdu × (statuses ≡ statuses_at_first apdu)
+AreStatuses apdu None = IsApdu apdu → ⊥
 
 -- the step was taken up; Impossible comes only where it is not possible
 pub record HasApplied {T : Type 0} (step : Step) (old new : Current) (result : Result T NotMade) : Type 0 where

@@ -4,7 +4,7 @@ ghost use Rattle.std.specs.Prelude.{◌≡◌, ◌≢◌, ◌++◌, [], ◌∷�
 ghost use Rattle.std.specs.Option.{option_copied};
 ghost use Rattle.mta_records.specs.declared.step.Step.{Step};
 ghost use Rattle.mta_records.specs.Body.{HasFields, body_of};
-ghost use Rattle.mta_history.specs.Apdu.{SpellsApdu};
+ghost use Rattle.mta_history.specs.Apdu.{IsApdu};
 ghost use Rattle.mta_history.specs.Image.{longest_body};
 
 use crate::apdu::statuses_at_first;
@@ -182,7 +182,7 @@ impl<D: Disk + Drop, C: Clock + Drop> Spool<D, C> {
 
     /// Takes a submitted APDU as the next item, and answers its number.
     pub fn accept(&mut self, apdu: &[u8]) -> Result<u32, StepFault>
-        requires apdu { SpellsApdu apdu.now }
+        requires apdu { IsApdu apdu.now }
         requires tables { self.old.current.tables ≢ None }
         ensures appends { (told : ℕ) × C.tells self.old.clock told × Appends D.content D.faults (Step.Accept (step_moment told self.old.current.moment) apdu.now) self.old self.new result }
         ensures number { IfOk result (λ n. n ≡ length self.old.current.items + 1) }
