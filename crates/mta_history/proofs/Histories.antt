@@ -1,19 +1,21 @@
 -- One step more.
-use Rattle.std.proofs.Common.{◌≡◌, ◌≢◌, ℕ, ◌+◌, ◌-◌, ◌≤◌, ◌<◌, List, [], ◌∷◌, ◌++◌, length, take, drop, refl, sym, ap, ◌∙◌, append_assoc, arith}
-use Rattle.std.proofs.lemmas.List.{length-append, flat_map_more}
+use Rattle.std.proofs.Common.{◌≡◌, ℕ, ◌+◌, List, [], ◌∷◌, ◌++◌, length, map, refl, ap, arith}
+use Rattle.mta_journal.specs.Bodies.{front}
+use Rattle.mta_journal.proofs.Bodies.{length-front-more}
 use Rattle.mta_records.specs.declared.step.Step.{Step}
 use Rattle.mta_records.specs.declared.step.Step.TheVariants.{Tables, Accept, Deliver}
 use Rattle.mta_records.specs.Body.{string, body_of, HasFields}
 use Rattle.mta_history.specs.Machine.{IsRun, at_start}
 use Rattle.mta_history.specs.History.{State, IsPossible, after_step, after_from, ArePossible, IsHistory, empty, project}
-use Rattle.mta_history.specs.Image.{magic, longest_body, open_record, front, AreRecords}
+use Rattle.mta_history.specs.Image.{AreRecords, size_of}
 
-pub front-more : (steps : List Step) (step : Step) → front (steps ++ step ∷ []) ≡ front steps ++ open_record step
-front-more steps step = sym (flat_map_more open_record magic steps step)
+pub map-more : (steps : List Step) (step : Step) → map body_of (steps ++ step ∷ []) ≡ map body_of steps ++ body_of step ∷ []
+map-more [] step = refl
+map-more (x ∷ steps) step = ap (λ (t : List (List ℕ)). body_of x ∷ t) (map-more steps step)
 
-pub AreRecords-more : (steps : List Step) (step : Step) → AreRecords steps → HasFields step → length (body_of step) ≤ longest_body → AreRecords (steps ++ step ∷ [])
-AreRecords-more [] step each fields short = ((fields, short), tt)
-AreRecords-more (s ∷ steps) step each fields short = (each.0, AreRecords-more steps step each.1 fields short)
+pub AreRecords-more : (steps : List Step) (step : Step) → AreRecords steps → HasFields step → AreRecords (steps ++ step ∷ [])
+AreRecords-more [] step each fields = (fields, tt)
+AreRecords-more (s ∷ steps) step each fields = (each.0, AreRecords-more steps step each.1 fields)
 
 pub after_from-more : (s : State) (steps : List Step) (step : Step) → after_from s (steps ++ step ∷ []) ≡ after_step (after_from s steps) step
 after_from-more s [] step = refl
@@ -27,12 +29,8 @@ pub length-string : (octets : List ℕ) → length (string octets) ≡ length oc
 unfolding string
 length-string octets = omega arith
 
-pub length-magic : length magic ≡ 8
-unfolding magic
-length-magic = refl
-
-pub length-front-more : (steps : List Step) (step : Step) → length (front (steps ++ step ∷ [])) ≡ length (front steps) + length (body_of step) + 5
-length-front-more steps step = ap length (front-more steps step) ∙ length-append (front steps) (open_record step) ∙ (let e = length-string (body_of step) in omega (arith, e))
+pub size-more : (steps : List Step) (step : Step) → size_of (steps ++ step ∷ []) ≡ size_of steps + (length (body_of step) + 5)
+size-more steps step = omega (arith, ap (λ (bodies : List (List ℕ)). length (front bodies)) (map-more steps step), length-front-more (map body_of steps) (body_of step))
 
 -- the machine's steps in a history are a run
 pub possible_run : (s : State) (steps : List Step) → ArePossible s steps → IsRun s.machine (project steps)

@@ -3,7 +3,7 @@ use Rattle.std.proofs.Common.{◌≡◌, ℕ, List, [], ◌∷◌, drop, Option,
 use Rattle.mta_edge.specs.Outside.{Goes, written}
 use Rattle.mta_journal.specs.Bodies.{magic, HasBodies}
 use Rattle.mta_journal.specs.Opening.{Stored}
-use Rattle.mta_journal.proofs.Walked.{length-front-none}
+use Rattle.mta_journal.proofs.Walked.{length-front-none, AreShort-none}
 
 made : (f g : List ℕ) → g ≡ written 0 (77 ∷ 84 ∷ 65 ∷ 83 ∷ 80 ∷ 76 ∷ 48 ∷ 49 ∷ 0 ∷ []) f → HasBodies g []
 unfolding magic
@@ -13,4 +13,5 @@ pub stored_empty : {D : Type 0} (content : D → Option (List ℕ)) (old new : D
 stored_empty content old new bodies none goes = record {
   file = λ g told. let from = goes.back g told in subst (HasBodies g) (sym none) (made from.0 g from.2);
   size_is = let e = length-front-none bodies none in omega (arith, e);
+  each = AreShort-none bodies none;
 }

@@ -3,7 +3,7 @@ use Rattle.std.specs.Prelude.{◌≡◌, ◌⊎◌, ◌+◌, ◌≤◌, ◌<◌,
 use Rattle.mta_edge.specs.Causes.{Rose}
 use Rattle.mta_edge.specs.Outside.{Goes}
 use Rattle.mta_disk.specs.Records.{counted}
-use Rattle.mta_journal.specs.Bodies.{longest_body, front, HasBodies}
+use Rattle.mta_journal.specs.Bodies.{longest_body, front, AreShort, HasBodies}
 use Rattle.mta_journal.specs.Faults.{IsFaulty, IsNoJournalAt}
 use Rattle.mta_journal.specs.declared.why.OpenWhy.{OpenWhy}
 use Rattle.mta_journal.specs.declared.why.OpenWhy.TheVariants as Whys
@@ -41,6 +41,7 @@ pub record BrokenAt (gate : ℕ) (f : List ℕ) : Type 0 where
 pub record Stored {D : Type 0} (content : D → Option (List ℕ)) (disk : D) (size : ℕ) (bodies : List (List ℕ)) : Type 0 where
   pub file : (f : List ℕ) → content disk ≡ Some f → HasBodies f bodies
   pub size_is : size ≡ length (front bodies) + 1
+  pub each : AreShort bodies
 
 -- the disk is as it was, and no journal at this place
 abbrev pub IsRefused : ℕ → List ℕ → List ℕ → Type 0
@@ -62,3 +63,9 @@ pub record SameSince {D : Type 0} (moment : D → ℕ) (left_since : D → ℕ �
   pub from : moment old ≤ since
   pub until : since ≤ moment new
   pub same : (g : List ℕ) → left_since new since g → IsSame f g
+
+-- What a crash leaves of a disk on which a journal is opened: where the first sync failed, what one before might have left, and
+-- since that sync the same.
+pub data IsLeft {D : Type 0} (content : D → Option (List ℕ)) (may_leave : D → List ℕ → Type 0) (moment : D → ℕ) (left_since : D → ℕ → List ℕ → Type 0) (f : List ℕ) (old new : D) : Type 0 where
+  unsynced : content new ≡ content old → ((g : List ℕ) → left_since new (moment old) g → may_leave old g) → IsLeft content may_leave moment left_since f old new
+  synced : SameSince moment left_since f old new → IsLeft content may_leave moment left_since f old new

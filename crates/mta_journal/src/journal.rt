@@ -110,6 +110,13 @@ impl<D: Disk + Drop> Journal<D> {
         self.size
     }
 
+    /// Whether an append answered that the disk failed.
+    pub fn is_ended(&self) -> bool
+        ensures { result ≡ self.now.ended }
+    {
+        self.ended
+    }
+
     /// The disk.
     pub fn end(self) -> D
         ensures { result ≡ self.disk }

@@ -3,9 +3,9 @@
 ghost use Rattle.std.specs.Prelude.{◌≡◌, ◌≤◌, ◌<◌, List, ℕ, Some, length, IfOk, IfErr, OnOk, IsErrOf};
 ghost use Rattle.mta_edge.specs.Crashes.{AtAnyMoment, Crash, Settled, Stays};
 ghost use Rattle.mta_edge.specs.Outside.{Goes};
-ghost use Rattle.mta_journal.specs.Bodies.{StandsFor};
+ghost use Rattle.mta_journal.specs.Bodies.{AreShort, StandsFor};
 ghost use Rattle.mta_journal.specs.Faults.{IsNoJournalAt};
-ghost use Rattle.mta_journal.specs.Opening.{BeforeOrSame, HasOpenCause, HasRefused, IsRefused, IsSame, SameSince, Stored};
+ghost use Rattle.mta_journal.specs.Opening.{BeforeOrSame, HasOpenCause, HasRefused, IsLeft, IsRefused, IsSame, SameSince, Stored};
 
 use crate::journal::Journal;
 use crate::read::{Found, check_magic, read_bodies};
@@ -76,6 +76,7 @@ fn find<D: Disk>(alloc: Global, disk: &mut D) -> Result<Found, OpenWhy>
     ensures stored { IfOk result (λ r. Stored D.content disk.new r.size r.bodies.items) }
     ensures settled { OnOk result (Settled (D.content disk.new) (D.may_leave disk.new)) }
     ensures refused { (p : ℕ) → IsErrOf result (OpenWhy.NotSpool p) → Goes (IsRefused p) (D.content disk.old) (D.content disk.new) }
+    ensures kept { (f : List ℕ) → D.content disk.old ≡ Some f → 9 < length f → D.content disk.new ≡ Some f }
     ensures cause { HasOpenCause (D.faults disk.old) (D.faults disk.new) result }
     ensures images { (f : List ℕ) → D.content disk.old ≡ Some f → AtAnyMoment D.moment D.left_since (IsSame f) disk.old disk.new }
 {
@@ -94,9 +95,11 @@ fn recover<D: Disk>(alloc: Global, disk: &mut D) -> Result<Found, OpenWhy>
     ensures stored { IfOk result (λ r. Stored D.content disk.new r.size r.bodies.items) }
     ensures settled { OnOk result (Settled (D.content disk.new) (D.may_leave disk.new)) }
     ensures refused { (p : ℕ) → IsErrOf result (OpenWhy.NotSpool p) → Goes (IsRefused p) (D.content disk.old) (D.content disk.new) }
+    ensures kept { (f : List ℕ) → D.content disk.old ≡ Some f → 9 < length f → D.content disk.new ≡ Some f }
     ensures cause { HasOpenCause (D.faults disk.old) (D.faults disk.new) result }
     ensures images { (f : List ℕ) → D.content disk.old ≡ Some f → AtAnyMoment D.moment D.left_since (BeforeOrSame (D.may_leave disk.old) f) disk.old disk.new }
     ensures since { OnOk result ((f : List ℕ) → D.content disk.old ≡ Some f → SameSince D.moment D.left_since f disk.old disk.new) }
+    ensures left { (f : List ℕ) → D.content disk.old ≡ Some f → IsLeft D.content D.may_leave D.moment D.left_since f disk.old disk.new }
 {
     disk.sync()?;
     let found = find(alloc, disk)?;
@@ -115,11 +118,15 @@ impl<D: Disk + Drop> Journal<D> {
     pub fn open(alloc: Global, mut disk: D) -> Result<Opened<D>, OpenFault<D>>
         ensures stands { IfOk result (λ o. (f : List ℕ) → D.content disk ≡ Some f → StandsFor f o.bodies.items) }
         ensures holds { IfOk result (λ o. Holds D.content D.may_leave o.journal o.bodies.items) }
+        ensures short { IfOk result (λ o. AreShort o.bodies.items) }
         ensures first { IfOk result (λ o. o.first ≡ 8) }
         ensures later { IfOk result (λ o. D.faults disk ≤ D.faults o.journal.disk) }
+        ensures kept { IfOk result (λ o. (f : List ℕ) → D.content disk ≡ Some f → 9 < length f → D.content o.journal.disk ≡ Some f) }
         ensures images { IfOk result (λ o. (f : List ℕ) → D.content disk ≡ Some f → AtAnyMoment D.moment D.left_since (BeforeOrSame (D.may_leave disk) f) disk o.journal.disk) }
         ensures since { IfOk result (λ o. (f : List ℕ) → D.content disk ≡ Some f → SameSince D.moment D.left_since f disk o.journal.disk) }
         ensures refused { IfErr result (λ e. HasRefused D.content D.faults disk e.disk e.why) }
+        ensures refused_kept { IfErr result (λ e. (f : List ℕ) → D.content disk ≡ Some f → 9 < length f → D.content e.disk ≡ Some f) }
+        ensures refused_left { IfErr result (λ e. (f : List ℕ) → D.content disk ≡ Some f → IsLeft D.content D.may_leave D.moment D.left_since f disk e.disk) }
         ensures refused_images { IfErr result (λ e. (f : List ℕ) → D.content disk ≡ Some f → AtAnyMoment D.moment D.left_since (BeforeOrSame (D.may_leave disk) f) disk e.disk) }
     {
         match recover(alloc, &mut disk) {

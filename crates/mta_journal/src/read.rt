@@ -2,7 +2,7 @@
 
 ghost use Rattle.std.specs.Prelude.{◌≡◌, ◌++◌, [], ◌∷◌, ◌+◌, ◌≤◌, ◌<◌, List, ℕ, Some, length, take, drop, min, IfOk, OnOk, IfSome, IfNone, IsErrOf};
 ghost use Rattle.mta_edge.specs.Crashes.{Crash, Stays};
-ghost use Rattle.mta_journal.specs.Bodies.{magic, front, longest_body, HasBodies};
+ghost use Rattle.mta_journal.specs.Bodies.{magic, front, longest_body, AreShort, HasBodies};
 ghost use Rattle.mta_journal.specs.Faults.{DiffersAt, FaultyAt};
 ghost use Rattle.mta_journal.specs.Heads.{SaysHead};
 ghost use Rattle.mta_journal.specs.Opening.{HasOpenCause, StandsAt, ClosedAt, BrokenAt};
@@ -142,6 +142,7 @@ pub fn read_bodies<D: Disk>(alloc: Global, disk: &mut D, size: u64) -> Result<Fo
     requires magic { (f : List ℕ) → D.content disk.old ≡ Some f → take 8 f ≡ magic }
     ensures found { IfOk result (λ r. (f : List ℕ) → D.content disk.old ≡ Some f → HasBodies f r.bodies.items) }
     ensures size { IfOk result (λ r. r.size ≡ length (front r.bodies.items) + 1) }
+    ensures short { IfOk result (λ r. AreShort r.bodies.items) }
     ensures broken { (p : ℕ) → IsErrOf result (OpenWhy.NotSpool p) → (f : List ℕ) → D.content disk.old ≡ Some f → FaultyAt f p }
     ensures content { D.content disk.new ≡ D.content disk.old }
     ensures cause { HasOpenCause (D.faults disk.old) (D.faults disk.new) result }
