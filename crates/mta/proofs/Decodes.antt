@@ -16,7 +16,8 @@ use Rattle.mta.specs.Ending.{IsDecodeText, IsText, IsCause}
 use Rattle.mta.specs.Headline.{HasPrinted, HasDone}
 use Rattle.mta.specs.Showing.{HasShown}
 use Rattle.mta.specs.Decoding.{IsTextStop, IsDecodedAs, IsDecodeStop, HasDecoded}
-use Rattle.mta.proofs.Dones.{printed_nothing, err_is, stands_history, left_alone}
+use Rattle.mta.proofs.Dones.{printed_nothing, err_is, stands_history}
+use Rattle.mta.proofs.Openings.{DiskLaws, left_alone}
 use Rattle.mta.proofs.Submits.{none_accepted}
 
 -- ---- from the octets to the input
@@ -102,11 +103,12 @@ submit_apart e = cc
 mailbox_apart : (name : List ℕ) → Some Say.Decode ≡ Some (Say.Mailbox name) → ⊥
 mailbox_apart name e = cc
 
-pub decode_done : {D : Type 0} (content : D → Option (List ℕ)) (faults : D → ℕ) (tells : ℕ → Type 0) (conf input before now : Option (List ℕ)) (input_rose source_rose out_rose : Type 0) (disk : D) (result : Result (Unit {0}) Stop) → (input_rose → source_rose)
-    → HasDecoded input before now input_rose out_rose result → HasDone content faults tells (Some Say.Decode) conf input before now source_rose out_rose disk disk result
-decode_done content faults tells conf input before now input_rose source_rose out_rose disk result rose has = record {
+pub decode_done : {D : Type 0} (content : D → Option (List ℕ)) (faults : D → ℕ) (may_leave : D → List ℕ → Type 0) (moment : D → ℕ) (left_since : D → ℕ → List ℕ → Type 0) (laws : DiskLaws content may_leave moment left_since) (tells : ℕ → Type 0) (conf input before now : Option (List ℕ)) (input_rose source_rose out_rose : Type 0) (disk : D) (result : Result (Unit {0}) Stop) → (input_rose → source_rose)
+    → HasDecoded input before now input_rose out_rose result → HasDone content faults may_leave moment left_since tells (Some Say.Decode) conf input before now source_rose out_rose disk disk result
+decode_done content faults may_leave moment left_since laws tells conf input before now input_rose source_rose out_rose disk result rose has = record {
   added = [];
-  disk = left_alone content faults disk;
+  more = [];
+  disk = left_alone content faults may_leave moment left_since laws disk;
   history = λ f steps was st. stands_history f steps st;
   own = λ c i e w f steps was st. tt;
   few = none_accepted;

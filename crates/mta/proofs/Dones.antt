@@ -8,58 +8,28 @@ use Rattle.mta_edge.specs.Outside.{Goes}
 use Rattle.mta_records.specs.declared.step.Step.{Step}
 use Rattle.mta_history.specs.History.{after, IsHistory}
 use Rattle.mta_history.specs.Image.{StandsFor}
-use Rattle.mta_history.proofs.Unique.{one_history}
 use Rattle.mta_spool.specs.declared.current.Current.{Current}
-use Rattle.mta_spool.specs.declared.open.OpenWhy.{OpenWhy}
-use Rattle.mta_spool.specs.declared.open.OpenWhy.TheVariants as Whys
+use Rattle.mta_journal.specs.declared.why.OpenWhy.{OpenWhy}
+use Rattle.mta_journal.specs.declared.why.OpenWhy.TheVariants as Whys
 use Rattle.mta_spool.specs.Opening.{HasRefused}
 use Rattle.mta_spool.specs.Shown.{Shown}
 use Rattle.mta_spool.specs.Stands.{Stands}
-use Rattle.mta_spool.proofs.Openings.{stands_for}
 use Rattle.mta.specs.declared.stop.Stop.{Stop}
 use Rattle.mta.specs.declared.stop.Stop.TheVariants as Stops
 use Rattle.mta.specs.declared.words.Words.{Words}
 use Rattle.mta.specs.declared.words.Words.TheVariants as Say
 use Rattle.mta.specs.Ending.{ForHistory, mailbox_named, IsText, IsFront, IsCause}
-use Rattle.mta.specs.Headline.{DiskLeft, HasPrinted, HasDone}
+use Rattle.mta.specs.Headline.{HasPrinted, HasDone}
 use Rattle.mta_show.specs.Queue.{queue_text}
 use Rattle.mta_show.specs.Mailbox.{mailbox_text}
 use Rattle.mta.specs.Showing.{stop_of_open, IsShown, IsMailboxShown, Names, HasShown, IsReadCause, HasRead}
 use Rattle.mta.specs.Working.{accepts}
+use Rattle.mta.proofs.Openings.{DiskLaws, NotOpened, IsOpened, same_steps, disk_refused, disk_read}
 
 -- ---- the outside is as it was
 
 pub Goes-nothing : (told : Option (List ℕ)) → Goes (λ a b. b ≡ a ++ []) told told
 Goes-nothing told = record { each = λ f was. (f, was, sym (append-nil f)); back = λ g now. (g, now, sym (append-nil g)) }
-
-some_text : (a b : List ℕ) → Some a ≡ Some b → a ≡ b
-some_text a b e = cc
-
-short_stands : (f : List ℕ) → length f ≤ 9 → StandsFor f []
-short_stands f short = inl (short, refl)
-
--- a disk that stands for nothing has more than nine octets
-no_history_long : (f : List ℕ) → ((steps : List Step) → StandsFor f steps → ⊥) → 9 < length f
-no_history_long f none = elim (cases_lt 9 (length f)) [ inl long ↦ long | inr short ↦ absurd (none [] (short_stands f short)) ]
-
-pub left_alone : {D : Type 0} (content : D → Option (List ℕ)) (faults : D → ℕ) (disk : D) → DiskLeft content faults disk disk []
-left_alone content faults disk = record {
-  later = omega arith;
-  stands = λ calm f g steps was now stands. subst (λ (x : List Step). StandsFor g x) (sym (append-nil steps)) (subst (λ (x : List ℕ). StandsFor x steps) (some_text f g (sym was ∙ now)) stands);
-  left = λ calm f was none. was;
-}
-
--- ---- a disk that was not opened
-
-not_disk : (why : OpenWhy) (rose : Type 0) → (why ≡ Whys.Disk → rose) → (rose → ⊥) → why ≡ Whys.Disk → ⊥
-not_disk why rose from calm e = calm (from e)
-
-pub disk_refused : {D : Type 0} (content : D → Option (List ℕ)) (faults : D → ℕ) (old new : D) (why : OpenWhy) → HasRefused content faults old new why → DiskLeft content faults old new []
-disk_refused content faults old new why refused = record {
-  later = refused.later;
-  stands = λ calm f g steps was now stands. subst (λ (x : List Step). StandsFor g x) (sym (append-nil steps)) (refused.left (λ e. calm (refused.disk e)) f steps was stands g now);
-  left = λ calm f was none. refused.same (λ e. calm (refused.disk e)) f was (no_history_long f none);
-}
 
 pub open_no_sink : (why : OpenWhy) → stop_of_open why ≡ Stops.Sink → ⊥
 open_no_sink (Whys.NotSpool at) e = absurd cc
@@ -77,58 +47,44 @@ read_cause_open content faults old new words out_rose (Whys.NotSpool at) refused
 read_cause_open content faults old new words out_rose Whys.Disk refused = refused.disk refl
 read_cause_open content faults old new words out_rose Whys.Memory refused = tt
 
-pub read_not_opened : {D : Type 0} (content : D → Option (List ℕ)) (faults : D → ℕ) (words : Words) (told : Option (List ℕ)) (out_rose : Type 0) (old new : D) (why : OpenWhy) → HasRefused content faults old new why
-    → HasRead content faults words told told out_rose old new (Err (stop_of_open why))
-read_not_opened content faults words told out_rose old new why refused = record {
-  disk = disk_refused content faults old new why refused;
+pub read_not_opened : {D : Type 0} (content : D → Option (List ℕ)) (faults : D → ℕ) (may_leave : D → List ℕ → Type 0) (moment : D → ℕ) (left_since : D → ℕ → List ℕ → Type 0) (laws : DiskLaws content may_leave moment left_since) (words : Words) (told : Option (List ℕ)) (out_rose : Type 0) (old new : D) (why : OpenWhy) → NotOpened content faults may_leave moment left_since old new why
+    → HasRead content faults may_leave moment left_since words told told out_rose old new (Err (stop_of_open why))
+read_not_opened content faults may_leave moment left_since laws words told out_rose old new why refusal = record {
+  disk = disk_refused content faults may_leave moment left_since laws old new why refusal;
   printed = printed_nothing (IsText (Some words) None None (content old) []) told (stop_of_open why) (open_no_sink why);
-  cause = λ stop e. subst (IsReadCause words (content old) (Rose (faults old) (faults new)) out_rose) (err_is (stop_of_open why) stop e) (read_cause_open content faults old new words out_rose why refused);
+  cause = λ stop e. subst (IsReadCause words (content old) (Rose (faults old) (faults new)) out_rose) (err_is (stop_of_open why) stop e) (read_cause_open content faults old new words out_rose why refusal.refused);
   stood = λ e. absurd cc;
   named = λ name e w. absurd cc;
 }
 
 -- ---- a disk that was opened
 
--- the steps for which the disk stood are those of the spool
-pub same_steps : {D : Type 0} (content : D → Option (List ℕ)) (old : D) (base : List Step) → ((f : List ℕ) → content old ≡ Some f → StandsFor f base) → (f : List ℕ) (steps : List Step) → content old ≡ Some f → StandsFor f steps → base ≡ steps
-same_steps content old base opened f steps was stands = one_history f base steps (opened f was) stands
-
-pub disk_opened : {D C : Type 0} (content : D → Option (List ℕ)) (faults : D → ℕ) (old : D) (spool : Shown D C) (base added : List Step) → ((f : List ℕ) → content old ≡ Some f → StandsFor f base) → faults old ≤ faults spool.disk
-    → ((Rose (faults old) (faults spool.disk) → ⊥) → Stands content spool (base ++ added)) → DiskLeft content faults old spool.disk added
-disk_opened content faults old spool base added opened later stands = record {
-  later = later;
-  stands = λ calm f g steps was now st.
-      let s = stands calm in
-      subst (λ (x : List Step). StandsFor g (x ++ added)) (same_steps content old base opened f steps was st) (stands_for g (base ++ added) (s.stored.file g now) s.history);
-  left = λ calm f was none. absurd (none base (opened f was));
-}
-
-pub read_opened : {D C : Type 0} (content : D → Option (List ℕ)) (faults : D → ℕ) (words : Words) (before now : Option (List ℕ)) (out_rose : Type 0) (old : D) (spool : Shown D C) (base : List Step) (text : Result (List ℕ) Stop) (result : Result (Unit {0}) Stop)
-    → Stands content spool base → ((f : List ℕ) → content old ≡ Some f → StandsFor f base) → faults old ≤ faults spool.disk
+pub read_opened : {D C : Type 0} (content : D → Option (List ℕ)) (faults : D → ℕ) (may_leave : D → List ℕ → Type 0) (moment : D → ℕ) (left_since : D → ℕ → List ℕ → Type 0) (laws : DiskLaws content may_leave moment left_since) (words : Words) (before now : Option (List ℕ)) (out_rose : Type 0) (old : D) (spool : Shown D C) (base : List Step) (text : Result (List ℕ) Stop) (result : Result (Unit {0}) Stop)
+    → IsOpened content faults may_leave moment left_since old spool base
     → ((t : List ℕ) → text ≡ Ok t → IsText (Some words) None None (content old) [] t)
-    → ((stop : Stop) → text ≡ Err stop → (stop ≢ Stops.Sink) × IsReadCause words (content old) (Rose (faults old) (faults spool.disk)) out_rose stop)
+    → ((stop : Stop) → text ≡ Err stop → (stop ≢ Stops.Sink) × IsReadCause words (content old) (Rose (faults old) (faults spool.journal.disk)) out_rose stop)
     → ((name t : List ℕ) → words ≡ Say.Mailbox name → text ≡ Ok t → ForHistory (content old) (λ steps. mailbox_named (after steps) name ≢ None))
-    → HasShown text before now out_rose result → HasRead content faults words before now out_rose old spool.disk result
-read_opened content faults words before now out_rose old spool base (Ok text) (Ok done) stands opened later is cause named shown = record {
-  disk = disk_opened content faults old spool base [] opened later (λ calm. subst (Stands content spool) (sym (append-nil base)) stands);
+    → HasShown text before now out_rose result → HasRead content faults may_leave moment left_since words before now out_rose old spool.journal.disk result
+read_opened content faults may_leave moment left_since laws words before now out_rose old spool base (Ok text) (Ok done) o is cause named shown = record {
+  disk = disk_read content faults may_leave moment left_since laws old spool base o;
   printed = (text, is text refl, shown);
   cause = λ stop e. absurd cc;
-  stood = λ e f was. (base, opened f was);
+  stood = λ e f was. (base, o.stood f was);
   named = λ name e w. named name text e refl;
 }
-read_opened content faults words before now out_rose old spool base (Ok text) (Err stop) stands opened later is cause named shown = record {
-  disk = disk_opened content faults old spool base [] opened later (λ calm. subst (Stands content spool) (sym (append-nil base)) stands);
+read_opened content faults may_leave moment left_since laws words before now out_rose old spool base (Ok text) (Err stop) o is cause named shown = record {
+  disk = disk_read content faults may_leave moment left_since laws old spool base o;
   printed = inr (shown.0, text, is text refl, shown.2);
-  cause = λ other e. subst (IsReadCause words (content old) (Rose (faults old) (faults spool.disk)) out_rose) (sym shown.0 ∙ err_is stop other e) shown.1;
+  cause = λ other e. subst (IsReadCause words (content old) (Rose (faults old) (faults spool.journal.disk)) out_rose) (sym shown.0 ∙ err_is stop other e) shown.1;
   stood = λ e. absurd cc;
   named = λ name e w. absurd cc;
 }
-read_opened content faults words before now out_rose old spool base (Err why) (Ok done) stands opened later is cause named shown = absurd shown
-read_opened content faults words before now out_rose old spool base (Err why) (Err stop) stands opened later is cause named shown = record {
-  disk = disk_opened content faults old spool base [] opened later (λ calm. subst (Stands content spool) (sym (append-nil base)) stands);
+read_opened content faults may_leave moment left_since laws words before now out_rose old spool base (Err why) (Ok done) o is cause named shown = absurd shown
+read_opened content faults may_leave moment left_since laws words before now out_rose old spool base (Err why) (Err stop) o is cause named shown = record {
+  disk = disk_read content faults may_leave moment left_since laws old spool base o;
   printed = subst (λ (t : Option (List ℕ)). HasPrinted (IsText (Some words) None None (content old) []) before t (Err stop)) (sym shown.1)
       (printed_nothing (IsText (Some words) None None (content old) []) before stop (λ e. (cause why refl).0 (sym shown.0 ∙ e)));
-  cause = λ other e. subst (IsReadCause words (content old) (Rose (faults old) (faults spool.disk)) out_rose) (sym shown.0 ∙ err_is stop other e) (cause why refl).1;
+  cause = λ other e. subst (IsReadCause words (content old) (Rose (faults old) (faults spool.journal.disk)) out_rose) (sym shown.0 ∙ err_is stop other e) (cause why refl).1;
   stood = λ e. absurd cc;
   named = λ name e w. absurd cc;
 }
@@ -152,13 +108,13 @@ memory_is_no_sink stop e w = absurd (other (sym e ∙ w)) where
   other : Stops.Memory ≡ Stops.Sink → ⊥
   other x = cc
 
-pub queue_read : {D C : Type 0} (content : D → Option (List ℕ)) (faults : D → ℕ) (before now : Option (List ℕ)) (out_rose : Type 0) (old : D) (spool : Shown D C) (base : List Step) (text : Result (List ℕ) Stop) (result : Result (Unit {0}) Stop)
-    → Stands content spool base → ((f : List ℕ) → content old ≡ Some f → StandsFor f base) → faults old ≤ faults spool.disk → IsShown (queue_text spool.current.items) text → HasShown text before now out_rose result
-    → HasRead content faults Say.Queue before now out_rose old spool.disk result
-queue_read content faults before now out_rose old spool base text result stands opened later is shown =
-    read_opened content faults Say.Queue before now out_rose old spool base text result stands opened later
-    (λ t e f steps was st. shown_queue (queue_text spool.current.items) text t is e ∙ ap (λ (c : Current). queue_text c.items) stands.current ∙ ap (λ (x : List Step). queue_text (after x).machine.items) (same_steps content old base opened f steps was st))
-    (λ stop e. let m = stopped_queue (queue_text spool.current.items) text stop is e in (memory_is_no_sink stop m, subst (IsReadCause Say.Queue (content old) (Rose (faults old) (faults spool.disk)) out_rose) (sym m) tt))
+pub queue_read : {D C : Type 0} (content : D → Option (List ℕ)) (faults : D → ℕ) (may_leave : D → List ℕ → Type 0) (moment : D → ℕ) (left_since : D → ℕ → List ℕ → Type 0) (laws : DiskLaws content may_leave moment left_since) (before now : Option (List ℕ)) (out_rose : Type 0) (old : D) (spool : Shown D C) (base : List Step) (text : Result (List ℕ) Stop) (result : Result (Unit {0}) Stop)
+    → IsOpened content faults may_leave moment left_since old spool base → IsShown (queue_text spool.current.items) text → HasShown text before now out_rose result
+    → HasRead content faults may_leave moment left_since Say.Queue before now out_rose old spool.journal.disk result
+queue_read content faults may_leave moment left_since laws before now out_rose old spool base text result o is shown =
+    read_opened content faults may_leave moment left_since laws Say.Queue before now out_rose old spool base text result o
+    (λ t e f steps was st. shown_queue (queue_text spool.current.items) text t is e ∙ ap (λ (c : Current). queue_text c.items) o.stands.current ∙ ap (λ (x : List Step). queue_text (after x).machine.items) (same_steps content old base o.stood f steps was st))
+    (λ stop e. let m = stopped_queue (queue_text spool.current.items) text stop is e in (memory_is_no_sink stop m, subst (IsReadCause Say.Queue (content old) (Rose (faults old) (faults spool.journal.disk)) out_rose) (sym m) tt))
     (λ name t w e. absurd cc) shown
 
 shown_mailbox : (current : Current) (name : List ℕ) (result : Result (List ℕ) Stop) (t : List ℕ) → IsMailboxShown current name result → result ≡ Ok t → (t ≡ mailbox_text name current.items current.mailboxes) × (Names current name ≢ None)
@@ -179,24 +135,24 @@ name_same a b e = cc
 mailbox_is_no_sink : (name : List ℕ) → Stops.NoMailbox name ≡ Stops.Sink → ⊥
 mailbox_is_no_sink name e = cc
 
-mailbox_stop : {D C : Type 0} (content : D → Option (List ℕ)) (disk_rose out_rose : Type 0) (old : D) (spool : Shown D C) (base : List Step) (name : List ℕ) (stop : Stop) → Stands content spool base → ((f : List ℕ) → content old ≡ Some f → StandsFor f base)
+mailbox_stop : {D C : Type 0} (content : D → Option (List ℕ)) (may_leave : D → List ℕ → Type 0) (disk_rose out_rose : Type 0) (old : D) (spool : Shown D C) (base : List Step) (name : List ℕ) (stop : Stop) → Stands content may_leave spool base → ((f : List ℕ) → content old ≡ Some f → StandsFor f base)
     → (stop ≡ Stops.Memory) ⊎ ((stop ≡ Stops.NoMailbox name) × (Names spool.current name ≡ None)) → (stop ≢ Stops.Sink) × IsReadCause (Say.Mailbox name) (content old) disk_rose out_rose stop
-mailbox_stop content disk_rose out_rose old spool base name stop stands opened (inl memory) = (memory_is_no_sink stop memory, subst (IsReadCause (Say.Mailbox name) (content old) disk_rose out_rose) (sym memory) tt)
-mailbox_stop content disk_rose out_rose old spool base name stop stands opened (inr none) = (
+mailbox_stop content may_leave disk_rose out_rose old spool base name stop stands opened (inl memory) = (memory_is_no_sink stop memory, subst (IsReadCause (Say.Mailbox name) (content old) disk_rose out_rose) (sym memory) tt)
+mailbox_stop content may_leave disk_rose out_rose old spool base name stop stands opened (inr none) = (
   λ e. mailbox_is_no_sink name (sym none.0 ∙ e),
   subst (IsReadCause (Say.Mailbox name) (content old) disk_rose out_rose) (sym none.0)
       (refl, λ f steps was st. ap (λ (x : List Step). mailbox_named (after x) name) (sym (same_steps content old base opened f steps was st)) ∙ ap (λ (c : Current). Names c name) (sym stands.current) ∙ none.1),
 )
 
-pub mailbox_read : {D C : Type 0} (content : D → Option (List ℕ)) (faults : D → ℕ) (before now : Option (List ℕ)) (out_rose : Type 0) (old : D) (spool : Shown D C) (base : List Step) (name : List ℕ) (text : Result (List ℕ) Stop) (result : Result (Unit {0}) Stop)
-    → Stands content spool base → ((f : List ℕ) → content old ≡ Some f → StandsFor f base) → faults old ≤ faults spool.disk → IsMailboxShown spool.current name text → HasShown text before now out_rose result
-    → HasRead content faults (Say.Mailbox name) before now out_rose old spool.disk result
-mailbox_read content faults before now out_rose old spool base name text result stands opened later is shown =
-    read_opened content faults (Say.Mailbox name) before now out_rose old spool base text result stands opened later
-    (λ t e f steps was st. (shown_mailbox spool.current name text t is e).0 ∙ ap (λ (c : Current). mailbox_text name c.items c.mailboxes) stands.current ∙ ap (λ (x : List Step). mailbox_text name (after x).machine.items (after x).machine.mailboxes) (same_steps content old base opened f steps was st))
-    (λ stop e. mailbox_stop content (Rose (faults old) (faults spool.disk)) out_rose old spool base name stop stands opened (stopped_mailbox spool.current name text stop is e))
+pub mailbox_read : {D C : Type 0} (content : D → Option (List ℕ)) (faults : D → ℕ) (may_leave : D → List ℕ → Type 0) (moment : D → ℕ) (left_since : D → ℕ → List ℕ → Type 0) (laws : DiskLaws content may_leave moment left_since) (before now : Option (List ℕ)) (out_rose : Type 0) (old : D) (spool : Shown D C) (base : List Step) (name : List ℕ) (text : Result (List ℕ) Stop) (result : Result (Unit {0}) Stop)
+    → IsOpened content faults may_leave moment left_since old spool base → IsMailboxShown spool.current name text → HasShown text before now out_rose result
+    → HasRead content faults may_leave moment left_since (Say.Mailbox name) before now out_rose old spool.journal.disk result
+mailbox_read content faults may_leave moment left_since laws before now out_rose old spool base name text result o is shown =
+    read_opened content faults may_leave moment left_since laws (Say.Mailbox name) before now out_rose old spool base text result o
+    (λ t e f steps was st. (shown_mailbox spool.current name text t is e).0 ∙ ap (λ (c : Current). mailbox_text name c.items c.mailboxes) o.stands.current ∙ ap (λ (x : List Step). mailbox_text name (after x).machine.items (after x).machine.mailboxes) (same_steps content old base o.stood f steps was st))
+    (λ stop e. mailbox_stop content may_leave (Rose (faults old) (faults spool.journal.disk)) out_rose old spool base name stop o.stands o.stood (stopped_mailbox spool.current name text stop is e))
     (λ other t w e f steps was st none. (shown_mailbox spool.current name text t is e).1
-    (ap (λ (c : Current). Names c name) stands.current ∙ ap (λ (x : List Step). mailbox_named (after x) name) (same_steps content old base opened f steps was st) ∙ ap (λ (x : List ℕ). mailbox_named (after steps) x) (name_same name other w) ∙ none)) shown
+    (ap (λ (c : Current). Names c name) o.stands.current ∙ ap (λ (x : List Step). mailbox_named (after x) name) (same_steps content old base o.stood f steps was st) ∙ ap (λ (x : List ℕ). mailbox_named (after steps) x) (name_same name other w) ∙ none)) shown
 
 -- ---- as what a command leaves
 
@@ -217,17 +173,17 @@ read_to_cause words other conf input disk source_rose disk_rose out_rose Stops.S
 read_to_cause words other conf input disk source_rose disk_rose out_rose (Stops.BadApdu at kind) c = absurd c
 
 pub stands_history : (f : List ℕ) (steps : List Step) → StandsFor f steps → IsHistory (steps ++ [])
-stands_history f steps (inl s) = subst IsHistory (sym (append-nil steps)) (subst IsHistory (sym s.1) tt)
-stands_history f steps (inr s) = subst IsHistory (sym (append-nil steps)) s.2
+stands_history f steps s = subst IsHistory (sym (append-nil steps)) s.history
 
 words_some : (a b : Words) → Some a ≡ Some b → a ≡ b
 words_some a b e = cc
 
-pub read_done : {D : Type 0} (content : D → Option (List ℕ)) (faults : D → ℕ) (tells : ℕ → Type 0) (words : Words) (conf input before now : Option (List ℕ)) (source_rose out_rose : Type 0) (old new : D) (result : Result (Unit {0}) Stop)
+pub read_done : {D : Type 0} (content : D → Option (List ℕ)) (faults : D → ℕ) (may_leave : D → List ℕ → Type 0) (moment : D → ℕ) (left_since : D → ℕ → List ℕ → Type 0) (tells : ℕ → Type 0) (words : Words) (conf input before now : Option (List ℕ)) (source_rose out_rose : Type 0) (old new : D) (result : Result (Unit {0}) Stop)
     → (words ≡ Say.Submit → ⊥) → (words ≡ Say.Decode → ⊥) → ((t : List ℕ) → IsText (Some words) None None (content old) [] t → IsText (Some words) conf input (content old) [] t)
-    → HasRead content faults words before now out_rose old new result → HasDone content faults tells (Some words) conf input before now source_rose out_rose old new result
-read_done content faults tells words conf input before now source_rose out_rose old new result other undecoded texts has = record {
+    → HasRead content faults may_leave moment left_since words before now out_rose old new result → HasDone content faults may_leave moment left_since tells (Some words) conf input before now source_rose out_rose old new result
+read_done content faults may_leave moment left_since tells words conf input before now source_rose out_rose old new result other undecoded texts has = record {
   added = [];
+  more = [];
   disk = has.disk;
   history = λ f steps was st. stands_history f steps st;
   own = λ c i e w f steps was st. tt;

@@ -1,11 +1,15 @@
 -- An item whose number was printed is kept, and what a run leaves.
-use Rattle.std.proofs.Common.{◌≡◌, ℕ, ◌+◌, ◌%◌, ◌≤◌, ◌<◌, ◌^◌, List, [], ◌∷◌, ◌++◌, length, Option, Some, None, Result, Ok, Err, refl, sym, ap, subst, ◌∙◌, arith, append_assoc, inl, inr, get_or}
+use Rattle.std.proofs.Common.{◌≡◌, ℕ, ◌+◌, ◌%◌, ◌≤◌, ◌<◌, ◌^◌, List, [], ◌∷◌, ◌++◌, length, take, drop, Option, Some, None, Result, Ok, Err, refl, sym, ap, subst, ◌∙◌, arith, append_assoc, inl, inr, get_or}
 use Rattle.std.specs.Fmt.{decimal}
 use Rattle.std.proofs.lemmas.Fmt.{decimal_injective, decimal_by_steps}
-use Rattle.std.proofs.lemmas.List.{append_cancel_left, append-nil, length-append}
+use Rattle.std.proofs.lemmas.List.{append_cancel_left, append-nil, length-append, take-append-drop}
 use Rattle.mta_edge.specs.Causes.{Rose}
 use Rattle.mta_edge.specs.Outside.{Goes}
 use Rattle.mta_records.specs.declared.step.Step.{Step}
+use Rattle.mta_records.specs.declared.step.Step.TheVariants.{Tables, Accept, Deliver}
+use Rattle.mta_history.specs.declared.item.Item.{Item}
+use Rattle.mta_history.specs.Due.{numbered}
+use Rattle.mta_history.specs.History.{State, IsHistory, IsPossible, ArePossible, after, after_step, empty}
 use Rattle.mta_history.proofs.Once.{each_recipient_once}
 use Rattle.mta.specs.declared.stop.Stop.{Stop}
 use Rattle.mta.specs.declared.stop.Stop.TheVariants as Stops
@@ -17,6 +21,8 @@ use Rattle.mta.specs.Working.{IsAccepted}
 use Rattle.mta.specs.Ending.{ForHistory, IsCause, IsText, IsFront, IsEnded, done, stopped, cut_text, cut_line, HasClosed}
 use Rattle.mta.specs.Headline.{HasPrinted, HasDone, IsKept, Ran}
 use Rattle.mta.proofs.Endings.{ended, cause_later, closed_well}
+use Rattle.mta.proofs.Settles.{last_possible}
+use Rattle.mta.proofs.Steps.{after_append, numbered_front, status_keeps}
 
 -- ---- the lines that are printed are told from one another
 
@@ -110,6 +116,37 @@ ended_kept cause conf input disk added rose before now status c i a b rest n (cu
     let front = at_told a b goes was is in
     line_kept conf input disk added t c i (rest ++ front.0) n stop text e w small (begins (t ++ line_of stop) a b rest n front begun)
 
+-- ---- the same after the step in which the disk failed
+
+-- what a step leaves of the items: each keeps its number and its octets
+items_kept : (s : State) (step : Step) (n : ℕ) (item : Item) → IsPossible s step → numbered s.machine.items n ≡ Some item → (now : Item) × (numbered (after_step s step).machine.items n ≡ Some now) × (now.octets ≡ item.octets)
+items_kept s (Tables text) n item possible is = (item, is, refl)
+items_kept s (Accept moment apdu) n item possible is = (item, numbered_front s.machine.items _ n item is, refl)
+items_kept s (Deliver i r moment) n item possible is =
+    let d = possible.1 in
+    let kept = status_keeps s.machine.items d.item i r moment d.item_is n item is in
+    (kept.0, rw d.item_is kept.1, kept.2)
+
+kept_step : (steps added : List Step) (step : Step) (n : ℕ) (input : List ℕ) → IsPossible (after (steps ++ added)) step → IsKept steps added n input → IsKept steps (added ++ step ∷ []) n input
+kept_step steps added step n input possible k =
+    let x = items_kept (after (steps ++ added)) step n k.item possible k.item_is in
+    let there : after (steps ++ (added ++ step ∷ [])) ≡ after_step (after (steps ++ added)) step = ap after (sym (append_assoc steps added (step ∷ []))) ∙ after_append empty (steps ++ added) (step ∷ []) in
+    record { number = k.number; item = x.0; item_is = subst (λ (s : State). numbered s.machine.items n ≡ Some x.0) (sym there) x.1; octets = x.2 ∙ k.octets }
+
+kept_more : (steps added more : List Step) (n : ℕ) (input : List ℕ) → length more ≤ 1 → IsHistory (steps ++ (added ++ more)) → IsKept steps added n input → IsKept steps (added ++ more) n input
+kept_more steps added [] n input one history k = subst (λ (x : List Step). IsKept steps x n input) (sym (append-nil added)) k
+kept_more steps added (step ∷ []) n input one history k = kept_step steps added step n input (last_possible empty (steps ++ added) step (subst IsHistory (sym (append_assoc steps added (step ∷ []))) history)) k
+kept_more steps added (step ∷ other ∷ more) n input one history k = absurd (omega (arith, one))
+
+possible_front : (s : State) (a b : List Step) → ArePossible s (a ++ b) → ArePossible s a
+possible_front s [] b p = tt
+possible_front s (step ∷ a) b p = (p.0, possible_front (after_step s step) a b p.1)
+
+-- a beginning of a history is one
+history_front : (steps tried : List Step) (n : ℕ) → IsHistory (steps ++ tried) → IsHistory (steps ++ take n tried)
+history_front steps tried n history =
+    possible_front empty (steps ++ take n tried) (drop n tried) (subst IsHistory (ap (λ (x : List Step). steps ++ x) (sym (take-append-drop n tried)) ∙ sym (append_assoc steps (take n tried) (drop n tried))) history)
+
 -- ---- a run
 
 -- words outside the grammar print no text
@@ -117,15 +154,17 @@ no_words : (words : Option Words) (conf input disk : Option (List ℕ)) (added :
 no_words words conf input disk added before now (Ok d) p e none = absurd (subst (λ (w : Option Words). IsText w conf input disk added p.0) none p.1)
 no_words words conf input disk added before now (Err stop) p e none = absurd cc
 
-ran_ended : {D : Type 0} (content : D → Option (List ℕ)) (faults : D → ℕ) (tells : ℕ → Type 0) (words : Option Words) (conf input before mid now : Option (List ℕ)) (source_rose out_rose rose : Type 0) (old new : D) (outcome : Result (Unit {0}) Stop) (status : ℕ)
-    → (has : HasDone content faults tells words conf input before mid source_rose out_rose old new outcome) → IsEnded (IsCause words conf input (content old) source_rose (Rose (faults old) (faults new)) rose has.added) (IsText words conf input (content old) has.added) rose before now status
-    → (status ≡ 0 → outcome ≡ Ok tt) → Ran content faults tells words conf input before now source_rose rose old new status
-ran_ended content faults tells words conf input before mid now source_rose out_rose rose old new outcome status has ended well = record {
+ran_ended : {D : Type 0} (content : D → Option (List ℕ)) (faults : D → ℕ) (may_leave : D → List ℕ → Type 0) (moment : D → ℕ) (left_since : D → ℕ → List ℕ → Type 0) (tells : ℕ → Type 0) (words : Option Words) (conf input before mid now : Option (List ℕ)) (source_rose out_rose rose : Type 0) (old new : D) (outcome : Result (Unit {0}) Stop) (status : ℕ)
+    → (has : HasDone content faults may_leave moment left_since tells words conf input before mid source_rose out_rose old new outcome) → IsEnded (IsCause words conf input (content old) source_rose (Rose (faults old) (faults new)) rose has.added) (IsText words conf input (content old) has.added) rose before now status
+    → (status ≡ 0 → outcome ≡ Ok tt) → Ran content faults may_leave moment left_since tells words conf input before now source_rose rose old new status
+ran_ended content faults may_leave moment left_since tells words conf input before mid now source_rose out_rose rose old new outcome status has ended well = record {
   added = has.added;
+  more = has.more;
   disk_stands = has.disk;
-  recipients_once = λ f steps was st. each_recipient_once (steps ++ has.added) (has.history f steps was st);
-  acknowledged_kept = λ submit c i a b e w was is n rest small begun.
-      ended_kept cause conf input (content old) has.added rose before now status c i a b rest n (subst (λ (x : Option Words). IsEnded cause (IsText x conf input (content old) has.added) rose before now status) submit ended) e w was is small begun;
+  recipients_once = λ f steps was st n. each_recipient_once (steps ++ take n (has.added ++ has.more)) (history_front steps (has.added ++ has.more) n (has.history f steps was st));
+  acknowledged_kept = λ submit c i a b e w was is n rest small begun f steps there st.
+      let kept = ended_kept cause conf input (content old) has.added rose before now status c i a b rest n (subst (λ (x : Option Words). IsEnded cause (IsText x conf input (content old) has.added) rose before now status) submit ended) e w was is small begun f steps there st in
+      (kept, kept_more steps has.added has.more n i has.disk.one (has.history f steps there st) kept);
   printed = ended;
   provenance = has.own;
   at_most_one = has.few;
@@ -138,13 +177,13 @@ ran_ended content faults tells words conf input before mid now source_rose out_r
   cause : Stop → Type 0
   cause stop = IsCause words conf input (content old) source_rose (Rose (faults old) (faults new)) rose has.added stop
 
-pub ran_done : {D : Type 0} (content : D → Option (List ℕ)) (faults : D → ℕ) (tells : ℕ → Type 0) (words : Option Words) (conf input before mid now : Option (List ℕ)) (source_rose : Type 0) (out_before out_mid out_now : ℕ) (old new : D) (outcome : Result (Unit {0}) Stop) (status : ℕ)
-    → HasDone content faults tells words conf input before mid source_rose (Rose out_before out_mid) old new outcome → HasClosed outcome mid now (Rose out_mid out_now) status → out_before ≤ out_mid → out_mid ≤ out_now
-    → Ran content faults tells words conf input before now source_rose (Rose out_before out_now) old new status
-ran_done content faults tells words conf input before mid now source_rose out_before out_mid out_now old new outcome status has closed first then =
+pub ran_done : {D : Type 0} (content : D → Option (List ℕ)) (faults : D → ℕ) (may_leave : D → List ℕ → Type 0) (moment : D → ℕ) (left_since : D → ℕ → List ℕ → Type 0) (tells : ℕ → Type 0) (words : Option Words) (conf input before mid now : Option (List ℕ)) (source_rose : Type 0) (out_before out_mid out_now : ℕ) (old new : D) (outcome : Result (Unit {0}) Stop) (status : ℕ)
+    → HasDone content faults may_leave moment left_since tells words conf input before mid source_rose (Rose out_before out_mid) old new outcome → HasClosed outcome mid now (Rose out_mid out_now) status → out_before ≤ out_mid → out_mid ≤ out_now
+    → Ran content faults may_leave moment left_since tells words conf input before now source_rose (Rose out_before out_now) old new status
+ran_done content faults may_leave moment left_since tells words conf input before mid now source_rose out_before out_mid out_now old new outcome status has closed first then =
     let disk_rose = Rose (faults old) (faults new) in
     let cause = λ (stop : Stop). IsCause words conf input (content old) source_rose disk_rose (Rose out_before out_now) has.added stop in
-    ran_ended content faults tells words conf input before mid now source_rose (Rose out_before out_mid) (Rose out_before out_now) old new outcome status has
+    ran_ended content faults may_leave moment left_since tells words conf input before mid now source_rose (Rose out_before out_mid) (Rose out_before out_now) old new outcome status has
     (ended cause (IsText words conf input (content old) has.added) (Rose out_mid out_now) (Rose out_before out_now) before mid now outcome status
     (λ stop e. cause_later words conf input (content old) source_rose disk_rose (Rose out_before out_mid) (Rose out_before out_now) has.added stop (λ r. omega (arith, r, first, then)) (has.cause stop e))
     tt (λ r. r) (λ r. omega (arith, r, first, then)) has.printed closed)

@@ -3,7 +3,9 @@ pub mod Dones
 pub mod Endings
 pub mod Inputs
 pub mod Keepings
+pub mod Openings
 pub mod Pieces
+pub mod Safeties
 pub mod Settles
 pub mod Steps
 pub mod Stores

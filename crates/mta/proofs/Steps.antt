@@ -22,7 +22,13 @@ use Rattle.mta_history.specs.History.{State, IsHistory, IsPossible, after, after
 use Rattle.mta_spool.specs.declared.current.Current.{Current}
 use Rattle.mta_spool.specs.Current.{current_of}
 use Rattle.mta_spool.specs.Shown.{Shown}
-use Rattle.mta_spool.specs.Stands.{Stands, Appends}
+use Rattle.mta_journal.specs.Shown.{Shown as JournalShown}
+use Rattle.mta_records.specs.declared.fault.StepFault.{StepFault}
+use Rattle.mta_records.specs.declared.fault.StepFault.TheVariants as StepFaults
+use Rattle.mta_history.proofs.Histories.{possible-more}
+use Rattle.mta_spool.specs.Stands.{Stands, Appends, MayHave}
+use Rattle.mta_spool.proofs.Crashes.{stands_along}
+use Rattle.mta.proofs.Safeties.{still, made, torn, leaves_then}
 use Rattle.mta_spool.specs.Turning.{IsRecorded}
 use Rattle.mta.specs.Working.{IsTimed, IsOwn, AreOwn, accepts, is_accept, Worked, IsAccepted}
 
@@ -54,45 +60,94 @@ accepts_append (step ∷ a) b = omega (arith, sum_by-cons (λ (x : Step). cond (
 
 -- ---- what was added
 
-pub worked_none : {D C : Type 0} (content : D → Option (List ℕ)) (faults : D → ℕ) (tells : ℕ → Type 0) (conf input : List ℕ) (old new : Shown D C) (failed : Type 0)
-    → ((failed → ⊥) → (steps : List Step) → Stands content old steps → Stands content new steps) → faults old.disk ≤ faults new.disk → Worked content faults tells conf input old new [] failed
-worked_none content faults tells conf input old new failed kept later = record {
-  stands = λ calm steps s. subst (Stands content new) (sym (append-nil steps)) (kept calm steps s);
-  history = λ steps s. subst IsHistory (sym (append-nil steps)) s.history;
-  own = λ steps s. tt;
-  later = later;
-}
+module _ {D C : Type 0} (content : D → Option (List ℕ)) (faults : D → ℕ) (may_leave : D → List ℕ → Type 0) (moment : D → ℕ) (left_since : D → ℕ → List ℕ → Type 0) where
+  -- nothing was done
+  pub worked_still : ((d : D) (g : List ℕ) → left_since d (moment d) g → may_leave d g) → (tells : ℕ → Type 0) (conf input : List ℕ) (old new : Shown D C) (failed : Type 0) → new ≡ record old { clock = new.clock }
+      → Worked content faults may_leave moment left_since tells conf input old new [] [] failed
+  worked_still only_now tells conf input old new failed is =
+      let journal : new.journal ≡ old.journal = ap (λ (v : Shown _ _). v.journal) is in
+      record {
+        stands = λ calm steps s. subst (Stands content may_leave new) (sym (append-nil steps)) (stands_along content may_leave old new steps is s);
+        told = λ calm f told. (f, ap (λ (j : JournalShown D). content j.disk) journal ∙ told);
+        calm = λ calm. refl;
+        one = omega arith;
+        history = λ steps s. subst IsHistory (sym (append-nil steps)) s.history;
+        own = λ steps s. tt;
+        leaves = λ f told steps s. still content may_leave moment left_since only_now old new journal f told steps s;
+        later = omega (arith, ap (λ (j : JournalShown D). faults j.disk) journal);
+      }
 
-pub worked_one : {D C T : Type 0} (content : D → Option (List ℕ)) (faults : D → ℕ) (tells : ℕ → Type 0) (conf input : List ℕ) (step : Step) (old new : Shown D C) (x : T) (failed : Type 0)
-    → Appends content faults step old new (Ok x) → ((steps : List Step) → Stands content old steps → IsOwn tells conf input (after steps).machine.moment step) → Worked content faults tells conf input old new (step ∷ []) failed
-worked_one content faults tells conf input step old new x failed appends own = record {
-  stands = λ calm steps s. appends.done refl steps s;
-  history = λ steps s. (appends.done refl steps s).history;
-  own = λ steps s. (own steps s, tt);
-  later = appends.later;
-}
+  -- a step was made
+  pub worked_one : {T : Type 0} (tells : ℕ → Type 0) (conf input : List ℕ) (step : Step) (old new : Shown D C) (x : T) (failed : Type 0) → Appends content faults may_leave moment left_since step old new (Ok x)
+      → ((steps : List Step) → Stands content may_leave old steps → IsOwn tells conf input (after steps).machine.moment step) → Worked content faults may_leave moment left_since tells conf input old new (step ∷ []) [] failed
+  worked_one tells conf input step old new x failed appends own = record {
+    stands = λ calm steps s. appends.done refl steps s;
+    told = λ calm f told. appends.told refl f told;
+    calm = λ calm. refl;
+    one = omega arith;
+    history = λ steps s. (appends.done refl steps s).history;
+    own = λ steps s. (own steps s, tt);
+    leaves = λ f told steps s. made content may_leave moment left_since step old new (appends.crash (λ e. absurd cc)) f told (appends.told refl f told) steps s (appends.done refl steps s);
+    later = appends.later;
+  }
 
-pub worked_then : {D C : Type 0} (content : D → Option (List ℕ)) (faults : D → ℕ) (tells : ℕ → Type 0) (conf input : List ℕ) (old mid new : Shown D C) (a b : List Step) (first failed : Type 0)
-    → (first → ⊥) → Worked content faults tells conf input old mid a first → Worked content faults tells conf input mid new b failed → Worked content faults tells conf input old new (a ++ b) failed
-worked_then content faults tells conf input old mid new a b first failed calm p q = record {
-  stands = λ other steps s. subst (Stands content new) (append_assoc steps a b) (q.stands other (steps ++ a) (p.stands calm steps s));
-  history = λ steps s. subst IsHistory (append_assoc steps a b) (q.history (steps ++ a) (p.stands calm steps s));
-  own = λ steps s. own_append tells conf input (after steps) a b (p.own steps s) (subst (λ (x : State). AreOwn tells conf input x b) (after_append empty steps a) (q.own (steps ++ a) (p.stands calm steps s)));
-  later = omega (arith, p.later, q.later);
-}
+  -- the disk failed in a step
+  pub worked_torn : (tells : ℕ → Type 0) (conf input : List ℕ) (step : Step) (old new : Shown D C) (failed : Type 0) → failed → faults old.journal.disk ≤ faults new.journal.disk → MayHave content may_leave moment left_since step old new
+      → ((steps : List Step) → Stands content may_leave old steps → IsOwn tells conf input (after steps).machine.moment step) → Worked content faults may_leave moment left_since tells conf input old new [] (step ∷ []) failed
+  worked_torn tells conf input step old new failed so later m own = record {
+    stands = λ calm. absurd (calm so);
+    told = λ calm. absurd (calm so);
+    calm = λ calm. absurd (calm so);
+    one = omega arith;
+    history = λ steps s. possible-more empty steps step s.history (m.possible steps s);
+    own = λ steps s. (own steps s, tt);
+    leaves = λ f told steps s. torn content may_leave moment left_since step old new m f told steps s;
+    later = later;
+  }
 
-pub worked_more : {D C : Type 0} (content : D → Option (List ℕ)) (faults : D → ℕ) (tells other : ℕ → Type 0) (conf input : List ℕ) (old new : Shown D C) (a : List Step) (failed : Type 0)
-    → ((t : ℕ) → tells t → other t) → Worked content faults tells conf input old new a failed → Worked content faults other conf input old new a failed
-worked_more content faults tells other conf input old new a failed more p = record {
-  stands = p.stands;
-  history = p.history;
-  own = λ steps s. own_more tells other conf input (after steps) a more (p.own steps s);
-  later = p.later;
-}
+  -- a step was refused: nothing was done, or the disk failed in it
+  pub worked_refused : {T : Type 0} → ((d : D) (g : List ℕ) → left_since d (moment d) g → may_leave d g) → (tells : ℕ → Type 0) (conf input : List ℕ) (step : Step) (old new : Shown D C) (fault : StepFault) (failed : Type 0) → (fault ≡ StepFaults.Disk → failed)
+      → Appends {T = T} content faults may_leave moment left_since step old new (Err fault) → ((steps : List Step) → Stands content may_leave old steps → IsOwn tells conf input (after steps).machine.moment step)
+      → (more : List Step) × Worked content faults may_leave moment left_since tells conf input old new [] more failed × (accepts more ≤ accepts (step ∷ []))
+  worked_refused only_now tells conf input step old new (StepFaults.Full size need) failed so a own = ([], worked_still only_now tells conf input old new failed (a.kept refl (λ e. absurd cc)), omega arith)
+  worked_refused only_now tells conf input step old new (StepFaults.Spent last) failed so a own = ([], worked_still only_now tells conf input old new failed (a.kept refl (λ e. absurd cc)), omega arith)
+  worked_refused only_now tells conf input step old new StepFaults.Disk failed so a own = (step ∷ [], worked_torn tells conf input step old new failed (so refl) a.later (a.crash (λ e. refl)) own, omega arith)
+  worked_refused only_now tells conf input step old new StepFaults.Ended failed so a own = ([], worked_still only_now tells conf input old new failed (a.kept refl (λ e. absurd cc)), omega arith)
+  worked_refused only_now tells conf input step old new StepFaults.Memory failed so a own = ([], worked_still only_now tells conf input old new failed (a.kept refl (λ e. absurd cc)), omega arith)
 
-pub worked_unless : {D C : Type 0} (content : D → Option (List ℕ)) (faults : D → ℕ) (tells : ℕ → Type 0) (conf input : List ℕ) (old new : Shown D C) (a : List Step) (failed other : Type 0)
-    → (failed → other) → Worked content faults tells conf input old new a failed → Worked content faults tells conf input old new a other
-worked_unless content faults tells conf input old new a failed other from p = record { stands = λ calm. p.stands (λ w. calm (from w)); history = p.history; own = p.own; later = p.later }
+  -- a row in which the disk did not fail
+  pub worked_calm : (tells : ℕ → Type 0) (conf input : List ℕ) (old new : Shown D C) (a more : List Step) (failed : Type 0) → (failed → ⊥) → Worked content faults may_leave moment left_since tells conf input old new a more failed → Worked content faults may_leave moment left_since tells conf input old new a [] ⊥
+  worked_calm tells conf input old new a more failed calm p =
+      let q = subst (λ (m : List Step). Worked content faults may_leave moment left_since tells conf input old new a m failed) (p.calm calm) p in
+      record { stands = λ w. q.stands calm; told = λ w. q.told calm; calm = λ w. refl; one = q.one; history = q.history; own = q.own; leaves = q.leaves; later = q.later }
+
+  pub worked_then : (tells : ℕ → Type 0) (conf input : List ℕ) (old mid new : Shown D C) (a b more : List Step) (failed : Type 0) → Worked content faults may_leave moment left_since tells conf input old mid a [] ⊥ → Worked content faults may_leave moment left_since tells conf input mid new b more failed
+      → Worked content faults may_leave moment left_since tells conf input old new (a ++ b) more failed
+  worked_then tells conf input old mid new a b more failed p q =
+      let whole : a ++ (b ++ more) ≡ (a ++ b) ++ more = sym (append_assoc a b more) in
+      record {
+        stands = λ other steps s. subst (Stands content may_leave new) (append_assoc steps a b) (q.stands other (steps ++ a) (p.stands (λ w. w) steps s));
+        told = λ other f told. let x = p.told (λ w. w) f told in q.told other x.0 x.1;
+        calm = q.calm;
+        one = q.one;
+        history = λ steps s. subst IsHistory (append_assoc steps a (b ++ more) ∙ ap (λ (x : List Step). steps ++ x) whole) (q.history (steps ++ a) (p.stands (λ w. w) steps s));
+        own = λ steps s.
+            let first : AreOwn tells conf input (after steps) a = subst (AreOwn tells conf input (after steps)) (append-nil a) (p.own steps s) in
+            subst (AreOwn tells conf input (after steps)) whole
+            (own_append tells conf input (after steps) a (b ++ more) first (subst (λ (x : State). AreOwn tells conf input x (b ++ more)) (after_append empty steps a) (q.own (steps ++ a) (p.stands (λ w. w) steps s))));
+        leaves = λ f told steps s.
+            let x = p.told (λ w. w) f told in
+            leaves_then may_leave moment left_since steps a b more old.journal.disk mid.journal.disk new.journal.disk (p.leaves f told steps s) (q.leaves x.0 x.1 (steps ++ a) (p.stands (λ w. w) steps s));
+        later = omega (arith, p.later, q.later);
+      }
+
+  pub worked_more : (tells other : ℕ → Type 0) (conf input : List ℕ) (old new : Shown D C) (a more : List Step) (failed : Type 0) → ((t : ℕ) → tells t → other t) → Worked content faults may_leave moment left_since tells conf input old new a more failed → Worked content faults may_leave moment left_since other conf input old new a more failed
+  worked_more tells other conf input old new a more failed tell p =
+      record { stands = p.stands; told = p.told; calm = p.calm; one = p.one; history = p.history; own = λ steps s. own_more tells other conf input (after steps) (a ++ more) tell (p.own steps s); leaves = p.leaves; later = p.later }
+
+  pub worked_unless : (tells : ℕ → Type 0) (conf input : List ℕ) (old new : Shown D C) (a more : List Step) (failed other : Type 0) → (failed → other) → Worked content faults may_leave moment left_since tells conf input old new a more failed → Worked content faults may_leave moment left_since tells conf input old new a more other
+  worked_unless tells conf input old new a more failed other from p =
+      record { stands = λ calm. p.stands (λ w. calm (from w)); told = λ calm. p.told (λ w. calm (from w)); calm = λ calm. p.calm (λ w. calm (from w)); one = p.one; history = p.history; own = p.own; leaves = p.leaves; later = p.later }
 
 -- ---- tables
 
@@ -149,6 +204,14 @@ numbered_more xs x = ap (numbered (xs ++ x ∷ [])) (next (length xs)) ∙ at_en
   at_end [] y = refl
   at_end (z ∷ ys) y = at_end ys y
 
+pub numbered_front : {A : Type 0} (xs ys : List A) (n : ℕ) (x : A) → numbered xs n ≡ Some x → numbered (xs ++ ys) n ≡ Some x
+numbered_front xs ys zero x is = absurd cc
+numbered_front xs ys (suc n) x is = at xs n is where
+  at : (zs : List _) (k : ℕ) → slice_get zs k ≡ Some x → slice_get (zs ++ ys) k ≡ Some x
+  at [] k e = absurd cc
+  at (z ∷ zs) zero e = e
+  at (z ∷ zs) (suc k) e = at zs k e
+
 -- the item of a message that was accepted behind these steps
 pub accepted_item : (steps added : List Step) (conf input : List ℕ) (moment n : ℕ) → last_of (after (steps ++ added)).machine.tables ≡ Some conf → length (after (steps ++ added)).machine.items ≡ length (after steps).machine.items
     → n ≡ length (after (steps ++ added)).machine.items + 1 → IsAccepted steps (added ++ Accept moment input ∷ []) conf input n
@@ -183,7 +246,7 @@ KeepsOctets old new = (n : ℕ) (item : Item) → numbered old n ≡ Some item �
 some_item : (a b : Item) → Some a ≡ Some b → a ≡ b
 some_item a b w = cc
 
-status_keeps : (items : List Item) (found : Item) (j r moment : ℕ) → numbered items j ≡ Some found → KeepsOctets items (with_status items (Some found) j r (Delivered moment))
+pub status_keeps : (items : List Item) (found : Item) (j r moment : ℕ) → numbered items j ≡ Some found → KeepsOctets items (with_status items (Some found) j r (Delivered moment))
 status_keeps items found zero r moment is n item there = absurd cc
 status_keeps items found (suc j) r moment is zero item there = absurd cc
 status_keeps items found (suc j) r moment is (suc n) item there =

@@ -9,11 +9,10 @@ use Rattle.mta_tables.specs.Tables.{tables_of}
 use Rattle.mta_history.specs.Apdu.{IsApdu}
 use Rattle.mta_history.specs.Due.{IsQuiet}
 use Rattle.mta_history.specs.History.{after, IsHistory}
-use Rattle.mta_history.specs.Image.{front, StandsFor}
+use Rattle.mta_history.specs.Image.{size_of, StandsFor}
 use Rattle.mta_spool.specs.declared.current.Current.{Current}
 use Rattle.mta_spool.specs.Current.{current_of}
-use Rattle.mta_spool.specs.declared.open.OpenWhy.{OpenWhy}
-use Rattle.mta_spool.specs.Opening.{HasRefused}
+use Rattle.mta_journal.specs.declared.why.OpenWhy.{OpenWhy}
 use Rattle.mta_spool.specs.Shown.{Shown}
 use Rattle.mta_spool.specs.Stands.{Stands, step_moment}
 use Rattle.mta.specs.declared.gather.Gathered.{Gathered}
@@ -27,18 +26,20 @@ use Rattle.mta.specs.Ending.{ForHistory, IsText, IsCause}
 use Rattle.mta.specs.Headline.{DiskLeft, HasPrinted, HasDone, IsSettled}
 use Rattle.mta.specs.Showing.{stop_of_open}
 use Rattle.mta.specs.Working.{AreOwn, accepts, IsAccepted, IsRefusal, IsSaid, silent, said, cut, IsWorkStop, HasWorked}
-use Rattle.mta.proofs.Dones.{Goes-nothing, printed_nothing, err_is, stands_history, disk_refused, open_no_sink, read_cause_open, read_to_cause, same_steps, disk_opened}
+use Rattle.mta.proofs.Dones.{Goes-nothing, printed_nothing, err_is, stands_history, open_no_sink, read_cause_open, read_to_cause}
+use Rattle.mta.proofs.Openings.{DiskLaws, NotOpened, IsOpened, same_steps, disk_refused, disk_opened}
 
 -- ---- a command that stopped before it opened a disk
 
 pub none_accepted : accepts [] ≤ 1
 none_accepted = omega arith
 
-pub stopped_done : {D : Type 0} (content : D → Option (List ℕ)) (faults : D → ℕ) (tells : ℕ → Type 0) (words : Option Words) (conf input told : Option (List ℕ)) (source_rose out_rose : Type 0) (old new : D) (stop : Stop)
-    → DiskLeft content faults old new [] → (stop ≡ Stops.Sink → ⊥) → IsCause words conf input (content old) source_rose (Rose (faults old) (faults new)) out_rose [] stop
-    → HasDone content faults tells words conf input told told source_rose out_rose old new (Err stop)
-stopped_done content faults tells words conf input told source_rose out_rose old new stop left other why = record {
+pub stopped_done : {D : Type 0} (content : D → Option (List ℕ)) (faults : D → ℕ) (may_leave : D → List ℕ → Type 0) (moment : D → ℕ) (left_since : D → ℕ → List ℕ → Type 0) (tells : ℕ → Type 0) (words : Option Words) (conf input told : Option (List ℕ)) (source_rose out_rose : Type 0) (old new : D) (stop : Stop)
+    → DiskLeft content faults may_leave moment left_since old new [] [] → (stop ≡ Stops.Sink → ⊥) → IsCause words conf input (content old) source_rose (Rose (faults old) (faults new)) out_rose [] stop
+    → HasDone content faults may_leave moment left_since tells words conf input told told source_rose out_rose old new (Err stop)
+stopped_done content faults may_leave moment left_since tells words conf input told source_rose out_rose old new stop left other why = record {
   added = [];
+  more = [];
   disk = left;
   history = λ f steps was st. stands_history f steps st;
   own = λ c i e w f steps was st. tt;
@@ -68,11 +69,11 @@ gather_cause conf input disk source_rose disk_rose out_rose (Stops.NoMailbox nam
 pub gather_no_sink : (conf input : Option (List ℕ)) (source_rose : Type 0) (stop : Stop) → IsGatherStop conf input source_rose stop → stop ≡ Stops.Sink → ⊥
 gather_no_sink conf input source_rose stop is e = absurd (subst (IsGatherStop conf input source_rose) e is)
 
-pub submit_not_opened : {D : Type 0} (content : D → Option (List ℕ)) (faults : D → ℕ) (tells : ℕ → Type 0) (conf input told : Option (List ℕ)) (source_rose out_rose : Type 0) (old new : D) (why : OpenWhy)
-    → HasRefused content faults old new why → HasDone content faults tells (Some Say.Submit) conf input told told source_rose out_rose old new (Err (stop_of_open why))
-submit_not_opened content faults tells conf input told source_rose out_rose old new why refused =
-    stopped_done content faults tells (Some Say.Submit) conf input told source_rose out_rose old new (stop_of_open why) (disk_refused content faults old new why refused) (open_no_sink why)
-    (read_to_cause Say.Submit (λ e. absurd cc) conf input (content old) source_rose (Rose (faults old) (faults new)) out_rose (stop_of_open why) (read_cause_open content faults old new Say.Submit out_rose why refused))
+pub submit_not_opened : {D : Type 0} (content : D → Option (List ℕ)) (faults : D → ℕ) (may_leave : D → List ℕ → Type 0) (moment : D → ℕ) (left_since : D → ℕ → List ℕ → Type 0) (laws : DiskLaws content may_leave moment left_since) (tells : ℕ → Type 0) (conf input told : Option (List ℕ)) (source_rose out_rose : Type 0) (old new : D) (why : OpenWhy)
+    → NotOpened content faults may_leave moment left_since old new why → HasDone content faults may_leave moment left_since tells (Some Say.Submit) conf input told told source_rose out_rose old new (Err (stop_of_open why))
+submit_not_opened content faults may_leave moment left_since laws tells conf input told source_rose out_rose old new why refusal =
+    stopped_done content faults may_leave moment left_since tells (Some Say.Submit) conf input told source_rose out_rose old new (stop_of_open why) (disk_refused content faults may_leave moment left_since laws old new why refusal) (open_no_sink why)
+    (read_to_cause Say.Submit (λ e. absurd cc) conf input (content old) source_rose (Rose (faults old) (faults new)) out_rose (stop_of_open why) (read_cause_open content faults old new Say.Submit out_rose why refusal.refused))
 
 -- ---- a spool that was worked on
 
@@ -98,64 +99,65 @@ refusal_as text c apdu i current other size same rose fault e1 e2 e3 e4 r =
     subst (λ (x : ℕ). IsRefusal c i other x rose fault) e4 (subst (λ (x : Current). IsRefusal c i x size rose fault) e3 (subst (λ (x : List ℕ). IsRefusal c x current size rose fault) e2 (subst (λ (x : List ℕ). IsRefusal x apdu current size rose fault) e1 r)))
 
 -- a refusal at the end of the work, for the history for which the disk stood
-refused_later : {D C : Type 0} (content : D → Option (List ℕ)) (conf input disk : Option (List ℕ)) (rose : Type 0) (text apdu : List ℕ) (spool : Shown D C) (base added : List Step) (fault : StepFault) → IsTold conf text → IsTold input apdu
-    → ((f : List ℕ) (steps : List Step) → disk ≡ Some f → StandsFor f steps → base ≡ steps) → Stands content spool (base ++ added) → IsRefusal text apdu spool.current spool.size rose fault
-    → (c i : List ℕ) → conf ≡ Some c → input ≡ Some i → ForHistory disk (λ steps. IsRefusal c i (current_of (after (steps ++ added))) (length (front (steps ++ added)) + 1) rose fault)
-refused_later content conf input disk rose text apdu spool base added fault told_conf told_input same stands refusal c i e w f steps was st =
-    subst (λ (x : List Step). IsRefusal c i (current_of (after (x ++ added))) (length (front (x ++ added)) + 1) rose fault) (same f steps was st)
-    (refusal_as text c apdu i spool.current (current_of (after (base ++ added))) spool.size (length (front (base ++ added)) + 1) rose fault (told_conf c e) (told_input i w) stands.current stands.stored.size refusal)
+refused_later : {D C : Type 0} (content : D → Option (List ℕ)) (may_leave : D → List ℕ → Type 0) (conf input disk : Option (List ℕ)) (rose : Type 0) (text apdu : List ℕ) (spool : Shown D C) (base added : List Step) (fault : StepFault) → IsTold conf text → IsTold input apdu
+    → ((f : List ℕ) (steps : List Step) → disk ≡ Some f → StandsFor f steps → base ≡ steps) → Stands content may_leave spool (base ++ added) → IsRefusal text apdu spool.current spool.journal.size rose fault
+    → (c i : List ℕ) → conf ≡ Some c → input ≡ Some i → ForHistory disk (λ steps. IsRefusal c i (current_of (after (steps ++ added))) (size_of (steps ++ added)) rose fault)
+refused_later content may_leave conf input disk rose text apdu spool base added fault told_conf told_input same stands refusal c i e w f steps was st =
+    subst (λ (x : List Step). IsRefusal c i (current_of (after (x ++ added))) (size_of (x ++ added)) rose fault) (same f steps was st)
+    (refusal_as text c apdu i spool.current (current_of (after (base ++ added))) spool.journal.size (size_of (base ++ added)) rose fault (told_conf c e) (told_input i w) stands.current stands.holds.size refusal)
 
-work_cause : {D C : Type 0} (content : D → Option (List ℕ)) (conf input disk : Option (List ℕ)) (source_rose work_rose disk_rose out_rose : Type 0) (text apdu : List ℕ) (spool : Shown D C) (base added : List Step) (stop : Stop) → IsTold conf text → IsTold input apdu
-    → ((f : List ℕ) (steps : List Step) → disk ≡ Some f → StandsFor f steps → base ≡ steps) → ((stop ≡ Stops.Disk → ⊥) → Stands content spool (base ++ added)) → (work_rose → disk_rose)
-    → IsWorkStop text apdu spool.current spool.size work_rose out_rose stop → IsCause (Some Say.Submit) conf input disk source_rose disk_rose out_rose added stop
-work_cause content conf input disk source_rose work_rose disk_rose out_rose text apdu spool base added (Stops.Full used need) told_conf told_input same stands rose why =
-    (refl, refused_later content conf input disk disk_rose text apdu spool base added (StepFaults.Full used need) told_conf told_input same (stands (λ e. absurd cc)) why)
-work_cause content conf input disk source_rose work_rose disk_rose out_rose text apdu spool base added (Stops.Spent last) told_conf told_input same stands rose why =
-    (refl, refused_later content conf input disk disk_rose text apdu spool base added (StepFaults.Spent last) told_conf told_input same (stands (λ e. absurd cc)) why)
-work_cause content conf input disk source_rose work_rose disk_rose out_rose text apdu spool base added Stops.Disk told_conf told_input same stands rose why = (λ e. absurd cc, rose why)
-work_cause content conf input disk source_rose work_rose disk_rose out_rose text apdu spool base added Stops.Memory told_conf told_input same stands rose why = tt
-work_cause content conf input disk source_rose work_rose disk_rose out_rose text apdu spool base added Stops.Sink told_conf told_input same stands rose why = why
-work_cause content conf input disk source_rose work_rose disk_rose out_rose text apdu spool base added Stops.Usage told_conf told_input same stands rose why = absurd why
-work_cause content conf input disk source_rose work_rose disk_rose out_rose text apdu spool base added (Stops.Tables line kind) told_conf told_input same stands rose why = absurd why
-work_cause content conf input disk source_rose work_rose disk_rose out_rose text apdu spool base added (Stops.NotSpool at) told_conf told_input same stands rose why = absurd why
-work_cause content conf input disk source_rose work_rose disk_rose out_rose text apdu spool base added Stops.Source told_conf told_input same stands rose why = absurd why
-work_cause content conf input disk source_rose work_rose disk_rose out_rose text apdu spool base added (Stops.NoMailbox name) told_conf told_input same stands rose why = absurd why
-work_cause content conf input disk source_rose work_rose disk_rose out_rose text apdu spool base added (Stops.BadApdu at kind) told_conf told_input same stands rose why = absurd why
+work_cause : {D C : Type 0} (content : D → Option (List ℕ)) (may_leave : D → List ℕ → Type 0) (conf input disk : Option (List ℕ)) (source_rose work_rose disk_rose out_rose : Type 0) (text apdu : List ℕ) (spool : Shown D C) (base added : List Step) (stop : Stop) → IsTold conf text → IsTold input apdu
+    → ((f : List ℕ) (steps : List Step) → disk ≡ Some f → StandsFor f steps → base ≡ steps) → ((stop ≡ Stops.Disk → ⊥) → Stands content may_leave spool (base ++ added)) → (work_rose → disk_rose)
+    → IsWorkStop text apdu spool.current spool.journal.size work_rose out_rose stop → IsCause (Some Say.Submit) conf input disk source_rose disk_rose out_rose added stop
+work_cause content may_leave conf input disk source_rose work_rose disk_rose out_rose text apdu spool base added (Stops.Full used need) told_conf told_input same stands rose why =
+    (refl, refused_later content may_leave conf input disk disk_rose text apdu spool base added (StepFaults.Full used need) told_conf told_input same (stands (λ e. absurd cc)) why)
+work_cause content may_leave conf input disk source_rose work_rose disk_rose out_rose text apdu spool base added (Stops.Spent last) told_conf told_input same stands rose why =
+    (refl, refused_later content may_leave conf input disk disk_rose text apdu spool base added (StepFaults.Spent last) told_conf told_input same (stands (λ e. absurd cc)) why)
+work_cause content may_leave conf input disk source_rose work_rose disk_rose out_rose text apdu spool base added Stops.Disk told_conf told_input same stands rose why = (λ e. absurd cc, rose why)
+work_cause content may_leave conf input disk source_rose work_rose disk_rose out_rose text apdu spool base added Stops.Memory told_conf told_input same stands rose why = tt
+work_cause content may_leave conf input disk source_rose work_rose disk_rose out_rose text apdu spool base added Stops.Sink told_conf told_input same stands rose why = why
+work_cause content may_leave conf input disk source_rose work_rose disk_rose out_rose text apdu spool base added Stops.Usage told_conf told_input same stands rose why = absurd why
+work_cause content may_leave conf input disk source_rose work_rose disk_rose out_rose text apdu spool base added (Stops.Tables line kind) told_conf told_input same stands rose why = absurd why
+work_cause content may_leave conf input disk source_rose work_rose disk_rose out_rose text apdu spool base added (Stops.NotSpool at) told_conf told_input same stands rose why = absurd why
+work_cause content may_leave conf input disk source_rose work_rose disk_rose out_rose text apdu spool base added Stops.Source told_conf told_input same stands rose why = absurd why
+work_cause content may_leave conf input disk source_rose work_rose disk_rose out_rose text apdu spool base added (Stops.NoMailbox name) told_conf told_input same stands rose why = absurd why
+work_cause content may_leave conf input disk source_rose work_rose disk_rose out_rose text apdu spool base added (Stops.BadApdu at kind) told_conf told_input same stands rose why = absurd why
 
-settled_later : {D C : Type 0} (content : D → Option (List ℕ)) (tells : ℕ → Type 0) (spool : Shown D C) (base steps added : List Step) → base ≡ steps → Stands content spool (base ++ added)
+settled_later : {D C : Type 0} (content : D → Option (List ℕ)) (may_leave : D → List ℕ → Type 0) (tells : ℕ → Type 0) (spool : Shown D C) (base steps added : List Step) → base ≡ steps → Stands content may_leave spool (base ++ added)
     → (told : ℕ) × tells told × IsQuiet spool.current.tables spool.current.items (step_moment told spool.current.moment) → IsSettled tells (steps ++ added)
-settled_later content tells spool base steps added same stands quiet =
+settled_later content may_leave tells spool base steps added same stands quiet =
     subst (λ (x : List Step). IsSettled tells (x ++ added)) same
     (subst (λ (c : Current). (told : ℕ) × tells told × IsQuiet c.tables c.items (step_moment told c.moment)) stands.current quiet)
 
 disk_err : (stop : Stop) → (stop ≡ Stops.Disk → ⊥) → ◌≡◌ {A = Result (Unit {0}) Stop} (Err stop) (Err Stops.Disk) → ⊥
 disk_err stop other e = other (err_is stop Stops.Disk e)
 
-pub submit_worked : {D C : Type 0} (content : D → Option (List ℕ)) (faults : D → ℕ) (tells : ℕ → Type 0) (conf input before now : Option (List ℕ)) (source_rose out_rose : Type 0) (old : D) (x : Gathered) (spool new : Shown D C) (base : List Step) (result : Result (Unit {0}) Stop)
-    → AreGathered conf input source_rose (Ok x) → Stands content spool base → ((f : List ℕ) → content old ≡ Some f → StandsFor f base) → faults old ≤ faults spool.disk
-    → HasWorked content faults tells x.tables.text x.apdu before now out_rose spool new result → HasDone content faults tells (Some Say.Submit) conf input before now source_rose out_rose old new.disk result
-submit_worked content faults tells conf input before now source_rose out_rose old x spool new base result read stands opened later has =
-    let same = same_steps content old base opened in
+pub submit_worked : {D C : Type 0} (content : D → Option (List ℕ)) (faults : D → ℕ) (may_leave : D → List ℕ → Type 0) (moment : D → ℕ) (left_since : D → ℕ → List ℕ → Type 0) (laws : DiskLaws content may_leave moment left_since) (tells : ℕ → Type 0) (conf input before now : Option (List ℕ)) (source_rose out_rose : Type 0) (old : D) (x : Gathered) (spool new : Shown D C) (base : List Step) (result : Result (Unit {0}) Stop)
+    → AreGathered conf input source_rose (Ok x) → IsOpened content faults may_leave moment left_since old spool base
+    → HasWorked content faults may_leave moment left_since tells x.tables.text x.apdu before now out_rose spool new result → HasDone content faults may_leave moment left_since tells (Some Say.Submit) conf input before now source_rose out_rose old new.journal.disk result
+submit_worked content faults may_leave moment left_since laws tells conf input before now source_rose out_rose old x spool new base result read o has =
+    let same = same_steps content old base o.stood in
     record {
       added = has.added;
-      disk = disk_opened content faults old new base has.added opened (omega (arith, later, has.worked.later)) (λ calm. has.worked.stands (λ e. calm (risen (has.refused Stops.Disk e))) base stands);
-      history = λ f steps was st. subst (λ (y : List Step). IsHistory (y ++ has.added)) (same f steps was st) (has.worked.history base stands);
-      own = λ c i e w f steps was st. subst (λ (y : List Step). AreOwn tells c i (after y) has.added) (same f steps was st)
-          (subst (λ (y : List ℕ). AreOwn tells c y (after base) has.added) (read.2 i w) (subst (λ (y : List ℕ). AreOwn tells y x.apdu (after base) has.added) (read.0 c e) (has.worked.own base stands)));
+      more = has.more;
+      disk = disk_opened content faults may_leave moment left_since laws old spool new base has.added has.more o has.worked.later has.worked.one (λ calm. has.worked.calm (λ e. calm (risen (has.refused Stops.Disk e)))) (λ f told. has.worked.leaves f told base o.stands);
+      history = λ f steps was st. subst (λ (y : List Step). IsHistory (y ++ (has.added ++ has.more))) (same f steps was st) (has.worked.history base o.stands);
+      own = λ c i e w f steps was st. subst (λ (y : List Step). AreOwn tells c i (after y) (has.added ++ has.more)) (same f steps was st)
+          (subst (λ (y : List ℕ). AreOwn tells c y (after base) (has.added ++ has.more)) (read.2 i w) (subst (λ (y : List ℕ). AreOwn tells y x.apdu (after base) (has.added ++ has.more)) (read.0 c e) (has.worked.own base o.stands)));
       few = has.few;
       only = λ e. absurd (e refl);
-      printed = said_printed (IsText (Some Say.Submit) conf input (content old) has.added) (λ n. (steps : List Step) → Stands content spool steps → IsAccepted steps has.added x.tables.text x.apdu n) before now result
-          (λ n small number. said_text conf input (content old) x.tables.text x.apdu base has.added n read.0 read.2 same small (number base stands)) has.said;
-      cause = λ stop e. work_cause content conf input (content old) source_rose (Rose (faults spool.disk) (faults new.disk)) (Rose (faults old) (faults new.disk)) out_rose x.tables.text x.apdu new base has.added stop read.0 read.2 same
-          (λ no. has.worked.stands (λ w. disk_err stop no (sym e ∙ w)) base stands) risen (has.refused stop e);
-      settled = λ e ok f steps was st. settled_later content tells new base steps has.added (same f steps was st) (has.worked.stands (λ w. absurd (ok_err (sym ok ∙ w))) base stands) (has.quiet ok);
-      stood = λ other_words ok f was. (base, opened f was);
+      printed = said_printed (IsText (Some Say.Submit) conf input (content old) has.added) (λ n. (steps : List Step) → Stands content may_leave spool steps → IsAccepted steps has.added x.tables.text x.apdu n) before now result
+          (λ n small number. said_text conf input (content old) x.tables.text x.apdu base has.added n read.0 read.2 same small (number base o.stands)) has.said;
+      cause = λ stop e. work_cause content may_leave conf input (content old) source_rose (Rose (faults spool.journal.disk) (faults new.journal.disk)) (Rose (faults old) (faults new.journal.disk)) out_rose x.tables.text x.apdu new base has.added stop read.0 read.2 same
+          (λ no. has.worked.stands (λ w. disk_err stop no (sym e ∙ w)) base o.stands) risen (has.refused stop e);
+      settled = λ e ok f steps was st. settled_later content may_leave tells new base steps has.added (same f steps was st) (has.worked.stands (λ w. absurd (ok_err (sym ok ∙ w))) base o.stands) (has.quiet ok);
+      stood = λ other_words ok f was. (base, o.stood f was);
       gathered = λ e ok c i w v. ((x.tables, subst (λ (y : List ℕ). tables_of y ≡ Ok x.tables) (read.0 c w) read.1), subst IsApdu (read.2 i v) read.3);
       named = λ name e ok. absurd (other name e);
     }
   where
-    risen : Rose (faults spool.disk) (faults new.disk) → Rose (faults old) (faults new.disk)
-    risen r = omega (arith, later, r)
+    risen : Rose (faults spool.journal.disk) (faults new.journal.disk) → Rose (faults old) (faults new.journal.disk)
+    risen r = omega (arith, o.later, r)
 
     ok_err : ◌≡◌ {A = Result (Unit {0}) Stop} (Ok tt) (Err Stops.Disk) → ⊥
     ok_err e = cc

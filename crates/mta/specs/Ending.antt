@@ -7,7 +7,7 @@ use Rattle.mta_tables.specs.Grammar.{IsFirstBadLine}
 use Rattle.mta_apdu.specs.Apdus.{ApduValue, SpellsApdu}
 use Rattle.mta_history.specs.Verdict.{recorded}
 use Rattle.mta_history.specs.History.{State, after}
-use Rattle.mta_history.specs.Image.{front, StandsFor, NoSpoolAt}
+use Rattle.mta_history.specs.Image.{size_of, StandsFor, NoSpoolAt}
 use Rattle.mta_records.specs.declared.fault.StepFault.TheVariants as StepFaults
 use Rattle.mta_spool.specs.Current.{current_of}
 use Rattle.mta_apdu_text.specs.Apdus.{apdu_text}
@@ -48,8 +48,8 @@ IsCause words conf input disk source_rose disk_rose out_rose added Stops.Usage =
 IsCause words conf input disk source_rose disk_rose out_rose added (Stops.Tables line kind) = (words ≡ Some Say.Submit) × ((c : List ℕ) → conf ≡ Some c → IsFirstBadLine c line kind)
 IsCause words conf input disk source_rose disk_rose out_rose added (Stops.NotSpool at) = IsNotDecode words × ((f : List ℕ) → disk ≡ Some f → NoSpoolAt f at)
 IsCause words conf input disk source_rose disk_rose out_rose added Stops.Disk = IsNotDecode words × disk_rose
-IsCause words conf input disk source_rose disk_rose out_rose added (Stops.Full size need) = (words ≡ Some Say.Submit) × ((c i : List ℕ) → conf ≡ Some c → input ≡ Some i → ForHistory disk (λ steps. IsRefusal c i (current_of (after (steps ++ added))) (length (front (steps ++ added)) + 1) disk_rose (StepFaults.Full size need)))
-IsCause words conf input disk source_rose disk_rose out_rose added (Stops.Spent last) = (words ≡ Some Say.Submit) × ((c i : List ℕ) → conf ≡ Some c → input ≡ Some i → ForHistory disk (λ steps. IsRefusal c i (current_of (after (steps ++ added))) (length (front (steps ++ added)) + 1) disk_rose (StepFaults.Spent last)))
+IsCause words conf input disk source_rose disk_rose out_rose added (Stops.Full size need) = (words ≡ Some Say.Submit) × ((c i : List ℕ) → conf ≡ Some c → input ≡ Some i → ForHistory disk (λ steps. IsRefusal c i (current_of (after (steps ++ added))) (size_of (steps ++ added)) disk_rose (StepFaults.Full size need)))
+IsCause words conf input disk source_rose disk_rose out_rose added (Stops.Spent last) = (words ≡ Some Say.Submit) × ((c i : List ℕ) → conf ≡ Some c → input ≡ Some i → ForHistory disk (λ steps. IsRefusal c i (current_of (after (steps ++ added))) (size_of (steps ++ added)) disk_rose (StepFaults.Spent last)))
 IsCause words conf input disk source_rose disk_rose out_rose added Stops.Memory = Unit {0}
 IsCause words conf input disk source_rose disk_rose out_rose added Stops.Source = source_rose
 IsCause words conf input disk source_rose disk_rose out_rose added Stops.Sink = out_rose

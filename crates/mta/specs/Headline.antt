@@ -1,5 +1,5 @@
 -- What a run leaves of everything that was handed in.
-use Rattle.std.specs.Prelude.{◌≡◌, ◌≢◌, ◌⊎◌, ◌+◌, ◌<◌, ◌≤◌, ◌^◌, ℕ, List, [], ◌++◌, length, Option, None, Some, Result, Ok, Err}
+use Rattle.std.specs.Prelude.{◌≡◌, ◌≢◌, ◌⊎◌, ◌+◌, ◌<◌, ◌≤◌, ◌^◌, ℕ, List, [], ◌++◌, length, take, Option, None, Some, Result, Ok, Err}
 use Rattle.mta_edge.specs.Causes.{Rose}
 use Rattle.mta_edge.specs.Outside.{Goes}
 use Rattle.mta_records.specs.declared.step.Step.{Step}
@@ -15,16 +15,23 @@ use Rattle.mta.specs.declared.stop.Stop.{Stop}
 use Rattle.mta.specs.declared.stop.Stop.TheVariants as Stops
 use Rattle.mta.specs.declared.words.Words.{Words}
 use Rattle.mta.specs.declared.words.Words.TheVariants as Say
+use Rattle.mta.specs.Crashing.{IsLeftWith, IsSafe}
 use Rattle.mta.specs.Streams.{TakesFront}
 use Rattle.mta.specs.Telling.{accepted_line}
 use Rattle.mta.specs.Working.{AreOwn, accepts}
 use Rattle.mta.specs.Ending.{ForHistory, mailbox_named, IsNotDecode, IsCause, IsText, IsFront, IsEnded}
 
--- unless its count rose, the disk stands for what it stood for and these steps, and one that is no spool is as it was
-pub record DiskLeft {D : Type 0} (content : D → Option (List ℕ)) (faults : D → ℕ) (old new : D) (added : List Step) : Type 0 where
+-- What became of the disk. `more` is the step in which it failed: there is at most one, and none unless its count rose.
+pub record DiskLeft {D : Type 0} (content : D → Option (List ℕ)) (faults : D → ℕ) (may_leave : D → List ℕ → Type 0) (moment : D → ℕ) (left_since : D → ℕ → List ℕ → Type 0) (old new : D) (added more : List Step) : Type 0 where
   pub later : faults old ≤ faults new
-  pub stands : (Rose (faults old) (faults new) → ⊥) → (f g : List ℕ) (steps : List Step) → content old ≡ Some f → content new ≡ Some g → StandsFor f steps → StandsFor g (steps ++ added)
-  pub left : (Rose (faults old) (faults new) → ⊥) → (f : List ℕ) → content old ≡ Some f → ((steps : List Step) → StandsFor f steps → ⊥) → content new ≡ Some f
+  pub one : length more ≤ 1
+  pub calm : (Rose (faults old) (faults new) → ⊥) → more ≡ []
+  -- it reads as what it stood for with these steps
+  pub stands : (f g : List ℕ) (steps : List Step) → content old ≡ Some f → content new ≡ Some g → StandsFor f steps → IsLeftWith steps added more g
+  -- and so does what a crash leaves
+  pub safe : (f : List ℕ) (steps : List Step) → content old ≡ Some f → StandsFor f steps → IsSafe content may_leave moment left_since steps added more old new
+  -- one that is no spool is as it was
+  pub left : (f : List ℕ) → content old ≡ Some f → ((steps : List Step) → StandsFor f steps → ⊥) → content new ≡ Some f
 
 -- nothing is due after these steps, at a moment that is the greater of their last one and one that the clock tells
 abbrev pub IsSettled : (ℕ → Type 0) → List Step → Type 0
@@ -37,13 +44,14 @@ HasPrinted text before now (Err stop) =
     ((stop ≢ Stops.Sink) × (t : List ℕ) × IsFront text t × Goes (λ a b. b ≡ a ++ t) before now) ⊎ ((stop ≡ Stops.Sink) × (t : List ℕ) × text t × Goes (TakesFront t) before now)
 
 -- what a command leaves before its last line is printed
-pub record HasDone {D : Type 0} (content : D → Option (List ℕ)) (faults : D → ℕ) (tells : ℕ → Type 0) (words : Option Words) (conf input before now : Option (List ℕ)) (source_rose out_rose : Type 0) (old new : D) (result : Result (Unit {0}) Stop) : Type 0 where
+pub record HasDone {D : Type 0} (content : D → Option (List ℕ)) (faults : D → ℕ) (may_leave : D → List ℕ → Type 0) (moment : D → ℕ) (left_since : D → ℕ → List ℕ → Type 0) (tells : ℕ → Type 0) (words : Option Words) (conf input before now : Option (List ℕ)) (source_rose out_rose : Type 0) (old new : D) (result : Result (Unit {0}) Stop) : Type 0 where
   pub added : List Step
-  pub disk : DiskLeft content faults old new added
-  pub history : ForHistory (content old) (λ steps. IsHistory (steps ++ added))
-  pub own : (c i : List ℕ) → conf ≡ Some c → input ≡ Some i → ForHistory (content old) (λ steps. AreOwn tells c i (after steps) added)
-  pub few : accepts added ≤ 1
-  pub only : (words ≡ Some Say.Submit → ⊥) → added ≡ []
+  pub more : List Step
+  pub disk : DiskLeft content faults may_leave moment left_since old new added more
+  pub history : ForHistory (content old) (λ steps. IsHistory (steps ++ (added ++ more)))
+  pub own : (c i : List ℕ) → conf ≡ Some c → input ≡ Some i → ForHistory (content old) (λ steps. AreOwn tells c i (after steps) (added ++ more))
+  pub few : accepts (added ++ more) ≤ 1
+  pub only : (words ≡ Some Say.Submit → ⊥) → added ++ more ≡ []
   pub printed : HasPrinted (IsText words conf input (content old) added) before now result
   pub cause : (stop : Stop) → result ≡ Err stop → IsCause words conf input (content old) source_rose (Rose (faults old) (faults new)) out_rose added stop
   pub settled : words ≡ Some Say.Submit → result ≡ Ok tt → ForHistory (content old) (λ steps. IsSettled tells (steps ++ added))
@@ -59,22 +67,24 @@ pub record IsKept (steps added : List Step) (n : ℕ) (input : List ℕ) : Type 
   pub octets : item.octets ≡ input
 
 -- What a run leaves, each part where the objects that it speaks of tell what they hold. `added` are the steps that it added
--- to the history for which the disk stood.
-pub record Ran {D : Type 0} (content : D → Option (List ℕ)) (faults : D → ℕ) (tells : ℕ → Type 0) (words : Option Words) (conf input before now : Option (List ℕ)) (source_rose out_rose : Type 0) (old new : D) (status : ℕ) : Type 0 where
+-- to the history for which the disk stood, and `more` is the step in which the disk failed, if it did.
+pub record Ran {D : Type 0} (content : D → Option (List ℕ)) (faults : D → ℕ) (may_leave : D → List ℕ → Type 0) (moment : D → ℕ) (left_since : D → ℕ → List ℕ → Type 0) (tells : ℕ → Type 0) (words : Option Words) (conf input before now : Option (List ℕ)) (source_rose out_rose : Type 0) (old new : D) (status : ℕ) : Type 0 where
   pub added : List Step
-  -- unless its count rose, the disk stands for the history with the added steps, and one that is no spool is as it was
-  pub disk_stands : DiskLeft content faults old new added
+  pub more : List Step
+  -- the disk stands for the history with the added steps, as it reads and after a crash, or with those and the one in which it failed; since
+  -- the first sync a crash left the history with a beginning of these; and a disk that is no spool is as it was
+  pub disk_stands : DiskLeft content faults may_leave moment left_since old new added more
   -- each recipient is pending with no discharge, or is not pending and has one
-  pub recipients_once : ForHistory (content old) (λ steps. RecipientsOnce (steps ++ added))
+  pub recipients_once : ForHistory (content old) (λ steps. (n : ℕ) → RecipientsOnce (steps ++ take n (added ++ more)))
   -- where `submit` printed the line `accepted N`, item N is the input
   pub acknowledged_kept : words ≡ Some Say.Submit → (c i a b : List ℕ) → conf ≡ Some c → input ≡ Some i → before ≡ Some a → now ≡ Some b → (n : ℕ) (rest : List ℕ) → n < 2 ^ 32 → b ≡ a ++ accepted_line n ++ rest
-      → ForHistory (content old) (λ steps. IsKept steps added n i)
+      → ForHistory (content old) (λ steps. IsKept steps added n i × IsKept steps (added ++ more) n i)
   -- what was printed, the status, and why
   pub printed : IsEnded (IsCause words conf input (content old) source_rose (Rose (faults old) (faults new)) out_rose added) (IsText words conf input (content old) added) out_rose before now status
   -- the steps are of the tables and the input of this call, their moments are those of the clock, and only `submit` adds any
-  pub provenance : (c i : List ℕ) → conf ≡ Some c → input ≡ Some i → ForHistory (content old) (λ steps. AreOwn tells c i (after steps) added)
-  pub at_most_one : accepts added ≤ 1
-  pub only_submit : (words ≡ Some Say.Submit → ⊥) → added ≡ []
+  pub provenance : (c i : List ℕ) → conf ≡ Some c → input ≡ Some i → ForHistory (content old) (λ steps. AreOwn tells c i (after steps) (added ++ more))
+  pub at_most_one : accepts (added ++ more) ≤ 1
+  pub only_submit : (words ≡ Some Say.Submit → ⊥) → added ++ more ≡ []
   -- status 0 comes only where the words are in the grammar, the disk stood for a history unless the command is `decode`, and what the
   -- command reads is in order
   pub ended_well : status ≡ 0 → ((words ≡ None) → ⊥) × (IsNotDecode words → (f : List ℕ) → content old ≡ Some f → (steps : List Step) × StandsFor f steps)

@@ -2,6 +2,7 @@ pub mod Words
 pub mod Streams
 pub mod Telling
 pub mod Gathering
+pub mod Crashing
 pub mod Working
 pub mod Ending
 pub mod Headline

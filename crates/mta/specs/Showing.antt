@@ -7,8 +7,8 @@ use Rattle.mta_tables.specs.Tables.{TablesValue, mailbox_of as place_of_mailbox}
 use Rattle.mta_history.specs.History.{after}
 use Rattle.mta_history.specs.Image.{StandsFor, NoSpoolAt}
 use Rattle.mta_spool.specs.declared.current.Current.{Current}
-use Rattle.mta_spool.specs.declared.open.OpenWhy.{OpenWhy}
-use Rattle.mta_spool.specs.declared.open.OpenWhy.TheVariants as Whys
+use Rattle.mta_journal.specs.declared.why.OpenWhy.{OpenWhy}
+use Rattle.mta_journal.specs.declared.why.OpenWhy.TheVariants as Whys
 use Rattle.mta_show.specs.Mailbox.{mailbox_text}
 use Rattle.mta.specs.declared.stop.Stop.{Stop}
 use Rattle.mta.specs.declared.stop.Stop.TheVariants as Stops
@@ -59,8 +59,8 @@ IsReadCause words disk disk_rose out_rose Stops.Source = ⊥
 IsReadCause words disk disk_rose out_rose (Stops.BadApdu at kind) = ⊥
 
 -- what a command that prints leaves before its last line is printed
-pub record HasRead {D : Type 0} (content : D → Option (List ℕ)) (faults : D → ℕ) (words : Words) (before now : Option (List ℕ)) (out_rose : Type 0) (old new : D) (result : Result (Unit {0}) Stop) : Type 0 where
-  pub disk : DiskLeft content faults old new []
+pub record HasRead {D : Type 0} (content : D → Option (List ℕ)) (faults : D → ℕ) (may_leave : D → List ℕ → Type 0) (moment : D → ℕ) (left_since : D → ℕ → List ℕ → Type 0) (words : Words) (before now : Option (List ℕ)) (out_rose : Type 0) (old new : D) (result : Result (Unit {0}) Stop) : Type 0 where
+  pub disk : DiskLeft content faults may_leave moment left_since old new [] []
   pub printed : HasPrinted (IsText (Some words) None None (content old) []) before now result
   pub cause : (stop : Stop) → result ≡ Err stop → IsReadCause words (content old) (Rose (faults old) (faults new)) out_rose stop
   pub stood : result ≡ Ok tt → (f : List ℕ) → content old ≡ Some f → (steps : List Step) × StandsFor f steps

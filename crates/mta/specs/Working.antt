@@ -12,10 +12,12 @@ use Rattle.mta_history.specs.Due.{numbered, IsQuiet}
 use Rattle.mta_history.specs.History.{State, IsHistory, after, after_step}
 use Rattle.mta_spool.specs.declared.current.Current.{Current}
 use Rattle.mta_spool.specs.Shown.{Shown}
-use Rattle.mta_spool.specs.Stands.{Stands, step_moment, need_of, journal_limit}
+use Rattle.mta_journal.specs.Appending.{journal_limit}
+use Rattle.mta_spool.specs.Stands.{Stands, step_moment, need_of}
 use Rattle.mta_spool.specs.Turning.{IsNext}
 use Rattle.mta.specs.declared.stop.Stop.{Stop}
 use Rattle.mta.specs.declared.stop.Stop.TheVariants as Stops
+use Rattle.mta.specs.Crashing.{Leaves}
 use Rattle.mta.specs.Streams.{TakesFront}
 use Rattle.mta.specs.Telling.{accepted_line}
 
@@ -42,12 +44,16 @@ is_accept (Deliver item recipient moment) = false
 abbrev pub accepts : List Step → ℕ
 accepts steps = count_by is_accept steps
 
--- The steps were added to a spool: behind every history that it stood for, unless its disk failed.
-pub record Worked {D C : Type 0} (content : D → Option (List ℕ)) (faults : D → ℕ) (tells : ℕ → Type 0) (conf input : List ℕ) (old new : Shown D C) (added : List Step) (failed : Type 0) : Type 0 where
-  pub stands : (failed → ⊥) → (steps : List Step) → Stands content old steps → Stands content new (steps ++ added)
-  pub history : (steps : List Step) → Stands content old steps → IsHistory (steps ++ added)
-  pub own : (steps : List Step) → Stands content old steps → AreOwn tells conf input (after steps) added
-  pub later : faults old.disk ≤ faults new.disk
+-- The steps were added to a spool, behind every history that it stood for. `more` is the step in which its disk failed, if it did.
+pub record Worked {D C : Type 0} (content : D → Option (List ℕ)) (faults : D → ℕ) (may_leave : D → List ℕ → Type 0) (moment : D → ℕ) (left_since : D → ℕ → List ℕ → Type 0) (tells : ℕ → Type 0) (conf input : List ℕ) (old new : Shown D C) (added more : List Step) (failed : Type 0) : Type 0 where
+  pub stands : (failed → ⊥) → (steps : List Step) → Stands content may_leave old steps → Stands content may_leave new (steps ++ added)
+  pub told : (failed → ⊥) → (f : List ℕ) → content old.journal.disk ≡ Some f → (g : List ℕ) × (content new.journal.disk ≡ Some g)
+  pub calm : (failed → ⊥) → more ≡ []
+  pub one : length more ≤ 1
+  pub history : (steps : List Step) → Stands content may_leave old steps → IsHistory (steps ++ (added ++ more))
+  pub own : (steps : List Step) → Stands content may_leave old steps → AreOwn tells conf input (after steps) (added ++ more)
+  pub leaves : (f : List ℕ) → content old.journal.disk ≡ Some f → (steps : List Step) → Stands content may_leave old steps → Leaves may_leave moment left_since steps added more old.journal.disk new.journal.disk
+  pub later : faults old.journal.disk ≤ faults new.journal.disk
 
 -- a step that `submit` wants to make
 pub data IsWanted (conf input : List ℕ) (current : Current) (step : Step) : Type 0 where
@@ -72,24 +78,26 @@ pub record IsAccepted (steps added : List Step) (conf input : List ℕ) (n : ℕ
   pub tables : last_of (after (steps ++ added)).machine.tables ≡ Some conf
 
 -- the tables were recorded and the input accepted, or one of these was refused
-pub record HasStored {D C : Type 0} (content : D → Option (List ℕ)) (faults : D → ℕ) (tells : ℕ → Type 0) (conf input : List ℕ) (old new : Shown D C) (result : Result ℕ StepFault) : Type 0 where
+pub record HasStored {D C : Type 0} (content : D → Option (List ℕ)) (faults : D → ℕ) (may_leave : D → List ℕ → Type 0) (moment : D → ℕ) (left_since : D → ℕ → List ℕ → Type 0) (tells : ℕ → Type 0) (conf input : List ℕ) (old new : Shown D C) (result : Result ℕ StepFault) : Type 0 where
   pub added : List Step
-  pub worked : Worked content faults tells conf input old new added (result ≡ Err StepFaults.Disk)
-  pub few : accepts added ≤ 1
+  pub more : List Step
+  pub worked : Worked content faults may_leave moment left_since tells conf input old new added more (result ≡ Err StepFaults.Disk)
+  pub few : accepts (added ++ more) ≤ 1
   pub small : (n : ℕ) → result ≡ Ok n → n < 2 ^ 32
-  pub accepted : (n : ℕ) → result ≡ Ok n → (steps : List Step) → Stands content old steps → IsAccepted steps added conf input n
-  pub refused : (fault : StepFault) → result ≡ Err fault → IsRefusal conf input new.current new.size (Rose (faults old.disk) (faults new.disk)) fault
-  pub going : (n : ℕ) → result ≡ Ok n → new.ended ≡ false
+  pub accepted : (n : ℕ) → result ≡ Ok n → (steps : List Step) → Stands content may_leave old steps → IsAccepted steps added conf input n
+  pub refused : (fault : StepFault) → result ≡ Err fault → IsRefusal conf input new.current new.journal.size (Rose (faults old.journal.disk) (faults new.journal.disk)) fault
+  pub going : (n : ℕ) → result ≡ Ok n → new.journal.ended ≡ false
 
 -- all that was due was done, or a step of it was refused
-pub record HasSettled {D C : Type 0} (content : D → Option (List ℕ)) (faults : D → ℕ) (tells : ℕ → Type 0) (old new : Shown D C) (result : Result (Unit {0}) StepFault) : Type 0 where
+pub record HasSettled {D C : Type 0} (content : D → Option (List ℕ)) (faults : D → ℕ) (may_leave : D → List ℕ → Type 0) (moment : D → ℕ) (left_since : D → ℕ → List ℕ → Type 0) (tells : ℕ → Type 0) (old new : Shown D C) (result : Result (Unit {0}) StepFault) : Type 0 where
   pub added : List Step
-  pub worked : (conf input : List ℕ) → Worked content faults tells conf input old new added (result ≡ Err StepFaults.Disk)
-  pub none : accepts added ≡ 0
+  pub more : List Step
+  pub worked : (conf input : List ℕ) → Worked content faults may_leave moment left_since tells conf input old new added more (result ≡ Err StepFaults.Disk)
+  pub none : accepts (added ++ more) ≡ 0
   -- items keep their octets, and the tables recorded last stay
-  pub kept : (before steps : List Step) (conf input : List ℕ) (n : ℕ) → Stands content old (before ++ steps) → IsAccepted before steps conf input n → IsAccepted before (steps ++ added) conf input n
+  pub kept : (before steps : List Step) (conf input : List ℕ) (n : ℕ) → Stands content may_leave old (before ++ steps) → IsAccepted before steps conf input n → IsAccepted before (steps ++ added) conf input n
   pub quiet : result ≡ Ok tt → (told : ℕ) × tells told × IsQuiet new.current.tables new.current.items (step_moment told new.current.moment)
-  pub refused : (fault : StepFault) → result ≡ Err fault → (conf input : List ℕ) → IsRefusal conf input new.current new.size (Rose (faults old.disk) (faults new.disk)) fault
+  pub refused : (fault : StepFault) → result ≡ Err fault → (conf input : List ℕ) → IsRefusal conf input new.current new.journal.size (Rose (faults old.journal.disk) (faults new.journal.disk)) fault
 
 -- what was said of the item that was accepted
 pub data IsSaid (numbers : ℕ → Type 0) (before now : Option (List ℕ)) : Result (Unit {0}) Stop → Type 0 where
@@ -124,10 +132,11 @@ HasAcknowledged before now rose n (Ok done) = Goes (λ a b. b ≡ a ++ accepted_
 HasAcknowledged before now rose n (Err stop) = ((stop ≡ Stops.Memory) × (now ≡ before)) ⊎ ((stop ≡ Stops.Sink) × rose × Goes (TakesFront (accepted_line n)) before now)
 
 -- what `submit` leaves of an open spool
-pub record HasWorked {D C : Type 0} (content : D → Option (List ℕ)) (faults : D → ℕ) (tells : ℕ → Type 0) (conf input : List ℕ) (before now : Option (List ℕ)) (out_rose : Type 0) (old new : Shown D C) (result : Result (Unit {0}) Stop) : Type 0 where
+pub record HasWorked {D C : Type 0} (content : D → Option (List ℕ)) (faults : D → ℕ) (may_leave : D → List ℕ → Type 0) (moment : D → ℕ) (left_since : D → ℕ → List ℕ → Type 0) (tells : ℕ → Type 0) (conf input : List ℕ) (before now : Option (List ℕ)) (out_rose : Type 0) (old new : Shown D C) (result : Result (Unit {0}) Stop) : Type 0 where
   pub added : List Step
-  pub worked : Worked content faults tells conf input old new added (result ≡ Err Stops.Disk)
-  pub few : accepts added ≤ 1
-  pub said : IsSaid (λ n. (steps : List Step) → Stands content old steps → IsAccepted steps added conf input n) before now result
+  pub more : List Step
+  pub worked : Worked content faults may_leave moment left_since tells conf input old new added more (result ≡ Err Stops.Disk)
+  pub few : accepts (added ++ more) ≤ 1
+  pub said : IsSaid (λ n. (steps : List Step) → Stands content may_leave old steps → IsAccepted steps added conf input n) before now result
   pub quiet : result ≡ Ok tt → (told : ℕ) × tells told × IsQuiet new.current.tables new.current.items (step_moment told new.current.moment)
-  pub refused : (stop : Stop) → result ≡ Err stop → IsWorkStop conf input new.current new.size (Rose (faults old.disk) (faults new.disk)) out_rose stop
+  pub refused : (stop : Stop) → result ≡ Err stop → IsWorkStop conf input new.current new.journal.size (Rose (faults old.journal.disk) (faults new.journal.disk)) out_rose stop

@@ -53,7 +53,7 @@ pub fn submit<D: Disk + Drop, C: Clock + Drop, I: Source, O: Sink>(
     disk: D,
     clock: C,
 ) -> Done<D>
-    ensures done { HasDone D.content D.faults (C.tells clock) (Some Say.Submit) (I.left conf.old) (I.left input.old) (O.taken out.old) (O.taken out.new) (Rose (I.faults conf.old) (I.faults conf.new) ⊎ Rose (I.faults input.old) (I.faults input.new)) (Rose (O.faults out.old) (O.faults out.new)) disk result.disk result.outcome }
+    ensures done { HasDone D.content D.faults D.may_leave D.moment D.left_since (C.tells clock) (Some Say.Submit) (I.left conf.old) (I.left input.old) (O.taken out.old) (O.taken out.new) (Rose (I.faults conf.old) (I.faults conf.new) ⊎ Rose (I.faults input.old) (I.faults input.new)) (Rose (O.faults out.old) (O.faults out.new)) disk result.disk result.outcome }
     ensures later { O.faults out.old ≤ O.faults out.new }
 {
     let gathered = match gather(alloc, conf, input) {
@@ -131,7 +131,7 @@ pub fn queue<D: Disk + Drop, C: Clock + Drop, O: Sink>(
     disk: D,
     clock: C,
 ) -> Done<D>
-    ensures done { HasRead D.content D.faults Say.Queue (O.taken out.old) (O.taken out.new) (Rose (O.faults out.old) (O.faults out.new)) disk result.disk result.outcome }
+    ensures done { HasRead D.content D.faults D.may_leave D.moment D.left_since Say.Queue (O.taken out.old) (O.taken out.new) (Rose (O.faults out.old) (O.faults out.new)) disk result.disk result.outcome }
     ensures later { O.faults out.old ≤ O.faults out.new }
 {
     match Spool::open(alloc, disk, clock) {
@@ -154,7 +154,7 @@ pub fn mailbox<D: Disk + Drop, C: Clock + Drop, O: Sink>(
     disk: D,
     clock: C,
 ) -> Done<D>
-    ensures done { HasRead D.content D.faults (Say.Mailbox name) (O.taken out.old) (O.taken out.new) (Rose (O.faults out.old) (O.faults out.new)) disk result.disk result.outcome }
+    ensures done { HasRead D.content D.faults D.may_leave D.moment D.left_since (Say.Mailbox name) (O.taken out.old) (O.taken out.new) (Rose (O.faults out.old) (O.faults out.new)) disk result.disk result.outcome }
     ensures later { O.faults out.old ≤ O.faults out.new }
 {
     match Spool::open(alloc, disk, clock) {

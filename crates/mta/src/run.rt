@@ -31,7 +31,7 @@ fn perform<D: Disk + Drop, C: Clock + Drop, I: Source, O: Sink>(
     disk: D,
     clock: C,
 ) -> Done<D>
-    ensures done { HasDone D.content D.faults (C.tells clock) (Some words) (I.left conf.old) (I.left input.old) (O.taken out.old) (O.taken out.new) (Rose (I.faults conf.old) (I.faults conf.new) ⊎ Rose (I.faults input.old) (I.faults input.new)) (Rose (O.faults out.old) (O.faults out.new)) disk result.disk result.outcome }
+    ensures done { HasDone D.content D.faults D.may_leave D.moment D.left_since (C.tells clock) (Some words) (I.left conf.old) (I.left input.old) (O.taken out.old) (O.taken out.new) (Rose (I.faults conf.old) (I.faults conf.new) ⊎ Rose (I.faults input.old) (I.faults input.new)) (Rose (O.faults out.old) (O.faults out.new)) disk result.disk result.outcome }
     ensures later { O.faults out.old ≤ O.faults out.new }
 {
     match words {
@@ -55,7 +55,7 @@ fn command<D: Disk + Drop, C: Clock + Drop, I: Source, O: Sink>(
     disk: D,
     clock: C,
 ) -> Done<D>
-    ensures done { HasDone D.content D.faults (C.tells clock) (command_of words.now) (I.left conf.old) (I.left input.old) (O.taken out.old) (O.taken out.new) (Rose (I.faults conf.old) (I.faults conf.new) ⊎ Rose (I.faults input.old) (I.faults input.new)) (Rose (O.faults out.old) (O.faults out.new)) disk result.disk result.outcome }
+    ensures done { HasDone D.content D.faults D.may_leave D.moment D.left_since (C.tells clock) (command_of words.now) (I.left conf.old) (I.left input.old) (O.taken out.old) (O.taken out.new) (Rose (I.faults conf.old) (I.faults conf.new) ⊎ Rose (I.faults input.old) (I.faults input.new)) (Rose (O.faults out.old) (O.faults out.new)) disk result.disk result.outcome }
     ensures later { O.faults out.old ≤ O.faults out.new }
 {
     match Words::read(alloc, words) {
@@ -85,7 +85,7 @@ pub fn run<D: Disk + Drop, C: Clock + Drop, I: Source, O: Sink>(
     disk: D,
     clock: C,
 ) -> Finished<D>
-    ensures ran { Ran D.content D.faults (C.tells clock) (command_of words.now) (I.left conf.old) (I.left input.old) (O.taken out.old) (O.taken out.new) (Rose (I.faults conf.old) (I.faults conf.new) ⊎ Rose (I.faults input.old) (I.faults input.new)) (Rose (O.faults out.old) (O.faults out.new)) disk result.disk result.status }
+    ensures ran { Ran D.content D.faults D.may_leave D.moment D.left_since (C.tells clock) (command_of words.now) (I.left conf.old) (I.left input.old) (O.taken out.old) (O.taken out.new) (Rose (I.faults conf.old) (I.faults conf.new) ⊎ Rose (I.faults input.old) (I.faults input.new)) (Rose (O.faults out.old) (O.faults out.new)) disk result.disk result.status }
     ensures complete { IsComplete (command_of words.now) (I.left conf.old) (I.left input.old) (D.content disk) (Rose (I.faults conf.old) (I.faults conf.new) ⊎ Rose (I.faults input.old) (I.faults input.new)) (Rose (D.faults disk) (D.faults result.disk)) (Rose (O.faults out.old) (O.faults out.new)) result.status }
 
     ensures decoded { IsDecoded (command_of words.now) (I.left input.old) (Rose (I.faults conf.old) (I.faults conf.new) ⊎ Rose (I.faults input.old) (I.faults input.new)) (Rose (O.faults out.old) (O.faults out.new)) result.status }

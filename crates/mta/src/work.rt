@@ -22,10 +22,10 @@ fn store<D: Disk + Drop, C: Clock + Drop>(
     tables: Tables,
     apdu: &Octets,
 ) -> Result<u32, StepFault>
-    requires going { spool.old.ended ≡ false }
+    requires going { spool.old.journal.ended ≡ false }
     requires message { IsApdu apdu.now }
-    requires stands { (steps : List Step) × Stands D.content spool.old steps }
-    ensures stored { HasStored D.content D.faults (C.tells spool.old.clock) tables.text apdu.now spool.old spool.new result }
+    requires stands { (steps : List Step) × Stands D.content D.may_leave spool.old steps }
+    ensures stored { HasStored D.content D.faults D.may_leave D.moment D.left_since (C.tells spool.old.clock) tables.text apdu.now spool.old spool.new result }
     ensures clock { (m : ℕ) → C.tells spool.new.clock m → C.tells spool.old.clock m }
 {
     match spool.set_tables(tables) {
@@ -36,9 +36,9 @@ fn store<D: Disk + Drop, C: Clock + Drop>(
 
 // Does what is due until nothing is.
 fn settle<D: Disk + Drop, C: Clock + Drop>(spool: &mut Spool<D, C>) -> Result<(), StepFault>
-    requires going { spool.old.ended ≡ false }
-    requires stands { (steps : List Step) × Stands D.content spool.old steps }
-    ensures { HasSettled D.content D.faults (C.tells spool.old.clock) spool.old spool.new result }
+    requires going { spool.old.journal.ended ≡ false }
+    requires stands { (steps : List Step) × Stands D.content D.may_leave spool.old steps }
+    ensures { HasSettled D.content D.faults D.may_leave D.moment D.left_since (C.tells spool.old.clock) spool.old spool.new result }
 {
     loop {
         match spool.turn() {
@@ -81,10 +81,10 @@ pub fn work<D: Disk + Drop, C: Clock + Drop, O: Sink>(
     gathered: Gathered,
     out: &mut O,
 ) -> Result<(), Stop>
-    requires going { spool.old.ended ≡ false }
+    requires going { spool.old.journal.ended ≡ false }
     requires message { IsApdu gathered.apdu }
-    requires stands { (steps : List Step) × Stands D.content spool.old steps }
-    ensures worked { HasWorked D.content D.faults (C.tells spool.old.clock) gathered.tables.text gathered.apdu (O.taken out.old) (O.taken out.new) (Rose (O.faults out.old) (O.faults out.new)) spool.old spool.new result }
+    requires stands { (steps : List Step) × Stands D.content D.may_leave spool.old steps }
+    ensures worked { HasWorked D.content D.faults D.may_leave D.moment D.left_since (C.tells spool.old.clock) gathered.tables.text gathered.apdu (O.taken out.old) (O.taken out.new) (Rose (O.faults out.old) (O.faults out.new)) spool.old spool.new result }
     ensures later { O.faults out.old ≤ O.faults out.new }
 {
     let Gathered { tables, apdu } = gathered;

@@ -22,6 +22,7 @@ module _ {D T : Type 0} (content : D → Option (List ℕ)) (faults : D → ℕ)
       → Appends {T = T} content faults may_leave moment left_since body old old (Err (Faults.Full size need))
   answers_full only_now old size need going size_is need_is passes = record {
     done = λ ok. absurd cc;
+    told = λ ok. absurd cc;
     images = still content may_leave moment left_since body only_now old;
     kept = λ err no. refl;
     ended = (λ e. absurd cc, λ e. absurd cc);
@@ -36,6 +37,7 @@ module _ {D T : Type 0} (content : D → Option (List ℕ)) (faults : D → ℕ)
       → Appends {T = T} content faults may_leave moment left_since body old new (Err Faults.Memory)
   answers_memory only_now old new same going fits = record {
     done = λ ok. absurd cc;
+    told = λ ok. absurd cc;
     images = λ f told bodies holds. subst (λ (n : Shown D). AtAnyMoment moment left_since (HasOrOneMore bodies body) old.disk n.disk) (sym same) (still content may_leave moment left_since body only_now old f told bodies holds);
     kept = λ err no. same;
     ended = (λ e. absurd cc, λ e. absurd cc);
@@ -51,6 +53,7 @@ module _ {D T : Type 0} (content : D → Option (List ℕ)) (faults : D → ℕ)
       → Appends {T = T} content faults may_leave moment left_since body old new (Err Faults.Disk)
   answers_disk old new going stopped fits later rose images = record {
     done = λ ok. absurd cc;
+    told = λ ok. absurd cc;
     images = images;
     kept = λ err no. absurd (no refl);
     ended = (λ e. absurd cc, λ e. absurd cc);
@@ -63,16 +66,17 @@ module _ {D T : Type 0} (content : D → Option (List ℕ)) (faults : D → ℕ)
 
   pub answers_ok : (old new : Shown D) (x : T) → old.ended ≡ false → new.ended ≡ false → new.size ≡ old.size + need_of body → old.size + need_of body ≤ journal_limit → faults old.disk ≤ faults new.disk
       → ((bodies : List (List ℕ)) → Holds content may_leave old bodies → Goes (λ f g. HasBodies f bodies → HasBodies g (bodies ++ body ∷ [])) (content old.disk) (content new.disk))
-      → Settled (content new.disk) (may_leave new.disk)
+      → Goes (λ f g. old.size - 1 + length body + 6 ≤ length g) (content old.disk) (content new.disk) → Settled (content new.disk) (may_leave new.disk)
       → ((f : List ℕ) → content old.disk ≡ Some f → (bodies : List (List ℕ)) → Holds content may_leave old bodies → AtAnyMoment moment left_since (HasOrOneMore bodies body) old.disk new.disk)
       → Appends {T = T} content faults may_leave moment left_since body old new (Ok x)
-  answers_ok old new x going goes_on size fits later put settled images = record {
+  answers_ok old new x going goes_on size fits later put longer settled images = record {
     done = λ ok bodies holds. record {
       file = λ g told. let from = (put bodies holds).back g told in from.2 (holds.file from.0 from.1);
       size = omega (arith, size, holds.size, length-front-more bodies body);
       going = goes_on;
       settled = settled;
     };
+    told = λ ok f told. let x = longer.each f told in (x.0, x.1);
     images = images;
     kept = λ err no. absurd cc;
     ended = (λ e. absurd cc, λ e. absurd cc);

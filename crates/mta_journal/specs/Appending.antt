@@ -18,6 +18,8 @@ need_of body = length body + 5
 pub record Appends {D T : Type 0} (content : D → Option (List ℕ)) (faults : D → ℕ) (may_leave : D → List ℕ → Type 0) (moment : D → ℕ) (left_since : D → ℕ → List ℕ → Type 0) (body : List ℕ) (old new : Shown D) (result : Result T AppendFault) : Type 0 where
   -- at Ok the body stands behind those that the journal held, also after a crash
   pub done : IsOk result → (bodies : List (List ℕ)) → Holds content may_leave old bodies → Holds content may_leave new (bodies ++ body ∷ [])
+  -- and the disk tells what it holds where it told it
+  pub told : IsOk result → (f : List ℕ) → content old.disk ≡ Some f → (g : List ℕ) × (content new.disk ≡ Some g)
   -- a crash at any moment of the call leaves the bodies that the journal held, or those and this one
   pub images : (f : List ℕ) → content old.disk ≡ Some f → (bodies : List (List ℕ)) → Holds content may_leave old bodies → AtAnyMoment moment left_since (HasOrOneMore bodies body) old.disk new.disk
   -- at a refusal but the disk's all is as it was

@@ -41,6 +41,7 @@ fn make_empty<D: Disk>(alloc: Global, disk: &mut D) -> Result<Found, OpenWhy>
     requires settled { Settled (D.content disk.old) (D.may_leave disk.old) }
     ensures stands { IfOk result (λ r. (f : List ℕ) → D.content disk.old ≡ Some f → StandsFor f r.bodies.items) }
     ensures stored { IfOk result (λ r. Stored D.content disk.new r.size r.bodies.items) }
+    ensures told { OnOk result ((f : List ℕ) → D.content disk.old ≡ Some f → (g : List ℕ) × (D.content disk.new ≡ Some g)) }
     ensures settled { OnOk result (Settled (D.content disk.new) (D.may_leave disk.new)) }
     ensures refused { (p : ℕ) → IsErrOf result (OpenWhy.NotSpool p) → Goes (IsRefused p) (D.content disk.old) (D.content disk.new) }
     ensures cause { HasOpenCause (D.faults disk.old) (D.faults disk.new) result }
@@ -74,6 +75,7 @@ fn find<D: Disk>(alloc: Global, disk: &mut D) -> Result<Found, OpenWhy>
     requires settled { Settled (D.content disk.old) (D.may_leave disk.old) }
     ensures stands { IfOk result (λ r. (f : List ℕ) → D.content disk.old ≡ Some f → StandsFor f r.bodies.items) }
     ensures stored { IfOk result (λ r. Stored D.content disk.new r.size r.bodies.items) }
+    ensures told { OnOk result ((f : List ℕ) → D.content disk.old ≡ Some f → (g : List ℕ) × (D.content disk.new ≡ Some g)) }
     ensures settled { OnOk result (Settled (D.content disk.new) (D.may_leave disk.new)) }
     ensures refused { (p : ℕ) → IsErrOf result (OpenWhy.NotSpool p) → Goes (IsRefused p) (D.content disk.old) (D.content disk.new) }
     ensures kept { (f : List ℕ) → D.content disk.old ≡ Some f → 9 < length f → D.content disk.new ≡ Some f }
@@ -93,6 +95,7 @@ fn find<D: Disk>(alloc: Global, disk: &mut D) -> Result<Found, OpenWhy>
 fn recover<D: Disk>(alloc: Global, disk: &mut D) -> Result<Found, OpenWhy>
     ensures stands { IfOk result (λ r. (f : List ℕ) → D.content disk.old ≡ Some f → StandsFor f r.bodies.items) }
     ensures stored { IfOk result (λ r. Stored D.content disk.new r.size r.bodies.items) }
+    ensures told { OnOk result ((f : List ℕ) → D.content disk.old ≡ Some f → (g : List ℕ) × (D.content disk.new ≡ Some g)) }
     ensures settled { OnOk result (Settled (D.content disk.new) (D.may_leave disk.new)) }
     ensures refused { (p : ℕ) → IsErrOf result (OpenWhy.NotSpool p) → Goes (IsRefused p) (D.content disk.old) (D.content disk.new) }
     ensures kept { (f : List ℕ) → D.content disk.old ≡ Some f → 9 < length f → D.content disk.new ≡ Some f }
@@ -118,6 +121,7 @@ impl<D: Disk + Drop> Journal<D> {
     pub fn open(alloc: Global, mut disk: D) -> Result<Opened<D>, OpenFault<D>>
         ensures stands { IfOk result (λ o. (f : List ℕ) → D.content disk ≡ Some f → StandsFor f o.bodies.items) }
         ensures holds { IfOk result (λ o. Holds D.content D.may_leave o.journal o.bodies.items) }
+        ensures told { IfOk result (λ o. (f : List ℕ) → D.content disk ≡ Some f → (g : List ℕ) × (D.content o.journal.disk ≡ Some g)) }
         ensures short { IfOk result (λ o. AreShort o.bodies.items) }
         ensures first { IfOk result (λ o. o.first ≡ 8) }
         ensures later { IfOk result (λ o. D.faults disk ≤ D.faults o.journal.disk) }

@@ -1,10 +1,7 @@
-pub mod Disks
+pub mod Crashes
 pub mod Made
 pub mod Next
-pub mod Opened
 pub mod Openings
 pub mod Put
-pub mod Records
 pub mod Replays
-pub mod Rows
 pub mod Turns

@@ -1,5 +1,6 @@
 -- A step that is put and shown is made.
-use Rattle.std.proofs.Common.{false, true, ◌≡◌, ◌≢◌, ℕ, ◌+◌, ◌≤◌, ◌<◌, ◌^◌, List, [], ◌∷◌, ◌++◌, length, take, Option, None, Some, Result, Ok, Err, IsErrOf, ltb, inl, inr, add-one, refl, sym, ap, subst, ◌∙◌, arith}
+use Rattle.std.specs.Prelude.{◌↔◌}
+use Rattle.std.proofs.Common.{false, true, ◌≡◌, ◌≢◌, ℕ, ◌+◌, ◌≤◌, ◌<◌, ◌^◌, List, [], ◌∷◌, ◌++◌, length, map, take, Option, None, Some, Result, Ok, Err, IsErrOf, ltb, inl, inr, add-one, refl, sym, ap, subst, ◌∙◌, arith}
 use Rattle.std.proofs.Math.Seq.{take-append_seam}
 use Rattle.mta_records.specs.declared.step.Step.{Step}
 use Rattle.mta_records.specs.declared.step.Step.TheVariants.{Tables, Accept, Deliver}
@@ -20,12 +21,16 @@ use Rattle.mta_history.specs.Due.{numbered, due_mailbox}
 use Rattle.mta_history.specs.Machine.{with_status, delivery}
 use Rattle.mta_history.specs.Verdict.{last_of, recorded, tables_value, value_of}
 use Rattle.mta_history.specs.History.{State, IsPossible, ArePossible, IsHistory, IsTablesText, after_step, after, after_from, empty}
-use Rattle.mta_history.proofs.Histories.{after_from-more, possible-more}
+use Rattle.mta_history.proofs.Histories.{after_from-more, possible-more, map-more, AreRecords-more}
+use Rattle.mta_journal.specs.Shown.{Shown as JournalShown, Holds}
+use Rattle.mta_records.specs.Body.{body_of, HasFields}
 use Rattle.mta_spool.specs.declared.current.Current.{Current}
 use Rattle.mta_spool.specs.Shown.{Shown}
 use Rattle.mta_spool.specs.Current.{current_of, current_after, CanMake}
-use Rattle.mta_spool.specs.Stands.{Stores, Stands, Appends, need_of, journal_limit}
-use Rattle.mta_spool.specs.Putting.{HasPut, with_item, with_line}
+use Rattle.mta_spool.specs.Stands.{Stands, Appends}
+use Rattle.mta_spool.specs.Putting.{HasAppended, HasPut, with_item, with_line}
+use Rattle.mta_spool.proofs.Put.{carried}
+use Rattle.mta_spool.proofs.Crashes.{tried}
 use Rattle.mta_apdu.specs.Apdus.{longest_apdu}
 
 last_of-more : (ts : List (List ℕ)) (t : List ℕ) → last_of (ts ++ t ∷ []) ≡ Some t
@@ -99,47 +104,102 @@ possible_can_make steps (Accept moment apdu) current is history possible =
     subst (λ (x : Current). CanMake x (Accept moment apdu)) (sym is) c
 possible_can_make steps (Deliver item recipient moment) current is history possible = subst (λ (x : Current). CanMake x (Deliver item recipient moment)) (sym is) possible
 
--- the step is stored, shown and possible, so the spool stands for it too
-pub stands_more : {D C : Type 0} (content : D → Option (List ℕ)) (step : Step) (old new : Shown D C) (steps : List Step)
-    → Stands content old steps → Stores content new (steps ++ step ∷ []) → new.current ≡ current_after old.current step → IsPossible (after steps) step → Stands content new (steps ++ step ∷ [])
-stands_more content step old new steps s stored current possible = record {
-  stored = stored;
-  current = current ∙ current-more steps step old.current s.current;
-  history = possible-more empty steps step s.history possible;
-}
-
 pub length-spelled : (apdu : List ℕ) → IsApdu apdu → length apdu ≤ longest_apdu
 length-spelled apdu spells = spells.1.short
 
--- where the disk and the size are the same
-Stores-along : {D C : Type 0} (content : D → Option (List ℕ)) (a b : Shown D C) (steps : List Step) → b.disk ≡ a.disk → b.size ≡ a.size → Stores content a steps → Stores content b steps
-Stores-along content a b steps e f s = record {
-  file = λ g told. s.file g (ap content (sym e) ∙ told);
-  size = f ∙ s.size;
-}
+-- ---- the journal of a step that was put
 
--- A step that was put is appended. `before` differs from the spool as it was by its clock alone.
-pub appends : {D C T : Type 0} (content : D → Option (List ℕ)) (faults : D → ℕ) (step put : Step) (current : Current) (old before mid new : Shown D C) (x : T)
-    → HasPut {T = Unit {0}} content faults put current before mid (Ok tt) → put ≡ step → before ≡ record old { clock = before.clock } → old.ended ≡ false → mid ≡ record new { current = mid.current }
-    → new.current ≡ current_after old.current step → ((steps : List Step) → Stands content old steps → IsPossible (after steps) step) → Appends content faults step old new (Ok x)
-appends content faults step put current old before mid new x has same was going is shown possible =
-    let disk : before.disk ≡ old.disk = ap (λ (v : Shown _ _). v.disk) was in
-    let size : before.size ≡ old.size = ap (λ (v : Shown _ _). v.size) was in
-    let ended : before.ended ≡ old.ended = ap (λ (v : Shown _ _). v.ended) was in
-    let now_disk : mid.disk ≡ new.disk = ap (λ (v : Shown _ _). v.disk) is in
-    let now_size : mid.size ≡ new.size = ap (λ (v : Shown _ _). v.size) is in
-    let now_ended : mid.ended ≡ new.ended = ap (λ (v : Shown _ _). v.ended) is in
-    record {
-      done = λ ok steps s. stands_more content step old new steps s (Stores-along content mid new (steps ++ step ∷ []) (sym now_disk) (sym now_size) (subst (λ (p : Step). Stores content mid (steps ++ p ∷ [])) same (has.stored refl steps (Stores-along content old before steps disk size s.stored)))) shown (possible steps s);
-      kept = λ err. absurd cc;
-      later = omega (arith, has.later, ap faults disk, ap faults now_disk);
-      disk = λ e. absurd cc;
-      ended = (λ e. absurd cc, λ e. absurd cc);
-      marked = λ e. absurd cc;
-      still = λ no. sym now_ended ∙ has.still refl ∙ ended;
-      full = λ size need e. absurd cc;
-      fits = λ ok. subst (λ (p : Step). old.size + need_of p ≤ journal_limit) same (subst (λ (n : ℕ). n + need_of put ≤ journal_limit) size (has.fits refl));
-    }
+module _ {D C : Type 0} (content : D → Option (List ℕ)) (faults : D → ℕ) (may_leave : D → List ℕ → Type 0) (moment : D → ℕ) (left_since : D → ℕ → List ℕ → Type 0)
+    (counts_now : (d : D) (t : ℕ) (g : List ℕ) → t ≤ moment d → may_leave d g → left_since d t g) where
+  -- the step is on the disk, shown and possible, so the spool stands for it too
+  stands_more : (step : Step) (old new : Shown D C) (steps : List Step) → Stands content may_leave old steps → HasAppended {T = Unit {0}} content faults may_leave moment left_since step old.journal new.journal (Ok tt) → HasFields step
+      → new.current ≡ current_after old.current step → IsPossible (after steps) step → Stands content may_leave new (steps ++ step ∷ [])
+  stands_more step old new steps s has fields current possible = record {
+    holds = subst (Holds content may_leave new.journal) (sym (map-more steps step)) (has.done refl (map body_of steps) s.holds);
+    each = AreRecords-more steps step s.each fields;
+    current = current ∙ current-more steps step old.current s.current;
+    history = possible-more empty steps step s.history possible;
+  }
+
+  -- A step that was put is appended. `before` differs from the spool as it was by its clock alone.
+  pub appends : {T : Type 0} (step put : Step) (current : Current) (old before mid new : Shown D C) (x : T)
+      → HasPut {T = Unit {0}} content faults may_leave moment left_since put current before mid (Ok tt) → put ≡ step → before ≡ record old { clock = before.clock } → old.journal.ended ≡ false → mid ≡ record new { current = mid.current }
+      → new.current ≡ current_after old.current step → HasFields step → ((steps : List Step) → Stands content may_leave old steps → IsPossible (after steps) step) → Appends content faults may_leave moment left_since step old new (Ok x)
+  appends step put current old before mid new x has same was going is shown fields possible =
+      let appended : HasAppended {T = Unit {0}} content faults may_leave moment left_since step old.journal new.journal (Ok tt) =
+      carried content faults may_leave moment left_since step before.journal mid.journal old.journal new.journal (Ok tt) (ap (λ (v : Shown _ _). v.journal) was) (ap (λ (v : Shown _ _). v.journal) is)
+      (subst (λ (p : Step). HasAppended {T = Unit {0}} content faults may_leave moment left_since p before.journal mid.journal (Ok tt)) same has.appended) in
+      record {
+        done = λ ok steps s. stands_more step old new steps s appended fields shown (possible steps s);
+        told = λ ok. appended.told refl;
+        crash = λ calm. tried content may_leave moment left_since step counts_now old new fields possible appended.images;
+        kept = λ err. absurd cc;
+        later = appended.later;
+        disk = λ e. absurd cc;
+        ended = (λ e. absurd cc, λ e. absurd cc);
+        marked = λ e. absurd cc;
+        full = λ size need e. absurd cc;
+        fits = λ ok. appended.fits refl;
+      }
+
+  -- A step that was refused.
+  pub refuses : {T : Type 0} (step put : Step) (current : Current) (old before new : Shown D C) (fault : StepFault)
+      → HasPut {T = Unit {0}} content faults may_leave moment left_since put current before new (Err fault) → put ≡ step → before ≡ record old { clock = before.clock } → old.journal.ended ≡ false → HasFields step
+      → ((steps : List Step) → Stands content may_leave old steps → IsPossible (after steps) step) → Appends {T = T} content faults may_leave moment left_since step old new (Err fault)
+  refuses {T} step put current old before new fault has same was going fields possible =
+      let appended : HasAppended {T = Unit {0}} content faults may_leave moment left_since step old.journal new.journal (Err fault) =
+      carried content faults may_leave moment left_since step before.journal new.journal old.journal new.journal (Err fault) (ap (λ (v : Shown _ _). v.journal) was) refl
+      (subst (λ (p : Step). HasAppended {T = Unit {0}} content faults may_leave moment left_since p before.journal new.journal (Err fault)) same has.appended) in
+      record {
+        done = λ ok. absurd cc;
+        told = λ ok. absurd cc;
+        crash = λ calm. tried content may_leave moment left_since step counts_now old new fields possible appended.images;
+        kept = λ err no.
+            let same : new ≡ before = has.kept refl (λ e. no (other_answer fault StepFaults.Disk e)) in
+            same ∙ was ∙ ap (λ c. record old { clock = c }) (sym (ap (λ (v : Shown _ _). v.clock) same));
+        later = appended.later;
+        disk = λ e. appended.disk (this_answer fault StepFaults.Disk e);
+        ended = (λ e. absurd (appended.not_ended (this_answer fault StepFaults.Ended e)), λ e. absurd cc);
+        marked = λ e. appended.marked (this_answer fault StepFaults.Disk e);
+        full = λ size need e. appended.full size need (this_answer fault (StepFaults.Full size need) e);
+        fits = λ ok. absurd cc;
+      }
+    where
+      this_answer : (a b : StepFault) → ◌≡◌ {A = Result T StepFault} (Err a) (Err b) → ◌≡◌ {A = Result (Unit {0}) StepFault} (Err a) (Err b)
+      this_answer a b w = let same_fault : a ≡ b = cc in ap Err same_fault
+
+      other_answer : (a b : StepFault) → ◌≡◌ {A = Result (Unit {0}) StepFault} (Err a) (Err b) → ◌≡◌ {A = Result T StepFault} (Err a) (Err b)
+      other_answer a b w = let same_fault : a ≡ b = cc in ap Err same_fault
+
+  -- A step that was refused before the disk was called.
+  pub refuses_still : {T : Type 0} (step : Step) (old new : Shown D C) (fault : StepFault) → new ≡ record old { clock = new.clock } → (IsErrOf {T = T} (Err fault) StepFaults.Ended ↔ (old.journal.ended ≡ true)) → (fault ≡ StepFaults.Disk → ⊥)
+      → ((size need : ℕ) → fault ≡ StepFaults.Full size need → ⊥) → Appends {T = T} content faults may_leave moment left_since step old new (Err fault)
+  refuses_still {T} step old new fault is ended no_disk no_full =
+      let journal : new.journal ≡ old.journal = ap (λ (v : Shown _ _). v.journal) is in
+      record {
+        done = λ ok. absurd cc;
+        told = λ ok. absurd cc;
+        crash = λ calm. absurd (no_disk (fault_is fault StepFaults.Disk (calm refl)));
+        kept = λ err no. is;
+        later = omega (arith, ap (λ (j : JournalShown D). faults j.disk) journal);
+        disk = λ e. absurd (no_disk (fault_is fault StepFaults.Disk e));
+        ended = ended;
+        marked = λ e. absurd (no_disk (fault_is fault StepFaults.Disk e));
+        full = λ size need e. absurd (no_full size need (fault_is fault (StepFaults.Full size need) e));
+        fits = λ ok. absurd cc;
+      }
+    where
+      fault_is : (a b : StepFault) → ◌≡◌ {A = Result T StepFault} (Err a) (Err b) → a ≡ b
+      fault_is a b w = cc
+
+  pub no_memory : {T : Type 0} (step : Step) (old new : Shown D C) → new ≡ record old { clock = new.clock } → old.journal.ended ≡ false → Appends {T = T} content faults may_leave moment left_since step old new (Err StepFaults.Memory)
+  no_memory step old new is going = refuses_still step old new StepFaults.Memory is (λ e. absurd cc, λ e. absurd cc) (λ e. absurd cc) (λ size need e. absurd cc)
+
+  pub no_number : {T : Type 0} (step : Step) (old new : Shown D C) (last : ℕ) → new ≡ record old { clock = new.clock } → old.journal.ended ≡ false → Appends {T = T} content faults may_leave moment left_since step old new (Err (StepFaults.Spent last))
+  no_number step old new last is going = refuses_still step old new (StepFaults.Spent last) is (λ e. absurd cc, λ e. absurd cc) (λ e. absurd cc) (λ size need e. absurd cc)
+
+  pub has_ended : {T : Type 0} (step : Step) (old new : Shown D C) → new ≡ record old { clock = new.clock } → old.journal.ended ≡ true → Appends {T = T} content faults may_leave moment left_since step old new (Err StepFaults.Ended)
+  has_ended step old new is ended = refuses_still step old new StepFaults.Ended is (λ e. ended, λ e. refl) (λ e. absurd cc) (λ size need e. absurd cc)
 
 pub accept_same : (m n : ℕ) (apdu octets : List ℕ) → m ≡ n → octets ≡ apdu → ◌≡◌ {A = Step} (Accept m octets) (Accept n apdu)
 accept_same m n apdu octets e f = cc
@@ -156,8 +216,8 @@ current_accepted old before mid inside octets apdu statuses m moment same o s w 
 pub view_same : {D C : Type 0} (view w : Shown D C) → view ≡ w → w ≡ record view { current = w.current }
 view_same view w e = sym e ∙ ap (λ (x : Current). record view { current = x }) (ap (λ (v : Shown _ _). v.current) e)
 
-pub view_ended : {D C : Type 0} (view w : Shown D C) → view ≡ w → view.ended ≡ false → w.ended ≡ false
-view_ended view w e going = sym (ap (λ (v : Shown _ _). v.ended) e) ∙ going
+pub view_ended : {D C : Type 0} (view w : Shown D C) → view ≡ w → view.journal.ended ≡ false → w.journal.ended ≡ false
+view_ended view w e going = sym (ap (λ (v : Shown _ _). v.journal.ended) e) ∙ going
 
 pub item_added : {D C : Type 0} (view old : Shown D C) (items : List Item) (item : Item) → view ≡ old → items ≡ view.current.items ++ item ∷ []
     → ◌≡◌ {A = Shown D C} (record view { current = record view.current { items = items } }) (record old { current = with_item old.current item })

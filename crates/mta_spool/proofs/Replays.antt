@@ -15,14 +15,15 @@ use Rattle.mta_history.specs.Verdict.{recorded, tables_value, value_of}
 use Rattle.mta_history.specs.Due.{numbered, IsDue, due_place, due_mailbox}
 use Rattle.mta_history.specs.Machine.{with_status, delivery}
 use Rattle.mta_history.specs.History.{IsHistory, IsTablesText, IsPossible, after, empty}
-use Rattle.mta_history.specs.Image.{longest_body, magic, front, front_of, open_body, open_record, AreRecords, AreShort, IsNoStep}
-use Rattle.mta_history.proofs.Histories.{AreRecords-more, possible-more, length-front-more, length-string}
+use Rattle.mta_journal.specs.Bodies.{longest_body, magic, front, open_record, AreShort}
+use Rattle.mta_history.specs.Image.{AreRecords, StopsAt, size_of}
+use Rattle.mta_history.proofs.Histories.{AreRecords-more, map-more, possible-more, size-more}
 use Rattle.mta_history.proofs.Dues.{due_is}
 use Rattle.mta_spool.specs.declared.current.Current.{Current}
 use Rattle.mta_spool.specs.declared.replay.NotMade.{NotMade}
 use Rattle.mta_spool.specs.declared.replay.NotMade.TheVariants as NotMades
 use Rattle.mta_spool.specs.Current.{current_of, current_after, CanMake, HasApplied}
-use Rattle.mta_spool.specs.Replaying.{IsReplay, StopsAt, HasTaken}
+use Rattle.mta_spool.specs.Replaying.{IsReplay, HasTaken}
 use Rattle.mta_spool.proofs.Made.{current-more, can_make_possible, possible_can_make}
 
 -- ---- one step
@@ -69,35 +70,25 @@ not_due old item recipient moment none = record {
 
 -- ---- a row of bodies
 
-length-front_of-more : (bodies : List (List ℕ)) (body : List ℕ) → length (front_of (bodies ++ body ∷ [])) ≡ length (front_of bodies) + length body + 5
-unfolding front_of
-length-front_of-more bodies body =
-    ap length (sym (flat_map_more open_body magic bodies body)) ∙ length-append (magic ++ flat_map open_body bodies) (open_body body) ∙ (let e = length-string body in omega (arith, e))
-
-map-more : (steps : List Step) (step : Step) → map body_of (steps ++ step ∷ []) ≡ map body_of steps ++ body_of step ∷ []
-map-more [] step = refl
-map-more (x ∷ steps) step = ap (λ (t : List (List ℕ)). body_of x ∷ t) (map-more steps step)
-
 -- a step more was taken up
-pub replay_more : (bodies : List (List ℕ)) (body : List ℕ) (old new : Current) (result : Result (Unit {0}) NotMade) (steps : List Step) → IsReplay bodies old steps → length body ≤ longest_body → HasTaken body old new result → IsOk result
-    → (more : List Step) × IsReplay (bodies ++ body ∷ []) new more × (length (front more) ≡ length (front steps) + length body + 5)
-replay_more bodies body old new result steps is short taken ok =
+pub replay_more : (bodies : List (List ℕ)) (body : List ℕ) (old new : Current) (result : Result (Unit {0}) NotMade) (steps : List Step) → IsReplay bodies old steps → HasTaken body old new result → IsOk result
+    → (more : List Step) × IsReplay (bodies ++ body ∷ []) new more × (size_of more ≡ size_of steps + (length body + 5))
+replay_more bodies body old new result steps is taken ok =
     let t = taken.made ok in
-    let step = t.0 in
-    let small : length (body_of step) ≤ longest_body = subst (λ (b : List ℕ). length b ≤ longest_body) (sym t.2) short in (
+    let step = t.0 in (
       steps ++ step ∷ [],
       record {
         bodies_are = map-more steps step ∙ ap (λ (b : List ℕ). map body_of steps ++ b ∷ []) t.2 ∙ ap (λ (bs : List (List ℕ)). bs ++ body ∷ []) is.bodies_are;
-        each = AreRecords-more steps step is.each t.1 small;
+        each = AreRecords-more steps step is.each t.1;
         history = possible-more empty steps step is.history (can_make_possible steps step old is.current_is t.3);
         current_is = t.4 ∙ current-more steps step old is.current_is;
       },
-      length-front-more steps step ∙ ap (λ (b : List ℕ). length (front steps) + length b + 5) t.2,
+      size-more steps step ∙ ap (λ (b : List ℕ). size_of steps + (length b + 5)) t.2,
     )
 
 -- no step of the body is possible
 pub replay_stops : (bodies : List (List ℕ)) (body : List ℕ) (more all : List (List ℕ)) (old new : Current) (result : Result (Unit {0}) NotMade) (steps : List Step) (at : ℕ) → IsReplay bodies old steps → all ≡ bodies ++ body ∷ more
-    → HasTaken body old new result → IsErrOf result NotMades.Impossible → at ≡ length (front steps) → StopsAt all at
+    → HasTaken body old new result → IsErrOf result NotMades.Impossible → at + 1 ≡ size_of steps → StopsAt all at
 replay_stops bodies body more all old new result steps at is whole taken wrong place = record {
   steps = steps;
   body = body;
@@ -106,7 +97,7 @@ replay_stops bodies body more all old new result steps at is whole taken wrong p
   each = is.each;
   history = is.history;
   none = λ step fields e possible. taken.impossible wrong step fields e (possible_can_make steps step old is.current_is is.history possible);
-  place = place;
+  place = omega (arith, place);
 }
 
 -- ---- how far a row of bodies reaches
@@ -119,27 +110,20 @@ short_at (b ∷ bodies) (suc i) d short inside = short_at bodies i d short.1 (om
 pub body_short : (bodies : List (List ℕ)) (i : ℕ) (body : List ℕ) → AreShort bodies → i < length bodies → body ≡ get_or bodies i body → length body ≤ longest_body
 body_short bodies i body short inside is = subst (λ (b : List ℕ). length b ≤ longest_body) (sym is) (short_at bodies i body short inside)
 
-flat_take : (bodies : List (List ℕ)) (i : ℕ) → length (flat_map open_body (take i bodies)) ≤ length (flat_map open_body bodies)
+flat_take : (bodies : List (List ℕ)) (i : ℕ) → length (flat_map open_record (take i bodies)) ≤ length (flat_map open_record bodies)
 flat_take [] zero = omega arith
 flat_take [] (suc i) = omega arith
 flat_take (b ∷ bodies) zero = omega arith
-flat_take (b ∷ bodies) (suc i) = omega (arith, flat_take bodies i, length-append (open_body b) (flat_map open_body (take i bodies)), length-append (open_body b) (flat_map open_body bodies))
-
-front_flat : (steps : List Step) (bodies : List (List ℕ)) → map body_of steps ≡ bodies → flat_map open_record steps ≡ flat_map open_body bodies
-front_flat steps bodies e = go steps ∙ ap (flat_map open_body) e where
-  go : (ss : List Step) → flat_map open_record ss ≡ flat_map open_body (map body_of ss)
-  go [] = refl
-  go (s ∷ ss) = ap (λ (x : List ℕ). open_record s ++ x) (go ss)
+flat_take (b ∷ bodies) (suc i) = omega (arith, flat_take bodies i, length-append (open_record b) (flat_map open_record (take i bodies)), length-append (open_record b) (flat_map open_record bodies))
 
 -- the records so far are no longer than all
-pub front_fits : (bodies : List (List ℕ)) (i : ℕ) (steps : List Step) → map body_of steps ≡ take i bodies → length (front steps) ≤ length (front_of bodies)
-unfolding front_of
+pub front_fits : (bodies : List (List ℕ)) (i : ℕ) (steps : List Step) → map body_of steps ≡ take i bodies → size_of steps ≤ length (front bodies) + 1
 front_fits bodies i steps e =
-    omega (arith, length-append magic (flat_map open_record steps), length-append magic (flat_map open_body bodies), ap length (front_flat steps (take i bodies) e), flat_take bodies i)
+    omega (arith, ap (λ (bs : List (List ℕ)). length (front bs)) e, length-append magic (flat_map open_record (take i bodies)), length-append magic (flat_map open_record bodies), flat_take bodies i)
 
-pub length-front-none : length (front []) ≡ 8
+pub size-none : size_of [] ≡ 9
 unfolding magic
-length-front-none = refl
+size-none = refl
 
 nothing_recorded : recorded [] ≡ None
 unfolding recorded

@@ -1,5 +1,4 @@
 pub mod Current
-pub mod Journal
 pub mod Opening
 pub mod Putting
 pub mod Replaying

@@ -3,10 +3,10 @@ use Rattle.std.specs.Prelude.{◌≡◌, ℕ, List, [], ◌∷◌, ◌++◌, len
 use Rattle.mta_records.specs.declared.step.Step.{Step}
 use Rattle.mta_records.specs.Body.{body_of, HasFields}
 use Rattle.mta_history.specs.History.{IsHistory, after}
-use Rattle.mta_history.specs.Image.{AreRecords, IsNoStep, front}
+use Rattle.mta_history.specs.Image.{AreRecords, StopsAt}
 use Rattle.mta_spool.specs.declared.current.Current.{Current}
-use Rattle.mta_spool.specs.declared.open.OpenWhy.{OpenWhy}
-use Rattle.mta_spool.specs.declared.open.OpenWhy.TheVariants as Whys
+use Rattle.mta_journal.specs.declared.why.OpenWhy.{OpenWhy}
+use Rattle.mta_journal.specs.declared.why.OpenWhy.TheVariants as Whys
 use Rattle.mta_spool.specs.declared.replay.NotMade.{NotMade}
 use Rattle.mta_spool.specs.declared.replay.NotMade.TheVariants as NotMades
 use Rattle.mta_spool.specs.Current.{current_of, current_after, CanMake}
@@ -17,17 +17,6 @@ pub record IsReplay (bodies : List (List ℕ)) (current : Current) (steps : List
   pub each : AreRecords steps
   pub history : IsHistory steps
   pub current_is : current ≡ current_of (after steps)
-
--- the bodies begin with those of a history, behind which the next body is that of no possible step
-pub record StopsAt (bodies : List (List ℕ)) (at : ℕ) : Type 0 where
-  pub steps : List Step
-  pub body : List ℕ
-  pub more : List (List ℕ)
-  pub bodies_are : bodies ≡ map body_of steps ++ body ∷ more
-  pub each : AreRecords steps
-  pub history : IsHistory steps
-  pub none : IsNoStep steps body
-  pub place : at ≡ length (front steps)
 
 -- the step of a body was taken up, or it has none that is possible
 pub record HasTaken {T : Type 0} (body : List ℕ) (old new : Current) (result : Result T NotMade) : Type 0 where

@@ -2,11 +2,9 @@
 #![tactic(auto)]
 
 mod apdu;
-mod bodies;
 mod current;
 mod due;
 mod items;
-mod journal;
 mod mailboxes;
 mod open;
 mod replay;
@@ -16,10 +14,11 @@ pub use current::Current;
 pub use items::Items;
 pub use mailboxes::Mailboxes;
 pub use mta_history::{Item, MailboxLine, Origin, Status, Statuses};
+pub use mta_journal::{JOURNAL_LIMIT, OpenWhy};
 pub use mta_records::{Step, StepFault};
 pub use mta_tables::Tables;
-pub use open::{OpenWhy, SpoolOpen};
-pub use spool::{JOURNAL_LIMIT, Spool, Turned};
+pub use open::SpoolOpen;
+pub use spool::{Spool, Turned};
 
 #[cfg(test)]
 mod tests;

@@ -2,7 +2,7 @@
 
 ghost use Rattle.std.specs.Prelude.{◌≡◌, ◌<◌, ◌+◌, ◌^◌, [], ◌∷◌, length, None, IfOk, IfSome, IfNone};
 ghost use Rattle.mta_history.specs.Due.{IsDue, IsLowest, IsQuiet, due_place, due_mailbox};
-ghost use Rattle.mta_history.specs.Image.{AreShort, front_of};
+ghost use Rattle.mta_journal.specs.Bodies.{AreShort, front};
 ghost use Rattle.mta_history.specs.Machine.{delivery};
 ghost use Rattle.mta_spool.specs.Current.{HasApplied};
 ghost use Rattle.mta_spool.specs.Replaying.{HasTaken, Replays};
@@ -12,9 +12,9 @@ use crate::current::Current;
 use crate::due::place_of_item;
 use crate::items::Items;
 use crate::mailboxes::Mailboxes;
-use crate::open::OpenWhy;
 use mta_ber::{Memory, Octets};
 use mta_history::{Item, MailboxLine, Origin};
+use mta_journal::OpenWhy;
 use mta_records::{RecordFault, Step, read_record};
 use mta_tables::{Tables, TablesFault};
 use std::alloc::Global;
@@ -197,7 +197,7 @@ impl Current {
 /// The state after the steps of these bodies, or the offset of the gate of the first body that is that of no possible step.
 pub fn replay(alloc: Global, bodies: &[Octets]) -> Result<Current, OpenWhy>
     requires short { AreShort bodies.now }
-    requires fits { length (front_of bodies.now) + 1 < 2 ^ 64 }
+    requires fits { length (front bodies.now) + 1 < 2 ^ 64 }
     ensures { Replays bodies.now result }
 {
     let mut current = Current::new(alloc);

@@ -5,23 +5,21 @@ ghost use Rattle.std.specs.Option.{option_copied};
 ghost use Rattle.mta_records.specs.declared.step.Step.{Step};
 ghost use Rattle.mta_records.specs.Body.{HasFields, body_of};
 ghost use Rattle.mta_history.specs.Apdu.{IsApdu};
-ghost use Rattle.mta_history.specs.Image.{longest_body};
+ghost use Rattle.mta_journal.specs.Bodies.{longest_body};
+ghost use Rattle.mta_spool.specs.Putting.{step_fault};
 
 use crate::apdu::statuses_at_first;
 use crate::current::Current;
 use crate::items::Items;
-use crate::journal::{PutFault, append};
 use crate::mailboxes::Mailboxes;
 use mta_ber::Octets;
 use mta_edge::{Clock, Disk};
 use mta_history::{Item, MailboxLine, Origin};
+use mta_journal::{AppendFault, Journal};
 use mta_records::{Step, StepFault, write_record};
 use mta_tables::Tables;
 use std::alloc::Global;
 use std::marker::Model;
-
-/// The most octets of a journal.
-pub const JOURNAL_LIMIT: u64 = 268_435_456;
 
 // The last second of 2049, in seconds since 1950-01-01 00:00:00 UTC.
 const LAST_MOMENT: u64 = 3_155_759_999;
@@ -39,26 +37,35 @@ pub enum Turned {
 #[derive(Drop)]
 pub struct Spool<D: Disk + Drop, C: Clock + Drop> {
     pub(crate) alloc: Global,
-    pub(crate) disk: D,
+    pub(crate) journal: Journal<D>,
     pub(crate) clock: C,
-    // The offset behind the closed gate.
-    pub(crate) size: u64,
-    pub(crate) ended: bool,
     pub(crate) current: Current,
 }
 
 impl<D: Disk + Drop, C: Clock + Drop> Model for Spool<D, C> {
-    ghost use Rattle.mta_spool.specs.Shown.{Shown, IsSound};
+    ghost use Rattle.std.specs.Prelude.{◌≤◌};
+    ghost use Rattle.mta_spool.specs.Shown.{Shown};
 
     ghost Value = { Shown D C };
 
-    ghost view = { λ s. record { disk = s.disk; clock = s.clock; size = s.size; ended = s.ended; current = s.current } };
+    ghost view = { λ s. record { journal = s.journal; clock = s.clock; current = s.current } };
 
-    ghost invariant = { λ s. IsSound D.content s.disk s.size s.current.moment };
+    ghost invariant = { λ s. s.current.moment ≤ 3155759999 };
+}
+
+fn step_fault(fault: AppendFault) -> StepFault
+    ensures { result ≡ step_fault fault }
+{
+    match fault {
+        AppendFault::Full { size, need } => StepFault::Full { size, need },
+        AppendFault::Disk => StepFault::Disk,
+        AppendFault::Ended => StepFault::Ended,
+        AppendFault::Memory => StepFault::Memory,
+    }
 }
 
 impl<D: Disk + Drop, C: Clock + Drop> Spool<D, C> {
-    ghost use Rattle.mta_spool.specs.Stands.{Stores, Appends, step_moment};
+    ghost use Rattle.mta_spool.specs.Stands.{Appends, step_moment};
     ghost use Rattle.mta_spool.specs.Putting.{HasPut, with_item, with_line};
     ghost use Rattle.mta_spool.specs.Turning.{HasDelivered, Turns, IsRecorded};
     ghost use Rattle.mta_history.specs.Due.{IsDue};
@@ -67,27 +74,13 @@ impl<D: Disk + Drop, C: Clock + Drop> Spool<D, C> {
     fn put(&mut self, step: &Step) -> Result<(), StepFault>
         requires fields { HasFields step.now }
         requires short { length (body_of step.now) ≤ longest_body }
-        requires going { self.old.ended ≡ false }
-        ensures { HasPut D.content D.faults step.now self.old.current self.old self.new result }
+        requires going { self.old.journal.ended ≡ false }
+        ensures { HasPut D.content D.faults D.may_leave D.moment D.left_since step.now self.old.current self.old self.new result }
     {
         let body = write_record(self.alloc, step)?;
-        let need = body.len() as u64 + 5;
-        if JOURNAL_LIMIT.saturating_sub(self.size) < need {
-            return Err(StepFault::Full {
-                size: self.size,
-                need,
-            });
-        }
-        match append(self.alloc, &mut self.disk, self.size - 1, body.as_slice()) {
-            Ok(()) => {
-                self.size += need;
-                Ok(())
-            }
-            Err(PutFault::Memory) => Err(StepFault::Memory),
-            Err(PutFault::Disk) => {
-                self.ended = true;
-                Err(StepFault::Disk)
-            }
+        match self.journal.append(body.as_slice()) {
+            Ok(()) => Ok(()),
+            Err(fault) => Err(step_fault(fault)),
         }
     }
 
@@ -95,8 +88,8 @@ impl<D: Disk + Drop, C: Clock + Drop> Spool<D, C> {
     fn add(&mut self, step: &Step, item: Item) -> Result<(), StepFault>
         requires fields { HasFields step.now }
         requires short { length (body_of step.now) ≤ longest_body }
-        requires going { self.old.ended ≡ false }
-        ensures { HasPut D.content D.faults step.now (with_item self.old.current item) self.old self.new result }
+        requires going { self.old.journal.ended ≡ false }
+        ensures { HasPut D.content D.faults D.may_leave D.moment D.left_since step.now (with_item self.old.current item) self.old self.new result }
     {
         let count = self.current.items.len();
         self.current.items.push(item)?;
@@ -113,8 +106,8 @@ impl<D: Disk + Drop, C: Clock + Drop> Spool<D, C> {
     fn add_line(&mut self, step: &Step, line: MailboxLine) -> Result<(), StepFault>
         requires fields { HasFields step.now }
         requires short { length (body_of step.now) ≤ longest_body }
-        requires going { self.old.ended ≡ false }
-        ensures { HasPut D.content D.faults step.now (with_line self.old.current line) self.old self.new result }
+        requires going { self.old.journal.ended ≡ false }
+        ensures { HasPut D.content D.faults D.may_leave D.moment D.left_since step.now (with_line self.old.current line) self.old self.new result }
     {
         let count = self.current.mailboxes.len();
         self.current.mailboxes.push(line)?;
@@ -139,8 +132,8 @@ impl<D: Disk + Drop, C: Clock + Drop> Spool<D, C> {
 
     // Records these tables last.
     fn record_tables(&mut self, tables: Tables) -> Result<(), StepFault>
-        requires { self.old.ended ≡ false }
-        ensures appends { Appends D.content D.faults (Step.Tables tables.text) self.old self.new result }
+        requires { self.old.journal.ended ≡ false }
+        ensures appends { Appends D.content D.faults D.may_leave D.moment D.left_since (Step.Tables tables.text) self.old self.new result }
         ensures recorded { OnOk result (IsRecorded self.new.current.tables tables) }
         ensures clock { self.new.clock ≡ self.old.clock }
         ensures spent { (last : ℕ) → IsErrOf result (StepFault.Spent last) → ⊥ }
@@ -155,13 +148,13 @@ impl<D: Disk + Drop, C: Clock + Drop> Spool<D, C> {
 
     /// Records these tables last, or makes no step where their text is the one recorded last.
     pub fn set_tables(&mut self, tables: Tables) -> Result<(), StepFault>
-        ensures same { IsRecorded self.old.current.tables tables → (self.new ≡ self.old) × (result ≡ (if self.old.ended then Err StepFault.Ended else Ok tt)) }
-        ensures appends { (IsRecorded self.old.current.tables tables → ⊥) → Appends D.content D.faults (Step.Tables tables.text) self.old self.new result }
+        ensures same { IsRecorded self.old.current.tables tables → (self.new ≡ self.old) × (result ≡ (if self.old.journal.ended then Err StepFault.Ended else Ok tt)) }
+        ensures appends { (IsRecorded self.old.current.tables tables → ⊥) → Appends D.content D.faults D.may_leave D.moment D.left_since (Step.Tables tables.text) self.old self.new result }
         ensures recorded { OnOk result (IsRecorded self.new.current.tables tables) }
         ensures clock { self.new.clock ≡ self.old.clock }
         ensures spent { (last : ℕ) → IsErrOf result (StepFault.Spent last) → ⊥ }
     {
-        if self.ended {
+        if self.journal.is_ended() {
             return Err(StepFault::Ended);
         }
         if self.has_recorded(&tables) {
@@ -184,14 +177,14 @@ impl<D: Disk + Drop, C: Clock + Drop> Spool<D, C> {
     pub fn accept(&mut self, apdu: &[u8]) -> Result<u32, StepFault>
         requires apdu { IsApdu apdu.now }
         requires tables { self.old.current.tables ≢ None }
-        ensures appends { (told : ℕ) × C.tells self.old.clock told × Appends D.content D.faults (Step.Accept (step_moment told self.old.current.moment) apdu.now) self.old self.new result }
+        ensures appends { (told : ℕ) × C.tells self.old.clock told × Appends D.content D.faults D.may_leave D.moment D.left_since (Step.Accept (step_moment told self.old.current.moment) apdu.now) self.old self.new result }
         ensures number { IfOk result (λ n. n ≡ length self.old.current.items + 1) }
         ensures clock { (m : ℕ) → C.tells self.new.clock m → C.tells self.old.clock m }
         ensures spent { (last : ℕ) → IsErrOf result (StepFault.Spent last) → (last ≡ length self.old.current.items) × (2 ^ 32 - 3 < last) }
         ensures numbers { IfOk result (λ n. length self.old.current.items ≤ 2 ^ 32 - 3) }
     {
         let moment = self.step_moment();
-        if self.ended {
+        if self.journal.is_ended() {
             return Err(StepFault::Ended);
         }
         let last = self.current.items.len() as u64;
@@ -216,10 +209,10 @@ impl<D: Disk + Drop, C: Clock + Drop> Spool<D, C> {
     // Delivers the item at this place, from 0, to the mailbox at that place.
     fn deliver(&mut self, place: usize, mailbox: u32, moment: u64) -> Result<Step, StepFault>
         requires due { IsDue self.old.current.tables self.old.current.items (place + 1) 1 moment mailbox }
-        requires going { self.old.ended ≡ false }
+        requires going { self.old.journal.ended ≡ false }
         requires later { self.old.current.moment ≤ moment }
         requires fits { moment ≤ 3155759999 }
-        ensures { HasDelivered D.content D.faults (Step.Deliver (place + 1) 1 moment) self.old self.new result }
+        ensures { HasDelivered D.content D.faults D.may_leave D.moment D.left_since (Step.Deliver (place + 1) 1 moment) self.old self.new result }
     {
         let last = self.current.items.len() as u64;
         if last > 4_294_967_293 {
@@ -240,11 +233,11 @@ impl<D: Disk + Drop, C: Clock + Drop> Spool<D, C> {
 
     /// Makes the step that is due for the lowest item and recipient, or answers the moment at which none is due.
     pub fn turn(&mut self) -> Result<Turned, StepFault>
-        ensures turned { (told : ℕ) × C.tells self.old.clock told × Turns D.content D.faults (step_moment told self.old.current.moment) self.old self.new result }
+        ensures turned { (told : ℕ) × C.tells self.old.clock told × Turns D.content D.faults D.may_leave D.moment D.left_since (step_moment told self.old.current.moment) self.old self.new result }
         ensures clock { (m : ℕ) → C.tells self.new.clock m → C.tells self.old.clock m }
     {
         let moment = self.step_moment();
-        if self.ended {
+        if self.journal.is_ended() {
             return Err(StepFault::Ended);
         }
         match self.current.next_due(moment) {
@@ -286,9 +279,9 @@ impl<D: Disk + Drop, C: Clock + Drop> Spool<D, C> {
 
     /// The disk.
     pub fn end(self) -> D
-        ensures { result ≡ self.disk }
+        ensures { result ≡ self.journal.disk }
     {
-        let Spool { disk, .. } = self;
-        disk
+        let Spool { journal, .. } = self;
+        journal.end()
     }
 }

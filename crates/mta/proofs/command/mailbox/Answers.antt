@@ -6,9 +6,9 @@ use Rattle.mta.proofs.command.mailbox.Goals as goal
 pub returns-in-Err-clause-done : goal.returns-in-Err-clause-done
 returns-in-Err-clause-done g c =
     let rose = Rose (g.O.Sink.faults c.args.out.now) (g.O.Sink.faults c.args.out.now) in
-    rw (c.refused.ensures.0, c.refused.ensures.1) (read_not_opened g.D.Disk.content g.D.Disk.faults (Say.Mailbox c.args.name) (g.O.Sink.taken c.args.out.now) rose c.args.disk c.in-Err.why.disk c.in-Err.why.why c.in-Err.ensures.refused)
+    rw (c.refused.ensures.0, c.refused.ensures.1) (read_not_opened g.D.Disk.content g.D.Disk.faults g.D.Disk.may_leave g.D.Disk.moment g.D.Disk.left_since (record { reads_image = g.met.D.Disk.reads_image; counts_now = g.met.D.Disk.counts_now; only_now = g.met.D.Disk.only_now }) (Say.Mailbox c.args.name) (g.O.Sink.taken c.args.out.now) rose c.args.disk c.in-Err.why.disk c.in-Err.why.why (record { refused = c.in-Err.ensures.refused; images = c.in-Err.ensures.refused_images; left = c.in-Err.ensures.refused_left }))
 
 pub returns-in-Ok-clause-done : goal.returns-in-Ok-clause-done
 returns-in-Ok-clause-done g c =
     let o = c.in-Ok.ensures.opened in
-    rw c.end.ensures (mailbox_read g.D.Disk.content g.D.Disk.faults (g.O.Sink.taken c.args.out.now) (g.O.Sink.taken c.print.new.out) (Rose (g.O.Sink.faults c.args.out.now) (g.O.Sink.faults c.print.new.out)) c.args.disk c.in-Ok.spool o.0 c.args.name c.mailbox_of-text.result c.print.result o.1 o.2 c.in-Ok.ensures.later c.mailbox_of-text.ensures c.print.ensures.printed)
+    rw c.end.ensures (mailbox_read g.D.Disk.content g.D.Disk.faults g.D.Disk.may_leave g.D.Disk.moment g.D.Disk.left_since (record { reads_image = g.met.D.Disk.reads_image; counts_now = g.met.D.Disk.counts_now; only_now = g.met.D.Disk.only_now }) (g.O.Sink.taken c.args.out.now) (g.O.Sink.taken c.print.new.out) (Rose (g.O.Sink.faults c.args.out.now) (g.O.Sink.faults c.print.new.out)) c.args.disk c.in-Ok.spool o.0 c.args.name c.mailbox_of-text.result c.print.result (record { stands = o.1; stood = o.2; later = c.in-Ok.ensures.later; told = c.in-Ok.ensures.told; images = c.in-Ok.ensures.images; since = c.in-Ok.ensures.since }) c.mailbox_of-text.ensures c.print.ensures.printed)

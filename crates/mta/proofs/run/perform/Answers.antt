@@ -17,8 +17,8 @@ returns-in-Queue-clause-done g c =
     let now = g.O.Sink.taken c.queue.new.out in
     let out_rose = Rose (g.O.Sink.faults c.args.out.now) (g.O.Sink.faults c.queue.new.out) in
     let tells = g.C.Clock.tells c.args.clock in
-    subst (λ (w : Words). HasDone g.D.Disk.content g.D.Disk.faults tells (Some w) conf input before now source_rose out_rose c.args.disk c.queue.result.disk c.queue.result.outcome) (sym c.in-Queue.is)
-    (read_done g.D.Disk.content g.D.Disk.faults tells Say.Queue conf input before now source_rose out_rose c.args.disk c.queue.result.disk c.queue.result.outcome (λ e. absurd cc) (λ e. absurd cc) (λ t x. x) c.queue.ensures.done)
+    subst (λ (w : Words). HasDone g.D.Disk.content g.D.Disk.faults g.D.Disk.may_leave g.D.Disk.moment g.D.Disk.left_since tells (Some w) conf input before now source_rose out_rose c.args.disk c.queue.result.disk c.queue.result.outcome) (sym c.in-Queue.is)
+    (read_done g.D.Disk.content g.D.Disk.faults g.D.Disk.may_leave g.D.Disk.moment g.D.Disk.left_since tells Say.Queue conf input before now source_rose out_rose c.args.disk c.queue.result.disk c.queue.result.outcome (λ e. absurd cc) (λ e. absurd cc) (λ t x. x) c.queue.ensures.done)
 
 pub returns-in-Mailbox-clause-done : goal.returns-in-Mailbox-clause-done
 returns-in-Mailbox-clause-done g c =
@@ -29,8 +29,8 @@ returns-in-Mailbox-clause-done g c =
     let now = g.O.Sink.taken c.mailbox.new.out in
     let out_rose = Rose (g.O.Sink.faults c.args.out.now) (g.O.Sink.faults c.mailbox.new.out) in
     let tells = g.C.Clock.tells c.args.clock in
-    subst (λ (w : Words). HasDone g.D.Disk.content g.D.Disk.faults tells (Some w) conf input before now source_rose out_rose c.args.disk c.mailbox.result.disk c.mailbox.result.outcome) (sym c.in-Mailbox.is)
-    (read_done g.D.Disk.content g.D.Disk.faults tells (Say.Mailbox c.in-Mailbox.name) conf input before now source_rose out_rose c.args.disk c.mailbox.result.disk c.mailbox.result.outcome (λ e. absurd cc) (λ e. absurd cc) (λ t x. x) c.mailbox.ensures.done)
+    subst (λ (w : Words). HasDone g.D.Disk.content g.D.Disk.faults g.D.Disk.may_leave g.D.Disk.moment g.D.Disk.left_since tells (Some w) conf input before now source_rose out_rose c.args.disk c.mailbox.result.disk c.mailbox.result.outcome) (sym c.in-Mailbox.is)
+    (read_done g.D.Disk.content g.D.Disk.faults g.D.Disk.may_leave g.D.Disk.moment g.D.Disk.left_since tells (Say.Mailbox c.in-Mailbox.name) conf input before now source_rose out_rose c.args.disk c.mailbox.result.disk c.mailbox.result.outcome (λ e. absurd cc) (λ e. absurd cc) (λ t x. x) c.mailbox.ensures.done)
 
 pub returns-in-Decode-clause-done : goal.returns-in-Decode-clause-done
 returns-in-Decode-clause-done g c =
@@ -42,5 +42,5 @@ returns-in-Decode-clause-done g c =
     let now = g.O.Sink.taken c.decode.new.out in
     let out_rose = Rose (g.O.Sink.faults c.args.out.now) (g.O.Sink.faults c.decode.new.out) in
     let tells = g.C.Clock.tells c.args.clock in
-    subst (λ (w : Words). HasDone g.D.Disk.content g.D.Disk.faults tells (Some w) conf input before now source_rose out_rose c.args.disk c.args.disk c.decode.result) (sym c.in-Decode.is)
-    (decode_done g.D.Disk.content g.D.Disk.faults tells conf input before now input_rose source_rose out_rose c.args.disk c.decode.result (λ r. inr r) c.decode.ensures.decoded)
+    subst (λ (w : Words). HasDone g.D.Disk.content g.D.Disk.faults g.D.Disk.may_leave g.D.Disk.moment g.D.Disk.left_since tells (Some w) conf input before now source_rose out_rose c.args.disk c.args.disk c.decode.result) (sym c.in-Decode.is)
+    (decode_done g.D.Disk.content g.D.Disk.faults g.D.Disk.may_leave g.D.Disk.moment g.D.Disk.left_since (record { reads_image = g.met.D.Disk.reads_image; counts_now = g.met.D.Disk.counts_now; only_now = g.met.D.Disk.only_now }) tells conf input before now input_rose source_rose out_rose c.args.disk c.decode.result (λ r. inr r) c.decode.ensures.decoded)

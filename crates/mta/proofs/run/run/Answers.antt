@@ -9,7 +9,7 @@ use Rattle.mta.proofs.run.run.Goals as goal
 pub returns-clause-ran : goal.returns-clause-ran
 returns-clause-ran g c =
     let source_rose = Rose (g.I.Source.faults c.args.conf.now) (g.I.Source.faults c.command-disk.new.conf) ⊎ Rose (g.I.Source.faults c.args.input.now) (g.I.Source.faults c.command-disk.new.input) in
-    ran_done g.D.Disk.content g.D.Disk.faults (g.C.Clock.tells c.args.clock) (command_of c.args.words.now) (g.I.Source.left c.args.conf.now) (g.I.Source.left c.args.input.now)
+    ran_done g.D.Disk.content g.D.Disk.faults g.D.Disk.may_leave g.D.Disk.moment g.D.Disk.left_since (g.C.Clock.tells c.args.clock) (command_of c.args.words.now) (g.I.Source.left c.args.conf.now) (g.I.Source.left c.args.input.now)
     (g.O.Sink.taken c.args.out.now) (g.O.Sink.taken c.command-disk.new.out) (g.O.Sink.taken c.close-status.new.out) source_rose
     (g.O.Sink.faults c.args.out.now) (g.O.Sink.faults c.command-disk.new.out) (g.O.Sink.faults c.close-status.new.out) c.args.disk c.command-disk.result.disk c.command-disk.result.outcome c.close-status.result
     c.command-disk.ensures.done c.close-status.ensures.closed c.command-disk.ensures.later c.close-status.ensures.later

@@ -1,8 +1,8 @@
-use Rattle.std.proofs.Common.{◌≡◌, List, length, take}
+use Rattle.std.proofs.Common.{◌≡◌, ◌+◌, List, length, take}
 use Rattle.mta_records.specs.declared.step.Step.{Step}
-use Rattle.mta_history.specs.Image.{front}
+use Rattle.mta_history.specs.Image.{size_of}
 use Rattle.mta_spool.specs.Replaying.{IsReplay}
 use Rattle.mta_spool.proofs.replay.replay.Given as goal
 
 abbrev pub invariant-loop-body : goal.invariant-loop-body
-invariant-loop-body l = (steps : List Step) × IsReplay (take l.body-index l.bodies) l.current steps × (l.at ≡ length (front steps))
+invariant-loop-body l = (steps : List Step) × IsReplay (take l.body-index l.bodies) l.current steps × (l.at + 1 ≡ size_of steps)

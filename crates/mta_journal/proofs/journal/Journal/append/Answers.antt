@@ -12,7 +12,7 @@ pub returns-in-Ok : goal.returns-in-Ok
 returns-in-Ok g c =
     rw (sym c.self.view_is)
     (answers_ok g.D.Disk.content g.D.Disk.faults g.D.Disk.may_leave g.D.Disk.moment g.D.Disk.left_since c.args.body.now _ _ _ c.if-self.false c.if-self.false refl (omega arith)
-    c.in-Ok.ensures.cause.later (λ bodies holds. c.in-Ok.ensures.put bodies (gate_place _ _ _ bodies holds)) c.in-Ok.ensures.settled
+    c.in-Ok.ensures.cause.later (λ bodies holds. c.in-Ok.ensures.put bodies (gate_place _ _ _ bodies holds)) c.in-Ok.ensures.longer c.in-Ok.ensures.settled
     (λ f told bodies holds. c.in-Ok.ensures.images f told bodies (gate_place _ _ _ bodies holds) (holds.file f told)))
 
 pub returns-in-Err-Memory : goal.returns-in-Err-Memory
