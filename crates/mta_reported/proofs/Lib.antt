@@ -7,3 +7,4 @@ pub mod OutcomeLaws
 pub mod LastLaws
 pub mod ReportedLaws
 pub mod ReportedAgain
+pub mod ReportedKept
