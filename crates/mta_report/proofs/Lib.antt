@@ -2,3 +2,4 @@ pub mod EnvelopeLaws
 pub mod ContentLaws
 pub mod ReportLaws
 pub mod ReportAgain
+pub mod ReportKept

@@ -9,6 +9,9 @@ mod reading;
 mod report;
 
 pub use fields::ReportFields;
-pub use laws::reports_are_read_again;
+pub use laws::{
+    no_report_begins_another, reports_are_read_again, reports_that_were_read_are_kept,
+    reports_that_were_read_are_read_again,
+};
 pub use mta_reported::{Outcome, Reported, ReportedFields};
 pub use report::Report;
