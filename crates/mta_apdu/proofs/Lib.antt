@@ -1,1 +1,2 @@
 pub mod ApduLaws
+pub mod ApduAgain

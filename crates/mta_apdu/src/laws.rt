@@ -1,0 +1,24 @@
+//! Laws of APDUs and octets.
+
+ghost use Rattle.mta_apdu.specs.Laws.{ApdusAreReadAgain, ReadApdusAreKept, ReadApdusAreReadAgain, NoApduBeginsAnother};
+
+/// An APDU that is written is read again as the same value, where its canonical octets are at most 2,097,152 (X.411, MTS-APDU). The content of a
+/// message is then in one piece. What is kept unread stands in the level of its place.
+pub fn apdus_are_read_again()
+    ensures { ApdusAreReadAgain }
+{}
+
+/// What an APDU that was read keeps unread stands in the level of its place.
+pub fn apdus_that_were_read_are_kept()
+    ensures { ReadApdusAreKept }
+{}
+
+/// An APDU that was read is written so that it is read again, where its canonical octets are at most 2,097,152.
+pub fn what_was_read_is_read_again()
+    ensures { ReadApdusAreReadAgain }
+{}
+
+/// No spelling of an APDU begins another one, and each is the spelling of one value.
+pub fn no_apdu_begins_another()
+    ensures { NoApduBeginsAnother }
+{}
