@@ -5,3 +5,4 @@ pub mod ExtListLaws
 pub mod IndicatorLaws
 pub mod SetRows
 pub mod Again
+pub mod Kept

@@ -5,18 +5,14 @@ use Rattle.std.specs.Prelude.{IfSome}
 use Rattle.mta_ber.specs.declared.tag.Tag.{Tag}
 use Rattle.mta_ber.specs.Spelling.{Stands}
 use Rattle.mta_names.specs.Laws.{IsRawAt, KeepsName}
-use Rattle.mta_names.specs.Lists.{is_sequence}
-use Rattle.mta_names.specs.Strings.{AddsItem}
 use Rattle.mta_names.specs.Values.{Each, IsName}
 use Rattle.mta_names.proofs.Kept.{KeepsAt, spelled_kept, name_kept}
 use Rattle.mta_names.proofs.NameLaws.{name_is}
 use Rattle.mta_names.proofs.Rows.{none_begins}
-use Rattle.mta_names.proofs.Tools.{each_more}
 use Rattle.mta_fields.specs.declared.expansion.ExpansionFields.{ExpansionFields}
-use Rattle.mta_fields.specs.declared.trace.TraceFields.{TraceFields}
-use Rattle.mta_fields.specs.Laws.{IsWholeId, IsWholeTrace, KeepsTrace}
-use Rattle.mta_fields.proofs.Kept.{identifier_whole, trace_kept, trace_whole}
-use Rattle.mta_common.specs.TraceLists.{SpellsTraceItem, SpellsTraceList}
+use Rattle.mta_fields.specs.Laws.{IsWholeId, KeepsTrace}
+use Rattle.mta_fields.proofs.Kept.{identifier_whole}
+use Rattle.mta_common.proofs.Kept.{AreKeptTraces, trace_list_kept}
 use Rattle.mta_extensions.specs.declared.extensions.Extensions.{Extensions}
 use Rattle.mta_extensions.specs.declared.value.Topic.TheVariants.{ExpansionHistory}
 use Rattle.mta_extensions.specs.Laws.{SaysAt, AreToldAt}
@@ -37,19 +33,6 @@ use Rattle.mta_envelope.proofs.EnvelopeLaws.{envelope_full, envelope_is, envelop
 use Rattle.mta_envelope.proofs.MessageAgain.{messages_again, probes_again}
 use Rattle.mta_envelope.proofs.MessageLaws.{message_full}
 
--- ---- traces
-
-abbrev IsKeptTrace : ℕ → TraceFields → Type 0
-IsKeptTrace depth v = IsWholeTrace v × KeepsTrace depth v
-
-trace_more : (depth : ℕ) → KeepsAt (AddsItem is_sequence SpellsTraceItem) (Each (IsKeptTrace depth)) depth
-trace_more depth s t tag content octets stands m h =
-    let x = m.spelled in
-    subst (Each (IsKeptTrace depth)) (sym m.after_is) (each_more (IsKeptTrace depth) s m.item h (trace_whole depth tag.constructed content m.item x, trace_kept depth tag.constructed content m.item x))
-
-trace_list_kept : (depth : ℕ) (c : Bool) (content : List ℕ) (vs : List TraceFields) → SpellsTraceList depth c content vs → Each (IsKeptTrace (depth + 1)) vs
-trace_list_kept depth c content vs h = spelled_kept (AddsItem is_sequence SpellsTraceItem) (Each (IsKeptTrace (depth + 1))) depth (trace_more (depth + 1)) [] vs content h.spelled tt
-
 -- ---- components
 
 record Holds (depth : ℕ) (s : EnvelopeParts) : Type 0 where
@@ -58,7 +41,7 @@ record Holds (depth : ℕ) (s : EnvelopeParts) : Type 0 where
   eits : IfSome s.eits (IsRawAt depth 1 5)
   bilateral : IfSome s.bilateral (IsRawAt depth 2 1)
   recipients : IfSome s.recipients (Each (IsKeptRecipient (depth + 1)))
-  trace : IfSome s.trace (Each (IsKeptTrace (depth + 1)))
+  trace : IfSome s.trace (AreKeptTraces (depth + 1))
   extensions : IfSome s.extensions (AreToldAt depth)
 
 part_kept : (b : Bool) (k : EnvelopePart) (depth : ℕ) (s t : EnvelopeParts) (tag : Tag) (content octets : List ℕ) → depth + 6 ≤ 16 → is_envelope_tag b k tag ≡ true → Stands depth tag content octets → MakesEnvelopePart k depth s tag content octets t → Holds depth s → Holds depth t
@@ -112,13 +95,13 @@ envelope_both b depth c content v h d =
     let name : KeepsName (depth + 1) v.originator × IsName v.originator = subst (λ o. IfSome o (λ n. KeepsName (depth + 1) n × IsName n)) h.originator k.originator in
     let id : IsWholeId v.id = subst (λ o. IfSome o IsWholeId) h.id k.id in
     let recipients : Each (IsKeptRecipient (depth + 1 + 1)) v.recipients = subst (λ o. IfSome o (Each (IsKeptRecipient (depth + 1 + 1)))) h.recipients k.recipients in
-    let trace : Each (IsKeptTrace (depth + 1 + 1)) v.trace = subst (λ o. IfSome o (Each (IsKeptTrace (depth + 1 + 1)))) h.trace k.trace in (
+    let trace : AreKeptTraces (depth + 1 + 1) v.trace = subst (λ o. IfSome o (AreKeptTraces (depth + 1 + 1))) h.trace k.trace in (
       record {
         originator = name.0;
         eits = subst (λ o. IfSome o (IsRawAt (depth + 1) 1 5)) (sym (ap (λ (x : EnvelopeFields). x.eits) h.value)) k.eits;
         bilateral = subst (λ o. IfSome o (IsRawAt (depth + 1) 2 1)) (sym (ap (λ (x : EnvelopeFields). x.bilateral) h.value)) k.bilateral;
         recipients = subst (λ n. Each (KeepsRecipient n) v.recipients) level (each_second IsWholeRecipient (KeepsRecipient (depth + 1 + 1)) v.recipients recipients);
-        trace = subst (λ n. Each (KeepsTrace n) v.trace) level (each_second IsWholeTrace (KeepsTrace (depth + 1 + 1)) v.trace trace);
+        trace = subst (λ n. Each (KeepsTrace n) v.trace) level trace.kept;
         prohibition = e.prohibited;
         prohibited_is = ap (λ (x : EnvelopeFields). x.dl_prohibited) h.value;
         told = told_as (depth + 1) e v (ap (λ (x : EnvelopeFields). x.extensions) h.value) (ap (λ (x : EnvelopeFields). x.history) h.value) (ap (λ (x : EnvelopeFields). x.latest) h.value) (told_so (depth + 1) h.parts.extensions k.extensions);
@@ -128,7 +111,7 @@ envelope_both b depth c content v h d =
         originator = name.1;
         id = id;
         recipients = each_first IsWholeRecipient (KeepsRecipient (depth + 1 + 1)) v.recipients recipients;
-        trace = each_first IsWholeTrace (KeepsTrace (depth + 1 + 1)) v.trace trace;
+        trace = trace.traces;
       },
     )
 

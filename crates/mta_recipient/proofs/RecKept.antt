@@ -1,49 +1,33 @@
 -- What was read of a recipient stands in the level of its place.
-use Rattle.std.proofs.Common.{◌≡◌, ℕ, ◌+◌, ◌≤◌, Bool, List, [], ◌∷◌, Option, Some, None, refl, sym, ap, subst, ◌∙◌, arith}
+use Rattle.std.proofs.Common.{◌≡◌, ℕ, ◌+◌, ◌≤◌, Bool, List, [], ◌∷◌, sym, ap, subst, arith}
 use Rattle.std.specs.Prelude.{IfSome, true}
 use Rattle.mta_ber.specs.declared.tag.Tag.{Tag}
 use Rattle.mta_ber.specs.Parts.{is_tag}
 use Rattle.mta_ber.specs.Spelling.{Stands}
 use Rattle.mta_names.specs.Laws.{IsRawAt, KeepsName}
-use Rattle.mta_names.specs.Lists.{is_sequence}
 use Rattle.mta_names.specs.Strings.{AddsItem}
 use Rattle.mta_names.specs.Values.{Each, IsName}
 use Rattle.mta_names.proofs.Kept.{KeepsAt, spelled_kept, name_kept}
 use Rattle.mta_names.proofs.NameLaws.{name_is}
 use Rattle.mta_names.proofs.Tools.{each_more}
-use Rattle.mta_fields.specs.declared.extension.ExtFields.{ExtFields}
-use Rattle.mta_fields.specs.ExtensionFields.{IsExtField}
 use Rattle.mta_fields.specs.Laws.{KeepsExtField}
-use Rattle.mta_fields.proofs.ExtLaws.{ext_is}
-use Rattle.mta_fields.proofs.Kept.{extension_field_kept}
-use Rattle.mta_common.specs.ExtensionLists.{SpellsExtItem, SpellsExtList}
+use Rattle.mta_common.proofs.Kept.{AreKeptFields, ext_list_kept, fields_or_none_kept}
 use Rattle.mta_recipient.specs.declared.recipient.RecipientFields.{RecipientFields}
 use Rattle.mta_recipient.specs.declared.parts.RecipientPart.{RecipientPart}
 use Rattle.mta_recipient.specs.declared.parts.RecipientPart.TheVariants.{Addressee, Number, Indicators, Conversion, Extensions}
 use Rattle.mta_recipient.specs.declared.parts.RecipientParts.{RecipientParts}
 use Rattle.mta_recipient.specs.Laws.{KeepsRecipient, IsWholeRecipient, ReadRecipientsAreKept}
 use Rattle.mta_recipient.specs.Lists.{is_set, SpellsItem, SpellsRecipients}
-use Rattle.mta_recipient.specs.Recipients.{recipient_class, recipient_number, no_recipient, fields_or_none, MakesRecipientPart, MakesRecipient, SpellsRecipient}
-use Rattle.mta_recipient.proofs.Again.{IsKeptField, IsKeptRecipient}
+use Rattle.mta_recipient.specs.Recipients.{recipient_class, recipient_number, no_recipient, MakesRecipientPart, MakesRecipient, SpellsRecipient}
+use Rattle.mta_recipient.proofs.Again.{IsKeptRecipient}
 use Rattle.mta_recipient.proofs.RecipientLaws.{recipient_is}
-
--- ---- extension fields
-
-field_more : (depth : ℕ) → depth + 2 ≤ 16 → KeepsAt (AddsItem is_sequence SpellsExtItem) (Each (IsKeptField depth)) depth
-field_more depth d s t tag content octets stands m h =
-    let x = m.spelled in
-    subst (Each (IsKeptField depth)) (sym m.after_is)
-    (each_more (IsKeptField depth) s m.item h (ext_is depth tag.constructed content m.item x, extension_field_kept depth depth tag.constructed content m.item x (omega arith) d))
-
-pub ext_list_kept : (depth : ℕ) (c : Bool) (content : List ℕ) (vs : List ExtFields) → SpellsExtList depth c content vs → depth + 3 ≤ 16 → Each (IsKeptField (depth + 1)) vs
-ext_list_kept depth c content vs h d = spelled_kept (AddsItem is_sequence SpellsExtItem) (Each (IsKeptField (depth + 1))) depth (field_more (depth + 1) (omega arith)) [] vs content h.spelled tt
 
 -- ---- recipients
 
 record Holds (depth : ℕ) (s : RecipientParts) : Type 0 where
   name : IfSome s.name (λ n. KeepsName depth n × IsName n)
   conversion : IfSome s.conversion (IsRawAt depth 2 2)
-  extensions : IfSome s.extensions (Each (IsKeptField (depth + 1)))
+  extensions : IfSome s.extensions (AreKeptFields (depth + 1))
 
 part_kept : (k : RecipientPart) (depth : ℕ) (s t : RecipientParts) (tag : Tag) (content octets : List ℕ) → depth + 3 ≤ 16 → is_tag (recipient_class k) (recipient_number k) tag ≡ true → Stands depth tag content octets → MakesRecipientPart k depth s tag content octets t
     → Holds depth s → Holds depth t
@@ -67,19 +51,15 @@ pub each_second : {X : Type 0} (P Q : X → Type 0) (xs : List X) → Each (λ x
 each_second P Q [] h = tt
 each_second P Q (x ∷ xs) h = (h.0.1, each_second P Q xs h.1)
 
-held_fields : (depth : ℕ) (o : Option (List ExtFields)) → IfSome o (Each (IsKeptField depth)) → Each (IsKeptField depth) (fields_or_none o)
-held_fields depth None h = tt
-held_fields depth (Some vs) h = h
-
 pub recipient_kept : ReadRecipientsAreKept
 recipient_kept depth c content v h d =
     let k = spelled_kept MakesRecipient (Holds (depth + 1)) depth (kept (depth + 1) (omega arith)) no_recipient h.parts content h.spelled (record { name = tt; conversion = tt; extensions = tt }) in
     let name : KeepsName (depth + 1) v.name × IsName v.name = subst (λ o. IfSome o (λ n. KeepsName (depth + 1) n × IsName n)) h.name k.name in
     let conversion : IfSome v.conversion (IsRawAt (depth + 1) 2 2) = subst (λ o. IfSome o (IsRawAt (depth + 1) 2 2)) (sym (ap (λ (x : RecipientFields). x.conversion) h.value)) k.conversion in
-    let fields : Each (IsKeptField (depth + 1 + 1)) v.extensions = subst (Each (IsKeptField (depth + 1 + 1))) (sym (ap (λ (x : RecipientFields). x.extensions) h.value)) (held_fields (depth + 1 + 1) h.parts.extensions k.extensions) in
+    let fields : AreKeptFields (depth + 1 + 1) v.extensions = subst (AreKeptFields (depth + 1 + 1)) (sym (ap (λ (x : RecipientFields). x.extensions) h.value)) (fields_or_none_kept (depth + 1 + 1) h.parts.extensions k.extensions) in
     let level : depth + 1 + 1 ≡ depth + 2 = omega arith in (
-      record { name = name.0; conversion = conversion; extensions = subst (λ n. Each (KeepsExtField n) v.extensions) level (each_second IsExtField (KeepsExtField (depth + 1 + 1)) v.extensions fields) },
-      record { recipient = recipient_is depth c content v h; name = name.1; extensions = each_first IsExtField (KeepsExtField (depth + 1 + 1)) v.extensions fields },
+      record { name = name.0; conversion = conversion; extensions = subst (λ n. Each (KeepsExtField n) v.extensions) level fields.kept },
+      record { recipient = recipient_is depth c content v h; name = name.1; extensions = fields.fields },
     )
 
 -- ---- lists

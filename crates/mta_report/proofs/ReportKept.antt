@@ -1,24 +1,20 @@
 -- What was read of a report stands in the level of its place, so a report that was read is written so that it is read again.
-use Rattle.std.proofs.Common.{◌≡◌, ℕ, ◌+◌, ◌≤◌, Bool, true, List, [], sym, subst, arith}
+use Rattle.std.proofs.Common.{◌≡◌, ℕ, ◌+◌, ◌≤◌, Bool, true, List, sym, subst, arith}
 use Rattle.std.specs.Prelude.{IfSome}
 use Rattle.mta_ber.specs.declared.tag.Tag.{Tag}
 use Rattle.mta_ber.specs.Parts.{is_tag}
 use Rattle.mta_ber.specs.Spelling.{Stands}
 use Rattle.mta_names.specs.declared.attributes.Attributes.{Attributes}
 use Rattle.mta_names.specs.Laws.{IsRawAt, KeepsName}
-use Rattle.mta_names.specs.Lists.{is_sequence}
-use Rattle.mta_names.specs.Strings.{AddsItem}
 use Rattle.mta_names.specs.Values.{Each, IsName}
 use Rattle.mta_names.proofs.Kept.{KeepsAt, spelled_kept, name_kept}
 use Rattle.mta_names.proofs.NameLaws.{name_is}
 use Rattle.mta_names.proofs.Rows.{none_begins}
-use Rattle.mta_names.proofs.Tools.{each_more}
-use Rattle.mta_fields.specs.declared.trace.TraceFields.{TraceFields}
-use Rattle.mta_fields.specs.Laws.{IsWholeId, IsWholeTrace, KeepsTrace, KeepsExtField}
-use Rattle.mta_fields.proofs.Kept.{identifier_whole, trace_kept, trace_whole}
-use Rattle.mta_common.specs.TraceLists.{SpellsTraceItem, SpellsTraceList}
+use Rattle.mta_fields.specs.Laws.{IsWholeId, KeepsTrace, KeepsExtField}
+use Rattle.mta_fields.proofs.Kept.{identifier_whole}
+use Rattle.mta_common.proofs.Kept.{AreKeptTraces, trace_list_kept, AreKeptFields, ext_list_kept, fields_or_none_kept}
 use Rattle.mta_reported.specs.Laws.{KeepsReported}
-use Rattle.mta_reported.proofs.ReportedKept.{AreKeptFields, ext_list_kept, fields_or_none_kept, AreKeptRecipients, reported_list_kept}
+use Rattle.mta_reported.proofs.ReportedKept.{AreKeptRecipients, reported_list_kept}
 use Rattle.mta_report.specs.declared.content.ContentFields.{ContentFields}
 use Rattle.mta_report.specs.declared.content.ContentPart.{ContentPart}
 use Rattle.mta_report.specs.declared.content.ContentPart.TheVariants as contents
@@ -38,23 +34,6 @@ use Rattle.mta_report.specs.Reports.{no_report, report, report_in, MakesReportPa
 use Rattle.mta_report.specs.ReportValues.{IsReport}
 use Rattle.mta_report.proofs.ReportAgain.{reports_again, whole_reports_again}
 use Rattle.mta_report.proofs.ReportLaws.{report_full, report_is}
-
--- ---- traces
-
-record AreKeptTraces (depth : ℕ) (vs : List TraceFields) : Type 0 where
-  traces : Each IsWholeTrace vs
-  kept : Each (KeepsTrace depth) vs
-
-trace_more : (depth : ℕ) → KeepsAt (AddsItem is_sequence SpellsTraceItem) (AreKeptTraces depth) depth
-trace_more depth s t tag content octets stands m h =
-    let v = m.item in
-    subst (AreKeptTraces depth) (sym m.after_is) (record {
-      traces = each_more IsWholeTrace s v h.traces (trace_whole depth tag.constructed content v m.spelled);
-      kept = each_more (KeepsTrace depth) s v h.kept (trace_kept depth tag.constructed content v m.spelled);
-    })
-
-trace_list_kept : (depth : ℕ) (c : Bool) (content : List ℕ) (vs : List TraceFields) → SpellsTraceList depth c content vs → AreKeptTraces (depth + 1) vs
-trace_list_kept depth c content vs h = spelled_kept (AddsItem is_sequence SpellsTraceItem) (AreKeptTraces (depth + 1)) depth (trace_more (depth + 1)) [] vs content h.spelled (record { traces = tt; kept = tt })
 
 -- ---- envelopes
 

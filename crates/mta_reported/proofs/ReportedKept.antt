@@ -1,23 +1,19 @@
 -- What was read of a recipient of whom is reported stands in the level of its place, so one that was read is written so that it is read again.
-use Rattle.std.proofs.Common.{◌≡◌, ℕ, ◌+◌, ◌≤◌, Bool, true, List, [], Option, Some, None, sym, subst, arith}
-use Rattle.std.specs.Prelude.{IfSome, unwrap_or}
+use Rattle.std.proofs.Common.{◌≡◌, ℕ, ◌+◌, ◌≤◌, Bool, true, List, [], sym, subst, arith}
+use Rattle.std.specs.Prelude.{IfSome}
 use Rattle.mta_ber.specs.declared.tag.Tag.{Tag}
 use Rattle.mta_ber.specs.Spelling.{Stands}
 use Rattle.mta_names.specs.declared.attributes.Attributes.{Attributes}
 use Rattle.mta_names.specs.Laws.{IsRawAt, KeepsName}
-use Rattle.mta_names.specs.Lists.{is_sequence}
 use Rattle.mta_names.specs.Strings.{AddsItem}
 use Rattle.mta_names.specs.Values.{Each, IsName}
 use Rattle.mta_names.proofs.Kept.{KeepsAt, spelled_kept, some_so, name_kept}
 use Rattle.mta_names.proofs.NameLaws.{name_is}
 use Rattle.mta_names.proofs.Rows.{none_begins}
 use Rattle.mta_names.proofs.Tools.{each_more}
-use Rattle.mta_fields.specs.declared.extension.ExtFields.{ExtFields}
 use Rattle.mta_fields.specs.ExtensionFields.{IsExtField}
 use Rattle.mta_fields.specs.Laws.{KeepsExtField}
-use Rattle.mta_fields.proofs.ExtLaws.{ext_is}
-use Rattle.mta_fields.proofs.Kept.{extension_field_kept}
-use Rattle.mta_common.specs.ExtensionLists.{SpellsExtItem, SpellsExtList}
+use Rattle.mta_common.proofs.Kept.{AreKeptFields, ext_list_kept, fields_or_none_kept}
 use Rattle.mta_reported.specs.declared.last.LastPart.{LastPart}
 use Rattle.mta_reported.specs.declared.last.LastPart.TheVariants.{Arrival, ReportType, Converted}
 use Rattle.mta_reported.specs.declared.last.LastParts.{LastParts}
@@ -32,29 +28,6 @@ use Rattle.mta_reported.specs.ReportedRecipients.{is_reported_tag, no_reported, 
 use Rattle.mta_reported.specs.Values.{IsReported}
 use Rattle.mta_reported.proofs.ReportedAgain.{reported_again}
 use Rattle.mta_reported.proofs.ReportedLaws.{reported_is, reported_full}
-
--- ---- extension fields
-
--- each is a field, and keeps its value in the level `depth`
-pub record AreKeptFields (depth : ℕ) (vs : List ExtFields) : Type 0 where
-  pub fields : Each IsExtField vs
-  pub kept : Each (KeepsExtField depth) vs
-
-field_more : (depth : ℕ) → depth + 2 ≤ 16 → KeepsAt (AddsItem is_sequence SpellsExtItem) (AreKeptFields depth) depth
-field_more depth d s t tag content octets stands m h =
-    let v = m.item in
-    subst (AreKeptFields depth) (sym m.after_is) (record {
-      fields = each_more IsExtField s v h.fields (ext_is depth tag.constructed content v m.spelled);
-      kept = each_more (KeepsExtField depth) s v h.kept (extension_field_kept depth depth tag.constructed content v m.spelled (omega arith) d);
-    })
-
-pub ext_list_kept : (depth : ℕ) (c : Bool) (content : List ℕ) (vs : List ExtFields) → SpellsExtList depth c content vs → depth + 3 ≤ 16 → AreKeptFields (depth + 1) vs
-ext_list_kept depth c content vs h d = spelled_kept (AddsItem is_sequence SpellsExtItem) (AreKeptFields (depth + 1)) depth (field_more (depth + 1) (omega arith)) [] vs content h.spelled (record { fields = tt; kept = tt })
-
--- no extensions are the default
-pub fields_or_none_kept : (depth : ℕ) (o : Option (List ExtFields)) → IfSome o (AreKeptFields depth) → AreKeptFields depth (unwrap_or o [])
-fields_or_none_kept depth None h = record { fields = tt; kept = tt }
-fields_or_none_kept depth (Some vs) h = h
 
 -- ---- last traces
 
