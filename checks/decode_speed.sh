@@ -3,13 +3,8 @@
 # each, and tshark, one run over all of them. User and system time of one run on this machine. Run it at the top of the repository.
 set -u
 cd "$(dirname "$0")/.." || exit 2
-for tool in rt openssl python3; do
-  command -v "$tool" >/dev/null || { echo "skipped: $tool is not on the PATH"; exit 0; }
-done
-made=$(mktemp -d)
-trap 'rm -rf "$made"' EXIT
-(cd crates/mta && rt run) >"$made/log" 2>&1 || { cat "$made/log"; exit 1; }
-mta=$PWD/crates/mta/out/mta
+. checks/program.bash
+program openssl python3
 small=samples/message.ber
 count=${1:-10000}
 python3 - "$small" "$made" "$count" <<'PYTHON'

@@ -3,13 +3,8 @@
 # outcomes of reports. Run it at the top of the repository.
 set -u
 cd "$(dirname "$0")/.." || exit 2
-for tool in rt tshark text2pcap python3; do
-  command -v "$tool" >/dev/null || { echo "skipped: $tool is not on the PATH"; exit 0; }
-done
-made=$(mktemp -d)
-trap 'rm -rf "$made"' EXIT
-(cd crates/mta && rt run) >"$made/log" 2>&1 || { cat "$made/log"; exit 1; }
-mta=$PWD/crates/mta/out/mta
+. checks/program.bash
+program tshark text2pcap python3
 wrong=0
 count=0
 for sample in samples/*.ber; do

@@ -128,14 +128,23 @@ fn read_back(alloc: Global, out: &MemSink, finished: &Finished<MemDisk>) -> Resu
     })
 }
 
-fn outcome(alloc: Global, given: &Given, disk: &[u8]) -> Result<Left, Fail> {
+fn finished(
+    alloc: Global,
+    given: &Given,
+    disk: &[u8],
+    out: &mut MemSink,
+) -> Result<Finished<MemDisk>, Fail> {
     let words = words(alloc, given.word, given.name)?;
     let conf = source(alloc, given.tables, 0)?;
     let input = source(alloc, given.input, given.input_fails)?;
     let disk = disk_of(alloc, disk, given.disk_fails)?;
     let clock = MemClock::new([1000].to_vec(alloc)?);
+    Ok(called(alloc, &words, conf, input, out, disk, clock))
+}
+
+fn outcome(alloc: Global, given: &Given, disk: &[u8]) -> Result<Left, Fail> {
     let mut out = MemSink::new(alloc, [given.sink_fails].to_vec(alloc)?);
-    let finished = called(alloc, &words, conf, input, &mut out, disk, clock);
+    let finished = finished(alloc, given, disk, &mut out)?;
     read_back(alloc, &out, &finished)
 }
 
@@ -295,6 +304,48 @@ fn the_outside_fails(rt: HostRuntime) -> Result<(), Fail> {
     ends(&rt, alloc, &input, b"", 8, b"source fault\n")?;
     ends(&rt, alloc, &sink, b"", 9, b"")?;
     ends(&rt, alloc, &disk, b"", 4, b"disk fault\n")
+}
+
+// The disk that a run of `submit` leaves, with the log of its calls.
+fn submitted(alloc: Global) -> Result<MemDisk, Fail> {
+    let mut out = MemSink::new(alloc, Vec::new(alloc));
+    let Finished { disk, status: _ } = finished(alloc, &PLAIN, b"", &mut out)?;
+    Ok(disk)
+}
+
+// What `spool` prints of the image that a crash at this call left.
+fn queue_after(
+    rt: &impl Abort,
+    alloc: Global,
+    disk: &MemDisk,
+    call: u64,
+    choice: u64,
+) -> Result<Vec<u8>, Fail> {
+    let given = Given {
+        word: "spool",
+        ..PLAIN
+    };
+    let image = disk.image(call, choice)?;
+    let left = outcome(alloc, &given, image.as_slice())?;
+    assert_eq!(rt; left.status, 0);
+    Ok(left.text)
+}
+
+#[test]
+fn a_submit_that_is_stopped_leaves_a_beginning(rt: HostRuntime) -> Result<(), Fail> {
+    let alloc = rt.alloc();
+    let disk = submitted(alloc)?;
+    let calls = disk.calls();
+    for choice in 0..8 {
+        for call in 0..calls {
+            let text = queue_after(&rt, alloc, &disk, call, choice)?;
+            let text = text.as_slice();
+            assert!(rt; text.is_empty() || text == WAITING || text == QUEUE);
+        }
+        let text = queue_after(&rt, alloc, &disk, calls, choice)?;
+        assert_eq!(rt; text.as_slice(), QUEUE);
+    }
+    Ok(())
 }
 
 #[test]
