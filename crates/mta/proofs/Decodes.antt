@@ -1,34 +1,30 @@
 -- What `decode` leaves, as what a command leaves.
-use Rattle.std.proofs.Common.{◌≡◌, ℕ, ◌≤◌, List, [], ◌++◌, Option, Some, None, Result, Ok, Err, refl, sym, ap, subst, ◌∙◌, arith, inl, inr}
-use Rattle.std.specs.Prelude.{◌⊎◌}
+use Rattle.std.proofs.Common.{◌≡◌, ℕ, List, [], Option, Some, Result, Ok, Err, refl, sym, ap, subst, ◌∙◌, inr}
 use Rattle.mta_ber.specs.declared.fault.Kind.{Kind}
 use Rattle.mta_edge.specs.Causes.{Rose}
-use Rattle.mta_edge.specs.Outside.{Goes}
-use Rattle.mta_records.specs.declared.step.Step.{Step}
 use Rattle.mta_apdu.specs.Apdus.{ApduValue, SpellsApdu}
-use Rattle.mta_history.specs.Apdu.{HasFault}
 use Rattle.mta_apdu_text.specs.Apdus.{apdu_text}
 use Rattle.mta.specs.declared.stop.Stop.{Stop}
 use Rattle.mta.specs.declared.stop.Stop.TheVariants as Stops
 use Rattle.mta.specs.declared.words.Words.TheVariants as Say
 use Rattle.mta.specs.Gathering.{IsTold, HasFirstFault, IsInputStop}
-use Rattle.mta.specs.Ending.{IsDecodeText, IsText, IsCause}
+use Rattle.mta.specs.Ending.{IsDecodeText, IsCause}
 use Rattle.mta.specs.Headline.{HasPrinted, HasDone}
 use Rattle.mta.specs.Showing.{HasShown}
-use Rattle.mta.specs.Decoding.{IsTextStop, IsDecodedAs, IsDecodeStop, HasDecoded}
+use Rattle.mta.specs.Decoding.{IsDecodedAs, IsDecodeStop, HasDecoded}
 use Rattle.mta.proofs.Dones.{printed_nothing, err_is, stands_history}
 use Rattle.mta.proofs.Openings.{DiskLaws, left_alone}
 use Rattle.mta.proofs.Submits.{none_accepted}
 
 -- ---- from the octets to the input
 
-told_fault : (input : Option (List ℕ)) (octets : List ℕ) (at : ℕ) (kind : Kind) → IsTold input octets → HasFault octets (record { at = at; kind = kind }) → HasFirstFault input at kind
-told_fault input octets at kind told has i e = subst (λ (x : List ℕ). HasFault x (record { at = at; kind = kind })) (told i e) has
+told_fault : (input : Option (List ℕ)) (octets : List ℕ) (at : ℕ) (kind : Kind) → IsTold input octets → HasFirstFault (Some octets) at kind → HasFirstFault input at kind
+told_fault input octets at kind told has i e = has i (ap (λ (x : List ℕ). Some x) (told i e))
 
 told_text : (input : Option (List ℕ)) (octets text : List ℕ) → IsTold input octets → IsDecodedAs octets (Ok text) → IsDecodeText input text
 told_text input octets text told is i e = subst (λ (x : List ℕ). (v : ApduValue) × SpellsApdu x v × (text ≡ apdu_text v)) (told i e) is
 
-text_stop : (input : Option (List ℕ)) (octets : List ℕ) (source_rose out_rose : Type 0) (stop : Stop) → IsTold input octets → IsTextStop octets stop → (stop ≡ Stops.Sink → ⊥) × IsDecodeStop input source_rose out_rose stop
+text_stop : (input : Option (List ℕ)) (octets : List ℕ) (source_rose out_rose : Type 0) (stop : Stop) → IsTold input octets → IsInputStop (Some octets) ⊥ stop → (stop ≡ Stops.Sink → ⊥) × IsDecodeStop input source_rose out_rose stop
 text_stop input octets source_rose out_rose (Stops.BadApdu at kind) told is = (λ e. absurd cc, told_fault input octets at kind told is)
 text_stop input octets source_rose out_rose Stops.Memory told is = (λ e. absurd cc, tt)
 text_stop input octets source_rose out_rose Stops.Source told is = absurd is

@@ -1,8 +1,6 @@
 -- What an input is read as, from what reading its octets says.
-use Rattle.std.proofs.Common.{◌≡◌, ℕ, ◌<◌, ◌≤◌, cond, List, length, Option, Some, Result, Ok, Err, refl, ap}
-use Rattle.std.specs.Prelude.{nat_le}
+use Rattle.std.proofs.Common.{◌≡◌, ℕ, ◌<◌, cond, List, length, Option, Result, Err, ap}
 use Rattle.std.proofs.lemmas.Bool.{lt-leb}
-use Rattle.mta_ber.specs.declared.fault.Fault.{Fault}
 use Rattle.mta_ber.specs.declared.fault.Kind.TheVariants.{TooLong}
 use Rattle.mta_ber.specs.Head.{fault}
 use Rattle.mta_apdu.specs.Apdus.{longest_apdu, front_in, apdu_of}

@@ -1,32 +1,17 @@
 -- What `decode` leaves.
-use Rattle.std.specs.Prelude.{◌≡◌, ℕ, List, Option, Result, Ok, Err}
+use Rattle.std.specs.Prelude.{◌≡◌, ℕ, List, Option, Some, Result, Ok, Err}
 use Rattle.mta_apdu.specs.Apdus.{ApduValue, SpellsApdu}
-use Rattle.mta_history.specs.Apdu.{HasFault}
 use Rattle.mta_apdu_text.specs.Apdus.{apdu_text}
 use Rattle.mta.specs.declared.stop.Stop.{Stop}
 use Rattle.mta.specs.declared.stop.Stop.TheVariants as Stops
-use Rattle.mta.specs.Gathering.{HasFirstFault}
+use Rattle.mta.specs.Gathering.{HasFirstFault, IsInputStop}
 use Rattle.mta.specs.Ending.{IsDecodeText}
 use Rattle.mta.specs.Headline.{HasPrinted}
 
--- why there is no text of an APDU
-abbrev pub IsTextStop : List ℕ → Stop → Type 0
-IsTextStop octets (Stops.BadApdu at kind) = HasFault octets (record { at = at; kind = kind })
-IsTextStop octets Stops.Memory = Unit {0}
-IsTextStop octets Stops.Source = ⊥
-IsTextStop octets (Stops.Tables line kind) = ⊥
-IsTextStop octets Stops.Usage = ⊥
-IsTextStop octets (Stops.NotSpool at) = ⊥
-IsTextStop octets Stops.Disk = ⊥
-IsTextStop octets (Stops.Full size need) = ⊥
-IsTextStop octets (Stops.Spent last) = ⊥
-IsTextStop octets Stops.Sink = ⊥
-IsTextStop octets (Stops.NoMailbox name) = ⊥
-
--- the text of the APDU that octets are read as, or why there is none
+-- the text of the APDU that octets spell, or why there is none
 abbrev pub IsDecodedAs : List ℕ → Result (List ℕ) Stop → Type 0
 IsDecodedAs octets (Ok text) = (v : ApduValue) × SpellsApdu octets v × (text ≡ apdu_text v)
-IsDecodedAs octets (Err stop) = IsTextStop octets stop
+IsDecodedAs octets (Err stop) = IsInputStop (Some octets) ⊥ stop
 
 -- why `decode` stopped
 abbrev pub IsDecodeStop : Option (List ℕ) → Type 0 → Type 0 → Stop → Type 0

@@ -1,5 +1,5 @@
 -- How a run ends: its status, why, and what it printed.
-use Rattle.std.specs.Prelude.{◌≡◌, ◌≢◌, ◌⊎◌, ◌^◌, ℕ, ◌+◌, ◌<◌, List, [], ◌++◌, length, Option, None, Some, Result, Ok, Err, option_and_then}
+use Rattle.std.specs.Prelude.{◌≡◌, ◌≢◌, ◌⊎◌, ◌^◌, ℕ, ◌<◌, List, [], ◌++◌, Option, None, Some, Result, Ok, Err, option_and_then}
 use Rattle.mta_edge.specs.Outside.{Goes}
 use Rattle.mta_records.specs.declared.step.Step.{Step}
 use Rattle.mta_tables.specs.Tables.{TablesValue, mailbox_of as place_of_mailbox}

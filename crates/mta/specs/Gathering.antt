@@ -1,6 +1,8 @@
 -- What is read before the disk is opened.
 use Rattle.std.specs.Prelude.{◌≡◌, ◌≤◌, ◌⊎◌, ℕ, List, Option, Some, Result, Ok, Err}
 use Rattle.mta_ber.specs.declared.fault.Kind.{Kind}
+use Rattle.mta_ber.specs.declared.fault.ReadFault.{ReadFault}
+use Rattle.mta_ber.specs.declared.fault.ReadFault.TheVariants.{Bad, Memory}
 use Rattle.mta_edge.specs.Causes.{Rose}
 use Rattle.mta_tables.specs.Tables.{TablesValue, tables_of}
 use Rattle.mta_tables.specs.Grammar.{IsFirstBadLine}
@@ -59,7 +61,11 @@ pub record HasOctets (input : Option (List ℕ)) (before now : ℕ) (result : Re
   pub later : before ≤ now
   pub read : AreOctetsRead input (Rose before now) result
 
--- octets that are read as an APDU, or why they are not
+abbrev pub stop_of_read : ReadFault → Stop
+stop_of_read (Bad fault) = Stops.BadApdu fault.at fault.kind
+stop_of_read Memory = Stops.Memory
+
+-- octets that spell an APDU, or why they do not
 abbrev pub IsChecked : List ℕ → Result (Unit {0}) Stop → Type 0
 IsChecked octets (Ok done) = IsApdu octets
 IsChecked octets (Err stop) = IsInputStop (Some octets) ⊥ stop

@@ -6,9 +6,9 @@ ghost use Rattle.mta.specs.Decoding.{IsDecodedAs, HasDecoded};
 
 use crate::command::print;
 use crate::gather::octets_of;
-use crate::stop::Stop;
+use crate::stop::{Stop, stop_of_read};
 use mta_apdu::Apdu;
-use mta_ber::{Octets, ReadFault};
+use mta_ber::Octets;
 use mta_edge::{Sink, Source};
 use mta_show::show_apdu;
 use std::alloc::Global;
@@ -18,13 +18,7 @@ fn text_of(alloc: Global, octets: &Octets) -> Result<Octets, Stop>
 {
     let apdu = match Apdu::read(alloc, octets.as_slice()) {
         Ok(apdu) => apdu,
-        Err(ReadFault::Bad(fault)) => {
-            return Err(Stop::BadApdu {
-                at: fault.at,
-                kind: fault.kind,
-            });
-        }
-        Err(ReadFault::Memory) => return Err(Stop::Memory),
+        Err(fault) => return Err(stop_of_read(fault)),
     };
     let text = show_apdu(alloc, &apdu);
     apdu.discard();

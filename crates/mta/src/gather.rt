@@ -3,7 +3,7 @@
 ghost use Rattle.mta.specs.Gathering.{HasTables, HasOctets, IsChecked, HasInput, HasGathered};
 
 use crate::read::{ReadFault, read_all};
-use crate::stop::Stop;
+use crate::stop::{Stop, stop_of_read};
 use mta_apdu::{Apdu, LONGEST_APDU};
 use mta_ber::Kind;
 use mta_edge::{Octets, Source};
@@ -65,11 +65,7 @@ fn check(alloc: Global, octets: &Octets) -> Result<(), Stop>
             apdu.discard();
             Ok(())
         }
-        Err(mta_ber::ReadFault::Bad(fault)) => Err(Stop::BadApdu {
-            at: fault.at,
-            kind: fault.kind,
-        }),
-        Err(mta_ber::ReadFault::Memory) => Err(Stop::Memory),
+        Err(fault) => Err(stop_of_read(fault)),
     }
 }
 

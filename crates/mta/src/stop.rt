@@ -1,6 +1,9 @@
 //! Why a command ended without its result.
 
-use mta_ber::{Kind, Word};
+ghost use Rattle.std.specs.Prelude.{◌≡◌};
+ghost use Rattle.mta.specs.Gathering.{stop_of_read};
+
+use mta_ber::{Kind, ReadFault, Word};
 use mta_tables::LineKind;
 
 /// Each with its status and its line.
@@ -28,4 +31,17 @@ pub enum Stop {
     NoMailbox(Word),
     /// The input is no APDU, for this first fault at this offset.
     BadApdu { at: u32, kind: Kind },
+}
+
+/// Why octets were not read as an APDU.
+pub fn stop_of_read(fault: ReadFault) -> Stop
+    ensures { result ≡ stop_of_read fault }
+{
+    match fault {
+        ReadFault::Bad(fault) => Stop::BadApdu {
+            at: fault.at,
+            kind: fault.kind,
+        },
+        ReadFault::Memory => Stop::Memory,
+    }
 }

@@ -1,6 +1,6 @@
 -- Each recipient is pending and was not discharged, or is not pending and was discharged once.
-use Rattle.std.proofs.Common.{◌≡◌, ◌≢◌, ℕ, zero, suc, ◌+◌, ◌-◌, ◌≤◌, ◌<◌, Bool, true, false, cond, eqb, List, [], ◌∷◌, ◌++◌, length, map, set, Option, Some, None, Result, Ok, Err, refl, sym, ap, subst, ◌∙◌, arith, inl, inr}
-use Rattle.std.specs.Prelude.{◌⊎◌, ◌&&◌, slice_get, option_and_then, count_by}
+use Rattle.std.proofs.Common.{◌≡◌, ◌≢◌, ℕ, zero, suc, ◌+◌, ◌-◌, ◌<◌, Bool, true, false, cond, eqb, List, [], ◌∷◌, ◌++◌, length, map, set, Option, Some, None, Result, Ok, Err, refl, sym, ap, subst, ◌∙◌, arith, inl, inr}
+use Rattle.std.specs.Prelude.{◌⊎◌, ◌&&◌, slice_get, option_and_then}
 use Rattle.std.proofs.lemmas.Bool.{cases_Bool, cases_eq, eq-eqb, eqb-true}
 use Rattle.std.proofs.lemmas.List.Sums.{sum_by-cons}
 use Rattle.std.proofs.lemmas.Option.{slice_get_within}
@@ -13,10 +13,10 @@ use Rattle.mta_records.specs.declared.step.Step.TheVariants.{Tables, Accept, Del
 use Rattle.mta_history.specs.declared.item.Item.{Item}
 use Rattle.mta_history.specs.declared.item.Status.{Status}
 use Rattle.mta_history.specs.declared.item.Status.TheVariants.{Pending, Delivered}
-use Rattle.mta_history.specs.Apdu.{status_of, statuses_of, statuses_read, statuses_at_first}
+use Rattle.mta_history.specs.Apdu.{status_of, statuses_of, statuses_read}
 use Rattle.mta_history.specs.Due.{numbered, IsDue}
-use Rattle.mta_history.specs.Machine.{Machine, MachineStep, set_tables, accept, deliver, status_at, with_status, discharges, discharges_one, machine_after}
-use Rattle.mta_history.specs.History.{State, after_step, after_from, ArePossible, IsHistory, empty, machine_steps, project, RecipientsOnce, EachRecipientOnce}
+use Rattle.mta_history.specs.Machine.{Machine, MachineStep, set_tables, accept, deliver, status_at, discharges, discharges_one}
+use Rattle.mta_history.specs.History.{State, after_step, after_from, ArePossible, empty, machine_steps, project, EachRecipientOnce}
 use Rattle.mta_history.proofs.Histories.{history_run}
 
 differ : (a b : ℕ) → (a ≡ b → ⊥) → eqb a b ≡ false

@@ -1,5 +1,5 @@
 -- Which recipients are due: pending ones whose verdict can be carried out now.
-use Rattle.std.specs.Prelude.{◌≡◌, ◌⊎◌, ℕ, zero, suc, ◌<◌, ◌≤◌, Bool, true, false, List, [], ◌∷◌, Option, Some, None, slice_get, option_and_then, if◌then◌else◌}
+use Rattle.std.specs.Prelude.{◌≡◌, ◌⊎◌, ℕ, zero, suc, ◌<◌, ◌≤◌, false, List, Option, Some, None, slice_get, option_and_then, if◌then◌else◌}
 use Rattle.mta_first_shape.specs.Message.{MessageValue, asks_report}
 use Rattle.mta_first_shape.specs.Reading.{first_shape_of}
 use Rattle.mta_tables.specs.declared.mailbox.Mailbox.{Mailbox}

@@ -1,6 +1,6 @@
 -- What becomes of a recipient of a message of the first shape, under the tables recorded last (X.411, clause 14).
-use Rattle.std.specs.Prelude.{ℕ, ◌+◌, Bool, true, false, List, [], ◌∷◌, Option, Some, None, Result, Ok, Err, nat_le, option_and_then, if◌then◌else◌}
-use Rattle.mta_first_shape.specs.Message.{NameValue, MessageValue, asks_report}
+use Rattle.std.specs.Prelude.{ℕ, ◌+◌, Bool, List, [], ◌∷◌, Option, Some, None, Result, Ok, Err, nat_le, option_and_then, if◌then◌else◌}
+use Rattle.mta_first_shape.specs.Message.{NameValue, MessageValue}
 use Rattle.mta_first_names.specs.declared.name.Attributes.{Attributes}
 use Rattle.mta_tables.specs.declared.mailbox.Hop.{Hop}
 use Rattle.mta_tables.specs.declared.mailbox.Hop.TheVariants as Hops

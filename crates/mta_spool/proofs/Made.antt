@@ -1,7 +1,5 @@
 -- A step that is put and shown is made.
-use Rattle.std.specs.Prelude.{◌↔◌}
-use Rattle.std.proofs.Common.{false, true, ◌≡◌, ◌≢◌, ℕ, ◌+◌, ◌≤◌, ◌<◌, ◌^◌, List, [], ◌∷◌, ◌++◌, length, map, take, Option, None, Some, Result, Ok, Err, IsErrOf, ltb, inl, inr, add-one, refl, sym, ap, subst, ◌∙◌, arith}
-use Rattle.std.proofs.Math.Seq.{take-append_seam}
+use Rattle.std.proofs.Common.{false, true, ◌≡◌, ◌≢◌, ℕ, ◌+◌, ◌≤◌, List, [], ◌∷◌, ◌++◌, length, map, Option, None, Some, Result, Ok, Err, ltb, inl, inr, add-one, refl, sym, ap, subst, ◌∙◌}
 use Rattle.mta_records.specs.declared.step.Step.{Step}
 use Rattle.mta_records.specs.declared.step.Step.TheVariants.{Tables, Accept, Deliver}
 use Rattle.mta_records.specs.declared.fault.StepFault.{StepFault}
@@ -22,7 +20,7 @@ use Rattle.mta_history.specs.Machine.{with_status, delivery}
 use Rattle.mta_history.specs.Verdict.{last_of, recorded, tables_value, value_of}
 use Rattle.mta_history.specs.History.{State, IsPossible, ArePossible, IsHistory, IsTablesText, after_step, after, after_from, empty}
 use Rattle.mta_history.proofs.Histories.{after_from-more, possible-more, map-more, AreRecords-more}
-use Rattle.mta_journal.specs.Shown.{Shown as JournalShown, Holds}
+use Rattle.mta_journal.specs.Shown.{Holds}
 use Rattle.mta_records.specs.Body.{body_of, HasFields}
 use Rattle.mta_spool.specs.declared.current.Current.{Current}
 use Rattle.mta_spool.specs.Shown.{Shown}
@@ -170,36 +168,6 @@ module _ {D C : Type 0} (content : D → Option (List ℕ)) (faults : D → ℕ)
 
       other_answer : (a b : StepFault) → ◌≡◌ {A = Result (Unit {0}) StepFault} (Err a) (Err b) → ◌≡◌ {A = Result T StepFault} (Err a) (Err b)
       other_answer a b w = let same_fault : a ≡ b = cc in ap Err same_fault
-
-  -- A step that was refused before the disk was called.
-  pub refuses_still : {T : Type 0} (step : Step) (old new : Shown D C) (fault : StepFault) → new ≡ record old { clock = new.clock } → (IsErrOf {T = T} (Err fault) StepFaults.Ended ↔ (old.journal.ended ≡ true)) → (fault ≡ StepFaults.Disk → ⊥)
-      → ((size need : ℕ) → fault ≡ StepFaults.Full size need → ⊥) → Appends {T = T} content faults may_leave moment left_since step old new (Err fault)
-  refuses_still {T} step old new fault is ended no_disk no_full =
-      let journal : new.journal ≡ old.journal = ap (λ (v : Shown _ _). v.journal) is in
-      record {
-        done = λ ok. absurd cc;
-        told = λ ok. absurd cc;
-        crash = λ calm. absurd (no_disk (fault_is fault StepFaults.Disk (calm refl)));
-        kept = λ err no. is;
-        later = omega (arith, ap (λ (j : JournalShown D). faults j.disk) journal);
-        disk = λ e. absurd (no_disk (fault_is fault StepFaults.Disk e));
-        ended = ended;
-        marked = λ e. absurd (no_disk (fault_is fault StepFaults.Disk e));
-        full = λ size need e. absurd (no_full size need (fault_is fault (StepFaults.Full size need) e));
-        fits = λ ok. absurd cc;
-      }
-    where
-      fault_is : (a b : StepFault) → ◌≡◌ {A = Result T StepFault} (Err a) (Err b) → a ≡ b
-      fault_is a b w = cc
-
-  pub no_memory : {T : Type 0} (step : Step) (old new : Shown D C) → new ≡ record old { clock = new.clock } → old.journal.ended ≡ false → Appends {T = T} content faults may_leave moment left_since step old new (Err StepFaults.Memory)
-  no_memory step old new is going = refuses_still step old new StepFaults.Memory is (λ e. absurd cc, λ e. absurd cc) (λ e. absurd cc) (λ size need e. absurd cc)
-
-  pub no_number : {T : Type 0} (step : Step) (old new : Shown D C) (last : ℕ) → new ≡ record old { clock = new.clock } → old.journal.ended ≡ false → Appends {T = T} content faults may_leave moment left_since step old new (Err (StepFaults.Spent last))
-  no_number step old new last is going = refuses_still step old new (StepFaults.Spent last) is (λ e. absurd cc, λ e. absurd cc) (λ e. absurd cc) (λ size need e. absurd cc)
-
-  pub has_ended : {T : Type 0} (step : Step) (old new : Shown D C) → new ≡ record old { clock = new.clock } → old.journal.ended ≡ true → Appends {T = T} content faults may_leave moment left_since step old new (Err StepFaults.Ended)
-  has_ended step old new is ended = refuses_still step old new StepFaults.Ended is (λ e. ended, λ e. refl) (λ e. absurd cc) (λ size need e. absurd cc)
 
 pub accept_same : (m n : ℕ) (apdu octets : List ℕ) → m ≡ n → octets ≡ apdu → ◌≡◌ {A = Step} (Accept m octets) (Accept n apdu)
 accept_same m n apdu octets e f = cc

@@ -1,20 +1,17 @@
 -- The recipient that is due next.
-use Rattle.std.proofs.Common.{◌≡◌, ℕ, zero, suc, ◌+◌, ◌-◌, ◌≤◌, ◌<◌, Bool, true, false, cond, ltb, List, [], ◌∷◌, ◌++◌, length, get_or, Option, Some, None, add-one, true≢false, refl, sym, ap, subst, ◌∙◌, arith, inl, inr}
-use Rattle.std.specs.Prelude.{◌⊎◌, is_some, slice_get, option_and_then}
+use Rattle.std.proofs.Common.{◌≡◌, ℕ, zero, suc, ◌+◌, ◌≤◌, ◌<◌, Bool, true, false, cond, ltb, List, [], ◌∷◌, length, get_or, Option, Some, None, add-one, true≢false, refl, sym, ap, subst, ◌∙◌, arith, inl, inr}
+use Rattle.std.specs.Prelude.{◌⊎◌, is_some, slice_get}
 use Rattle.std.specs.List.{position, position_or_len}
 use Rattle.std.proofs.lemmas.Bool.{cases_lt, cases_eq, cases_Bool, lt-ltb, le-ltb}
 use Rattle.std.proofs.lemmas.List.Quantifiers.{position-Some}
-use Rattle.std.proofs.lemmas.Option.{slice_get-get_or, get_or_from_slice_get, slice_get_within, option_and_then_some, none-some}
-use Rattle.mta_tables.specs.Tables.{TablesValue, best_hop, local as local_of}
+use Rattle.std.proofs.lemmas.Option.{get_or_from_slice_get, option_and_then_some, none-some}
+use Rattle.mta_tables.specs.Tables.{TablesValue, local as local_of}
 use Rattle.mta_tables.specs.Mailbox.{has_name}
 use Rattle.mta_tables.specs.declared.mailbox.Mailbox.{Mailbox}
-use Rattle.mta_tables.specs.declared.mailbox.Hop.{Hop}
-use Rattle.mta_tables.specs.declared.mailbox.Hop.TheVariants as Hops
 use Rattle.mta_history.specs.declared.item.Item.{Item}
-use Rattle.mta_history.specs.declared.item.MailboxLine.{MailboxLine}
 use Rattle.mta_history.specs.declared.verdict.Verdict.TheVariants as Verdicts
 use Rattle.mta_history.specs.Verdict.{verdict_of_message, verdict_at, attributes_of, is_expired}
-use Rattle.mta_history.specs.Due.{numbered, IsDue, IsQuiet, IsLowest, place_of_item, due_place, due_mailbox, word_at}
+use Rattle.mta_history.specs.Due.{numbered, IsDue, IsQuiet, IsLowest, place_of_item, due_place, due_mailbox}
 use Rattle.mta_history.specs.Machine.{delivery}
 use Rattle.mta_history.proofs.Dues.{due_is, is_due}
 
@@ -96,9 +93,6 @@ passes_there tables items moment k item at is none =
     let first = position-Some (λ (x : Item). is_some (place_of_item tables moment x)) items k item at in
     let fails : is_some (place_of_item tables moment item) ≡ false = ap is_some none in
     true≢false (sym first.1 ∙ test_at (λ (x : Item). is_some (place_of_item tables moment x)) items k item is ∙ fails)
-
-pub inside_there : (tables : TablesValue) (items : List Item) (moment k : ℕ) (item : Item) → position (λ (item : Item). is_some (place_of_item tables moment item)) items ≡ Some k → k < length items
-inside_there tables items moment k item at = (position-Some (λ (x : Item). is_some (place_of_item tables moment x)) items k item at).0
 
 -- ---- the mailbox of a delivery
 

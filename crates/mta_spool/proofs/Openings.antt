@@ -1,16 +1,15 @@
 -- What opening a disk leaves.
-use Rattle.std.proofs.Common.{inl, inr, ◌≡◌, ℕ, ◌≤◌, ◌<◌, List, [], ◌∷◌, length, map, Option, Some, Result, Ok, Err, sym, ap, subst, ◌∙◌, arith}
-use Rattle.mta_edge.specs.Causes.{Rose}
+use Rattle.std.proofs.Common.{inl, inr, ◌≡◌, ℕ, ◌≤◌, ◌<◌, List, [], ◌∷◌, length, Option, Some, Err, sym, ap, subst, arith}
 use Rattle.mta_journal.specs.Bodies.{StandsFor as HoldsBodies}
-use Rattle.mta_journal.specs.Shown.{Shown as JournalShown, Holds}
+use Rattle.mta_journal.specs.Shown.{Holds}
 use Rattle.mta_journal.specs.Opening.{HasRefused as IsNotOpened}
 use Rattle.mta_journal.specs.declared.why.OpenWhy.{OpenWhy}
 use Rattle.mta_journal.specs.declared.why.OpenWhy.TheVariants as Whys
 use Rattle.mta_records.specs.declared.step.Step.{Step}
 use Rattle.mta_records.specs.declared.step.Step.TheVariants.{Tables, Accept, Deliver}
-use Rattle.mta_records.specs.Body.{body_of, last_moment}
+use Rattle.mta_records.specs.Body.{last_moment}
 use Rattle.mta_history.specs.History.{State, after_from, after_step, empty}
-use Rattle.mta_history.specs.Image.{AreRecords, StandsFor, NoSpoolAt}
+use Rattle.mta_history.specs.Image.{AreRecords, StandsFor}
 use Rattle.mta_spool.specs.declared.current.Current.{Current}
 use Rattle.mta_spool.specs.Opening.{HasRefused}
 use Rattle.mta_spool.specs.Replaying.{IsReplay, Replays}

@@ -1,11 +1,10 @@
 -- A step that was put on the disk.
-use Rattle.std.proofs.Common.{inl, inr, ◌≡◌, ℕ, ◌+◌, ◌≤◌, ◌<◌, false, true, List, [], ◌∷◌, ◌++◌, length, take, Option, Some, Result, Ok, Err, IsErrOf, refl, sym, ap, subst, ◌∙◌, arith}
-use Rattle.std.proofs.Math.Seq.{take-append_seam}
+use Rattle.std.proofs.Common.{inl, inr, ◌≡◌, ℕ, ◌+◌, false, List, Option, Result, Ok, Err, IsErrOf, refl, sym, ap, subst, ◌∙◌, arith}
 use Rattle.std.proofs.lemmas.Bool.{cases_lt}
 use Rattle.mta_edge.specs.Crashes.{AtAnyMoment}
 use Rattle.mta_disk.proofs.Writing.{settled_once}
 use Rattle.mta_journal.specs.Bodies.{HasOrOneMore}
-use Rattle.mta_journal.specs.Shown.{Shown as JournalShown, Holds}
+use Rattle.mta_journal.specs.Shown.{Shown as JournalShown}
 use Rattle.mta_journal.specs.Appending.{Appends as JournalAppends, journal_limit}
 use Rattle.mta_journal.specs.declared.journal.AppendFault.{AppendFault}
 use Rattle.mta_journal.specs.declared.journal.AppendFault.TheVariants as AppendFaults
@@ -144,17 +143,3 @@ module _ {D C : Type 0} (content : D → Option (List ℕ)) (faults : D → ℕ)
     unshown = λ err. absurd cc;
     clock = has.clock ∙ ap (λ (v : Shown _ _). v.clock) was;
   }
-
-  -- the step was refused, and the state in memory is as it was
-  pub refused_from : (current : Current) (old before mid new : Shown D C) (e : StepFault) → before ≡ record old { current = before.current } → HasPut {T = Unit {0}} content faults may_leave moment left_since step before.current before mid (Err e)
-      → new ≡ record mid { current = old.current } → HasPut {T = Unit {0}} content faults may_leave moment left_since step current old new (Err e)
-  refused_from current old before mid new e was has is = record {
-    appended = carried content faults may_leave moment left_since step before.journal mid.journal old.journal new.journal (Err e) (ap (λ (v : Shown _ _). v.journal) was) (sym (ap (λ (v : Shown _ _). v.journal) is)) has.appended;
-    kept = λ err no. is ∙ ap (λ (v : Shown _ _). record v { current = old.current }) (has.kept refl no ∙ was);
-    shown = λ ok. absurd cc;
-    unshown = λ err. ap (λ (v : Shown _ _). v.current) is;
-    clock = ap (λ (v : Shown _ _). v.clock) is ∙ has.clock ∙ ap (λ (v : Shown _ _). v.clock) was;
-  }
-
-pub items_back : {A : Type 0} (items now : List A) (item : A) (n : ℕ) → now ≡ items ++ item ∷ [] → n ≡ length items → take n now ≡ items
-items_back items now item n pushed count = ap (take n) pushed ∙ ap (λ (k : ℕ). take k (items ++ item ∷ [])) count ∙ take-append_seam items (item ∷ [])

@@ -1,28 +1,27 @@
 -- Steps that are taken up one after the other.
-use Rattle.std.proofs.Common.{◌≡◌, ◌≢◌, ℕ, zero, suc, ◌+◌, ◌-◌, ◌≤◌, ◌<◌, ◌^◌, List, [], ◌∷◌, ◌++◌, length, map, take, drop, get_or, Option, None, Some, Result, Ok, Err, IsErrOf, refl, sym, ap, subst, ◌∙◌, append_assoc, arith}
+use Rattle.std.proofs.Common.{◌≡◌, ℕ, zero, suc, ◌+◌, ◌-◌, ◌≤◌, ◌<◌, List, [], ◌∷◌, ◌++◌, length, map, take, drop, get_or, Option, None, Some, Result, Ok, Err, IsErrOf, refl, sym, ap, subst, ◌∙◌, append_assoc, arith}
 use Rattle.std.specs.Prelude.{IsOk, slice_get}
 use Rattle.std.specs.List.{flat_map}
-use Rattle.std.proofs.lemmas.List.{length-append, flat_map_more, take-append-drop, append-nil}
+use Rattle.std.proofs.lemmas.List.{length-append, take-append-drop}
 use Rattle.mta_records.specs.declared.step.Step.{Step}
-use Rattle.mta_records.specs.declared.step.Step.TheVariants.{Tables, Accept, Deliver}
-use Rattle.mta_records.specs.declared.fault.RecordFault.{RecordFault}
-use Rattle.mta_records.specs.Body.{string, body_of, HasFields}
+use Rattle.mta_records.specs.declared.step.Step.TheVariants.{Tables, Deliver}
+use Rattle.mta_records.specs.Body.{body_of}
 use Rattle.mta_tables.specs.Tables.{TablesValue, tables_of}
 use Rattle.mta_history.specs.declared.item.Item.{Item}
 use Rattle.mta_history.specs.declared.item.MailboxLine.{MailboxLine}
 use Rattle.mta_history.specs.declared.item.Status.TheVariants.{Delivered}
 use Rattle.mta_history.specs.Verdict.{recorded, tables_value, value_of}
-use Rattle.mta_history.specs.Due.{numbered, IsDue, due_place, due_mailbox}
+use Rattle.mta_history.specs.Due.{IsDue, due_place, due_mailbox}
 use Rattle.mta_history.specs.Machine.{with_status, delivery}
-use Rattle.mta_history.specs.History.{IsHistory, IsTablesText, IsPossible, after, empty}
+use Rattle.mta_history.specs.History.{empty}
 use Rattle.mta_journal.specs.Bodies.{longest_body, magic, front, open_record, AreShort}
-use Rattle.mta_history.specs.Image.{AreRecords, StopsAt, size_of}
+use Rattle.mta_history.specs.Image.{StopsAt, size_of}
 use Rattle.mta_history.proofs.Histories.{AreRecords-more, map-more, possible-more, size-more}
 use Rattle.mta_history.proofs.Dues.{due_is}
 use Rattle.mta_spool.specs.declared.current.Current.{Current}
 use Rattle.mta_spool.specs.declared.replay.NotMade.{NotMade}
 use Rattle.mta_spool.specs.declared.replay.NotMade.TheVariants as NotMades
-use Rattle.mta_spool.specs.Current.{current_of, current_after, CanMake, HasApplied}
+use Rattle.mta_spool.specs.Current.{current_after, HasApplied}
 use Rattle.mta_spool.specs.Replaying.{IsReplay, HasTaken}
 use Rattle.mta_spool.proofs.Made.{current-more, can_make_possible, possible_can_make}
 

@@ -1,5 +1,5 @@
 -- What a turn leaves, seen from before its clock was asked.
-use Rattle.std.proofs.Common.{false, true, ◌≡◌, ◌≢◌, ℕ, ◌+◌, ◌-◌, ◌≤◌, ◌<◌, ◌^◌, List, [], ◌∷◌, ◌++◌, length, Option, None, Some, Result, Ok, Err, refl, sym, ap, subst, ◌∙◌, arith}
+use Rattle.std.proofs.Common.{false, ◌≡◌, ℕ, ◌+◌, ◌≤◌, List, length, Option, Result, Ok, Err, refl, sym, ap, ◌∙◌, arith}
 use Rattle.mta_records.specs.declared.step.Step.{Step}
 use Rattle.mta_records.specs.declared.step.Step.TheVariants.{Deliver}
 use Rattle.mta_records.specs.declared.fault.StepFault.{StepFault}
@@ -13,7 +13,7 @@ use Rattle.mta_history.specs.History.{IsPossible, after}
 use Rattle.mta_spool.specs.Stands.{Stands, Appends}
 use Rattle.mta_spool.specs.Putting.{HasPut}
 use Rattle.mta_spool.proofs.Crashes.{stands_along, crash_from, tried}
-use Rattle.mta_spool.specs.Turning.{IsNext, IsRefused, IsTurnRefused, HasDelivered}
+use Rattle.mta_spool.specs.Turning.{IsNext, IsRefused, IsTurnRefused}
 
 pub appends_from : {D C : Type 0} (content : D → Option (List ℕ)) (faults : D → ℕ) (may_leave : D → List ℕ → Type 0) (moment : D → ℕ) (left_since : D → ℕ → List ℕ → Type 0) (step : Step) (old mid new : Shown D C) → mid ≡ record old { clock = mid.clock }
     → Appends {T = Unit {0}} content faults may_leave moment left_since step mid new (Ok tt) → Appends {T = Unit {0}} content faults may_leave moment left_since step old new (Ok tt)
@@ -53,33 +53,6 @@ module _ {D C : Type 0} (content : D → Option (List ℕ)) (faults : D → ℕ)
         full = λ n need e. let f = refused.full n need e in (step, next, f.0 ∙ ap (λ (j : JournalShown _). j.size) journal, f.1, f.2);
         spent = λ last e. let s = refused.spent last e in (step, next, s.0 ∙ items, s.1);
       }
-
-  -- a turn of a spool that ended
-  pub turn_ended : (when : ℕ) (old new : Shown D C) → old.journal.ended ≡ true → new ≡ record old { clock = new.clock } → IsTurnRefused content faults may_leave moment left_since when old new StepFaults.Ended
-  turn_ended when old new ended is = record {
-    ended = (λ e. ended, λ e. refl);
-    kept = λ other. is;
-    later = omega (arith, ap (λ (v : Shown _ _). faults v.journal.disk) is);
-    disk = λ e. absurd cc;
-    marked = λ e. absurd cc;
-    crash = λ e. absurd cc;
-    full = λ n need e. absurd cc;
-    spent = λ last e. absurd cc;
-  }
-
-  -- a delivery that was refused before the disk was called
-  pub delivery_still : (step : Step) (old new : Shown D C) (fault : StepFault) → new ≡ old → (fault ≡ StepFaults.Disk → ⊥) → (fault ≡ StepFaults.Ended → ⊥) → ((size need : ℕ) → fault ≡ StepFaults.Full size need → ⊥)
-      → ((last : ℕ) → fault ≡ StepFaults.Spent last → (last ≡ length old.current.items) × (2 ^ 32 - 3 < last)) → IsRefused content faults may_leave moment left_since step old new fault
-  delivery_still step old new fault same no_disk no_end no_full spent = record {
-    kept = λ other. same;
-    crash = λ e. absurd (no_disk e);
-    later = omega (arith, ap (λ (v : Shown _ _). faults v.journal.disk) same);
-    disk = λ e. absurd (no_disk e);
-    marked = λ e. absurd (no_disk e);
-    full = λ size need e. absurd (no_full size need e);
-    spent = spent;
-    not_ended = no_end;
-  }
 
   -- a delivery whose step was refused
   pub delivery_refused : ((d : D) (t : ℕ) (g : List ℕ) → t ≤ moment d → may_leave d g → left_since d t g) → (step : Step) (current : Current) (old new : Shown D C) (fault : StepFault) → HasFields step

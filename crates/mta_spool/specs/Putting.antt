@@ -1,5 +1,5 @@
 -- What putting a step on the disk leaves.
-use Rattle.std.specs.Prelude.{◌≡◌, ℕ, ◌+◌, ◌≤◌, ◌<◌, List, [], ◌∷◌, ◌++◌, Option, Some, Result, Ok, Err, IsErrOf, IsOk, IsErr, true}
+use Rattle.std.specs.Prelude.{◌≡◌, ℕ, ◌+◌, ◌≤◌, ◌<◌, List, [], ◌∷◌, ◌++◌, Option, Some, Result, IsErrOf, IsOk, IsErr, true}
 use Rattle.mta_edge.specs.Causes.{Rose}
 use Rattle.mta_edge.specs.Crashes.{AtAnyMoment}
 use Rattle.mta_journal.specs.Bodies.{HasOrOneMore}

@@ -1,5 +1,5 @@
 -- What replaying bodies gives.
-use Rattle.std.specs.Prelude.{◌≡◌, ℕ, List, [], ◌∷◌, ◌++◌, length, map, Result, Ok, Err, IsOk, IsErrOf, IfOk}
+use Rattle.std.specs.Prelude.{◌≡◌, ℕ, List, map, Result, Ok, Err, IsOk, IsErrOf}
 use Rattle.mta_records.specs.declared.step.Step.{Step}
 use Rattle.mta_records.specs.Body.{body_of, HasFields}
 use Rattle.mta_history.specs.History.{IsHistory, after}

@@ -1,5 +1,4 @@
-use Rattle.std.proofs.Common.{◌≡◌, ◌+◌, ◌<◌, ◌≤◌, List, ℕ, [], ◌∷◌, ◌++◌, length, take, drop, Ok, Err, refl, sym, ap, subst, ◌∙◌, arith}
-use Rattle.std.proofs.lemmas.List.{take-append-drop}
+use Rattle.std.proofs.Common.{◌+◌, List, ℕ, [], length, take, drop, Ok, Err, refl, sym, ap, subst, ◌∙◌, arith}
 use Rattle.mta_spool.specs.Replaying.{IsReplay, HasTaken}
 use Rattle.mta_spool.proofs.Replays.{replay_more, replay_stops, body_short, front_fits, take_more, size-none, empty_replay, row_at}
 use Rattle.mta_spool.proofs.replay.replay.Goals as goal

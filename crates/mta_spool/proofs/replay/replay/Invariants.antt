@@ -1,4 +1,4 @@
-use Rattle.std.proofs.Common.{◌≡◌, ◌+◌, List, length, take}
+use Rattle.std.proofs.Common.{◌≡◌, ◌+◌, List, take}
 use Rattle.mta_records.specs.declared.step.Step.{Step}
 use Rattle.mta_history.specs.Image.{size_of}
 use Rattle.mta_spool.specs.Replaying.{IsReplay}

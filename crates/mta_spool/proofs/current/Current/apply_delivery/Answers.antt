@@ -1,4 +1,4 @@
-use Rattle.std.proofs.Common.{◌≡◌, ◌+◌, ◌≤◌, ℕ, Some, None, refl, sym, subst, ap, ◌∙◌, arith}
+use Rattle.std.proofs.Common.{ℕ, refl, sym, subst, ◌∙◌, arith}
 use Rattle.mta_history.specs.Due.{IsDue}
 use Rattle.mta_history.proofs.Dues.{is_due}
 use Rattle.mta_spool.proofs.Next.{due_number}

@@ -1,4 +1,4 @@
-use Rattle.std.proofs.Common.{◌≡◌, List, ℕ, subst, sym, ap, ◌∙◌, Ok}
+use Rattle.std.proofs.Common.{sym, ap, ◌∙◌}
 use Rattle.mta_tables.specs.Tables.{tables_of}
 use Rattle.mta_spool.proofs.Replays.{tables_applied}
 use Rattle.mta_spool.proofs.current.Current.apply_tables.Goals as goal

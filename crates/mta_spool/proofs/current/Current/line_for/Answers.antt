@@ -1,4 +1,4 @@
-use Rattle.std.proofs.Common.{◌≡◌, ◌<◌, length, sym, refl, ap, ◌∙◌}
+use Rattle.std.proofs.Common.{length, sym, refl, ap, ◌∙◌}
 use Rattle.std.proofs.lemmas.Option.{slice_get_read}
 use Rattle.mta_tables.specs.declared.mailbox.Mailbox.{Mailbox}
 use Rattle.mta_spool.proofs.Next.{mailbox_inside, delivery_is}

@@ -1,7 +1,7 @@
-use Rattle.std.proofs.Common.{◌≡◌, ◌+◌, sym, ap, subst, ◌∙◌, Some, Option}
+use Rattle.std.proofs.Common.{◌+◌, sym, subst, Option}
 use Rattle.mta_tables.specs.Tables.{TablesValue}
 use Rattle.mta_history.specs.Due.{IsQuiet, IsDue, IsLowest}
-use Rattle.mta_spool.proofs.Next.{quiet_where_none, quiet_without_tables, due_at_first, lowest_at_first, passes_there}
+use Rattle.mta_spool.proofs.Next.{quiet_where_none, due_at_first, lowest_at_first, passes_there}
 use Rattle.mta_spool.proofs.current.Current.next_due.Goals as goal
 
 pub unreachable-requires : goal.unreachable-requires

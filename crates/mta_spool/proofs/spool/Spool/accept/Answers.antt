@@ -1,7 +1,6 @@
-use Rattle.std.proofs.Common.{false, ◌≡◌, ◌+◌, ◌≤◌, ◌<◌, ◌^◌, ℕ, List, length, Option, Some, Result, Err, refl, sym, ap, subst, ◌∙◌, arith}
+use Rattle.std.proofs.Common.{false, ◌≡◌, ◌+◌, ◌≤◌, ◌<◌, ◌^◌, ℕ, length, Result, Err, refl, sym, ap, subst, ◌∙◌, arith}
 use Rattle.std.proofs.lemmas.Result.{err_from_is_err_and}
 use Rattle.mta_records.specs.declared.fault.StepFault.{StepFault}
-use Rattle.mta_spool.specs.Putting.{HasPut}
 use Rattle.mta_records.specs.declared.step.Step.TheVariants.{Accept}
 use Rattle.mta_records.specs.Body.{last_moment}
 use Rattle.mta_history.proofs.Histories.{length-string}

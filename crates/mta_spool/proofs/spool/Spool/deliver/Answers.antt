@@ -1,4 +1,4 @@
-use Rattle.std.proofs.Common.{◌≡◌, ◌+◌, ◌≤◌, ◌<◌, ◌^◌, ℕ, List, length, [], ◌∷◌, Option, Some, Result, Err, refl, sym, ap, subst, ◌∙◌, arith}
+use Rattle.std.proofs.Common.{◌≡◌, ◌+◌, ◌<◌, List, length, [], ◌∷◌, Result, Err, refl, sym, ap, subst, ◌∙◌, arith}
 use Rattle.std.proofs.lemmas.Result.{err_from_is_err_and}
 use Rattle.mta_records.specs.declared.fault.StepFault.{StepFault}
 use Rattle.mta_spool.specs.Putting.{HasPut, with_line}
@@ -12,7 +12,7 @@ use Rattle.mta_history.specs.Machine.{delivery}
 use Rattle.mta_records.specs.declared.step.Step.TheVariants.{Deliver}
 use Rattle.mta_spool.specs.declared.current.Current.{Current}
 use Rattle.mta_spool.specs.Shown.{Shown}
-use Rattle.mta_spool.proofs.Made.{appends, can_make_possible, view_same, view_ended, length-recipient_fields, current_delivered}
+use Rattle.mta_spool.proofs.Made.{appends, can_make_possible, view_same, length-recipient_fields, current_delivered}
 use Rattle.mta_spool.proofs.spool.Spool.deliver.Goals as goal
 
 pub add_line-requires-clause-short : goal.add_line-requires-clause-short

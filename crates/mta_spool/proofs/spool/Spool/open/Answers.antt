@@ -1,4 +1,4 @@
-use Rattle.std.proofs.Common.{List, ℕ, Err, sym, subst}
+use Rattle.std.proofs.Common.{List, ℕ, Err, subst}
 use Rattle.mta_journal.specs.Opening.{synced}
 use Rattle.mta_spool.specs.Replaying.{Replays, IsReplay}
 use Rattle.mta_spool.proofs.Openings.{moment_opened, stands_opened, replay_refused, open_refused}

@@ -1,4 +1,4 @@
-use Rattle.std.proofs.Common.{◌≡◌, ◌+◌, ◌≤◌, ℕ, List, length, Option, Some, Result, Err, refl, sym, ap, subst, ◌∙◌, arith}
+use Rattle.std.proofs.Common.{length, Option, Some, Result, Err, refl, sym, ap, subst, ◌∙◌, arith}
 use Rattle.std.proofs.lemmas.Result.{err_from_is_err_and}
 use Rattle.mta_records.specs.declared.fault.StepFault.{StepFault}
 use Rattle.mta_spool.specs.Putting.{HasPut}
@@ -7,7 +7,7 @@ use Rattle.mta_records.specs.declared.step.Step.TheVariants.{Tables}
 use Rattle.mta_history.proofs.Histories.{length-string}
 use Rattle.mta_spool.specs.declared.current.Current.{Current}
 use Rattle.mta_spool.specs.Shown.{Shown}
-use Rattle.mta_spool.proofs.Made.{appends, refuses, view_same, view_ended, short_tables, tables_there, is_tables_text}
+use Rattle.mta_spool.proofs.Made.{appends, refuses, view_same, short_tables, tables_there, is_tables_text}
 use Rattle.mta_spool.proofs.spool.Spool.record_tables.Goals as goal
 
 pub put-requires-clause-fields : goal.put-requires-clause-fields

@@ -1,4 +1,4 @@
-use Rattle.std.proofs.Common.{false, ◌≡◌, ◌+◌, ℕ, List, Some, Option, Ok, refl, sym, ap, subst, ◌∙◌}
+use Rattle.std.proofs.Common.{false, ◌≡◌, ◌+◌, ℕ, Ok, sym, ap, subst, ◌∙◌}
 use Rattle.mta_records.specs.declared.step.Step.{Step}
 use Rattle.mta_records.specs.declared.step.Step.TheVariants.{Deliver}
 use Rattle.mta_history.specs.Due.{IsDue, IsLowest, IsQuiet}
