@@ -31,14 +31,16 @@ fn arguments(rt: &HostRuntime) -> io::Result<Vec<String>> {
     Ok(words)
 }
 
-// The spool's file, which is made where it is absent.
+// The spool's file, which is made where it is absent, once no other process has it. The lock goes with the file.
 fn spool_file(rt: &HostRuntime) -> Option<File> {
-    OpenOptions::new()
+    let file = OpenOptions::new()
         .read(true)
         .write(true)
         .create(true)
         .open(rt, "mta.spool")
-        .ok()
+        .ok()?;
+    file.lock().ok()?;
+    Some(file)
 }
 
 fn main(rt: HostRuntime) -> ExitCode {
