@@ -1,5 +1,6 @@
-# Sourced by the checks that run the program. `program TOOL..` leaves, with a word and status 0, where a tool is missing; else it builds `mta`
-# and sets `mta`, its path, and `made`, a folder that goes when the check ends.
+# Sourced by the checks that run the program. `program TOOL..` leaves, with a word and status 0, where a tool is missing. Else it sets `mta`, the
+# program's path, and `made`, a folder that goes when the check ends. The program is built where a source is newer than it; without words it
+# prints its usage line and ends with status 1, so that the status of `rt run` says nothing.
 program() {
   local tool
   for tool in rt "$@"; do
@@ -7,6 +8,10 @@ program() {
   done
   made=$(mktemp -d)
   trap 'rm -rf "$made"' EXIT
-  (cd crates/mta && rt run) >"$made/log" 2>&1 || { cat "$made/log"; exit 1; }
   mta=$PWD/crates/mta/out/mta
+  if [ ! -x "$mta" ] || [ -n "$(find crates -name '*.rt' -newer "$mta" -print -quit)" ]; then
+    rm -f "$mta"
+    (cd crates/mta && rt run) >"$made/log" 2>&1
+    [ -x "$mta" ] || { cat "$made/log"; exit 1; }
+  fi
 }
