@@ -112,6 +112,7 @@ decode_done content faults may_leave moment left_since laws tells conf input bef
   printed = has.printed;
   cause = λ stop e. decode_cause conf input (content disk) input_rose source_rose (Rose (faults disk) (faults disk)) out_rose stop rose (has.cause stop e);
   settled = λ e. absurd (submit_apart e);
+  synced = λ other. absurd (other refl);
   stood = λ other. absurd (other refl);
   gathered = λ e. absurd (submit_apart e);
   named = λ name e. absurd (mailbox_apart name e);

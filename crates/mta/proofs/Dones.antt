@@ -23,7 +23,7 @@ use Rattle.mta_show.specs.Queue.{queue_text}
 use Rattle.mta_show.specs.Mailbox.{mailbox_text}
 use Rattle.mta.specs.Showing.{stop_of_open, IsShown, IsMailboxShown, Names, HasShown, IsReadCause, HasRead}
 use Rattle.mta.specs.Working.{accepts}
-use Rattle.mta.proofs.Openings.{DiskLaws, NotOpened, IsOpened, same_steps, disk_refused, disk_read}
+use Rattle.mta.proofs.Openings.{DiskLaws, NotOpened, IsOpened, same_steps, disk_refused, disk_read, synced_read}
 
 -- ---- the outside is as it was
 
@@ -52,6 +52,7 @@ read_not_opened content faults may_leave moment left_since laws words told out_r
   disk = disk_refused content faults may_leave moment left_since laws old new why refusal;
   printed = printed_nothing (IsText (Some words) None None (content old) []) told (stop_of_open why) (open_no_sink why);
   cause = λ stop e. subst (IsReadCause words (content old) (Rose (faults old) (faults new)) out_rose) (err_is (stop_of_open why) stop e) (read_cause_open content faults old new words out_rose why refusal.refused);
+  synced = λ e. absurd cc;
   stood = λ e. absurd cc;
   named = λ name e w. absurd cc;
 }
@@ -68,6 +69,7 @@ read_opened content faults may_leave moment left_since laws words before now out
   disk = disk_read content faults may_leave moment left_since laws old spool base o;
   printed = (text, is text refl, shown);
   cause = λ stop e. absurd cc;
+  synced = λ e. synced_read content faults may_leave moment left_since laws old spool base o;
   stood = λ e f was. (base, o.stood f was);
   named = λ name e w. named name text e refl;
 }
@@ -75,6 +77,7 @@ read_opened content faults may_leave moment left_since laws words before now out
   disk = disk_read content faults may_leave moment left_since laws old spool base o;
   printed = inr (shown.0, text, is text refl, shown.2);
   cause = λ other e. subst (IsReadCause words (content old) (Rose (faults old) (faults spool.journal.disk)) out_rose) (sym shown.0 ∙ err_is stop other e) shown.1;
+  synced = λ e. absurd cc;
   stood = λ e. absurd cc;
   named = λ name e w. absurd cc;
 }
@@ -84,6 +87,7 @@ read_opened content faults may_leave moment left_since laws words before now out
   printed = subst (λ (t : Option (List ℕ)). HasPrinted (IsText (Some words) None None (content old) []) before t (Err stop)) (sym shown.1)
       (printed_nothing (IsText (Some words) None None (content old) []) before stop (λ e. (cause why refl).0 (sym shown.0 ∙ e)));
   cause = λ other e. subst (IsReadCause words (content old) (Rose (faults old) (faults spool.journal.disk)) out_rose) (sym shown.0 ∙ err_is stop other e) (cause why refl).1;
+  synced = λ e. absurd cc;
   stood = λ e. absurd cc;
   named = λ name e w. absurd cc;
 }
@@ -191,6 +195,7 @@ read_done content faults may_leave moment left_since tells words conf input befo
   printed = printed_as (IsText (Some words) None None (content old) []) (IsText (Some words) conf input (content old) []) before now result texts has.printed;
   cause = λ stop e. read_to_cause words undecoded conf input (content old) source_rose (Rose (faults old) (faults new)) out_rose stop (has.cause stop e);
   settled = λ e. absurd (other (words_some words Say.Submit e));
+  synced = λ e. has.synced;
   stood = λ e. has.stood;
   gathered = λ e. absurd (other (words_some words Say.Submit e));
   named = λ name e ok. has.named name (words_some words (Say.Mailbox name) e) ok;

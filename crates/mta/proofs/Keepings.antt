@@ -161,6 +161,7 @@ ran_ended content faults may_leave moment left_since tells words conf input befo
   added = has.added;
   more = has.more;
   disk_stands = has.disk;
+  synced = λ z other. has.synced other (well z);
   recipients_once = λ f steps was st n. each_recipient_once (steps ++ take n (has.added ++ has.more)) (history_front steps (has.added ++ has.more) n (has.history f steps was st));
   acknowledged_kept = λ submit c i a b e w was is n rest small begun f steps there st.
       let kept = ended_kept cause conf input (content old) has.added rose before now status c i a b rest n (subst (λ (x : Option Words). IsEnded cause (IsText x conf input (content old) has.added) rose before now status) submit ended) e w was is small begun f steps there st in

@@ -13,8 +13,8 @@ use Rattle.mta_history.proofs.Unique.{one_history}
 use Rattle.mta_spool.specs.Opening.{HasRefused}
 use Rattle.mta_spool.specs.Shown.{Shown}
 use Rattle.mta_spool.specs.Stands.{Stands}
-use Rattle.mta.specs.Crashing.{Reached, IsLeftWith, Leaves, IsSafe}
-use Rattle.mta.specs.Headline.{DiskLeft}
+use Rattle.mta.specs.Crashing.{Reached, IsLeftWith, Leaves, Synced, IsSafe}
+use Rattle.mta.specs.Headline.{DiskLeft, IsSynced}
 use Rattle.mta.proofs.Safeties.{with_none, still}
 
 some_text : (a b : List ℕ) → Some a ≡ Some b → a ≡ b
@@ -101,6 +101,24 @@ module _ {D : Type 0} (content : D → Option (List ℕ)) (faults : D → ℕ) (
   }
 
   -- it was opened, and steps were added
+  pub synced_opened : {C : Type 0} (old : D) (spool new : Shown D C) (base added more : List Step) → IsOpened content faults may_leave moment left_since old spool base → ((f : List ℕ) → content spool.journal.disk ≡ Some f → Leaves may_leave moment left_since base added more spool.journal.disk new.journal.disk)
+      → IsSynced content may_leave moment left_since old new.journal.disk added more
+  synced_opened old spool new base added more o leaves f steps was s =
+      let x = o.told f was in
+      let l = leaves x.0 x.1 in
+      let ss = o.since f was in
+      let images = o.images f was in
+      subst (λ (x : List Step). Synced may_leave moment left_since x added more old new.journal.disk) (same_steps content old base o.stood f steps was s) (record {
+        since = ss.since;
+        from = ss.from;
+        until = omega (arith, ss.until, l.during.later);
+        before = λ g left. ⊎_elim {C = may_leave old g ⊎ Reached base (added ++ more) g}
+            (λ first. ⊎_elim {C = may_leave old g ⊎ Reached base (added ++ more) g} (λ before. inl before) (λ same. inr (same_reached f g base (added ++ more) same (o.stood f was))) (images.each g first)) (λ reached. inr reached)
+            (l.during.since (moment old) g images.later left);
+        images = λ g left. ⊎_elim {C = Reached base (added ++ more) g} (λ first. same_reached f g base (added ++ more) (ss.same g first) (o.stood f was)) (λ reached. reached) (l.during.since ss.since g ss.until left);
+        now = l.now;
+      })
+
   pub disk_opened : {C : Type 0} (old : D) (spool new : Shown D C) (base added more : List Step) → IsOpened content faults may_leave moment left_since old spool base → faults spool.journal.disk ≤ faults new.journal.disk → length more ≤ 1
       → ((Rose (faults old) (faults new.journal.disk) → ⊥) → more ≡ []) → ((f : List ℕ) → content spool.journal.disk ≡ Some f → Leaves may_leave moment left_since base added more spool.journal.disk new.journal.disk)
       → DiskLeft content faults may_leave moment left_since old new.journal.disk added more
@@ -108,30 +126,17 @@ module _ {D : Type 0} (content : D → Option (List ℕ)) (faults : D → ℕ) (
     later = omega (arith, o.later, later);
     one = one;
     calm = calm;
-    stands = λ f g steps was now s. subst (λ (x : List Step). IsLeftWith x added more g) (same_steps content old base o.stood f steps was s) ((here f was).now g (laws.reads_image new.journal.disk g now));
-    safe = λ f steps was s. subst (λ (x : List Step). IsSafe content may_leave moment left_since x added more old new.journal.disk) (same_steps content old base o.stood f steps was s) (safe f was);
+    stands = λ f g steps was now s. (synced_opened old spool new base added more o leaves f steps was s).now g (laws.reads_image new.journal.disk g now);
+    safe = λ f steps was s. inr (synced_opened old spool new base added more o leaves f steps was s);
     left = λ f was none. absurd (none base (o.stood f was));
-  } where
-    here : (f : List ℕ) → content old ≡ Some f → Leaves may_leave moment left_since base added more spool.journal.disk new.journal.disk
-    here f was = let x = o.told f was in leaves x.0 x.1
-
-    safe : (f : List ℕ) → content old ≡ Some f → IsSafe content may_leave moment left_since base added more old new.journal.disk
-    safe f was =
-        let ss = o.since f was in
-        let images = o.images f was in
-        let l = here f was in
-        inr (record {
-          since = ss.since;
-          from = ss.from;
-          until = omega (arith, ss.until, l.during.later);
-          before = λ g left. ⊎_elim {C = may_leave old g ⊎ Reached base (added ++ more) g}
-              (λ first. ⊎_elim {C = may_leave old g ⊎ Reached base (added ++ more) g} (λ before. inl before) (λ same. inr (same_reached f g base (added ++ more) same (o.stood f was))) (images.each g first)) (λ reached. inr reached)
-              (l.during.since (moment old) g images.later left);
-          images = λ g left. ⊎_elim {C = Reached base (added ++ more) g} (λ first. same_reached f g base (added ++ more) (ss.same g first) (o.stood f was)) (λ reached. reached) (l.during.since ss.since g ss.until left);
-          now = l.now;
-        })
+  }
 
   -- it was opened and read
+  still_there : {C : Type 0} (old : D) (spool : Shown D C) (base : List Step) → IsOpened content faults may_leave moment left_since old spool base → (f : List ℕ) → content spool.journal.disk ≡ Some f → Leaves may_leave moment left_since base [] [] spool.journal.disk spool.journal.disk
+  still_there old spool base o f told = still content may_leave moment left_since laws.only_now spool spool refl f told base o.stands
+
   pub disk_read : {C : Type 0} (old : D) (spool : Shown D C) (base : List Step) → IsOpened content faults may_leave moment left_since old spool base → DiskLeft content faults may_leave moment left_since old spool.journal.disk [] []
-  disk_read old spool base o =
-      disk_opened old spool spool base [] [] o (omega arith) (omega arith) (λ calm. refl) (λ f told. still content may_leave moment left_since laws.only_now spool spool refl f told base o.stands)
+  disk_read old spool base o = disk_opened old spool spool base [] [] o (omega arith) (omega arith) (λ calm. refl) (still_there old spool base o)
+
+  pub synced_read : {C : Type 0} (old : D) (spool : Shown D C) (base : List Step) → IsOpened content faults may_leave moment left_since old spool base → IsSynced content may_leave moment left_since old spool.journal.disk [] []
+  synced_read old spool base o = synced_opened old spool spool base [] [] o (still_there old spool base o)

@@ -27,7 +27,7 @@ use Rattle.mta.specs.Headline.{DiskLeft, HasPrinted, HasDone, IsSettled}
 use Rattle.mta.specs.Showing.{stop_of_open}
 use Rattle.mta.specs.Working.{AreOwn, accepts, IsAccepted, IsRefusal, IsSaid, silent, said, cut, IsWorkStop, HasWorked}
 use Rattle.mta.proofs.Dones.{Goes-nothing, printed_nothing, err_is, stands_history, open_no_sink, read_cause_open, read_to_cause}
-use Rattle.mta.proofs.Openings.{DiskLaws, NotOpened, IsOpened, same_steps, disk_refused, disk_opened}
+use Rattle.mta.proofs.Openings.{DiskLaws, NotOpened, IsOpened, same_steps, disk_refused, synced_opened, disk_opened}
 
 -- ---- a command that stopped before it opened a disk
 
@@ -48,6 +48,7 @@ stopped_done content faults may_leave moment left_since tells words conf input t
   printed = printed_nothing (IsText words conf input (content old) []) told stop other;
   cause = λ s e. subst (IsCause words conf input (content old) source_rose (Rose (faults old) (faults new)) out_rose []) (err_is stop s e) why;
   settled = λ e ok. absurd cc;
+  synced = λ other_words ok. absurd cc;
   stood = λ other_words ok. absurd cc;
   gathered = λ e ok. absurd cc;
   named = λ name e ok. absurd cc;
@@ -151,6 +152,7 @@ submit_worked content faults may_leave moment left_since laws tells conf input b
       cause = λ stop e. work_cause content may_leave conf input (content old) source_rose (Rose (faults spool.journal.disk) (faults new.journal.disk)) (Rose (faults old) (faults new.journal.disk)) out_rose x.tables.text x.apdu new base has.added stop read.0 read.2 same
           (λ no. has.worked.stands (λ w. disk_err stop no (sym e ∙ w)) base o.stands) risen (has.refused stop e);
       settled = λ e ok f steps was st. settled_later content may_leave tells new base steps has.added (same f steps was st) (has.worked.stands (λ w. absurd (ok_err (sym ok ∙ w))) base o.stands) (has.quiet ok);
+      synced = λ other_words ok. synced_opened content faults may_leave moment left_since laws old spool new base has.added has.more o (λ f told. has.worked.leaves f told base o.stands);
       stood = λ other_words ok f was. (base, o.stood f was);
       gathered = λ e ok c i w v. ((x.tables, subst (λ (y : List ℕ). tables_of y ≡ Ok x.tables) (read.0 c w) read.1), subst IsApdu (read.2 i v) read.3);
       named = λ name e ok. absurd (other name e);

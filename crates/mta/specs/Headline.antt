@@ -15,7 +15,7 @@ use Rattle.mta.specs.declared.stop.Stop.{Stop}
 use Rattle.mta.specs.declared.stop.Stop.TheVariants as Stops
 use Rattle.mta.specs.declared.words.Words.{Words}
 use Rattle.mta.specs.declared.words.Words.TheVariants as Say
-use Rattle.mta.specs.Crashing.{IsLeftWith, IsSafe}
+use Rattle.mta.specs.Crashing.{IsLeftWith, Synced, IsSafe}
 use Rattle.mta.specs.Streams.{TakesFront}
 use Rattle.mta.specs.Telling.{accepted_line}
 use Rattle.mta.specs.Working.{AreOwn, accepts}
@@ -32,6 +32,10 @@ pub record DiskLeft {D : Type 0} (content : D → Option (List ℕ)) (faults : D
   pub safe : (f : List ℕ) (steps : List Step) → content old ≡ Some f → StandsFor f steps → IsSafe content may_leave moment left_since steps added more old new
   -- one that is no spool is as it was
   pub left : (f : List ℕ) → content old ≡ Some f → ((steps : List Step) → StandsFor f steps → ⊥) → content new ≡ Some f
+
+-- where the disk stood for a history, opening synced it
+abbrev pub IsSynced : {D : Type 0} (content : D → Option (List ℕ)) (may_leave : D → List ℕ → Type 0) (moment : D → ℕ) (left_since : D → ℕ → List ℕ → Type 0) (old new : D) (added more : List Step) → Type 0
+IsSynced content may_leave moment left_since old new added more = (f : List ℕ) (steps : List Step) → content old ≡ Some f → StandsFor f steps → Synced may_leave moment left_since steps added more old new
 
 -- nothing is due after these steps, at a moment that is the greater of their last one and one that the clock tells
 abbrev pub IsSettled : (ℕ → Type 0) → List Step → Type 0
@@ -55,6 +59,7 @@ pub record HasDone {D : Type 0} (content : D → Option (List ℕ)) (faults : D 
   pub printed : HasPrinted (IsText words conf input (content old) added) before now result
   pub cause : (stop : Stop) → result ≡ Err stop → IsCause words conf input (content old) source_rose (Rose (faults old) (faults new)) out_rose added stop
   pub settled : words ≡ Some Say.Submit → result ≡ Ok tt → ForHistory (content old) (λ steps. IsSettled tells (steps ++ added))
+  pub synced : IsNotDecode words → result ≡ Ok tt → IsSynced content may_leave moment left_since old new added more
   pub stood : IsNotDecode words → result ≡ Ok tt → (f : List ℕ) → content old ≡ Some f → (steps : List Step) × StandsFor f steps
   pub gathered : words ≡ Some Say.Submit → result ≡ Ok tt → (c i : List ℕ) → conf ≡ Some c → input ≡ Some i → ((t : TablesValue) × (tables_of c ≡ Ok t)) × IsApdu i
   pub named : (name : List ℕ) → words ≡ Some (Say.Mailbox name) → result ≡ Ok tt → ForHistory (content old) (λ steps. mailbox_named (after steps) name ≢ None)
@@ -74,6 +79,8 @@ pub record Ran {D : Type 0} (content : D → Option (List ℕ)) (faults : D → 
   -- the disk stands for the history with the added steps, as it reads and after a crash, or with those and the one in which it failed; since
   -- the first sync a crash left the history with a beginning of these; and a disk that is no spool is as it was
   pub disk_stands : DiskLeft content faults may_leave moment left_since old new added more
+  -- with status 0 of a command that opens the disk that sync has succeeded
+  pub synced : status ≡ 0 → IsNotDecode words → IsSynced content may_leave moment left_since old new added more
   -- each recipient is pending with no discharge, or is not pending and has one
   pub recipients_once : ForHistory (content old) (λ steps. (n : ℕ) → RecipientsOnce (steps ++ take n (added ++ more)))
   -- where `submit` printed the line `accepted N`, item N is the input

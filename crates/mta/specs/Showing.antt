@@ -16,7 +16,7 @@ use Rattle.mta.specs.declared.words.Words.{Words}
 use Rattle.mta.specs.declared.words.Words.TheVariants as Say
 use Rattle.mta.specs.Streams.{TakesFront}
 use Rattle.mta.specs.Ending.{ForHistory, mailbox_named, IsText}
-use Rattle.mta.specs.Headline.{DiskLeft, HasPrinted}
+use Rattle.mta.specs.Headline.{DiskLeft, IsSynced, HasPrinted}
 
 abbrev pub stop_of_open : OpenWhy → Stop
 stop_of_open (Whys.NotSpool at) = Stops.NotSpool at
@@ -63,5 +63,6 @@ pub record HasRead {D : Type 0} (content : D → Option (List ℕ)) (faults : D 
   pub disk : DiskLeft content faults may_leave moment left_since old new [] []
   pub printed : HasPrinted (IsText (Some words) None None (content old) []) before now result
   pub cause : (stop : Stop) → result ≡ Err stop → IsReadCause words (content old) (Rose (faults old) (faults new)) out_rose stop
+  pub synced : result ≡ Ok tt → IsSynced content may_leave moment left_since old new [] []
   pub stood : result ≡ Ok tt → (f : List ℕ) → content old ≡ Some f → (steps : List Step) × StandsFor f steps
   pub named : (name : List ℕ) → words ≡ Say.Mailbox name → result ≡ Ok tt → ForHistory (content old) (λ steps. mailbox_named (after steps) name ≢ None)
