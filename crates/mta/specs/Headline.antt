@@ -100,7 +100,7 @@ pub record Ran {D : Type 0} (content : D → Option (List ℕ)) (faults : D → 
   -- and with status 0 of `submit` nothing is due
   pub settled : status ≡ 0 → words ≡ Some Say.Submit → ForHistory (content old) (λ steps. IsSettled tells (steps ++ added))
 
--- With the word `decode`, an input that is read as an APDU and no fault of the input and the output, the status is 0 or 7.
+-- With the word `decode`, an input that spells an APDU and no fault of the input and the output, the status is 0 or 7.
 abbrev pub IsDecoded : (words : Option Words) (input : Option (List ℕ)) (source_rose out_rose : Type 0) → ℕ → Type 0
 IsDecoded words input source_rose out_rose status = words ≡ Some Say.Decode → (source_rose → ⊥) → (out_rose → ⊥) → (i : List ℕ) → input ≡ Some i → IsApdu i → (status ≡ 0) ⊎ (status ≡ 7)
 

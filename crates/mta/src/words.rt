@@ -9,7 +9,7 @@ use std::alloc::Global;
 /// What the words say.
 #[derive(Debug, Drop)]
 pub enum Words {
-    /// Record the tables, and take the message on standard input.
+    /// Record the tables, and take the APDU on standard input.
     Submit,
     /// Print the queue.
     Queue,

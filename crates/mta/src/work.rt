@@ -16,7 +16,7 @@ use mta_edge::{Clock, Disk, Sink};
 use mta_spool::{Spool, StepFault, Tables, Turned};
 use std::alloc::Global;
 
-// Records the tables, where they changed, and takes the message; its number.
+// Records the tables, where they changed, and takes the APDU; its number.
 fn store<D: Disk + Drop, C: Clock + Drop>(
     spool: &mut Spool<D, C>,
     tables: Tables,
@@ -74,7 +74,7 @@ fn acknowledge<O: Sink>(alloc: Global, out: &mut O, number: u32) -> Result<(), S
     }
 }
 
-/// Records the tables, takes the message, prints its number, and does what is due until nothing is.
+/// Records the tables, takes the APDU, prints its number, and does what is due until nothing is.
 pub fn work<D: Disk + Drop, C: Clock + Drop, O: Sink>(
     alloc: Global,
     spool: &mut Spool<D, C>,
