@@ -1,11 +1,19 @@
-//! Writing behind a closed gate, and lifting it.
+//! Writing behind a closed gate, and lifting it: the two halves of an append.
+//!
+//! `put_closed` writes length, body and a closed gate behind the gate at `gate`, and syncs; `lift_gate`
+//! writes 1 on that gate, and syncs. Each takes octets from the journal and gives Ok with all of it
+//! durable, or `Disk`; want of memory comes before the first call.
+//!
+//! A crash at any moment of the first leaves that gate and all before it as they were; one in the
+//! second leaves all but that one octet.
 
-ghost use Rattle.std.specs.Prelude.{◌≡◌, ◌++◌, [], ◌∷◌, ◌+◌, ◌<◌, ◌^◌, List, ℕ, Some, length, IfOk, OnOk, IsErrOf};
+ghost use Rattle.std.specs.Prelude.{◌≡◌, ◌++◌, [], ◌∷◌, ◌+◌, ◌<◌, ◌^◌, length, IfOk, OnOk, IsErrOf};
 ghost use Rattle.mta_edge.specs.Causes.{HasCause};
-ghost use Rattle.mta_edge.specs.Crashes.{AtAnyMoment, Settled};
-ghost use Rattle.mta_edge.specs.Outside.{Goes, Torn, Within, written};
+ghost use Rattle.mta_edge.specs.Crashes.{CrashLeaves, Settled};
+ghost use Rattle.mta_edge.specs.Outside.{ContentGoes, Torn, Within, written};
+ghost use Rattle.mta_edge.specs.Views.{StaysTold};
 ghost use Rattle.mta_disk.specs.Answers.{HasPutCause};
-ghost use Rattle.mta_disk.specs.Records.{counted};
+ghost use Rattle.mta_disk.specs.Records.{IsLiftedAt, IsPutAt, counted};
 
 use mta_edge::{Disk, Failed, Memory, Octets};
 use std::alloc::Global;
@@ -44,12 +52,13 @@ impl From<Memory> for PutFault {
 /// # Errors
 /// The disk failed.
 pub fn write_synced<D: Disk>(disk: &mut D, at: u64, bytes: &[u8]) -> Result<(), Failed>
-    requires within { Within at (D.content disk.old) }
-    requires settled { Settled (D.content disk.old) (D.may_leave disk.old) }
-    ensures written { OnOk result (Goes (λ f g. g ≡ written at bytes.now f) (D.content disk.old) (D.content disk.new)) }
-    ensures settled { OnOk result (Settled (D.content disk.new) (D.may_leave disk.new)) }
-    ensures images { (f : List ℕ) → D.content disk.old ≡ Some f → AtAnyMoment D.moment D.left_since (Torn at (length bytes.now) f) disk.old disk.new }
-    ensures cause { HasCause (D.faults disk.old) (D.faults disk.new) result }
+    requires within { Within at (D.model.content disk.old) }
+    requires settled { Settled D.model disk.old }
+    ensures written { OnOk result (ContentGoes D.model (λ f g. g ≡ written at bytes.now f) disk.old disk.new) }
+    ensures settled { OnOk result (Settled D.model disk.new) }
+    ensures told { StaysTold D.model disk.old disk.new }
+    ensures images { CrashLeaves D.model (Torn at (length bytes.now)) disk.old disk.new }
+    ensures cause { HasCause (D.model.faults disk.old) (D.model.faults disk.new) result }
 {
     disk.write_at(at, bytes)?;
     disk.sync()?;
@@ -68,8 +77,8 @@ fn closed_record(alloc: Global, body: &[u8]) -> Result<Octets, Memory>
     Ok(record)
 }
 
-/// Writes the body's length, the body and the next gate, which is closed, behind the gate at `gate`, and syncs. The octet at
-/// `gate` and all before it stand in every image that a crash leaves.
+/// Writes the body's length, the body and the next gate, which is closed, behind the gate at `gate`, and syncs. The
+/// octet at `gate` and all before it stand in every image that a crash leaves.
 ///
 /// # Errors
 /// `Disk` where it failed, `Memory` before it is called.
@@ -79,15 +88,16 @@ pub fn put_closed<D: Disk>(
     gate: u64,
     body: &[u8],
 ) -> Result<(), PutFault>
-    requires within { Within (gate + 1) (D.content disk.old) }
+    requires within { Within (gate + 1) (D.model.content disk.old) }
     requires fits { length body.now < 2 ^ 32 }
     requires room { gate + length body.now + 6 < 2 ^ 64 }
-    requires settled { Settled (D.content disk.old) (D.may_leave disk.old) }
-    ensures put { OnOk result (Goes (λ f g. g ≡ written (gate + 1) (counted body.now ++ 0 ∷ []) f) (D.content disk.old) (D.content disk.new)) }
-    ensures settled { OnOk result (Settled (D.content disk.new) (D.may_leave disk.new)) }
-    ensures images { (f : List ℕ) → D.content disk.old ≡ Some f → AtAnyMoment D.moment D.left_since (Torn (gate + 1) (length body.now + 5) f) disk.old disk.new }
+    requires settled { Settled D.model disk.old }
+    ensures put { OnOk result (ContentGoes D.model (IsPutAt gate body.now) disk.old disk.new) }
+    ensures settled { OnOk result (Settled D.model disk.new) }
+    ensures told { StaysTold D.model disk.old disk.new }
+    ensures images { CrashLeaves D.model (Torn (gate + 1) (length body.now + 5)) disk.old disk.new }
     ensures memory { IsErrOf result PutFault.Memory → disk.new ≡ disk.old }
-    ensures cause { HasPutCause (D.faults disk.old) (D.faults disk.new) result }
+    ensures cause { HasPutCause (D.model.faults disk.old) (D.model.faults disk.new) result }
 {
     let record = closed_record(alloc, body)?;
     write_synced(disk, gate + 1, record.as_slice())?;
@@ -99,12 +109,13 @@ pub fn put_closed<D: Disk>(
 /// # Errors
 /// The disk failed.
 pub fn lift_gate<D: Disk>(disk: &mut D, gate: u64) -> Result<(), Failed>
-    requires within { Within (gate + 1) (D.content disk.old) }
-    requires settled { Settled (D.content disk.old) (D.may_leave disk.old) }
-    ensures lifted { OnOk result (Goes (λ f g. g ≡ written gate (1 ∷ []) f) (D.content disk.old) (D.content disk.new)) }
-    ensures settled { OnOk result (Settled (D.content disk.new) (D.may_leave disk.new)) }
-    ensures images { (f : List ℕ) → D.content disk.old ≡ Some f → AtAnyMoment D.moment D.left_since (Torn gate 1 f) disk.old disk.new }
-    ensures cause { HasCause (D.faults disk.old) (D.faults disk.new) result }
+    requires within { Within (gate + 1) (D.model.content disk.old) }
+    requires settled { Settled D.model disk.old }
+    ensures lifted { OnOk result (ContentGoes D.model (IsLiftedAt gate) disk.old disk.new) }
+    ensures settled { OnOk result (Settled D.model disk.new) }
+    ensures told { StaysTold D.model disk.old disk.new }
+    ensures images { CrashLeaves D.model (Torn gate 1) disk.old disk.new }
+    ensures cause { HasCause (D.model.faults disk.old) (D.model.faults disk.new) result }
 {
     write_synced(disk, gate, &[1])
 }

@@ -2,3 +2,4 @@ pub mod Moments
 pub mod Logged
 pub mod Chosen
 pub mod Differ
+pub mod Told

@@ -1,11 +1,11 @@
 -- A call of a disk in memory, which is logged or not.
-use Rattle.std.proofs.Common.{inl, inr, ⊎_elim, ◌≡◌, ◌⊎◌, ℕ, zero, suc, ◌+◌, ◌-◌, ◌≤◌, ◌<◌, List, [], ◌∷◌, ◌++◌, length, take, drop, Some, refl, sym, ap, subst, ◌∙◌, arith, append_assoc, length-append}
+use Rattle.std.proofs.Common.{inl, inr, ⊎_elim, ◌≡◌, ◌⊎◌, ℕ, zero, suc, ◌+◌, ◌-◌, ◌≤◌, ◌<◌, List, [], ◌∷◌, ◌++◌, length, take, drop, refl, sym, ap, subst, ◌∙◌, arith, append_assoc, length-append}
 use Rattle.std.proofs.lemmas.Bool.{cases_lt}
 use Rattle.std.proofs.lemmas.List.{take-append-le, take_all, take_min, take_at, drop_at, drop-drop, length-take, length-take-le, length-drop}
 use Rattle.mta_edge.specs.Outside.{Torn, written}
 use Rattle.mta_edge.specs.Crashes.{CutShort, Settled, Stays}
 use Rattle.mta_edge.specs.Held.{HeldDisk}
-use Rattle.mta_edge.specs.Images.{after_call, after_calls, MayLeave, MemoryCrash, seen_at, LeftAt, LeftSince}
+use Rattle.mta_edge.specs.Images.{after_call, after_calls, MayLeave, MemoryCrash, memory_disk, seen_at, LeftAt, LeftSince}
 use Rattle.mta_edge.specs.ImageLaws.{left_at_end, some_same}
 use Rattle.mta_edge.specs.declared.log.Called.{Called}
 use Rattle.mta_edge.specs.declared.log.Done.{Done}
@@ -128,7 +128,7 @@ module _ (view old new : HeldDisk) (same : view ≡ old) where
       logged old new Sync (log_is Sync is) Stays (octets ∙ ap (λ (d : HeldDisk). d.octets) same) (λ g (left : g ≡ old.octets). (old.octets, inr refl, left))
 
   -- a sync that succeeded leaves nothing pending
-  pub settled_sync : new.log ≡ view.log ++ record { before = view.octets; done = Sync } ∷ [] → new.octets ≡ view.octets → Settled (Some new.octets) (MayLeave new.log new.octets)
+  pub settled_sync : new.log ≡ view.log ++ record { before = view.octets; done = Sync } ∷ [] → new.octets ≡ view.octets → Settled memory_disk new
   settled_sync is octets f told g may =
       let whole : g ≡ new.octets = ⊎_elim {C = g ≡ new.octets}
       (λ left. after_calls-more (λ f. ⊥) view.log (record { before = view.octets; done = Sync }) g (subst (λ (log : List Called). after_calls (λ f. ⊥) log g) is left) ∙ sym octets)

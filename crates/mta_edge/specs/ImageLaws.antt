@@ -4,8 +4,9 @@ use mathlib.Core.Path.{sym, refl, subst}
 use mathlib.Core.Logic.{inr}
 use Rattle.std.proofs.Common.{arith}
 use Rattle.std.proofs.lemmas.List.{take_all}
+use Rattle.mta_edge.specs.Views.{DiskLaws}
 use Rattle.mta_edge.specs.Held.{HeldDisk}
-use Rattle.mta_edge.specs.Images.{MayLeave, seen_at, LeftAt, LeftSince}
+use Rattle.mta_edge.specs.Images.{MayLeave, seen_at, LeftAt, LeftSince, memory_disk}
 use Rattle.mta_edge.specs.declared.log.Called.{Called}
 
 -- behind all calls a read gives what it gives now
@@ -31,16 +32,17 @@ at_end_left d k g le may =
 pub some_same : (a b : List ℕ) → ◌≡◌ {A = Option (List ℕ)} (Some a) (Some b) → b ≡ a
 some_same a b e = cc
 
-pub memory_reads_image : (d : HeldDisk) (f : List ℕ) → ◌≡◌ {A = Option (List ℕ)} (Some d.octets) (Some f) → MayLeave d.log d.octets f
-memory_reads_image d f told = inr (some_same d.octets f told)
-
-pub memory_counts_now : (d : HeldDisk) (t : ℕ) (g : List ℕ) → t ≤ length d.log → MayLeave d.log d.octets g → LeftSince d t g
-memory_counts_now d t g le may = record {
+counts_at_end : (d : HeldDisk) (t : ℕ) (g : List ℕ) → t ≤ length d.log → MayLeave d.log d.octets g → LeftSince d t g
+counts_at_end d t g le may = record {
   calls = length d.log;
   from = le;
   until = omega arith;
   image = at_end_left d (length d.log) g (omega arith) may;
 }
 
-pub memory_only_now : (d : HeldDisk) (g : List ℕ) → LeftSince d (length d.log) g → MayLeave d.log d.octets g
-memory_only_now d g left = left_at_end d left.calls g left.from left.image
+pub memory_disk_laws : DiskLaws memory_disk
+memory_disk_laws = record {
+  reads_image = λ d f told. inr (some_same d.octets f told);
+  counts_now = counts_at_end;
+  only_now = λ d g left. left_at_end d left.calls g left.from left.image;
+}

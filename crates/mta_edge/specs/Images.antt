@@ -1,5 +1,6 @@
 -- What a crash may leave of a disk in memory, and the image that a choice picks.
-use Rattle.std.specs.Prelude.{ℕ, zero, suc, ◌/◌, ◌≤◌, ◌≡◌, ◌⊎◌, List, [], ◌∷◌, length, take}
+use Rattle.std.specs.Prelude.{ℕ, zero, suc, ◌/◌, ◌≤◌, ◌≡◌, ◌⊎◌, List, [], ◌∷◌, length, take, Some}
+use Rattle.mta_edge.specs.Views.{DiskView}
 use Rattle.mta_edge.specs.Outside.{Torn}
 use Rattle.mta_edge.specs.Crashes.{Crash, CutShort}
 use Rattle.mta_edge.specs.Tears.{tear_of, torn_write, torn_cut}
@@ -41,9 +42,19 @@ pub record LeftSince (d : HeldDisk) (t : ℕ) (g : List ℕ) : Type 0 where
   pub until : calls ≤ length d.log
   pub image : LeftAt d calls g
 
+-- what a disk in memory tells of itself; a moment is the number of calls so far
+abbrev pub memory_disk : DiskView HeldDisk
+memory_disk = record {
+  content = λ d. Some d.octets;
+  faults = λ d. d.faults;
+  moment = λ d. length d.log;
+  may_leave = λ d g. MayLeave d.log d.octets g;
+  left_since = LeftSince;
+}
+
 -- how a call goes on from the calls before it
 abbrev pub MemoryCrash : (List ℕ → List ℕ → Type 0) → HeldDisk → HeldDisk → Type 0
-MemoryCrash step old new = Crash {D = HeldDisk} (λ d g. MayLeave d.log d.octets g) (λ d. length d.log) LeftSince step old new
+MemoryCrash step old new = Crash memory_disk step old new
 
 -- the image behind a call; its digit is the last one of `rest`
 abbrev pub image_after : List ℕ → Done → ℕ → List ℕ → List ℕ

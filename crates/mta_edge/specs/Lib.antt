@@ -1,4 +1,7 @@
 pub mod Causes
+pub mod Views
+pub mod Numbers
+pub mod Moments
 pub mod Held
 pub mod Outside
 pub mod Crashes

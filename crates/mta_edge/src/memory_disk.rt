@@ -1,8 +1,8 @@
 //! A disk in memory.
 
-ghost use Rattle.std.specs.Prelude.{◌≡◌, ◌⊎◌, ◌<◌, ◌≤◌, ◌^◌, ◌++◌, ◌+◌, [], ◌∷◌, List, ℕ, Option, Some, None, length, drop, take, OnOk, OnErr, IfOk, Contains};
+ghost use Rattle.std.specs.Prelude.{◌≡◌, ◌≤◌, ◌++◌, [], ◌∷◌, List, ℕ, Some, length, take, is_err, OnOk, OnErr, IfOk};
 ghost use Rattle.mta_edge.specs.Causes.{HasCause, Rose};
-ghost use Rattle.mta_edge.specs.Outside.{written};
+ghost use Rattle.mta_edge.specs.Outside.{Reads, written};
 
 use crate::calls::Calls;
 use crate::images::image_of;
@@ -12,6 +12,20 @@ use crate::tear::with_piece;
 use mta_ber::{Memory, Octets};
 use std::alloc::Global;
 use std::marker::Model;
+
+// Moves the octets from this offset on, as many as there are or the buffer takes, and answers how many.
+pub(crate) fn read_piece(octets: &[u8], at: usize, into: &mut [u8]) -> usize
+    ensures bound { result ≤ length into.new }
+    ensures octets { Reads at result into.new octets.now }
+{
+    if octets.len() < at {
+        return 0;
+    }
+    let left = &octets[at..];
+    let count = left.len().min(into.len());
+    into[..count].copy_from_slice(&left[..count]);
+    count
+}
 
 /// A disk with these octets, which fails at the listed calls (numbers from 1). It logs its calls, and tells what a crash
 /// at each of them may leave.
@@ -28,17 +42,26 @@ impl Model for MemDisk {
 
     ghost Value = { HeldDisk };
 
-    ghost view = { λ d. record { octets = d.octets; faults = d.calls.faults; log = d.log.items } };
+    ghost view = { λ d. record {
+      octets = d.octets;
+      faults = d.calls.faults;
+      log = d.log.items;
+      calls = d.calls.made;
+      fail = d.calls.fail.items;
+    } };
 }
 
 impl MemDisk {
     ghost use Rattle.mta_edge.specs.Crashes.{Stays};
+    ghost use Rattle.mta_edge.specs.Held.{FailsAsListed};
     ghost use Rattle.mta_edge.specs.Images.{LeftAt, MemoryCrash, image_of, seen_at};
 
     pub fn new(alloc: Global, octets: Octets, fail: Vec<u64>) -> MemDisk
         ensures content { result.octets ≡ octets }
         ensures faults { result.faults ≡ 0 }
         ensures log { result.log ≡ [] }
+        ensures calls { result.calls ≡ 0 }
+        ensures fail { result.fail ≡ fail.items }
     {
         MemDisk {
             alloc,
@@ -88,6 +111,7 @@ impl MemDisk {
         ensures octets { self.new.octets ≡ self.old.octets }
         ensures cause { HasCause self.old.faults self.new.faults result }
         ensures crash { MemoryCrash Stays self.old self.new }
+        ensures fails { FailsAsListed self.old self.new result }
     {
         let begun = self.calls.begin();
         self.log(Done::Look)?;
@@ -100,6 +124,8 @@ impl MemDisk {
         ensures logged { OnOk result (self.new.log ≡ self.old.log ++ record { before = self.old.octets; done = done } ∷ []) }
         ensures refused { OnErr result (self.new.log ≡ self.old.log) }
         ensures cause { HasCause self.old.faults self.new.faults result }
+        ensures calls { self.new.calls ≡ self.old.calls }
+        ensures fail { self.new.fail ≡ self.old.fail }
     {
         let before = self.calls.kept(self.octets.copy(self.alloc))?;
         match self.log.push(Called { before, done }) {
@@ -110,55 +136,67 @@ impl MemDisk {
 }
 
 impl Disk for MemDisk {
-    ghost use Rattle.mta_edge.specs.Images.{MayLeave, LeftSince};
-    ghost use Rattle.mta_edge.specs.ImageLaws.{memory_reads_image, memory_counts_now, memory_only_now};
+    ghost use Rattle.mta_edge.specs.Crashes.{Crash, CutShort, Settled, Stays};
+    ghost use Rattle.mta_edge.specs.Held.{FailsAsListed};
+    ghost use Rattle.mta_edge.specs.Images.{memory_disk};
+    ghost use Rattle.mta_edge.specs.ImageLaws.{memory_disk_laws};
+    ghost use Rattle.mta_edge.specs.Outside.{ContentGoes, Cut, Reads, Torn, Within, written};
+    ghost use Rattle.mta_edge.specs.Views.{WhereTold};
 
-    ghost content = { λ d. Some d.octets };
+    ghost model = { memory_disk };
 
-    ghost faults = { λ d. d.faults };
+    ghost laws = { memory_disk_laws };
 
-    ghost may_leave = { λ d g. MayLeave d.log d.octets g };
-
-    ghost moment = { λ d. length d.log };
-
-    ghost left_since = { LeftSince };
-
-    ghost reads_image = { memory_reads_image };
-
-    ghost counts_now = { memory_counts_now };
-
-    ghost only_now = { memory_only_now };
-
-    fn size(&mut self) -> Result<u64, Failed> {
+    fn size(&mut self) -> Result<u64, Failed>
+        ensures size { IfOk result (λ n. WhereTold memory_disk self.old (λ f. n ≡ length f)) }
+        ensures content { Some self.new.octets ≡ Some self.old.octets }
+        ensures cause { HasCause self.old.faults self.new.faults result }
+        ensures crash { Crash memory_disk Stays self.old self.new }
+        ensures fails { FailsAsListed self.old self.new result }
+    {
         self.look()?;
         Ok(self.octets.len() as u64)
     }
 
-    fn read(&mut self, at: u64, into: &mut [u8]) -> Result<usize, Failed> {
+    fn read(&mut self, at: u64, into: &mut [u8]) -> Result<usize, Failed>
+        ensures bound { IfOk result (λ n. n ≤ length into.new) }
+        ensures octets { IfOk result (λ n. WhereTold memory_disk self.old (Reads at n into.new)) }
+        ensures content { Some self.new.octets ≡ Some self.old.octets }
+        ensures cause { HasCause self.old.faults self.new.faults result }
+        ensures crash { Crash memory_disk Stays self.old self.new }
+        ensures fails { FailsAsListed self.old self.new result }
+    {
         self.look()?;
-        let at = at as usize;
-        let octets = self.octets.as_slice();
-        if octets.len() < at {
-            return Ok(0);
-        }
-        let left = &octets[at..];
-        let count = left.len().min(into.len());
-        into[..count].copy_from_slice(&left[..count]);
-        Ok(count)
+        Ok(read_piece(self.octets.as_slice(), at as usize, into))
     }
 
-    fn write_at(&mut self, at: u64, bytes: &[u8]) -> Result<(), Failed> {
+    fn write_at(&mut self, at: u64, bytes: &[u8]) -> Result<(), Failed>
+        requires { Within at (Some self.old.octets) }
+        ensures written { OnOk result (ContentGoes memory_disk (λ f g. g ≡ written at bytes.now f) self.old self.new) }
+        ensures torn { OnErr result (ContentGoes memory_disk (Torn at (length bytes.now)) self.old self.new) }
+        ensures cause { HasCause self.old.faults self.new.faults result }
+        ensures crash { Crash memory_disk (Torn at (length bytes.now)) self.old self.new }
+        ensures fails { FailsAsListed self.old self.new result }
+    {
         let begun = self.calls.begin();
         let at = at as usize;
         let octets = self.calls.kept(Octets::from_slice(self.alloc, bytes))?;
+        let found = with_piece(self.alloc, self.octets.as_slice(), at, bytes);
+        let next = self.calls.kept(found)?;
         self.log(Done::Write { at, octets })?;
         begun?;
-        let next = with_piece(self.alloc, self.octets.as_slice(), at, bytes);
-        self.octets = self.calls.kept(next)?;
+        self.octets = next;
         Ok(())
     }
 
-    fn cut(&mut self, size: u64) -> Result<(), Failed> {
+    fn cut(&mut self, size: u64) -> Result<(), Failed>
+        requires { Within size (Some self.old.octets) }
+        ensures cut { OnOk result (ContentGoes memory_disk (λ f g. g ≡ take size f) self.old self.new) }
+        ensures torn { OnErr result (ContentGoes memory_disk (Cut size) self.old self.new) }
+        ensures cause { HasCause self.old.faults self.new.faults result }
+        ensures crash { Crash memory_disk (CutShort size) self.old self.new }
+        ensures fails { FailsAsListed self.old self.new result }
+    {
         let begun = self.calls.begin();
         let size = size as usize;
         self.log(Done::Cut { size })?;
@@ -167,86 +205,18 @@ impl Disk for MemDisk {
         Ok(())
     }
 
-    fn sync(&mut self) -> Result<(), Failed> {
+    fn sync(&mut self) -> Result<(), Failed>
+        ensures content { Some self.new.octets ≡ Some self.old.octets }
+        ensures cause { HasCause self.old.faults self.new.faults result }
+        ensures crash { Crash memory_disk Stays self.old self.new }
+        ensures fails { FailsAsListed self.old self.new result }
+        ensures settled { OnOk result (Settled memory_disk self.new) }
+    {
         if let Err(failed) = self.calls.begin() {
             self.log(Done::Look)?;
             return Err(failed);
         }
         self.log(Done::Sync)?;
         Ok(())
-    }
-}
-
-/// A disk with these octets that fails only where memory for what it keeps is refused.
-#[derive(Drop)]
-pub struct SafeDisk {
-    inner: MemDisk,
-}
-
-impl Model for SafeDisk {
-    ghost use Rattle.mta_edge.specs.Held.{HeldDisk};
-
-    ghost Value = { HeldDisk };
-
-    ghost view = { λ d. d.inner };
-}
-
-impl SafeDisk {
-    pub fn new(alloc: Global, octets: Octets) -> SafeDisk
-        ensures content { result.octets ≡ octets }
-        ensures faults { result.faults ≡ 0 }
-        ensures log { result.log ≡ [] }
-    {
-        SafeDisk {
-            inner: MemDisk::new(alloc, octets, Vec::new(alloc)),
-        }
-    }
-
-    /// What a read gives.
-    pub fn octets(&self) -> &[u8]
-        ensures { result.now ≡ self.now.octets }
-    {
-        self.inner.octets()
-    }
-}
-
-impl Disk for SafeDisk {
-    ghost use Rattle.mta_edge.specs.Images.{MayLeave, LeftSince};
-    ghost use Rattle.mta_edge.specs.ImageLaws.{memory_reads_image, memory_counts_now, memory_only_now};
-
-    ghost content = { λ d. Some d.octets };
-
-    ghost faults = { λ d. d.faults };
-
-    ghost may_leave = { λ d g. MayLeave d.log d.octets g };
-
-    ghost moment = { λ d. length d.log };
-
-    ghost left_since = { LeftSince };
-
-    ghost reads_image = { memory_reads_image };
-
-    ghost counts_now = { memory_counts_now };
-
-    ghost only_now = { memory_only_now };
-
-    fn size(&mut self) -> Result<u64, Failed> {
-        self.inner.size()
-    }
-
-    fn read(&mut self, at: u64, into: &mut [u8]) -> Result<usize, Failed> {
-        self.inner.read(at, into)
-    }
-
-    fn write_at(&mut self, at: u64, bytes: &[u8]) -> Result<(), Failed> {
-        self.inner.write_at(at, bytes)
-    }
-
-    fn cut(&mut self, size: u64) -> Result<(), Failed> {
-        self.inner.cut(size)
-    }
-
-    fn sync(&mut self) -> Result<(), Failed> {
-        self.inner.sync()
     }
 }

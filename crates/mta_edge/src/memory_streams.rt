@@ -1,7 +1,10 @@
 //! Sources, sinks and clocks in memory.
 
-ghost use Rattle.std.specs.Prelude.{◌≡◌, ◌⊎◌, ◌<◌, ◌≤◌, ◌^◌, ◌++◌, ◌+◌, [], ◌∷◌, List, ℕ, Option, Some, None, length, drop, take, OnOk, OnErr, IfOk, Contains};
-ghost use Rattle.mta_edge.specs.Causes.{Rose};
+ghost use Rattle.std.specs.Prelude.{◌≡◌, ◌⊎◌, ◌<◌, ◌≤◌, [], List, ℕ, Some, length, drop, take, is_err, false, OnOk, OnErr, IfOk, Contains, slice_index};
+ghost use Rattle.mta_edge.specs.Causes.{HasCause, Rose};
+ghost use Rattle.mta_edge.specs.Held.{memory_sink, memory_source};
+ghost use Rattle.mta_edge.specs.Numbers.{is_listed, one_more_call};
+ghost use Rattle.mta_edge.specs.Outside.{Adds, Goes, Takes};
 
 use crate::calls::Calls;
 use crate::outside::{Clock, Failed, Sink, Source};
@@ -23,13 +26,20 @@ impl Model for MemSource {
 
     ghost Value = { Held };
 
-    ghost view = { λ s. record { octets = drop s.at s.octets; faults = s.calls.faults } };
+    ghost view = { λ s. record {
+      octets = drop s.at s.octets;
+      faults = s.calls.faults;
+      calls = s.calls.made;
+      fail = s.calls.fail.items;
+    } };
 }
 
 impl MemSource {
     pub fn new(octets: Octets, fail: Vec<u64>) -> MemSource
         ensures left { result.octets ≡ octets }
         ensures faults { result.faults ≡ 0 }
+        ensures calls { result.calls ≡ 0 }
+        ensures fail { result.fail ≡ fail.items }
     {
         MemSource {
             octets,
@@ -39,8 +49,8 @@ impl MemSource {
     }
 }
 
-// Moves the first octets of what is left behind `at`, and answers how many.
-fn give(octets: &[u8], at: usize, into: &mut [u8]) -> usize
+/// Moves the first octets of what is left behind `at`, as many as there are or the buffer takes, and answers how many.
+pub fn give(octets: &[u8], at: usize, into: &mut [u8]) -> usize
     ensures bound { result ≤ length into.new }
     ensures fits { result ≤ length (drop at octets.now) }
     ensures moved { take result into.new ≡ take result (drop at octets.now) }
@@ -56,11 +66,18 @@ fn give(octets: &[u8], at: usize, into: &mut [u8]) -> usize
 }
 
 impl Source for MemSource {
-    ghost left = { λ s. Some s.octets };
+    ghost model = { memory_source };
 
-    ghost faults = { λ s. s.faults };
-
-    fn take(&mut self, into: &mut [u8]) -> Result<usize, Failed> {
+    /// It fails exactly where the number of the call is listed.
+    fn take(&mut self, into: &mut [u8]) -> Result<usize, Failed>
+        ensures bound { IfOk result (λ n. n ≤ length into.new) }
+        ensures taken { IfOk result (λ n. Goes (Takes n into.new) (Some self.old.octets) (Some self.new.octets)) }
+        ensures kept { OnErr result (self.new.octets ≡ self.old.octets) }
+        ensures cause { HasCause self.old.faults self.new.faults result }
+        ensures number { self.new.calls ≡ one_more_call self.old.calls }
+        ensures fail { self.new.fail ≡ self.old.fail }
+        ensures fails { is_err result ≡ is_listed self.old.fail self.old.calls }
+    {
         self.calls.begin()?;
         let count = give(self.octets.as_slice(), self.at, into);
         self.at += count;
@@ -80,13 +97,20 @@ impl Model for MemSink {
 
     ghost Value = { Held };
 
-    ghost view = { λ s. record { octets = s.octets; faults = s.calls.faults } };
+    ghost view = { λ s. record {
+      octets = s.octets;
+      faults = s.calls.faults;
+      calls = s.calls.made;
+      fail = s.calls.fail.items;
+    } };
 }
 
 impl MemSink {
     pub fn new(alloc: Global, fail: Vec<u64>) -> MemSink
         ensures taken { result.octets ≡ [] }
         ensures faults { result.faults ≡ 0 }
+        ensures calls { result.calls ≡ 0 }
+        ensures fail { result.fail ≡ fail.items }
     {
         MemSink {
             octets: Octets::new(alloc),
@@ -103,11 +127,20 @@ impl MemSink {
 }
 
 impl Sink for MemSink {
-    ghost taken = { λ s. Some s.octets };
+    ghost model = { memory_sink };
 
-    ghost faults = { λ s. s.faults };
-
-    fn put(&mut self, bytes: &[u8]) -> Result<usize, Failed> {
+    /// It takes the whole piece. It fails where the number of the call is listed, and where memory is refused.
+    fn put(&mut self, bytes: &[u8]) -> Result<usize, Failed>
+        ensures bound { IfOk result (λ n. n ≤ length bytes.now) }
+        ensures some { IfOk result (λ n. 0 < length bytes.now → 0 < n) }
+        ensures put { IfOk result (λ n. Goes (Adds n bytes.now) (Some self.old.octets) (Some self.new.octets)) }
+        ensures kept { OnErr result (self.new.octets ≡ self.old.octets) }
+        ensures cause { HasCause self.old.faults self.new.faults result }
+        ensures whole { IfOk result (λ n. n ≡ length bytes.now) }
+        ensures number { self.new.calls ≡ one_more_call self.old.calls }
+        ensures fail { self.new.fail ≡ self.old.fail }
+        ensures fails { OnOk result (is_listed self.old.fail self.old.calls ≡ false) }
+    {
         self.calls.begin()?;
         match self.octets.extend(bytes) {
             Ok(()) => Ok(bytes.len()),
@@ -124,11 +157,12 @@ pub struct MemClock {
 }
 
 impl Model for MemClock {
-    ghost use Rattle.std.specs.Prelude.{List, ℕ};
+    ghost use Rattle.std.specs.Prelude.{List, ℕ, drop};
 
+    // The moments that are left. The last one stays.
     ghost Value = { List ℕ };
 
-    ghost view = { λ c. c.moments.items };
+    ghost view = { λ c. drop c.at c.moments.items };
 }
 
 impl MemClock {
@@ -140,9 +174,16 @@ impl MemClock {
 }
 
 impl Clock for MemClock {
-    ghost tells = { λ c m. Contains c m ⊎ (m ≡ 0) };
+    ghost use Rattle.mta_edge.specs.Moments.{may_tell, later_moments};
 
-    fn now(&mut self) -> u64 {
+    ghost model = { record { tells = may_tell } };
+
+    fn now(&mut self) -> u64
+        ensures told { may_tell self.old result }
+        ensures fewer { (m : ℕ) → may_tell self.new m → may_tell self.old m }
+        ensures first { result ≡ slice_index self.old 0 }
+        ensures rest { self.new ≡ later_moments self.old }
+    {
         match self.moments.get(self.at) {
             Some(moment) => {
                 let moment = *moment;
@@ -164,12 +205,12 @@ pub struct SafeSource {
 }
 
 impl Model for SafeSource {
-    ghost use Rattle.std.specs.Prelude.{drop};
+    ghost use Rattle.std.specs.Prelude.{drop, []};
     ghost use Rattle.mta_edge.specs.Held.{Held};
 
     ghost Value = { Held };
 
-    ghost view = { λ s. record { octets = drop s.at s.octets; faults = 0 } };
+    ghost view = { λ s. record { octets = drop s.at s.octets; faults = 0; calls = 0; fail = [] } };
 }
 
 impl SafeSource {
@@ -182,9 +223,7 @@ impl SafeSource {
 }
 
 impl Source for SafeSource {
-    ghost left = { λ s. Some s.octets };
-
-    ghost faults = { λ _. 0 };
+    ghost model = { memory_source };
 
     fn take(&mut self, into: &mut [u8]) -> Result<usize, Failed> {
         let count = give(self.octets.as_slice(), self.at, into);
@@ -211,6 +250,7 @@ impl SafeSink {
     pub fn new(alloc: Global) -> SafeSink
         ensures taken { result.octets ≡ [] }
         ensures faults { result.faults ≡ 0 }
+        ensures fail { result.fail ≡ [] }
     {
         SafeSink {
             inner: MemSink::new(alloc, Vec::new(alloc)),
@@ -226,9 +266,7 @@ impl SafeSink {
 }
 
 impl Sink for SafeSink {
-    ghost taken = { λ s. Some s.octets };
-
-    ghost faults = { λ s. s.faults };
+    ghost model = { memory_sink };
 
     fn put(&mut self, bytes: &[u8]) -> Result<usize, Failed> {
         self.inner.put(bytes)

@@ -116,3 +116,69 @@ fn clocks_answer_their_moments(rt: HostRuntime) -> Result<(), Fail> {
     assert_eq!(rt; none.now(), 0);
     Ok(())
 }
+
+// Writes at an offset that the disk reaches.
+fn write(rt: &impl Abort, disk: &mut SafeDisk, at: usize, bytes: &[u8]) {
+    assert!(rt; at <= disk.octets().len());
+    assert_eq!(rt; disk.write_at(at as u64, bytes), Ok(()));
+}
+
+#[test]
+fn safe_disks_are_changed_in_place(rt: HostRuntime) -> Result<(), Fail> {
+    let alloc = rt.alloc();
+    let mut safe = SafeDisk::new(alloc, octets_of(alloc, &[1, 2, 3])?);
+    let rows: [(usize, &[u8], &[u8]); 4] = [
+        (0, &[9], &[9, 2, 3]),
+        (2, &[7, 8], &[9, 2, 7, 8]),
+        (4, &[5], &[9, 2, 7, 8, 5]),
+        (1, &[], &[9, 2, 7, 8, 5]),
+    ];
+    for (at, bytes, octets) in rows {
+        write(&rt, &mut safe, at, bytes);
+        assert_eq!(rt; safe.octets(), octets);
+    }
+    assert_eq!(rt; safe.octets().len(), 5);
+    assert_eq!(rt; safe.cut(2), Ok(()));
+    assert_eq!(rt; safe.sync(), Ok(()));
+    assert_eq!(rt; safe.size(), Ok(2));
+    assert_eq!(rt; safe.octets(), [9, 2].as_slice());
+    Ok(())
+}
+
+// Four calls: two writes behind the end, the second over the first, a size and a sync.
+fn four_calls(rt: &impl Abort, disk: &mut SafeDisk) {
+    let end = disk.octets().len();
+    assert_eq!(rt; disk.size(), Ok(end as u64));
+    write(rt, disk, end, &[1, 2, 3, 4, 5, 6, 7, 8]);
+    assert_eq!(rt; disk.sync(), Ok(()));
+    write(rt, disk, end, &[0]);
+}
+
+// How many octets the disk gives in so many reads.
+fn octets_read(disk: &mut SafeDisk, piece: &mut [u8], reads: u64) -> u64 {
+    let mut read: u64 = 0;
+    for _ in 0..reads {
+        if let Ok(count) = disk.read(read, piece) {
+            read = read.saturating_add(count as u64);
+        }
+    }
+    read
+}
+
+// 119 octets less than 2^28, and forty thousand calls behind the reads.
+#[test]
+fn a_large_safe_disk_takes_many_calls(rt: HostRuntime) -> Result<(), Fail> {
+    let alloc = rt.alloc();
+    let octets = vec![in alloc; 7u8; 268_435_337]?;
+    let mut safe = SafeDisk::new(alloc, Octets::from_vec(octets));
+    let mut piece = vec![in alloc; 0u8; 1_048_576]?;
+    assert_eq!(rt;
+        octets_read(&mut safe, piece.as_mut_slice(), 300),
+        268_435_337
+    );
+    for _ in 0..10_000 {
+        four_calls(&rt, &mut safe);
+    }
+    assert_eq!(rt; safe.size(), Ok(268_515_337));
+    Ok(())
+}

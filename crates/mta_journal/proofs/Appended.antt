@@ -1,5 +1,5 @@
 -- What the two writes of an append leave, and what a crash leaves of them.
-use Rattle.std.proofs.Common.{inl, inr, ⊎_elim, ◌≡◌, ◌≢◌, ℕ, ◌+◌, ◌≤◌, List, [], ◌∷◌, ◌++◌, length, take, drop, get_or, sym, ap, ◌∙◌, append_assoc, arith}
+use Rattle.std.proofs.Common.{inl, inr, ⊎_elim, ◌≡◌, ◌≢◌, ℕ, ◌+◌, ◌≤◌, ◌<◌, List, [], ◌∷◌, ◌++◌, length, take, drop, get_or, sym, ap, ◌∙◌, append_assoc, arith}
 use Rattle.std.proofs.lemmas.Bool.{cases_eq}
 use Rattle.std.proofs.lemmas.List.{take_at, drop_at, drop_more, length-append, length-take, length-drop, take-append-drop}
 use Rattle.mta_edge.specs.Outside.{Torn, written}
@@ -7,13 +7,15 @@ use Rattle.mta_edge.proofs.Logged.{written_torn}
 use Rattle.mta_disk.specs.Records.{counted}
 use Rattle.mta_disk.proofs.Writing.{length-closed}
 use Rattle.mta_journal.specs.Bodies.{longest_body, front, HasBodies, HasOrOneMore}
+use Rattle.mta_journal.specs.Appending.{need_of}
 use Rattle.mta_journal.proofs.Bodies.{AreShort-more, one_more}
 
 pub length-written : (at : ℕ) (bytes f : List ℕ) → at ≤ length f → at + length bytes ≤ length (written at bytes f)
 length-written at bytes f le = simp (length-append, length-take, length-drop) (omega arith)
 
 -- both writes make the disk long enough for the record and the next gate
-pub long_enough : (gate : ℕ) (body f g h : List ℕ) → gate + 1 ≤ length f → g ≡ written (gate + 1) (counted body ++ 0 ∷ []) f → h ≡ written gate (1 ∷ []) g → gate + length body + 6 ≤ length h
+pub long_enough : (gate : ℕ) (body f g h : List ℕ) → gate + 1 ≤ length f → g ≡ written (gate + 1) (counted body ++ 0 ∷ []) f
+    → h ≡ written gate (1 ∷ []) g → gate + need_of body < length h
 long_enough gate body f g h le first second =
     let size = length-closed body in
     let a = length-written (gate + 1) (counted body ++ 0 ∷ []) f le in

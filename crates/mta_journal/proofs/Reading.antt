@@ -2,6 +2,7 @@
 use Rattle.std.proofs.Common.{inl, inr, ⊎_elim, ◌≡◌, ◌⊎◌, ℕ, zero, suc, ◌+◌, ◌-◌, ◌≤◌, ◌<◌, min, List, [], ◌∷◌, ◌++◌, length, take, drop, get_or, Result, Err, refl, sym, ap, subst, ◌∙◌, append_assoc, arith}
 use Rattle.std.specs.Int.{w32, from_be_bytes, to_be_bytes}
 use Rattle.std.proofs.lemmas.List.{drop-drop, drop-take, length-take-le, length-drop, take-append-drop}
+use Rattle.mta_edge.specs.Views.{DiskView, DiskLaws}
 use Rattle.mta_edge.specs.Crashes.{Crash, Stays}
 use Rattle.mta_disk.specs.Records.{counted}
 use Rattle.mta_journal.specs.Bodies.{longest_body}
@@ -79,11 +80,16 @@ pub not_short : (gate count : ℕ) (f : List ℕ) → gate + count ≤ length f 
 not_short gate count f fits short = let l : length (drop gate f) ≡ length f - gate = length-drop gate f in omega arith
 
 -- two calls that do nothing to the images
-pub Stays-then : {D : Type 0} (may_leave : D → List ℕ → Type 0) (moment : D → ℕ) (left_since : D → ℕ → List ℕ → Type 0) → ((d : D) (t : ℕ) (g : List ℕ) → t ≤ moment d → may_leave d g → left_since d t g) → (a b c : D) → Crash may_leave moment left_since Stays a b → Crash may_leave moment left_since Stays b c
-    → Crash may_leave moment left_since Stays a c
-Stays-then may_leave moment left_since counts_now a b c first second = record {
-  later = omega (arith, first.later, second.later);
-  image = λ h may. let x = second.image h may in let y = first.image x.0 x.1 in (y.0, y.1, x.2 ∙ y.2);
-  since = λ t h le left. ⊎_elim {C = left_since a t h ⊎ may_leave c h} (λ mid. ⊎_elim {C = left_since a t h ⊎ may_leave c h} (λ old. inl old) (λ now. let x = first.image h now in inl (counts_now a t h le (subst (may_leave a) (sym x.2) x.1))) (first.since t h le mid)) (λ now. inr now) (second.since t h (omega (arith, le, first.later)) left);
-  kept = λ t h le left. second.kept t h (omega (arith, le, first.later)) (first.kept t h le left);
-}
+pub Stays-then : {D : Type 0} (model : DiskView D) → DiskLaws model → (a b c : D) → Crash model Stays a b → Crash model Stays b c
+    → Crash model Stays a c
+Stays-then model laws a b c first second =
+    let now : (t : ℕ) (h : List ℕ) → t ≤ model.moment a → model.may_leave b h → model.left_since a t h = λ t h le mid.
+    let x = first.image h mid in laws.counts_now a t h le (subst (model.may_leave a) (sym x.2) x.1) in
+    record {
+      later = omega (arith, first.later, second.later);
+      image = λ h may. let x = second.image h may in let y = first.image x.0 x.1 in (y.0, y.1, x.2 ∙ y.2);
+      since = λ t h le left. ⊎_elim {C = model.left_since a t h ⊎ model.may_leave c h}
+          (λ mid. ⊎_elim {C = model.left_since a t h ⊎ model.may_leave c h} (λ old. inl old) (λ here. inl (now t h le here)) (first.since t h le mid))
+          (λ last. inr last) (second.since t h (omega (arith, le, first.later)) left);
+      kept = λ t h le left. second.kept t h (omega (arith, le, first.later)) (first.kept t h le left);
+    }

@@ -1,6 +1,7 @@
 -- One record more that is read.
 use Rattle.std.proofs.Common.{◌≡◌, ℕ, ◌+◌, ◌≤◌, List, [], ◌∷◌, ◌++◌, length, take, drop, refl, sym, ap, subst, ◌∙◌, append_assoc, arith}
 use Rattle.std.proofs.lemmas.List.{take_at, take-append-drop, append-nil}
+use Rattle.mta_edge.specs.Views.{DiskView}
 use Rattle.mta_edge.specs.Crashes.{Crash, Stays}
 use Rattle.std.proofs.Common.{inl}
 use Rattle.mta_disk.specs.Records.{counted}
@@ -44,5 +45,5 @@ length-next bodies next body gate place e = omega (arith, place, length-front-mo
 pub AreShort-next : (bodies next : List (List ℕ)) (body : List ℕ) → next ≡ bodies ++ body ∷ [] → AreShort bodies → length body ≤ longest_body → AreShort next
 AreShort-next bodies next body e each short = subst AreShort (sym e) (AreShort-more bodies body each short)
 
-pub Stays-none : {D : Type 0} (may_leave : D → List ℕ → Type 0) (moment : D → ℕ) (left_since : D → ℕ → List ℕ → Type 0) (d : D) → Crash may_leave moment left_since Stays d d
-Stays-none may_leave moment left_since d = record { later = omega arith; image = λ g may. (g, may, refl); since = λ t g le left. inl left; kept = λ t g le left. left }
+pub Stays-none : {D : Type 0} (model : DiskView D) (d : D) → Crash model Stays d d
+Stays-none model d = record { later = omega arith; image = λ g may. (g, may, refl); since = λ t g le left. inl left; kept = λ t g le left. left }

@@ -1,7 +1,8 @@
 -- What opening finds and leaves.
-use Rattle.std.specs.Prelude.{◌≡◌, ◌⊎◌, ◌+◌, ◌≤◌, ◌<◌, ℕ, List, ◌∷◌, ◌++◌, length, drop, Option, Some, Result, IsErrOf}
+use Rattle.std.specs.Prelude.{◌≡◌, ◌⊎◌, ◌+◌, ◌≤◌, ◌<◌, ℕ, List, ◌∷◌, ◌++◌, length, drop, Some, Result, IsErrOf}
 use Rattle.mta_edge.specs.Causes.{Rose}
-use Rattle.mta_edge.specs.Outside.{Goes}
+use Rattle.mta_edge.specs.Views.{DiskView}
+use Rattle.mta_edge.specs.Outside.{ContentGoes}
 use Rattle.mta_disk.specs.Records.{counted}
 use Rattle.mta_journal.specs.Bodies.{longest_body, front, AreShort, HasBodies}
 use Rattle.mta_journal.specs.Faults.{IsFaulty, IsNoJournalAt}
@@ -11,6 +12,10 @@ use Rattle.mta_journal.specs.declared.why.OpenWhy.TheVariants as Whys
 -- it is the same image, or both are so short that they stand for no bodies
 abbrev pub IsSame : List ℕ → List ℕ → Type 0
 IsSame f g = (g ≡ f) ⊎ ((length f ≤ 9) × (length g ≤ 9))
+
+-- where the answer is that the disk is no journal from a place on, that place has P
+abbrev pub OnNotSpool : {T : Type 0} → Result T OpenWhy → (ℕ → Type 0) → Type 0
+OnNotSpool result P = (at : ℕ) → IsErrOf result (Whys.NotSpool at) → P at
 
 -- the disk's count of faults does not fall, and a disk fault is answered only where it rose
 pub record HasOpenCause {T : Type 0} (before now : ℕ) (result : Result T OpenWhy) : Type 0 where
@@ -38,8 +43,8 @@ pub record BrokenAt (gate : ℕ) (f : List ℕ) : Type 0 where
   pub faulty : IsFaulty rest
 
 -- the disk has these bodies now, and uses this many octets
-pub record Stored {D : Type 0} (content : D → Option (List ℕ)) (disk : D) (size : ℕ) (bodies : List (List ℕ)) : Type 0 where
-  pub file : (f : List ℕ) → content disk ≡ Some f → HasBodies f bodies
+pub record Stored {D : Type 0} (model : DiskView D) (disk : D) (size : ℕ) (bodies : List (List ℕ)) : Type 0 where
+  pub file : (f : List ℕ) → model.content disk ≡ Some f → HasBodies f bodies
   pub size_is : size ≡ length (front bodies) + 1
   pub each : AreShort bodies
 
@@ -48,24 +53,29 @@ abbrev pub IsRefused : ℕ → List ℕ → List ℕ → Type 0
 IsRefused at f g = (g ≡ f) × IsNoJournalAt f at
 
 -- why a disk was refused
-pub record HasRefused {D : Type 0} (content : D → Option (List ℕ)) (faults : D → ℕ) (old new : D) (why : OpenWhy) : Type 0 where
-  pub later : faults old ≤ faults new
-  pub disk : why ≡ Whys.Disk → Rose (faults old) (faults new)
-  pub not_spool : (at : ℕ) → why ≡ Whys.NotSpool at → Goes (IsRefused at) (content old) (content new)
+pub record HasRefused {D : Type 0} (model : DiskView D) (old new : D) (why : OpenWhy) : Type 0 where
+  pub later : model.faults old ≤ model.faults new
+  pub disk : why ≡ Whys.Disk → Rose (model.faults old) (model.faults new)
+  pub not_spool : (at : ℕ) → why ≡ Whys.NotSpool at → ContentGoes model (IsRefused at) old new
+
+-- a disk of more than nine octets is as it was
+abbrev pub LongStays : {D : Type 0} → DiskView D → D → D → Type 0
+LongStays model old new = (f : List ℕ) → model.content old ≡ Some f → 9 < length f → model.content new ≡ Some f
 
 -- a crash while the disk is opened leaves what one before might have left, or the same
-abbrev pub BeforeOrSame : (List ℕ → Type 0) → List ℕ → List ℕ → Type 0
-BeforeOrSame may_leave f g = may_leave g ⊎ IsSame f g
+abbrev pub BeforeOrSame : {D : Type 0} → DiskView D → D → List ℕ → List ℕ → Type 0
+BeforeOrSame model old f g = model.may_leave old g ⊎ IsSame f g
 
 -- since a moment in the call, that of its first sync, a crash leaves the same
-pub record SameSince {D : Type 0} (moment : D → ℕ) (left_since : D → ℕ → List ℕ → Type 0) (f : List ℕ) (old new : D) : Type 0 where
+pub record SameSince {D : Type 0} (model : DiskView D) (f : List ℕ) (old new : D) : Type 0 where
   pub since : ℕ
-  pub from : moment old ≤ since
-  pub until : since ≤ moment new
-  pub same : (g : List ℕ) → left_since new since g → IsSame f g
+  pub from : model.moment old ≤ since
+  pub until : since ≤ model.moment new
+  pub same : (g : List ℕ) → model.left_since new since g → IsSame f g
 
--- What a crash leaves of a disk on which a journal is opened: where the first sync failed, what one before might have left, and
--- since that sync the same.
-pub data IsLeft {D : Type 0} (content : D → Option (List ℕ)) (may_leave : D → List ℕ → Type 0) (moment : D → ℕ) (left_since : D → ℕ → List ℕ → Type 0) (f : List ℕ) (old new : D) : Type 0 where
-  unsynced : content new ≡ content old → ((g : List ℕ) → left_since new (moment old) g → may_leave old g) → IsLeft content may_leave moment left_since f old new
-  synced : SameSince moment left_since f old new → IsLeft content may_leave moment left_since f old new
+-- What a crash leaves of a disk on which a journal is opened: where the first sync failed, what one before might have
+-- left, and since that sync the same.
+pub data IsLeft {D : Type 0} (model : DiskView D) (f : List ℕ) (old new : D) : Type 0 where
+  unsynced : model.content new ≡ model.content old
+      → ((g : List ℕ) → model.left_since new (model.moment old) g → model.may_leave old g) → IsLeft model f old new
+  synced : SameSince model f old new → IsLeft model f old new

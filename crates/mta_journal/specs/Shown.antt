@@ -1,5 +1,6 @@
 -- What contracts see of a journal.
-use Rattle.std.specs.Prelude.{◌≡◌, ◌+◌, ◌≤◌, ◌<◌, ℕ, Bool, false, List, length, Option, Some}
+use Rattle.std.specs.Prelude.{◌≡◌, ◌+◌, ◌≤◌, ◌<◌, ℕ, Bool, false, List, length, Some}
+use Rattle.mta_edge.specs.Views.{DiskView}
 use Rattle.mta_edge.specs.Crashes.{Settled}
 use Rattle.mta_journal.specs.Bodies.{front, HasBodies}
 
@@ -10,14 +11,14 @@ pub record Shown (D : Type 0) : Type 0 where
   pub ended : Bool
 
 -- the octets used lie inside the disk, and nothing is pending; where the disk failed nothing is known
-pub record IsSound {D : Type 0} (content : D → Option (List ℕ)) (may_leave : D → List ℕ → Type 0) (disk : D) (size : ℕ) (ended : Bool) : Type 0 where
+pub record IsSound {D : Type 0} (model : DiskView D) (disk : D) (size : ℕ) (ended : Bool) : Type 0 where
   pub begun : 0 < size
-  pub within : ended ≡ false → (f : List ℕ) → content disk ≡ Some f → size ≤ length f
-  pub settled : ended ≡ false → Settled (content disk) (may_leave disk)
+  pub within : ended ≡ false → (f : List ℕ) → model.content disk ≡ Some f → size ≤ length f
+  pub settled : ended ≡ false → Settled model disk
 
 -- the journal holds these bodies, and a crash leaves them
-pub record Holds {D : Type 0} (content : D → Option (List ℕ)) (may_leave : D → List ℕ → Type 0) (journal : Shown D) (bodies : List (List ℕ)) : Type 0 where
-  pub file : (f : List ℕ) → content journal.disk ≡ Some f → HasBodies f bodies
+pub record Holds {D : Type 0} (model : DiskView D) (journal : Shown D) (bodies : List (List ℕ)) : Type 0 where
+  pub file : (f : List ℕ) → model.content journal.disk ≡ Some f → HasBodies f bodies
   pub size : journal.size ≡ length (front bodies) + 1
   pub going : journal.ended ≡ false
-  pub settled : Settled (content journal.disk) (may_leave journal.disk)
+  pub settled : Settled model journal.disk

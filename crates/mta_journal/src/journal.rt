@@ -1,10 +1,20 @@
-//! A journal, and how it grows.
+//! A journal, and how it grows by a body.
+//!
+//! In comes a body of at most `LONGEST_BODY` octets, from a step of the spool. `append` puts it behind
+//! the closed gate at the end, syncs, opens the gate, and syncs (`mta_disk`): four calls of the disk.
+//! Out goes Ok with the body durable, or `Full`, `Ended`, `Disk` or `Memory`; after all but `Disk` the
+//! journal is as it was, and after `Disk` it takes no more.
+//!
+//! A crash at any moment leaves the bodies that it held, or those and this one: the gate is closed on
+//! the disk before anything stands behind it, so a torn record is never read.
 
-ghost use Rattle.std.specs.Prelude.{◌≡◌, ◌++◌, [], ◌∷◌, ◌+◌, ◌≤◌, ◌<◌, ◌^◌, List, ℕ, Some, length, OnOk, IsErrOf};
-ghost use Rattle.mta_edge.specs.Crashes.{AtAnyMoment, Settled};
-ghost use Rattle.mta_edge.specs.Outside.{Goes, Within};
+ghost use Rattle.std.specs.Prelude.{◌≡◌, ◌+◌, ◌≤◌, ◌<◌, ◌^◌, length, OnOk, IsErrOf};
+ghost use Rattle.mta_edge.specs.Crashes.{Settled};
+ghost use Rattle.mta_edge.specs.Outside.{ContentGoes, Within};
+ghost use Rattle.mta_edge.specs.Views.{StaysTold};
 ghost use Rattle.mta_disk.specs.Answers.{HasPutCause};
-ghost use Rattle.mta_journal.specs.Bodies.{longest_body, front, HasBodies, HasOrOneMore};
+ghost use Rattle.mta_journal.specs.Appending.{CrashLeavesBehind, PutsBehind, need_of};
+ghost use Rattle.mta_journal.specs.Bodies.{longest_body};
 
 use mta_disk::{PutFault, lift_gate, put_closed};
 use mta_edge::Disk;
@@ -47,21 +57,22 @@ impl<D: Disk + Drop> Model for Journal<D> {
 
     ghost view = { λ j. record { disk = j.disk; size = j.size; ended = j.ended } };
 
-    ghost invariant = { λ j. IsSound D.content D.may_leave j.disk j.size j.ended };
+    ghost invariant = { λ j. IsSound D.model j.disk j.size j.ended };
 }
 
 // Puts a body in its record behind the closed gate at `gate`, and then opens that gate.
 fn put_record<D: Disk>(alloc: Global, disk: &mut D, gate: u64, body: &[u8]) -> Result<(), PutFault>
-    requires within { Within (gate + 1) (D.content disk.old) }
+    requires within { Within (gate + 1) (D.model.content disk.old) }
     requires short { length body.now ≤ longest_body }
     requires room { gate + length body.now + 6 < 2 ^ 64 }
-    requires settled { Settled (D.content disk.old) (D.may_leave disk.old) }
-    ensures put { OnOk result ((bodies : List (List ℕ)) → gate ≡ length (front bodies) → Goes (λ f g. HasBodies f bodies → HasBodies g (bodies ++ body.now ∷ [])) (D.content disk.old) (D.content disk.new)) }
-    ensures longer { OnOk result (Goes (λ f g. gate + length body.now + 6 ≤ length g) (D.content disk.old) (D.content disk.new)) }
-    ensures settled { OnOk result (Settled (D.content disk.new) (D.may_leave disk.new)) }
-    ensures images { (f : List ℕ) → D.content disk.old ≡ Some f → (bodies : List (List ℕ)) → gate ≡ length (front bodies) → HasBodies f bodies → AtAnyMoment D.moment D.left_since (HasOrOneMore bodies body.now) disk.old disk.new }
+    requires settled { Settled D.model disk.old }
+    ensures put { OnOk result (PutsBehind D.model gate body.now disk.old disk.new) }
+    ensures longer { OnOk result (ContentGoes D.model (λ f g. gate + need_of body.now < length g) disk.old disk.new) }
+    ensures settled { OnOk result (Settled D.model disk.new) }
+    ensures told { StaysTold D.model disk.old disk.new }
+    ensures images { CrashLeavesBehind D.model gate body.now disk.old disk.new }
     ensures memory { IsErrOf result PutFault.Memory → disk.new ≡ disk.old }
-    ensures cause { HasPutCause (D.faults disk.old) (D.faults disk.new) result }
+    ensures cause { HasPutCause (D.model.faults disk.old) (D.model.faults disk.new) result }
 {
     put_closed(alloc, disk, gate, body)?;
     lift_gate(disk, gate)?;
@@ -78,7 +89,7 @@ impl<D: Disk + Drop> Journal<D> {
     /// `JOURNAL_LIMIT`, `Disk` only where the disk failed. After all but `Disk` the journal is as it was.
     pub fn append(&mut self, body: &[u8]) -> Result<(), AppendFault>
         requires { length body.now ≤ longest_body }
-        ensures { Appends D.content D.faults D.may_leave D.moment D.left_since body.now self.old self.new result }
+        ensures { Appends D.model body.now self.old self.new result }
     {
         if self.ended {
             return Err(AppendFault::Ended);

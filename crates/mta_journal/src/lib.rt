@@ -3,11 +3,13 @@
 #![tactic(auto)]
 
 mod journal;
+mod law;
 mod open;
 mod read;
 mod why;
 
 pub use journal::{AppendFault, JOURNAL_LIMIT, Journal, LONGEST_BODY};
+pub use law::{not_both, one_list, one_place};
 pub use open::{OpenFault, Opened};
 pub use why::OpenWhy;
 

@@ -1,11 +1,20 @@
-//! Opening a journal.
+//! Opening a journal, whatever a crash has left of it.
+//!
+//! In comes a disk, from the spool. It is synced first, so that nothing is pending. A disk of at most
+//! nine octets is made an empty journal; of a longer one the first octets are looked at and the records
+//! read up to the first closed gate (`read.rt`). Out go the journal and its bodies, or the disk and
+//! why: no journal from some place on, the disk failed, memory.
+//!
+//! A crash before that sync has succeeded leaves what one before the call might have left, and from it
+//! on the same bodies. A disk of more than nine octets is not written to.
 
-ghost use Rattle.std.specs.Prelude.{◌≡◌, ◌≤◌, ◌<◌, List, ℕ, Some, length, IfOk, IfErr, OnOk, IsErrOf};
-ghost use Rattle.mta_edge.specs.Crashes.{AtAnyMoment, Crash, Settled, Stays};
-ghost use Rattle.mta_edge.specs.Outside.{Goes};
+ghost use Rattle.std.specs.Prelude.{◌≡◌, ◌≤◌, ◌<◌, length, IfOk, IfErr, OnOk};
+ghost use Rattle.mta_edge.specs.Crashes.{Crash, CrashLeaves, Settled, Stays};
+ghost use Rattle.mta_edge.specs.Outside.{ContentGoes};
+ghost use Rattle.mta_edge.specs.Views.{StaysTold, WhereTold};
 ghost use Rattle.mta_journal.specs.Bodies.{AreShort, StandsFor};
 ghost use Rattle.mta_journal.specs.Faults.{IsNoJournalAt};
-ghost use Rattle.mta_journal.specs.Opening.{BeforeOrSame, HasOpenCause, HasRefused, IsLeft, IsRefused, IsSame, SameSince, Stored};
+ghost use Rattle.mta_journal.specs.Opening.{BeforeOrSame, HasOpenCause, HasRefused, IsLeft, IsRefused, IsSame, LongStays, OnNotSpool, SameSince, Stored};
 
 use crate::journal::Journal;
 use crate::read::{Found, check_magic, read_bodies};
@@ -37,15 +46,15 @@ pub struct OpenFault<D: Disk + Drop> {
 
 // Makes a disk of at most nine octets an empty journal.
 fn make_empty<D: Disk>(alloc: Global, disk: &mut D) -> Result<Found, OpenWhy>
-    requires short { (f : List ℕ) → D.content disk.old ≡ Some f → length f ≤ 9 }
-    requires settled { Settled (D.content disk.old) (D.may_leave disk.old) }
-    ensures stands { IfOk result (λ r. (f : List ℕ) → D.content disk.old ≡ Some f → StandsFor f r.bodies.items) }
-    ensures stored { IfOk result (λ r. Stored D.content disk.new r.size r.bodies.items) }
-    ensures told { OnOk result ((f : List ℕ) → D.content disk.old ≡ Some f → (g : List ℕ) × (D.content disk.new ≡ Some g)) }
-    ensures settled { OnOk result (Settled (D.content disk.new) (D.may_leave disk.new)) }
-    ensures refused { (p : ℕ) → IsErrOf result (OpenWhy.NotSpool p) → Goes (IsRefused p) (D.content disk.old) (D.content disk.new) }
-    ensures cause { HasOpenCause (D.faults disk.old) (D.faults disk.new) result }
-    ensures images { (f : List ℕ) → D.content disk.old ≡ Some f → AtAnyMoment D.moment D.left_since (IsSame f) disk.old disk.new }
+    requires short { WhereTold D.model disk.old (λ f. length f ≤ 9) }
+    requires settled { Settled D.model disk.old }
+    ensures stands { IfOk result (λ r. WhereTold D.model disk.old (λ f. StandsFor f r.bodies.items)) }
+    ensures stored { IfOk result (λ r. Stored D.model disk.new r.size r.bodies.items) }
+    ensures told { StaysTold D.model disk.old disk.new }
+    ensures settled { OnOk result (Settled D.model disk.new) }
+    ensures refused { OnNotSpool result (λ p. ContentGoes D.model (IsRefused p) disk.old disk.new) }
+    ensures cause { HasOpenCause (D.model.faults disk.old) (D.model.faults disk.new) result }
+    ensures images { CrashLeaves D.model IsSame disk.old disk.new }
 {
     write_synced(disk, 0, &EMPTY)?;
     Ok(Found {
@@ -57,13 +66,13 @@ fn make_empty<D: Disk>(alloc: Global, disk: &mut D) -> Result<Found, OpenWhy>
 // Reads a disk of more than nine octets.
 fn read_whole<D: Disk>(alloc: Global, disk: &mut D, size: u64) -> Result<Found, OpenWhy>
     requires long { 9 < size }
-    requires size { (f : List ℕ) → D.content disk.old ≡ Some f → size ≡ length f }
-    ensures stands { IfOk result (λ r. (f : List ℕ) → D.content disk.old ≡ Some f → StandsFor f r.bodies.items) }
-    ensures stored { IfOk result (λ r. Stored D.content disk.new r.size r.bodies.items) }
-    ensures content { D.content disk.new ≡ D.content disk.old }
-    ensures refused { (p : ℕ) → IsErrOf result (OpenWhy.NotSpool p) → (f : List ℕ) → D.content disk.old ≡ Some f → IsNoJournalAt f p }
-    ensures cause { HasOpenCause (D.faults disk.old) (D.faults disk.new) result }
-    ensures crash { Crash D.may_leave D.moment D.left_since Stays disk.old disk.new }
+    requires size { WhereTold D.model disk.old (λ f. size ≡ length f) }
+    ensures stands { IfOk result (λ r. WhereTold D.model disk.old (λ f. StandsFor f r.bodies.items)) }
+    ensures stored { IfOk result (λ r. Stored D.model disk.new r.size r.bodies.items) }
+    ensures content { D.model.content disk.new ≡ D.model.content disk.old }
+    ensures refused { OnNotSpool result (λ p. WhereTold D.model disk.old (λ f. IsNoJournalAt f p)) }
+    ensures cause { HasOpenCause (D.model.faults disk.old) (D.model.faults disk.new) result }
+    ensures crash { Crash D.model Stays disk.old disk.new }
 {
     check_magic(alloc, disk)?;
     let found = read_bodies(alloc, disk, size)?;
@@ -72,15 +81,15 @@ fn read_whole<D: Disk>(alloc: Global, disk: &mut D, size: u64) -> Result<Found, 
 
 // Finds the bodies on a disk with nothing pending.
 fn find<D: Disk>(alloc: Global, disk: &mut D) -> Result<Found, OpenWhy>
-    requires settled { Settled (D.content disk.old) (D.may_leave disk.old) }
-    ensures stands { IfOk result (λ r. (f : List ℕ) → D.content disk.old ≡ Some f → StandsFor f r.bodies.items) }
-    ensures stored { IfOk result (λ r. Stored D.content disk.new r.size r.bodies.items) }
-    ensures told { OnOk result ((f : List ℕ) → D.content disk.old ≡ Some f → (g : List ℕ) × (D.content disk.new ≡ Some g)) }
-    ensures settled { OnOk result (Settled (D.content disk.new) (D.may_leave disk.new)) }
-    ensures refused { (p : ℕ) → IsErrOf result (OpenWhy.NotSpool p) → Goes (IsRefused p) (D.content disk.old) (D.content disk.new) }
-    ensures kept { (f : List ℕ) → D.content disk.old ≡ Some f → 9 < length f → D.content disk.new ≡ Some f }
-    ensures cause { HasOpenCause (D.faults disk.old) (D.faults disk.new) result }
-    ensures images { (f : List ℕ) → D.content disk.old ≡ Some f → AtAnyMoment D.moment D.left_since (IsSame f) disk.old disk.new }
+    requires settled { Settled D.model disk.old }
+    ensures stands { IfOk result (λ r. WhereTold D.model disk.old (λ f. StandsFor f r.bodies.items)) }
+    ensures stored { IfOk result (λ r. Stored D.model disk.new r.size r.bodies.items) }
+    ensures told { StaysTold D.model disk.old disk.new }
+    ensures settled { OnOk result (Settled D.model disk.new) }
+    ensures refused { OnNotSpool result (λ p. ContentGoes D.model (IsRefused p) disk.old disk.new) }
+    ensures kept { LongStays D.model disk.old disk.new }
+    ensures cause { HasOpenCause (D.model.faults disk.old) (D.model.faults disk.new) result }
+    ensures images { CrashLeaves D.model IsSame disk.old disk.new }
 {
     let size = disk.size()?;
     if size <= FIRST_GATE + 1 {
@@ -93,16 +102,16 @@ fn find<D: Disk>(alloc: Global, disk: &mut D) -> Result<Found, OpenWhy>
 
 // Finds the bodies on a disk that a crash may have left.
 fn recover<D: Disk>(alloc: Global, disk: &mut D) -> Result<Found, OpenWhy>
-    ensures stands { IfOk result (λ r. (f : List ℕ) → D.content disk.old ≡ Some f → StandsFor f r.bodies.items) }
-    ensures stored { IfOk result (λ r. Stored D.content disk.new r.size r.bodies.items) }
-    ensures told { OnOk result ((f : List ℕ) → D.content disk.old ≡ Some f → (g : List ℕ) × (D.content disk.new ≡ Some g)) }
-    ensures settled { OnOk result (Settled (D.content disk.new) (D.may_leave disk.new)) }
-    ensures refused { (p : ℕ) → IsErrOf result (OpenWhy.NotSpool p) → Goes (IsRefused p) (D.content disk.old) (D.content disk.new) }
-    ensures kept { (f : List ℕ) → D.content disk.old ≡ Some f → 9 < length f → D.content disk.new ≡ Some f }
-    ensures cause { HasOpenCause (D.faults disk.old) (D.faults disk.new) result }
-    ensures images { (f : List ℕ) → D.content disk.old ≡ Some f → AtAnyMoment D.moment D.left_since (BeforeOrSame (D.may_leave disk.old) f) disk.old disk.new }
-    ensures since { OnOk result ((f : List ℕ) → D.content disk.old ≡ Some f → SameSince D.moment D.left_since f disk.old disk.new) }
-    ensures left { (f : List ℕ) → D.content disk.old ≡ Some f → IsLeft D.content D.may_leave D.moment D.left_since f disk.old disk.new }
+    ensures stands { IfOk result (λ r. WhereTold D.model disk.old (λ f. StandsFor f r.bodies.items)) }
+    ensures stored { IfOk result (λ r. Stored D.model disk.new r.size r.bodies.items) }
+    ensures told { StaysTold D.model disk.old disk.new }
+    ensures settled { OnOk result (Settled D.model disk.new) }
+    ensures refused { OnNotSpool result (λ p. ContentGoes D.model (IsRefused p) disk.old disk.new) }
+    ensures kept { LongStays D.model disk.old disk.new }
+    ensures cause { HasOpenCause (D.model.faults disk.old) (D.model.faults disk.new) result }
+    ensures images { CrashLeaves D.model (BeforeOrSame D.model disk.old) disk.old disk.new }
+    ensures since { OnOk result (WhereTold D.model disk.old (λ f. SameSince D.model f disk.old disk.new)) }
+    ensures left { WhereTold D.model disk.old (λ f. IsLeft D.model f disk.old disk.new) }
 {
     disk.sync()?;
     let found = find(alloc, disk)?;
@@ -112,26 +121,27 @@ fn recover<D: Disk>(alloc: Global, disk: &mut D) -> Result<Found, OpenWhy>
 impl<D: Disk + Drop> Journal<D> {
     ghost use Rattle.mta_journal.specs.Shown.{Holds};
 
-    /// Opens the journal on this disk, whatever a crash has left of it. It begins with a sync. A disk of at most nine octets,
-    /// whatever they are, is an empty journal and made one.
+    /// Opens the journal on this disk, whatever a crash has left of it. It begins with a sync. A disk of at most nine
+    /// octets, whatever they are, is an empty journal and made one.
     ///
     /// # Errors
     /// `NotSpool` exactly where a longer disk is no journal, at the place where that shows; `Disk` only where the disk
     /// failed; `Memory`.
     pub fn open(alloc: Global, mut disk: D) -> Result<Opened<D>, OpenFault<D>>
-        ensures stands { IfOk result (λ o. (f : List ℕ) → D.content disk ≡ Some f → StandsFor f o.bodies.items) }
-        ensures holds { IfOk result (λ o. Holds D.content D.may_leave o.journal o.bodies.items) }
-        ensures told { IfOk result (λ o. (f : List ℕ) → D.content disk ≡ Some f → (g : List ℕ) × (D.content o.journal.disk ≡ Some g)) }
+        ensures stands { IfOk result (λ o. WhereTold D.model disk (λ f. StandsFor f o.bodies.items)) }
+        ensures holds { IfOk result (λ o. Holds D.model o.journal o.bodies.items) }
+        ensures told { IfOk result (λ o. StaysTold D.model disk o.journal.disk) }
         ensures short { IfOk result (λ o. AreShort o.bodies.items) }
         ensures first { IfOk result (λ o. o.first ≡ 8) }
-        ensures later { IfOk result (λ o. D.faults disk ≤ D.faults o.journal.disk) }
-        ensures kept { IfOk result (λ o. (f : List ℕ) → D.content disk ≡ Some f → 9 < length f → D.content o.journal.disk ≡ Some f) }
-        ensures images { IfOk result (λ o. (f : List ℕ) → D.content disk ≡ Some f → AtAnyMoment D.moment D.left_since (BeforeOrSame (D.may_leave disk) f) disk o.journal.disk) }
-        ensures since { IfOk result (λ o. (f : List ℕ) → D.content disk ≡ Some f → SameSince D.moment D.left_since f disk o.journal.disk) }
-        ensures refused { IfErr result (λ e. HasRefused D.content D.faults disk e.disk e.why) }
-        ensures refused_kept { IfErr result (λ e. (f : List ℕ) → D.content disk ≡ Some f → 9 < length f → D.content e.disk ≡ Some f) }
-        ensures refused_left { IfErr result (λ e. (f : List ℕ) → D.content disk ≡ Some f → IsLeft D.content D.may_leave D.moment D.left_since f disk e.disk) }
-        ensures refused_images { IfErr result (λ e. (f : List ℕ) → D.content disk ≡ Some f → AtAnyMoment D.moment D.left_since (BeforeOrSame (D.may_leave disk) f) disk e.disk) }
+        ensures later { IfOk result (λ o. D.model.faults disk ≤ D.model.faults o.journal.disk) }
+        ensures kept { IfOk result (λ o. LongStays D.model disk o.journal.disk) }
+        ensures images { IfOk result (λ o. CrashLeaves D.model (BeforeOrSame D.model disk) disk o.journal.disk) }
+        ensures since { IfOk result (λ o. WhereTold D.model disk (λ f. SameSince D.model f disk o.journal.disk)) }
+        ensures refused { IfErr result (λ e. HasRefused D.model disk e.disk e.why) }
+        ensures refused_told { IfErr result (λ e. StaysTold D.model disk e.disk) }
+        ensures refused_kept { IfErr result (λ e. LongStays D.model disk e.disk) }
+        ensures refused_left { IfErr result (λ e. WhereTold D.model disk (λ f. IsLeft D.model f disk e.disk)) }
+        ensures refused_images { IfErr result (λ e. CrashLeaves D.model (BeforeOrSame D.model disk) disk e.disk) }
     {
         match recover(alloc, &mut disk) {
             Ok(Found { size, bodies }) => Ok(Opened {

@@ -1,11 +1,16 @@
 //! Reading the records of a journal.
+//!
+//! In come a disk and its size; out go the bodies up to the first closed gate, or the place of the
+//! first open gate whose record passes the end or is too long. Each record is read by its head (gate
+//! and length) and then its body, so no announced length is believed. The disk is only read.
 
-ghost use Rattle.std.specs.Prelude.{◌≡◌, ◌++◌, [], ◌∷◌, ◌+◌, ◌≤◌, ◌<◌, List, ℕ, Some, length, take, drop, min, IfOk, OnOk, IfSome, IfNone, IsErrOf};
+ghost use Rattle.std.specs.Prelude.{◌≡◌, ◌++◌, [], ◌∷◌, ◌+◌, ◌≤◌, ◌<◌, length, take, drop, min, IfOk, OnOk, IfSome, IfNone};
 ghost use Rattle.mta_edge.specs.Crashes.{Crash, Stays};
+ghost use Rattle.mta_edge.specs.Views.{WhereTold};
 ghost use Rattle.mta_journal.specs.Bodies.{magic, front, longest_body, AreShort, HasBodies};
 ghost use Rattle.mta_journal.specs.Faults.{DiffersAt, FaultyAt};
 ghost use Rattle.mta_journal.specs.Heads.{SaysHead};
-ghost use Rattle.mta_journal.specs.Opening.{HasOpenCause, StandsAt, ClosedAt, BrokenAt};
+ghost use Rattle.mta_journal.specs.Opening.{HasOpenCause, OnNotSpool, StandsAt, ClosedAt, BrokenAt};
 
 use crate::journal::LONGEST_BODY;
 use crate::why::OpenWhy;
@@ -41,12 +46,12 @@ fn read<D: Disk>(
     count: u32,
     place: u64,
 ) -> Result<Octets, OpenWhy>
-    ensures octets { IfOk result (λ o. (f : List ℕ) → D.content disk.old ≡ Some f → o ≡ take count (drop at f)) }
+    ensures octets { IfOk result (λ o. WhereTold D.model disk.old (λ f. o ≡ take count (drop at f))) }
     ensures whole { IfOk result (λ o. length o ≡ count) }
-    ensures short { (p : ℕ) → IsErrOf result (OpenWhy.NotSpool p) → (f : List ℕ) → D.content disk.old ≡ Some f → length (drop at f) < count }
-    ensures content { D.content disk.new ≡ D.content disk.old }
-    ensures cause { HasOpenCause (D.faults disk.old) (D.faults disk.new) result }
-    ensures crash { Crash D.may_leave D.moment D.left_since Stays disk.old disk.new }
+    ensures short { OnNotSpool result (λ p. WhereTold D.model disk.old (λ f. length (drop at f) < count)) }
+    ensures content { D.model.content disk.new ≡ D.model.content disk.old }
+    ensures cause { HasOpenCause (D.model.faults disk.old) (D.model.faults disk.new) result }
+    ensures crash { Crash D.model Stays disk.old disk.new }
 {
     match read_at(alloc, disk, at, count) {
         Ok(octets) => Ok(octets),
@@ -73,12 +78,12 @@ fn first_other(head: &[u8]) -> Option<usize>
 
 /// Finds the eight octets with which each journal begins.
 pub fn check_magic<D: Disk>(alloc: Global, disk: &mut D) -> Result<(), OpenWhy>
-    requires long { (f : List ℕ) → D.content disk.old ≡ Some f → 9 < length f }
-    ensures magic { OnOk result ((f : List ℕ) → D.content disk.old ≡ Some f → take 8 f ≡ magic) }
-    ensures differs { (p : ℕ) → IsErrOf result (OpenWhy.NotSpool p) → (f : List ℕ) → D.content disk.old ≡ Some f → DiffersAt f p }
-    ensures content { D.content disk.new ≡ D.content disk.old }
-    ensures cause { HasOpenCause (D.faults disk.old) (D.faults disk.new) result }
-    ensures crash { Crash D.may_leave D.moment D.left_since Stays disk.old disk.new }
+    requires long { WhereTold D.model disk.old (λ f. 9 < length f) }
+    ensures magic { OnOk result (WhereTold D.model disk.old (λ f. take 8 f ≡ magic)) }
+    ensures differs { OnNotSpool result (λ p. WhereTold D.model disk.old (λ f. DiffersAt f p)) }
+    ensures content { D.model.content disk.new ≡ D.model.content disk.old }
+    ensures cause { HasOpenCause (D.model.faults disk.old) (D.model.faults disk.new) result }
+    ensures crash { Crash D.model Stays disk.old disk.new }
 {
     let head = read(alloc, disk, 0, 8, 0)?;
     match first_other(head.as_slice()) {
@@ -114,14 +119,14 @@ fn read_body<D: Disk>(
     size: u64,
 ) -> Result<Option<Octets>, OpenWhy>
     requires inside { gate < size }
-    requires size { (f : List ℕ) → D.content disk.old ≡ Some f → size ≡ length f }
-    ensures body { IfOk result (λ o. IfSome o (λ b. (f : List ℕ) → D.content disk.old ≡ Some f → StandsAt gate b f)) }
+    requires size { WhereTold D.model disk.old (λ f. size ≡ length f) }
+    ensures body { IfOk result (λ o. IfSome o (λ b. WhereTold D.model disk.old (StandsAt gate b))) }
     ensures fits { IfOk result (λ o. IfSome o (λ b. (length b ≤ longest_body) × (gate + length b + 5 < size))) }
-    ensures closed { IfOk result (λ o. IfNone o ((f : List ℕ) → D.content disk.old ≡ Some f → ClosedAt gate f)) }
-    ensures broken { (p : ℕ) → IsErrOf result (OpenWhy.NotSpool p) → (f : List ℕ) → D.content disk.old ≡ Some f → (p ≡ gate) × BrokenAt gate f }
-    ensures content { D.content disk.new ≡ D.content disk.old }
-    ensures cause { HasOpenCause (D.faults disk.old) (D.faults disk.new) result }
-    ensures crash { Crash D.may_leave D.moment D.left_since Stays disk.old disk.new }
+    ensures closed { IfOk result (λ o. IfNone o (WhereTold D.model disk.old (ClosedAt gate))) }
+    ensures broken { OnNotSpool result (λ p. WhereTold D.model disk.old (λ f. (p ≡ gate) × BrokenAt gate f)) }
+    ensures content { D.model.content disk.new ≡ D.model.content disk.old }
+    ensures cause { HasOpenCause (D.model.faults disk.old) (D.model.faults disk.new) result }
+    ensures crash { Crash D.model Stays disk.old disk.new }
 {
     let left = size - gate;
     let head = read(alloc, disk, gate, left.min(5) as u32, gate)?;
@@ -138,15 +143,15 @@ fn read_body<D: Disk>(
 /// Reads the records of a disk of this size, which begins as a journal does, up to the first closed gate.
 pub fn read_bodies<D: Disk>(alloc: Global, disk: &mut D, size: u64) -> Result<Found, OpenWhy>
     requires long { 9 < size }
-    requires size { (f : List ℕ) → D.content disk.old ≡ Some f → size ≡ length f }
-    requires magic { (f : List ℕ) → D.content disk.old ≡ Some f → take 8 f ≡ magic }
-    ensures found { IfOk result (λ r. (f : List ℕ) → D.content disk.old ≡ Some f → HasBodies f r.bodies.items) }
+    requires size { WhereTold D.model disk.old (λ f. size ≡ length f) }
+    requires magic { WhereTold D.model disk.old (λ f. take 8 f ≡ magic) }
+    ensures found { IfOk result (λ r. WhereTold D.model disk.old (λ f. HasBodies f r.bodies.items)) }
     ensures size { IfOk result (λ r. r.size ≡ length (front r.bodies.items) + 1) }
     ensures short { IfOk result (λ r. AreShort r.bodies.items) }
-    ensures broken { (p : ℕ) → IsErrOf result (OpenWhy.NotSpool p) → (f : List ℕ) → D.content disk.old ≡ Some f → FaultyAt f p }
-    ensures content { D.content disk.new ≡ D.content disk.old }
-    ensures cause { HasOpenCause (D.faults disk.old) (D.faults disk.new) result }
-    ensures crash { Crash D.may_leave D.moment D.left_since Stays disk.old disk.new }
+    ensures broken { OnNotSpool result (λ p. WhereTold D.model disk.old (λ f. FaultyAt f p)) }
+    ensures content { D.model.content disk.new ≡ D.model.content disk.old }
+    ensures cause { HasOpenCause (D.model.faults disk.old) (D.model.faults disk.new) result }
+    ensures crash { Crash D.model Stays disk.old disk.new }
 {
     let mut bodies = Vec::new(alloc);
     let mut gate: u64 = 8;

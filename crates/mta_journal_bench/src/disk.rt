@@ -1,6 +1,6 @@
 //! A disk in a file, which tells nothing of what it holds.
 
-ghost use Rattle.std.specs.Prelude.{None, ◌≤◌};
+ghost use Rattle.std.specs.Prelude.{◌≤◌};
 ghost use Rattle.mta_edge.specs.Causes.{Rose};
 
 use mta_edge::{Disk, Failed};
@@ -28,24 +28,11 @@ impl FileDisk {
 }
 
 impl Disk for FileDisk {
-    ghost use Rattle.std.specs.Prelude.{None, Some, ◌≢◌, ◌≡◌, List, ℕ, Option};
-    ghost use Rattle.std.proofs.lemmas.Option.{none-some};
+    ghost use Rattle.mta_edge.specs.Views.{untold_disk, untold_disk_laws};
 
-    ghost content = { λ _. None };
+    ghost model = { untold_disk (λ d. d.faults) };
 
-    ghost faults = { λ d. d.faults };
-
-    ghost may_leave = { λ _ _. ⊥ };
-
-    ghost moment = { λ _. 0 };
-
-    ghost left_since = { λ _ _ _. ⊥ };
-
-    ghost reads_image = { λ _ f told. absurd (none-some f told) };
-
-    ghost counts_now = { λ _ _ _ _ none. none };
-
-    ghost only_now = { λ _ _ none. none };
+    ghost laws = { untold_disk_laws (λ d. d.faults) };
 
     fn size(&mut self) -> Result<u64, Failed> {
         match self.file.metadata() {

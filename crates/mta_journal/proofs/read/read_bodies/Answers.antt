@@ -15,7 +15,7 @@ records-init g c = record {
   read = λ f told. c.requires.magic f told ∙ sym (front-none c.new-bodies.result.items c.new-bodies.ensures.items);
   content = refl;
   later = omega arith;
-  crash = Stays-none g.D.Disk.may_leave g.D.Disk.moment g.D.Disk.left_since _;
+  crash = Stays-none g.D.Disk.model _;
 }
 
 pub returns-in_err-read_body-clause-broken : goal.returns-in_err-read_body-clause-broken
@@ -44,5 +44,5 @@ records-preserved g c =
           (goes_past c.records.bodies.items c.records.gate f c.records.invariant.place c.records.invariant.each (c.records.invariant.read f told) c.in-Some.body c.keep.new.bodies.items next (body f (c.records.invariant.content ∙ told)));
       content = c.read_body.ensures.content ∙ c.records.invariant.content;
       later = omega (arith, c.records.invariant.later, c.read_body.ensures.cause.later);
-      crash = Stays-then g.D.Disk.may_leave g.D.Disk.moment g.D.Disk.left_since g.met.D.Disk.counts_now _ _ _ c.records.invariant.crash c.read_body.ensures.crash;
+      crash = Stays-then g.D.Disk.model g.met.D.Disk.laws _ _ _ c.records.invariant.crash c.read_body.ensures.crash;
     }

@@ -40,4 +40,4 @@ returns-clause-body g c = λ f told.
     c.in-Open.length c.in_ok-body-in-Open.body c.in-Open.ensures (c.in_ok-body-in-Open.ensures.octets f (c.read.ensures.content ∙ told))
 
 pub returns-clause-crash : goal.returns-clause-crash
-returns-clause-crash g c = Stays-then g.D.Disk.may_leave g.D.Disk.moment g.D.Disk.left_since g.met.D.Disk.counts_now _ _ _ c.read.ensures.crash c.read-in-Open.ensures.crash
+returns-clause-crash g c = Stays-then g.D.Disk.model g.met.D.Disk.laws _ _ _ c.read.ensures.crash c.read-in-Open.ensures.crash
