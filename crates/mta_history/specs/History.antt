@@ -1,45 +1,74 @@
--- Histories of the spool: which step is possible, what it leaves, and the machine's steps in it.
-use Rattle.std.specs.Prelude.{◌≡◌, ◌≢◌, ◌⊎◌, ℕ, ◌+◌, ◌<◌, ◌^◌, List, [], ◌∷◌, length, Some, Ok}
-use Rattle.std.specs.List.{flat_map}
+-- Histories of the spool: which step is possible in a state, what it is for the machine of recipients, and what it leaves.
+use Rattle.std.specs.Prelude.{◌≡◌, ◌≢◌, ◌⊎◌, ℕ, ◌+◌, ◌<◌, ◌≤◌, ◌^◌, List, [], ◌∷◌, ◌++◌, length, Option, Some, None, Ok}
 use Rattle.mta_records.specs.declared.step.Step.{Step}
 use Rattle.mta_records.specs.declared.step.Step.TheVariants.{Tables, Accept, Deliver}
 use Rattle.mta_tables.specs.Tables.{TablesValue, tables_of}
 use Rattle.mta_history.specs.declared.item.Origin.TheVariants.{Submitted}
 use Rattle.mta_history.specs.declared.item.Status.{Status}
 use Rattle.mta_history.specs.declared.item.Status.TheVariants.{Pending}
-use Rattle.mta_history.specs.Machine.{Machine, MachineStep, set_tables, accept, deliver, Needs, machine_after, at_start, IsRun, status_at, discharges}
+use Rattle.mta_history.specs.Machine.{Machine, MachineStep, set_tables, accept, deliver, machine_run, at_start, IsRun, status_at, discharges}
 
--- the machine, and what is kept beside it, so far nothing
+-- the machine of recipients, and the last moment of a step
 pub record State : Type 0 where
   pub machine : Machine
+  pub moment : ℕ
 
 abbrev pub empty : State
-empty = record { machine = at_start }
+empty = record { machine = at_start; moment = 0 }
 
--- the machine's steps in a step of the spool
-abbrev pub machine_steps : Step → List MachineStep
-machine_steps (Tables text) = set_tables text ∷ []
-machine_steps (Accept moment apdu) = accept apdu Submitted moment ∷ []
-machine_steps (Deliver item recipient moment) = deliver item recipient moment ∷ []
+-- ---- what a step is, a line a kind
 
-abbrev pub project : List Step → List MachineStep
-project steps = flat_map machine_steps steps
+-- the moment that a step carries
+abbrev pub moment_of : Step → Option ℕ
+moment_of (Tables text) = None
+moment_of (Accept moment apdu) = Some moment
+moment_of (Deliver item recipient moment) = Some moment
+
+-- what a step is for the machine, in the state before it
+abbrev pub machine_steps : State → Step → List MachineStep
+machine_steps s (Tables text) = set_tables text ∷ []
+machine_steps s (Accept moment apdu) = accept apdu Submitted moment ∷ []
+machine_steps s (Deliver item recipient moment) = deliver item recipient moment ∷ []
 
 -- the grammar of tables reads the text
 abbrev pub IsTablesText : List ℕ → Type 0
 IsTablesText text = (t : TablesValue) × (tables_of text ≡ Ok t)
 
--- What a step needs: tables that the grammar reads, an item number below 2 ^ 32, and what the machine needs.
-abbrev pub IsPossible : State → Step → Type 0
-IsPossible s (Tables text) = IsTablesText text
-IsPossible s (Accept moment apdu) = Needs s.machine (accept apdu Submitted moment) × (length s.machine.items + 1 < 2 ^ 32)
-IsPossible s (Deliver item recipient moment) = Needs s.machine (deliver item recipient moment)
+-- what a step needs beside what the machine needs
+abbrev pub StepNeeds : State → Step → Type 0
+StepNeeds s (Tables text) = IsTablesText text
+StepNeeds s (Accept moment apdu) = Unit {0}
+StepNeeds s (Deliver item recipient moment) = Unit {0}
 
--- what it leaves
+-- How many numbers of items have to be left for a step that is made here: two for one that may make as many items. Replay asks
+-- for none beyond those of the items that it makes.
+abbrev pub numbers_needed : Step → ℕ
+numbers_needed (Tables text) = 0
+numbers_needed (Accept moment apdu) = 2
+numbers_needed (Deliver item recipient moment) = 2
+
+-- ---- steps and histories
+
+-- the moment that a step carries, or else the last one
+abbrev pub later : ℕ → Option ℕ → ℕ
+later last None = last
+later last (Some moment) = moment
+
+-- when a step is made
+abbrev pub when : State → Step → ℕ
+when s step = later s.moment (moment_of step)
+
+-- what a step leaves
 abbrev pub after_step : State → Step → State
-after_step s (Tables text) = record s { machine = machine_after s.machine (set_tables text) }
-after_step s (Accept moment apdu) = record s { machine = machine_after s.machine (accept apdu Submitted moment) }
-after_step s (Deliver item recipient moment) = record s { machine = machine_after s.machine (deliver item recipient moment) }
+after_step s step = record { machine = machine_run s.machine (machine_steps s step); moment = when s step }
+
+-- A step is possible where its own needs and those of the machine are met, its moment is not below the last one, and each item has a
+-- number below 2 ^ 32.
+pub record IsPossible (s : State) (step : Step) : Type 0 where
+  pub allowed : StepNeeds s step
+  pub as_machine : IsRun s.machine (machine_steps s step)
+  pub timely : s.moment ≤ when s step
+  pub numbers : length (after_step s step).machine.items < 2 ^ 32
 
 abbrev pub after_from : State → List Step → State
 after_from s [] = s
@@ -56,6 +85,14 @@ after steps = after_from empty steps
 -- each step is possible in the state before it
 abbrev pub IsHistory : List Step → Type 0
 IsHistory steps = ArePossible empty steps
+
+-- what the steps are for the machine, each in the state before it
+abbrev pub project_from : State → List Step → List MachineStep
+project_from s [] = []
+project_from s (step ∷ steps) = machine_steps s step ++ project_from (after_step s step) steps
+
+abbrev pub project : List Step → List MachineStep
+project steps = project_from empty steps
 
 -- The machine's steps are a run, and each recipient for whom this agent is responsible is pending and was not discharged,
 -- or is not pending and was discharged once.

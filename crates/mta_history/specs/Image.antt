@@ -48,3 +48,7 @@ NoSpoolAt image at = IsNoJournalAt image at ⊎ ((bodies : List (List ℕ)) × H
 -- such an image stands for no history
 abbrev pub NoSpoolHasNoHistory : Type 0
 NoSpoolHasNoHistory = (image : List ℕ) (at : ℕ) (steps : List Step) → NoSpoolAt image at → StandsFor image steps → ⊥
+
+-- an image is no spool at one place only
+abbrev pub OnePlace : Type 0
+OnePlace = (image : List ℕ) (at other : ℕ) → NoSpoolAt image at → NoSpoolAt image other → at ≡ other

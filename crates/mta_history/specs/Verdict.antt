@@ -21,10 +21,24 @@ is_expired arrival moment = nat_le (arrival + hold_time) moment
 abbrev pub attributes_of : NameValue → Attributes
 attributes_of n = record { country = Some n.country; admd = Some n.admd; surname = Some n.surname }
 
--- an unrecognised name is reported as unable-to-transfer, and an expired message as a failed transfer
+-- non-delivery reasons and diagnostics (X.411, NonDeliveryReasonCode and NonDeliveryDiagnosticCode)
+abbrev pub transfer_failure : ℕ
+transfer_failure = 0
+
+abbrev pub unable_to_transfer : ℕ
+unable_to_transfer = 1
+
+abbrev pub unrecognised_name : ℕ
+unrecognised_name = 0
+
+abbrev pub maximum_time_expired : ℕ
+maximum_time_expired = 5
+
+-- a name that no mailbox has cannot be transferred to, and a message that has waited too long failed to be
 abbrev pub verdict_at : Hop → Bool → Verdict
-verdict_at Hops.None expired = Verdicts.NonDeliver 1 0
-verdict_at (Hops.Local place) expired = if expired then Verdicts.NonDeliver 0 5 else Verdicts.Deliver place
+verdict_at Hops.None expired = Verdicts.NonDeliver unable_to_transfer unrecognised_name
+verdict_at (Hops.Local place) expired =
+    if expired then Verdicts.NonDeliver transfer_failure maximum_time_expired else Verdicts.Deliver place
 
 -- the verdict on the recipient of a message that arrived at one moment and is looked at at another
 unfoldable pub verdict_of_message : TablesValue → ℕ → ℕ → MessageValue → Verdict

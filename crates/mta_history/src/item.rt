@@ -1,8 +1,9 @@
-//! Items and the statuses of their recipients.
+//! Items and the statuses of their recipients, and what a mailbox got.
 
-ghost use Rattle.std.specs.Prelude.{◌≡◌, [], ◌∷◌, IfOk, Some, None, map, slice_set};
+ghost use Rattle.std.specs.Prelude.{◌≡◌, [], ◌∷◌, IfOk, Some, None, map};
 ghost use Rattle.mta_apdu.specs.Apdus.{apdu_value};
 ghost use Rattle.mta_history.specs.Apdu.{status_of, statuses_of};
+ghost use Rattle.mta_history.specs.Items.{with_status};
 
 use mta_apdu::Apdu;
 use mta_ber::{Memory, Octets, Word};
@@ -91,15 +92,6 @@ impl Statuses {
         Ok(Statuses { inner })
     }
 
-    /// The first recipient was delivered at this moment.
-    pub fn deliver_first(&mut self, moment: u64)
-        ensures { self.new ≡ slice_set self.old 0 (Some (Status.Delivered moment)) }
-    {
-        if let Some(status) = self.inner.first_mut() {
-            *status = Some(Status::Delivered(moment));
-        }
-    }
-
     /// The statuses, lent.
     pub fn as_slice(&self) -> &[Option<Status>]
         ensures { result.now ≡ self.now }
@@ -111,11 +103,72 @@ impl Statuses {
 /// An APDU that was accepted.
 #[derive(Debug, Drop)]
 pub struct Item {
-    pub octets: Octets,
+    octets: Octets,
+    arrival: u64,
+    origin: Origin,
+    statuses: Statuses,
+}
+
+impl Model for Item {
+    ghost use Rattle.mta_history.specs.Items.{ItemValue};
+
+    ghost Value = { ItemValue };
+
+    ghost view = { λ i. record { octets = i.octets; arrival = i.arrival; origin = i.origin; statuses = i.statuses } };
+}
+
+impl Item {
+    /// An item of these octets. `arrival` is in seconds since 1950-01-01 00:00:00 UTC.
+    pub fn new(octets: Octets, arrival: u64, origin: Origin, statuses: Statuses) -> Item
+        ensures { result ≡ record { octets = octets; arrival = arrival; origin = origin; statuses = statuses } }
+    {
+        Item {
+            octets,
+            arrival,
+            origin,
+            statuses,
+        }
+    }
+
+    /// The octets of its APDU.
+    pub fn octets(&self) -> &[u8]
+        ensures { result.now ≡ self.now.octets }
+    {
+        self.octets.as_slice()
+    }
+
     /// When it was accepted, in seconds since 1950-01-01 00:00:00 UTC.
-    pub arrival: u64,
-    pub origin: Origin,
-    pub statuses: Statuses,
+    pub fn arrival(&self) -> u64
+        ensures { result ≡ self.now.arrival }
+    {
+        self.arrival
+    }
+
+    /// Where it came from.
+    pub fn origin(&self) -> Origin
+        ensures { result ≡ self.now.origin }
+    {
+        self.origin
+    }
+
+    /// The statuses of its recipients, in the order of the APDU.
+    pub fn statuses(&self) -> &[Option<Status>]
+        ensures { result.now ≡ self.now.statuses }
+    {
+        self.statuses.as_slice()
+    }
+
+    /// The recipient of this number, from 1, has this status from now on; nothing changes where there is none of that number.
+    pub fn set_status(&mut self, recipient: u32, status: Status)
+        ensures { self.new ≡ with_status self.old recipient status }
+    {
+        if recipient == 0 {
+            return;
+        }
+        if let Some(place) = self.statuses.inner.get_mut(recipient as usize - 1) {
+            *place = Some(status);
+        }
+    }
 }
 
 /// One delivery: the mailbox, the number of the item, and when, in seconds since 1950-01-01 00:00:00 UTC.

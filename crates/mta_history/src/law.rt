@@ -1,7 +1,7 @@
 //! Laws of the definitions.
 
 ghost use Rattle.mta_history.specs.History.{EachRecipientOnce};
-ghost use Rattle.mta_history.specs.Image.{OneHistory, NoSpoolHasNoHistory};
+ghost use Rattle.mta_history.specs.Image.{OneHistory, NoSpoolHasNoHistory, OnePlace};
 
 /// One image of the disk stands for one history.
 pub fn one_history()
@@ -16,4 +16,9 @@ pub fn each_recipient_once()
 /// An image that is no spool stands for no history.
 pub fn no_spool_has_no_history()
     ensures { NoSpoolHasNoHistory }
+{}
+
+/// An image is no spool at one place only.
+pub fn no_spool_at_one_place()
+    ensures { OnePlace }
 {}

@@ -6,7 +6,7 @@ use Rattle.mta_ber.specs.declared.fault.Fault.{Fault}
 use Rattle.mta_apdu.specs.Apdus.{ApduValue, apdu_of}
 use Rattle.mta_apdu_text.specs.Pieces.{moment_text}
 use Rattle.mta_apdu_text.specs.Apdus.{apdu_text}
-use Rattle.mta_history.specs.declared.item.Item.{Item}
+use Rattle.mta_history.specs.Items.{ItemValue}
 use Rattle.mta_history.specs.declared.item.MailboxLine.{MailboxLine}
 
 abbrev pub is_for : List ℕ → MailboxLine → Bool
@@ -24,13 +24,13 @@ unfoldable pub octets_text : List ℕ → List ℕ
 octets_text octets = text_if (apdu_of octets)
 
 -- nothing where there is no such item
-abbrev pub item_if : Option Item → List ℕ
+abbrev pub item_if : Option ItemValue → List ℕ
 item_if None = []
 item_if (Some item) = octets_text item.octets
 
 -- the line, and the item of its number, from 1
-abbrev pub delivered_text : List Item → MailboxLine → List ℕ
+abbrev pub delivered_text : List ItemValue → MailboxLine → List ℕ
 delivered_text items line = delivered_line line ++ item_if (slice_get items (line.item - 1))
 
-abbrev pub mailbox_text : List ℕ → List Item → List MailboxLine → List ℕ
+abbrev pub mailbox_text : List ℕ → List ItemValue → List MailboxLine → List ℕ
 mailbox_text word items lines = flat_map (delivered_text items) (filter (is_for word) lines)

@@ -7,7 +7,7 @@ use Rattle.mta_fields.specs.declared.identifier.MtsIdFields.{MtsIdFields}
 use Rattle.mta_recipient.specs.declared.recipient.RecipientFields.{RecipientFields}
 use Rattle.mta_apdu.specs.Apdus.{ApduValue, message, probe, report, apdu_of}
 use Rattle.mta_apdu_text.specs.Pieces.{moment_text, id_text}
-use Rattle.mta_history.specs.declared.item.Item.{Item}
+use Rattle.mta_history.specs.Items.{ItemValue}
 use Rattle.mta_history.specs.declared.item.Status.{Status}
 use Rattle.mta_history.specs.declared.item.Status.TheVariants.{Pending, Delivered}
 
@@ -56,17 +56,17 @@ status_lines statuses (probe e) = recipient_lines statuses e.recipients
 status_lines statuses (report r) = status_line_if 1 (status_at statuses 0) r.destination
 
 -- nothing where the octets are no APDU, which those of an item always are
-abbrev pub lines_if : ℕ → Item → Result ApduValue Fault → List ℕ
+abbrev pub lines_if : ℕ → ItemValue → Result ApduValue Fault → List ℕ
 lines_if number item (Err fault) = []
 lines_if number item (Ok v) = item_line number item.arrival v ++ status_lines item.statuses v
 
-unfoldable pub item_text : ℕ → Item → List ℕ
+unfoldable pub item_text : ℕ → ItemValue → List ℕ
 item_text number item = lines_if number item (apdu_of item.octets)
 
 -- the items from this number on
-abbrev pub items_text : ℕ → List Item → List ℕ
+abbrev pub items_text : ℕ → List ItemValue → List ℕ
 items_text number [] = []
 items_text number (item ∷ items) = item_text number item ++ items_text (number + 1) items
 
-abbrev pub queue_text : List Item → List ℕ
+abbrev pub queue_text : List ItemValue → List ℕ
 queue_text items = items_text 1 items

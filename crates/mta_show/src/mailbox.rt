@@ -1,4 +1,8 @@
-//! The text of a mailbox.
+//! The text of a mailbox: what was delivered to it, in the order in which it was.
+//!
+//! In come the items and the lines of the mailboxes; out goes, for each delivery to this mailbox, its
+//! line and the text of the APDU, as `mailbox_text` has it. Only want of memory fails, and nothing is
+//! changed.
 
 ghost use Rattle.std.specs.Prelude.{◌≡◌, ◌++◌, IfOk, OnOk};
 ghost use Rattle.std.specs.Option.{option_copied};
@@ -42,7 +46,7 @@ fn put_item(alloc: Global, out: &mut Octets, item: Option<&Item>) -> Result<(), 
 {
     match item {
         None => Ok(()),
-        Some(item) => put_octets(alloc, out, item.octets.as_slice()),
+        Some(item) => put_octets(alloc, out, item.octets()),
     }
 }
 

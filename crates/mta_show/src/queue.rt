@@ -1,4 +1,8 @@
-//! The text of the queue.
+//! The text of the queue: each item, and what became of each recipient for whom this agent is
+//! responsible.
+//!
+//! In come the items of the state in memory, whose octets are read again; out goes the text, as
+//! `queue_text` has it. Only want of memory fails, and nothing is changed.
 
 ghost use Rattle.std.specs.Prelude.{◌≡◌, ◌++◌, IfOk, OnOk};
 ghost use Rattle.mta_apdu.specs.Apdus.{apdu_value};
@@ -158,15 +162,15 @@ fn put_lines(
 ) -> Result<(), Memory>
     ensures { OnOk result (out.new ≡ out.old ++ (item_line number item.now.arrival (apdu_value apdu.now) ++ status_lines item.now.statuses (apdu_value apdu.now))) }
 {
-    put_item_line(alloc, out, number, item.arrival, apdu)?;
-    put_status_lines(alloc, out, item.statuses.as_slice(), apdu)
+    put_item_line(alloc, out, number, item.arrival(), apdu)?;
+    put_status_lines(alloc, out, item.statuses(), apdu)
 }
 
 #[tactic(auto, unfolding(crate::specs::Queue::item_text))]
 fn put_item(alloc: Global, out: &mut Octets, number: u64, item: &Item) -> Result<(), Memory>
     ensures { OnOk result (out.new ≡ out.old ++ item_text number item.now) }
 {
-    match Apdu::read(alloc, item.octets.as_slice()) {
+    match Apdu::read(alloc, item.octets()) {
         Ok(apdu) => {
             let outcome = put_lines(alloc, out, number, item, &apdu);
             apdu.discard();

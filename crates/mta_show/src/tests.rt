@@ -121,12 +121,9 @@ fn statuses_of(alloc: Global, octets: &[u8]) -> Option<Statuses> {
 }
 
 fn item(alloc: Global, octets: &[u8], arrival: u64) -> Result<Item, Fail> {
-    Ok(Item {
-        octets: Octets::from_slice(alloc, octets)?,
-        arrival,
-        origin: Origin::Submitted,
-        statuses: statuses_of(alloc, octets).ok_or("no APDU")?,
-    })
+    let statuses = statuses_of(alloc, octets).ok_or("no APDU")?;
+    let octets = Octets::from_slice(alloc, octets)?;
+    Ok(Item::new(octets, arrival, Origin::Submitted, statuses))
 }
 
 fn line(alloc: Global, word: &[u8], item: u32, moment: u64) -> Result<MailboxLine, Fail> {

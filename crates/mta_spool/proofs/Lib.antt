@@ -1,7 +1,6 @@
-pub mod Crashes
-pub mod Made
+pub mod Making
 pub mod Next
 pub mod Openings
-pub mod Put
+pub mod Possible
 pub mod Replays
 pub mod Turns

@@ -1,4 +1,4 @@
--- The recipient that is due next.
+-- The step that is due next.
 use Rattle.std.proofs.Common.{◌≡◌, ℕ, zero, suc, ◌+◌, ◌≤◌, ◌<◌, Bool, true, false, cond, ltb, List, [], ◌∷◌, length, get_or, Option, Some, None, add-one, true≢false, refl, sym, ap, subst, ◌∙◌, arith, inl, inr}
 use Rattle.std.specs.Prelude.{◌⊎◌, is_some, slice_get}
 use Rattle.std.specs.List.{position, position_or_len}
@@ -8,28 +8,32 @@ use Rattle.std.proofs.lemmas.Option.{get_or_from_slice_get, option_and_then_some
 use Rattle.mta_tables.specs.Tables.{TablesValue, local as local_of}
 use Rattle.mta_tables.specs.Mailbox.{has_name}
 use Rattle.mta_tables.specs.declared.mailbox.Mailbox.{Mailbox}
-use Rattle.mta_history.specs.declared.item.Item.{Item}
+use Rattle.mta_records.specs.declared.step.Step.{Step}
+use Rattle.mta_records.specs.declared.step.Step.TheVariants.{Deliver}
 use Rattle.mta_history.specs.declared.verdict.Verdict.TheVariants as Verdicts
-use Rattle.mta_history.specs.Verdict.{verdict_of_message, verdict_at, attributes_of, is_expired}
-use Rattle.mta_history.specs.Due.{numbered, IsDue, IsQuiet, IsLowest, place_of_item, due_place, due_mailbox}
+use Rattle.mta_history.specs.Verdict.{recorded, verdict_of_message, verdict_at, attributes_of, is_expired}
+use Rattle.mta_history.specs.Items.{ItemValue, numbered}
+use Rattle.mta_history.specs.Deliveries.{IsDeliverable, place_of_item, mailbox_place, mailbox_for}
 use Rattle.mta_history.specs.Machine.{delivery}
-use Rattle.mta_history.proofs.Dues.{due_is, is_due}
+use Rattle.mta_history.specs.History.{State}
+use Rattle.mta_history.specs.Due.{IsDue, IsQuiet, IsLowest, IsNext}
+use Rattle.mta_history.proofs.Deliveries.{place_is, is_deliverable}
 
 some_is : (o : Option ℕ) (place : ℕ) → o ≡ Some place → is_some o ≡ true
 some_is o place e = ap is_some e
 
 -- the test at an item that is there
-test_at : (p : Item → Bool) (items : List Item) (k : ℕ) (item : Item) → slice_get items k ≡ Some item → p (get_or items k item) ≡ p item
+test_at : (p : ItemValue → Bool) (items : List ItemValue) (k : ℕ) (item : ItemValue) → slice_get items k ≡ Some item → p (get_or items k item) ≡ p item
 test_at p items k item is = ap p (get_or_from_slice_get items k item item is)
 
-never_on : (p : Item → Bool) (x : Item) (xs : List Item) → ((k : ℕ) (item : Item) → length xs ≤ position_or_len p xs → slice_get xs k ≡ Some item → p item ≡ false) → length xs ≤ position_or_len p xs → p x ≡ false
-    → (k : ℕ) (item : Item) → slice_get (x ∷ xs) k ≡ Some item → p item ≡ false
-never_on p x xs later past fails zero item is = subst (λ (y : Item). p y ≡ false) (some_same x item is) fails where
-  some_same : (a b : Item) → Some a ≡ Some b → a ≡ b
+never_on : (p : ItemValue → Bool) (x : ItemValue) (xs : List ItemValue) → ((k : ℕ) (item : ItemValue) → length xs ≤ position_or_len p xs → slice_get xs k ≡ Some item → p item ≡ false) → length xs ≤ position_or_len p xs → p x ≡ false
+    → (k : ℕ) (item : ItemValue) → slice_get (x ∷ xs) k ≡ Some item → p item ≡ false
+never_on p x xs later past fails zero item is = subst (λ (y : ItemValue). p y ≡ false) (some_same x item is) fails where
+  some_same : (a b : ItemValue) → Some a ≡ Some b → a ≡ b
   some_same a b w = cc
 never_on p x xs later past fails (suc k) item is = later k item past is
 
-never : (p : Item → Bool) (items : List Item) (k : ℕ) (item : Item) → length items ≤ position_or_len p items → slice_get items k ≡ Some item → p item ≡ false
+never : (p : ItemValue → Bool) (items : List ItemValue) (k : ℕ) (item : ItemValue) → length items ≤ position_or_len p items → slice_get items k ≡ Some item → p item ≡ false
 never p [] k item past is = absurd cc
 never p (x ∷ xs) k item past is =
     elim (cases_Bool (p x)) [
@@ -40,42 +44,45 @@ never p (x ∷ xs) k item past is =
 past_end : (n m : ℕ) → cond (ltb n m) (Some n) None ≡ None → m ≤ n
 past_end n m e = elim (cases_lt n m) [ inl small ↦ (let test : ltb n m ≡ true = lt-ltb n m small in absurd (none-some n (sym (rw test at e)))) | inr large ↦ large ]
 
-due_in : (tables : TablesValue) (items : List Item) (moment : ℕ) (i place : ℕ) → length items ≤ position_or_len (λ (item : Item). is_some (place_of_item tables moment item)) items → due_place (Some tables) items i 1 moment ≡ Some place → ⊥
-unfolding due_place
+due_in : (tables : TablesValue) (items : List ItemValue) (moment : ℕ) (i place : ℕ) → length items ≤ position_or_len (λ (item : ItemValue). is_some (place_of_item tables moment item)) items → mailbox_place (Some tables) items i 1 moment ≡ Some place → ⊥
+unfolding mailbox_place
 due_in tables items moment zero place past e = absurd cc
 due_in tables items moment (suc i) place past e =
     option_and_then_some (place_of_item tables moment) (slice_get items i) place e
     (λ item is placed.
-    let fails : is_some (place_of_item tables moment item) ≡ false = never (λ (x : Item). is_some (place_of_item tables moment x)) items i item past is in
+    let fails : is_some (place_of_item tables moment item) ≡ false = never (λ (x : ItemValue). is_some (place_of_item tables moment x)) items i item past is in
     true≢false (sym (some_is (place_of_item tables moment item) place placed) ∙ fails))
 
+-- the test of an item
+abbrev IsDueAt : TablesValue → ℕ → ItemValue → Bool
+IsDueAt tables moment item = is_some (place_of_item tables moment item)
+
 -- where no item passes, nothing is due
-pub quiet_where_none : (tables : TablesValue) (items : List Item) (moment : ℕ) → position (λ (item : Item). is_some (place_of_item tables moment item)) items ≡ None → IsQuiet (Some tables) items moment
-quiet_where_none tables items moment none i r place d =
-    due_in tables items moment i place (past_end _ _ none) (subst (λ (k : ℕ). due_place (Some tables) items i k moment ≡ Some place) d.first (due_is (Some tables) items i r moment place d))
+pub quiet_where_none : (s : State) (tables : TablesValue) (moment : ℕ) → recorded s.machine.tables ≡ Some tables
+    → position (λ (item : ItemValue). is_some (place_of_item tables moment item)) s.machine.items ≡ None → IsQuiet s moment
+quiet_where_none s tables moment is none i r step d =
+    let can : IsDeliverable (Some tables) s.machine.items i r moment d.place =
+    subst (λ (t : Option TablesValue). IsDeliverable t s.machine.items i r moment d.place) is d.delivered in
+    due_in tables s.machine.items moment i d.place (past_end _ _ none)
+    (subst (λ (k : ℕ). mailbox_place (Some tables) s.machine.items i k moment ≡ Some d.place) can.first
+    (place_is (Some tables) s.machine.items i r moment d.place can))
 
-pub quiet_without_tables : (items : List Item) (moment : ℕ) → IsQuiet None items moment
-quiet_without_tables items moment i r place d = none-some d.value d.tables_are
+pub quiet_without_tables : (s : State) (moment : ℕ) → recorded s.machine.tables ≡ None → IsQuiet s moment
+quiet_without_tables s moment none i r step d = none-some d.delivered.value (sym none ∙ d.delivered.tables_are)
 
--- the item at the first position that passes is due, and none before it is
-pub due_at_first : (tables : TablesValue) (items : List Item) (moment k place : ℕ) (item : Item) → slice_get items k ≡ Some item → place_of_item tables moment item ≡ Some place → IsDue (Some tables) items (k + 1) 1 moment place
-unfolding due_place
-due_at_first tables items moment k place item is placed =
-    let at_number : numbered items (k + 1) ≡ slice_get items k = ap (numbered items) (add-one k) in
-    is_due (Some tables) items (k + 1) 1 moment place (rw (at_number, is, placed) refl)
-
-lowest_of : (tables : TablesValue) (items : List Item) (moment k : ℕ) → position (λ (item : Item). is_some (place_of_item tables moment item)) items ≡ Some k
-    → (i r place : ℕ) → r ≡ 1 → due_place (Some tables) items i 1 moment ≡ Some place → (k + 1 < i) ⊎ ((k + 1 ≡ i) × (1 ≤ r))
-unfolding due_place
+lowest_of : (tables : TablesValue) (items : List ItemValue) (moment k : ℕ) → position (IsDueAt tables moment) items ≡ Some k
+    → (i r place : ℕ) → r ≡ 1 → mailbox_place (Some tables) items i 1 moment ≡ Some place → (k + 1 < i) ⊎ ((k + 1 ≡ i) × (1 ≤ r))
+unfolding mailbox_place
 lowest_of tables items moment k at zero r place one e = absurd cc
 lowest_of tables items moment k at (suc i) r place one e =
     option_and_then_some (place_of_item tables moment) (slice_get items i) place e
     (λ item is placed.
     elim (cases_lt i k) [
       | inl before ↦ (
-          let first = position-Some (λ (x : Item). is_some (place_of_item tables moment x)) items k item at in
+          let first = position-Some (IsDueAt tables moment) items k item at in
           let fails : is_some (place_of_item tables moment (get_or items i item)) ≡ false = first.2 i before in
-          let passes : is_some (place_of_item tables moment (get_or items i item)) ≡ true = test_at (λ (x : Item). is_some (place_of_item tables moment x)) items i item is ∙ some_is (place_of_item tables moment item) place placed in
+          let passes : is_some (place_of_item tables moment (get_or items i item)) ≡ true =
+          test_at (IsDueAt tables moment) items i item is ∙ some_is (place_of_item tables moment item) place placed in
           absurd (true≢false (sym passes ∙ fails)))
       | inr past ↦ elim (cases_eq k i) [
         | inl same ↦ inr (omega (arith, same), omega (arith, one))
@@ -83,16 +90,67 @@ lowest_of tables items moment k at (suc i) r place one e =
       ]
     ])
 
-pub lowest_at_first : (tables : TablesValue) (items : List Item) (moment k : ℕ) → position (λ (item : Item). is_some (place_of_item tables moment item)) items ≡ Some k → IsLowest (Some tables) items (k + 1) 1 moment
-lowest_at_first tables items moment k at j s place d =
-    lowest_of tables items moment k at j s place d.first (subst (λ (n : ℕ). due_place (Some tables) items j n moment ≡ Some place) d.first (due_is (Some tables) items j s moment place d))
+position_within : {A : Type 0} (p : A → Bool) (xs : List A) (k : ℕ) → position p xs ≡ Some k → k < length xs
+position_within p xs k e =
+    elim (cases_lt (position_or_len p xs) (length xs)) [
+      | inl small ↦ (
+          let test : ltb (position_or_len p xs) (length xs) ≡ true = lt-ltb _ _ small in
+          let same : position_or_len p xs ≡ k = some_number (position_or_len p xs) k (rw test at e) in
+          omega (arith, small, same))
+      | inr large ↦ (
+          let test : ltb (position_or_len p xs) (length xs) ≡ false = le-ltb _ _ large in
+          absurd (none-some k (rw test at e)))
+    ]
+  where
+    some_number : (a b : ℕ) → Some a ≡ Some b → a ≡ b
+    some_number a b w = cc
 
--- an item at the first position that passes has a place
-pub passes_there : (tables : TablesValue) (items : List Item) (moment k : ℕ) (item : Item) → position (λ (item : Item). is_some (place_of_item tables moment item)) items ≡ Some k → slice_get items k ≡ Some item → place_of_item tables moment item ≡ None → ⊥
-passes_there tables items moment k item at is none =
-    let first = position-Some (λ (x : Item). is_some (place_of_item tables moment x)) items k item at in
-    let fails : is_some (place_of_item tables moment item) ≡ false = ap is_some none in
-    true≢false (sym first.1 ∙ test_at (λ (x : Item). is_some (place_of_item tables moment x)) items k item is ∙ fails)
+pub position_inside : (items : List ItemValue) (tables : TablesValue) (moment k : ℕ)
+    → position (λ (item : ItemValue). is_some (place_of_item tables moment item)) items ≡ Some k → k < length items
+position_inside items tables moment k e = position_within (IsDueAt tables moment) items k e
+
+item_there : (items : List ItemValue) (k : ℕ) → k < length items → (item : ItemValue) × (slice_get items k ≡ Some item)
+item_there [] k small = absurd (omega arith)
+item_there (x ∷ xs) zero small = (x, refl)
+item_there (x ∷ xs) (suc k) small = item_there xs k (omega (arith, small))
+
+is_some_is : (o : Option ℕ) → is_some o ≡ true → (n : ℕ) × (o ≡ Some n)
+is_some_is None e = absurd cc
+is_some_is (Some n) e = (n, refl)
+
+placed_at : (tables : TablesValue) (items : List ItemValue) (moment k : ℕ) (item : ItemValue) (place : ℕ) → slice_get items k ≡ Some item
+    → place_of_item tables moment item ≡ Some place → mailbox_place (Some tables) items (k + 1) 1 moment ≡ Some place
+unfolding mailbox_place
+placed_at tables items moment k item place is placed =
+    let at_number : numbered items (k + 1) ≡ slice_get items k = ap (numbered items) (add-one k) in rw (at_number, is, placed) refl
+
+-- the item at the first position that passes is due, and none before it is
+pub next_at : (s : State) (tables : TablesValue) (moment k : ℕ) → recorded s.machine.tables ≡ Some tables
+    → position (λ (item : ItemValue). is_some (place_of_item tables moment item)) s.machine.items ≡ Some k
+    → IsNext s moment (Deliver (k + 1) 1 moment)
+next_at s tables moment k is at =
+    let there = item_there s.machine.items k (position_inside s.machine.items tables moment k at) in
+    let first = position-Some (IsDueAt tables moment) s.machine.items k there.0 at in
+    let passes : is_some (place_of_item tables moment there.0) ≡ true = sym (test_at (IsDueAt tables moment) s.machine.items k there.0 there.1) ∙ first.1 in
+    let place = is_some_is (place_of_item tables moment there.0) passes in
+    let placed : mailbox_place (Some tables) s.machine.items (k + 1) 1 moment ≡ Some place.0 =
+    placed_at tables s.machine.items moment k there.0 place.0 there.1 place.1 in
+    record {
+      item = k + 1;
+      recipient = 1;
+      due = record {
+        place = place.0;
+        delivered = subst (λ (t : Option TablesValue). IsDeliverable t s.machine.items (k + 1) 1 moment place.0) (sym is)
+            (is_deliverable (Some tables) s.machine.items (k + 1) 1 moment place.0 placed);
+        step_is = refl;
+      };
+      lowest = λ j q step d.
+          let can : IsDeliverable (Some tables) s.machine.items j q moment d.place =
+          subst (λ (t : Option TablesValue). IsDeliverable t s.machine.items j q moment d.place) is d.delivered in
+          lowest_of tables s.machine.items moment k at j q d.place can.first
+          (subst (λ (n : ℕ). mailbox_place (Some tables) s.machine.items j n moment ≡ Some d.place) can.first
+          (place_is (Some tables) s.machine.items j q moment d.place can));
+    }
 
 -- ---- the mailbox of a delivery
 
@@ -104,30 +162,23 @@ local_is (Some p) place false e = cc
 some_is_some : {A : Type 0} (a b : A) → Some a ≡ Some b → a ≡ b
 some_is_some a b w = cc
 
-position_inside : (p : Mailbox → Bool) (ms : List Mailbox) (k : ℕ) → position p ms ≡ Some k → k < length ms
-position_inside p ms k e =
-    elim (cases_lt (position_or_len p ms) (length ms)) [
-      | inl small ↦ (let test : ltb (position_or_len p ms) (length ms) ≡ true = lt-ltb _ _ small in let same : position_or_len p ms ≡ k = some_is_some (position_or_len p ms) k (rw test at e) in omega (arith, small, same))
-      | inr large ↦ (let test : ltb (position_or_len p ms) (length ms) ≡ false = le-ltb _ _ large in absurd (none-some k (rw test at e)))
-    ]
-
--- the mailbox for which a recipient is due is one of the tables'
-pub mailbox_inside : (tables : Option TablesValue) (value : TablesValue) (items : List Item) (i r moment place : ℕ) → IsDue tables items i r moment place → tables ≡ Some value → place < length value.mailboxes
+-- the mailbox to which a recipient can be delivered is one of the tables'
+pub mailbox_inside : (tables : Option TablesValue) (value : TablesValue) (items : List ItemValue) (i r moment place : ℕ) → IsDeliverable tables items i r moment place → tables ≡ Some value → place < length value.mailboxes
 unfolding verdict_of_message
 mailbox_inside tables value items i r moment place d is =
     let same : d.value ≡ value = some_is_some d.value value (sym d.tables_are ∙ is) in
     let found : position (has_name (attributes_of d.message.recipient)) d.value.mailboxes ≡ Some place = local_is (position (has_name (attributes_of d.message.recipient)) d.value.mailboxes) place (is_expired d.item.arrival moment) d.verdict in
-    subst (λ (t : TablesValue). place < length t.mailboxes) same (position_inside (has_name (attributes_of d.message.recipient)) d.value.mailboxes place found)
+    subst (λ (t : TablesValue). place < length t.mailboxes) same (position_within (has_name (attributes_of d.message.recipient)) d.value.mailboxes place found)
 
 -- the line of a delivery names the mailbox's word
-pub delivery_is : (tables : Option TablesValue) (value : TablesValue) (items : List Item) (i moment place : ℕ) (mailbox : Mailbox) (word : List ℕ) → IsDue tables items i 1 moment place → tables ≡ Some value → slice_get value.mailboxes place ≡ Some mailbox → word ≡ mailbox.word
-    → delivery (due_mailbox tables items i 1 moment) i moment ≡ (record { mailbox = word; item = i; moment = moment }) ∷ []
-unfolding due_mailbox
-delivery_is tables value items i moment place mailbox word d is at w =
-    let placed = due_is tables items i 1 moment place d in
+pub delivery_is : (tables : Option TablesValue) (value : TablesValue) (items : List ItemValue) (i r moment place : ℕ) (mailbox : Mailbox) (word : List ℕ) → IsDeliverable tables items i r moment place → tables ≡ Some value → slice_get value.mailboxes place ≡ Some mailbox → word ≡ mailbox.word
+    → delivery (mailbox_for tables items i r moment) i moment ≡ (record { mailbox = word; item = i; moment = moment }) ∷ []
+unfolding mailbox_for
+delivery_is tables value items i r moment place mailbox word d is at w =
+    let placed = place_is tables items i r moment place d in
     rw (placed, is, at, w) refl
 
--- the number of an item that is due
-pub due_number : (tables : Option TablesValue) (items : List Item) (i r moment place : ℕ) → IsDue tables items i r moment place → 1 ≤ i
-due_number tables items zero r moment place d = absurd (none-some d.item d.item_is)
-due_number tables items (suc i) r moment place d = omega arith
+-- the number of an item with a recipient who can be delivered
+pub item_number : (tables : Option TablesValue) (items : List ItemValue) (i r moment place : ℕ) → IsDeliverable tables items i r moment place → 1 ≤ i
+item_number tables items zero r moment place d = absurd (none-some d.item d.item_is)
+item_number tables items (suc i) r moment place d = omega arith

@@ -1,6 +1,6 @@
 pub mod Current
+pub mod Making
 pub mod Opening
-pub mod Putting
 pub mod Replaying
 pub mod Shown
 pub mod Stands

@@ -1,9 +1,9 @@
 -- What contracts see of a spool.
 use Rattle.mta_journal.specs.Shown.{Shown as JournalShown}
-use Rattle.mta_spool.specs.declared.current.Current.{Current}
+use Rattle.mta_history.specs.History.{State}
 
 -- its journal, its clock, and the state in memory
 pub record Shown (D C : Type 0) : Type 0 where
   pub journal : JournalShown D
   pub clock : C
-  pub current : Current
+  pub current : State

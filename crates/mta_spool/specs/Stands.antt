@@ -1,60 +1,104 @@
--- What a spool keeps true of its journal and its state, and what its calls leave.
-use Rattle.std.specs.Prelude.{◌≡◌, ◌⊎◌, ◌↔◌, ℕ, ◌+◌, ◌≤◌, ◌<◌, List, [], ◌∷◌, ◌++◌, length, map, Option, Some, Result, IsErrOf, IsOk, IsErr, true, max, min}
+-- What a spool stands for, and what a call leaves that makes a step or refuses it.
+use Rattle.std.specs.Prelude.{◌≡◌, ◌≢◌, ◌⊎◌, ◌↔◌, ℕ, ◌+◌, ◌≤◌, ◌<◌, ◌^◌, List, [], ◌∷◌, ◌++◌, length, map, Option, None, Some, Result, Ok, Err, true, false, max, min}
 use Rattle.mta_edge.specs.Causes.{Rose}
+use Rattle.mta_edge.specs.Views.{ClockView, DiskView, StaysTold}
 use Rattle.mta_edge.specs.Crashes.{AtAnyMoment}
-use Rattle.mta_journal.specs.Shown.{Holds}
-use Rattle.mta_journal.specs.Appending.{journal_limit}
+use Rattle.mta_journal.specs.Shown.{Shown as JournalShown, Holds}
+use Rattle.mta_journal.specs.Appending.{journal_limit, need_of as need_of_body}
 use Rattle.mta_records.specs.declared.fault.StepFault.{StepFault}
 use Rattle.mta_records.specs.declared.fault.StepFault.TheVariants as StepFaults
 use Rattle.mta_records.specs.declared.step.Step.{Step}
 use Rattle.mta_records.specs.Body.{body_of, last_moment}
-use Rattle.mta_history.specs.History.{after, IsHistory, IsPossible}
+use Rattle.mta_history.specs.History.{State, after, after_step, IsHistory, IsPossible, numbers_needed}
 use Rattle.mta_history.specs.Image.{AreRecords, StandsFor}
-use Rattle.mta_spool.specs.Current.{current_of}
 use Rattle.mta_spool.specs.Shown.{Shown}
 
--- the spool stands for this history, on its disk and in memory, and a crash leaves it
-pub record Stands {D C : Type 0} (content : D → Option (List ℕ)) (may_leave : D → List ℕ → Type 0) (spool : Shown D C) (steps : List Step) : Type 0 where
-  pub holds : Holds content may_leave spool.journal (map body_of steps)
+-- a journal and the state in memory stand for this history, and a crash leaves it
+pub record IsHeld {D : Type 0} (model : DiskView D) (journal : JournalShown D) (state : State) (steps : List Step) : Type 0 where
+  pub holds : Holds model journal (map body_of steps)
   pub each : AreRecords steps
-  pub current : spool.current ≡ current_of (after steps)
+  pub state_is : state ≡ after steps
   pub history : IsHistory steps
+
+-- the spool stands for this history, on its disk and in memory
+abbrev pub Stands : {D C : Type 0} → DiskView D → Shown D C → List Step → Type 0
+Stands model spool steps = IsHeld model spool.journal spool.current steps
 
 -- the octets that a step's record needs: its gate, its body's length and its body
 abbrev pub need_of : Step → ℕ
-need_of step = length (body_of step) + 5
+need_of step = need_of_body (body_of step)
 
 -- the moment of a step that is made now: what the clock told, capped, and never below the last moment
 abbrev pub step_moment : ℕ → ℕ → ℕ
 step_moment told last = max (min told last_moment) last
 
+-- P holds of the moment of a step that is made now
+pub record AtMoment {C : Type 0} (model : ClockView C) (clock : C) (last : ℕ) (P : ℕ → Type 0) : Type 0 where
+  pub told : ℕ
+  pub tells : model.tells clock told
+  pub at : P (step_moment told last)
+
+-- the clock may tell no other moments than before
+abbrev pub TellsFewer : {C : Type 0} → ClockView C → C → C → Type 0
+TellsFewer model old new = (m : ℕ) → model.tells new m → model.tells old m
+
+-- fewer numbers of items are left than the step needs
+abbrev pub IsSpent : State → Step → Type 0
+IsSpent s step = 2 ^ 32 ≤ length s.machine.items + numbers_needed step
+
+-- with this many items too few numbers are left for a step that may make two
+abbrev pub IsSpentBy : ℕ → StepFault → Type 0
+IsSpentBy count fault = (fault ≡ StepFaults.Spent count) × (2 ^ 32 ≤ count + 2)
+
 -- the image stands for the history, or for that and this step
 abbrev pub IsOneOf : List Step → Step → List ℕ → Type 0
 IsOneOf steps step image = StandsFor image steps ⊎ StandsFor image (steps ++ step ∷ [])
 
--- Behind each history that the spool stood for the step was possible, and a crash at any moment of the call leaves the history with it
--- or without it, and so does one now.
-pub record MayHave {D C : Type 0} (content : D → Option (List ℕ)) (may_leave : D → List ℕ → Type 0) (moment : D → ℕ) (left_since : D → ℕ → List ℕ → Type 0) (step : Step) (old new : Shown D C) : Type 0 where
-  pub possible : (steps : List Step) → Stands content may_leave old steps → IsPossible (after steps) step
-  pub during : (f : List ℕ) → content old.journal.disk ≡ Some f → (steps : List Step) → Stands content may_leave old steps → AtAnyMoment moment left_since (IsOneOf steps step) old.journal.disk new.journal.disk
-  pub now : (f : List ℕ) → content old.journal.disk ≡ Some f → (steps : List Step) → Stands content may_leave old steps → (g : List ℕ) → may_leave new.journal.disk g → IsOneOf steps step g
+-- Behind each history for which the spool stood the step was possible, and a crash at any moment of the call leaves the history
+-- with it or without it.
+pub record MayHave {D : Type 0} (model : DiskView D) (step : Step) (old : JournalShown D) (s : State) (new : JournalShown D)
+    : Type 0 where
+  pub possible : (steps : List Step) → IsHeld model old s steps → IsPossible (after steps) step
+  pub during : (f : List ℕ) → model.content old.disk ≡ Some f → (steps : List Step) → IsHeld model old s steps
+      → AtAnyMoment model (IsOneOf steps step) old.disk new.disk
+  -- and so does one now
+  pub now : (f : List ℕ) → model.content old.disk ≡ Some f → (steps : List Step) → IsHeld model old s steps
+      → (g : List ℕ) → model.may_leave new.disk g → IsOneOf steps step g
 
--- What a call leaves that makes this step or refuses it.
-pub record Appends {D C T : Type 0} (content : D → Option (List ℕ)) (faults : D → ℕ) (may_leave : D → List ℕ → Type 0) (moment : D → ℕ) (left_since : D → ℕ → List ℕ → Type 0) (step : Step) (old new : Shown D C) (result : Result T StepFault) : Type 0 where
-  -- at Ok the step stands behind every history that the spool stood for
-  pub done : IsOk result → (steps : List Step) → Stands content may_leave old steps → Stands content may_leave new (steps ++ step ∷ [])
-  -- and the disk tells what it holds where it told it
-  pub told : IsOk result → (f : List ℕ) → content old.journal.disk ≡ Some f → (g : List ℕ) × (content new.journal.disk ≡ Some g)
-  -- where the step was made or the disk failed a crash leaves the step or does not
-  pub crash : (IsErr result → IsErrOf result StepFaults.Disk) → MayHave content may_leave moment left_since step old new
-  -- at a refusal but the disk's all is as it was, but for what the clock may answer
-  pub kept : IsErr result → (IsErrOf result StepFaults.Disk → ⊥) → new ≡ record old { clock = new.clock }
+-- the fault that a call answered, or none at Ok
+abbrev pub fault_of : {T : Type 0} → Result T StepFault → Option StepFault
+fault_of (Ok x) = None
+fault_of (Err fault) = Some fault
+
+-- What a call that makes this step, or refuses it by this fault, leaves of the journal and of the state in memory.
+pub record Makes {D : Type 0} (model : DiskView D) (step : Step) (old : JournalShown D) (s : State) (new : JournalShown D) (s' : State)
+    (fault : Option StepFault) : Type 0 where
+  -- where it is made it stands behind every history for which they stood
+  pub done : fault ≡ None → (steps : List Step) → IsHeld model old s steps → IsHeld model new s' (steps ++ step ∷ [])
+  -- in memory is the state after it, and the spool goes on
+  pub changed : fault ≡ None → s' ≡ after_step s step
+  pub going : fault ≡ None → new.ended ≡ false
+  -- the disk tells what it holds where it told it
+  pub told : StaysTold model old.disk new.disk
+  -- where it is made or the disk failed a crash leaves the step or does not
+  pub crash : (fault ≡ None) ⊎ (fault ≡ Some StepFaults.Disk) → MayHave model step old s new
+  -- where it is refused, but not for the disk, all is as it was
+  pub kept : fault ≢ None → fault ≢ Some StepFaults.Disk → (new ≡ old) × (s' ≡ s)
   -- the disk's count of faults does not fall, and Disk comes only where it rose
-  pub later : faults old.journal.disk ≤ faults new.journal.disk
-  pub disk : IsErrOf result StepFaults.Disk → Rose (faults old.journal.disk) (faults new.journal.disk)
+  pub later : model.faults old.disk ≤ model.faults new.disk
+  pub disk : fault ≡ Some StepFaults.Disk → Rose (model.faults old.disk) (model.faults new.disk)
   -- Ended comes exactly where an earlier step answered Disk
-  pub ended : IsErrOf result StepFaults.Ended ↔ (old.journal.ended ≡ true)
-  pub marked : IsErrOf result StepFaults.Disk → new.journal.ended ≡ true
-  -- Full comes only where the record does not fit, and a step is made only where it fits
-  pub full : (size need : ℕ) → IsErrOf result (StepFaults.Full size need) → (size ≡ old.journal.size) × (need ≡ need_of step) × (journal_limit < size + need)
-  pub fits : IsOk result → old.journal.size + need_of step ≤ journal_limit
+  pub ended : (fault ≡ Some StepFaults.Ended) ↔ (old.ended ≡ true)
+  pub marked : fault ≡ Some StepFaults.Disk → new.ended ≡ true
+  -- Spent comes exactly where too few numbers are left and the spool has not ended
+  pub spent : (last : ℕ) → fault ≡ Some (StepFaults.Spent last) → (last ≡ length s.machine.items) × IsSpent s step
+  pub spent_where : old.ended ≡ false → IsSpent s step → fault ≡ Some (StepFaults.Spent (length s.machine.items))
+  -- Full comes exactly where the record would pass the limit, numbers are left, and there was memory for it
+  pub full : (size need : ℕ) → fault ≡ Some (StepFaults.Full size need)
+      → (size ≡ old.size) × (need ≡ need_of step) × (journal_limit < size + need)
+  pub full_where : old.ended ≡ false → (IsSpent s step → ⊥) → journal_limit < old.size + need_of step
+      → (fault ≡ Some (StepFaults.Full old.size (need_of step))) ⊎ (fault ≡ Some StepFaults.Memory)
+
+-- what a call of the spool that makes this step, or refuses it by this fault, leaves of it
+abbrev pub Appends : {D C : Type 0} → DiskView D → Step → Shown D C → Shown D C → Option StepFault → Type 0
+Appends model step old new fault = Makes model step old.journal old.current new.journal new.current fault

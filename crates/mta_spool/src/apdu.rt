@@ -1,7 +1,6 @@
-//! What the octets of an item spell.
+//! The statuses of an APDU's recipients.
 
-ghost use Rattle.std.specs.Prelude.{◌≡◌, IfOk};
-ghost use Rattle.mta_history.specs.Apdu.{IsApdu, statuses_at_first};
+ghost use Rattle.std.specs.Prelude.{IfOk};
 ghost use Rattle.mta_spool.specs.Current.{AreStatuses};
 
 use mta_apdu::Apdu;
@@ -24,16 +23,5 @@ pub fn read_statuses(alloc: Global, apdu: &[u8]) -> Result<Option<Statuses>, Mem
                 Err(_) => Err(Memory),
             }
         }
-    }
-}
-
-/// The statuses of an APDU's recipients when it becomes an item.
-pub fn statuses_at_first(alloc: Global, apdu: &[u8]) -> Result<Statuses, Memory>
-    requires { IsApdu apdu.now }
-    ensures { IfOk result (λ s. s ≡ statuses_at_first apdu.now) }
-{
-    match read_statuses(alloc, apdu)? {
-        Some(statuses) => Ok(statuses),
-        None => unreachable!(),
     }
 }

@@ -4,15 +4,13 @@
 mod apdu;
 mod current;
 mod due;
-mod items;
-mod mailboxes;
+mod kept;
+mod make;
 mod open;
 mod replay;
 mod spool;
 
 pub use current::Current;
-pub use items::Items;
-pub use mailboxes::Mailboxes;
 pub use mta_history::{Item, MailboxLine, Origin, Status, Statuses};
 pub use mta_journal::{JOURNAL_LIMIT, OpenWhy};
 pub use mta_records::{Step, StepFault};

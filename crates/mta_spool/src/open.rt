@@ -1,8 +1,13 @@
-//! Opening a spool.
+//! Opening a spool on a disk, whatever a crash has left of it.
+//!
+//! In come a disk and a clock; `Journal::open` syncs and gives the bodies of the records, and `replay`
+//! takes up their steps. Out goes a `Spool` that stands for the history for which the disk stands, or
+//! the disk, the clock and the reason: no spool from some place on, the disk failed, memory.
+//!
+//! A disk of at most nine octets becomes an empty spool; a longer one is only read. From the first sync
+//! on a crash leaves the same history; before it, what one before the call might have left.
 
-ghost use Rattle.std.specs.Prelude.{◌≡◌, ◌<◌, ◌≤◌, List, ℕ, Some, length, IfOk, IfErr};
-ghost use Rattle.mta_edge.specs.Crashes.{AtAnyMoment};
-ghost use Rattle.mta_journal.specs.Opening.{BeforeOrSame, IsLeft, SameSince};
+ghost use Rattle.std.specs.Prelude.{◌≡◌, IfOk, IfErr};
 
 use crate::replay::replay;
 use crate::spool::Spool;
@@ -19,10 +24,7 @@ pub struct SpoolOpen<D: Disk + Drop, C: Clock + Drop> {
 }
 
 impl<D: Disk + Drop, C: Clock + Drop> Spool<D, C> {
-    ghost use Rattle.mta_records.specs.declared.step.Step.{Step};
-    ghost use Rattle.mta_history.specs.Image.{StandsFor};
-    ghost use Rattle.mta_spool.specs.Stands.{Stands};
-    ghost use Rattle.mta_spool.specs.Opening.{HasRefused};
+    ghost use Rattle.mta_spool.specs.Opening.{HasOpened, HasRefused};
 
     /// Opens the spool on this disk, whatever a crash has left of it. A disk of at most nine octets, whatever it holds, becomes an
     /// empty spool; a longer one is replayed.
@@ -32,19 +34,9 @@ impl<D: Disk + Drop, C: Clock + Drop> Spool<D, C> {
     /// else of the first open gate with no body behind it; else of the first open gate whose body is that of no step which is
     /// possible there. `Disk` only where the disk failed; `Memory`.
     pub fn open(alloc: Global, disk: D, clock: C) -> Result<Spool<D, C>, SpoolOpen<D, C>>
-        // The spool stands for a history, which is that of the disk where it tells what it holds.
-        ensures opened { IfOk result (λ s. (steps : List Step) × Stands D.content D.may_leave s steps × ((f : List ℕ) → D.content disk ≡ Some f → StandsFor f steps)) }
+        ensures opened { IfOk result (λ s. HasOpened D.model disk s) }
         ensures clock { IfOk result (λ s. s.clock ≡ clock) }
-        ensures later { IfOk result (λ s. D.faults disk ≤ D.faults s.journal.disk) }
-        ensures told { IfOk result (λ s. (f : List ℕ) → D.content disk ≡ Some f → (g : List ℕ) × (D.content s.journal.disk ≡ Some g)) }
-
-        // A crash leaves what one before might have left, or the same, and since a moment in the call the same.
-        ensures images { IfOk result (λ s. (f : List ℕ) → D.content disk ≡ Some f → AtAnyMoment D.moment D.left_since (BeforeOrSame (D.may_leave disk) f) disk s.journal.disk) }
-        ensures since { IfOk result (λ s. (f : List ℕ) → D.content disk ≡ Some f → SameSince D.moment D.left_since f disk s.journal.disk) }
-
-        ensures refused { IfErr result (λ e. HasRefused D.content D.faults disk e.disk e.why) }
-        ensures refused_images { IfErr result (λ e. (f : List ℕ) → D.content disk ≡ Some f → AtAnyMoment D.moment D.left_since (BeforeOrSame (D.may_leave disk) f) disk e.disk) }
-        ensures refused_left { IfErr result (λ e. (f : List ℕ) → D.content disk ≡ Some f → IsLeft D.content D.may_leave D.moment D.left_since f disk e.disk) }
+        ensures refused { IfErr result (λ e. HasRefused D.model disk e.disk e.why) }
         ensures clock_back { IfErr result (λ e. e.clock ≡ clock) }
     {
         let Opened {

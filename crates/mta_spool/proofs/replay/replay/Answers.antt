@@ -15,22 +15,22 @@ pub overflow_add-at-in-Ok : goal.overflow_add-at-in-Ok
 overflow_add-at-in-Ok c =
     let i = c.loop-body.invariant in
     let short = body_short c.args.bodies.now c.loop-body.body-index c.body-item.result c.requires.short c.loop-body-test.true c.body-item.is in
-    let taken = subst (λ (b : List ℕ). HasTaken b c.loop-body.current c.take_up.new.self (Ok tt)) c.as_slice.ensures c.in-Ok.ensures in
-    let more = replay_more (take c.loop-body.body-index c.args.bodies.now) c.body-item.result c.loop-body.current c.take_up.new.self (Ok tt) i.0 i.1 taken refl in
+    let taken = subst (λ (b : List ℕ). HasTaken b c.loop-body.current c.take_up.new.current (Ok tt)) c.as_slice.ensures c.in-Ok.ensures in
+    let more = replay_more (take c.loop-body.body-index c.args.bodies.now) c.body-item.result c.loop-body.current c.take_up.new.current (Ok tt) i.0 i.1 taken refl in
     let fits = front_fits c.args.bodies.now (c.loop-body.body-index + 1) more.0 (more.1.bodies_are ∙ sym (take_more c.args.bodies.now c.loop-body.body-index c.body-item.result c.loop-body-test.true c.body-item.is)) in
     omega (arith, fits, more.2, i.2, c.len.ensures, c.requires.fits)
 
 pub returns-in-Err-Impossible : goal.returns-in-Err-Impossible
 returns-in-Err-Impossible c =
     let i = c.loop-body.invariant in
-    let taken = subst (λ (b : List ℕ). HasTaken b c.loop-body.current c.take_up.new.self c.take_up.result) c.as_slice.ensures c.take_up.ensures in
-    replay_stops (take c.loop-body.body-index c.args.bodies.now) c.body-item.result (drop (c.loop-body.body-index + 1) c.args.bodies.now) c.args.bodies.now c.loop-body.current c.take_up.new.self c.take_up.result i.0 c.loop-body.at i.1
+    let taken = subst (λ (b : List ℕ). HasTaken b c.loop-body.current c.take_up.new.current c.take_up.result) c.as_slice.ensures c.take_up.ensures in
+    replay_stops (take c.loop-body.body-index c.args.bodies.now) c.body-item.result (drop (c.loop-body.body-index + 1) c.args.bodies.now) c.args.bodies.now c.loop-body.current c.take_up.new.current c.take_up.result i.0 c.loop-body.at i.1
     (row_at c.args.bodies.now c.loop-body.body-index c.body-item.result c.loop-body-test.true c.body-item.is) taken (c.in-Err-Impossible.is ∙ ap Err c.in-Err-Impossible.field-0-is) i.2
 
 pub loop-body-preserved : goal.loop-body-preserved
 loop-body-preserved c =
     let i = c.loop-body.invariant in
     let short = body_short c.args.bodies.now c.loop-body.body-index c.body-item.result c.requires.short c.loop-body-test.true c.body-item.is in
-    let taken = subst (λ (b : List ℕ). HasTaken b c.loop-body.current c.take_up.new.self (Ok tt)) c.as_slice.ensures c.in-Ok.ensures in
-    let more = replay_more (take c.loop-body.body-index c.args.bodies.now) c.body-item.result c.loop-body.current c.take_up.new.self (Ok tt) i.0 i.1 taken refl in
-    (more.0, subst (λ (bs : List (List ℕ)). IsReplay bs c.take_up.new.self more.0) (sym (take_more c.args.bodies.now c.loop-body.body-index c.body-item.result c.loop-body-test.true c.body-item.is)) more.1, omega (arith, more.2, i.2, c.len.ensures))
+    let taken = subst (λ (b : List ℕ). HasTaken b c.loop-body.current c.take_up.new.current (Ok tt)) c.as_slice.ensures c.in-Ok.ensures in
+    let more = replay_more (take c.loop-body.body-index c.args.bodies.now) c.body-item.result c.loop-body.current c.take_up.new.current (Ok tt) i.0 i.1 taken refl in
+    (more.0, subst (λ (bs : List (List ℕ)). IsReplay bs c.take_up.new.current more.0) (sym (take_more c.args.bodies.now c.loop-body.body-index c.body-item.result c.loop-body-test.true c.body-item.is)) more.1, omega (arith, more.2, i.2, c.len.ensures))

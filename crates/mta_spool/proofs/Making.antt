@@ -1,0 +1,224 @@
+-- A step is made, or refused.
+use Rattle.std.proofs.Common.{inl, inr, ◌≡◌, ◌≢◌, ℕ, ◌+◌, ◌≤◌, ◌<◌, true, false, List, [], ◌∷◌, ◌++◌, length, map, Option, None, Some, Result, Ok, Err, refl, sym, ap, subst, ◌∙◌, arith}
+use Rattle.std.specs.Prelude.{◌⊎◌}
+use Rattle.mta_edge.specs.Views.{DiskView, DiskLaws, StaysTold}
+use Rattle.mta_edge.specs.Crashes.{AtAnyMoment}
+use Rattle.mta_edge.proofs.Moments.{weaken}
+use Rattle.mta_journal.specs.Bodies.{HasBodies, HasOrOneMore}
+use Rattle.mta_journal.specs.Shown.{Shown as JournalShown, Holds}
+use Rattle.mta_journal.specs.Appending.{Appends as JournalAppends, journal_limit}
+use Rattle.mta_journal.specs.declared.journal.AppendFault.{AppendFault}
+use Rattle.mta_journal.specs.declared.journal.AppendFault.TheVariants as AppendFaults
+use Rattle.mta_journal.proofs.Bodies.{stands_for}
+use Rattle.mta_records.specs.declared.step.Step.{Step}
+use Rattle.mta_records.specs.declared.fault.StepFault.{StepFault}
+use Rattle.mta_records.specs.declared.fault.StepFault.TheVariants as StepFaults
+use Rattle.mta_records.specs.Body.{body_of, HasFields}
+use Rattle.mta_history.specs.History.{State, IsHistory, IsPossible, after, after_step, empty}
+use Rattle.mta_history.specs.Image.{AreRecords, StandsFor}
+use Rattle.mta_history.proofs.Histories.{map-more, AreRecords-more, after_from-more, possible-more}
+use Rattle.mta_spool.specs.Making.{step_fault}
+use Rattle.mta_spool.specs.Stands.{IsHeld, IsOneOf, IsSpent, MayHave, Makes, need_of}
+
+-- an image that holds the bodies of a history stands for it
+image_of : (g : List ℕ) (steps : List Step) → HasBodies g (map body_of steps) → AreRecords steps → IsHistory steps → StandsFor g steps
+image_of g steps has each history = record { bodies = stands_for g (map body_of steps) has; each = each; history = history }
+
+-- with one body more it stands for the step of that body too
+one_of : (g : List ℕ) (steps : List Step) (step : Step) → AreRecords steps → IsHistory steps → HasFields step
+    → IsPossible (after steps) step → HasOrOneMore (map body_of steps) (body_of step) g → IsOneOf steps step g
+one_of g steps step each history fields possible (inl has) = inl (image_of g steps has each history)
+one_of g steps step each history fields possible (inr has) =
+    inr (image_of g (steps ++ step ∷ []) (subst (HasBodies g) (sym (map-more steps step)) has)
+    (AreRecords-more steps step each fields) (possible-more empty steps step history possible))
+
+module _ {D : Type 0} (model : DiskView D) (step : Step) where
+  -- behind the history that is held the step is possible
+  possible_there : (journal : JournalShown D) (s : State) (steps : List Step) → IsPossible s step → IsHeld model journal s steps
+      → IsPossible (after steps) step
+  possible_there journal s steps possible held = subst (λ (x : State). IsPossible x step) held.state_is possible
+
+  held_more : (old new : JournalShown D) (s s' : State) (steps : List Step) → IsHeld model old s steps
+      → Holds model new (map body_of steps ++ body_of step ∷ []) → HasFields step → IsPossible s step → s' ≡ after_step s step
+      → IsHeld model new s' (steps ++ step ∷ [])
+  held_more old new s s' steps held holds fields possible made = record {
+    holds = subst (Holds model new) (sym (map-more steps step)) holds;
+    each = AreRecords-more steps step held.each fields;
+    state_is = made ∙ ap (λ (x : State). after_step x step) held.state_is ∙ sym (after_from-more empty steps step);
+    history = possible-more empty steps step held.history (possible_there old s steps possible held);
+  }
+
+  -- a crash at any moment leaves what the journal held, with the step's body or without it
+  abbrev HasTried : JournalShown D → JournalShown D → Type 0
+  HasTried old new = (f : List ℕ) → model.content old.disk ≡ Some f → (bodies : List (List ℕ)) → Holds model old bodies
+      → AtAnyMoment model (HasOrOneMore bodies (body_of step)) old.disk new.disk
+
+  tried : DiskLaws model → (old new : JournalShown D) (s : State) → HasFields step → IsPossible s step → HasTried old new
+      → MayHave model step old s new
+  tried laws old new s fields possible images = record {
+    possible = λ steps held. possible_there old s steps possible held;
+    during = during;
+    now = λ f told steps held g may.
+        let d = during f told steps held in
+        d.each g (laws.counts_now new.disk (model.moment old.disk) g d.later may);
+  } where
+    during : (f : List ℕ) → model.content old.disk ≡ Some f → (steps : List Step) → IsHeld model old s steps
+        → AtAnyMoment model (IsOneOf steps step) old.disk new.disk
+    during f told steps held =
+        weaken model (HasOrOneMore (map body_of steps) (body_of step)) (IsOneOf steps step) old.disk new.disk
+        (λ g has. one_of g steps step held.each held.history fields (possible_there old s steps possible held) has)
+        (images f told (map body_of steps) held.holds)
+
+  -- the body was appended and the change made
+  pub made : DiskLaws model → (old new : JournalShown D) (s s' : State) → JournalAppends {T = Unit {0}} model (body_of step) old new (Ok tt)
+      → old.ended ≡ false → HasFields step → IsPossible s step → (IsSpent s step → ⊥) → s' ≡ after_step s step
+      → Makes model step old s new s' None
+  made laws old new s s' a going fields possible numbers change = record {
+    done = λ ok steps held. held_more old new s s' steps held (a.done refl (map body_of steps) held.holds) fields possible change;
+    changed = λ ok. change;
+    going = λ ok. a.going refl;
+    told = a.told;
+    crash = λ calm. tried laws old new s fields possible a.images;
+    kept = λ some. absurd (some refl);
+    later = a.later;
+    disk = λ e. absurd cc;
+    ended = (λ e. absurd cc, λ e. absurd cc);
+    marked = λ e. absurd cc;
+    spent = λ last e. absurd cc;
+    spent_where = λ on is. absurd (numbers is);
+    full = λ size need e. absurd cc;
+    full_where = λ on left long. let refused = a.full_where going long in absurd cc;
+  }
+
+  -- the journal refused the body, and the state is as it was
+  pub refused : DiskLaws model → (fault : AppendFault) (old new : JournalShown D) (s s' : State)
+      → JournalAppends {T = Unit {0}} model (body_of step) old new (Err fault) → old.ended ≡ false → HasFields step → IsPossible s step
+      → (IsSpent s step → ⊥) → s' ≡ s → Makes model step old s new s' (Some (step_fault fault))
+  refused laws (AppendFaults.Full size need) old new s s' a going fields possible numbers same = record {
+    done = λ ok. absurd cc;
+    changed = λ ok. absurd cc;
+    going = λ ok. absurd cc;
+    told = a.told;
+    crash = λ calm. tried laws old new s fields possible a.images;
+    kept = λ some other. (a.kept refl (λ e. absurd cc), same);
+    later = a.later;
+    disk = λ e. absurd cc;
+    ended = (λ e. absurd cc, λ e. absurd cc);
+    marked = λ e. absurd cc;
+    spent = λ last e. absurd cc;
+    spent_where = λ on is. absurd (numbers is);
+    full = λ n m e.
+        let f = a.full size need refl in
+        let n_is : n ≡ size = cc in
+        let m_is : m ≡ need = cc in
+        (n_is ∙ f.0, m_is ∙ f.1, omega (arith, f.2, n_is, m_is));
+    full_where = λ on left long.
+        let f = a.full size need refl in
+        let e : AppendFaults.Full size need ≡ AppendFaults.Full old.size (need_of step) = cc in inl (ap (λ (x : AppendFault). Some (step_fault x)) e);
+  }
+  refused laws AppendFaults.Disk old new s s' a going fields possible numbers same = record {
+    done = λ ok. absurd cc;
+    changed = λ ok. absurd cc;
+    going = λ ok. absurd cc;
+    told = a.told;
+    crash = λ calm. tried laws old new s fields possible a.images;
+    kept = λ some other. absurd (other refl);
+    later = a.later;
+    disk = λ e. a.disk refl;
+    ended = (λ e. absurd cc, λ e. absurd cc);
+    marked = λ e. a.marked refl;
+    spent = λ last e. absurd cc;
+    spent_where = λ on is. absurd (numbers is);
+    full = λ n m e. absurd cc;
+    full_where = λ on left long. let full = a.full_where going long in absurd cc;
+  }
+  refused laws AppendFaults.Ended old new s s' a going fields possible numbers same = let is_ended = a.ended.0 refl in absurd cc
+  refused laws AppendFaults.Memory old new s s' a going fields possible numbers same = record {
+    done = λ ok. absurd cc;
+    changed = λ ok. absurd cc;
+    going = λ ok. absurd cc;
+    told = a.told;
+    crash = λ calm. tried laws old new s fields possible a.images;
+    kept = λ some other. (a.kept refl (λ e. absurd cc), same);
+    later = a.later;
+    disk = λ e. absurd cc;
+    ended = (λ e. absurd cc, λ e. absurd cc);
+    marked = λ e. absurd cc;
+    spent = λ last e. absurd cc;
+    spent_where = λ on is. absurd (numbers is);
+    full = λ n m e. absurd cc;
+    full_where = λ on left long. inr refl;
+  }
+
+  stays_told : (old new : JournalShown D) → new ≡ old → StaysTold model old.disk new.disk
+  stays_told old new same f told = (f, ap (λ (j : JournalShown D). model.content j.disk) same ∙ told)
+
+  no_later : (old new : JournalShown D) → new ≡ old → model.faults old.disk ≤ model.faults new.disk
+  no_later old new same = omega (arith, ap (λ (j : JournalShown D). model.faults j.disk) same)
+
+  -- there was no memory
+  pub no_memory : (old new : JournalShown D) (s s' : State) → new ≡ old → s' ≡ s → old.ended ≡ false → (IsSpent s step → ⊥)
+      → Makes model step old s new s' (Some StepFaults.Memory)
+  no_memory old new s s' same kept going numbers = record {
+    done = λ ok. absurd cc;
+    changed = λ ok. absurd cc;
+    going = λ ok. absurd cc;
+    told = stays_told old new same;
+    crash = λ calm. elim calm [ inl e ↦ absurd cc | inr e ↦ absurd cc ];
+    kept = λ some other. (same, kept);
+    later = no_later old new same;
+    disk = λ e. absurd cc;
+    ended = (λ e. absurd cc, λ e. absurd cc);
+    marked = λ e. absurd cc;
+    spent = λ last e. absurd cc;
+    spent_where = λ on is. absurd (numbers is);
+    full = λ n m e. absurd cc;
+    full_where = λ on left long. inr refl;
+  }
+
+  -- an earlier step had answered that the disk failed
+  pub is_ended : (old new : JournalShown D) (s s' : State) → new ≡ old → s' ≡ s → old.ended ≡ true
+      → Makes model step old s new s' (Some StepFaults.Ended)
+  is_ended old new s s' same kept ended = record {
+    done = λ ok. absurd cc;
+    changed = λ ok. absurd cc;
+    going = λ ok. absurd cc;
+    told = stays_told old new same;
+    crash = λ calm. elim calm [ inl e ↦ absurd cc | inr e ↦ absurd cc ];
+    kept = λ some other. (same, kept);
+    later = no_later old new same;
+    disk = λ e. absurd cc;
+    ended = (λ e. ended, λ e. refl);
+    marked = λ e. absurd cc;
+    spent = λ last e. absurd cc;
+    spent_where = λ on is. absurd cc;
+    full = λ n m e. absurd cc;
+    full_where = λ on left long. absurd cc;
+  }
+
+  -- too few numbers were left
+  pub is_spent : (last : ℕ) (old new : JournalShown D) (s s' : State) → new ≡ old → s' ≡ s → old.ended ≡ false
+      → last ≡ length s.machine.items → IsSpent s step → Makes model step old s new s' (Some (StepFaults.Spent last))
+  is_spent last old new s s' same kept going count spent = record {
+    done = λ ok. absurd cc;
+    changed = λ ok. absurd cc;
+    going = λ ok. absurd cc;
+    told = stays_told old new same;
+    crash = λ calm. elim calm [ inl e ↦ absurd cc | inr e ↦ absurd cc ];
+    kept = λ some other. (same, kept);
+    later = no_later old new same;
+    disk = λ e. absurd cc;
+    ended = (λ e. absurd cc, λ e. absurd cc);
+    marked = λ e. absurd cc;
+    spent = λ n e. let n_is : n ≡ last = cc in (n_is ∙ count, spent);
+    spent_where = λ on is. ap (λ (n : ℕ). Some (StepFaults.Spent n)) count;
+    full = λ n m e. absurd cc;
+    full_where = λ on left long. absurd (left spent);
+  }
+
+-- the same of a journal and a state that are equal to those before
+pub makes_along : {D : Type 0} (model : DiskView D) (step : Step) (mid old new : JournalShown D) (t s s' : State) (fault : Option StepFault)
+    → mid ≡ old → t ≡ s → Makes model step mid t new s' fault → Makes model step old s new s' fault
+makes_along model step mid old new t s s' fault e f m =
+    subst (λ (x : State). Makes model step old x new s' fault) f
+    (subst (λ (j : JournalShown _). Makes model step j t new s' fault) e m)
