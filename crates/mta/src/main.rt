@@ -1,24 +1,17 @@
-//! `mta`, a message transfer agent of the X.400 family.
+//! `mta`, a message transfer agent of the X.400 family: the process.
+//!
+//! `main` reads the words, opens `mta.tables` and the standard streams in the folder in which it is
+//! called, names `mta.spool`, and hands all to `run` as objects of `mta_edge`; it ends with the status
+//! that `run` answers. Words that are not UTF-8 are told the usage line.
+//!
+//! Something that cannot be opened is an object all of whose calls fail, so `run` tells it as a fault
+//! of that object. Of the real files nothing is proved: they tell nothing of what they hold
+//! (`mta_host`). A crash leaves what the calls made so far leave; the lock goes with the process.
 #![tactic(auto)]
 
-mod command;
-mod decode;
-mod gather;
-mod host;
-mod put;
-mod read;
-mod run;
-mod stop;
-mod tell;
-#[cfg(test)]
-mod tests;
-mod words;
-mod work;
-
-use crate::host::{FileDisk, Octets, Reading, SystemClock, Writing};
-use crate::run::run;
-use crate::words::Words;
-use std::fs::{File, OpenOptions};
+use mta_host::{FileDisk, Octets, Reading, SystemClock, Writing};
+use mta_run::{Stop, run, tell};
+use std::fs::File;
 use std::process::ExitCode;
 use std::{env, io};
 
@@ -31,30 +24,27 @@ fn arguments(rt: &HostRuntime) -> io::Result<Vec<String>> {
     Ok(words)
 }
 
-// The spool's file, which is made where it is absent, once no other process has it. The lock goes with the file.
-fn spool_file(rt: &HostRuntime) -> Option<File> {
-    let file = OpenOptions::new()
-        .read(true)
-        .write(true)
-        .create(true)
-        .open(rt, "mta.spool")
-        .ok()?;
-    file.lock().ok()?;
-    Some(file)
+// Why there are no words: one is not UTF-8, or memory was short.
+fn stop_of_words(error: &io::Error) -> Stop {
+    match error.kind() {
+        io::ErrorKind::InvalidData => Stop::Usage,
+        _ => Stop::Memory,
+    }
 }
 
 fn main(rt: HostRuntime) -> ExitCode {
     let mut out = Writing::new(io::writer(&rt));
-    let Ok(words) = arguments(&rt) else {
-        return ExitCode::from(tell::tell(rt.alloc(), &mut out, &stop::Stop::Memory));
+    let words = match arguments(&rt) {
+        Ok(words) => words,
+        Err(error) => {
+            let status = tell(rt.alloc(), &mut out, &stop_of_words(&error));
+            return ExitCode::from(status);
+        }
     };
     let mut conf = Reading::new(Octets::File(File::open(&rt, "mta.tables").ok()));
     let mut input = Reading::new(Octets::Stream(rt.reader()));
-    // Words outside the grammar leave no file behind, nor does `decode`, which calls no disk.
-    let disk = FileDisk::new(match Words::read(rt.alloc(), &words) {
-        Ok(Some(Words::Decode)) | Ok(None) | Err(_) => None,
-        Ok(Some(_)) => spool_file(&rt),
-    });
+    // The file is opened at the first call, so a command that calls no disk leaves none behind.
+    let disk = FileDisk::new(&rt, ".", "mta.spool");
     let clock = SystemClock::new(&rt);
     let finished = run(
         rt.alloc(),

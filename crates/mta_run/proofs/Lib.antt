@@ -1,0 +1,16 @@
+pub mod Same
+pub mod LongInput
+pub mod CrashStands
+pub mod DiskStands
+pub mod Added
+pub mod Stored
+pub mod Settled
+pub mod Worked
+pub mod HandedOn
+pub mod ShownSpool
+pub mod Decoded
+pub mod Submitted
+pub mod Printed
+pub mod Statuses
+pub mod AcknowledgedKept
+pub mod RanFields

@@ -1,0 +1,72 @@
+-- What a command prints, and why a run stops without it.
+use Rattle.std.specs.Prelude.{◌≡◌, ◌≢◌, ◌^◌, ℕ, ◌<◌, List, ◌++◌, Option, None, Some, option_and_then}
+use Rattle.mta_ber.specs.declared.fault.Kind.{Kind}
+use Rattle.mta_records.specs.declared.step.Step.{Step}
+use Rattle.mta_tables.specs.declared.fault.LineKind.{LineKind}
+use Rattle.mta_tables.specs.Tables.{TablesValue, mailbox_of as place_of_mailbox}
+use Rattle.mta_tables.specs.Grammar.{IsFirstBadLine}
+use Rattle.mta_apdu.specs.Apdus.{ApduValue, SpellsApdu}
+use Rattle.mta_apdu_text.specs.Apdus.{apdu_text}
+use Rattle.mta_history.specs.Apdu.{HasFault}
+use Rattle.mta_history.specs.Verdict.{recorded}
+use Rattle.mta_history.specs.History.{State, after, IsTablesText}
+use Rattle.mta_history.specs.Image.{size_of, NoSpoolAt}
+use Rattle.mta_show.specs.Queue.{queue_text}
+use Rattle.mta_show.specs.Mailbox.{mailbox_text}
+use Rattle.mta_run.specs.declared.stop.Stop.{Stop}
+use Rattle.mta_run.specs.declared.stop.Stop.TheVariants as Stops
+use Rattle.mta_run.specs.declared.words.Words.{Words}
+use Rattle.mta_run.specs.declared.words.Words.TheVariants as Say
+use Rattle.mta_run.specs.Words.{ReadsTables, ReadsApdu, OpensDisk}
+use Rattle.mta_run.specs.Handed.{Handed, ForTables, ForInput, ForDisk, ForOpened, SourceFailed, DiskFailed, InputsRead}
+use Rattle.mta_run.specs.Lines.{accepted_line}
+use Rattle.mta_run.specs.DiskLeft.{Opening, uncalled, refused, opened}
+use Rattle.mta_run.specs.Submit.{IsAccepted, IsFullFor, IsSpentFor}
+
+-- the mailbox of this name in the tables recorded last
+abbrev pub mailbox_named : State → List ℕ → Option ℕ
+mailbox_named s name = option_and_then (λ (t : TablesValue). place_of_mailbox t name) (recorded s.machine.tables)
+
+-- What a command prints where it does not stop: `submit` the number of the item, `spool` the queue, `read` the
+-- mailbox, and `decode` the APDU. All but `decode` have opened the disk then.
+pub data IsText {D C I : Type 0} (h : Handed D C I) (added : List Step) : Opening → List ℕ → Type 0 where
+  of_submit : (number : ℕ) (text : List ℕ) → h.words ≡ Some Say.Submit → InputsRead h → number < 2 ^ 32
+      → text ≡ accepted_line number
+      → ForInput h (λ i. ForOpened h (λ steps. IsAccepted steps added i number)) → IsText h added opened text
+  of_queue : (text : List ℕ) → h.words ≡ Some Say.Queue
+      → ForOpened h (λ steps. text ≡ queue_text (after steps).machine.items)
+      → IsText h added opened text
+  of_mailbox : (name text : List ℕ) → h.words ≡ Some (Say.Mailbox name)
+      → ForOpened h (λ steps. mailbox_named (after steps) name ≢ None)
+      → ForOpened h (λ steps. text ≡ mailbox_text name (after steps).machine.items (after steps).machine.mailboxes)
+      → IsText h added opened text
+  of_decode : (text : List ℕ) → h.words ≡ Some Say.Decode
+      → ForInput h (λ i. (v : ApduValue) × SpellsApdu i v × (text ≡ apdu_text v))
+      → IsText h added uncalled text
+
+-- Why a run stopped so, behind these added steps, and how far it had come with the disk. Each cause is met in its
+-- place: the words, the tables, the input, opening, the steps. Want of memory alone needs no cause. A fault of the
+-- output has no line, so it is none of these.
+pub data Cause {D C I : Type 0} (h : Handed D C I) (added : List Step) : Opening → Stop → Type 0 where
+  usage : h.words ≡ None → Cause h added uncalled Stops.Usage
+  memory : (opening : Opening) → Cause h added opening Stops.Memory
+  source : SourceFailed h → Cause h added uncalled Stops.Source
+  tables : (line : ℕ) (kind : LineKind) → ReadsTables h.words → ForTables h (λ c. IsFirstBadLine c line kind)
+      → h.input.after ≡ h.input.before → Cause h added uncalled (Stops.Tables line kind)
+  apdu : (at : ℕ) (kind : Kind) → ReadsApdu h.words → (ReadsTables h.words → ForTables h IsTablesText)
+      → ForInput h (λ i. HasFault i (record { at = at; kind = kind })) → Cause h added uncalled (Stops.BadApdu at kind)
+  not_spool : (at : ℕ) → OpensDisk h.words → InputsRead h → ForDisk h (λ f. NoSpoolAt f at)
+      → Cause h added refused (Stops.NotSpool at)
+  not_opened : OpensDisk h.words → InputsRead h → DiskFailed h → Cause h added refused Stops.Disk
+  disk : h.words ≡ Some Say.Submit → InputsRead h → DiskFailed h → Cause h added opened Stops.Disk
+  full : (size need : ℕ) → h.words ≡ Some Say.Submit → InputsRead h
+      → ForTables h (λ c. ForInput h (λ i. ForOpened h (λ steps.
+      IsFullFor (h.clocks.tells h.clock) c i added (after (steps ++ added)) (size_of (steps ++ added)) size need)))
+      → Cause h added opened (Stops.Full size need)
+  spent : (last : ℕ) → h.words ≡ Some Say.Submit → InputsRead h
+      → ForTables h (λ c. ForInput h (λ i. ForOpened h (λ steps.
+      IsSpentFor (h.clocks.tells h.clock) c i added (after (steps ++ added)) last)))
+      → Cause h added opened (Stops.Spent last)
+  no_mailbox : (name : List ℕ) → h.words ≡ Some (Say.Mailbox name)
+      → ForOpened h (λ steps. mailbox_named (after steps) name ≡ None)
+      → Cause h added opened (Stops.NoMailbox name)

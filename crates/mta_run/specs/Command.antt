@@ -1,0 +1,48 @@
+-- What a command leaves before its last line is printed.
+use Rattle.std.specs.Prelude.{◌≡◌, ℕ, List, [], ◌++◌, Some, Result, Ok}
+use Rattle.mta_records.specs.declared.step.Step.{Step}
+use Rattle.mta_apdu.specs.Apdus.{longest_apdu}
+use Rattle.mta_history.specs.Verdict.{last_of}
+use Rattle.mta_history.specs.Due.{IsQuiet}
+use Rattle.mta_history.specs.History.{after, IsHistory}
+use Rattle.mta_spool.specs.Stands.{step_moment}
+use Rattle.mta_run.specs.declared.stop.Stop.{Stop}
+use Rattle.mta_run.specs.declared.words.Words.TheVariants as Say
+use Rattle.mta_run.specs.Words.{ReadsTables, ReadsApdu, OpensDisk}
+use Rattle.mta_run.specs.Handed.{Handed, ForTables, ForInput, ForOpened}
+use Rattle.mta_run.specs.Output.{Output, HasPrinted}
+use Rattle.mta_run.specs.Inputs.{longest_tables, IsDrawn}
+use Rattle.mta_run.specs.DiskLeft.{Opening, uncalled, DiskLeft}
+use Rattle.mta_run.specs.Submit.{AreOwn, AreInTurn}
+use Rattle.mta_run.specs.Causes.{Cause, IsText}
+
+-- nothing is due after these steps, at a moment that is the greater of their last one and one that the clock tells
+abbrev pub IsSettled : (ℕ → Type 0) → List Step → Type 0
+IsSettled tells steps = (told : ℕ) × tells told × IsQuiet (after steps) (step_moment told (after steps).moment)
+
+-- What becomes of the sources: one that the command does not read is the same, and no more is taken of one than
+-- shows that it is too long.
+pub record SourcesLeft {D C I : Type 0} (h : Handed D C I) : Type 0 where
+  pub conf_untouched : (ReadsTables h.words → ⊥) → h.conf.after ≡ h.conf.before
+  pub input_untouched : (ReadsApdu h.words → ⊥) → h.input.after ≡ h.input.before
+  pub conf : IsDrawn h.sources longest_tables h.conf.before h.conf.after
+  pub input : IsDrawn h.sources longest_apdu h.input.before h.input.after
+
+pub record HasEnded {D C I : Type 0} (h : Handed D C I) (out : Output) (result : Result (Unit {0}) Stop) : Type 0 where
+  pub opening : Opening
+  pub added : List Step
+  pub torn_step : List Step
+  pub sources : SourcesLeft h
+  pub disk : DiskLeft h.disks h.disk.before h.disk.after opening added torn_step
+  pub uncalled_unless : (OpensDisk h.words → ⊥) → opening ≡ uncalled
+  pub printed : HasPrinted (Cause h added opening) (IsText h added opening) out result
+  pub history : ForOpened h (λ steps. IsHistory (steps ++ (added ++ torn_step)))
+  pub own : ForTables h (λ c. ForInput h (λ i. ForOpened h (λ steps.
+      AreOwn (h.clocks.tells h.clock) c i (after steps) (added ++ torn_step))))
+  pub in_turn : AreInTurn 0 (added ++ torn_step)
+  pub only_submit : (h.words ≡ Some Say.Submit → ⊥) → added ++ torn_step ≡ []
+  pub calm : result ≡ Ok tt → torn_step ≡ []
+  pub settled : h.words ≡ Some Say.Submit → result ≡ Ok tt
+      → ForOpened h (λ steps. IsSettled (h.clocks.tells h.clock) (steps ++ added))
+  pub recorded : h.words ≡ Some Say.Submit → result ≡ Ok tt
+      → ForTables h (λ c. ForOpened h (λ steps. last_of (after (steps ++ added)).machine.tables ≡ Some c))

@@ -1,0 +1,13 @@
+pub mod Words
+pub mod Handed
+pub mod Output
+pub mod Lines
+pub mod Inputs
+pub mod Images
+pub mod DiskLeft
+pub mod Submit
+pub mod Causes
+pub mod Command
+pub mod Decode
+pub mod Shows
+pub mod Ran

@@ -1,0 +1,110 @@
+-- What a run leaves of everything that was handed in.
+use Rattle.std.specs.Prelude.{◌≡◌, ◌≢◌, ◌⊎◌, ◌+◌, ◌<◌, ◌≤◌, ◌^◌, ℕ, List, [], ◌∷◌, ◌++◌, length, take, None, Some, Ok}
+use Rattle.mta_records.specs.declared.step.Step.{Step}
+use Rattle.mta_tables.specs.Tables.{TablesValue, tables_of}
+use Rattle.mta_history.specs.Apdu.{IsApdu}
+use Rattle.mta_history.specs.Items.{ItemValue, numbered}
+use Rattle.mta_history.specs.Verdict.{last_of}
+use Rattle.mta_history.specs.History.{after, IsHistory, IsTablesText, RecipientsOnce}
+use Rattle.mta_history.specs.Image.{StandsFor}
+use Rattle.mta_run.specs.declared.words.Words.{Words}
+use Rattle.mta_run.specs.declared.words.Words.TheVariants as Say
+use Rattle.mta_run.specs.Words.{ReadsTables, ReadsApdu, OpensDisk}
+use Rattle.mta_run.specs.Handed.{Handed, ForTables, ForInput, ForDisk, ForOpened, SourceFailed, DiskFailed, InputsRead}
+use Rattle.mta_run.specs.Lines.{accepted_line}
+use Rattle.mta_run.specs.Output.{Output, OutputFailed, IsEnded}
+use Rattle.mta_run.specs.DiskLeft.{Opening, uncalled, opened, DiskLeft}
+use Rattle.mta_run.specs.Submit.{AreOwn, AreInTurn, accepts, IsAccepted}
+use Rattle.mta_run.specs.Causes.{Cause, IsText, mailbox_named}
+use Rattle.mta_run.specs.Command.{IsSettled, SourcesLeft}
+
+-- An added Accept of these octets makes the item of this number, which is the next one behind the history, and the
+-- item has these octets.
+pub record IsKept (steps added : List Step) (octets : List ℕ) (n : ℕ) : Type 0 where
+  pub accepted : IsAccepted steps added octets n
+  pub item : ItemValue
+  pub item_is : numbered (after (steps ++ added)).machine.items n ≡ Some item
+  pub octets_are : item.octets ≡ octets
+
+-- What status 0 means beside the text.
+pub record EndedWell {D C I : Type 0} (h : Handed D C I) (opening : Opening) (added torn_step : List Step)
+    : Type 0 where
+  -- the words are in the grammar, and what the command reads is in order
+  pub known : h.words ≢ None
+  pub read : InputsRead h
+  -- the disk was opened, unless the command opens none, and no step failed on it
+  pub opened_it : OpensDisk h.words → opening ≡ opened
+  pub calm : torn_step ≡ []
+  -- the mailbox is named
+  pub named : (name : List ℕ) → h.words ≡ Some (Say.Mailbox name)
+      → ForOpened h (λ steps. mailbox_named (after steps) name ≢ None)
+  -- with `submit` nothing is due, and the tables recorded last are those that were read
+  pub settled : h.words ≡ Some Say.Submit → ForOpened h (λ steps. IsSettled (h.clocks.tells h.clock) (steps ++ added))
+  pub recorded : h.words ≡ Some Say.Submit
+      → ForTables h (λ c. ForOpened h (λ steps. last_of (after (steps ++ added)).machine.tables ≡ Some c))
+
+-- What a run leaves, each part where the objects that it speaks of tell what they hold. `opening` says how far it
+-- came with the disk, `added` are the steps that it added to the history for which the disk stood, and `torn_step`
+-- is the step in which the disk failed, if it did.
+pub record Ran {D C I : Type 0} (h : Handed D C I) (out : Output) (status : ℕ) : Type 0 where
+  pub opening : Opening
+  pub added : List Step
+  pub torn_step : List Step
+  -- a source that the command does not read is the same, and of one that it reads it takes an octet more than the
+  -- most at most
+  pub sources : SourcesLeft h
+  -- the disk is called only by a command that opens it
+  pub uncalled_unless : (OpensDisk h.words → ⊥) → opening ≡ uncalled
+  -- the disk stands for the history with the added steps, as it reads and after a crash, or with those and the one
+  -- in which it failed; since the first sync a crash left the history with a beginning of these; one that was not
+  -- called is the same, and one that is no spool is as it was
+  pub disk_stands : DiskLeft h.disks h.disk.before h.disk.after opening added torn_step
+  -- each recipient is pending with no discharge, or is not pending and has one
+  pub recipients_once : ForOpened h (λ steps. (n : ℕ) → RecipientsOnce (steps ++ take n (added ++ torn_step)))
+  -- where `submit` printed the line `accepted N`, an added Accept of the input makes item N
+  pub acknowledged_kept : h.words ≡ Some Say.Submit → (a b : List ℕ) → out.before ≡ Some a → out.after ≡ Some b
+      → (n : ℕ) (rest : List ℕ) → n < 2 ^ 32 → b ≡ a ++ accepted_line n ++ rest
+      → ForInput h (λ i. ForOpened h (λ steps. IsKept steps added i n × IsKept steps (added ++ torn_step) i n))
+  -- what was printed, the status, and why
+  pub printed : IsEnded (Cause h added opening) (IsText h added opening) out status
+  -- the steps are of the tables and the input of this call, and their moments are those of the clock
+  pub provenance : ForTables h (λ c. ForInput h (λ i. ForOpened h (λ steps.
+      AreOwn (h.clocks.tells h.clock) c i (after steps) (added ++ torn_step))))
+  -- the tables come first, where they changed, then one Accept, then what is due; and only `submit` adds any
+  pub in_turn : AreInTurn 0 (added ++ torn_step)
+  pub at_most_one : accepts (added ++ torn_step) ≤ 1
+  pub only_submit : (h.words ≡ Some Say.Submit → ⊥) → added ++ torn_step ≡ []
+  -- and with status 0 all is well
+  pub ended_well : status ≡ 0 → EndedWell h opening added torn_step
+
+-- the run ends before it opens the disk: the command opens none, or the words, the tables, the input or a source
+-- had a fault
+abbrev pub EndsBeforeOpening : {D C I : Type 0} → Handed D C I → ℕ → Type 0
+EndsBeforeOpening h status = (OpensDisk h.words → ⊥) ⊎ (status ≡ 1) ⊎ (status ≡ 2) ⊎ (status ≡ 6) ⊎ (status ≡ 8)
+
+-- What a status tells by itself. Want of memory, 7, is free.
+pub record Tells {D C I : Type 0} (h : Handed D C I) (out : Output) (status : ℕ) : Type 0 where
+  -- 1 comes exactly where the words are outside the grammar, but for want of memory and a fault of the output
+  pub usage : status ≡ 1 → h.words ≡ None
+  pub usage_where : h.words ≡ None → (status ≡ 1) ⊎ (status ≡ 7) ⊎ ((status ≡ 9) × OutputFailed out)
+  pub disk : status ≡ 4 → OpensDisk h.words × DiskFailed h
+  pub source : status ≡ 8 → SourceFailed h
+  pub sink : status ≡ 9 → OutputFailed out
+  pub untouched : EndsBeforeOpening h status → h.disk.after ≡ h.disk.before
+
+-- All is in order that the command reads, and nothing fails.
+pub record AllInOrder {D C I : Type 0} (h : Handed D C I) (out : Output) : Type 0 where
+  pub known : h.words ≢ None
+  pub tables : ReadsTables h.words → (c : List ℕ) × (h.sources.left h.conf.before ≡ Some c) × IsTablesText c
+  pub apdu : ReadsApdu h.words → (i : List ℕ) × (h.sources.left h.input.before ≡ Some i) × IsApdu i
+  pub spool : OpensDisk h.words → (f : List ℕ) × (steps : List Step) × (h.disks.content h.disk.before ≡ Some f)
+      × StandsFor f steps
+  pub named : (name : List ℕ) → h.words ≡ Some (Say.Mailbox name)
+      → ForOpened h (λ steps. mailbox_named (after steps) name ≢ None)
+  pub calm_sources : SourceFailed h → ⊥
+  pub calm_disk : DiskFailed h → ⊥
+  pub calm_output : OutputFailed out → ⊥
+
+-- Then the status is 0, or 7, or of `submit` 5, where a step was refused for its numbers.
+abbrev pub IsComplete : {D C I : Type 0} → Handed D C I → Output → ℕ → Type 0
+IsComplete h out status = AllInOrder h out → (status ≡ 0) ⊎ (status ≡ 7) ⊎ ((status ≡ 5) × (h.words ≡ Some Say.Submit))

@@ -1,0 +1,19 @@
+//! The commands of the message transfer agent, over a disk, streams and a clock that are handed in.
+#![tactic(auto)]
+
+mod command;
+mod decode;
+mod ended;
+mod inputs;
+mod lines;
+mod mailbox;
+mod print;
+mod queue;
+mod stop;
+mod submit;
+mod words;
+
+pub use command::{Finished, run};
+pub use lines::tell;
+pub use stop::Stop;
+pub use words::Words;
