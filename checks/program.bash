@@ -9,7 +9,7 @@ program() {
   made=$(mktemp -d)
   trap 'rm -rf "$made"' EXIT
   mta=$PWD/crates/mta/out/mta
-  if [ ! -x "$mta" ] || [ -n "$(find crates -name '*.rt' -newer "$mta" -print -quit)" ]; then
+  if [ ! -x "$mta" ] || [ -n "$(find crates -path '*/out' -prune -o -name '*.rt' -newer "$mta" -print -quit)" ]; then
     rm -f "$mta"
     (cd crates/mta && rt run) >"$made/log" 2>&1
     [ -x "$mta" ] || { cat "$made/log"; exit 1; }
