@@ -1,4 +1,8 @@
-//! APDUs.
+//! An APDU of P1 (X.411, MTS-APDU): a message, a probe or a report, and nothing behind it.
+//!
+//! In come octets, from the input or from an item; out goes the value that they spell, its content
+//! lent where it stands in one piece, or the first fault with its place. `write` gives the one
+//! canonical spelling. Want of memory aside nothing else fails.
 
 ghost use Rattle.std.specs.Prelude.{◌≡◌, ◌<◌, ◌≤◌, ◌^◌, ◌+◌, ◌-◌, length, IfOk, Ok};
 ghost use Rattle.mta_ber.specs.Element.{first};

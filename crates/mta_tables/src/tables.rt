@@ -1,4 +1,8 @@
-//! Tables.
+//! An agent's tables: read from a text, and asked where the messages for a name go.
+//!
+//! In comes the text of `mta.tables`, or one that was recorded in the spool; out go the tables, exactly
+//! where the grammar has the text (`specs/Grammar.antt`), or its first bad line with its kind. Look-ups
+//! take no memory. The text is kept, since the spool records it.
 
 ghost use Rattle.std.specs.Prelude.{◌≡◌};
 ghost use Rattle.mta_tables.specs.Reading.{Reads};
