@@ -20,8 +20,8 @@
 ghost use Rattle.std.specs.Prelude.{◌≡◌, IfOk};
 ghost use Rattle.mta_ber.specs.Parts.{Leaves, Reads, IsReadAs};
 ghost use Rattle.mta_ber.specs.Seen.{view};
-ghost use Rattle.mta_ber.specs.Example.{note_step, note_in, SpellsNote};
-ghost use Rattle.mta_ber.specs.declared.note.Note.{Note as NoteValue};
+ghost use Rattle.mta_ber_tests.specs.Example.{note_step, note_in, SpellsNote};
+ghost use Rattle.mta_ber_tests.specs.declared.note.Note.{Note as NoteValue};
 
 use crate::components::{bad, is_tag_of, take_required};
 use crate::fault::{Kind, ReadFault};
