@@ -1,0 +1,10 @@
+pub mod Turning
+pub mod Events
+pub mod Calls
+pub mod EventsRecv
+pub mod CallsRecv
+pub mod Runs
+pub mod Causes
+pub mod CausesOfUnits
+pub mod Writing
+pub mod WritingUnits

@@ -1,0 +1,6 @@
+pub mod Called
+pub mod Causes
+pub mod Runs
+pub mod Turning
+pub mod TurningRecv
+pub mod Writing
