@@ -67,7 +67,7 @@ moment_text m le =
       in_range = le;
     }
 
-pub text_short : (m : ℕ) → length (utc_content m) ≡ 13
+text_short : (m : ℕ) → length (utc_content m) ≡ 13
 unfolding utc_content
 text_short m = refl
 

@@ -4,8 +4,6 @@ pub mod Seen
 pub mod Element
 pub mod Int
 pub mod Parts
-pub mod Forms
-pub mod Lengths
 pub mod Strings
 pub mod Bits
 pub mod Times
@@ -19,4 +17,5 @@ pub mod Laws
 pub mod Moments
 pub mod Components
 pub mod Explicit
+pub mod Example
 pub mod Place

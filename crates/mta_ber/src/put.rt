@@ -14,8 +14,7 @@ use crate::writer::Writer;
 use jiff_core::civil::Date;
 use std::alloc::Global;
 
-/// The tag of a primitive element.
-pub fn as_primitive_of(tag: Tag) -> Tag
+fn as_primitive_of(tag: Tag) -> Tag
     ensures { result ≡ as_primitive tag }
 {
     Tag {
@@ -35,7 +34,7 @@ fn is_redundant_of(first: u8, rest: &[u8]) -> bool
 }
 
 /// The shortest octets of the same number.
-pub fn shortest_of(octets: &[u8]) -> &[u8]
+fn shortest_of(octets: &[u8]) -> &[u8]
     ensures { result.now ≡ shortest octets.now }
 {
     match octets {

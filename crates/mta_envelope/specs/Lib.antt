@@ -4,4 +4,3 @@ pub mod Envelopes
 pub mod Contents
 pub mod Messages
 pub mod Laws
-pub mod Places

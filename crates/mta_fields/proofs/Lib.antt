@@ -9,4 +9,3 @@ pub mod ExtLaws
 pub mod FieldAgain
 pub mod ExtensionAgain
 pub mod Kept
-pub mod Tagged

@@ -5,4 +5,3 @@ pub mod Traces
 pub mod TraceElements
 pub mod ExtensionFields
 pub mod Laws
-pub mod Tagged

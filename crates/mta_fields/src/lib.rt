@@ -7,7 +7,6 @@ mod expansion;
 mod extension;
 mod identifier;
 mod laws;
-mod length;
 mod supplied;
 mod trace;
 

@@ -12,5 +12,3 @@ pub mod Again
 pub mod ExtensionAgain
 pub mod NameAgain
 pub mod Kept
-pub mod LengthLaws
-pub mod Definite

@@ -8,4 +8,3 @@ pub mod Standard
 pub mod Names
 pub mod Normal
 pub mod Laws
-pub mod Definite

@@ -1,4 +1,3 @@
 pub mod Body
-pub mod Outgoing
 pub mod Reading
 pub mod Reference

@@ -1,4 +1,8 @@
-//! Reading records.
+//! The body of a record as the step that it is of.
+//!
+//! In comes a body that opening found on the disk; out goes the one step with these octets, or
+//! `BadRecord` at the first field that passes the end or is outside its type, or at the first octet
+//! behind the last field. Want of memory aside nothing else fails.
 
 ghost use Rattle.std.specs.Prelude.{◌≡◌, ◌<◌, ◌^◌, length, IfOk, Ok};
 ghost use Rattle.std.specs.Int.{w32, w64};

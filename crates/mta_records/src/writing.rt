@@ -1,4 +1,7 @@
-//! Writing records.
+//! A step as the octets of its record's body.
+//!
+//! In comes a step from the spool, before it is put on the disk; out go one kind octet and its fields,
+//! as `body_of` has them. Only want of memory fails.
 
 ghost use Rattle.std.specs.Prelude.{◌≡◌, ◌++◌, ◌<◌, ◌^◌, length, IfOk, OnOk};
 ghost use Rattle.mta_records.specs.Body.{string, recipient_fields, body_of, HasFields};

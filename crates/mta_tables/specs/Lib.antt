@@ -1,14 +1,8 @@
 pub mod Domain
-pub mod Words
-pub mod Numbers
+pub mod Mailbox
 pub mod Lines
-pub mod Seen
-pub mod Sameness
 pub mod Reading
-pub mod Drafts
 pub mod Tables
 pub mod Grammar
 pub mod Answers
 pub mod Hops
-pub mod Laws
-pub mod Whole

@@ -1,3 +1,0 @@
-pub mod Little
-pub mod Stepping
-pub mod Work

@@ -1,6 +1,0 @@
-pub mod Called
-pub mod Causes
-pub mod Runs
-pub mod Turning
-pub mod TurningRecv
-pub mod Writing
