@@ -123,8 +123,8 @@ impl<'a> Apdu<'a> {
     ghost use Rattle.mta_envelope.specs.Contents.{ReadsSeen, IsSeenAs};
     ghost use Rattle.mta_apdu.specs.Apdus.{ApduValue, apdu_value, apdu_of, SpellsApdu, canonical_apdu, IsLentIn};
 
-    /// The APDU that octets spell. TooLong at 2,097,152 where there are more octets, before all else; then the first fault of the
-    /// element at their front; then Trailing at the first octet behind it.
+    /// The APDU that octets spell. TooLong at 2,097,152 where there are more octets, before all else; then the first
+    /// fault of the element at their front; then Trailing at the first octet behind it.
     pub fn read(alloc: Global, bytes: &'a [u8]) -> Result<Apdu<'a>, ReadFault>
         // Which APDU it is, or which fault comes first. A message's content is lent exactly where it is primitive.
         ensures exact { ReadsSeen apdu_value result (apdu_of bytes.now) }

@@ -4,7 +4,8 @@ use Rattle.mta_edge.specs.Numbers.{is_listed, one_more_call}
 use Rattle.mta_edge.specs.Views.{SourceView, SinkView}
 use Rattle.mta_edge.specs.declared.log.Called.{Called}
 
--- the octets that are left or were put, the count of faults, how many calls were made, and the numbers of those that fail
+-- the octets that are left or were put, the count of faults, how many calls were made, and the numbers of those that
+-- fail
 pub record Held : Type 0 where
   pub octets : List ℕ
   pub faults : ℕ
@@ -26,8 +27,8 @@ pub record HeldDisk : Type 0 where
   pub calls : ℕ
   pub fail : List ℕ
 
--- A call of a disk in memory fails where its number is listed, and else only where memory for it was refused: nothing is
--- logged then.
+-- A call of a disk in memory fails where its number is listed, and else only where memory for it was refused: nothing
+-- is logged then.
 pub record FailsAsListed {T E : Type 0} (old new : HeldDisk) (result : Result T E) : Type 0 where
   pub number : new.calls ≡ one_more_call old.calls
   pub fail : new.fail ≡ old.fail

@@ -27,8 +27,8 @@ pub(crate) fn read_piece(octets: &[u8], at: usize, into: &mut [u8]) -> usize
     count
 }
 
-/// A disk with these octets, which fails at the listed calls (numbers from 1). It logs its calls, and tells what a crash
-/// at each of them may leave.
+/// A disk with these octets, which fails at the listed calls (numbers from 1). It logs its calls, and tells what a
+/// crash at each of them may leave.
 #[derive(Drop)]
 pub struct MemDisk {
     alloc: Global,
@@ -85,8 +85,8 @@ impl MemDisk {
         self.log.len() as u64
     }
 
-    /// An image that a crash behind the call with this number leaves, where 0 is before the first call. The octal digits of
-    /// the choice, the last one first, say how each write and each cut since the last sync is torn.
+    /// An image that a crash behind the call with this number leaves, where 0 is before the first call. The octal
+    /// digits of the choice, the last one first, say how each write and each cut since the last sync is torn.
     pub fn image(&self, call: u64, choice: u64) -> Result<Octets, Memory>
         ensures image { IfOk result (λ o. o ≡ image_of self.now call choice) }
         ensures left { IfOk result (λ o. LeftAt self.now call o) }

@@ -73,7 +73,8 @@ fn safe_disks_are_read(rt: HostRuntime) -> Result<(), Fail> {
     Ok(())
 }
 
-// A write of four octets behind two, by the digits 0 to 7, and then a sync, a cut that fails and a crash behind each call.
+// A write of four octets behind two, by the digits 0 to 7, and then a sync, a cut that fails and a crash behind each
+// call.
 #[test]
 fn images_are_what_a_crash_leaves(rt: HostRuntime) -> Result<(), Fail> {
     let alloc = rt.alloc();

@@ -11,8 +11,8 @@ use Rattle.mta_history.specs.declared.verdict.Verdict.TheVariants as Verdicts
 use Rattle.mta_history.specs.Items.{ItemValue, numbered}
 use Rattle.mta_history.specs.Verdict.{verdict_of_message}
 
--- Recipient r of item i can be delivered at the moment, to the mailbox at this place. A message of the first shape has one
--- recipient. One for whom a delivery report is asked is not delivered yet, since none is made yet.
+-- Recipient r of item i can be delivered at the moment, to the mailbox at this place. A message of the first shape
+-- has one recipient. One for whom a delivery report is asked is not delivered yet, since none is made yet.
 pub record IsDeliverable (tables : Option TablesValue) (items : List ItemValue) (i r moment place : ℕ) : Type 0 where
   pub value : TablesValue
   pub tables_are : tables ≡ Some value

@@ -6,7 +6,8 @@ use Rattle.mta_history.specs.Verdict.{recorded}
 use Rattle.mta_history.specs.Deliveries.{IsDeliverable}
 use Rattle.mta_history.specs.History.{State}
 
--- At this moment this step is due for recipient r of item i: one who can be delivered under the tables recorded last is.
+-- At this moment this step is due for recipient r of item i: one who can be delivered under the tables recorded last
+-- is.
 pub record IsDue (s : State) (i r moment : ℕ) (step : Step) : Type 0 where
   pub place : ℕ
   pub delivered : IsDeliverable (recorded s.machine.tables) s.machine.items i r moment place

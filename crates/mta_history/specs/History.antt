@@ -1,4 +1,5 @@
--- Histories of the spool: which step is possible in a state, what it is for the machine of recipients, and what it leaves.
+-- Histories of the spool: which step is possible in a state, what it is for the machine of recipients, and what it
+-- leaves.
 use Rattle.std.specs.Prelude.{◌≡◌, ◌≢◌, ◌⊎◌, ℕ, ◌+◌, ◌<◌, ◌≤◌, ◌^◌, List, [], ◌∷◌, ◌++◌, length, Option, Some, None, Ok}
 use Rattle.mta_records.specs.declared.step.Step.{Step}
 use Rattle.mta_records.specs.declared.step.Step.TheVariants.{Tables, Accept, Deliver}
@@ -40,8 +41,8 @@ StepNeeds s (Tables text) = IsTablesText text
 StepNeeds s (Accept moment apdu) = Unit {0}
 StepNeeds s (Deliver item recipient moment) = Unit {0}
 
--- How many numbers of items have to be left for a step that is made here: two for one that may make as many items. Replay asks
--- for none beyond those of the items that it makes.
+-- How many numbers of items have to be left for a step that is made here: two for one that may make as many items.
+-- Replay asks for none beyond those of the items that it makes.
 abbrev pub numbers_needed : Step → ℕ
 numbers_needed (Tables text) = 0
 numbers_needed (Accept moment apdu) = 2
@@ -62,8 +63,8 @@ when s step = later s.moment (moment_of step)
 abbrev pub after_step : State → Step → State
 after_step s step = record { machine = machine_run s.machine (machine_steps s step); moment = when s step }
 
--- A step is possible where its own needs and those of the machine are met, its moment is not below the last one, and each item has a
--- number below 2 ^ 32.
+-- A step is possible where its own needs and those of the machine are met, its moment is not below the last one, and
+-- each item has a number below 2 ^ 32.
 pub record IsPossible (s : State) (step : Step) : Type 0 where
   pub allowed : StepNeeds s step
   pub as_machine : IsRun s.machine (machine_steps s step)
@@ -94,8 +95,8 @@ project_from s (step ∷ steps) = machine_steps s step ++ project_from (after_st
 abbrev pub project : List Step → List MachineStep
 project steps = project_from empty steps
 
--- The machine's steps are a run, and each recipient for whom this agent is responsible is pending and was not discharged,
--- or is not pending and was discharged once.
+-- The machine's steps are a run, and each recipient for whom this agent is responsible is pending and was not
+-- discharged, or is not pending and was discharged once.
 pub record RecipientsOnce (steps : List Step) : Type 0 where
   pub run : IsRun at_start (project steps)
   pub once : (i r : ℕ) (s : Status) → status_at (after steps).machine i r ≡ Some (Some s)

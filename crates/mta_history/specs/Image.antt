@@ -29,8 +29,8 @@ OneHistory = (image : List ℕ) (s t : List Step) → StandsFor image s → Stan
 abbrev pub IsNoStep : List Step → List ℕ → Type 0
 IsNoStep steps body = (step : Step) → HasFields step → body_of step ≡ body → IsPossible (after steps) step → ⊥
 
--- The bodies begin with those of a history, behind which the next body is that of no step which is possible there. This is the offset
--- of its gate.
+-- The bodies begin with those of a history, behind which the next body is that of no step which is possible there.
+-- This is the offset of its gate.
 pub record StopsAt (bodies : List (List ℕ)) (at : ℕ) : Type 0 where
   pub steps : List Step
   pub body : List ℕ

@@ -1,5 +1,5 @@
--- The machine of recipients (X.411 clause 14): tables, items with a status per recipient, mailboxes, and the last moment.
--- It has no disk, no lane and no lock, and nothing in it fails.
+-- The machine of recipients (X.411 clause 14): tables, items with a status per recipient, mailboxes, and the last
+-- moment. It has no disk, no lane and no lock, and nothing in it fails.
 use Rattle.std.specs.Prelude.{◌≢◌, ℕ, ◌≤◌, Bool, false, ◌==◌, ◌&&◌, List, [], ◌∷◌, ◌++◌, count_by, Option, Some, None}
 use Rattle.mta_history.specs.declared.item.MailboxLine.{MailboxLine}
 use Rattle.mta_history.specs.declared.item.Status.{Status}

@@ -75,8 +75,8 @@ fn statuses_of_destination(alloc: Global) -> Result<Vec<Option<Status>>, Memory>
 }
 
 impl Statuses {
-    /// The statuses of an APDU's recipients at first: of a message or a probe those are pending for whom this agent is responsible,
-    /// and the one recipient of a report is its destination, who is pending.
+    /// The statuses of an APDU's recipients at first: of a message or a probe those are pending for whom this agent
+    /// is responsible, and the one recipient of a report is its destination, who is pending.
     pub fn of_apdu(alloc: Global, apdu: &Apdu<'_>) -> Result<Statuses, Memory>
         ensures { IfOk result (λ s. s ≡ statuses_of (apdu_value apdu.now)) }
     {
@@ -158,7 +158,8 @@ impl Item {
         self.statuses.as_slice()
     }
 
-    /// The recipient of this number, from 1, has this status from now on; nothing changes where there is none of that number.
+    /// The recipient of this number, from 1, has this status from now on; nothing changes where there is none of that
+    /// number.
     pub fn set_status(&mut self, recipient: u32, status: Status)
         ensures { self.new ≡ with_status self.old recipient status }
     {

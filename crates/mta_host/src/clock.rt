@@ -8,7 +8,8 @@ use std::time::SystemTime;
 // The seconds from 1950-01-01 to 1970-01-01: 7,305 days.
 const SECONDS_BEFORE_1970: u64 = 631_152_000;
 
-/// The system's clock, in seconds since 1950-01-01 00:00:00 UTC. It answers 0 where it cannot be read or is before 1970.
+/// The system's clock, in seconds since 1950-01-01 00:00:00 UTC. It answers 0 where it cannot be read or is before
+/// 1970.
 #[derive(Drop)]
 pub struct SystemClock<'a, R: rt::Clock> {
     runtime: &'a R,

@@ -16,8 +16,8 @@ use std::fs::{File, Files, OpenOptions};
 use std::io::{self, ErrorKind};
 use std::os::unix::fs::FileExt;
 
-/// A disk in a file, which is opened at the first call, and made where it is absent. From then on no other process has it:
-/// the call waits for one that does. Every call fails where the file could not be opened.
+/// A disk in a file, which is opened at the first call, and made where it is absent. From then on no other process
+/// has it: the call waits for one that does. Every call fails where the file could not be opened.
 #[derive(Drop)]
 pub struct FileDisk<'a, R: Files<File = File>> {
     files: &'a R,
@@ -43,8 +43,8 @@ impl<'a, R: Files<File = File>> FileDisk<'a, R> {
 
     // Opens the file and waits until no other process has it. The lock goes with the file.
     //
-    // A file without octets may be a new one, so the folder is synced before the first octet is written: then a crash leaves
-    // the file where anything was promised.
+    // A file without octets may be a new one, so the folder is synced before the first octet is written: then a crash
+    // leaves the file where anything was promised.
     fn open(&self) -> io::Result<File> {
         let file = OpenOptions::new()
             .read(true)

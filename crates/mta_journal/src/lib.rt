@@ -1,5 +1,5 @@
-//! A journal on one disk: bodies one behind the other, each in a record behind a gate. A crash at any moment leaves those
-//! that were appended, in order, with all that were acknowledged, and no checksum is trusted.
+//! A journal on one disk: bodies one behind the other, each in a record behind a gate. A crash at any moment leaves
+//! those that were appended, in order, with all that were acknowledged, and no checksum is trusted.
 #![tactic(auto)]
 
 mod journal;

@@ -1,4 +1,5 @@
--- The text of the queue: the items, numbered from 1, and what became of each recipient for whom this agent is responsible.
+-- The text of the queue: the items, numbered from 1, and what became of each recipient for whom this agent is
+-- responsible.
 use Rattle.std.specs.Prelude.{ℕ, ◌+◌, List, [], ◌∷◌, ◌++◌, Option, Some, None, unwrap_or, Result, Ok, Err, slice_get, codes, decimal}
 use Rattle.mta_ber.specs.declared.fault.Fault.{Fault}
 use Rattle.mta_names.specs.declared.attributes.Attributes.{Attributes}

@@ -62,7 +62,8 @@ fn put_delivered(
     put_item(alloc, out, items.get(line.item.saturating_sub(1) as usize))
 }
 
-/// What was delivered to the mailbox of this word, in the order of the deliveries: the moment, the number of the item, and its lines.
+/// What was delivered to the mailbox of this word, in the order of the deliveries: the moment, the number of the
+/// item, and its lines.
 pub fn show_mailbox(
     alloc: Global,
     word: &[u8],

@@ -181,8 +181,8 @@ fn put_item(alloc: Global, out: &mut Octets, number: u64, item: &Item) -> Result
     }
 }
 
-/// The items in the order in which they were accepted, numbered from 1, each with a line per recipient for whom this agent is
-/// responsible: what became of it, and its name.
+/// The items in the order in which they were accepted, numbered from 1, each with a line per recipient for whom this
+/// agent is responsible: what became of it, and its name.
 pub fn show_queue(alloc: Global, items: &[Item]) -> Result<Octets, Memory>
     ensures { IfOk result (λ text. text ≡ queue_text items.now) }
 {

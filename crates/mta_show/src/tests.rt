@@ -98,8 +98,8 @@ subject C=GB;A=GOLD/M0001
 recipient 1 10101000 non-delivery 1 - arrived 500101001640Z C=GB;A=GOLD;S=WATT
 ";
 
-/// What is shown of these in the queue: for the second message this agent is not responsible, and the probe's recipient, whose number is 7,
-/// is its first.
+/// What is shown of these in the queue: for the second message this agent is not responsible, and the probe's
+/// recipient, whose number is 7, is its first.
 const QUEUE: &str = "item 1 message C=GB;A=GOLD/M0001 arrived 500101000000Z
 recipient 1 pending C=GB;A=GOLD;S=WATT
 item 2 message C=FR;A=/ \\09\\~\\7f arrived 500101001640Z

@@ -54,8 +54,8 @@ IsSpentBy count fault = (fault ≡ StepFaults.Spent count) × (2 ^ 32 ≤ count 
 abbrev pub IsOneOf : List Step → Step → List ℕ → Type 0
 IsOneOf steps step image = StandsFor image steps ⊎ StandsFor image (steps ++ step ∷ [])
 
--- Behind each history for which the spool stood the step was possible, and a crash at any moment of the call leaves the history
--- with it or without it.
+-- Behind each history for which the spool stood the step was possible, and a crash at any moment of the call leaves
+-- the history with it or without it.
 pub record MayHave {D : Type 0} (model : DiskView D) (step : Step) (old : JournalShown D) (s : State) (new : JournalShown D)
     : Type 0 where
   pub possible : (steps : List Step) → IsHeld model old s steps → IsPossible (after steps) step

@@ -1,8 +1,8 @@
 //! The state of the spool in memory: the state after its history.
 //!
-//! A step is made in three parts: `prepare` takes the memory for what it changes and changes nothing, the journal appends the step's record,
-//! and `Kept::commit` makes the change, which cannot fail. Where the record is not written nothing was changed. Replay does the same without
-//! the journal.
+//! A step is made in three parts: `prepare` takes the memory for what it changes and changes nothing, the journal
+//! appends the step's record, and `Kept::commit` makes the change, which cannot fail. Where the record is not written
+//! nothing was changed. Replay does the same without the journal.
 
 ghost use Rattle.std.specs.Prelude.{◌≡◌, ◌<◌, ◌≤◌, ◌^◌, ◌∷◌, [], length, is_some, IfOk, IfSome, IfNone, OnErr, IsErrOf, IsTrue, ◌↔◌};
 ghost use Rattle.std.specs.Option.{option_copied};

@@ -26,8 +26,8 @@ const UNRECOGNISED_NAME: u32 = 0;
 
 const MAXIMUM_TIME_EXPIRED: u32 = 5;
 
-/// What X.411, clause 14, has this agent do with the recipient of a message. Moments are seconds since 1950-01-01 00:00:00
-/// UTC.
+/// What X.411, clause 14, has this agent do with the recipient of a message. Moments are seconds since 1950-01-01
+/// 00:00:00 UTC.
 #[tactic(auto, unfolding(mta_history::specs::Verdict::verdict_of_message))]
 pub fn verdict_of_message(
     tables: &Tables,

@@ -26,13 +26,13 @@ pub struct SpoolOpen<D: Disk + Drop, C: Clock + Drop> {
 impl<D: Disk + Drop, C: Clock + Drop> Spool<D, C> {
     ghost use Rattle.mta_spool.specs.Opening.{HasOpened, HasRefused};
 
-    /// Opens the spool on this disk, whatever a crash has left of it. A disk of at most nine octets, whatever it holds, becomes an
-    /// empty spool; a longer one is replayed.
+    /// Opens the spool on this disk, whatever a crash has left of it. A disk of at most nine octets, whatever it
+    /// holds, becomes an empty spool; a longer one is replayed.
     ///
     /// # Errors
-    /// `NotSpool` exactly where the disk holds no spool, and `at` is the offset of the first octet that is not one of the first eight;
-    /// else of the first open gate with no body behind it; else of the first open gate whose body is that of no step which is
-    /// possible there. `Disk` only where the disk failed; `Memory`.
+    /// `NotSpool` exactly where the disk holds no spool, and `at` is the offset of the first octet that is not one of
+    /// the first eight; else of the first open gate with no body behind it; else of the first open gate whose body is
+    /// that of no step which is possible there. `Disk` only where the disk failed; `Memory`.
     pub fn open(alloc: Global, disk: D, clock: C) -> Result<Spool<D, C>, SpoolOpen<D, C>>
         ensures opened { IfOk result (λ s. HasOpened D.model disk s) }
         ensures clock { IfOk result (λ s. s.clock ≡ clock) }

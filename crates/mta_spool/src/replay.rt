@@ -26,7 +26,8 @@ fn take_up(current: &mut Current, alloc: Global, body: &[u8]) -> Result<(), NotM
     }
 }
 
-/// The state after the steps of these bodies, or the offset of the gate of the first body that is that of no possible step.
+/// The state after the steps of these bodies, or the offset of the gate of the first body that is that of no possible
+/// step.
 pub fn replay(alloc: Global, bodies: &[Octets]) -> Result<Current, OpenWhy>
     requires short { AreShort bodies.now }
     requires fits { length (front bodies.now) + 1 < 2 ^ 64 }

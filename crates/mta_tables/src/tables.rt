@@ -66,8 +66,9 @@ impl Tables {
     /// The most octets of a text.
     pub const LONGEST: usize = 1_048_576;
 
-    /// The tables of a text: lines that each end with a line feed. A line is empty, begins with `#`, or is `domain` with
-    /// `C=COUNTRY;A=ADMD`, `name` with a word, or `mailbox` with a word and the text form of a name, each behind one space.
+    /// The tables of a text: lines that each end with a line feed. A line is empty, begins with `#`, or is `domain`
+    /// with `C=COUNTRY;A=ADMD`, `name` with a word, or `mailbox` with a word and the text form of a name, each behind
+    /// one space.
     pub fn read(alloc: Global, text: &[u8]) -> Result<Tables, TablesFault>
         ensures exact { Reads result (tables_of text.now) }
 
@@ -75,7 +76,8 @@ impl Tables {
         ensures found { IfOk result (IsTablesText text.now) }
         ensures only { (t : TablesValue) → IsTablesText text.now t → IsReadAs result t }
 
-        // Which line is refused, and that the first bad line is refused for what is wrong with it, unless memory runs out.
+        // Which line is refused, and that the first bad line is refused for what is wrong with it, unless memory runs
+        // out.
         ensures fault { (line : ℕ) (kind : LineKind) → result ≡ Err (Faults.BadLine line kind)
             → IsFirstBadLine text.now line kind }
         ensures refused { (line : ℕ) (kind : LineKind) → IsFirstBadLine text.now line kind
