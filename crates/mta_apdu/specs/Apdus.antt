@@ -7,15 +7,11 @@ use Rattle.mta_ber.specs.declared.tag.Tag.{Tag}
 use Rattle.mta_ber.specs.Element.{Part, first, outermost}
 use Rattle.mta_ber.specs.Head.{◌>>=◌, fault}
 use Rattle.mta_ber.specs.Parts.{is_tag}
-use Rattle.mta_ber.specs.Place.{IsAt, IsTail}
 use Rattle.mta_ber.specs.Spelling.{Stands}
 use Rattle.mta_names.specs.Strings.{Puts}
-use Rattle.mta_envelope.specs.declared.content.Content.{Content}
-use Rattle.mta_envelope.specs.declared.content.Content.TheVariants.{Lent, Joined}
 use Rattle.mta_envelope.specs.declared.envelope.EnvelopeFields.{EnvelopeFields}
-use Rattle.mta_envelope.specs.Contents.{IsLentEndOf}
-use Rattle.mta_envelope.specs.Envelopes.{envelope_in, SpellsEnvelope}
-use Rattle.mta_envelope.specs.Messages.{MessageValue, message_value, message_in, SpellsMessage, canonical_message, canonical_probe}
+use Rattle.mta_envelope.specs.Messages.{MessageValue, message_value, message_in, SpellsMessage, probe_in, SpellsProbe, canonical_message, canonical_probe}
+use Rattle.mta_envelope.specs.Places.{IsBehindEnvelope, IsPlaced}
 use Rattle.mta_report.specs.declared.fields.ReportFields.{ReportFields}
 use Rattle.mta_report.specs.Reports.{report_in, SpellsReport, canonical_report}
 use Rattle.mta_apdu.specs.declared.apdu.Apdu.{Apdu}
@@ -47,7 +43,7 @@ kind_of t = if is_tag 2 0 t then Some OfMessage else if is_tag 2 1 t then Some O
 unfoldable pub apdu_as : ApduKind → Part → Result ApduValue Fault
 apdu_as OfMessage p = message_in p >>= λ v. Ok (message v)
 apdu_as OfReport p = report_in p >>= λ v. Ok (report v)
-apdu_as OfProbe p = envelope_in true p >>= λ v. Ok (probe v)
+apdu_as OfProbe p = probe_in p >>= λ v. Ok (probe v)
 
 abbrev pub apdu_of_kind : Option ApduKind → Part → Result ApduValue Fault
 apdu_of_kind None p = fault p.at BadTag
@@ -70,7 +66,16 @@ whole_in p = apdu_in p >>= λ v. ends p >>= λ _. Ok v
 abbrev pub front_in : List ℕ → Result ApduValue Fault
 front_in bytes = first 0 bytes >>= whole_in
 
--- what octets are read as, or their first fault
+-- the most octets of what is kept: offsets have 32 bits
+abbrev pub longest_stored : ℕ
+longest_stored = 4294967295
+
+-- what octets that are kept are read as, or their first fault: an APDU that was made here may be longer than one that is submitted or
+-- received
+unfoldable pub stored_of : List ℕ → Result ApduValue Fault
+stored_of bytes = if nat_le (length bytes) longest_stored then front_in bytes else fault longest_stored TooLong
+
+-- what octets that are submitted or received are read as, or their first fault
 unfoldable pub apdu_of : List ℕ → Result ApduValue Fault
 apdu_of bytes = if nat_le (length bytes) longest_apdu then front_in bytes else fault longest_apdu TooLong
 
@@ -82,13 +87,12 @@ kind_number OfReport = 1
 kind_number OfProbe = 2
 
 abbrev pub SpellsKind : ApduKind → ℕ → Tag → List ℕ → ApduValue → Type 0
-SpellsKind OfMessage depth tag content v = Puts (SpellsMessage depth tag.constructed content) message v
-SpellsKind OfReport depth tag content v = Puts (SpellsReport depth tag.constructed content) report v
-SpellsKind OfProbe depth tag content v = Puts (SpellsEnvelope true depth tag.constructed content) probe v
+SpellsKind OfMessage depth tag content v = Puts (SpellsMessage depth tag content) message v
+SpellsKind OfReport depth tag content v = Puts (SpellsReport depth tag content) report v
+SpellsKind OfProbe depth tag content v = Puts (SpellsProbe depth tag content) probe v
 
 -- The octets are one element, of the tag of its choice. The outermost level of a probe is 2, since no SEQUENCE is around its envelope.
-pub record SpellsApdu (bytes : List ℕ) (v : ApduValue) : Type 0 where
-  pub short : length bytes ≤ longest_apdu
+pub record SpellsWhole (bytes : List ℕ) (v : ApduValue) : Type 0 where
   pub tag : Tag
   pub content : List ℕ
   pub stands : Stands (outermost tag) tag content bytes
@@ -96,29 +100,39 @@ pub record SpellsApdu (bytes : List ℕ) (v : ApduValue) : Type 0 where
   pub is_tag_of : is_tag 2 (kind_number kind) tag ≡ true
   pub spelled : SpellsKind kind (outermost tag) tag content v
 
--- ---- what is lent
+-- what is submitted or received is of at most so many octets
+pub record SpellsApdu (bytes : List ℕ) (v : ApduValue) : Type 0 where
+  pub short : length bytes ≤ longest_apdu
+  pub whole : SpellsWhole bytes v
 
-abbrev pub IsLentEnd : Bor (List ℕ) → Apdu → Type 0
-IsLentEnd slice (apdu.Message m) = IsLentEndOf slice m.content
-IsLentEnd slice (apdu.Probe p) = Unit {0}
-IsLentEnd slice (apdu.Report r) = Unit {0}
+-- what is kept may have more, as many as offsets of 32 bits tell
+pub record SpellsStored (bytes : List ℕ) (v : ApduValue) : Type 0 where
+  pub short : length bytes ≤ longest_stored
+  pub whole : SpellsWhole bytes v
 
--- the end of a slice that lies in this one
-pub record IsEndIn (whole end : Bor (List ℕ)) : Type 0 where
-  pub slice : Bor (List ℕ)
-  pub offset : ℕ
-  pub place : IsAt offset slice whole
-  pub tail : IsTail end slice
+-- ---- the place of a content
 
--- a content that is lent is the end of the element's contents, in the memory of the input
-abbrev pub IsContentIn : Bor (List ℕ) → Content → Type 0
-IsContentIn whole (Lent c) = IsEndIn whole c
-IsContentIn whole (Joined o) = Unit {0}
+-- the octets of the content in the octets of a message, at an offset of their own
+pub record IsContentOf (bytes octets : List ℕ) (offset : ℕ) : Type 0 where
+  pub tag : Tag
+  pub content : List ℕ
+  pub stands : Stands (outermost tag) tag content bytes
+  pub inner_offset : ℕ
+  pub inside : IsBehindEnvelope (outermost tag + 1) content octets inner_offset
+  pub offset_is : offset ≡ length stands.header + inner_offset
 
-abbrev pub IsLentIn : Bor (List ℕ) → Apdu → Type 0
-IsLentIn whole (apdu.Message m) = IsContentIn whole m.content
-IsLentIn whole (apdu.Probe p) = Unit {0}
-IsLentIn whole (apdu.Report r) = Unit {0}
+-- a content that is lent is the input's memory at the offset of the content's octets, which the message's place tells; one that was
+-- joined has no place
+abbrev pub IsPlacedIn : Bor (List ℕ) → Apdu → Type 0
+IsPlacedIn whole (apdu.Message m) = IsPlaced IsContentOf 0 whole m.content m.place
+IsPlacedIn whole (apdu.Probe p) = Unit {0}
+IsPlacedIn whole (apdu.Report r) = Unit {0}
+
+-- the same within an element
+abbrev pub IsPlacedInside : ℕ → ℕ → Bor (List ℕ) → Apdu → Type 0
+IsPlacedInside depth start content (apdu.Message m) = IsPlaced (IsBehindEnvelope (depth + 1)) start content m.content m.place
+IsPlacedInside depth start content (apdu.Probe p) = Unit {0}
+IsPlacedInside depth start content (apdu.Report r) = Unit {0}
 
 -- ---- the one spelling that is written
 

@@ -5,10 +5,10 @@ mod apdu;
 mod kind;
 mod laws;
 
-pub use apdu::{Apdu, LONGEST_APDU};
+pub use apdu::{Apdu, LONGEST_APDU, LONGEST_STORED};
 pub use laws::{
     apdus_are_read_again, apdus_that_were_read_are_kept, no_apdu_begins_another,
-    what_was_read_is_read_again,
+    stored_apdus_are_read_again, what_was_read_is_read_again,
 };
 
 #[cfg(test)]

@@ -1,6 +1,7 @@
 //! Pieces of texts, each appended to what was printed before.
 
-ghost use Rattle.std.specs.Prelude.{◌≡◌, ◌<◌, ◌≤◌, ◌++◌, drop, OnOk, decimal};
+ghost use Rattle.std.specs.Prelude.{◌≡◌, ◌<◌, ◌≤◌, ◌++◌, drop, OnOk, OnErr, decimal};
+ghost use Rattle.mta_ber.specs.Canon.{Begins};
 ghost use Rattle.mta_ber.specs.Times.{last_moment};
 ghost use Rattle.mta_name_text.specs.Forms.{text_form};
 ghost use Rattle.mta_apdu_text.specs.Pieces.{hex_digit, hex_octet, hex_text, bit_digit, bits_text, escaped, escaped_text, printed_moment, moment_text, prmd_text, domain_text, id_text, word_if};
@@ -14,7 +15,8 @@ use std::alloc::Global;
 
 /// A number in decimal digits.
 pub fn put_number(out: &mut Octets, number: u64) -> Result<(), Memory>
-    ensures { OnOk result (out.new ≡ out.old ++ decimal number) }
+    ensures ok { OnOk result (out.new ≡ out.old ++ decimal number) }
+    ensures err { OnErr result (out.new ≡ out.old) }
 {
     let mut buffer = Buffer::new();
     out.extend(buffer.format(number).as_bytes())
@@ -68,7 +70,8 @@ pub fn put_bits(out: &mut Octets, bits: Bits) -> Result<(), Memory>
 
 /// An octet, or where it is outside 20 to 7E a backslash and its hexadecimal digits.
 fn put_escaped_octet(out: &mut Octets, octet: u8) -> Result<(), Memory>
-    ensures { OnOk result (out.new ≡ out.old ++ escaped octet) }
+    ensures ok { OnOk result (out.new ≡ out.old ++ escaped octet) }
+    ensures begins { Begins out.old out.new }
 {
     if matches!(octet, 32..=126) {
         return out.extend(&[octet]);
@@ -79,7 +82,8 @@ fn put_escaped_octet(out: &mut Octets, octet: u8) -> Result<(), Memory>
 
 /// The octets, those outside 20 to 7E as a backslash and hexadecimal digits.
 pub fn put_escaped(out: &mut Octets, octets: &[u8]) -> Result<(), Memory>
-    ensures { OnOk result (out.new ≡ out.old ++ escaped_text octets.now) }
+    ensures ok { OnOk result (out.new ≡ out.old ++ escaped_text octets.now) }
+    ensures begins { Begins out.old out.new }
 {
     for octet in octets {
         put_escaped_octet(out, *octet)?;
@@ -118,7 +122,8 @@ fn behind_header(octets: &[u8]) -> &[u8]
 
 /// A moment as YYMMDDhhmmssZ. Moments are seconds from 1950-01-01 00:00:00 UTC; one past the last second of 2049 is printed as that.
 pub fn put_moment(alloc: Global, out: &mut Octets, moment: u64) -> Result<(), Memory>
-    ensures { OnOk result (out.new ≡ out.old ++ moment_text moment) }
+    ensures ok { OnOk result (out.new ≡ out.old ++ moment_text moment) }
+    ensures err { OnErr result (out.new ≡ out.old) }
 {
     let mut writer = Writer::new(alloc);
     put_utc(&mut writer, UTC_TIME, printed_moment(moment))?;
@@ -126,7 +131,8 @@ pub fn put_moment(alloc: Global, out: &mut Octets, moment: u64) -> Result<(), Me
 }
 
 fn put_prmd(out: &mut Octets, prmd: &Option<Label>) -> Result<(), Memory>
-    ensures { OnOk result (out.new ≡ out.old ++ prmd_text prmd.now) }
+    ensures ok { OnOk result (out.new ≡ out.old ++ prmd_text prmd.now) }
+    ensures begins { Begins out.old out.new }
 {
     match prmd {
         None => Ok(()),
@@ -140,7 +146,8 @@ fn put_prmd(out: &mut Octets, prmd: &Option<Label>) -> Result<(), Memory>
 /// The text form of a domain: its country, its administration domain, and its private domain where it has one.
 #[tactic(auto, unfolding(crate::specs::Pieces::domain_text))]
 pub fn put_domain(out: &mut Octets, domain: &Domain) -> Result<(), Memory>
-    ensures { OnOk result (out.new ≡ out.old ++ domain_text domain.now) }
+    ensures ok { OnOk result (out.new ≡ out.old ++ domain_text domain.now) }
+    ensures begins { Begins out.old out.new }
 {
     let fields = domain.fields();
     out.extend(b"C=")?;
@@ -152,8 +159,9 @@ pub fn put_domain(out: &mut Octets, domain: &Domain) -> Result<(), Memory>
 
 /// The text form of an identifier's domain, a slash, and its local part.
 #[tactic(auto, unfolding(crate::specs::Pieces::id_text))]
-pub fn put_id(out: &mut Octets, id: &MtsId) -> Result<(), Memory>
-    ensures { OnOk result (out.new ≡ out.old ++ id_text id.now) }
+fn put_id_parts(out: &mut Octets, id: &MtsId) -> Result<(), Memory>
+    ensures ok { OnOk result (out.new ≡ out.old ++ id_text id.now) }
+    ensures begins { Begins out.old out.new }
 {
     let fields = id.fields();
     put_domain(out, &fields.domain)?;
@@ -161,9 +169,25 @@ pub fn put_id(out: &mut Octets, id: &MtsId) -> Result<(), Memory>
     put_escaped(out, fields.local.as_slice())
 }
 
+/// The text form of an identifier's domain, a slash, and its local part.
+pub fn put_id(out: &mut Octets, id: &MtsId) -> Result<(), Memory>
+    ensures ok { OnOk result (out.new ≡ out.old ++ id_text id.now) }
+    ensures err { OnErr result (out.new ≡ out.old) }
+{
+    let before = out.len();
+    match put_id_parts(out, id) {
+        Ok(()) => Ok(()),
+        Err(Memory) => {
+            out.truncate(before);
+            Err(Memory)
+        }
+    }
+}
+
 /// The text form of a name, which is empty where no part of it is printed.
 pub fn put_name(alloc: Global, out: &mut Octets, name: &OrName) -> Result<(), Memory>
-    ensures { OnOk result (out.new ≡ out.old ++ text_form name.now) }
+    ensures ok { OnOk result (out.new ≡ out.old ++ text_form name.now) }
+    ensures err { OnErr result (out.new ≡ out.old) }
 {
     let text = name_text(alloc, name)?;
     out.extend(text.as_slice())
@@ -171,7 +195,8 @@ pub fn put_name(alloc: Global, out: &mut Octets, name: &OrName) -> Result<(), Me
 
 /// A word where something holds.
 pub fn put_word_if(out: &mut Octets, holds: bool, word: &[u8]) -> Result<(), Memory>
-    ensures { OnOk result (out.new ≡ out.old ++ word_if holds word.now) }
+    ensures ok { OnOk result (out.new ≡ out.old ++ word_if holds word.now) }
+    ensures err { OnErr result (out.new ≡ out.old) }
 {
     if holds { out.extend(word) } else { Ok(()) }
 }

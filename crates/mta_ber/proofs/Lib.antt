@@ -19,7 +19,8 @@ pub mod TimeAgain
 pub mod MomentLaws
 pub mod ComponentLaws
 pub mod ExplicitLaws
+pub mod FormLaws
 pub mod IntLaws
-pub mod ExampleLaws
 pub mod OidLaws
 pub mod LentLaws
+pub mod LengthLaws

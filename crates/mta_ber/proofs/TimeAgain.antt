@@ -67,7 +67,7 @@ moment_text m le =
       in_range = le;
     }
 
-text_short : (m : ℕ) → length (utc_content m) ≡ 13
+pub text_short : (m : ℕ) → length (utc_content m) ≡ 13
 unfolding utc_content
 text_short m = refl
 

@@ -169,7 +169,7 @@ numbers_again t n low high more at h fits range =
 
 -- ---- bits
 
-length_bytes : (k n : ℕ) → length (bytes_high_first k n) ≡ k
+pub length_bytes : (k n : ℕ) → length (bytes_high_first k n) ≡ k
 length_bytes zero n = refl
 length_bytes (suc k) n = ap (λ x. suc x) (length_bytes k n)
 

@@ -4,6 +4,8 @@ pub mod Seen
 pub mod Element
 pub mod Int
 pub mod Parts
+pub mod Forms
+pub mod Lengths
 pub mod Strings
 pub mod Bits
 pub mod Times
@@ -17,5 +19,4 @@ pub mod Laws
 pub mod Moments
 pub mod Components
 pub mod Explicit
-pub mod Example
 pub mod Place

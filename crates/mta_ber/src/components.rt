@@ -1,6 +1,7 @@
 //! What readers of SETs and SEQUENCEs say of their components.
 
 ghost use Rattle.std.specs.Prelude.{◌≡◌, Err, Ok, Option};
+ghost use Rattle.mta_ber.specs.Forms.{is_primitive_tag, is_constructed_tag};
 ghost use Rattle.mta_ber.specs.Parts.{Reads, is_tag, once, may_follow, required};
 
 use crate::fault::{Fault, Kind, ReadFault};
@@ -18,6 +19,20 @@ pub fn is_tag_of(tag: Tag, class: u8, number: u32) -> bool
     ensures { result ≡ is_tag class number tag }
 {
     tag.class == class && tag.number == number
+}
+
+/// Whether a tag has this class and number and the primitive form: that of a component whose type has no other.
+pub fn is_primitive_tag(tag: Tag, class: u8, number: u32) -> bool
+    ensures { result ≡ is_primitive_tag class number tag }
+{
+    is_tag_of(tag, class, number) && !tag.constructed
+}
+
+/// Whether a tag has this class and number and the constructed form: that of a component whose type has no other.
+pub fn is_constructed_tag(tag: Tag, class: u8, number: u32) -> bool
+    ensures { result ≡ is_constructed_tag class number tag }
+{
+    is_tag_of(tag, class, number) && tag.constructed
 }
 
 /// Whether a component of a SEQUENCE may stand at a place behind the last one that was read (0 where there is none), where

@@ -8,7 +8,7 @@ use crate::tag::Tag;
 use std::alloc::AllocError;
 
 /// The octets without the zeros in front.
-fn significant(octets: &[u8]) -> &[u8]
+pub fn significant(octets: &[u8]) -> &[u8]
     ensures exact { result.now ≡ drop_zeros octets.now }
     ensures within { length result.now ≤ length octets.now }
 {

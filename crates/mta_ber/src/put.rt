@@ -14,7 +14,8 @@ use crate::writer::Writer;
 use jiff_core::civil::Date;
 use std::alloc::Global;
 
-fn as_primitive_of(tag: Tag) -> Tag
+/// The tag of a primitive element.
+pub fn as_primitive_of(tag: Tag) -> Tag
     ensures { result ≡ as_primitive tag }
 {
     Tag {
@@ -34,7 +35,7 @@ fn is_redundant_of(first: u8, rest: &[u8]) -> bool
 }
 
 /// The shortest octets of the same number.
-fn shortest_of(octets: &[u8]) -> &[u8]
+pub fn shortest_of(octets: &[u8]) -> &[u8]
     ensures { result.now ≡ shortest octets.now }
 {
     match octets {

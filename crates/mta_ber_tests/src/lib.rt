@@ -2,5 +2,10 @@
 //! of their own, so that the library is not proved again with them.
 #![tactic(auto)]
 
+mod example;
+mod note;
+
+pub use note::{Note, NoteParts};
+
 #[cfg(test)]
 mod tests;

@@ -1,8 +1,9 @@
 //! Tables of octets: rows of hexadecimal, and what they are read as.
 
+use crate::Note;
 use mta_ber::{
-    Bits, Fault, Kind, LAST_MOMENT, Memory, Note, Octets, ReadFault, Tag, Text, TextClass, View,
-    Word, Writer, put_bits, put_int, put_utc,
+    Bits, Fault, Kind, LAST_MOMENT, Memory, Octets, ReadFault, Tag, Text, TextClass, View, Word,
+    Writer, put_bits, put_int, put_utc,
 };
 use std::alloc::{AllocError, Global};
 use std::process::Abort;

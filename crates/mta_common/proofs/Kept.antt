@@ -26,8 +26,8 @@ trace_more : (depth : ℕ) → KeepsAt (AddsItem is_sequence SpellsTraceItem) (A
 trace_more depth s t tag content octets stands m h =
     let v = m.item in
     subst (AreKeptTraces depth) (sym m.after_is) (record {
-      traces = each_more IsWholeTrace s v h.traces (trace_whole depth tag.constructed content v m.spelled);
-      kept = each_more (KeepsTrace depth) s v h.kept (trace_kept depth tag.constructed content v m.spelled);
+      traces = each_more IsWholeTrace s v h.traces (trace_whole depth tag content v m.spelled);
+      kept = each_more (KeepsTrace depth) s v h.kept (trace_kept depth tag content v m.spelled);
     })
 
 pub trace_list_kept : (depth : ℕ) (c : Bool) (content : List ℕ) (vs : List TraceFields) → SpellsTraceList depth c content vs → AreKeptTraces (depth + 1) vs
@@ -44,8 +44,8 @@ field_more : (depth : ℕ) → depth + 2 ≤ 16 → KeepsAt (AddsItem is_sequenc
 field_more depth d s t tag content octets stands m h =
     let v = m.item in
     subst (AreKeptFields depth) (sym m.after_is) (record {
-      fields = each_more IsExtField s v h.fields (ext_is depth tag.constructed content v m.spelled);
-      kept = each_more (KeepsExtField depth) s v h.kept (extension_field_kept depth depth tag.constructed content v m.spelled (omega arith) d);
+      fields = each_more IsExtField s v h.fields (ext_is depth tag content v m.spelled);
+      kept = each_more (KeepsExtField depth) s v h.kept (extension_field_kept depth depth tag content v m.spelled (omega arith) d);
     })
 
 pub ext_list_kept : (depth : ℕ) (c : Bool) (content : List ℕ) (vs : List ExtFields) → SpellsExtList depth c content vs → depth + 3 ≤ 16 → AreKeptFields (depth + 1) vs

@@ -7,6 +7,7 @@ use Rattle.mta_ber.specs.Canon.{element, primitive}
 use Rattle.mta_ber.specs.Contents.{canon_int}
 use Rattle.mta_ber.specs.Element.{Part}
 use Rattle.mta_ber.specs.Explicit.{Spells}
+use Rattle.mta_ber.specs.Forms.{is_primitive_tag}
 use Rattle.mta_ber.specs.Head.{◌>>=◌, fault}
 use Rattle.mta_ber.specs.Oid.{oid_in, IsOid, SpellsOid}
 use Rattle.mta_ber.specs.Parts.{is_tag}
@@ -18,9 +19,9 @@ abbrev pub IsContentKind : ContentKind → Type 0
 IsContentKind (Number n) = n ≤ 32767
 IsContentKind (Oid o) = IsOid o
 
--- the tag of a content type: [APPLICATION 6], or that of OBJECT IDENTIFIER
+-- the tag of a content type, which is primitive: [APPLICATION 6], or that of OBJECT IDENTIFIER
 abbrev pub is_content_kind : Tag → Bool
-is_content_kind t = is_tag 1 6 t || is_tag 0 6 t
+is_content_kind t = is_primitive_tag 1 6 t || is_primitive_tag 0 6 t
 
 abbrev pub number_kind_in : Part → Result ContentKind Fault
 number_kind_in p = number_in 0 32767 p >>= λ n. Ok (Number n)

@@ -20,7 +20,7 @@ unfoldable pub ext_list_in : Part → Result (List ExtFields) Fault
 ext_list_in p = components ext_list_step [] p
 
 abbrev pub SpellsExtItem : Spells ExtFields
-SpellsExtItem depth tag content octets v = SpellsExtField depth tag.constructed content v
+SpellsExtItem depth tag content octets v = SpellsExtField depth tag content v
 
 pub record SpellsExtList (depth : ℕ) (constructed : Bool) (content : List ℕ) (vs : List ExtFields) : Type 0 where
   pub is_constructed : constructed ≡ true

@@ -17,7 +17,7 @@ unfoldable pub trace_list_in : Part → Result (List TraceFields) Fault
 trace_list_in p = list_in is_sequence trace_in 0 512 p
 
 abbrev pub SpellsTraceItem : Spells TraceFields
-SpellsTraceItem depth tag content octets v = SpellsTrace depth tag.constructed content v
+SpellsTraceItem depth tag content octets v = SpellsTrace depth tag content v
 
 abbrev pub SpellsTraceList : ℕ → Bool → List ℕ → List TraceFields → Type 0
 SpellsTraceList depth constructed content vs = SpellsList is_sequence SpellsTraceItem 0 512 depth constructed content vs

@@ -7,7 +7,9 @@ ghost use Rattle.mta_ber.specs.Seen.{view};
 ghost use Rattle.mta_common.specs.declared.kind.ContentKind.{ContentKind};
 ghost use Rattle.mta_common.specs.ContentKinds.{is_content_kind, content_kind_in, SpellsContentKind, canonical_content_kind, kind_in_front, kind_in_place};
 
-use mta_ber::{Kind, Memory, Octets, ReadFault, Tag, View, Writer, bad, is_tag_of, put_int};
+use mta_ber::{
+    Kind, Memory, Octets, ReadFault, Tag, View, Writer, bad, is_primitive_tag, is_tag_of, put_int,
+};
 use mta_names::{primitive, read_number};
 use std::alloc::Global;
 
@@ -18,11 +20,11 @@ pub enum ContentKind {
     Oid(Octets),
 }
 
-/// Whether a tag is that of a content type: `[APPLICATION 6]`, or that of OBJECT IDENTIFIER.
+/// Whether a tag is that of a content type, which is primitive: `[APPLICATION 6]`, or that of OBJECT IDENTIFIER.
 pub fn is_content_kind_tag(tag: Tag) -> bool
     ensures { result ≡ is_content_kind tag }
 {
-    is_tag_of(tag, 1, 6) || is_tag_of(tag, 0, 6)
+    is_primitive_tag(tag, 1, 6) || is_primitive_tag(tag, 0, 6)
 }
 
 #[tactic(auto, unfolding(crate::specs::ContentKinds::content_kind_in))]

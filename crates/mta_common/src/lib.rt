@@ -6,6 +6,7 @@ mod content_id;
 mod extensions;
 mod indicators;
 mod kind;
+mod length;
 mod traces;
 
 pub use content_id::{put_content_id, read_content_id};
@@ -14,5 +15,8 @@ pub use indicators::{put_indicators, read_indicators};
 pub use kind::{
     ContentKind, is_content_kind_tag, put_content_kind, put_content_kind_in_front,
     put_content_kind_in_place, read_content_kind,
+};
+pub use length::{
+    content_id_length, extensions_length, kind_in_front_length, kind_in_place_length, trace_length,
 };
 pub use traces::{put_trace, read_trace};

@@ -8,7 +8,7 @@ use Rattle.mta_names.specs.Laws.{IsRawAt, KeepsName}
 use Rattle.mta_names.specs.Values.{Each, IsName}
 use Rattle.mta_names.proofs.Kept.{KeepsAt, spelled_kept, name_kept}
 use Rattle.mta_names.proofs.NameLaws.{name_is}
-use Rattle.mta_names.proofs.Rows.{none_begins}
+use Rattle.mta_fields.proofs.Tagged.{none_tagged_begins}
 use Rattle.mta_fields.specs.declared.expansion.ExpansionFields.{ExpansionFields}
 use Rattle.mta_fields.specs.Laws.{IsWholeId, KeepsTrace}
 use Rattle.mta_fields.proofs.Kept.{identifier_whole}
@@ -28,10 +28,10 @@ use Rattle.mta_envelope.specs.declared.parts.EnvelopeParts.{EnvelopeParts}
 use Rattle.mta_envelope.specs.Components.{is_envelope_tag, no_envelope, MakesEnvelopePart, MakesEnvelope}
 use Rattle.mta_envelope.specs.Envelopes.{told_history, told_or_none, history_or_none, envelope_in, SpellsEnvelope}
 use Rattle.mta_envelope.specs.Laws.{told_of, IsWholeEnvelope, KeepsEnvelope, ReadEnvelopesAreKept, ReadMessagesAreReadAgain, ReadProbesAreReadAgain, NoMessageBeginsAnother, NoProbeBeginsAnother}
-use Rattle.mta_envelope.specs.Messages.{message_in, SpellsMessage}
-use Rattle.mta_envelope.proofs.EnvelopeLaws.{envelope_full, envelope_is, envelope_kind}
+use Rattle.mta_envelope.specs.Messages.{message_in, SpellsMessage, probe_in, SpellsProbe}
+use Rattle.mta_envelope.proofs.EnvelopeLaws.{envelope_is, envelope_kind}
 use Rattle.mta_envelope.proofs.MessageAgain.{messages_again, probes_again}
-use Rattle.mta_envelope.proofs.MessageLaws.{message_full}
+use Rattle.mta_envelope.proofs.MessageLaws.{message_full, probe_full}
 
 -- ---- components
 
@@ -46,7 +46,7 @@ record Holds (depth : ℕ) (s : EnvelopeParts) : Type 0 where
 
 part_kept : (b : Bool) (k : EnvelopePart) (depth : ℕ) (s t : EnvelopeParts) (tag : Tag) (content octets : List ℕ) → depth + 6 ≤ 16 → is_envelope_tag b k tag ≡ true → Stands depth tag content octets → MakesEnvelopePart k depth s tag content octets t → Holds depth s → Holds depth t
 part_kept b Originator depth s t tag content octets d is stands m h = subst (Holds depth) (sym m.1.after_is) (record { originator = (name_kept depth tag.constructed content m.1.value m.1.value_spelled, name_is depth tag.constructed content m.1.value m.1.value_spelled); id = h.id; eits = h.eits; bilateral = h.bilateral; recipients = h.recipients; trace = h.trace; extensions = h.extensions })
-part_kept b Identifier depth s t tag content octets d is stands m h = subst (Holds depth) (sym m.1.after_is) (record { originator = h.originator; id = identifier_whole depth tag.constructed content m.1.value m.1.value_spelled; eits = h.eits; bilateral = h.bilateral; recipients = h.recipients; trace = h.trace; extensions = h.extensions })
+part_kept b Identifier depth s t tag content octets d is stands m h = subst (Holds depth) (sym m.1.after_is) (record { originator = h.originator; id = identifier_whole depth tag content m.1.value m.1.value_spelled; eits = h.eits; bilateral = h.bilateral; recipients = h.recipients; trace = h.trace; extensions = h.extensions })
 part_kept b InformationTypes depth s t tag content octets d is stands m h = subst (Holds depth) (sym m.1.after_is) (record { originator = h.originator; id = h.id; eits = subst (IsRawAt depth 1 5) (sym m.1.value_spelled) (record { tag = tag; content = content; is_tag_of = is; stands = stands }); bilateral = h.bilateral; recipients = h.recipients; trace = h.trace; extensions = h.extensions })
 part_kept b ContentType depth s t tag content octets d is stands m h = subst (Holds depth) (sym m.1.after_is) (record { originator = h.originator; id = h.id; eits = h.eits; bilateral = h.bilateral; recipients = h.recipients; trace = h.trace; extensions = h.extensions })
 part_kept b MessagePriority depth s t tag content octets d is stands m h = subst (Holds depth) (sym m.1.after_is) (record { originator = h.originator; id = h.id; eits = h.eits; bilateral = h.bilateral; recipients = h.recipients; trace = h.trace; extensions = h.extensions })
@@ -128,11 +128,11 @@ read_messages_again content v more at h short =
 
 pub read_probes_again : ReadProbesAreReadAgain
 read_probes_again content v more at h short =
-    let k = envelope_both true 2 true content v h (omega arith) in
-    probes_again v more at k.1 (envelope_kind true 2 true content v h) k.0 short
+    let k = envelope_both true 2 true content v h.spelled (omega arith) in
+    probes_again v more at k.1 (envelope_kind true 2 true content v h.spelled) k.0 short
 
 pub no_message_begins : NoMessageBeginsAnother
-no_message_begins = none_begins message_in SpellsMessage (λ v p d h. message_full v p h)
+no_message_begins = none_tagged_begins message_in SpellsMessage (λ v p d h. message_full v p h)
 
 pub no_probe_begins : NoProbeBeginsAnother
-no_probe_begins = none_begins (envelope_in true) (SpellsEnvelope true) (λ v p d h. envelope_full true v p h)
+no_probe_begins = none_tagged_begins probe_in SpellsProbe (λ v p d h. probe_full v p h)

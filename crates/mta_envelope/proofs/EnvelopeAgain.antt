@@ -457,7 +457,7 @@ module _ (b : Bool) (depth : ℕ) (d : depth + 6 ≤ 16) (v : EnvelopeFields) (t
   from_3 =
       piece_from MakesEnvelope depth same 0 3 4 (stage_2 b v (Some v.originator)) (stage_3 b v (Some v.id)) (canonical_id v.id) (octets_4 v) (whole b v t) (omega arith)
       (envelope_piece Identifier 3 depth (stage_2 b v (Some v.originator)) (stage_3 b v (Some v.id)) (constructed 1 4) (id_content v.id) (low_tag 1 4 true (omega arith) (omega arith)) refl (omega arith)
-      (λ short. (refl, puts (SpellsMtsId depth true (id_content v.id)) (with_id (stage_2 b v (Some v.originator))) v.id (identifier_spelled depth v.id h.id (omega arith) short))))
+      (λ short. (refl, puts (SpellsMtsId depth (constructed 1 4) (id_content v.id)) (with_id (stage_2 b v (Some v.originator))) v.id (identifier_spelled depth v.id h.id (omega arith) short))))
       from_4
 
   from_2 : From MakesEnvelope depth same 0 2 (stage_1 b v (front_of v.content_kind)) (octets_2 v) (whole b v t)

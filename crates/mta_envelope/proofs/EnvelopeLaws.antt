@@ -5,6 +5,7 @@ use Rattle.mta_ber.specs.declared.fault.Fault.{Fault}
 use Rattle.mta_ber.specs.declared.tag.Tag.{Tag}
 use Rattle.mta_ber.specs.Bits.{BitString}
 use Rattle.mta_ber.specs.Element.{Part}
+use Rattle.mta_ber.specs.Forms.{is_primitive_tag}
 use Rattle.mta_ber.specs.Head.{◌>>=◌}
 use Rattle.mta_ber.specs.Octet.{IsOctets}
 use Rattle.mta_ber.specs.Parts.{components, is_tag, required}
@@ -127,7 +128,7 @@ keeps_part b InformationTypes depth s t tag content octets is stands m h =
 keeps_part b ContentType depth s t tag content octets is stands m h =
     subst (Holds b) (sym m.1.after_is) (record { same = h.same; eits = h.eits; content_kind = kind_is depth tag content octets m.1.value m.1.value_spelled; content_id = h.content_id; indicators = h.indicators; deferral = h.deferral; length_fits = h.length_fits; bilateral = h.bilateral; recipients = h.recipients; trace = h.trace; extensions = h.extensions; message = h.message; probing = h.probing })
 keeps_part b MessagePriority depth s t tag content octets is stands m h =
-    subst (Holds b) (sym m.1.after_is) (record { same = h.same; eits = h.eits; content_kind = h.content_kind; content_id = h.content_id; indicators = h.indicators; deferral = h.deferral; length_fits = h.length_fits; bilateral = h.bilateral; recipients = h.recipients; trace = h.trace; extensions = h.extensions; message = h.message; probing = λ e. absurd (let k = no_probe b s.probe (is_tag 1 7 tag) h.same is e in k) })
+    subst (Holds b) (sym m.1.after_is) (record { same = h.same; eits = h.eits; content_kind = h.content_kind; content_id = h.content_id; indicators = h.indicators; deferral = h.deferral; length_fits = h.length_fits; bilateral = h.bilateral; recipients = h.recipients; trace = h.trace; extensions = h.extensions; message = h.message; probing = λ e. absurd (let k = no_probe b s.probe (is_primitive_tag 1 7 tag) h.same is e in k) })
 keeps_part b Indicators depth s t tag content octets is stands m h =
     subst (Holds b) (sym m.1.after_is) (record { same = h.same; eits = h.eits; content_kind = h.content_kind; content_id = h.content_id; indicators = indicators_are depth tag.constructed content m.1.value m.1.value_spelled; deferral = h.deferral; length_fits = h.length_fits; bilateral = h.bilateral; recipients = h.recipients; trace = h.trace; extensions = h.extensions; message = h.message; probing = h.probing })
 keeps_part b TraceList depth s t tag content octets is stands m h =
@@ -137,7 +138,7 @@ keeps_part b ContentIdentifier depth s t tag content octets is stands m h =
 keeps_part b Deferral depth s t tag content octets is stands m h =
     subst (Holds b) (sym m.1.after_is) (record { same = h.same; eits = h.eits; content_kind = h.content_kind; content_id = h.content_id; indicators = h.indicators; deferral = m.1.value_spelled.is_text.in_range; length_fits = h.length_fits; bilateral = h.bilateral; recipients = h.recipients; trace = h.trace; extensions = h.extensions; message = h.message; probing = λ e. absurd (let k = no_probe b s.probe (is_tag 2 0 tag) h.same is e in k) })
 keeps_part b Length depth s t tag content octets is stands m h =
-    subst (Holds b) (sym m.1.after_is) (record { same = h.same; eits = h.eits; content_kind = h.content_kind; content_id = h.content_id; indicators = h.indicators; deferral = h.deferral; length_fits = number_small 0 longest m.1.value tag.constructed content m.1.value_spelled; bilateral = h.bilateral; recipients = h.recipients; trace = h.trace; extensions = h.extensions; message = λ e. absurd (let k = no_message b s.probe (is_tag 2 0 tag) h.same is e in k); probing = h.probing })
+    subst (Holds b) (sym m.1.after_is) (record { same = h.same; eits = h.eits; content_kind = h.content_kind; content_id = h.content_id; indicators = h.indicators; deferral = h.deferral; length_fits = number_small 0 longest m.1.value tag.constructed content m.1.value_spelled; bilateral = h.bilateral; recipients = h.recipients; trace = h.trace; extensions = h.extensions; message = λ e. absurd (let k = no_message b s.probe (is_primitive_tag 2 0 tag) h.same is e in k); probing = h.probing })
 keeps_part b Bilateral depth s t tag content octets is stands m h =
     subst (Holds b) (sym m.1.after_is) (record { same = h.same; eits = h.eits; content_kind = h.content_kind; content_id = h.content_id; indicators = h.indicators; deferral = h.deferral; length_fits = h.length_fits; bilateral = subst (IsRaw 2 1) (sym m.1.value_spelled) (record { depth = depth; tag = tag; content = content; is_tag_of = is; stands = stands }); recipients = h.recipients; trace = h.trace; extensions = h.extensions; message = h.message; probing = h.probing })
 keeps_part b RecipientList depth s t tag content octets is stands m h =

@@ -3,6 +3,7 @@ pub mod PartLaws
 pub mod EnvelopeLaws
 pub mod ContentLaws
 pub mod MessageLaws
+pub mod PlaceLaws
 pub mod EnvelopeAgain
 pub mod MessageAgain
 pub mod EnvKept

@@ -11,12 +11,11 @@ use Rattle.mta_names.proofs.Again.{low_tag}
 use Rattle.mta_names.proofs.Rows.{element_stands, short_inside, short_front, short_back}
 use Rattle.mta_envelope.specs.declared.envelope.EnvelopeFields.{EnvelopeFields}
 use Rattle.mta_envelope.specs.Contents.{content_as}
-use Rattle.mta_envelope.specs.Envelopes.{IsOfKind, envelope_content, envelope_in}
+use Rattle.mta_envelope.specs.Envelopes.{IsOfKind, envelope_content}
 use Rattle.mta_envelope.specs.Laws.{IsWholeEnvelope, KeepsEnvelope, MessagesAreReadAgain, ProbesAreReadAgain}
-use Rattle.mta_envelope.specs.Messages.{message_as, SpellsMessage, message_in, canonical_message, canonical_probe}
+use Rattle.mta_envelope.specs.Messages.{message_as, SpellsMessage, message_in, probe_in, canonical_message, canonical_probe}
 use Rattle.mta_envelope.proofs.EnvelopeAgain.{envelope_spelled}
-use Rattle.mta_envelope.proofs.EnvelopeLaws.{envelope_full}
-use Rattle.mta_envelope.proofs.MessageLaws.{message_full}
+use Rattle.mta_envelope.proofs.MessageLaws.{message_full, probe_full}
 
 abbrev set_octets : EnvelopeFields → List ℕ
 set_octets v = element (constructed 0 17) (envelope_content v)
@@ -24,12 +23,12 @@ set_octets v = element (constructed 0 17) (envelope_content v)
 abbrev string_octets : List ℕ → List ℕ
 string_octets content = element (primitive 0 4) content
 
-message_spelled : (v : EnvelopeFields) (content : List ℕ) → IsWholeEnvelope v → IsOfKind false v → KeepsEnvelope 2 v → length (set_octets v ++ string_octets content) < 2 ^ 64 → SpellsMessage 1 true (set_octets v ++ string_octets content) (message_as v (content_as true content))
+message_spelled : (v : EnvelopeFields) (content : List ℕ) → IsWholeEnvelope v → IsOfKind false v → KeepsEnvelope 2 v → length (set_octets v ++ string_octets content) < 2 ^ 64 → SpellsMessage 1 (constructed 2 0) (set_octets v ++ string_octets content) (message_as v (content_as true content))
 message_spelled v content h of k short =
     let first = short_front (set_octets v) (string_octets content) short in
     let second = short_back (set_octets v) (string_octets content) short in
     record {
-      is_constructed = refl;
+      is_tag_of = refl;
       first = set_octets v;
       second = string_octets content;
       joined = refl;
@@ -62,5 +61,5 @@ unfolding canonical_probe
 probes_again v more at h of k short =
     let tag = constructed 2 2 in
     let size = short_inside tag (envelope_content v) short in
-    ap (λ x. x >>= with_rest (envelope_in true)) (first_again at tag (envelope_content v) more (low_tag 2 2 true (omega arith) (omega arith)) size)
-    ∙ ap (λ x. x >>= λ m. beside m more) (envelope_full true v (lent at 2 tag (envelope_content v) more) (envelope_spelled true 2 v h of k (omega arith) size))
+    ap (λ x. x >>= with_rest probe_in) (first_again at tag (envelope_content v) more (low_tag 2 2 true (omega arith) (omega arith)) size)
+    ∙ ap (λ x. x >>= λ m. beside m more) (probe_full v (lent at 2 tag (envelope_content v) more) (record { is_tag_of = refl; spelled = envelope_spelled true 2 v h of k (omega arith) size }))

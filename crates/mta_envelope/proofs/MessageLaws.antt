@@ -3,6 +3,7 @@ use Rattle.std.proofs.Common.{◌≡◌, ℕ, ◌+◌, ◌≤◌, true, false, c
 use Rattle.mta_ber.specs.declared.fault.Fault.{Fault}
 use Rattle.mta_ber.specs.declared.fault.Kind.TheVariants.{BadTag}
 use Rattle.mta_ber.specs.Element.{Part, part, next_part, alone}
+use Rattle.mta_ber.specs.Forms.{is_constructed_tag}
 use Rattle.mta_ber.specs.Head.{◌>>=◌, fault}
 use Rattle.mta_ber.specs.Octet.{IsOctets}
 use Rattle.mta_ber.specs.Spelling.{Standing, ending_of}
@@ -15,7 +16,7 @@ use Rattle.mta_recipient.specs.Lists.{is_set}
 use Rattle.mta_envelope.specs.declared.envelope.EnvelopeFields.{EnvelopeFields}
 use Rattle.mta_envelope.specs.Contents.{ContentValue, content_in, SpellsContent}
 use Rattle.mta_envelope.specs.Envelopes.{envelope_in, SpellsEnvelope}
-use Rattle.mta_envelope.specs.Messages.{MessageValue, message_as, there, next_in, set_in, behind_at, last_in, two_in, message_in, SpellsSet, SpellsOctetString, SpellsMessage}
+use Rattle.mta_envelope.specs.Messages.{MessageValue, message_as, there, next_in, set_in, behind_at, last_in, two_in, message_in, probe_in, SpellsSet, SpellsOctetString, SpellsMessage, SpellsProbe}
 use Rattle.mta_envelope.proofs.ContentLaws.{content_sound, content_full}
 use Rattle.mta_envelope.proofs.EnvelopeLaws.{envelope_sound, envelope_full}
 
@@ -105,17 +106,17 @@ last_full v whole at depth bytes c =
     ∙ ap (λ r. r >>= after_content second) (content_full v second c.stands.shallow c.spelled)
     ∙ ap (λ r. r >>= λ _. Ok v) (alone_only second (alone second) refl refl)
 
-pub message_sound : (v : MessageValue) (p : Part) → IsOctets p.content → message_in p ≡ Ok v → SpellsMessage p.depth p.tag.constructed p.content v
+pub message_sound : (v : MessageValue) (p : Part) → IsOctets p.content → message_in p ≡ Ok v → SpellsMessage p.depth p.tag p.content v
 unfolding message_in
 message_sound v p octets read =
-    let c = taken p.tag.constructed (two_in p) (record { at = p.at; kind = BadTag }) v read in
+    let c = taken (is_constructed_tag 2 0 p.tag) (two_in p) (record { at = p.at; kind = BadTag }) v read in
     let e = bind_ok (next_in p.at p.start (p.depth + 1) p.content) (after_first p) v c.1 in
     let n = bind_ok (set_in e.0) (after_set p e.0) v e.2 in
     let o = bind_ok (last_in p.at (behind_at p e.0) (p.depth + 1) e.0.rest) (λ o. Ok (message_as n.0 o)) v n.2 in
     let first = part_sound p.start (p.depth + 1) p.content e.0 octets (next_so p.at p.start (p.depth + 1) p.content e.0 e.1) in
     let rest = rest_octets p.start (p.depth + 1) e.0 p.content first octets in
-    subst (λ (x : MessageValue). SpellsMessage p.depth p.tag.constructed p.content x) {x = message_as n.0 o.0} (ok_is (message_as n.0 o.0) v o.2) (record {
-      is_constructed = c.0;
+    subst (λ (x : MessageValue). SpellsMessage p.depth p.tag p.content x) {x = message_as n.0 o.0} (ok_is (message_as n.0 o.0) v o.2) (record {
+      is_tag_of = c.0;
       first = e.0.octets;
       second = e.0.rest;
       joined = first.octets_are;
@@ -123,13 +124,23 @@ message_sound v p octets read =
       content_of = last_sound o.0 p.at (behind_at p e.0) (p.depth + 1) e.0.rest rest o.1;
     })
 
-pub message_full : (v : MessageValue) (p : Part) → SpellsMessage p.depth p.tag.constructed p.content v → message_in p ≡ Ok v
+pub message_full : (v : MessageValue) (p : Part) → SpellsMessage p.depth p.tag p.content v → message_in p ≡ Ok v
 unfolding message_in
 message_full v p h =
     let e = h.envelope in
     let first : Part = lent_part p.start (p.depth + 1) e.tag (length e.stands.header) e.content h.second h.first in
     let found : part p.start (p.depth + 1) p.content ≡ Ok first = ap (part p.start (p.depth + 1)) h.joined ∙ stands_again p.start (p.depth + 1) e.tag e.content h.first h.second e.stands in
-    ap (λ b. cond b (two_in p) (fault p.at BadTag)) h.is_constructed
+    ap (λ b. cond b (two_in p) (fault p.at BadTag)) h.is_tag_of
     ∙ ap (λ r. r >>= after_first p) (so_next p.at p.start (p.depth + 1) p.content first found)
     ∙ ap (λ r. r >>= after_set p first) (set_full v.envelope first e.is_set_tag e.spelled)
     ∙ ap (λ r. r >>= λ o. Ok (message_as v.envelope o)) (last_full v.content p.at (behind_at p first) (p.depth + 1) h.second h.content_of)
+
+pub probe_sound : (v : EnvelopeFields) (p : Part) → IsOctets p.content → probe_in p ≡ Ok v → SpellsProbe p.depth p.tag p.content v
+unfolding probe_in
+probe_sound v p octets e =
+    let c = taken (is_constructed_tag 2 2 p.tag) (envelope_in true p) (record { at = p.at; kind = BadTag }) v e in
+    record { is_tag_of = c.0; spelled = envelope_sound true v p octets c.1 }
+
+pub probe_full : (v : EnvelopeFields) (p : Part) → SpellsProbe p.depth p.tag p.content v → probe_in p ≡ Ok v
+unfolding probe_in
+probe_full v p h = ap (λ b. cond b (envelope_in true p) (fault p.at BadTag)) h.is_tag_of ∙ envelope_full true v p h.spelled

@@ -3,6 +3,7 @@ use Rattle.std.proofs.Common.{◌≡◌, ℕ, zero, suc, ◌≤◌, Bool, true, 
 use Rattle.std.specs.Prelude.{◌&&◌, ◌||◌, not}
 use Rattle.mta_ber.specs.declared.tag.Tag.{Tag}
 use Rattle.mta_ber.specs.Element.{Part}
+use Rattle.mta_ber.specs.Forms.{is_primitive_tag, is_constructed_tag}
 use Rattle.mta_ber.specs.Head.{◌>>=◌}
 use Rattle.mta_ber.specs.Moments.{SpellsMoment}
 use Rattle.mta_ber.specs.Octet.{IsOctets}
@@ -12,6 +13,7 @@ use Rattle.mta_ber.specs.declared.text.TextClass.TheVariants.{Printable}
 use Rattle.mta_ber.proofs.ComponentLaws.{StepSound, StepFull}
 use Rattle.mta_ber.proofs.HeadLaws.{and_true}
 use Rattle.mta_ber.proofs.MomentLaws.{utc_sound, utc_full}
+use Rattle.mta_ber.proofs.FormLaws.{primitive_is, constructed_is}
 use Rattle.mta_ber.proofs.Steps.{bind_ok, ok_is}
 use Rattle.mta_ber.proofs.StringLaws.{text_sound, text_full}
 use Rattle.mta_names.specs.Names.{name_in, SpellsName}
@@ -81,14 +83,14 @@ HasTag b t k = is_envelope_tag b k t ≡ true
 
 context_tagged : (b : Bool) (t : Tag) (k : EnvelopePart) → context_part_of b t ≡ Some k → HasTag b t k
 context_tagged b t =
-    picked (HasTag b t) (is_tag 2 0 t && not b) Deferral _ (λ e. e) (picked (HasTag b t) (is_tag 2 0 t && b) Length _ (λ e. e) (picked (HasTag b t) (is_tag 2 1 t) Bilateral _ (λ e. e)
-    (picked (HasTag b t) (is_tag 2 2 t) RecipientList _ (λ e. e) (picked (HasTag b t) (is_tag 2 3 t) ExtensionSet _ (λ e. e) (not_none (HasTag b t))))))
+    picked (HasTag b t) (is_tag 2 0 t && not b) Deferral _ (λ e. e) (picked (HasTag b t) (is_primitive_tag 2 0 t && b) Length _ (λ e. e) (picked (HasTag b t) (is_tag 2 1 t) Bilateral _ (λ e. e)
+    (picked (HasTag b t) (is_constructed_tag 2 2 t) RecipientList _ (λ e. e) (picked (HasTag b t) (is_constructed_tag 2 3 t) ExtensionSet _ (λ e. e) (not_none (HasTag b t))))))
 
 tagged : (b : Bool) (t : Tag) (k : EnvelopePart) → envelope_part_of b t ≡ Some k → HasTag b t k
 tagged b t =
-    picked (HasTag b t) (is_tag 1 0 t) Originator _ (λ e. e) (picked (HasTag b t) (is_tag 1 4 t) Identifier _ (λ e. e) (picked (HasTag b t) (is_tag 1 5 t) InformationTypes _ (λ e. e)
-    (picked (HasTag b t) (is_content_kind t) ContentType _ (λ e. e) (picked (HasTag b t) (is_tag 1 7 t && not b) MessagePriority _ (λ e. e) (picked (HasTag b t) (is_tag 1 8 t) Indicators _ (λ e. e)
-    (picked (HasTag b t) (is_tag 1 9 t) TraceList _ (λ e. e) (picked (HasTag b t) (is_tag 1 10 t) ContentIdentifier _ (λ e. e) (context_tagged b t))))))))
+    picked (HasTag b t) (is_constructed_tag 1 0 t) Originator _ (λ e. e) (picked (HasTag b t) (is_constructed_tag 1 4 t) Identifier _ (λ e. e) (picked (HasTag b t) (is_tag 1 5 t) InformationTypes _ (λ e. e)
+    (picked (HasTag b t) (is_content_kind t) ContentType _ (λ e. e) (picked (HasTag b t) (is_primitive_tag 1 7 t && not b) MessagePriority _ (λ e. e) (picked (HasTag b t) (is_tag 1 8 t) Indicators _ (λ e. e)
+    (picked (HasTag b t) (is_constructed_tag 1 9 t) TraceList _ (λ e. e) (picked (HasTag b t) (is_tag 1 10 t) ContentIdentifier _ (λ e. e) (context_tagged b t))))))))
 
 either : (a b : Bool) → (a || b) ≡ true → (a ≡ true) ⊎ (b ≡ true)
 either true b e = inl refl
@@ -99,29 +101,29 @@ is_message true e = absurd cc
 is_message false e = refl
 
 found : (k : EnvelopePart) (b : Bool) (t : Tag) → HasTag b t k → envelope_part_of b t ≡ Some k
-found Originator b t h = let e = tag_is 1 0 t h in rw (e.0, e.1) refl
-found Identifier b t h = let e = tag_is 1 4 t h in rw (e.0, e.1) refl
+found Originator b t h = let e = constructed_is 1 0 t h in rw (e.0, e.1, e.2) refl
+found Identifier b t h = let e = constructed_is 1 4 t h in rw (e.0, e.1, e.2) refl
 found InformationTypes b t h = let e = tag_is 1 5 t h in rw (e.0, e.1) refl
 found ContentType b t h =
-    elim (either (is_tag 1 6 t) (is_tag 0 6 t) h) [
-      | inl m ↦ (let e = tag_is 1 6 t m in rw (e.0, e.1) refl)
-      | inr m ↦ (let e = tag_is 0 6 t m in rw (e.0, e.1) refl)
+    elim (either (is_primitive_tag 1 6 t) (is_primitive_tag 0 6 t) h) [
+      | inl m ↦ (let e = primitive_is 1 6 t m in rw (e.0, e.1, e.2) refl)
+      | inr m ↦ (let e = primitive_is 0 6 t m in rw (e.0, e.1, e.2) refl)
     ]
-found MessagePriority b t h = let a = and_true (is_tag 1 7 t) (not b) h in let e = tag_is 1 7 t a.0 in let m = is_message b a.1 in rw (e.0, e.1, m) refl
+found MessagePriority b t h = let a = and_true (is_primitive_tag 1 7 t) (not b) h in let e = primitive_is 1 7 t a.0 in let m = is_message b a.1 in rw (e.0, e.1, e.2, m) refl
 found Indicators b t h = let e = tag_is 1 8 t h in rw (e.0, e.1) refl
-found TraceList b t h = let e = tag_is 1 9 t h in rw (e.0, e.1) refl
+found TraceList b t h = let e = constructed_is 1 9 t h in rw (e.0, e.1, e.2) refl
 found ContentIdentifier b t h = let e = tag_is 1 10 t h in rw (e.0, e.1) refl
 found Deferral b t h = let a = and_true (is_tag 2 0 t) (not b) h in let e = tag_is 2 0 t a.0 in let m = is_message b a.1 in rw (e.0, e.1, m) refl
-found Length b t h = let a = and_true (is_tag 2 0 t) b h in let e = tag_is 2 0 t a.0 in let m = a.1 in rw (e.0, e.1, m) refl
+found Length b t h = let a = and_true (is_primitive_tag 2 0 t) b h in let e = primitive_is 2 0 t a.0 in let m = a.1 in rw (e.0, e.1, e.2, m) refl
 found Bilateral b t h = let e = tag_is 2 1 t h in rw (e.0, e.1) refl
-found RecipientList b t h = let e = tag_is 2 2 t h in rw (e.0, e.1) refl
-found ExtensionSet b t h = let e = tag_is 2 3 t h in rw (e.0, e.1) refl
+found RecipientList b t h = let e = constructed_is 2 2 t h in rw (e.0, e.1, e.2) refl
+found ExtensionSet b t h = let e = constructed_is 2 3 t h in rw (e.0, e.1, e.2) refl
 
 -- ---- one component
 
 part_sound : (k : EnvelopePart) (s t : EnvelopeParts) (p : Part) → p.depth ≤ 16 → IsOctets p.content → envelope_part_in k s p ≡ Ok t → MakesEnvelopePart k p.depth s p.tag p.content p.octets t
 part_sound Originator s t p d o e = once_sound s.originator p.at (name_in p) (with_originator s) t (SpellsName p.depth p.tag.constructed p.content) (λ x r. name_sound x p o r) e
-part_sound Identifier s t p d o e = once_sound s.id p.at (id_in p) (with_id s) t (SpellsMtsId p.depth p.tag.constructed p.content) (λ x r. id_sound x p o r) e
+part_sound Identifier s t p d o e = once_sound s.id p.at (id_in p) (with_id s) t (SpellsMtsId p.depth p.tag p.content) (λ x r. id_sound x p o r) e
 part_sound InformationTypes s t p d o e = once_sound s.eits p.at (raw_in p) (with_eits s) t (λ x. x ≡ p.octets) (λ x r. sym (ok_is p.octets x r)) e
 part_sound ContentType s t p d o e = once_sound s.content_kind p.at (content_kind_in p) (with_content_kind s) t (SpellsContentKind p.depth p.tag p.content p.octets) (λ x r. kind_sound x p r) e
 part_sound MessagePriority s t p d o e = once_sound s.priority p.at (priority_in p) (with_priority s) t (SpellsPriority p.tag.constructed p.content) (λ x r. priority_sound x p r) e
@@ -136,7 +138,7 @@ part_sound ExtensionSet s t p d o e = once_sound s.extensions p.at (extensions_i
 
 part_full : (k : EnvelopePart) (s t : EnvelopeParts) (p : Part) → p.depth ≤ 16 → MakesEnvelopePart k p.depth s p.tag p.content p.octets t → envelope_part_in k s p ≡ Ok t
 part_full Originator s t p d h = once_full s.originator p.at (name_in p) (with_originator s) t (SpellsName p.depth p.tag.constructed p.content) (λ x r. name_full x p r) h
-part_full Identifier s t p d h = once_full s.id p.at (id_in p) (with_id s) t (SpellsMtsId p.depth p.tag.constructed p.content) (λ x r. id_full x p r) h
+part_full Identifier s t p d h = once_full s.id p.at (id_in p) (with_id s) t (SpellsMtsId p.depth p.tag p.content) (λ x r. id_full x p r) h
 part_full InformationTypes s t p d h = once_full s.eits p.at (raw_in p) (with_eits s) t (λ x. x ≡ p.octets) (λ x r. ap (λ (o : List ℕ). Ok o) (sym r)) h
 part_full ContentType s t p d h = once_full s.content_kind p.at (content_kind_in p) (with_content_kind s) t (SpellsContentKind p.depth p.tag p.content p.octets) (λ x r. kind_full x p r) h
 part_full MessagePriority s t p d h = once_full s.priority p.at (priority_in p) (with_priority s) t (SpellsPriority p.tag.constructed p.content) (λ x r. priority_full x p r) h

@@ -6,6 +6,7 @@ use Rattle.mta_ber.specs.declared.fault.Kind.TheVariants.{BadTag}
 use Rattle.mta_ber.specs.declared.tag.Tag.{Tag}
 use Rattle.mta_ber.specs.Bits.{BitString}
 use Rattle.mta_ber.specs.Element.{Part}
+use Rattle.mta_ber.specs.Forms.{is_primitive_tag, is_constructed_tag}
 use Rattle.mta_ber.specs.Head.{◌>>=◌, fault}
 use Rattle.mta_ber.specs.Moments.{SpellsMoment}
 use Rattle.mta_ber.specs.Parts.{is_tag, once}
@@ -44,38 +45,38 @@ length_in p = number_in 0 longest p
 abbrev pub context_part_of : Bool → Tag → Option EnvelopePart
 context_part_of probe t =
     if is_tag 2 0 t && not probe then Some Deferral
-    else if is_tag 2 0 t && probe then Some Length
+    else if is_primitive_tag 2 0 t && probe then Some Length
     else if is_tag 2 1 t then Some Bilateral
-    else if is_tag 2 2 t then Some RecipientList
-    else if is_tag 2 3 t then Some ExtensionSet
+    else if is_constructed_tag 2 2 t then Some RecipientList
+    else if is_constructed_tag 2 3 t then Some ExtensionSet
     else None
 
 abbrev pub envelope_part_of : Bool → Tag → Option EnvelopePart
 envelope_part_of probe t =
-    if is_tag 1 0 t then Some Originator
-    else if is_tag 1 4 t then Some Identifier
+    if is_constructed_tag 1 0 t then Some Originator
+    else if is_constructed_tag 1 4 t then Some Identifier
     else if is_tag 1 5 t then Some InformationTypes
     else if is_content_kind t then Some ContentType
-    else if is_tag 1 7 t && not probe then Some MessagePriority
+    else if is_primitive_tag 1 7 t && not probe then Some MessagePriority
     else if is_tag 1 8 t then Some Indicators
-    else if is_tag 1 9 t then Some TraceList
+    else if is_constructed_tag 1 9 t then Some TraceList
     else if is_tag 1 10 t then Some ContentIdentifier
     else context_part_of probe t
 
 abbrev pub is_envelope_tag : Bool → EnvelopePart → Tag → Bool
-is_envelope_tag probe Originator t = is_tag 1 0 t
-is_envelope_tag probe Identifier t = is_tag 1 4 t
+is_envelope_tag probe Originator t = is_constructed_tag 1 0 t
+is_envelope_tag probe Identifier t = is_constructed_tag 1 4 t
 is_envelope_tag probe InformationTypes t = is_tag 1 5 t
 is_envelope_tag probe ContentType t = is_content_kind t
-is_envelope_tag probe MessagePriority t = is_tag 1 7 t && not probe
+is_envelope_tag probe MessagePriority t = is_primitive_tag 1 7 t && not probe
 is_envelope_tag probe Indicators t = is_tag 1 8 t
-is_envelope_tag probe TraceList t = is_tag 1 9 t
+is_envelope_tag probe TraceList t = is_constructed_tag 1 9 t
 is_envelope_tag probe ContentIdentifier t = is_tag 1 10 t
 is_envelope_tag probe Deferral t = is_tag 2 0 t && not probe
-is_envelope_tag probe Length t = is_tag 2 0 t && probe
+is_envelope_tag probe Length t = is_primitive_tag 2 0 t && probe
 is_envelope_tag probe Bilateral t = is_tag 2 1 t
-is_envelope_tag probe RecipientList t = is_tag 2 2 t
-is_envelope_tag probe ExtensionSet t = is_tag 2 3 t
+is_envelope_tag probe RecipientList t = is_constructed_tag 2 2 t
+is_envelope_tag probe ExtensionSet t = is_constructed_tag 2 3 t
 
 -- ---- places
 
@@ -164,7 +165,7 @@ no_envelope probe = record {
 
 abbrev pub MakesEnvelopePart : EnvelopePart → ℕ → EnvelopeParts → Tag → List ℕ → List ℕ → EnvelopeParts → Type 0
 MakesEnvelopePart Originator depth s tag content octets after = (s.originator ≡ None) × Puts (SpellsName depth tag.constructed content) (with_originator s) after
-MakesEnvelopePart Identifier depth s tag content octets after = (s.id ≡ None) × Puts (SpellsMtsId depth tag.constructed content) (with_id s) after
+MakesEnvelopePart Identifier depth s tag content octets after = (s.id ≡ None) × Puts (SpellsMtsId depth tag content) (with_id s) after
 MakesEnvelopePart InformationTypes depth s tag content octets after = (s.eits ≡ None) × Puts (λ x. x ≡ octets) (with_eits s) after
 MakesEnvelopePart ContentType depth s tag content octets after = (s.content_kind ≡ None) × Puts (SpellsContentKind depth tag content octets) (with_content_kind s) after
 MakesEnvelopePart MessagePriority depth s tag content octets after = (s.priority ≡ None) × Puts (SpellsPriority tag.constructed content) (with_priority s) after

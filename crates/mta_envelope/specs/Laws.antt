@@ -3,16 +3,18 @@ use Rattle.std.specs.Prelude.{◌≡◌, ℕ, ◌+◌, ◌<◌, ◌≤◌, ◌^�
 use Rattle.mta_ber.specs.Element.{first}
 use Rattle.mta_ber.specs.Head.{◌>>=◌}
 use Rattle.mta_ber.specs.Laws.{with_rest, beside}
-use Rattle.mta_names.specs.Laws.{NoneBeginsAnother, IsRawAt, KeepsName}
+use Rattle.mta_names.specs.Laws.{IsRawAt, KeepsName}
 use Rattle.mta_names.specs.Values.{Each, IsName}
+use Rattle.mta_ber.specs.Canon.{constructed}
+use Rattle.mta_fields.specs.Tagged.{NoTaggedBeginsAnother}
 use Rattle.mta_fields.specs.Laws.{IsWholeId, IsWholeTrace, KeepsTrace}
 use Rattle.mta_extensions.specs.declared.extensions.Extensions.{Extensions}
 use Rattle.mta_extensions.specs.Laws.{AreToldAt}
 use Rattle.mta_recipient.specs.Laws.{IsWholeRecipient, KeepsRecipient}
 use Rattle.mta_envelope.specs.declared.envelope.EnvelopeFields.{EnvelopeFields}
 use Rattle.mta_envelope.specs.Contents.{content_as}
-use Rattle.mta_envelope.specs.Envelopes.{IsEnvelope, IsOfKind, told_history, envelope_in, SpellsEnvelope}
-use Rattle.mta_envelope.specs.Messages.{MessageValue, SpellsMessage, message_as, message_in, canonical_message, canonical_probe}
+use Rattle.mta_envelope.specs.Envelopes.{IsEnvelope, IsOfKind, told_history, SpellsEnvelope}
+use Rattle.mta_envelope.specs.Messages.{MessageValue, SpellsMessage, message_as, message_in, SpellsProbe, probe_in, canonical_message, canonical_probe}
 
 -- the extension fields, and what they say
 abbrev pub told_of : EnvelopeFields → Option Bool → Extensions
@@ -45,7 +47,7 @@ MessagesAreReadAgain = (v : EnvelopeFields) (content more : List ℕ) (at : ℕ)
 
 abbrev pub ProbesAreReadAgain : Type 0
 ProbesAreReadAgain = (v : EnvelopeFields) (more : List ℕ) (at : ℕ) → IsWholeEnvelope v → IsOfKind true v → KeepsEnvelope 2 v → length (canonical_probe v) < 2 ^ 64
-    → (first at (canonical_probe v ++ more) >>= with_rest (envelope_in true)) ≡ beside v more
+    → (first at (canonical_probe v ++ more) >>= with_rest probe_in) ≡ beside v more
 
 -- what an envelope that was read keeps stands in the level of its place, and the extension fields say there what is said
 abbrev pub ReadEnvelopesAreKept : Type 0
@@ -53,16 +55,16 @@ ReadEnvelopesAreKept = (probe : Bool) (depth : ℕ) (c : Bool) (content : List �
 
 -- so a message that was read, at the outermost level, is written so that it is read again
 abbrev pub ReadMessagesAreReadAgain : Type 0
-ReadMessagesAreReadAgain = (content : List ℕ) (v : MessageValue) (more : List ℕ) (at : ℕ) → SpellsMessage 1 true content v → length (canonical_message v.envelope v.content.octets) < 2 ^ 64
+ReadMessagesAreReadAgain = (content : List ℕ) (v : MessageValue) (more : List ℕ) (at : ℕ) → SpellsMessage 1 (constructed 2 0) content v → length (canonical_message v.envelope v.content.octets) < 2 ^ 64
     → (first at (canonical_message v.envelope v.content.octets ++ more) >>= with_rest message_in) ≡ beside (message_as v.envelope (content_as true v.content.octets)) more
 
 abbrev pub ReadProbesAreReadAgain : Type 0
-ReadProbesAreReadAgain = (content : List ℕ) (v : EnvelopeFields) (more : List ℕ) (at : ℕ) → SpellsEnvelope true 2 true content v → length (canonical_probe v) < 2 ^ 64
-    → (first at (canonical_probe v ++ more) >>= with_rest (envelope_in true)) ≡ beside v more
+ReadProbesAreReadAgain = (content : List ℕ) (v : EnvelopeFields) (more : List ℕ) (at : ℕ) → SpellsProbe 2 (constructed 2 2) content v → length (canonical_probe v) < 2 ^ 64
+    → (first at (canonical_probe v ++ more) >>= with_rest probe_in) ≡ beside v more
 
 -- no spelling begins another, and each is that of one value
 abbrev pub NoMessageBeginsAnother : Type 0
-NoMessageBeginsAnother = NoneBeginsAnother SpellsMessage
+NoMessageBeginsAnother = NoTaggedBeginsAnother SpellsMessage
 
 abbrev pub NoProbeBeginsAnother : Type 0
-NoProbeBeginsAnother = NoneBeginsAnother (SpellsEnvelope true)
+NoProbeBeginsAnother = NoTaggedBeginsAnother SpellsProbe

@@ -4,3 +4,4 @@ pub mod Envelopes
 pub mod Contents
 pub mod Messages
 pub mod Laws
+pub mod Places

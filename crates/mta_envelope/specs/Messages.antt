@@ -5,6 +5,7 @@ use Rattle.mta_ber.specs.declared.fault.Kind.TheVariants.{BadTag, Missing}
 use Rattle.mta_ber.specs.declared.tag.Tag.{Tag}
 use Rattle.mta_ber.specs.Canon.{element, constructed, primitive}
 use Rattle.mta_ber.specs.Element.{Part, next_part, alone}
+use Rattle.mta_ber.specs.Forms.{is_constructed_tag}
 use Rattle.mta_ber.specs.Head.{◌>>=◌, fault}
 use Rattle.mta_ber.specs.Spelling.{Stands}
 use Rattle.mta_recipient.specs.Lists.{is_set}
@@ -53,7 +54,10 @@ two_in p =
     Ok (message_as v o)
 
 unfoldable pub message_in : Part → Result MessageValue Fault
-message_in p = if p.tag.constructed then two_in p else fault p.at BadTag
+message_in p = if is_constructed_tag 2 0 p.tag then two_in p else fault p.at BadTag
+
+unfoldable pub probe_in : Part → Result EnvelopeFields Fault
+probe_in p = if is_constructed_tag 2 2 p.tag then envelope_in true p else fault p.at BadTag
 
 -- ---- what spells a message
 
@@ -72,13 +76,18 @@ pub record SpellsOctetString (depth : ℕ) (octets : List ℕ) (v : ContentValue
   pub spelled : SpellsContent depth tag content octets v
 
 -- a SEQUENCE of an envelope and a content
-pub record SpellsMessage (depth : ℕ) (constructed : Bool) (content : List ℕ) (v : MessageValue) : Type 0 where
-  pub is_constructed : constructed ≡ true
+pub record SpellsMessage (depth : ℕ) (tag : Tag) (content : List ℕ) (v : MessageValue) : Type 0 where
+  pub is_tag_of : is_constructed_tag 2 0 tag ≡ true
   pub first : List ℕ
   pub second : List ℕ
   pub joined : content ≡ first ++ second
   pub envelope : SpellsSet (depth + 1) first v.envelope
   pub content_of : SpellsOctetString (depth + 1) second v.content
+
+-- the envelope of a probe
+pub record SpellsProbe (depth : ℕ) (tag : Tag) (content : List ℕ) (v : EnvelopeFields) : Type 0 where
+  pub is_tag_of : is_constructed_tag 2 2 tag ≡ true
+  pub spelled : SpellsEnvelope true depth tag.constructed content v
 
 -- ---- the one spelling that is written
 

@@ -1,9 +1,10 @@
 //! Envelopes.
 
+use crate::length::components_length;
 use crate::priority::Priority;
 use crate::reading::read_fields;
 use crate::writing::put_components;
-use mta_ber::{Bits, Memory, Octets, ReadFault, Tag, Text, View, Writer};
+use mta_ber::{Bits, Memory, Octets, ReadFault, Tag, Text, View, Writer, element_length};
 use mta_common::ContentKind;
 use mta_fields::{Expansion, ExtField, MtsId, TraceElement};
 use mta_names::{OrName, Row, put_around};
@@ -68,8 +69,9 @@ impl Model for Envelope {
 }
 
 impl Envelope {
-    ghost use Rattle.std.specs.Prelude.{◌≡◌, IfOk, OnOk, OnErr};
+    ghost use Rattle.std.specs.Prelude.{◌≡◌, ◌<◌, IfOk, OnOk, OnErr};
     ghost use Rattle.mta_ber.specs.Canon.{IsTag, appended, element};
+    ghost use Rattle.mta_ber.specs.Lengths.{octet_length};
     ghost use Rattle.mta_ber.specs.Parts.{Reads, IsReadAs};
     ghost use Rattle.mta_ber.specs.Seen.{view};
     ghost use Rattle.mta_envelope.specs.declared.envelope.EnvelopeFields.{EnvelopeFields};
@@ -102,6 +104,14 @@ impl Envelope {
     {
         let inside = put_components(w.alloc(), &self.fields)?;
         put_around(w, tag, &inside)
+    }
+
+    /// How many octets `write` appends, told without memory; 2^64 - 1 where there are as many or more.
+    pub fn length(&self, tag: Tag) -> u64
+        requires { tag.number < 31 }
+        ensures { result ≡ octet_length (element tag (envelope_content self.now)) }
+    {
+        element_length(tag, components_length(&self.fields))
     }
 
     /// An envelope of these parts, which takes no memory.

@@ -4,8 +4,10 @@
 mod content;
 mod envelope;
 mod laws;
+mod length;
 mod message;
 mod parts;
+mod place;
 mod priority;
 mod probe;
 mod reading;
@@ -19,5 +21,8 @@ pub use laws::{
     probes_are_read_again, what_was_read_is_read_again,
 };
 pub use message::Message;
+pub use mta_common::ContentKind;
+pub use mta_recipient::Recipient;
+pub use place::Place;
 pub use priority::Priority;
 pub use probe::Probe;

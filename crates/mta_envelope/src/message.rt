@@ -4,11 +4,14 @@ ghost use Rattle.std.specs.Prelude.{◌≡◌, None};
 
 use crate::content::Content;
 use crate::envelope::Envelope;
+use crate::place::Place;
 
-/// A message (X.411, Message): an envelope, which has no content length, and a content.
+/// A message (X.411, Message): an envelope, which has no content length, a content, and the place of a content that is lent in the
+/// input that was read.
 #[derive(Debug, Drop)]
 pub struct Message<'a> {
     pub envelope: Envelope,
     pub content: Content<'a>,
+    pub place: Option<Place>,
     pub ghost no_length: { envelope.length ≡ None },
 }

@@ -7,7 +7,10 @@ ghost use Rattle.mta_envelope.specs.declared.parts.EnvelopePart.TheVariants.{Ori
 ghost use Rattle.mta_envelope.specs.Components.{length_in, context_part_of, envelope_part_of, no_envelope, envelope_part_in, envelope_step};
 
 use crate::priority::{Priority, read_priority};
-use mta_ber::{Bits, Components, Kind, Octets, ReadFault, Tag, Text, View, bad, is_tag_of};
+use mta_ber::{
+    Bits, Components, Kind, Octets, ReadFault, Tag, Text, View, bad, is_constructed_tag,
+    is_primitive_tag, is_tag_of,
+};
 use mta_common::{
     ContentKind, is_content_kind_tag, read_content_id, read_content_kind, read_indicators,
     read_trace,
@@ -80,19 +83,19 @@ pub fn no_parts(probe: bool) -> EnvelopeParts
 fn part_of(probe: bool, tag: Tag) -> Option<EnvelopePart>
     ensures { result ≡ envelope_part_of probe tag }
 {
-    if is_tag_of(tag, 1, 0) {
+    if is_constructed_tag(tag, 1, 0) {
         Some(EnvelopePart::Originator)
-    } else if is_tag_of(tag, 1, 4) {
+    } else if is_constructed_tag(tag, 1, 4) {
         Some(EnvelopePart::Identifier)
     } else if is_tag_of(tag, 1, 5) {
         Some(EnvelopePart::InformationTypes)
     } else if is_content_kind_tag(tag) {
         Some(EnvelopePart::ContentType)
-    } else if is_tag_of(tag, 1, 7) && !probe {
+    } else if is_primitive_tag(tag, 1, 7) && !probe {
         Some(EnvelopePart::MessagePriority)
     } else if is_tag_of(tag, 1, 8) {
         Some(EnvelopePart::Indicators)
-    } else if is_tag_of(tag, 1, 9) {
+    } else if is_constructed_tag(tag, 1, 9) {
         Some(EnvelopePart::TraceList)
     } else if is_tag_of(tag, 1, 10) {
         Some(EnvelopePart::ContentIdentifier)
@@ -107,13 +110,13 @@ fn context_part_of(probe: bool, tag: Tag) -> Option<EnvelopePart>
 {
     if is_tag_of(tag, 2, 0) && !probe {
         Some(EnvelopePart::Deferral)
-    } else if is_tag_of(tag, 2, 0) && probe {
+    } else if is_primitive_tag(tag, 2, 0) && probe {
         Some(EnvelopePart::Length)
     } else if is_tag_of(tag, 2, 1) {
         Some(EnvelopePart::Bilateral)
-    } else if is_tag_of(tag, 2, 2) {
+    } else if is_constructed_tag(tag, 2, 2) {
         Some(EnvelopePart::RecipientList)
-    } else if is_tag_of(tag, 2, 3) {
+    } else if is_constructed_tag(tag, 2, 3) {
         Some(EnvelopePart::ExtensionSet)
     } else {
         None

@@ -17,7 +17,7 @@ pub enum Priority {
     Urgent,
 }
 
-fn number_of(priority: Priority) -> i64
+pub fn number_of(priority: Priority) -> i64
     ensures { result ≡ pos (priority_number priority) }
 {
     match priority {

@@ -2,20 +2,26 @@
 
 ghost use Rattle.std.specs.Prelude.{◌≡◌, ◌+◌, ◌-◌, ◌<◌, length, true, false, IfOk, Ok, List, ℕ};
 ghost use Rattle.mta_ber.specs.Element.{IsBehind};
+ghost use Rattle.mta_ber.specs.Lengths.{octet_length};
 ghost use Rattle.mta_ber.specs.Parts.{Reads, IsReadAs};
 ghost use Rattle.mta_ber.specs.Place.{IsTail, IsAt};
 ghost use Rattle.mta_ber.specs.Seen.{view};
 ghost use Rattle.mta_ber.specs.Spelling.{Standing};
 ghost use Rattle.mta_envelope.specs.declared.envelope.EnvelopeFields.{EnvelopeFields};
 ghost use Rattle.mta_envelope.specs.Contents.{ReadsSeen, IsSeenAs, IsLentEndOf, octets_of, content_value};
-ghost use Rattle.mta_envelope.specs.Envelopes.{IsOfKind, envelope_in, SpellsEnvelope};
-ghost use Rattle.mta_envelope.specs.Messages.{MessageValue, message_value, next_in, set_in, last_in, message_in, SpellsMessage, canonical_message, canonical_probe};
+ghost use Rattle.mta_envelope.specs.Envelopes.{IsOfKind};
+ghost use Rattle.mta_envelope.specs.Messages.{MessageValue, message_value, next_in, set_in, last_in, message_in, SpellsMessage, probe_in, SpellsProbe, canonical_message, canonical_probe};
+ghost use Rattle.mta_envelope.specs.Places.{IsLast, IsBehindEnvelope, IsPlaced};
 
 use crate::content::{Content, read_content};
 use crate::envelope::Envelope;
 use crate::message::Message;
+use crate::place::{Place, place_of};
 use crate::probe::Probe;
-use mta_ber::{Kind, Memory, Octets, Parts, ReadFault, View, Writer, bad, is_tag_of};
+use mta_ber::{
+    Kind, Memory, Octets, Parts, ReadFault, View, Writer, bad, element_length, is_constructed_tag,
+    is_tag_of, length_of_both, slice_length,
+};
 use mta_names::{constructed, primitive, put_around};
 use std::alloc::Global;
 
@@ -46,31 +52,49 @@ fn read_set(alloc: Global, part: &View) -> Result<Envelope, ReadFault>
     Envelope::read(alloc, false, part)
 }
 
+/// A content with its place.
+#[derive(Debug, Drop)]
+struct PlacedContent<'a> {
+    content: Content<'a>,
+    place: Option<Place>,
+}
+
 /// The content, behind which nothing stands.
 #[tactic(auto, unfolding(crate::specs::Messages::last_in))]
-fn read_last<'a>(alloc: Global, parts: &mut Parts<'a>, whole: u32) -> Result<Content<'a>, ReadFault>
-    ensures exact { ReadsSeen content_value result (last_in whole parts.old.at (parts.old.depth + 1) parts.old.left.now) }
-    ensures lent { IfOk result (λ c. IsLentEndOf parts.old.left c) }
+fn read_last<'a>(
+    alloc: Global,
+    parts: &mut Parts<'a>,
+    whole: u32,
+) -> Result<PlacedContent<'a>, ReadFault>
+    ensures exact { ReadsSeen (λ c. content_value c.content) result (last_in whole parts.old.at (parts.old.depth + 1) parts.old.left.now) }
+    ensures lent { IfOk result (λ c. IsLentEndOf parts.old.left c.content) }
+    ensures placed { IfOk result (λ c. IsPlaced (IsLast (parts.old.depth + 1)) parts.old.at parts.old.left c.content c.place) }
 {
     let second = next_of(parts, whole)?;
     let content = read_content(alloc, &second)?;
     second.alone()?;
-    Ok(content)
+    let place = place_of(&second);
+    Ok(PlacedContent { content, place })
 }
 
 #[tactic(auto, unfolding(crate::specs::Messages::message_in))]
 fn read_message<'a>(alloc: Global, whole: &View<'a>) -> Result<Message<'a>, ReadFault>
     ensures exact { ReadsSeen message_value result (message_in (view whole.now)) }
     ensures lent { IfOk result (λ m. IsLentEndOf whole.now.content m.content) }
+    ensures placed { IfOk result (λ m. IsPlaced (IsBehindEnvelope (whole.now.depth + 1)) whole.now.start whole.now.content m.content m.place) }
 {
-    if !whole.tag.constructed {
+    if !is_constructed_tag(whole.tag, 2, 0) {
         return bad(whole.at, Kind::BadTag);
     }
     let mut parts = whole.parts();
     let first = next_of(&mut parts, whole.at)?;
     let envelope = read_set(alloc, &first)?;
     match read_last(alloc, &mut parts, whole.at) {
-        Ok(content) => Ok(Message { envelope, content }),
+        Ok(PlacedContent { content, place }) => Ok(Message {
+            envelope,
+            content,
+            place,
+        }),
         Err(fault) => {
             drop(envelope);
             Err(fault)
@@ -78,21 +102,46 @@ fn read_message<'a>(alloc: Global, whole: &View<'a>) -> Result<Message<'a>, Read
     }
 }
 
+/// The envelope of a probe.
+#[tactic(auto, unfolding(crate::specs::Messages::probe_in))]
+fn read_probe(alloc: Global, whole: &View) -> Result<Envelope, ReadFault>
+    ensures exact { Reads result (probe_in (view whole.now)) }
+    ensures kind { IfOk result (IsOfKind true) }
+{
+    if !is_constructed_tag(whole.tag, 2, 2) {
+        return bad(whole.at, Kind::BadTag);
+    }
+    Envelope::read(alloc, true, whole)
+}
+
 impl<'a> Message<'a> {
-    /// The message that the element of an APDU spells, whatever its tag, which is `[0]` and for the caller to check: a SEQUENCE of an
-    /// envelope and a content.
+    /// The message that the element of an APDU spells, under `[0]`: a SEQUENCE of an envelope and a content. BadTag at an element of any
+    /// other tag.
     pub fn read(alloc: Global, whole: &View<'a>) -> Result<Message<'a>, ReadFault>
         // Which message it is, or which fault comes first. Its content is lent exactly where it is primitive.
         ensures exact { ReadsSeen message_value result (message_in (view whole.now)) }
 
-        // What is answered is spelled by the content, and what the content spells is answered.
-        ensures found { IfOk result (λ m. SpellsMessage whole.now.depth whole.now.tag.constructed whole.now.content.now (message_value m)) }
-        ensures only { (v : MessageValue) → SpellsMessage whole.now.depth whole.now.tag.constructed whole.now.content.now v → IsSeenAs message_value result v }
+        // What is answered is spelled by the element, and what the element spells is answered.
+        ensures found { IfOk result (λ m. SpellsMessage whole.now.depth whole.now.tag whole.now.content.now (message_value m)) }
+        ensures only { (v : MessageValue) → SpellsMessage whole.now.depth whole.now.tag whole.now.content.now v → IsSeenAs message_value result v }
 
         // What is lent is the input itself: the last octets of it.
         ensures lent { IfOk result (λ m. IsLentEndOf whole.now.content m.content) }
+
+        // Its place is that of the contents octets of the element behind the envelope, and there is none where it was joined.
+        ensures placed { IfOk result (λ m. IsPlaced (IsBehindEnvelope (whole.now.depth + 1)) whole.now.start whole.now.content m.content m.place) }
     {
         read_message(alloc, whole)
+    }
+
+    /// How many octets `write` gives, told without memory; 2^64 - 1 where there are as many or more.
+    #[tactic(auto, unfolding(crate::specs::Messages::canonical_message))]
+    pub fn length(&self) -> u64
+        ensures { result ≡ octet_length (canonical_message self.now.envelope (octets_of self.now.content)) }
+    {
+        let envelope = self.envelope.length(constructed(0, 17));
+        let content = element_length(primitive(0, 4), slice_length(self.content.as_slice()));
+        element_length(constructed(2, 0), length_of_both(envelope, content))
     }
 
     /// The canonical octets of the whole APDU.
@@ -110,19 +159,27 @@ impl<'a> Message<'a> {
 }
 
 impl Probe {
-    /// The probe that the element of an APDU spells, whatever its tag, which is `[2]` and for the caller to check: the envelope itself.
+    /// The probe that the element of an APDU spells, under `[2]`: the envelope itself. BadTag at an element of any other tag.
     pub fn read(alloc: Global, whole: &View) -> Result<Probe, ReadFault>
         // Which probe it is, or which fault comes first.
-        ensures exact { ReadsSeen (λ p. p.envelope) result (envelope_in true (view whole.now)) }
+        ensures exact { ReadsSeen (λ p. p.envelope) result (probe_in (view whole.now)) }
 
-        // What is answered is spelled by the content, and what the content spells is answered.
-        ensures found { IfOk result (λ p. SpellsEnvelope true whole.now.depth whole.now.tag.constructed whole.now.content.now p.envelope) }
-        ensures only { (v : EnvelopeFields) → SpellsEnvelope true whole.now.depth whole.now.tag.constructed whole.now.content.now v → IsSeenAs (λ p. p.envelope) result v }
+        // What is answered is spelled by the element, and what the element spells is answered.
+        ensures found { IfOk result (λ p. SpellsProbe whole.now.depth whole.now.tag whole.now.content.now p.envelope) }
+        ensures only { (v : EnvelopeFields) → SpellsProbe whole.now.depth whole.now.tag whole.now.content.now v → IsSeenAs (λ p. p.envelope) result v }
     {
-        match Envelope::read(alloc, true, whole) {
+        match read_probe(alloc, whole) {
             Ok(envelope) => Ok(Probe { envelope }),
             Err(fault) => Err(fault),
         }
+    }
+
+    /// How many octets `write` gives, told without memory; 2^64 - 1 where there are as many or more.
+    #[tactic(auto, unfolding(crate::specs::Messages::canonical_probe))]
+    pub fn length(&self) -> u64
+        ensures { result ≡ octet_length (canonical_probe self.now.envelope) }
+    {
+        self.envelope.length(constructed(2, 2))
     }
 
     /// The canonical octets of the whole APDU.

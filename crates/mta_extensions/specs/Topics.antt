@@ -42,7 +42,7 @@ unfoldable pub history_in : Part → Result (List ExpansionFields) Fault
 history_in p = list_in is_sequence expansion_in 1 512 p
 
 abbrev pub SpellsItem : Spells ExpansionFields
-SpellsItem depth tag content octets v = SpellsExpansion depth tag.constructed content v
+SpellsItem depth tag content octets v = SpellsExpansion depth tag content v
 
 abbrev pub SpellsHistory : ℕ → Bool → List ℕ → List ExpansionFields → Type 0
 SpellsHistory depth constructed content xs = SpellsList is_sequence SpellsItem 1 512 depth constructed content xs

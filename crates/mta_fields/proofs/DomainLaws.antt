@@ -5,17 +5,19 @@ use Rattle.std.specs.Option.{option_map}
 use Rattle.std.proofs.lemmas.Bool.{and_parts, and_from}
 use Rattle.mta_ber.specs.declared.tag.Tag.{Tag}
 use Rattle.mta_ber.specs.Element.{Part}
+use Rattle.mta_ber.specs.Forms.{components_under}
 use Rattle.mta_ber.specs.Head.{◌>>=◌}
 use Rattle.mta_ber.specs.Octet.{IsOctets}
-use Rattle.mta_ber.specs.Parts.{components, is_tag, required}
+use Rattle.mta_ber.specs.Parts.{is_tag, required}
 use Rattle.mta_ber.proofs.ComponentLaws.{StepSound, StepFull}
 use Rattle.mta_ber.proofs.ExplicitLaws.{in_order_full}
+use Rattle.mta_ber.proofs.FormLaws.{components_under_sound, components_under_full}
 use Rattle.mta_ber.proofs.Steps.{bind_ok, ok_is, required_so}
 use Rattle.mta_names.specs.declared.attributes.Label.{Label}
 use Rattle.mta_names.specs.Labels.{country_in, label_in, label_choice, SpellsLabel, SpellsChoice}
 use Rattle.mta_names.specs.Normal.{normal_label, is_same_labels, is_same_option}
 use Rattle.mta_names.specs.Values.{IsCountry, IsLabel}
-use Rattle.mta_names.proofs.Tools.{puts_sound, puts_full, tag_is, picked, not_none, components_sound, components_full, Keeps, spelled_keep}
+use Rattle.mta_names.proofs.Tools.{puts_sound, puts_full, tag_is, picked, not_none, Keeps, spelled_keep}
 use Rattle.mta_names.proofs.LabelLaws.{country_sound, country_full, label_sound, label_full, label_choice_sound, label_choice_full, label_fits}
 use Rattle.mta_names.proofs.NormalLaws.{Decides, text_decides, option_decides}
 use Rattle.mta_names.proofs.StandardLaws.{ordered}
@@ -68,15 +70,15 @@ step_full s t p shallow h =
     ∙ in_order_full s.last (domain_needed k) (domain_place k) p.at (domain_part_in k s p) h.behind h.needed
     ∙ part_full k s t p shallow h.made
 
-pub domain_sound : (v : DomainFields) (p : Part) → IsOctets p.content → domain_in p ≡ Ok v → SpellsDomain p.depth p.tag.constructed p.content v
+pub domain_sound : (v : DomainFields) (p : Part) → IsOctets p.content → domain_in p ≡ Ok v → SpellsDomain p.depth p.tag p.content v
 unfolding domain_in
 domain_sound v p octets e =
-    let a = bind_ok (components domain_step no_domain p) (λ s. required s.country p.at >>= λ c. required s.admd p.at >>= λ a. Ok (domain c a s.prmd)) v e in
-    let c = components_sound domain_step MakesDomain step_sound no_domain a.0 p octets a.1 in
+    let a = bind_ok (components_under 1 3 domain_step no_domain p) (λ s. required s.country p.at >>= λ c. required s.admd p.at >>= λ a. Ok (domain c a s.prmd)) v e in
+    let c = components_under_sound 1 3 domain_step MakesDomain step_sound no_domain a.0 p octets a.1 in
     let b = bind_ok (required a.0.country p.at) (λ c. required a.0.admd p.at >>= λ d. Ok (domain c d a.0.prmd)) v a.2 in
     let d = bind_ok (required a.0.admd p.at) (λ d. Ok (domain b.0 d a.0.prmd)) v b.2 in
-    subst (λ (x : DomainFields). SpellsDomain p.depth p.tag.constructed p.content x) {x = domain b.0 d.0 a.0.prmd} (ok_is (domain b.0 d.0 a.0.prmd) v d.2) (record {
-      is_constructed = c.0;
+    subst (λ (x : DomainFields). SpellsDomain p.depth p.tag p.content x) {x = domain b.0 d.0 a.0.prmd} (ok_is (domain b.0 d.0 a.0.prmd) v d.2) (record {
+      is_tag_of = c.0;
       parts = a.0;
       spelled = c.1;
       country = required_so a.0.country p.at b.0 b.1;
@@ -84,10 +86,10 @@ domain_sound v p octets e =
       prmd = refl;
     })
 
-pub domain_full : (v : DomainFields) (p : Part) → SpellsDomain p.depth p.tag.constructed p.content v → domain_in p ≡ Ok v
+pub domain_full : (v : DomainFields) (p : Part) → SpellsDomain p.depth p.tag p.content v → domain_in p ≡ Ok v
 unfolding domain_in
 domain_full v p h =
-    ap (λ r. r >>= λ s. required s.country p.at >>= λ c. required s.admd p.at >>= λ a. Ok (domain c a s.prmd)) (components_full domain_step MakesDomain step_full no_domain h.parts p h.is_constructed h.spelled)
+    ap (λ r. r >>= λ s. required s.country p.at >>= λ c. required s.admd p.at >>= λ a. Ok (domain c a s.prmd)) (components_under_full 1 3 domain_step MakesDomain step_full no_domain h.parts p h.is_tag_of h.spelled)
     ∙ ap (λ o. required o p.at >>= λ c. required h.parts.admd p.at >>= λ a. Ok (domain c a h.parts.prmd)) h.country
     ∙ ap (λ o. required o p.at >>= λ a. Ok (domain v.country a h.parts.prmd)) h.admd
     ∙ ap (λ (o : Option Label). Ok (domain v.country v.admd o)) h.prmd
@@ -107,7 +109,7 @@ keeps_part Prmd depth s t tag content octets m h = subst Holds (sym m.after_is) 
 keeps : Keeps MakesDomain Holds
 keeps depth s t tag content octets stands m h = keeps_part m.part depth s t tag content octets m.made h
 
-pub domain_is : (depth : ℕ) (c : Bool) (content : List ℕ) (v : DomainFields) → SpellsDomain depth c content v → IsDomain v
+pub domain_is : (depth : ℕ) (tag : Tag) (content : List ℕ) (v : DomainFields) → SpellsDomain depth tag content v → IsDomain v
 domain_is depth c content v h =
     let k = spelled_keep MakesDomain Holds keeps depth no_domain h.parts content h.spelled (record { country = tt; admd = tt; prmd = tt }) in
     record {

@@ -3,18 +3,20 @@ use Rattle.std.proofs.Common.{◌≡◌, ℕ, ◌≤◌, Bool, true, List, Optio
 use Rattle.std.specs.Prelude.{IfSome}
 use Rattle.mta_ber.specs.declared.tag.Tag.{Tag}
 use Rattle.mta_ber.specs.Element.{Part}
+use Rattle.mta_ber.specs.Forms.{components_under}
 use Rattle.mta_ber.specs.Head.{◌>>=◌}
 use Rattle.mta_ber.specs.Octet.{IsOctets}
-use Rattle.mta_ber.specs.Parts.{components, is_tag, required}
+use Rattle.mta_ber.specs.Parts.{is_tag, required}
 use Rattle.mta_ber.specs.Moments.{SpellsMoment}
 use Rattle.mta_ber.specs.Times.{utc_in, last_moment}
 use Rattle.mta_ber.proofs.ComponentLaws.{StepSound, StepFull}
 use Rattle.mta_ber.proofs.ExplicitLaws.{in_order_full}
+use Rattle.mta_ber.proofs.FormLaws.{components_under_sound, components_under_full}
 use Rattle.mta_ber.proofs.Steps.{bind_ok, ok_is, required_so}
 use Rattle.mta_ber.proofs.MomentLaws.{utc_sound, utc_full}
 use Rattle.mta_names.specs.Names.{name_in, SpellsName}
 use Rattle.mta_names.proofs.NameLaws.{name_sound, name_full}
-use Rattle.mta_names.proofs.Tools.{puts_sound, puts_full, tag_is, picked, not_none, components_sound, components_full, Keeps, spelled_keep}
+use Rattle.mta_names.proofs.Tools.{puts_sound, puts_full, tag_is, picked, not_none, Keeps, spelled_keep}
 use Rattle.mta_names.proofs.StandardLaws.{ordered}
 use Rattle.mta_fields.specs.declared.expansion.ExpansionFields.{ExpansionFields}
 use Rattle.mta_fields.specs.declared.expansion.ExpansionPart.{ExpansionPart}
@@ -58,25 +60,25 @@ step_full s t p shallow h =
     ∙ in_order_full s.last (expansion_needed k) (expansion_place k) p.at (expansion_part_in k s p) h.behind h.needed
     ∙ part_full k s t p shallow h.made
 
-pub expansion_sound : (v : ExpansionFields) (p : Part) → IsOctets p.content → expansion_in p ≡ Ok v → SpellsExpansion p.depth p.tag.constructed p.content v
+pub expansion_sound : (v : ExpansionFields) (p : Part) → IsOctets p.content → expansion_in p ≡ Ok v → SpellsExpansion p.depth p.tag p.content v
 unfolding expansion_in
 expansion_sound v p octets e =
-    let a = bind_ok (components expansion_step no_expansion p) (λ s. required s.name p.at >>= λ d. required s.moment p.at >>= λ l. Ok (expansion d l)) v e in
-    let c = components_sound expansion_step MakesExpansion step_sound no_expansion a.0 p octets a.1 in
+    let a = bind_ok (components_under 0 16 expansion_step no_expansion p) (λ s. required s.name p.at >>= λ d. required s.moment p.at >>= λ l. Ok (expansion d l)) v e in
+    let c = components_under_sound 0 16 expansion_step MakesExpansion step_sound no_expansion a.0 p octets a.1 in
     let b = bind_ok (required a.0.name p.at) (λ d. required a.0.moment p.at >>= λ l. Ok (expansion d l)) v a.2 in
     let d = bind_ok (required a.0.moment p.at) (λ l. Ok (expansion b.0 l)) v b.2 in
-    subst (λ (x : ExpansionFields). SpellsExpansion p.depth p.tag.constructed p.content x) {x = expansion b.0 d.0} (ok_is (expansion b.0 d.0) v d.2) (record {
-      is_constructed = c.0;
+    subst (λ (x : ExpansionFields). SpellsExpansion p.depth p.tag p.content x) {x = expansion b.0 d.0} (ok_is (expansion b.0 d.0) v d.2) (record {
+      is_tag_of = c.0;
       parts = a.0;
       spelled = c.1;
       name = required_so a.0.name p.at b.0 b.1;
       moment = required_so a.0.moment p.at d.0 d.1;
     })
 
-pub expansion_full : (v : ExpansionFields) (p : Part) → SpellsExpansion p.depth p.tag.constructed p.content v → expansion_in p ≡ Ok v
+pub expansion_full : (v : ExpansionFields) (p : Part) → SpellsExpansion p.depth p.tag p.content v → expansion_in p ≡ Ok v
 unfolding expansion_in
 expansion_full v p h =
-    ap (λ r. r >>= λ s. required s.name p.at >>= λ d. required s.moment p.at >>= λ l. Ok (expansion d l)) (components_full expansion_step MakesExpansion step_full no_expansion h.parts p h.is_constructed h.spelled)
+    ap (λ r. r >>= λ s. required s.name p.at >>= λ d. required s.moment p.at >>= λ l. Ok (expansion d l)) (components_under_full 0 16 expansion_step MakesExpansion step_full no_expansion h.parts p h.is_tag_of h.spelled)
     ∙ ap (λ o. required o p.at >>= λ d. required h.parts.moment p.at >>= λ l. Ok (expansion d l)) h.name
     ∙ ap (λ o. required o p.at >>= λ l. Ok (expansion v.name l)) h.moment
 
@@ -92,5 +94,5 @@ keeps_part Time depth s t tag content m h = subst Holds (sym m.after_is) (m.valu
 keeps : Keeps MakesExpansion Holds
 keeps depth s t tag content octets stands m h = keeps_part m.part depth s t tag content m.made h
 
-pub expansion_is : (depth : ℕ) (c : Bool) (content : List ℕ) (v : ExpansionFields) → SpellsExpansion depth c content v → IsExpansion v
+pub expansion_is : (depth : ℕ) (tag : Tag) (content : List ℕ) (v : ExpansionFields) → SpellsExpansion depth tag content v → IsExpansion v
 expansion_is depth c content v h = subst (λ o. IfSome o (λ m. m ≤ last_moment)) h.moment (spelled_keep MakesExpansion Holds keeps depth no_expansion h.parts content h.spelled tt)

@@ -7,19 +7,21 @@ use Rattle.mta_ber.specs.Bits.{bits_in}
 use Rattle.mta_ber.specs.Canon.{primitive}
 use Rattle.mta_ber.specs.Element.{Part, explicit}
 use Rattle.mta_ber.specs.Explicit.{SpellsExplicit}
+use Rattle.mta_ber.specs.Forms.{components_under}
 use Rattle.mta_ber.specs.Head.{◌>>=◌}
 use Rattle.mta_ber.specs.Octet.{IsOctets}
 use Rattle.mta_ber.specs.Oid.{is_oid, oid_in}
-use Rattle.mta_ber.specs.Parts.{components, is_tag, required}
+use Rattle.mta_ber.specs.Parts.{is_tag, required}
 use Rattle.mta_ber.specs.Segmented.{SpellsBits}
 use Rattle.mta_ber.proofs.ComponentLaws.{StepSound, StepFull}
 use Rattle.mta_ber.proofs.ExplicitLaws.{ReadSound, ReadFull, explicit_sound, explicit_full, in_order_full}
 use Rattle.mta_ber.proofs.HeadLaws.{and_true}
+use Rattle.mta_ber.proofs.FormLaws.{components_under_sound, components_under_full}
 use Rattle.mta_ber.proofs.Steps.{bind_ok, chosen, ok_is, passed, taken, required_so}
 use Rattle.mta_ber.proofs.StringLaws.{bits_in_sound, bits_in_full}
 use Rattle.mta_names.specs.Strings.{number_in}
 use Rattle.mta_names.proofs.ExtensionLaws.{number_sound, number_full, number_small}
-use Rattle.mta_names.proofs.Tools.{puts_sound, puts_full, tag_is, picked, not_none, components_sound, components_full, Keeps, spelled_keep}
+use Rattle.mta_names.proofs.Tools.{puts_sound, puts_full, tag_is, picked, not_none, Keeps, spelled_keep}
 use Rattle.mta_names.proofs.StandardLaws.{ordered}
 use Rattle.mta_fields.specs.declared.extension.ExtKind.{ExtKind}
 use Rattle.mta_fields.specs.declared.extension.ExtKind.TheVariants.{Standard, Private}
@@ -149,24 +151,24 @@ step_full s t p shallow h =
     ∙ in_order_full s.last (ext_needed k) (ext_place k) p.at (ext_part_in k s p) h.behind h.needed
     ∙ part_full k s t p shallow h.made
 
-pub ext_sound : (v : ExtFields) (p : Part) → IsOctets p.content → ext_in p ≡ Ok v → SpellsExtField p.depth p.tag.constructed p.content v
+pub ext_sound : (v : ExtFields) (p : Part) → IsOctets p.content → ext_in p ≡ Ok v → SpellsExtField p.depth p.tag p.content v
 unfolding ext_in
 ext_sound v p octets e =
-    let a = bind_ok (components ext_step no_ext p) (λ s. required s.kind p.at >>= λ k. Ok (ext_field k s)) v e in
-    let c = components_sound ext_step MakesExt step_sound no_ext a.0 p octets a.1 in
+    let a = bind_ok (components_under 0 16 ext_step no_ext p) (λ s. required s.kind p.at >>= λ k. Ok (ext_field k s)) v e in
+    let c = components_under_sound 0 16 ext_step MakesExt step_sound no_ext a.0 p octets a.1 in
     let b = bind_ok (required a.0.kind p.at) (λ k. Ok (ext_field k a.0)) v a.2 in
-    subst (λ (x : ExtFields). SpellsExtField p.depth p.tag.constructed p.content x) {x = ext_field b.0 a.0} (ok_is (ext_field b.0 a.0) v b.2) (record {
-      is_constructed = c.0;
+    subst (λ (x : ExtFields). SpellsExtField p.depth p.tag p.content x) {x = ext_field b.0 a.0} (ok_is (ext_field b.0 a.0) v b.2) (record {
+      is_tag_of = c.0;
       parts = a.0;
       spelled = c.1;
       kind = required_so a.0.kind p.at b.0 b.1;
       value_is = refl;
     })
 
-pub ext_full : (v : ExtFields) (p : Part) → SpellsExtField p.depth p.tag.constructed p.content v → ext_in p ≡ Ok v
+pub ext_full : (v : ExtFields) (p : Part) → SpellsExtField p.depth p.tag p.content v → ext_in p ≡ Ok v
 unfolding ext_in
 ext_full v p h =
-    ap (λ r. r >>= λ s. required s.kind p.at >>= λ k. Ok (ext_field k s)) (components_full ext_step MakesExt step_full no_ext h.parts p h.is_constructed h.spelled)
+    ap (λ r. r >>= λ s. required s.kind p.at >>= λ k. Ok (ext_field k s)) (components_under_full 0 16 ext_step MakesExt step_full no_ext h.parts p h.is_tag_of h.spelled)
     ∙ ap (λ o. required o p.at >>= λ k. Ok (ext_field k h.parts)) h.kind
     ∙ ap (λ (x : ExtFields). Ok x) (sym h.value_is)
 
@@ -219,7 +221,7 @@ value_is : (o : Option (List ℕ)) → IfSome o IsElement → IsElement (unwrap_
 value_is None h = null_stands
 value_is (Some v) h = h
 
-pub ext_is : (depth : ℕ) (c : Bool) (content : List ℕ) (v : ExtFields) → SpellsExtField depth c content v → IsExtField v
+pub ext_is : (depth : ℕ) (tag : Tag) (content : List ℕ) (v : ExtFields) → SpellsExtField depth tag content v → IsExtField v
 ext_is depth c content v h =
     let k = spelled_keep MakesExt Holds keeps depth no_ext h.parts content h.spelled (record { kind = tt; value = tt }) in
     let kind : IsKind v.kind = subst (λ o. IfSome o IsKind) h.kind k.kind in

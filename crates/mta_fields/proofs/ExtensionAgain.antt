@@ -10,7 +10,8 @@ use Rattle.mta_ber.specs.Contents.{int_content, bits_content, canon_int, canon_b
 use Rattle.mta_ber.specs.Explicit.{SpellsExplicit}
 use Rattle.mta_ber.specs.Segmented.{AddsBits, SpellsBits}
 use Rattle.mta_names.proofs.Again.{low_tag, number_spelled}
-use Rattle.mta_names.proofs.Rows.{short_front, short_back, puts, component, IsRow, row_more, row_spelled, From, none_from, optional_from, at_last, content_again}
+use Rattle.mta_names.proofs.Rows.{short_front, short_back, puts, component, IsRow, row_more, row_spelled, From, none_from, optional_from, at_last}
+use Rattle.mta_fields.proofs.Tagged.{tagged_again}
 use Rattle.mta_fields.specs.declared.extension.ExtKind.{ExtKind}
 use Rattle.mta_fields.specs.declared.extension.ExtKind.TheVariants.{Standard, Private}
 use Rattle.mta_fields.specs.declared.extension.ExtFields.{ExtFields}
@@ -195,7 +196,7 @@ field_is v last =
 kept_inside : (depth : ℕ) (octets : List ℕ) → IsElementAt (depth + 2) octets → IsElementAt (depth + 1 + 1) octets
 kept_inside depth octets h = subst (λ k. IsElementAt k octets) (let e : depth + 2 ≡ depth + 1 + 1 = omega arith in e) h
 
-pub extension_field_spelled : (depth : ℕ) (v : ExtFields) → IsExtField v → KeepsExtField depth v → depth + 2 ≤ 16 → length (ext_content v) < 2 ^ 64 → SpellsExtField depth true (ext_content v) v
+pub extension_field_spelled : (depth : ℕ) (v : ExtFields) → IsExtField v → KeepsExtField depth v → depth + 2 ≤ 16 → length (ext_content v) < 2 ^ 64 → SpellsExtField depth (constructed 0 16) (ext_content v) v
 extension_field_spelled depth v h k d short =
     let kind = canonical_kind v.kind in
     let behind = criticality_octets v ++ value_octets v in
@@ -205,7 +206,7 @@ extension_field_spelled depth v h k d short =
     let e = criticality_from (depth + 1) (omega arith) v (kept_inside depth v.value k) (short_back kind behind size) 1 (omega arith) (omega arith) in
     let row = row_more MakesExt (depth + 1) no_ext (state 1 (of_parts v.kind None None)) (state e.end parts) kind behind kind_there e.row in
     record {
-      is_constructed = refl;
+      is_tag_of = refl;
       parts = state e.end parts;
       spelled = row_spelled MakesExt depth no_ext (state e.end parts) (ext_content v) (subst (λ octets. IsRow MakesExt (depth + 1) no_ext octets (state e.end parts)) (content_is v) row);
       kind = refl;
@@ -214,4 +215,4 @@ extension_field_spelled depth v h k d short =
 
 pub extension_fields_again : ExtensionFieldsAreReadAgain
 unfolding canonical_ext
-extension_fields_again depth v h k d = content_again ext_in SpellsExtField ext_full depth (constructed 0 16) (ext_content v) v (low_tag 0 16 true (omega arith) (omega arith)) refl (omega arith) (extension_field_spelled depth v h k d)
+extension_fields_again depth v h k d = tagged_again ext_in SpellsExtField ext_full depth (constructed 0 16) (ext_content v) v (low_tag 0 16 true (omega arith) (omega arith)) (omega arith) (extension_field_spelled depth v h k d)

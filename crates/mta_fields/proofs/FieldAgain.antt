@@ -29,6 +29,7 @@ use Rattle.mta_names.specs.Values.{IsCountry, IsLabel}
 use Rattle.mta_names.proofs.Again.{low_tag, string_tag, text_spelled, number_spelled, label_spelled, choice_spelled}
 use Rattle.mta_names.proofs.NameAgain.{name_spelled}
 use Rattle.mta_names.proofs.Rows.{short_inside, short_front, short_back, puts, component, IsRow, no_row, row_more, row_last, row_spelled, From, Piece, none_from, piece_from, optional_from, at_last, regroup_6, content_again}
+use Rattle.mta_fields.proofs.Tagged.{tagged_again}
 use Rattle.mta_fields.specs.declared.domain.DomainFields.{DomainFields}
 use Rattle.mta_fields.specs.declared.domain.DomainPart.TheVariants as domains
 use Rattle.mta_fields.specs.declared.domain.DomainParts.{DomainParts}
@@ -53,7 +54,7 @@ use Rattle.mta_fields.specs.Identifiers.{with_domain, with_local, no_id, id_in, 
 use Rattle.mta_fields.specs.Laws.{KeepsSupplied, KeepsTrace, KeepsExpansion, IsWholeSupplied, IsWholeId, IsWholeTrace, IsWholeExpansion, DomainsAreReadAgain, MtsIdentifiersAreReadAgain, SuppliedInformationIsReadAgain, TraceElementsAreReadAgain, ExpansionsAreReadAgain}
 use Rattle.mta_fields.specs.TraceElements.{no_trace, trace_in, MakesTrace, SpellsTrace, canonical_trace}
 use Rattle.mta_fields.specs.TraceElements as trace
-use Rattle.mta_fields.specs.Traces.{action_number, supplied_class, supplied_number, with_arrival, with_deferred, with_action, with_other, with_attempted, with_converted, no_supplied, bit_if, supplied, supplied_in, SpellsAction, MakesSuppliedPart, MakesSupplied, SpellsSupplied, two_bits, canonical_other, canonical_deferred, supplied_content, canonical_supplied}
+use Rattle.mta_fields.specs.Traces.{action_number, is_supplied_tag, with_arrival, with_deferred, with_action, with_other, with_attempted, with_converted, no_supplied, bit_if, supplied, supplied_in, SpellsAction, MakesSuppliedPart, MakesSupplied, SpellsSupplied, two_bits, canonical_other, canonical_deferred, supplied_content, canonical_supplied}
 use Rattle.mta_fields.proofs.DomainLaws.{domain_full}
 use Rattle.mta_fields.proofs.ExpansionLaws.{expansion_full}
 use Rattle.mta_fields.proofs.IdentifierLaws.{id_full}
@@ -118,7 +119,7 @@ domain_tail depth c a d (Some l) h short = (
 abbrev half_domain : Label → DomainParts
 half_domain c = record { last = 1; country = Some c; admd = None; prmd = None }
 
-pub domain_spelled : (depth : ℕ) (v : DomainFields) → IsDomain v → depth + 2 ≤ 16 → length (domain_content v) < 2 ^ 64 → SpellsDomain depth true (domain_content v) v
+pub domain_spelled : (depth : ℕ) (v : DomainFields) → IsDomain v → depth + 2 ≤ 16 → length (domain_content v) < 2 ^ 64 → SpellsDomain depth (constructed 1 3) (domain_content v) v
 domain_spelled depth v h d short =
     let country = canonical_label 1 1 v.country in
     let admd = canonical_label 1 2 v.admd in
@@ -146,7 +147,7 @@ domain_spelled depth v h d short =
     }) in
     let row = row_more MakesDomain (depth + 1) no_domain (half_domain v.country) parts country (admd ++ prmd) country_there (row_more MakesDomain (depth + 1) (half_domain v.country) (domain_parts 2 v.country v.admd None) parts admd prmd admd_there tail.1) in
     record {
-      is_constructed = refl;
+      is_tag_of = refl;
       parts = parts;
       spelled = row_spelled MakesDomain depth no_domain parts (domain_content v) (subst (λ octets. IsRow MakesDomain (depth + 1) no_domain octets parts) (sym (append_assoc country admd prmd)) row);
       country = refl;
@@ -159,7 +160,7 @@ domain_low = low_tag 1 3 true (omega arith) (omega arith)
 
 pub domains_again : DomainsAreReadAgain
 unfolding canonical_domain
-domains_again depth v h d = content_again domain_in SpellsDomain domain_full depth (constructed 1 3) (domain_content v) v domain_low refl (omega arith) (domain_spelled depth v h d)
+domains_again depth v h d = tagged_again domain_in SpellsDomain domain_full depth (constructed 1 3) (domain_content v) v domain_low (omega arith) (domain_spelled depth v h d)
 
 -- ---- MTS identifiers
 
@@ -169,7 +170,7 @@ id_parts last d l = record { last = last; domain = Some d; local = l }
 abbrev canonical_local : List ℕ → List ℕ
 canonical_local t = element (primitive 0 22) t
 
-pub identifier_spelled : (depth : ℕ) (v : MtsIdFields) → IsWholeId v → depth + 3 ≤ 16 → length (canonical_domain v.domain ++ canonical_local v.local) < 2 ^ 64 → SpellsMtsId depth true (canonical_domain v.domain ++ canonical_local v.local) v
+pub identifier_spelled : (depth : ℕ) (v : MtsIdFields) → IsWholeId v → depth + 3 ≤ 16 → length (canonical_domain v.domain ++ canonical_local v.local) < 2 ^ 64 → SpellsMtsId depth (constructed 1 4) (canonical_domain v.domain ++ canonical_local v.local) v
 unfolding canonical_domain
 identifier_spelled depth v h d short =
     let domain = canonical_domain v.domain in
@@ -181,7 +182,7 @@ identifier_spelled depth v h d short =
       is_tag_of = refl;
       needed = omega arith;
       behind = omega arith;
-      made = puts (SpellsDomain (depth + 1) true (domain_content v.domain)) (with_domain no_id) v.domain (domain_spelled (depth + 1) v.domain h.domain (omega arith) (short_inside (constructed 1 3) (domain_content v.domain) first));
+      made = puts (SpellsDomain (depth + 1) (constructed 1 3) (domain_content v.domain)) (with_domain no_id) v.domain (domain_spelled (depth + 1) v.domain h.domain (omega arith) (short_inside (constructed 1 3) (domain_content v.domain) first));
     }) in
     let local_there : IsComponent MakesId (depth + 1) (id_parts 1 v.domain None) local (id_parts 2 v.domain (Some v.local)) =
     component MakesId (depth + 1) (id_parts 1 v.domain None) (id_parts 2 v.domain (Some v.local)) (primitive 0 22) v.local (low_tag 0 22 false (omega arith) (omega arith)) (omega arith) (short_back domain local short) (record {
@@ -193,11 +194,11 @@ identifier_spelled depth v h d short =
     }) in
     let whole = id_parts 2 v.domain (Some v.local) in
     let row = row_more MakesId (depth + 1) no_id (id_parts 1 v.domain None) whole domain local domain_there (row_last MakesId (depth + 1) (id_parts 1 v.domain None) whole local local_there) in
-    record { is_constructed = refl; parts = whole; spelled = row_spelled MakesId depth no_id whole (domain ++ local) row; domain = refl; local = refl }
+    record { is_tag_of = refl; parts = whole; spelled = row_spelled MakesId depth no_id whole (domain ++ local) row; domain = refl; local = refl }
 
 pub identifiers_again : MtsIdentifiersAreReadAgain
 unfolding canonical_id
-identifiers_again depth v h d = content_again id_in SpellsMtsId id_full depth (constructed 1 4) (canonical_domain v.domain ++ canonical_local v.local) v (low_tag 1 4 true (omega arith) (omega arith)) refl (omega arith) (identifier_spelled depth v h d)
+identifiers_again depth v h d = tagged_again id_in SpellsMtsId id_full depth (constructed 1 4) (canonical_domain v.domain ++ canonical_local v.local) v (low_tag 1 4 true (omega arith) (omega arith)) (omega arith) (identifier_spelled depth v h d)
 
 -- ---- bits
 
@@ -250,7 +251,7 @@ second_other false false = refl
 
 -- ---- what a domain supplied
 
-supplied_piece : (k : SuppliedPart) (place depth : ℕ) (s t : SuppliedParts) (tag : Tag) (content : List ℕ) → IsTag tag → is_tag (supplied_class k) (supplied_number k) tag ≡ true → depth ≤ 16
+supplied_piece : (k : SuppliedPart) (place depth : ℕ) (s t : SuppliedParts) (tag : Tag) (content : List ℕ) → IsTag tag → is_supplied_tag k tag ≡ true → depth ≤ 16
     → (length content < 2 ^ 64 → MakesSuppliedPart k depth s tag content (element tag content) t) → Piece MakesSupplied depth (λ last s. s) 0 place s (element tag content) t
 supplied_piece k place depth s t tag content low is d made short last ge lt = component MakesSupplied depth s t tag content low d short (record { part = k; is_tag_of = is; made = made (short_inside tag content short) })
 
@@ -328,7 +329,7 @@ module _ (depth : ℕ) (d : depth + 2 ≤ 16) (v : Supplied) (h : IsWholeSupplie
   attempted_from =
       optional_from MakesSupplied depth (λ last s. s) 0 1 2 canonical_domain IsDomain (λ o. early o None) v.attempted (optional kept v.converted ++ ((arrival_octets v) ++ (behind_arrival v))) (whole v) (omega arith) h.attempted
       (λ x is. supplied_piece Attempted 1 depth no_supplied (early (Some x) None) (constructed 1 3) (domain_content x) domain_low refl (omega arith)
-      (λ short. (refl, puts (SpellsDomain depth true (domain_content x)) (with_attempted no_supplied) x (domain_spelled depth x is d short))))
+      (λ short. (refl, puts (SpellsDomain depth (constructed 1 3) (domain_content x)) (with_attempted no_supplied) x (domain_spelled depth x is d short))))
       converted_from
 
 supplied_group : (v : Supplied) → optional canonical_domain v.attempted ++ (optional kept v.converted ++ (arrival_octets v ++ behind_arrival v)) ≡ supplied_content v
@@ -361,7 +362,7 @@ supplied_again depth v h k d = content_again supplied_in SpellsSupplied supplied
 abbrev trace_parts : ℕ → DomainFields → Option Supplied → TraceParts
 trace_parts last d l = record { last = last; domain = Some d; supplied = l }
 
-pub trace_spelled : (depth : ℕ) (v : TraceFields) → IsWholeTrace v → KeepsTrace depth v → depth + 4 ≤ 16 → length (canonical_domain v.domain ++ canonical_supplied v.supplied) < 2 ^ 64 → SpellsTrace depth true (canonical_domain v.domain ++ canonical_supplied v.supplied) v
+pub trace_spelled : (depth : ℕ) (v : TraceFields) → IsWholeTrace v → KeepsTrace depth v → depth + 4 ≤ 16 → length (canonical_domain v.domain ++ canonical_supplied v.supplied) < 2 ^ 64 → SpellsTrace depth (constructed 0 16) (canonical_domain v.domain ++ canonical_supplied v.supplied) v
 unfolding canonical_domain canonical_supplied
 trace_spelled depth v h k d short =
     let domain = canonical_domain v.domain in
@@ -376,7 +377,7 @@ trace_spelled depth v h k d short =
       is_tag_of = refl;
       needed = omega arith;
       behind = omega arith;
-      made = puts (SpellsDomain (depth + 1) true (domain_content v.domain)) (trace.with_domain no_trace) v.domain (domain_spelled (depth + 1) v.domain h.domain (omega arith) (short_inside (constructed 1 3) (domain_content v.domain) first));
+      made = puts (SpellsDomain (depth + 1) (constructed 1 3) (domain_content v.domain)) (trace.with_domain no_trace) v.domain (domain_spelled (depth + 1) v.domain h.domain (omega arith) (short_inside (constructed 1 3) (domain_content v.domain) first));
     }) in
     let supplied_there : IsComponent MakesTrace (depth + 1) half information all =
     component MakesTrace (depth + 1) half all (constructed 0 17) (supplied_content v.supplied) supplied_low (omega arith) second (record {
@@ -387,14 +388,14 @@ trace_spelled depth v h k d short =
       made = puts (SpellsSupplied (depth + 1) true (supplied_content v.supplied)) (trace.with_supplied half) v.supplied (supplied_spelled (depth + 1) v.supplied h.supplied k (omega arith) (short_inside (constructed 0 17) (supplied_content v.supplied) second));
     }) in
     let row = row_more MakesTrace (depth + 1) no_trace half all domain information domain_there (row_last MakesTrace (depth + 1) half all information supplied_there) in
-    record { is_constructed = refl; parts = all; spelled = row_spelled MakesTrace depth no_trace all (domain ++ information) row; domain = refl; supplied = refl }
+    record { is_tag_of = refl; parts = all; spelled = row_spelled MakesTrace depth no_trace all (domain ++ information) row; domain = refl; supplied = refl }
 
 sequence_low : IsTag (constructed 0 16)
 sequence_low = low_tag 0 16 true (omega arith) (omega arith)
 
 pub traces_again : TraceElementsAreReadAgain
 unfolding canonical_trace
-traces_again depth v h k d = content_again trace_in SpellsTrace trace_full depth (constructed 0 16) (canonical_domain v.domain ++ canonical_supplied v.supplied) v sequence_low refl (omega arith) (trace_spelled depth v h k d)
+traces_again depth v h k d = tagged_again trace_in SpellsTrace trace_full depth (constructed 0 16) (canonical_domain v.domain ++ canonical_supplied v.supplied) v sequence_low (omega arith) (trace_spelled depth v h k d)
 
 -- ---- expansions
 
@@ -404,7 +405,7 @@ expansion_parts last n m = record { last = last; name = Some n; moment = m }
 abbrev expansion_content : ExpansionFields → List ℕ
 expansion_content v = canonical_name (constructed 1 0) v.name ++ canon_utc (primitive 0 23) v.moment
 
-pub expansion_spelled : (depth : ℕ) (v : ExpansionFields) → IsWholeExpansion v → KeepsExpansion depth v → depth + 5 ≤ 16 → length (expansion_content v) < 2 ^ 64 → SpellsExpansion depth true (expansion_content v) v
+pub expansion_spelled : (depth : ℕ) (v : ExpansionFields) → IsWholeExpansion v → KeepsExpansion depth v → depth + 5 ≤ 16 → length (expansion_content v) < 2 ^ 64 → SpellsExpansion depth (constructed 0 16) (expansion_content v) v
 unfolding canonical_name
 expansion_spelled depth v h k d short =
     let name = canonical_name (constructed 1 0) v.name in
@@ -430,8 +431,8 @@ expansion_spelled depth v h k d short =
       made = puts (SpellsMoment (depth + 1) false (utc_content v.moment)) (with_moment half) v.moment (moment_spelled (depth + 1) v.moment h.moment (omega arith));
     }) in
     let row = row_more MakesExpansion (depth + 1) no_expansion half all name time name_there (row_last MakesExpansion (depth + 1) half all time time_there) in
-    record { is_constructed = refl; parts = all; spelled = row_spelled MakesExpansion depth no_expansion all (name ++ time) row; name = refl; moment = refl }
+    record { is_tag_of = refl; parts = all; spelled = row_spelled MakesExpansion depth no_expansion all (name ++ time) row; name = refl; moment = refl }
 
 pub expansions_again : ExpansionsAreReadAgain
 unfolding canonical_expansion
-expansions_again depth v h k d = content_again expansion_in SpellsExpansion expansion_full depth (constructed 0 16) (expansion_content v) v sequence_low refl (omega arith) (expansion_spelled depth v h k d)
+expansions_again depth v h k d = tagged_again expansion_in SpellsExpansion expansion_full depth (constructed 0 16) (expansion_content v) v sequence_low (omega arith) (expansion_spelled depth v h k d)

@@ -37,7 +37,7 @@ use Rattle.mta_fields.specs.declared.identifier.MtsIdPart.{MtsIdPart}
 use Rattle.mta_fields.specs.declared.identifier.MtsIdPart.TheVariants as ids
 use Rattle.mta_fields.specs.declared.identifier.MtsIdParts.{MtsIdParts}
 use Rattle.mta_fields.specs.TraceElements.{no_trace, MakesTracePart, MakesTrace, SpellsTrace}
-use Rattle.mta_fields.specs.Traces.{supplied_class, supplied_number, no_supplied, MakesSuppliedPart, MakesSupplied, SpellsSupplied}
+use Rattle.mta_fields.specs.Traces.{is_supplied_tag, no_supplied, MakesSuppliedPart, MakesSupplied, SpellsSupplied}
 use Rattle.mta_fields.proofs.DomainLaws.{domain_is}
 use Rattle.mta_fields.proofs.ExpansionLaws.{expansion_is}
 use Rattle.mta_fields.proofs.ExtLaws.{ext_is}
@@ -68,12 +68,12 @@ expansion_above depth above v le h = name_above (depth + 1) (above + 1) v.name (
 abbrev Supplies : ℕ → SuppliedParts → Type 0
 Supplies depth s = IfSome s.converted (IsRawAt depth 1 5) × IfSome s.attempted IsDomain
 
-supplied_part : (k : SuppliedPart) (depth : ℕ) (s t : SuppliedParts) (tag : Tag) (content octets : List ℕ) → is_tag (supplied_class k) (supplied_number k) tag ≡ true → Stands depth tag content octets → MakesSuppliedPart k depth s tag content octets t → Supplies depth s → Supplies depth t
+supplied_part : (k : SuppliedPart) (depth : ℕ) (s t : SuppliedParts) (tag : Tag) (content octets : List ℕ) → is_supplied_tag k tag ≡ true → Stands depth tag content octets → MakesSuppliedPart k depth s tag content octets t → Supplies depth s → Supplies depth t
 supplied_part Arrival depth s t tag content octets is stands m h = subst (Supplies depth) (sym m.1.after_is) h
 supplied_part Deferred depth s t tag content octets is stands m h = subst (Supplies depth) (sym m.1.after_is) h
 supplied_part Routing depth s t tag content octets is stands m h = subst (Supplies depth) (sym m.1.after_is) h
 supplied_part Other depth s t tag content octets is stands m h = subst (Supplies depth) (sym m.1.after_is) h
-supplied_part Attempted depth s t tag content octets is stands m h = subst (Supplies depth) (sym m.1.after_is) (h.0, domain_is depth tag.constructed content m.1.value m.1.value_spelled)
+supplied_part Attempted depth s t tag content octets is stands m h = subst (Supplies depth) (sym m.1.after_is) (h.0, domain_is depth tag content m.1.value m.1.value_spelled)
 supplied_part Converted depth s t tag content octets is stands m h =
     subst (Supplies depth) (sym m.1.after_is) (subst (IsRawAt depth 1 5) (sym m.1.value_spelled) (record { tag = tag; content = content; is_tag_of = is; stands = stands }), h.1)
 
@@ -97,14 +97,14 @@ abbrev Traced : ℕ → TraceParts → Type 0
 Traced depth s = IfSome s.domain IsDomain × IfSome s.supplied (λ v. KeepsSupplied depth v × IsWholeSupplied v)
 
 trace_part : (k : TracePart) (depth : ℕ) (s t : TraceParts) (tag : Tag) (content : List ℕ) → MakesTracePart k depth s tag content t → Traced depth s → Traced depth t
-trace_part traces.Place depth s t tag content m h = subst (Traced depth) (sym m.after_is) (domain_is depth tag.constructed content m.value m.value_spelled, h.1)
+trace_part traces.Place depth s t tag content m h = subst (Traced depth) (sym m.after_is) (domain_is depth tag content m.value m.value_spelled, h.1)
 trace_part traces.Information depth s t tag content m h =
     subst (Traced depth) (sym m.after_is) (h.0, (supplied_kept depth tag.constructed content m.value m.value_spelled, supplied_whole depth tag.constructed content m.value m.value_spelled))
 
 traced : (depth : ℕ) → KeepsAt MakesTrace (Traced depth) depth
 traced depth s t tag content octets stands m h = trace_part m.part depth s t tag content m.made h
 
-trace_all : (depth : ℕ) (c : Bool) (content : List ℕ) (v : TraceFields) → SpellsTrace depth c content v → KeepsTrace depth v × IsWholeTrace v
+trace_all : (depth : ℕ) (tag : Tag) (content : List ℕ) (v : TraceFields) → SpellsTrace depth tag content v → KeepsTrace depth v × IsWholeTrace v
 trace_all depth c content v h =
     let k = spelled_kept MakesTrace (Traced (depth + 1)) depth (traced (depth + 1)) no_trace h.parts content h.spelled (tt, tt) in
     let place = subst (λ o. IfSome o IsDomain) h.domain k.0 in
@@ -114,7 +114,7 @@ trace_all depth c content v h =
 pub trace_kept : ReadTraceElementsAreKept
 trace_kept depth c content v h = (trace_all depth c content v h).0
 
-pub trace_whole : (depth : ℕ) (c : Bool) (content : List ℕ) (v : TraceFields) → SpellsTrace depth c content v → IsWholeTrace v
+pub trace_whole : (depth : ℕ) (tag : Tag) (content : List ℕ) (v : TraceFields) → SpellsTrace depth tag content v → IsWholeTrace v
 trace_whole depth c content v h = (trace_all depth c content v h).1
 
 pub read_traces_again : ReadTraceElementsAreReadAgain
@@ -126,13 +126,13 @@ abbrev Identified : MtsIdParts → Type 0
 Identified s = IfSome s.domain IsDomain
 
 id_part : (k : MtsIdPart) (depth : ℕ) (s t : MtsIdParts) (tag : Tag) (content : List ℕ) → MakesIdPart k depth s tag content t → Identified s → Identified t
-id_part ids.Issuer depth s t tag content m h = subst Identified (sym m.after_is) (domain_is depth tag.constructed content m.value m.value_spelled)
+id_part ids.Issuer depth s t tag content m h = subst Identified (sym m.after_is) (domain_is depth tag content m.value m.value_spelled)
 id_part ids.Local depth s t tag content m h = subst Identified (sym m.after_is) h
 
 identified : (depth : ℕ) → KeepsAt MakesId Identified depth
 identified depth s t tag content octets stands m h = id_part m.part depth s t tag content m.made h
 
-pub identifier_whole : (depth : ℕ) (c : Bool) (content : List ℕ) (v : MtsIdFields) → SpellsMtsId depth c content v → IsWholeId v
+pub identifier_whole : (depth : ℕ) (tag : Tag) (content : List ℕ) (v : MtsIdFields) → SpellsMtsId depth tag content v → IsWholeId v
 identifier_whole depth c content v h =
     let k = spelled_kept MakesId Identified depth (identified (depth + 1)) no_id h.parts content h.spelled tt in
     record { domain = subst (λ o. IfSome o IsDomain) h.domain k; local = id_is depth c content v h }
@@ -188,7 +188,7 @@ expansion_part expansions.Time depth s t tag content m h = subst (Expanded depth
 expanded : (depth : ℕ) → KeepsAt MakesExpansion (Expanded depth) depth
 expanded depth s t tag content octets stands m h = expansion_part m.part depth s t tag content m.made h
 
-expansion_all : (depth : ℕ) (c : Bool) (content : List ℕ) (v : ExpansionFields) → SpellsExpansion depth c content v → KeepsExpansion depth v × IsWholeExpansion v
+expansion_all : (depth : ℕ) (tag : Tag) (content : List ℕ) (v : ExpansionFields) → SpellsExpansion depth tag content v → KeepsExpansion depth v × IsWholeExpansion v
 expansion_all depth c content v h =
     let k = spelled_kept MakesExpansion (Expanded (depth + 1)) depth (expanded (depth + 1)) no_expansion h.parts content h.spelled tt in
     let name = subst (λ o. IfSome o (λ n. KeepsName (depth + 1) n × IsName n)) h.name k in
@@ -197,7 +197,7 @@ expansion_all depth c content v h =
 pub expansion_kept : ReadExpansionsAreKept
 expansion_kept depth c content v h = (expansion_all depth c content v h).0
 
-pub expansion_whole : (depth : ℕ) (c : Bool) (content : List ℕ) (v : ExpansionFields) → SpellsExpansion depth c content v → IsWholeExpansion v
+pub expansion_whole : (depth : ℕ) (tag : Tag) (content : List ℕ) (v : ExpansionFields) → SpellsExpansion depth tag content v → IsWholeExpansion v
 expansion_whole depth c content v h = (expansion_all depth c content v h).1
 
 pub read_expansions_again : ReadExpansionsAreReadAgain

@@ -9,3 +9,4 @@ pub mod ExtLaws
 pub mod FieldAgain
 pub mod ExtensionAgain
 pub mod Kept
+pub mod Tagged

@@ -5,6 +5,7 @@ use Rattle.mta_ber.specs.declared.fault.Fault.{Fault}
 use Rattle.mta_ber.specs.declared.tag.Tag.{Tag}
 use Rattle.mta_ber.specs.Bits.{bits_in}
 use Rattle.mta_ber.specs.Element.{Part}
+use Rattle.mta_ber.specs.Forms.{is_primitive_tag, is_constructed_tag}
 use Rattle.mta_ber.specs.Head.{◌>>=◌}
 use Rattle.mta_ber.specs.Moments.{SpellsMoment}
 use Rattle.mta_ber.specs.Octet.{IsOctets}
@@ -14,6 +15,7 @@ use Rattle.mta_ber.specs.Spelling.{Stands}
 use Rattle.mta_ber.specs.Times.{utc_in, last_moment}
 use Rattle.mta_ber.proofs.ComponentLaws.{StepSound, StepFull}
 use Rattle.mta_ber.proofs.MomentLaws.{utc_sound, utc_full}
+use Rattle.mta_ber.proofs.FormLaws.{primitive_is, constructed_is}
 use Rattle.mta_ber.proofs.Steps.{bind_ok, ok_is, placed, required_so}
 use Rattle.mta_ber.proofs.StringLaws.{bits_in_sound, bits_in_full}
 use Rattle.mta_names.specs.Strings.{Puts, number_in, SpellsNumber}
@@ -27,7 +29,7 @@ use Rattle.mta_fields.specs.declared.supplied.SuppliedPart.{SuppliedPart}
 use Rattle.mta_fields.specs.declared.supplied.SuppliedPart.TheVariants.{Arrival, Deferred, Routing, Other, Attempted, Converted}
 use Rattle.mta_fields.specs.declared.supplied.SuppliedParts.{SuppliedParts}
 use Rattle.mta_fields.specs.Domains.{domain_in, SpellsDomain}
-use Rattle.mta_fields.specs.Traces.{IsSupplied, action_number, action_of, action_in, supplied_part_of, supplied_class, supplied_number, with_arrival, with_deferred, with_action, with_other, with_attempted, with_converted, raw_in, supplied_part_in, supplied_step_of, supplied_step, no_supplied, supplied, supplied_in, SpellsAction, MakesSuppliedPart, MakesSupplied, SpellsSupplied}
+use Rattle.mta_fields.specs.Traces.{IsSupplied, action_number, action_of, action_in, supplied_part_of, is_supplied_tag, with_arrival, with_deferred, with_action, with_other, with_attempted, with_converted, raw_in, supplied_part_in, supplied_step_of, supplied_step, no_supplied, supplied, supplied_in, SpellsAction, MakesSuppliedPart, MakesSupplied, SpellsSupplied}
 use Rattle.mta_fields.proofs.DomainLaws.{domain_sound, domain_full}
 
 -- ---- actions
@@ -55,19 +57,19 @@ action_full a p h = ap (λ r. r >>= λ n. Ok (action_of n)) (number_full 0 1 (ac
 -- ---- tags
 
 abbrev HasTag : Tag → SuppliedPart → Type 0
-HasTag t k = is_tag (supplied_class k) (supplied_number k) t ≡ true
+HasTag t k = is_supplied_tag k t ≡ true
 
 tagged : (t : Tag) (k : SuppliedPart) → supplied_part_of t ≡ Some k → HasTag t k
 tagged t =
-    picked (HasTag t) (is_tag 2 0 t) Arrival _ (λ e. e) (picked (HasTag t) (is_tag 2 1 t) Deferred _ (λ e. e) (picked (HasTag t) (is_tag 2 2 t) Routing _ (λ e. e)
-    (picked (HasTag t) (is_tag 2 3 t) Other _ (λ e. e) (picked (HasTag t) (is_tag 1 3 t) Attempted _ (λ e. e) (picked (HasTag t) (is_tag 1 5 t) Converted _ (λ e. e) (not_none (HasTag t)))))))
+    picked (HasTag t) (is_tag 2 0 t) Arrival _ (λ e. e) (picked (HasTag t) (is_tag 2 1 t) Deferred _ (λ e. e) (picked (HasTag t) (is_primitive_tag 2 2 t) Routing _ (λ e. e)
+    (picked (HasTag t) (is_tag 2 3 t) Other _ (λ e. e) (picked (HasTag t) (is_constructed_tag 1 3 t) Attempted _ (λ e. e) (picked (HasTag t) (is_tag 1 5 t) Converted _ (λ e. e) (not_none (HasTag t)))))))
 
 found : (k : SuppliedPart) (t : Tag) → HasTag t k → supplied_part_of t ≡ Some k
 found Arrival t h = let e = tag_is 2 0 t h in rw (e.0, e.1) refl
 found Deferred t h = let e = tag_is 2 1 t h in rw (e.0, e.1) refl
-found Routing t h = let e = tag_is 2 2 t h in rw (e.0, e.1) refl
+found Routing t h = let e = primitive_is 2 2 t h in rw (e.0, e.1, e.2) refl
 found Other t h = let e = tag_is 2 3 t h in rw (e.0, e.1) refl
-found Attempted t h = let e = tag_is 1 3 t h in rw (e.0, e.1) refl
+found Attempted t h = let e = constructed_is 1 3 t h in rw (e.0, e.1, e.2) refl
 found Converted t h = let e = tag_is 1 5 t h in rw (e.0, e.1) refl
 
 -- ---- one component
@@ -83,7 +85,7 @@ part_sound Arrival s t p d o e = once_sound s.arrival p.at (utc_in p) (with_arri
 part_sound Deferred s t p d o e = once_sound s.deferred p.at (utc_in p) (with_deferred s) t (SpellsMoment p.depth p.tag.constructed p.content) (λ x r. utc_sound p x d o r) e
 part_sound Routing s t p d o e = once_sound s.action p.at (action_in p) (with_action s) t (SpellsAction p.tag.constructed p.content) (λ x r. action_sound x p r) e
 part_sound Other s t p d o e = once_sound s.other p.at (bits_in p) (with_other s) t (SpellsBits p.depth p.tag.constructed p.content) (λ x r. bits_in_sound p x d o r) e
-part_sound Attempted s t p d o e = once_sound s.attempted p.at (domain_in p) (with_attempted s) t (SpellsDomain p.depth p.tag.constructed p.content) (λ x r. domain_sound x p o r) e
+part_sound Attempted s t p d o e = once_sound s.attempted p.at (domain_in p) (with_attempted s) t (SpellsDomain p.depth p.tag p.content) (λ x r. domain_sound x p o r) e
 part_sound Converted s t p d o e = once_sound s.converted p.at (raw_in p) (with_converted s) t (λ x. x ≡ p.octets) (λ x r. sym (ok_is p.octets x r)) e
 
 part_full : (k : SuppliedPart) (s t : SuppliedParts) (p : Part) → p.depth ≤ 16 → MakesSuppliedPart k p.depth s p.tag p.content p.octets t → supplied_part_in k s p ≡ Ok t
@@ -91,7 +93,7 @@ part_full Arrival s t p d h = once_full s.arrival p.at (utc_in p) (with_arrival 
 part_full Deferred s t p d h = once_full s.deferred p.at (utc_in p) (with_deferred s) t (SpellsMoment p.depth p.tag.constructed p.content) (λ x r. utc_full p x d r) h
 part_full Routing s t p d h = once_full s.action p.at (action_in p) (with_action s) t (SpellsAction p.tag.constructed p.content) (λ x r. action_full x p r) h
 part_full Other s t p d h = once_full s.other p.at (bits_in p) (with_other s) t (SpellsBits p.depth p.tag.constructed p.content) (λ x r. bits_in_full p x d r) h
-part_full Attempted s t p d h = once_full s.attempted p.at (domain_in p) (with_attempted s) t (SpellsDomain p.depth p.tag.constructed p.content) (λ x r. domain_full x p r) h
+part_full Attempted s t p d h = once_full s.attempted p.at (domain_in p) (with_attempted s) t (SpellsDomain p.depth p.tag p.content) (λ x r. domain_full x p r) h
 part_full Converted s t p d h = once_full s.converted p.at (raw_in p) (with_converted s) t (λ x. x ≡ p.octets) (λ x r. ap (λ (o : List ℕ). Ok o) (sym r)) h
 
 step_sound : StepSound supplied_step MakesSupplied

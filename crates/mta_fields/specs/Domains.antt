@@ -7,8 +7,9 @@ use Rattle.mta_ber.specs.declared.tag.Tag.{Tag}
 use Rattle.mta_ber.specs.Canon.{element, constructed, optional}
 use Rattle.mta_ber.specs.Components.{SpellsComponents}
 use Rattle.mta_ber.specs.Element.{Part}
+use Rattle.mta_ber.specs.Forms.{is_constructed_tag, components_under}
 use Rattle.mta_ber.specs.Head.{◌>>=◌, fault}
-use Rattle.mta_ber.specs.Parts.{components, is_tag, in_order, required}
+use Rattle.mta_ber.specs.Parts.{is_tag, in_order, required}
 use Rattle.mta_names.specs.declared.attributes.Label.{Label}
 use Rattle.mta_names.specs.Labels.{country_in, label_in, label_choice, SpellsLabel, SpellsChoice, canonical_label, canonical_choice}
 use Rattle.mta_names.specs.Normal.{normal_label, is_same_labels, is_same_option}
@@ -76,7 +77,7 @@ abbrev pub domain : Label → Label → Option Label → DomainFields
 domain country admd prmd = record { country = country; admd = admd; prmd = prmd }
 
 unfoldable pub domain_in : Part → Result DomainFields Fault
-domain_in p = components domain_step no_domain p >>= λ s. required s.country p.at >>= λ c. required s.admd p.at >>= λ a. Ok (domain c a s.prmd)
+domain_in p = components_under 1 3 domain_step no_domain p >>= λ s. required s.country p.at >>= λ c. required s.admd p.at >>= λ a. Ok (domain c a s.prmd)
 
 -- ---- what spells a domain
 
@@ -93,8 +94,8 @@ pub record MakesDomain (depth : ℕ) (before : DomainParts) (tag : Tag) (content
   pub made : MakesDomainPart part depth before tag content octets after
 
 -- a SEQUENCE of its components in their order
-pub record SpellsDomain (depth : ℕ) (constructed : Bool) (content : List ℕ) (v : DomainFields) : Type 0 where
-  pub is_constructed : constructed ≡ true
+pub record SpellsDomain (depth : ℕ) (tag : Tag) (content : List ℕ) (v : DomainFields) : Type 0 where
+  pub is_tag_of : is_constructed_tag 1 3 tag ≡ true
   pub parts : DomainParts
   pub spelled : SpellsComponents MakesDomain depth no_domain content parts
   pub country : parts.country ≡ Some v.country

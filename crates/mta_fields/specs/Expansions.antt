@@ -7,9 +7,10 @@ use Rattle.mta_ber.specs.Canon.{element, constructed, primitive}
 use Rattle.mta_ber.specs.Components.{SpellsComponents}
 use Rattle.mta_ber.specs.Contents.{canon_utc}
 use Rattle.mta_ber.specs.Element.{Part}
+use Rattle.mta_ber.specs.Forms.{is_constructed_tag, components_under}
 use Rattle.mta_ber.specs.Head.{◌>>=◌, fault}
 use Rattle.mta_ber.specs.Moments.{SpellsMoment}
-use Rattle.mta_ber.specs.Parts.{components, is_tag, in_order, required}
+use Rattle.mta_ber.specs.Parts.{is_tag, in_order, required}
 use Rattle.mta_ber.specs.Times.{utc_in, last_moment}
 use Rattle.mta_names.specs.declared.attributes.Attributes.{Attributes}
 use Rattle.mta_names.specs.Names.{name_in, SpellsName, canonical_name}
@@ -66,7 +67,7 @@ abbrev pub expansion : Attributes → ℕ → ExpansionFields
 expansion name moment = record { name = name; moment = moment }
 
 unfoldable pub expansion_in : Part → Result ExpansionFields Fault
-expansion_in p = components expansion_step no_expansion p >>= λ s. required s.name p.at >>= λ n. required s.moment p.at >>= λ m. Ok (expansion n m)
+expansion_in p = components_under 0 16 expansion_step no_expansion p >>= λ s. required s.name p.at >>= λ n. required s.moment p.at >>= λ m. Ok (expansion n m)
 
 -- ---- what spells an expansion
 
@@ -82,8 +83,8 @@ pub record MakesExpansion (depth : ℕ) (before : ExpansionParts) (tag : Tag) (c
   pub made : MakesExpansionPart part depth before tag content after
 
 -- a SEQUENCE of its components in their order
-pub record SpellsExpansion (depth : ℕ) (constructed : Bool) (content : List ℕ) (v : ExpansionFields) : Type 0 where
-  pub is_constructed : constructed ≡ true
+pub record SpellsExpansion (depth : ℕ) (tag : Tag) (content : List ℕ) (v : ExpansionFields) : Type 0 where
+  pub is_tag_of : is_constructed_tag 0 16 tag ≡ true
   pub parts : ExpansionParts
   pub spelled : SpellsComponents MakesExpansion depth no_expansion content parts
   pub name : parts.name ≡ Some v.name

@@ -10,9 +10,10 @@ use Rattle.mta_ber.specs.Components.{SpellsComponents}
 use Rattle.mta_ber.specs.Contents.{canon_int, canon_bits}
 use Rattle.mta_ber.specs.Element.{Part, explicit}
 use Rattle.mta_ber.specs.Explicit.{Spells, SpellsExplicit}
+use Rattle.mta_ber.specs.Forms.{is_constructed_tag, components_under}
 use Rattle.mta_ber.specs.Head.{◌>>=◌, fault}
 use Rattle.mta_ber.specs.Oid.{is_oid, oid_in}
-use Rattle.mta_ber.specs.Parts.{components, is_tag, in_order, required}
+use Rattle.mta_ber.specs.Parts.{is_tag, in_order, required}
 use Rattle.mta_ber.specs.Segmented.{SpellsBits}
 use Rattle.mta_ber.specs.Spelling.{Stands}
 use Rattle.mta_names.specs.Strings.{Puts, number_in, SpellsNumber}
@@ -130,7 +131,7 @@ ext_field kind s = record {
 }
 
 unfoldable pub ext_in : Part → Result ExtFields Fault
-ext_in p = components ext_step no_ext p >>= λ s. required s.kind p.at >>= λ k. Ok (ext_field k s)
+ext_in p = components_under 0 16 ext_step no_ext p >>= λ s. required s.kind p.at >>= λ k. Ok (ext_field k s)
 
 -- ---- what spells a field
 
@@ -150,8 +151,8 @@ pub record MakesExt (depth : ℕ) (before : ExtParts) (tag : Tag) (content octet
   pub made : MakesExtPart part depth before tag content octets after
 
 -- a SEQUENCE of its components in their order; of the criticality the first three bits count
-pub record SpellsExtField (depth : ℕ) (constructed : Bool) (content : List ℕ) (v : ExtFields) : Type 0 where
-  pub is_constructed : constructed ≡ true
+pub record SpellsExtField (depth : ℕ) (tag : Tag) (content : List ℕ) (v : ExtFields) : Type 0 where
+  pub is_tag_of : is_constructed_tag 0 16 tag ≡ true
   pub parts : ExtParts
   pub spelled : SpellsComponents MakesExt depth no_ext content parts
   pub kind : parts.kind ≡ Some v.kind

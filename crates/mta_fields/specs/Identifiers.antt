@@ -8,8 +8,9 @@ use Rattle.mta_ber.specs.declared.text.TextClass.TheVariants.{Ia5}
 use Rattle.mta_ber.specs.Canon.{element, constructed, primitive}
 use Rattle.mta_ber.specs.Components.{SpellsComponents}
 use Rattle.mta_ber.specs.Element.{Part}
+use Rattle.mta_ber.specs.Forms.{is_constructed_tag, components_under}
 use Rattle.mta_ber.specs.Head.{◌>>=◌, fault}
-use Rattle.mta_ber.specs.Parts.{components, is_tag, in_order, required}
+use Rattle.mta_ber.specs.Parts.{is_tag, in_order, required}
 use Rattle.mta_ber.specs.Segmented.{SpellsText}
 use Rattle.mta_ber.specs.Strings.{text_in, IsText}
 use Rattle.mta_names.specs.Strings.{Puts}
@@ -67,12 +68,12 @@ abbrev pub identifier : DomainFields → List ℕ → MtsIdFields
 identifier domain local = record { domain = domain; local = local }
 
 unfoldable pub id_in : Part → Result MtsIdFields Fault
-id_in p = components id_step no_id p >>= λ s. required s.domain p.at >>= λ d. required s.local p.at >>= λ l. Ok (identifier d l)
+id_in p = components_under 1 4 id_step no_id p >>= λ s. required s.domain p.at >>= λ d. required s.local p.at >>= λ l. Ok (identifier d l)
 
 -- ---- what spells an identifier
 
 abbrev pub MakesIdPart : MtsIdPart → ℕ → MtsIdParts → Tag → List ℕ → MtsIdParts → Type 0
-MakesIdPart Issuer depth s tag content after = Puts (SpellsDomain depth tag.constructed content) (with_domain s) after
+MakesIdPart Issuer depth s tag content after = Puts (SpellsDomain depth tag content) (with_domain s) after
 MakesIdPart Local depth s tag content after = Puts (SpellsText Ia5 1 32 depth tag.constructed content) (with_local s) after
 
 pub record MakesId (depth : ℕ) (before : MtsIdParts) (tag : Tag) (content octets : List ℕ) (after : MtsIdParts) : Type 0 where
@@ -83,8 +84,8 @@ pub record MakesId (depth : ℕ) (before : MtsIdParts) (tag : Tag) (content octe
   pub made : MakesIdPart part depth before tag content after
 
 -- a SEQUENCE of its components in their order
-pub record SpellsMtsId (depth : ℕ) (constructed : Bool) (content : List ℕ) (v : MtsIdFields) : Type 0 where
-  pub is_constructed : constructed ≡ true
+pub record SpellsMtsId (depth : ℕ) (tag : Tag) (content : List ℕ) (v : MtsIdFields) : Type 0 where
+  pub is_tag_of : is_constructed_tag 1 4 tag ≡ true
   pub parts : MtsIdParts
   pub spelled : SpellsComponents MakesId depth no_id content parts
   pub domain : parts.domain ≡ Some v.domain

@@ -5,3 +5,4 @@ pub mod Traces
 pub mod TraceElements
 pub mod ExtensionFields
 pub mod Laws
+pub mod Tagged

@@ -6,8 +6,9 @@ use Rattle.mta_ber.specs.declared.tag.Tag.{Tag}
 use Rattle.mta_ber.specs.Canon.{element, constructed}
 use Rattle.mta_ber.specs.Components.{SpellsComponents}
 use Rattle.mta_ber.specs.Element.{Part}
+use Rattle.mta_ber.specs.Forms.{is_constructed_tag, components_under}
 use Rattle.mta_ber.specs.Head.{◌>>=◌, fault}
-use Rattle.mta_ber.specs.Parts.{components, is_tag, in_order, required}
+use Rattle.mta_ber.specs.Parts.{is_tag, in_order, required}
 use Rattle.mta_names.specs.Strings.{Puts}
 use Rattle.mta_fields.specs.declared.domain.DomainFields.{DomainFields}
 use Rattle.mta_fields.specs.declared.supplied.Supplied.{Supplied}
@@ -65,12 +66,12 @@ abbrev pub trace : DomainFields → Supplied → TraceFields
 trace domain supplied = record { domain = domain; supplied = supplied }
 
 unfoldable pub trace_in : Part → Result TraceFields Fault
-trace_in p = components trace_step no_trace p >>= λ s. required s.domain p.at >>= λ d. required s.supplied p.at >>= λ l. Ok (trace d l)
+trace_in p = components_under 0 16 trace_step no_trace p >>= λ s. required s.domain p.at >>= λ d. required s.supplied p.at >>= λ l. Ok (trace d l)
 
 -- ---- what spells an element
 
 abbrev pub MakesTracePart : TracePart → ℕ → TraceParts → Tag → List ℕ → TraceParts → Type 0
-MakesTracePart Place depth s tag content after = Puts (SpellsDomain depth tag.constructed content) (with_domain s) after
+MakesTracePart Place depth s tag content after = Puts (SpellsDomain depth tag content) (with_domain s) after
 MakesTracePart Information depth s tag content after = Puts (SpellsSupplied depth tag.constructed content) (with_supplied s) after
 
 pub record MakesTrace (depth : ℕ) (before : TraceParts) (tag : Tag) (content octets : List ℕ) (after : TraceParts) : Type 0 where
@@ -81,8 +82,8 @@ pub record MakesTrace (depth : ℕ) (before : TraceParts) (tag : Tag) (content o
   pub made : MakesTracePart part depth before tag content after
 
 -- a SEQUENCE of its components in their order
-pub record SpellsTrace (depth : ℕ) (constructed : Bool) (content : List ℕ) (v : TraceFields) : Type 0 where
-  pub is_constructed : constructed ≡ true
+pub record SpellsTrace (depth : ℕ) (tag : Tag) (content : List ℕ) (v : TraceFields) : Type 0 where
+  pub is_tag_of : is_constructed_tag 0 16 tag ≡ true
   pub parts : TraceParts
   pub spelled : SpellsComponents MakesTrace depth no_trace content parts
   pub domain : parts.domain ≡ Some v.domain

@@ -8,6 +8,7 @@ use Rattle.mta_ber.specs.Canon.{element, constructed, primitive, optional}
 use Rattle.mta_ber.specs.Components.{SpellsComponents}
 use Rattle.mta_ber.specs.Contents.{canon_int, canon_bits, canon_utc}
 use Rattle.mta_ber.specs.Element.{Part}
+use Rattle.mta_ber.specs.Forms.{is_primitive_tag, is_constructed_tag}
 use Rattle.mta_ber.specs.Head.{◌>>=◌, fault}
 use Rattle.mta_ber.specs.Moments.{SpellsMoment}
 use Rattle.mta_ber.specs.Parts.{components, is_tag, once, required}
@@ -44,24 +45,20 @@ abbrev pub supplied_part_of : Tag → Option SuppliedPart
 supplied_part_of t =
     if is_tag 2 0 t then Some Arrival
     else if is_tag 2 1 t then Some Deferred
-    else if is_tag 2 2 t then Some Routing
+    else if is_primitive_tag 2 2 t then Some Routing
     else if is_tag 2 3 t then Some Other
-    else if is_tag 1 3 t then Some Attempted
+    else if is_constructed_tag 1 3 t then Some Attempted
     else if is_tag 1 5 t then Some Converted
     else None
 
-abbrev pub supplied_class : SuppliedPart → ℕ
-supplied_class Attempted = 1
-supplied_class Converted = 1
-supplied_class _ = 2
-
-abbrev pub supplied_number : SuppliedPart → ℕ
-supplied_number Arrival = 0
-supplied_number Deferred = 1
-supplied_number Routing = 2
-supplied_number Other = 3
-supplied_number Attempted = 3
-supplied_number Converted = 5
+-- whether a tag is that of a component
+abbrev pub is_supplied_tag : SuppliedPart → Tag → Bool
+is_supplied_tag Arrival t = is_tag 2 0 t
+is_supplied_tag Deferred t = is_tag 2 1 t
+is_supplied_tag Routing t = is_primitive_tag 2 2 t
+is_supplied_tag Other t = is_tag 2 3 t
+is_supplied_tag Attempted t = is_constructed_tag 1 3 t
+is_supplied_tag Converted t = is_tag 1 5 t
 
 abbrev pub with_arrival : SuppliedParts → ℕ → SuppliedParts
 with_arrival s x = record s { arrival = Some x }
@@ -131,12 +128,12 @@ MakesSuppliedPart Arrival depth s tag content octets after = (s.arrival ≡ None
 MakesSuppliedPart Deferred depth s tag content octets after = (s.deferred ≡ None) × Puts (SpellsMoment depth tag.constructed content) (with_deferred s) after
 MakesSuppliedPart Routing depth s tag content octets after = (s.action ≡ None) × Puts (SpellsAction tag.constructed content) (with_action s) after
 MakesSuppliedPart Other depth s tag content octets after = (s.other ≡ None) × Puts (SpellsBits depth tag.constructed content) (with_other s) after
-MakesSuppliedPart Attempted depth s tag content octets after = (s.attempted ≡ None) × Puts (SpellsDomain depth tag.constructed content) (with_attempted s) after
+MakesSuppliedPart Attempted depth s tag content octets after = (s.attempted ≡ None) × Puts (SpellsDomain depth tag content) (with_attempted s) after
 MakesSuppliedPart Converted depth s tag content octets after = (s.converted ≡ None) × Puts (λ x. x ≡ octets) (with_converted s) after
 
 pub record MakesSupplied (depth : ℕ) (before : SuppliedParts) (tag : Tag) (content octets : List ℕ) (after : SuppliedParts) : Type 0 where
   pub part : SuppliedPart
-  pub is_tag_of : is_tag (supplied_class part) (supplied_number part) tag ≡ true
+  pub is_tag_of : is_supplied_tag part tag ≡ true
   pub made : MakesSuppliedPart part depth before tag content octets after
 
 -- a SET of its components in any order, each at most once

@@ -5,9 +5,10 @@ ghost use Rattle.mta_ber.specs.Parts.{Leaves, Reads};
 ghost use Rattle.mta_ber.specs.Seen.{view};
 ghost use Rattle.mta_fields.specs.Domains.{domain_part_of, domain_place, domain_needed, domain_part_in, domain_step, domain_in, domain_content, is_same_domain};
 
+use crate::length::domain_length;
 use mta_ber::{
-    Components, Kind, Memory, ReadFault, Tag, View, Writer, bad, check_order, is_tag_of,
-    take_parts, take_required,
+    Components, Kind, Memory, ReadFault, Tag, View, Writer, bad, check_order, is_constructed_tag,
+    is_tag_of, take_parts, take_required,
 };
 use mta_names::{
     Label, constructed, put_around, put_label, put_label_choice, read_country, read_label,
@@ -134,7 +135,7 @@ impl Components for DomainParts {
 fn read_fields(alloc: Global, whole: &View) -> Result<DomainFields, ReadFault>
     ensures { Reads result (domain_in (view whole.now)) }
 {
-    if !whole.tag.constructed {
+    if !is_constructed_tag(whole.tag, 1, 3) {
         return bad(whole.at, Kind::BadTag);
     }
     let mut parts = DomainParts {
@@ -187,19 +188,20 @@ pub fn is_same(first: &DomainFields, second: &DomainFields) -> bool
 impl Domain {
     ghost use Rattle.std.specs.Prelude.{◌≡◌, ◌↔◌, IfOk, OnOk, OnErr, IsTrue};
     ghost use Rattle.mta_ber.specs.Canon.{appended};
+    ghost use Rattle.mta_ber.specs.Lengths.{octet_length};
     ghost use Rattle.mta_ber.specs.Parts.{Reads, IsReadAs};
     ghost use Rattle.mta_ber.specs.Seen.{view};
     ghost use Rattle.mta_fields.specs.declared.domain.DomainFields.{DomainFields};
     ghost use Rattle.mta_fields.specs.Domains.{domain_in, IsDomain, SpellsDomain, canonical_domain, IsSameDomain};
 
-    /// The domain that an element spells, whatever its tag, which is `[APPLICATION 3]` and for the caller to check.
+    /// The domain that an element spells, under `[APPLICATION 3]`. BadTag at an element of any other tag.
     pub fn read(alloc: Global, whole: &View) -> Result<Domain, ReadFault>
         // Which domain it is, or which fault comes first.
         ensures exact { Reads result (domain_in (view whole.now)) }
 
-        // What is answered is spelled by the content, and what the content spells is answered.
-        ensures found { IfOk result (SpellsDomain whole.now.depth whole.now.tag.constructed whole.now.content.now) }
-        ensures only { (v : DomainFields) → SpellsDomain whole.now.depth whole.now.tag.constructed whole.now.content.now v → IsReadAs result v }
+        // What is answered is spelled by the element, and what the element spells is answered.
+        ensures found { IfOk result (SpellsDomain whole.now.depth whole.now.tag whole.now.content.now) }
+        ensures only { (v : DomainFields) → SpellsDomain whole.now.depth whole.now.tag whole.now.content.now v → IsReadAs result v }
     {
         match read_fields(alloc, whole) {
             Ok(fields) => Ok(Domain { fields }),
@@ -231,6 +233,13 @@ impl Domain {
         ensures domain { IsDomain self.now }
     {
         &self.fields
+    }
+
+    /// How many octets `write` appends, told without memory; 2^64 - 1 where there are as many or more.
+    pub fn length(&self) -> u64
+        ensures { result ≡ octet_length (canonical_domain self.now) }
+    {
+        domain_length(&self.fields)
     }
 
     /// Whether the two domains are the same, whatever they have of capital letters and spaces: their normal texts are equal.

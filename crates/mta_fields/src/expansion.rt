@@ -6,8 +6,8 @@ ghost use Rattle.mta_ber.specs.Seen.{view};
 ghost use Rattle.mta_fields.specs.Expansions.{expansion_part_of, expansion_place, expansion_needed, expansion_part_in, expansion_step, expansion_in};
 
 use mta_ber::{
-    Components, Kind, Memory, ReadFault, Tag, View, Writer, bad, check_order, is_tag_of, put_utc,
-    take_parts, take_required,
+    Components, Kind, Memory, ReadFault, Tag, View, Writer, bad, check_order, element_length,
+    is_constructed_tag, is_tag_of, length_of_both, put_utc, take_parts, take_required, utc_length,
 };
 use mta_names::{OrName, constructed, primitive, put_around};
 use std::alloc::Global;
@@ -120,7 +120,7 @@ impl Components for ExpansionParts {
 fn read_fields(alloc: Global, whole: &View) -> Result<ExpansionFields, ReadFault>
     ensures { Reads result (expansion_in (view whole.now)) }
 {
-    if !whole.tag.constructed {
+    if !is_constructed_tag(whole.tag, 0, 16) {
         return bad(whole.at, Kind::BadTag);
     }
     let mut parts = ExpansionParts {
@@ -142,19 +142,20 @@ fn read_fields(alloc: Global, whole: &View) -> Result<ExpansionFields, ReadFault
 impl Expansion {
     ghost use Rattle.std.specs.Prelude.{◌≡◌, IfOk, OnOk, OnErr};
     ghost use Rattle.mta_ber.specs.Canon.{appended};
+    ghost use Rattle.mta_ber.specs.Lengths.{octet_length};
     ghost use Rattle.mta_ber.specs.Parts.{Reads, IsReadAs};
     ghost use Rattle.mta_ber.specs.Seen.{view};
     ghost use Rattle.mta_fields.specs.declared.expansion.ExpansionFields.{ExpansionFields};
     ghost use Rattle.mta_fields.specs.Expansions.{expansion_in, IsExpansion, SpellsExpansion, canonical_expansion};
 
-    /// The expansion that an element spells, whatever its tag, which is that of SEQUENCE and for the caller to check.
+    /// The expansion that an element spells, a SEQUENCE. BadTag at an element of any other tag.
     pub fn read(alloc: Global, whole: &View) -> Result<Expansion, ReadFault>
         // Which expansion it is, or which fault comes first.
         ensures exact { Reads result (expansion_in (view whole.now)) }
 
-        // What is answered is spelled by the content, and what the content spells is answered.
-        ensures found { IfOk result (SpellsExpansion whole.now.depth whole.now.tag.constructed whole.now.content.now) }
-        ensures only { (v : ExpansionFields) → SpellsExpansion whole.now.depth whole.now.tag.constructed whole.now.content.now v → IsReadAs result v }
+        // What is answered is spelled by the element, and what the element spells is answered.
+        ensures found { IfOk result (SpellsExpansion whole.now.depth whole.now.tag whole.now.content.now) }
+        ensures only { (v : ExpansionFields) → SpellsExpansion whole.now.depth whole.now.tag whole.now.content.now v → IsReadAs result v }
     {
         match read_fields(alloc, whole) {
             Ok(fields) => Ok(Expansion { fields }),
@@ -172,6 +173,16 @@ impl Expansion {
         self.fields.name.write(&mut inside, constructed(1, 0))?;
         put_utc(&mut inside, primitive(0, 23), self.fields.moment)?;
         put_around(w, constructed(0, 16), &inside)
+    }
+
+    /// How many octets `write` appends, told without memory; 2^64 - 1 where there are as many or more.
+    #[tactic(auto, unfolding(crate::specs::Expansions::canonical_expansion))]
+    pub fn length(&self) -> u64
+        ensures { result ≡ octet_length (canonical_expansion self.now) }
+    {
+        let name = self.fields.name.length(constructed(1, 0));
+        let moment = utc_length(primitive(0, 23), self.fields.moment);
+        element_length(constructed(0, 16), length_of_both(name, moment))
     }
 
     /// An expansion of these parts, which takes no memory.

@@ -9,10 +9,11 @@ ghost use Rattle.mta_ber.specs.Seen.{view};
 ghost use Rattle.mta_fields.specs.ExtensionFields.{null, plain_kind_in, kind_in, whole_in, ext_part_of, ext_place, ext_needed, ext_part_in, ext_step, ext_in, three_bits, canonical_kind, canonical_criticality, canonical_value, ext_content};
 ghost use Rattle.mta_fields.specs.Traces.{bit_if};
 
+use crate::length::extension_length;
 use crate::supplied::is_set;
 use mta_ber::{
     Bits, Components, Kind, Memory, Octets, ReadFault, Tag, View, Writer, bad, check_order,
-    is_tag_of, put_bits, put_int, take_parts, take_required,
+    is_constructed_tag, is_tag_of, put_bits, put_int, take_parts, take_required,
 };
 use mta_names::{constructed, primitive, put_around, read_number};
 use std::alloc::Global;
@@ -201,7 +202,7 @@ fn value_or_null(alloc: Global, value: Option<Octets>) -> Result<Octets, Memory>
 fn read_fields(alloc: Global, whole: &View) -> Result<ExtFields, ReadFault>
     ensures { Reads result (ext_in (view whole.now)) }
 {
-    if !whole.tag.constructed {
+    if !is_constructed_tag(whole.tag, 0, 16) {
         return bad(whole.at, Kind::BadTag);
     }
     let mut parts = ExtParts {
@@ -237,7 +238,7 @@ fn put_kind(w: &mut Writer, kind: &ExtKind) -> Result<(), Memory>
     }
 }
 
-fn three_bits_of(first: bool, second: bool, third: bool) -> Bits
+pub fn three_bits_of(first: bool, second: bool, third: bool) -> Bits
     ensures { result ≡ three_bits first second third }
 {
     match (first, second, third) {
@@ -271,7 +272,7 @@ fn put_criticality(
     )
 }
 
-fn is_null(value: &[u8]) -> bool
+pub fn is_null(value: &[u8]) -> bool
     ensures { result ≡ bytes_eq value.now null }
 {
     value == [5, 0].as_slice()
@@ -307,19 +308,20 @@ fn put_fields(alloc: Global, field: &ExtFields) -> Result<Writer, Memory>
 impl ExtField {
     ghost use Rattle.std.specs.Prelude.{◌≡◌, IfOk, OnOk, OnErr};
     ghost use Rattle.mta_ber.specs.Canon.{appended};
+    ghost use Rattle.mta_ber.specs.Lengths.{octet_length};
     ghost use Rattle.mta_ber.specs.Parts.{Reads, IsReadAs};
     ghost use Rattle.mta_ber.specs.Seen.{view};
     ghost use Rattle.mta_fields.specs.declared.extension.ExtFields.{ExtFields};
     ghost use Rattle.mta_fields.specs.ExtensionFields.{ext_in, IsExtField, SpellsExtField, canonical_ext};
 
-    /// The extension field that an element spells, whatever its tag, which is that of SEQUENCE and for the caller to check.
+    /// The extension field that an element spells, a SEQUENCE. BadTag at an element of any other tag.
     pub fn read(alloc: Global, whole: &View) -> Result<ExtField, ReadFault>
         // Which field it is, or which fault comes first.
         ensures exact { Reads result (ext_in (view whole.now)) }
 
-        // What is answered is spelled by the content, and what the content spells is answered.
-        ensures found { IfOk result (SpellsExtField whole.now.depth whole.now.tag.constructed whole.now.content.now) }
-        ensures only { (v : ExtFields) → SpellsExtField whole.now.depth whole.now.tag.constructed whole.now.content.now v → IsReadAs result v }
+        // What is answered is spelled by the element, and what the element spells is answered.
+        ensures found { IfOk result (SpellsExtField whole.now.depth whole.now.tag whole.now.content.now) }
+        ensures only { (v : ExtFields) → SpellsExtField whole.now.depth whole.now.tag whole.now.content.now v → IsReadAs result v }
     {
         match read_fields(alloc, whole) {
             Ok(fields) => Ok(ExtField { fields }),
@@ -335,6 +337,13 @@ impl ExtField {
     {
         let inside = put_fields(w.alloc(), &self.fields)?;
         put_around(w, constructed(0, 16), &inside)
+    }
+
+    /// How many octets `write` appends, told without memory; 2^64 - 1 where there are as many or more.
+    pub fn length(&self) -> u64
+        ensures { result ≡ octet_length (canonical_ext self.now) }
+    {
+        extension_length(&self.fields)
     }
 
     /// A field of these parts, which takes no memory.

@@ -8,7 +8,8 @@ ghost use Rattle.mta_fields.specs.Identifiers.{id_part_of, id_place, id_needed, 
 use crate::domain::{Domain, is_same};
 use mta_ber::{
     Components, Kind, Memory, ReadFault, Tag, Text, TextClass, View, Writer, bad, check_order,
-    is_tag_of, take_parts, take_required,
+    element_length, is_constructed_tag, is_tag_of, length_of_both, slice_length, take_parts,
+    take_required,
 };
 use mta_names::{constructed, primitive, put_around};
 use std::alloc::Global;
@@ -120,7 +121,7 @@ impl Components for MtsIdParts {
 fn read_fields(alloc: Global, whole: &View) -> Result<MtsIdFields, ReadFault>
     ensures { Reads result (id_in (view whole.now)) }
 {
-    if !whole.tag.constructed {
+    if !is_constructed_tag(whole.tag, 1, 4) {
         return bad(whole.at, Kind::BadTag);
     }
     let mut parts = MtsIdParts {
@@ -149,19 +150,20 @@ fn are_same(first: &MtsIdFields, second: &MtsIdFields) -> bool
 impl MtsId {
     ghost use Rattle.std.specs.Prelude.{◌≡◌, ◌↔◌, IfOk, OnOk, OnErr, IsTrue};
     ghost use Rattle.mta_ber.specs.Canon.{appended};
+    ghost use Rattle.mta_ber.specs.Lengths.{octet_length};
     ghost use Rattle.mta_ber.specs.Parts.{Reads, IsReadAs};
     ghost use Rattle.mta_ber.specs.Seen.{view};
     ghost use Rattle.mta_fields.specs.declared.identifier.MtsIdFields.{MtsIdFields};
     ghost use Rattle.mta_fields.specs.Identifiers.{id_in, IsMtsId, SpellsMtsId, canonical_id, IsSameId};
 
-    /// The identifier that an element spells, whatever its tag, which is `[APPLICATION 4]` and for the caller to check.
+    /// The identifier that an element spells, under `[APPLICATION 4]`. BadTag at an element of any other tag.
     pub fn read(alloc: Global, whole: &View) -> Result<MtsId, ReadFault>
         // Which identifier it is, or which fault comes first.
         ensures exact { Reads result (id_in (view whole.now)) }
 
-        // What is answered is spelled by the content, and what the content spells is answered.
-        ensures found { IfOk result (SpellsMtsId whole.now.depth whole.now.tag.constructed whole.now.content.now) }
-        ensures only { (v : MtsIdFields) → SpellsMtsId whole.now.depth whole.now.tag.constructed whole.now.content.now v → IsReadAs result v }
+        // What is answered is spelled by the element, and what the element spells is answered.
+        ensures found { IfOk result (SpellsMtsId whole.now.depth whole.now.tag whole.now.content.now) }
+        ensures only { (v : MtsIdFields) → SpellsMtsId whole.now.depth whole.now.tag whole.now.content.now v → IsReadAs result v }
     {
         match read_fields(alloc, whole) {
             Ok(fields) => Ok(MtsId { fields }),
@@ -179,6 +181,18 @@ impl MtsId {
         self.fields.domain.write(&mut inside)?;
         inside.put(primitive(0, 22), self.fields.local.as_slice())?;
         put_around(w, constructed(1, 4), &inside)
+    }
+
+    /// How many octets `write` appends, told without memory; 2^64 - 1 where there are as many or more.
+    #[tactic(auto, unfolding(crate::specs::Identifiers::canonical_id))]
+    pub fn length(&self) -> u64
+        ensures { result ≡ octet_length (canonical_id self.now) }
+    {
+        let local = element_length(primitive(0, 22), slice_length(self.fields.local.as_slice()));
+        element_length(
+            constructed(1, 4),
+            length_of_both(self.fields.domain.length(), local),
+        )
     }
 
     /// Whether the two identifiers are the same: their domains are, whatever they have of capital letters and spaces, and their

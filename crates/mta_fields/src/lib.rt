@@ -7,6 +7,7 @@ mod expansion;
 mod extension;
 mod identifier;
 mod laws;
+mod length;
 mod supplied;
 mod trace;
 

@@ -10,8 +10,8 @@ ghost use Rattle.mta_fields.specs.Traces.{IsSupplied, action_in, action_number, 
 
 use crate::domain::Domain;
 use mta_ber::{
-    Bits, Components, Kind, Memory, Octets, ReadFault, Tag, View, Writer, bad, is_tag_of, put_bits,
-    put_int, put_utc, take_parts, take_required,
+    Bits, Components, Kind, Memory, Octets, ReadFault, Tag, View, Writer, bad, is_constructed_tag,
+    is_primitive_tag, is_tag_of, put_bits, put_int, put_utc, take_parts, take_required,
 };
 use mta_names::{constructed, primitive, put_around, put_raw_if, read_number};
 use std::alloc::Global;
@@ -68,11 +68,11 @@ fn part_of(tag: Tag) -> Option<SuppliedPart>
         Some(SuppliedPart::Arrival)
     } else if is_tag_of(tag, 2, 1) {
         Some(SuppliedPart::Deferred)
-    } else if is_tag_of(tag, 2, 2) {
+    } else if is_primitive_tag(tag, 2, 2) {
         Some(SuppliedPart::Routing)
     } else if is_tag_of(tag, 2, 3) {
         Some(SuppliedPart::Other)
-    } else if is_tag_of(tag, 1, 3) {
+    } else if is_constructed_tag(tag, 1, 3) {
         Some(SuppliedPart::Attempted)
     } else if is_tag_of(tag, 1, 5) {
         Some(SuppliedPart::Converted)
@@ -203,7 +203,7 @@ pub fn read_supplied(alloc: Global, whole: &View) -> Result<Supplied, ReadFault>
     })
 }
 
-fn action_number_of(action: Action) -> i64
+pub fn action_number_of(action: Action) -> i64
     ensures { result ≡ pos (action_number action) }
 {
     match action {
@@ -234,7 +234,7 @@ fn put_deferred(w: &mut Writer, moment: Option<u64>) -> Result<(), Memory>
     }
 }
 
-fn two_bits_of(first: bool, second: bool) -> Bits
+pub fn two_bits_of(first: bool, second: bool) -> Bits
     ensures { result ≡ two_bits first second }
 {
     match (first, second) {

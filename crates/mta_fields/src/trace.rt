@@ -6,10 +6,11 @@ ghost use Rattle.mta_ber.specs.Seen.{view};
 ghost use Rattle.mta_fields.specs.TraceElements.{trace_part_of, trace_place, trace_needed, trace_part_in, trace_step, trace_in};
 
 use crate::domain::Domain;
+use crate::length::supplied_length;
 use crate::supplied::{Supplied, put_supplied, read_supplied};
 use mta_ber::{
-    Components, Kind, Memory, ReadFault, Tag, View, Writer, bad, check_order, is_tag_of,
-    take_parts, take_required,
+    Components, Kind, Memory, ReadFault, Tag, View, Writer, bad, check_order, element_length,
+    is_constructed_tag, is_tag_of, length_of_both, take_parts, take_required,
 };
 use mta_names::{constructed, put_around};
 use std::alloc::Global;
@@ -120,7 +121,7 @@ impl Components for TraceParts {
 fn read_fields(alloc: Global, whole: &View) -> Result<TraceFields, ReadFault>
     ensures { Reads result (trace_in (view whole.now)) }
 {
-    if !whole.tag.constructed {
+    if !is_constructed_tag(whole.tag, 0, 16) {
         return bad(whole.at, Kind::BadTag);
     }
     let mut parts = TraceParts {
@@ -142,19 +143,20 @@ fn read_fields(alloc: Global, whole: &View) -> Result<TraceFields, ReadFault>
 impl TraceElement {
     ghost use Rattle.std.specs.Prelude.{◌≡◌, IfOk, OnOk, OnErr};
     ghost use Rattle.mta_ber.specs.Canon.{appended};
+    ghost use Rattle.mta_ber.specs.Lengths.{octet_length};
     ghost use Rattle.mta_ber.specs.Parts.{Reads, IsReadAs};
     ghost use Rattle.mta_ber.specs.Seen.{view};
     ghost use Rattle.mta_fields.specs.declared.trace.TraceFields.{TraceFields};
     ghost use Rattle.mta_fields.specs.TraceElements.{trace_in, IsTrace, SpellsTrace, canonical_trace};
 
-    /// The trace element that an element spells, whatever its tag, which is that of SEQUENCE and for the caller to check.
+    /// The trace element that an element spells, a SEQUENCE. BadTag at an element of any other tag.
     pub fn read(alloc: Global, whole: &View) -> Result<TraceElement, ReadFault>
         // Which trace element it is, or which fault comes first.
         ensures exact { Reads result (trace_in (view whole.now)) }
 
-        // What is answered is spelled by the content, and what the content spells is answered.
-        ensures found { IfOk result (SpellsTrace whole.now.depth whole.now.tag.constructed whole.now.content.now) }
-        ensures only { (v : TraceFields) → SpellsTrace whole.now.depth whole.now.tag.constructed whole.now.content.now v → IsReadAs result v }
+        // What is answered is spelled by the element, and what the element spells is answered.
+        ensures found { IfOk result (SpellsTrace whole.now.depth whole.now.tag whole.now.content.now) }
+        ensures only { (v : TraceFields) → SpellsTrace whole.now.depth whole.now.tag whole.now.content.now v → IsReadAs result v }
     {
         match read_fields(alloc, whole) {
             Ok(fields) => Ok(TraceElement { fields }),
@@ -172,6 +174,18 @@ impl TraceElement {
         self.fields.domain.write(&mut inside)?;
         put_supplied(&mut inside, &self.fields.supplied)?;
         put_around(w, constructed(0, 16), &inside)
+    }
+
+    /// How many octets `write` appends, told without memory; 2^64 - 1 where there are as many or more.
+    #[tactic(auto, unfolding(crate::specs::TraceElements::canonical_trace))]
+    pub fn length(&self) -> u64
+        ensures { result ≡ octet_length (canonical_trace self.now) }
+    {
+        let supplied = supplied_length(&self.fields.supplied);
+        element_length(
+            constructed(0, 16),
+            length_of_both(self.fields.domain.length(), supplied),
+        )
     }
 
     /// A trace element of these parts, which takes no memory.

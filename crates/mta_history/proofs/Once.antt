@@ -6,7 +6,7 @@ use Rattle.std.proofs.lemmas.List.Sums.{sum_by-cons}
 use Rattle.mta_ber.specs.declared.fault.Fault.{Fault}
 use Rattle.mta_ber.specs.Bits.{bit}
 use Rattle.mta_recipient.specs.declared.recipient.RecipientFields.{RecipientFields}
-use Rattle.mta_apdu.specs.Apdus.{ApduValue, message, probe, report, apdu_of}
+use Rattle.mta_apdu.specs.Apdus.{ApduValue, message, probe, report, stored_of}
 use Rattle.mta_records.specs.declared.step.Step.{Step}
 use Rattle.mta_history.specs.declared.item.Status.{Status}
 use Rattle.mta_history.specs.declared.item.Status.TheVariants.{Pending, Delivered}
@@ -124,7 +124,7 @@ step_once m (set_tables text) count once needs i r = subst (IsOnce (status_at m 
 step_once m (accept octets origin moment) count once needs i r =
     let item = new_item octets origin moment in
     subst (IsOnce (status_in (m.items ++ item ∷ []) i r)) (omega arith)
-    (once_more m.items item i r (count i r) (read_once (apdu_of octets)) (once i r))
+    (once_more m.items item i r (count i r) (read_once (stored_of octets)) (once i r))
 step_once m (deliver j q moment) count once needs i r =
     item_delivered m.items needs.1.item j q moment i r (count i r) needs.1.item_is needs.1.pending (once i r)
 

@@ -3,7 +3,7 @@ use Rattle.std.specs.Prelude.{◌≡◌, ℕ, List, [], ◌∷◌, map, Option, 
 use Rattle.mta_ber.specs.declared.fault.Fault.{Fault}
 use Rattle.mta_ber.specs.Bits.{bit}
 use Rattle.mta_recipient.specs.declared.recipient.RecipientFields.{RecipientFields}
-use Rattle.mta_apdu.specs.Apdus.{ApduValue, message, probe, report, apdu_of, SpellsApdu}
+use Rattle.mta_apdu.specs.Apdus.{ApduValue, message, probe, report, apdu_of, stored_of, SpellsApdu}
 use Rattle.mta_history.specs.declared.item.Status.{Status}
 use Rattle.mta_history.specs.declared.item.Status.TheVariants.{Pending}
 
@@ -30,4 +30,4 @@ statuses_read (Ok v) = statuses_of v
 statuses_read (Err fault) = []
 
 abbrev pub statuses_at_first : List ℕ → List (Option Status)
-statuses_at_first octets = statuses_read (apdu_of octets)
+statuses_at_first octets = statuses_read (stored_of octets)

@@ -12,3 +12,5 @@ pub mod Again
 pub mod ExtensionAgain
 pub mod NameAgain
 pub mod Kept
+pub mod LengthLaws
+pub mod Definite

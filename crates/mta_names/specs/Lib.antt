@@ -8,3 +8,4 @@ pub mod Standard
 pub mod Names
 pub mod Normal
 pub mod Laws
+pub mod Definite

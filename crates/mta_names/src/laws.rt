@@ -1,7 +1,13 @@
 //! Laws of names and octets.
 
+ghost use Rattle.mta_names.specs.Definite.{DefinitePartsStandEverywhere};
 ghost use Rattle.mta_names.specs.Laws.{CountriesAreReadAgain, LabelsAreReadAgain, LabelChoicesAreReadAgain, PersonalNamesAreReadAgain, UnitNamesAreReadAgain, DomainDefinedAttributesAreReadAgain, ExtensionAttributesAreReadAgain, StandardAttributesAreReadAgain, NamesAreReadAgain, ReadNamesAreKept, KeptNamesAreKeptAbove, ReadNamesAreReadAgain};
 ghost use Rattle.mta_names.specs.Laws.{NoCountryBeginsAnother, NoLabelBeginsAnother, NoPersonalNameBeginsAnother, NoUnitNamesBeginOthers, NoDomainDefinedAttributesBeginOthers, NoExtensionAttributesBeginOthers, NoStandardAttributesBeginOthers, NoNameBeginsAnother};
+
+/// A part that is kept unread, and that was read in a definite length, stands at every level up to 16.
+pub fn definite_parts_stand_everywhere()
+    ensures { DefinitePartsStandEverywhere }
+{}
 
 /// A label that is written is read again, whatever follows it: of a country, of a domain, and without a tag around its string
 /// (X.411, CountryName, AdministrationDomainName, PrivateDomainName).

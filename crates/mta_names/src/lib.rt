@@ -5,6 +5,7 @@ mod attributes;
 mod extension;
 mod label;
 mod laws;
+mod length;
 mod name;
 mod normal;
 mod pair;
@@ -23,11 +24,12 @@ pub use label::{
     read_label_choice,
 };
 pub use laws::{
-    domain_defined_attributes_are_read_again, extension_attributes_are_read_again,
-    labels_are_read_again, names_are_read_again, names_that_were_read_are_read_again,
-    no_name_begins_another, personal_names_are_read_again, standard_attributes_are_read_again,
-    unit_names_are_read_again,
+    definite_parts_stand_everywhere, domain_defined_attributes_are_read_again,
+    extension_attributes_are_read_again, labels_are_read_again, names_are_read_again,
+    names_that_were_read_are_read_again, no_name_begins_another, personal_names_are_read_again,
+    standard_attributes_are_read_again, unit_names_are_read_again,
 };
+pub use length::{label_choice_length, label_length, raw_length};
 pub use name::OrName;
 pub use normal::{same_label, same_text};
 pub use row::Row;

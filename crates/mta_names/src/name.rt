@@ -1,9 +1,10 @@
 //! O/R names.
 
 use crate::attributes::Attributes;
+use crate::length::components_length;
 use crate::reading::read_attributes;
 use crate::writing::put_components;
-use mta_ber::{Memory, ReadFault, Tag, View, Writer};
+use mta_ber::{Memory, ReadFault, Tag, View, Writer, element_length};
 use std::alloc::Global;
 use std::marker::Model;
 
@@ -25,8 +26,9 @@ impl Model for OrName {
 }
 
 impl OrName {
-    ghost use Rattle.std.specs.Prelude.{◌≡◌, IfOk, OnOk, OnErr};
+    ghost use Rattle.std.specs.Prelude.{◌≡◌, ◌<◌, IfOk, OnOk, OnErr};
     ghost use Rattle.mta_ber.specs.Canon.{IsTag, appended};
+    ghost use Rattle.mta_ber.specs.Lengths.{octet_length};
     ghost use Rattle.mta_ber.specs.Parts.{Reads, IsReadAs};
     ghost use Rattle.mta_ber.specs.Seen.{view};
     ghost use Rattle.mta_names.specs.declared.attributes.Attributes.{Attributes};
@@ -58,6 +60,15 @@ impl OrName {
     {
         let inside = put_components(w.alloc(), &self.attributes)?;
         w.put(tag, inside.as_slice())
+    }
+
+    /// How many octets `write` appends under this tag, told without memory; 2^64 - 1 where there are as many or more.
+    #[tactic(auto, unfolding(crate::specs::Names::canonical_name))]
+    pub fn length(&self, tag: Tag) -> u64
+        requires { tag.number < 31 }
+        ensures { result ≡ octet_length (canonical_name tag self.now) }
+    {
+        element_length(tag, components_length(&self.attributes))
     }
 
     /// A name of these attributes, which takes no memory.

@@ -42,6 +42,7 @@ pub fn primitive(class: u8, number: u32) -> Tag
 fn put_text(w: &mut Writer, number: u32, text: &Option<Text>) -> Result<(), Memory>
     requires { number < 2 ^ 28 }
     ensures ok { OnOk result (w.new ≡ appended w.old (optional (canonical_text number) text.now)) }
+    ensures err { OnErr result (w.new ≡ w.old) }
 {
     match text {
         None => Ok(()),
@@ -61,6 +62,7 @@ pub fn put_around(w: &mut Writer, tag: Tag, inside: &Writer) -> Result<(), Memor
 /// Appends a label with no tag around it.
 pub fn put_label_choice(w: &mut Writer, label: &Label) -> Result<(), Memory>
     ensures ok { OnOk result (w.new ≡ appended w.old (canonical_choice label.now)) }
+    ensures err { OnErr result (w.new ≡ w.old) }
 {
     let number = if label.numeric { 18 } else { 19 };
     w.put(primitive(0, number), label.text.as_slice())
@@ -70,6 +72,7 @@ pub fn put_label_choice(w: &mut Writer, label: &Label) -> Result<(), Memory>
 pub fn put_label(w: &mut Writer, class: u8, number: u32, label: &Label) -> Result<(), Memory>
     requires { IsTag (constructed class number) }
     ensures ok { OnOk result (w.new ≡ appended w.old (canonical_label class number label.now)) }
+    ensures err { OnErr result (w.new ≡ w.old) }
 {
     let mut inside = Writer::new(w.alloc());
     put_label_choice(&mut inside, label)?;
@@ -81,6 +84,7 @@ pub fn put_label(w: &mut Writer, class: u8, number: u32, label: &Label) -> Resul
 fn put_label_if(w: &mut Writer, class: u8, number: u32, label: &Option<Label>) -> Result<(), Memory>
     requires { IsTag (constructed class number) }
     ensures ok { OnOk result (w.new ≡ appended w.old (optional (canonical_label class number) label.now)) }
+    ensures err { OnErr result (w.new ≡ w.old) }
 {
     match label {
         None => Ok(()),
@@ -92,6 +96,7 @@ fn put_label_if(w: &mut Writer, class: u8, number: u32, label: &Option<Label>) -
 #[tactic(auto, using(crate::proofs::Written::appended_none))]
 fn put_person(w: &mut Writer, person: &Option<Person>) -> Result<(), Memory>
     ensures ok { OnOk result (w.new ≡ appended w.old (optional canonical_named person.now)) }
+    ensures err { OnErr result (w.new ≡ w.old) }
 {
     match person {
         None => Ok(()),
@@ -119,6 +124,7 @@ fn put_printables(w: &mut Writer, texts: &[Text]) -> Result<(), Memory>
 #[tactic(auto, using(crate::proofs::Written::appended_none))]
 fn put_units(w: &mut Writer, units: &Row<Text>) -> Result<(), Memory>
     ensures ok { OnOk result (w.new ≡ appended w.old (listed canonical_units units.now)) }
+    ensures err { OnErr result (w.new ≡ w.old) }
 {
     match units.as_slice() {
         [] => Ok(()),
@@ -132,6 +138,7 @@ fn put_units(w: &mut Writer, units: &Row<Text>) -> Result<(), Memory>
 
 fn put_pair(w: &mut Writer, pair: &Pair) -> Result<(), Memory>
     ensures ok { OnOk result (w.new ≡ appended w.old (canonical_pair pair.now)) }
+    ensures err { OnErr result (w.new ≡ w.old) }
 {
     let mut inside = Writer::new(w.alloc());
     inside.put(primitive(0, 19), pair.kind.as_slice())?;
@@ -152,6 +159,7 @@ fn put_all_pairs(w: &mut Writer, pairs: &[Pair]) -> Result<(), Memory>
 #[tactic(auto, using(crate::proofs::Written::appended_none))]
 fn put_pairs(w: &mut Writer, pairs: &Row<Pair>) -> Result<(), Memory>
     ensures ok { OnOk result (w.new ≡ appended w.old (listed canonical_pairs pairs.now)) }
+    ensures err { OnErr result (w.new ≡ w.old) }
 {
     match pairs.as_slice() {
         [] => Ok(()),
@@ -166,6 +174,7 @@ fn put_pairs(w: &mut Writer, pairs: &Row<Pair>) -> Result<(), Memory>
 /// Appends an extension attribute, whose value is the whole element `value`.
 fn put_attribute(w: &mut Writer, number: u32, value: &[u8]) -> Result<(), Memory>
     ensures ok { OnOk result (w.new ≡ appended w.old (canonical_attribute number value.now)) }
+    ensures err { OnErr result (w.new ≡ w.old) }
 {
     let mut inside = Writer::new(w.alloc());
     put_int(&mut inside, primitive(2, 0), number as i64)?;
@@ -176,6 +185,7 @@ fn put_attribute(w: &mut Writer, number: u32, value: &[u8]) -> Result<(), Memory
 #[tactic(auto, using(crate::proofs::Written::appended_none))]
 fn put_common(w: &mut Writer, common: &Option<Text>) -> Result<(), Memory>
     ensures ok { OnOk result (w.new ≡ appended w.old (optional canonical_common common.now)) }
+    ensures err { OnErr result (w.new ≡ w.old) }
 {
     match common {
         None => Ok(()),
@@ -202,6 +212,7 @@ fn put_extras(w: &mut Writer, extras: &[Extra]) -> Result<(), Memory>
 #[tactic(auto, using(crate::proofs::Written::appended_none))]
 fn put_extensions(w: &mut Writer, n: &Attributes) -> Result<(), Memory>
     ensures ok { OnOk result (w.new ≡ appended w.old (canonical_extensions (extensions_of n.now))) }
+    ensures err { OnErr result (w.new ≡ w.old) }
 {
     if n.common.is_none() && n.extras.len() == 0 {
         return Ok(());
@@ -214,6 +225,7 @@ fn put_extensions(w: &mut Writer, n: &Attributes) -> Result<(), Memory>
 
 fn put_standard(w: &mut Writer, n: &Attributes) -> Result<(), Memory>
     ensures ok { OnOk result (w.new ≡ appended w.old (canonical_standard n.now)) }
+    ensures err { OnErr result (w.new ≡ w.old) }
 {
     let mut inside = Writer::new(w.alloc());
     put_label_if(&mut inside, 1, 1, &n.country)?;
@@ -232,6 +244,7 @@ fn put_standard(w: &mut Writer, n: &Attributes) -> Result<(), Memory>
 #[tactic(auto, using(crate::proofs::Written::appended_none))]
 pub fn put_raw_if(w: &mut Writer, raw: &Option<Octets>) -> Result<(), Memory>
     ensures ok { OnOk result (w.new ≡ appended w.old (optional kept raw.now)) }
+    ensures err { OnErr result (w.new ≡ w.old) }
 {
     match raw {
         None => Ok(()),

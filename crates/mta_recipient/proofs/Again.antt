@@ -19,6 +19,7 @@ use Rattle.mta_names.specs.Values.{Each}
 use Rattle.mta_names.proofs.Again.{low_tag, number_spelled}
 use Rattle.mta_names.proofs.NameAgain.{name_spelled}
 use Rattle.mta_names.proofs.Rows.{short_inside, puts, component, row_spelled, items_row, each_both, From, Piece, none_from, piece_from, optional_from, listed_from, at_last, content_again}
+use Rattle.mta_fields.proofs.Tagged.{tagged_again}
 use Rattle.mta_fields.specs.declared.extension.ExtFields.{ExtFields}
 use Rattle.mta_fields.specs.ExtensionFields.{IsExtField, ext_content, canonical_ext}
 use Rattle.mta_fields.specs.Laws.{KeepsExtField}
@@ -31,7 +32,7 @@ use Rattle.mta_recipient.specs.declared.parts.RecipientPart.TheVariants.{Address
 use Rattle.mta_recipient.specs.declared.parts.RecipientParts.{RecipientParts}
 use Rattle.mta_recipient.specs.Laws.{KeepsRecipient, IsWholeRecipient, RecipientsAreReadAgain, RecipientListsAreReadAgain}
 use Rattle.mta_recipient.specs.Lists.{is_set, SpellsItem, SpellsRecipients, recipients_in, canonical_recipients}
-use Rattle.mta_recipient.specs.Recipients.{recipient_class, recipient_number, with_name, with_number, with_indicators, with_conversion, with_extensions, no_recipient, fields_or_none, recipient, recipient_in, MakesRecipientPart, MakesRecipient, SpellsRecipient, recipient_content, canonical_recipient}
+use Rattle.mta_recipient.specs.Recipients.{is_recipient_tag, with_name, with_number, with_indicators, with_conversion, with_extensions, no_recipient, fields_or_none, recipient, recipient_in, MakesRecipientPart, MakesRecipient, SpellsRecipient, recipient_content, canonical_recipient}
 use Rattle.mta_recipient.proofs.BitsAgain.{indicators_spelled}
 use Rattle.mta_recipient.proofs.ListLaws.{recipients_full}
 use Rattle.mta_recipient.proofs.RecipientLaws.{recipient_full}
@@ -79,7 +80,7 @@ number_from_one n some small =
 abbrev same : ℕ → RecipientParts → RecipientParts
 same last s = s
 
-recipient_piece : (k : RecipientPart) (place depth : ℕ) (s t : RecipientParts) (tag : Tag) (content : List ℕ) → IsTag tag → is_tag (recipient_class k) (recipient_number k) tag ≡ true → depth ≤ 16
+recipient_piece : (k : RecipientPart) (place depth : ℕ) (s t : RecipientParts) (tag : Tag) (content : List ℕ) → IsTag tag → is_recipient_tag k tag ≡ true → depth ≤ 16
     → (length content < 2 ^ 64 → MakesRecipientPart k depth s tag content (element tag content) t) → Piece MakesRecipient depth same 0 place s (element tag content) t
 recipient_piece k place depth s t tag content low is d made short last ge lt = component MakesRecipient depth s t tag content low d short (record { part = k; is_tag_of = is; made = made (short_inside tag content short) })
 
@@ -173,16 +174,16 @@ recipient_again_is v = made v.name v.number v.indicators v.conversion v.extensio
 deeper : (depth : ℕ) (vs : List ExtFields) → Each (KeepsExtField (depth + 2)) vs → Each (KeepsExtField (depth + 1 + 1)) vs
 deeper depth vs h = subst (λ k. Each (KeepsExtField k) vs) (let e : depth + 2 ≡ depth + 1 + 1 = omega arith in e) h
 
-pub recipient_spelled : (depth : ℕ) (v : RecipientFields) → IsWholeRecipient v → KeepsRecipient depth v → depth + 5 ≤ 16 → length (recipient_content v) < 2 ^ 64 → SpellsRecipient depth true (recipient_content v) v
+pub recipient_spelled : (depth : ℕ) (v : RecipientFields) → IsWholeRecipient v → KeepsRecipient depth v → depth + 5 ≤ 16 → length (recipient_content v) < 2 ^ 64 → SpellsRecipient depth (constructed 0 17) (recipient_content v) v
 recipient_spelled depth v h k d short =
     let fields = each_both IsExtField (KeepsExtField (depth + 1 + 1)) v.extensions h.extensions (deeper depth v.extensions k.extensions) in
     let all = subst (λ octets. From MakesRecipient (depth + 1) same 0 1 no_recipient octets (whole v)) (content_is v) (name_from (depth + 1) (omega arith) v h k.name k.conversion fields) in
     let e = all short 0 (omega arith) (omega arith) in
-    record { is_constructed = refl; parts = whole v; spelled = row_spelled MakesRecipient depth no_recipient (whole v) (recipient_content v) e.row; name = refl; number = refl; indicators = refl; value = recipient_again_is v }
+    record { is_tag_of = refl; parts = whole v; spelled = row_spelled MakesRecipient depth no_recipient (whole v) (recipient_content v) e.row; name = refl; number = refl; indicators = refl; value = recipient_again_is v }
 
 pub recipients_again : RecipientsAreReadAgain
 unfolding canonical_recipient
-recipients_again depth v h k d = content_again recipient_in SpellsRecipient recipient_full depth (constructed 0 17) (recipient_content v) v (low_tag 0 17 true (omega arith) (omega arith)) refl (omega arith) (recipient_spelled depth v h k d)
+recipients_again depth v h k d = tagged_again recipient_in SpellsRecipient recipient_full depth (constructed 0 17) (recipient_content v) v (low_tag 0 17 true (omega arith) (omega arith)) (omega arith) (recipient_spelled depth v h k d)
 
 -- ---- lists
 

@@ -5,6 +5,8 @@ use Rattle.mta_ber.specs.declared.fault.Kind.TheVariants.{BadTag}
 use Rattle.mta_ber.specs.declared.fault.ReadFault.{ReadFault}
 use Rattle.mta_ber.specs.declared.fault.ReadFault.TheVariants as faults
 use Rattle.mta_ber.specs.Element.{Part}
+use Rattle.mta_ber.specs.Forms.{is_constructed_tag, components_under}
+use Rattle.mta_ber.proofs.FormLaws.{parts_under}
 use Rattle.mta_ber.specs.Head.{◌>>=◌, fault}
 use Rattle.mta_ber.specs.Parts.{components, parts_of, required, Fails}
 use Rattle.mta_names.specs.declared.attributes.Attributes.{Attributes}
@@ -18,14 +20,11 @@ fails_on (faults.Bad d) r f h = rw h refl
 pub fails_after : {A B : Type 0} (e : ReadFault) (r : Result A Fault) (x : A) (f : A → Result B Fault) → r ≡ Ok x → Fails e (f x) → Fails e (r >>= f)
 fails_after e r x f is h = subst (λ q. Fails e (q >>= f)) (sym is) h
 
--- where the components of a constructed element have a fault
-pub components_fail : {S B : Type 0} (e : ReadFault) (step : S → Part → Result S Fault) (s : S) (p : Part) (f : S → Result B Fault) → p.tag.constructed ≡ true → Fails e (parts_of step s p) → Fails e (components step s p >>= f)
-components_fail e step s p f is h =
-    fails_on e (components step s p) f (subst (λ b. Fails e (cond b (parts_of step s p) (fault p.at BadTag))) (sym is) h)
-
-pub parts_fail : (e : ReadFault) (p : Part) → p.tag.constructed ≡ true → Fails e (parts_of recipient_step no_recipient p) → Fails e (recipient_in p)
+-- where the components of a SET have a fault
+pub parts_fail : (e : ReadFault) (p : Part) → is_constructed_tag 0 17 p.tag ≡ true → Fails e (parts_of recipient_step no_recipient p) → Fails e (recipient_in p)
 unfolding recipient_in
-parts_fail e p is h = components_fail e recipient_step no_recipient p (finished p.at) is h
+parts_fail e p is h =
+    fails_on e (components_under 0 17 recipient_step no_recipient p) (finished p.at) (subst (λ r. Fails e r) (sym (parts_under 0 17 recipient_step no_recipient p is)) h)
 
 pub number_fails : (e : ReadFault) (at : ℕ) (s : RecipientParts) (n : Attributes) → required s.name at ≡ Ok n → Fails e (required s.number at) → Fails e (finished at s)
 number_fails e at s n name h =

@@ -18,7 +18,7 @@ use Rattle.mta_recipient.specs.declared.parts.RecipientPart.TheVariants.{Address
 use Rattle.mta_recipient.specs.declared.parts.RecipientParts.{RecipientParts}
 use Rattle.mta_recipient.specs.Laws.{KeepsRecipient, IsWholeRecipient, ReadRecipientsAreKept}
 use Rattle.mta_recipient.specs.Lists.{is_set, SpellsItem, SpellsRecipients}
-use Rattle.mta_recipient.specs.Recipients.{recipient_class, recipient_number, no_recipient, MakesRecipientPart, MakesRecipient, SpellsRecipient}
+use Rattle.mta_recipient.specs.Recipients.{is_recipient_tag, no_recipient, MakesRecipientPart, MakesRecipient, SpellsRecipient}
 use Rattle.mta_recipient.proofs.Again.{IsKeptRecipient}
 use Rattle.mta_recipient.proofs.RecipientLaws.{recipient_is}
 
@@ -29,7 +29,7 @@ record Holds (depth : ℕ) (s : RecipientParts) : Type 0 where
   conversion : IfSome s.conversion (IsRawAt depth 2 2)
   extensions : IfSome s.extensions (AreKeptFields (depth + 1))
 
-part_kept : (k : RecipientPart) (depth : ℕ) (s t : RecipientParts) (tag : Tag) (content octets : List ℕ) → depth + 3 ≤ 16 → is_tag (recipient_class k) (recipient_number k) tag ≡ true → Stands depth tag content octets → MakesRecipientPart k depth s tag content octets t
+part_kept : (k : RecipientPart) (depth : ℕ) (s t : RecipientParts) (tag : Tag) (content octets : List ℕ) → depth + 3 ≤ 16 → is_recipient_tag k tag ≡ true → Stands depth tag content octets → MakesRecipientPart k depth s tag content octets t
     → Holds depth s → Holds depth t
 part_kept Addressee depth s t tag content octets d is stands m h =
     subst (Holds depth) (sym m.1.after_is) (record { name = (name_kept depth tag.constructed content m.1.value m.1.value_spelled, name_is depth tag.constructed content m.1.value m.1.value_spelled); conversion = h.conversion; extensions = h.extensions })
@@ -66,7 +66,7 @@ recipient_kept depth c content v h d =
 
 recipient_more : (depth : ℕ) → depth + 5 ≤ 16 → KeepsAt (AddsItem is_set SpellsItem) (Each (IsKeptRecipient depth)) depth
 recipient_more depth d s t tag content octets stands m h =
-    let k = recipient_kept depth tag.constructed content m.item m.spelled d in
+    let k = recipient_kept depth tag content m.item m.spelled d in
     subst (Each (IsKeptRecipient depth)) (sym m.after_is) (each_more (IsKeptRecipient depth) s m.item h (k.1, k.0))
 
 pub recipients_kept : (depth : ℕ) (c : Bool) (content : List ℕ) (vs : List RecipientFields) → SpellsRecipients depth c content vs → depth + 6 ≤ 16 → Each (IsKeptRecipient (depth + 1)) vs

@@ -5,19 +5,21 @@ use Rattle.std.proofs.lemmas.Bool.Decides.{nat_tests}
 use Rattle.mta_ber.specs.declared.fault.Fault.{Fault}
 use Rattle.mta_ber.specs.declared.tag.Tag.{Tag}
 use Rattle.mta_ber.specs.Element.{Part}
+use Rattle.mta_ber.specs.Forms.{is_primitive_tag, is_constructed_tag, components_under}
 use Rattle.mta_ber.specs.Head.{◌>>=◌}
 use Rattle.mta_ber.specs.Int.{in_range}
 use Rattle.mta_ber.specs.Octet.{IsOctets}
-use Rattle.mta_ber.specs.Parts.{components, is_tag, once, required}
+use Rattle.mta_ber.specs.Parts.{is_tag, once, required}
 use Rattle.mta_ber.specs.Spelling.{Stands}
 use Rattle.mta_ber.proofs.ComponentLaws.{StepSound, StepFull}
+use Rattle.mta_ber.proofs.FormLaws.{primitive_is, constructed_is, components_under_sound, components_under_full}
 use Rattle.mta_ber.proofs.Steps.{bind_ok, ok_is, placed, required_so}
 use Rattle.mta_names.specs.Names.{name_in, SpellsName}
 use Rattle.mta_names.specs.Strings.{Puts, number_in, SpellsNumber}
 use Rattle.mta_names.specs.Values.{IsRaw}
 use Rattle.mta_names.proofs.ExtensionLaws.{number_sound, number_full, number_small}
 use Rattle.mta_names.proofs.NameLaws.{name_sound, name_full}
-use Rattle.mta_names.proofs.Tools.{puts_full, tag_is, picked, not_none, components_sound, components_full, Keeps, spelled_keep}
+use Rattle.mta_names.proofs.Tools.{puts_full, tag_is, picked, not_none, Keeps, spelled_keep}
 use Rattle.mta_fields.specs.Traces.{raw_in}
 use Rattle.mta_common.specs.ExtensionLists.{ext_list_in, SpellsExtList}
 use Rattle.mta_common.specs.Indicators.{IsIndicators, indicators_in, SpellsIndicators}
@@ -27,24 +29,24 @@ use Rattle.mta_recipient.specs.declared.recipient.RecipientFields.{RecipientFiel
 use Rattle.mta_recipient.specs.declared.parts.RecipientPart.{RecipientPart}
 use Rattle.mta_recipient.specs.declared.parts.RecipientPart.TheVariants.{Addressee, Number, Indicators, Conversion, Extensions}
 use Rattle.mta_recipient.specs.declared.parts.RecipientParts.{RecipientParts}
-use Rattle.mta_recipient.specs.Recipients.{IsRecipient, recipient_part_of, recipient_class, recipient_number, with_name, with_number, with_indicators, with_conversion, with_extensions, recipient_part_in, recipient_step_of, recipient_step, no_recipient, recipient, finished, recipient_in, MakesRecipientPart, MakesRecipient, SpellsRecipient}
+use Rattle.mta_recipient.specs.Recipients.{IsRecipient, recipient_part_of, is_recipient_tag, with_name, with_number, with_indicators, with_conversion, with_extensions, recipient_part_in, recipient_step_of, recipient_step, no_recipient, recipient, finished, recipient_in, MakesRecipientPart, MakesRecipient, SpellsRecipient}
 
 -- ---- tags
 
 abbrev HasTag : Tag → RecipientPart → Type 0
-HasTag t k = is_tag (recipient_class k) (recipient_number k) t ≡ true
+HasTag t k = is_recipient_tag k t ≡ true
 
 tagged : (t : Tag) (k : RecipientPart) → recipient_part_of t ≡ Some k → HasTag t k
 tagged t =
-    picked (HasTag t) (is_tag 1 0 t) Addressee _ (λ e. e) (picked (HasTag t) (is_tag 2 0 t) Number _ (λ e. e) (picked (HasTag t) (is_tag 2 1 t) Indicators _ (λ e. e)
-    (picked (HasTag t) (is_tag 2 2 t) Conversion _ (λ e. e) (picked (HasTag t) (is_tag 2 3 t) Extensions _ (λ e. e) (not_none (HasTag t))))))
+    picked (HasTag t) (is_constructed_tag 1 0 t) Addressee _ (λ e. e) (picked (HasTag t) (is_primitive_tag 2 0 t) Number _ (λ e. e) (picked (HasTag t) (is_tag 2 1 t) Indicators _ (λ e. e)
+    (picked (HasTag t) (is_tag 2 2 t) Conversion _ (λ e. e) (picked (HasTag t) (is_constructed_tag 2 3 t) Extensions _ (λ e. e) (not_none (HasTag t))))))
 
 found : (k : RecipientPart) (t : Tag) → HasTag t k → recipient_part_of t ≡ Some k
-found Addressee t h = let e = tag_is 1 0 t h in rw (e.0, e.1) refl
-found Number t h = let e = tag_is 2 0 t h in rw (e.0, e.1) refl
+found Addressee t h = let e = constructed_is 1 0 t h in rw (e.0, e.1, e.2) refl
+found Number t h = let e = primitive_is 2 0 t h in rw (e.0, e.1, e.2) refl
 found Indicators t h = let e = tag_is 2 1 t h in rw (e.0, e.1) refl
 found Conversion t h = let e = tag_is 2 2 t h in rw (e.0, e.1) refl
-found Extensions t h = let e = tag_is 2 3 t h in rw (e.0, e.1) refl
+found Extensions t h = let e = constructed_is 2 3 t h in rw (e.0, e.1, e.2) refl
 
 -- ---- one component
 
@@ -80,16 +82,16 @@ step_full : StepFull recipient_step MakesRecipient
 unfolding recipient_step
 step_full s t p shallow h = ap (λ o. recipient_step_of o s p) (found h.part p.tag h.is_tag_of) ∙ part_full h.part s t p shallow h.made
 
-pub recipient_sound : (v : RecipientFields) (p : Part) → IsOctets p.content → recipient_in p ≡ Ok v → SpellsRecipient p.depth p.tag.constructed p.content v
+pub recipient_sound : (v : RecipientFields) (p : Part) → IsOctets p.content → recipient_in p ≡ Ok v → SpellsRecipient p.depth p.tag p.content v
 unfolding recipient_in
 recipient_sound v p octets e =
-    let a = bind_ok (components recipient_step no_recipient p) (finished p.at) v e in
-    let c = components_sound recipient_step MakesRecipient step_sound no_recipient a.0 p octets a.1 in
+    let a = bind_ok (components_under 0 17 recipient_step no_recipient p) (finished p.at) v e in
+    let c = components_under_sound 0 17 recipient_step MakesRecipient step_sound no_recipient a.0 p octets a.1 in
     let n = bind_ok (required a.0.name p.at) (λ n. required a.0.number p.at >>= λ k. required a.0.indicators p.at >>= λ b. Ok (recipient n k b a.0)) v a.2 in
     let k = bind_ok (required a.0.number p.at) (λ k. required a.0.indicators p.at >>= λ b. Ok (recipient n.0 k b a.0)) v n.2 in
     let b = bind_ok (required a.0.indicators p.at) (λ b. Ok (recipient n.0 k.0 b a.0)) v k.2 in
-    subst (λ (x : RecipientFields). SpellsRecipient p.depth p.tag.constructed p.content x) {x = recipient n.0 k.0 b.0 a.0} (ok_is (recipient n.0 k.0 b.0 a.0) v b.2) (record {
-      is_constructed = c.0;
+    subst (λ (x : RecipientFields). SpellsRecipient p.depth p.tag p.content x) {x = recipient n.0 k.0 b.0 a.0} (ok_is (recipient n.0 k.0 b.0 a.0) v b.2) (record {
+      is_tag_of = c.0;
       parts = a.0;
       spelled = c.1;
       name = required_so a.0.name p.at n.0 n.1;
@@ -98,11 +100,11 @@ recipient_sound v p octets e =
       value = refl;
     })
 
-pub recipient_full : (v : RecipientFields) (p : Part) → SpellsRecipient p.depth p.tag.constructed p.content v → recipient_in p ≡ Ok v
+pub recipient_full : (v : RecipientFields) (p : Part) → SpellsRecipient p.depth p.tag p.content v → recipient_in p ≡ Ok v
 unfolding recipient_in
 recipient_full v p h =
     let s = h.parts in
-    ap (λ r. r >>= finished p.at) (components_full recipient_step MakesRecipient step_full no_recipient h.parts p h.is_constructed h.spelled)
+    ap (λ r. r >>= finished p.at) (components_under_full 0 17 recipient_step MakesRecipient step_full no_recipient h.parts p h.is_tag_of h.spelled)
     ∙ ap (λ o. required o p.at >>= λ n. required s.number p.at >>= λ k. required s.indicators p.at >>= λ b. Ok (recipient n k b s)) h.name
     ∙ ap (λ o. required o p.at >>= λ k. required s.indicators p.at >>= λ b. Ok (recipient v.name k b s)) h.number
     ∙ ap (λ o. required o p.at >>= λ b. Ok (recipient v.name v.number b s)) h.indicators
@@ -138,7 +140,7 @@ keeps_part Extensions depth s t tag content octets is stands m h = subst Holds (
 keeps : Keeps MakesRecipient Holds
 keeps depth s t tag content octets stands m h = keeps_part m.part depth s t tag content octets m.is_tag_of stands m.made h
 
-pub recipient_is : (depth : ℕ) (c : Bool) (content : List ℕ) (v : RecipientFields) → SpellsRecipient depth c content v → IsRecipient v
+pub recipient_is : (depth : ℕ) (tag : Tag) (content : List ℕ) (v : RecipientFields) → SpellsRecipient depth tag content v → IsRecipient v
 recipient_is depth c content v h =
     let k = spelled_keep MakesRecipient Holds keeps depth no_recipient h.parts content h.spelled (record { number = tt; indicators = tt; conversion = tt }) in
     let number : IsNumber v.number = subst (λ o. IfSome o IsNumber) h.number k.number in

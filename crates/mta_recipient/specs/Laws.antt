@@ -1,5 +1,6 @@
 -- Laws of recipients and octets: what is written is read again, whatever follows it.
 use Rattle.std.specs.Prelude.{ℕ, Bool, ◌+◌, ◌≤◌, List, length, IfSome}
+use Rattle.mta_ber.specs.declared.tag.Tag.{Tag}
 use Rattle.mta_names.specs.Laws.{IsReadAgain, IsRawAt, KeepsName}
 use Rattle.mta_names.specs.Values.{Each, IsName}
 use Rattle.mta_fields.specs.ExtensionFields.{IsExtField}
@@ -30,4 +31,4 @@ RecipientListsAreReadAgain = (depth : ℕ) (vs : List RecipientFields) → Each 
 
 -- a recipient that was read keeps what it keeps in the level of its place, and is one
 abbrev pub ReadRecipientsAreKept : Type 0
-ReadRecipientsAreKept = (depth : ℕ) (c : Bool) (content : List ℕ) (v : RecipientFields) → SpellsRecipient depth c content v → depth + 5 ≤ 16 → KeepsRecipient depth v × IsWholeRecipient v
+ReadRecipientsAreKept = (depth : ℕ) (tag : Tag) (content : List ℕ) (v : RecipientFields) → SpellsRecipient depth tag content v → depth + 5 ≤ 16 → KeepsRecipient depth v × IsWholeRecipient v

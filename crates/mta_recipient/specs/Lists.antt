@@ -22,7 +22,7 @@ unfoldable pub recipients_in : Part → Result (List RecipientFields) Fault
 recipients_in p = list_in is_set recipient_in 1 32767 p
 
 abbrev pub SpellsItem : Spells RecipientFields
-SpellsItem depth tag content octets v = SpellsRecipient depth tag.constructed content v
+SpellsItem depth tag content octets v = SpellsRecipient depth tag content v
 
 abbrev pub SpellsRecipients : ℕ → Bool → List ℕ → List RecipientFields → Type 0
 SpellsRecipients depth constructed content vs = SpellsList is_set SpellsItem 1 32767 depth constructed content vs

@@ -9,8 +9,9 @@ use Rattle.mta_ber.specs.Canon.{element, constructed, primitive, optional}
 use Rattle.mta_ber.specs.Components.{SpellsComponents}
 use Rattle.mta_ber.specs.Contents.{canon_int}
 use Rattle.mta_ber.specs.Element.{Part}
+use Rattle.mta_ber.specs.Forms.{is_primitive_tag, is_constructed_tag, components_under}
 use Rattle.mta_ber.specs.Head.{◌>>=◌, fault}
-use Rattle.mta_ber.specs.Parts.{components, is_tag, once, required}
+use Rattle.mta_ber.specs.Parts.{is_tag, once, required}
 use Rattle.mta_names.specs.declared.attributes.Attributes.{Attributes}
 use Rattle.mta_names.specs.Names.{name_in, SpellsName, canonical_name, kept}
 use Rattle.mta_names.specs.Strings.{Puts, number_in, SpellsNumber}
@@ -32,23 +33,20 @@ pub record IsRecipient (v : RecipientFields) : Type 0 where
 
 abbrev pub recipient_part_of : Tag → Option RecipientPart
 recipient_part_of t =
-    if is_tag 1 0 t then Some Addressee
-    else if is_tag 2 0 t then Some Number
+    if is_constructed_tag 1 0 t then Some Addressee
+    else if is_primitive_tag 2 0 t then Some Number
     else if is_tag 2 1 t then Some Indicators
     else if is_tag 2 2 t then Some Conversion
-    else if is_tag 2 3 t then Some Extensions
+    else if is_constructed_tag 2 3 t then Some Extensions
     else None
 
-abbrev pub recipient_class : RecipientPart → ℕ
-recipient_class Addressee = 1
-recipient_class _ = 2
-
-abbrev pub recipient_number : RecipientPart → ℕ
-recipient_number Addressee = 0
-recipient_number Number = 0
-recipient_number Indicators = 1
-recipient_number Conversion = 2
-recipient_number Extensions = 3
+-- whether a tag is that of a component
+abbrev pub is_recipient_tag : RecipientPart → Tag → Bool
+is_recipient_tag Addressee t = is_constructed_tag 1 0 t
+is_recipient_tag Number t = is_primitive_tag 2 0 t
+is_recipient_tag Indicators t = is_tag 2 1 t
+is_recipient_tag Conversion t = is_tag 2 2 t
+is_recipient_tag Extensions t = is_constructed_tag 2 3 t
 
 abbrev pub with_name : RecipientParts → Attributes → RecipientParts
 with_name s x = record s { name = Some x }
@@ -94,7 +92,7 @@ abbrev pub finished : ℕ → RecipientParts → Result RecipientFields Fault
 finished at s = required s.name at >>= λ n. required s.number at >>= λ k. required s.indicators at >>= λ b. Ok (recipient n k b s)
 
 unfoldable pub recipient_in : Part → Result RecipientFields Fault
-recipient_in p = components recipient_step no_recipient p >>= finished p.at
+recipient_in p = components_under 0 17 recipient_step no_recipient p >>= finished p.at
 
 -- ---- what spells a recipient
 
@@ -107,12 +105,12 @@ MakesRecipientPart Extensions depth s tag content octets after = (s.extensions �
 
 pub record MakesRecipient (depth : ℕ) (before : RecipientParts) (tag : Tag) (content octets : List ℕ) (after : RecipientParts) : Type 0 where
   pub part : RecipientPart
-  pub is_tag_of : is_tag (recipient_class part) (recipient_number part) tag ≡ true
+  pub is_tag_of : is_recipient_tag part tag ≡ true
   pub made : MakesRecipientPart part depth before tag content octets after
 
 -- a SET of its components in any order, each at most once
-pub record SpellsRecipient (depth : ℕ) (constructed : Bool) (content : List ℕ) (v : RecipientFields) : Type 0 where
-  pub is_constructed : constructed ≡ true
+pub record SpellsRecipient (depth : ℕ) (tag : Tag) (content : List ℕ) (v : RecipientFields) : Type 0 where
+  pub is_tag_of : is_constructed_tag 0 17 tag ≡ true
   pub parts : RecipientParts
   pub spelled : SpellsComponents MakesRecipient depth no_recipient content parts
   pub name : parts.name ≡ Some v.name

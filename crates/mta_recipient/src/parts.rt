@@ -6,7 +6,10 @@ ghost use Rattle.mta_ber.specs.Seen.{view};
 ghost use Rattle.mta_recipient.specs.declared.parts.RecipientPart.TheVariants.{Addressee, Number, Indicators, Conversion, Extensions};
 ghost use Rattle.mta_recipient.specs.Recipients.{recipient_part_of, recipient_part_in, recipient_step};
 
-use mta_ber::{Bits, Components, Kind, Octets, ReadFault, Tag, View, bad, is_tag_of};
+use mta_ber::{
+    Bits, Components, Kind, Octets, ReadFault, Tag, View, bad, is_constructed_tag,
+    is_primitive_tag, is_tag_of,
+};
 use mta_common::{read_extensions, read_indicators};
 use mta_fields::ExtField;
 use mta_names::{OrName, Row, read_number};
@@ -35,15 +38,15 @@ pub struct RecipientParts {
 fn part_of(tag: Tag) -> Option<RecipientPart>
     ensures { result ≡ recipient_part_of tag }
 {
-    if is_tag_of(tag, 1, 0) {
+    if is_constructed_tag(tag, 1, 0) {
         Some(RecipientPart::Addressee)
-    } else if is_tag_of(tag, 2, 0) {
+    } else if is_primitive_tag(tag, 2, 0) {
         Some(RecipientPart::Number)
     } else if is_tag_of(tag, 2, 1) {
         Some(RecipientPart::Indicators)
     } else if is_tag_of(tag, 2, 2) {
         Some(RecipientPart::Conversion)
-    } else if is_tag_of(tag, 2, 3) {
+    } else if is_constructed_tag(tag, 2, 3) {
         Some(RecipientPart::Extensions)
     } else {
         None

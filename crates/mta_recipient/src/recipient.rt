@@ -6,10 +6,12 @@ ghost use Rattle.mta_ber.specs.Seen.{view};
 ghost use Rattle.mta_fields.specs.declared.extension.ExtFields.{ExtFields};
 ghost use Rattle.mta_recipient.specs.Recipients.{recipient_in, fields_or_none, finished};
 
+use crate::length::components_length;
 use crate::parts::RecipientParts;
 use crate::writing::put_components;
 use mta_ber::{
-    Bits, Kind, Memory, Octets, ReadFault, View, Writer, bad, take_parts, take_required,
+    Bits, Kind, Memory, Octets, ReadFault, View, Writer, bad, element_length, is_constructed_tag,
+    take_parts, take_required,
 };
 use mta_fields::ExtField;
 use mta_names::{OrName, Row, constructed, put_around};
@@ -84,7 +86,7 @@ fn finish(alloc: Global, parts: RecipientParts, at: u32) -> Result<RecipientFiel
 fn read_fields(alloc: Global, whole: &View) -> Result<RecipientFields, ReadFault>
     ensures { Reads result (recipient_in (view whole.now)) }
 {
-    if !whole.tag.constructed {
+    if !is_constructed_tag(whole.tag, 0, 17) {
         return bad(whole.at, Kind::BadTag);
     }
     let mut parts = RecipientParts {
@@ -102,19 +104,20 @@ impl Recipient {
     ghost use Rattle.std.specs.Prelude.{◌≡◌, IfOk, OnOk, OnErr};
     ghost use Rattle.mta_ber.specs.Bits.{bit};
     ghost use Rattle.mta_ber.specs.Canon.{appended};
+    ghost use Rattle.mta_ber.specs.Lengths.{octet_length};
     ghost use Rattle.mta_ber.specs.Parts.{Reads, IsReadAs};
     ghost use Rattle.mta_ber.specs.Seen.{view};
     ghost use Rattle.mta_recipient.specs.declared.recipient.RecipientFields.{RecipientFields};
     ghost use Rattle.mta_recipient.specs.Recipients.{recipient_in, IsRecipient, SpellsRecipient, canonical_recipient};
 
-    /// The recipient that an element spells, whatever its tag, which is that of SET and for the caller to check.
+    /// The recipient that an element spells, a SET. BadTag at an element of any other tag.
     pub fn read(alloc: Global, whole: &View) -> Result<Recipient, ReadFault>
         // Which recipient it is, or which fault comes first.
         ensures exact { Reads result (recipient_in (view whole.now)) }
 
-        // What is answered is spelled by the content, and what the content spells is answered.
-        ensures found { IfOk result (SpellsRecipient whole.now.depth whole.now.tag.constructed whole.now.content.now) }
-        ensures only { (v : RecipientFields) → SpellsRecipient whole.now.depth whole.now.tag.constructed whole.now.content.now v → IsReadAs result v }
+        // What is answered is spelled by the element, and what the element spells is answered.
+        ensures found { IfOk result (SpellsRecipient whole.now.depth whole.now.tag whole.now.content.now) }
+        ensures only { (v : RecipientFields) → SpellsRecipient whole.now.depth whole.now.tag whole.now.content.now v → IsReadAs result v }
     {
         match read_fields(alloc, whole) {
             Ok(fields) => Ok(Recipient { fields }),
@@ -130,6 +133,14 @@ impl Recipient {
     {
         let inside = put_components(w.alloc(), &self.fields)?;
         put_around(w, constructed(0, 17), &inside)
+    }
+
+    /// How many octets `write` appends, told without memory; 2^64 - 1 where there are as many or more.
+    #[tactic(auto, unfolding(crate::specs::Recipients::canonical_recipient))]
+    pub fn length(&self) -> u64
+        ensures { result ≡ octet_length (canonical_recipient self.now) }
+    {
+        element_length(constructed(0, 17), components_length(&self.fields))
     }
 
     /// Whether the transfer agent that has the message is responsible for this recipient (bit 0).

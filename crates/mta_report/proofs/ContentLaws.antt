@@ -5,11 +5,13 @@ use Rattle.mta_ber.specs.declared.fault.Kind.TheVariants.{Twice}
 use Rattle.mta_ber.specs.declared.tag.Tag.{Tag}
 use Rattle.mta_ber.specs.declared.text.TextClass.TheVariants.{Printable}
 use Rattle.mta_ber.specs.Element.{Part}
+use Rattle.mta_ber.specs.Forms.{is_primitive_tag, is_constructed_tag}
 use Rattle.mta_ber.specs.Head.{◌>>=◌, fault}
 use Rattle.mta_ber.specs.Octet.{IsOctets}
 use Rattle.mta_ber.specs.Parts.{components, is_tag, required}
 use Rattle.mta_ber.specs.Spelling.{Stands}
 use Rattle.mta_ber.proofs.ComponentLaws.{StepSound, StepFull}
+use Rattle.mta_ber.proofs.FormLaws.{primitive_is, constructed_is}
 use Rattle.mta_ber.proofs.Steps.{bind_ok, ok_is, passed, required_so}
 use Rattle.mta_ber.proofs.StringLaws.{text_sound, text_full}
 use Rattle.mta_names.specs.Values.{IsRaw}
@@ -35,13 +37,13 @@ abbrev HasTag : Tag → ContentPart → Type 0
 HasTag t k = is_content_tag k t ≡ true
 
 tagged : (t : Tag) (k : ContentPart) → content_part_of t ≡ Some k → HasTag t k
-tagged t = picked (HasTag t) (is_tag 1 4 t) Subject _ (λ e. e) (picked (HasTag t) (is_tag 1 5 t) Eits _ (λ e. e) (picked (HasTag t) (is_content_kind t) ContentType _ (λ e. e) (picked (HasTag t) (is_tag 1 9 t) SubjectTrace _ (λ e. e) (picked (HasTag t) (is_tag 1 10 t) ContentId _ (λ e. e) (picked (HasTag t) (is_tag 2 0 t) Recipients _ (λ e. e) (picked (HasTag t) (is_tag 2 1 t) Returned _ (λ e. e) (picked (HasTag t) (is_tag 2 2 t) Additional _ (λ e. e) (picked (HasTag t) (is_tag 2 3 t) Extensions _ (λ e. e) (not_none (HasTag t))))))))))
+tagged t = picked (HasTag t) (is_constructed_tag 1 4 t) Subject _ (λ e. e) (picked (HasTag t) (is_tag 1 5 t) Eits _ (λ e. e) (picked (HasTag t) (is_content_kind t) ContentType _ (λ e. e) (picked (HasTag t) (is_tag 1 9 t) SubjectTrace _ (λ e. e) (picked (HasTag t) (is_tag 1 10 t) ContentId _ (λ e. e) (picked (HasTag t) (is_constructed_tag 2 0 t) Recipients _ (λ e. e) (picked (HasTag t) (is_tag 2 1 t) Returned _ (λ e. e) (picked (HasTag t) (is_tag 2 2 t) Additional _ (λ e. e) (picked (HasTag t) (is_constructed_tag 2 3 t) Extensions _ (λ e. e) (not_none (HasTag t))))))))))
 
 kind_found : (t : Tag) → is_content_kind t ≡ true → content_part_of t ≡ Some ContentType
 kind_found t h =
-    elim (either (is_tag 1 6 t) (is_tag 0 6 t) h) [
-      | inl y ↦ (let e = tag_is 1 6 t y in rw (e.0, e.1) refl)
-      | inr y ↦ (let e = tag_is 0 6 t y in rw (e.0, e.1) refl)
+    elim (either (is_primitive_tag 1 6 t) (is_primitive_tag 0 6 t) h) [
+      | inl y ↦ (let e = primitive_is 1 6 t y in rw (e.0, e.1, e.2) refl)
+      | inr y ↦ (let e = primitive_is 0 6 t y in rw (e.0, e.1, e.2) refl)
     ]
   where
     either : (a b : Bool) → (a || b) ≡ true → (a ≡ true) ⊎ (b ≡ true)
@@ -49,18 +51,18 @@ kind_found t h =
     either false b e = inr e
 
 found : (k : ContentPart) (t : Tag) → HasTag t k → content_part_of t ≡ Some k
-found Subject t h = let e = tag_is 1 4 t h in rw (e.0, e.1) refl
+found Subject t h = let e = constructed_is 1 4 t h in rw (e.0, e.1, e.2) refl
 found Eits t h = let e = tag_is 1 5 t h in rw (e.0, e.1) refl
 found ContentType t h = kind_found t h
 found SubjectTrace t h = let e = tag_is 1 9 t h in rw (e.0, e.1) refl
 found ContentId t h = let e = tag_is 1 10 t h in rw (e.0, e.1) refl
-found Recipients t h = let e = tag_is 2 0 t h in rw (e.0, e.1) refl
+found Recipients t h = let e = constructed_is 2 0 t h in rw (e.0, e.1, e.2) refl
 found Returned t h = let e = tag_is 2 1 t h in rw (e.0, e.1) refl
 found Additional t h = let e = tag_is 2 2 t h in rw (e.0, e.1) refl
-found Extensions t h = let e = tag_is 2 3 t h in rw (e.0, e.1) refl
+found Extensions t h = let e = constructed_is 2 3 t h in rw (e.0, e.1, e.2) refl
 
 part_sound : (k : ContentPart) (s t : ContentParts) (p : Part) → p.depth ≤ 16 → IsOctets p.content → content_part_in k s p ≡ Ok t → MakesContentPart k p.depth s p.tag p.content p.octets t
-part_sound Subject s t p d o e = puts_sound (id_in p) (with_subject s) t (SpellsMtsId p.depth p.tag.constructed p.content) (λ x r. id_sound x p o r) e
+part_sound Subject s t p d o e = puts_sound (id_in p) (with_subject s) t (SpellsMtsId p.depth p.tag p.content) (λ x r. id_sound x p o r) e
 part_sound Eits s t p d o e = puts_sound (raw_in p) (with_eits s) t (λ x. x ≡ p.octets) (λ x r. sym (ok_is p.octets x r)) e
 part_sound ContentType s t p d o e = puts_sound (content_kind_in p) (with_content_kind s) t (SpellsContentKind p.depth p.tag p.content p.octets) (λ x r. kind_sound x p r) e
 part_sound SubjectTrace s t p d o e = puts_sound (raw_in p) (with_subject_trace s) t (λ x. x ≡ p.octets) (λ x r. sym (ok_is p.octets x r)) e
@@ -71,7 +73,7 @@ part_sound Additional s t p d o e = puts_sound (raw_in p) (with_additional s) t 
 part_sound Extensions s t p d o e = puts_sound (ext_list_in p) (with_extensions s) t (SpellsExtList p.depth p.tag.constructed p.content) (λ x r. ext_list_sound x p o r) e
 
 part_full : (k : ContentPart) (s t : ContentParts) (p : Part) → p.depth ≤ 16 → MakesContentPart k p.depth s p.tag p.content p.octets t → content_part_in k s p ≡ Ok t
-part_full Subject s t p d h = puts_full (id_in p) (with_subject s) t (SpellsMtsId p.depth p.tag.constructed p.content) (λ x r. id_full x p r) h
+part_full Subject s t p d h = puts_full (id_in p) (with_subject s) t (SpellsMtsId p.depth p.tag p.content) (λ x r. id_full x p r) h
 part_full Eits s t p d h = puts_full (raw_in p) (with_eits s) t (λ x. x ≡ p.octets) (λ x r. ap (λ (o : List ℕ). Ok o) (sym r)) h
 part_full ContentType s t p d h = puts_full (content_kind_in p) (with_content_kind s) t (SpellsContentKind p.depth p.tag p.content p.octets) (λ x r. kind_full x p r) h
 part_full SubjectTrace s t p d h = puts_full (raw_in p) (with_subject_trace s) t (λ x. x ≡ p.octets) (λ x r. ap (λ (o : List ℕ). Ok o) (sym r)) h

@@ -4,11 +4,13 @@ use Rattle.std.specs.Prelude.{IfSome}
 use Rattle.mta_ber.specs.declared.fault.Kind.TheVariants.{Twice}
 use Rattle.mta_ber.specs.declared.tag.Tag.{Tag}
 use Rattle.mta_ber.specs.Element.{Part}
+use Rattle.mta_ber.specs.Forms.{is_primitive_tag, is_constructed_tag}
 use Rattle.mta_ber.specs.Head.{◌>>=◌, fault}
 use Rattle.mta_ber.specs.Octet.{IsOctets}
 use Rattle.mta_ber.specs.Parts.{components, is_tag, required}
 use Rattle.mta_ber.specs.Spelling.{Stands}
 use Rattle.mta_ber.proofs.ComponentLaws.{StepSound, StepFull}
+use Rattle.mta_ber.proofs.FormLaws.{primitive_is, constructed_is}
 use Rattle.mta_ber.proofs.Steps.{bind_ok, ok_is, passed, required_so}
 use Rattle.mta_names.specs.Names.{name_in, SpellsName}
 use Rattle.mta_names.proofs.NameLaws.{name_sound, name_full}
@@ -30,23 +32,23 @@ abbrev HasTag : Tag → EnvelopePart → Type 0
 HasTag t k = is_envelope_tag k t ≡ true
 
 tagged : (t : Tag) (k : EnvelopePart) → envelope_part_of t ≡ Some k → HasTag t k
-tagged t = picked (HasTag t) (is_tag 1 0 t) Destination _ (λ e. e) (picked (HasTag t) (is_tag 1 4 t) Identifier _ (λ e. e) (picked (HasTag t) (is_tag 1 9 t) Trace _ (λ e. e) (picked (HasTag t) (is_tag 2 1 t) Extensions _ (λ e. e) (not_none (HasTag t)))))
+tagged t = picked (HasTag t) (is_constructed_tag 1 0 t) Destination _ (λ e. e) (picked (HasTag t) (is_constructed_tag 1 4 t) Identifier _ (λ e. e) (picked (HasTag t) (is_constructed_tag 1 9 t) Trace _ (λ e. e) (picked (HasTag t) (is_constructed_tag 2 1 t) Extensions _ (λ e. e) (not_none (HasTag t)))))
 
 found : (k : EnvelopePart) (t : Tag) → HasTag t k → envelope_part_of t ≡ Some k
-found Destination t h = let e = tag_is 1 0 t h in rw (e.0, e.1) refl
-found Identifier t h = let e = tag_is 1 4 t h in rw (e.0, e.1) refl
-found Trace t h = let e = tag_is 1 9 t h in rw (e.0, e.1) refl
-found Extensions t h = let e = tag_is 2 1 t h in rw (e.0, e.1) refl
+found Destination t h = let e = constructed_is 1 0 t h in rw (e.0, e.1, e.2) refl
+found Identifier t h = let e = constructed_is 1 4 t h in rw (e.0, e.1, e.2) refl
+found Trace t h = let e = constructed_is 1 9 t h in rw (e.0, e.1, e.2) refl
+found Extensions t h = let e = constructed_is 2 1 t h in rw (e.0, e.1, e.2) refl
 
 part_sound : (k : EnvelopePart) (s t : EnvelopeParts) (p : Part) → p.depth ≤ 16 → IsOctets p.content → envelope_part_in k s p ≡ Ok t → MakesEnvelopePart k p.depth s p.tag p.content p.octets t
 part_sound Destination s t p d o e = puts_sound (name_in p) (with_destination s) t (SpellsName p.depth p.tag.constructed p.content) (λ x r. name_sound x p o r) e
-part_sound Identifier s t p d o e = puts_sound (id_in p) (with_id s) t (SpellsMtsId p.depth p.tag.constructed p.content) (λ x r. id_sound x p o r) e
+part_sound Identifier s t p d o e = puts_sound (id_in p) (with_id s) t (SpellsMtsId p.depth p.tag p.content) (λ x r. id_sound x p o r) e
 part_sound Trace s t p d o e = puts_sound (trace_list_in p) (with_trace s) t (SpellsTraceList p.depth p.tag.constructed p.content) (λ x r. trace_list_sound x p o r) e
 part_sound Extensions s t p d o e = puts_sound (ext_list_in p) (with_extensions s) t (SpellsExtList p.depth p.tag.constructed p.content) (λ x r. ext_list_sound x p o r) e
 
 part_full : (k : EnvelopePart) (s t : EnvelopeParts) (p : Part) → p.depth ≤ 16 → MakesEnvelopePart k p.depth s p.tag p.content p.octets t → envelope_part_in k s p ≡ Ok t
 part_full Destination s t p d h = puts_full (name_in p) (with_destination s) t (SpellsName p.depth p.tag.constructed p.content) (λ x r. name_full x p r) h
-part_full Identifier s t p d h = puts_full (id_in p) (with_id s) t (SpellsMtsId p.depth p.tag.constructed p.content) (λ x r. id_full x p r) h
+part_full Identifier s t p d h = puts_full (id_in p) (with_id s) t (SpellsMtsId p.depth p.tag p.content) (λ x r. id_full x p r) h
 part_full Trace s t p d h = puts_full (trace_list_in p) (with_trace s) t (SpellsTraceList p.depth p.tag.constructed p.content) (λ x r. trace_list_full x p r) h
 part_full Extensions s t p d h = puts_full (ext_list_in p) (with_extensions s) t (SpellsExtList p.depth p.tag.constructed p.content) (λ x r. ext_list_full x p r) h
 

@@ -16,7 +16,8 @@ use Rattle.mta_names.specs.Names.{SpellsName, canonical_name, name_content, kept
 use Rattle.mta_names.specs.Values.{Each}
 use Rattle.mta_names.proofs.Again.{low_tag, text_spelled}
 use Rattle.mta_names.proofs.NameAgain.{name_spelled}
-use Rattle.mta_names.proofs.Rows.{puts, component, short_inside, short_front, short_back, row_more, row_last, row_spelled, content_again}
+use Rattle.mta_names.proofs.Rows.{puts, component, short_inside, short_front, short_back, row_more, row_last, row_spelled}
+use Rattle.mta_fields.proofs.Tagged.{tagged_again}
 use Rattle.mta_fields.specs.declared.extension.ExtFields.{ExtFields}
 use Rattle.mta_fields.specs.declared.identifier.MtsIdFields.{MtsIdFields}
 use Rattle.mta_fields.specs.declared.trace.TraceFields.{TraceFields}
@@ -106,7 +107,7 @@ module _ (depth : ℕ) (d : depth + 5 ≤ 16) (v : ReportFields) where
   id_there h short =
       let before = envelope_parts (Some v.destination) None None None in
       component MakesEnvelope depth before (envelope_parts (Some v.destination) (Some v.id) None None) (constructed 1 4) (id_content v.id) id_low (omega arith) short
-      (record { part = envelopes.Identifier; is_tag_of = refl; absent = refl; made = puts (SpellsMtsId depth true (id_content v.id)) (with_id before) v.id (identifier_spelled depth v.id h (omega arith) (short_inside (constructed 1 4) (id_content v.id) short)) })
+      (record { part = envelopes.Identifier; is_tag_of = refl; absent = refl; made = puts (SpellsMtsId depth (constructed 1 4) (id_content v.id)) (with_id before) v.id (identifier_spelled depth v.id h (omega arith) (short_inside (constructed 1 4) (id_content v.id) short)) })
 
   destination_there : IsWholeReport v → KeepsName depth v.destination → SetPiece MakesEnvelope depth no_envelope destination_octets (envelope_parts (Some v.destination) None None None)
   unfolding canonical_name
@@ -234,7 +235,7 @@ module _ (depth : ℕ) (d : depth + 6 ≤ 16) (v : ReportFields) where
   unfolding canonical_id
   subject_there kind h short =
       component MakesContent depth (begun_state None None kind) (begun_state (Some v.subject) None kind) (constructed 1 4) (id_content v.subject) id_low (omega arith) short
-      (record { part = contents.Subject; is_tag_of = refl; absent = refl; made = puts (SpellsMtsId depth true (id_content v.subject)) (with_subject (begun_state None None kind)) v.subject (identifier_spelled depth v.subject h (omega arith) (short_inside (constructed 1 4) (id_content v.subject) short)) })
+      (record { part = contents.Subject; is_tag_of = refl; absent = refl; made = puts (SpellsMtsId depth (constructed 1 4) (id_content v.subject)) (with_subject (begun_state None None kind)) v.subject (identifier_spelled depth v.subject h (omega arith) (short_inside (constructed 1 4) (id_content v.subject) short)) })
 
   eits_row : (kind : Option ContentKind) (rest : List ℕ) → IfSome v.eits (IsRawAt depth 1 5) → SetRow MakesContent depth (begun_state (Some v.subject) v.eits kind) rest all_contained → SetRow MakesContent depth (begun_state (Some v.subject) None kind) (optional kept v.eits ++ rest) all_contained
   eits_row kind rest k r =
@@ -341,7 +342,7 @@ keeps_content depth v k =
       recipients = subst (λ n. Each (KeepsReported n) v.recipients) three k.recipients;
     }
 
-pub report_spelled : (depth : ℕ) (v : ReportFields) → IsWholeReport v → KeepsReport depth v → depth + 8 ≤ 16 → length (report_octets v) < 2 ^ 64 → SpellsReport depth true (report_octets v) v
+pub report_spelled : (depth : ℕ) (v : ReportFields) → IsWholeReport v → KeepsReport depth v → depth + 8 ≤ 16 → length (report_octets v) < 2 ^ 64 → SpellsReport depth (constructed 2 1) (report_octets v) v
 unfolding canonical_envelope canonical_content
 report_spelled depth v h k d short =
     let first = canonical_envelope v in
@@ -362,7 +363,7 @@ report_spelled depth v h k d short =
     (record { is_set_tag = refl; part = reports.Content; needed = omega arith; behind = omega arith; made = puts (SpellsContent (depth + 1) true (content_content v)) (with_content half) (content_of v) contained }) in
     let row = row_more MakesReport (depth + 1) no_report half all first second envelope_there (row_last MakesReport (depth + 1) half all second content_there) in
     record {
-      is_constructed = refl;
+      is_tag_of = refl;
       parts = all;
       spelled = row_spelled MakesReport depth no_report all (first ++ second) row;
       the_envelope = envelope_of v;
@@ -377,7 +378,7 @@ report_low = low_tag 2 1 true (omega arith) (omega arith)
 
 pub reports_again : ReportsAreReadAgain
 unfolding canonical_report
-reports_again depth v h k d = content_again report_in SpellsReport report_full depth (constructed 2 1) (report_octets v) v report_low refl (omega arith) (report_spelled depth v h k d)
+reports_again depth v h k d = tagged_again report_in SpellsReport report_full depth (constructed 2 1) (report_octets v) v report_low (omega arith) (report_spelled depth v h k d)
 
 pub whole_reports_again : WholeReportsAreReadAgain
 unfolding canonical_report

@@ -1,6 +1,7 @@
 -- What was read of a report stands in the level of its place, so a report that was read is written so that it is read again.
 use Rattle.std.proofs.Common.{◌≡◌, ℕ, ◌+◌, ◌≤◌, Bool, true, List, sym, subst, arith}
 use Rattle.std.specs.Prelude.{IfSome}
+use Rattle.mta_ber.specs.Canon.{constructed}
 use Rattle.mta_ber.specs.declared.tag.Tag.{Tag}
 use Rattle.mta_ber.specs.Parts.{is_tag}
 use Rattle.mta_ber.specs.Spelling.{Stands}
@@ -9,7 +10,7 @@ use Rattle.mta_names.specs.Laws.{IsRawAt, KeepsName}
 use Rattle.mta_names.specs.Values.{Each, IsName}
 use Rattle.mta_names.proofs.Kept.{KeepsAt, spelled_kept, name_kept}
 use Rattle.mta_names.proofs.NameLaws.{name_is}
-use Rattle.mta_names.proofs.Rows.{none_begins}
+use Rattle.mta_fields.proofs.Tagged.{none_tagged_begins}
 use Rattle.mta_fields.specs.Laws.{IsWholeId, KeepsTrace, KeepsExtField}
 use Rattle.mta_fields.proofs.Kept.{identifier_whole}
 use Rattle.mta_common.proofs.Kept.{AreKeptTraces, trace_list_kept, AreKeptFields, ext_list_kept, fields_or_none_kept}
@@ -50,7 +51,7 @@ envelope_part : (k : EnvelopePart) (depth : ℕ) (s t : EnvelopeParts) (tag : Ta
 envelope_part envelopes.Destination depth s t tag content octets d m h =
     subst (EnvelopeHolds depth) (sym m.after_is) (record { destination = (name_kept depth tag.constructed content m.value m.value_spelled, name_is depth tag.constructed content m.value m.value_spelled); id = h.id; trace = h.trace; extensions = h.extensions })
 envelope_part envelopes.Identifier depth s t tag content octets d m h =
-    subst (EnvelopeHolds depth) (sym m.after_is) (record { destination = h.destination; id = identifier_whole depth tag.constructed content m.value m.value_spelled; trace = h.trace; extensions = h.extensions })
+    subst (EnvelopeHolds depth) (sym m.after_is) (record { destination = h.destination; id = identifier_whole depth tag content m.value m.value_spelled; trace = h.trace; extensions = h.extensions })
 envelope_part envelopes.Trace depth s t tag content octets d m h =
     subst (EnvelopeHolds depth) (sym m.after_is) (record { destination = h.destination; id = h.id; trace = trace_list_kept depth tag.constructed content m.value m.value_spelled; extensions = h.extensions })
 envelope_part envelopes.Extensions depth s t tag content octets d m h =
@@ -96,7 +97,7 @@ raw_is depth class number tag content octets x is stands e = subst (IsRawAt dept
 
 content_part : (k : ContentPart) (depth : ℕ) (s t : ContentParts) (tag : Tag) (content octets : List ℕ) → depth + 5 ≤ 16 → is_content_tag k tag ≡ true → Stands depth tag content octets → MakesContentPart k depth s tag content octets t → ContentHolds depth s → ContentHolds depth t
 content_part contents.Subject depth s t tag content octets d is stands m h =
-    subst (ContentHolds depth) (sym m.after_is) (record { subject = identifier_whole depth tag.constructed content m.value m.value_spelled; eits = h.eits; subject_trace = h.subject_trace; recipients = h.recipients; returned = h.returned; additional = h.additional; extensions = h.extensions })
+    subst (ContentHolds depth) (sym m.after_is) (record { subject = identifier_whole depth tag content m.value m.value_spelled; eits = h.eits; subject_trace = h.subject_trace; recipients = h.recipients; returned = h.returned; additional = h.additional; extensions = h.extensions })
 content_part contents.Eits depth s t tag content octets d is stands m h =
     subst (ContentHolds depth) (sym m.after_is) (record { subject = h.subject; eits = raw_is depth 1 5 tag content octets m.value is stands m.value_spelled; subject_trace = h.subject_trace; recipients = h.recipients; returned = h.returned; additional = h.additional; extensions = h.extensions })
 content_part contents.ContentType depth s t tag content octets d is stands m h =
@@ -192,7 +193,7 @@ pub read_reports_again : ReadReportsAreReadAgain
 read_reports_again depth c content v h d = let k = report_kept depth c content v h (omega arith) in reports_again depth v k.1 k.0 d
 
 pub read_whole_reports_again : ReadWholeReportsAreReadAgain
-read_whole_reports_again content v more at h short = let k = report_kept 1 true content v h (omega arith) in whole_reports_again v more at k.1 k.0 short
+read_whole_reports_again content v more at h short = let k = report_kept 1 (constructed 2 1) content v h (omega arith) in whole_reports_again v more at k.1 k.0 short
 
 pub no_report_begins : NoReportBeginsAnother
-no_report_begins = none_begins report_in SpellsReport (λ v p d h. report_full v p h)
+no_report_begins = none_tagged_begins report_in SpellsReport (λ v p d h. report_full v p h)

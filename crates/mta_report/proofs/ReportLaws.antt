@@ -3,14 +3,16 @@ use Rattle.std.proofs.Common.{◌≡◌, ℕ, ◌≤◌, ◌<◌, Bool, true, fa
 use Rattle.std.specs.Prelude.{IfSome}
 use Rattle.mta_ber.specs.declared.tag.Tag.{Tag}
 use Rattle.mta_ber.specs.Element.{Part}
+use Rattle.mta_ber.specs.Forms.{components_under}
 use Rattle.mta_ber.specs.Head.{◌>>=◌}
 use Rattle.mta_ber.specs.Octet.{IsOctets}
-use Rattle.mta_ber.specs.Parts.{components, required}
+use Rattle.mta_ber.specs.Parts.{required}
 use Rattle.mta_ber.proofs.ComponentLaws.{StepSound, StepFull}
 use Rattle.mta_ber.proofs.ExplicitLaws.{in_order_full}
+use Rattle.mta_ber.proofs.FormLaws.{components_under_sound, components_under_full}
 use Rattle.mta_ber.proofs.Steps.{bind_ok, ok_is, required_so}
 use Rattle.mta_names.proofs.StandardLaws.{ordered}
-use Rattle.mta_names.proofs.Tools.{puts_sound, puts_full, components_sound, components_full, Keeps, spelled_keep}
+use Rattle.mta_names.proofs.Tools.{puts_sound, puts_full, Keeps, spelled_keep}
 use Rattle.std.proofs.lemmas.Bool.Decides.{nat_tests}
 use Rattle.mta_report.specs.declared.fields.ReportFields.{ReportFields}
 use Rattle.mta_report.specs.declared.reading.ReportPart.{ReportPart}
@@ -71,16 +73,16 @@ step_full s t p shallow h =
     ∙ in_order_full s.last (report_needed k) (report_place k) p.at (report_part_in k s p) h.behind h.needed
     ∙ part_full k s t p h.made
 
-pub report_sound : (v : ReportFields) (p : Part) → IsOctets p.content → report_in p ≡ Ok v → SpellsReport p.depth p.tag.constructed p.content v
+pub report_sound : (v : ReportFields) (p : Part) → IsOctets p.content → report_in p ≡ Ok v → SpellsReport p.depth p.tag p.content v
 unfolding report_in
 report_sound v p octets e =
-    let a = bind_ok (components report_step no_report p) (λ s. report_from s p.at) v e in
-    let c = components_sound report_step MakesReport step_sound no_report a.0 p octets a.1 in
+    let a = bind_ok (components_under 2 1 report_step no_report p) (λ s. report_from s p.at) v e in
+    let c = components_under_sound 2 1 report_step MakesReport step_sound no_report a.0 p octets a.1 in
     let b = bind_ok (required a.0.envelope p.at) (λ x. required a.0.content p.at >>= λ y. Ok (report x y)) v a.2 in
     let d = bind_ok (required a.0.content p.at) (λ y. Ok (report b.0 y)) v b.2 in
     let made = report b.0 d.0 in
-    subst (λ (x : ReportFields). SpellsReport p.depth p.tag.constructed p.content x) {x = made} (ok_is made v d.2) (record {
-      is_constructed = c.0;
+    subst (λ (x : ReportFields). SpellsReport p.depth p.tag p.content x) {x = made} (ok_is made v d.2) (record {
+      is_tag_of = c.0;
       parts = a.0;
       spelled = c.1;
       the_envelope = b.0;
@@ -90,10 +92,10 @@ report_sound v p octets e =
       value = refl {a = made};
     })
 
-pub report_full : (v : ReportFields) (p : Part) → SpellsReport p.depth p.tag.constructed p.content v → report_in p ≡ Ok v
+pub report_full : (v : ReportFields) (p : Part) → SpellsReport p.depth p.tag p.content v → report_in p ≡ Ok v
 unfolding report_in
 report_full v p h =
-    ap (λ r. r >>= λ s. report_from s p.at) (components_full report_step MakesReport step_full no_report h.parts p h.is_constructed h.spelled)
+    ap (λ r. r >>= λ s. report_from s p.at) (components_under_full 2 1 report_step MakesReport step_full no_report h.parts p h.is_tag_of h.spelled)
     ∙ ap (λ o. required o p.at >>= λ x. required h.parts.content p.at >>= λ y. Ok (report x y)) h.envelope_is
     ∙ ap (λ o. required o p.at >>= λ y. Ok (report h.the_envelope y)) h.content_is
     ∙ ap (λ (x : ReportFields). Ok x) (sym h.value)
@@ -111,7 +113,7 @@ keeps_part Content depth s t tag content m h = (let w : IsContent m.value = cont
 keeps : Keeps MakesReport Holds
 keeps depth s t tag content octets stands m h = keeps_part m.part depth s t tag content m.made h
 
-pub report_is : (depth : ℕ) (c : Bool) (content : List ℕ) (v : ReportFields) → SpellsReport depth c content v → IsReport v
+pub report_is : (depth : ℕ) (tag : Tag) (content : List ℕ) (v : ReportFields) → SpellsReport depth tag content v → IsReport v
 report_is depth c content v h =
     let k = spelled_keep MakesReport Holds keeps depth no_report h.parts content h.spelled (record { envelope = tt; content = tt }) in
     let trace : IsTraceRow h.the_envelope.trace = subst (λ o. IfSome o (λ x. IsTraceRow x.trace)) h.envelope_is k.envelope in

@@ -1,9 +1,12 @@
 -- Laws of reports and octets: what is written is read again, whatever follows it.
 use Rattle.std.specs.Prelude.{ℕ, ◌+◌, ◌<◌, ◌≤◌, ◌≡◌, ◌^◌, Bool, true, List, ◌++◌, length, IfSome}
+use Rattle.mta_ber.specs.declared.tag.Tag.{Tag}
 use Rattle.mta_ber.specs.Element.{first}
 use Rattle.mta_ber.specs.Head.{◌>>=◌}
 use Rattle.mta_ber.specs.Laws.{with_rest, beside}
-use Rattle.mta_names.specs.Laws.{IsReadAgain, NoneBeginsAnother, IsRawAt, KeepsName}
+use Rattle.mta_ber.specs.Canon.{constructed}
+use Rattle.mta_names.specs.Laws.{IsReadAgain, IsRawAt, KeepsName}
+use Rattle.mta_fields.specs.Tagged.{NoTaggedBeginsAnother}
 use Rattle.mta_names.specs.Values.{Each, IsName}
 use Rattle.mta_fields.specs.ExtensionFields.{IsExtField}
 use Rattle.mta_fields.specs.Laws.{IsWholeId, IsWholeTrace, KeepsTrace, KeepsExtField}
@@ -48,17 +51,17 @@ WholeReportsAreReadAgain = (v : ReportFields) (more : List ℕ) (at : ℕ) → I
 -- a report that was read keeps what it keeps in the level of its place, and is one; the value of an extension that was left out is NULL, which has
 -- to have room
 abbrev pub ReadReportsAreKept : Type 0
-ReadReportsAreKept = (depth : ℕ) (c : Bool) (content : List ℕ) (v : ReportFields) → SpellsReport depth c content v → depth + 7 ≤ 16 → KeepsReport depth v × IsWholeReport v
+ReadReportsAreKept = (depth : ℕ) (tag : Tag) (content : List ℕ) (v : ReportFields) → SpellsReport depth tag content v → depth + 7 ≤ 16 → KeepsReport depth v × IsWholeReport v
 
 -- so a report that was read is written so that it is read again
 abbrev pub ReadReportsAreReadAgain : Type 0
-ReadReportsAreReadAgain = (depth : ℕ) (c : Bool) (content : List ℕ) (v : ReportFields) → SpellsReport depth c content v → depth + 8 ≤ 16 → IsReadAgain report_in depth (canonical_report v) v
+ReadReportsAreReadAgain = (depth : ℕ) (tag : Tag) (content : List ℕ) (v : ReportFields) → SpellsReport depth tag content v → depth + 8 ≤ 16 → IsReadAgain report_in depth (canonical_report v) v
 
 -- and so is one that was read at the outermost level, whatever stands behind it
 abbrev pub ReadWholeReportsAreReadAgain : Type 0
-ReadWholeReportsAreReadAgain = (content : List ℕ) (v : ReportFields) (more : List ℕ) (at : ℕ) → SpellsReport 1 true content v → length (canonical_report v) < 2 ^ 64
+ReadWholeReportsAreReadAgain = (content : List ℕ) (v : ReportFields) (more : List ℕ) (at : ℕ) → SpellsReport 1 (constructed 2 1) content v → length (canonical_report v) < 2 ^ 64
     → (first at (canonical_report v ++ more) >>= with_rest report_in) ≡ beside v more
 
 -- no spelling begins another, and each is that of one value
 abbrev pub NoReportBeginsAnother : Type 0
-NoReportBeginsAnother = NoneBeginsAnother SpellsReport
+NoReportBeginsAnother = NoTaggedBeginsAnother SpellsReport

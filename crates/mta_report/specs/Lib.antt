@@ -3,3 +3,4 @@ pub mod ReportEnvelopes
 pub mod ReportContents
 pub mod Reports
 pub mod Laws
+pub mod Lengths

@@ -6,6 +6,7 @@ use Rattle.mta_ber.specs.declared.tag.Tag.{Tag}
 use Rattle.mta_ber.specs.Canon.{element, constructed, optional}
 use Rattle.mta_ber.specs.Components.{SpellsComponents}
 use Rattle.mta_ber.specs.Element.{Part}
+use Rattle.mta_ber.specs.Forms.{is_constructed_tag}
 use Rattle.mta_ber.specs.Head.{◌>>=◌, fault}
 use Rattle.mta_ber.specs.Parts.{components, is_tag, required}
 use Rattle.mta_names.specs.Names.{kept}
@@ -28,28 +29,28 @@ use Rattle.mta_reported.specs.ReportedRecipients.{reported_list_in, SpellsReport
 
 abbrev pub content_part_of : Tag → Option ContentPart
 content_part_of t =
-    if is_tag 1 4 t then Some Subject
+    if is_constructed_tag 1 4 t then Some Subject
     else if is_tag 1 5 t then Some Eits
     else if is_content_kind t then Some ContentType
     else if is_tag 1 9 t then Some SubjectTrace
     else if is_tag 1 10 t then Some ContentId
-    else if is_tag 2 0 t then Some Recipients
+    else if is_constructed_tag 2 0 t then Some Recipients
     else if is_tag 2 1 t then Some Returned
     else if is_tag 2 2 t then Some Additional
-    else if is_tag 2 3 t then Some Extensions
+    else if is_constructed_tag 2 3 t then Some Extensions
     else None
 
 -- whether a tag is that of a component
 abbrev pub is_content_tag : ContentPart → Tag → Bool
-is_content_tag Subject t = is_tag 1 4 t
+is_content_tag Subject t = is_constructed_tag 1 4 t
 is_content_tag Eits t = is_tag 1 5 t
 is_content_tag ContentType t = is_content_kind t
 is_content_tag SubjectTrace t = is_tag 1 9 t
 is_content_tag ContentId t = is_tag 1 10 t
-is_content_tag Recipients t = is_tag 2 0 t
+is_content_tag Recipients t = is_constructed_tag 2 0 t
 is_content_tag Returned t = is_tag 2 1 t
 is_content_tag Additional t = is_tag 2 2 t
-is_content_tag Extensions t = is_tag 2 3 t
+is_content_tag Extensions t = is_constructed_tag 2 3 t
 
 -- whether a component is there already
 abbrev pub content_held : ContentPart → ContentParts → Bool
@@ -139,7 +140,7 @@ content_in p = components content_step no_content p >>= λ s. content_from s p.a
 -- ---- what spells a content
 
 abbrev pub MakesContentPart : ContentPart → ℕ → ContentParts → Tag → List ℕ → List ℕ → ContentParts → Type 0
-MakesContentPart Subject depth s tag content octets after = Puts (SpellsMtsId depth tag.constructed content) (with_subject s) after
+MakesContentPart Subject depth s tag content octets after = Puts (SpellsMtsId depth tag content) (with_subject s) after
 MakesContentPart Eits depth s tag content octets after = Puts (λ x. x ≡ octets) (with_eits s) after
 MakesContentPart ContentType depth s tag content octets after = Puts (SpellsContentKind depth tag content octets) (with_content_kind s) after
 MakesContentPart SubjectTrace depth s tag content octets after = Puts (λ x. x ≡ octets) (with_subject_trace s) after

@@ -6,6 +6,7 @@ use Rattle.mta_ber.specs.declared.tag.Tag.{Tag}
 use Rattle.mta_ber.specs.Canon.{element, constructed}
 use Rattle.mta_ber.specs.Components.{SpellsComponents}
 use Rattle.mta_ber.specs.Element.{Part}
+use Rattle.mta_ber.specs.Forms.{is_constructed_tag}
 use Rattle.mta_ber.specs.Head.{◌>>=◌, fault}
 use Rattle.mta_ber.specs.Parts.{components, is_tag, required}
 use Rattle.mta_names.specs.declared.attributes.Attributes.{Attributes}
@@ -25,18 +26,18 @@ use Rattle.mta_report.specs.declared.fields.ReportFields.{ReportFields}
 
 abbrev pub envelope_part_of : Tag → Option EnvelopePart
 envelope_part_of t =
-    if is_tag 1 0 t then Some Destination
-    else if is_tag 1 4 t then Some Identifier
-    else if is_tag 1 9 t then Some Trace
-    else if is_tag 2 1 t then Some Extensions
+    if is_constructed_tag 1 0 t then Some Destination
+    else if is_constructed_tag 1 4 t then Some Identifier
+    else if is_constructed_tag 1 9 t then Some Trace
+    else if is_constructed_tag 2 1 t then Some Extensions
     else None
 
 -- whether a tag is that of a component
 abbrev pub is_envelope_tag : EnvelopePart → Tag → Bool
-is_envelope_tag Destination t = is_tag 1 0 t
-is_envelope_tag Identifier t = is_tag 1 4 t
-is_envelope_tag Trace t = is_tag 1 9 t
-is_envelope_tag Extensions t = is_tag 2 1 t
+is_envelope_tag Destination t = is_constructed_tag 1 0 t
+is_envelope_tag Identifier t = is_constructed_tag 1 4 t
+is_envelope_tag Trace t = is_constructed_tag 1 9 t
+is_envelope_tag Extensions t = is_constructed_tag 2 1 t
 
 -- whether a component is there already
 abbrev pub envelope_held : EnvelopePart → EnvelopeParts → Bool
@@ -92,7 +93,7 @@ envelope_in p = components envelope_step no_envelope p >>= λ s. envelope_from s
 
 abbrev pub MakesEnvelopePart : EnvelopePart → ℕ → EnvelopeParts → Tag → List ℕ → List ℕ → EnvelopeParts → Type 0
 MakesEnvelopePart Destination depth s tag content octets after = Puts (SpellsName depth tag.constructed content) (with_destination s) after
-MakesEnvelopePart Identifier depth s tag content octets after = Puts (SpellsMtsId depth tag.constructed content) (with_id s) after
+MakesEnvelopePart Identifier depth s tag content octets after = Puts (SpellsMtsId depth tag content) (with_id s) after
 MakesEnvelopePart Trace depth s tag content octets after = Puts (SpellsTraceList depth tag.constructed content) (with_trace s) after
 MakesEnvelopePart Extensions depth s tag content octets after = Puts (SpellsExtList depth tag.constructed content) (with_extensions s) after
 

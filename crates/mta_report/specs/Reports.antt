@@ -6,8 +6,9 @@ use Rattle.mta_ber.specs.declared.tag.Tag.{Tag}
 use Rattle.mta_ber.specs.Canon.{element, constructed}
 use Rattle.mta_ber.specs.Components.{SpellsComponents}
 use Rattle.mta_ber.specs.Element.{Part}
+use Rattle.mta_ber.specs.Forms.{is_constructed_tag, components_under}
 use Rattle.mta_ber.specs.Head.{◌>>=◌, fault}
-use Rattle.mta_ber.specs.Parts.{components, in_order, required}
+use Rattle.mta_ber.specs.Parts.{in_order, required}
 use Rattle.mta_names.specs.Strings.{Puts}
 use Rattle.mta_report.specs.declared.envelope.EnvelopeFields.{EnvelopeFields}
 use Rattle.mta_report.specs.declared.content.ContentFields.{ContentFields}
@@ -78,7 +79,7 @@ abbrev pub report_from : ReportParts → ℕ → Result ReportFields Fault
 report_from s at = required s.envelope at >>= λ envelope. required s.content at >>= λ content. Ok (report envelope content)
 
 unfoldable pub report_in : Part → Result ReportFields Fault
-report_in p = components report_step no_report p >>= λ s. report_from s p.at
+report_in p = components_under 2 1 report_step no_report p >>= λ s. report_from s p.at
 
 -- ---- what spells a report
 
@@ -94,8 +95,8 @@ pub record MakesReport (depth : ℕ) (before : ReportParts) (tag : Tag) (content
   pub made : MakesReportPart part depth before tag content after
 
 -- a SEQUENCE of an envelope and a content
-pub record SpellsReport (depth : ℕ) (constructed : Bool) (content : List ℕ) (v : ReportFields) : Type 0 where
-  pub is_constructed : constructed ≡ true
+pub record SpellsReport (depth : ℕ) (tag : Tag) (content : List ℕ) (v : ReportFields) : Type 0 where
+  pub is_tag_of : is_constructed_tag 2 1 tag ≡ true
   pub parts : ReportParts
   pub spelled : SpellsComponents MakesReport depth no_report content parts
   pub the_envelope : EnvelopeFields

@@ -7,10 +7,7 @@ ghost use Rattle.mta_ber.specs.Seen.{view};
 ghost use Rattle.mta_report.specs.ReportContents.{content_part_of, content_held, content_part_in, content_step, content_complete, content_from, content_in, content_content, canonical_content};
 
 use crate::fields::ReportFields;
-use mta_ber::{
-    Components, Kind, Memory, Octets, ReadFault, Tag, Text, View, Writer, bad, is_tag_of,
-    take_parts,
-};
+use mta_ber::{Components, Kind, Memory, Octets, ReadFault, Tag, Text, View, Writer, bad, is_tag_of, take_parts, is_constructed_tag};
 use mta_common::{
     ContentKind, is_content_kind_tag, put_content_id, put_content_kind_in_front,
     put_content_kind_in_place, put_extensions, read_content_id, read_content_kind, read_extensions,
@@ -65,7 +62,7 @@ pub struct ContentParts {
 fn part_of(tag: Tag) -> Option<ContentPart>
     ensures { result ≡ content_part_of tag }
 {
-    if is_tag_of(tag, 1, 4) {
+    if is_constructed_tag(tag, 1, 4) {
         Some(ContentPart::Subject)
     } else if is_tag_of(tag, 1, 5) {
         Some(ContentPart::Eits)
@@ -75,13 +72,13 @@ fn part_of(tag: Tag) -> Option<ContentPart>
         Some(ContentPart::SubjectTrace)
     } else if is_tag_of(tag, 1, 10) {
         Some(ContentPart::ContentId)
-    } else if is_tag_of(tag, 2, 0) {
+    } else if is_constructed_tag(tag, 2, 0) {
         Some(ContentPart::Recipients)
     } else if is_tag_of(tag, 2, 1) {
         Some(ContentPart::Returned)
     } else if is_tag_of(tag, 2, 2) {
         Some(ContentPart::Additional)
-    } else if is_tag_of(tag, 2, 3) {
+    } else if is_constructed_tag(tag, 2, 3) {
         Some(ContentPart::Extensions)
     } else {
         None

@@ -7,7 +7,7 @@ ghost use Rattle.mta_ber.specs.Seen.{view};
 ghost use Rattle.mta_report.specs.ReportEnvelopes.{envelope_part_of, envelope_held, envelope_part_in, envelope_step, envelope_complete, envelope_from, envelope_in, envelope_content, canonical_envelope};
 
 use crate::fields::ReportFields;
-use mta_ber::{Components, Kind, Memory, ReadFault, Tag, View, Writer, bad, is_tag_of, take_parts};
+use mta_ber::{Components, Kind, Memory, ReadFault, Tag, View, Writer, bad, take_parts, is_constructed_tag};
 use mta_common::{put_extensions, put_trace, read_extensions, read_trace};
 use mta_fields::{ExtField, MtsId, TraceElement};
 use mta_names::{OrName, Row, constructed, put_around};
@@ -44,13 +44,13 @@ pub struct EnvelopeParts {
 fn part_of(tag: Tag) -> Option<EnvelopePart>
     ensures { result ≡ envelope_part_of tag }
 {
-    if is_tag_of(tag, 1, 0) {
+    if is_constructed_tag(tag, 1, 0) {
         Some(EnvelopePart::Destination)
-    } else if is_tag_of(tag, 1, 4) {
+    } else if is_constructed_tag(tag, 1, 4) {
         Some(EnvelopePart::Identifier)
-    } else if is_tag_of(tag, 1, 9) {
+    } else if is_constructed_tag(tag, 1, 9) {
         Some(EnvelopePart::Trace)
-    } else if is_tag_of(tag, 2, 1) {
+    } else if is_constructed_tag(tag, 2, 1) {
         Some(EnvelopePart::Extensions)
     } else {
         None

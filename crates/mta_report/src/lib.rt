@@ -5,6 +5,7 @@ mod content;
 mod envelope;
 mod fields;
 mod laws;
+mod length;
 mod reading;
 mod report;
 
@@ -13,5 +14,6 @@ pub use laws::{
     no_report_begins_another, reports_are_read_again, reports_that_were_read_are_kept,
     reports_that_were_read_are_read_again,
 };
+pub use mta_common::ContentKind;
 pub use mta_reported::{Outcome, Reported, ReportedFields};
 pub use report::Report;

@@ -9,7 +9,7 @@ ghost use Rattle.mta_report.specs.Reports.{report_part_of, report_place, report_
 use crate::content::{ContentFields, read_content};
 use crate::envelope::{EnvelopeFields, read_envelope};
 use crate::fields::ReportFields;
-use mta_ber::{Components, Kind, ReadFault, Tag, View, bad, check_order, is_tag_of, take_parts};
+use mta_ber::{Components, Kind, ReadFault, Tag, View, bad, check_order, is_tag_of, take_parts, is_constructed_tag};
 use std::alloc::Global;
 
 /// The components of a report.
@@ -155,12 +155,12 @@ fn finished(parts: ReportParts, at: u32) -> Result<ReportFields, ReadFault>
     }
 }
 
-/// The parts of a report, whatever its tag.
+/// The parts of a report, under `[1]`.
 #[tactic(auto, unfolding(crate::specs::Reports::report_in))]
 pub fn read_report(alloc: Global, whole: &View) -> Result<ReportFields, ReadFault>
     ensures { Reads result (report_in (view whole.now)) }
 {
-    if !whole.tag.constructed {
+    if !is_constructed_tag(whole.tag, 2, 1) {
         return bad(whole.at, Kind::BadTag);
     }
     let mut parts = ReportParts {

@@ -7,8 +7,9 @@ ghost use Rattle.mta_report.specs.Reports.{canonical_report};
 use crate::content::put_content;
 use crate::envelope::put_envelope;
 use crate::fields::ReportFields;
+use crate::length::{content_length, envelope_length};
 use crate::reading::read_report;
-use mta_ber::{Memory, Octets, ReadFault, View, Writer};
+use mta_ber::{Memory, Octets, ReadFault, View, Writer, element_length, length_of_both};
 use mta_names::{constructed, put_around};
 use std::alloc::Global;
 use std::marker::Model;
@@ -45,26 +46,36 @@ fn written(alloc: Global, v: &ReportFields) -> Result<Octets, Memory>
 
 impl Report {
     ghost use Rattle.std.specs.Prelude.{◌≡◌, IfOk};
+    ghost use Rattle.mta_ber.specs.Lengths.{octet_length};
     ghost use Rattle.mta_ber.specs.Parts.{Reads, IsReadAs};
     ghost use Rattle.mta_ber.specs.Seen.{view};
     ghost use Rattle.mta_report.specs.declared.fields.ReportFields.{ReportFields};
     ghost use Rattle.mta_report.specs.Reports.{report_in, SpellsReport, canonical_report};
     ghost use Rattle.mta_report.specs.ReportValues.{IsReport};
 
-    /// The report that the element of an APDU spells, whatever its tag, which is `[1]` and for the caller to check: the tag of a SEQUENCE of an
-    /// envelope and a content.
+    /// The report that the element of an APDU spells, under `[1]`: a SEQUENCE of an envelope and a content. BadTag at an element of any
+    /// other tag.
     pub fn read(alloc: Global, whole: &View) -> Result<Report, ReadFault>
         // Which report it is, or which fault comes first.
         ensures exact { Reads result (report_in (view whole.now)) }
 
-        // What is answered is spelled by the content, and what the content spells is answered.
-        ensures found { IfOk result (SpellsReport whole.now.depth whole.now.tag.constructed whole.now.content.now) }
-        ensures only { (v : ReportFields) → SpellsReport whole.now.depth whole.now.tag.constructed whole.now.content.now v → IsReadAs result v }
+        // What is answered is spelled by the element, and what the element spells is answered.
+        ensures found { IfOk result (SpellsReport whole.now.depth whole.now.tag whole.now.content.now) }
+        ensures only { (v : ReportFields) → SpellsReport whole.now.depth whole.now.tag whole.now.content.now v → IsReadAs result v }
     {
         match read_report(alloc, whole) {
             Ok(fields) => Ok(Report { fields }),
             Err(fault) => Err(fault),
         }
+    }
+
+    /// How many octets `write` gives, told without memory; 2^64 - 1 where there are as many or more.
+    #[tactic(auto, unfolding(crate::specs::Reports::canonical_report))]
+    pub fn length(&self) -> u64
+        ensures { result ≡ octet_length (canonical_report self.now) }
+    {
+        let envelope = envelope_length(&self.fields);
+        element_length(constructed(2, 1), length_of_both(envelope, content_length(&self.fields)))
     }
 
     /// The canonical octets of the whole APDU.

@@ -4,6 +4,7 @@ use Rattle.std.specs.Prelude.{IfSome, unwrap_or}
 use Rattle.mta_ber.specs.declared.fault.Kind.TheVariants.{Twice}
 use Rattle.mta_ber.specs.declared.tag.Tag.{Tag}
 use Rattle.mta_ber.specs.Element.{Part}
+use Rattle.mta_ber.specs.Forms.{is_primitive_tag, is_constructed_tag}
 use Rattle.mta_ber.specs.Head.{◌>>=◌, fault}
 use Rattle.mta_ber.specs.Moments.{SpellsMoment}
 use Rattle.mta_ber.specs.Octet.{IsOctets}
@@ -12,6 +13,7 @@ use Rattle.mta_ber.specs.Spelling.{Stands}
 use Rattle.mta_ber.specs.Times.{utc_in}
 use Rattle.mta_ber.proofs.ComponentLaws.{StepSound, StepFull}
 use Rattle.mta_ber.proofs.MomentLaws.{utc_sound, utc_full}
+use Rattle.mta_ber.proofs.FormLaws.{primitive_is, constructed_is}
 use Rattle.mta_ber.proofs.Steps.{bind_ok, ok_is, passed, required_so}
 use Rattle.mta_names.specs.Strings.{number_in, SpellsNumber}
 use Rattle.mta_names.proofs.ExtensionLaws.{number_sound, number_full, number_small}
@@ -27,11 +29,11 @@ abbrev HasTag : Tag → DeliveryPart → Type 0
 HasTag t k = is_delivery_tag k t ≡ true
 
 tagged : (t : Tag) (k : DeliveryPart) → delivery_part_of t ≡ Some k → HasTag t k
-tagged t = picked (HasTag t) (is_tag 2 0 t) Moment _ (λ e. e) (picked (HasTag t) (is_tag 2 1 t) User _ (λ e. e) (not_none (HasTag t)))
+tagged t = picked (HasTag t) (is_tag 2 0 t) Moment _ (λ e. e) (picked (HasTag t) (is_primitive_tag 2 1 t) User _ (λ e. e) (not_none (HasTag t)))
 
 found : (k : DeliveryPart) (t : Tag) → HasTag t k → delivery_part_of t ≡ Some k
 found Moment t h = let e = tag_is 2 0 t h in rw (e.0, e.1) refl
-found User t h = let e = tag_is 2 1 t h in rw (e.0, e.1) refl
+found User t h = let e = primitive_is 2 1 t h in rw (e.0, e.1, e.2) refl
 
 part_sound : (k : DeliveryPart) (s t : DeliveryParts) (p : Part) → p.depth ≤ 16 → IsOctets p.content → delivery_part_in k s p ≡ Ok t → MakesDeliveryPart k p.depth s p.tag p.content p.octets t
 part_sound Moment s t p d o e = puts_sound (utc_in p) (with_moment s) t (SpellsMoment p.depth p.tag.constructed p.content) (λ x r. utc_sound p x d o r) e

@@ -4,11 +4,13 @@ use Rattle.std.specs.Prelude.{IfSome}
 use Rattle.mta_ber.specs.declared.fault.Kind.TheVariants.{Twice}
 use Rattle.mta_ber.specs.declared.tag.Tag.{Tag}
 use Rattle.mta_ber.specs.Element.{Part}
+use Rattle.mta_ber.specs.Forms.{is_primitive_tag, is_constructed_tag}
 use Rattle.mta_ber.specs.Head.{◌>>=◌, fault}
 use Rattle.mta_ber.specs.Octet.{IsOctets}
 use Rattle.mta_ber.specs.Parts.{components, is_tag, required}
 use Rattle.mta_ber.specs.Spelling.{Stands}
 use Rattle.mta_ber.proofs.ComponentLaws.{StepSound, StepFull}
+use Rattle.mta_ber.proofs.FormLaws.{primitive_is, constructed_is}
 use Rattle.mta_ber.proofs.Steps.{bind_ok, ok_is, passed, required_so}
 use Rattle.mta_names.specs.Strings.{number_in, SpellsNumber}
 use Rattle.mta_names.proofs.ExtensionLaws.{number_sound, number_full, number_small}
@@ -24,11 +26,11 @@ abbrev HasTag : Tag → FailurePart → Type 0
 HasTag t k = is_failure_tag k t ≡ true
 
 tagged : (t : Tag) (k : FailurePart) → failure_part_of t ≡ Some k → HasTag t k
-tagged t = picked (HasTag t) (is_tag 2 0 t) Reason _ (λ e. e) (picked (HasTag t) (is_tag 2 1 t) Diagnostic _ (λ e. e) (not_none (HasTag t)))
+tagged t = picked (HasTag t) (is_primitive_tag 2 0 t) Reason _ (λ e. e) (picked (HasTag t) (is_primitive_tag 2 1 t) Diagnostic _ (λ e. e) (not_none (HasTag t)))
 
 found : (k : FailurePart) (t : Tag) → HasTag t k → failure_part_of t ≡ Some k
-found Reason t h = let e = tag_is 2 0 t h in rw (e.0, e.1) refl
-found Diagnostic t h = let e = tag_is 2 1 t h in rw (e.0, e.1) refl
+found Reason t h = let e = primitive_is 2 0 t h in rw (e.0, e.1, e.2) refl
+found Diagnostic t h = let e = primitive_is 2 1 t h in rw (e.0, e.1, e.2) refl
 
 part_sound : (k : FailurePart) (s t : FailureParts) (p : Part) → p.depth ≤ 16 → IsOctets p.content → failure_part_in k s p ≡ Ok t → MakesFailurePart k p.depth s p.tag p.content p.octets t
 part_sound Reason s t p d o e = puts_sound (number_in 0 32767 p) (with_reason s) t (SpellsNumber 0 32767 p.tag.constructed p.content) (λ x r. number_sound 0 32767 x p r) e

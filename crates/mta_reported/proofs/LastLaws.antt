@@ -5,6 +5,7 @@ use Rattle.mta_ber.specs.declared.fault.Kind.TheVariants.{Twice}
 use Rattle.mta_ber.specs.declared.tag.Tag.{Tag}
 use Rattle.mta_ber.specs.Element.{Part, explicit}
 use Rattle.mta_ber.specs.Explicit.{SpellsExplicit}
+use Rattle.mta_ber.specs.Forms.{is_primitive_tag, is_constructed_tag}
 use Rattle.mta_ber.specs.Head.{◌>>=◌, fault}
 use Rattle.mta_ber.specs.Moments.{SpellsMoment}
 use Rattle.mta_ber.specs.Octet.{IsOctets}
@@ -14,6 +15,7 @@ use Rattle.mta_ber.specs.Times.{utc_in}
 use Rattle.mta_ber.proofs.ComponentLaws.{StepSound, StepFull}
 use Rattle.mta_ber.proofs.ExplicitLaws.{explicit_sound, explicit_full}
 use Rattle.mta_ber.proofs.MomentLaws.{utc_sound, utc_full}
+use Rattle.mta_ber.proofs.FormLaws.{primitive_is, constructed_is}
 use Rattle.mta_ber.proofs.Steps.{bind_ok, ok_is, passed, required_so}
 use Rattle.mta_names.specs.Values.{IsRaw}
 use Rattle.mta_names.proofs.Tools.{puts_sound, puts_full, tag_is, picked, not_none, components_sound, components_full, Keeps, spelled_keep}
@@ -31,11 +33,11 @@ abbrev HasTag : Tag → LastPart → Type 0
 HasTag t k = is_last_tag k t ≡ true
 
 tagged : (t : Tag) (k : LastPart) → last_part_of t ≡ Some k → HasTag t k
-tagged t = picked (HasTag t) (is_tag 2 0 t) Arrival _ (λ e. e) (picked (HasTag t) (is_tag 2 1 t) ReportType _ (λ e. e) (picked (HasTag t) (is_tag 1 5 t) Converted _ (λ e. e) (not_none (HasTag t))))
+tagged t = picked (HasTag t) (is_tag 2 0 t) Arrival _ (λ e. e) (picked (HasTag t) (is_constructed_tag 2 1 t) ReportType _ (λ e. e) (picked (HasTag t) (is_tag 1 5 t) Converted _ (λ e. e) (not_none (HasTag t))))
 
 found : (k : LastPart) (t : Tag) → HasTag t k → last_part_of t ≡ Some k
 found Arrival t h = let e = tag_is 2 0 t h in rw (e.0, e.1) refl
-found ReportType t h = let e = tag_is 2 1 t h in rw (e.0, e.1) refl
+found ReportType t h = let e = constructed_is 2 1 t h in rw (e.0, e.1, e.2) refl
 found Converted t h = let e = tag_is 1 5 t h in rw (e.0, e.1) refl
 
 part_sound : (k : LastPart) (s t : LastParts) (p : Part) → p.depth ≤ 16 → IsOctets p.content → last_part_in k s p ≡ Ok t → MakesLastPart k p.depth s p.tag p.content p.octets t

@@ -18,7 +18,8 @@ use Rattle.mta_names.specs.Strings.{SpellsNumber, AddsItem}
 use Rattle.mta_names.specs.Values.{Each, IsName}
 use Rattle.mta_names.proofs.Again.{low_tag, number_spelled, explicit_spelled}
 use Rattle.mta_names.proofs.NameAgain.{name_spelled}
-use Rattle.mta_names.proofs.Rows.{puts, component, short_inside, row_spelled, items_row, each_both, content_again}
+use Rattle.mta_names.proofs.Rows.{puts, component, short_inside, row_spelled, items_row, each_both}
+use Rattle.mta_fields.proofs.Tagged.{tagged_again}
 use Rattle.mta_fields.specs.declared.extension.ExtFields.{ExtFields}
 use Rattle.mta_fields.specs.ExtensionFields.{IsExtField, canonical_ext}
 use Rattle.mta_fields.specs.Laws.{KeepsExtField}
@@ -334,7 +335,7 @@ grouped v =
 value_is : (v : ReportedFields) → v ≡ reported v.name v.number v.indicators (last_of v.arrival v.converted v.outcome) (parts_of (Some v.name) (Some v.number) (Some v.indicators) (Some (last_of v.arrival v.converted v.outcome)) v.intended v.supplementary (ext_list_of v.extensions))
 value_is v = ap (λ (xs : List ExtFields). record { name = v.name; number = v.number; indicators = v.indicators; arrival = v.arrival; converted = v.converted; outcome = v.outcome; intended = v.intended; supplementary = v.supplementary; extensions = xs }) (sym (ext_list_held v.extensions))
 
-pub reported_spelled : (depth : ℕ) (v : ReportedFields) → IsWholeReported v → KeepsReported depth v → depth + 5 ≤ 16 → length (reported_content v) < 2 ^ 64 → SpellsReported depth true (reported_content v) v
+pub reported_spelled : (depth : ℕ) (v : ReportedFields) → IsWholeReported v → KeepsReported depth v → depth + 5 ≤ 16 → length (reported_content v) < 2 ^ 64 → SpellsReported depth (constructed 0 17) (reported_content v) v
 reported_spelled depth v h k d short =
     let below : depth + 1 + 4 ≤ 16 = omega arith in
     let two : depth + 2 ≡ depth + 1 + 1 = omega arith in
@@ -344,7 +345,7 @@ reported_spelled depth v h k d short =
     let row = all_row (depth + 1) below v h.reported h.name k.name (subst (λ n. IfSome v.converted (IsRawAt n 1 5)) two k.converted) intended in
     let all = subst (λ octets. SetRow MakesReported (depth + 1) no_reported octets parts) (grouped v) row in
     record {
-      is_constructed = refl;
+      is_tag_of = refl;
       parts = parts;
       spelled = row_spelled MakesReported depth no_reported parts (reported_content v) (all short);
       name = v.name;
@@ -363,7 +364,7 @@ set_low = low_tag 0 17 true (omega arith) (omega arith)
 
 pub reported_again : RecipientsAreReadAgain
 unfolding canonical_reported
-reported_again depth v h k d = content_again reported_in SpellsReported reported_full depth (constructed 0 17) (reported_content v) v set_low refl (omega arith) (reported_spelled depth v h k d)
+reported_again depth v h k d = tagged_again reported_in SpellsReported reported_full depth (constructed 0 17) (reported_content v) v set_low (omega arith) (reported_spelled depth v h k d)
 
 -- ---- lists of recipients
 

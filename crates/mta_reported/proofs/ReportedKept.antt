@@ -9,7 +9,7 @@ use Rattle.mta_names.specs.Strings.{AddsItem}
 use Rattle.mta_names.specs.Values.{Each, IsName}
 use Rattle.mta_names.proofs.Kept.{KeepsAt, spelled_kept, some_so, name_kept}
 use Rattle.mta_names.proofs.NameLaws.{name_is}
-use Rattle.mta_names.proofs.Rows.{none_begins}
+use Rattle.mta_fields.proofs.Tagged.{none_tagged_begins}
 use Rattle.mta_names.proofs.Tools.{each_more}
 use Rattle.mta_fields.specs.ExtensionFields.{IsExtField}
 use Rattle.mta_fields.specs.Laws.{KeepsExtField}
@@ -115,7 +115,7 @@ pub record AreKeptRecipients (depth : ℕ) (vs : List ReportedFields) : Type 0 w
 
 reported_more : (depth : ℕ) → depth + 4 ≤ 16 → KeepsAt (AddsItem is_set SpellsReportedItem) (AreKeptRecipients depth) depth
 reported_more depth d s t tag content octets stands m h =
-    let k = reported_kept depth tag.constructed content m.item m.spelled d in
+    let k = reported_kept depth tag content m.item m.spelled d in
     subst (AreKeptRecipients depth) (sym m.after_is) (record { recipients = each_more IsWholeReported s m.item h.recipients k.1; kept = each_more (KeepsReported depth) s m.item h.kept k.0 })
 
 pub reported_list_kept : (depth : ℕ) (c : Bool) (content : List ℕ) (vs : List ReportedFields) → SpellsReportedList depth c content vs → depth + 5 ≤ 16 → AreKeptRecipients (depth + 1) vs
@@ -123,4 +123,4 @@ reported_list_kept depth c content vs h d =
     spelled_kept (AddsItem is_set SpellsReportedItem) (AreKeptRecipients (depth + 1)) depth (reported_more (depth + 1) (omega arith)) [] vs content h.spelled (record { recipients = tt; kept = tt })
 
 pub no_reported_begins : NoRecipientBeginsAnother
-no_reported_begins = none_begins reported_in SpellsReported (λ v p d h. reported_full v p h)
+no_reported_begins = none_tagged_begins reported_in SpellsReported (λ v p d h. reported_full v p h)

@@ -4,19 +4,21 @@ use Rattle.std.specs.Prelude.{IfSome}
 use Rattle.mta_ber.specs.declared.fault.Kind.TheVariants.{Twice}
 use Rattle.mta_ber.specs.declared.tag.Tag.{Tag}
 use Rattle.mta_ber.specs.Element.{Part}
+use Rattle.mta_ber.specs.Forms.{is_primitive_tag, is_constructed_tag, components_under}
 use Rattle.mta_ber.specs.Head.{◌>>=◌, fault}
 use Rattle.mta_ber.specs.Octet.{IsOctets}
-use Rattle.mta_ber.specs.Parts.{components, is_tag, required}
+use Rattle.mta_ber.specs.Parts.{is_tag, required}
 use Rattle.mta_ber.specs.Spelling.{Stands}
 use Rattle.mta_ber.proofs.ComponentLaws.{StepSound, StepFull}
 use Rattle.mta_ber.proofs.ExplicitLaws.{ReadSound, ReadFull}
+use Rattle.mta_ber.proofs.FormLaws.{primitive_is, constructed_is, components_under_sound, components_under_full}
 use Rattle.mta_ber.proofs.Steps.{bind_ok, ok_is, passed, required_so}
 use Rattle.mta_names.specs.Names.{name_in, SpellsName}
 use Rattle.mta_names.specs.Strings.{number_in, SpellsNumber}
 use Rattle.mta_names.specs.Values.{IsRaw}
 use Rattle.mta_names.proofs.ExtensionLaws.{number_sound, number_full}
 use Rattle.mta_names.proofs.NameLaws.{name_sound, name_full}
-use Rattle.mta_names.proofs.Tools.{puts_sound, puts_full, tag_is, picked, not_none, components_sound, components_full, list_sound, list_full, Keeps, spelled_keep}
+use Rattle.mta_names.proofs.Tools.{puts_sound, puts_full, tag_is, picked, not_none, list_sound, list_full, Keeps, spelled_keep}
 use Rattle.mta_fields.specs.Traces.{raw_in}
 use Rattle.mta_common.specs.ExtensionLists.{ext_list_in, SpellsExtList}
 use Rattle.mta_common.specs.Indicators.{IsIndicators, indicators_in, SpellsIndicators}
@@ -45,16 +47,16 @@ abbrev HasTag : Tag → ReportedPart → Type 0
 HasTag t k = is_reported_tag k t ≡ true
 
 tagged : (t : Tag) (k : ReportedPart) → reported_part_of t ≡ Some k → HasTag t k
-tagged t = picked (HasTag t) (is_tag 2 0 t) Actual _ (λ e. e) (picked (HasTag t) (is_tag 2 1 t) Number _ (λ e. e) (picked (HasTag t) (is_tag 2 2 t) Indicators _ (λ e. e) (picked (HasTag t) (is_tag 2 3 t) Last _ (λ e. e) (picked (HasTag t) (is_tag 2 4 t) Intended _ (λ e. e) (picked (HasTag t) (is_tag 2 5 t) Supplementary _ (λ e. e) (picked (HasTag t) (is_tag 2 6 t) Extensions _ (λ e. e) (not_none (HasTag t))))))))
+tagged t = picked (HasTag t) (is_constructed_tag 2 0 t) Actual _ (λ e. e) (picked (HasTag t) (is_primitive_tag 2 1 t) Number _ (λ e. e) (picked (HasTag t) (is_tag 2 2 t) Indicators _ (λ e. e) (picked (HasTag t) (is_constructed_tag 2 3 t) Last _ (λ e. e) (picked (HasTag t) (is_constructed_tag 2 4 t) Intended _ (λ e. e) (picked (HasTag t) (is_tag 2 5 t) Supplementary _ (λ e. e) (picked (HasTag t) (is_constructed_tag 2 6 t) Extensions _ (λ e. e) (not_none (HasTag t))))))))
 
 found : (k : ReportedPart) (t : Tag) → HasTag t k → reported_part_of t ≡ Some k
-found Actual t h = let e = tag_is 2 0 t h in rw (e.0, e.1) refl
-found Number t h = let e = tag_is 2 1 t h in rw (e.0, e.1) refl
+found Actual t h = let e = constructed_is 2 0 t h in rw (e.0, e.1, e.2) refl
+found Number t h = let e = primitive_is 2 1 t h in rw (e.0, e.1, e.2) refl
 found Indicators t h = let e = tag_is 2 2 t h in rw (e.0, e.1) refl
-found Last t h = let e = tag_is 2 3 t h in rw (e.0, e.1) refl
-found Intended t h = let e = tag_is 2 4 t h in rw (e.0, e.1) refl
+found Last t h = let e = constructed_is 2 3 t h in rw (e.0, e.1, e.2) refl
+found Intended t h = let e = constructed_is 2 4 t h in rw (e.0, e.1, e.2) refl
 found Supplementary t h = let e = tag_is 2 5 t h in rw (e.0, e.1) refl
-found Extensions t h = let e = tag_is 2 6 t h in rw (e.0, e.1) refl
+found Extensions t h = let e = constructed_is 2 6 t h in rw (e.0, e.1, e.2) refl
 
 part_sound : (k : ReportedPart) (s t : ReportedParts) (p : Part) → p.depth ≤ 16 → IsOctets p.content → reported_part_in k s p ≡ Ok t → MakesReportedPart k p.depth s p.tag p.content p.octets t
 part_sound Actual s t p d o e = puts_sound (name_in p) (with_name s) t (SpellsName p.depth p.tag.constructed p.content) (λ x r. name_sound x p o r) e
@@ -91,18 +93,18 @@ step_full s t p shallow h =
     ∙ ap (λ b. cond b (fault p.at Twice) (reported_part_in h.part s p)) h.absent
     ∙ part_full h.part s t p shallow h.made
 
-pub reported_sound : (v : ReportedFields) (p : Part) → IsOctets p.content → reported_in p ≡ Ok v → SpellsReported p.depth p.tag.constructed p.content v
+pub reported_sound : (v : ReportedFields) (p : Part) → IsOctets p.content → reported_in p ≡ Ok v → SpellsReported p.depth p.tag p.content v
 unfolding reported_in
 reported_sound v p octets e =
-    let a = bind_ok (components reported_step no_reported p) (λ s. reported_from s p.at) v e in
-    let c = components_sound reported_step MakesReported step_sound no_reported a.0 p octets a.1 in
+    let a = bind_ok (components_under 0 17 reported_step no_reported p) (λ s. reported_from s p.at) v e in
+    let c = components_under_sound 0 17 reported_step MakesReported step_sound no_reported a.0 p octets a.1 in
     let r0 = bind_ok (required a.0.name p.at) (λ name. required a.0.number p.at >>= λ number. required a.0.indicators p.at >>= λ indicators. required a.0.last p.at >>= λ last. Ok (reported name number indicators last a.0)) v a.2 in
     let r1 = bind_ok (required a.0.number p.at) (λ number. required a.0.indicators p.at >>= λ indicators. required a.0.last p.at >>= λ last. Ok (reported r0.0 number indicators last a.0)) v r0.2 in
     let r2 = bind_ok (required a.0.indicators p.at) (λ indicators. required a.0.last p.at >>= λ last. Ok (reported r0.0 r1.0 indicators last a.0)) v r1.2 in
     let r3 = bind_ok (required a.0.last p.at) (λ last. Ok (reported r0.0 r1.0 r2.0 last a.0)) v r2.2 in
     let made = reported r0.0 r1.0 r2.0 r3.0 a.0 in
-    subst (λ (x : ReportedFields). SpellsReported p.depth p.tag.constructed p.content x) {x = made} (ok_is made v r3.2) (record {
-      is_constructed = c.0;
+    subst (λ (x : ReportedFields). SpellsReported p.depth p.tag p.content x) {x = made} (ok_is made v r3.2) (record {
+      is_tag_of = c.0;
       parts = a.0;
       spelled = c.1;
       name = r0.0;
@@ -116,10 +118,10 @@ reported_sound v p octets e =
       value = refl {a = made};
     })
 
-pub reported_full : (v : ReportedFields) (p : Part) → SpellsReported p.depth p.tag.constructed p.content v → reported_in p ≡ Ok v
+pub reported_full : (v : ReportedFields) (p : Part) → SpellsReported p.depth p.tag p.content v → reported_in p ≡ Ok v
 unfolding reported_in
 reported_full v p h =
-    ap (λ r. r >>= λ s. reported_from s p.at) (components_full reported_step MakesReported step_full no_reported h.parts p h.is_constructed h.spelled)
+    ap (λ r. r >>= λ s. reported_from s p.at) (components_under_full 0 17 reported_step MakesReported step_full no_reported h.parts p h.is_tag_of h.spelled)
     ∙ ap (λ o. required o p.at >>= λ name. required h.parts.number p.at >>= λ number. required h.parts.indicators p.at >>= λ indicators. required h.parts.last p.at >>= λ last. Ok (reported name number indicators last h.parts)) h.name_is
     ∙ ap (λ o. required o p.at >>= λ number. required h.parts.indicators p.at >>= λ indicators. required h.parts.last p.at >>= λ last. Ok (reported h.name number indicators last h.parts)) h.number_is
     ∙ ap (λ o. required o p.at >>= λ indicators. required h.parts.last p.at >>= λ last. Ok (reported h.name h.number indicators last h.parts)) h.indicators_is
@@ -146,11 +148,11 @@ keeps_part Extensions depth s t tag content octets is stands m h = subst Reporte
 keeps : Keeps MakesReported ReportedHolds
 keeps depth s t tag content octets stands m h = keeps_part m.part depth s t tag content octets m.is_tag_of stands m.made h
 
-held : (depth : ℕ) (c : Bool) (content : List ℕ) (v : ReportedFields) (h : SpellsReported depth c content v) → ReportedHolds h.parts
+held : (depth : ℕ) (tag : Tag) (content : List ℕ) (v : ReportedFields) (h : SpellsReported depth tag content v) → ReportedHolds h.parts
 held depth c content v h = spelled_keep MakesReported ReportedHolds keeps depth no_reported h.parts content h.spelled (record { number = tt; indicators = tt; last = tt; supplementary = tt })
 
 -- what is spelled is such a recipient
-pub reported_is : (depth : ℕ) (c : Bool) (content : List ℕ) (v : ReportedFields) → SpellsReported depth c content v → IsReported v
+pub reported_is : (depth : ℕ) (tag : Tag) (content : List ℕ) (v : ReportedFields) → SpellsReported depth tag content v → IsReported v
 reported_is depth c content v h =
     let k = held depth c content v h in
     let number : IsNumber h.number = subst (λ o. IfSome o IsNumber) h.number_is k.number in

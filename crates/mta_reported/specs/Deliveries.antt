@@ -7,6 +7,7 @@ use Rattle.mta_ber.specs.Canon.{element, constructed, primitive}
 use Rattle.mta_ber.specs.Components.{SpellsComponents}
 use Rattle.mta_ber.specs.Contents.{canon_int, canon_utc}
 use Rattle.mta_ber.specs.Element.{Part}
+use Rattle.mta_ber.specs.Forms.{is_primitive_tag}
 use Rattle.mta_ber.specs.Head.{◌>>=◌, fault}
 use Rattle.mta_ber.specs.Moments.{SpellsMoment}
 use Rattle.mta_ber.specs.Parts.{components, is_tag, required}
@@ -21,13 +22,13 @@ use Rattle.mta_reported.specs.declared.delivery.DeliveryParts.{DeliveryParts}
 abbrev pub delivery_part_of : Tag → Option DeliveryPart
 delivery_part_of t =
     if is_tag 2 0 t then Some Moment
-    else if is_tag 2 1 t then Some User
+    else if is_primitive_tag 2 1 t then Some User
     else None
 
 -- whether a tag is that of a component
 abbrev pub is_delivery_tag : DeliveryPart → Tag → Bool
 is_delivery_tag Moment t = is_tag 2 0 t
-is_delivery_tag User t = is_tag 2 1 t
+is_delivery_tag User t = is_primitive_tag 2 1 t
 
 -- whether a component is there already
 abbrev pub delivery_held : DeliveryPart → DeliveryParts → Bool

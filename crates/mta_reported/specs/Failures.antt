@@ -7,6 +7,7 @@ use Rattle.mta_ber.specs.Canon.{element, constructed, primitive, optional}
 use Rattle.mta_ber.specs.Components.{SpellsComponents}
 use Rattle.mta_ber.specs.Contents.{canon_int}
 use Rattle.mta_ber.specs.Element.{Part}
+use Rattle.mta_ber.specs.Forms.{is_primitive_tag}
 use Rattle.mta_ber.specs.Head.{◌>>=◌, fault}
 use Rattle.mta_ber.specs.Parts.{components, is_tag, required}
 use Rattle.mta_names.specs.Strings.{Puts, number_in, SpellsNumber}
@@ -18,14 +19,14 @@ use Rattle.mta_reported.specs.declared.failure.FailureParts.{FailureParts}
 
 abbrev pub failure_part_of : Tag → Option FailurePart
 failure_part_of t =
-    if is_tag 2 0 t then Some Reason
-    else if is_tag 2 1 t then Some Diagnostic
+    if is_primitive_tag 2 0 t then Some Reason
+    else if is_primitive_tag 2 1 t then Some Diagnostic
     else None
 
 -- whether a tag is that of a component
 abbrev pub is_failure_tag : FailurePart → Tag → Bool
-is_failure_tag Reason t = is_tag 2 0 t
-is_failure_tag Diagnostic t = is_tag 2 1 t
+is_failure_tag Reason t = is_primitive_tag 2 0 t
+is_failure_tag Diagnostic t = is_primitive_tag 2 1 t
 
 -- whether a component is there already
 abbrev pub failure_held : FailurePart → FailureParts → Bool

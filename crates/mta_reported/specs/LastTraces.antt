@@ -8,6 +8,7 @@ use Rattle.mta_ber.specs.Components.{SpellsComponents}
 use Rattle.mta_ber.specs.Contents.{canon_utc}
 use Rattle.mta_ber.specs.Element.{Part, explicit}
 use Rattle.mta_ber.specs.Explicit.{SpellsExplicit}
+use Rattle.mta_ber.specs.Forms.{is_constructed_tag}
 use Rattle.mta_ber.specs.Head.{◌>>=◌, fault}
 use Rattle.mta_ber.specs.Moments.{SpellsMoment}
 use Rattle.mta_ber.specs.Parts.{components, is_tag, required}
@@ -25,14 +26,14 @@ use Rattle.mta_reported.specs.Outcomes.{outcome_choice, SpellsOutcome, canonical
 abbrev pub last_part_of : Tag → Option LastPart
 last_part_of t =
     if is_tag 2 0 t then Some Arrival
-    else if is_tag 2 1 t then Some ReportType
+    else if is_constructed_tag 2 1 t then Some ReportType
     else if is_tag 1 5 t then Some Converted
     else None
 
 -- whether a tag is that of a component
 abbrev pub is_last_tag : LastPart → Tag → Bool
 is_last_tag Arrival t = is_tag 2 0 t
-is_last_tag ReportType t = is_tag 2 1 t
+is_last_tag ReportType t = is_constructed_tag 2 1 t
 is_last_tag Converted t = is_tag 1 5 t
 
 -- whether a component is there already

@@ -10,8 +10,9 @@ use Rattle.mta_ber.specs.Components.{SpellsComponents}
 use Rattle.mta_ber.specs.Contents.{canon_int}
 use Rattle.mta_ber.specs.Element.{Part}
 use Rattle.mta_ber.specs.Explicit.{Spells}
+use Rattle.mta_ber.specs.Forms.{is_primitive_tag, is_constructed_tag, components_under}
 use Rattle.mta_ber.specs.Head.{◌>>=◌, fault}
-use Rattle.mta_ber.specs.Parts.{components, is_tag, required}
+use Rattle.mta_ber.specs.Parts.{is_tag, required}
 use Rattle.mta_names.specs.declared.attributes.Attributes.{Attributes}
 use Rattle.mta_names.specs.Lists.{list_in, SpellsList}
 use Rattle.mta_names.specs.Names.{name_in, SpellsName, canonical_name, kept}
@@ -29,24 +30,24 @@ use Rattle.mta_reported.specs.LastTraces.{last_in, SpellsLast, canonical_last}
 
 abbrev pub reported_part_of : Tag → Option ReportedPart
 reported_part_of t =
-    if is_tag 2 0 t then Some Actual
-    else if is_tag 2 1 t then Some Number
+    if is_constructed_tag 2 0 t then Some Actual
+    else if is_primitive_tag 2 1 t then Some Number
     else if is_tag 2 2 t then Some Indicators
-    else if is_tag 2 3 t then Some Last
-    else if is_tag 2 4 t then Some Intended
+    else if is_constructed_tag 2 3 t then Some Last
+    else if is_constructed_tag 2 4 t then Some Intended
     else if is_tag 2 5 t then Some Supplementary
-    else if is_tag 2 6 t then Some Extensions
+    else if is_constructed_tag 2 6 t then Some Extensions
     else None
 
 -- whether a tag is that of a component
 abbrev pub is_reported_tag : ReportedPart → Tag → Bool
-is_reported_tag Actual t = is_tag 2 0 t
-is_reported_tag Number t = is_tag 2 1 t
+is_reported_tag Actual t = is_constructed_tag 2 0 t
+is_reported_tag Number t = is_primitive_tag 2 1 t
 is_reported_tag Indicators t = is_tag 2 2 t
-is_reported_tag Last t = is_tag 2 3 t
-is_reported_tag Intended t = is_tag 2 4 t
+is_reported_tag Last t = is_constructed_tag 2 3 t
+is_reported_tag Intended t = is_constructed_tag 2 4 t
 is_reported_tag Supplementary t = is_tag 2 5 t
-is_reported_tag Extensions t = is_tag 2 6 t
+is_reported_tag Extensions t = is_constructed_tag 2 6 t
 
 -- whether a component is there already
 abbrev pub reported_held : ReportedPart → ReportedParts → Bool
@@ -121,7 +122,7 @@ abbrev pub reported_from : ReportedParts → ℕ → Result ReportedFields Fault
 reported_from s at = required s.name at >>= λ name. required s.number at >>= λ number. required s.indicators at >>= λ indicators. required s.last at >>= λ last. Ok (reported name number indicators last s)
 
 unfoldable pub reported_in : Part → Result ReportedFields Fault
-reported_in p = components reported_step no_reported p >>= λ s. reported_from s p.at
+reported_in p = components_under 0 17 reported_step no_reported p >>= λ s. reported_from s p.at
 
 -- ---- what spells a recipient of whom is reported
 
@@ -141,8 +142,8 @@ pub record MakesReported (depth : ℕ) (before : ReportedParts) (tag : Tag) (con
   pub made : MakesReportedPart part depth before tag content octets after
 
 -- a SET of its components in any order, each at most once
-pub record SpellsReported (depth : ℕ) (constructed : Bool) (content : List ℕ) (v : ReportedFields) : Type 0 where
-  pub is_constructed : constructed ≡ true
+pub record SpellsReported (depth : ℕ) (tag : Tag) (content : List ℕ) (v : ReportedFields) : Type 0 where
+  pub is_tag_of : is_constructed_tag 0 17 tag ≡ true
   pub parts : ReportedParts
   pub spelled : SpellsComponents MakesReported depth no_reported content parts
   pub name : Attributes
@@ -167,7 +168,7 @@ unfoldable pub reported_list_in : Part → Result (List ReportedFields) Fault
 reported_list_in p = list_in is_set reported_in 1 32767 p
 
 abbrev pub SpellsReportedItem : Spells ReportedFields
-SpellsReportedItem depth tag content octets v = SpellsReported depth tag.constructed content v
+SpellsReportedItem depth tag content octets v = SpellsReported depth tag content v
 
 abbrev pub SpellsReportedList : ℕ → Bool → List ℕ → List ReportedFields → Type 0
 SpellsReportedList depth constructed content vs = SpellsList is_set SpellsReportedItem 1 32767 depth constructed content vs

@@ -8,10 +8,7 @@ ghost use Rattle.mta_reported.specs.Values.{IsMoment};
 ghost use Rattle.mta_reported.specs.Deliveries.{delivery_part_of, delivery_held, delivery_part_in, delivery_step, delivery_from, delivery_in, canonical_user, canonical_delivery};
 
 use crate::outcome::Outcome;
-use mta_ber::{
-    Components, Kind, Memory, ReadFault, Tag, View, Writer, bad, is_tag_of, put_int, put_utc,
-    take_parts, take_required,
-};
+use mta_ber::{Components, Kind, Memory, ReadFault, Tag, View, Writer, bad, is_tag_of, put_int, put_utc, take_parts, take_required, is_primitive_tag};
 use mta_names::{constructed, primitive, put_around, read_number};
 use std::alloc::Global;
 
@@ -34,7 +31,7 @@ fn part_of(tag: Tag) -> Option<DeliveryPart>
 {
     if is_tag_of(tag, 2, 0) {
         Some(DeliveryPart::Moment)
-    } else if is_tag_of(tag, 2, 1) {
+    } else if is_primitive_tag(tag, 2, 1) {
         Some(DeliveryPart::User)
     } else {
         None

@@ -7,10 +7,7 @@ ghost use Rattle.mta_ber.specs.Seen.{view};
 ghost use Rattle.mta_reported.specs.Failures.{failure_part_of, failure_held, failure_part_in, failure_step, failure_from, failure_in, canonical_diagnostic, canonical_failure};
 
 use crate::outcome::Outcome;
-use mta_ber::{
-    Components, Kind, Memory, ReadFault, Tag, View, Writer, bad, is_tag_of, put_int, take_parts,
-    take_required,
-};
+use mta_ber::{Components, Kind, Memory, ReadFault, Tag, View, Writer, bad, put_int, take_parts, take_required, is_primitive_tag};
 use mta_names::{constructed, primitive, put_around, read_number};
 use std::alloc::Global;
 
@@ -31,9 +28,9 @@ pub struct FailureParts {
 fn part_of(tag: Tag) -> Option<FailurePart>
     ensures { result ≡ failure_part_of tag }
 {
-    if is_tag_of(tag, 2, 0) {
+    if is_primitive_tag(tag, 2, 0) {
         Some(FailurePart::Reason)
-    } else if is_tag_of(tag, 2, 1) {
+    } else if is_primitive_tag(tag, 2, 1) {
         Some(FailurePart::Diagnostic)
     } else {
         None

@@ -9,10 +9,7 @@ ghost use Rattle.mta_reported.specs.Values.{IsMoment, IsOutcome};
 ghost use Rattle.mta_reported.specs.LastTraces.{last_part_of, last_held, last_part_in, last_step, last_from, last_in, last_content, canonical_last};
 
 use crate::outcome::{Outcome, put_outcome, read_outcome};
-use mta_ber::{
-    Components, Kind, Memory, Octets, ReadFault, Tag, View, Writer, bad, is_tag_of, put_utc,
-    take_parts, take_required,
-};
+use mta_ber::{Components, Kind, Memory, Octets, ReadFault, Tag, View, Writer, bad, is_tag_of, put_utc, take_parts, take_required, is_constructed_tag};
 use mta_names::{constructed, primitive, put_around, put_raw_if};
 use std::alloc::Global;
 
@@ -45,7 +42,7 @@ fn part_of(tag: Tag) -> Option<LastPart>
 {
     if is_tag_of(tag, 2, 0) {
         Some(LastPart::Arrival)
-    } else if is_tag_of(tag, 2, 1) {
+    } else if is_constructed_tag(tag, 2, 1) {
         Some(LastPart::ReportType)
     } else if is_tag_of(tag, 1, 5) {
         Some(LastPart::Converted)

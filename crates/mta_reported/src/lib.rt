@@ -6,10 +6,12 @@ mod delivery;
 mod failure;
 mod last;
 mod laws;
+mod length;
 mod outcome;
 mod recipients;
 mod reported;
 
+pub use length::recipients_length;
 pub use laws::{
     no_recipient_begins_another, recipients_are_read_again, recipients_that_were_read_are_kept,
     recipients_that_were_read_are_read_again,

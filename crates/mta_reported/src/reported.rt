@@ -7,12 +7,10 @@ ghost use Rattle.mta_ber.specs.Seen.{view};
 ghost use Rattle.mta_reported.specs.Values.{IsReported};
 ghost use Rattle.mta_reported.specs.ReportedRecipients.{reported_part_of, reported_held, reported_part_in, reported_step, reported_complete, reported_from, reported_in, canonical_intended, reported_content};
 
+use crate::length::components_length;
 use crate::last::{LastTrace, put_last, read_last};
 use crate::outcome::Outcome;
-use mta_ber::{
-    Bits, Components, Kind, Memory, Octets, ReadFault, Tag, View, Writer, bad, is_tag_of, put_int,
-    take_parts,
-};
+use mta_ber::{Bits, Components, Kind, Memory, Octets, ReadFault, Tag, View, Writer, bad, is_tag_of, put_int, take_parts, is_constructed_tag, is_primitive_tag, element_length};
 use mta_common::{put_extensions, put_indicators, read_extensions, read_indicators};
 use mta_fields::ExtField;
 use mta_names::{OrName, Row, constructed, primitive, put_around, put_raw_if, read_number};
@@ -86,19 +84,19 @@ pub struct ReportedParts {
 fn part_of(tag: Tag) -> Option<ReportedPart>
     ensures { result ≡ reported_part_of tag }
 {
-    if is_tag_of(tag, 2, 0) {
+    if is_constructed_tag(tag, 2, 0) {
         Some(ReportedPart::Actual)
-    } else if is_tag_of(tag, 2, 1) {
+    } else if is_primitive_tag(tag, 2, 1) {
         Some(ReportedPart::Number)
     } else if is_tag_of(tag, 2, 2) {
         Some(ReportedPart::Indicators)
-    } else if is_tag_of(tag, 2, 3) {
+    } else if is_constructed_tag(tag, 2, 3) {
         Some(ReportedPart::Last)
-    } else if is_tag_of(tag, 2, 4) {
+    } else if is_constructed_tag(tag, 2, 4) {
         Some(ReportedPart::Intended)
     } else if is_tag_of(tag, 2, 5) {
         Some(ReportedPart::Supplementary)
-    } else if is_tag_of(tag, 2, 6) {
+    } else if is_constructed_tag(tag, 2, 6) {
         Some(ReportedPart::Extensions)
     } else {
         None
@@ -228,7 +226,7 @@ fn finished(alloc: Global, parts: ReportedParts, at: u32) -> Result<ReportedFiel
 fn read_fields(alloc: Global, whole: &View) -> Result<ReportedFields, ReadFault>
     ensures { Reads result (reported_in (view whole.now)) }
 {
-    if !whole.tag.constructed {
+    if !is_constructed_tag(whole.tag, 0, 17) {
         return bad(whole.at, Kind::BadTag);
     }
     let mut parts = ReportedParts {
@@ -274,20 +272,21 @@ fn put_fields(alloc: Global, v: &ReportedFields) -> Result<Writer, Memory>
 impl Reported {
     ghost use Rattle.std.specs.Prelude.{◌≡◌, IfOk, OnOk, OnErr};
     ghost use Rattle.mta_ber.specs.Canon.{appended};
+    ghost use Rattle.mta_ber.specs.Lengths.{octet_length};
     ghost use Rattle.mta_ber.specs.Parts.{Reads, IsReadAs};
     ghost use Rattle.mta_ber.specs.Seen.{view};
     ghost use Rattle.mta_reported.specs.declared.reported.ReportedFields.{ReportedFields};
     ghost use Rattle.mta_reported.specs.Values.{IsReported};
     ghost use Rattle.mta_reported.specs.ReportedRecipients.{reported_in, SpellsReported, canonical_reported};
 
-    /// The recipient that an element spells, whatever its tag, which is that of SET and for the caller to check.
+    /// The recipient that an element spells, a SET. BadTag at an element of any other tag.
     pub fn read(alloc: Global, whole: &View) -> Result<Reported, ReadFault>
         // Which recipient it is, or which fault comes first.
         ensures exact { Reads result (reported_in (view whole.now)) }
 
-        // What is answered is spelled by the content, and what the content spells is answered.
-        ensures found { IfOk result (SpellsReported whole.now.depth whole.now.tag.constructed whole.now.content.now) }
-        ensures only { (v : ReportedFields) → SpellsReported whole.now.depth whole.now.tag.constructed whole.now.content.now v → IsReadAs result v }
+        // What is answered is spelled by the element, and what the element spells is answered.
+        ensures found { IfOk result (SpellsReported whole.now.depth whole.now.tag whole.now.content.now) }
+        ensures only { (v : ReportedFields) → SpellsReported whole.now.depth whole.now.tag whole.now.content.now v → IsReadAs result v }
     {
         match read_fields(alloc, whole) {
             Ok(fields) => Ok(Reported { fields }),
@@ -303,6 +302,14 @@ impl Reported {
     {
         let inside = put_fields(w.alloc(), &self.fields)?;
         put_around(w, constructed(0, 17), &inside)
+    }
+
+    /// How many octets `write` appends, told without memory; 2^64 - 1 where there are as many or more.
+    #[tactic(auto, unfolding(crate::specs::ReportedRecipients::canonical_reported))]
+    pub fn length(&self) -> u64
+        ensures { result ≡ octet_length (canonical_reported self.now) }
+    {
+        element_length(constructed(0, 17), components_length(&self.fields))
     }
 
     /// A recipient of these parts, which takes no memory.

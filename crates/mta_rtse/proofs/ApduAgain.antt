@@ -37,7 +37,7 @@ use Rattle.mta_rtse.proofs.AgainLaws.{context, universal, int_fits, number_again
 -- what is read again can be written
 pub writable : (q : Request) → IsReadAgain q → IsWritableRequest q
 writable ask.Null h = tt
-writable (ask.Bind name password) h = record { name_fits = h.name_fits; password_fits = h.password_fits.at_most }
+writable (ask.Bind name password) h = h
 writable (ask.Recover i) h = tt
 
 pub identified : (q : Request) → IsReadAgain q → HasIdentifier q

@@ -1,8 +1,9 @@
 -- RTORQ, RTOAC, RTORJ and RTAB are read exactly where they are spelled.
 use Rattle.std.proofs.Common.{◌≡◌, ℕ, Bool, true, false, cond, Result, Ok, refl, sym, ap, subst, ◌∙◌, inl, inr}
-use Rattle.std.specs.Prelude.{unwrap_or, ◌&&◌}
+use Rattle.std.specs.Prelude.{unwrap_or, ◌&&◌, not}
 use Rattle.mta_ber.specs.declared.fault.Fault.{Fault}
 use Rattle.mta_ber.specs.declared.fault.Kind.TheVariants.{BadTag, Twice}
+use Rattle.mta_ber.specs.Forms.{is_primitive_tag, is_constructed_tag}
 use Rattle.mta_ber.specs.Head.{◌>>=◌, fault}
 use Rattle.mta_ber.specs.Octet.{IsOctets}
 use Rattle.mta_ber.specs.Element.{Part}
@@ -25,7 +26,7 @@ use Rattle.mta_rtse.specs.Request.{default_window, rtorq_step, no_request, rtorq
 use Rattle.mta_rtse.specs.Answer.{rtoac_step, no_answer, rtoac_parts_in, rtoac_in}
 use Rattle.mta_rtse.specs.Reason.{reason_step, no_reason, reason_in, rtorj_in, rtab_in}
 use Rattle.mta_rtse.specs.Spelling.{MakesRequest, SpellsRtorq, MakesAnswer, SpellsRtoac, MakesReason, SpellsReason, SpellsRtorj, SpellsRtab}
-use Rattle.mta_rtse.proofs.Slots.{not_tag, pick, pass, fills_sound, fills_full, components_sound, components_full}
+use Rattle.mta_rtse.proofs.Slots.{not_tag, is_plain, not_formed, pick, pass, fills_sound, fills_full, components_sound, components_full}
 use Rattle.mta_rtse.proofs.ValueLaws.{number_sound, number_full, flag_sound, flag_full, nothing_read, anything_sound, anything_full}
 use Rattle.mta_rtse.proofs.ConnectionLaws.{request_data_sound, request_data_full, answer_data_sound, answer_data_full}
 
@@ -34,13 +35,13 @@ use Rattle.mta_rtse.proofs.ConnectionLaws.{request_data_sound, request_data_full
 request_step_sound : StepSound rtorq_step MakesRequest
 unfolding rtorq_step
 request_step_sound s t p shallow octets own e =
-    elim (chosen (is_tag 2 0 p.tag) _ _ _ e) [
+    elim (chosen (is_primitive_tag 2 0 p.tag) _ _ _ e) [
       | inl y ↦ inl (fills_sound number_in number_sound s t p shallow octets own y.0 y.1)
-      | inr n ↦ elim (chosen (is_tag 2 1 p.tag) _ _ _ n.1) [
+      | inr n ↦ elim (chosen (is_primitive_tag 2 1 p.tag) _ _ _ n.1) [
         | inl y ↦ inr (inl (fills_sound number_in number_sound s t p shallow octets own y.0 y.1))
-        | inr n ↦ elim (chosen (is_tag 2 2 p.tag) _ _ _ n.1) [
+        | inr n ↦ elim (chosen (is_primitive_tag 2 2 p.tag) _ _ _ n.1) [
           | inl y ↦ inr (inr (inl (fills_sound flag_in flag_sound s t p shallow octets own y.0 y.1)))
-          | inr n ↦ elim (chosen (is_tag 2 3 p.tag) _ _ _ n.1) [
+          | inr n ↦ elim (chosen (is_constructed_tag 2 3 p.tag) _ _ _ n.1) [
             | inl y ↦ inr (inr (inr (inl (fills_sound request_in request_data_sound s t p shallow octets own y.0 y.1))))
             | inr n ↦ elim (chosen (is_tag 2 4 p.tag) _ _ _ n.1) [
               | inl y ↦ inr (inr (inr (inr (fills_sound nothing_read anything_sound s t p shallow octets own y.0 y.1))))
@@ -55,14 +56,14 @@ request_step_full : StepFull rtorq_step MakesRequest
 unfolding rtorq_step
 request_step_full s t p shallow (inl a) = pick _ a.is_tag_of (fills_full number_in number_full s t p shallow a)
 request_step_full s t p shallow (inr (inl a)) =
-    pass _ (not_tag 2 1 2 0 p.tag a.is_tag_of refl) (pick _ a.is_tag_of (fills_full number_in number_full s t p shallow a))
+    pass _ (not_formed 2 1 2 0 p.tag (not p.tag.constructed) (is_plain 2 1 p.tag (not p.tag.constructed) a.is_tag_of) refl) (pick _ a.is_tag_of (fills_full number_in number_full s t p shallow a))
 request_step_full s t p shallow (inr (inr (inl a))) =
-    pass _ (not_tag 2 2 2 0 p.tag a.is_tag_of refl) (pass _ (not_tag 2 2 2 1 p.tag a.is_tag_of refl) (pick _ a.is_tag_of (fills_full flag_in flag_full s t p shallow a)))
+    pass _ (not_formed 2 2 2 0 p.tag (not p.tag.constructed) (is_plain 2 2 p.tag (not p.tag.constructed) a.is_tag_of) refl) (pass _ (not_formed 2 2 2 1 p.tag (not p.tag.constructed) (is_plain 2 2 p.tag (not p.tag.constructed) a.is_tag_of) refl) (pick _ a.is_tag_of (fills_full flag_in flag_full s t p shallow a)))
 request_step_full s t p shallow (inr (inr (inr (inl a)))) =
-    pass _ (not_tag 2 3 2 0 p.tag a.is_tag_of refl) (pass _ (not_tag 2 3 2 1 p.tag a.is_tag_of refl) (pass _ (not_tag 2 3 2 2 p.tag a.is_tag_of refl)
+    pass _ (not_formed 2 3 2 0 p.tag (not p.tag.constructed) (is_plain 2 3 p.tag (p.tag.constructed) a.is_tag_of) refl) (pass _ (not_formed 2 3 2 1 p.tag (not p.tag.constructed) (is_plain 2 3 p.tag (p.tag.constructed) a.is_tag_of) refl) (pass _ (not_formed 2 3 2 2 p.tag (not p.tag.constructed) (is_plain 2 3 p.tag (p.tag.constructed) a.is_tag_of) refl)
     (pick _ a.is_tag_of (fills_full request_in request_data_full s t p shallow a))))
 request_step_full s t p shallow (inr (inr (inr (inr a)))) =
-    pass _ (not_tag 2 4 2 0 p.tag a.is_tag_of refl) (pass _ (not_tag 2 4 2 1 p.tag a.is_tag_of refl) (pass _ (not_tag 2 4 2 2 p.tag a.is_tag_of refl) (pass _ (not_tag 2 4 2 3 p.tag a.is_tag_of refl)
+    pass _ (not_formed 2 4 2 0 p.tag (not p.tag.constructed) a.is_tag_of refl) (pass _ (not_formed 2 4 2 1 p.tag (not p.tag.constructed) a.is_tag_of refl) (pass _ (not_formed 2 4 2 2 p.tag (not p.tag.constructed) a.is_tag_of refl) (pass _ (not_formed 2 4 2 3 p.tag (p.tag.constructed) a.is_tag_of refl)
     (pick _ a.is_tag_of (fills_full nothing_read anything_full s t p shallow a)))))
 
 abbrev open_request : ℕ → ℕ → Bool → Request → OpenRequest
@@ -108,11 +109,11 @@ rtorq_full v p shallow h =
 answer_step_sound : StepSound rtoac_step MakesAnswer
 unfolding rtoac_step
 answer_step_sound s t p shallow octets own e =
-    elim (chosen (is_tag 2 0 p.tag) _ _ _ e) [
+    elim (chosen (is_primitive_tag 2 0 p.tag) _ _ _ e) [
       | inl y ↦ inl (fills_sound number_in number_sound s t p shallow octets own y.0 y.1)
-      | inr n ↦ elim (chosen (is_tag 2 1 p.tag) _ _ _ n.1) [
+      | inr n ↦ elim (chosen (is_primitive_tag 2 1 p.tag) _ _ _ n.1) [
         | inl y ↦ inr (inl (fills_sound number_in number_sound s t p shallow octets own y.0 y.1))
-        | inr n ↦ elim (chosen (is_tag 2 2 p.tag) _ _ _ n.1) [
+        | inr n ↦ elim (chosen (is_constructed_tag 2 2 p.tag) _ _ _ n.1) [
           | inl y ↦ inr (inr (fills_sound answer_in answer_data_sound s t p shallow octets own y.0 y.1))
           | inr n ↦ absurd (cc n.1)
         ]
@@ -123,9 +124,9 @@ answer_step_full : StepFull rtoac_step MakesAnswer
 unfolding rtoac_step
 answer_step_full s t p shallow (inl a) = pick _ a.is_tag_of (fills_full number_in number_full s t p shallow a)
 answer_step_full s t p shallow (inr (inl a)) =
-    pass _ (not_tag 2 1 2 0 p.tag a.is_tag_of refl) (pick _ a.is_tag_of (fills_full number_in number_full s t p shallow a))
+    pass _ (not_formed 2 1 2 0 p.tag (not p.tag.constructed) (is_plain 2 1 p.tag (not p.tag.constructed) a.is_tag_of) refl) (pick _ a.is_tag_of (fills_full number_in number_full s t p shallow a))
 answer_step_full s t p shallow (inr (inr a)) =
-    pass _ (not_tag 2 2 2 0 p.tag a.is_tag_of refl) (pass _ (not_tag 2 2 2 1 p.tag a.is_tag_of refl) (pick _ a.is_tag_of (fills_full answer_in answer_data_full s t p shallow a)))
+    pass _ (not_formed 2 2 2 0 p.tag (not p.tag.constructed) (is_plain 2 2 p.tag (p.tag.constructed) a.is_tag_of) refl) (pass _ (not_formed 2 2 2 1 p.tag (not p.tag.constructed) (is_plain 2 2 p.tag (p.tag.constructed) a.is_tag_of) refl) (pick _ a.is_tag_of (fills_full answer_in answer_data_full s t p shallow a)))
 
 abbrev open_answer : ℕ → ℕ → Answer → OpenAnswer
 open_answer checkpoint window a = record { checkpoint = checkpoint; window = window; answer = a }
@@ -179,7 +180,7 @@ both a b e h = rw (e, h) refl
 reason_step_sound : StepSound reason_step MakesReason
 unfolding reason_step
 reason_step_sound s t p shallow octets own e =
-    elim (chosen (is_tag 2 0 p.tag) _ _ _ e) [
+    elim (chosen (is_primitive_tag 2 0 p.tag) _ _ _ e) [
       | inl y ↦ inl (fills_sound number_in number_sound s t p shallow octets own y.0 y.1)
       | inr n ↦ elim (chosen (is_tag 2 1 p.tag) _ _ _ n.1) [
         | inl y ↦ inr (inl (fills_sound nothing_read anything_sound s t p shallow octets own y.0 y.1))
@@ -195,9 +196,9 @@ reason_step_full : StepFull reason_step MakesReason
 unfolding reason_step
 reason_step_full s t p shallow (inl a) = pick _ a.is_tag_of (fills_full number_in number_full s t p shallow a)
 reason_step_full s t p shallow (inr (inl a)) =
-    pass _ (not_tag 2 1 2 0 p.tag a.is_tag_of refl) (pick _ a.is_tag_of (fills_full nothing_read anything_full s t p shallow a))
+    pass _ (not_formed 2 1 2 0 p.tag (not p.tag.constructed) a.is_tag_of refl) (pick _ a.is_tag_of (fills_full nothing_read anything_full s t p shallow a))
 reason_step_full s t p shallow (inr (inr a)) =
-    pass _ (not_tag 2 2 2 0 p.tag a.is_tag_of refl) (pass _ (not_tag 2 2 2 1 p.tag a.is_tag_of refl)
+    pass _ (not_formed 2 2 2 0 p.tag (not p.tag.constructed) a.is_tag_of refl) (pass _ (not_tag 2 2 2 1 p.tag a.is_tag_of refl)
     (pick _ (both s.aborts (is_tag 2 2 p.tag) a.aborts a.is_tag_of)
     (ap (λ b. vacant b p.at (Ok tt) >>= λ (_ : Unit {0}). Ok (record s { second = true })) a.absent ∙ ap (λ (x : ReasonParts). Ok x) (sym a.after_is))))
 

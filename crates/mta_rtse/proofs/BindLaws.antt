@@ -2,6 +2,7 @@
 use Rattle.std.proofs.Common.{◌≡◌, ℕ, cond, List, [], ◌∷◌, Option, Result, Ok, refl, sym, ap, ◌∙◌, inl, inr}
 use Rattle.mta_ber.specs.declared.fault.Fault.{Fault}
 use Rattle.mta_ber.specs.declared.fault.Kind.TheVariants.{BadSize}
+use Rattle.mta_ber.specs.Forms.{is_constructed_tag}
 use Rattle.mta_ber.specs.Head.{◌>>=◌, fault}
 use Rattle.mta_ber.specs.Element.{Part}
 use Rattle.mta_ber.specs.Parts.{components, is_tag, required}
@@ -17,7 +18,7 @@ use Rattle.mta_rtse.specs.declared.types.Request.TheVariants.{Null, Bind}
 use Rattle.mta_rtse.specs.Values.{word_in}
 use Rattle.mta_rtse.specs.Bind.{longest_password, password_in, explicit_password_in, bind_step, no_bind, bind_in, null_in, open_in}
 use Rattle.mta_rtse.specs.Spelling.{SpellsPassword, SpellsCredentials, MakesBind, SpellsBind, SpellsNull, SpellsOpened}
-use Rattle.mta_rtse.proofs.Slots.{not_tag, pick, pass, fills_sound, fills_full, components_sound, components_full}
+use Rattle.mta_rtse.proofs.Slots.{not_tag, is_plain, not_formed, pick, pass, fills_sound, fills_full, components_sound, components_full}
 use Rattle.mta_rtse.proofs.ValueLaws.{short_sound, short_full, word_sound, word_full, nothing_read, anything_sound, anything_full}
 
 password_sound : ReadSound password_in SpellsPassword
@@ -49,7 +50,7 @@ unfolding bind_step
 step_sound s t p shallow octets own e =
     elim (chosen (is_tag 2 0 p.tag) _ _ _ e) [
       | inl y ↦ inl (fills_sound word_in word_sound s t p shallow octets own y.0 y.1)
-      | inr n ↦ elim (chosen (is_tag 2 1 p.tag) _ _ _ n.1) [
+      | inr n ↦ elim (chosen (is_constructed_tag 2 1 p.tag) _ _ _ n.1) [
         | inl y ↦ inr (inl (fills_sound explicit_password_in credentials_sound s t p shallow octets own y.0 y.1))
         | inr n ↦ elim (chosen (is_tag 2 2 p.tag) _ _ _ n.1) [
           | inl y ↦ inr (inr (fills_sound nothing_read anything_sound s t p shallow octets own y.0 y.1))
@@ -62,9 +63,9 @@ step_full : StepFull bind_step MakesBind
 unfolding bind_step
 step_full s t p shallow (inl a) = pick _ a.is_tag_of (fills_full word_in word_full s t p shallow a)
 step_full s t p shallow (inr (inl a)) =
-    pass _ (not_tag 2 1 2 0 p.tag a.is_tag_of refl) (pick _ a.is_tag_of (fills_full explicit_password_in credentials_full s t p shallow a))
+    pass _ (not_tag 2 1 2 0 p.tag (is_plain 2 1 p.tag p.tag.constructed a.is_tag_of) refl) (pick _ a.is_tag_of (fills_full explicit_password_in credentials_full s t p shallow a))
 step_full s t p shallow (inr (inr a)) =
-    pass _ (not_tag 2 2 2 0 p.tag a.is_tag_of refl) (pass _ (not_tag 2 2 2 1 p.tag a.is_tag_of refl) (pick _ a.is_tag_of (fills_full nothing_read anything_full s t p shallow a)))
+    pass _ (not_tag 2 2 2 0 p.tag a.is_tag_of refl) (pass _ (not_formed 2 2 2 1 p.tag p.tag.constructed a.is_tag_of refl) (pick _ a.is_tag_of (fills_full nothing_read anything_full s t p shallow a)))
 
 abbrev with_password : ℕ → List ℕ → Option (List ℕ) → Result Request Fault
 with_password at name password = required password at >>= λ o. Ok (Bind name o)

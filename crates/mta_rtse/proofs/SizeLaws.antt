@@ -81,11 +81,11 @@ null_short = omega (arith, element_short (primitive 0 5) [], element_short (cons
 
 pub request_data_short : (r : Request) → IsWritableRequest r → HasIdentifier r → length (canon_request_data r) ≤ 2117
 request_data_short ask.Null w h = omega (arith, null_short)
-request_data_short (ask.Bind name password) w h = omega (arith, bind_short name password w.name_fits.at_most w.password_fits)
+request_data_short (ask.Bind name password) w h = omega (arith, bind_short name password w.name_fits.at_most w.password_fits.at_most)
 request_data_short (ask.Recover reference) w h = reference_short (constructed 2 1) reference h
 
 answer_data_short : (a : Answer) → IsWritableRequest (request_of a) → HasIdentifier (request_of a) → length (canon_answer_data a) ≤ 2117
-answer_data_short (reply.Bind name password) w h = omega (arith, bind_short name password w.name_fits.at_most w.password_fits)
+answer_data_short (reply.Bind name password) w h = omega (arith, bind_short name password w.name_fits.at_most w.password_fits.at_most)
 answer_data_short (reply.Recover reference) w h = reference_short (constructed 2 1) reference h
 
 unless_short : (default number n : ℕ) → length (canon_unless default number n) ≤ 22

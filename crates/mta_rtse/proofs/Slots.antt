@@ -25,6 +25,14 @@ not_tag class number class' number' t e other =
     let n : t.number ≡ number = eqb-true t.number number a.1 in
     rw (c, n) other
 
+-- a tag in one form is a tag
+pub is_plain : (class number : ℕ) (t : Tag) (b : Bool) → (is_tag class number t && b) ≡ true → is_tag class number t ≡ true
+is_plain class number t b e = (and_true (is_tag class number t) b e).0
+
+-- and a tag that is another one is so in each form
+pub not_formed : (class number class' number' : ℕ) (t : Tag) (b : Bool) → is_tag class number t ≡ true → (eqb class class' && eqb number number') ≡ false → (is_tag class' number' t && b) ≡ false
+not_formed class number class' number' t b e other = ap (λ x. x && b) (not_tag class number class' number' t e other)
+
 pub pick : {A : Type 0} {b : Bool} {x z : A} (y : A) → b ≡ true → x ≡ z → cond b x y ≡ z
 pick y e h = rw e h
 
@@ -36,15 +44,15 @@ vacant_so true at read put t e = absurd cc
 vacant_so false at (Ok x) put t e = (x, refl, refl, ok_is (put x) t e)
 vacant_so false at (Err d) put t e = absurd cc
 
-pub fills_sound : {S A : Type 0} {class number : ℕ} {held : S → Bool} {put : A → S → S} {spells : Spells A} (read : Part → Result A Fault) → ReadSound read spells
-    → (s t : S) (p : Part) → p.depth ≤ 16 → IsOctets p.content → IsOctets p.octets → is_tag class number p.tag ≡ true → (vacant (held s) p.at (read p) >>= λ x. Ok (put x s)) ≡ Ok t
-    → Fills class number held put spells p.depth s p.tag p.content p.octets t
+pub fills_sound : {S A : Type 0} {expected : Tag → Bool} {held : S → Bool} {put : A → S → S} {spells : Spells A} (read : Part → Result A Fault) → ReadSound read spells
+    → (s t : S) (p : Part) → p.depth ≤ 16 → IsOctets p.content → IsOctets p.octets → expected p.tag ≡ true → (vacant (held s) p.at (read p) >>= λ x. Ok (put x s)) ≡ Ok t
+    → Fills expected held put spells p.depth s p.tag p.content p.octets t
 fills_sound {held = held} {put = put} read sound s t p shallow octets own is_tag_of e =
     let q = vacant_so (held s) p.at (read p) (λ x. put x s) t e in
     record { is_tag_of = is_tag_of; absent = q.1; value = q.0; spelled = sound q.0 p shallow octets own q.2; after_is = sym q.3 }
 
-pub fills_full : {S A : Type 0} {class number : ℕ} {held : S → Bool} {put : A → S → S} {spells : Spells A} (read : Part → Result A Fault) → ReadFull read spells
-    → (s t : S) (p : Part) → p.depth ≤ 16 → Fills class number held put spells p.depth s p.tag p.content p.octets t → (vacant (held s) p.at (read p) >>= λ x. Ok (put x s)) ≡ Ok t
+pub fills_full : {S A : Type 0} {expected : Tag → Bool} {held : S → Bool} {put : A → S → S} {spells : Spells A} (read : Part → Result A Fault) → ReadFull read spells
+    → (s t : S) (p : Part) → p.depth ≤ 16 → Fills expected held put spells p.depth s p.tag p.content p.octets t → (vacant (held s) p.at (read p) >>= λ x. Ok (put x s)) ≡ Ok t
 fills_full {held = held} {put = put} read full s t p shallow h =
     let r = full h.value p shallow h.spelled in
     ap (λ b. vacant b p.at (read p) >>= λ x. Ok (put x s)) h.absent ∙ ap (λ r. r >>= λ x. Ok (put x s)) r ∙ ap Ok (sym h.after_is)

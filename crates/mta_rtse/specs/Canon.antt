@@ -1,6 +1,6 @@
 -- The octets that are written: definite minimal lengths, SETs in the order of their tags, no component that equals its default, and
 -- nothing that is passed over when it is read. A password is written as IA5String.
-use Rattle.std.specs.Prelude.{ℕ, ◌≤◌, pos, Bool, List, [], ◌++◌, length, ◌==◌, if◌then◌else◌}
+use Rattle.std.specs.Prelude.{ℕ, pos, Bool, List, [], ◌++◌, ◌==◌, if◌then◌else◌}
 use Rattle.mta_ber.specs.declared.tag.Tag.{Tag}
 use Rattle.mta_ber.specs.Canon.{element, primitive, constructed, optional}
 use Rattle.mta_ber.specs.Contents.{canon_int, canon_utc}
@@ -61,22 +61,18 @@ HasIdentifier ask.Null = Unit {0}
 HasIdentifier (ask.Bind name password) = Unit {0}
 HasIdentifier (ask.Recover reference) = IsIdentifier reference
 
--- what can be written: names of 1 to 32 characters of IA5String, and passwords that are no longer than they may be
+-- what can be written: names of 1 to 32 and passwords of at most 62 characters of IA5String
 pub record IsWritableBind (name password : List ℕ) : Type 0 where
   pub name_fits : IsText Ia5 1 32 name
-  pub password_fits : length password ≤ longest_password
+  pub password_fits : IsText Ia5 0 longest_password password
 
 abbrev pub IsWritableRequest : Request → Type 0
 IsWritableRequest ask.Null = Unit {0}
 IsWritableRequest (ask.Bind name password) = IsWritableBind name password
 IsWritableRequest (ask.Recover reference) = Unit {0}
 
--- what is read again once it is written: passwords of IA5String too
-pub record IsReadBind (name password : List ℕ) : Type 0 where
-  pub name_fits : IsText Ia5 1 32 name
-  pub password_fits : IsText Ia5 0 longest_password password
-
+-- what can be written, of which a reference is one
 abbrev pub IsReadAgain : Request → Type 0
 IsReadAgain ask.Null = Unit {0}
-IsReadAgain (ask.Bind name password) = IsReadBind name password
+IsReadAgain (ask.Bind name password) = IsWritableBind name password
 IsReadAgain (ask.Recover reference) = IsIdentifier reference

@@ -2,6 +2,7 @@
 use Rattle.std.specs.Prelude.{◌≡◌, ℕ, pos, ◌≤◌, ◌<◌, ◌⊎◌, Bool, true, false, List, [], length, Some, is_some, unwrap_or, if◌then◌else◌}
 use Rattle.mta_ber.specs.declared.tag.Tag.{Tag}
 use Rattle.mta_ber.specs.declared.text.TextClass.TheVariants.{Ia5}
+use Rattle.mta_ber.specs.Forms.{is_primitive_tag, is_constructed_tag}
 use Rattle.mta_ber.specs.Parts.{is_tag}
 use Rattle.mta_ber.specs.Strings.{own_number}
 use Rattle.mta_ber.specs.Int.{SpellsInteger}
@@ -52,9 +53,9 @@ SpellsAnything depth tag content octets x = Unit {0}
 
 -- ---- components
 
--- a component of a SET that may stand once
-pub record Fills {S A : Type 0} (class number : ℕ) (taken : S → Bool) (put : A → S → S) (spells : Spells A) (depth : ℕ) (before : S) (tag : Tag) (content octets : List ℕ) (after : S) : Type 0 where
-  pub is_tag_of : is_tag class number tag ≡ true
+-- a component of a SET that may stand once, under a tag that is expected
+pub record Fills {S A : Type 0} (expected : Tag → Bool) (taken : S → Bool) (put : A → S → S) (spells : Spells A) (depth : ℕ) (before : S) (tag : Tag) (content octets : List ℕ) (after : S) : Type 0 where
+  pub is_tag_of : expected tag ≡ true
   pub absent : taken before ≡ false
   pub value : A
   pub spelled : spells depth tag content octets value
@@ -109,13 +110,13 @@ abbrev pub SpellsCredentials : Spells (List ℕ)
 SpellsCredentials depth tag content octets o = SpellsExplicit SpellsPassword depth tag.constructed content o
 
 abbrev pub MakesName : Makes BindParts
-MakesName = Fills 2 0 (λ s. is_some s.name) (λ w s. record s { name = Some w }) SpellsWord
+MakesName = Fills (is_tag 2 0) (λ s. is_some s.name) (λ w s. record s { name = Some w }) SpellsWord
 
 abbrev pub MakesPassword : Makes BindParts
-MakesPassword = Fills 2 1 (λ s. is_some s.password) (λ o s. record s { password = Some o }) SpellsCredentials
+MakesPassword = Fills (is_constructed_tag 2 1) (λ s. is_some s.password) (λ o s. record s { password = Some o }) SpellsCredentials
 
 abbrev pub MakesContext : Makes BindParts
-MakesContext = Fills 2 2 (λ s. s.context) (λ _ s. record s { context = true }) SpellsAnything
+MakesContext = Fills (is_tag 2 2) (λ s. s.context) (λ _ s. record s { context = true }) SpellsAnything
 
 abbrev pub MakesBind : Makes BindParts
 MakesBind depth before tag content octets after =
@@ -168,11 +169,11 @@ SpellsAnswerData depth tag content octets v = SpellsRequestData depth tag conten
 
 abbrev pub MakesRequest : Makes RequestParts
 MakesRequest depth before tag content octets after =
-    Fills 2 0 (λ (s : RequestParts). is_some s.checkpoint) (λ n s. record s { checkpoint = Some n }) SpellsNumber depth before tag content octets after
-    ⊎ (Fills 2 1 (λ (s : RequestParts). is_some s.window) (λ n s. record s { window = Some n }) SpellsNumber depth before tag content octets after
-    ⊎ (Fills 2 2 (λ (s : RequestParts). is_some s.twa) (λ b s. record s { twa = Some b }) SpellsFlag depth before tag content octets after
-    ⊎ (Fills 2 3 (λ (s : RequestParts). is_some s.request) (λ r s. record s { request = Some r }) SpellsRequestData depth before tag content octets after
-    ⊎ Fills 2 4 (λ (s : RequestParts). s.protocol) (λ _ s. record s { protocol = true }) SpellsAnything depth before tag content octets after)))
+    Fills (is_primitive_tag 2 0) (λ (s : RequestParts). is_some s.checkpoint) (λ n s. record s { checkpoint = Some n }) SpellsNumber depth before tag content octets after
+    ⊎ (Fills (is_primitive_tag 2 1) (λ (s : RequestParts). is_some s.window) (λ n s. record s { window = Some n }) SpellsNumber depth before tag content octets after
+    ⊎ (Fills (is_primitive_tag 2 2) (λ (s : RequestParts). is_some s.twa) (λ b s. record s { twa = Some b }) SpellsFlag depth before tag content octets after
+    ⊎ (Fills (is_constructed_tag 2 3) (λ (s : RequestParts). is_some s.request) (λ r s. record s { request = Some r }) SpellsRequestData depth before tag content octets after
+    ⊎ Fills (is_tag 2 4) (λ (s : RequestParts). s.protocol) (λ _ s. record s { protocol = true }) SpellsAnything depth before tag content octets after)))
 
 pub record SpellsRtorq (depth : ℕ) (tag : Tag) (content octets : List ℕ) (v : OpenRequest) : Type 0 where
   pub is_tag_of : is_tag 2 16 tag ≡ true
@@ -188,9 +189,9 @@ pub record SpellsRtorq (depth : ℕ) (tag : Tag) (content octets : List ℕ) (v 
 
 abbrev pub MakesAnswer : Makes AnswerParts
 MakesAnswer depth before tag content octets after =
-    Fills 2 0 (λ (s : AnswerParts). is_some s.checkpoint) (λ n s. record s { checkpoint = Some n }) SpellsNumber depth before tag content octets after
-    ⊎ (Fills 2 1 (λ (s : AnswerParts). is_some s.window) (λ n s. record s { window = Some n }) SpellsNumber depth before tag content octets after
-    ⊎ Fills 2 2 (λ (s : AnswerParts). is_some s.answer) (λ a s. record s { answer = Some a }) SpellsAnswerData depth before tag content octets after)
+    Fills (is_primitive_tag 2 0) (λ (s : AnswerParts). is_some s.checkpoint) (λ n s. record s { checkpoint = Some n }) SpellsNumber depth before tag content octets after
+    ⊎ (Fills (is_primitive_tag 2 1) (λ (s : AnswerParts). is_some s.window) (λ n s. record s { window = Some n }) SpellsNumber depth before tag content octets after
+    ⊎ Fills (is_constructed_tag 2 2) (λ (s : AnswerParts). is_some s.answer) (λ a s. record s { answer = Some a }) SpellsAnswerData depth before tag content octets after)
 
 pub record SpellsRtoac (depth : ℕ) (tag : Tag) (content octets : List ℕ) (v : OpenAnswer) : Type 0 where
   pub is_tag_of : is_tag 2 17 tag ≡ true
@@ -211,8 +212,8 @@ pub record MakesSecond (before : ReasonParts) (tag : Tag) (after : ReasonParts) 
 
 abbrev pub MakesReason : Makes ReasonParts
 MakesReason depth before tag content octets after =
-    Fills 2 0 (λ (s : ReasonParts). is_some s.reason) (λ n s. record s { reason = Some n }) SpellsNumber depth before tag content octets after
-    ⊎ (Fills 2 1 (λ (s : ReasonParts). s.first) (λ _ s. record s { first = true }) SpellsAnything depth before tag content octets after
+    Fills (is_primitive_tag 2 0) (λ (s : ReasonParts). is_some s.reason) (λ n s. record s { reason = Some n }) SpellsNumber depth before tag content octets after
+    ⊎ (Fills (is_tag 2 1) (λ (s : ReasonParts). s.first) (λ _ s. record s { first = true }) SpellsAnything depth before tag content octets after
     ⊎ MakesSecond before tag after)
 
 -- the reason under a tag; components `[1]` and, of RTAB, `[2]` are passed over

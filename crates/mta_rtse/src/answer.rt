@@ -11,7 +11,10 @@ use crate::connection::read_answer_data;
 use crate::request::DEFAULT_WINDOW;
 use crate::types::{Answer, OpenAnswer};
 use crate::values::read_number;
-use mta_ber::{Components, Kind, ReadFault, View, bad, is_tag_of, take_parts, take_required};
+use mta_ber::{
+    Components, Kind, ReadFault, View, bad, is_constructed_tag, is_primitive_tag, is_tag_of,
+    take_parts, take_required,
+};
 use std::alloc::Global;
 
 /// The components so far.
@@ -27,17 +30,17 @@ impl Components for AnswerParts {
 
     #[tactic(auto, unfolding(crate::specs::Answer::rtoac_step))]
     fn take(&mut self, alloc: Global, part: &View) -> Result<(), ReadFault> {
-        if is_tag_of(part.tag, 2, 0) {
+        if is_primitive_tag(part.tag, 2, 0) {
             if self.checkpoint.is_some() {
                 return bad(part.at, Kind::Twice);
             }
             self.checkpoint = Some(read_number(part)?);
-        } else if is_tag_of(part.tag, 2, 1) {
+        } else if is_primitive_tag(part.tag, 2, 1) {
             if self.window.is_some() {
                 return bad(part.at, Kind::Twice);
             }
             self.window = Some(read_number(part)?);
-        } else if is_tag_of(part.tag, 2, 2) {
+        } else if is_constructed_tag(part.tag, 2, 2) {
             if self.answer.is_some() {
                 return bad(part.at, Kind::Twice);
             }

@@ -8,8 +8,8 @@ ghost use Rattle.mta_rtse.specs.Bind.{password_in, explicit_password_in, bind_st
 use crate::types::Request;
 use crate::values::{read_octets, read_word};
 use mta_ber::{
-    Components, Fault, Kind, Octets, ReadFault, TextClass, View, Word, bad, is_tag_of, take_parts,
-    take_required,
+    Components, Fault, Kind, Octets, ReadFault, TextClass, View, Word, bad, is_constructed_tag,
+    is_tag_of, take_parts, take_required,
 };
 use std::alloc::Global;
 
@@ -60,7 +60,7 @@ impl Components for BindParts {
                 return bad(part.at, Kind::Twice);
             }
             self.name = Some(read_word(alloc, part)?);
-        } else if is_tag_of(part.tag, 2, 1) {
+        } else if is_constructed_tag(part.tag, 2, 1) {
             if self.password.is_some() {
                 return bad(part.at, Kind::Twice);
             }

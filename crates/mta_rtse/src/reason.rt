@@ -7,7 +7,7 @@ ghost use Rattle.mta_ber.specs.Seen.{view};
 ghost use Rattle.mta_rtse.specs.Reason.{reason_step, reason_in, rtorj_in, rtab_in};
 
 use crate::values::read_number;
-use mta_ber::{Components, Kind, ReadFault, View, bad, is_tag_of, take_parts};
+use mta_ber::{Components, Kind, ReadFault, View, bad, is_primitive_tag, is_tag_of, take_parts};
 use std::alloc::Global;
 
 /// The components so far: the reason, and whether components `[1]` and `[2]` were passed over. Only where `aborts` may `[2]` stand.
@@ -24,7 +24,7 @@ impl Components for ReasonParts {
 
     #[tactic(auto, unfolding(crate::specs::Reason::reason_step))]
     fn take(&mut self, _alloc: Global, part: &View) -> Result<(), ReadFault> {
-        if is_tag_of(part.tag, 2, 0) {
+        if is_primitive_tag(part.tag, 2, 0) {
             if self.reason.is_some() {
                 return bad(part.at, Kind::Twice);
             }

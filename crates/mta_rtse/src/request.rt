@@ -10,7 +10,10 @@ ghost use Rattle.mta_rtse.specs.Request.{rtorq_step, rtorq_parts_in, rtorq_in};
 use crate::connection::read_request_data;
 use crate::types::{OpenRequest, Request};
 use crate::values::{read_flag, read_number};
-use mta_ber::{Components, Kind, ReadFault, View, bad, is_tag_of, take_parts, take_required};
+use mta_ber::{
+    Components, Kind, ReadFault, View, bad, is_constructed_tag, is_primitive_tag, is_tag_of,
+    take_parts, take_required,
+};
 use std::alloc::Global;
 
 /// The window where none is given.
@@ -31,22 +34,22 @@ impl Components for RequestParts {
 
     #[tactic(auto, unfolding(crate::specs::Request::rtorq_step))]
     fn take(&mut self, alloc: Global, part: &View) -> Result<(), ReadFault> {
-        if is_tag_of(part.tag, 2, 0) {
+        if is_primitive_tag(part.tag, 2, 0) {
             if self.checkpoint.is_some() {
                 return bad(part.at, Kind::Twice);
             }
             self.checkpoint = Some(read_number(part)?);
-        } else if is_tag_of(part.tag, 2, 1) {
+        } else if is_primitive_tag(part.tag, 2, 1) {
             if self.window.is_some() {
                 return bad(part.at, Kind::Twice);
             }
             self.window = Some(read_number(part)?);
-        } else if is_tag_of(part.tag, 2, 2) {
+        } else if is_primitive_tag(part.tag, 2, 2) {
             if self.twa.is_some() {
                 return bad(part.at, Kind::Twice);
             }
             self.twa = Some(read_flag(part)?);
-        } else if is_tag_of(part.tag, 2, 3) {
+        } else if is_constructed_tag(part.tag, 2, 3) {
             if self.request.is_some() {
                 return bad(part.at, Kind::Twice);
             }

@@ -1,6 +1,7 @@
-//! Writing protocol data units in their canonical octets. What a writer holds after want of memory is not said.
+//! Writing protocol data units in their canonical octets. After want of memory a writer is as it was: each unit is written into a
+//! writer of its own and then put at once.
 
-ghost use Rattle.std.specs.Prelude.{◌≡◌, ◌<◌, OnOk, Option};
+ghost use Rattle.std.specs.Prelude.{◌≡◌, ◌<◌, OnOk, OnErr, Option};
 ghost use Rattle.std.specs.Option.{option_copied};
 ghost use Rattle.mta_ber.specs.Canon.{IsTag, appended, element, optional, primitive, constructed};
 ghost use Rattle.mta_ber.specs.Contents.{canon_int};
@@ -34,7 +35,8 @@ fn constructed_tag(class: u8, number: u32) -> Tag
 }
 
 fn put_optional(w: &mut Writer, octets: Option<&[u8]>) -> Result<(), Memory>
-    ensures { OnOk result (w.new ≡ appended w.old (optional (element (primitive 2 0)) (option_copied octets.entry))) }
+    ensures exact { OnOk result (w.new ≡ appended w.old (optional (element (primitive 2 0)) (option_copied octets.entry))) }
+    ensures err { OnErr result (w.new ≡ w.old) }
 {
     match octets {
         None => Ok(()),
@@ -47,40 +49,44 @@ fn put_optional(w: &mut Writer, octets: Option<&[u8]>) -> Result<(), Memory>
 pub fn put_reference(w: &mut Writer, tag: Tag, reference: &Reference) -> Result<(), Memory>
     requires { IsTag tag }
     ensures exact { OnOk result (w.new ≡ appended w.old (canon_reference tag reference.now)) }
+    ensures err { OnErr result (w.new ≡ w.old) }
     ensures fits { OnOk result (IsIdentifier reference.now) }
 {
-    w.begin(tag)?;
-    w.put(primitive_tag(0, 4), reference.calling())?;
-    put_utc(w, primitive_tag(0, 23), reference.common())?;
-    put_optional(w, reference.additional())?;
-    w.end()
+    let mut inside = Writer::new(w.alloc());
+    inside.put(primitive_tag(0, 4), reference.calling())?;
+    put_utc(&mut inside, primitive_tag(0, 23), reference.common())?;
+    put_optional(&mut inside, reference.additional())?;
+    w.put(tag, inside.as_slice())
 }
 
 #[tactic(auto, unfolding(crate::specs::Canon::canon_bind))]
 fn put_bind(w: &mut Writer, name: &[u8], password: &[u8]) -> Result<(), Memory>
-    ensures { OnOk result (w.new ≡ appended w.old (canon_bind name.now password.now)) }
+    ensures exact { OnOk result (w.new ≡ appended w.old (canon_bind name.now password.now)) }
+    ensures err { OnErr result (w.new ≡ w.old) }
 {
-    w.begin(constructed_tag(2, 0))?;
-    w.begin(constructed_tag(2, 1))?;
-    w.put(primitive_tag(2, 0), name)?;
-    w.begin(constructed_tag(2, 1))?;
-    w.put(primitive_tag(0, 22), password)?;
-    w.end()?;
-    w.end()?;
-    w.end()
+    let mut credentials = Writer::new(w.alloc());
+    credentials.put(primitive_tag(0, 22), password)?;
+    let mut bind = Writer::new(w.alloc());
+    bind.put(primitive_tag(2, 0), name)?;
+    bind.put(constructed_tag(2, 1), credentials.as_slice())?;
+    let mut inside = Writer::new(w.alloc());
+    inside.put(constructed_tag(2, 1), bind.as_slice())?;
+    w.put(constructed_tag(2, 0), inside.as_slice())
 }
 
 #[tactic(auto, unfolding(crate::specs::Canon::canon_null))]
 fn put_null(w: &mut Writer) -> Result<(), Memory>
-    ensures { OnOk result (w.new ≡ appended w.old canon_null) }
+    ensures exact { OnOk result (w.new ≡ appended w.old canon_null) }
+    ensures err { OnErr result (w.new ≡ w.old) }
 {
-    w.begin(constructed_tag(2, 0))?;
-    w.put(primitive_tag(0, 5), &[])?;
-    w.end()
+    let mut inside = Writer::new(w.alloc());
+    inside.put(primitive_tag(0, 5), &[])?;
+    w.put(constructed_tag(2, 0), inside.as_slice())
 }
 
 fn put_request_data(w: &mut Writer, request: &Request) -> Result<(), Memory>
     ensures exact { OnOk result (w.new ≡ appended w.old (canon_request_data request.now)) }
+    ensures err { OnErr result (w.new ≡ w.old) }
     ensures fits { OnOk result (HasIdentifier request.now) }
 {
     match request {
@@ -92,6 +98,7 @@ fn put_request_data(w: &mut Writer, request: &Request) -> Result<(), Memory>
 
 fn put_answer_data(w: &mut Writer, answer: &Answer) -> Result<(), Memory>
     ensures exact { OnOk result (w.new ≡ appended w.old (canon_answer_data answer.now)) }
+    ensures err { OnErr result (w.new ≡ w.old) }
     ensures fits { OnOk result (HasIdentifier (request_of answer.now)) }
 {
     match answer {
@@ -103,7 +110,8 @@ fn put_answer_data(w: &mut Writer, answer: &Answer) -> Result<(), Memory>
 /// A number under a context tag, where it is not its default.
 fn put_unless(w: &mut Writer, default: u32, number: u32, n: u32) -> Result<(), Memory>
     requires { number < 31 }
-    ensures { OnOk result (w.new ≡ appended w.old (canon_unless default number n)) }
+    ensures exact { OnOk result (w.new ≡ appended w.old (canon_unless default number n)) }
+    ensures err { OnErr result (w.new ≡ w.old) }
 {
     if n == default {
         return Ok(());
@@ -113,7 +121,8 @@ fn put_unless(w: &mut Writer, default: u32, number: u32, n: u32) -> Result<(), M
 
 fn put_flag(w: &mut Writer, number: u32, flag: bool) -> Result<(), Memory>
     requires { number < 31 }
-    ensures { OnOk result (w.new ≡ appended w.old (canon_flag number flag)) }
+    ensures exact { OnOk result (w.new ≡ appended w.old (canon_flag number flag)) }
+    ensures err { OnErr result (w.new ≡ w.old) }
 {
     if !flag {
         return Ok(());
@@ -131,16 +140,17 @@ pub fn put_request(
     request: &Request,
 ) -> Result<(), Memory>
     ensures exact { OnOk result (w.new ≡ appended w.old (canon_rtorq checkpoint window twa request.now)) }
+    ensures err { OnErr result (w.new ≡ w.old) }
     ensures fits { OnOk result (HasIdentifier request.now) }
 {
-    w.begin(constructed_tag(2, 16))?;
-    put_unless(w, 0, 0, checkpoint)?;
-    put_unless(w, DEFAULT_WINDOW, 1, window)?;
-    put_flag(w, 2, twa)?;
-    w.begin(constructed_tag(2, 3))?;
-    put_request_data(w, request)?;
-    w.end()?;
-    w.end()
+    let mut data = Writer::new(w.alloc());
+    put_request_data(&mut data, request)?;
+    let mut inside = Writer::new(w.alloc());
+    put_unless(&mut inside, 0, 0, checkpoint)?;
+    put_unless(&mut inside, DEFAULT_WINDOW, 1, window)?;
+    put_flag(&mut inside, 2, twa)?;
+    inside.put(constructed_tag(2, 3), data.as_slice())?;
+    w.put(constructed_tag(2, 16), inside.as_slice())
 }
 
 /// RTOAC.
@@ -152,37 +162,41 @@ pub fn put_answer(
     answer: &Answer,
 ) -> Result<(), Memory>
     ensures exact { OnOk result (w.new ≡ appended w.old (canon_rtoac checkpoint window answer.now)) }
+    ensures err { OnErr result (w.new ≡ w.old) }
     ensures fits { OnOk result (HasIdentifier (request_of answer.now)) }
 {
-    w.begin(constructed_tag(2, 17))?;
-    put_unless(w, 0, 0, checkpoint)?;
-    put_unless(w, DEFAULT_WINDOW, 1, window)?;
-    w.begin(constructed_tag(2, 2))?;
-    put_answer_data(w, answer)?;
-    w.end()?;
-    w.end()
+    let mut data = Writer::new(w.alloc());
+    put_answer_data(&mut data, answer)?;
+    let mut inside = Writer::new(w.alloc());
+    put_unless(&mut inside, 0, 0, checkpoint)?;
+    put_unless(&mut inside, DEFAULT_WINDOW, 1, window)?;
+    inside.put(constructed_tag(2, 2), data.as_slice())?;
+    w.put(constructed_tag(2, 17), inside.as_slice())
 }
 
 #[tactic(auto, unfolding(crate::specs::Canon::canon_reason))]
 fn put_reason(w: &mut Writer, number: u32, reason: u32) -> Result<(), Memory>
     requires { number < 31 }
-    ensures { OnOk result (w.new ≡ appended w.old (canon_reason number reason)) }
+    ensures exact { OnOk result (w.new ≡ appended w.old (canon_reason number reason)) }
+    ensures err { OnErr result (w.new ≡ w.old) }
 {
-    w.begin(constructed_tag(2, number))?;
-    put_int(w, primitive_tag(2, 0), reason as i64)?;
-    w.end()
+    let mut inside = Writer::new(w.alloc());
+    put_int(&mut inside, primitive_tag(2, 0), reason as i64)?;
+    w.put(constructed_tag(2, number), inside.as_slice())
 }
 
 /// RTORJ of a reason.
 pub fn put_refusal(w: &mut Writer, reason: u32) -> Result<(), Memory>
-    ensures { OnOk result (w.new ≡ appended w.old (canon_reason 18 reason)) }
+    ensures exact { OnOk result (w.new ≡ appended w.old (canon_reason 18 reason)) }
+    ensures err { OnErr result (w.new ≡ w.old) }
 {
     put_reason(w, 18, reason)
 }
 
 /// RTAB of a reason.
 pub fn put_abort(w: &mut Writer, reason: u32) -> Result<(), Memory>
-    ensures { OnOk result (w.new ≡ appended w.old (canon_reason 22 reason)) }
+    ensures exact { OnOk result (w.new ≡ appended w.old (canon_reason 22 reason)) }
+    ensures err { OnErr result (w.new ≡ w.old) }
 {
     put_reason(w, 22, reason)
 }

@@ -3,7 +3,7 @@ use Rattle.std.specs.Prelude.{ℕ, ◌-◌, Bool, List, [], ◌∷◌, ◌++◌,
 use Rattle.std.specs.List.{flat_map}
 use Rattle.std.specs.Str.{bytes_eq}
 use Rattle.mta_ber.specs.declared.fault.Fault.{Fault}
-use Rattle.mta_apdu.specs.Apdus.{ApduValue, apdu_of}
+use Rattle.mta_apdu.specs.Apdus.{ApduValue, stored_of}
 use Rattle.mta_apdu_text.specs.Pieces.{moment_text}
 use Rattle.mta_apdu_text.specs.Apdus.{apdu_text}
 use Rattle.mta_history.specs.Items.{ItemValue}
@@ -21,7 +21,7 @@ text_if (Err fault) = []
 text_if (Ok v) = apdu_text v
 
 unfoldable pub octets_text : List ℕ → List ℕ
-octets_text octets = text_if (apdu_of octets)
+octets_text octets = text_if (stored_of octets)
 
 -- nothing where there is no such item
 abbrev pub item_if : Option ItemValue → List ℕ

@@ -6,7 +6,7 @@ use Rattle.mta_names.specs.declared.attributes.Attributes.{Attributes}
 use Rattle.mta_name_text.specs.Forms.{text_form}
 use Rattle.mta_fields.specs.declared.identifier.MtsIdFields.{MtsIdFields}
 use Rattle.mta_recipient.specs.declared.recipient.RecipientFields.{RecipientFields}
-use Rattle.mta_apdu.specs.Apdus.{ApduValue, message, probe, report, apdu_of}
+use Rattle.mta_apdu.specs.Apdus.{ApduValue, message, probe, report, stored_of}
 use Rattle.mta_apdu_text.specs.Pieces.{moment_text, id_text}
 use Rattle.mta_history.specs.Items.{ItemValue}
 use Rattle.mta_history.specs.declared.item.Status.{Status}
@@ -62,7 +62,7 @@ lines_if number item (Err fault) = []
 lines_if number item (Ok v) = item_line number item.arrival v ++ status_lines item.statuses v
 
 unfoldable pub item_text : ℕ → ItemValue → List ℕ
-item_text number item = lines_if number item (apdu_of item.octets)
+item_text number item = lines_if number item (stored_of item.octets)
 
 -- the items from this number on
 abbrev pub items_text : ℕ → List ItemValue → List ℕ

@@ -30,7 +30,7 @@ fn put_delivered_line(alloc: Global, out: &mut Octets, line: &MailboxLine) -> Re
 fn put_octets(alloc: Global, out: &mut Octets, octets: &[u8]) -> Result<(), Memory>
     ensures { OnOk result (out.new ≡ out.old ++ octets_text octets.now) }
 {
-    match Apdu::read(alloc, octets) {
+    match Apdu::read_stored(alloc, octets) {
         Ok(apdu) => {
             let outcome = put_apdu(alloc, out, &apdu);
             apdu.discard();

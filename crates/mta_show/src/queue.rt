@@ -170,7 +170,7 @@ fn put_lines(
 fn put_item(alloc: Global, out: &mut Octets, number: u64, item: &Item) -> Result<(), Memory>
     ensures { OnOk result (out.new ≡ out.old ++ item_text number item.now) }
 {
-    match Apdu::read(alloc, item.octets()) {
+    match Apdu::read_stored(alloc, item.octets()) {
         Ok(apdu) => {
             let outcome = put_lines(alloc, out, number, item, &apdu);
             apdu.discard();

@@ -7,9 +7,9 @@ use Rattle.mta_apdu_text.proofs.Chains.{behind_utc}
 use Rattle.mta_apdu_text.specs.Pieces.{moment_text}
 use Rattle.mta_apdu_text.proofs.pieces.put_moment.Goals as goal
 
-pub returns : goal.returns
+pub returns-clause-ok : goal.returns-clause-ok
 unfolding moment_text
-returns c =
+returns-clause-ok c =
     let moment = c.printed_moment.result in
     let put = c.in_ok-put_utc.ensures.ok ∙ ap (λ (w : Written). appended w (element (primitive 0 23) (utc_content moment))) c.new-writer.ensures in
     on_ok_weaker c.extend.result

@@ -7,7 +7,7 @@ use Rattle.mta_reported.proofs.reported.Reported.read.Goals as goal
 pub invariant_of-result : goal.invariant_of-result
 invariant_of-result c =
     let v = c.args.whole.now in
-    reported_is v.depth v.tag.constructed v.content.now c.in-Ok.fields (reported_sound c.in-Ok.fields (view v) v.bytes c.in-Ok.ensures)
+    reported_is v.depth v.tag v.content.now c.in-Ok.fields (reported_sound c.in-Ok.fields (view v) v.bytes c.in-Ok.ensures)
 
 pub returns-in-Ok-clause-found : goal.returns-in-Ok-clause-found
 returns-in-Ok-clause-found c = let v = c.args.whole.now in reported_sound c.in-Ok.fields (view v) v.bytes c.in-Ok.ensures

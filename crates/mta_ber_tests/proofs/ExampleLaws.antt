@@ -5,8 +5,8 @@ use Rattle.std.proofs.lemmas.Bool.{eqb-true, ne_eqb}
 use Rattle.mta_ber.specs.declared.fault.Fault.{Fault}
 use Rattle.mta_ber.specs.declared.tag.Tag.{Tag}
 use Rattle.mta_ber.specs.declared.text.TextClass.TheVariants.{Printable}
-use Rattle.mta_ber.specs.declared.note.Note.{Note}
-use Rattle.mta_ber.specs.declared.note.NoteParts.{NoteParts}
+use Rattle.mta_ber_tests.specs.declared.note.Note.{Note}
+use Rattle.mta_ber_tests.specs.declared.note.NoteParts.{NoteParts}
 use Rattle.mta_ber.specs.declared.fault.Kind.TheVariants.{BadTag}
 use Rattle.mta_ber.specs.Head.{◌>>=◌, fault}
 use Rattle.mta_ber.specs.Octet.{IsOctets}
@@ -15,7 +15,7 @@ use Rattle.mta_ber.specs.Parts.{components, parts_of, is_tag, required}
 use Rattle.mta_ber.specs.Strings.{text_in}
 use Rattle.mta_ber.specs.Int.{int_in}
 use Rattle.mta_ber.specs.Bits.{BitString, bits_in}
-use Rattle.mta_ber.specs.Example.{note_step, no_note, note_in, MakesNote, SpellsNote}
+use Rattle.mta_ber_tests.specs.Example.{note_step, no_note, note_in, MakesNote, SpellsNote}
 use Rattle.mta_ber.proofs.HeadLaws.{and_true}
 use Rattle.mta_ber.proofs.Steps.{bind_ok, chosen, ok_is, placed, taken, required_so}
 use Rattle.mta_ber.proofs.StringLaws.{text_sound, text_full, bits_in_sound, bits_in_full}

@@ -4,8 +4,8 @@ use Rattle.mta_ber.specs.declared.fault.Fault.{Fault}
 use Rattle.mta_ber.specs.declared.fault.Kind.TheVariants.{BadTag}
 use Rattle.mta_ber.specs.declared.tag.Tag.{Tag}
 use Rattle.mta_ber.specs.declared.text.TextClass.TheVariants.{Printable}
-use Rattle.mta_ber.specs.declared.note.Note.{Note}
-use Rattle.mta_ber.specs.declared.note.NoteParts.{NoteParts}
+use Rattle.mta_ber_tests.specs.declared.note.Note.{Note}
+use Rattle.mta_ber_tests.specs.declared.note.NoteParts.{NoteParts}
 use Rattle.mta_ber.specs.Head.{◌>>=◌, fault}
 use Rattle.mta_ber.specs.Element.{Part}
 use Rattle.mta_ber.specs.Parts.{components, is_tag, once, required}

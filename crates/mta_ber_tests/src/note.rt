@@ -1,7 +1,6 @@
 //! A type of three components, which the example reads.
 
-use crate::bits::Bits;
-use crate::text::Text;
+use mta_ber::{Bits, Text};
 
 /// A SET of a title, `[0]` PrintableString of 1 to 20 characters, a count, `[1]` INTEGER of 0 to 100 that is 0 where it is
 /// absent, and flags, `[2]` BIT STRING, which may be absent.

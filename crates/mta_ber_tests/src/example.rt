@@ -20,15 +20,13 @@
 ghost use Rattle.std.specs.Prelude.{◌≡◌, IfOk};
 ghost use Rattle.mta_ber.specs.Parts.{Leaves, Reads, IsReadAs};
 ghost use Rattle.mta_ber.specs.Seen.{view};
-ghost use Rattle.mta_ber.specs.Example.{note_step, note_in, SpellsNote};
-ghost use Rattle.mta_ber.specs.declared.note.Note.{Note as NoteValue};
+ghost use Rattle.mta_ber_tests.specs.Example.{note_step, note_in, SpellsNote};
+ghost use Rattle.mta_ber_tests.specs.declared.note.Note.{Note as NoteValue};
 
-use crate::components::{bad, is_tag_of, take_required};
-use crate::fault::{Kind, ReadFault};
 use crate::note::{Note, NoteParts};
-use crate::parts::{Components, take_parts};
-use crate::text::TextClass;
-use crate::view::View;
+use mta_ber::{
+    Components, Kind, ReadFault, TextClass, View, bad, is_tag_of, take_parts, take_required,
+};
 use std::alloc::Global;
 
 impl Components for NoteParts {

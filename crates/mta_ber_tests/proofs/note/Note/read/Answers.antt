@@ -1,8 +1,8 @@
 use Rattle.mta_ber.specs.Seen.{view}
-use Rattle.mta_ber.specs.Example.{note_in, SpellsNote}
-use Rattle.mta_ber.proofs.ExampleLaws.{note_sound, note_full}
+use Rattle.mta_ber_tests.specs.Example.{note_in, SpellsNote}
+use Rattle.mta_ber_tests.proofs.ExampleLaws.{note_sound, note_full}
 use Rattle.mta_ber.proofs.StringLaws.{reads_found, reads_as}
-use Rattle.mta_ber.proofs.note.Note.read.Goals as goal
+use Rattle.mta_ber_tests.proofs.note.Note.read.Goals as goal
 
 pub returns-clause-found : goal.returns-clause-found
 returns-clause-found c =
