@@ -7,6 +7,3 @@ mod read;
 
 pub use gate::{PutFault, lift_gate, put_closed, write_synced};
 pub use read::{ReadAtFault, read_at};
-
-#[cfg(test)]
-mod tests;

@@ -18,6 +18,3 @@ pub use mta_ber::{Memory, Octets};
 pub use outside::{Clock, Disk, Failed, Sink, Source};
 pub use safe_disk::SafeDisk;
 pub use tear::Tear;
-
-#[cfg(test)]
-mod tests;

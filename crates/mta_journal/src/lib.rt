@@ -12,6 +12,3 @@ pub use journal::{AppendFault, JOURNAL_LIMIT, Journal, LONGEST_BODY};
 pub use law::{not_both, one_list, one_place};
 pub use open::{OpenFault, Opened};
 pub use why::OpenWhy;
-
-#[cfg(test)]
-mod tests;

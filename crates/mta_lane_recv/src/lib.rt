@@ -9,6 +9,3 @@ mod state;
 
 pub use half::{LIMIT, RecvHalf};
 pub use state::{Fresh, Last, RecvFault};
-
-#[cfg(test)]
-mod tests;

@@ -9,6 +9,3 @@ mod state;
 
 pub use half::SendHalf;
 pub use state::{NextData, OnLink, Recovery, SendFault, SendState, Settled};
-
-#[cfg(test)]
-mod tests;

@@ -17,6 +17,3 @@ pub use mta_records::{Step, StepFault};
 pub use mta_tables::Tables;
 pub use open::SpoolOpen;
 pub use spool::{Spool, Turned};
-
-#[cfg(test)]
-mod tests;

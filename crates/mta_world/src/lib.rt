@@ -17,12 +17,3 @@ pub fn ends_agree()
 pub fn a_message_arrives()
     ensures { AMessageArrives }
 {}
-
-#[cfg(test)]
-mod explore;
-#[cfg(test)]
-mod explore_ends;
-#[cfg(test)]
-mod explore_link;
-#[cfg(test)]
-mod explore_world;

@@ -1,4 +1,4 @@
-use super::*;
+use mta_disk::{lift_gate, put_closed, read_at};
 use mta_edge::{Disk, MemDisk, Octets};
 use std::test::Fail;
 

@@ -1,6 +1,6 @@
 //! Worked transfers, as the receiving half sees them.
 
-use crate::{Fresh, LIMIT, Last, RecvFault, RecvHalf};
+use mta_lane_recv::{Fresh, LIMIT, Last, RecvFault, RecvHalf};
 
 #[test]
 fn three_pieces_a_break_and_the_end(rt: HostRuntime) {

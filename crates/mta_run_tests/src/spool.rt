@@ -1,8 +1,8 @@
 //! A spool over a disk in memory. The octets of whole journals stand in the tests of the program.
 
-use super::*;
 use mta_ber::Octets;
 use mta_edge::{MemClock, MemDisk};
+use mta_spool::{Spool, Tables};
 use std::alloc::Global;
 use std::test::Fail;
 

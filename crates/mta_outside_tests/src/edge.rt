@@ -1,4 +1,7 @@
-use super::*;
+use mta_edge::{
+    Clock, Disk, Failed, MemClock, MemDisk, MemSink, MemSource, Octets, SafeDisk, SafeSink,
+    SafeSource, Sink, Source,
+};
 use std::alloc::Global;
 use std::process::Abort;
 use std::test::Fail;

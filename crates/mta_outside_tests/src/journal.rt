@@ -1,6 +1,6 @@
 //! Stops at each call, torn ends, and refusals. The octets are those of the format, written out.
-use super::*;
 use mta_edge::{MemDisk, Octets};
+use mta_journal::{AppendFault, Journal, OpenWhy, Opened};
 use std::alloc::Global;
 use std::process::Abort;
 use std::test::Fail;

@@ -3,7 +3,7 @@
 ghost use Rattle.std.specs.Prelude.{◌≡◌};
 ghost use Rattle.mta_lane_send.specs.Half.{GoesOver};
 
-use crate::{NextData, Recovery, SendFault, SendHalf, SendState, Settled};
+use mta_lane_send::{NextData, Recovery, SendFault, SendHalf, SendState, Settled};
 use std::process::Abort;
 use std::test::Fail;
 
