@@ -43,10 +43,10 @@ fn put_content_kind(out: &mut Octets, kind: &ContentKind) -> Result<(), Memory>
     ensures { OnOk result (out.new ≡ out.old ++ content_kind_text kind.now) }
 {
     match kind {
-        ContentKind::Number(number) => put_number(out, u64::from(*number)),
-        ContentKind::Oid(octets) => {
+        ContentKind::Number(number) => put_number(out, u64::from(number.number())),
+        ContentKind::Oid(oid) => {
             out.extend(b"oid ")?;
-            put_hex(out, octets.as_slice())
+            put_hex(out, oid.as_slice())
         }
     }
 }
@@ -179,10 +179,10 @@ fn put_ext_kind(out: &mut Octets, kind: &ExtKind) -> Result<(), Memory>
     ensures { OnOk result (out.new ≡ out.old ++ ext_kind_text kind.now) }
 {
     match kind {
-        ExtKind::Standard(number) => put_number(out, u64::from(*number)),
-        ExtKind::Private(octets) => {
+        ExtKind::Standard(number) => put_number(out, u64::from(number.number())),
+        ExtKind::Private(oid) => {
             out.extend(b"oid ")?;
-            put_hex(out, octets.as_slice())
+            put_hex(out, oid.as_slice())
         }
     }
 }

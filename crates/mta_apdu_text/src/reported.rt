@@ -5,36 +5,36 @@ ghost use Rattle.mta_apdu_text.specs.Reporteds.{delivery_text, diagnostic_text, 
 
 use crate::pieces::{put_bits, put_moment, put_name, put_number};
 use mta_ber::{Memory, Octets};
-use mta_names::OrName;
-use mta_reported::{Outcome, Reported};
+use mta_names::{Code, OrName};
+use mta_reported::{Moment, Outcome, Reported};
 use std::alloc::Global;
 
 #[tactic(auto, unfolding(crate::specs::Reporteds::delivery_text))]
-fn put_delivery(alloc: Global, out: &mut Octets, moment: u64, user: u32) -> Result<(), Memory>
+fn put_delivery(alloc: Global, out: &mut Octets, moment: Moment, user: Code) -> Result<(), Memory>
     ensures { OnOk result (out.new ≡ out.old ++ delivery_text moment user) }
 {
     out.extend(b"delivery ")?;
-    put_moment(alloc, out, moment)?;
+    put_moment(alloc, out, moment.seconds())?;
     out.extend(b" ")?;
-    put_number(out, u64::from(user))
+    put_number(out, u64::from(user.number()))
 }
 
 #[tactic(auto, unfolding(crate::specs::Reporteds::diagnostic_text))]
-fn put_diagnostic(out: &mut Octets, diagnostic: Option<u32>) -> Result<(), Memory>
+fn put_diagnostic(out: &mut Octets, diagnostic: Option<Code>) -> Result<(), Memory>
     ensures { OnOk result (out.new ≡ out.old ++ diagnostic_text diagnostic) }
 {
     match diagnostic {
         None => out.extend(b"-"),
-        Some(number) => put_number(out, u64::from(number)),
+        Some(code) => put_number(out, u64::from(code.number())),
     }
 }
 
 #[tactic(auto, unfolding(crate::specs::Reporteds::failure_text))]
-fn put_failure(out: &mut Octets, reason: u32, diagnostic: Option<u32>) -> Result<(), Memory>
+fn put_failure(out: &mut Octets, reason: Code, diagnostic: Option<Code>) -> Result<(), Memory>
     ensures { OnOk result (out.new ≡ out.old ++ failure_text reason diagnostic) }
 {
     out.extend(b"non-delivery ")?;
-    put_number(out, reason as u64)?;
+    put_number(out, u64::from(reason.number()))?;
     out.extend(b" ")?;
     put_diagnostic(out, diagnostic)
 }

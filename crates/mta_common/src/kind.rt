@@ -8,16 +8,16 @@ ghost use Rattle.mta_common.specs.declared.kind.ContentKind.{ContentKind};
 ghost use Rattle.mta_common.specs.ContentKinds.{is_content_kind, content_kind_in, SpellsContentKind, canonical_content_kind, kind_in_front, kind_in_place};
 
 use mta_ber::{
-    Kind, Memory, Octets, ReadFault, Tag, View, Writer, bad, is_primitive_tag, is_tag_of, put_int,
+    Kind, Memory, ReadFault, Tag, View, Writer, bad, is_primitive_tag, is_tag_of, put_int,
 };
-use mta_names::{primitive, read_number};
+use mta_names::{Code, ObjectId, primitive, read_code};
 use std::alloc::Global;
 
-/// A content type (X.411, ContentType): a number of 0 to 32,767, or the contents octets of an object identifier.
+/// A content type (X.411, ContentType): a number of 0 to 32,767, or an object identifier. It holds no other value.
 #[derive(Debug, Drop)]
 pub enum ContentKind {
-    Number(u32),
-    Oid(Octets),
+    Number(Code),
+    Oid(ObjectId),
 }
 
 /// Whether a tag is that of a content type, which is primitive: `[APPLICATION 6]`, or that of OBJECT IDENTIFIER.
@@ -32,12 +32,11 @@ fn content_kind_of(alloc: Global, part: &View) -> Result<ContentKind, ReadFault>
     ensures { Reads result (content_kind_in (view part.now)) }
 {
     if is_tag_of(part.tag, 1, 6) {
-        let number = read_number(part, 0, 32767)?;
+        let number = read_code(part)?;
         Ok(ContentKind::Number(number))
     } else if is_tag_of(part.tag, 0, 6) {
-        let content = part.oid()?;
-        let octets = Octets::from_slice(alloc, content)?;
-        Ok(ContentKind::Oid(octets))
+        let oid = ObjectId::read(alloc, part)?;
+        Ok(ContentKind::Oid(oid))
     } else {
         bad(part.at, Kind::BadTag)
     }
@@ -61,8 +60,8 @@ pub fn put_content_kind(w: &mut Writer, kind: &ContentKind) -> Result<(), Memory
     ensures err { OnErr result (w.new ≡ w.old) }
 {
     match kind {
-        ContentKind::Number(number) => put_int(w, primitive(1, 6), *number as i64),
-        ContentKind::Oid(octets) => w.put(primitive(0, 6), octets.as_slice()),
+        ContentKind::Number(number) => put_int(w, primitive(1, 6), number.number() as i64),
+        ContentKind::Oid(oid) => w.put(primitive(0, 6), oid.as_slice()),
     }
 }
 
@@ -73,7 +72,7 @@ pub fn put_content_kind_in_front(w: &mut Writer, kind: &Option<ContentKind>) -> 
     ensures err { OnErr result (w.new ≡ w.old) }
 {
     match kind {
-        Some(ContentKind::Oid(octets)) => w.put(primitive(0, 6), octets.as_slice()),
+        Some(ContentKind::Oid(oid)) => w.put(primitive(0, 6), oid.as_slice()),
         Some(ContentKind::Number(_)) | None => Ok(()),
     }
 }
@@ -85,7 +84,7 @@ pub fn put_content_kind_in_place(w: &mut Writer, kind: &Option<ContentKind>) -> 
     ensures err { OnErr result (w.new ≡ w.old) }
 {
     match kind {
-        Some(ContentKind::Number(number)) => put_int(w, primitive(1, 6), *number as i64),
+        Some(ContentKind::Number(number)) => { put_int(w, primitive(1, 6), number.number() as i64) }
         Some(ContentKind::Oid(_)) | None => Ok(()),
     }
 }

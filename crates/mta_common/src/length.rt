@@ -33,10 +33,7 @@ pub fn kind_in_front_length(kind: &ContentKind) -> u64
 {
     match kind {
         ContentKind::Number(_) => 0,
-        ContentKind::Oid(octets) => element_length(
-            primitive(0, 6),
-            slice_length(octets.as_slice()),
-        ),
+        ContentKind::Oid(oid) => element_length(primitive(0, 6), slice_length(oid.as_slice())),
     }
 }
 
@@ -45,7 +42,7 @@ pub fn kind_in_place_length(kind: &ContentKind) -> u64
     ensures { result ≡ octet_length (kind_in_place kind.now) }
 {
     match kind {
-        ContentKind::Number(number) => int_length(primitive(1, 6), *number as i64),
+        ContentKind::Number(number) => int_length(primitive(1, 6), number.number() as i64),
         ContentKind::Oid(_) => 0,
     }
 }

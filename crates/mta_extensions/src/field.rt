@@ -15,7 +15,7 @@ use mta_ber::{
     take_required,
 };
 use mta_fields::{ExtFields, ExtKind};
-use mta_names::read_number;
+use mta_names::{ObjectId, read_code};
 use std::alloc::Global;
 
 /// Which of the extensions that are read are there already.
@@ -69,12 +69,11 @@ fn read_plain_kind(alloc: Global, part: &View) -> Result<ExtKind, ReadFault>
     ensures { Reads result (plain_kind_in (view part.now)) }
 {
     if is_tag_of(part.tag, 2, 0) {
-        let number = read_number(part, 0, 32767)?;
+        let number = read_code(part)?;
         Ok(ExtKind::Standard(number))
     } else if is_tag_of(part.tag, 2, 3) {
-        let content = part.oid()?;
-        let octets = Octets::from_slice(alloc, content)?;
-        Ok(ExtKind::Private(octets))
+        let oid = ObjectId::read(alloc, part)?;
+        Ok(ExtKind::Private(oid))
     } else {
         bad(part.at, Kind::BadTag)
     }

@@ -61,7 +61,7 @@ pub fn topic_of(kind: &ExtKind) -> Topic
     ensures { result ≡ topic_of kind.now }
 {
     match kind {
-        ExtKind::Standard(number) => standard_topic(*number),
+        ExtKind::Standard(number) => standard_topic(number.number()),
         ExtKind::Private(_) => Topic::Other,
     }
 }

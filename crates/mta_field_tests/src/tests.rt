@@ -152,7 +152,7 @@ fn written_field(alloc: Global, field: &ExtField) -> Option<Writer> {
 }
 
 fn has_type_26(field: &ExtField) -> bool {
-    matches!(field.fields().kind, ExtKind::Standard(26))
+    matches!(&field.fields().kind, ExtKind::Standard(number) if number.number() == 26)
 }
 
 fn extends(rt: &impl Abort, alloc: Global, octets: &[u8]) {

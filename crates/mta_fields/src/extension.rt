@@ -15,15 +15,15 @@ use mta_ber::{
     Bits, Components, Kind, Memory, Octets, ReadFault, Tag, View, Writer, bad, check_order,
     is_constructed_tag, is_tag_of, put_bits, put_int, take_parts, take_required,
 };
-use mta_names::{constructed, primitive, put_around, read_number};
+use mta_names::{Code, ObjectId, constructed, primitive, put_around, read_code};
 use std::alloc::Global;
 use std::marker::Model;
 
-/// The type of an extension: a standard number of 0 to 32,767, or the contents octets of an object identifier.
+/// The type of an extension: a standard number of 0 to 32,767, or an object identifier. It holds no other value.
 #[derive(Debug, Drop)]
 pub enum ExtKind {
-    Standard(u32),
-    Private(Octets),
+    Standard(Code),
+    Private(ObjectId),
 }
 
 /// What an extension field has.
@@ -79,12 +79,11 @@ fn read_plain_kind(alloc: Global, part: &View) -> Result<ExtKind, ReadFault>
     ensures { Reads result (plain_kind_in (view part.now)) }
 {
     if is_tag_of(part.tag, 2, 0) {
-        let number = read_number(part, 0, 32767)?;
+        let number = read_code(part)?;
         Ok(ExtKind::Standard(number))
     } else if is_tag_of(part.tag, 2, 3) {
-        let content = part.oid()?;
-        let octets = Octets::from_slice(alloc, content)?;
-        Ok(ExtKind::Private(octets))
+        let oid = ObjectId::read(alloc, part)?;
+        Ok(ExtKind::Private(oid))
     } else {
         bad(part.at, Kind::BadTag)
     }
@@ -233,8 +232,8 @@ fn put_kind(w: &mut Writer, kind: &ExtKind) -> Result<(), Memory>
     ensures { OnOk result (w.new ≡ appended w.old (canonical_kind kind.now)) }
 {
     match kind {
-        ExtKind::Standard(number) => put_int(w, primitive(2, 0), *number as i64),
-        ExtKind::Private(octets) => w.put(primitive(2, 3), octets.as_slice()),
+        ExtKind::Standard(number) => put_int(w, primitive(2, 0), number.number() as i64),
+        ExtKind::Private(oid) => w.put(primitive(2, 3), oid.as_slice()),
     }
 }
 

@@ -84,11 +84,8 @@ fn kind_length(kind: &ExtKind) -> u64
     ensures { result ≡ octet_length (canonical_kind kind.now) }
 {
     match kind {
-        ExtKind::Standard(number) => int_length(primitive(2, 0), *number as i64),
-        ExtKind::Private(octets) => element_length(
-            primitive(2, 3),
-            slice_length(octets.as_slice()),
-        ),
+        ExtKind::Standard(number) => int_length(primitive(2, 0), number.number() as i64),
+        ExtKind::Private(oid) => element_length(primitive(2, 3), slice_length(oid.as_slice())),
     }
 }
 

@@ -6,7 +6,7 @@ use Rattle.std.proofs.lemmas.Bool.{and_parts}
 use Rattle.mta_ber.specs.Strings.{in_class}
 use Rattle.mta_ber.specs.declared.text.TextClass.TheVariants.{Printable}
 use Rattle.mta_names.specs.declared.attributes.Attributes.{Attributes}
-use Rattle.mta_names.specs.declared.attributes.Pair.{Pair}
+use Rattle.mta_names.specs.declared.attributes.PairFields.{PairFields}
 use Rattle.mta_names.specs.Values.{Each, nothing}
 use Rattle.mta_name_text.specs.declared.key.Key.{Key}
 use Rattle.mta_name_text.specs.declared.key.Key.TheVariants as Keys
@@ -23,7 +23,7 @@ use Rattle.mta_name_text.proofs.FormsWritten.{form_written, name_parts}
 use Rattle.mta_name_text.proofs.NameFits.{each_more, name_fits}
 use Rattle.mta_name_text.proofs.NamesAgain.{told_form}
 
-abbrev HasNoEquals : Pair → Type 0
+abbrev HasNoEquals : PairFields → Type 0
 HasNoEquals p = IsTrue (list_all is_no_equals p.kind)
 
 record IsPlain (n : Attributes) : Type 0 where

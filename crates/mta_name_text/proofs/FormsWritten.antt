@@ -4,8 +4,8 @@ use Rattle.std.specs.Prelude.{map, IfSome, is_some}
 use Rattle.std.proofs.lemmas.Bool.{and_parts, or_cases, ne_eqb}
 use Rattle.mta_ber.specs.Strings.{is_empty}
 use Rattle.mta_names.specs.declared.attributes.Attributes.{Attributes}
-use Rattle.mta_names.specs.declared.attributes.Pair.{Pair}
-use Rattle.mta_names.specs.declared.attributes.Person.{Person}
+use Rattle.mta_names.specs.declared.attributes.PairFields.{PairFields}
+use Rattle.mta_names.specs.declared.attributes.PersonFields.{PersonFields}
 use Rattle.mta_names.specs.Values.{nothing}
 use Rattle.mta_name_text.specs.declared.key.Key.{Key}
 use Rattle.mta_name_text.specs.declared.key.Key.TheVariants as Keys
@@ -140,11 +140,11 @@ units_more : (us : List (List ℕ)) (v : List ℕ) → units_keyed (us ++ v ∷ 
 units_more [] v = refl
 units_more (u ∷ us) v = ap (λ x. keyed Keys.Unit u ∷ x) (units_more us v)
 
-pairs_more : (ps : List Pair) (q : Pair) → pairs_keyed (ps ++ q ∷ []) ≡ pairs_keyed ps ++ pair_keyed q ∷ []
+pairs_more : (ps : List PairFields) (q : PairFields) → pairs_keyed (ps ++ q ∷ []) ≡ pairs_keyed ps ++ pair_keyed q ∷ []
 pairs_more [] q = refl
 pairs_more (p ∷ ps) q = ap (λ x. pair_keyed p ∷ x) (pairs_more ps q)
 
-abbrev person_of : List ℕ → Option (List ℕ) → Option (List ℕ) → Option (List ℕ) → Person
+abbrev person_of : List ℕ → Option (List ℕ) → Option (List ℕ) → Option (List ℕ) → PersonFields
 person_of s g i q = record { surname = s; given = g; initials = i; generation = q }
 
 given_of : (s : List ℕ) (g i q : Option (List ℕ)) (v : List ℕ) → g ≡ None → i ≡ None → q ≡ None → person_keyed (Some (person_of s (Some v) i q)) ≡ person_keyed (Some (person_of s g i q)) ++ keyed Keys.Given v ∷ []
@@ -166,15 +166,15 @@ generation_of s None (Some i) None v h = refl
 generation_of s (Some g) (Some i) None v h = refl
 generation_of s g i (Some q) v h = absurd cc
 
-given_more : (o : Option Person) (v : List ℕ) → is_some o ≡ true → IfSome o (λ q. q.given ≡ None) → IfSome o (λ q. q.initials ≡ None) → IfSome o (λ q. q.generation ≡ None) → person_keyed (with_given v o) ≡ person_keyed o ++ keyed Keys.Given v ∷ []
+given_more : (o : Option PersonFields) (v : List ℕ) → is_some o ≡ true → IfSome o (λ q. q.given ≡ None) → IfSome o (λ q. q.initials ≡ None) → IfSome o (λ q. q.generation ≡ None) → person_keyed (with_given v o) ≡ person_keyed o ++ keyed Keys.Given v ∷ []
 given_more None v s e f h = absurd cc
 given_more (Some q) v s e f h = given_of q.surname q.given q.initials q.generation v e f h
 
-initials_more : (o : Option Person) (v : List ℕ) → is_some o ≡ true → IfSome o (λ q. q.initials ≡ None) → IfSome o (λ q. q.generation ≡ None) → person_keyed (with_initials v o) ≡ person_keyed o ++ keyed Keys.Initials v ∷ []
+initials_more : (o : Option PersonFields) (v : List ℕ) → is_some o ≡ true → IfSome o (λ q. q.initials ≡ None) → IfSome o (λ q. q.generation ≡ None) → person_keyed (with_initials v o) ≡ person_keyed o ++ keyed Keys.Initials v ∷ []
 initials_more None v s f h = absurd cc
 initials_more (Some q) v s f h = initials_of q.surname q.given q.initials q.generation v f h
 
-generation_more : (o : Option Person) (v : List ℕ) → is_some o ≡ true → IfSome o (λ q. q.generation ≡ None) → person_keyed (with_generation v o) ≡ person_keyed o ++ keyed Keys.Generation v ∷ []
+generation_more : (o : Option PersonFields) (v : List ℕ) → is_some o ≡ true → IfSome o (λ q. q.generation ≡ None) → person_keyed (with_generation v o) ≡ person_keyed o ++ keyed Keys.Generation v ∷ []
 generation_more None v s h = absurd cc
 generation_more (Some q) v s h = generation_of q.surname q.given q.initials q.generation v h
 
@@ -333,27 +333,27 @@ keyed_more Keys.Pair t v p n h f i =
 
 -- ---- nothing stands behind the part that was put
 
-given_kept : (o : Option Person) (v : List ℕ) → IfSome o (λ q. q.initials ≡ None) → IfSome (with_given v o) (λ q. q.initials ≡ None)
+given_kept : (o : Option PersonFields) (v : List ℕ) → IfSome o (λ q. q.initials ≡ None) → IfSome (with_given v o) (λ q. q.initials ≡ None)
 given_kept None v h = tt
 given_kept (Some q) v h = h
 
-given_kept_too : (o : Option Person) (v : List ℕ) → IfSome o (λ q. q.generation ≡ None) → IfSome (with_given v o) (λ q. q.generation ≡ None)
+given_kept_too : (o : Option PersonFields) (v : List ℕ) → IfSome o (λ q. q.generation ≡ None) → IfSome (with_given v o) (λ q. q.generation ≡ None)
 given_kept_too None v h = tt
 given_kept_too (Some q) v h = h
 
-initials_kept : (o : Option Person) (v : List ℕ) → IfSome o (λ q. q.generation ≡ None) → IfSome (with_initials v o) (λ q. q.generation ≡ None)
+initials_kept : (o : Option PersonFields) (v : List ℕ) → IfSome o (λ q. q.generation ≡ None) → IfSome (with_initials v o) (λ q. q.generation ≡ None)
 initials_kept None v h = tt
 initials_kept (Some q) v h = h
 
-given_there : (o : Option Person) (v : List ℕ) → is_some o ≡ true → is_some (with_given v o) ≡ true
+given_there : (o : Option PersonFields) (v : List ℕ) → is_some o ≡ true → is_some (with_given v o) ≡ true
 given_there None v h = h
 given_there (Some q) v h = refl
 
-initials_there : (o : Option Person) (v : List ℕ) → is_some o ≡ true → is_some (with_initials v o) ≡ true
+initials_there : (o : Option PersonFields) (v : List ℕ) → is_some o ≡ true → is_some (with_initials v o) ≡ true
 initials_there None v h = h
 initials_there (Some q) v h = refl
 
-generation_there : (o : Option Person) (v : List ℕ) → is_some o ≡ true → is_some (with_generation v o) ≡ true
+generation_there : (o : Option PersonFields) (v : List ℕ) → is_some o ≡ true → is_some (with_generation v o) ≡ true
 generation_there None v h = h
 generation_there (Some q) v h = refl
 

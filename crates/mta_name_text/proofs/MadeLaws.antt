@@ -154,4 +154,4 @@ pattern_fits text values h =
     let same : length values ≡ length h.parts = ap length h.values_are ∙ values_length h.parts in
     let short : length h.parts ≤ 8 = parts_short h.parts start h.form.last h.form.follow in
     let some : 1 ≤ length h.parts = h.form.some in
-    record { some = omega arith; few = omega arith }
+    record { parts = h.parts; last = h.form.last; follow = h.form.follow; values_are = h.values_are; some = omega arith; few = omega arith }

@@ -7,7 +7,7 @@ use Rattle.mta_ber.specs.Strings.{in_class, IsText}
 use Rattle.mta_ber.specs.declared.text.TextClass.{TextClass}
 use Rattle.mta_ber.specs.declared.text.TextClass.TheVariants.{Numeric, Printable}
 use Rattle.mta_names.specs.declared.attributes.Attributes.{Attributes}
-use Rattle.mta_names.specs.declared.attributes.Person.{Person}
+use Rattle.mta_names.specs.declared.attributes.PersonFields.{PersonFields}
 use Rattle.mta_names.specs.Values.{Each, is_letter, is_digit, IsCountry, IsPerson, IsPair, IsName, nothing}
 use Rattle.mta_name_text.specs.declared.key.Key.{Key}
 use Rattle.mta_name_text.specs.declared.key.Key.TheVariants as Keys
@@ -143,15 +143,15 @@ each_more P (y ∷ ys) x h p = (h.0, each_more P ys x h.1 p)
 length_more : {X : Type 0} (xs : List X) (x : X) → length (xs ++ x ∷ []) ≡ length xs + 1
 length_more xs x = length-append xs (x ∷ [])
 
-given_fits : (v : List ℕ) (o : Option Person) → IfSome o IsPerson → IsText Printable 1 16 v → IfSome (with_given v o) IsPerson
+given_fits : (v : List ℕ) (o : Option PersonFields) → IfSome o IsPerson → IsText Printable 1 16 v → IfSome (with_given v o) IsPerson
 given_fits v None h t = tt
 given_fits v (Some q) h t = record { surname = h.surname; given = t; initials = h.initials; generation = h.generation }
 
-initials_fit : (v : List ℕ) (o : Option Person) → IfSome o IsPerson → IsText Printable 1 5 v → IfSome (with_initials v o) IsPerson
+initials_fit : (v : List ℕ) (o : Option PersonFields) → IfSome o IsPerson → IsText Printable 1 5 v → IfSome (with_initials v o) IsPerson
 initials_fit v None h t = tt
 initials_fit v (Some q) h t = record { surname = h.surname; given = h.given; initials = t; generation = h.generation }
 
-generation_fits : (v : List ℕ) (o : Option Person) → IfSome o IsPerson → IsText Printable 1 3 v → IfSome (with_generation v o) IsPerson
+generation_fits : (v : List ℕ) (o : Option PersonFields) → IfSome o IsPerson → IsText Printable 1 3 v → IfSome (with_generation v o) IsPerson
 generation_fits v None h t = tt
 generation_fits v (Some q) h t = record { surname = h.surname; given = h.given; initials = h.initials; generation = t }
 

@@ -9,8 +9,8 @@ use Rattle.mta_ber.specs.declared.text.TextClass.{TextClass}
 use Rattle.mta_ber.specs.declared.text.TextClass.TheVariants.{Numeric, Printable}
 use Rattle.mta_names.specs.declared.attributes.Attributes.{Attributes}
 use Rattle.mta_names.specs.declared.attributes.Label.{Label}
-use Rattle.mta_names.specs.declared.attributes.Pair.{Pair}
-use Rattle.mta_names.specs.declared.attributes.Person.{Person}
+use Rattle.mta_names.specs.declared.attributes.PairFields.{PairFields}
+use Rattle.mta_names.specs.declared.attributes.PersonFields.{PersonFields}
 use Rattle.mta_names.specs.Values.{Each, country_character, country_size, IsCountry, IsLabel, IsPerson, IsPair, nothing}
 use Rattle.mta_name_text.specs.declared.key.Key.{Key}
 use Rattle.mta_name_text.specs.declared.key.Key.TheVariants as Keys
@@ -138,7 +138,7 @@ units_told : (us : List (List ℕ)) → Each (IsText Printable 1 32) us → Each
 units_told [] h = tt
 units_told (u ∷ us) h = ((refl, plain_part Keys.Unit u refl (told_text Printable 1 32 u h.0)), units_told us h.1)
 
-pairs_told : (ps : List Pair) → Each IsPair ps → Each (λ (p : Pair). IsTrue (list_all is_no_equals p.kind)) ps → Each (OfKey Keys.Pair) (pairs_keyed ps)
+pairs_told : (ps : List PairFields) → Each IsPair ps → Each (λ (p : PairFields). IsTrue (list_all is_no_equals p.kind)) ps → Each (OfKey Keys.Pair) (pairs_keyed ps)
 pairs_told [] h e = tt
 pairs_told (p ∷ ps) h e = ((refl, record { kind = told_kind p.kind h.0.kind e.0; value = told_text Printable 1 128 p.value h.0.value }), pairs_told ps h.1 e.1)
 
@@ -146,11 +146,11 @@ units_length : (us : List (List ℕ)) → length (units_keyed us) ≡ length us
 units_length [] = refl
 units_length (u ∷ us) = omega (arith, units_length us)
 
-pairs_length : (ps : List Pair) → length (pairs_keyed ps) ≡ length ps
+pairs_length : (ps : List PairFields) → length (pairs_keyed ps) ≡ length ps
 pairs_length [] = refl
 pairs_length (p ∷ ps) = omega (arith, pairs_length ps)
 
-person_leads : (p : Place) (o : Option Person) → p.last < 6 → IfSome o IsPerson → Leads p (person_keyed o) 9
+person_leads : (p : Place) (o : Option PersonFields) → p.last < 6 → IfSome o IsPerson → Leads p (person_keyed o) 9
 person_leads p None l h = nothing_more p 9 (omega arith)
 person_leads p (Some q) l h =
     let here : (behind p Keys.Surname).surname ≡ true = or_right p.surname true refl in
@@ -188,7 +188,7 @@ put_both n (x ∷ xs) ys = put_both (put n x) xs ys
 next_put : (n m out : Attributes) (xs ys : List Part) → put_all n xs ≡ m → put_all m ys ≡ out → put_all n (xs ++ ys) ≡ out
 next_put n m out xs ys e f = put_both n xs ys ∙ ap (λ a. put_all a ys) e ∙ f
 
-abbrev upto : Option Label → Option Label → Option Label → Option (List ℕ) → List (List ℕ) → Option Person → Option (List ℕ) → Option (List ℕ) → Option (List ℕ) → Option (List ℕ) → List Pair → Attributes
+abbrev upto : Option Label → Option Label → Option Label → Option (List ℕ) → List (List ℕ) → Option PersonFields → Option (List ℕ) → Option (List ℕ) → Option (List ℕ) → Option (List ℕ) → List PairFields → Attributes
 upto c a d o us p cn nw te ui ps = record {
   country = c;
   admd = a;
@@ -238,7 +238,7 @@ put_units : (c a d : Option Label) (o : Option (List ℕ)) (us vs : List (List �
 put_units c a d o us [] = ap (λ x. upto c a d o x None None None None None []) (sym (append-nil us))
 put_units c a d o us (v ∷ vs) = put_units c a d o (us ++ v ∷ []) vs ∙ ap (λ x. upto c a d o x None None None None None []) (append_assoc us (v ∷ []) vs)
 
-abbrev person_of : List ℕ → Option (List ℕ) → Option (List ℕ) → Option (List ℕ) → Person
+abbrev person_of : List ℕ → Option (List ℕ) → Option (List ℕ) → Option (List ℕ) → PersonFields
 person_of s g i q = record { surname = s; given = g; initials = i; generation = q }
 
 put_named : (c a d : Option Label) (o : Option (List ℕ)) (us : List (List ℕ)) (s : List ℕ) (g i q : Option (List ℕ))
@@ -252,27 +252,27 @@ put_named c a d o us s (Some g) None (Some q) = refl
 put_named c a d o us s None (Some i) (Some q) = refl
 put_named c a d o us s (Some g) (Some i) (Some q) = refl
 
-put_person : (c a d : Option Label) (o : Option (List ℕ)) (us : List (List ℕ)) (p : Option Person) → put_all (upto c a d o us None None None None None []) (person_keyed p) ≡ upto c a d o us p None None None None []
+put_person : (c a d : Option Label) (o : Option (List ℕ)) (us : List (List ℕ)) (p : Option PersonFields) → put_all (upto c a d o us None None None None None []) (person_keyed p) ≡ upto c a d o us p None None None None []
 put_person c a d o us None = refl
 put_person c a d o us (Some p) = put_named c a d o us p.surname p.given p.initials p.generation
 
-put_common : (c a d : Option Label) (o : Option (List ℕ)) (us : List (List ℕ)) (p : Option Person) (cn : Option (List ℕ)) → put_all (upto c a d o us p None None None None []) (keyed_if Keys.Common cn) ≡ upto c a d o us p cn None None None []
+put_common : (c a d : Option Label) (o : Option (List ℕ)) (us : List (List ℕ)) (p : Option PersonFields) (cn : Option (List ℕ)) → put_all (upto c a d o us p None None None None []) (keyed_if Keys.Common cn) ≡ upto c a d o us p cn None None None []
 put_common c a d o us p None = refl
 put_common c a d o us p (Some v) = refl
 
-put_network : (c a d : Option Label) (o : Option (List ℕ)) (us : List (List ℕ)) (p : Option Person) (cn nw : Option (List ℕ)) → put_all (upto c a d o us p cn None None None []) (keyed_if Keys.Network nw) ≡ upto c a d o us p cn nw None None []
+put_network : (c a d : Option Label) (o : Option (List ℕ)) (us : List (List ℕ)) (p : Option PersonFields) (cn nw : Option (List ℕ)) → put_all (upto c a d o us p cn None None None []) (keyed_if Keys.Network nw) ≡ upto c a d o us p cn nw None None []
 put_network c a d o us p cn None = refl
 put_network c a d o us p cn (Some v) = refl
 
-put_terminal : (c a d : Option Label) (o : Option (List ℕ)) (us : List (List ℕ)) (p : Option Person) (cn nw te : Option (List ℕ)) → put_all (upto c a d o us p cn nw None None []) (keyed_if Keys.Terminal te) ≡ upto c a d o us p cn nw te None []
+put_terminal : (c a d : Option Label) (o : Option (List ℕ)) (us : List (List ℕ)) (p : Option PersonFields) (cn nw te : Option (List ℕ)) → put_all (upto c a d o us p cn nw None None []) (keyed_if Keys.Terminal te) ≡ upto c a d o us p cn nw te None []
 put_terminal c a d o us p cn nw None = refl
 put_terminal c a d o us p cn nw (Some v) = refl
 
-put_user : (c a d : Option Label) (o : Option (List ℕ)) (us : List (List ℕ)) (p : Option Person) (cn nw te ui : Option (List ℕ)) → put_all (upto c a d o us p cn nw te None []) (keyed_if Keys.User ui) ≡ upto c a d o us p cn nw te ui []
+put_user : (c a d : Option Label) (o : Option (List ℕ)) (us : List (List ℕ)) (p : Option PersonFields) (cn nw te ui : Option (List ℕ)) → put_all (upto c a d o us p cn nw te None []) (keyed_if Keys.User ui) ≡ upto c a d o us p cn nw te ui []
 put_user c a d o us p cn nw te None = refl
 put_user c a d o us p cn nw te (Some v) = refl
 
-put_pairs : (c a d : Option Label) (o : Option (List ℕ)) (us : List (List ℕ)) (p : Option Person) (cn nw te ui : Option (List ℕ)) (ps qs : List Pair) → put_all (upto c a d o us p cn nw te ui ps) (pairs_keyed qs) ≡ upto c a d o us p cn nw te ui (ps ++ qs)
+put_pairs : (c a d : Option Label) (o : Option (List ℕ)) (us : List (List ℕ)) (p : Option PersonFields) (cn nw te ui : Option (List ℕ)) (ps qs : List PairFields) → put_all (upto c a d o us p cn nw te ui ps) (pairs_keyed qs) ≡ upto c a d o us p cn nw te ui (ps ++ qs)
 put_pairs c a d o us p cn nw te ui ps [] = ap (upto c a d o us p cn nw te ui) (sym (append-nil ps))
 put_pairs c a d o us p cn nw te ui ps (q ∷ qs) = put_pairs c a d o us p cn nw te ui (ps ++ q ∷ []) qs ∙ ap (upto c a d o us p cn nw te ui) (append_assoc ps (q ∷ []) qs)
 

@@ -4,8 +4,8 @@ use Rattle.std.specs.List.{flat_map}
 use Rattle.std.specs.Option.{option_map}
 use Rattle.mta_names.specs.declared.attributes.Attributes.{Attributes}
 use Rattle.mta_names.specs.declared.attributes.Label.{Label}
-use Rattle.mta_names.specs.declared.attributes.Pair.{Pair}
-use Rattle.mta_names.specs.declared.attributes.Person.{Person}
+use Rattle.mta_names.specs.declared.attributes.PairFields.{PairFields}
+use Rattle.mta_names.specs.declared.attributes.PersonFields.{PersonFields}
 use Rattle.mta_name_text.specs.declared.key.Key.{Key}
 use Rattle.mta_name_text.specs.declared.key.Key.TheVariants as Keys
 use Rattle.mta_name_text.specs.declared.part.Part.{Part}
@@ -43,14 +43,14 @@ labelled_if k l = keyed_if k (option_map label_text l)
 abbrev pub units_keyed : List (List ℕ) → List Part
 units_keyed us = map (keyed Keys.Unit) us
 
-abbrev pub person_keyed : Option Person → List Part
+abbrev pub person_keyed : Option PersonFields → List Part
 person_keyed None = []
 person_keyed (Some p) = keyed Keys.Surname p.surname ∷ (keyed_if Keys.Given p.given ++ (keyed_if Keys.Initials p.initials ++ keyed_if Keys.Generation p.generation))
 
-abbrev pub pair_keyed : Pair → Part
+abbrev pub pair_keyed : PairFields → Part
 pair_keyed p = record { key = Keys.Pair; kind = p.kind; value = p.value }
 
-abbrev pub pairs_keyed : List Pair → List Part
+abbrev pub pairs_keyed : List PairFields → List Part
 pairs_keyed ps = map pair_keyed ps
 
 -- the attributes of a name in the order of their keys

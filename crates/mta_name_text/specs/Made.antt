@@ -3,8 +3,8 @@ use Rattle.std.specs.Prelude.{◌≡◌, ℕ, ◌≤◌, false, IsTrue, List, []
 use Rattle.std.specs.List.{list_all}
 use Rattle.mta_names.specs.declared.attributes.Attributes.{Attributes}
 use Rattle.mta_names.specs.declared.attributes.Label.{Label}
-use Rattle.mta_names.specs.declared.attributes.Pair.{Pair}
-use Rattle.mta_names.specs.declared.attributes.Person.{Person}
+use Rattle.mta_names.specs.declared.attributes.PairFields.{PairFields}
+use Rattle.mta_names.specs.declared.attributes.PersonFields.{PersonFields}
 use Rattle.mta_names.specs.Values.{Each, IsName, nothing}
 use Rattle.mta_name_text.specs.declared.key.Key.{Key}
 use Rattle.mta_name_text.specs.declared.key.Key.TheVariants.{Country, Admd, Prmd, Organization, Unit, Surname, Given, Initials, Generation, Common, Network, Terminal, User}
@@ -12,7 +12,8 @@ use Rattle.mta_name_text.specs.declared.key.Key.TheVariants as Keys
 use Rattle.mta_name_text.specs.declared.part.Part.{Part}
 use Rattle.mta_name_text.specs.declared.place.Grammar.TheVariants.{Names, Patterns}
 use Rattle.mta_name_text.specs.Forms.{keyed_of}
-use Rattle.mta_name_text.specs.Grammar.{IsForm}
+use Rattle.mta_name_text.specs.declared.place.Place.{Place}
+use Rattle.mta_name_text.specs.Grammar.{start, Follow, IsForm}
 use Rattle.mta_name_text.specs.Reading.{parts_of_text}
 use Rattle.mta_name_text.specs.Shapes.{is_no_equals}
 
@@ -25,22 +26,22 @@ country_label v = record { numeric = length v == 3; text = v }
 abbrev pub printable_label : List ℕ → Label
 printable_label v = record { numeric = false; text = v }
 
-abbrev pub surname_alone : List ℕ → Person
+abbrev pub surname_alone : List ℕ → PersonFields
 surname_alone v = record { surname = v; given = None; initials = None; generation = None }
 
-abbrev pub with_given : List ℕ → Option Person → Option Person
+abbrev pub with_given : List ℕ → Option PersonFields → Option PersonFields
 with_given v None = None
 with_given v (Some p) = Some (record p { given = Some v })
 
-abbrev pub with_initials : List ℕ → Option Person → Option Person
+abbrev pub with_initials : List ℕ → Option PersonFields → Option PersonFields
 with_initials v None = None
 with_initials v (Some p) = Some (record p { initials = Some v })
 
-abbrev pub with_generation : List ℕ → Option Person → Option Person
+abbrev pub with_generation : List ℕ → Option PersonFields → Option PersonFields
 with_generation v None = None
 with_generation v (Some p) = Some (record p { generation = Some v })
 
-abbrev pub pair_of : List ℕ → List ℕ → Pair
+abbrev pub pair_of : List ℕ → List ℕ → PairFields
 pair_of t v = record { kind = t; value = v }
 
 abbrev pub put_at : Key → List ℕ → List ℕ → Attributes → Attributes
@@ -90,7 +91,7 @@ pub record IsTold (n : Attributes) : Type 0 where
   pub some : 1 ≤ length (keyed_of n)
   pub admd : IfSome n.admd (λ l. l.numeric ≡ false)
   pub prmd : IfSome n.prmd (λ l. l.numeric ≡ false)
-  pub pairs : Each (λ (p : Pair). IsTrue (list_all is_no_equals p.kind)) n.pairs
+  pub pairs : Each (λ (p : PairFields). IsTrue (list_all is_no_equals p.kind)) n.pairs
   pub extras : n.extras ≡ []
   pub directory : n.directory ≡ None
 
@@ -102,8 +103,13 @@ value_of x = x.value
 abbrev pub values_of : List Part → List (List ℕ)
 values_of parts = map value_of parts
 
--- one to eight values: a country, an administration domain, a private domain, an organization and at most four units
+-- one to eight values, those of parts that follow one another as a pattern's do, each with the characters and the size of its key: a
+-- country, an administration domain, a private domain, an organization and at most four units
 pub record IsPattern (values : List (List ℕ)) : Type 0 where
+  pub parts : List Part
+  pub last : Place
+  pub follow : Follow Patterns start parts last
+  pub values_are : values ≡ values_of parts
   pub some : 1 ≤ length values
   pub few : length values ≤ 8
 

@@ -57,10 +57,11 @@ fn put_person(out: &mut Octets, person: &Option<Person>) -> Result<(), Memory>
     match person {
         None => Ok(()),
         Some(person) => {
-            put_part(out, Key::Surname, b"", person.surname.as_slice())?;
-            put_text(out, Key::Given, &person.given)?;
-            put_text(out, Key::Initials, &person.initials)?;
-            put_text(out, Key::Generation, &person.generation)
+            let fields = person.fields();
+            put_part(out, Key::Surname, b"", fields.surname.as_slice())?;
+            put_text(out, Key::Given, &fields.given)?;
+            put_text(out, Key::Initials, &fields.initials)?;
+            put_text(out, Key::Generation, &fields.generation)
         }
     }
 }
@@ -69,7 +70,13 @@ fn put_pairs(out: &mut Octets, pairs: &[Pair]) -> Result<(), Memory>
     ensures { OnOk result (out.new ≡ followed_all out.old (pairs_keyed pairs.now)) }
 {
     for pair in pairs {
-        put_part(out, Key::Pair, pair.kind.as_slice(), pair.value.as_slice())?;
+        let fields = pair.fields();
+        put_part(
+            out,
+            Key::Pair,
+            fields.kind.as_slice(),
+            fields.value.as_slice(),
+        )?;
     }
     Ok(())
 }

@@ -10,22 +10,22 @@ ghost use Rattle.mta_name_text.specs.Reading.{Reads, IsReadAs};
 
 use crate::draft::parts_of;
 use crate::fault::NameFault;
-use crate::made::{name_of, values_of};
+use crate::made::{NameDraft, finished, name_of, values_of};
 use crate::pattern::Pattern;
 use crate::place::Grammar;
 use mta_ber::Text;
-use mta_names::{Attributes, OrName, Row};
+use mta_names::{OrName, Row};
 use std::alloc::Global;
 
 /// The attributes that a text form makes.
 #[tactic(auto, unfolding(crate::specs::Made::name_of_text))]
-fn attributes_of(alloc: Global, text: &[u8]) -> Result<Attributes, NameFault>
+fn draft_of(alloc: Global, text: &[u8]) -> Result<NameDraft, NameFault>
     requires { length text.now < 2 ^ 32 }
     ensures { Reads result (name_of_text text.now) }
 {
     let parts = parts_of(alloc, Grammar::Names, text)?;
-    let attributes = name_of(alloc, parts)?;
-    Ok(attributes)
+    let draft = name_of(alloc, parts)?;
+    Ok(draft)
 }
 
 /// The values that the text form of a pattern has.
@@ -52,8 +52,8 @@ pub fn name_from_text(alloc: Global, text: &[u8]) -> Result<OrName, NameFault>
     // Which octet is at fault.
     ensures fault { (at : ℕ) → result ≡ Err (Faults.NameText at) → IsFirstFault Grammars.Names text.now at }
 {
-    match attributes_of(alloc, text) {
-        Ok(attributes) => Ok(OrName::from_attributes(attributes)),
+    match draft_of(alloc, text) {
+        Ok(draft) => Ok(finished(alloc, draft)?),
         Err(fault) => Err(fault),
     }
 }

@@ -24,8 +24,8 @@ use Rattle.mta_ber.proofs.Steps.{bind_ok, ok_is}
 use Rattle.mta_ber.proofs.StringLaws.{octets_spelled}
 use Rattle.mta_ber.proofs.ValueLaws.{numbers_again}
 use Rattle.mta_names.specs.declared.attributes.Label.{Label}
-use Rattle.mta_names.specs.declared.attributes.Pair.{Pair}
-use Rattle.mta_names.specs.declared.attributes.Person.{Person}
+use Rattle.mta_names.specs.declared.attributes.PairFields.{PairFields}
+use Rattle.mta_names.specs.declared.attributes.PersonFields.{PersonFields}
 use Rattle.mta_names.specs.declared.pair.PairParts.{PairParts}
 use Rattle.mta_names.specs.declared.person.PersonParts.{PersonParts}
 use Rattle.mta_names.specs.declared.person.PersonPart.{PersonPart}
@@ -130,7 +130,7 @@ person_piece k depth s t is low none h d short last ge lt =
 abbrev with_surname : List ℕ → Option (List ℕ) → Option (List ℕ) → Option (List ℕ) → PersonParts
 with_surname t g i e = record { surname = Some t; given = g; initials = i; generation = e }
 
-person_row : (depth : ℕ) (v : Person) → IsPerson v → depth ≤ 16 → From MakesPerson depth (λ last s. s) 0 1 no_person (canonical_person v) (with_surname v.surname v.given v.initials v.generation)
+person_row : (depth : ℕ) (v : PersonFields) → IsPerson v → depth ≤ 16 → From MakesPerson depth (λ last s. s) 0 1 no_person (canonical_person v) (with_surname v.surname v.given v.initials v.generation)
 person_row depth v h d =
     let parts = with_surname v.surname v.given v.initials v.generation in
     let given = optional (canonical_person_part Given) v.given in
@@ -148,7 +148,7 @@ person_row depth v h d =
     (λ x is. person_piece Generation depth (with_surname v.surname v.given v.initials None) x refl (low_tag 2 3 false (omega arith) (omega arith)) refl is d)
     (none_from MakesPerson depth (λ last s. s) 0 5 (with_surname v.surname v.given v.initials v.generation)))))))
 
-pub person_spelled : (depth : ℕ) (v : Person) → IsPerson v → depth + 1 ≤ 16 → length (canonical_person v) < 2 ^ 64 → SpellsPerson depth true (canonical_person v) v
+pub person_spelled : (depth : ℕ) (v : PersonFields) → IsPerson v → depth + 1 ≤ 16 → length (canonical_person v) < 2 ^ 64 → SpellsPerson depth true (canonical_person v) v
 person_spelled depth v h d short =
     let parts = with_surname v.surname v.given v.initials v.generation in
     let e = person_row (depth + 1) v h d short 0 (omega arith) (omega arith) in
@@ -187,7 +187,7 @@ units_again depth us h some few d =
 abbrev pair_parts : Option (List ℕ) → Option (List ℕ) → PairParts
 pair_parts k v = record { kind = k; value = v }
 
-pair_row : (depth : ℕ) (v : Pair) → IsPair v → depth ≤ 16 → length (canonical_printable v.kind ++ canonical_printable v.value) < 2 ^ 64
+pair_row : (depth : ℕ) (v : PairFields) → IsPair v → depth ≤ 16 → length (canonical_printable v.kind ++ canonical_printable v.value) < 2 ^ 64
     → IsRow MakesPair depth no_pair (canonical_printable v.kind ++ canonical_printable v.value) (pair_parts (Some v.kind) (Some v.value))
 pair_row depth v h d short =
     let first = short_front (canonical_printable v.kind) (canonical_printable v.value) short in
@@ -201,7 +201,7 @@ pair_row depth v h d short =
     (component MakesPair depth half whole (primitive 0 19) v.value printable_low d second
     (refl, inr (record { some_kind = refl; no_value = refl; puts = puts (SpellsText Printable 1 128 depth false v.value) (λ t. pair_parts (Some v.kind) (Some t)) v.value (text_spelled Printable 1 128 depth v.value h.value d) }))))
 
-pair_spelled : (depth : ℕ) (octets : List ℕ) (v : Pair) → IsPair v → depth + 1 ≤ 16 → length (canonical_printable v.kind ++ canonical_printable v.value) < 2 ^ 64
+pair_spelled : (depth : ℕ) (octets : List ℕ) (v : PairFields) → IsPair v → depth + 1 ≤ 16 → length (canonical_printable v.kind ++ canonical_printable v.value) < 2 ^ 64
     → SpellsPair depth (constructed 0 16) (canonical_printable v.kind ++ canonical_printable v.value) octets v
 pair_spelled depth octets v h d short = record {
   is_constructed = refl;
@@ -211,13 +211,13 @@ pair_spelled depth octets v h d short = record {
   value = refl;
 }
 
-pair_item : (depth : ℕ) → depth + 1 ≤ 16 → (ps : List Pair) (v : Pair) → IsPair v → length (canonical_pair v) < 2 ^ 64 → IsComponent (AddsItem is_sequence SpellsPair) depth ps (canonical_pair v) (ps ++ v ∷ [])
+pair_item : (depth : ℕ) → depth + 1 ≤ 16 → (ps : List PairFields) (v : PairFields) → IsPair v → length (canonical_pair v) < 2 ^ 64 → IsComponent (AddsItem is_sequence SpellsPair) depth ps (canonical_pair v) (ps ++ v ∷ [])
 pair_item depth d ps v h short =
     let content = canonical_printable v.kind ++ canonical_printable v.value in
     component (AddsItem is_sequence SpellsPair) depth ps (ps ++ v ∷ []) (constructed 0 16) content sequence_low (omega arith) short
     (record { is_item_tag = refl; item = v; spelled = pair_spelled depth (canonical_pair v) v h d (short_inside (constructed 0 16) content short); after_is = refl })
 
-pub pairs_spelled : (depth : ℕ) (ps : List Pair) → Each IsPair ps → 1 ≤ length ps → length ps ≤ 4 → depth + 2 ≤ 16 → length (flat_map canonical_pair ps) < 2 ^ 64 → SpellsPairs depth true (flat_map canonical_pair ps) ps
+pub pairs_spelled : (depth : ℕ) (ps : List PairFields) → Each IsPair ps → 1 ≤ length ps → length ps ≤ 4 → depth + 2 ≤ 16 → length (flat_map canonical_pair ps) < 2 ^ 64 → SpellsPairs depth true (flat_map canonical_pair ps) ps
 pairs_spelled depth ps h some few d short =
     record {
       is_constructed = refl;

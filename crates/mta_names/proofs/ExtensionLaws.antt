@@ -1,7 +1,7 @@
 -- Extension attributes are read exactly where they are spelled.
-use Rattle.std.proofs.Common.{◌≡◌, ℕ, ◌+◌, ◌≤◌, Bool, true, false, cond, eqb, List, [], ◌∷◌, ◌++◌, Option, Some, None, Ok, refl, sym, ap, subst, ◌∙◌, arith, inl, inr, ℤ, pos}
+use Rattle.std.proofs.Common.{◌≡◌, ℕ, ◌+◌, ◌≤◌, Bool, true, false, cond, eqb, List, [], ◌∷◌, Option, Some, None, Ok, refl, sym, ap, subst, ◌∙◌, arith, inl, inr, ℤ, pos}
 use Rattle.std.specs.Prelude.{IfSome, is_some, ◌&&◌, unsigned_abs, negsuc}
-use Rattle.std.proofs.lemmas.Bool.{eqb-false}
+use Rattle.std.proofs.lemmas.Bool.{eqb-true, eqb-false}
 use Rattle.std.proofs.lemmas.Bool.Decides.{nat_tests}
 use Rattle.mta_ber.specs.declared.fault.Kind.TheVariants.{BadTag, BadSize}
 use Rattle.mta_ber.specs.declared.tag.Tag.{Tag}
@@ -19,10 +19,13 @@ use Rattle.mta_ber.proofs.ExplicitLaws.{ReadSound, ReadFull, explicit_sound, exp
 use Rattle.mta_ber.proofs.IntLaws.{int_sound, int_full}
 use Rattle.mta_ber.proofs.Steps.{bind_ok, chosen, ok_is, passed, taken, required_so}
 use Rattle.mta_ber.proofs.StringLaws.{text_sound, text_full}
-use Rattle.mta_names.specs.declared.attributes.Extra.{Extra}
+use Rattle.mta_names.specs.declared.attributes.Attribute.{Attribute}
+use Rattle.mta_names.specs.declared.extension.AttributeFields.{AttributeFields}
+use Rattle.mta_names.specs.declared.extension.AttributeValue.{AttributeValue}
+use Rattle.mta_names.specs.declared.extension.AttributeValue.TheVariants.{Name, Raw}
 use Rattle.mta_names.specs.declared.extension.AttributeParts.{AttributeParts}
 use Rattle.mta_names.specs.declared.extension.ExtensionParts.{ExtensionParts}
-use Rattle.mta_names.specs.Extensions.{common_choice, value_in, typed, type_in, valued, attribute_step, no_attribute, attribute, attribute_in, with_attribute, extension_step, no_extensions, extension_count, extensions_in, SpellsPrintable, SpellsAttributeValue, MakesType, MakesAttributeValue, MakesAttribute, SpellsAttribute, MakesExtension, SpellsExtensions}
+use Rattle.mta_names.specs.Extensions.{common_choice, value_in, typed, type_in, valued, attribute_step, no_attribute, attribute_fields, attribute_parts_in, attribute_as, attribute, IsAttributeOf, IsAttribute, attribute_in, with_attribute, extension_step, no_extensions, extension_count, extensions_in, SpellsPrintable, SpellsAttributeValue, MakesType, MakesAttributeValue, MakesAttribute, SpellsAttributeFields, SpellsAttribute, MakesExtension, SpellsExtensions}
 use Rattle.mta_names.specs.Lists.{is_printable, is_sequence}
 use Rattle.mta_names.specs.Strings.{number_in, SpellsNumber}
 use Rattle.mta_names.specs.Values.{Each, IsRaw, IsExtra}
@@ -62,21 +65,26 @@ common_sound t p shallow content octets e =
 common_full : ReadFull common_choice (SpellsPrintable 1 64)
 common_full t p shallow h = ap (λ b. cond b (text_in Printable 1 64 p) (fault p.at BadTag)) h.0 ∙ text_full Printable 1 64 p t shallow h.1
 
-value_sound : (n : ℕ) (v : List ℕ) (p : Part) → IsOctets p.content → value_in n p ≡ Ok v → SpellsAttributeValue (eqb n 1) p.depth p.tag p.content p.octets v
+abbrev named : List ℕ → AttributeValue
+named t = Name t
+
+abbrev raw : List ℕ → AttributeValue
+raw o = Raw o
+
+value_sound : (n : ℕ) (v : AttributeValue) (p : Part) → IsOctets p.content → value_in n p ≡ Ok v → SpellsAttributeValue (eqb n 1) p.depth p.tag p.content p.octets v
 unfolding value_in
 value_sound n v p octets e = go (eqb n 1) e
   where
-    go : (b : Bool) → cond b (explicit common_choice p) (Ok p.octets) ≡ Ok v → SpellsAttributeValue b p.depth p.tag p.content p.octets v
-    go true e = explicit_sound common_choice (SpellsPrintable 1 64) common_sound v p octets e
-    go false e = sym (ok_is p.octets v e)
+    go : (b : Bool) → cond b (explicit common_choice p >>= λ t. Ok (named t)) (Ok (raw p.octets)) ≡ Ok v → SpellsAttributeValue b p.depth p.tag p.content p.octets v
+    go true e =
+        let b = bind_ok (explicit common_choice p) (λ t. Ok (named t)) v e in
+        subst (SpellsAttributeValue true p.depth p.tag p.content p.octets) {x = named b.0} (ok_is (named b.0) v b.2) (refl, explicit_sound common_choice (SpellsPrintable 1 64) common_sound b.0 p octets b.1)
+    go false e = subst (SpellsAttributeValue false p.depth p.tag p.content p.octets) {x = raw p.octets} (ok_is (raw p.octets) v e) (refl, refl)
 
-value_full : (n : ℕ) (v : List ℕ) (p : Part) → SpellsAttributeValue (eqb n 1) p.depth p.tag p.content p.octets v → value_in n p ≡ Ok v
+value_full : (n : ℕ) (v : AttributeValue) (p : Part) → SpellsAttributeValue (eqb n 1) p.depth p.tag p.content p.octets v → value_in n p ≡ Ok v
 unfolding value_in
-value_full n v p h = go (eqb n 1) h
-  where
-    go : (b : Bool) → SpellsAttributeValue b p.depth p.tag p.content p.octets v → cond b (explicit common_choice p) (Ok p.octets) ≡ Ok v
-    go true h = explicit_full common_choice (SpellsPrintable 1 64) common_full v p h
-    go false h = ap (λ (x : List ℕ). Ok x) (sym h)
+value_full n (Name t) p h = rw h.0 (ap (λ r. r >>= λ t. Ok (named t)) (explicit_full common_choice (SpellsPrintable 1 64) common_full t p h.1))
+value_full n (Raw o) p h = rw h.0 (ap (λ (x : List ℕ). Ok (raw x)) (sym h.1))
 
 -- ---- one attribute
 
@@ -143,15 +151,15 @@ step_full s t p shallow h =
       | inr m ↦ rw (other_tag p.tag m.is_tag_of, m.is_tag_of) (attribute_value_full s t p m)
     ]
 
-attribute_sound : (taken : Bool) (x : Extra) (p : Part) → IsOctets p.content → attribute_in taken p ≡ Ok x → SpellsAttribute taken p.depth p.tag.constructed p.content x
-unfolding attribute_in
-attribute_sound taken x p octets e =
+pub fields_sound : (taken : Bool) (x : AttributeFields) (p : Part) → IsOctets p.content → attribute_parts_in taken p ≡ Ok x → SpellsAttributeFields taken p.depth p.tag.constructed p.content x
+unfolding attribute_parts_in
+fields_sound taken x p octets e =
     let none = no_attribute taken p.at in
-    let a = bind_ok (components attribute_step none p) (λ s. required s.number p.at >>= λ n. required s.value p.at >>= λ v. Ok (attribute n v)) x e in
+    let a = bind_ok (components attribute_step none p) (λ s. required s.number p.at >>= λ n. required s.value p.at >>= λ v. Ok (attribute_fields n v)) x e in
     let c = components_sound attribute_step MakesAttribute step_sound none a.0 p octets a.1 in
-    let b = bind_ok (required a.0.number p.at) (λ n. required a.0.value p.at >>= λ v. Ok (attribute n v)) x a.2 in
-    let d = bind_ok (required a.0.value p.at) (λ v. Ok (attribute b.0 v)) x b.2 in
-    subst (λ (y : Extra). SpellsAttribute taken p.depth p.tag.constructed p.content y) {x = attribute b.0 d.0} (ok_is (attribute b.0 d.0) x d.2) (record {
+    let b = bind_ok (required a.0.number p.at) (λ n. required a.0.value p.at >>= λ v. Ok (attribute_fields n v)) x a.2 in
+    let d = bind_ok (required a.0.value p.at) (λ v. Ok (attribute_fields b.0 v)) x b.2 in
+    subst (λ (y : AttributeFields). SpellsAttributeFields taken p.depth p.tag.constructed p.content y) {x = attribute_fields b.0 d.0} (ok_is (attribute_fields b.0 d.0) x d.2) (record {
       is_constructed = c.0;
       at = p.at;
       parts = a.0;
@@ -176,15 +184,25 @@ are_moved at depth s t [] h = ap (moved at) h
 are_moved at depth s t (e ∷ es) h =
     (moved at h.0, record { tag = h.1.tag; content = h.1.content; stands = h.1.stands; made = makes_moved at depth s h.0 h.1.tag h.1.content e h.1.made }, are_moved at depth h.0 t es h.2)
 
-attribute_full : (taken : Bool) (x : Extra) (p : Part) → SpellsAttribute taken p.depth p.tag.constructed p.content x → attribute_in taken p ≡ Ok x
-unfolding attribute_in
-attribute_full taken x p h =
+fields_full : (taken : Bool) (x : AttributeFields) (p : Part) → SpellsAttributeFields taken p.depth p.tag.constructed p.content x → attribute_parts_in taken p ≡ Ok x
+unfolding attribute_parts_in
+fields_full taken x p h =
     let none = no_attribute taken p.at in
     let parts = moved p.at h.parts in
     let spelled : SpellsComponents MakesAttribute p.depth none p.content parts = record { components = h.spelled.components; joined = h.spelled.joined; are = are_moved p.at (p.depth + 1) (no_attribute taken h.at) h.parts h.spelled.components h.spelled.are } in
-    ap (λ r. r >>= λ s. required s.number p.at >>= λ n. required s.value p.at >>= λ v. Ok (attribute n v)) (components_full attribute_step MakesAttribute step_full none parts p h.is_constructed spelled)
-    ∙ ap (λ o. required o p.at >>= λ n. required h.parts.value p.at >>= λ v. Ok (attribute n v)) h.number
-    ∙ ap (λ o. required o p.at >>= λ v. Ok (attribute x.number v)) h.value
+    ap (λ r. r >>= λ s. required s.number p.at >>= λ n. required s.value p.at >>= λ v. Ok (attribute_fields n v)) (components_full attribute_step MakesAttribute step_full none parts p h.is_constructed spelled)
+    ∙ ap (λ o. required o p.at >>= λ n. required h.parts.value p.at >>= λ v. Ok (attribute_fields n v)) h.number
+    ∙ ap (λ o. required o p.at >>= λ v. Ok (attribute_fields x.number v)) h.value
+
+attribute_sound : (taken : Bool) (x : Attribute) (p : Part) → IsOctets p.content → attribute_in taken p ≡ Ok x → SpellsAttribute taken p.depth p.tag.constructed p.content x
+unfolding attribute_in
+attribute_sound taken x p octets e =
+    let b = bind_ok (attribute_parts_in taken p) (λ f. Ok (attribute f)) x e in
+    record { fields = b.0; spelled = fields_sound taken b.0 p octets b.1; attribute_is = sym (ok_is (attribute b.0) x b.2) }
+
+attribute_full : (taken : Bool) (x : Attribute) (p : Part) → SpellsAttribute taken p.depth p.tag.constructed p.content x → attribute_in taken p ≡ Ok x
+unfolding attribute_in
+attribute_full taken x p h = ap (λ r. r >>= λ f. Ok (attribute f)) (fields_full taken h.fields p h.spelled) ∙ ap (λ (x : Attribute). Ok x) (sym h.attribute_is)
 
 -- ---- all attributes
 
@@ -219,21 +237,17 @@ extensions_full s p h =
 
 -- ---- what is spelled is such as it may be
 
--- a value of an attribute is a common name, or the whole of an element `[1]`
-abbrev FitsAs : Bool → List ℕ → Type 0
-FitsAs true v = IsText Printable 1 64 v
-FitsAs false v = IsRaw 2 1 v
-
 record Held (s : AttributeParts) : Type 0 where
   small : IfSome s.number (λ n. n ≤ 32767)
-  fits : (n : ℕ) → s.number ≡ Some n → IfSome s.value (FitsAs (eqb n 1))
+  fits : (n : ℕ) → s.number ≡ Some n → IfSome s.value (IsAttributeOf n)
   none : s.number ≡ None → s.value ≡ None
 
-value_fits : (b : Bool) (depth : ℕ) (tag : Tag) (content octets v : List ℕ) → is_tag 2 1 tag ≡ true → Stands depth tag content octets → SpellsAttributeValue b depth tag content octets v → FitsAs b v
-value_fits true depth tag content octets v is stands h = h.spelled.1.is_text
-value_fits false depth tag content octets v is stands h = subst (IsRaw 2 1) (sym h) (record { depth = depth; tag = tag; content = content; is_tag_of = is; stands = stands })
+value_fits : (n depth : ℕ) (tag : Tag) (content octets : List ℕ) (v : AttributeValue) → n ≤ 32767 → is_tag 2 1 tag ≡ true → Stands depth tag content octets → SpellsAttributeValue (eqb n 1) depth tag content octets v → IsAttributeOf n v
+value_fits n depth tag content octets (Name t) small is stands h = (eqb-true n 1 h.0, h.1.spelled.1.is_text)
+value_fits n depth tag content octets (Raw o) small is stands h =
+    record { small = small; other = eqb-false n 1 h.0; raw = subst (IsRaw 2 1) (sym h.1) (record { depth = depth; tag = tag; content = content; is_tag_of = is; stands = stands }) }
 
-nothing_fits : (P : List ℕ → Type 0) (o : Option (List ℕ)) → o ≡ None → IfSome o P
+nothing_fits : (P : AttributeValue → Type 0) (o : Option AttributeValue) → o ≡ None → IfSome o P
 nothing_fits P o e = subst (λ x. IfSome x P) (sym e) tt
 
 abbrev some_number : ℕ → Option ℕ
@@ -247,40 +261,34 @@ held depth s t tag content octets stands h k =
     elim h [
       | inl m ↦ subst Held (sym m.after_is) (record {
         small = number_small 0 32767 m.number tag.constructed content m.spelled;
-        fits = λ n e. nothing_fits (FitsAs (eqb n 1)) s.value (k.none m.absent);
+        fits = λ n e. nothing_fits (IsAttributeOf n) s.value (k.none m.absent);
         none = λ e. absurd (cc e);
       })
       | inr m ↦ subst Held (sym m.puts.after_is) (record {
         small = k.small;
-        fits = λ n e. subst (λ j. FitsAs (eqb j 1) m.puts.value) (number_is m.number n (sym m.typed_so ∙ e)) (value_fits (eqb m.number 1) depth tag content octets m.puts.value m.is_tag_of stands m.puts.value_spelled);
+        fits = λ n e. subst (λ j. IsAttributeOf j m.puts.value) (number_is m.number n (sym m.typed_so ∙ e)) (value_fits m.number depth tag content octets m.puts.value (subst (λ o. IfSome o (λ n. n ≤ 32767)) m.typed_so k.small) m.is_tag_of stands m.puts.value_spelled);
         none = λ e. absurd (let f = sym m.typed_so ∙ e in cc f);
       })
     ]
 
-record Fits (x : Extra) : Type 0 where
-  small : x.number ≤ 32767
-  value : FitsAs (eqb x.number 1) x.raw
-
-attribute_fits : (taken : Bool) (depth : ℕ) (c : Bool) (content : List ℕ) (x : Extra) → SpellsAttribute taken depth c content x → Fits x
-attribute_fits taken depth c content x h =
+pub fields_fit : (taken : Bool) (depth : ℕ) (c : Bool) (content : List ℕ) (f : AttributeFields) → SpellsAttributeFields taken depth c content f → IsAttribute f
+fields_fit taken depth c content f h =
     let k = spelled_keep MakesAttribute Held held depth (no_attribute taken h.at) h.parts content h.spelled (record { small = tt; fits = λ n e. tt; none = λ e. refl }) in
-    record {
-      small = subst (λ o. IfSome o (λ n. n ≤ 32767)) h.number k.small;
-      value = subst (λ o. IfSome o (FitsAs (eqb x.number 1))) h.value (k.fits x.number h.number);
-    }
+    subst (λ o. IfSome o (IsAttributeOf f.number)) h.value (k.fits f.number h.number)
 
 pub record Extended (s : ExtensionParts) : Type 0 where
   pub common : IfSome s.common (IsText Printable 1 64)
   pub extras : Each IsExtra s.extras
 
-extended_as : (b : Bool) (s : ExtensionParts) (x : Extra) → eqb x.number 1 ≡ b → x.number ≤ 32767 → FitsAs b x.raw → Extended s → Extended (cond b (record s { common = Some x.raw }) (record s { extras = s.extras ++ x ∷ [] }))
-extended_as true s x is small fits k = record { common = fits; extras = k.extras }
-extended_as false s x is small fits k = record { common = k.common; extras = each_more IsExtra s.extras x k.extras (record { small = small; other = eqb-false x.number 1 is; raw = fits }) }
+extended_as : (s : ExtensionParts) (n : ℕ) (v : AttributeValue) → IsAttributeOf n v → Extended s → Extended (with_attribute (attribute_as n v) s)
+extended_as s n (Name t) fits k = record { common = fits.1; extras = k.extras }
+extended_as s n (Raw o) fits k = record { common = k.common; extras = each_more IsExtra s.extras (record { number = n; raw = o }) k.extras fits }
 
 extended : Keeps MakesExtension Extended
 extended depth s t tag content octets stands m k =
-    let f = attribute_fits (is_some s.common) depth tag.constructed content m.puts.value m.puts.value_spelled in
-    subst Extended (sym m.puts.after_is) (extended_as (eqb m.puts.value.number 1) s m.puts.value refl f.small f.value k)
+    let h = m.puts.value_spelled in
+    let f = fields_fit (is_some s.common) depth tag.constructed content h.fields h.spelled in
+    subst Extended (sym (m.puts.after_is ∙ ap (λ a. with_attribute a s) h.attribute_is)) (extended_as s h.fields.number h.fields.value f k)
 
 pub extensions_are : (depth : ℕ) (c : Bool) (content : List ℕ) (s : ExtensionParts) → SpellsExtensions depth c content s → Extended s
 extensions_are depth c content s h = spelled_keep MakesExtension Extended extended depth no_extensions s content h.spelled (record { common = tt; extras = tt })

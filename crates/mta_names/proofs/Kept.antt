@@ -1,18 +1,20 @@
 -- What is kept unread stands in the level of the place where it was read, and in each level above.
-use Rattle.std.proofs.Common.{◌≡◌, ℕ, zero, suc, ◌+◌, ◌-◌, ◌≤◌, Bool, true, false, cond, eqb, List, [], ◌∷◌, ◌++◌, Option, Some, None, refl, sym, subst, ◌∙◌, arith, inl, inr}
+use Rattle.std.proofs.Common.{◌≡◌, ℕ, zero, suc, ◌+◌, ◌-◌, ◌≤◌, Bool, true, false, eqb, List, [], ◌∷◌, Option, Some, None, sym, ap, subst, ◌∙◌, arith, inl, inr}
 use Rattle.std.specs.Prelude.{IfSome, IfNone, is_some}
 use Rattle.mta_ber.specs.declared.tag.Tag.{Tag}
 use Rattle.mta_ber.specs.Components.{Makes, AreComponents, SpellsComponents}
 use Rattle.mta_ber.specs.Parts.{is_tag}
 use Rattle.mta_ber.specs.Spelling.{IsRow, Row, IsContent, Whole, Stands}
 use Rattle.mta_names.specs.declared.attributes.Attributes.{Attributes}
-use Rattle.mta_names.specs.declared.attributes.Extra.{Extra}
+use Rattle.mta_names.specs.declared.extension.AttributeFields.{AttributeFields}
 use Rattle.mta_names.specs.declared.extension.AttributeParts.{AttributeParts}
+use Rattle.mta_names.specs.declared.extension.AttributeValue.{AttributeValue}
+use Rattle.mta_names.specs.declared.extension.AttributeValue.TheVariants.{Name, Raw}
 use Rattle.mta_names.specs.declared.extension.ExtensionParts.{ExtensionParts}
 use Rattle.mta_names.specs.declared.reading.NameParts.{NameParts}
 use Rattle.mta_names.specs.declared.reading.NamePart.{NamePart}
 use Rattle.mta_names.specs.declared.reading.NamePart.TheVariants.{Standard, Pairs, Extensions, Directory}
-use Rattle.mta_names.specs.Extensions.{no_attribute, no_extensions, SpellsAttributeValue, MakesAttribute, SpellsAttribute, MakesExtension, SpellsExtensions}
+use Rattle.mta_names.specs.Extensions.{no_attribute, attribute_as, with_attribute, no_extensions, SpellsAttributeValue, MakesAttribute, SpellsAttributeFields, MakesExtension, SpellsExtensions}
 use Rattle.mta_names.specs.Laws.{IsRawAt, AreKeptAt, ReadNamesAreKept, KeptNamesAreKeptAbove, ReadNamesAreReadAgain}
 use Rattle.mta_names.specs.Names.{name_class, name_number, name_parts, MakesNamePart, MakesName}
 use Rattle.mta_names.specs.Values.{Each, nothing}
@@ -96,53 +98,41 @@ spelled_kept makes P depth keeps s t content h k = are_kept makes P (depth + 1) 
 -- ---- extension attributes
 
 -- a value that is not a common name is kept
-abbrev KeptAs : Bool → ℕ → List ℕ → Type 0
-KeptAs true depth v = Unit {0}
-KeptAs false depth v = IsRawAt depth 2 1 v
+abbrev KeptAs : ℕ → AttributeValue → Type 0
+KeptAs depth (Name t) = Unit {0}
+KeptAs depth (Raw o) = IsRawAt depth 2 1 o
 
-value_kept : (b : Bool) (depth : ℕ) (tag : Tag) (content octets v : List ℕ) → is_tag 2 1 tag ≡ true → Stands depth tag content octets → SpellsAttributeValue b depth tag content octets v → KeptAs b depth v
-value_kept true depth tag content octets v is stands h = tt
-value_kept false depth tag content octets v is stands h = subst (IsRawAt depth 2 1) (sym h) (record { tag = tag; content = content; is_tag_of = is; stands = stands })
+value_kept : (common : Bool) (depth : ℕ) (tag : Tag) (content octets : List ℕ) (v : AttributeValue) → is_tag 2 1 tag ≡ true → Stands depth tag content octets → SpellsAttributeValue common depth tag content octets v → KeptAs depth v
+value_kept common depth tag content octets (Name t) is stands h = tt
+value_kept common depth tag content octets (Raw o) is stands h = subst (IsRawAt depth 2 1) (sym h.1) (record { tag = tag; content = content; is_tag_of = is; stands = stands })
 
-record Held (depth : ℕ) (s : AttributeParts) : Type 0 where
-  kept : (n : ℕ) → s.number ≡ Some n → IfSome s.value (KeptAs (eqb n 1) depth)
-  none : s.number ≡ None → s.value ≡ None
-
-nothing_kept : (P : List ℕ → Type 0) (o : Option (List ℕ)) → o ≡ None → IfSome o P
-nothing_kept P o e = subst (λ x. IfSome x P) (sym e) tt
-
-abbrev some_number : ℕ → Option ℕ
-some_number n = Some n
-
-number_is : (m n : ℕ) → some_number m ≡ some_number n → m ≡ n
-number_is m n e = cc
+abbrev Held : ℕ → AttributeParts → Type 0
+Held depth s = IfSome s.value (KeptAs depth)
 
 held : (depth : ℕ) → KeepsAt MakesAttribute (Held depth) depth
 held depth s t tag content octets stands h k =
     elim h [
-      | inl m ↦ subst (Held depth) (sym m.after_is) (record { kept = λ n e. nothing_kept (KeptAs (eqb n 1) depth) s.value (k.none m.absent); none = λ e. absurd (cc e) })
-      | inr m ↦ subst (Held depth) (sym m.puts.after_is) (record {
-        kept = λ n e. subst (λ j. KeptAs (eqb j 1) depth m.puts.value) (number_is m.number n (sym m.typed_so ∙ e)) (value_kept (eqb m.number 1) depth tag content octets m.puts.value m.is_tag_of stands m.puts.value_spelled);
-        none = λ e. absurd (let f = sym m.typed_so ∙ e in cc f);
-      })
+      | inl m ↦ subst (Held depth) (sym m.after_is) k
+      | inr m ↦ subst (Held depth) (sym m.puts.after_is) (value_kept (eqb m.number 1) depth tag content octets m.puts.value m.is_tag_of stands m.puts.value_spelled)
     ]
 
-attribute_kept : (taken : Bool) (depth : ℕ) (c : Bool) (content : List ℕ) (x : Extra) → SpellsAttribute taken depth c content x → KeptAs (eqb x.number 1) (depth + 1) x.raw
-attribute_kept taken depth c content x h =
-    let k = spelled_kept MakesAttribute (Held (depth + 1)) depth (held (depth + 1)) (no_attribute taken h.at) h.parts content h.spelled (record { kept = λ n e. tt; none = λ e. refl }) in
-    subst (λ o. IfSome o (KeptAs (eqb x.number 1) (depth + 1))) h.value (k.kept x.number h.number)
+fields_kept : (taken : Bool) (depth : ℕ) (c : Bool) (content : List ℕ) (f : AttributeFields) → SpellsAttributeFields taken depth c content f → KeptAs (depth + 1) f.value
+fields_kept taken depth c content f h =
+    let k = spelled_kept MakesAttribute (Held (depth + 1)) depth (held (depth + 1)) (no_attribute taken h.at) h.parts content h.spelled tt in
+    subst (λ o. IfSome o (KeptAs (depth + 1))) h.value k
 
 abbrev Extended : ℕ → ExtensionParts → Type 0
 Extended depth s = AreKeptAt (depth + 1) s.extras
 
-extended_as : (b : Bool) (depth : ℕ) (s : ExtensionParts) (x : Extra) → KeptAs b (depth + 1) x.raw → Extended depth s → Extended depth (cond b (record s { common = Some x.raw }) (record s { extras = s.extras ++ x ∷ [] }))
-extended_as true depth s x h k = k
-extended_as false depth s x h k = each_more (λ y. IsRawAt (depth + 1) 2 1 y.raw) s.extras x k h
+extended_as : (depth : ℕ) (s : ExtensionParts) (n : ℕ) (v : AttributeValue) → KeptAs (depth + 1) v → Extended depth s → Extended depth (with_attribute (attribute_as n v) s)
+extended_as depth s n (Name t) h k = k
+extended_as depth s n (Raw o) h k = each_more (λ y. IsRawAt (depth + 1) 2 1 y.raw) s.extras (record { number = n; raw = o }) k h
 
 extended : (depth : ℕ) → KeepsAt MakesExtension (Extended depth) depth
 extended depth s t tag content octets stands m k =
-    let h = attribute_kept (is_some s.common) depth tag.constructed content m.puts.value m.puts.value_spelled in
-    subst (Extended depth) (sym m.puts.after_is) (extended_as (eqb m.puts.value.number 1) depth s m.puts.value h k)
+    let h = m.puts.value_spelled in
+    let f = fields_kept (is_some s.common) depth tag.constructed content h.fields h.spelled in
+    subst (Extended depth) (sym (m.puts.after_is ∙ ap (λ a. with_attribute a s) h.attribute_is)) (extended_as depth s h.fields.number h.fields.value f k)
 
 pub extensions_kept : (depth : ℕ) (c : Bool) (content : List ℕ) (s : ExtensionParts) → SpellsExtensions depth c content s → AreKeptAt (depth + 2) s.extras
 extensions_kept depth c content s h =

@@ -13,7 +13,7 @@ use Rattle.mta_ber.proofs.ComponentLaws.{StepSound, StepFull}
 use Rattle.mta_ber.proofs.ExplicitLaws.{ReadSound, ReadFull}
 use Rattle.mta_ber.proofs.Steps.{bind_ok, chosen, ok_is, passed, taken, required_so}
 use Rattle.mta_ber.proofs.StringLaws.{text_sound, text_full}
-use Rattle.mta_names.specs.declared.attributes.Pair.{Pair}
+use Rattle.mta_names.specs.declared.attributes.PairFields.{PairFields}
 use Rattle.mta_names.specs.declared.pair.PairParts.{PairParts}
 use Rattle.mta_names.specs.Lists.{is_printable, is_sequence, units_in, SpellsUnit, SpellsUnits, pair_text, pair_step, no_pair, pair, pair_in, pairs_in, MakesPair, SpellsPair, SpellsPairs}
 use Rattle.mta_names.specs.Values.{Each, IsPair}
@@ -78,14 +78,14 @@ step_full s t p shallow h =
 pair_is : (k v k' v' : List ℕ) → k ≡ k' → v ≡ v' → pair k v ≡ pair k' v'
 pair_is k v k' v' a b = cc
 
-pair_sound : ReadSound pair_in SpellsPair
+pub pair_sound : (v : PairFields) (p : Part) → IsOctets p.content → pair_in p ≡ Ok v → SpellsPair p.depth p.tag p.content p.octets v
 unfolding pair_in
-pair_sound v p shallow content octets e =
+pair_sound v p content e =
     let a = bind_ok (components pair_step no_pair p) (λ s. required s.kind p.at >>= λ kind. required s.value p.at >>= λ value. Ok (pair kind value)) v e in
     let c = components_sound pair_step MakesPair step_sound no_pair a.0 p content a.1 in
     let b = bind_ok (required a.0.kind p.at) (λ kind. required a.0.value p.at >>= λ value. Ok (pair kind value)) v a.2 in
     let d = bind_ok (required a.0.value p.at) (λ value. Ok (pair b.0 value)) v b.2 in
-    subst (λ (x : Pair). SpellsPair p.depth p.tag p.content p.octets x) {x = pair b.0 d.0} (ok_is (pair b.0 d.0) v d.2) (record {
+    subst (λ (x : PairFields). SpellsPair p.depth p.tag p.content p.octets x) {x = pair b.0 d.0} (ok_is (pair b.0 d.0) v d.2) (record {
       is_constructed = c.0;
       parts = a.0;
       spelled = c.1;
@@ -111,18 +111,18 @@ keeps depth s t tag content octets stands m h =
       | inr m ↦ subst Holds (sym m.puts.after_is) (record { kind = h.kind; value = m.puts.value_spelled.is_text })
     ]
 
-pair_fits : (depth : ℕ) (tag : Tag) (content octets : List ℕ) (v : Pair) → SpellsPair depth tag content octets v → IsPair v
+pub pair_fits : (depth : ℕ) (tag : Tag) (content octets : List ℕ) (v : PairFields) → SpellsPair depth tag content octets v → IsPair v
 pair_fits depth tag content octets v h =
     let k = spelled_keep MakesPair Holds keeps depth no_pair h.parts content h.spelled (record { kind = tt; value = tt }) in
     record { kind = subst (λ o. IfSome o (IsText Printable 1 8)) h.kind k.kind; value = subst (λ o. IfSome o (IsText Printable 1 128)) h.value k.value }
 
-pub pairs_sound : (ps : List Pair) (p : Part) → IsOctets p.content → pairs_in p ≡ Ok ps → SpellsPairs p.depth p.tag.constructed p.content ps
+pub pairs_sound : (ps : List PairFields) (p : Part) → IsOctets p.content → pairs_in p ≡ Ok ps → SpellsPairs p.depth p.tag.constructed p.content ps
 unfolding pairs_in
-pairs_sound ps p octets e = list_sound is_sequence pair_in SpellsPair pair_sound 1 4 p ps octets e
+pairs_sound ps p octets e = list_sound is_sequence pair_in SpellsPair (λ v q shallow content own. pair_sound v q content) 1 4 p ps octets e
 
-pub pairs_full : (ps : List Pair) (p : Part) → SpellsPairs p.depth p.tag.constructed p.content ps → pairs_in p ≡ Ok ps
+pub pairs_full : (ps : List PairFields) (p : Part) → SpellsPairs p.depth p.tag.constructed p.content ps → pairs_in p ≡ Ok ps
 unfolding pairs_in
 pairs_full ps p h = list_full is_sequence pair_in SpellsPair pair_full 1 4 p ps h
 
-pub pairs_are : (depth : ℕ) (c : Bool) (content : List ℕ) (ps : List Pair) → SpellsPairs depth c content ps → Each IsPair ps
+pub pairs_are : (depth : ℕ) (c : Bool) (content : List ℕ) (ps : List PairFields) → SpellsPairs depth c content ps → Each IsPair ps
 pairs_are depth c content ps h = list_each is_sequence pair_in SpellsPair IsPair pair_fits 1 4 depth c content ps h

@@ -10,10 +10,10 @@ use Rattle.mta_ber.specs.Parts.{is_tag}
 use Rattle.mta_ber.specs.Segmented.{SpellsText}
 use Rattle.mta_ber.specs.Strings.{IsText}
 use Rattle.mta_names.specs.declared.attributes.Attributes.{Attributes}
-use Rattle.mta_names.specs.declared.attributes.Extra.{Extra}
+use Rattle.mta_names.specs.declared.attributes.ExtraFields.{ExtraFields}
 use Rattle.mta_names.specs.declared.attributes.Label.{Label}
-use Rattle.mta_names.specs.declared.attributes.Pair.{Pair}
-use Rattle.mta_names.specs.declared.attributes.Person.{Person}
+use Rattle.mta_names.specs.declared.attributes.PairFields.{PairFields}
+use Rattle.mta_names.specs.declared.attributes.PersonFields.{PersonFields}
 use Rattle.mta_names.specs.declared.extension.ExtensionParts.{ExtensionParts}
 use Rattle.mta_names.specs.declared.reading.NamePart.TheVariants as parts
 use Rattle.mta_names.specs.declared.standard.StandardPart.{StandardPart}
@@ -62,7 +62,7 @@ upto_6 n o = record nothing { country = n.country; admd = n.admd; network = n.ne
 abbrev upto_7 : Attributes → Option (List ℕ) → Attributes
 upto_7 n o = record nothing { country = n.country; admd = n.admd; network = n.network; terminal = n.terminal; prmd = n.prmd; organization = n.organization; user = o }
 
-abbrev upto_8 : Attributes → Option Person → Attributes
+abbrev upto_8 : Attributes → Option PersonFields → Attributes
 upto_8 n o = record nothing { country = n.country; admd = n.admd; network = n.network; terminal = n.terminal; prmd = n.prmd; organization = n.organization; user = n.user; person = o }
 
 abbrev upto_9 : Attributes → List (List ℕ) → Attributes
@@ -153,7 +153,7 @@ standard_again depth n h d = content_again standard_in SpellsStandard standard_f
 
 -- ---- what stands behind the standard attributes
 
-abbrev with_rest_1 : Attributes → List Pair → Attributes
+abbrev with_rest_1 : Attributes → List PairFields → Attributes
 with_rest_1 n ps = record (standard_of n) { pairs = ps }
 
 abbrev with_rest_2 : Attributes → ExtensionParts → Attributes
@@ -165,7 +165,7 @@ with_rest_3 n o = record (standard_of n) { pairs = n.pairs; common = n.common; e
 abbrev no_parts : ExtensionParts
 no_parts = record { common = None; extras = [] }
 
-none_there : (c : Option (List ℕ)) (xs : List Extra) → count_of c + length xs < 1 → ◌≡◌ {A = ExtensionParts} (record { common = c; extras = xs }) no_parts
+none_there : (c : Option (List ℕ)) (xs : List ExtraFields) → count_of c + length xs < 1 → ◌≡◌ {A = ExtensionParts} (record { common = c; extras = xs }) no_parts
 none_there None [] lt = refl
 none_there (Some x) xs lt = absurd (omega arith)
 none_there None (x ∷ xs) lt = absurd (omega arith)
@@ -174,7 +174,7 @@ none_written : (k : ℕ) (content : List ℕ) → k < 1 → unless_empty k conte
 none_written zero content lt = refl
 none_written (suc k) content lt = absurd (omega arith)
 
-kept_inside : (depth : ℕ) (xs : List Extra) → AreKeptAt (depth + 3) xs → AreKeptAt (depth + 1 + 2) xs
+kept_inside : (depth : ℕ) (xs : List ExtraFields) → AreKeptAt (depth + 3) xs → AreKeptAt (depth + 1 + 2) xs
 kept_inside depth xs h = subst (λ k. AreKeptAt k xs) (let e : depth + 3 ≡ depth + 1 + 2 = omega arith in e) h
 
 module _ (depth : ℕ) (d : depth + 4 ≤ 16) (n : Attributes) (h : IsName n) (k : KeepsName depth n) where

@@ -12,7 +12,7 @@ use Rattle.mta_ber.specs.Strings.{text_in, IsText}
 use Rattle.mta_ber.proofs.ComponentLaws.{StepSound, StepFull}
 use Rattle.mta_ber.proofs.Steps.{bind_ok, ok_is, placed, required_so}
 use Rattle.mta_ber.proofs.StringLaws.{text_sound, text_full}
-use Rattle.mta_names.specs.declared.attributes.Person.{Person}
+use Rattle.mta_names.specs.declared.attributes.PersonFields.{PersonFields}
 use Rattle.mta_names.specs.declared.person.PersonParts.{PersonParts}
 use Rattle.mta_names.specs.declared.person.PersonPart.{PersonPart}
 use Rattle.mta_names.specs.declared.person.PersonPart.TheVariants.{Surname, Given, Initials, Generation}
@@ -55,14 +55,14 @@ step_full s t p shallow h =
     ∙ ap (λ held. once held p.at read >>= λ t. Ok (with_person_part k s t)) h.absent
     ∙ puts_full read (with_person_part k s) t (SpellsText Printable 1 (person_size k) p.depth p.tag.constructed p.content) (λ x w. text_full Printable 1 (person_size k) p x shallow w) h.puts
 
-pub person_sound : (v : Person) (p : Part) → IsOctets p.content → person_in p ≡ Ok v → SpellsPerson p.depth p.tag.constructed p.content v
+pub person_sound : (v : PersonFields) (p : Part) → IsOctets p.content → person_in p ≡ Ok v → SpellsPerson p.depth p.tag.constructed p.content v
 unfolding person_in
 person_sound v p octets e =
     let a = bind_ok (components person_step no_person p) (λ s. required s.surname p.at >>= λ t. Ok (person t s)) v e in
     let c = components_sound person_step MakesPerson step_sound no_person a.0 p octets a.1 in
     let b = bind_ok (required a.0.surname p.at) (λ t. Ok (person t a.0)) v a.2 in
     let same = ok_is (person b.0 a.0) v b.2 in
-    subst (λ (x : Person). SpellsPerson p.depth p.tag.constructed p.content x) same (record {
+    subst (λ (x : PersonFields). SpellsPerson p.depth p.tag.constructed p.content x) same (record {
       is_constructed = c.0;
       parts = a.0;
       spelled = c.1;
@@ -70,12 +70,12 @@ person_sound v p octets e =
       value = refl;
     })
 
-pub person_full : (v : Person) (p : Part) → SpellsPerson p.depth p.tag.constructed p.content v → person_in p ≡ Ok v
+pub person_full : (v : PersonFields) (p : Part) → SpellsPerson p.depth p.tag.constructed p.content v → person_in p ≡ Ok v
 unfolding person_in
 person_full v p h =
     ap (λ r. r >>= λ s. required s.surname p.at >>= λ t. Ok (person t s)) (components_full person_step MakesPerson step_full no_person h.parts p h.is_constructed h.spelled)
     ∙ ap (λ o. required o p.at >>= λ t. Ok (person t h.parts)) h.surname
-    ∙ ap (λ (x : Person). Ok x) (sym h.value)
+    ∙ ap (λ (x : PersonFields). Ok x) (sym h.value)
 
 -- ---- what is spelled is a personal name
 
@@ -94,7 +94,7 @@ holds_more Generation s t h w = record { surname = h.surname; given = h.given; i
 keeps : Keeps MakesPerson Holds
 keeps depth s t tag content octets stands m h = subst Holds (sym m.puts.after_is) (holds_more m.part s m.puts.value h m.puts.value_spelled.is_text)
 
-pub person_is : (depth : ℕ) (c : Bool) (content : List ℕ) (v : Person) → SpellsPerson depth c content v → IsPerson v
+pub person_is : (depth : ℕ) (c : Bool) (content : List ℕ) (v : PersonFields) → SpellsPerson depth c content v → IsPerson v
 person_is depth c content v h =
     let k = spelled_keep MakesPerson Holds keeps depth no_person h.parts content h.spelled (record { surname = tt; given = tt; initials = tt; generation = tt }) in
     let surname : IsText Printable 1 40 v.surname = subst (λ o. IfSome o (IsText Printable 1 40)) h.surname k.surname in

@@ -14,13 +14,18 @@ use Rattle.mta_ber.specs.Explicit.{Spells, SpellsExplicit}
 use Rattle.mta_ber.specs.Head.{◌>>=◌, fault}
 use Rattle.mta_ber.specs.Parts.{components, is_tag, required}
 use Rattle.mta_ber.specs.Segmented.{SpellsText}
-use Rattle.mta_ber.specs.Strings.{between, text_in}
-use Rattle.mta_names.specs.declared.attributes.Extra.{Extra}
+use Rattle.mta_ber.specs.Strings.{between, text_in, IsText}
+use Rattle.mta_names.specs.declared.attributes.Attribute.{Attribute}
+use Rattle.mta_names.specs.declared.attributes.Attribute.TheVariants.{Common, Other}
+use Rattle.mta_names.specs.declared.attributes.ExtraFields.{ExtraFields}
+use Rattle.mta_names.specs.declared.extension.AttributeFields.{AttributeFields}
+use Rattle.mta_names.specs.declared.extension.AttributeValue.{AttributeValue}
+use Rattle.mta_names.specs.declared.extension.AttributeValue.TheVariants.{Name, Raw}
 use Rattle.mta_names.specs.declared.extension.AttributeParts.{AttributeParts}
 use Rattle.mta_names.specs.declared.extension.ExtensionParts.{ExtensionParts}
 use Rattle.mta_names.specs.Lists.{is_printable, is_sequence, canonical_printable}
 use Rattle.mta_names.specs.Strings.{number_in, SpellsNumber, Puts}
-use Rattle.mta_names.specs.Values.{count_of}
+use Rattle.mta_names.specs.Values.{count_of, IsExtra}
 
 -- ---- one attribute
 
@@ -29,8 +34,8 @@ abbrev pub common_choice : Part → Result (List ℕ) Fault
 common_choice p = if is_printable p.tag then text_in Printable 1 64 p else fault p.at BadTag
 
 -- a common name is read, and what another type has is kept
-unfoldable pub value_in : ℕ → Part → Result (List ℕ) Fault
-value_in n p = if n == 1 then explicit common_choice p else Ok p.octets
+unfoldable pub value_in : ℕ → Part → Result AttributeValue Fault
+value_in n p = if n == 1 then (explicit common_choice p >>= λ t. Ok (Name t)) else Ok (Raw p.octets)
 
 -- a common name that is there already is a fault of the whole attribute, as soon as its type was read
 abbrev pub typed : AttributeParts → ℕ → Result AttributeParts Fault
@@ -49,17 +54,39 @@ attribute_step s p = if is_tag 2 0 p.tag then type_in s p else if is_tag 2 1 p.t
 abbrev pub no_attribute : Bool → ℕ → AttributeParts
 no_attribute taken at = record { taken = taken; at = at; number = None; value = None }
 
-abbrev pub attribute : ℕ → List ℕ → Extra
-attribute n v = record { number = n; raw = v }
+abbrev pub attribute_fields : ℕ → AttributeValue → AttributeFields
+attribute_fields n v = record { number = n; value = v }
 
--- an attribute, where `taken` says whether a common name is there already
-unfoldable pub attribute_in : Bool → Part → Result Extra Fault
-attribute_in taken p = components attribute_step (no_attribute taken p.at) p >>= λ s. required s.number p.at >>= λ n. required s.value p.at >>= λ v. Ok (attribute n v)
+-- a type and a value, where `taken` says whether a common name is there already
+unfoldable pub attribute_parts_in : Bool → Part → Result AttributeFields Fault
+attribute_parts_in taken p =
+    components attribute_step (no_attribute taken p.at) p >>= λ s. required s.number p.at >>= λ n. required s.value p.at >>= λ v. Ok (attribute_fields n v)
+
+-- what a value of a type makes: a common name, or an attribute that is kept
+abbrev pub attribute_as : ℕ → AttributeValue → Attribute
+attribute_as n (Name t) = Common t
+attribute_as n (Raw o) = Other (record { number = n; raw = o })
+
+abbrev pub attribute : AttributeFields → Attribute
+attribute f = attribute_as f.number f.value
+
+-- a common name is of type 1, and what is kept is of another
+abbrev pub IsAttributeOf : ℕ → AttributeValue → Type 0
+IsAttributeOf n (Name t) = (n ≡ 1) × IsText Printable 1 64 t
+IsAttributeOf n (Raw o) = IsExtra (record { number = n; raw = o })
+
+abbrev pub IsAttribute : AttributeFields → Type 0
+IsAttribute f = IsAttributeOf f.number f.value
+
+-- an attribute
+unfoldable pub attribute_in : Bool → Part → Result Attribute Fault
+attribute_in taken p = attribute_parts_in taken p >>= λ f. Ok (attribute f)
 
 -- ---- all attributes
 
-abbrev pub with_attribute : Extra → ExtensionParts → ExtensionParts
-with_attribute e s = if e.number == 1 then record s { common = Some e.raw } else record s { extras = s.extras ++ e ∷ [] }
+abbrev pub with_attribute : Attribute → ExtensionParts → ExtensionParts
+with_attribute (Common t) s = record s { common = Some t }
+with_attribute (Other e) s = record s { extras = s.extras ++ e ∷ [] }
 
 abbrev pub answer : ExtensionParts → Result ExtensionParts Fault
 answer s = Ok s
@@ -81,10 +108,10 @@ extensions_in p = components extension_step no_extensions p >>= λ s. if between
 abbrev pub SpellsPrintable : ℕ → ℕ → Spells (List ℕ)
 SpellsPrintable low high depth tag content octets t = (is_printable tag ≡ true) × SpellsText Printable low high depth tag.constructed content t
 
--- the value of an attribute: an explicit tag around a common name, or any element
-abbrev pub SpellsAttributeValue : Bool → ℕ → Tag → List ℕ → List ℕ → List ℕ → Type 0
-SpellsAttributeValue true depth tag content octets v = SpellsExplicit (SpellsPrintable 1 64) depth tag.constructed content v
-SpellsAttributeValue false depth tag content octets v = v ≡ octets
+-- the value of an attribute: an explicit tag around a common name, which is of type 1, or any element
+abbrev pub SpellsAttributeValue : Bool → ℕ → Tag → List ℕ → List ℕ → AttributeValue → Type 0
+SpellsAttributeValue common depth tag content octets (Name t) = (common ≡ true) × SpellsExplicit (SpellsPrintable 1 64) depth tag.constructed content t
+SpellsAttributeValue common depth tag content octets (Raw o) = (common ≡ false) × (o ≡ octets)
 
 pub record MakesType (before : AttributeParts) (tag : Tag) (content : List ℕ) (after : AttributeParts) : Type 0 where
   pub is_tag_of : is_tag 2 0 tag ≡ true
@@ -105,13 +132,18 @@ abbrev pub MakesAttribute : Makes AttributeParts
 MakesAttribute depth before tag content octets after = MakesType before tag content after ⊎ MakesAttributeValue depth before tag content octets after
 
 -- a SEQUENCE of a type and a value; the offset plays no part in what it spells
-pub record SpellsAttribute (taken : Bool) (depth : ℕ) (constructed : Bool) (content : List ℕ) (e : Extra) : Type 0 where
+pub record SpellsAttributeFields (taken : Bool) (depth : ℕ) (constructed : Bool) (content : List ℕ) (f : AttributeFields) : Type 0 where
   pub is_constructed : constructed ≡ true
   pub at : ℕ
   pub parts : AttributeParts
   pub spelled : SpellsComponents MakesAttribute depth (no_attribute taken at) content parts
-  pub number : parts.number ≡ Some e.number
-  pub value : parts.value ≡ Some e.raw
+  pub number : parts.number ≡ Some f.number
+  pub value : parts.value ≡ Some f.value
+
+pub record SpellsAttribute (taken : Bool) (depth : ℕ) (constructed : Bool) (content : List ℕ) (a : Attribute) : Type 0 where
+  pub fields : AttributeFields
+  pub spelled : SpellsAttributeFields taken depth constructed content fields
+  pub attribute_is : a ≡ attribute fields
 
 pub record MakesExtension (depth : ℕ) (before : ExtensionParts) (tag : Tag) (content octets : List ℕ) (after : ExtensionParts) : Type 0 where
   pub is_sequence_tag : is_sequence tag ≡ true
@@ -132,7 +164,7 @@ canonical_attribute n value = element (constructed 0 16) (canon_int (primitive 2
 abbrev pub canonical_common : List ℕ → List ℕ
 canonical_common t = canonical_attribute 1 (element (constructed 2 1) (canonical_printable t))
 
-abbrev pub canonical_extra : Extra → List ℕ
+abbrev pub canonical_extra : ExtraFields → List ℕ
 canonical_extra e = canonical_attribute e.number e.raw
 
 abbrev pub unless_empty : ℕ → List ℕ → List ℕ

@@ -9,10 +9,10 @@ use Rattle.mta_ber.specs.Laws.{with_rest, beside}
 use Rattle.mta_ber.specs.Parts.{is_tag}
 use Rattle.mta_ber.specs.Spelling.{Stands}
 use Rattle.mta_names.specs.declared.attributes.Attributes.{Attributes}
-use Rattle.mta_names.specs.declared.attributes.Extra.{Extra}
+use Rattle.mta_names.specs.declared.attributes.ExtraFields.{ExtraFields}
 use Rattle.mta_names.specs.declared.attributes.Label.{Label}
-use Rattle.mta_names.specs.declared.attributes.Pair.{Pair}
-use Rattle.mta_names.specs.declared.attributes.Person.{Person}
+use Rattle.mta_names.specs.declared.attributes.PairFields.{PairFields}
+use Rattle.mta_names.specs.declared.attributes.PersonFields.{PersonFields}
 use Rattle.mta_names.specs.declared.extension.ExtensionParts.{ExtensionParts}
 use Rattle.mta_names.specs.Extensions.{extensions_in, canonical_extensions, extension_count, SpellsExtensions}
 use Rattle.mta_names.specs.Labels.{country_in, label_in, label_choice, canonical_choice, canonical_label, SpellsLabel}
@@ -51,7 +51,7 @@ pub record IsRawAt (depth class number : ℕ) (octets : List ℕ) : Type 0 where
   pub stands : Stands depth tag content octets
 
 -- the values of extension attributes stand in the level of their place
-abbrev pub AreKeptAt : ℕ → List Extra → Type 0
+abbrev pub AreKeptAt : ℕ → List ExtraFields → Type 0
 AreKeptAt depth xs = Each (λ x. IsRawAt depth 2 1 x.raw) xs
 
 -- what a name in the level `depth` keeps unread stands in the level of its place: the value of an attribute is in the attribute,
@@ -73,13 +73,13 @@ abbrev pub LabelChoicesAreReadAgain : Type 0
 LabelChoicesAreReadAgain = (low high depth : ℕ) (l : Label) → IsLabel low high l → depth ≤ 16 → IsReadAgain (label_choice low high) depth (canonical_choice l) l
 
 abbrev pub PersonalNamesAreReadAgain : Type 0
-PersonalNamesAreReadAgain = (tag : Tag) (depth : ℕ) (v : Person) → IsTag tag → tag.constructed ≡ true → IsPerson v → depth + 1 ≤ 16 → IsReadAgain person_in depth (element tag (canonical_person v)) v
+PersonalNamesAreReadAgain = (tag : Tag) (depth : ℕ) (v : PersonFields) → IsTag tag → tag.constructed ≡ true → IsPerson v → depth + 1 ≤ 16 → IsReadAgain person_in depth (element tag (canonical_person v)) v
 
 abbrev pub UnitNamesAreReadAgain : Type 0
 UnitNamesAreReadAgain = (depth : ℕ) (us : List (List ℕ)) → Each (IsText Printable 1 32) us → 1 ≤ length us → length us ≤ 4 → depth + 1 ≤ 16 → IsReadAgain units_in depth (canonical_units us) us
 
 abbrev pub DomainDefinedAttributesAreReadAgain : Type 0
-DomainDefinedAttributesAreReadAgain = (depth : ℕ) (ps : List Pair) → Each IsPair ps → 1 ≤ length ps → length ps ≤ 4 → depth + 2 ≤ 16 → IsReadAgain pairs_in depth (canonical_pairs ps) ps
+DomainDefinedAttributesAreReadAgain = (depth : ℕ) (ps : List PairFields) → Each IsPair ps → 1 ≤ length ps → length ps ≤ 4 → depth + 2 ≤ 16 → IsReadAgain pairs_in depth (canonical_pairs ps) ps
 
 -- a common name and other extension attributes, whose values stand two levels below the SET
 pub record IsExtended (depth : ℕ) (s : ExtensionParts) : Type 0 where

@@ -1,3 +1,4 @@
+pub mod Bounded
 pub mod Values
 pub mod Strings
 pub mod Labels

@@ -13,7 +13,7 @@ use Rattle.mta_ber.specs.Head.{◌>>=◌, fault}
 use Rattle.mta_ber.specs.Parts.{components, is_tag, required}
 use Rattle.mta_ber.specs.Segmented.{SpellsText}
 use Rattle.mta_ber.specs.Strings.{text_in}
-use Rattle.mta_names.specs.declared.attributes.Pair.{Pair}
+use Rattle.mta_names.specs.declared.attributes.PairFields.{PairFields}
 use Rattle.mta_names.specs.declared.pair.PairParts.{PairParts}
 use Rattle.mta_names.specs.Strings.{item_step, counted, AddsItem, Puts}
 
@@ -74,16 +74,16 @@ pair_step s p = if is_printable p.tag then pair_text s p else fault p.at BadTag
 abbrev pub no_pair : PairParts
 no_pair = record { kind = None; value = None }
 
-abbrev pub pair : List ℕ → List ℕ → Pair
+abbrev pub pair : List ℕ → List ℕ → PairFields
 pair kind value = record { kind = kind; value = value }
 
-unfoldable pub pair_in : Part → Result Pair Fault
+unfoldable pub pair_in : Part → Result PairFields Fault
 pair_in p = components pair_step no_pair p >>= λ s. required s.kind p.at >>= λ kind. required s.value p.at >>= λ value. Ok (pair kind value)
 
-abbrev pub pairs_step : List Pair → Part → Result (List Pair) Fault
+abbrev pub pairs_step : List PairFields → Part → Result (List PairFields) Fault
 pairs_step ps p = item_step is_sequence pair_in ps p
 
-unfoldable pub pairs_in : Part → Result (List Pair) Fault
+unfoldable pub pairs_in : Part → Result (List PairFields) Fault
 pairs_in p = list_in is_sequence pair_in 1 4 p
 
 -- the type, where nothing stands before it, or the value, where the type alone does
@@ -101,18 +101,18 @@ abbrev pub MakesPair : Makes PairParts
 MakesPair depth before tag content octets after = (is_printable tag ≡ true) × (MakesKind depth before tag content after ⊎ MakesValue depth before tag content after)
 
 -- a SEQUENCE of a type and a value
-pub record SpellsPair (depth : ℕ) (tag : Tag) (content octets : List ℕ) (v : Pair) : Type 0 where
+pub record SpellsPair (depth : ℕ) (tag : Tag) (content octets : List ℕ) (v : PairFields) : Type 0 where
   pub is_constructed : tag.constructed ≡ true
   pub parts : PairParts
   pub spelled : SpellsComponents MakesPair depth no_pair content parts
   pub kind : parts.kind ≡ Some v.kind
   pub value : parts.value ≡ Some v.value
 
-abbrev pub SpellsPairs : ℕ → Bool → List ℕ → List Pair → Type 0
+abbrev pub SpellsPairs : ℕ → Bool → List ℕ → List PairFields → Type 0
 SpellsPairs depth constructed content ps = SpellsList is_sequence SpellsPair 1 4 depth constructed content ps
 
-abbrev pub canonical_pair : Pair → List ℕ
+abbrev pub canonical_pair : PairFields → List ℕ
 canonical_pair v = element (constructed 0 16) (canonical_printable v.kind ++ canonical_printable v.value)
 
-abbrev pub canonical_pairs : List Pair → List ℕ
+abbrev pub canonical_pairs : List PairFields → List ℕ
 canonical_pairs ps = element (constructed 0 16) (flat_map canonical_pair ps)

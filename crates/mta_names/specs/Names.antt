@@ -9,7 +9,7 @@ use Rattle.mta_ber.specs.Element.{Part}
 use Rattle.mta_ber.specs.Head.{◌>>=◌, fault}
 use Rattle.mta_ber.specs.Parts.{components, is_tag, in_order}
 use Rattle.mta_names.specs.declared.attributes.Attributes.{Attributes}
-use Rattle.mta_names.specs.declared.attributes.Pair.{Pair}
+use Rattle.mta_names.specs.declared.attributes.PairFields.{PairFields}
 use Rattle.mta_names.specs.declared.extension.ExtensionParts.{ExtensionParts}
 use Rattle.mta_names.specs.declared.reading.NameParts.{NameParts}
 use Rattle.mta_names.specs.declared.reading.NamePart.{NamePart}
@@ -52,7 +52,7 @@ name_needed _ = 1
 abbrev pub name_parts : ℕ → Attributes → NameParts
 name_parts last n = record { last = last; attributes = n }
 
-abbrev pub with_pairs : Attributes → List Pair → NameParts
+abbrev pub with_pairs : Attributes → List PairFields → NameParts
 with_pairs n x = name_parts 2 (record n { pairs = x })
 
 abbrev pub with_extensions : Attributes → ExtensionParts → NameParts

@@ -5,8 +5,8 @@ use Rattle.std.specs.Str.{bytes_eq}
 use Rattle.mta_ber.specs.Strings.{between}
 use Rattle.mta_names.specs.declared.attributes.Attributes.{Attributes}
 use Rattle.mta_names.specs.declared.attributes.Label.{Label}
-use Rattle.mta_names.specs.declared.attributes.Pair.{Pair}
-use Rattle.mta_names.specs.declared.attributes.Person.{Person}
+use Rattle.mta_names.specs.declared.attributes.PairFields.{PairFields}
+use Rattle.mta_names.specs.declared.attributes.PersonFields.{PersonFields}
 
 -- ---- normal texts
 
@@ -62,7 +62,7 @@ pub record NormalList : Type 0 where
 abbrev pub normal_label : Label → List ℕ
 normal_label l = normal_text l.text
 
-abbrev pub normal_person : Person → NormalPerson
+abbrev pub normal_person : PersonFields → NormalPerson
 normal_person p = record {
   surname = normal_text p.surname;
   given = option_map normal_text p.given;
@@ -70,7 +70,7 @@ normal_person p = record {
   generation = option_map normal_text p.generation;
 }
 
-abbrev pub normal_pair : Pair → NormalPair
+abbrev pub normal_pair : PairFields → NormalPair
 normal_pair p = record { kind = normal_text p.kind; value = normal_text p.value }
 
 abbrev pub normal_list : Attributes → NormalList
@@ -117,19 +117,19 @@ is_same_labels l m = is_same_text l.text m.text
 abbrev pub is_same_label : Option Label → Option Label → Bool
 is_same_label l m = is_same_option is_same_labels l m
 
-abbrev pub is_same_person : Person → Person → Bool
+abbrev pub is_same_person : PersonFields → PersonFields → Bool
 is_same_person p q = is_same_text p.surname q.surname && is_same_value p.given q.given && is_same_value p.initials q.initials && is_same_value p.generation q.generation
 
-abbrev pub is_same_persons : Option Person → Option Person → Bool
+abbrev pub is_same_persons : Option PersonFields → Option PersonFields → Bool
 is_same_persons p q = is_same_option is_same_person p q
 
 abbrev pub is_same_texts : List (List ℕ) → List (List ℕ) → Bool
 is_same_texts s t = is_same_list is_same_text s t
 
-abbrev pub is_same_pair : Pair → Pair → Bool
+abbrev pub is_same_pair : PairFields → PairFields → Bool
 is_same_pair p q = is_same_text p.kind q.kind && is_same_text p.value q.value
 
-abbrev pub is_same_pairs : List Pair → List Pair → Bool
+abbrev pub is_same_pairs : List PairFields → List PairFields → Bool
 is_same_pairs p q = is_same_list is_same_pair p q
 
 unfoldable pub is_same_name : Attributes → Attributes → Bool

@@ -11,7 +11,7 @@ use Rattle.mta_ber.specs.Head.{◌>>=◌, fault}
 use Rattle.mta_ber.specs.Parts.{components, is_tag, once, required}
 use Rattle.mta_ber.specs.Segmented.{SpellsText}
 use Rattle.mta_ber.specs.Strings.{text_in}
-use Rattle.mta_names.specs.declared.attributes.Person.{Person}
+use Rattle.mta_names.specs.declared.attributes.PersonFields.{PersonFields}
 use Rattle.mta_names.specs.declared.person.PersonParts.{PersonParts}
 use Rattle.mta_names.specs.declared.person.PersonPart.{PersonPart}
 use Rattle.mta_names.specs.declared.person.PersonPart.TheVariants.{Surname, Given, Initials, Generation}
@@ -63,10 +63,10 @@ person_step s p = person_step_of (person_part_of p.tag) s p
 abbrev pub no_person : PersonParts
 no_person = record { surname = None; given = None; initials = None; generation = None }
 
-abbrev pub person : List ℕ → PersonParts → Person
+abbrev pub person : List ℕ → PersonParts → PersonFields
 person surname s = record { surname = surname; given = s.given; initials = s.initials; generation = s.generation }
 
-unfoldable pub person_in : Part → Result Person Fault
+unfoldable pub person_in : Part → Result PersonFields Fault
 person_in p = components person_step no_person p >>= λ s. required s.surname p.at >>= λ t. Ok (person t s)
 
 -- ---- what spells a personal name
@@ -81,7 +81,7 @@ abbrev pub MakesPerson : Makes PersonParts
 MakesPerson depth before tag content octets after = MakesPersonPart depth before tag content after
 
 -- a SET of its components in any order, each at most once
-pub record SpellsPerson (depth : ℕ) (constructed : Bool) (content : List ℕ) (v : Person) : Type 0 where
+pub record SpellsPerson (depth : ℕ) (constructed : Bool) (content : List ℕ) (v : PersonFields) : Type 0 where
   pub is_constructed : constructed ≡ true
   pub parts : PersonParts
   pub spelled : SpellsComponents MakesPerson depth no_person content parts
@@ -93,6 +93,6 @@ pub record SpellsPerson (depth : ℕ) (constructed : Bool) (content : List ℕ) 
 abbrev pub canonical_person_part : PersonPart → List ℕ → List ℕ
 canonical_person_part k t = element (primitive 2 (person_number k)) t
 
-abbrev pub canonical_person : Person → List ℕ
+abbrev pub canonical_person : PersonFields → List ℕ
 canonical_person v =
     canonical_person_part Surname v.surname ++ optional (canonical_person_part Given) v.given ++ optional (canonical_person_part Initials) v.initials ++ optional (canonical_person_part Generation) v.generation

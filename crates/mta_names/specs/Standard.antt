@@ -13,7 +13,7 @@ use Rattle.mta_ber.specs.Segmented.{SpellsText}
 use Rattle.mta_ber.specs.Strings.{text_in}
 use Rattle.mta_names.specs.declared.attributes.Attributes.{Attributes}
 use Rattle.mta_names.specs.declared.attributes.Label.{Label}
-use Rattle.mta_names.specs.declared.attributes.Person.{Person}
+use Rattle.mta_names.specs.declared.attributes.PersonFields.{PersonFields}
 use Rattle.mta_names.specs.declared.standard.StandardParts.{StandardParts}
 use Rattle.mta_names.specs.declared.standard.StandardPart.{StandardPart}
 use Rattle.mta_names.specs.declared.standard.StandardPart.TheVariants.{Country, Admd, Network, Terminal, Prmd, Organization, User, Name, Units}
@@ -88,7 +88,7 @@ with_organization n x = standard_parts 6 (record n { organization = Some x })
 abbrev pub with_user : Attributes → List ℕ → StandardParts
 with_user n x = standard_parts 7 (record n { user = Some x })
 
-abbrev pub with_person : Attributes → Person → StandardParts
+abbrev pub with_person : Attributes → PersonFields → StandardParts
 with_person n x = standard_parts 8 (record n { person = Some x })
 
 abbrev pub with_units : Attributes → List (List ℕ) → StandardParts
@@ -145,7 +145,7 @@ pub record SpellsStandard (depth : ℕ) (constructed : Bool) (content : List ℕ
 abbrev pub canonical_text : ℕ → List ℕ → List ℕ
 canonical_text number t = element (primitive 2 number) t
 
-abbrev pub canonical_named : Person → List ℕ
+abbrev pub canonical_named : PersonFields → List ℕ
 canonical_named v = element (constructed 2 5) (canonical_person v)
 
 abbrev pub standard_content : Attributes → List ℕ

@@ -1,17 +1,12 @@
 -- O/R names as values: their attributes, with characters and sizes (X.402, clause 18; X.411, upper bounds).
-use Rattle.std.specs.Prelude.{◌≡◌, ◌≢◌, ℕ, ◌+◌, ◌≤◌, Bool, true, false, IsTrue, List, [], ◌∷◌, length, Option, Some, None, IfSome, ◌||◌}
+use Rattle.std.specs.Prelude.{◌≡◌, ℕ, ◌+◌, ◌≤◌, Bool, true, false, IsTrue, List, [], ◌∷◌, length, Option, Some, None, IfSome, ◌||◌}
 use Rattle.std.specs.List.{list_all}
-use Rattle.mta_ber.specs.declared.tag.Tag.{Tag}
 use Rattle.mta_ber.specs.declared.text.TextClass.{TextClass}
 use Rattle.mta_ber.specs.declared.text.TextClass.TheVariants.{Numeric, Printable}
-use Rattle.mta_ber.specs.Parts.{is_tag}
-use Rattle.mta_ber.specs.Spelling.{Stands}
 use Rattle.mta_ber.specs.Strings.{between, IsText}
 use Rattle.mta_names.specs.declared.attributes.Label.{Label}
-use Rattle.mta_names.specs.declared.attributes.Person.{Person}
-use Rattle.mta_names.specs.declared.attributes.Pair.{Pair}
-use Rattle.mta_names.specs.declared.attributes.Extra.{Extra}
 use Rattle.mta_names.specs.declared.attributes.Attributes.{Attributes}
+pub use Rattle.mta_names.specs.Bounded.{IsPerson, IsPair, IsRaw, IsExtra}
 
 -- each of a list
 abbrev pub Each : {X : Type 0} → (X → Type 0) → List X → Type 0
@@ -45,31 +40,6 @@ label_class false = Printable
 
 abbrev pub IsLabel : ℕ → ℕ → Label → Type 0
 IsLabel low high l = IsText (label_class l.numeric) low high l.text
-
--- ---- personal names, domain-defined attributes and what is kept unread
-
-pub record IsPerson (p : Person) : Type 0 where
-  pub surname : IsText Printable 1 40 p.surname
-  pub given : IfSome p.given (IsText Printable 1 16)
-  pub initials : IfSome p.initials (IsText Printable 1 5)
-  pub generation : IfSome p.generation (IsText Printable 1 3)
-
-pub record IsPair (p : Pair) : Type 0 where
-  pub kind : IsText Printable 1 8 p.kind
-  pub value : IsText Printable 1 128 p.value
-
--- the whole octets of one element of a tag, at some level
-pub record IsRaw (class number : ℕ) (octets : List ℕ) : Type 0 where
-  pub depth : ℕ
-  pub tag : Tag
-  pub content : List ℕ
-  pub is_tag_of : is_tag class number tag ≡ true
-  pub stands : Stands depth tag content octets
-
-pub record IsExtra (e : Extra) : Type 0 where
-  pub small : e.number ≤ 32767
-  pub other : e.number ≢ 1
-  pub raw : IsRaw 2 1 e.raw
 
 -- ---- names
 

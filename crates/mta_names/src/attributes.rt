@@ -2,6 +2,7 @@
 
 use crate::row::Row;
 use mta_ber::{Octets, Text};
+use std::marker::Model;
 
 /// A label of a country or of a domain: digits and spaces as NumericString, or characters of PrintableString.
 #[derive(Debug, Drop)]
@@ -10,28 +11,159 @@ pub struct Label {
     pub text: Text,
 }
 
+/// What a personal-name has.
+#[derive(Debug, Drop)]
+pub struct PersonFields {
+    /// 1 to 40 characters of PrintableString.
+    pub surname: Text,
+    /// 1 to 16.
+    pub given: Option<Text>,
+    /// 1 to 5.
+    pub initials: Option<Text>,
+    /// The generation qualifier: 1 to 3.
+    pub generation: Option<Text>,
+}
+
 /// A personal-name: a surname of 1 to 40 characters of PrintableString, and at most a given name of 1 to 16, initials of 1 to
 /// 5 and a generation qualifier of 1 to 3.
 #[derive(Debug, Drop)]
 pub struct Person {
-    pub surname: Text,
-    pub given: Option<Text>,
-    pub initials: Option<Text>,
-    pub generation: Option<Text>,
+    fields: PersonFields,
+}
+
+impl Model for Person {
+    ghost use Rattle.mta_names.specs.declared.attributes.PersonFields.{PersonFields};
+    ghost use Rattle.mta_names.specs.Bounded.{IsPerson};
+
+    ghost Value = { PersonFields };
+
+    ghost view = { λ p. p.fields };
+
+    ghost invariant = { λ p. IsPerson p.fields };
+}
+
+impl Person {
+    ghost use Rattle.std.specs.Prelude.{◌≡◌};
+    ghost use Rattle.mta_names.specs.Bounded.{IsPerson};
+
+    /// A personal name of these parts, which takes no memory.
+    pub fn from_fields(fields: PersonFields) -> Person
+        requires { IsPerson fields }
+        ensures { result ≡ fields }
+    {
+        Person { fields }
+    }
+
+    /// The parts, lent.
+    pub fn fields(&self) -> &PersonFields
+        ensures exact { result.now ≡ self.now }
+        ensures person { IsPerson self.now }
+    {
+        &self.fields
+    }
+}
+
+/// What a domain-defined attribute has.
+#[derive(Debug, Drop)]
+pub struct PairFields {
+    /// The type: 1 to 8 characters of PrintableString.
+    pub kind: Text,
+    /// 1 to 128.
+    pub value: Text,
 }
 
 /// A domain-defined attribute: a type of 1 to 8 and a value of 1 to 128 characters of PrintableString.
 #[derive(Debug, Drop)]
 pub struct Pair {
-    pub kind: Text,
-    pub value: Text,
+    fields: PairFields,
+}
+
+impl Model for Pair {
+    ghost use Rattle.mta_names.specs.declared.attributes.PairFields.{PairFields};
+    ghost use Rattle.mta_names.specs.Bounded.{IsPair};
+
+    ghost Value = { PairFields };
+
+    ghost view = { λ p. p.fields };
+
+    ghost invariant = { λ p. IsPair p.fields };
+}
+
+impl Pair {
+    ghost use Rattle.std.specs.Prelude.{◌≡◌};
+    ghost use Rattle.mta_names.specs.Bounded.{IsPair};
+
+    /// A domain-defined attribute of these parts, which takes no memory.
+    pub fn from_fields(fields: PairFields) -> Pair
+        requires { IsPair fields }
+        ensures { result ≡ fields }
+    {
+        Pair { fields }
+    }
+
+    /// The parts, lent.
+    pub fn fields(&self) -> &PairFields
+        ensures exact { result.now ≡ self.now }
+        ensures pair { IsPair self.now }
+    {
+        &self.fields
+    }
+}
+
+/// What an extension attribute has that is not read.
+#[derive(Debug, Drop)]
+pub struct ExtraFields {
+    /// Its type: 0, or 2 to 32,767.
+    pub number: u32,
+    /// The whole element of its value, `[1]`.
+    pub raw: Octets,
 }
 
 /// An extension attribute that is not read: its type, 0 or 2 to 32,767, and the whole element of its value, `[1]`.
 #[derive(Debug, Drop)]
 pub struct Extra {
-    pub number: u32,
-    pub raw: Octets,
+    fields: ExtraFields,
+}
+
+impl Model for Extra {
+    ghost use Rattle.mta_names.specs.declared.attributes.ExtraFields.{ExtraFields};
+    ghost use Rattle.mta_names.specs.Bounded.{IsExtra};
+
+    ghost Value = { ExtraFields };
+
+    ghost view = { λ e. e.fields };
+
+    ghost invariant = { λ e. IsExtra e.fields };
+}
+
+impl Extra {
+    ghost use Rattle.std.specs.Prelude.{◌≡◌};
+    ghost use Rattle.mta_names.specs.Bounded.{IsExtra};
+
+    /// An attribute of these parts, which takes no memory.
+    pub fn from_fields(fields: ExtraFields) -> Extra
+        requires { IsExtra fields }
+        ensures { result ≡ fields }
+    {
+        Extra { fields }
+    }
+
+    /// The parts, lent.
+    pub fn fields(&self) -> &ExtraFields
+        ensures exact { result.now ≡ self.now }
+        ensures extra { IsExtra self.now }
+    {
+        &self.fields
+    }
+}
+
+/// An extension attribute as it is read.
+#[derive(Debug, Drop)]
+pub enum Attribute {
+    /// common-name, type 1: 1 to 64 characters of PrintableString.
+    Common(Text),
+    /// Any other, which is kept unread.
+    Other(Extra),
 }
 
 /// The attributes of a name. What is absent is `None`, and a list that is absent is empty.

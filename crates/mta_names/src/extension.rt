@@ -4,10 +4,10 @@ ghost use Rattle.std.specs.Prelude.{◌≡◌};
 ghost use Rattle.mta_ber.specs.Element.{explicit};
 ghost use Rattle.mta_ber.specs.Parts.{Leaves, Reads};
 ghost use Rattle.mta_ber.specs.Seen.{view};
-ghost use Rattle.mta_names.specs.Extensions.{common_choice, value_in, type_in, valued, attribute_step, attribute_in, with_attribute, answer, extension_step, extension_count, extensions_in};
+ghost use Rattle.mta_names.specs.Extensions.{common_choice, value_in, type_in, valued, attribute_step, attribute_parts_in, attribute, IsAttribute, attribute_in, with_attribute, answer, extension_step, extension_count, extensions_in};
 ghost use Rattle.mta_names.specs.Strings.{number_in};
 
-use crate::attributes::Extra;
+use crate::attributes::{Attribute, Extra, ExtraFields};
 use crate::row::Row;
 use mta_ber::{
     Components, Kind, Octets, ReadFault, Text, TextClass, View, bad, is_tag_of, take_parts,
@@ -15,14 +15,27 @@ use mta_ber::{
 };
 use std::alloc::Global;
 
-/// An attribute so far: whether a common name is there already, the offset of the attribute, its type, and its value: the
-/// characters of a common name, or the octets of the element that is kept.
+/// The value of an attribute: a common name, or the octets of the element that is kept.
+#[derive(Debug, Drop)]
+pub enum AttributeValue {
+    Name(Text),
+    Raw(Octets),
+}
+
+/// An attribute so far: whether a common name is there already, the offset of the attribute, its type, and its value.
 #[derive(Debug, Drop)]
 pub struct AttributeParts {
     pub taken: bool,
     pub at: u32,
     pub number: Option<u32>,
-    pub value: Option<Octets>,
+    pub value: Option<AttributeValue>,
+}
+
+/// The type and the value of an attribute.
+#[derive(Debug, Drop)]
+pub struct AttributeFields {
+    pub number: u32,
+    pub value: AttributeValue,
 }
 
 /// The attributes so far.
@@ -50,24 +63,25 @@ fn read_common_choice(alloc: Global, part: &View) -> Result<Text, ReadFault>
     part.text(alloc, TextClass::Printable, 1, 64)
 }
 
-fn read_common(alloc: Global, part: &View) -> Result<Octets, ReadFault>
+fn read_common(alloc: Global, part: &View) -> Result<Text, ReadFault>
     ensures { Reads result (explicit common_choice (view part.now)) }
 {
     let inside = part.inner()?;
     let text = read_common_choice(alloc, &inside)?;
     inside.alone()?;
-    Ok(text.into_octets())
+    Ok(text)
 }
 
 #[tactic(auto, unfolding(crate::specs::Extensions::value_in))]
-fn read_value(alloc: Global, number: u32, part: &View) -> Result<Octets, ReadFault>
+fn read_value(alloc: Global, number: u32, part: &View) -> Result<AttributeValue, ReadFault>
     ensures { Reads result (value_in number (view part.now)) }
 {
     if number == 1 {
-        read_common(alloc, part)
+        let text = read_common(alloc, part)?;
+        Ok(AttributeValue::Name(text))
     } else {
         let octets = Octets::from_slice(alloc, part.octets)?;
-        Ok(octets)
+        Ok(AttributeValue::Raw(octets))
     }
 }
 
@@ -117,9 +131,9 @@ impl Components for AttributeParts {
     }
 }
 
-#[tactic(auto, unfolding(crate::specs::Extensions::attribute_in))]
-fn read_attribute(alloc: Global, taken: bool, whole: &View) -> Result<Extra, ReadFault>
-    ensures { Reads result (attribute_in taken (view whole.now)) }
+#[tactic(auto, unfolding(crate::specs::Extensions::attribute_parts_in))]
+fn read_parts(alloc: Global, taken: bool, whole: &View) -> Result<AttributeFields, ReadFault>
+    ensures { Reads result (attribute_parts_in taken (view whole.now)) }
 {
     if !whole.tag.constructed {
         return bad(whole.at, Kind::BadTag);
@@ -138,19 +152,39 @@ fn read_attribute(alloc: Global, taken: bool, whole: &View) -> Result<Extra, Rea
         value,
     } = parts;
     let number = take_required(number, whole.at)?;
-    let raw = take_required(value, whole.at)?;
-    Ok(Extra { number, raw })
+    let value = take_required(value, whole.at)?;
+    Ok(AttributeFields { number, value })
+}
+
+/// The attribute of a type and a value that go together.
+fn attribute_of(fields: AttributeFields) -> Attribute
+    requires { IsAttribute fields }
+    ensures { result ≡ attribute fields }
+{
+    let AttributeFields { number, value } = fields;
+    match value {
+        AttributeValue::Name(text) => Attribute::Common(text),
+        AttributeValue::Raw(raw) => {
+            Attribute::Other(Extra::from_fields(ExtraFields { number, raw }))
+        }
+    }
+}
+
+#[tactic(auto, unfolding(crate::specs::Extensions::attribute_in))]
+fn read_attribute(alloc: Global, taken: bool, whole: &View) -> Result<Attribute, ReadFault>
+    ensures { Reads result (attribute_in taken (view whole.now)) }
+{
+    let fields = read_parts(alloc, taken, whole)?;
+    Ok(attribute_of(fields))
 }
 
 impl ExtensionParts {
-    fn put(&mut self, attribute: Extra) -> Result<(), ReadFault>
+    fn put(&mut self, attribute: Attribute) -> Result<(), ReadFault>
         ensures { Leaves result self.new (answer (with_attribute attribute self.old)) }
     {
-        if attribute.number == 1 {
-            let Extra { number: _, raw } = attribute;
-            self.common = Some(Text::from_octets(raw));
-        } else {
-            self.extras.push(attribute)?;
+        match attribute {
+            Attribute::Common(text) => self.common = Some(text),
+            Attribute::Other(extra) => self.extras.push(extra)?,
         }
         Ok(())
     }

@@ -12,7 +12,7 @@ ghost use Rattle.mta_names.specs.Names.{kept, name_content, extensions_of};
 ghost use Rattle.mta_names.specs.Persons.{canonical_person};
 ghost use Rattle.mta_names.specs.Standard.{canonical_text, canonical_named, canonical_standard};
 
-use crate::attributes::{Attributes, Extra, Label, Pair, Person};
+use crate::attributes::{Attributes, Extra, Label, Pair, Person, PersonFields};
 use crate::row::Row;
 use crate::writing::{constructed, primitive};
 use mta_ber::{Octets, Text, element_length, int_length, length_of_both, slice_length};
@@ -69,7 +69,7 @@ fn string_length(number: u32, text: &Text) -> u64
 }
 
 /// How many contents octets a personal name has.
-fn person_content_length(person: &Person) -> u64
+fn person_content_length(person: &PersonFields) -> u64
     ensures { result ≡ octet_length (canonical_person person.now) }
 {
     let surname = string_length(0, &person.surname);
@@ -87,7 +87,7 @@ fn person_length(person: &Option<Person>) -> u64
 {
     match person {
         None => 0,
-        Some(person) => element_length(constructed(2, 5), person_content_length(person)),
+        Some(person) => element_length(constructed(2, 5), person_content_length(person.fields())),
     }
 }
 
@@ -113,7 +113,11 @@ fn units_length(units: &Row<Text>) -> u64
 fn pair_length(pair: &Pair) -> u64
     ensures { result ≡ octet_length (canonical_pair pair.now) }
 {
-    let content = length_of_both(printable_length(&pair.kind), printable_length(&pair.value));
+    let fields = pair.fields();
+    let content = length_of_both(
+        printable_length(&fields.kind),
+        printable_length(&fields.value),
+    );
     element_length(constructed(0, 16), content)
 }
 
@@ -159,7 +163,8 @@ fn common_length(common: &Option<Text>) -> u64
 fn extra_length(extra: &Extra) -> u64
     ensures { result ≡ octet_length (canonical_extra extra.now) }
 {
-    attribute_length(extra.number, slice_length(extra.raw.as_slice()))
+    let fields = extra.fields();
+    attribute_length(fields.number, slice_length(fields.raw.as_slice()))
 }
 
 fn extras_length(extras: &[Extra]) -> u64

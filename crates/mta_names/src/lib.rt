@@ -2,6 +2,7 @@
 #![tactic(auto)]
 
 mod attributes;
+mod bounded;
 mod extension;
 mod label;
 mod laws;
@@ -17,7 +18,10 @@ mod standard;
 mod unit;
 mod writing;
 
-pub use attributes::{Attributes, Extra, Label, Pair, Person};
+pub use attributes::{
+    Attributes, Extra, ExtraFields, Label, Pair, PairFields, Person, PersonFields,
+};
+pub use bounded::{Code, ObjectId, read_code};
 pub use extension::read_number;
 pub use label::{
     are_country_characters, country_size_of, label_class_of, read_country, read_label,

@@ -91,10 +91,12 @@ pub fn same_label(first: &Option<Label>, second: &Option<Label>) -> bool
 fn same_person(first: &Person, second: &Person) -> bool
     ensures { result ≡ is_same_person first.now second.now }
 {
-    same_text(first.surname.as_slice(), second.surname.as_slice())
-        && same_value(&first.given, &second.given)
-        && same_value(&first.initials, &second.initials)
-        && same_value(&first.generation, &second.generation)
+    let one = first.fields();
+    let other = second.fields();
+    same_text(one.surname.as_slice(), other.surname.as_slice())
+        && same_value(&one.given, &other.given)
+        && same_value(&one.initials, &other.initials)
+        && same_value(&one.generation, &other.generation)
 }
 
 /// The same of personal names.
@@ -124,8 +126,10 @@ pub fn same_texts(first: &[Text], second: &[Text]) -> bool
 fn same_pair(first: &Pair, second: &Pair) -> bool
     ensures { result ≡ is_same_pair first.now second.now }
 {
-    same_text(first.kind.as_slice(), second.kind.as_slice())
-        && same_text(first.value.as_slice(), second.value.as_slice())
+    let one = first.fields();
+    let other = second.fields();
+    same_text(one.kind.as_slice(), other.kind.as_slice())
+        && same_text(one.value.as_slice(), other.value.as_slice())
 }
 
 /// Whether two lists have the same types and values, place by place.

@@ -5,7 +5,7 @@ ghost use Rattle.mta_ber.specs.Parts.{Leaves, Reads};
 ghost use Rattle.mta_ber.specs.Seen.{view};
 ghost use Rattle.mta_names.specs.Lists.{pair_step, pair_text, pair_in, pairs_step, pairs_in};
 
-use crate::attributes::Pair;
+use crate::attributes::{Pair, PairFields};
 use crate::row::Row;
 use mta_ber::{
     Components, Kind, ReadFault, Text, TextClass, View, bad, is_tag_of, take_parts, take_required,
@@ -48,7 +48,7 @@ impl Components for PairParts {
 }
 
 #[tactic(auto, unfolding(crate::specs::Lists::pair_in))]
-fn read_pair(alloc: Global, whole: &View) -> Result<Pair, ReadFault>
+fn read_fields(alloc: Global, whole: &View) -> Result<PairFields, ReadFault>
     ensures { Reads result (pair_in (view whole.now)) }
 {
     if !whole.tag.constructed {
@@ -62,7 +62,14 @@ fn read_pair(alloc: Global, whole: &View) -> Result<Pair, ReadFault>
     let PairParts { kind, value } = parts;
     let kind = take_required(kind, whole.at)?;
     let value = take_required(value, whole.at)?;
-    Ok(Pair { kind, value })
+    Ok(PairFields { kind, value })
+}
+
+fn read_pair(alloc: Global, whole: &View) -> Result<Pair, ReadFault>
+    ensures { Reads result (pair_in (view whole.now)) }
+{
+    let fields = read_fields(alloc, whole)?;
+    Ok(Pair::from_fields(fields))
 }
 
 /// The domain-defined attributes so far.

@@ -1,17 +1,13 @@
 //! Personal names.
 
-ghost use Rattle.std.specs.Prelude.{◌≡◌, ◌++◌, OnOk, OnErr, IfOk};
-ghost use Rattle.std.specs.Prelude.{Ok, Some};
-ghost use Rattle.mta_ber.specs.Parts.{Leaves, Reads, IsReadAs, once};
+ghost use Rattle.std.specs.Prelude.{◌≡◌};
+ghost use Rattle.mta_ber.specs.Parts.{Leaves, Reads, once};
 ghost use Rattle.mta_ber.specs.Strings.{text_in};
 ghost use Rattle.mta_ber.specs.declared.text.TextClass.TheVariants.{Printable};
 ghost use Rattle.mta_ber.specs.Seen.{view};
-ghost use Rattle.mta_ber.specs.Canon.{appended};
-ghost use Rattle.mta_names.specs.Persons.{person_number, person_size, person_part_of, person_part_in, person_step, person_in, SpellsPerson, canonical_person};
-ghost use Rattle.mta_names.specs.Values.{IsPerson};
-ghost use Rattle.mta_names.specs.declared.attributes.Person.{Person as PersonValue};
+ghost use Rattle.mta_names.specs.Persons.{person_part_of, person_part_in, person_step, person_in};
 
-use crate::attributes::Person;
+use crate::attributes::{Person, PersonFields};
 use mta_ber::{
     Components, Kind, ReadFault, Tag, Text, TextClass, View, bad, is_tag_of, take_parts,
     take_required,
@@ -96,9 +92,8 @@ impl Components for PersonParts {
     }
 }
 
-/// A personal name, its components in any order.
 #[tactic(auto, unfolding(crate::specs::Persons::person_in))]
-pub fn read_person(alloc: Global, whole: &View) -> Result<Person, ReadFault>
+fn read_fields(alloc: Global, whole: &View) -> Result<PersonFields, ReadFault>
     ensures { Reads result (person_in (view whole.now)) }
 {
     if !whole.tag.constructed {
@@ -118,10 +113,18 @@ pub fn read_person(alloc: Global, whole: &View) -> Result<Person, ReadFault>
         generation,
     } = parts;
     let surname = take_required(surname, whole.at)?;
-    Ok(Person {
+    Ok(PersonFields {
         surname,
         given,
         initials,
         generation,
     })
+}
+
+/// A personal name, its components in any order.
+pub fn read_person(alloc: Global, whole: &View) -> Result<Person, ReadFault>
+    ensures { Reads result (person_in (view whole.now)) }
+{
+    let fields = read_fields(alloc, whole)?;
+    Ok(Person::from_fields(fields))
 }

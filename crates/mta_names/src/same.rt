@@ -3,7 +3,9 @@
 ghost use Rattle.std.specs.Prelude.{◌≡◌, ◌↔◌, IsTrue, IfOk, List, ℕ, Option};
 ghost use Rattle.mta_names.specs.Normal.{is_same_name, IsSameName};
 
-use crate::attributes::{Attributes, Extra, Label, Pair, Person};
+use crate::attributes::{
+    Attributes, Extra, ExtraFields, Label, Pair, PairFields, Person, PersonFields,
+};
 use crate::name::OrName;
 use crate::normal::{same_label, same_pairs, same_persons, same_texts, same_value};
 use crate::row::Row;
@@ -73,16 +75,17 @@ fn copied_person(alloc: Global, person: &Option<Person>) -> Result<Option<Person
     match person {
         None => Ok(None),
         Some(person) => {
-            let surname = person.surname.copy(alloc)?;
-            let given = copied(alloc, &person.given)?;
-            let initials = copied(alloc, &person.initials)?;
-            let generation = copied(alloc, &person.generation)?;
-            Ok(Some(Person {
+            let fields = person.fields();
+            let surname = fields.surname.copy(alloc)?;
+            let given = copied(alloc, &fields.given)?;
+            let initials = copied(alloc, &fields.initials)?;
+            let generation = copied(alloc, &fields.generation)?;
+            Ok(Some(Person::from_fields(PersonFields {
                 surname,
                 given,
                 initials,
                 generation,
-            }))
+            })))
         }
     }
 }
@@ -110,9 +113,10 @@ fn copied_units(alloc: Global, units: &[Text]) -> Result<Row<Text>, Memory>
 fn copied_pair(alloc: Global, pair: &Pair) -> Result<Pair, Memory>
     ensures { IfOk result (λ p. p ≡ pair.now) }
 {
-    let kind = pair.kind.copy(alloc)?;
-    let value = pair.value.copy(alloc)?;
-    Ok(Pair { kind, value })
+    let fields = pair.fields();
+    let kind = fields.kind.copy(alloc)?;
+    let value = fields.value.copy(alloc)?;
+    Ok(Pair::from_fields(PairFields { kind, value }))
 }
 
 fn copied_pairs(alloc: Global, pairs: &[Pair]) -> Result<Row<Pair>, Memory>
@@ -128,11 +132,12 @@ fn copied_pairs(alloc: Global, pairs: &[Pair]) -> Result<Row<Pair>, Memory>
 fn copied_extra(alloc: Global, extra: &Extra) -> Result<Extra, Memory>
     ensures { IfOk result (λ e. e ≡ extra.now) }
 {
-    let raw = extra.raw.copy(alloc)?;
-    Ok(Extra {
-        number: extra.number,
+    let fields = extra.fields();
+    let raw = fields.raw.copy(alloc)?;
+    Ok(Extra::from_fields(ExtraFields {
+        number: fields.number,
         raw,
-    })
+    }))
 }
 
 fn copied_extras(alloc: Global, extras: &[Extra]) -> Result<Row<Extra>, Memory>

@@ -101,11 +101,12 @@ fn put_person(w: &mut Writer, person: &Option<Person>) -> Result<(), Memory>
     match person {
         None => Ok(()),
         Some(person) => {
+            let fields = person.fields();
             let mut inside = Writer::new(w.alloc());
-            inside.put(primitive(2, 0), person.surname.as_slice())?;
-            put_text(&mut inside, 1, &person.given)?;
-            put_text(&mut inside, 2, &person.initials)?;
-            put_text(&mut inside, 3, &person.generation)?;
+            inside.put(primitive(2, 0), fields.surname.as_slice())?;
+            put_text(&mut inside, 1, &fields.given)?;
+            put_text(&mut inside, 2, &fields.initials)?;
+            put_text(&mut inside, 3, &fields.generation)?;
             put_around(w, constructed(2, 5), &inside)
         }
     }
@@ -140,9 +141,10 @@ fn put_pair(w: &mut Writer, pair: &Pair) -> Result<(), Memory>
     ensures ok { OnOk result (w.new ≡ appended w.old (canonical_pair pair.now)) }
     ensures err { OnErr result (w.new ≡ w.old) }
 {
+    let fields = pair.fields();
     let mut inside = Writer::new(w.alloc());
-    inside.put(primitive(0, 19), pair.kind.as_slice())?;
-    inside.put(primitive(0, 19), pair.value.as_slice())?;
+    inside.put(primitive(0, 19), fields.kind.as_slice())?;
+    inside.put(primitive(0, 19), fields.value.as_slice())?;
     put_around(w, constructed(0, 16), &inside)
 }
 
@@ -203,7 +205,8 @@ fn put_extras(w: &mut Writer, extras: &[Extra]) -> Result<(), Memory>
     ensures ok { OnOk result (w.new ≡ appended w.old (flat_map canonical_extra extras.now)) }
 {
     for extra in extras {
-        put_attribute(w, extra.number, extra.raw.as_slice())?;
+        let fields = extra.fields();
+        put_attribute(w, fields.number, fields.raw.as_slice())?;
     }
     Ok(())
 }

@@ -15,5 +15,5 @@ pub use laws::{
     reports_that_were_read_are_read_again,
 };
 pub use mta_common::ContentKind;
-pub use mta_reported::{Outcome, Reported, ReportedFields};
+pub use mta_reported::{Moment, Outcome, Reported, ReportedFields};
 pub use report::Report;

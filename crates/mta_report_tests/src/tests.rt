@@ -86,7 +86,7 @@ fn is_written_as(alloc: Global, report: &Report, octets: &[u8]) -> bool {
 
 fn delivery_of(outcome: &Outcome) -> Option<(u64, u32)> {
     match outcome {
-        Outcome::Delivery { moment, user } => Some((*moment, *user)),
+        Outcome::Delivery { moment, user } => Some((moment.seconds(), user.number())),
         Outcome::NonDelivery { .. } => None,
     }
 }
@@ -94,7 +94,10 @@ fn delivery_of(outcome: &Outcome) -> Option<(u64, u32)> {
 fn failure_of(outcome: &Outcome) -> Option<(u32, Option<u32>)> {
     match outcome {
         Outcome::Delivery { .. } => None,
-        Outcome::NonDelivery { reason, diagnostic } => Some((*reason, *diagnostic)),
+        Outcome::NonDelivery { reason, diagnostic } => Some((
+            reason.number(),
+            diagnostic.map(|code| code.number()),
+        )),
     }
 }
 

@@ -23,7 +23,8 @@ use Rattle.mta_reported.specs.declared.delivery.DeliveryPart.{DeliveryPart}
 use Rattle.mta_reported.specs.declared.delivery.DeliveryPart.TheVariants.{Moment, User}
 use Rattle.mta_reported.specs.declared.delivery.DeliveryParts.{DeliveryParts}
 use Rattle.mta_reported.specs.Deliveries.{delivery_part_of, is_delivery_tag, delivery_held, with_moment, with_user, delivery_part_in, delivery_step_of, delivery_step, no_delivery, delivery, delivery_from, delivery_in, MakesDeliveryPart, MakesDelivery, SpellsDelivery}
-use Rattle.mta_reported.specs.Values.{IsMoment, IsCode, IsOutcome}
+use Rattle.mta_names.specs.Bounded.{IsCode}
+use Rattle.mta_reported.specs.Values.{IsMoment, IsOutcome}
 
 abbrev HasTag : Tag → DeliveryPart → Type 0
 HasTag t k = is_delivery_tag k t ≡ true

@@ -20,7 +20,8 @@ use Rattle.mta_reported.specs.declared.failure.FailurePart.{FailurePart}
 use Rattle.mta_reported.specs.declared.failure.FailurePart.TheVariants.{Reason, Diagnostic}
 use Rattle.mta_reported.specs.declared.failure.FailureParts.{FailureParts}
 use Rattle.mta_reported.specs.Failures.{failure_part_of, is_failure_tag, failure_held, with_reason, with_diagnostic, failure_part_in, failure_step_of, failure_step, no_failure, failure, failure_from, failure_in, MakesFailurePart, MakesFailure, SpellsFailure}
-use Rattle.mta_reported.specs.Values.{IsCode, IsOutcome}
+use Rattle.mta_names.specs.Bounded.{IsCode}
+use Rattle.mta_reported.specs.Values.{IsOutcome}
 
 abbrev HasTag : Tag → FailurePart → Type 0
 HasTag t k = is_failure_tag k t ≡ true

@@ -46,7 +46,8 @@ use Rattle.mta_reported.specs.LastTraces.{with_arrival, with_outcome, with_conve
 use Rattle.mta_reported.specs.Laws.{IsWholeReported, KeepsReported, RecipientsAreReadAgain}
 use Rattle.mta_reported.specs.Outcomes.{SpellsOutcome, canonical_choice, canonical_outcome}
 use Rattle.mta_reported.specs.ReportedRecipients.{with_name, with_number, with_indicators, with_last, with_intended, with_supplementary, with_extensions, MakesReported, SpellsReported, no_reported, reported, reported_in, is_set, SpellsReportedItem, SpellsReportedList, canonical_intended, reported_content, canonical_reported}
-use Rattle.mta_reported.specs.Values.{IsMoment, IsCode, IsNumber, IsOutcome, IsReported}
+use Rattle.mta_names.specs.Bounded.{IsCode}
+use Rattle.mta_reported.specs.Values.{IsMoment, IsNumber, IsOutcome, IsReported}
 use Rattle.mta_reported.proofs.ReportedLaws.{reported_full}
 
 -- ---- numbers

@@ -1,6 +1,7 @@
 -- What each part of a recipient of whom is reported may be (X.411, PerRecipientReportTransferFields).
 use Rattle.std.specs.Prelude.{ℕ, ◌≤◌, IfSome}
 use Rattle.mta_ber.specs.Times.{last_moment}
+use Rattle.mta_names.specs.Bounded.{IsCode}
 use Rattle.mta_names.specs.Values.{IsRaw}
 use Rattle.mta_common.specs.Indicators.{IsIndicators}
 use Rattle.mta_reported.specs.declared.outcome.Outcome.{Outcome}
@@ -11,10 +12,6 @@ use Rattle.mta_reported.specs.declared.reported.ReportedFields.{ReportedFields}
 -- a moment that a UTCTime can say
 abbrev pub IsMoment : ℕ → Type 0
 IsMoment m = m ≤ last_moment
-
--- a reason, a diagnostic, a type of user
-abbrev pub IsCode : ℕ → Type 0
-IsCode n = n ≤ 32767
 
 -- the number of a recipient
 abbrev pub IsNumber : ℕ → Type 0

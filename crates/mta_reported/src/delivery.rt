@@ -1,15 +1,18 @@
 //! Deliveries that are reported.
 
-ghost use Rattle.std.specs.Prelude.{◌≡◌, OnOk, IfOk, OnErr, IsTrue, Ok, ℕ, unwrap_or, List, []};
-ghost use Rattle.mta_ber.specs.Canon.{appended, optional};
+ghost use Rattle.std.specs.Prelude.{◌≡◌, OnOk, OnErr, unwrap_or};
+ghost use Rattle.mta_ber.specs.Canon.{appended};
 ghost use Rattle.mta_ber.specs.Parts.{Leaves, Reads};
 ghost use Rattle.mta_ber.specs.Seen.{view};
-ghost use Rattle.mta_reported.specs.Values.{IsMoment};
 ghost use Rattle.mta_reported.specs.Deliveries.{delivery_part_of, delivery_held, delivery_part_in, delivery_step, delivery_from, delivery_in, canonical_user, canonical_delivery};
 
+use crate::moment::{Moment, read_moment};
 use crate::outcome::Outcome;
-use mta_ber::{Components, Kind, Memory, ReadFault, Tag, View, Writer, bad, is_tag_of, put_int, put_utc, take_parts, take_required, is_primitive_tag};
-use mta_names::{constructed, primitive, put_around, read_number};
+use mta_ber::{
+    Components, Kind, Memory, ReadFault, Tag, View, Writer, bad, is_primitive_tag, is_tag_of,
+    put_int, put_utc, take_parts, take_required,
+};
+use mta_names::{Code, constructed, primitive, put_around, read_code};
 use std::alloc::Global;
 
 /// The components.
@@ -22,8 +25,8 @@ pub enum DeliveryPart {
 /// The components so far.
 #[derive(Drop)]
 pub struct DeliveryParts {
-    pub moment: Option<u64>,
-    pub user: Option<u32>,
+    pub moment: Option<Moment>,
+    pub user: Option<Code>,
 }
 
 fn part_of(tag: Tag) -> Option<DeliveryPart>
@@ -53,8 +56,8 @@ impl DeliveryParts {
         ensures { Leaves result self.new (delivery_part_in place self.old (view part.now)) }
     {
         match place {
-            DeliveryPart::Moment => self.moment = Some(part.utc()?),
-            DeliveryPart::User => self.user = Some(read_number(part, 0, 32767)?),
+            DeliveryPart::Moment => self.moment = Some(read_moment(part)?),
+            DeliveryPart::User => self.user = Some(read_code(part)?),
         }
         Ok(())
     }
@@ -77,13 +80,13 @@ impl Components for DeliveryParts {
     }
 }
 
-/// A number, 0 where it is absent.
-fn number_or_0(number: Option<u32>) -> u32
-    ensures { result ≡ unwrap_or number 0 }
+/// A type of user, 0 where it is absent.
+fn user_or_0(user: Option<Code>) -> Code
+    ensures { result ≡ unwrap_or user 0 }
 {
-    match number {
-        Some(number) => number,
-        None => 0,
+    match user {
+        Some(user) => user,
+        None => Code::new(0),
     }
 }
 
@@ -94,7 +97,7 @@ fn finished(parts: DeliveryParts, at: u32) -> Result<Outcome, ReadFault>
     let moment = take_required(moment, at)?;
     Ok(Outcome::Delivery {
         moment,
-        user: number_or_0(user),
+        user: user_or_0(user),
     })
 }
 
@@ -116,23 +119,23 @@ pub fn read_delivery(alloc: Global, whole: &View) -> Result<Outcome, ReadFault>
 
 /// Appends a type of user, but for public.
 #[tactic(auto, using(crate::proofs::Written::appended_none))]
-fn put_user(w: &mut Writer, user: u32) -> Result<(), Memory>
+fn put_user(w: &mut Writer, user: Code) -> Result<(), Memory>
     ensures { OnOk result (w.new ≡ appended w.old (canonical_user user)) }
 {
-    if user == 0 {
+    let number = user.number();
+    if number == 0 {
         return Ok(());
     }
-    put_int(w, primitive(2, 1), user as i64)
+    put_int(w, primitive(2, 1), number as i64)
 }
 
 /// Appends a delivery under `[0]`.
-pub fn put_delivery(w: &mut Writer, moment: u64, user: u32) -> Result<(), Memory>
-    requires { IsMoment moment }
+pub fn put_delivery(w: &mut Writer, moment: Moment, user: Code) -> Result<(), Memory>
     ensures ok { OnOk result (w.new ≡ appended w.old (canonical_delivery moment user)) }
     ensures err { OnErr result (w.new ≡ w.old) }
 {
     let mut inside = Writer::new(w.alloc());
-    put_utc(&mut inside, primitive(2, 0), moment)?;
+    put_utc(&mut inside, primitive(2, 0), moment.seconds())?;
     put_user(&mut inside, user)?;
     put_around(w, constructed(2, 0), &inside)
 }

@@ -1,14 +1,17 @@
 //! Non-deliveries that are reported.
 
-ghost use Rattle.std.specs.Prelude.{◌≡◌, OnOk, IfOk, OnErr, IsTrue, Ok, ℕ, unwrap_or, List, []};
+ghost use Rattle.std.specs.Prelude.{◌≡◌, OnOk, OnErr};
 ghost use Rattle.mta_ber.specs.Canon.{appended, optional};
 ghost use Rattle.mta_ber.specs.Parts.{Leaves, Reads};
 ghost use Rattle.mta_ber.specs.Seen.{view};
 ghost use Rattle.mta_reported.specs.Failures.{failure_part_of, failure_held, failure_part_in, failure_step, failure_from, failure_in, canonical_diagnostic, canonical_failure};
 
 use crate::outcome::Outcome;
-use mta_ber::{Components, Kind, Memory, ReadFault, Tag, View, Writer, bad, put_int, take_parts, take_required, is_primitive_tag};
-use mta_names::{constructed, primitive, put_around, read_number};
+use mta_ber::{
+    Components, Kind, Memory, ReadFault, Tag, View, Writer, bad, is_primitive_tag, put_int,
+    take_parts, take_required,
+};
+use mta_names::{Code, constructed, primitive, put_around, read_code};
 use std::alloc::Global;
 
 /// The components.
@@ -21,8 +24,8 @@ pub enum FailurePart {
 /// The components so far.
 #[derive(Drop)]
 pub struct FailureParts {
-    pub reason: Option<u32>,
-    pub diagnostic: Option<u32>,
+    pub reason: Option<Code>,
+    pub diagnostic: Option<Code>,
 }
 
 fn part_of(tag: Tag) -> Option<FailurePart>
@@ -52,8 +55,8 @@ impl FailureParts {
         ensures { Leaves result self.new (failure_part_in place self.old (view part.now)) }
     {
         match place {
-            FailurePart::Reason => self.reason = Some(read_number(part, 0, 32767)?),
-            FailurePart::Diagnostic => self.diagnostic = Some(read_number(part, 0, 32767)?),
+            FailurePart::Reason => self.reason = Some(read_code(part)?),
+            FailurePart::Diagnostic => self.diagnostic = Some(read_code(part)?),
         }
         Ok(())
     }
@@ -102,22 +105,22 @@ pub fn read_failure(alloc: Global, whole: &View) -> Result<Outcome, ReadFault>
 
 /// Appends a diagnostic, where it is there.
 #[tactic(auto, using(crate::proofs::Written::appended_none))]
-fn put_diagnostic(w: &mut Writer, diagnostic: Option<u32>) -> Result<(), Memory>
+fn put_diagnostic(w: &mut Writer, diagnostic: Option<Code>) -> Result<(), Memory>
     ensures { OnOk result (w.new ≡ appended w.old (optional canonical_diagnostic diagnostic)) }
 {
     match diagnostic {
         None => Ok(()),
-        Some(diagnostic) => put_int(w, primitive(2, 1), diagnostic as i64),
+        Some(diagnostic) => put_int(w, primitive(2, 1), diagnostic.number() as i64),
     }
 }
 
 /// Appends a non-delivery under `[1]`.
-pub fn put_failure(w: &mut Writer, reason: u32, diagnostic: Option<u32>) -> Result<(), Memory>
+pub fn put_failure(w: &mut Writer, reason: Code, diagnostic: Option<Code>) -> Result<(), Memory>
     ensures ok { OnOk result (w.new ≡ appended w.old (canonical_failure reason diagnostic)) }
     ensures err { OnErr result (w.new ≡ w.old) }
 {
     let mut inside = Writer::new(w.alloc());
-    put_int(&mut inside, primitive(2, 0), reason as i64)?;
+    put_int(&mut inside, primitive(2, 0), reason.number() as i64)?;
     put_diagnostic(&mut inside, diagnostic)?;
     put_around(w, constructed(2, 1), &inside)
 }

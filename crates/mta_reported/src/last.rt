@@ -5,11 +5,14 @@ ghost use Rattle.mta_ber.specs.Canon.{appended, optional};
 ghost use Rattle.mta_ber.specs.Parts.{Leaves, Reads};
 ghost use Rattle.mta_ber.specs.Seen.{view};
 ghost use Rattle.std.specs.Prelude.{IfSome};
-ghost use Rattle.mta_reported.specs.Values.{IsMoment, IsOutcome};
+ghost use Rattle.mta_reported.specs.Values.{IsMoment};
 ghost use Rattle.mta_reported.specs.LastTraces.{last_part_of, last_held, last_part_in, last_step, last_from, last_in, last_content, canonical_last};
 
 use crate::outcome::{Outcome, put_outcome, read_outcome};
-use mta_ber::{Components, Kind, Memory, Octets, ReadFault, Tag, View, Writer, bad, is_tag_of, put_utc, take_parts, take_required, is_constructed_tag};
+use mta_ber::{
+    Components, Kind, Memory, Octets, ReadFault, Tag, View, Writer, bad, is_constructed_tag,
+    is_tag_of, put_utc, take_parts, take_required,
+};
 use mta_names::{constructed, primitive, put_around, put_raw_if};
 use std::alloc::Global;
 
@@ -134,8 +137,7 @@ pub fn put_last(
     converted: &Option<Octets>,
     outcome: &Outcome,
 ) -> Result<(), Memory>
-    requires arrival { IsMoment arrival }
-    requires outcome { IsOutcome outcome.now }
+    requires { IsMoment arrival }
     ensures ok { OnOk result (w.new ≡ appended w.old (canonical_last arrival converted.now outcome.now)) }
     ensures err { OnErr result (w.new ≡ w.old) }
 {

@@ -10,49 +10,55 @@ ghost use Rattle.mta_reported.specs.Failures.{canonical_diagnostic, canonical_fa
 ghost use Rattle.mta_reported.specs.LastTraces.{canonical_last};
 ghost use Rattle.mta_reported.specs.Outcomes.{canonical_choice, canonical_outcome};
 ghost use Rattle.mta_reported.specs.ReportedRecipients.{canonical_intended, reported_content, canonical_reported, canonical_reported_list};
-ghost use Rattle.mta_reported.specs.Values.{IsMoment, IsOutcome, IsReported};
+ghost use Rattle.mta_reported.specs.Values.{IsMoment, IsReported};
 
+use crate::moment::Moment;
 use crate::outcome::Outcome;
 use crate::reported::{Reported, ReportedFields};
 use mta_ber::{Octets, bits_length, element_length, int_length, length_of_both, utc_length};
 use mta_common::extensions_length;
-use mta_names::{OrName, Row, constructed, primitive, raw_length};
+use mta_names::{Code, OrName, Row, constructed, primitive, raw_length};
 
-fn user_length(user: u32) -> u64
+fn user_length(user: Code) -> u64
     ensures { result ≡ octet_length (canonical_user user) }
 {
-    if user == 0 {
+    let number = user.number();
+    if number == 0 {
         return 0;
     }
-    int_length(primitive(2, 1), user as i64)
+    int_length(primitive(2, 1), number as i64)
 }
 
-fn delivery_length(moment: u64, user: u32) -> u64
-    requires { IsMoment moment }
+fn delivery_length(moment: Moment, user: Code) -> u64
     ensures { result ≡ octet_length (canonical_delivery moment user) }
 {
-    let content = length_of_both(utc_length(primitive(2, 0), moment), user_length(user));
+    let content = length_of_both(
+        utc_length(primitive(2, 0), moment.seconds()),
+        user_length(user),
+    );
     element_length(constructed(2, 0), content)
 }
 
-fn diagnostic_length(diagnostic: Option<u32>) -> u64
+fn diagnostic_length(diagnostic: Option<Code>) -> u64
     ensures { result ≡ octet_length (optional canonical_diagnostic diagnostic) }
 {
     match diagnostic {
         None => 0,
-        Some(diagnostic) => int_length(primitive(2, 1), diagnostic as i64),
+        Some(diagnostic) => int_length(primitive(2, 1), diagnostic.number() as i64),
     }
 }
 
-fn failure_length(reason: u32, diagnostic: Option<u32>) -> u64
+fn failure_length(reason: Code, diagnostic: Option<Code>) -> u64
     ensures { result ≡ octet_length (canonical_failure reason diagnostic) }
 {
-    let number = int_length(primitive(2, 0), reason as i64);
-    element_length(constructed(2, 1), length_of_both(number, diagnostic_length(diagnostic)))
+    let number = int_length(primitive(2, 0), reason.number() as i64);
+    element_length(
+        constructed(2, 1),
+        length_of_both(number, diagnostic_length(diagnostic)),
+    )
 }
 
 fn choice_length(outcome: &Outcome) -> u64
-    requires { IsOutcome outcome.now }
     ensures { result ≡ octet_length (canonical_choice outcome.now) }
 {
     match outcome {
@@ -62,7 +68,6 @@ fn choice_length(outcome: &Outcome) -> u64
 }
 
 fn outcome_length(outcome: &Outcome) -> u64
-    requires { IsOutcome outcome.now }
     ensures { result ≡ octet_length (canonical_outcome outcome.now) }
 {
     element_length(constructed(2, 1), choice_length(outcome))
@@ -70,13 +75,15 @@ fn outcome_length(outcome: &Outcome) -> u64
 
 #[tactic(auto, unfolding(crate::specs::LastTraces::canonical_last))]
 fn last_length(arrival: u64, converted: &Option<Octets>, outcome: &Outcome) -> u64
-    requires arrival { IsMoment arrival }
-    requires outcome { IsOutcome outcome.now }
+    requires { IsMoment arrival }
     ensures { result ≡ octet_length (canonical_last arrival converted.now outcome.now) }
 {
     let moment = utc_length(primitive(2, 0), arrival);
     let begun = length_of_both(raw_length(converted), moment);
-    element_length(constructed(2, 3), length_of_both(begun, outcome_length(outcome)))
+    element_length(
+        constructed(2, 3),
+        length_of_both(begun, outcome_length(outcome)),
+    )
 }
 
 fn intended_length(name: &Option<OrName>) -> u64
@@ -100,7 +107,10 @@ pub fn components_length(v: &ReportedFields) -> u64
     let traced = length_of_both(indicators, last);
     let intended = length_of_both(traced, intended_length(&v.intended));
     let supplementary = length_of_both(intended, raw_length(&v.supplementary));
-    length_of_both(supplementary, extensions_length(constructed(2, 6), &v.extensions))
+    length_of_both(
+        supplementary,
+        extensions_length(constructed(2, 6), &v.extensions),
+    )
 }
 
 fn all_length(recipients: &[Reported]) -> u64

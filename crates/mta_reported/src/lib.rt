@@ -7,15 +7,17 @@ mod failure;
 mod last;
 mod laws;
 mod length;
+mod moment;
 mod outcome;
 mod recipients;
 mod reported;
 
-pub use length::recipients_length;
 pub use laws::{
     no_recipient_begins_another, recipients_are_read_again, recipients_that_were_read_are_kept,
     recipients_that_were_read_are_read_again,
 };
+pub use length::recipients_length;
+pub use moment::Moment;
 pub use outcome::Outcome;
 pub use recipients::{put_recipients, read_recipients};
 pub use reported::{Reported, ReportedFields, fields_or_none};

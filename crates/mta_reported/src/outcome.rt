@@ -1,30 +1,30 @@
 //! What came of a message for a recipient.
 
-ghost use Rattle.std.specs.Prelude.{◌≡◌, OnOk, IfOk, OnErr, IsTrue, Ok, ℕ, unwrap_or, List, []};
-ghost use Rattle.mta_ber.specs.Canon.{appended, optional};
-ghost use Rattle.mta_ber.specs.Parts.{Leaves, Reads};
+ghost use Rattle.std.specs.Prelude.{◌≡◌, OnOk, OnErr};
+ghost use Rattle.mta_ber.specs.Canon.{appended};
+ghost use Rattle.mta_ber.specs.Parts.{Reads};
 ghost use Rattle.mta_ber.specs.Seen.{view};
 ghost use Rattle.mta_ber.specs.Element.{explicit};
-ghost use Rattle.mta_reported.specs.Values.{IsOutcome};
 ghost use Rattle.mta_reported.specs.Outcomes.{outcome_choice, canonical_choice, canonical_outcome};
 
 use crate::delivery::{put_delivery, read_delivery};
 use crate::failure::{put_failure, read_failure};
+use crate::moment::Moment;
 use mta_ber::{Kind, Memory, ReadFault, View, Writer, bad, is_tag_of};
-use mta_names::{constructed, put_around};
+use mta_names::{Code, constructed, put_around};
 use std::alloc::Global;
 
-/// What came of a message for a recipient (X.411, ReportType). The moment is seconds from 1950-01-01 00:00:00 UTC, at most the last second of
-/// 2049; the other numbers are 0 to 32,767. A type of user of 0 is public.
+/// What came of a message for a recipient (X.411, ReportType): numbers are 0 to 32,767, and a type of user of 0 is public. It holds no
+/// other value.
 #[derive(Debug, Drop)]
 pub enum Outcome {
     Delivery {
-        moment: u64,
-        user: u32,
+        moment: Moment,
+        user: Code,
     },
     NonDelivery {
-        reason: u32,
-        diagnostic: Option<u32>,
+        reason: Code,
+        diagnostic: Option<Code>,
     },
 }
 
@@ -52,7 +52,6 @@ pub fn read_outcome(alloc: Global, part: &View) -> Result<Outcome, ReadFault>
 }
 
 fn put_choice(w: &mut Writer, outcome: &Outcome) -> Result<(), Memory>
-    requires { IsOutcome outcome.now }
     ensures { OnOk result (w.new ≡ appended w.old (canonical_choice outcome.now)) }
 {
     match outcome {
@@ -63,7 +62,6 @@ fn put_choice(w: &mut Writer, outcome: &Outcome) -> Result<(), Memory>
 
 /// Appends what came of a message, in its explicit tag `[1]`.
 pub fn put_outcome(w: &mut Writer, outcome: &Outcome) -> Result<(), Memory>
-    requires { IsOutcome outcome.now }
     ensures ok { OnOk result (w.new ≡ appended w.old (canonical_outcome outcome.now)) }
     ensures err { OnErr result (w.new ≡ w.old) }
 {

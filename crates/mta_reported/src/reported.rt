@@ -7,10 +7,13 @@ ghost use Rattle.mta_ber.specs.Seen.{view};
 ghost use Rattle.mta_reported.specs.Values.{IsReported};
 ghost use Rattle.mta_reported.specs.ReportedRecipients.{reported_part_of, reported_held, reported_part_in, reported_step, reported_complete, reported_from, reported_in, canonical_intended, reported_content};
 
-use crate::length::components_length;
 use crate::last::{LastTrace, put_last, read_last};
+use crate::length::components_length;
 use crate::outcome::Outcome;
-use mta_ber::{Bits, Components, Kind, Memory, Octets, ReadFault, Tag, View, Writer, bad, is_tag_of, put_int, take_parts, is_constructed_tag, is_primitive_tag, element_length};
+use mta_ber::{
+    Bits, Components, Kind, Memory, Octets, ReadFault, Tag, View, Writer, bad, element_length,
+    is_constructed_tag, is_primitive_tag, is_tag_of, put_int, take_parts,
+};
 use mta_common::{put_extensions, put_indicators, read_extensions, read_indicators};
 use mta_fields::ExtField;
 use mta_names::{OrName, Row, constructed, primitive, put_around, put_raw_if, read_number};
