@@ -30,7 +30,7 @@ impl<S: Read + Drop> Octets<S> {
 }
 
 // The count of one read. A read that a signal interrupts is made again.
-fn read_some<S: Read>(stream: &mut S, into: &mut [u8]) -> Option<usize>
+pub(crate) fn read_some<S: Read>(stream: &mut S, into: &mut [u8]) -> Option<usize>
     ensures { IfSome result (λ n. n ≤ length into.new) }
 {
     for _ in 0..u64::MAX {
@@ -86,7 +86,7 @@ impl<W: Write + Drop> Writing<W> {
 }
 
 // The count of one write, of at least one octet where there are any. A write that a signal interrupts is made again.
-fn write_some<W: Write>(writer: &mut W, bytes: &[u8]) -> Option<usize>
+pub(crate) fn write_some<W: Write>(writer: &mut W, bytes: &[u8]) -> Option<usize>
     ensures bound { IfSome result (λ n. n ≤ length bytes.now) }
     ensures some { IfSome result (λ n. 0 < length bytes.now → 0 < n) }
 {

@@ -1,0 +1,3 @@
+pub mod Told
+pub mod Carried
+pub mod Inputs

@@ -1,0 +1,3 @@
+pub mod Links
+pub mod Held
+pub mod Laws
