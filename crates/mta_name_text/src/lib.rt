@@ -7,6 +7,7 @@ mod form;
 mod key;
 mod laws;
 mod made;
+mod methods;
 mod part;
 mod pattern;
 mod place;
@@ -17,12 +18,10 @@ mod shape;
 mod tests;
 
 pub use fault::NameFault;
-pub use form::name_text;
 pub use key::Key;
 pub use laws::{
     name_faults_are_first, name_forms_are_what_is_read, names_are_read_again,
     pattern_faults_are_first, pattern_forms_are_what_is_read, text_forms_are_what_is_written,
 };
+pub use methods::{FromText, NameForm};
 pub use pattern::Pattern;
-pub use reading::{name_from_text, pattern_from_text};
-pub use route::has_route;

@@ -28,20 +28,6 @@ fn draft_of(alloc: Global, text: &[u8]) -> Result<NameDraft, NameFault>
     Ok(draft)
 }
 
-/// The name that a text form makes.
-fn named(alloc: Global, text: &[u8]) -> Result<OrName, NameFault>
-    requires { length text.now < 2 ^ 32 }
-    ensures { Reads result (name_of_text text.now) }
-{
-    match draft_of(alloc, text) {
-        Ok(draft) => {
-            let name = finished(alloc, draft)?;
-            Ok(name)
-        }
-        Err(fault) => Err(fault),
-    }
-}
-
 /// The values that the text form of a pattern has.
 #[tactic(auto, unfolding(crate::specs::Made::pattern_of_text))]
 fn pattern_values_of(alloc: Global, text: &[u8]) -> Result<Row<Text>, NameFault>
@@ -66,8 +52,11 @@ pub fn name_from_text(alloc: Global, text: &[u8]) -> Result<OrName, NameFault>
     // Which octet is at fault.
     ensures fault { (at : ℕ) → result ≡ Err (Faults.NameText at) → IsFirstFault Grammars.Names text.now at }
 {
-    match named(alloc, text) {
-        Ok(name) => Ok(name),
+    match draft_of(alloc, text) {
+        Ok(draft) => {
+            let name = finished(alloc, draft)?;
+            Ok(name)
+        }
         Err(fault) => Err(fault),
     }
 }

@@ -1,9 +1,9 @@
 //! Texts that are read and written again, texts that are refused, and a route.
 
 use crate::fault::NameFault;
-use crate::form::name_text;
-use crate::reading::{name_from_text, pattern_from_text};
-use crate::route::has_route;
+use crate::methods::{FromText, NameForm};
+use crate::pattern::Pattern;
+use mta_names::OrName;
 use std::alloc::Global;
 use std::process::Abort;
 use std::test::Fail;
@@ -31,14 +31,14 @@ const FAULTY_PATTERNS: [(&str, u32); 3] = [("", 0), ("C=GB;P=X", 5), ("A=GOLD", 
 
 fn is_read_again(rt: &impl Abort, alloc: Global, text: &str) -> Result<bool, Fail> {
     assert!(rt; text.len() < 1000);
-    let name = name_from_text(alloc, text.as_bytes())?;
-    let again = name_text(alloc, &name)?;
+    let name = OrName::from_text(alloc, text.as_bytes())?;
+    let again = name.to_text(alloc)?;
     Ok(again.as_slice() == text.as_bytes())
 }
 
 fn is_numeric(rt: &impl Abort, alloc: Global, text: &str) -> Result<bool, Fail> {
     assert!(rt; text.len() < 1000);
-    let name = name_from_text(alloc, text.as_bytes())?;
+    let name = OrName::from_text(alloc, text.as_bytes())?;
     match &name.attributes().country {
         None => Ok(false),
         Some(label) => Ok(label.numeric),
@@ -47,7 +47,7 @@ fn is_numeric(rt: &impl Abort, alloc: Global, text: &str) -> Result<bool, Fail> 
 
 fn is_no_name(rt: &impl Abort, alloc: Global, text: &str, at: u32) -> bool {
     assert!(rt; text.len() < 1000);
-    match name_from_text(alloc, text.as_bytes()) {
+    match OrName::from_text(alloc, text.as_bytes()) {
         Ok(_) => false,
         Err(fault) => fault == NameFault::NameText { at },
     }
@@ -55,7 +55,7 @@ fn is_no_name(rt: &impl Abort, alloc: Global, text: &str, at: u32) -> bool {
 
 fn is_no_pattern(rt: &impl Abort, alloc: Global, text: &str, at: u32) -> bool {
     assert!(rt; text.len() < 1000);
-    match pattern_from_text(alloc, text.as_bytes()) {
+    match Pattern::from_text(alloc, text.as_bytes()) {
         Ok(_) => false,
         Err(fault) => fault == NameFault::NameText { at },
     }
@@ -64,9 +64,9 @@ fn is_no_pattern(rt: &impl Abort, alloc: Global, text: &str, at: u32) -> bool {
 fn is_on_route(rt: &impl Abort, alloc: Global, text: &str, route: &str) -> Result<bool, Fail> {
     assert!(rt; text.len() < 1000);
     assert!(rt; route.len() < 1000);
-    let name = name_from_text(alloc, text.as_bytes())?;
-    let pattern = pattern_from_text(alloc, route.as_bytes())?;
-    Ok(has_route(&name, &pattern))
+    let name = OrName::from_text(alloc, text.as_bytes())?;
+    let pattern = Pattern::from_text(alloc, route.as_bytes())?;
+    Ok(name.has_route(&pattern))
 }
 
 #[test]
