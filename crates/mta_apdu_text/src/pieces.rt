@@ -9,7 +9,7 @@ ghost use Rattle.mta_apdu_text.specs.Pieces.{hex_digit, hex_octet, hex_text, bit
 use itoa::Buffer;
 use mta_ber::{Bits, LAST_MOMENT, Memory, Octets, Tag, Writer, put_utc};
 use mta_fields::{Domain, MtsId};
-use mta_name_text::name_text;
+use mta_name_text::NameForm;
 use mta_names::{Label, OrName};
 use std::alloc::Global;
 
@@ -189,7 +189,7 @@ pub fn put_name(alloc: Global, out: &mut Octets, name: &OrName) -> Result<(), Me
     ensures ok { OnOk result (out.new ≡ out.old ++ text_form name.now) }
     ensures err { OnErr result (out.new ≡ out.old) }
 {
-    let text = name_text(alloc, name)?;
+    let text = name.to_text(alloc)?;
     out.extend(text.as_slice())
 }
 
