@@ -1,0 +1,12 @@
+pub mod Orders
+pub mod Slots
+pub mod Persons
+pub mod Deliveries
+pub mod Failures
+pub mod LastTraces
+pub mod ReportedRecipients
+pub mod ReportEnvelopes
+pub mod ReportContents
+pub mod Recipients
+pub mod Envelopes
+pub mod InAnyOrder

@@ -1,0 +1,16 @@
+//! Laws over the SETs of X.411, each the contract of a function that does nothing.
+
+ghost use Rattle.mta_set_laws.specs.Laws.{PersonalNamesInAnyOrder, DeliveriesInAnyOrder, NonDeliveriesInAnyOrder, LastTracesInAnyOrder, ReportedRecipientsInAnyOrder, ReportEnvelopesInAnyOrder, ReportContentsInAnyOrder, RecipientsInAnyOrder, EnvelopesInAnyOrder};
+
+/// Where octets spell a value whose type is a SET, the octets of its components in every other order spell it too.
+pub fn components_stand_in_any_order()
+    ensures personal_names { PersonalNamesInAnyOrder }
+    ensures deliveries { DeliveriesInAnyOrder }
+    ensures non_deliveries { NonDeliveriesInAnyOrder }
+    ensures last_traces { LastTracesInAnyOrder }
+    ensures reported_recipients { ReportedRecipientsInAnyOrder }
+    ensures report_envelopes { ReportEnvelopesInAnyOrder }
+    ensures report_contents { ReportContentsInAnyOrder }
+    ensures recipients { RecipientsInAnyOrder }
+    ensures envelopes { EnvelopesInAnyOrder }
+{}
