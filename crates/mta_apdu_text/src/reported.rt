@@ -34,7 +34,7 @@ fn put_failure(out: &mut Octets, reason: Code, diagnostic: Option<Code>) -> Resu
     ensures { OnOk result (out.new ≡ out.old ++ failure_text reason diagnostic) }
 {
     out.extend(b"non-delivery ")?;
-    put_number(out, u64::from(reason.number()))?;
+    put_number(out, reason.number() as u64)?;
     out.extend(b" ")?;
     put_diagnostic(out, diagnostic)
 }
