@@ -7,7 +7,10 @@ ghost use Rattle.mta_ber.specs.Seen.{view};
 ghost use Rattle.mta_report.specs.ReportContents.{content_part_of, content_held, content_part_in, content_step, content_complete, content_from, content_in, content_content, canonical_content};
 
 use crate::fields::ReportFields;
-use mta_ber::{Components, Kind, Memory, Octets, ReadFault, Tag, Text, View, Writer, bad, is_tag_of, take_parts, is_constructed_tag};
+use mta_ber::{
+    Components, Kind, Memory, Octets, ReadFault, Tag, Text, View, Writer, bad, is_constructed_tag,
+    is_tag_of, take_parts,
+};
 use mta_common::{
     ContentKind, is_content_kind_tag, put_content_id, put_content_kind_in_front,
     put_content_kind_in_place, put_extensions, read_content_id, read_content_kind, read_extensions,

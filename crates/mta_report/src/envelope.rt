@@ -7,7 +7,9 @@ ghost use Rattle.mta_ber.specs.Seen.{view};
 ghost use Rattle.mta_report.specs.ReportEnvelopes.{envelope_part_of, envelope_held, envelope_part_in, envelope_step, envelope_complete, envelope_from, envelope_in, envelope_content, canonical_envelope};
 
 use crate::fields::ReportFields;
-use mta_ber::{Components, Kind, Memory, ReadFault, Tag, View, Writer, bad, take_parts, is_constructed_tag};
+use mta_ber::{
+    Components, Kind, Memory, ReadFault, Tag, View, Writer, bad, is_constructed_tag, take_parts,
+};
 use mta_common::{put_extensions, put_trace, read_extensions, read_trace};
 use mta_fields::{ExtField, MtsId, TraceElement};
 use mta_names::{OrName, Row, constructed, put_around};

@@ -9,7 +9,10 @@ ghost use Rattle.mta_report.specs.Reports.{report_part_of, report_place, report_
 use crate::content::{ContentFields, read_content};
 use crate::envelope::{EnvelopeFields, read_envelope};
 use crate::fields::ReportFields;
-use mta_ber::{Components, Kind, ReadFault, Tag, View, bad, check_order, is_tag_of, take_parts, is_constructed_tag};
+use mta_ber::{
+    Components, Kind, ReadFault, Tag, View, bad, check_order, is_constructed_tag, is_tag_of,
+    take_parts,
+};
 use std::alloc::Global;
 
 /// The components of a report.

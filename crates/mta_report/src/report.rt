@@ -75,7 +75,10 @@ impl Report {
         ensures { result ≡ octet_length (canonical_report self.now) }
     {
         let envelope = envelope_length(&self.fields);
-        element_length(constructed(2, 1), length_of_both(envelope, content_length(&self.fields)))
+        element_length(
+            constructed(2, 1),
+            length_of_both(envelope, content_length(&self.fields)),
+        )
     }
 
     /// The canonical octets of the whole APDU.
