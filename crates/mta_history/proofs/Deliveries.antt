@@ -21,6 +21,8 @@ place_is tables items i r moment place d =
 
 placed_by : (v : Verdict) (place : ℕ) → place_of_verdict v ≡ Some place → v ≡ Verdicts.Deliver place
 placed_by (Verdicts.Deliver p) place e = cc
+placed_by (Verdicts.Expand p) place e = absurd cc
+placed_by (Verdicts.Relay p) place e = absurd cc
 placed_by (Verdicts.NonDeliver reason diagnostic) place e = absurd cc
 
 was_pending : (status : Option (Option Status)) (found : Option ℕ) (place : ℕ) → if_pending status found ≡ Some place → (status ≡ Some (Some Pending)) × (found ≡ Some place)

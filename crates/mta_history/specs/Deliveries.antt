@@ -2,7 +2,7 @@
 use Rattle.std.specs.Prelude.{◌≡◌, ℕ, zero, suc, false, List, Option, Some, None, slice_get, option_and_then, if◌then◌else◌}
 use Rattle.mta_first_shape.specs.Message.{MessageValue, asks_report}
 use Rattle.mta_first_shape.specs.Reading.{first_shape_of}
-use Rattle.mta_tables.specs.declared.mailbox.Mailbox.{Mailbox}
+use Rattle.mta_tables.specs.declared.entry.Mailbox.{Mailbox}
 use Rattle.mta_tables.specs.Tables.{TablesValue}
 use Rattle.mta_history.specs.declared.item.Status.{Status}
 use Rattle.mta_history.specs.declared.item.Status.TheVariants.{Pending, Delivered}
@@ -29,6 +29,8 @@ pub record IsDeliverable (tables : Option TablesValue) (items : List ItemValue) 
 
 abbrev pub place_of_verdict : Verdict → Option ℕ
 place_of_verdict (Verdicts.Deliver place) = Some place
+place_of_verdict (Verdicts.Expand place) = None
+place_of_verdict (Verdicts.Relay place) = None
 place_of_verdict (Verdicts.NonDeliver reason diagnostic) = None
 
 unfoldable pub place_of_message : TablesValue → ℕ → ℕ → MessageValue → Option ℕ

@@ -1,3 +1,4 @@
 pub mod Body
+pub mod Outgoing
 pub mod Reading
 pub mod Reference

@@ -1,6 +1,6 @@
 //! Why a step was not made, and why a body is no record.
 
-use mta_ber::Memory;
+use mta_ber::{Fault, Memory};
 use std::alloc::AllocError;
 use thiserror::Error;
 
@@ -16,6 +16,18 @@ pub enum StepFault {
     /// An earlier step answered `Disk`.
     #[error("the spool has ended")]
     Ended,
+    /// The lane was bound again since: it is of this later generation.
+    #[error("the lane is of generation {generation}")]
+    Fenced { generation: u64 },
+    /// No lane of this number is open.
+    #[error("lane {lane} is not open")]
+    NoLane { lane: u32 },
+    /// As many lanes are open as may be, `count` of them.
+    #[error("{count} lanes are open")]
+    BusyLanes { count: u32 },
+    /// The step is none that may be made now.
+    #[error("the step may not be made now")]
+    Unexpected,
     /// The numbers left above `last` are fewer than the step needs.
     #[error("no number is left after {last}")]
     Spent { last: u64 },
@@ -44,6 +56,15 @@ impl From<AllocError> for StepFault {
     fn from(_: AllocError) -> StepFault {
         StepFault::Memory
     }
+}
+
+/// Why a piece of an activity was not made durable: no step was made, or the octets up to it are those of no APDU.
+#[derive(Clone, Copy, Debug, PartialEq, Eq, Error)]
+pub enum CompleteFault {
+    #[error("the piece was not made durable")]
+    Step(StepFault),
+    #[error("the octets are those of no APDU")]
+    Bad(Fault),
 }
 
 /// Why no step was read from the body of a record.

@@ -1,15 +1,19 @@
-//! The steps of the spool, and their records as octets.
+//! The steps of the spool, their records as octets, and what a session and the spool tell each other of a lane.
 #![tactic(auto)]
 
 mod fault;
+mod lane;
 mod laws;
+mod outgoing;
 mod reading;
 mod reference;
 mod step;
 mod writing;
 
-pub use fault::{RecordFault, StepFault};
+pub use fault::{CompleteFault, RecordFault, StepFault};
+pub use lane::{Batch, LaneRole, LaneValues, Recipients};
 pub use laws::{a_body_is_of_one_step, a_record_is_read_again};
+pub use outgoing::Outgoing;
 pub use reading::read_record;
 pub use reference::Reference;
 pub use step::Step;

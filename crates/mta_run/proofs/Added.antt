@@ -167,6 +167,10 @@ module _ {D C : Type 0} (disks : DiskView D) where
       record { torn_step = []; at_most = inl refl; adds = λ conf input own. adds_still laws tells conf input old new failed (unchanged step old new StepFaults.Ended (λ e. absurd cc) appends) }
   adds_refused laws tells step old new StepFaults.Memory failed so appends =
       record { torn_step = []; at_most = inl refl; adds = λ conf input own. adds_still laws tells conf input old new failed (unchanged step old new StepFaults.Memory (λ e. absurd cc) appends) }
+  adds_refused laws tells step old new (StepFaults.Fenced generation) failed so appends = absurd appends.faults
+  adds_refused laws tells step old new (StepFaults.NoLane lane) failed so appends = absurd appends.faults
+  adds_refused laws tells step old new (StepFaults.BusyLanes count) failed so appends = absurd appends.faults
+  adds_refused laws tells step old new StepFaults.Unexpected failed so appends = absurd appends.faults
 
   -- a row in which the disk did not fail
   pub adds_calm : (tells : ℕ → Type 0) (conf input : List ℕ) (old new : Shown D C) (a torn_step : List Step) (failed : Type 0) → (failed → ⊥) → Adds disks tells conf input old new a torn_step failed → Adds disks tells conf input old new a [] ⊥

@@ -60,6 +60,10 @@ module _ {D C : Type 0} (disks : DiskView D) where
   refusal tells conf input added step mid new before StepFaults.Disk le going next appends = let rose = appends.disk refl in omega (arith, rose, le)
   refusal tells conf input added step mid new before StepFaults.Ended le going next appends = let ended = appends.ended.0 refl in absurd (true≢false (sym ended ∙ going))
   refusal tells conf input added step mid new before StepFaults.Memory le going next appends = tt
+  refusal tells conf input added step mid new before (StepFaults.Fenced generation) le going next appends = appends.faults
+  refusal tells conf input added step mid new before (StepFaults.NoLane lane) le going next appends = appends.faults
+  refusal tells conf input added step mid new before (StepFaults.BusyLanes count) le going next appends = appends.faults
+  refusal tells conf input added step mid new before StepFaults.Unexpected le going next appends = appends.faults
 
 -- ---- the tables
 

@@ -1,5 +1,5 @@
 -- What `submit` leaves of an open spool.
-use Rattle.std.proofs.Common.{◌≡◌, ℕ, ◌+◌, ◌≤◌, List, [], ◌∷◌, ◌++◌, Result, Ok, Err, refl, sym, ap, subst, ◌∙◌, append_assoc, arith, inl, inr}
+use Rattle.std.proofs.Common.{◌≡◌, ℕ, ◌+◌, ◌≤◌, List, [], ◌∷◌, ◌++◌, Result, Ok, Err, Some, refl, sym, ap, subst, ◌∙◌, append_assoc, arith, inl, inr}
 use Rattle.std.specs.Prelude.{◌⊎◌}
 use Rattle.std.proofs.lemmas.List.{append-nil}
 use Rattle.mta_edge.specs.Views.{DiskView}
@@ -12,7 +12,7 @@ use Rattle.mta_records.specs.declared.fault.StepFault.TheVariants as StepFaults
 use Rattle.mta_history.specs.Verdict.{last_of}
 use Rattle.mta_history.specs.History.{State}
 use Rattle.mta_spool.specs.Shown.{Shown}
-use Rattle.mta_spool.specs.Stands.{Stands}
+use Rattle.mta_spool.specs.Stands.{Stands, IsOfNoLane}
 use Rattle.mta_run.specs.declared.stop.Stop.{Stop}
 use Rattle.mta_run.specs.declared.stop.Stop.TheVariants as Stops
 use Rattle.mta_run.specs.Lines.{accepted_line}
@@ -39,6 +39,22 @@ work_stop tells conf input added s size failed (StepFaults.Spent last) r = spent
 work_stop tells conf input added s size failed StepFaults.Disk r = disk r
 work_stop tells conf input added s size failed StepFaults.Ended r = absurd r
 work_stop tells conf input added s size failed StepFaults.Memory r = memory
+work_stop tells conf input added s size failed (StepFaults.Fenced generation) r = absurd r
+work_stop tells conf input added s size failed (StepFaults.NoLane lane) r = absurd r
+work_stop tells conf input added s size failed (StepFaults.BusyLanes count) r = absurd r
+work_stop tells conf input added s size failed StepFaults.Unexpected r = absurd r
+
+-- and it is of no lane
+refusal_no_lane : (tells : ℕ → Type 0) (conf input : List ℕ) (added : List Step) (s : State) (size : ℕ) (failed : Type 0) (fault : StepFault) → IsRefusal tells conf input added s size failed fault → IsOfNoLane (Some fault)
+refusal_no_lane tells conf input added s size failed (StepFaults.Full used need) r = tt
+refusal_no_lane tells conf input added s size failed (StepFaults.Spent last) r = tt
+refusal_no_lane tells conf input added s size failed StepFaults.Disk r = tt
+refusal_no_lane tells conf input added s size failed StepFaults.Ended r = tt
+refusal_no_lane tells conf input added s size failed StepFaults.Memory r = tt
+refusal_no_lane tells conf input added s size failed (StepFaults.Fenced generation) r = r
+refusal_no_lane tells conf input added s size failed (StepFaults.NoLane lane) r = r
+refusal_no_lane tells conf input added s size failed (StepFaults.BusyLanes count) r = r
+refusal_no_lane tells conf input added s size failed StepFaults.Unexpected r = r
 
 next_more : (tells other : ℕ → Type 0) (conf input : List ℕ) (added : List Step) (s : State) (step : Step) → ((t : ℕ) → tells t → other t) → IsNextStep tells conf input added s step → IsNextStep other conf input added s step
 next_more tells other conf input added s step more (tables turn changed) = tables turn changed
@@ -55,6 +71,10 @@ refusal_more tells other conf input added s size failed failed_too (StepFaults.S
 refusal_more tells other conf input added s size failed failed_too StepFaults.Disk more too r = too r
 refusal_more tells other conf input added s size failed failed_too StepFaults.Ended more too r = r
 refusal_more tells other conf input added s size failed failed_too StepFaults.Memory more too r = tt
+refusal_more tells other conf input added s size failed failed_too (StepFaults.Fenced generation) more too r = r
+refusal_more tells other conf input added s size failed failed_too (StepFaults.NoLane lane) more too r = r
+refusal_more tells other conf input added s size failed failed_too (StepFaults.BusyLanes count) more too r = r
+refusal_more tells other conf input added s size failed failed_too StepFaults.Unexpected more too r = r
 
 disk_stop : {T : Type 0} (fault : StepFault) → ◌≡◌ {A = Result T StepFault} (Err fault) (Err StepFaults.Disk) → ◌≡◌ {A = Result (Unit {0}) Stop} (Err (stop_of_step fault)) (Err Stops.Disk)
 disk_stop fault e = ap (λ (f : StepFault). Err (stop_of_step f)) (err_same fault StepFaults.Disk e)
@@ -82,6 +102,10 @@ module _ {D C : Type 0} (disks : DiskView D) (tells : ℕ → Type 0) (conf inpu
   }
 
   -- ---- the tables or the APDU were refused
+
+  pub stored_no_lane : (new : Shown D C) (fault : StepFault) → HasStored disks tells conf input old new (Err fault) → IsOfNoLane (Some fault)
+  stored_no_lane new fault has =
+      refusal_no_lane tells conf input has.added new.current new.journal.size (Rose (disks.faults old.journal.disk) (disks.faults new.journal.disk)) fault (has.refused fault refl)
 
   pub work_refused : (out : Output) (new : Shown D C) (fault : StepFault) → out.after ≡ out.before → HasStored disks tells conf input old new (Err fault) → HasWorked disks tells conf input out old new (Err (stop_of_step fault))
   work_refused out new fault same has = record {
@@ -153,6 +177,12 @@ module _ {D C : Type 0} (disks : DiskView D) (tells : ℕ → Type 0) (conf inpu
     settled_calm e = cc
 
   -- a step of it was refused
+  -- what settling was refused for is no refusal of a lane's step
+  pub settled_no_lane : (later : ℕ → Type 0) (mid new : Shown D C) (n : ℕ) (fault : StepFault) → HasStored disks tells conf input old mid (Ok n) → HasSettled disks later mid new (Err fault) → IsOfNoLane (Some fault)
+  settled_no_lane later mid new n fault has settled =
+      refusal_no_lane later conf input (has.added ++ settled.added) new.current new.journal.size (Rose (disks.faults mid.journal.disk) (disks.faults new.journal.disk)) fault
+      (settled.refused fault refl conf input has.added (has.turn n refl))
+
   pub work_unsettled : (later : ℕ → Type 0) (out : Output) (mid new : Shown D C) (n : ℕ) (fault : StepFault) → HasStored disks tells conf input old mid (Ok n) → ((t : ℕ) → later t → tells t) → Prints out (accepted_line n) → HasSettled disks later mid new (Err fault)
       → HasWorked disks tells conf input out old new (Err (stop_of_step fault))
   work_unsettled later out mid new n fault has more printed settled = record {

@@ -106,6 +106,10 @@ IsRefusal tells conf input added s size failed (StepFaults.Spent last) = IsSpent
 IsRefusal tells conf input added s size failed StepFaults.Disk = failed
 IsRefusal tells conf input added s size failed StepFaults.Ended = ⊥
 IsRefusal tells conf input added s size failed StepFaults.Memory = Unit {0}
+IsRefusal tells conf input added s size failed (StepFaults.Fenced generation) = ⊥
+IsRefusal tells conf input added s size failed (StepFaults.NoLane lane) = ⊥
+IsRefusal tells conf input added s size failed (StepFaults.BusyLanes count) = ⊥
+IsRefusal tells conf input added s size failed StepFaults.Unexpected = ⊥
 
 -- ---- the item
 
@@ -171,12 +175,17 @@ HasAcknowledged out n (Ok done) = Prints out (accepted_line n)
 HasAcknowledged out n (Err stop) = ((stop ≡ Stops.Memory) × (out.after ≡ out.before))
     ⊎ ((stop ≡ Stops.Sink) × PrintsFront out (accepted_line n))
 
+-- the stop for a step that is refused; the last four refuse steps of lanes alone, which `submit` does not make
 abbrev pub stop_of_step : StepFault → Stop
 stop_of_step (StepFaults.Full size need) = Stops.Full size need
 stop_of_step StepFaults.Disk = Stops.Disk
 stop_of_step StepFaults.Ended = Stops.Disk
 stop_of_step (StepFaults.Spent last) = Stops.Spent last
 stop_of_step StepFaults.Memory = Stops.Memory
+stop_of_step (StepFaults.Fenced generation) = Stops.Disk
+stop_of_step (StepFaults.NoLane lane) = Stops.Disk
+stop_of_step (StepFaults.BusyLanes count) = Stops.Disk
+stop_of_step StepFaults.Unexpected = Stops.Disk
 
 -- why working on an open spool stopped
 pub data IsWorkStop (tells : ℕ → Type 0) (conf input : List ℕ) (added : List Step) (s : State) (size : ℕ) (failed

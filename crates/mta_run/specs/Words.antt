@@ -3,7 +3,7 @@ use Rattle.std.specs.Prelude.{ℕ, Bool, false, List, [], ◌∷◌, Option, Som
 use Rattle.std.specs.Str.{bytes_eq}
 use Rattle.std.specs.declared.string.String.{String}
 use Rattle.std.specs.declared.alloc.Global.{Global}
-use Rattle.mta_tables.specs.Lines.{is_word}
+use Rattle.mta_tables.specs.Words.{is_word}
 use Rattle.mta_run.specs.declared.words.Words.{Words}
 use Rattle.mta_run.specs.declared.words.Words.TheVariants as Say
 

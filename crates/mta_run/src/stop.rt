@@ -1,6 +1,7 @@
 //! Why a command ended without its result.
 
-ghost use Rattle.std.specs.Prelude.{◌≡◌};
+ghost use Rattle.std.specs.Prelude.{◌≡◌, Some};
+ghost use Rattle.mta_spool.specs.Stands.{IsOfNoLane};
 ghost use Rattle.mta_run.specs.Inputs.{stop_of_read};
 ghost use Rattle.mta_run.specs.Shows.{stop_of_open};
 ghost use Rattle.mta_run.specs.Submit.{stop_of_step};
@@ -60,8 +61,9 @@ pub fn stop_of_open(why: OpenWhy) -> Stop
     }
 }
 
-/// Why a step was refused.
+/// Why a step of no lane was refused.
 pub fn stop_of_step(fault: StepFault) -> Stop
+    requires { IsOfNoLane (Some fault) }
     ensures { result ≡ stop_of_step fault }
 {
     match fault {
@@ -69,5 +71,9 @@ pub fn stop_of_step(fault: StepFault) -> Stop
         StepFault::Disk | StepFault::Ended => Stop::Disk,
         StepFault::Spent { last } => Stop::Spent { last },
         StepFault::Memory => Stop::Memory,
+        StepFault::Fenced { .. } => unreachable!(),
+        StepFault::NoLane { .. } => unreachable!(),
+        StepFault::BusyLanes { .. } => unreachable!(),
+        StepFault::Unexpected => unreachable!(),
     }
 }

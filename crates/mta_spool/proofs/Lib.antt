@@ -1,3 +1,4 @@
+pub mod KeptStatuses
 pub mod Making
 pub mod Next
 pub mod Openings

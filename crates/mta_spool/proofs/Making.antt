@@ -74,6 +74,7 @@ module _ {D : Type 0} (model : DiskView D) (step : Step) where
       → old.ended ≡ false → HasFields step → IsPossible s step → (IsSpent s step → ⊥) → s' ≡ after_step s step
       → Makes model step old s new s' None
   made laws old new s s' a going fields possible numbers change = record {
+    faults = tt;
     done = λ ok steps held. held_more old new s s' steps held (a.done refl (map body_of steps) held.holds) fields possible change;
     changed = λ ok. change;
     going = λ ok. a.going refl;
@@ -95,6 +96,7 @@ module _ {D : Type 0} (model : DiskView D) (step : Step) where
       → JournalAppends {T = Unit {0}} model (body_of step) old new (Err fault) → old.ended ≡ false → HasFields step → IsPossible s step
       → (IsSpent s step → ⊥) → s' ≡ s → Makes model step old s new s' (Some (step_fault fault))
   refused laws (AppendFaults.Full size need) old new s s' a going fields possible numbers same = record {
+    faults = tt;
     done = λ ok. absurd cc;
     changed = λ ok. absurd cc;
     going = λ ok. absurd cc;
@@ -117,6 +119,7 @@ module _ {D : Type 0} (model : DiskView D) (step : Step) where
         let e : AppendFaults.Full size need ≡ AppendFaults.Full old.size (need_of step) = cc in inl (ap (λ (x : AppendFault). Some (step_fault x)) e);
   }
   refused laws AppendFaults.Disk old new s s' a going fields possible numbers same = record {
+    faults = tt;
     done = λ ok. absurd cc;
     changed = λ ok. absurd cc;
     going = λ ok. absurd cc;
@@ -134,6 +137,7 @@ module _ {D : Type 0} (model : DiskView D) (step : Step) where
   }
   refused laws AppendFaults.Ended old new s s' a going fields possible numbers same = let is_ended = a.ended.0 refl in absurd cc
   refused laws AppendFaults.Memory old new s s' a going fields possible numbers same = record {
+    faults = tt;
     done = λ ok. absurd cc;
     changed = λ ok. absurd cc;
     going = λ ok. absurd cc;
@@ -160,6 +164,7 @@ module _ {D : Type 0} (model : DiskView D) (step : Step) where
   pub no_memory : (old new : JournalShown D) (s s' : State) → new ≡ old → s' ≡ s → old.ended ≡ false → (IsSpent s step → ⊥)
       → Makes model step old s new s' (Some StepFaults.Memory)
   no_memory old new s s' same kept going numbers = record {
+    faults = tt;
     done = λ ok. absurd cc;
     changed = λ ok. absurd cc;
     going = λ ok. absurd cc;
@@ -180,6 +185,7 @@ module _ {D : Type 0} (model : DiskView D) (step : Step) where
   pub is_ended : (old new : JournalShown D) (s s' : State) → new ≡ old → s' ≡ s → old.ended ≡ true
       → Makes model step old s new s' (Some StepFaults.Ended)
   is_ended old new s s' same kept ended = record {
+    faults = tt;
     done = λ ok. absurd cc;
     changed = λ ok. absurd cc;
     going = λ ok. absurd cc;
@@ -200,6 +206,7 @@ module _ {D : Type 0} (model : DiskView D) (step : Step) where
   pub is_spent : (last : ℕ) (old new : JournalShown D) (s s' : State) → new ≡ old → s' ≡ s → old.ended ≡ false
       → last ≡ length s.machine.items → IsSpent s step → Makes model step old s new s' (Some (StepFaults.Spent last))
   is_spent last old new s s' same kept going count spent = record {
+    faults = tt;
     done = λ ok. absurd cc;
     changed = λ ok. absurd cc;
     going = λ ok. absurd cc;

@@ -5,15 +5,19 @@ use Rattle.std.specs.List.{position, position_or_len}
 use Rattle.std.proofs.lemmas.Bool.{cases_lt, cases_eq, cases_Bool, lt-ltb, le-ltb}
 use Rattle.std.proofs.lemmas.List.Quantifiers.{position-Some}
 use Rattle.std.proofs.lemmas.Option.{get_or_from_slice_get, option_and_then_some, none-some}
-use Rattle.mta_tables.specs.Tables.{TablesValue, local as local_of}
-use Rattle.mta_tables.specs.Mailbox.{has_name}
-use Rattle.mta_tables.specs.declared.mailbox.Mailbox.{Mailbox}
+use Rattle.mta_tables.specs.declared.entry.Mailbox.{Mailbox}
+use Rattle.mta_tables.specs.declared.hop.Hop.{Hop}
+use Rattle.mta_tables.specs.declared.hop.Hop.TheVariants as Hops
+use Rattle.mta_tables.specs.Hops.{best_hop, local_of, mailbox_place as place_named}
+use Rattle.mta_tables.specs.Reading.{is_of_mailbox}
+use Rattle.mta_tables.specs.Tables.{TablesValue}
+use Rattle.mta_tables.proofs.HopLaws.{local_is_mailbox}
 use Rattle.mta_records.specs.declared.step.Step.{Step}
 use Rattle.mta_records.specs.declared.step.Step.TheVariants.{Deliver}
 use Rattle.mta_history.specs.declared.verdict.Verdict.TheVariants as Verdicts
-use Rattle.mta_history.specs.Verdict.{recorded, verdict_of_message, verdict_at, attributes_of, is_expired}
+use Rattle.mta_history.specs.Verdict.{recorded, verdict_of_message, verdict_at, attributes_of, hold_time, is_expired}
 use Rattle.mta_history.specs.Items.{ItemValue, numbered}
-use Rattle.mta_history.specs.Deliveries.{IsDeliverable, place_of_item, mailbox_place, mailbox_for}
+use Rattle.mta_history.specs.Deliveries.{IsDeliverable, place_of_item, place_of_verdict, mailbox_place, mailbox_for}
 use Rattle.mta_history.specs.Machine.{delivery}
 use Rattle.mta_history.specs.History.{State}
 use Rattle.mta_history.specs.Due.{IsDue, IsQuiet, IsLowest, IsNext}
@@ -154,10 +158,28 @@ next_at s tables moment k is at =
 
 -- ---- the mailbox of a delivery
 
-local_is : (o : Option ℕ) (place : ℕ) (expired : Bool) → verdict_at (local_of o) expired ≡ Verdicts.Deliver place → o ≡ Some place
-local_is None place expired e = absurd cc
-local_is (Some p) place true e = absurd cc
-local_is (Some p) place false e = cc
+-- a message that is not expired is delivered where its hop is a mailbox
+pub placed_unless : (hop : Hop) → place_of_verdict (verdict_at hop false) ≡ local_of hop
+placed_unless (Hops.Local place) = refl
+placed_unless (Hops.List place) = refl
+placed_unless (Hops.Peer place) = refl
+placed_unless Hops.None = refl
+
+-- an expired one is not delivered
+pub never_placed : (hop : Hop) → place_of_verdict (verdict_at hop true) ≡ None
+never_placed (Hops.Local place) = refl
+never_placed (Hops.List place) = refl
+never_placed (Hops.Peer place) = refl
+never_placed Hops.None = refl
+
+local_is : (hop : Hop) (place : ℕ) (expired : Bool) → verdict_at hop expired ≡ Verdicts.Deliver place → local_of hop ≡ Some place
+local_is (Hops.Local p) place true e = absurd cc
+local_is (Hops.Local p) place false e = cc
+local_is (Hops.List p) place true e = absurd cc
+local_is (Hops.List p) place false e = absurd cc
+local_is (Hops.Peer p) place true e = absurd cc
+local_is (Hops.Peer p) place false e = absurd cc
+local_is Hops.None place expired e = absurd cc
 
 some_is_some : {A : Type 0} (a b : A) → Some a ≡ Some b → a ≡ b
 some_is_some a b w = cc
@@ -166,9 +188,11 @@ some_is_some a b w = cc
 pub mailbox_inside : (tables : Option TablesValue) (value : TablesValue) (items : List ItemValue) (i r moment place : ℕ) → IsDeliverable tables items i r moment place → tables ≡ Some value → place < length value.mailboxes
 unfolding verdict_of_message
 mailbox_inside tables value items i r moment place d is =
+    let name = attributes_of d.message.recipient in
     let same : d.value ≡ value = some_is_some d.value value (sym d.tables_are ∙ is) in
-    let found : position (has_name (attributes_of d.message.recipient)) d.value.mailboxes ≡ Some place = local_is (position (has_name (attributes_of d.message.recipient)) d.value.mailboxes) place (is_expired d.item.arrival moment) d.verdict in
-    subst (λ (t : TablesValue). place < length t.mailboxes) same (position_within (has_name (attributes_of d.message.recipient)) d.value.mailboxes place found)
+    let local : local_of (best_hop d.value name) ≡ Some place = local_is (best_hop d.value name) place (is_expired (hold_time d.value) d.item.arrival moment) d.verdict in
+    let found : place_named d.value name ≡ Some place = sym (local_is_mailbox d.value name) ∙ local in
+    subst (λ (t : TablesValue). place < length t.mailboxes) same (position_within (is_of_mailbox name) d.value.mailboxes place found)
 
 -- the line of a delivery names the mailbox's word
 pub delivery_is : (tables : Option TablesValue) (value : TablesValue) (items : List ItemValue) (i r moment place : ℕ) (mailbox : Mailbox) (word : List ℕ) → IsDeliverable tables items i r moment place → tables ≡ Some value → slice_get value.mailboxes place ≡ Some mailbox → word ≡ mailbox.word

@@ -70,9 +70,24 @@ abbrev pub fault_of : {T : Type 0} → Result T StepFault → Option StepFault
 fault_of (Ok x) = None
 fault_of (Err fault) = Some fault
 
+-- No fault, or one by which a step of no lane is refused: the refusals of the steps of lanes are none.
+abbrev pub IsOfNoLane : Option StepFault → Type 0
+IsOfNoLane None = Unit {0}
+IsOfNoLane (Some StepFaults.Ended) = Unit {0}
+IsOfNoLane (Some (StepFaults.Spent last)) = Unit {0}
+IsOfNoLane (Some StepFaults.Memory) = Unit {0}
+IsOfNoLane (Some (StepFaults.Full size need)) = Unit {0}
+IsOfNoLane (Some StepFaults.Disk) = Unit {0}
+IsOfNoLane (Some (StepFaults.Fenced generation)) = ⊥
+IsOfNoLane (Some (StepFaults.NoLane lane)) = ⊥
+IsOfNoLane (Some (StepFaults.BusyLanes count)) = ⊥
+IsOfNoLane (Some StepFaults.Unexpected) = ⊥
+
 -- What a call that makes this step, or refuses it by this fault, leaves of the journal and of the state in memory.
 pub record Makes {D : Type 0} (model : DiskView D) (step : Step) (old : JournalShown D) (s : State) (new : JournalShown D) (s' : State)
     (fault : Option StepFault) : Type 0 where
+  -- it is refused by no refusal of a lane's steps
+  pub faults : IsOfNoLane fault
   -- where it is made it stands behind every history for which they stood
   pub done : fault ≡ None → (steps : List Step) → IsHeld model old s steps → IsHeld model new s' (steps ++ step ∷ [])
   -- in memory is the state after it, and the spool goes on

@@ -1,230 +1,344 @@
 -- What the lines so far have said, and whether one more can stand behind them.
-use Rattle.std.proofs.Common.{◌≡◌, ℕ, ◌+◌, ◌<◌, ◌≤◌, true, false, cond, leb, List, [], ◌∷◌, ◌++◌, length, get_or, Option, Some, None, Result, Ok, Err, refl, sym, ap, subst, ◌∙◌, inl, inr, arith, append-nil, length-append}
-use Rattle.std.specs.Prelude.{option_to_list, is_some}
-use Rattle.std.specs.List.{flat_map, list_any, Any, AllPairs}
+use Rattle.std.proofs.Common.{◌≡◌, ℕ, ◌+◌, ◌<◌, ◌≤◌, Bool, true, false, cond, leb, List, [], ◌∷◌, ◌++◌, length, Option, Some, None, Result, Ok, Err, refl, sym, ap, subst, ◌∙◌, ◌⊎◌, ◌↔◌, inl, inr, arith, append_assoc, append-nil, not}
+use Rattle.std.specs.Prelude.{map, is_some, ◌||◌, ◌&&◌}
+use Rattle.std.specs.List.{flat_map, list_any, Any}
 use Rattle.std.specs.Str.{bytes_eq}
-use Rattle.std.proofs.lemmas.Bool.{cases_Bool, or_cases, or_left, or_right, leb-true, leb-false, both_ways}
-use Rattle.std.proofs.lemmas.List.{get_or_append_left, get_or_at}
+use Rattle.std.proofs.lemmas.Bool.{cases_Bool, or_cases, or_left, or_right, and_parts, and_from, leb-true, le-leb, both_ways}
 use Rattle.std.proofs.lemmas.List.Concat.{flat_map-append}
-use Rattle.std.proofs.lemmas.List.Folds.{Any-from_list_any, list_any-from_Any, list_any_at}
-use Rattle.std.proofs.lemmas.List.Quantifiers.{all_pairs_push}
+use Rattle.std.proofs.lemmas.List.Folds.{Any-from_list_any, list_any-from_Any}
 use Rattle.std.proofs.lemmas.Slice.Eq.{bytes_eq-Decides}
-use Rattle.mta_first_names.specs.Normal.{is_same_name}
-use Rattle.mta_first_names.proofs.Normals.{names_same, same_names}
+use Rattle.mta_names.specs.declared.attributes.Attributes.{Attributes}
+use Rattle.mta_names.specs.Normal.{is_same_name, IsSameName, is_same_texts, is_same_text, normal_text}
+use Rattle.mta_names.proofs.NormalLaws.{name_decides, list_decides, text_decides}
 use Rattle.mta_tables.specs.declared.draft.Draft.{Draft}
+use Rattle.mta_tables.specs.declared.entry.Mailbox.{Mailbox}
+use Rattle.mta_tables.specs.declared.entry.MailList.{MailList}
+use Rattle.mta_tables.specs.declared.entry.Peer.{Peer}
+use Rattle.mta_tables.specs.declared.entry.Route.{Route}
 use Rattle.mta_tables.specs.declared.fault.LineKind.{LineKind}
 use Rattle.mta_tables.specs.declared.fault.LineKind.TheVariants as Kinds
+use Rattle.mta_tables.specs.declared.line.Grade.{Grade}
+use Rattle.mta_tables.specs.declared.line.Grade.TheVariants as Grades
+use Rattle.mta_tables.specs.declared.line.Hold.{Hold}
 use Rattle.mta_tables.specs.declared.line.Line.{Line}
 use Rattle.mta_tables.specs.declared.line.Line.TheVariants as Said
-use Rattle.mta_tables.specs.declared.mailbox.Mailbox.{Mailbox}
-use Rattle.mta_tables.specs.Domain.{DomainValue}
-use Rattle.mta_tables.specs.Mailbox.{clashes}
-use Rattle.mta_tables.specs.Reading.{draft, nothing, add, add_mailbox}
-use Rattle.mta_tables.specs.Grammar.{domain_in, name_in, mailbox_in, domains_of, names_of, mailboxes_of, Clash, AreApart, CanStand, IsSaid, IsOneTooMany}
+use Rattle.mta_tables.specs.declared.line.ListHead.{ListHead}
+use Rattle.mta_tables.specs.Grammar.{domain_in, name_in, peer_in, mailbox_in, head_in, route_in, pattern_in, member_in, hold_in, domains_of, names_of, peers_of, mailboxes_of, patterns_for, members_for, holds_in, list_of, lists_of, route_behind, routes_behind, routes_of, first_of, HasFrom, HasMembers, IsUnknownPeer, IsUnknown, IsSaid, IsMany, MayFollow, CanStand}
+use Rattle.mta_tables.specs.Reading.{nothing, has_peer_word, has_mailbox_word, has_list_word, is_of_mailbox, is_of_list, has_pattern, held, knows_no_peer, is_unknown, is_said, is_many, is_full_from, is_full_list, opened, permitted, joined, holding, added, add}
+use Rattle.mta_tables.specs.Sameness.{IsSamePattern}
 
--- ---- mailboxes that clash
+-- ---- what has been said, as the lines say it
 
-clash_is : (m n : Mailbox) → clashes m n ≡ true → Clash m n
-clash_is m n h =
-    elim (or_cases (bytes_eq m.word n.word) (is_same_name m.name n.name) h) [
-      | inl e ↦ inl ((bytes_eq-Decides m.word n.word).0 e)
-      | inr e ↦ inr (names_same m.name n.name e)
-    ]
+abbrev pub draft_of : List Line → Draft
+draft_of said = record {
+  domain = first_of (domains_of said);
+  own = first_of (names_of said);
+  peers = peers_of said;
+  mailboxes = mailboxes_of said;
+  lists = lists_of said;
+  routes = routes_of said;
+  urgent = first_of (holds_in Grades.Urgent said);
+  normal = first_of (holds_in Grades.Normal said);
+  non_urgent = first_of (holds_in Grades.NonUrgent said);
+}
 
-is_clash : (m n : Mailbox) → Clash m n → clashes m n ≡ true
-is_clash m n (inl e) = or_left _ _ ((bytes_eq-Decides m.word n.word).1 e)
-is_clash m n (inr e) = or_right (bytes_eq m.word n.word) _ (same_names m.name n.name e)
+-- ---- tests decide
 
-any_clash : (m : Mailbox) (ms : List Mailbox) → list_any (clashes m) ms ≡ true → Any (Clash m) ms
-any_clash m ms h = (let a = Any-from_list_any (clashes m) ms h in (a.0, a.1, a.2, a.3, clash_is m a.1 a.4))
+abbrev Decides : Bool → Type 0 → Type 0
+Decides b P = (b ≡ true) ↔ P
 
-clash_any : (m : Mailbox) (ms : List Mailbox) → Any (Clash m) ms → list_any (clashes m) ms ≡ true
-clash_any m ms a = list_any-from_Any (clashes m) ms (a.0, a.1, a.2, a.3, is_clash m a.1 a.4)
+any_decides : {X : Type 0} (p : X → Bool) (P : X → Type 0) (xs : List X) → ((x : X) → Decides (p x) (P x)) → Decides (list_any p xs) (Any P xs)
+any_decides p P xs d = (
+  λ e. let a = Any-from_list_any p xs e in (a.0, a.1, a.2, a.3, (d a.1).0 a.4),
+  λ a. list_any-from_Any p xs (a.0, a.1, a.2, a.3, (d a.1).1 a.4),
+)
 
--- ---- what a draft holds
+or_decides : (b c : Bool) (P Q : Type 0) → Decides b P → Decides c Q → Decides (b || c) (P ⊎ Q)
+or_decides b c P Q d e = (
+  λ h. elim (or_cases b c h) [ inl x ↦ inl (d.0 x) | inr y ↦ inr (e.0 y) ],
+  λ h. either h,
+)
+  where
+    either : P ⊎ Q → (b || c) ≡ true
+    either (inl x) = or_left _ _ (d.1 x)
+    either (inr y) = or_right b _ (e.1 y)
 
-pub record Holds (said : List Line) (d : Draft) : Type 0 where
-  pub domain : domains_of said ≡ option_to_list d.domain
-  pub own : names_of said ≡ option_to_list d.own
-  pub mailboxes : mailboxes_of said ≡ d.mailboxes
+and_decides : (b c : Bool) (P Q : Type 0) → Decides b P → Decides c Q → Decides (b && c) (P × Q)
+and_decides b c P Q d e = (
+  λ h. let p = and_parts b c h in (d.0 p.0, e.0 p.1),
+  λ h. and_from b c (d.1 h.0) (e.1 h.1),
+)
 
-pub holds_nothing : Holds [] nothing
-holds_nothing = record { domain = refl; own = refl; mailboxes = refl }
+not_decides : (b : Bool) (P : Type 0) → Decides b P → Decides (not b) (P → ⊥)
+not_decides true P d = (λ e. absurd cc, λ h. absurd (h (d.0 refl)))
+not_decides false P d = (λ e p. absurd (both_ways false refl (d.1 p)), λ h. refl)
 
-pub nothing_stands : CanStand []
-nothing_stands = record { domain = omega arith; own = omega arith; apart = λ i j d h l. absurd (omega arith); most = omega arith }
+at_least : (m n : ℕ) → Decides (leb m n) (m ≤ n)
+at_least m n = (leb-true m n, le-leb m n)
+
+never : Decides false ⊥
+never = (λ e. absurd cc, λ h. absurd h)
+
+some_decides : {X : Type 0} (xs : List X) → Decides (is_some (first_of xs)) (0 < length xs)
+some_decides [] = (λ e. absurd cc, λ h. absurd (omega arith))
+some_decides (x ∷ xs) = (λ e. omega arith, λ h. refl)
+
+same_word : (a b : List ℕ) → Decides (bytes_eq a b) (a ≡ b)
+same_word a b = bytes_eq-Decides a b
+
+same_pattern : (p q : List (List ℕ)) → Decides (is_same_texts p q) (IsSamePattern p q)
+same_pattern p q = list_decides is_same_text normal_text text_decides p q
+
+-- ---- which line may stand
+
+named_decides : (said : List Line) (n : Attributes)
+    → Decides (list_any (is_of_mailbox n) (mailboxes_of said) || list_any (is_of_list n) (lists_of said)) (Any (λ (m : Mailbox). IsSameName m.name n) (mailboxes_of said) ⊎ Any (λ (l : MailList). IsSameName l.name n) (lists_of said))
+named_decides said n =
+    or_decides _ _ _ _ (any_decides (is_of_mailbox n) (λ (m : Mailbox). IsSameName m.name n) (mailboxes_of said) (λ m. name_decides m.name n))
+    (any_decides (is_of_list n) (λ (l : MailList). IsSameName l.name n) (lists_of said) (λ l. name_decides l.name n))
+
+peer_decides : (said : List Line) (word : List ℕ) → Decides (list_any (has_peer_word word) (peers_of said)) (Any (λ (p : Peer). p.name ≡ word) (peers_of said))
+peer_decides said word = any_decides (has_peer_word word) (λ (p : Peer). p.name ≡ word) (peers_of said) (λ p. same_word p.name word)
+
+list_decides_word : (said : List Line) (word : List ℕ) → Decides (list_any (has_list_word word) (lists_of said)) (Any (λ (l : MailList). l.word ≡ word) (lists_of said))
+list_decides_word said word = any_decides (has_list_word word) (λ (l : MailList). l.word ≡ word) (lists_of said) (λ l. same_word l.word word)
+
+unknown_peer_decides : (said : List Line) (o : Option (List ℕ)) → Decides (knows_no_peer (draft_of said) o) (IsUnknownPeer said o)
+unknown_peer_decides said None = never
+unknown_peer_decides said (Some word) = not_decides _ _ (peer_decides said word)
+
+pub unknown_decides : (said : List Line) (s : Line) → Decides (is_unknown (draft_of said) s) (IsUnknown said s)
+unknown_decides said (Said.From f) = not_decides _ _ (list_decides_word said f.word)
+unknown_decides said (Said.Member m) = not_decides _ _ (list_decides_word said m.word)
+unknown_decides said (Said.Route r) = unknown_peer_decides said r.peer
+unknown_decides said s = never
+
+held_decides : (said : List Line) (g : Grade) → Decides (is_some (held g (draft_of said))) (0 < length (holds_in g said))
+held_decides said Grades.Urgent = some_decides (holds_in Grades.Urgent said)
+held_decides said Grades.Normal = some_decides (holds_in Grades.Normal said)
+held_decides said Grades.NonUrgent = some_decides (holds_in Grades.NonUrgent said)
+
+pub said_decides : (said : List Line) (s : Line) → Decides (is_said (draft_of said) s) (IsSaid said s)
+said_decides said (Said.Domain d) = some_decides (domains_of said)
+said_decides said (Said.Name w) = some_decides (names_of said)
+said_decides said (Said.Peer p) = peer_decides said p.name
+said_decides said (Said.Mailbox m) =
+    or_decides _ _ _ _ (any_decides (has_mailbox_word m.word) (λ (n : Mailbox). n.word ≡ m.word) (mailboxes_of said) (λ n. same_word n.word m.word)) (named_decides said m.name)
+said_decides said (Said.List l) = or_decides _ _ _ _ (list_decides_word said l.word) (named_decides said l.name)
+said_decides said (Said.Route r) = any_decides (has_pattern r.pattern) (λ (q : Route). IsSamePattern q.pattern r.pattern) (routes_of said) (λ q. same_pattern q.pattern r.pattern)
+said_decides said (Said.Hold h) = held_decides said h.grade
+said_decides said s = never
+
+pub many_decides : (said : List Line) (s : Line) → Decides (is_many (draft_of said) s) (IsMany said s)
+many_decides said (Said.Peer p) = at_least 64 (length (peers_of said))
+many_decides said (Said.Mailbox m) = at_least 4096 (length (mailboxes_of said))
+many_decides said (Said.List l) = at_least 256 (length (lists_of said))
+many_decides said (Said.From f) = any_decides (is_full_from f.word) (HasFrom f.word) (lists_of said) (λ l. and_decides _ _ _ _ (same_word l.word f.word) (at_least 100 (length l.from)))
+many_decides said (Said.Member m) = any_decides (is_full_list m.word) (HasMembers m.word) (lists_of said) (λ l. and_decides _ _ _ _ (same_word l.word m.word) (at_least 1000 (length l.members)))
+many_decides said (Said.Route r) = at_least 4096 (length (routes_of said))
+many_decides said s = never
+
+-- ---- one line more
 
 more : {A : Type 0} (f : Line → List A) (said : List Line) (s : Line) → flat_map f (said ++ s ∷ []) ≡ flat_map f said ++ f s
 more f said s = flat_map-append f said (s ∷ []) ∙ ap (λ x. flat_map f said ++ x) (append-nil (f s))
 
-same_stand : (said before : List Line) → domains_of said ≡ domains_of before → names_of said ≡ names_of before → mailboxes_of said ≡ mailboxes_of before → CanStand before → CanStand said
-same_stand said before d n m h = record {
-  domain = subst (λ x. length x ≤ 1) (sym d) h.domain;
-  own = subst (λ x. length x ≤ 1) (sym n) h.own;
-  apart = subst (AllPairs AreApart) (sym m) h.apart;
-  most = subst (λ x. length x ≤ 4096) (sym m) h.most;
+-- what a line changes of a list that was said
+abbrev pub list_with : Line → MailList → MailList
+list_with (Said.From f) l = permitted f.word f.pattern l
+list_with (Said.Member m) l = joined m.word m.name l
+list_with s l = l
+
+list_more : (later : List Line) (s : Line) (h : ListHead) → list_of (later ++ s ∷ []) h ≡ list_with s (list_of later h)
+list_more later (Said.From f) h =
+    let a = more (pattern_in h.word) later (Said.From f) in
+    let b = more (member_in h.word) later (Said.From f) ∙ append-nil (members_for h.word later) in
+    elim (cases_Bool (bytes_eq h.word f.word)) [ inl same ↦ rw (a, b, same) refl | inr other ↦ rw (a, b, other) (rw append-nil refl) ]
+list_more later (Said.Member m) h =
+    let a = more (pattern_in h.word) later (Said.Member m) ∙ append-nil (patterns_for h.word later) in
+    let b = more (member_in h.word) later (Said.Member m) in
+    elim (cases_Bool (bytes_eq h.word m.word)) [ inl same ↦ rw (a, b, same) refl | inr other ↦ rw (a, b, other) (rw append-nil refl) ]
+list_more later s h =
+    let a = more (pattern_in h.word) later s ∙ append-nil (patterns_for h.word later) in
+    let b = more (member_in h.word) later s ∙ append-nil (members_for h.word later) in
+    rw (a, b) refl
+
+heads_more : (later : List Line) (s t : Line) → map (list_of (later ++ s ∷ [])) (head_in t) ≡ map (list_with s) (map (list_of later) (head_in t))
+heads_more later s (Said.List h) = ap (λ l. l ∷ []) (list_more later s h)
+heads_more later s t = refl
+
+map_both : {X Y : Type 0} (f : X → Y) (xs ys : List X) → map f (xs ++ ys) ≡ map f xs ++ map f ys
+map_both f [] ys = refl
+map_both f (x ∷ xs) ys = ap (λ l. f x ∷ l) (map_both f xs ys)
+
+lists_more : (said : List Line) (s : Line) → lists_of (said ++ s ∷ []) ≡ map (list_with s) (lists_of said) ++ map (list_of []) (head_in s)
+lists_more [] s = append-nil (map (list_of []) (head_in s))
+lists_more (t ∷ later) s =
+    let a = heads_more later s t in
+    let b = lists_more later s in
+    let c = map_both (list_with s) (map (list_of later) (head_in t)) (lists_of later) in
+    rw (a, b, c) (sym (append_assoc (map (list_with s) (map (list_of later) (head_in t))) (map (list_with s) (lists_of later)) (map (list_of []) (head_in s))))
+
+same_lists : (f : MailList → MailList) (ls : List MailList) → ((l : MailList) → f l ≡ l) → map f ls ≡ ls
+same_lists f [] h = refl
+same_lists f (l ∷ ls) h = (let a = h l in let b = same_lists f ls h in rw (a, b) refl)
+
+routes_more : (earlier said : List Line) (s : Line) → routes_behind earlier (said ++ s ∷ []) ≡ routes_behind earlier said ++ map (route_behind (earlier ++ said)) (route_in s)
+routes_more earlier [] s = append-nil _ ∙ ap (λ e. map (route_behind e) (route_in s)) (sym (append-nil earlier))
+routes_more earlier (t ∷ said) s =
+    let a = routes_more (earlier ++ t ∷ []) said s in
+    let b = append_assoc earlier (t ∷ []) said in
+    rw (a, b) (sym (append_assoc (map (route_behind earlier) (route_in t)) (routes_behind (earlier ++ t ∷ []) said) (map (route_behind (earlier ++ t ∷ said)) (route_in s))))
+
+-- what a line adds to what was said
+abbrev draft_with : List Line → Line → Draft
+draft_with said s = record {
+  domain = first_of (domains_of said ++ domain_in s);
+  own = first_of (names_of said ++ name_in s);
+  peers = peers_of said ++ peer_in s;
+  mailboxes = mailboxes_of said ++ mailbox_in s;
+  lists = map (list_with s) (lists_of said) ++ map (list_of []) (head_in s);
+  routes = routes_of said ++ map (route_behind said) (route_in s);
+  urgent = first_of (holds_in Grades.Urgent said ++ hold_in Grades.Urgent s);
+  normal = first_of (holds_in Grades.Normal said ++ hold_in Grades.Normal s);
+  non_urgent = first_of (holds_in Grades.NonUrgent said ++ hold_in Grades.NonUrgent s);
 }
 
--- ---- one line more
+drafted : (said : List Line) (s : Line) → draft_of (said ++ s ∷ []) ≡ draft_with said s
+drafted said s =
+    let a = more domain_in said s in
+    let b = more name_in said s in
+    let c = more peer_in said s in
+    let d = more mailbox_in said s in
+    let e = lists_more said s in
+    let f = routes_more [] said s in
+    let g = more (hold_in Grades.Urgent) said s in
+    let h = more (hold_in Grades.Normal) said s in
+    let i = more (hold_in Grades.NonUrgent) said s in
+    cc
+
+empty_is : {X : Type 0} (xs : List X) → (0 < length xs → ⊥) → xs ≡ []
+empty_is [] h = refl
+empty_is (x ∷ xs) h = absurd (h (omega arith))
+
+unchanged : (ls : List MailList) → map (λ (l : MailList). l) ls ≡ ls
+unchanged ls = same_lists (λ l. l) ls (λ l. refl)
+
+hold_added : (said : List Line) (g : Grade) (n : ℕ) → (0 < length (holds_in g said) → ⊥) → draft_with said (Said.Hold (record { grade = g; seconds = n })) ≡ holding g n (draft_of said)
+hold_added said Grades.Urgent n h = (let e = empty_is (holds_in Grades.Urgent said) h in let u = unchanged (lists_of said) in rw (e, u) (simp append-nil))
+hold_added said Grades.Normal n h = (let e = empty_is (holds_in Grades.Normal said) h in let u = unchanged (lists_of said) in rw (e, u) (simp append-nil))
+hold_added said Grades.NonUrgent n h = (let e = empty_is (holds_in Grades.NonUrgent said) h in let u = unchanged (lists_of said) in rw (e, u) (simp append-nil))
+
+with_is : (said : List Line) (s : Line) → (IsSaid said s → ⊥) → draft_with said s ≡ added (draft_of said) s
+with_is said Said.Nothing h = (let u = unchanged (lists_of said) in rw u (simp append-nil))
+with_is said (Said.Domain d) h = (let e = empty_is (domains_of said) h in let u = unchanged (lists_of said) in rw (e, u) (simp append-nil))
+with_is said (Said.Name w) h = (let e = empty_is (names_of said) h in let u = unchanged (lists_of said) in rw (e, u) (simp append-nil))
+with_is said (Said.Peer p) h = (let u = unchanged (lists_of said) in rw u (simp append-nil))
+with_is said (Said.Mailbox m) h = (let u = unchanged (lists_of said) in rw u (simp append-nil))
+with_is said (Said.List l) h = (let u = unchanged (lists_of said) in rw u (simp append-nil))
+with_is said (Said.From f) h = simp append-nil
+with_is said (Said.Member m) h = simp append-nil
+with_is said (Said.Route r) h = (let u = unchanged (lists_of said) in rw u (simp append-nil))
+with_is said (Said.Hold k) h = hold_added said k.grade k.seconds h
+
+pub added_is : (said : List Line) (s : Line) → (IsSaid said s → ⊥) → added (draft_of said) s ≡ draft_of (said ++ s ∷ [])
+added_is said s h = sym (drafted said s ∙ with_is said s h)
+
+-- ---- lines that can stand
+
+pub nothing_stands : CanStand []
+nothing_stands = λ before s after e. none before s after e
+  where
+    none : (before : List Line) (s : Line) (after : List Line) → [] ≡ before ++ s ∷ after → MayFollow before s
+    none [] s after e = absurd cc
+    none (t ∷ before) s after e = absurd cc
+
+line_is : (s t : Line) (xs ys : List Line) → s ∷ xs ≡ t ∷ ys → (s ≡ t) × (xs ≡ ys)
+line_is s t xs ys e = ((cc), (cc))
+
+-- of lines and one more, a line is among them or it is the last
+split : (said : List Line) (s : Line) (before : List Line) (t : Line) (after : List Line) → said ++ s ∷ [] ≡ before ++ t ∷ after
+    → ((before ≡ said) × (t ≡ s)) ⊎ ((rest : List Line) × (said ≡ before ++ t ∷ rest))
+split [] s [] t after e = (let p = line_is s t [] after e in inl (refl, sym p.0))
+split [] s (b ∷ before) t after e = (let p = line_is s b [] (before ++ t ∷ after) e in absurd (no_end before p.1))
+  where
+    no_end : (before : List Line) → [] ≡ before ++ t ∷ after → ⊥
+    no_end [] h = cc
+    no_end (c ∷ cs) h = cc
+split (x ∷ said) s [] t after e = (let p = line_is x t (said ++ s ∷ []) after e in inr (said, ap (λ y. y ∷ said) p.0))
+split (x ∷ said) s (b ∷ before) t after e =
+    let p = line_is x b (said ++ s ∷ []) (before ++ t ∷ after) e in
+    elim (split said s before t after p.1) [
+      | inl h ↦ inl (ap (λ y. y ∷ before) (sym p.0) ∙ ap (λ ys. x ∷ ys) h.0, h.1)
+      | inr h ↦ inr (h.0, ap (λ y. y ∷ said) p.0 ∙ ap (λ ys. b ∷ ys) h.1)
+    ]
+
+pub stand_more : (said : List Line) (s : Line) → CanStand said → MayFollow said s → CanStand (said ++ s ∷ [])
+stand_more said s h m = λ before t after e. elim (split said s before t after e) [
+  | inl last ↦ subst (MayFollow before) (sym last.1) (subst (λ b. MayFollow b s) (sym last.0) m)
+  | inr among ↦ h before t among.0 among.1
+]
+
+pub stand_last : (said : List Line) (s : Line) → CanStand (said ++ s ∷ []) → MayFollow said s
+stand_last said s h = h said s [] refl
+
+pub stand_front : (said more : List Line) → CanStand (said ++ more) → CanStand said
+stand_front said more h = λ before s after e. h before s (after ++ more) (ap (λ x. x ++ more) e ∙ append_assoc before (s ∷ after) more)
+
+-- ---- adding a line
 
 abbrev pub Added : List Line → Line → Result Draft LineKind → Type 0
-Added said s (Ok e) = Holds (said ++ s ∷ []) e × CanStand (said ++ s ∷ [])
-Added said s (Err Kinds.Twice) = IsSaid said s
-Added said s (Err Kinds.TooMany) = IsOneTooMany said s
+Added said s (Ok e) = (e ≡ draft_of (said ++ s ∷ [])) × MayFollow said s
+Added said s (Err Kinds.Unknown) = IsUnknown said s
+Added said s (Err Kinds.Twice) = (IsUnknown said s → ⊥) × IsSaid said s
+Added said s (Err Kinds.TooMany) = (IsUnknown said s → ⊥) × ((IsSaid said s → ⊥) × IsMany said s)
 Added said s (Err kind) = ⊥
 
-nothing_added : (said : List Line) (d : Draft) → Holds said d → CanStand said → Added said Said.Nothing (Ok d)
-nothing_added said d h st =
-    let domains = more domain_in said Said.Nothing ∙ append-nil (domains_of said) in
-    let names = more name_in said Said.Nothing ∙ append-nil (names_of said) in
-    let mailboxes = more mailbox_in said Said.Nothing ∙ append-nil (mailboxes_of said) in
-    (record { domain = domains ∙ h.domain; own = names ∙ h.own; mailboxes = mailboxes ∙ h.mailboxes }, same_stand _ said domains names mailboxes st)
+fails : (b : Bool) (P : Type 0) → Decides b P → b ≡ false → P → ⊥
+fails b P d e p = both_ways b e (d.1 p)
 
-pub domain_added : (said : List Line) (d : Draft) (x : DomainValue) (o : Option DomainValue) → d.domain ≡ o → Holds said d → CanStand said → Added said (Said.Domain x) (cond (is_some o) (Err Kinds.Twice) (Ok (draft (Some x) d.own d.mailboxes)))
-domain_added said d x (Some y) w h st = (let e : length (domains_of said) ≡ 1 = ap length (h.domain ∙ ap option_to_list w) in omega arith)
-domain_added said d x None w h st =
-    let s = Said.Domain x in
-    let domains : domains_of (said ++ s ∷ []) ≡ x ∷ [] = more domain_in said s ∙ ap (λ l. l ++ x ∷ []) (h.domain ∙ ap option_to_list w) in
-    let names = more name_in said s ∙ append-nil (names_of said) in
-    let mailboxes = more mailbox_in said s ∙ append-nil (mailboxes_of said) in
-    let one : length (domains_of (said ++ s ∷ [])) ≡ 1 = ap length domains in (
-      record { domain = domains; own = names ∙ h.own; mailboxes = mailboxes ∙ h.mailboxes },
-      record {
-        domain = omega arith;
-        own = subst (λ l. length l ≤ 1) (sym names) st.own;
-        apart = subst (AllPairs AreApart) (sym mailboxes) st.apart;
-        most = subst (λ l. length l ≤ 4096) (sym mailboxes) st.most;
-      },
-    )
-
-pub name_added : (said : List Line) (d : Draft) (w : List ℕ) (o : Option (List ℕ)) → d.own ≡ o → Holds said d → CanStand said → Added said (Said.Name w) (cond (is_some o) (Err Kinds.Twice) (Ok (draft d.domain (Some w) d.mailboxes)))
-name_added said d w (Some y) v h st = (let e : length (names_of said) ≡ 1 = ap length (h.own ∙ ap option_to_list v) in omega arith)
-name_added said d w None v h st =
-    let s = Said.Name w in
-    let domains = more domain_in said s ∙ append-nil (domains_of said) in
-    let names : names_of (said ++ s ∷ []) ≡ w ∷ [] = more name_in said s ∙ ap (λ l. l ++ w ∷ []) (h.own ∙ ap option_to_list v) in
-    let mailboxes = more mailbox_in said s ∙ append-nil (mailboxes_of said) in
-    let one : length (names_of (said ++ s ∷ [])) ≡ 1 = ap length names in (
-      record { domain = domains ∙ h.domain; own = names; mailboxes = mailboxes ∙ h.mailboxes },
-      record {
-        domain = subst (λ l. length l ≤ 1) (sym domains) st.domain;
-        own = omega arith;
-        apart = subst (AllPairs AreApart) (sym mailboxes) st.apart;
-        most = subst (λ l. length l ≤ 4096) (sym mailboxes) st.most;
-      },
-    )
-
-apart_more : (m : Mailbox) (ms : List Mailbox) → AllPairs AreApart ms → list_any (clashes m) ms ≡ false → AllPairs AreApart (ms ++ m ∷ [])
-apart_more m ms h none = all_pairs_push AreApart ms m h (λ k d l c. both_ways (list_any (clashes m) ms) none (list_any_at (clashes m) ms k d l (is_clash m (get_or ms k d) c)))
-
-mailbox_fits : (said : List Line) (d : Draft) (m : Mailbox) → Holds said d → CanStand said → list_any (clashes m) d.mailboxes ≡ false → length d.mailboxes < 4096 → Added said (Said.Mailbox m) (Ok (draft d.domain d.own (d.mailboxes ++ m ∷ [])))
-mailbox_fits said d m h st none room =
-    let s = Said.Mailbox m in
-    let domains = more domain_in said s ∙ append-nil (domains_of said) in
-    let names = more name_in said s ∙ append-nil (names_of said) in
-    let mailboxes : mailboxes_of (said ++ s ∷ []) ≡ d.mailboxes ++ m ∷ [] = more mailbox_in said s ∙ ap (λ l. l ++ m ∷ []) h.mailboxes in
-    let longer : length (mailboxes_of (said ++ s ∷ [])) ≡ length d.mailboxes + 1 = ap length mailboxes ∙ length-append d.mailboxes (m ∷ []) in (
-      record { domain = domains ∙ h.domain; own = names ∙ h.own; mailboxes = mailboxes },
-      record {
-        domain = subst (λ l. length l ≤ 1) (sym domains) st.domain;
-        own = subst (λ l. length l ≤ 1) (sym names) st.own;
-        apart = subst (AllPairs AreApart) (sym mailboxes) (apart_more m d.mailboxes (subst (AllPairs AreApart) h.mailboxes st.apart) none);
-        most = omega arith;
-      },
-    )
-
-mailbox_added : (said : List Line) (d : Draft) (m : Mailbox) → Holds said d → CanStand said → Added said (Said.Mailbox m) (add_mailbox d m)
-mailbox_added said d m h st =
-    elim (cases_Bool (list_any (clashes m) d.mailboxes)) [
-      | inl clash ↦ rw clash (subst (Any (Clash m)) (sym h.mailboxes) (any_clash m d.mailboxes clash))
-      | inr none ↦ elim (cases_Bool (leb 4096 (length d.mailboxes))) [
-        | inl full ↦ rw (none, full) (
-          (λ a. both_ways (list_any (clashes m) d.mailboxes) none (clash_any m d.mailboxes (subst (Any (Clash m)) h.mailboxes a))),
-          subst (λ l. 4096 ≤ length l) (sym h.mailboxes) (leb-true 4096 (length d.mailboxes) full),
-        )
-        | inr room ↦ rw (none, room) (mailbox_fits said d m h st none (leb-false 4096 (length d.mailboxes) room))
+pub added_so : (said : List Line) (s : Line) → Added said s (add (draft_of said) s)
+added_so said s =
+    elim (cases_Bool (is_unknown (draft_of said) s)) [
+      | inl a ↦ rw a ((unknown_decides said s).0 a)
+      | inr a ↦ elim (cases_Bool (is_said (draft_of said) s)) [
+        | inl b ↦ rw (a, b) (fails _ _ (unknown_decides said s) a, (said_decides said s).0 b)
+        | inr b ↦ elim (cases_Bool (is_many (draft_of said) s)) [
+          | inl c ↦ rw (a, b, c) (fails _ _ (unknown_decides said s) a, (fails _ _ (said_decides said s) b, (many_decides said s).0 c))
+          | inr c ↦ rw (a, b, c) (
+            added_is said s (fails _ _ (said_decides said s) b),
+            record { known = fails _ _ (unknown_decides said s) a; first = fails _ _ (said_decides said s) b; room = fails _ _ (many_decides said s) c },
+          )
+        ]
       ]
     ]
 
-pub added : (said : List Line) (d : Draft) (s : Line) → Holds said d → CanStand said → Added said s (add d s)
-added said d Said.Nothing h st = nothing_added said d h st
-added said d (Said.Domain x) h st = domain_added said d x d.domain refl h st
-added said d (Said.Name w) h st = name_added said d w d.own refl h st
-added said d (Said.Mailbox m) h st = mailbox_added said d m h st
+-- ---- and back
 
--- ---- what cannot be added cannot stand
+is_false : (b : Bool) (P : Type 0) → Decides b P → (P → ⊥) → b ≡ false
+is_false true P d h = absurd (h (d.0 refl))
+is_false false P d h = refl
 
-front_pairs : (ms ns : List Mailbox) → AllPairs AreApart (ms ++ ns) → AllPairs AreApart ms
-front_pairs ms ns h = λ i j d l k.
-    (let k' : j < length (ms ++ ns) = omega (arith, length-append ms ns) in
-    let a = h i j d l k' in
-    rw (get_or_append_left ms ns d i (omega arith), get_or_append_left ms ns d j k) at a)
+pub follows_is : (said : List Line) (s : Line) → MayFollow said s → add (draft_of said) s ≡ Ok (draft_of (said ++ s ∷ []))
+follows_is said s h =
+    let a = is_false _ _ (unknown_decides said s) h.known in
+    let b = is_false _ _ (said_decides said s) h.first in
+    let c = is_false _ _ (many_decides said s) h.room in
+    let d = added_is said s h.first in
+    rw (a, b, c, d) refl
 
-pub stand_front : (said more : List Line) → CanStand (said ++ more) → CanStand said
-stand_front said more h =
-    let a : length (domains_of (said ++ more)) ≡ length (domains_of said) + length (domains_of more) = ap length (flat_map-append domain_in said more) ∙ length-append (domains_of said) (domains_of more) in
-    let b : length (names_of (said ++ more)) ≡ length (names_of said) + length (names_of more) = ap length (flat_map-append name_in said more) ∙ length-append (names_of said) (names_of more) in
-    let c : length (mailboxes_of (said ++ more)) ≡ length (mailboxes_of said) + length (mailboxes_of more) = ap length (flat_map-append mailbox_in said more) ∙ length-append (mailboxes_of said) (mailboxes_of more) in
-    record {
-      domain = omega arith;
-      own = omega arith;
-      apart = front_pairs (mailboxes_of said) (mailboxes_of more) (subst (AllPairs AreApart) (flat_map-append mailbox_in said more) h.apart);
-      most = omega arith;
-    }
+pub unknown_is : (said : List Line) (s : Line) → IsUnknown said s → add (draft_of said) s ≡ Err Kinds.Unknown
+unknown_is said s h = (let a = (unknown_decides said s).1 h in rw a refl)
 
-one_more : {A : Type 0} (f : Line → List A) (said : List Line) (s : Line) → length (flat_map f (said ++ s ∷ [])) ≡ length (flat_map f said) + length (f s)
-one_more f said s = ap length (more f said s) ∙ length-append (flat_map f said) (f s)
+pub twice_is : (said : List Line) (s : Line) → (IsUnknown said s → ⊥) → IsSaid said s → add (draft_of said) s ≡ Err Kinds.Twice
+twice_is said s k h =
+    let a = is_false _ _ (unknown_decides said s) k in
+    let b = (said_decides said s).1 h in
+    rw (a, b) refl
 
-clashing : (m : Mailbox) (ms : List Mailbox) → AllPairs AreApart (ms ++ m ∷ []) → Any (Clash m) ms → ⊥
-clashing m ms h a =
-    let l : length ms < length (ms ++ m ∷ []) = omega (arith, length-append ms (m ∷ [])) in
-    let b = h a.0 (length ms) a.1 a.2 l in
-    let earlier : get_or (ms ++ m ∷ []) a.0 a.1 ≡ a.1 = get_or_append_left ms (m ∷ []) a.1 a.0 a.2 ∙ a.3 in
-    let later : get_or (ms ++ m ∷ []) (length ms) a.1 ≡ m = get_or_at ms m [] a.1 (length ms) refl in
-    b (subst (λ x. Clash x (get_or (ms ++ m ∷ []) a.0 a.1)) (sym later) (subst (Clash m) (sym earlier) a.4))
-
-pub said_stands_not : (said : List Line) (s : Line) → CanStand (said ++ s ∷ []) → IsSaid said s → ⊥
-said_stands_not said Said.Nothing h i = i
-said_stands_not said (Said.Domain x) h i = (let e = one_more domain_in said (Said.Domain x) in let l = h.domain in omega arith)
-said_stands_not said (Said.Name w) h i = (let e = one_more name_in said (Said.Name w) in let l = h.own in omega arith)
-said_stands_not said (Said.Mailbox m) h i = clashing m (mailboxes_of said) (subst (AllPairs AreApart) (more mailbox_in said (Said.Mailbox m)) h.apart) i
-
-pub many_stands_not : (said : List Line) (s : Line) → CanStand (said ++ s ∷ []) → IsOneTooMany said s → ⊥
-many_stands_not said (Said.Mailbox m) h i = (let e = one_more mailbox_in said (Said.Mailbox m) in let l = h.most in let k = i.1 in omega arith)
-many_stands_not said s h i = absurd i
-
-said_once : (said : List Line) (s : Line) → IsSaid said s → IsOneTooMany said s → ⊥
-said_once said (Said.Mailbox m) i j = j.0 i
-said_once said s i j = absurd j
-
-pub record Stands (said : List Line) (d : Draft) (s : Line) : Type 0 where
-  pub after : Draft
-  pub added_is : add d s ≡ Ok after
-  pub holds : Holds (said ++ s ∷ []) after
-
-stands_of : (said : List Line) (d : Draft) (s : Line) (r : Result Draft LineKind) → add d s ≡ r → Added said s r → CanStand (said ++ s ∷ []) → Stands said d s
-stands_of said d s (Ok e) w a st = record { after = e; added_is = w; holds = a.0 }
-stands_of said d s (Err Kinds.Twice) w a st = absurd (said_stands_not said s st a)
-stands_of said d s (Err Kinds.TooMany) w a st = absurd (many_stands_not said s st a)
-stands_of said d s (Err kind) w a st = absurd a
-
-pub stands : (said : List Line) (d : Draft) (s : Line) → Holds said d → CanStand (said ++ s ∷ []) → Stands said d s
-stands said d s h st = stands_of said d s (add d s) refl (added said d s h (stand_front said (s ∷ []) st)) st
-
-twice_of : (said : List Line) (d : Draft) (s : Line) (r : Result Draft LineKind) → add d s ≡ r → Added said s r → IsSaid said s → add d s ≡ Err Kinds.Twice
-twice_of said d s (Ok e) w a i = absurd (said_stands_not said s a.1 i)
-twice_of said d s (Err Kinds.Twice) w a i = w
-twice_of said d s (Err Kinds.TooMany) w a i = absurd (said_once said s i a)
-twice_of said d s (Err kind) w a i = absurd a
-
-pub twice : (said : List Line) (d : Draft) (s : Line) → Holds said d → CanStand said → IsSaid said s → add d s ≡ Err Kinds.Twice
-twice said d s h st i = twice_of said d s (add d s) refl (added said d s h st) i
-
-many_of : (said : List Line) (d : Draft) (s : Line) (r : Result Draft LineKind) → add d s ≡ r → Added said s r → IsOneTooMany said s → add d s ≡ Err Kinds.TooMany
-many_of said d s (Ok e) w a i = absurd (many_stands_not said s a.1 i)
-many_of said d s (Err Kinds.Twice) w a i = absurd (said_once said s a i)
-many_of said d s (Err Kinds.TooMany) w a i = w
-many_of said d s (Err kind) w a i = absurd a
-
-pub too_many : (said : List Line) (d : Draft) (s : Line) → Holds said d → CanStand said → IsOneTooMany said s → add d s ≡ Err Kinds.TooMany
-too_many said d s h st i = many_of said d s (add d s) refl (added said d s h st) i
+pub many_is : (said : List Line) (s : Line) → (IsUnknown said s → ⊥) → (IsSaid said s → ⊥) → IsMany said s → add (draft_of said) s ≡ Err Kinds.TooMany
+many_is said s k f h =
+    let a = is_false _ _ (unknown_decides said s) k in
+    let b = is_false _ _ (said_decides said s) f in
+    let c = (many_decides said s).1 h in
+    rw (a, b, c) refl

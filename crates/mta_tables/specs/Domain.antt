@@ -1,27 +1,30 @@
--- The agent's own domain.
-use Rattle.std.specs.Prelude.{ℕ, List, Option, Some, None, IsTrue}
-use Rattle.mta_first_names.specs.declared.attribute.Attribute.TheVariants.{Country, Admd}
-use Rattle.mta_first_names.specs.declared.name.Attributes.{Attributes}
-use Rattle.mta_first_names.specs.Attribute.{is_value}
+-- The agent's own domain: a country, an administration domain and a private domain that may be absent (X.402, 14.1).
+use Rattle.std.specs.Prelude.{Bool, true, false, List, [], ◌∷◌, Option, Some, None, is_none, ◌&&◌, if◌then◌else◌}
+use Rattle.mta_fields.specs.declared.domain.DomainFields.{DomainFields}
+use Rattle.mta_names.specs.declared.attributes.Attributes.{Attributes}
+use Rattle.mta_names.specs.declared.attributes.Label.{Label}
+use Rattle.mta_names.specs.Values.{nothing}
 
-pub record DomainValue : Type 0 where
-  pub country : List ℕ
-  pub admd : List ℕ
+-- the name that has the labels of a domain and nothing else
+abbrev pub name_of_domain : DomainFields → Attributes
+name_of_domain d = record nothing { country = Some d.country; admd = Some d.admd; prmd = d.prmd }
 
-pub record IsDomain (d : DomainValue) : Type 0 where
-  pub country : IsTrue (is_value Country d.country)
-  pub admd : IsTrue (is_value Admd d.admd)
+abbrev pub has_none : {X : Type 0} → List X → Bool
+has_none [] = true
+has_none (x ∷ xs) = false
 
--- the name of a domain
-abbrev pub name_of_domain : DomainValue → Attributes
-name_of_domain d = record { country = Some d.country; admd = Some d.admd; surname = None }
+-- it has at most a country, an administration domain and a private domain
+abbrev pub is_bare : Attributes → Bool
+is_bare n =
+    is_none n.network && is_none n.terminal && is_none n.organization && is_none n.user && is_none n.person
+    && has_none n.units && has_none n.pairs && is_none n.common && has_none n.extras
+    && is_none n.directory
 
-abbrev pub domain_from : Option (List ℕ) → Option (List ℕ) → Option (List ℕ) → Option DomainValue
-domain_from (Some c) (Some a) None = Some (record { country = c; admd = a })
-domain_from (Some c) (Some a) (Some s) = None
-domain_from (Some c) None s = None
-domain_from None a s = None
+abbrev pub domain_from : Option Label → Option Label → Option Label → Option DomainFields
+domain_from (Some c) (Some a) p = Some (record { country = c; admd = a; prmd = p })
+domain_from (Some c) None p = None
+domain_from None a p = None
 
--- the domain of a name that has a country and an administration domain alone
-abbrev pub domain_of : Attributes → Option DomainValue
-domain_of n = domain_from n.country n.admd n.surname
+-- the domain of a name that has the labels of one and nothing else
+abbrev pub domain_of : Attributes → Option DomainFields
+domain_of n = if is_bare n then domain_from n.country n.admd n.prmd else None

@@ -1,8 +1,15 @@
 pub mod Domain
-pub mod Mailbox
+pub mod Words
+pub mod Numbers
 pub mod Lines
+pub mod Seen
+pub mod Sameness
 pub mod Reading
+pub mod Drafts
 pub mod Tables
 pub mod Grammar
 pub mod Answers
 pub mod Hops
+pub mod Laws
+pub mod Whole
+pub mod Surnames

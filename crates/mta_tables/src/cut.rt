@@ -1,10 +1,9 @@
-//! Cutting a text at a separator, and the octets of words.
+//! Cutting a text at a separator.
 
 ghost use Rattle.std.specs.Prelude.{◌≡◌, ◌+◌, ◌<◌, ◌≤◌, length, IfSome};
 ghost use Rattle.std.specs.Option.{option_copied};
-ghost use Rattle.std.specs.List.{list_all};
 ghost use Rattle.std.specs.Str.{bytes_eq};
-ghost use Rattle.mta_tables.specs.Lines.{cut_at, is_word_octet, is_word};
+ghost use Rattle.mta_tables.specs.Words.{cut_at, cut_last};
 
 /// The text before the first separator, and the text behind it; the whole text where there is none.
 pub fn cut_at(separator: u8, text: &[u8]) -> (&[u8], Option<&[u8]>)
@@ -21,24 +20,26 @@ pub fn cut_at(separator: u8, text: &[u8]) -> (&[u8], Option<&[u8]>)
     (text, None)
 }
 
+/// The text before the last separator, where there is one, and the text behind it.
+pub fn cut_last(separator: u8, text: &[u8]) -> (Option<&[u8]>, &[u8])
+    ensures front { option_copied result.0 ≡ (cut_last separator text.now).0 }
+    ensures behind { result.1.now ≡ (cut_last separator text.now).1 }
+    ensures within { length result.1.now ≤ length text.now }
+    ensures shorter { IfSome result.0 (λ x. length x.now < length text.now) }
+{
+    let mut i = text.len();
+    while i > 0 {
+        i -= 1;
+        if text[i] == separator {
+            return (Some(&text[..i]), &text[i + 1..]);
+        }
+    }
+    (None, text)
+}
+
 /// Whether the texts have the same octets.
 pub fn is_text(first: &[u8], second: &[u8]) -> bool
     ensures { result ≡ bytes_eq first.now second.now }
 {
     first == second
-}
-
-fn are_word_octets(text: &[u8]) -> bool
-    ensures { result ≡ list_all is_word_octet text.now }
-{
-    text.iter().all(|c| {
-        matches!(*c, 65..=90) || matches!(*c, 97..=122) || matches!(*c, 48..=57) || *c == b'-'
-    })
-}
-
-/// Whether the text is a word: 1 to 32 letters, digits or `-`.
-pub fn is_word(text: &[u8]) -> bool
-    ensures { result ≡ is_word text.now }
-{
-    are_word_octets(text) && 1 <= text.len() && text.len() <= 32
 }

@@ -1,72 +1,46 @@
-//! The agent's own domain.
+//! The agent's own domain, from a name.
 
 ghost use Rattle.std.specs.Prelude.{◌≡◌};
+ghost use Rattle.mta_tables.specs.Domain.{is_bare, domain_of};
 
-use mta_ber::{Memory, Text};
-use mta_first_names::Attributes;
-use std::alloc::Global;
-use std::marker::Model;
+use mta_fields::{Domain, DomainFields};
+use mta_names::{Attributes, OrName};
 
-/// A management domain of a country and an administration domain (X.402, 14.1).
-#[derive(Debug, Drop)]
-pub struct Domain {
-    country: Text,
-    admd: Text,
+/// Whether a name has at most a country, an administration domain and a private domain.
+fn is_bare(n: &Attributes) -> bool
+    ensures { result ≡ is_bare n.now }
+{
+    n.network.is_none()
+        && n.terminal.is_none()
+        && n.organization.is_none()
+        && n.user.is_none()
+        && n.person.is_none()
+        && n.units.as_slice().is_empty()
+        && n.pairs.as_slice().is_empty()
+        && n.common.is_none()
+        && n.extras.as_slice().is_empty()
+        && n.directory.is_none()
 }
 
-impl Model for Domain {
-    ghost use Rattle.mta_tables.specs.Domain.{DomainValue, IsDomain};
-
-    ghost Value = { DomainValue };
-
-    ghost view = { λ d. record { country = d.country; admd = d.admd } };
-
-    ghost invariant = { λ d. IsDomain (record { country = d.country; admd = d.admd }) };
-}
-
-impl Domain {
-    ghost use Rattle.std.specs.Prelude.{◌≡◌, IfOk};
-    ghost use Rattle.mta_first_names.specs.Name.{IsName};
-    ghost use Rattle.mta_tables.specs.Domain.{IsDomain, domain_of};
-
-    /// The domain of a name that has a country and an administration domain alone.
-    pub(crate) fn of(attributes: Attributes) -> Option<Domain>
-        requires { IsName attributes }
-        ensures { result ≡ domain_of attributes }
-    {
-        let Attributes {
+/// The domain of a name that has a country, an administration domain, perhaps a private domain, and nothing else.
+pub fn domain_of(name: OrName) -> Option<Domain>
+    ensures { result ≡ domain_of name }
+{
+    if !is_bare(name.attributes()) {
+        return None;
+    }
+    let Attributes {
+        country,
+        admd,
+        prmd,
+        ..
+    } = name.into_attributes();
+    match (country, admd) {
+        (Some(country), Some(admd)) => Some(Domain::from_fields(DomainFields {
             country,
             admd,
-            surname,
-        } = attributes;
-        match (country, admd, surname) {
-            (Some(country), Some(admd), None) => Some(Domain { country, admd }),
-            _ => None,
-        }
-    }
-
-    /// Two letters, or three digits.
-    pub fn country(&self) -> &[u8]
-        ensures exact { result.now ≡ self.now.country }
-        ensures fits { IsDomain self.now }
-    {
-        self.country.as_slice()
-    }
-
-    /// At most 16 characters of PrintableString.
-    pub fn admd(&self) -> &[u8]
-        ensures exact { result.now ≡ self.now.admd }
-        ensures fits { IsDomain self.now }
-    {
-        self.admd.as_slice()
-    }
-
-    /// An equal value.
-    pub fn copy(&self, alloc: Global) -> Result<Domain, Memory>
-        ensures { IfOk result (λ d. d ≡ self.now) }
-    {
-        let country = self.country.copy(alloc)?;
-        let admd = self.admd.copy(alloc)?;
-        Ok(Domain { country, admd })
+            prmd,
+        })),
+        _ => None,
     }
 }

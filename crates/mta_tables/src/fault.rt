@@ -10,15 +10,16 @@ pub enum LineKind {
     TooLong,
     /// The first word, the count or the form of the words, or a last line without a line feed.
     Word,
-    /// A number is out of its form or range. No line has a number so far.
+    /// A number is out of its form or range.
     Number,
-    /// A name, or the text of the domain.
+    /// A name, a pattern, or the text of the domain.
     Name,
-    /// A word that no earlier line has made known. No line needs one so far.
+    /// A peer or a list that no earlier line has made known.
     Unknown,
-    /// What stands in an earlier line: the domain, the agent's name, a mailbox's word or a mailbox's name.
+    /// What stands in an earlier line: the domain, the agent's name, a peer's, mailbox's or list's word, a mailbox's
+    /// or list's name, an equal pattern of a route, or the hold time of a grade.
     Twice,
-    /// More than 4,096 mailboxes.
+    /// More than 64 peers, 4,096 mailboxes, 256 lists, 100 patterns or 1,000 members of a list, or 4,096 routes.
     TooMany,
     /// No line has the domain, or none has the agent's name. The line is the one behind the last.
     Missing,

@@ -1,10 +1,15 @@
-//! Laws of the grammar, each the contract of a function that does nothing.
+//! Laws of the grammar and of the hops, each the contract of a function that does nothing.
 
 ghost use Rattle.std.specs.Prelude.{◌≡◌, ◌↔◌, ◌++◌, ◌∷◌, ◌+◌, ◌≤◌, List, ℕ, Ok, All, length};
+ghost use Rattle.mta_names.specs.declared.attributes.Attributes.{Attributes};
 ghost use Rattle.mta_tables.specs.declared.fault.LineKind.{LineKind};
+ghost use Rattle.mta_tables.specs.declared.hop.Hop.{Hop};
 ghost use Rattle.mta_tables.specs.Grammar.{Row, IsRow, text_of, said_by, IsOneLine, CanStand, IsWrong, IsTablesText, IsFirstBadLine};
+ghost use Rattle.mta_tables.specs.Hops.{best_hop};
+ghost use Rattle.mta_tables.specs.Laws.{IsBestHop};
 ghost use Rattle.mta_tables.specs.Reading.{bad};
 ghost use Rattle.mta_tables.specs.Tables.{TablesValue, tables_of};
+ghost use Rattle.mta_tables.specs.Whole.{AreTables};
 
 /// Those tables are read that the text has.
 pub fn tables_of_a_text_are_read()
@@ -30,4 +35,18 @@ pub fn a_text_goes_on_behind_lines_that_can_stand()
     ensures { (before : List Row) → All IsRow before → CanStand (said_by before)
         → length (text_of before) + 22 ≤ 1048576
         → (rest : List ℕ) × ((t : TablesValue) × IsTablesText (text_of before ++ rest) t) }
+{}
+
+/// Tables that are read are whole: in their limits, no two mailboxes or lists of one name, no two equal patterns, and
+/// the peers of routes are there.
+pub fn tables_of_a_text_are_whole()
+    ensures { (text : List ℕ) (t : TablesValue) → tables_of text ≡ Ok t → AreTables t }
+{}
+
+/// A name has one best hop in whole tables: the mailbox whose name is the same, else the list whose name is the same,
+/// else where the route goes that matches and than which no route that matches has more parts, else nowhere.
+pub fn the_best_hop_is_one()
+    ensures found { (t : TablesValue) (n : Attributes) → IsBestHop t n (best_hop t n) }
+    ensures one { (t : TablesValue) (n : Attributes) (hop : Hop) → AreTables t → IsBestHop t n hop
+        → hop ≡ best_hop t n }
 {}

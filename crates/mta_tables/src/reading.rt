@@ -1,14 +1,18 @@
 //! Reading the lines of a text.
 
 ghost use Rattle.std.specs.Prelude.{◌≡◌, ◌+◌, ◌≤◌, [], length};
-ghost use Rattle.mta_tables.specs.Reading.{nothing, read_lines, ended, unended, Reads};
+ghost use Rattle.mta_tables.specs.Reading.{nothing, holds_of, or_usual, read_lines, ended, unended, Reads};
 
 use crate::cut::cut_at;
-use crate::domain::Domain;
-use crate::draft::{Draft, nothing, take_line};
+use crate::draft::Draft;
+use crate::entry::Holds;
 use crate::fault::{LineKind, TablesFault};
-use crate::mailbox::Mailboxes;
-use mta_ber::{Memory, Word};
+use crate::lists::Lists;
+use crate::mailboxes::Mailboxes;
+use crate::peers::Peers;
+use crate::routes::Routes;
+use mta_ber::Word;
+use mta_fields::Domain;
 use std::alloc::Global;
 
 /// What the lines of a text say.
@@ -16,24 +20,30 @@ use std::alloc::Global;
 pub struct Lines {
     pub domain: Domain,
     pub own: Word,
+    pub peers: Peers,
     pub mailboxes: Mailboxes,
+    pub lists: Lists,
+    pub routes: Routes,
+    pub holds: Holds,
 }
 
-impl Lines {
-    ghost use Rattle.std.specs.Prelude.{IfOk};
+fn or_usual(usual: u64, held: Option<u64>) -> u64
+    ensures { result ≡ or_usual usual held }
+{
+    match held {
+        None => usual,
+        Some(seconds) => seconds,
+    }
+}
 
-    /// An equal value.
-    pub fn copy(&self, alloc: Global) -> Result<Lines, Memory>
-        ensures { IfOk result (λ l. l ≡ self.now) }
-    {
-        let domain = self.domain.copy(alloc)?;
-        let own = self.own.copy(alloc)?;
-        let mailboxes = self.mailboxes.copy(alloc)?;
-        Ok(Lines {
-            domain,
-            own,
-            mailboxes,
-        })
+/// The hold times: four hours, a day and four days where no line says otherwise.
+fn holds_of(urgent: Option<u64>, normal: Option<u64>, non_urgent: Option<u64>) -> Holds
+    ensures { result ≡ holds_of urgent normal non_urgent }
+{
+    Holds {
+        urgent: or_usual(14_400, urgent),
+        normal: or_usual(86_400, normal),
+        non_urgent: or_usual(345_600, non_urgent),
     }
 }
 
@@ -41,16 +51,25 @@ impl Lines {
 fn ended(number: u32, draft: Draft) -> Result<Lines, TablesFault>
     ensures { Reads result (ended number draft) }
 {
+    let holds = holds_of(draft.urgent, draft.normal, draft.non_urgent);
     let Draft {
         domain,
         own,
+        peers,
         mailboxes,
+        lists,
+        routes,
+        ..
     } = draft;
     match (domain, own) {
         (Some(domain), Some(own)) => Ok(Lines {
             domain,
             own,
+            peers,
             mailboxes,
+            lists,
+            routes,
+            holds,
         }),
         _ => Err(TablesFault::BadLine {
             line: number,
@@ -77,17 +96,16 @@ pub fn read_lines(alloc: Global, text: &[u8]) -> Result<Lines, TablesFault>
     requires { length text.now ≤ 1048576 }
     ensures { Reads result (read_lines 1 nothing [] text.now) }
 {
-    let mut draft = nothing(alloc);
+    let mut draft = Draft::new(alloc);
     let mut number = 1;
     let mut rest = text;
     loop {
         let (line, behind) = cut_at(b'\n', rest);
         match behind {
             None => return last(number, draft, line),
-            Some(behind) => match take_line(alloc, draft, number, line) {
+            Some(behind) => match draft.take_line(alloc, number, line) {
                 Err(fault) => return Err(fault),
-                Ok(next) => {
-                    draft = next;
+                Ok(()) => {
                     number += 1;
                     rest = behind;
                 }

@@ -1,23 +1,21 @@
-//! An agent's tables: read from a text, and asked where the messages for a name go.
-//!
-//! In comes the text of `mta.tables`, or one that was recorded in the spool; out go the tables, exactly
-//! where the grammar has the text (`specs/Grammar.antt`), or its first bad line with its kind. Look-ups
-//! take no memory. The text is kept, since the spool records it.
+//! Tables.
 
 ghost use Rattle.std.specs.Prelude.{◌≡◌};
 ghost use Rattle.mta_tables.specs.Reading.{Reads};
 ghost use Rattle.mta_tables.specs.Tables.{tables_of};
 
-use crate::domain::Domain;
+use crate::entry::{Holds, MailList, Mailbox, Peer, Route};
 use crate::fault::{LineKind, TablesFault};
-use crate::mailbox::{Hop, Mailbox, Mailboxes};
+use crate::hop::Hop;
 use crate::reading::{Lines, read_lines};
 use mta_ber::{Memory, Octets, Word};
-use mta_first_names::{NameRef, OrName};
+use mta_fields::Domain;
+use mta_names::OrName;
 use std::alloc::Global;
 use std::marker::Model;
 
-/// An agent's own domain and name, and its mailboxes, with the text that says so.
+/// What an agent knows of its surroundings, with the text that says so: its own domain and name, its peers, mailboxes
+/// and lists, the routes, and how long messages are held.
 #[derive(Debug, Drop)]
 pub struct Tables {
     text: Octets,
@@ -53,22 +51,36 @@ fn read_tables(alloc: Global, text: &[u8]) -> Result<Tables, TablesFault>
 
 impl Tables {
     ghost use Rattle.std.specs.Prelude.{◌≡◌, ℕ, Option, Ok, Err, IfOk};
-    ghost use Rattle.mta_first_names.specs.Seen.{lent};
     ghost use Rattle.mta_tables.specs.declared.fault.LineKind.{LineKind};
     ghost use Rattle.mta_tables.specs.declared.fault.TablesFault.TheVariants as Faults;
+    ghost use Rattle.mta_tables.specs.declared.hop.Hop.{Hop};
     ghost use Rattle.mta_tables.specs.Answers.{IsReadAs, IsRefusedAs};
-    ghost use Rattle.mta_tables.specs.declared.mailbox.Hop.{Hop};
     ghost use Rattle.mta_tables.specs.Grammar.{IsTablesText, IsFirstBadLine};
-    ghost use Rattle.mta_tables.specs.Hops.{IsPlaceOfWord, IsBestHop};
-    ghost use Rattle.mta_tables.specs.Reading.{Reads};
-    ghost use Rattle.mta_tables.specs.Tables.{TablesValue, tables_of, mailbox_of, best_hop};
+    ghost use Rattle.mta_tables.specs.Hops.{best_hop, local_of, IsPeerAt, IsMailboxOf};
+    ghost use Rattle.mta_tables.specs.Laws.{IsBestHop};
+    ghost use Rattle.mta_tables.specs.Surnames.{name_of_surname};
+    ghost use Rattle.mta_tables.specs.Tables.{TablesValue, tables_of, peer_of, mailbox_of};
+    ghost use Rattle.mta_tables.specs.Whole.{AreTables};
 
     /// The most octets of a text.
     pub const LONGEST: usize = 1_048_576;
 
-    /// The tables of a text: lines that each end with a line feed. A line is empty, begins with `#`, or is `domain`
-    /// with `C=COUNTRY;A=ADMD`, `name` with a word, or `mailbox` with a word and the text form of a name, each behind
-    /// one space.
+    /// The tables of a text: lines that each end with a line feed. A line is empty, begins with `#`, or is one of
+    ///
+    /// - `domain C=COUNTRY;A=ADMD` or `domain C=COUNTRY;A=ADMD;P=PRMD`, once: the agent's own domain
+    /// - `name WORD`, once: its own name
+    /// - `peer WORD OUT IN MODE SIZE WINDOW`: a peer, the passwords sent and expected, `monologue` or `twa`, a
+    ///   checkpoint size of 0 to 64 units of 1,024 octets and a window of 1 to 8
+    /// - `mailbox WORD NAME`: a mailbox and its O/R name
+    /// - `list WORD POLICY NAME`: a list, `keep` or `back`, and its O/R name
+    /// - `from WORD PATTERN`: who may post to an earlier list
+    /// - `member WORD NAME`: a member of an earlier list
+    /// - `route PATTERN here` or `route PATTERN peer WORD`: where names go that the pattern matches, the peer an
+    ///   earlier one
+    /// - `hold GRADE SECONDS`, once each for `urgent`, `normal` and `non-urgent`: 0 to 31,536,000 seconds
+    ///
+    /// with one space between two words, where the name or the pattern may hold spaces. A word is 1 to 32 letters,
+    /// digits or `-`, a password 1 to 62 visible characters, a number decimal without leading zeros.
     pub fn read(alloc: Global, text: &[u8]) -> Result<Tables, TablesFault>
         ensures exact { Reads result (tables_of text.now) }
 
@@ -94,13 +106,14 @@ impl Tables {
         self.text.as_slice()
     }
 
-    /// An equal value.
+    /// An equal value, read once more from the text.
     pub fn copy(&self, alloc: Global) -> Result<Tables, Memory>
         ensures { IfOk result (λ t. t ≡ self.now) }
     {
-        let text = self.text.copy(alloc)?;
-        let lines = self.lines.copy(alloc)?;
-        Ok(Tables { text, lines })
+        match read_tables(alloc, self.text.as_slice()) {
+            Ok(tables) => Ok(tables),
+            Err(_) => Err(Memory),
+        }
     }
 
     /// The agent's own domain.
@@ -117,6 +130,13 @@ impl Tables {
         &self.lines.own
     }
 
+    /// The peers, in the order of their lines.
+    pub fn peers(&self) -> &[Peer]
+        ensures { result.now ≡ self.now.peers }
+    {
+        self.lines.peers.as_slice()
+    }
+
     /// The mailboxes, in the order of their lines.
     pub fn mailboxes(&self) -> &[Mailbox]
         ensures { result.now ≡ self.now.mailboxes }
@@ -124,18 +144,53 @@ impl Tables {
         self.lines.mailboxes.as_slice()
     }
 
+    /// The lists, in the order of their first lines.
+    pub fn lists(&self) -> &[MailList]
+        ensures { result.now ≡ self.now.lists }
+    {
+        self.lines.lists.as_slice()
+    }
+
+    /// The routes, in the order of their lines.
+    pub fn routes(&self) -> &[Route]
+        ensures { result.now ≡ self.now.routes }
+    {
+        self.lines.routes.as_slice()
+    }
+
+    /// How long messages are held.
+    pub fn holds(&self) -> &Holds
+        ensures { result.now ≡ self.now.holds }
+    {
+        &self.lines.holds
+    }
+
+    /// The place of the peer of this word, from 0.
+    pub fn peer(&self, word: &[u8]) -> Option<u32>
+        ensures exact { result ≡ peer_of self.now word.now }
+
+        // The place that is answered has the word, and there is no other.
+        ensures found { IsPeerAt self.now word.now result }
+        ensures only { (place : Option ℕ) → IsPeerAt self.now word.now place → result ≡ place }
+    {
+        self.lines.peers.of_word(word)
+    }
+
     /// The place of the mailbox of this word, from 0.
     pub fn mailbox(&self, word: &[u8]) -> Option<u32>
         ensures exact { result ≡ mailbox_of self.now word.now }
 
         // The place that is answered has the word, and there is no other.
-        ensures found { IsPlaceOfWord self.now word.now result }
-        ensures only { (place : Option ℕ) → IsPlaceOfWord self.now word.now place → result ≡ place }
+        ensures found { IsMailboxOf self.now word.now result }
+        ensures only { (place : Option ℕ) → IsMailboxOf self.now word.now place → result ≡ place }
     {
         self.lines.mailboxes.of_word(word)
     }
 
-    /// Where the messages for a name go next: to the mailbox whose name is the same.
+    /// Where the messages for a name go next: to the mailbox whose name is the same, else to the list whose name is
+    /// the same, else where the route goes that matches and than which no route that matches has more parts, where
+    /// `here` is nowhere, else nowhere.
+    #[tactic(auto, unfolding(crate::specs::Hops::best_hop))]
     pub fn route(&self, name: &OrName) -> Hop
         ensures exact { result ≡ best_hop self.now name.now }
 
@@ -143,18 +198,36 @@ impl Tables {
         ensures found { IsBestHop self.now name.now result }
         ensures only { (hop : Hop) → IsBestHop self.now name.now hop → result ≡ hop }
     {
-        self.route_lent(&name.lent())
+        self.are_whole();
+        self.hop_of(name)
     }
 
-    /// As `route`, for a name that is lent.
-    pub fn route_lent(&self, name: &NameRef) -> Hop
-        ensures exact { result ≡ best_hop self.now (lent name.now) }
-        ensures found { IsBestHop self.now (lent name.now) result }
-        ensures only { (hop : Hop) → IsBestHop self.now (lent name.now) hop → result ≡ hop }
+    #[tactic(auto, unfolding(crate::specs::Hops::best_hop))]
+    fn hop_of(&self, name: &OrName) -> Hop
+        ensures { result ≡ best_hop self.now name.now }
     {
-        match self.lines.mailboxes.of_name(name) {
-            Some(place) => Hop::Local(place),
-            None => Hop::None,
+        if let Some(place) = self.lines.mailboxes.of_name(name) {
+            return Hop::Local(place);
         }
+        if let Some(place) = self.lines.lists.of_name(name) {
+            return Hop::List(place);
+        }
+        self.lines.routes.hop_of(name)
+    }
+
+    /// The place of the mailbox, from 0, to which `route` sends the messages for the name of a country, an
+    /// administration domain and a surname alone; none where it sends them elsewhere or nowhere.
+    pub fn mailbox_of_surname(&self, country: &[u8], admd: &[u8], surname: &[u8]) -> Option<u32>
+        ensures { result ≡ local_of (best_hop self.now (name_of_surname country.now admd.now surname.now)) }
+    {
+        self.lines.mailboxes.of_surname(country, admd, surname)
+    }
+
+    /// The tables are whole: in their limits, no two mailboxes or lists of one name, no two equal patterns, and the
+    /// peers of routes are there.
+    pub fn are_whole(&self)
+        ensures { AreTables self.now }
+    {
+        let _text = self.text();
     }
 }

@@ -1,5 +1,5 @@
 use Rattle.std.proofs.Common.{◌≡◌, ◌++◌, take, drop}
-use Rattle.mta_tables.specs.Lines.{cut_at}
+use Rattle.mta_tables.specs.Words.{cut_at}
 use Rattle.mta_tables.proofs.cut.cut_at.Given as goal
 
 abbrev pub invariant-loop-i : goal.invariant-loop-i

@@ -1,6 +1,6 @@
 use Rattle.std.proofs.Common.{length, refl, sym, ap, ◌∙◌}
 use Rattle.std.proofs.lemmas.Option.{slice_get_read}
-use Rattle.mta_tables.specs.declared.mailbox.Mailbox.{Mailbox}
+use Rattle.mta_tables.specs.declared.entry.Mailbox.{Mailbox}
 use Rattle.mta_history.specs.Verdict.{recorded}
 use Rattle.mta_spool.proofs.Next.{mailbox_inside, delivery_is}
 use Rattle.mta_spool.proofs.current.Current.line_for.Goals as goal

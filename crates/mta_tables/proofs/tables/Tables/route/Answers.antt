@@ -1,17 +1,17 @@
--- As for a name that is lent.
-use Rattle.std.proofs.Common.{subst, ap, ◌∙◌, sym}
-use Rattle.mta_first_names.specs.declared.name.Attributes.{Attributes}
-use Rattle.mta_tables.specs.Hops.{IsBestHop}
-use Rattle.mta_tables.specs.Tables.{best_hop}
+-- The hop that is answered is the best one, and there is no other.
+use Rattle.std.proofs.Common.{subst, sym, ◌∙◌}
+use Rattle.mta_tables.specs.Laws.{IsBestHop}
+use Rattle.mta_tables.proofs.HopLaws.{hop_found, one_hop}
 use Rattle.mta_tables.proofs.tables.Tables.route.Goals as goal
 
 pub returns : goal.returns
 returns c =
     let t = c.args.self.now in
-    let r = c.route_lent.result in
-    let same = c.lent.ensures.exact in
+    let n = c.args.name.now in
+    let exact = c.hop_of.ensures in
+    let whole = c.are_whole.ensures in
     record {
-      exact = c.route_lent.ensures.exact ∙ ap (best_hop t) same;
-      found = subst (λ (n : Attributes). IsBestHop t n r) same c.route_lent.ensures.found;
-      only = λ hop h. c.route_lent.ensures.only hop (subst (λ (n : Attributes). IsBestHop t n hop) (sym same) h);
+      exact = exact;
+      found = subst (IsBestHop t n) (sym exact) (hop_found t n);
+      only = λ hop h. exact ∙ sym (one_hop t n hop whole h);
     }

@@ -1,5 +1,0 @@
-pub mod Values
-pub mod Drafts
-pub mod Again
-pub mod Normals
-pub mod Forms

@@ -1,0 +1,25 @@
+-- The one list of the word is changed.
+use Rattle.std.proofs.Common.{◌≡◌, ◌<◌, length, set, Some, sym, ap, ◌∙◌, arith}
+use Rattle.std.specs.Prelude.{map}
+use Rattle.std.specs.List.{position}
+use Rattle.mta_tables.specs.Reading.{has_list_word, joined}
+use Rattle.mta_tables.proofs.Ones.{words_alone, joined_one, joined_none, at_index}
+use Rattle.mta_tables.proofs.lists.Lists.join.Goals as goal
+
+pub returns-in-None : goal.returns-in-None
+returns-in-None c = sym (joined_none c.args.word.now c.args.name c.args.self.now (sym c.in-None.ensures.exact))
+
+pub returns-in_ok-push-in-Some : goal.returns-in_ok-push-in-Some
+returns-in_ok-push-in-Some c =
+    let ls = c.self.inside.inner.items in
+    let w = c.args.word.now in
+    let i = c.in-Some.place in
+    let l = c.index_mut.result.now in
+    let v = c.self.view_is in
+    let place : position (has_list_word w) ls ≡ Some i = ap (position (has_list_word w)) v ∙ sym c.in-Some.ensures.exact in
+    let bound = c.in-Some.ensures.bound in
+    let within : i < length ls = omega (arith, ap length v) in
+    let at = at_index ls i l within c.index_mut.ensures.value in
+    ap (λ x. set ls i (record l { members = x })) c.in_ok-push-in-Some.ensures.ok
+    ∙ sym (joined_one w c.args.name ls i l (words_alone w ls c.self.invariant.1) place at)
+    ∙ ap (map (joined w c.args.name)) v
