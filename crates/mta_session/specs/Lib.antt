@@ -1,0 +1,11 @@
+pub mod Fits
+pub mod Follows
+pub mod Groups
+pub mod Holding
+pub mod Rank
+pub mod Receiving
+pub mod RecvFits
+pub mod Sending
+pub mod Session
+pub mod State
+pub mod Wanted

@@ -1,0 +1,368 @@
+//! What the spool answers on an open session.
+
+ghost use Rattle.std.specs.Prelude.{◌≡◌, true, []};
+ghost use Rattle.mta_session.specs.Rank.{FallsBelow, rank_of_step};
+ghost use Rattle.mta_lane_send.specs.Half.{is_sending};
+ghost use Rattle.mta_ends.specs.Sending as s;
+ghost use Rattle.mta_session.specs.Sending.{stage_of};
+ghost use Rattle.mta_session.specs.Wanted.{Goes_on, abort_of, kind_octet, is_cut, after_step, on_batch, on_due, on_start, on_still_idle, on_step, on_state, on_secured, on_completed, on_dropped};
+ghost use Rattle.mta_session.specs.Follows.{Does};
+ghost use Rattle.mta_session.specs.Fits.{Fits, FitsAt, IsLive, HoldsFree, StepsAs, StartFits};
+
+use crate::ask::Ask;
+use crate::event::Action;
+use crate::holder::last_of;
+use crate::machine::Machine;
+use crate::phase::{Found, OwnStep, Phase};
+use crate::receiving::Stage;
+use crate::sending::PutStage;
+use mta_ber::{Kind, Memory};
+use mta_lane_recv::Last;
+use mta_lane_send::SendState;
+use mta_records::{Batch, CompleteFault, Outgoing, StepFault};
+use mta_units::Unit;
+
+/// The reason of the Abort after a refused step.
+pub fn abort_of(fault: StepFault) -> u32
+    ensures { result ≡ abort_of fault }
+{
+    match fault {
+        StepFault::Full { .. } | StepFault::Disk | StepFault::Ended | StepFault::Spent { .. } => 3,
+        StepFault::Memory => 0,
+        _ => 4,
+    }
+}
+
+fn kind_octet(kind: Kind) -> u8
+    ensures { result ≡ kind_octet kind }
+{
+    match kind {
+        Kind::Truncated => 1,
+        Kind::BadLength => 2,
+        Kind::BadTag => 3,
+        Kind::TooDeep => 4,
+        Kind::BadInt => 5,
+        Kind::BadText => 6,
+        Kind::BadTime => 7,
+        Kind::Missing => 8,
+        Kind::Twice => 9,
+        Kind::BadSize => 10,
+        Kind::TooLong => 11,
+        Kind::Trailing => 12,
+    }
+}
+
+/// Whether the activity is sent, and End may not be put yet.
+fn is_sending(state: SendState, activity: u32) -> bool
+    ensures { result ≡ is_sending state activity }
+{
+    match state {
+        SendState::Sending {
+            activity: live,
+            confirmed: _,
+        } => activity == live,
+        _ => false,
+    }
+}
+
+/// Whether an activity that is given up may be discarded on this link.
+fn is_cut(stage: PutStage, activity: u32) -> bool
+    ensures { result ≡ is_cut (stage_of stage) activity }
+{
+    match stage {
+        PutStage::Quiet | PutStage::EndPut { .. } | PutStage::DiscardPut { .. } => false,
+        PutStage::Opened => true,
+        PutStage::Started { activity: put }
+        | PutStage::Next { activity: put, .. }
+        | PutStage::SyncNext { activity: put, .. }
+        | PutStage::LastPut { activity: put, .. }
+        | PutStage::ResumePut { activity: put, .. } => activity == put,
+    }
+}
+
+impl Machine {
+    fn ask_recovery(&mut self, phase: Phase) -> Action
+        ensures action { result ≡ Action.Ask (Ask.Recovery self.old.lane) }
+        ensures state { self.new ≡ record self.old { phase = phase } }
+    {
+        self.phase = phase;
+        Action::Ask(Ask::Recovery { lane: self.lane })
+    }
+
+    pub fn on_due(&mut self, due: Result<Option<Batch>, Memory>) -> Action
+        requires { FitsAt Phase.AsksDue self.old }
+        ensures does { Does self.old (on_due self.old due) result self.new }
+        ensures fits { Fits self.new }
+        ensures falls { FallsBelow self.old 9 self.new }
+    {
+        match due {
+            Ok(Some(_)) => self.put_please(),
+            Ok(None) => self.answer(),
+            Err(_) => self.abort(0),
+        }
+    }
+
+    pub fn on_batch(&mut self, due: Result<Option<Batch>, Memory>) -> Action
+        requires { FitsAt Phase.AsksBatch self.old }
+        ensures does { Does self.old (on_batch self.old due) result self.new }
+        ensures fits { Fits self.new }
+        ensures falls { FallsBelow self.old 48 self.new }
+    {
+        match due {
+            Ok(Some(batch)) => {
+                self.phase = Phase::AsksStart;
+                Action::Ask(Ask::Start {
+                    lane: self.lane,
+                    generation: self.generation,
+                    batch,
+                })
+            }
+            Ok(None) => {
+                if self.is_initiator() && !(self.please && self.twa) {
+                    self.phase = Phase::PutsClose;
+                    Action::Put(Unit::Close)
+                } else {
+                    self.give()
+                }
+            }
+            Err(_) => self.abort(0),
+        }
+    }
+
+    pub fn on_start(&mut self, started: Result<Outgoing, StepFault>) -> Action
+        requires fits { FitsAt Phase.AsksStart self.old }
+        requires told { StartFits self.old.send started }
+        ensures does { Does self.old (on_start self.old started) result self.new }
+        ensures fits { Fits self.new }
+        ensures falls { FallsBelow self.old 46 self.new }
+    {
+        match started {
+            Ok(outgoing) => {
+                let activity = outgoing.activity;
+                self.send.outgoing = Some(outgoing);
+                self.send.state = SendState::Sending {
+                    activity,
+                    confirmed: 0,
+                };
+                self.send.stage = PutStage::Next {
+                    activity,
+                    number: 0,
+                };
+                self.phase = Phase::Puts;
+                Action::Put(Unit::Start { activity })
+            }
+            Err(StepFault::Unexpected) => self.ask_recovery(Phase::AsksStillIdle),
+            Err(fault) => self.abort(abort_of(fault)),
+        }
+    }
+
+    /// Another worker was first with a recipient: the batch is asked for again, and the refused start counts as a unit.
+    pub fn on_still_idle(&mut self, told: Option<SendState>) -> Result<Action, Memory>
+        requires { FitsAt Phase.AsksStillIdle self.old }
+        ensures { StepsAs self.old (on_still_idle self.old told) 45 result self.new }
+    {
+        let still = match (self.send.state, told) {
+            (SendState::Idle { last }, Some(SendState::Idle { last: told })) => told == last,
+            _ => false,
+        };
+        if !still {
+            return Ok(self.abort(4));
+        }
+        if self.left == 1 {
+            return Ok(self.abort(3));
+        }
+        let peer = self.peer()?;
+        self.left -= 1;
+        self.phase = Phase::AsksBatch;
+        Ok(Action::Ask(Ask::BatchFor { peer }))
+    }
+
+    fn confirmed(&mut self, number: u32) -> Result<Action, Memory>
+        requires { FitsAt (Phase.AsksStep (OwnStep.Confirm number)) self.old }
+        ensures { StepsAs self.old (Goes_on (record self.old { send = after_step self.old.send (OwnStep.Confirm number) }))
+            52 result self.new }
+    {
+        let state = self.send.state;
+        self.send.state = match state {
+            SendState::Sending { activity, .. } => SendState::Sending {
+                activity,
+                confirmed: number,
+            },
+            SendState::Ending { activity, .. } => SendState::Ending {
+                activity,
+                confirmed: number,
+            },
+            other => other,
+        };
+        match self.hold() {
+            Ok(action) => Ok(action),
+            Err(memory) => {
+                self.send.state = state;
+                Err(memory)
+            }
+        }
+    }
+
+    fn ended(&mut self) -> Result<Action, Memory>
+        requires { FitsAt (Phase.AsksStep OwnStep.Ending) self.old }
+        ensures { StepsAs self.old (Goes_on (record self.old { send = after_step self.old.send OwnStep.Ending })) 9
+            result self.new }
+    {
+        let state = self.send.state;
+        if let SendState::Sending {
+            activity,
+            confirmed,
+        } = state
+        {
+            self.send.state = SendState::Ending {
+                activity,
+                confirmed,
+            };
+        }
+        match self.hold() {
+            Ok(action) => Ok(action),
+            Err(memory) => {
+                self.send.state = state;
+                Err(memory)
+            }
+        }
+    }
+
+    /// The activity is settled and let go, and the next batch is asked for.
+    fn settled(&mut self) -> Result<Action, Memory>
+        requires live { IsLive self.old }
+        requires free { HoldsFree self.old }
+        requires holds { self.old.ours ≡ true }
+        ensures { StepsAs self.old (Goes_on (record self.old { send = record (s.made self.old.send s.Sent) { octets = [] } }))
+            52 result self.new }
+    {
+        let peer = self.peer()?;
+        self.send.state = SendState::Idle {
+            last: last_of(self.send.state),
+        };
+        self.send.stage = PutStage::Quiet;
+        self.send.outgoing = None;
+        self.phase = Phase::AsksBatch;
+        Ok(Action::Ask(Ask::BatchFor { peer }))
+    }
+
+    pub fn on_step(&mut self, step: OwnStep, made: Result<(), StepFault>) -> Result<Action, Memory>
+        requires { FitsAt (Phase.AsksStep step) self.old }
+        ensures { StepsAs self.old (on_step self.old step made) (rank_of_step step) result self.new }
+    {
+        match made {
+            Ok(()) => match step {
+                OwnStep::Confirm { number } => self.confirmed(number),
+                OwnStep::Ending => self.ended(),
+                OwnStep::Sent | OwnStep::Dropped | OwnStep::Refused { .. } => self.settled(),
+            },
+            Err(StepFault::Unexpected) => Ok(self.ask_recovery(Phase::AsksState)),
+            Err(fault) => Ok(self.abort(abort_of(fault))),
+        }
+    }
+
+    /// Another worker gave the activity up: it is discarded.
+    pub fn on_state(&mut self, told: Option<SendState>) -> Result<Action, Memory>
+        requires { FitsAt Phase.AsksState self.old }
+        ensures { StepsAs self.old (on_state self.old told) 8 result self.new }
+    {
+        let Some(SendState::Dropping { activity }) = told else {
+            return Ok(self.abort(4));
+        };
+        if !(is_sending(self.send.state, activity) && is_cut(self.send.stage, activity)) {
+            return Ok(self.abort(4));
+        }
+        let state = self.send.state;
+        self.send.state = SendState::Dropping { activity };
+        match self.hold() {
+            Ok(action) => Ok(action),
+            Err(memory) => {
+                self.send.state = state;
+                Err(memory)
+            }
+        }
+    }
+
+    pub fn on_secured(
+        &mut self,
+        activity: u32,
+        number: u32,
+        made: Result<(), CompleteFault>,
+    ) -> Action
+        requires { FitsAt (Phase.AsksSecure activity number) self.old }
+        ensures does { Does self.old (on_secured self.old activity number made) result self.new }
+        ensures fits { Fits self.new }
+        ensures falls { FallsBelow self.old 7 self.new }
+    {
+        match made {
+            Ok(()) => {
+                self.recv.high = activity;
+                self.recv.last = Last::Partial {
+                    activity,
+                    pieces: number,
+                };
+                self.recv.stage = Stage::Next { activity, number };
+                self.answer()
+            }
+            Err(CompleteFault::Bad(fault)) => self.except(
+                activity,
+                Found {
+                    kind: kind_octet(fault.kind),
+                    at: fault.at,
+                },
+            ),
+            Err(CompleteFault::Step(fault)) => self.abort(abort_of(fault)),
+        }
+    }
+
+    pub fn on_completed(
+        &mut self,
+        activity: u32,
+        number: u32,
+        made: Result<u32, CompleteFault>,
+    ) -> Action
+        requires { FitsAt (Phase.AsksComplete activity number) self.old }
+        ensures does { Does self.old (on_completed self.old activity number made) result self.new }
+        ensures fits { Fits self.new }
+        ensures falls { FallsBelow self.old 7 self.new }
+    {
+        match made {
+            Ok(_) => {
+                self.recv.high = activity;
+                self.recv.last = Last::Done { activity };
+                self.answer()
+            }
+            Err(CompleteFault::Bad(fault)) => self.except(
+                activity,
+                Found {
+                    kind: kind_octet(fault.kind),
+                    at: fault.at,
+                },
+            ),
+            Err(CompleteFault::Step(fault)) => self.abort(abort_of(fault)),
+        }
+    }
+
+    pub fn on_dropped(
+        &mut self,
+        activity: u32,
+        found: Option<Found>,
+        made: Result<(), StepFault>,
+    ) -> Action
+        requires { FitsAt (Phase.AsksDrop activity found) self.old }
+        ensures does { Does self.old (on_dropped self.old activity found made) result self.new }
+        ensures fits { Fits self.new }
+        ensures falls { FallsBelow self.old 5 self.new }
+    {
+        match made {
+            Ok(()) => {
+                self.recv.last = Last::None;
+                match found {
+                    Some(found) => self.except(activity, found),
+                    None => self.answer(),
+                }
+            }
+            Err(fault) => self.abort(abort_of(fault)),
+        }
+    }
+}

@@ -1,0 +1,17 @@
+pub mod Turning
+pub mod Events
+pub mod Calls
+pub mod EventsRecv
+pub mod CallsRecv
+pub mod Runs
+pub mod Causes
+pub mod CausesOfUnits
+pub mod Writing
+pub mod WritingUnits
+pub mod Opening
+pub mod Linking
+pub mod Ending
+pub mod Whole
+pub mod OpeningRecv
+pub mod EndingRecv
+pub mod WholeRecv

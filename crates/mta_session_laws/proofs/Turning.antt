@@ -1,0 +1,166 @@
+-- What one call does to the sending end.
+use Rattle.std.proofs.Common.{rules, ◌&&◌, ◌≡◌, ℕ, Bool, true, false, Option, Some, None, List, [], ◌∷◌, refl, arith, ◌||◌, sym, ◌∙◌, ap, subst}
+use Rattle.mta_units.specs.declared.unit.Unit.{Unit as AnyUnit}
+use Rattle.mta_units.specs.declared.unit.Unit.TheVariants as unit
+use Rattle.mta_lane_send.specs.declared.state.SendState.{SendState}
+use Rattle.mta_lane_send.specs.declared.state.SendState.TheVariants as state
+use Rattle.mta_lane_send.specs.Half.{is_idle, is_sending, last_of, confirmed_at}
+use Rattle.mta_ends.specs.Units.{LaneUnit}
+use Rattle.mta_ends.specs.Units as u
+use Rattle.mta_ends.specs.Sending as s
+use Rattle.mta_ends.specs.Sending.{SendEnd, SendEvent}
+use Rattle.mta_session.specs.declared.phase.OwnStep.{OwnStep}
+use Rattle.mta_session.specs.declared.phase.OwnStep.TheVariants as own
+use Rattle.mta_session.specs.declared.phase.Phase.TheVariants as phase
+use Rattle.mta_session_laws.specs.Called.{heard_as, forget, StepsAreCalled, StepsNeedActivity, PassingIsGot}
+use Rattle.mta_session.specs.Sending.{called, heard, step_of}
+use Rattle.mta_session.specs.State.{State}
+use Rattle.mta_session.specs.Wanted.{is_cut, is_given_up, as_holder, makes_or, goes_on_if}
+use Rattle.mta_session.specs.Follows.{PutsFor, Of_sender}
+use Rattle.mta_session_laws.specs.Turning.{kept, listed, Reaches, SendGoes, HolderGoes, StepGoes, StartGoes, AbandonGoes, PutGoes}
+
+-- a unit got, of which nothing is kept
+pub got_is : (e f : SendEnd) (h : Option LaneUnit) (o : List ℕ) (x : LaneUnit) → forget (s.got e x) ≡ f → listed f (Some x) o ≡ s.got (listed e h o) x
+got_is e f h o x eq = rw (sym eq) refl
+
+or_none : (b : Bool) → (b || false) ≡ b
+or_none true = refl
+or_none false = refl
+
+-- a unit that says nothing of a transfer
+pub other : (e : SendEnd) → e.heard ≡ None → forget (s.got e u.Other) ≡ e
+other e c = grind (arith, or_none, c)
+
+please : (t : State) (h : Option LaneUnit) (o : List ℕ) (priority : ℕ) → t.send.heard ≡ None → (b : Bool) → t.twa ≡ b →
+    SendGoes (listed t.send h o) (s.Got u.Other ∷ []) (as_holder t (unit.Please priority))
+please t h o priority c true q = rw q (Some u.Other, o, (tt, got_is t.send t.send h o u.Other (other t.send c)), tt)
+please t h o priority c false q = rw q tt
+
+-- it passes, or the session is over
+passes : (p : PassingIsGot) (t : State) (h : Option LaneUnit) (o : List ℕ) (x : AnyUnit) → t.send.heard ≡ None → called t.send x ≡ None → (f : Option SendEnd) → heard t.send x ≡ f →
+    SendGoes (listed t.send h o) (s.Got (heard_as x) ∷ []) (goes_on_if t f)
+passes p t h o x c n None q = tt
+passes p t h o x c n (Some f) q = (Some (heard_as x), o, (tt, got_is t.send f h o (heard_as x) (p t.send f x c n q).0), tt)
+
+-- the octets of an activity that is under way are kept
+pub kept_live : (st : SendState) (o x : List ℕ) → is_idle st ≡ false → kept st o x ≡ x
+kept_live (state.Idle last) o x l = search l
+kept_live (state.Sending k c) o x l = refl
+kept_live (state.Ending k c) o x l = refl
+kept_live (state.Dropping k) o x l = refl
+
+made_listed : (e : SendEnd) (o : List ℕ) (x : LaneUnit) (step : s.SendStep) → is_idle e.state ≡ false → s.MayMake (s.got e x) step → forget (s.got e x) ≡ e → s.MayMake (listed e (Some x) o) step
+made_listed e o x step l m eq =
+    let whole : listed e (Some x) o ≡ record e { heard = Some x } = rw (kept_live e.state o e.octets l) refl in
+    let same : record e { heard = Some x } ≡ s.got e x = ap {A = SendEnd} (λ z. record z { heard = Some x }) (sym eq) in
+    subst (λ z. s.MayMake z step) (sym (whole ∙ same)) m
+
+-- a step is asked for, or it passes
+makes : (m : StepsAreCalled) (n : StepsNeedActivity) (p : PassingIsGot) (t : State) (h : Option LaneUnit) (o : List ℕ) (x : AnyUnit) → t.send.heard ≡ None → (w : Option OwnStep) → called t.send x ≡ w →
+    SendGoes (listed t.send h o) (s.Got (heard_as x) ∷ []) (makes_or t x w)
+makes m n p t h o x c None q = passes p t h o x c q (heard t.send x) refl
+makes m n p t h o x c (Some step) q =
+    let both = m t.send x step c q in
+    (Some (heard_as x), o, (tt, got_is t.send t.send h o (heard_as x) both.1), made_listed t.send o (heard_as x) (step_of step) (n t.send x step q) both.0 both.1)
+
+pub holder_goes : StepsAreCalled → StepsNeedActivity → PassingIsGot → HolderGoes
+holder_goes m d p t h o (unit.Open o1) z = makes m d p t h o (unit.Open o1) z (called t.send (unit.Open o1)) refl
+holder_goes m d p t h o (unit.Accept c w a) z = makes m d p t h o (unit.Accept c w a) z (called t.send (unit.Accept c w a)) refl
+holder_goes m d p t h o (unit.Reject r) z = makes m d p t h o (unit.Reject r) z (called t.send (unit.Reject r)) refl
+holder_goes m d p t h o (unit.Start k) z = makes m d p t h o (unit.Start k) z (called t.send (unit.Start k)) refl
+holder_goes m d p t h o (unit.Piece o1) z = makes m d p t h o (unit.Piece o1) z (called t.send (unit.Piece o1)) refl
+holder_goes m d p t h o (unit.Sync n) z = makes m d p t h o (unit.Sync n) z (called t.send (unit.Sync n)) refl
+holder_goes m d p t h o (unit.SyncAck n) z = makes m d p t h o (unit.SyncAck n) z (called t.send (unit.SyncAck n)) refl
+holder_goes m d p t h o (unit.End k) z = makes m d p t h o (unit.End k) z (called t.send (unit.End k)) refl
+holder_goes m d p t h o (unit.EndAck k) z = makes m d p t h o (unit.EndAck k) z (called t.send (unit.EndAck k)) refl
+holder_goes m d p t h o (unit.Resume k n) z = makes m d p t h o (unit.Resume k n) z (called t.send (unit.Resume k n)) refl
+holder_goes m d p t h o (unit.ResumeAck k n) z = makes m d p t h o (unit.ResumeAck k n) z (called t.send (unit.ResumeAck k n)) refl
+holder_goes m d p t h o (unit.Discard k) z = makes m d p t h o (unit.Discard k) z (called t.send (unit.Discard k)) refl
+holder_goes m d p t h o (unit.DiscardAck k) z = makes m d p t h o (unit.DiscardAck k) z (called t.send (unit.DiscardAck k)) refl
+holder_goes m d p t h o unit.Give z = makes m d p t h o unit.Give z (called t.send unit.Give) refl
+holder_goes m d p t h o (unit.Exception kind at) z = makes m d p t h o (unit.Exception kind at) z (called t.send (unit.Exception kind at)) refl
+holder_goes m d p t h o (unit.Abort r) z = makes m d p t h o (unit.Abort r) z (called t.send (unit.Abort r)) refl
+holder_goes m d p t h o unit.Close z = makes m d p t h o unit.Close z (called t.send unit.Close) refl
+holder_goes m d p t h o unit.CloseAck z = makes m d p t h o unit.CloseAck z (called t.send unit.CloseAck) refl
+holder_goes m d p t h o (unit.Please priority) z = please t h o priority z t.twa refl
+
+kept_confirmed : (st : SendState) (n : ℕ) (o x : List ℕ) → kept (confirmed_at st n) (kept st o x) x ≡ kept st o x
+kept_confirmed (state.Idle last) n o x = refl
+kept_confirmed (state.Sending k c) n o x = refl
+kept_confirmed (state.Ending k c) n o x = refl
+kept_confirmed (state.Dropping k) n o x = refl
+
+pub sending_live : (st : SendState) (k : ℕ) → is_sending st k ≡ true → is_idle st ≡ false
+sending_live (state.Idle last) k l = search l
+sending_live (state.Sending j c) k l = refl
+sending_live (state.Ending j c) k l = refl
+sending_live (state.Dropping j) k l = refl
+
+pub step_goes : StepGoes
+step_goes t h o (own.Confirm n) c m = (None, kept t.send.state o t.send.octets, (m, rw (kept_confirmed t.send.state n o t.send.octets) refl), tt)
+step_goes t h o own.Ending c m =
+    (None, [], (m, rw (kept_live t.send.state o t.send.octets (sending_live t.send.state (last_of t.send.state) m)) refl), tt)
+step_goes t h o own.Sent c m = (None, kept t.send.state o t.send.octets, (m, refl), tt)
+step_goes t h o own.Dropped c m = (None, kept t.send.state o t.send.octets, (m, refl), tt)
+step_goes t h o (own.Refused k) c m = (None, kept t.send.state o t.send.octets, (m, refl), tt)
+
+pub start_goes : StartGoes
+start_goes t h o x c i q l = (None, o, ((i, q, l), refl), tt)
+
+-- a half in Sending is of the activity under way
+pub sending_last : (st : SendState) (k : ℕ) → is_sending st k ≡ true → is_sending st (last_of st) ≡ true
+sending_last (state.Idle last) k l = search l
+sending_last (state.Sending j c) k l = search rules
+sending_last (state.Ending j c) k l = search l
+sending_last (state.Dropping j) k l = search l
+
+both_true : (a b : Bool) → (a && b) ≡ true → a ≡ true
+both_true true b l = refl
+both_true false b l = search l
+
+pub given_up : (t : State) (told : SendState) → is_given_up t told ≡ true → is_sending t.send.state (last_of t.send.state) ≡ true
+given_up t (state.Dropping k) g = sending_last t.send.state k (both_true (is_sending t.send.state k) (is_cut t.send.stage k) g)
+given_up t (state.Idle k) g = search g
+given_up t (state.Sending k c) g = search g
+given_up t (state.Ending k c) g = search g
+
+pub abandon_goes : AbandonGoes
+abandon_goes t h o told c g =
+    let l = given_up t told g in
+    rw g (h, [], (l, rw (kept_live t.send.state o t.send.octets (sending_live t.send.state (last_of t.send.state) l)) refl), tt)
+
+-- what may be put does not rest on what was heard
+puts_same : (e : SendEnd) (h : Option LaneUnit) (y : LaneUnit) → s.MayPut e y → s.MayPut (record e { heard = h }) y × (s.put (record e { heard = h }) y ≡ s.put e y)
+puts_same e h (u.Start k) m = (m, refl)
+puts_same e h (u.Piece x) m = (m, refl)
+puts_same e h (u.Sync n) m = (m, refl)
+puts_same e h (u.End k) m = (m, refl)
+puts_same e h (u.Resume k n) m = (m, refl)
+puts_same e h (u.Discard k) m = (m, refl)
+puts_same e h (u.SyncAck n) m = (m, refl)
+puts_same e h (u.EndAck k) m = (m, refl)
+puts_same e h (u.ResumeAck k n) m = (m, refl)
+puts_same e h (u.DiscardAck k) m = (m, refl)
+puts_same e h u.Exception m = (m, refl)
+puts_same e h u.Completed m = (m, refl)
+puts_same e h u.Unrecognized m = (m, refl)
+puts_same e h u.CannotRecover m = (m, refl)
+puts_same e h u.Accept m = (m, refl)
+puts_same e h u.Other m = (m, refl)
+
+put_listed : (e : SendEnd) (y : LaneUnit) → is_idle e.state ≡ false → listed (s.put e y) None [] ≡ s.put e y
+put_listed e y l = rw (kept_live e.state [] e.octets l) refl
+
+pub put_then : (t : State) (h : Option LaneUnit) (o : List ℕ) (x : AnyUnit) (y : LaneUnit) (new : State) → is_idle t.send.state ≡ false → PutsFor t (Of_sender y) x new →
+    Reaches (listed t.send h o) (s.Put y ∷ []) phase.Puts new.send
+put_then t h o x y new l g =
+    let e : SendEnd = t.send in
+    let whole : listed e h o ≡ record e { heard = h } = rw (kept_live e.state o e.octets l) refl in
+    let both = puts_same e h y g.1 in
+    let after : listed (s.put e y) None [] ≡ s.put e y = put_listed e y l in
+    let sent : new.send ≡ s.put e y = ap {A = State} (λ z. z.send) g.2 in
+    let same : listed new.send None [] ≡ s.put (record e { heard = h }) y = rw sent (after ∙ sym both.1) in
+    (None, [], subst (λ z. s.IsSendingEnd z (s.Put y ∷ []) (listed new.send None [])) (sym whole) (both.0, same), tt)
+
+pub put_goes : PutGoes
+put_goes t h o x y new l q g = put_then t h o x y new l (subst (λ z. PutsFor t z x new) q g)

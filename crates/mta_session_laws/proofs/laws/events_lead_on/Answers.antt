@@ -1,0 +1,5 @@
+use Rattle.mta_session_laws.proofs.Events.{events_go}
+use Rattle.mta_session_laws.proofs.laws.events_lead_on.Goals as goal
+
+pub returns : goal.returns
+returns c = events_go c.units_lead_on.ensures

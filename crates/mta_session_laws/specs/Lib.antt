@@ -1,0 +1,8 @@
+pub mod Called
+pub mod Causes
+pub mod Runs
+pub mod Turning
+pub mod TurningRecv
+pub mod Whole
+pub mod WholeRecv
+pub mod Writing
