@@ -16,6 +16,3 @@ pub use memory_station::MemStation;
 pub use role::Role;
 pub use safe_link::SafeLink;
 pub use station::Station;
-
-#[cfg(test)]
-mod tests;
