@@ -1,0 +1,15 @@
+pub mod CaseLaws
+pub mod HeadLaws
+pub mod CopyLaws
+pub mod MembersLaws
+pub mod BitLaws
+pub mod RowLaws
+pub mod WholeLaws
+pub mod ExpandedLaws
+pub mod LongLaws
+pub mod SetLaws
+pub mod ReportLaws
+pub mod RelayLaws
+pub mod EndLaws
+pub mod ReadingLaws
+pub mod ToldLaws

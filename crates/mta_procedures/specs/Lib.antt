@@ -1,0 +1,17 @@
+pub mod Situations
+pub mod Bits
+pub mod Traces
+pub mod Criticals
+pub mod Histories
+pub mod Copies
+pub mod Members
+pub mod Facts
+pub mod Verdicts
+pub mod Walks
+pub mod Reports
+pub mod Heads
+pub mod Laws
+pub mod Relays
+pub mod Ends
+pub mod Readings
+pub mod Rows
