@@ -1,4 +1,4 @@
-ghost use Rattle.std.specs.Prelude.{◌≤◌, length, IfOk};
+ghost use Rattle.std.specs.Prelude.{IfOk};
 ghost use Rattle.mta_ber.specs.declared.text.TextClass.TheVariants.{Ia5};
 ghost use Rattle.mta_ber.specs.Strings.{IsText};
 ghost use Rattle.mta_units.specs.Canon.{IsWritable};
@@ -310,7 +310,7 @@ fn other_units_are_written(rt: HostRuntime) -> Result<(), Fail> {
 
 fn bind_of(name: Octets, password: Octets) -> Result<Unit, Fail>
     requires name { IsText Ia5 1 32 name }
-    requires password { length password ≤ 62 }
+    requires password { IsText Ia5 0 62 password }
     ensures { IfOk result IsWritable }
 {
     let answer = Answer::Bind {
