@@ -1,5 +1,7 @@
 //! Runs over a journal that is nearly full: 119 octets, which are an Accept of the sample message, fill it.
 
+ghost use Rattle.std.specs.Prelude.{◌≤◌, length, IfOk};
+
 use crate::tests::{MESSAGE, TABLES};
 use mta_edge::{MemClock, MemSink, Octets, SafeDisk, SafeSource};
 use mta_run::{Finished, run};

@@ -4,7 +4,6 @@ use mta_name_text::FromText;
 use mta_names::OrName;
 use mta_tables::{Hop, LineKind, Tables, TablesFault, Target};
 use std::alloc::Global;
-use std::process::Abort;
 use std::test::Fail;
 
 /// Texts that are none of tables, with the first bad line and its kind.
@@ -89,8 +88,10 @@ fn fault_of(alloc: Global, text: &[u8]) -> Result<(u32, LineKind), Fail> {
     }
 }
 
-fn hop_of(rt: &impl Abort, alloc: Global, tables: &Tables, text: &str) -> Result<Hop, Fail> {
-    assert!(rt; text.len() < 1000);
+fn hop_of(alloc: Global, tables: &Tables, text: &str) -> Result<Hop, Fail> {
+    if text.len() >= 1000 {
+        return Err("a long name".into());
+    }
     let name = OrName::from_text(alloc, text.as_bytes())?;
     Ok(tables.route(&name))
 }
@@ -104,53 +105,85 @@ fn texts_are_refused_at_their_first_bad_line(rt: HostRuntime) -> Result<(), Fail
     Ok(())
 }
 
+fn have_peers(tables: &Tables) -> bool {
+    match tables.peers() {
+        [peer, _, _] => {
+            peer.twa
+                && peer.checkpoint == 0
+                && peer.window == 8
+                && peer.send_password.as_slice() == b"pa".as_slice()
+                && peer.expected_password.as_slice() == b"pb".as_slice()
+        }
+        _ => false,
+    }
+}
+
+fn have_lists(tables: &Tables) -> bool {
+    match tables.lists() {
+        [list] => list.back && list.from.len() == 1 && list.members.len() == 2,
+        _ => false,
+    }
+}
+
+fn have_routes(tables: &Tables) -> bool {
+    match tables.routes() {
+        [_, _, _, here, _, last] => here.target == Target::Here && last.target == Target::Peer(1),
+        _ => false,
+    }
+}
+
+fn have_holds(tables: &Tables) -> bool {
+    let holds = tables.holds();
+    holds.urgent == 31_536_000 && holds.normal == 86_400 && holds.non_urgent == 345_600
+}
+
+fn have_words(tables: &Tables) -> bool {
+    tables.own().as_slice() == b"GOLD-1".as_slice()
+        && tables.peer(b"Y") == Some(1)
+        && tables.peer(b"y").is_none()
+        && tables.mailbox(b"watt") == Some(1)
+        && tables.mailbox(b"Watt").is_none()
+}
+
 #[test]
 fn lines_say_what_they_say(rt: HostRuntime) -> Result<(), Fail> {
     let first = Tables::read(rt.alloc(), WHOLE.as_bytes())?;
     let tables = first.copy(rt.alloc())?;
     assert!(rt; tables.text() == WHOLE.as_bytes());
-    assert!(rt; tables.own().as_slice() == b"GOLD-1".as_slice());
     assert!(rt; tables.domain().fields().prmd.is_some());
-    assert!(rt;
-        tables.peers().len() == 3 && tables.peer(b"Y") == Some(1) && tables.peer(b"y").is_none()
-    );
-    let peer = &tables.peers()[0];
-    assert!(rt; peer.twa && peer.checkpoint == 0 && peer.window == 8);
-    assert!(rt;
-        peer.send_password.as_slice() == b"pa".as_slice()
-            && peer.expected_password.as_slice() == b"pb".as_slice()
-    );
-    assert!(rt; tables.mailbox(b"watt") == Some(1) && tables.mailbox(b"Watt").is_none());
-    assert!(rt;
-        tables.mailboxes().len() == 2 && tables.lists().len() == 1 && tables.routes().len() == 6
-    );
-    let list = &tables.lists()[0];
-    assert!(rt; list.back && list.from.len() == 1 && list.members.len() == 2);
-    assert!(rt;
-        tables.routes()[3].target == Target::Here && tables.routes()[5].target == Target::Peer(1)
-    );
-    let holds = tables.holds();
-    assert!(rt;
-        holds.urgent == 31_536_000 && holds.normal == 86_400 && holds.non_urgent == 345_600
-    );
+    let said = have_words(&tables) && have_peers(&tables) && have_lists(&tables);
+    assert!(rt; said && have_routes(&tables) && have_holds(&tables));
+    Ok(())
+}
+
+/// Names, and where the tables above have them go.
+const HOPS: [(&str, Hop); 9] = [
+    ("C=gb;A= gold;P=acme  ltd ;S=X", Hop::Peer(2)),
+    ("C=GB;A=GOLD;S=X", Hop::Peer(1)),
+    ("C=GB;S=X", Hop::Peer(0)),
+    ("C=GB;A=IRON;S=X", Hop::None),
+    ("C=826;A=GOLD", Hop::Peer(2)),
+    ("C=US", Hop::None),
+    ("C=gb;A= gold;S= ohm", Hop::Local(0)),
+    ("S=CREW ", Hop::List(0)),
+    ("S=CREW;G=A", Hop::None),
+];
+
+#[test]
+fn names_go_to_mailboxes_lists_and_the_longest_route(rt: HostRuntime) -> Result<(), Fail> {
+    let alloc = rt.alloc();
+    let tables = Tables::read(alloc, WHOLE.as_bytes())?;
+    for (text, hop) in HOPS {
+        assert!(rt; hop_of(alloc, &tables, text)? == hop);
+    }
+    assert!(rt; tables.mailbox_of_surname(b"gb", b" gold", b"OHM") == Some(0));
+    assert!(rt; tables.mailbox_of_surname(b"GB", b"GOLD", b"CREW").is_none());
     Ok(())
 }
 
 #[test]
-fn names_go_to_mailboxes_lists_and_the_longest_route(rt: HostRuntime) -> Result<(), Fail> {
-    let tables = Tables::read(rt.alloc(), WHOLE.as_bytes())?;
+fn equal_patterns_are_said_twice(rt: HostRuntime) -> Result<(), Fail> {
     let alloc = rt.alloc();
-    assert!(rt; hop_of(&rt, alloc, &tables, "C=gb;A= gold;P=acme  ltd ;S=X")? == Hop::Peer(2));
-    assert!(rt; hop_of(&rt, alloc, &tables, "C=GB;A=GOLD;S=X")? == Hop::Peer(1));
-    assert!(rt; hop_of(&rt, alloc, &tables, "C=GB;S=X")? == Hop::Peer(0));
-    assert!(rt; hop_of(&rt, alloc, &tables, "C=GB;A=IRON;S=X")? == Hop::None);
-    assert!(rt; hop_of(&rt, alloc, &tables, "C=826;A=GOLD")? == Hop::Peer(2));
-    assert!(rt; hop_of(&rt, alloc, &tables, "C=US")? == Hop::None);
-    assert!(rt; hop_of(&rt, alloc, &tables, "C=gb;A= gold;S= ohm")? == Hop::Local(0));
-    assert!(rt; hop_of(&rt, alloc, &tables, "S=CREW ")? == Hop::List(0));
-    assert!(rt; hop_of(&rt, alloc, &tables, "S=CREW;G=A")? == Hop::None);
-    assert!(rt; tables.mailbox_of_surname(b"gb", b" gold", b"OHM") == Some(0));
-    assert!(rt; tables.mailbox_of_surname(b"GB", b"GOLD", b"CREW").is_none());
     let mut twice = Vec::from_slice(alloc, WHOLE.as_bytes())?;
     twice.extend_from_slice(b"route C=gb peer X\n")?;
     assert!(rt; fault_of(alloc, twice.as_slice())? == (21, LineKind::Twice));
