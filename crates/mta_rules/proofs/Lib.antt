@@ -1,0 +1,11 @@
+pub mod CaseSteps
+pub mod Sames
+pub mod Backs
+pub mod Digits
+pub mod Thirds
+pub mod Chosen
+pub mod Lengths
+pub mod Copies
+pub mod HopPlaces
+pub mod Outgoing
+pub mod Firsts
