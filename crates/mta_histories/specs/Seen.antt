@@ -1,0 +1,240 @@
+-- The steps of a history as far as they concern one lane: each as the lane sees it, with the octets that a Start
+-- transfers, which of them are possible, and what they leave of the lane's halves (X.228 clause 7).
+use Rattle.std.specs.Prelude.{◌≡◌, ◌<◌, ◌≤◌, ℕ, ◌+◌, ◌-◌, ◌*◌, ◌==◌, if◌then◌else◌, Bool, true, false, List, [], ◌∷◌, ◌++◌, length, take, Option, Some, None}
+use Rattle.mta_lane_send.specs.declared.state.SendState.{SendState}
+use Rattle.mta_lane_send.specs.declared.state.SendState.TheVariants.{Idle, Sending, Ending, Dropping}
+use Rattle.mta_lane_send.specs.Half.{confirmed_of, goes_on, is_ending, is_live, is_idle, is_sending, confirmed_at}
+use Rattle.mta_lane_recv.specs.declared.state.Last.{Last}
+use Rattle.mta_lane_recv.specs.declared.state.Last.TheVariants as last
+use Rattle.mta_lane_recv.specs.Half.{is_partial_of, takes_piece}
+use Rattle.mta_ends.specs.Pieces.{is_last, joined}
+use Rattle.mta_records.specs.declared.lane.LaneRole.TheVariants.{Responder}
+use Rattle.mta_records.specs.declared.step.Step.{Step}
+use Rattle.mta_machine.specs.Apdu.{IsApdu}
+use Rattle.mta_histories.specs.Classes.{Outcome, was_sent, was_refused, was_denied, was_dropped, LaneStep, agree, bind, start, confirm, to_end, settle, abandon, secure, complete, drop_pieces, close, Class, records, accepts, settles, opens, on_lane, class_of}
+use Rattle.mta_histories.specs.Lanes.{Transfer, Lane, State, empty, EachLane}
+use Rattle.mta_histories.specs.History.{is_role, transfer_of, when, after_step, after, IsHistory}
+
+-- ---- steps
+
+-- a step as its lane sees it; sizes are in octets, and 0 is no limit but the longest activity
+pub data SeenStep : Type 0 where
+  LaneOpen : (agreed : Bool) (size window : ℕ) → SeenStep
+  LaneAgree : (size window : ℕ) → SeenStep
+  Bind : (generation : ℕ) → SeenStep
+  Start : (generation activity : ℕ) (octets : List ℕ) → SeenStep
+  Confirm : (generation activity number : ℕ) → SeenStep
+  To_end : (generation activity : ℕ) → SeenStep
+  Sent : (generation activity : ℕ) → SeenStep
+  Refused : (generation activity : ℕ) → SeenStep
+  Denied : (generation activity : ℕ) → SeenStep
+  Dropped : (generation activity : ℕ) → SeenStep
+  Abandon : (activity : ℕ) → SeenStep
+  Secure : (generation activity number : ℕ) (piece : List ℕ) → SeenStep
+  Complete : (generation activity number : ℕ) (piece : List ℕ) → SeenStep
+  Drop : (generation activity : ℕ) → SeenStep
+  CloseLane : (generation : ℕ) → SeenStep
+
+-- a step of the spool: on the lane of a number, or on none
+pub data Seen : Type 0 where
+  On : (lane : ℕ) → SeenStep → Seen
+  Elsewhere : Seen
+
+-- the generation that a step tells
+abbrev pub told : Option ℕ → ℕ
+told None = 0
+told (Some generation) = generation
+
+-- the octets in one unit of a checkpoint size
+abbrev pub checkpoint_unit : ℕ
+checkpoint_unit = 1024
+
+abbrev pub settled_as : Outcome → ℕ → ℕ → SeenStep
+settled_as was_sent g k = Sent g k
+settled_as (was_refused kind) g k = Refused g k
+settled_as was_denied g k = Denied g k
+settled_as was_dropped g k = Dropped g k
+
+-- a step on a lane, in the state before it
+abbrev pub seen_by : State → ℕ → LaneStep → ℕ → SeenStep
+seen_by s g (agree checkpoint window) moment = LaneAgree (checkpoint_unit * checkpoint) window
+seen_by s g bind moment = Bind g
+seen_by s g (start k i rs) moment = Start g k (transfer_of s.machine i rs moment).octets
+seen_by s g (confirm k n) moment = Confirm g k n
+seen_by s g (to_end k) moment = To_end g k
+seen_by s g (settle outcome k) moment = settled_as outcome g k
+seen_by s g (abandon k) moment = Abandon k
+seen_by s g (secure k n piece) moment = Secure g k n piece
+seen_by s g (complete k n piece) moment = Complete g k n piece
+seen_by s g (drop_pieces k) moment = Drop g k
+seen_by s g close moment = CloseLane g
+
+abbrev pub seen_of : State → Class → ℕ → Seen
+seen_of s (records text) moment = Elsewhere
+seen_of s (accepts octets) moment = Elsewhere
+seen_of s (settles how i r) moment = Elsewhere
+seen_of s (opens role peer reference twa checkpoint window) moment =
+    On (s.lanes.count + 1) (LaneOpen (is_role Responder role) (checkpoint_unit * checkpoint) window)
+seen_of s (on_lane n generation step) moment = On n (seen_by s (told generation) step moment)
+
+-- the steps of a history, each as its lane sees it in the state before it
+abbrev pub annotated_from : State → List Step → List Seen
+annotated_from s [] = []
+annotated_from s (step ∷ steps) = seen_of s (class_of step) (when s step) ∷ annotated_from (after_step s step) steps
+
+abbrev pub annotated : List Step → List Seen
+annotated steps = annotated_from empty steps
+
+-- ---- lanes
+
+pub data Phase : Type 0 where
+  Unopened : Phase
+  Open : Phase
+  Closed : Phase
+
+-- a lane's values and its two halves, with the octets that they hold
+pub record Halves : Type 0 where
+  pub phase : Phase
+  pub generation : ℕ
+  pub agreed : Bool
+  pub size : ℕ
+  pub window : ℕ
+  pub state : SendState
+  pub octets : List ℕ
+  pub high : ℕ
+  pub last : Last
+  pub pieces : List (List ℕ)
+
+-- the halves of a lane that was never opened are new
+abbrev pub unopened : Halves
+unopened = record {
+  phase = Unopened;
+  generation = 0;
+  agreed = false;
+  size = 0;
+  window = 0;
+  state = Idle 0;
+  octets = [];
+  high = 0;
+  last = last.None;
+  pieces = [];
+}
+
+abbrev pub transferred : Option Transfer → List ℕ
+transferred None = []
+transferred (Some t) = t.octets
+
+-- the halves of an open lane
+abbrev pub halves_of : Lane → Halves
+halves_of lane = record {
+  phase = Open;
+  generation = lane.generation;
+  agreed = lane.agreed;
+  size = checkpoint_unit * lane.checkpoint;
+  window = lane.window;
+  state = lane.sending;
+  octets = transferred lane.transfer;
+  high = lane.high;
+  last = lane.last;
+  pieces = lane.pieces;
+}
+
+-- ---- which step is possible, and what it leaves
+
+-- the lane is open and of this generation
+abbrev pub IsHeld : Halves → (generation : ℕ) → Type 0
+IsHeld l g = (l.phase ≡ Open) × (g ≡ l.generation)
+
+-- the octets of an activity up to this piece
+abbrev pub octets_with : List (List ℕ) → ℕ → List ℕ → List ℕ
+octets_with pieces n piece = joined (take (n - 1) pieces) ++ piece
+
+-- `spells` tells whether octets spell an APDU
+abbrev pub Allows : (spells : List ℕ → Bool) → Halves → SeenStep → Type 0
+Allows spells l (LaneOpen agreed size window) = l.phase ≡ Unopened
+Allows spells l (LaneAgree size window) = (l.phase ≡ Open) × (l.agreed ≡ false)
+Allows spells l (Bind g) = (l.phase ≡ Open) × (g ≡ l.generation + 1)
+Allows spells l (Start g k octets) =
+    IsHeld l g × (l.agreed ≡ true) × (l.state ≡ Idle (k - 1)) × (1 ≤ k) × (1 ≤ length octets)
+Allows spells l (Confirm g k n) =
+    IsHeld l g × (goes_on l.state k ≡ true) × (confirmed_of l.state < n) × (is_last l.size l.octets n ≡ false)
+Allows spells l (To_end g k) = IsHeld l g × (is_sending l.state k ≡ true)
+Allows spells l (Sent g k) = IsHeld l g × (is_ending l.state k ≡ true)
+Allows spells l (Refused g k) = IsHeld l g × (is_live l.state k ≡ true)
+Allows spells l (Denied g k) = IsHeld l g × (is_live l.state k ≡ true)
+Allows spells l (Dropped g k) = IsHeld l g × (is_live l.state k ≡ true)
+Allows spells l (Abandon k) = (l.phase ≡ Open) × (is_sending l.state k ≡ true)
+Allows spells l (Secure g k n piece) = IsHeld l g × (l.agreed ≡ true) × (takes_piece l.high l.last k n ≡ true)
+Allows spells l (Complete g k n piece) =
+    IsHeld l g × (l.agreed ≡ true) × (takes_piece l.high l.last k n ≡ true)
+    × (spells (octets_with l.pieces n piece) ≡ true)
+Allows spells l (Drop g k) = IsHeld l g × (is_partial_of l.last k ≡ true)
+Allows spells l (CloseLane g) = IsHeld l g × (is_idle l.state ≡ true)
+
+abbrev pub settled : Halves → ℕ → Halves
+settled l k = record l { state = Idle k; octets = [] }
+
+abbrev pub halves_after : Halves → SeenStep → Halves
+halves_after l (LaneOpen agreed size window) = record l {
+  phase = Open;
+  generation = 1;
+  agreed = agreed;
+  size = size;
+  window = window;
+}
+halves_after l (LaneAgree size window) = record l { agreed = true; size = size; window = window }
+halves_after l (Bind g) = record l { generation = g }
+halves_after l (Start g k octets) = record l { state = Sending k 0; octets = octets }
+halves_after l (Confirm g k n) = record l { state = confirmed_at l.state n }
+halves_after l (To_end g k) = record l { state = Ending k (confirmed_of l.state) }
+halves_after l (Sent g k) = settled l k
+halves_after l (Refused g k) = settled l k
+halves_after l (Denied g k) = settled l k
+halves_after l (Dropped g k) = settled l k
+halves_after l (Abandon k) = record l { state = Dropping k }
+halves_after l (Secure g k n piece) = record l {
+  high = k;
+  last = last.Partial k n;
+  pieces = take (n - 1) l.pieces ++ piece ∷ [];
+}
+halves_after l (Complete g k n piece) = record l { high = k; last = last.Done k; pieces = [] }
+halves_after l (Drop g k) = record l { last = last.None; pieces = [] }
+halves_after l (CloseLane g) = record l { phase = Closed }
+
+-- ---- the steps of one lane
+
+-- the steps of the lane of this number
+abbrev pub of_lane : (lane : ℕ) → Seen → List SeenStep
+of_lane i (On j step) = if j == i then step ∷ [] else []
+of_lane i Elsewhere = []
+
+abbrev pub of_lane_all : (lane : ℕ) → List Seen → List SeenStep
+of_lane_all i [] = []
+of_lane_all i (step ∷ steps) = of_lane i step ++ of_lane_all i steps
+
+abbrev pub halves_run : Halves → List SeenStep → Halves
+halves_run l [] = l
+halves_run l (step ∷ steps) = halves_run (halves_after l step) steps
+
+abbrev pub AreAllowed : (spells : List ℕ → Bool) → Halves → List SeenStep → Type 0
+AreAllowed spells l [] = Unit {0}
+AreAllowed spells l (step ∷ steps) = Allows spells l step × AreAllowed spells (halves_after l step) steps
+
+-- the lane of this number after a history
+abbrev pub lane_in : (lane : ℕ) → List Seen → Halves
+lane_in i steps = halves_run unopened (of_lane_all i steps)
+
+-- ---- the law
+
+-- There is one such step for each step of the history. They lead to the lanes that are open after it, and they are
+-- possible one behind the other, for whatever test is true of octets that spell an APDU.
+pub record AreSeen (steps : List Step) : Type 0 where
+  pub as_many : length (annotated steps) ≡ length steps
+  pub opened : EachLane (λ lane. lane_in lane.number (annotated steps) ≡ halves_of lane) (after steps).lanes.open_lanes
+  pub new : (n : ℕ) → (after steps).lanes.count < n → lane_in n (annotated steps) ≡ unopened
+  pub allowed : (spells : List ℕ → Bool) → ((octets : List ℕ) → IsApdu octets → spells octets ≡ true) → (n : ℕ)
+      → AreAllowed spells unopened (of_lane_all n (annotated steps))
+
+-- each history is seen by its lanes
+abbrev pub LanesSeeHistories : Type 0
+LanesSeeHistories = (steps : List Step) → IsHistory steps → AreSeen steps
