@@ -1,7 +1,3 @@
-pub mod Appending
 pub mod Cutting
-pub mod FieldForms
-pub mod Forms
+pub mod Fields
 pub mod Records
-pub mod Splits
-pub mod Values

@@ -1,7 +1,5 @@
 //! Lanes: which end of one an agent is, what both ends agreed, and what it sends.
 
-use mta_ber::Memory;
-use std::alloc::Global;
 use std::marker::Model;
 
 /// Which end of a lane an agent is: the initiator opens the associations of the lane, and the responder accepts them (X.218).
@@ -36,29 +34,13 @@ impl Model for Recipients {
 }
 
 impl Recipients {
-    ghost use Rattle.std.specs.Prelude.{◌≡◌, IfOk};
+    ghost use Rattle.std.specs.Prelude.{◌≡◌};
 
     /// The recipients of these numbers, which takes no memory.
     pub fn from_vec(numbers: Vec<u32>) -> Recipients
         ensures { result ≡ numbers.items }
     {
         Recipients { numbers }
-    }
-
-    /// The vector of these numbers, which takes no memory.
-    pub fn into_vec(self) -> Vec<u32>
-        ensures { result.items ≡ self }
-    {
-        let Recipients { numbers } = self;
-        numbers
-    }
-
-    /// An equal value.
-    pub fn copy(&self, alloc: Global) -> Result<Recipients, Memory>
-        ensures { IfOk result (λ r. r ≡ self.now) }
-    {
-        let numbers = Vec::from_slice(alloc, self.as_slice())?;
-        Ok(Recipients { numbers })
     }
 
     /// The numbers, lent.

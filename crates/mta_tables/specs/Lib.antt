@@ -13,5 +13,3 @@ pub mod Hops
 pub mod Laws
 pub mod Whole
 pub mod Surnames
-pub mod Indexes
-pub mod Fronts

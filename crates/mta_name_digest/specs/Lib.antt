@@ -1,3 +1,0 @@
-pub mod Digests
-pub mod Folding
-pub mod Places
