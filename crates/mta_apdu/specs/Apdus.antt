@@ -10,7 +10,8 @@ use Rattle.mta_ber.specs.Parts.{is_tag}
 use Rattle.mta_ber.specs.Spelling.{Stands}
 use Rattle.mta_names.specs.Strings.{Puts}
 use Rattle.mta_envelope.specs.declared.envelope.EnvelopeFields.{EnvelopeFields}
-use Rattle.mta_envelope.specs.Messages.{MessageValue, message_value, message_in, SpellsMessage, probe_in, SpellsProbe, canonical_message, canonical_probe}
+use Rattle.mta_envelope.specs.Messages.{MessageValue, message_value, message_in, SpellsMessage, probe_in, SpellsProbe}
+use Rattle.mta_envelope.specs.Messages.{canonical_message, canonical_probe}
 use Rattle.mta_envelope.specs.Places.{IsBehindEnvelope, IsPlaced}
 use Rattle.mta_report.specs.declared.fields.ReportFields.{ReportFields}
 use Rattle.mta_report.specs.Reports.{report_in, SpellsReport, canonical_report}
@@ -70,8 +71,8 @@ front_in bytes = first 0 bytes >>= whole_in
 abbrev pub longest_stored : ℕ
 longest_stored = 4294967295
 
--- what octets that are kept are read as, or their first fault: an APDU that was made here may be longer than one that is submitted or
--- received
+-- what octets that are kept are read as, or their first fault: an APDU that was made here may be longer than one that
+-- is submitted or received
 unfoldable pub stored_of : List ℕ → Result ApduValue Fault
 stored_of bytes = if nat_le (length bytes) longest_stored then front_in bytes else fault longest_stored TooLong
 
@@ -121,8 +122,8 @@ pub record IsContentOf (bytes octets : List ℕ) (offset : ℕ) : Type 0 where
   pub inside : IsBehindEnvelope (outermost tag + 1) content octets inner_offset
   pub offset_is : offset ≡ length stands.header + inner_offset
 
--- a content that is lent is the input's memory at the offset of the content's octets, which the message's place tells; one that was
--- joined has no place
+-- a content that is lent is the input's memory at the offset of the content's octets, which the message's place tells;
+-- one that was joined has no place
 abbrev pub IsPlacedIn : Bor (List ℕ) → Apdu → Type 0
 IsPlacedIn whole (apdu.Message m) = IsPlaced IsContentOf 0 whole m.content m.place
 IsPlacedIn whole (apdu.Probe p) = Unit {0}
@@ -130,7 +131,8 @@ IsPlacedIn whole (apdu.Report r) = Unit {0}
 
 -- the same within an element
 abbrev pub IsPlacedInside : ℕ → ℕ → Bor (List ℕ) → Apdu → Type 0
-IsPlacedInside depth start content (apdu.Message m) = IsPlaced (IsBehindEnvelope (depth + 1)) start content m.content m.place
+IsPlacedInside depth start content (apdu.Message m) =
+    IsPlaced (IsBehindEnvelope (depth + 1)) start content m.content m.place
 IsPlacedInside depth start content (apdu.Probe p) = Unit {0}
 IsPlacedInside depth start content (apdu.Report r) = Unit {0}
 

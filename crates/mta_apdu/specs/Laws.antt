@@ -5,7 +5,8 @@ use Rattle.mta_envelope.specs.Envelopes.{IsOfKind}
 use Rattle.mta_envelope.specs.Laws.{IsWholeEnvelope, KeepsEnvelope}
 use Rattle.mta_envelope.specs.Messages.{message_as}
 use Rattle.mta_report.specs.Laws.{IsWholeReport, KeepsReport}
-use Rattle.mta_apdu.specs.Apdus.{ApduValue, message, probe, report, longest_apdu, longest_stored, stored_of, apdu_of, SpellsApdu, SpellsStored, canonical_apdu}
+use Rattle.mta_apdu.specs.Apdus.{ApduValue, message, probe, report, longest_apdu, longest_stored, stored_of, apdu_of}
+use Rattle.mta_apdu.specs.Apdus.{SpellsApdu, SpellsStored, canonical_apdu}
 
 -- an APDU, with the parts that have rules of their own
 abbrev pub IsWholeApdu : ApduValue → Type 0
@@ -40,7 +41,8 @@ ReadApdusAreReadAgain = (bytes : List ℕ) (v : ApduValue) → SpellsApdu bytes 
 
 -- an APDU that is kept is read again from its canonical octets, also where they are more than may be submitted
 abbrev pub StoredApdusAreReadAgain : Type 0
-StoredApdusAreReadAgain = (v : ApduValue) → IsWholeApdu v → KeepsApdu v → length (canonical_apdu v) ≤ longest_stored → stored_of (canonical_apdu v) ≡ Ok (in_one_piece v)
+StoredApdusAreReadAgain = (v : ApduValue) → IsWholeApdu v → KeepsApdu v
+    → length (canonical_apdu v) ≤ longest_stored → stored_of (canonical_apdu v) ≡ Ok (in_one_piece v)
 
 abbrev pub StoredApdusAreKept : Type 0
 StoredApdusAreKept = (bytes : List ℕ) (v : ApduValue) → SpellsStored bytes v → KeepsApdu v × IsWholeApdu v

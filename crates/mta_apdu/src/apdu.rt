@@ -6,7 +6,8 @@ ghost use Rattle.mta_ber.specs.Place.{IsAt};
 ghost use Rattle.mta_ber.specs.Seen.{view};
 ghost use Rattle.mta_ber.specs.Spelling.{Standing};
 ghost use Rattle.mta_envelope.specs.Contents.{ReadsSeen};
-ghost use Rattle.mta_apdu.specs.Apdus.{apdu_value, apdu_as, apdu_in, ends, whole_in, front_in, stored_of, apdu_of, longest_apdu, longest_stored, IsPlacedInside, IsPlacedIn};
+ghost use Rattle.mta_apdu.specs.Apdus.{apdu_value, apdu_as, apdu_in, ends, whole_in, front_in, stored_of, apdu_of};
+ghost use Rattle.mta_apdu.specs.Apdus.{longest_apdu, longest_stored, IsPlacedInside, IsPlacedIn};
 
 use crate::kind::{ApduKind, kind_of};
 use mta_ber::{Kind, Memory, Octets, ReadFault, View, bad};
@@ -135,7 +136,8 @@ impl<'a> Apdu<'a> {
     ghost use Rattle.std.specs.Prelude.{◌≡◌, List, ℕ, IfOk};
     ghost use Rattle.mta_ber.specs.Lengths.{octet_length};
     ghost use Rattle.mta_envelope.specs.Contents.{ReadsSeen, IsSeenAs};
-    ghost use Rattle.mta_apdu.specs.Apdus.{ApduValue, apdu_value, apdu_of, SpellsApdu, stored_of, SpellsStored, canonical_apdu, IsPlacedIn};
+    ghost use Rattle.mta_apdu.specs.Apdus.{ApduValue, apdu_value, apdu_of, SpellsApdu, stored_of, SpellsStored};
+    ghost use Rattle.mta_apdu.specs.Apdus.{canonical_apdu, IsPlacedIn};
 
     /// The APDU that octets spell. TooLong at 2,097,152 where there are more octets, before all else; then the first
     /// fault of the element at their front; then Trailing at the first octet behind it.
@@ -156,7 +158,8 @@ impl<'a> Apdu<'a> {
         }
     }
 
-    /// The APDU that octets spell which are kept: one that was made here may be longer than one that is submitted or received. As
+    /// The APDU that octets spell which are kept: one that was made here may be longer than one that is submitted or
+    /// received. As
     /// `read`, but TooLong at 4,294,967,295 alone, where there are more octets.
     pub fn read_stored(alloc: Global, bytes: &'a [u8]) -> Result<Apdu<'a>, ReadFault>
         // Which APDU it is, or which fault comes first. A message's content is lent exactly where it is primitive.

@@ -1,6 +1,7 @@
-//! Reads a table of octets from its input, a row a line: a name, what reading the octets answers ("ok", or the place and the kind of the
-//! first fault), and the octets in hexadecimal, each behind a tab. Prints each row that is answered otherwise, and how many rows there
-//! are. The rows of `stdin` were worked out from the formats by hand and by an independent reader.
+//! Reads a table of octets from its input, a row a line: a name, what reading the octets answers ("ok", or the place
+//! and the kind of the first fault), and the octets in hexadecimal, each behind a tab. Prints each row that is answered
+//! otherwise, and how many rows there are. The rows of `stdin` were worked out from the formats by hand and by an
+//! independent reader.
 #![tactic(auto)]
 
 use anyhow::{Context, Result};

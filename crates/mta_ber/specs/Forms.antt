@@ -16,6 +16,7 @@ abbrev pub is_constructed_tag : ℕ → ℕ → Tag → Bool
 is_constructed_tag class number tag = is_tag class number tag && tag.constructed
 
 -- the components of a SET or a SEQUENCE that has this tag
-abbrev pub components_under : {S : Type 0} → ℕ → ℕ → (S → Part → Result S Fault) → S → Part → Result S Fault
+abbrev pub components_under : {S : Type 0} → ℕ → ℕ → (S → Part → Result S Fault) → S → Part
+    → Result S Fault
 components_under class number step none p =
     if is_constructed_tag class number p.tag then parts_of step none p else fault p.at BadTag

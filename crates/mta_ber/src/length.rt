@@ -1,5 +1,5 @@
-//! How many octets elements have that are written, told without writing them: no call here takes memory. Each answers 2^64 - 1 where
-//! there are as many octets or more.
+//! How many octets elements have that are written, told without writing them: no call here takes memory. Each answers
+//! 2^64 - 1 where there are as many octets or more.
 
 ghost use Rattle.std.specs.Prelude.{◌≡◌, ◌<◌, ◌≤◌, ◌++◌, List, ℕ, length};
 ghost use Rattle.mta_ber.specs.Canon.{element, length_octets};
@@ -21,7 +21,8 @@ pub fn slice_length(octets: &[u8]) -> u64
 
 /// How many octets there are with others behind them.
 pub fn length_of_both(first: u64, second: u64) -> u64
-    ensures { (xs ys : List ℕ) → first ≡ octet_length xs → second ≡ octet_length ys → result ≡ octet_length (xs ++ ys) }
+    ensures { (xs ys : List ℕ) → first ≡ octet_length xs → second ≡ octet_length ys
+        → result ≡ octet_length (xs ++ ys) }
 {
     first.saturating_add(second)
 }

@@ -165,7 +165,8 @@ no_envelope probe = record {
 
 abbrev pub MakesEnvelopePart : EnvelopePart → ℕ → EnvelopeParts → Tag → List ℕ → List ℕ → EnvelopeParts → Type 0
 MakesEnvelopePart Originator depth s tag content octets after = (s.originator ≡ None) × Puts (SpellsName depth tag.constructed content) (with_originator s) after
-MakesEnvelopePart Identifier depth s tag content octets after = (s.id ≡ None) × Puts (SpellsMtsId depth tag content) (with_id s) after
+MakesEnvelopePart Identifier depth s tag content octets after = (s.id ≡ None)
+    × Puts (SpellsMtsId depth tag content) (with_id s) after
 MakesEnvelopePart InformationTypes depth s tag content octets after = (s.eits ≡ None) × Puts (λ x. x ≡ octets) (with_eits s) after
 MakesEnvelopePart ContentType depth s tag content octets after = (s.content_kind ≡ None) × Puts (SpellsContentKind depth tag content octets) (with_content_kind s) after
 MakesEnvelopePart MessagePriority depth s tag content octets after = (s.priority ≡ None) × Puts (SpellsPriority tag.constructed content) (with_priority s) after

@@ -14,7 +14,8 @@ use Rattle.mta_recipient.specs.Laws.{IsWholeRecipient, KeepsRecipient}
 use Rattle.mta_envelope.specs.declared.envelope.EnvelopeFields.{EnvelopeFields}
 use Rattle.mta_envelope.specs.Contents.{content_as}
 use Rattle.mta_envelope.specs.Envelopes.{IsEnvelope, IsOfKind, told_history, SpellsEnvelope}
-use Rattle.mta_envelope.specs.Messages.{MessageValue, SpellsMessage, message_as, message_in, SpellsProbe, probe_in, canonical_message, canonical_probe}
+use Rattle.mta_envelope.specs.Messages.{MessageValue, SpellsMessage, message_as, message_in, SpellsProbe, probe_in}
+use Rattle.mta_envelope.specs.Messages.{canonical_message, canonical_probe}
 
 -- the extension fields, and what they say
 abbrev pub told_of : EnvelopeFields → Option Bool → Extensions
@@ -55,11 +56,13 @@ ReadEnvelopesAreKept = (probe : Bool) (depth : ℕ) (c : Bool) (content : List �
 
 -- so a message that was read, at the outermost level, is written so that it is read again
 abbrev pub ReadMessagesAreReadAgain : Type 0
-ReadMessagesAreReadAgain = (content : List ℕ) (v : MessageValue) (more : List ℕ) (at : ℕ) → SpellsMessage 1 (constructed 2 0) content v → length (canonical_message v.envelope v.content.octets) < 2 ^ 64
+ReadMessagesAreReadAgain = (content : List ℕ) (v : MessageValue) (more : List ℕ) (at : ℕ)
+    → SpellsMessage 1 (constructed 2 0) content v → length (canonical_message v.envelope v.content.octets) < 2 ^ 64
     → (first at (canonical_message v.envelope v.content.octets ++ more) >>= with_rest message_in) ≡ beside (message_as v.envelope (content_as true v.content.octets)) more
 
 abbrev pub ReadProbesAreReadAgain : Type 0
-ReadProbesAreReadAgain = (content : List ℕ) (v : EnvelopeFields) (more : List ℕ) (at : ℕ) → SpellsProbe 2 (constructed 2 2) content v → length (canonical_probe v) < 2 ^ 64
+ReadProbesAreReadAgain = (content : List ℕ) (v : EnvelopeFields) (more : List ℕ) (at : ℕ)
+    → SpellsProbe 2 (constructed 2 2) content v → length (canonical_probe v) < 2 ^ 64
     → (first at (canonical_probe v ++ more) >>= with_rest probe_in) ≡ beside v more
 
 -- no spelling begins another, and each is that of one value

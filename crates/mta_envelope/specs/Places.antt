@@ -1,5 +1,6 @@
 -- Where a content lies that is lent of the octets of a message.
-use Rattle.std.specs.Prelude.{◌≡◌, ℕ, ◌+◌, false, List, ◌++◌, length, Option, Some, None, if◌then◌else◌}
+use Rattle.std.specs.Prelude.{◌≡◌, ℕ, ◌+◌, false, List, ◌++◌, length, Option, Some, None}
+use Rattle.std.specs.Prelude.{if◌then◌else◌}
 use Rattle.std.specs.Borrow.{Bor}
 use Rattle.mta_ber.specs.declared.tag.Tag.{Tag}
 use Rattle.mta_ber.specs.Element.{Part}
@@ -32,8 +33,10 @@ pub record IsBehindEnvelope (depth : ℕ) (content octets : List ℕ) (offset : 
   pub last : IsLast depth string octets inner_offset
   pub offset_is : offset ≡ length envelope + inner_offset
 
--- what is lent is memory of `whole` from an offset on, of which the place tells the offset in the input, where `whole` begins at `start`
-pub record IsPlacedAt (at_offset : List ℕ → List ℕ → ℕ → Type 0) (start : ℕ) (whole c : Bor (List ℕ)) (p : Place) : Type 0 where
+-- what is lent is memory of `whole` from an offset on, of which the place tells the offset in the input, where `whole`
+-- begins at `start`
+pub record IsPlacedAt (at_offset : List ℕ → List ℕ → ℕ → Type 0) (start : ℕ) (whole c : Bor (List ℕ))
+    (p : Place) : Type 0 where
   pub offset : ℕ
   pub from_is : p.from ≡ start + offset
   pub to_is : p.to ≡ p.from + length c.now
@@ -41,7 +44,8 @@ pub record IsPlacedAt (at_offset : List ℕ → List ℕ → ℕ → Type 0) (st
   pub memory : IsAt offset c whole
 
 -- a content that is lent has a place, and one that was joined has none
-abbrev pub IsPlaced : (List ℕ → List ℕ → ℕ → Type 0) → ℕ → Bor (List ℕ) → Content → Option Place → Type 0
+abbrev pub IsPlaced : (List ℕ → List ℕ → ℕ → Type 0) → ℕ → Bor (List ℕ) → Content
+    → Option Place → Type 0
 IsPlaced at_offset start whole (Lent c) (Some p) = IsPlacedAt at_offset start whole c p
 IsPlaced at_offset start whole (Joined o) None = Unit {0}
 IsPlaced at_offset start whole (Lent c) None = ⊥

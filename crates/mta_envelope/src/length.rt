@@ -1,12 +1,13 @@
-//! How many octets an envelope has that is written, told without writing it: no call here takes memory. Each answers 2^64 - 1 where
-//! there are as many octets or more.
+//! How many octets an envelope has that is written, told without writing it: no call here takes memory. Each answers
+//! 2^64 - 1 where there are as many octets or more.
 
 ghost use Rattle.std.specs.Prelude.{◌≡◌, ◌≤◌, IfSome};
 ghost use Rattle.mta_ber.specs.Canon.{optional};
 ghost use Rattle.mta_ber.specs.Lengths.{octet_length};
 ghost use Rattle.mta_ber.specs.Times.{last_moment};
 ghost use Rattle.mta_envelope.specs.Components.{longest};
-ghost use Rattle.mta_envelope.specs.Envelopes.{IsEnvelope, canonical_or_none, canonical_deferral, canonical_length, envelope_front, envelope_middle, envelope_back, envelope_content};
+ghost use Rattle.mta_envelope.specs.Envelopes.{IsEnvelope, canonical_or_none, canonical_deferral, canonical_length};
+ghost use Rattle.mta_envelope.specs.Envelopes.{envelope_front, envelope_middle, envelope_back, envelope_content};
 ghost use Rattle.mta_envelope.specs.Priorities.{canonical_priority};
 
 use crate::envelope::EnvelopeFields;

@@ -6,8 +6,8 @@ use crate::content::Content;
 use crate::envelope::Envelope;
 use crate::place::Place;
 
-/// A message (X.411, Message): an envelope, which has no content length, a content, and the place of a content that is lent in the
-/// input that was read.
+/// A message (X.411, Message): an envelope, which has no content length, a content, and the place of a content that is
+/// lent in the input that was read.
 #[derive(Debug, Drop)]
 pub struct Message<'a> {
     pub envelope: Envelope,

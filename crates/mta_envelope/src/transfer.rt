@@ -10,7 +10,8 @@ ghost use Rattle.mta_ber.specs.Spelling.{Standing};
 ghost use Rattle.mta_envelope.specs.declared.envelope.EnvelopeFields.{EnvelopeFields};
 ghost use Rattle.mta_envelope.specs.Contents.{ReadsSeen, IsSeenAs, IsLentEndOf, octets_of, content_value};
 ghost use Rattle.mta_envelope.specs.Envelopes.{IsOfKind};
-ghost use Rattle.mta_envelope.specs.Messages.{MessageValue, message_value, next_in, set_in, last_in, message_in, SpellsMessage, probe_in, SpellsProbe, canonical_message, canonical_probe};
+ghost use Rattle.mta_envelope.specs.Messages.{MessageValue, message_value, next_in, set_in, last_in, message_in};
+ghost use Rattle.mta_envelope.specs.Messages.{SpellsMessage, probe_in, SpellsProbe, canonical_message, canonical_probe};
 ghost use Rattle.mta_envelope.specs.Places.{IsLast, IsBehindEnvelope, IsPlaced};
 
 use crate::content::{Content, read_content};
@@ -66,9 +67,11 @@ fn read_last<'a>(
     parts: &mut Parts<'a>,
     whole: u32,
 ) -> Result<PlacedContent<'a>, ReadFault>
-    ensures exact { ReadsSeen (λ c. content_value c.content) result (last_in whole parts.old.at (parts.old.depth + 1) parts.old.left.now) }
+    ensures exact { ReadsSeen (λ c. content_value c.content) result
+        (last_in whole parts.old.at (parts.old.depth + 1) parts.old.left.now) }
     ensures lent { IfOk result (λ c. IsLentEndOf parts.old.left c.content) }
-    ensures placed { IfOk result (λ c. IsPlaced (IsLast (parts.old.depth + 1)) parts.old.at parts.old.left c.content c.place) }
+    ensures placed { IfOk result
+        (λ c. IsPlaced (IsLast (parts.old.depth + 1)) parts.old.at parts.old.left c.content c.place) }
 {
     let second = next_of(parts, whole)?;
     let content = read_content(alloc, &second)?;
@@ -81,7 +84,8 @@ fn read_last<'a>(
 fn read_message<'a>(alloc: Global, whole: &View<'a>) -> Result<Message<'a>, ReadFault>
     ensures exact { ReadsSeen message_value result (message_in (view whole.now)) }
     ensures lent { IfOk result (λ m. IsLentEndOf whole.now.content m.content) }
-    ensures placed { IfOk result (λ m. IsPlaced (IsBehindEnvelope (whole.now.depth + 1)) whole.now.start whole.now.content m.content m.place) }
+    ensures placed { IfOk result
+        (λ m. IsPlaced (IsBehindEnvelope (whole.now.depth + 1)) whole.now.start whole.now.content m.content m.place) }
 {
     if !is_constructed_tag(whole.tag, 2, 0) {
         return bad(whole.at, Kind::BadTag);
@@ -115,21 +119,26 @@ fn read_probe(alloc: Global, whole: &View) -> Result<Envelope, ReadFault>
 }
 
 impl<'a> Message<'a> {
-    /// The message that the element of an APDU spells, under `[0]`: a SEQUENCE of an envelope and a content. BadTag at an element of any
-    /// other tag.
+    /// The message that the element of an APDU spells, under `[0]`: a SEQUENCE of an envelope and a content. BadTag at
+    /// an element of any other tag.
     pub fn read(alloc: Global, whole: &View<'a>) -> Result<Message<'a>, ReadFault>
         // Which message it is, or which fault comes first. Its content is lent exactly where it is primitive.
         ensures exact { ReadsSeen message_value result (message_in (view whole.now)) }
 
         // What is answered is spelled by the element, and what the element spells is answered.
-        ensures found { IfOk result (λ m. SpellsMessage whole.now.depth whole.now.tag whole.now.content.now (message_value m)) }
-        ensures only { (v : MessageValue) → SpellsMessage whole.now.depth whole.now.tag whole.now.content.now v → IsSeenAs message_value result v }
+        ensures found { IfOk result
+            (λ m. SpellsMessage whole.now.depth whole.now.tag whole.now.content.now (message_value m)) }
+        ensures only { (v : MessageValue) → SpellsMessage whole.now.depth whole.now.tag whole.now.content.now v
+            → IsSeenAs message_value result v }
 
         // What is lent is the input itself: the last octets of it.
         ensures lent { IfOk result (λ m. IsLentEndOf whole.now.content m.content) }
 
-        // Its place is that of the contents octets of the element behind the envelope, and there is none where it was joined.
-        ensures placed { IfOk result (λ m. IsPlaced (IsBehindEnvelope (whole.now.depth + 1)) whole.now.start whole.now.content m.content m.place) }
+        // Its place is that of the contents octets of the element behind the envelope, and there is none where it was
+        // joined.
+        ensures placed { IfOk result
+            (λ m. IsPlaced (IsBehindEnvelope
+            (whole.now.depth + 1)) whole.now.start whole.now.content m.content m.place) }
     {
         read_message(alloc, whole)
     }
@@ -159,14 +168,16 @@ impl<'a> Message<'a> {
 }
 
 impl Probe {
-    /// The probe that the element of an APDU spells, under `[2]`: the envelope itself. BadTag at an element of any other tag.
+    /// The probe that the element of an APDU spells, under `[2]`: the envelope itself. BadTag at an element of any
+    /// other tag.
     pub fn read(alloc: Global, whole: &View) -> Result<Probe, ReadFault>
         // Which probe it is, or which fault comes first.
         ensures exact { ReadsSeen (λ p. p.envelope) result (probe_in (view whole.now)) }
 
         // What is answered is spelled by the element, and what the element spells is answered.
         ensures found { IfOk result (λ p. SpellsProbe whole.now.depth whole.now.tag whole.now.content.now p.envelope) }
-        ensures only { (v : EnvelopeFields) → SpellsProbe whole.now.depth whole.now.tag whole.now.content.now v → IsSeenAs (λ p. p.envelope) result v }
+        ensures only { (v : EnvelopeFields) → SpellsProbe whole.now.depth whole.now.tag whole.now.content.now v
+            → IsSeenAs (λ p. p.envelope) result v }
     {
         match read_probe(alloc, whole) {
             Ok(envelope) => Ok(Probe { envelope }),

@@ -77,7 +77,8 @@ abbrev pub domain : Label → Label → Option Label → DomainFields
 domain country admd prmd = record { country = country; admd = admd; prmd = prmd }
 
 unfoldable pub domain_in : Part → Result DomainFields Fault
-domain_in p = components_under 1 3 domain_step no_domain p >>= λ s. required s.country p.at >>= λ c. required s.admd p.at >>= λ a. Ok (domain c a s.prmd)
+domain_in p = components_under 1 3 domain_step no_domain p >>= λ s. required s.country p.at
+    >>= λ c. required s.admd p.at >>= λ a. Ok (domain c a s.prmd)
 
 -- ---- what spells a domain
 

@@ -67,7 +67,8 @@ abbrev pub expansion : Attributes → ℕ → ExpansionFields
 expansion name moment = record { name = name; moment = moment }
 
 unfoldable pub expansion_in : Part → Result ExpansionFields Fault
-expansion_in p = components_under 0 16 expansion_step no_expansion p >>= λ s. required s.name p.at >>= λ n. required s.moment p.at >>= λ m. Ok (expansion n m)
+expansion_in p = components_under 0 16 expansion_step no_expansion p >>= λ s. required s.name p.at
+    >>= λ n. required s.moment p.at >>= λ m. Ok (expansion n m)
 
 -- ---- what spells an expansion
 

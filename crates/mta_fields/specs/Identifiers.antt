@@ -68,7 +68,8 @@ abbrev pub identifier : DomainFields → List ℕ → MtsIdFields
 identifier domain local = record { domain = domain; local = local }
 
 unfoldable pub id_in : Part → Result MtsIdFields Fault
-id_in p = components_under 1 4 id_step no_id p >>= λ s. required s.domain p.at >>= λ d. required s.local p.at >>= λ l. Ok (identifier d l)
+id_in p = components_under 1 4 id_step no_id p >>= λ s. required s.domain p.at >>= λ d. required s.local p.at
+    >>= λ l. Ok (identifier d l)
 
 -- ---- what spells an identifier
 

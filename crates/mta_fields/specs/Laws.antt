@@ -86,14 +86,17 @@ abbrev pub ReadSuppliedInformationIsKept : Type 0
 ReadSuppliedInformationIsKept = (depth : ℕ) (c : Bool) (content : List ℕ) (v : Supplied) → SpellsSupplied depth c content v → KeepsSupplied depth v
 
 abbrev pub ReadTraceElementsAreKept : Type 0
-ReadTraceElementsAreKept = (depth : ℕ) (tag : Tag) (content : List ℕ) (v : TraceFields) → SpellsTrace depth tag content v → KeepsTrace depth v
+ReadTraceElementsAreKept = (depth : ℕ) (tag : Tag) (content : List ℕ) (v : TraceFields)
+    → SpellsTrace depth tag content v → KeepsTrace depth v
 
 -- a value that was left out is NULL, which has to have room
 abbrev pub ReadExtensionFieldsAreKept : Type 0
-ReadExtensionFieldsAreKept = (depth above : ℕ) (tag : Tag) (content : List ℕ) (v : ExtFields) → SpellsExtField depth tag content v → above ≤ depth → above + 2 ≤ 16 → KeepsExtField above v
+ReadExtensionFieldsAreKept = (depth above : ℕ) (tag : Tag) (content : List ℕ) (v : ExtFields)
+    → SpellsExtField depth tag content v → above ≤ depth → above + 2 ≤ 16 → KeepsExtField above v
 
 abbrev pub ReadExpansionsAreKept : Type 0
-ReadExpansionsAreKept = (depth : ℕ) (tag : Tag) (content : List ℕ) (v : ExpansionFields) → SpellsExpansion depth tag content v → KeepsExpansion depth v
+ReadExpansionsAreKept = (depth : ℕ) (tag : Tag) (content : List ℕ) (v : ExpansionFields)
+    → SpellsExpansion depth tag content v → KeepsExpansion depth v
 
 abbrev pub KeptSuppliedInformationIsKeptAbove : Type 0
 KeptSuppliedInformationIsKeptAbove = (depth above : ℕ) (v : Supplied) → above ≤ depth → KeepsSupplied depth v → KeepsSupplied above v
@@ -110,16 +113,23 @@ KeptExpansionsAreKeptAbove = (depth above : ℕ) (v : ExpansionFields) → above
 -- so what was read is read again where it is written in the level where it was read, or above; an identifier keeps nothing unread,
 -- so in each level
 abbrev pub ReadMtsIdentifiersAreReadAgain : Type 0
-ReadMtsIdentifiersAreReadAgain = (depth other : ℕ) (tag : Tag) (content : List ℕ) (v : MtsIdFields) → SpellsMtsId depth tag content v → other + 3 ≤ 16 → IsReadAgain id_in other (canonical_id v) v
+ReadMtsIdentifiersAreReadAgain = (depth other : ℕ) (tag : Tag) (content : List ℕ) (v : MtsIdFields)
+    → SpellsMtsId depth tag content v → other + 3 ≤ 16 → IsReadAgain id_in other (canonical_id v) v
 
 abbrev pub ReadTraceElementsAreReadAgain : Type 0
-ReadTraceElementsAreReadAgain = (depth above : ℕ) (tag : Tag) (content : List ℕ) (v : TraceFields) → SpellsTrace depth tag content v → above ≤ depth → above + 4 ≤ 16 → IsReadAgain trace_in above (canonical_trace v) v
+ReadTraceElementsAreReadAgain = (depth above : ℕ) (tag : Tag) (content : List ℕ) (v : TraceFields)
+    → SpellsTrace depth tag content v → above ≤ depth → above + 4 ≤ 16
+    → IsReadAgain trace_in above (canonical_trace v) v
 
 abbrev pub ReadExtensionFieldsAreReadAgain : Type 0
-ReadExtensionFieldsAreReadAgain = (depth above : ℕ) (tag : Tag) (content : List ℕ) (v : ExtFields) → SpellsExtField depth tag content v → above ≤ depth → above + 2 ≤ 16 → IsReadAgain ext_in above (canonical_ext v) v
+ReadExtensionFieldsAreReadAgain = (depth above : ℕ) (tag : Tag) (content : List ℕ) (v : ExtFields)
+    → SpellsExtField depth tag content v → above ≤ depth → above + 2 ≤ 16
+    → IsReadAgain ext_in above (canonical_ext v) v
 
 abbrev pub ReadExpansionsAreReadAgain : Type 0
-ReadExpansionsAreReadAgain = (depth above : ℕ) (tag : Tag) (content : List ℕ) (v : ExpansionFields) → SpellsExpansion depth tag content v → above ≤ depth → above + 5 ≤ 16 → IsReadAgain expansion_in above (canonical_expansion v) v
+ReadExpansionsAreReadAgain = (depth above : ℕ) (tag : Tag) (content : List ℕ) (v : ExpansionFields)
+    → SpellsExpansion depth tag content v → above ≤ depth → above + 5 ≤ 16
+    → IsReadAgain expansion_in above (canonical_expansion v) v
 
 abbrev pub NoDomainBeginsAnother : Type 0
 NoDomainBeginsAnother = NoTaggedBeginsAnother SpellsDomain

@@ -66,7 +66,8 @@ abbrev pub trace : DomainFields → Supplied → TraceFields
 trace domain supplied = record { domain = domain; supplied = supplied }
 
 unfoldable pub trace_in : Part → Result TraceFields Fault
-trace_in p = components_under 0 16 trace_step no_trace p >>= λ s. required s.domain p.at >>= λ d. required s.supplied p.at >>= λ l. Ok (trace d l)
+trace_in p = components_under 0 16 trace_step no_trace p >>= λ s. required s.domain p.at
+    >>= λ d. required s.supplied p.at >>= λ l. Ok (trace d l)
 
 -- ---- what spells an element
 

@@ -128,7 +128,8 @@ MakesSuppliedPart Arrival depth s tag content octets after = (s.arrival ≡ None
 MakesSuppliedPart Deferred depth s tag content octets after = (s.deferred ≡ None) × Puts (SpellsMoment depth tag.constructed content) (with_deferred s) after
 MakesSuppliedPart Routing depth s tag content octets after = (s.action ≡ None) × Puts (SpellsAction tag.constructed content) (with_action s) after
 MakesSuppliedPart Other depth s tag content octets after = (s.other ≡ None) × Puts (SpellsBits depth tag.constructed content) (with_other s) after
-MakesSuppliedPart Attempted depth s tag content octets after = (s.attempted ≡ None) × Puts (SpellsDomain depth tag content) (with_attempted s) after
+MakesSuppliedPart Attempted depth s tag content octets after = (s.attempted ≡ None)
+    × Puts (SpellsDomain depth tag content) (with_attempted s) after
 MakesSuppliedPart Converted depth s tag content octets after = (s.converted ≡ None) × Puts (λ x. x ≡ octets) (with_converted s) after
 
 pub record MakesSupplied (depth : ℕ) (before : SuppliedParts) (tag : Tag) (content octets : List ℕ) (after : SuppliedParts) : Type 0 where

@@ -201,7 +201,8 @@ impl Domain {
 
         // What is answered is spelled by the element, and what the element spells is answered.
         ensures found { IfOk result (SpellsDomain whole.now.depth whole.now.tag whole.now.content.now) }
-        ensures only { (v : DomainFields) → SpellsDomain whole.now.depth whole.now.tag whole.now.content.now v → IsReadAs result v }
+        ensures only { (v : DomainFields) → SpellsDomain whole.now.depth whole.now.tag whole.now.content.now v
+            → IsReadAs result v }
     {
         match read_fields(alloc, whole) {
             Ok(fields) => Ok(Domain { fields }),

@@ -155,7 +155,8 @@ impl Expansion {
 
         // What is answered is spelled by the element, and what the element spells is answered.
         ensures found { IfOk result (SpellsExpansion whole.now.depth whole.now.tag whole.now.content.now) }
-        ensures only { (v : ExpansionFields) → SpellsExpansion whole.now.depth whole.now.tag whole.now.content.now v → IsReadAs result v }
+        ensures only { (v : ExpansionFields) → SpellsExpansion whole.now.depth whole.now.tag whole.now.content.now v
+            → IsReadAs result v }
     {
         match read_fields(alloc, whole) {
             Ok(fields) => Ok(Expansion { fields }),

@@ -320,7 +320,8 @@ impl ExtField {
 
         // What is answered is spelled by the element, and what the element spells is answered.
         ensures found { IfOk result (SpellsExtField whole.now.depth whole.now.tag whole.now.content.now) }
-        ensures only { (v : ExtFields) → SpellsExtField whole.now.depth whole.now.tag whole.now.content.now v → IsReadAs result v }
+        ensures only { (v : ExtFields) → SpellsExtField whole.now.depth whole.now.tag whole.now.content.now v
+            → IsReadAs result v }
     {
         match read_fields(alloc, whole) {
             Ok(fields) => Ok(ExtField { fields }),

@@ -163,7 +163,8 @@ impl MtsId {
 
         // What is answered is spelled by the element, and what the element spells is answered.
         ensures found { IfOk result (SpellsMtsId whole.now.depth whole.now.tag whole.now.content.now) }
-        ensures only { (v : MtsIdFields) → SpellsMtsId whole.now.depth whole.now.tag whole.now.content.now v → IsReadAs result v }
+        ensures only { (v : MtsIdFields) → SpellsMtsId whole.now.depth whole.now.tag whole.now.content.now v
+            → IsReadAs result v }
     {
         match read_fields(alloc, whole) {
             Ok(fields) => Ok(MtsId { fields }),

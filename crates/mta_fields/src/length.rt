@@ -1,5 +1,5 @@
-//! How many octets fields have that are written, told without writing them: no call here takes memory. Each answers 2^64 - 1 where there
-//! are as many octets or more.
+//! How many octets fields have that are written, told without writing them: no call here takes memory. Each answers
+//! 2^64 - 1 where there are as many octets or more.
 
 ghost use Rattle.std.specs.Prelude.{◌≡◌, ◌≤◌, IfSome};
 ghost use Rattle.mta_ber.specs.Canon.{optional};
@@ -7,7 +7,8 @@ ghost use Rattle.mta_ber.specs.Lengths.{octet_length};
 ghost use Rattle.mta_ber.specs.Times.{last_moment};
 ghost use Rattle.mta_names.specs.Labels.{canonical_choice};
 ghost use Rattle.mta_fields.specs.Domains.{canonical_domain};
-ghost use Rattle.mta_fields.specs.ExtensionFields.{canonical_kind, canonical_criticality, canonical_value, canonical_ext};
+ghost use Rattle.mta_fields.specs.ExtensionFields.{canonical_kind, canonical_criticality, canonical_value};
+ghost use Rattle.mta_fields.specs.ExtensionFields.{canonical_ext};
 ghost use Rattle.mta_fields.specs.Traces.{IsSupplied, canonical_deferred, canonical_other, canonical_supplied};
 
 use crate::domain::{Domain, DomainFields};

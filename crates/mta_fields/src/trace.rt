@@ -156,7 +156,8 @@ impl TraceElement {
 
         // What is answered is spelled by the element, and what the element spells is answered.
         ensures found { IfOk result (SpellsTrace whole.now.depth whole.now.tag whole.now.content.now) }
-        ensures only { (v : TraceFields) → SpellsTrace whole.now.depth whole.now.tag whole.now.content.now v → IsReadAs result v }
+        ensures only { (v : TraceFields) → SpellsTrace whole.now.depth whole.now.tag whole.now.content.now v
+            → IsReadAs result v }
     {
         match read_fields(alloc, whole) {
             Ok(fields) => Ok(TraceElement { fields }),

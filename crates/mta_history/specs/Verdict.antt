@@ -48,7 +48,8 @@ verdict_at (Hops.Peer place) expired = unless_expired expired (Verdicts.Relay pl
 
 -- the verdict on the recipient of a message that arrived at one moment and is looked at at another
 unfoldable pub verdict_of_message : TablesValue → ℕ → ℕ → MessageValue → Verdict
-verdict_of_message tables arrival moment m = verdict_at (best_hop tables (attributes_of m.recipient)) (is_expired (hold_time tables) arrival moment)
+verdict_of_message tables arrival moment m =
+    verdict_at (best_hop tables (attributes_of m.recipient)) (is_expired (hold_time tables) arrival moment)
 
 abbrev pub last_of : List (List ℕ) → Option (List ℕ)
 last_of [] = None

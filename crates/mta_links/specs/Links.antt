@@ -1,5 +1,6 @@
 -- What links and stations tell of themselves to whoever reasons about them, and what their calls do to it.
-use Rattle.std.specs.Prelude.{ℕ, ◌≤◌, ◌≡◌, ◌⊎◌, List, [], ◌∷◌, ◌++◌, length, take, drop, ◌+◌, Option, Some, None}
+use Rattle.std.specs.Prelude.{ℕ, ◌≤◌, ◌≡◌, ◌⊎◌, List, [], ◌∷◌, ◌++◌, length, take, drop}
+use Rattle.std.specs.Prelude.{◌+◌, Option, Some, None}
 use Rattle.mta_links.specs.declared.role.Role.{Role}
 
 -- the octets that were got from the peer, those that it has still to give, and those that were put

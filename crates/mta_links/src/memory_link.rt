@@ -1,6 +1,7 @@
 //! A link in memory.
 
-ghost use Rattle.std.specs.Prelude.{◌<◌, ◌≤◌, ◌≡◌, ◌⊎◌, [], false, is_err, length, IfOk, OnErr, OnOk, Some};
+ghost use Rattle.std.specs.Prelude.{◌<◌, ◌≤◌, ◌≡◌, ◌⊎◌, [], false, is_err, length, IfOk, OnErr};
+ghost use Rattle.std.specs.Prelude.{OnOk, Some};
 ghost use Rattle.mta_edge.specs.Causes.{HasCause};
 ghost use Rattle.mta_edge.specs.Numbers.{is_listed, one_more_call};
 ghost use Rattle.mta_links.specs.Held.{memory_link};

@@ -1,6 +1,7 @@
 //! A station in memory.
 
-ghost use Rattle.std.specs.Prelude.{◌+◌, ◌<◌, ◌≡◌, [], ◌∷◌, ◌++◌, is_err, option_to_list, IfNone, IfOk, OnErr, Some};
+ghost use Rattle.std.specs.Prelude.{◌+◌, ◌<◌, ◌≡◌, [], ◌∷◌, ◌++◌, is_err, option_to_list};
+ghost use Rattle.std.specs.Prelude.{IfNone, IfOk, OnErr, Some};
 ghost use Rattle.mta_edge.specs.Causes.{HasCause};
 ghost use Rattle.mta_edge.specs.Numbers.{is_listed, one_more_call};
 ghost use Rattle.mta_links.specs.Held.{memory_link, memory_station, served_of};

@@ -21,7 +21,8 @@ pub trait Station {
 
     /// The next session's link. None comes exactly where no link is left.
     fn next(&mut self) -> Result<Option<Self::Link>, Failed>
-        ensures given { IfOk result (λ r. LeadsNext Self.Link.model r (model.served self.old) (model.served self.new)) }
+        ensures given { IfOk result
+            (λ r. LeadsNext Self.Link.model r (model.served self.old) (model.served self.new)) }
         ensures out { IfOk result (λ r. model.out self.new ≡ one_more_out r (model.out self.old)) }
         ensures kept { OnErr result (model.served self.new ≡ model.served self.old) }
         ensures none_out { OnErr result (model.out self.new ≡ model.out self.old) }

@@ -103,8 +103,8 @@ value_of x = x.value
 abbrev pub values_of : List Part → List (List ℕ)
 values_of parts = map value_of parts
 
--- one to eight values, those of parts that follow one another as a pattern's do, each with the characters and the size of its key: a
--- country, an administration domain, a private domain, an organization and at most four units
+-- one to eight values, those of parts that follow one another as a pattern's do, each with the characters and the size
+-- of its key: a country, an administration domain, a private domain, an organization and at most four units
 pub record IsPattern (values : List (List ℕ)) : Type 0 where
   pub parts : List Part
   pub last : Place

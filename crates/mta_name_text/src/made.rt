@@ -11,8 +11,8 @@ use mta_names::{Attributes, Label, OrName, Pair, PairFields, Person, PersonField
 use std::alloc::Global;
 use std::marker::Model;
 
-/// The attributes so far of a name that is made of its parts. A personal name and domain-defined attributes are such as they may be
-/// only once all parts are in, so they are held apart from the others.
+/// The attributes so far of a name that is made of its parts. A personal name and domain-defined attributes are such as
+/// they may be only once all parts are in, so they are held apart from the others.
 #[derive(Drop)]
 pub struct NameDraft {
     others: Attributes,

@@ -27,8 +27,8 @@ pub trait FromText: Sized {
 }
 
 impl FromText for OrName {
-    /// The name of a text form: parts KEY=value joined by semicolons, in the order C, A, P, O, OU (up to four), S, G, I, Q, CN, X121,
-    /// TID, UID, DDA:type (up to four), at least one of them, and G, I and Q only behind S.
+    /// The name of a text form: parts KEY=value joined by semicolons, in the order C, A, P, O, OU (up to four), S, G,
+    /// I, Q, CN, X121, TID, UID, DDA:type (up to four), at least one of them, and G, I and Q only behind S.
     fn from_text(alloc: Global, text: &[u8]) -> Result<OrName, NameFault>
         requires { length text.now < 2 ^ 32 }
         ensures exact { Reads result (name_of_text text.now) }
@@ -45,8 +45,8 @@ impl FromText for OrName {
 }
 
 impl FromText for Pattern {
-    /// The pattern of a text form: parts C, A, P, O and OU (up to four), joined by semicolons, from C on with none left out before
-    /// the last.
+    /// The pattern of a text form: parts C, A, P, O and OU (up to four), joined by semicolons, from C on with none left
+    /// out before the last.
     fn from_text(alloc: Global, text: &[u8]) -> Result<Pattern, NameFault>
         requires { length text.now < 2 ^ 32 }
         ensures exact { Reads result (pattern_of_text text.now) }
@@ -56,7 +56,8 @@ impl FromText for Pattern {
         ensures only { (values : List (List ℕ)) → IsPatternForm text.now values → IsReadAs result values }
 
         // Which octet is at fault.
-        ensures fault { (at : ℕ) → result ≡ Err (Faults.NameText at) → IsFirstFault Grammars.Patterns text.now at }
+        ensures fault { (at : ℕ) → result ≡ Err (Faults.NameText at)
+            → IsFirstFault Grammars.Patterns text.now at }
     {
         pattern_from_text(alloc, text)
     }
@@ -72,16 +73,16 @@ pub trait NameForm {
 }
 
 impl NameForm for OrName {
-    /// The text form of a name: its parts in the order of the keys. What is kept unread is not printed, and a name without a part has
-    /// the empty text.
+    /// The text form of a name: its parts in the order of the keys. What is kept unread is not printed, and a name
+    /// without a part has the empty text.
     fn to_text(&self, alloc: Global) -> Result<Text, Memory>
         ensures { IfOk result (λ t. t ≡ text_form self.now) }
     {
         name_text(alloc, self)
     }
 
-    /// Whether each part of a pattern is in the name with equal normal text: the parts are a country, an administration domain, a
-    /// private domain, an organization and units, and leave out none before their last.
+    /// Whether each part of a pattern is in the name with equal normal text: the parts are a country, an administration
+    /// domain, a private domain, an organization and units, and leave out none before their last.
     fn has_route(&self, pattern: &Pattern) -> bool
         ensures { IsTrue result ↔ HasRoute self.now pattern.now }
     {

@@ -1,5 +1,5 @@
--- What personal names, domain-defined attributes and attributes kept unread may hold, and when contents octets are an object identifier
--- or a number of 0 to 32,767 (X.411, upper bounds).
+-- What personal names, domain-defined attributes and attributes kept unread may hold, and when contents octets are an
+-- object identifier or a number of 0 to 32,767 (X.411, upper bounds).
 use Rattle.std.specs.Prelude.{◌≡◌, ◌≢◌, ℕ, ◌≤◌, true, List, IfSome}
 use Rattle.mta_ber.specs.declared.tag.Tag.{Tag}
 use Rattle.mta_ber.specs.declared.text.TextClass.TheVariants.{Printable}
@@ -33,6 +33,7 @@ pub record IsExtra (e : ExtraFields) : Type 0 where
   pub other : e.number ≢ 1
   pub raw : IsRaw 2 1 e.raw
 
--- a number as most of X.411 bounds them: a built-in content type, the type of an extension, a type of user, a reason, a diagnostic
+-- a number as most of X.411 bounds them: a built-in content type, the type of an extension, a type of user, a reason, a
+-- diagnostic
 abbrev pub IsCode : ℕ → Type 0
 IsCode n = n ≤ 32767

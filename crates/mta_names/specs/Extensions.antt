@@ -60,7 +60,8 @@ attribute_fields n v = record { number = n; value = v }
 -- a type and a value, where `taken` says whether a common name is there already
 unfoldable pub attribute_parts_in : Bool → Part → Result AttributeFields Fault
 attribute_parts_in taken p =
-    components attribute_step (no_attribute taken p.at) p >>= λ s. required s.number p.at >>= λ n. required s.value p.at >>= λ v. Ok (attribute_fields n v)
+    components attribute_step (no_attribute taken p.at) p >>= λ s. required s.number p.at
+    >>= λ n. required s.value p.at >>= λ v. Ok (attribute_fields n v)
 
 -- what a value of a type makes: a common name, or an attribute that is kept
 abbrev pub attribute_as : ℕ → AttributeValue → Attribute
@@ -110,7 +111,8 @@ SpellsPrintable low high depth tag content octets t = (is_printable tag ≡ true
 
 -- the value of an attribute: an explicit tag around a common name, which is of type 1, or any element
 abbrev pub SpellsAttributeValue : Bool → ℕ → Tag → List ℕ → List ℕ → AttributeValue → Type 0
-SpellsAttributeValue common depth tag content octets (Name t) = (common ≡ true) × SpellsExplicit (SpellsPrintable 1 64) depth tag.constructed content t
+SpellsAttributeValue common depth tag content octets (Name t) = (common ≡ true)
+    × SpellsExplicit (SpellsPrintable 1 64) depth tag.constructed content t
 SpellsAttributeValue common depth tag content octets (Raw o) = (common ≡ false) × (o ≡ octets)
 
 pub record MakesType (before : AttributeParts) (tag : Tag) (content : List ℕ) (after : AttributeParts) : Type 0 where
@@ -132,7 +134,8 @@ abbrev pub MakesAttribute : Makes AttributeParts
 MakesAttribute depth before tag content octets after = MakesType before tag content after ⊎ MakesAttributeValue depth before tag content octets after
 
 -- a SEQUENCE of a type and a value; the offset plays no part in what it spells
-pub record SpellsAttributeFields (taken : Bool) (depth : ℕ) (constructed : Bool) (content : List ℕ) (f : AttributeFields) : Type 0 where
+pub record SpellsAttributeFields (taken : Bool) (depth : ℕ) (constructed : Bool) (content : List ℕ)
+    (f : AttributeFields) : Type 0 where
   pub is_constructed : constructed ≡ true
   pub at : ℕ
   pub parts : AttributeParts
@@ -140,7 +143,8 @@ pub record SpellsAttributeFields (taken : Bool) (depth : ℕ) (constructed : Boo
   pub number : parts.number ≡ Some f.number
   pub value : parts.value ≡ Some f.value
 
-pub record SpellsAttribute (taken : Bool) (depth : ℕ) (constructed : Bool) (content : List ℕ) (a : Attribute) : Type 0 where
+pub record SpellsAttribute (taken : Bool) (depth : ℕ) (constructed : Bool) (content : List ℕ)
+    (a : Attribute) : Type 0 where
   pub fields : AttributeFields
   pub spelled : SpellsAttributeFields taken depth constructed content fields
   pub attribute_is : a ≡ attribute fields

@@ -73,13 +73,15 @@ abbrev pub LabelChoicesAreReadAgain : Type 0
 LabelChoicesAreReadAgain = (low high depth : ℕ) (l : Label) → IsLabel low high l → depth ≤ 16 → IsReadAgain (label_choice low high) depth (canonical_choice l) l
 
 abbrev pub PersonalNamesAreReadAgain : Type 0
-PersonalNamesAreReadAgain = (tag : Tag) (depth : ℕ) (v : PersonFields) → IsTag tag → tag.constructed ≡ true → IsPerson v → depth + 1 ≤ 16 → IsReadAgain person_in depth (element tag (canonical_person v)) v
+PersonalNamesAreReadAgain = (tag : Tag) (depth : ℕ) (v : PersonFields) → IsTag tag → tag.constructed ≡ true
+    → IsPerson v → depth + 1 ≤ 16 → IsReadAgain person_in depth (element tag (canonical_person v)) v
 
 abbrev pub UnitNamesAreReadAgain : Type 0
 UnitNamesAreReadAgain = (depth : ℕ) (us : List (List ℕ)) → Each (IsText Printable 1 32) us → 1 ≤ length us → length us ≤ 4 → depth + 1 ≤ 16 → IsReadAgain units_in depth (canonical_units us) us
 
 abbrev pub DomainDefinedAttributesAreReadAgain : Type 0
-DomainDefinedAttributesAreReadAgain = (depth : ℕ) (ps : List PairFields) → Each IsPair ps → 1 ≤ length ps → length ps ≤ 4 → depth + 2 ≤ 16 → IsReadAgain pairs_in depth (canonical_pairs ps) ps
+DomainDefinedAttributesAreReadAgain = (depth : ℕ) (ps : List PairFields) → Each IsPair ps → 1 ≤ length ps
+    → length ps ≤ 4 → depth + 2 ≤ 16 → IsReadAgain pairs_in depth (canonical_pairs ps) ps
 
 -- a common name and other extension attributes, whose values stand two levels below the SET
 pub record IsExtended (depth : ℕ) (s : ExtensionParts) : Type 0 where

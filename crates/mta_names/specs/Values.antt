@@ -1,5 +1,6 @@
 -- O/R names as values: their attributes, with characters and sizes (X.402, clause 18; X.411, upper bounds).
-use Rattle.std.specs.Prelude.{◌≡◌, ℕ, ◌+◌, ◌≤◌, Bool, true, false, IsTrue, List, [], ◌∷◌, length, Option, Some, None, IfSome, ◌||◌}
+use Rattle.std.specs.Prelude.{◌≡◌, ℕ, ◌+◌, ◌≤◌, Bool, true, false, IsTrue, List, [], ◌∷◌}
+use Rattle.std.specs.Prelude.{length, Option, Some, None, IfSome, ◌||◌}
 use Rattle.std.specs.List.{list_all}
 use Rattle.mta_ber.specs.declared.text.TextClass.{TextClass}
 use Rattle.mta_ber.specs.declared.text.TextClass.TheVariants.{Numeric, Printable}

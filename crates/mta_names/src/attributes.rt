@@ -24,8 +24,8 @@ pub struct PersonFields {
     pub generation: Option<Text>,
 }
 
-/// A personal-name: a surname of 1 to 40 characters of PrintableString, and at most a given name of 1 to 16, initials of 1 to
-/// 5 and a generation qualifier of 1 to 3.
+/// A personal-name: a surname of 1 to 40 characters of PrintableString, and at most a given name of 1 to 16, initials
+/// of 1 to 5 and a generation qualifier of 1 to 3.
 #[derive(Debug, Drop)]
 pub struct Person {
     fields: PersonFields,

@@ -9,8 +9,8 @@ use mta_ber::{Memory, Octets, ReadFault, View};
 use std::alloc::Global;
 use std::marker::Model;
 
-/// A number of 0 to 32,767, as X.411 bounds built-in content types, types of extensions and of users, reasons and diagnostics.
-/// Contracts see the number.
+/// A number of 0 to 32,767, as X.411 bounds built-in content types, types of extensions and of users, reasons and
+/// diagnostics. Contracts see the number.
 #[derive(Clone, Copy, Debug, PartialEq, Eq)]
 pub struct Code {
     number: u32,
@@ -73,8 +73,8 @@ impl ObjectId {
     ghost use Rattle.mta_ber.specs.Parts.{Reads};
     ghost use Rattle.mta_ber.specs.Seen.{view};
 
-    /// The object identifier that an element spells, whatever its tag. BadTag where it is constructed, BadText where its contents
-    /// octets are no object identifier.
+    /// The object identifier that an element spells, whatever its tag. BadTag where it is constructed, BadText where
+    /// its contents octets are no object identifier.
     pub fn read(alloc: Global, part: &View) -> Result<ObjectId, ReadFault>
         ensures { Reads result (oid_in (view part.now)) }
     {

@@ -4,7 +4,9 @@ ghost use Rattle.std.specs.Prelude.{◌≡◌};
 ghost use Rattle.mta_ber.specs.Element.{explicit};
 ghost use Rattle.mta_ber.specs.Parts.{Leaves, Reads};
 ghost use Rattle.mta_ber.specs.Seen.{view};
-ghost use Rattle.mta_names.specs.Extensions.{common_choice, value_in, type_in, valued, attribute_step, attribute_parts_in, attribute, IsAttribute, attribute_in, with_attribute, answer, extension_step, extension_count, extensions_in};
+ghost use Rattle.mta_names.specs.Extensions.{common_choice, value_in, type_in, valued, attribute_step};
+ghost use Rattle.mta_names.specs.Extensions.{attribute_parts_in, attribute, IsAttribute, attribute_in, with_attribute};
+ghost use Rattle.mta_names.specs.Extensions.{answer, extension_step, extension_count, extensions_in};
 ghost use Rattle.mta_names.specs.Strings.{number_in};
 
 use crate::attributes::{Attribute, Extra, ExtraFields};

@@ -1,11 +1,12 @@
-//! How many octets names have that are written, told without writing them: no call here takes memory. Each answers 2^64 - 1 where there
-//! are as many octets or more.
+//! How many octets names have that are written, told without writing them: no call here takes memory. Each answers
+//! 2^64 - 1 where there are as many octets or more.
 
 ghost use Rattle.std.specs.Prelude.{◌≡◌, ◌<◌, ◌++◌, List, ℕ, []};
 ghost use Rattle.std.specs.List.{flat_map};
 ghost use Rattle.mta_ber.specs.Canon.{element, optional};
 ghost use Rattle.mta_ber.specs.Lengths.{octet_length};
-ghost use Rattle.mta_names.specs.Extensions.{canonical_attribute, canonical_common, canonical_extra, canonical_extensions};
+ghost use Rattle.mta_names.specs.Extensions.{canonical_attribute, canonical_common, canonical_extra};
+ghost use Rattle.mta_names.specs.Extensions.{canonical_extensions};
 ghost use Rattle.mta_names.specs.Labels.{canonical_choice, canonical_label};
 ghost use Rattle.mta_names.specs.Lists.{canonical_printable, canonical_units, canonical_pair, canonical_pairs, listed};
 ghost use Rattle.mta_names.specs.Names.{kept, name_content, extensions_of};
@@ -142,7 +143,8 @@ fn pairs_length(pairs: &Row<Pair>) -> u64
 
 /// How many octets an extension attribute has, where its value has so many.
 fn attribute_length(number: u32, value: u64) -> u64
-    ensures { (octets : List ℕ) → value ≡ octet_length octets → result ≡ octet_length (canonical_attribute number octets) }
+    ensures { (octets : List ℕ) → value ≡ octet_length octets
+        → result ≡ octet_length (canonical_attribute number octets) }
 {
     let content = length_of_both(int_length(primitive(2, 0), number as i64), value);
     element_length(constructed(0, 16), content)
@@ -178,7 +180,8 @@ fn extras_length(extras: &[Extra]) -> u64
 }
 
 fn attributes_length(n: &Attributes) -> u64
-    ensures { result ≡ octet_length (optional canonical_common n.now.common ++ flat_map canonical_extra n.now.extras) }
+    ensures { result ≡ octet_length
+        (optional canonical_common n.now.common ++ flat_map canonical_extra n.now.extras) }
 {
     length_of_both(common_length(&n.common), extras_length(n.extras.as_slice()))
 }

@@ -10,7 +10,8 @@ use Rattle.mta_tables.specs.declared.hop.Hop.TheVariants as Hops
 use Rattle.mta_tables.specs.Hops.{best_hop}
 use Rattle.mta_tables.specs.Tables.{TablesValue}
 use Rattle.mta_procedures.specs.declared.verdict.Verdict.{Verdict}
-use Rattle.mta_procedures.specs.declared.verdict.Verdict.TheVariants.{Deliver, Expand, Relay, Affirm, NonDeliver, Hold, Back, Discard}
+use Rattle.mta_procedures.specs.declared.verdict.Verdict.TheVariants.{Deliver, Expand, Relay, Affirm, NonDeliver, Hold}
+use Rattle.mta_procedures.specs.declared.verdict.Verdict.TheVariants.{Back, Discard}
 use Rattle.mta_procedures.specs.Copies.{longest_copy}
 use Rattle.mta_procedures.specs.Facts.{of_list}
 use Rattle.mta_procedures.specs.Histories.{is_in_history, longest_history}

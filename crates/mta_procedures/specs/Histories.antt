@@ -1,6 +1,7 @@
 -- Distribution lists (X.402, clause 7; X.411, clause 14: distribution list expansion): the history of expansions, who
 -- posts, and who may.
-use Rattle.std.specs.Prelude.{ℕ, Bool, List, length, map, reverse, slice_get, ◌-◌, Option, nat_le, ◌||◌, ◌==◌}
+use Rattle.std.specs.Prelude.{ℕ, Bool, List, length, map, reverse, slice_get, ◌-◌, Option, nat_le, ◌||◌}
+use Rattle.std.specs.Prelude.{◌==◌}
 use Rattle.std.specs.List.{list_any}
 use Rattle.std.specs.Option.{option_map_or}
 use Rattle.mta_names.specs.declared.attributes.Attributes.{Attributes}

@@ -1,5 +1,6 @@
 -- Laws of verdicts, copies and reports.
-use Rattle.std.specs.Prelude.{◌≡◌, ℕ, ◌+◌, ◌<◌, ◌≤◌, ◌^◌, Bool, true, List, [], ◌∷◌, ◌++◌, length, Some, None, IfSome, slice_get}
+use Rattle.std.specs.Prelude.{◌≡◌, ℕ, ◌+◌, ◌<◌, ◌≤◌, ◌^◌, Bool, true, List, [], ◌∷◌}
+use Rattle.std.specs.Prelude.{◌++◌, length, Some, None, IfSome, slice_get}
 use Rattle.std.specs.Option.{option_map}
 use Rattle.mta_ber.specs.Bits.{BitString, bit}
 use Rattle.mta_ber.specs.Times.{last_moment}
@@ -23,7 +24,8 @@ use Rattle.mta_tables.specs.declared.entry.MailList.{MailList}
 use Rattle.mta_tables.specs.Tables.{TablesValue}
 use Rattle.mta_procedures.specs.declared.case.Case.{Case}
 use Rattle.mta_procedures.specs.Bits.{with_responsibility}
-use Rattle.mta_procedures.specs.Copies.{outgoing_envelope, outgoing_fields, outgoing_message, outgoing_probe, responsible_for, responsible_if, is_chosen}
+use Rattle.mta_procedures.specs.Copies.{outgoing_envelope, outgoing_fields, outgoing_message, outgoing_probe}
+use Rattle.mta_procedures.specs.Copies.{responsible_for, responsible_if, is_chosen}
 use Rattle.mta_procedures.specs.Facts.{Facts}
 use Rattle.mta_procedures.specs.Heads.{outgoing_head}
 use Rattle.mta_procedures.specs.Histories.{is_in_history, longest_history}
@@ -63,7 +65,8 @@ ReportCopyKeepsAllElse = (s : Situation) (p : ReportFields) → record (outgoing
 abbrev pub CopyKeepsRecipients : Type 0
 CopyKeepsRecipients =
     (chosen : List ℕ) (rs : List RecipientFields) (i : ℕ)
-    → slice_get (responsible_for chosen rs) i ≡ option_map (responsible_if (is_chosen chosen (i + 1))) (slice_get rs i)
+    → slice_get (responsible_for chosen rs) i ≡ option_map (responsible_if (is_chosen chosen (i + 1)))
+    (slice_get rs i)
 
 -- responsibility is as said, and no other bit changes
 pub record IsWithResponsibility (responsible : Bool) (old new : BitString) : Type 0 where
@@ -80,12 +83,14 @@ ResponsibilityIsAsSaid =
 -- a copy has as many octets whichever recipients are chosen and whenever it is made
 abbrev pub CopiesAreAsLong : Type 0
 CopiesAreAsLong =
-    (s t : Situation) (m : MessageValue) (chosen others : List ℕ) → s.tables ≡ t.tables → s.arrival ≡ t.arrival
+    (s t : Situation) (m : MessageValue) (chosen others : List ℕ) → s.tables ≡ t.tables
+    → s.arrival ≡ t.arrival
     → length (outgoing_message s m chosen) ≡ length (outgoing_message t m others)
 
 abbrev pub ProbeCopiesAreAsLong : Type 0
 ProbeCopiesAreAsLong =
-    (s t : Situation) (e : EnvelopeFields) (chosen others : List ℕ) → s.tables ≡ t.tables → s.arrival ≡ t.arrival
+    (s t : Situation) (e : EnvelopeFields) (chosen others : List ℕ) → s.tables ≡ t.tables
+    → s.arrival ≡ t.arrival
     → length (outgoing_probe s e chosen) ≡ length (outgoing_probe t e others)
 
 -- the own domain and the moments are such as may be written

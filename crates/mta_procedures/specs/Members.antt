@@ -1,6 +1,7 @@
 -- The copy of a message for the members of a list (X.411, clause 14: distribution list expansion): the members are
 -- its recipients, and the expansion stands in its history and in its trace. All else is the item's.
-use Rattle.std.specs.Prelude.{ℕ, ◌+◌, Bool, true, false, List, [], ◌∷◌, ◌++◌, length, Option, Some, None, if◌then◌else◌, ◌||◌, ◌==◌}
+use Rattle.std.specs.Prelude.{ℕ, ◌+◌, Bool, true, false, List, [], ◌∷◌, ◌++◌, length, Option, Some}
+use Rattle.std.specs.Prelude.{None, if◌then◌else◌, ◌||◌, ◌==◌}
 use Rattle.std.specs.List.{flat_map}
 use Rattle.std.specs.Option.{option_map_or}
 use Rattle.mta_ber.specs.Canon.{element, constructed}
@@ -62,7 +63,8 @@ is_history_field f = is_topic ExpansionHistory (topic_of f.kind)
 -- the extensions with this history, in the field that had one, and else in a field behind the others
 abbrev pub with_history : List ℕ → List ExtFields → List ExtFields
 with_history value [] = history_field value ∷ []
-with_history value (f ∷ fs) = if is_history_field f then record f { value = value } ∷ fs else f ∷ with_history value fs
+with_history value (f ∷ fs) = if is_history_field f then record f { value = value } ∷ fs
+    else f ∷ with_history value fs
 
 -- ---- the copy
 

@@ -17,7 +17,8 @@ use Rattle.mta_report.specs.Reports.{canonical_report}
 use Rattle.mta_apdu.specs.Apdus.{ApduValue, message, probe, report, apdu_of, stored_of, longest_stored, SpellsStored}
 use Rattle.mta_tables.specs.declared.entry.MailList.{MailList}
 use Rattle.mta_tables.specs.Tables.{TablesValue, tables_of}
-use Rattle.mta_procedures.specs.Copies.{outgoing_envelope, outgoing_fields, outgoing_message, outgoing_probe, outgoing_report, longest_copy}
+use Rattle.mta_procedures.specs.Copies.{outgoing_envelope, outgoing_fields, outgoing_message, outgoing_probe}
+use Rattle.mta_procedures.specs.Copies.{outgoing_report, longest_copy}
 use Rattle.mta_procedures.specs.Laws.{IsWritable, IsExpandable}
 use Rattle.mta_procedures.specs.Members.{members_copy, message_octets}
 use Rattle.mta_procedures.specs.Reports.{report_of}
@@ -50,7 +51,8 @@ MessageCopiesAreRead =
     (s : Situation) (bytes : List ℕ) (m : MessageValue) (chosen : List ℕ)
     → IsWritable s → SpellsStored bytes (message m) → length m.envelope.trace < longest_trace
     → length (outgoing_message s m chosen) ≤ longest_copy
-    → apdu_of (outgoing_message s m chosen) ≡ Ok (message (message_as (outgoing_envelope s m.envelope chosen) (content_as true m.content.octets)))
+    → apdu_of (outgoing_message s m chosen) ≡ Ok
+    (message (message_as (outgoing_envelope s m.envelope chosen) (content_as true m.content.octets)))
 
 abbrev pub ProbeCopiesAreRead : Type 0
 ProbeCopiesAreRead =
@@ -120,4 +122,5 @@ MembersCopiesAreRead =
     (s : Situation) (bytes : List ℕ) (l : MailList) (m copy : MessageValue) (r : RecipientFields)
     → SpellsStored bytes (message m) → IsExpandable s l m.envelope r → members_copy s l m r ≡ Some copy
     → length (message_octets copy) ≤ longest_stored
-    → stored_of (message_octets copy) ≡ Ok (message (message_as copy.envelope (content_as true copy.content.octets)))
+    → stored_of (message_octets copy) ≡ Ok
+    (message (message_as copy.envelope (content_as true copy.content.octets)))

@@ -1,5 +1,6 @@
 -- The reports that are made here (X.411, clause 14: report generation), field by field, and when one is made.
-use Rattle.std.specs.Prelude.{ℕ, zero, suc, ◌+◌, ◌/◌, ◌%◌, List, [], ◌∷◌, ◌++◌, Option, Some, None, if◌then◌else◌, ◌&&◌, not}
+use Rattle.std.specs.Prelude.{ℕ, zero, suc, ◌+◌, ◌/◌, ◌%◌, List, [], ◌∷◌, ◌++◌, Option, Some}
+use Rattle.std.specs.Prelude.{None, if◌then◌else◌, ◌&&◌, not}
 use Rattle.std.specs.Option.{option_map}
 use Rattle.mta_names.specs.declared.attributes.Attributes.{Attributes}
 use Rattle.mta_fields.specs.declared.domain.DomainFields.{DomainFields}
@@ -48,7 +49,8 @@ reported_of arrival r outcome = record {
 }
 
 -- to a destination, as the item of a number
-abbrev pub report_to : TablesValue → ℕ → ℕ → EnvelopeFields → RecipientFields → Outcome → Attributes → ReportFields
+abbrev pub report_to : TablesValue → ℕ → ℕ → EnvelopeFields → RecipientFields → Outcome → Attributes
+    → ReportFields
 report_to t number arrival e r outcome destination = record {
   id = report_id t.domain number;
   destination = destination;
@@ -66,7 +68,8 @@ report_to t number arrival e r outcome destination = record {
 }
 
 -- none where the walk ends
-unfoldable pub report_of : TablesValue → ℕ → ℕ → EnvelopeFields → RecipientFields → Outcome → Option ReportFields
+unfoldable pub report_of : TablesValue → ℕ → ℕ → EnvelopeFields → RecipientFields → Outcome
+    → Option ReportFields
 report_of t number arrival e r outcome = option_map (report_to t number arrival e r outcome) (report_walk t e)
 
 -- ---- when a report is made
@@ -76,7 +79,8 @@ abbrev pub user_of : Hop → ℕ
 user_of hop = if leads_to_list hop then DL else PUBLIC
 
 -- of a recipient that is delivered to, or affirmed, where a report is asked
-abbrev pub delivery_report : TablesValue → ℕ → ℕ → EnvelopeFields → RecipientFields → ℕ → Option ReportFields
+abbrev pub delivery_report : TablesValue → ℕ → ℕ → EnvelopeFields → RecipientFields → ℕ
+    → Option ReportFields
 delivery_report t number arrival e r moment =
     if asks_report r then report_of t number arrival e r (Delivery moment (user_of (best_hop t r.name))) else None
 

@@ -1,5 +1,6 @@
 -- Worked cases: a message of 101 octets, and what becomes of it.
-use Rattle.std.specs.Prelude.{◌≡◌, ℕ, Bool, true, false, List, [], ◌∷◌, length, map, take, Option, Some, None}
+use Rattle.std.specs.Prelude.{◌≡◌, ℕ, Bool, true, false, List, [], ◌∷◌, length, map, take, Option, Some}
+use Rattle.std.specs.Prelude.{None}
 use Rattle.std.specs.Option.{option_map}
 use Rattle.mta_ber.specs.Bits.{BitString, bit}
 use Rattle.mta_names.specs.declared.attributes.Attributes.{Attributes}
@@ -24,7 +25,8 @@ use Rattle.mta_tables.specs.declared.entry.Target.TheVariants as Targets
 use Rattle.mta_tables.specs.declared.hop.Hop.TheVariants as Hops
 use Rattle.mta_tables.specs.Tables.{TablesValue}
 use Rattle.mta_tables.specs.Hops.{best_hop}
-use Rattle.mta_procedures.specs.declared.verdict.Verdict.TheVariants.{Deliver, Expand, Affirm, NonDeliver, Hold, Discard}
+use Rattle.mta_procedures.specs.declared.verdict.Verdict.TheVariants.{Deliver, Expand, Affirm, NonDeliver, Hold}
+use Rattle.mta_procedures.specs.declared.verdict.Verdict.TheVariants.{Discard}
 use Rattle.mta_procedures.specs.Copies.{outgoing_envelope, outgoing_message, responsible_for}
 use Rattle.mta_procedures.specs.Heads.{outgoing_head}
 use Rattle.mta_procedures.specs.Members.{members_copy, members_envelope}
@@ -113,7 +115,8 @@ at_once = record { tables = bare; arrival = 0; moment = 0 }
 abbrev pub first_trace : List ℕ
 first_trace =
     105 ∷ 38 ∷ 48 ∷ 36 ∷ 99 ∷ 14 ∷ 97 ∷ 4 ∷ 19 ∷ 2 ∷ 71 ∷ 66 ∷ 98 ∷ 6 ∷ 19 ∷
-    4 ∷ 71 ∷ 79 ∷ 76 ∷ 68 ∷ 49 ∷ 18 ∷ 128 ∷ 13 ∷ 53 ∷ 48 ∷ 48 ∷ 49 ∷ 48 ∷ 49 ∷ 48 ∷ 48 ∷ 48 ∷ 48 ∷ 48 ∷ 48 ∷
+    4 ∷ 71 ∷ 79 ∷ 76 ∷ 68 ∷ 49 ∷ 18 ∷ 128 ∷ 13 ∷ 53 ∷ 48 ∷ 48 ∷ 49 ∷ 48 ∷ 49 ∷ 48 ∷ 48 ∷
+    48 ∷ 48 ∷ 48 ∷ 48 ∷
     90 ∷ 130 ∷ 1 ∷ 0 ∷ []
 
 -- the copy of the sample has 141 octets, begins with A0 81 8A 31 81 83, and its trace is 69 26 and the element
@@ -140,7 +143,10 @@ pub record ChosenAreResponsible : Type 0 where
 
 -- R0000000002 of this domain
 abbrev pub second_id : MtsIdFields
-second_id = record { domain = gold; local = 82 ∷ 48 ∷ 48 ∷ 48 ∷ 48 ∷ 48 ∷ 48 ∷ 48 ∷ 48 ∷ 48 ∷ 50 ∷ [] }
+second_id = record {
+  domain = gold;
+  local = 82 ∷ 48 ∷ 48 ∷ 48 ∷ 48 ∷ 48 ∷ 48 ∷ 48 ∷ 48 ∷ 48 ∷ 50 ∷ [];
+}
 
 abbrev pub sample_report : ReportFields
 sample_report = record {
@@ -219,7 +225,8 @@ expanded_once =
 
 abbrev pub expanded_twice : MessageValue
 expanded_twice =
-    message_as (members_envelope (at_lists (list_a ∷ list_b ∷ [])) list_b expanded_once.envelope to_b) posted.content
+    message_as (members_envelope
+    (at_lists (list_a ∷ list_b ∷ [])) list_b expanded_once.envelope to_b) posted.content
 
 -- a message to A is expanded, and so is the copy to B; the copy back to A is expanded to no members
 pub record ListsEnd : Type 0 where

@@ -1,5 +1,6 @@
 -- Trace information (X.411, clause 12, and clause 14: loop detection): what this agent adds, and how it finds a loop.
-use Rattle.std.specs.Prelude.{ℕ, Bool, false, List, [], ◌∷◌, length, Option, None, nat_le, not, ◌&&◌, ◌||◌}
+use Rattle.std.specs.Prelude.{ℕ, Bool, false, List, [], ◌∷◌, length, Option, None, nat_le, not, ◌&&◌}
+use Rattle.std.specs.Prelude.{◌||◌}
 use Rattle.std.specs.List.{list_any}
 use Rattle.mta_fields.specs.declared.domain.DomainFields.{DomainFields}
 use Rattle.mta_fields.specs.declared.supplied.Action.TheVariants.{Relayed}

@@ -1,6 +1,7 @@
 -- What is done with a recipient (X.411, clause 14: main module, deferral, routing, distribution lists; which reason
 -- stands with which diagnostic is own): the first case that applies, in the column of the item's kind.
-use Rattle.std.specs.Prelude.{◌≡◌, ℕ, Bool, true, false, List, [], ◌∷◌, ◌++◌, unwrap_or, if◌then◌else◌, ◌&&◌}
+use Rattle.std.specs.Prelude.{◌≡◌, ℕ, Bool, true, false, List, [], ◌∷◌, ◌++◌, unwrap_or}
+use Rattle.std.specs.Prelude.{if◌then◌else◌, ◌&&◌}
 use Rattle.std.specs.List.{find, list_any}
 use Rattle.std.specs.Option.{option_map_or}
 use Rattle.mta_recipient.specs.declared.recipient.RecipientFields.{RecipientFields}
@@ -11,10 +12,17 @@ use Rattle.mta_tables.specs.declared.hop.Hop.{Hop}
 use Rattle.mta_tables.specs.declared.hop.Hop.TheVariants as Hops
 use Rattle.mta_tables.specs.Hops.{best_hop}
 use Rattle.mta_procedures.specs.declared.case.Case.{Case}
-use Rattle.mta_procedures.specs.declared.case.Case.TheVariants.{Looped, CriticalExtension, NoRoute, Expired, Deferred, ListInHistory, ListProhibited, PosterNotPermitted, FullHistory, LongMembersCopy, ToList, ToMailbox, LongCopy, ToPeer}
-use Rattle.mta_procedures.specs.declared.codes.TheConstants.{TRANSFER_FAILURE, UNABLE_TO_TRANSFER, UNRECOGNISED_NAME, LOOP_DETECTED, MAXIMUM_TIME_EXPIRED, CONTENT_TOO_LONG, UNSUPPORTED_CRITICAL_FUNCTION, EXPANSION_PROHIBITED, NO_SUBMIT_PERMISSION}
+use Rattle.mta_procedures.specs.declared.case.Case.TheVariants.{Looped, CriticalExtension, NoRoute, Expired, Deferred}
+use Rattle.mta_procedures.specs.declared.case.Case.TheVariants.{ListInHistory, ListProhibited, PosterNotPermitted}
+use Rattle.mta_procedures.specs.declared.case.Case.TheVariants.{FullHistory, LongMembersCopy, ToList, ToMailbox}
+use Rattle.mta_procedures.specs.declared.case.Case.TheVariants.{LongCopy, ToPeer}
+use Rattle.mta_procedures.specs.declared.codes.TheConstants.{TRANSFER_FAILURE, UNABLE_TO_TRANSFER, UNRECOGNISED_NAME}
+use Rattle.mta_procedures.specs.declared.codes.TheConstants.{LOOP_DETECTED, MAXIMUM_TIME_EXPIRED, CONTENT_TOO_LONG}
+use Rattle.mta_procedures.specs.declared.codes.TheConstants.{UNSUPPORTED_CRITICAL_FUNCTION, EXPANSION_PROHIBITED}
+use Rattle.mta_procedures.specs.declared.codes.TheConstants.{NO_SUBMIT_PERMISSION}
 use Rattle.mta_procedures.specs.declared.verdict.Verdict.{Verdict}
-use Rattle.mta_procedures.specs.declared.verdict.Verdict.TheVariants.{Deliver, Expand, Relay, Affirm, NonDeliver, Hold, Back, Discard}
+use Rattle.mta_procedures.specs.declared.verdict.Verdict.TheVariants.{Deliver, Expand, Relay, Affirm, NonDeliver, Hold}
+use Rattle.mta_procedures.specs.declared.verdict.Verdict.TheVariants.{Back, Discard}
 use Rattle.mta_procedures.specs.Facts.{Facts, facts_of_message, facts_of_probe, facts_of_report, list_at}
 use Rattle.mta_procedures.specs.Members.{members_length}
 use Rattle.mta_procedures.specs.Situations.{Situation}
@@ -57,8 +65,8 @@ applies f ToPeer = leads_to_peer f.hop
 -- the order in which they are looked at
 abbrev pub cases : List Case
 cases =
-    Looped ∷ CriticalExtension ∷ NoRoute ∷ Expired ∷ Deferred ∷ ListInHistory ∷ ListProhibited ∷ PosterNotPermitted ∷
-    FullHistory ∷ LongMembersCopy ∷ ToList ∷ ToMailbox ∷ LongCopy ∷ ToPeer ∷ []
+    Looped ∷ CriticalExtension ∷ NoRoute ∷ Expired ∷ Deferred ∷ ListInHistory ∷ ListProhibited ∷
+    PosterNotPermitted ∷ FullHistory ∷ LongMembersCopy ∷ ToList ∷ ToMailbox ∷ LongCopy ∷ ToPeer ∷ []
 
 -- the first case that applies; one does, since a hop leads nowhere, to a list, to a mailbox or to a peer
 unfoldable pub first_case : Facts → Case

@@ -1,6 +1,7 @@
 -- To whom a report goes (X.411, clause 14: reports, distribution lists): back along the lists that were expanded, as
 -- the policy of each says, and to the originator at last.
-use Rattle.std.specs.Prelude.{Bool, List, [], ◌∷◌, Option, Some, None, option_and_then, if◌then◌else◌, ◌&&◌}
+use Rattle.std.specs.Prelude.{Bool, List, [], ◌∷◌, Option, Some, None, option_and_then, if◌then◌else◌}
+use Rattle.std.specs.Prelude.{◌&&◌}
 use Rattle.std.specs.List.{find, list_any, zip}
 use Rattle.mta_names.specs.declared.attributes.Attributes.{Attributes}
 use Rattle.mta_names.specs.Normal.{is_same_name}

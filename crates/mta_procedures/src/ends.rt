@@ -1,8 +1,14 @@
 //! Laws of what is relayed, read again, and brought to an end.
 
-ghost use Rattle.mta_procedures.specs.Ends.{MessagesHaveTheirVerdicts, ProbesHaveTheirVerdicts, ReportsMakeNoReports, DeliveredMessagesAreAtMailboxes, DeliveredReportsAreAtMailboxes, PassedReportsHaveDestinations, ExpandedMessagesHaveRoom, ReportsGoWhereTheWalkEnds};
-ghost use Rattle.mta_procedures.specs.Readings.{KeptEnvelopesWereRead, MessageCopiesAreRead, ProbeCopiesAreRead, ReportCopiesAreRead, MadeReportsAreRead, PassedReportsAreRead, MembersCopiesAreRead, ListsOfTablesAreWritable};
-ghost use Rattle.mta_procedures.specs.Relays.{RelayedMessagesHaveCopies, RelayedProbesHaveCopies, RelayedReportsHaveCopies, ReportCopiesAreTheSame};
+ghost use Rattle.mta_procedures.specs.Ends.{MessagesHaveTheirVerdicts, ProbesHaveTheirVerdicts, ReportsMakeNoReports};
+ghost use Rattle.mta_procedures.specs.Ends.{DeliveredMessagesAreAtMailboxes, DeliveredReportsAreAtMailboxes};
+ghost use Rattle.mta_procedures.specs.Ends.{PassedReportsHaveDestinations, ExpandedMessagesHaveRoom};
+ghost use Rattle.mta_procedures.specs.Ends.{ReportsGoWhereTheWalkEnds};
+ghost use Rattle.mta_procedures.specs.Readings.{KeptEnvelopesWereRead, MessageCopiesAreRead, ProbeCopiesAreRead};
+ghost use Rattle.mta_procedures.specs.Readings.{ReportCopiesAreRead, MadeReportsAreRead, PassedReportsAreRead};
+ghost use Rattle.mta_procedures.specs.Readings.{MembersCopiesAreRead, ListsOfTablesAreWritable};
+ghost use Rattle.mta_procedures.specs.Relays.{RelayedMessagesHaveCopies, RelayedProbesHaveCopies};
+ghost use Rattle.mta_procedures.specs.Relays.{RelayedReportsHaveCopies, ReportCopiesAreTheSame};
 
 /// What is relayed has a copy of 1 to 2,097,152 octets, and its trace has room for an element. The copy of a report
 /// is the same at each moment.

@@ -1,6 +1,10 @@
 //! Laws of verdicts, copies and reports.
 
-ghost use Rattle.mta_procedures.specs.Laws.{FirstCaseApplies, FirstCaseIsOne, HeadIsInFront, CopyKeepsAllElse, ReportCopyKeepsAllElse, CopyKeepsRecipients, ResponsibilityIsAsSaid, CopiesAreAsLong, ProbeCopiesAreAsLong, CopiesAreWhole, ReportCopiesAreWhole, MembersCopyIsWhole, ListInHistoryHasNoCopy, MembersCopyIsOne, MadeReportIsWhole};
+ghost use Rattle.mta_procedures.specs.Laws.{FirstCaseApplies, FirstCaseIsOne, HeadIsInFront, CopyKeepsAllElse};
+ghost use Rattle.mta_procedures.specs.Laws.{ReportCopyKeepsAllElse, CopyKeepsRecipients, ResponsibilityIsAsSaid};
+ghost use Rattle.mta_procedures.specs.Laws.{CopiesAreAsLong, ProbeCopiesAreAsLong, CopiesAreWhole};
+ghost use Rattle.mta_procedures.specs.Laws.{ReportCopiesAreWhole, MembersCopyIsWhole, ListInHistoryHasNoCopy};
+ghost use Rattle.mta_procedures.specs.Laws.{MembersCopyIsOne, MadeReportIsWhole};
 
 /// One case is the first that applies, and no other is.
 pub fn the_first_case_is_one()

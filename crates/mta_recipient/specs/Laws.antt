@@ -31,4 +31,5 @@ RecipientListsAreReadAgain = (depth : ℕ) (vs : List RecipientFields) → Each 
 
 -- a recipient that was read keeps what it keeps in the level of its place, and is one
 abbrev pub ReadRecipientsAreKept : Type 0
-ReadRecipientsAreKept = (depth : ℕ) (tag : Tag) (content : List ℕ) (v : RecipientFields) → SpellsRecipient depth tag content v → depth + 5 ≤ 16 → KeepsRecipient depth v × IsWholeRecipient v
+ReadRecipientsAreKept = (depth : ℕ) (tag : Tag) (content : List ℕ) (v : RecipientFields)
+    → SpellsRecipient depth tag content v → depth + 5 ≤ 16 → KeepsRecipient depth v × IsWholeRecipient v

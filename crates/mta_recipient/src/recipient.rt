@@ -117,7 +117,8 @@ impl Recipient {
 
         // What is answered is spelled by the element, and what the element spells is answered.
         ensures found { IfOk result (SpellsRecipient whole.now.depth whole.now.tag whole.now.content.now) }
-        ensures only { (v : RecipientFields) → SpellsRecipient whole.now.depth whole.now.tag whole.now.content.now v → IsReadAs result v }
+        ensures only { (v : RecipientFields) → SpellsRecipient whole.now.depth whole.now.tag whole.now.content.now v
+            → IsReadAs result v }
     {
         match read_fields(alloc, whole) {
             Ok(fields) => Ok(Recipient { fields }),

@@ -2,15 +2,17 @@
 
 use std::marker::Model;
 
-/// Which end of a lane an agent is: the initiator opens the associations of the lane, and the responder accepts them (X.218).
+/// Which end of a lane an agent is: the initiator opens the associations of the lane, and the responder accepts them
+/// (X.218).
 #[derive(Clone, Copy, Debug, Drop, PartialEq, Eq)]
 pub enum LaneRole {
     Initiator,
     Responder,
 }
 
-/// The values of a lane: the checkpoint size in units of 1,024 octets, 0 to 64, where 0 stands for a message in one piece; the
-/// window, 1 to 8 pieces; whether the turn may pass (two-way alternate dialogue); and whether both ends hold to these values.
+/// The values of a lane: the checkpoint size in units of 1,024 octets, 0 to 64, where 0 stands for a message in one
+/// piece; the window, 1 to 8 pieces; whether the turn may pass (two-way alternate dialogue); and whether both ends hold
+/// to these values.
 #[derive(Clone, Copy, Debug, Drop, PartialEq, Eq)]
 pub struct LaneValues {
     pub checkpoint: u32,

@@ -1,6 +1,7 @@
 //! An activity that is transferred.
 
-ghost use Rattle.std.specs.Prelude.{◌≡◌, ◌≤◌, ◌<◌, ◌^◌, ◌-◌, ◌+◌, ◌++◌, length, take, drop};
+ghost use Rattle.std.specs.Prelude.{◌≡◌, ◌≤◌, ◌<◌, ◌^◌, ◌-◌, ◌+◌, ◌++◌, length, take};
+ghost use Rattle.std.specs.Prelude.{drop};
 ghost use Rattle.mta_records.specs.Outgoing.{carried};
 
 use mta_ber::Octets;
@@ -8,7 +9,8 @@ use std::alloc::Global;
 use std::marker::Model;
 use std::sync::Arc;
 
-/// An activity that is transferred (X.228): its number, and its octets, which are those of `head` and then those of `rest` from
+/// An activity that is transferred (X.228): its number, and its octets, which are those of `head` and then those of
+/// `rest` from
 /// `from` up to `to`. The copies of an item for several peers share `rest`.
 #[derive(Drop)]
 pub struct Outgoing {
@@ -27,7 +29,8 @@ impl Model for Outgoing {
 
     ghost view = { λ o. carried o.activity o.head o.rest.value o.from o.to };
 
-    ghost invariant = { λ o. (o.from ≤ o.to) × (o.to < 2 ^ 32) × (o.to ≤ length o.rest.value) × (length o.head + (o.to - o.from) < 2 ^ 32) };
+    ghost invariant = { λ o. (o.from ≤ o.to) × (o.to < 2 ^ 32) × (o.to ≤ length o.rest.value)
+        × (length o.head + (o.to - o.from) < 2 ^ 32) };
 }
 
 impl Outgoing {

@@ -51,15 +51,18 @@ WholeReportsAreReadAgain = (v : ReportFields) (more : List ℕ) (at : ℕ) → I
 -- a report that was read keeps what it keeps in the level of its place, and is one; the value of an extension that was left out is NULL, which has
 -- to have room
 abbrev pub ReadReportsAreKept : Type 0
-ReadReportsAreKept = (depth : ℕ) (tag : Tag) (content : List ℕ) (v : ReportFields) → SpellsReport depth tag content v → depth + 7 ≤ 16 → KeepsReport depth v × IsWholeReport v
+ReadReportsAreKept = (depth : ℕ) (tag : Tag) (content : List ℕ) (v : ReportFields)
+    → SpellsReport depth tag content v → depth + 7 ≤ 16 → KeepsReport depth v × IsWholeReport v
 
 -- so a report that was read is written so that it is read again
 abbrev pub ReadReportsAreReadAgain : Type 0
-ReadReportsAreReadAgain = (depth : ℕ) (tag : Tag) (content : List ℕ) (v : ReportFields) → SpellsReport depth tag content v → depth + 8 ≤ 16 → IsReadAgain report_in depth (canonical_report v) v
+ReadReportsAreReadAgain = (depth : ℕ) (tag : Tag) (content : List ℕ) (v : ReportFields)
+    → SpellsReport depth tag content v → depth + 8 ≤ 16 → IsReadAgain report_in depth (canonical_report v) v
 
 -- and so is one that was read at the outermost level, whatever stands behind it
 abbrev pub ReadWholeReportsAreReadAgain : Type 0
-ReadWholeReportsAreReadAgain = (content : List ℕ) (v : ReportFields) (more : List ℕ) (at : ℕ) → SpellsReport 1 (constructed 2 1) content v → length (canonical_report v) < 2 ^ 64
+ReadWholeReportsAreReadAgain = (content : List ℕ) (v : ReportFields) (more : List ℕ) (at : ℕ)
+    → SpellsReport 1 (constructed 2 1) content v → length (canonical_report v) < 2 ^ 64
     → (first at (canonical_report v ++ more) >>= with_rest report_in) ≡ beside v more
 
 -- no spelling begins another, and each is that of one value

@@ -53,15 +53,16 @@ impl Report {
     ghost use Rattle.mta_report.specs.Reports.{report_in, SpellsReport, canonical_report};
     ghost use Rattle.mta_report.specs.ReportValues.{IsReport};
 
-    /// The report that the element of an APDU spells, under `[1]`: a SEQUENCE of an envelope and a content. BadTag at an element of any
-    /// other tag.
+    /// The report that the element of an APDU spells, under `[1]`: a SEQUENCE of an envelope and a content. BadTag at
+    /// an element of any other tag.
     pub fn read(alloc: Global, whole: &View) -> Result<Report, ReadFault>
         // Which report it is, or which fault comes first.
         ensures exact { Reads result (report_in (view whole.now)) }
 
         // What is answered is spelled by the element, and what the element spells is answered.
         ensures found { IfOk result (SpellsReport whole.now.depth whole.now.tag whole.now.content.now) }
-        ensures only { (v : ReportFields) → SpellsReport whole.now.depth whole.now.tag whole.now.content.now v → IsReadAs result v }
+        ensures only { (v : ReportFields) → SpellsReport whole.now.depth whole.now.tag whole.now.content.now v
+            → IsReadAs result v }
     {
         match read_report(alloc, whole) {
             Ok(fields) => Ok(Report { fields }),

@@ -33,11 +33,14 @@ RecipientsAreReadAgain = (depth : ℕ) (v : ReportedFields) → IsWholeReported 
 -- a recipient that was read keeps what it keeps in the level of its place, and is one; the value of an extension that was left out is NULL, which
 -- has to have room
 abbrev pub ReadRecipientsAreKept : Type 0
-ReadRecipientsAreKept = (depth : ℕ) (tag : Tag) (content : List ℕ) (v : ReportedFields) → SpellsReported depth tag content v → depth + 4 ≤ 16 → KeepsReported depth v × IsWholeReported v
+ReadRecipientsAreKept = (depth : ℕ) (tag : Tag) (content : List ℕ) (v : ReportedFields)
+    → SpellsReported depth tag content v → depth + 4 ≤ 16 → KeepsReported depth v × IsWholeReported v
 
 -- so a recipient that was read is written so that it is read again
 abbrev pub ReadRecipientsAreReadAgain : Type 0
-ReadRecipientsAreReadAgain = (depth : ℕ) (tag : Tag) (content : List ℕ) (v : ReportedFields) → SpellsReported depth tag content v → depth + 5 ≤ 16 → IsReadAgain reported_in depth (canonical_reported v) v
+ReadRecipientsAreReadAgain = (depth : ℕ) (tag : Tag) (content : List ℕ) (v : ReportedFields)
+    → SpellsReported depth tag content v → depth + 5 ≤ 16
+    → IsReadAgain reported_in depth (canonical_reported v) v
 
 -- no spelling begins another, and each is that of one value
 abbrev pub NoRecipientBeginsAnother : Type 0

@@ -1,5 +1,5 @@
-//! How many octets recipients of whom is reported have that are written, told without writing them: no call here takes memory. Each
-//! answers 2^64 - 1 where there are as many octets or more.
+//! How many octets recipients of whom is reported have that are written, told without writing them: no call here takes
+//! memory. Each answers 2^64 - 1 where there are as many octets or more.
 
 ghost use Rattle.std.specs.Prelude.{◌≡◌};
 ghost use Rattle.std.specs.List.{flat_map};
@@ -9,7 +9,8 @@ ghost use Rattle.mta_reported.specs.Deliveries.{canonical_user, canonical_delive
 ghost use Rattle.mta_reported.specs.Failures.{canonical_diagnostic, canonical_failure};
 ghost use Rattle.mta_reported.specs.LastTraces.{canonical_last};
 ghost use Rattle.mta_reported.specs.Outcomes.{canonical_choice, canonical_outcome};
-ghost use Rattle.mta_reported.specs.ReportedRecipients.{canonical_intended, reported_content, canonical_reported, canonical_reported_list};
+ghost use Rattle.mta_reported.specs.ReportedRecipients.{canonical_intended, reported_content, canonical_reported};
+ghost use Rattle.mta_reported.specs.ReportedRecipients.{canonical_reported_list};
 ghost use Rattle.mta_reported.specs.Values.{IsMoment, IsReported};
 
 use crate::moment::Moment;

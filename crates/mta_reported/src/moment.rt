@@ -7,7 +7,8 @@ ghost use Rattle.mta_ber.specs.Times.{utc_in};
 use mta_ber::{ReadFault, View};
 use std::marker::Model;
 
-/// A moment: seconds from 1950-01-01 00:00:00 UTC, at most the last second of 2049. Contracts see the number of seconds.
+/// A moment: seconds from 1950-01-01 00:00:00 UTC, at most the last second of 2049. Contracts see the number of
+/// seconds.
 #[derive(Clone, Copy, Debug, PartialEq, Eq)]
 pub struct Moment {
     seconds: u64,

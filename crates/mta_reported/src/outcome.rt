@@ -14,8 +14,8 @@ use mta_ber::{Kind, Memory, ReadFault, View, Writer, bad, is_tag_of};
 use mta_names::{Code, constructed, put_around};
 use std::alloc::Global;
 
-/// What came of a message for a recipient (X.411, ReportType): numbers are 0 to 32,767, and a type of user of 0 is public. It holds no
-/// other value.
+/// What came of a message for a recipient (X.411, ReportType): numbers are 0 to 32,767, and a type of user of 0 is
+/// public. It holds no other value.
 #[derive(Debug, Drop)]
 pub enum Outcome {
     Delivery {

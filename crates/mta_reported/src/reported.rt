@@ -289,7 +289,8 @@ impl Reported {
 
         // What is answered is spelled by the element, and what the element spells is answered.
         ensures found { IfOk result (SpellsReported whole.now.depth whole.now.tag whole.now.content.now) }
-        ensures only { (v : ReportedFields) → SpellsReported whole.now.depth whole.now.tag whole.now.content.now v → IsReadAs result v }
+        ensures only { (v : ReportedFields) → SpellsReported whole.now.depth whole.now.tag whole.now.content.now v
+            → IsReadAs result v }
     {
         match read_fields(alloc, whole) {
             Ok(fields) => Ok(Reported { fields }),

@@ -15,9 +15,12 @@ use Rattle.mta_rtse.specs.Request.{default_window}
 
 unfoldable pub rtoac_step : AnswerParts → Part → Result AnswerParts Fault
 rtoac_step s p =
-    if is_primitive_tag 2 0 p.tag then (vacant (is_some s.checkpoint) p.at (number_in p) >>= λ n. Ok (record s { checkpoint = Some n }))
-    else if is_primitive_tag 2 1 p.tag then (vacant (is_some s.window) p.at (number_in p) >>= λ n. Ok (record s { window = Some n }))
-    else if is_constructed_tag 2 2 p.tag then (vacant (is_some s.answer) p.at (answer_in p) >>= λ a. Ok (record s { answer = Some a }))
+    if is_primitive_tag 2 0 p.tag then
+    (vacant (is_some s.checkpoint) p.at (number_in p) >>= λ n. Ok (record s { checkpoint = Some n }))
+    else if is_primitive_tag 2 1 p.tag then
+    (vacant (is_some s.window) p.at (number_in p) >>= λ n. Ok (record s { window = Some n }))
+    else if is_constructed_tag 2 2 p.tag then
+    (vacant (is_some s.answer) p.at (answer_in p) >>= λ a. Ok (record s { answer = Some a }))
     else fault p.at BadTag
 
 abbrev pub no_answer : AnswerParts

@@ -19,10 +19,14 @@ default_window = 3
 
 unfoldable pub rtorq_step : RequestParts → Part → Result RequestParts Fault
 rtorq_step s p =
-    if is_primitive_tag 2 0 p.tag then (vacant (is_some s.checkpoint) p.at (number_in p) >>= λ n. Ok (record s { checkpoint = Some n }))
-    else if is_primitive_tag 2 1 p.tag then (vacant (is_some s.window) p.at (number_in p) >>= λ n. Ok (record s { window = Some n }))
-    else if is_primitive_tag 2 2 p.tag then (vacant (is_some s.twa) p.at (flag_in p) >>= λ b. Ok (record s { twa = Some b }))
-    else if is_constructed_tag 2 3 p.tag then (vacant (is_some s.request) p.at (request_in p) >>= λ r. Ok (record s { request = Some r }))
+    if is_primitive_tag 2 0 p.tag then
+    (vacant (is_some s.checkpoint) p.at (number_in p) >>= λ n. Ok (record s { checkpoint = Some n }))
+    else if is_primitive_tag 2 1 p.tag then
+    (vacant (is_some s.window) p.at (number_in p) >>= λ n. Ok (record s { window = Some n }))
+    else if is_primitive_tag 2 2 p.tag then
+    (vacant (is_some s.twa) p.at (flag_in p) >>= λ b. Ok (record s { twa = Some b }))
+    else if is_constructed_tag 2 3 p.tag then
+    (vacant (is_some s.request) p.at (request_in p) >>= λ r. Ok (record s { request = Some r }))
     else if is_tag 2 4 p.tag then (vacant s.protocol p.at (Ok tt) >>= λ (_ : Unit {0}). Ok (record s { protocol = true }))
     else fault p.at BadTag
 

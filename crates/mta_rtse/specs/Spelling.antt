@@ -54,7 +54,8 @@ SpellsAnything depth tag content octets x = Unit {0}
 -- ---- components
 
 -- a component of a SET that may stand once, under a tag that is expected
-pub record Fills {S A : Type 0} (expected : Tag → Bool) (taken : S → Bool) (put : A → S → S) (spells : Spells A) (depth : ℕ) (before : S) (tag : Tag) (content octets : List ℕ) (after : S) : Type 0 where
+pub record Fills {S A : Type 0} (expected : Tag → Bool) (taken : S → Bool) (put : A → S → S)
+    (spells : Spells A) (depth : ℕ) (before : S) (tag : Tag) (content octets : List ℕ) (after : S) : Type 0 where
   pub is_tag_of : expected tag ≡ true
   pub absent : taken before ≡ false
   pub value : A
@@ -113,7 +114,8 @@ abbrev pub MakesName : Makes BindParts
 MakesName = Fills (is_tag 2 0) (λ s. is_some s.name) (λ w s. record s { name = Some w }) SpellsWord
 
 abbrev pub MakesPassword : Makes BindParts
-MakesPassword = Fills (is_constructed_tag 2 1) (λ s. is_some s.password) (λ o s. record s { password = Some o }) SpellsCredentials
+MakesPassword =
+    Fills (is_constructed_tag 2 1) (λ s. is_some s.password) (λ o s. record s { password = Some o }) SpellsCredentials
 
 abbrev pub MakesContext : Makes BindParts
 MakesContext = Fills (is_tag 2 2) (λ s. s.context) (λ _ s. record s { context = true }) SpellsAnything
@@ -169,11 +171,26 @@ SpellsAnswerData depth tag content octets v = SpellsRequestData depth tag conten
 
 abbrev pub MakesRequest : Makes RequestParts
 MakesRequest depth before tag content octets after =
-    Fills (is_primitive_tag 2 0) (λ (s : RequestParts). is_some s.checkpoint) (λ n s. record s { checkpoint = Some n }) SpellsNumber depth before tag content octets after
-    ⊎ (Fills (is_primitive_tag 2 1) (λ (s : RequestParts). is_some s.window) (λ n s. record s { window = Some n }) SpellsNumber depth before tag content octets after
-    ⊎ (Fills (is_primitive_tag 2 2) (λ (s : RequestParts). is_some s.twa) (λ b s. record s { twa = Some b }) SpellsFlag depth before tag content octets after
-    ⊎ (Fills (is_constructed_tag 2 3) (λ (s : RequestParts). is_some s.request) (λ r s. record s { request = Some r }) SpellsRequestData depth before tag content octets after
-    ⊎ Fills (is_tag 2 4) (λ (s : RequestParts). s.protocol) (λ _ s. record s { protocol = true }) SpellsAnything depth before tag content octets after)))
+    Fills (is_primitive_tag 2 0) (λ (s : RequestParts). is_some s.checkpoint) (λ n s. record s {
+      checkpoint =
+          Some n;
+    }) SpellsNumber depth before tag content octets after
+    ⊎ (Fills (is_primitive_tag 2 1) (λ (s : RequestParts). is_some s.window) (λ n s. record s {
+      window =
+          Some n;
+    }) SpellsNumber depth before tag content octets after
+    ⊎ (Fills (is_primitive_tag 2 2) (λ (s : RequestParts). is_some s.twa) (λ b s. record s {
+      twa =
+          Some b;
+    }) SpellsFlag depth before tag content octets after
+    ⊎ (Fills (is_constructed_tag 2 3) (λ (s : RequestParts). is_some s.request) (λ r s. record s {
+      request =
+          Some r;
+    }) SpellsRequestData depth before tag content octets after
+    ⊎ Fills (is_tag 2 4) (λ (s : RequestParts). s.protocol) (λ _ s. record s {
+      protocol =
+          true;
+    }) SpellsAnything depth before tag content octets after)))
 
 pub record SpellsRtorq (depth : ℕ) (tag : Tag) (content octets : List ℕ) (v : OpenRequest) : Type 0 where
   pub is_tag_of : is_tag 2 16 tag ≡ true
@@ -189,9 +206,18 @@ pub record SpellsRtorq (depth : ℕ) (tag : Tag) (content octets : List ℕ) (v 
 
 abbrev pub MakesAnswer : Makes AnswerParts
 MakesAnswer depth before tag content octets after =
-    Fills (is_primitive_tag 2 0) (λ (s : AnswerParts). is_some s.checkpoint) (λ n s. record s { checkpoint = Some n }) SpellsNumber depth before tag content octets after
-    ⊎ (Fills (is_primitive_tag 2 1) (λ (s : AnswerParts). is_some s.window) (λ n s. record s { window = Some n }) SpellsNumber depth before tag content octets after
-    ⊎ Fills (is_constructed_tag 2 2) (λ (s : AnswerParts). is_some s.answer) (λ a s. record s { answer = Some a }) SpellsAnswerData depth before tag content octets after)
+    Fills (is_primitive_tag 2 0) (λ (s : AnswerParts). is_some s.checkpoint) (λ n s. record s {
+      checkpoint =
+          Some n;
+    }) SpellsNumber depth before tag content octets after
+    ⊎ (Fills (is_primitive_tag 2 1) (λ (s : AnswerParts). is_some s.window) (λ n s. record s {
+      window =
+          Some n;
+    }) SpellsNumber depth before tag content octets after
+    ⊎ Fills (is_constructed_tag 2 2) (λ (s : AnswerParts). is_some s.answer) (λ a s. record s {
+      answer =
+          Some a;
+    }) SpellsAnswerData depth before tag content octets after)
 
 pub record SpellsRtoac (depth : ℕ) (tag : Tag) (content octets : List ℕ) (v : OpenAnswer) : Type 0 where
   pub is_tag_of : is_tag 2 17 tag ≡ true
@@ -212,8 +238,14 @@ pub record MakesSecond (before : ReasonParts) (tag : Tag) (after : ReasonParts) 
 
 abbrev pub MakesReason : Makes ReasonParts
 MakesReason depth before tag content octets after =
-    Fills (is_primitive_tag 2 0) (λ (s : ReasonParts). is_some s.reason) (λ n s. record s { reason = Some n }) SpellsNumber depth before tag content octets after
-    ⊎ (Fills (is_tag 2 1) (λ (s : ReasonParts). s.first) (λ _ s. record s { first = true }) SpellsAnything depth before tag content octets after
+    Fills (is_primitive_tag 2 0) (λ (s : ReasonParts). is_some s.reason) (λ n s. record s {
+      reason =
+          Some n;
+    }) SpellsNumber depth before tag content octets after
+    ⊎ (Fills (is_tag 2 1) (λ (s : ReasonParts). s.first) (λ _ s. record s {
+      first =
+          true;
+    }) SpellsAnything depth before tag content octets after
     ⊎ MakesSecond before tag after)
 
 -- the reason under a tag; components `[1]` and, of RTAB, `[2]` are passed over

@@ -1,5 +1,5 @@
-//! Writing protocol data units in their canonical octets. After want of memory a writer is as it was: each unit is written into a
-//! writer of its own and then put at once.
+//! Writing protocol data units in their canonical octets. After want of memory a writer is as it was: each unit is
+//! written into a writer of its own and then put at once.
 
 ghost use Rattle.std.specs.Prelude.{◌≡◌, ◌<◌, OnOk, OnErr, Option};
 ghost use Rattle.std.specs.Option.{option_copied};
@@ -35,7 +35,8 @@ fn constructed_tag(class: u8, number: u32) -> Tag
 }
 
 fn put_optional(w: &mut Writer, octets: Option<&[u8]>) -> Result<(), Memory>
-    ensures exact { OnOk result (w.new ≡ appended w.old (optional (element (primitive 2 0)) (option_copied octets.entry))) }
+    ensures exact { OnOk result
+        (w.new ≡ appended w.old (optional (element (primitive 2 0)) (option_copied octets.entry))) }
     ensures err { OnErr result (w.new ≡ w.old) }
 {
     match octets {

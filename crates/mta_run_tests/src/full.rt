@@ -34,8 +34,8 @@ fn comment(alloc: Global, count: usize) -> Result<Vec<u8>, Fail>
     Ok(line)
 }
 
-// A journal of 268,435,337 octets: 255 records of 1,048,586 octets, one of 1,045,825, and one of the sample's tables, of
-// 73, behind the eight octets at the front and before the gate that is closed.
+// A journal of 268,435,337 octets: 255 records of 1,048,586 octets, one of 1,045,825, and one of the sample's tables,
+// of 73, behind the eight octets at the front and before the gate that is closed.
 fn nearly_full(alloc: Global) -> Result<Vec<u8>, Fail> {
     let long = comment(alloc, 1_048_513)?;
     let rest = comment(alloc, 1_045_752)?;

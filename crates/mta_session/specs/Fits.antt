@@ -1,5 +1,6 @@
 -- What a session keeps from step to step.
-use Rattle.std.specs.Prelude.{◌≡◌, ◌<◌, ◌≤◌, ℕ, ◌+◌, ◌-◌, ◌*◌, Bool, true, false, Option, Some, None, List, [], length}
+use Rattle.std.specs.Prelude.{◌≡◌, ◌<◌, ◌≤◌, ℕ, ◌+◌, ◌-◌, ◌*◌, Bool, true, false, Option}
+use Rattle.std.specs.Prelude.{Some, None, List, [], length}
 use Rattle.mta_ber.specs.declared.memory.Memory.{Memory as NoMemory}
 use Rattle.std.specs.Prelude.{Result, Ok, Err}
 use Rattle.mta_lane_send.specs.declared.state.SendState.{SendState}
@@ -168,7 +169,8 @@ FitsAt phase.AsksRoom t = IsCalled t × HasLine t.line
 FitsAt phase.AsksOldLane t = IsCalled t × HasLine t.line
 FitsAt phase.AsksBind t = IsCalled t × HasLine t.line
 FitsAt phase.AsksValues t = IsFresh t × HasLink t.side t
-FitsAt phase.AsksRecovery t = IsFresh t × HasLink t.side t × ValuesFit t.checkpoint t.window × AgreedFor t.side t.agreed
+FitsAt phase.AsksRecovery t = IsFresh t × HasLink t.side t × ValuesFit t.checkpoint t.window
+    × AgreedFor t.side t.agreed
 FitsAt (phase.AsksReceiving state) t =
     IsFresh t × HasLink t.side t × ValuesFit t.checkpoint t.window × (t.agreed ≡ false → is_idle state ≡ true)
     × AgreedFor t.side t.agreed
@@ -202,7 +204,8 @@ FitsAt phase.PutsClose t = IsLive t × HoldsFree t × (t.ours ≡ true) × (t.se
 FitsAt phase.ReadsCloseAck t = IsLive t × HoldsFree t × (t.ours ≡ true) × (t.send.stage ≡ s.Quiet)
 FitsAt phase.AsksClose t = (1 ≤ t.left) × HoldsNothing t
 FitsAt (phase.AsksLast e) t = HoldsNothing t
-FitsAt (phase.PutsLast e) t = (e ≡ end.Broken → ⊥) × (length t.send.octets ≤ 2097152) × (t.recv.stage ≡ r.Free)
+FitsAt (phase.PutsLast e) t = (e ≡ end.Broken → ⊥) × (length t.send.octets ≤ 2097152)
+    × (t.recv.stage ≡ r.Free)
 FitsAt (phase.Ended e) t = HoldsNothing t
 
 abbrev pub Fits : State → Type 0
@@ -242,7 +245,8 @@ CarriesOn size (state.Ending k c) octets = LeavesPieces size octets c
 CarriesOn size _ octets = Unit {0}
 
 abbrev pub ResumedFits : (checkpoint : ℕ) → SendState → Result (Option Carried) NoMemory → Type 0
-ResumedFits checkpoint state (Ok (Some o)) = (length o.octets ≤ 2097152) × CarriesOn (1024 * checkpoint) state o.octets
+ResumedFits checkpoint state (Ok (Some o)) = (length o.octets ≤ 2097152)
+    × CarriesOn (1024 * checkpoint) state o.octets
 ResumedFits checkpoint state (Ok None) = ⊥
 ResumedFits checkpoint state (Err m) = Unit {0}
 
@@ -319,7 +323,8 @@ Answers t e = AnswersAt t.phase t e
 
 -- the session follows, or wants memory and is as before
 abbrev pub FollowsAs : State → Event → Result Action NoMemory → State → Type 0
-FollowsAs t e (Ok a) new = Follows t e a new × Fits new × (is_over t.phase ≡ false → calls_left new < calls_left t)
+FollowsAs t e (Ok a) new = Follows t e a new × Fits new
+    × (is_over t.phase ≡ false → calls_left new < calls_left t)
 FollowsAs t e (Err m) new = new ≡ t
 
 -- a session that reads, once the unit is counted

@@ -73,14 +73,17 @@ AsksFor t (ask.Complete lane g k n piece) new =
     r.MayMake t.recv (r.Complete k n piece) × (lane ≡ t.lane) × (g ≡ t.generation)
     × (new ≡ hands_on t (phase.AsksComplete k n))
 AsksFor t (ask.DropActivity lane g k) new =
-    r.MayMake t.recv (r.Drop k) × (lane ≡ t.lane) × (g ≡ t.generation) × (new ≡ in_phase t (phase.AsksDrop k None))
+    r.MayMake t.recv (r.Drop k) × (lane ≡ t.lane) × (g ≡ t.generation)
+    × (new ≡ in_phase t (phase.AsksDrop k None))
 -- End is next
 AsksFor t (ask.Ending lane g k) new =
-    (t.ours ≡ true) × (n : ℕ) × (t.send.stage ≡ s.Last_put k n) × (is_sending t.send.state k ≡ true) × (lane ≡ t.lane)
+    (t.ours ≡ true) × (n : ℕ) × (t.send.stage ≡ s.Last_put k n) × (is_sending t.send.state k ≡ true)
+    × (lane ≡ t.lane)
     × (g ≡ t.generation) × (new ≡ in_phase t (phase.AsksStep own.Ending))
 -- no activity is under way
 AsksFor t (ask.BatchFor peer) new =
-    (t.ours ≡ true) × (t.send.stage ≡ s.Quiet) × (peer ≡ peer_of t.side t.opened) × (new ≡ in_phase t phase.AsksBatch)
+    (t.ours ≡ true) × (t.send.stage ≡ s.Quiet) × (peer ≡ peer_of t.side t.opened)
+    × (new ≡ in_phase t phase.AsksBatch)
 AsksFor t _ new = ⊥
 
 -- Nothing is owed: each unit taken has its answer, and a holder of the turn has put all that it may.

@@ -51,7 +51,13 @@ abbrev pub new_initiator : InitiatorPlan → (units : ℕ) → State
 new_initiator p units =
     let t = new_machine (side.Initiator p) units in
     let waiting = record t.send { accepted = false } in
-    with_values (record t { lane = p.lane; generation = p.generation; twa = p.twa; send = waiting }) p.checkpoint p.window
+    with_values (record t {
+      lane = p.lane;
+      generation = p.generation;
+      twa = p.twa;
+      send =
+          waiting;
+    }) p.checkpoint p.window
 
 -- One call of `step`: it follows the rules, and until the session is over fewer calls are left. After want of memory
 -- it is as before.

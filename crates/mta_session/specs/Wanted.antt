@@ -1,5 +1,6 @@
 -- What the last event calls for: the rules of an association over one link, by phase and event.
-use Rattle.std.specs.Prelude.{ℕ, ◌-◌, ◌&&◌, ◌||◌, ◌==◌, nat_lt, not, min, max, if◌then◌else◌, Bool, true, false, Option, Some, None, Result, Ok, Err, List, []}
+use Rattle.std.specs.Prelude.{ℕ, ◌-◌, ◌&&◌, ◌||◌, ◌==◌, nat_lt, not, min, max, if◌then◌else◌}
+use Rattle.std.specs.Prelude.{Bool, true, false, Option, Some, None, Result, Ok, Err, List, []}
 use Rattle.std.specs.Str.{bytes_eq}
 use Rattle.mta_ber.specs.declared.memory.Memory.{Memory as NoMemory}
 use Rattle.mta_ber.specs.declared.fault.Fault.{Fault}

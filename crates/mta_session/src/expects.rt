@@ -2,7 +2,9 @@
 
 ghost use Rattle.std.specs.Prelude.{◌≡◌, ◌≤◌, ◌↔◌, ◌*◌, IsTrue, length};
 ghost use Rattle.mta_session.specs.declared.event.Event.TheVariants as AnEvent;
-ghost use Rattle.mta_session.specs.Fits.{Fits, Answers, AnswersAsk, AnswersStep, answers_read, answers_put, RepliesTo, LineFits, LaneFits, HalfFits, IsTold, CarriesOn, ResumedFits, StartFits, ValuesFit};
+ghost use Rattle.mta_session.specs.Fits.{Fits, Answers, AnswersAsk, AnswersStep, answers_read, answers_put, RepliesTo};
+ghost use Rattle.mta_session.specs.Fits.{LineFits, LaneFits, HalfFits, IsTold, CarriesOn, ResumedFits, StartFits};
+ghost use Rattle.mta_session.specs.Fits.{ValuesFit};
 
 use crate::ask::Reply;
 use crate::event::Event;

@@ -5,7 +5,8 @@ ghost use Rattle.mta_session.specs.Rank.{FallsBelow};
 ghost use Rattle.std.specs.Str.{bytes_eq};
 ghost use Rattle.std.specs.Option.{option_copied};
 ghost use Rattle.mta_units.specs.declared.unit.Unit.TheVariants as AUnit;
-ghost use Rattle.mta_session.specs.Wanted.{answers_link, begins, is_same_reference, is_same_additional, is_refused_value, on_answer_by, on_values, starts, on_denied, on_agreed};
+ghost use Rattle.mta_session.specs.Wanted.{answers_link, begins, is_same_reference, is_same_additional};
+ghost use Rattle.mta_session.specs.Wanted.{is_refused_value, on_answer_by, on_values, starts, on_denied, on_agreed};
 ghost use Rattle.mta_session.specs.Follows.{Does};
 ghost use Rattle.mta_session.specs.Fits.{Fits, FitsAt, IsReady, HasPlan, StepsAs};
 

@@ -3,7 +3,9 @@
 ghost use Rattle.std.specs.Prelude.{◌≡◌, IfOk, Some, false, ◌+◌};
 ghost use Rattle.mta_session.specs.Rank.{FallsBelow, rank_of_lane};
 ghost use Rattle.mta_records.specs.declared.lane.LaneRole.TheVariants as role;
-ghost use Rattle.mta_session.specs.Wanted.{accepts, answer_for, agreed_checkpoint, agreed_window, asks_lane, with_lane, on_open, on_peer, on_stands, on_new_lane, on_spare, on_room, on_old_lane, on_bind, on_lane_values, on_recovery};
+ghost use Rattle.mta_session.specs.Wanted.{accepts, answer_for, agreed_checkpoint, agreed_window, asks_lane, with_lane};
+ghost use Rattle.mta_session.specs.Wanted.{on_open, on_peer, on_stands, on_new_lane, on_spare, on_room, on_old_lane};
+ghost use Rattle.mta_session.specs.Wanted.{on_bind, on_lane_values, on_recovery};
 ghost use Rattle.mta_session.specs.Follows.{Does};
 ghost use Rattle.mta_session.specs.Fits.{Fits, FitsAt, StepsAs, HasCall, HasLine, LineFits, LaneFits, HalfFits};
 

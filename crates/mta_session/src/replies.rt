@@ -5,7 +5,9 @@ ghost use Rattle.mta_session.specs.Rank.{FallsBelow, rank_of_step};
 ghost use Rattle.mta_lane_send.specs.Half.{is_sending};
 ghost use Rattle.mta_ends.specs.Sending as s;
 ghost use Rattle.mta_session.specs.Sending.{stage_of};
-ghost use Rattle.mta_session.specs.Wanted.{Goes_on, abort_of, kind_octet, is_cut, after_step, on_batch, on_due, on_start, on_still_idle, on_step, on_state, on_secured, on_completed, on_dropped};
+ghost use Rattle.mta_session.specs.Wanted.{Goes_on, abort_of, kind_octet, is_cut, after_step, on_batch, on_due};
+ghost use Rattle.mta_session.specs.Wanted.{on_start, on_still_idle, on_step, on_state, on_secured, on_completed};
+ghost use Rattle.mta_session.specs.Wanted.{on_dropped};
 ghost use Rattle.mta_session.specs.Follows.{Does};
 ghost use Rattle.mta_session.specs.Fits.{Fits, FitsAt, IsLive, HoldsFree, StepsAs, StartFits};
 
@@ -179,7 +181,8 @@ impl Machine {
 
     fn confirmed(&mut self, number: u32) -> Result<Action, Memory>
         requires { FitsAt (Phase.AsksStep (OwnStep.Confirm number)) self.old }
-        ensures { StepsAs self.old (Goes_on (record self.old { send = after_step self.old.send (OwnStep.Confirm number) }))
+        ensures { StepsAs self.old
+            (Goes_on (record self.old { send = after_step self.old.send (OwnStep.Confirm number) }))
             52 result self.new }
     {
         let state = self.send.state;
@@ -233,7 +236,8 @@ impl Machine {
         requires live { IsLive self.old }
         requires free { HoldsFree self.old }
         requires holds { self.old.ours ≡ true }
-        ensures { StepsAs self.old (Goes_on (record self.old { send = record (s.made self.old.send s.Sent) { octets = [] } }))
+        ensures { StepsAs self.old
+            (Goes_on (record self.old { send = record (s.made self.old.send s.Sent) { octets = [] } }))
             52 result self.new }
     {
         let peer = self.peer()?;

@@ -1,5 +1,6 @@
 -- What a session makes of units is what the rules of a sending end call for.
-use Rattle.std.specs.Prelude.{◌≡◌, ℕ, ◌==◌, if◌then◌else◌, true, false, Some, None, List, length, ◌≤◌}
+use Rattle.std.specs.Prelude.{◌≡◌, ℕ, ◌==◌, if◌then◌else◌, true, false, Some, None, List, length}
+use Rattle.std.specs.Prelude.{◌≤◌}
 use Rattle.mta_units.specs.declared.unit.Unit.{Unit as AnyUnit}
 use Rattle.mta_units.specs.declared.unit.Unit.TheVariants as unit
 use Rattle.mta_lane_send.specs.Half.{is_idle}
@@ -52,4 +53,5 @@ StartsMayBeMade =
 
 -- No step is called for where no activity is under way.
 abbrev pub StepsNeedActivity : Type 0
-StepsNeedActivity = (e : SendEnd) (x : AnyUnit) (step : OwnStep) → called e x ≡ Some step → is_idle e.state ≡ false
+StepsNeedActivity = (e : SendEnd) (x : AnyUnit) (step : OwnStep) → called e x ≡ Some step
+    → is_idle e.state ≡ false

@@ -1,5 +1,6 @@
 -- Why a session ends. For each end: what the event was at which the session turned to it.
-use Rattle.std.specs.Prelude.{◌≡◌, ◌≤◌, ◌⊎◌, ℕ, ◌&&◌, not, Bool, true, false, Option, Some, None, Result, Ok, Err}
+use Rattle.std.specs.Prelude.{◌≡◌, ◌≤◌, ◌⊎◌, ℕ, ◌&&◌, not, Bool, true, false, Option, Some}
+use Rattle.std.specs.Prelude.{None, Result, Ok, Err}
 use Rattle.std.specs.Str.{bytes_eq}
 use Rattle.mta_ber.specs.declared.memory.Memory.{Memory as NoMemory}
 use Rattle.mta_rtse.specs.declared.types.Request.{Request}
@@ -144,11 +145,13 @@ IsOther _ a = ⊥
 -- The Abort that the session puts
 pub data AbortCause (t : State) (e : Event) : (reason : ℕ) → Type 0 where
   -- localSystemProblem, temporaryProblem or protocolError: a step was refused
-  Step_refused : (x : Reply) (f : StepFault) → e ≡ event.Reply x → refused_in x ≡ Some f → AbortCause t e (abort_of f)
+  Step_refused : (x : Reply) (f : StepFault) → e ≡ event.Reply x → refused_in x ≡ Some f
+      → AbortCause t e (abort_of f)
   -- localSystemProblem: a look wanted memory
   Look_failed : (x : Reply) → e ≡ event.Reply x → wants_memory x ≡ true → AbortCause t e 0
   -- invalidParameter: values above the proposed ones, a window of 0, or values unlike those of an agreed lane
-  Values_refused : (c w : ℕ) (a : Answer) → e ≡ event.Unit (unit.Accept c w a) → is_refused_value t c w ≡ true →
+  Values_refused : (c w : ℕ) (a : Answer) → e ≡ event.Unit (unit.Accept c w a)
+      → is_refused_value t c w ≡ true →
       AbortCause t e 1
   -- unrecognizedActivity: Resume came of an activity of which nothing stands
   Not_standing :
@@ -160,12 +163,15 @@ pub data AbortCause (t : State) (e : Event) : (reason : ℕ) → Type 0 where
   -- protocolError: no unit, a unit that is not allowed, or another state of the half
   Bad_unit : e ≡ event.BadUnit → AbortCause t e 4
   Not_allowed : (x : AnyUnit) → e ≡ event.Unit x → NotAllowed t.phase t x → AbortCause t e 4
-  Other_state : (told : Option SendState) → e ≡ event.Reply (reply.Recovery told) → IsOtherState t.phase t told →
+  Other_state : (told : Option SendState) → e ≡ event.Reply (reply.Recovery told)
+      → IsOtherState t.phase t told →
       AbortCause t e 4
   -- permanentProblem: the answer's name or password is not the peer's
-  Not_the_peer : (c w : ℕ) (a : Answer) → e ≡ event.Unit (unit.Accept c w a) → IsOther t.side a → AbortCause t e 5
+  Not_the_peer : (c w : ℕ) (a : Answer) → e ≡ event.Unit (unit.Accept c w a) → IsOther t.side a
+      → AbortCause t e 5
   -- transferCompleted: Discard came of an activity that is done
-  Is_done : (f : RecvEnd) (k : ℕ) → Takes t e f → f.stage ≡ r.Discards k → is_done f.last k ≡ true → AbortCause t e 7
+  Is_done : (f : RecvEnd) (k : ℕ) → Takes t e f → f.stage ≡ r.Discards k → is_done f.last k ≡ true
+      → AbortCause t e 7
 
 -- the request shows no name and password, or others than the peer's
 abbrev pub IsNotLetIn : Peer → Request → Type 0

@@ -55,7 +55,8 @@ receiving_events_of x piece = receiving.with_action (receiving.told_by x.before.
 abbrev pub AreReceiving : List Turn → List RecvEvent → Type 0
 AreReceiving [] events = events ≡ []
 AreReceiving (x ∷ xs) events =
-    (piece : List ℕ) × (rest : List RecvEvent) × (events ≡ receiving_events_of x piece ++ rest) × AreReceiving xs rest
+    (piece : List ℕ) × (rest : List RecvEvent) × (events ≡ receiving_events_of x piece ++ rest)
+    × AreReceiving xs rest
 
 -- So do those of receiving ends. A piece that is made durable is the one that was taken: the rules say so.
 abbrev pub ReceivingRuns : Type 0

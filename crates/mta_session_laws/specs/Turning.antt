@@ -1,6 +1,7 @@
 -- What one call of `step` does to the sending end of a session's list. The list's end may have heard a unit, of which
 -- the state keeps nothing, and keeps the octets of a settled activity, which the state lets go.
-use Rattle.std.specs.Prelude.{◌≡◌, ◌≤◌, ℕ, ◌==◌, if◌then◌else◌, Bool, true, false, Option, Some, None, Result, Ok, Err, List, [], ◌∷◌, ◌++◌, length}
+use Rattle.std.specs.Prelude.{◌≡◌, ◌≤◌, ℕ, ◌==◌, if◌then◌else◌, Bool, true, false, Option, Some}
+use Rattle.std.specs.Prelude.{None, Result, Ok, Err, List, [], ◌∷◌, ◌++◌, length}
 use Rattle.mta_units.specs.declared.unit.Unit.{Unit as AnyUnit}
 use Rattle.mta_units.specs.declared.unit.Unit.TheVariants as unit
 use Rattle.mta_lane_send.specs.declared.state.SendState.{SendState}
@@ -24,7 +25,9 @@ use Rattle.mta_records.specs.Outgoing.{Carried}
 use Rattle.mta_session.specs.Sending.{step_of}
 use Rattle.mta_session_laws.specs.Called.{heard_as}
 use Rattle.mta_session.specs.State.{State}
-use Rattle.mta_session.specs.Wanted.{Wanted, Aborts, Rejects, Ends, Puts, Asks, Reads, Goes_on, Excepts, Never, as_holder, on_step, on_start, on_state, is_given_up, wanted, within, wanted_of_unit}
+use Rattle.mta_session.specs.Wanted.{Wanted, Aborts, Rejects, Ends, Puts, Asks, Reads, Goes_on, Excepts, Never}
+use Rattle.mta_session.specs.Wanted.{as_holder, on_step, on_start, on_state, is_given_up, wanted, within}
+use Rattle.mta_session.specs.Wanted.{wanted_of_unit}
 use Rattle.mta_session.specs.Follows.{Part, Of_sender, Of_receiver, Of_neither, part_of, GoesOn, Follows, counted}
 use Rattle.mta_session.specs.Fits.{Fits, Answers}
 
@@ -112,7 +115,8 @@ StepGoes =
 -- An activity is started
 abbrev pub StartGoes : Type 0
 StartGoes =
-    (t : State) (h : Option LaneUnit) (o : List ℕ) (x : Carried) → t.send.heard ≡ None → is_idle t.send.state ≡ true →
+    (t : State) (h : Option LaneUnit) (o : List ℕ) (x : Carried) → t.send.heard ≡ None
+    → is_idle t.send.state ≡ true →
     t.send.stage ≡ s.Quiet → 1 ≤ length x.octets →
     SendGoes (listed t.send h o) (s.Made (s.Start x.octets) ∷ []) (on_start t (Ok x))
 
@@ -210,15 +214,18 @@ is_open _ = false
 -- Each event of an open session is one of its sending end, by the rules of that end.
 abbrev pub EventsGo : Type 0
 EventsGo =
-    (t : State) (e : Event) (h : Option LaneUnit) (o : List ℕ) → is_open t.phase ≡ true → Fits t → Answers t e →
+    (t : State) (e : Event) (h : Option LaneUnit) (o : List ℕ) → is_open t.phase ≡ true → Fits t
+    → Answers t e →
     t.send.heard ≡ None →
-    MayFollow t.phase (listed t.send h o) → SendGoes (listed t.send h o) (told_by t.phase t e) (wanted (counted t e) e)
+    MayFollow t.phase (listed t.send h o)
+    → SendGoes (listed t.send h o) (told_by t.phase t e) (wanted (counted t e) e)
 
 -- One call of `step` of an open session: the events of its sending end are allowed, and lead to the end that the
 -- state has then.
 abbrev pub CallsGo : Type 0
 CallsGo =
-    (t : State) (e : Event) (a : Action) (new : State) (h : Option LaneUnit) (o : List ℕ) → is_open t.phase ≡ true →
+    (t : State) (e : Event) (a : Action) (new : State) (h : Option LaneUnit) (o : List ℕ)
+    → is_open t.phase ≡ true →
     Fits t → Answers t e → t.send.heard ≡ None →
     MayFollow t.phase (listed t.send h o) → Follows t e a new →
     ReachesAt (listed t.send h o) (with_action (told_by t.phase t e) a) new.phase new.send

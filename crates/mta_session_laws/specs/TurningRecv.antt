@@ -1,6 +1,7 @@
 -- What one call of `step` does to the receiving end of a session's list. The list's end has the piece that the state
 -- handed on.
-use Rattle.std.specs.Prelude.{◌≡◌, ℕ, if◌then◌else◌, Bool, true, false, Result, Ok, Err, List, [], ◌∷◌, ◌++◌}
+use Rattle.std.specs.Prelude.{◌≡◌, ℕ, if◌then◌else◌, Bool, true, false, Result, Ok, Err, List, []}
+use Rattle.std.specs.Prelude.{◌∷◌, ◌++◌}
 use Rattle.mta_units.specs.declared.unit.Unit.{Unit as AnyUnit}
 use Rattle.mta_units.specs.declared.unit.Unit.TheVariants as unit
 use Rattle.mta_lane_recv.specs.declared.state.Last.{Last}
@@ -55,8 +56,8 @@ with_put events (Of_receiver y) = events ++ (r.Put y ∷ [])
 with_put events (Of_sender y) = events
 with_put events Of_neither = events
 
--- A link is new at the Open that an initiator puts, and at the Accept of a responder. Exception stands in no part: it is
--- put for octets that were found.
+-- A link is new at the Open that an initiator puts, and at the Accept of a responder. Exception stands in no part: it
+-- is put for octets that were found.
 abbrev pub with_unit : List RecvEvent → AnyUnit → List RecvEvent
 with_unit events (unit.Open o) = events ++ (r.New_link ∷ [])
 with_unit events (unit.Accept c w a) = events ++ (r.New_link ∷ [])
@@ -86,7 +87,8 @@ abbrev pub got_by : State → Event → List RecvEvent
 got_by t (event.Unit x) = unless_refused (called_for phase.Reads t x) (if t.ours then [] else taken_as x)
 got_by t _ = []
 
-abbrev pub secured_by : (activity number : ℕ) (piece : List ℕ) → Result (Unit {0}) CompleteFault → List RecvEvent
+abbrev pub secured_by : (activity number : ℕ) (piece : List ℕ) → Result (Unit {0}) CompleteFault
+    → List RecvEvent
 secured_by k n p (Ok x) = r.Made (r.Secure k n p) ∷ []
 secured_by k n p (Err (piece.Bad f)) = r.Finds k n p ∷ []
 secured_by k n p (Err (piece.Step f)) = []
@@ -117,7 +119,8 @@ told_by _ t p e = []
 -- state has then. A unit that is not taken ends the session.
 abbrev pub CallsGo : Type 0
 CallsGo =
-    (t : State) (e : Event) (a : Action) (new : State) (p : List ℕ) → is_open t.phase ≡ true → Fits t → Fits new →
+    (t : State) (e : Event) (a : Action) (new : State) (p : List ℕ) → is_open t.phase ≡ true → Fits t
+    → Fits new →
     Answers t e → Follows t e a new →
     ReachesAt (whole t.phase t.recv p) (with_action (told_by t.phase t p e) a) new.phase new.recv
 

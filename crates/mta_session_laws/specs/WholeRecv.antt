@@ -32,9 +32,9 @@ receiver_of x = record { high = x.0; last = x.1; stage = r.Free; from = 0; acked
 abbrev pub IsReceiverAt : RecvEnd → State → Type 0
 IsReceiverAt f u = (piece : List ℕ) × (f ≡ whole u.phase u.recv piece)
 
--- The calls of a session, from the first to any other, are one list of events that the rules of receiving ends allow. It
--- begins with the half as the spool told it; of a new lane that is one that took nothing. A piece that is made durable is
--- the one that was taken. While the session is open the list leads to the end that the session has.
+-- The calls of a session, from the first to any other, are one list of events that the rules of receiving ends allow.
+-- It begins with the half as the spool told it; of a new lane that is one that took nothing. A piece that is made
+-- durable is the one that was taken. While the session is open the list leads to the end that the session has.
 abbrev pub SessionsReceive : Type 0
 SessionsReceive =
     (t u : State) (xs : List Turn) → IsNew t → AreCalls t xs u →

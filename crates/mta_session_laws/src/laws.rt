@@ -7,7 +7,8 @@ ghost use Rattle.mta_session_laws.specs.WholeRecv.{SessionsReceive};
 ghost use Rattle.mta_session_laws.specs.Writing.{PutsMayBeWritten};
 ghost use Rattle.mta_session_laws.specs.Called.{StepsAreCalled, StepsNeedActivity, PassingIsGot, StartsMayBeMade};
 ghost use Rattle.mta_session_laws.specs.TurningRecv.{EventsGo as ReceiverEventsGo, CallsGo as ReceiverCallsGo};
-ghost use Rattle.mta_session_laws.specs.Turning.{StepGoes, StartGoes, AbandonGoes, PutGoes, HolderGoes, EventsGo, CallsGo};
+ghost use Rattle.mta_session_laws.specs.Turning.{StepGoes, StartGoes, AbandonGoes, PutGoes, HolderGoes, EventsGo};
+ghost use Rattle.mta_session_laws.specs.Turning.{CallsGo};
 
 /// The steps that a session asks for are called for by the units that it got.
 pub fn steps_are_called()
@@ -73,8 +74,8 @@ pub fn sessions_receive_by_the_rules()
     calls_lead_the_receiver_on();
 }
 
-/// The calls of a session, from its first to its end, are one list of events that the rules of sending ends allow: the new
-/// link in front, and behind it all down to the last step.
+/// The calls of a session, from its first to its end, are one list of events that the rules of sending ends allow: the
+/// new link in front, and behind it all down to the last step.
 pub fn sessions_send_to_the_end()
     ensures { SessionsSend }
 {

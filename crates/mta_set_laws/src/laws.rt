@@ -1,6 +1,9 @@
 //! Laws over the SETs of X.411, each the contract of a function that does nothing.
 
-ghost use Rattle.mta_set_laws.specs.Laws.{PersonalNamesInAnyOrder, DeliveriesInAnyOrder, NonDeliveriesInAnyOrder, LastTracesInAnyOrder, ReportedRecipientsInAnyOrder, ReportEnvelopesInAnyOrder, ReportContentsInAnyOrder, RecipientsInAnyOrder, EnvelopesInAnyOrder};
+ghost use Rattle.mta_set_laws.specs.Laws.{PersonalNamesInAnyOrder, DeliveriesInAnyOrder, NonDeliveriesInAnyOrder};
+ghost use Rattle.mta_set_laws.specs.Laws.{LastTracesInAnyOrder, ReportedRecipientsInAnyOrder};
+ghost use Rattle.mta_set_laws.specs.Laws.{ReportEnvelopesInAnyOrder, ReportContentsInAnyOrder, RecipientsInAnyOrder};
+ghost use Rattle.mta_set_laws.specs.Laws.{EnvelopesInAnyOrder};
 
 /// Where octets spell a value whose type is a SET, the octets of its components in every other order spell it too.
 pub fn components_stand_in_any_order()

@@ -1,5 +1,5 @@
-//! The components of a SET stand in any order: laws of names, messages, probes and reports, in a crate of their own so that the readers
-//! are not proved again with them.
+//! The components of a SET stand in any order: laws of names, messages, probes and reports, in a crate of their own so
+//! that the readers are not proved again with them.
 #![tactic(auto)]
 
 mod laws;

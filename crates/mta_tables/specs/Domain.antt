@@ -1,5 +1,6 @@
 -- The agent's own domain: a country, an administration domain and a private domain that may be absent (X.402, 14.1).
-use Rattle.std.specs.Prelude.{Bool, true, false, List, [], ◌∷◌, Option, Some, None, is_none, ◌&&◌, if◌then◌else◌}
+use Rattle.std.specs.Prelude.{Bool, true, false, List, [], ◌∷◌, Option, Some, None, is_none, ◌&&◌}
+use Rattle.std.specs.Prelude.{if◌then◌else◌}
 use Rattle.mta_fields.specs.declared.domain.DomainFields.{DomainFields}
 use Rattle.mta_names.specs.declared.attributes.Attributes.{Attributes}
 use Rattle.mta_names.specs.declared.attributes.Label.{Label}

@@ -1,6 +1,7 @@
 -- The grammar of a text of tables: which text has which tables, and which line is the first at which no such text
 -- goes on.
-use Rattle.std.specs.Prelude.{◌≡◌, ◌≢◌, ◌⊎◌, ℕ, suc, ◌<◌, ◌≤◌, Bool, List, [], ◌∷◌, ◌++◌, length, map, Option, Some, None, All, IsTrue, codes, if◌then◌else◌}
+use Rattle.std.specs.Prelude.{◌≡◌, ◌≢◌, ◌⊎◌, ℕ, suc, ◌<◌, ◌≤◌, Bool, List, [], ◌∷◌}
+use Rattle.std.specs.Prelude.{◌++◌, length, map, Option, Some, None, All, IsTrue, codes, if◌then◌else◌}
 use Rattle.std.specs.List.{flat_map, Any}
 use Rattle.std.specs.Str.{bytes_eq}
 use Rattle.mta_fields.specs.declared.domain.DomainFields.{DomainFields}
@@ -25,7 +26,8 @@ use Rattle.mta_tables.specs.Lines.{PeerText, are_peer_words}
 use Rattle.mta_tables.specs.Reading.{or_usual, holds_of, target_of, route_to}
 use Rattle.mta_tables.specs.Sameness.{IsSamePattern}
 use Rattle.mta_tables.specs.Tables.{TablesValue}
-use Rattle.mta_tables.specs.Words.{is_word, is_twa, is_policy, is_back, is_filled, is_silent, is_decimal, number_of, grade_text}
+use Rattle.mta_tables.specs.Words.{is_word, is_twa, is_policy, is_back, is_filled, is_silent, is_decimal, number_of}
+use Rattle.mta_tables.specs.Words.{grade_text}
 
 -- ---- lines
 
@@ -222,7 +224,8 @@ route_behind earlier r = route_to r.pattern (target_of (peers_of earlier) r.peer
 
 abbrev pub routes_behind : List Line → List Line → List Route
 routes_behind earlier [] = []
-routes_behind earlier (s ∷ later) = map (route_behind earlier) (route_in s) ++ routes_behind (earlier ++ s ∷ []) later
+routes_behind earlier (s ∷ later) =
+    map (route_behind earlier) (route_in s) ++ routes_behind (earlier ++ s ∷ []) later
 
 abbrev pub routes_of : List Line → List Route
 routes_of said = routes_behind [] said
@@ -303,7 +306,8 @@ pub record MayFollow (said : List Line) (s : Line) : Type 0 where
 
 -- the lines can stand in one text: each may follow those before it
 abbrev pub CanStand : List Line → Type 0
-CanStand said = (before : List Line) (s : Line) (after : List Line) → said ≡ before ++ s ∷ after → MayFollow before s
+CanStand said = (before : List Line) (s : Line) (after : List Line) → said ≡ before ++ s ∷ after
+    → MayFollow before s
 
 -- ---- texts
 
@@ -348,11 +352,13 @@ abbrev pub IsWrong : List Line → List ℕ → LineKind → Type 0
 IsWrong said line Kinds.Word = (words : Words) → HasWords line words → ⊥
 IsWrong said line Kinds.Number = (words : Words) × (HasWords line words × LacksNumber words)
 IsWrong said line Kinds.Name =
-    (words : Words) × (HasWords line words × ((LacksNumber words → ⊥) × ((says : Line) → Mean words says → ⊥)))
+    (words : Words) × (HasWords line words
+    × ((LacksNumber words → ⊥) × ((says : Line) → Mean words says → ⊥)))
 IsWrong said line Kinds.Unknown = (says : Line) × (Says line says × IsUnknown said says)
 IsWrong said line Kinds.Twice = (says : Line) × (Says line says × ((IsUnknown said says → ⊥) × IsSaid said says))
 IsWrong said line Kinds.TooMany =
-    (says : Line) × (Says line says × ((IsUnknown said says → ⊥) × ((IsSaid said says → ⊥) × IsMany said says)))
+    (says : Line) × (Says line says
+    × ((IsUnknown said says → ⊥) × ((IsSaid said says → ⊥) × IsMany said says)))
 IsWrong said line kind = ⊥
 
 pub record NextIsWrong (said : List Line) (rest : List ℕ) (kind : LineKind) : Type 0 where

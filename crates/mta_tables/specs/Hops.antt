@@ -1,5 +1,6 @@
 -- Where the messages for a name go next (X.411, clause 14: routing). Own: the patterns of routes.
-use Rattle.std.specs.Prelude.{◌≡◌, ℕ, ◌≤◌, Bool, List, length, Option, Some, None, slice_get, nat_le, not, ◌&&◌, ◌||◌}
+use Rattle.std.specs.Prelude.{◌≡◌, ℕ, ◌≤◌, Bool, List, length, Option, Some, None, slice_get, nat_le, not}
+use Rattle.std.specs.Prelude.{◌&&◌, ◌||◌}
 use Rattle.std.specs.List.{position, find, list_all}
 use Rattle.mta_names.specs.declared.attributes.Attributes.{Attributes}
 use Rattle.mta_names.specs.Normal.{IsSameName}
@@ -82,7 +83,8 @@ pub record StandsAt (routes : List Route) (place : ℕ) (r : Route) : Type 0 whe
 pub record IsBestAt (routes : List Route) (n : Attributes) (place : ℕ) (r : Route) : Type 0 where
   pub stands : StandsAt routes place r
   pub on_it : HasRoute n r.pattern
-  pub longest : (i : ℕ) (s : Route) → StandsAt routes i s → HasRoute n s.pattern → length s.pattern ≤ length r.pattern
+  pub longest : (i : ℕ) (s : Route) → StandsAt routes i s → HasRoute n s.pattern
+      → length s.pattern ≤ length r.pattern
 
 pub record IsMailboxAt (t : TablesValue) (n : Attributes) (place : ℕ) : Type 0 where
   pub mailbox : Mailbox

@@ -1,5 +1,6 @@
 -- What a line says.
-use Rattle.std.specs.Prelude.{◌≡◌, ℕ, Bool, List, Option, Some, None, Result, Ok, Err, ◌==◌, ◌&&◌, if◌then◌else◌, codes}
+use Rattle.std.specs.Prelude.{◌≡◌, ℕ, Bool, List, Option, Some, None, Result, Ok, Err, ◌==◌, ◌&&◌}
+use Rattle.std.specs.Prelude.{if◌then◌else◌, codes}
 use Rattle.std.specs.Str.{bytes_eq}
 use Rattle.mta_fields.specs.declared.domain.DomainFields.{DomainFields}
 use Rattle.mta_names.specs.declared.attributes.Attributes.{Attributes}
@@ -16,7 +17,8 @@ use Rattle.mta_tables.specs.declared.line.Grade.{Grade}
 use Rattle.mta_tables.specs.declared.line.Line.{Line}
 use Rattle.mta_tables.specs.declared.line.Line.TheVariants as Says
 use Rattle.mta_tables.specs.Domain.{domain_of}
-use Rattle.mta_tables.specs.Words.{cut_at, cut_last, is_word, is_password, is_mode, is_twa, is_policy, is_back, grade_of, is_filled, is_number, number_of, command_of, is_silent}
+use Rattle.mta_tables.specs.Words.{cut_at, cut_last, is_word, is_password, is_mode, is_twa, is_policy, is_back}
+use Rattle.mta_tables.specs.Words.{grade_of, is_filled, is_number, number_of, command_of, is_silent}
 
 infixl 10 ◌>>=◌
 abbrev pub ◌>>=◌ : {A B E : Type 0} → Result A E → (A → Result B E) → Result B E
@@ -114,7 +116,8 @@ peer_words p =
     else Err Kinds.Word
 
 abbrev pub mailbox_words : List ℕ → List ℕ → Result Line LineKind
-mailbox_words word text = word_of word >>= λ w. name_of text >>= λ n. Ok (Says.Mailbox (record { word = w; name = n }))
+mailbox_words word text = word_of word >>= λ w. name_of text
+    >>= λ n. Ok (Says.Mailbox (record { word = w; name = n }))
 
 abbrev pub list_words : List ℕ → List ℕ → List ℕ → Result Line LineKind
 list_words word policy text =
@@ -122,7 +125,8 @@ list_words word policy text =
     Ok (Says.List (record { word = w; back = back; name = n }))
 
 abbrev pub from_words : List ℕ → List ℕ → Result Line LineKind
-from_words word text = word_of word >>= λ w. pattern_of text >>= λ p. Ok (Says.From (record { word = w; pattern = p }))
+from_words word text = word_of word >>= λ w. pattern_of text
+    >>= λ p. Ok (Says.From (record { word = w; pattern = p }))
 
 abbrev pub member_words : List ℕ → List ℕ → Result Line LineKind
 member_words word text = word_of word >>= λ w. name_of text >>= λ n. Ok (Says.Member (record { word = w; name = n }))

@@ -1,5 +1,6 @@
 -- Numbers that are read digit by digit, as long as they are small.
-use Rattle.std.specs.Prelude.{ℕ, ◌+◌, ◌-◌, ◌*◌, List, [], ◌∷◌, Option, Some, None, nat_le, if◌then◌else◌}
+use Rattle.std.specs.Prelude.{ℕ, ◌+◌, ◌-◌, ◌*◌, List, [], ◌∷◌, Option, Some, None, nat_le}
+use Rattle.std.specs.Prelude.{if◌then◌else◌}
 
 abbrev pub small_from : ℕ → List ℕ → Option ℕ
 small_from n [] = Some n

@@ -1,5 +1,7 @@
 -- Reading the lines of a text.
-use Rattle.std.specs.Prelude.{◌≡◌, ℕ, ◌+◌, Bool, true, false, List, [], ◌∷◌, ◌++◌, length, map, Option, Some, None, is_some, Result, Ok, Err, not, nat_le, ◌==◌, ◌&&◌, ◌||◌, if◌then◌else◌}
+use Rattle.std.specs.Prelude.{◌≡◌, ℕ, ◌+◌, Bool, true, false, List, [], ◌∷◌, ◌++◌, length, map}
+use Rattle.std.specs.Prelude.{Option, Some, None, is_some, Result, Ok, Err, not, nat_le, ◌==◌, ◌&&◌, ◌||◌}
+use Rattle.std.specs.Prelude.{if◌then◌else◌}
 use Rattle.std.specs.List.{list_any, position}
 use Rattle.std.specs.Str.{bytes_eq}
 use Rattle.mta_fields.specs.declared.domain.DomainFields.{DomainFields}

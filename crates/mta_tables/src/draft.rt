@@ -2,7 +2,8 @@
 
 ghost use Rattle.std.specs.Prelude.{◌≡◌, ◌<◌, ◌^◌, false, length, None, OnOk};
 ghost use Rattle.mta_tables.specs.Drafts.{Leaves, Takes};
-ghost use Rattle.mta_tables.specs.Reading.{nothing, is_named, knows_no_peer, is_unknown, is_said, is_many, target_of, held, holding, added, refusal, add, take_line};
+ghost use Rattle.mta_tables.specs.Reading.{nothing, is_named, knows_no_peer, is_unknown, is_said, is_many, target_of};
+ghost use Rattle.mta_tables.specs.Reading.{held, holding, added, refusal, add, take_line};
 
 use crate::entry::Target;
 use crate::fault::{LineFault, LineKind, TablesFault};

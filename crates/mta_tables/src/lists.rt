@@ -30,9 +30,11 @@ impl Model for Lists {
 }
 
 impl Lists {
-    ghost use Rattle.std.specs.Prelude.{◌≡◌, ◌<◌, ◌≤◌, ◌++◌, [], ◌∷◌, false, length, map, OnOk, IfSome};
+    ghost use Rattle.std.specs.Prelude.{◌≡◌, ◌<◌, ◌≤◌, ◌++◌, [], ◌∷◌, false, length, map};
+    ghost use Rattle.std.specs.Prelude.{OnOk, IfSome};
     ghost use Rattle.std.specs.List.{list_any, position};
-    ghost use Rattle.mta_tables.specs.Reading.{has_list_word, is_of_list, is_full_from, is_full_list, opened, permitted, joined};
+    ghost use Rattle.mta_tables.specs.Reading.{has_list_word, is_of_list, is_full_from, is_full_list, opened};
+    ghost use Rattle.mta_tables.specs.Reading.{permitted, joined};
 
     /// No lists.
     pub fn new(alloc: Global) -> Lists

@@ -116,7 +116,8 @@ impl Mailboxes {
     }
 
     fn place_of_surname(&self, country: &[u8], admd: &[u8], surname: &[u8]) -> Option<usize>
-        ensures exact { result ≡ position (is_of_mailbox (name_of_surname country.now admd.now surname.now)) self.now }
+        ensures exact { result ≡ position
+            (is_of_mailbox (name_of_surname country.now admd.now surname.now)) self.now }
         ensures bound { IfSome result (λ place. place < 4096) }
     {
         self.inner

@@ -2,7 +2,10 @@
 
 ghost use Rattle.std.specs.Prelude.{◌≡◌, ◌≤◌, ◌<◌, ◌^◌, length, IfSome};
 ghost use Rattle.std.specs.Option.{option_copied};
-ghost use Rattle.mta_tables.specs.Lines.{Gives, word_of, name_of, pattern_of, number_in, domain_words, name_words, mailbox_words, list_words, from_words, member_words, here_words, route_words, hold_words, mailbox_line, list_line, from_line, member_line, hold_line, route_line, before_peer, said_of, line_of};
+ghost use Rattle.mta_tables.specs.Lines.{Gives, word_of, name_of, pattern_of, number_in, domain_words, name_words};
+ghost use Rattle.mta_tables.specs.Lines.{mailbox_words, list_words, from_words, member_words, here_words, route_words};
+ghost use Rattle.mta_tables.specs.Lines.{hold_words, mailbox_line, list_line, from_line, member_line, hold_line};
+ghost use Rattle.mta_tables.specs.Lines.{route_line, before_peer, said_of, line_of};
 
 use crate::command::{Command, command_of};
 use crate::cut::{cut_at, cut_last, is_text};

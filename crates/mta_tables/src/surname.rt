@@ -1,7 +1,8 @@
 //! Comparing O/R names with a country, an administration domain and a surname that are lent.
 
 ghost use Rattle.std.specs.Prelude.{◌≡◌, [], Some, None};
-ghost use Rattle.mta_names.specs.Normal.{is_same_name, is_same_label, is_same_value, is_same_texts, is_same_persons, is_same_pairs};
+ghost use Rattle.mta_names.specs.Normal.{is_same_name, is_same_label, is_same_value, is_same_texts, is_same_persons};
+ghost use Rattle.mta_names.specs.Normal.{is_same_pairs};
 ghost use Rattle.mta_tables.specs.Surnames.{label_of, person_of, name_of_surname};
 
 use mta_ber::Text;

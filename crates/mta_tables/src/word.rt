@@ -3,7 +3,8 @@
 ghost use Rattle.std.specs.Prelude.{◌≡◌, ◌≤◌, ◌+◌, ◌*◌, ◌-◌, Some, None, if◌then◌else◌};
 ghost use Rattle.std.specs.List.{list_all};
 ghost use Rattle.mta_names.specs.Values.{is_digit};
-ghost use Rattle.mta_tables.specs.Words.{is_word_octet, is_word, is_password_octet, is_password, is_mode, is_policy, grade_of, is_filled, is_decimal, is_number, number_of, is_silent};
+ghost use Rattle.mta_tables.specs.Words.{is_word_octet, is_word, is_password_octet, is_password, is_mode, is_policy};
+ghost use Rattle.mta_tables.specs.Words.{grade_of, is_filled, is_decimal, is_number, number_of, is_silent};
 ghost use Rattle.mta_tables.specs.Numbers.{small_from};
 
 use crate::cut::is_text;

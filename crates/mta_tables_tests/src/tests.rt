@@ -74,11 +74,26 @@ const BAD: [(&str, u32, LineKind); 59] = [
 ];
 
 /// An agent with two peers, two mailboxes, a list, routes and a hold time.
-const WHOLE: &str =
-    "# here\ndomain C=GB;A=GOLD;P=X Y\nname GOLD-1\npeer X pa pb twa 0 8\npeer Y p q monologue 64 1\npeer Z a b twa 4 3\n\
-mailbox ohm C=GB;A=GOLD;S=Ohm\n\nmailbox watt S=Watt\nlist crew back S=Crew\nfrom crew C=GB\nmember crew S=Watt\nmember crew S=Ohm\n\
-route C=GB peer X\nroute C=GB;A=GOLD peer Y\nroute C=GB;A=GOLD;P=ACME LTD peer Z\nroute C=GB;A=IRON here\nroute C=826 peer Z\n\
-route C=FR;A=b;P=p;O=a peer peer Y\nhold urgent 31536000\n";
+const WHOLE: &str = "# here\n\
+domain C=GB;A=GOLD;P=X Y\n\
+name GOLD-1\n\
+peer X pa pb twa 0 8\n\
+peer Y p q monologue 64 1\n\
+peer Z a b twa 4 3\n\
+mailbox ohm C=GB;A=GOLD;S=Ohm\n\
+\n\
+mailbox watt S=Watt\n\
+list crew back S=Crew\n\
+from crew C=GB\n\
+member crew S=Watt\n\
+member crew S=Ohm\n\
+route C=GB peer X\n\
+route C=GB;A=GOLD peer Y\n\
+route C=GB;A=GOLD;P=ACME LTD peer Z\n\
+route C=GB;A=IRON here\n\
+route C=826 peer Z\n\
+route C=FR;A=b;P=p;O=a peer peer Y\n\
+hold urgent 31536000\n";
 
 fn fault_of(alloc: Global, text: &[u8]) -> Result<(u32, LineKind), Fail> {
     match Tables::read(alloc, text) {
