@@ -1,6 +1,7 @@
 -- How the octets of an activity are cut (X.228): pieces of the agreed size, the last one shorter or as long;
 -- size 0 means one piece.
-use Rattle.std.specs.Prelude.{ℕ, ◌-◌, ◌*◌, ◌==◌, nat_le, if◌then◌else◌, Bool, true, List, [], ◌∷◌, ◌++◌, length, take, drop}
+use Rattle.std.specs.Prelude.{ℕ, ◌-◌, ◌*◌, ◌==◌, nat_le, if◌then◌else◌, Bool, true, List, []}
+use Rattle.std.specs.Prelude.{◌∷◌, ◌++◌, length, take, drop}
 
 -- piece n, from 1 on
 abbrev pub piece_of : (size : ℕ) → List ℕ → (n : ℕ) → List ℕ

@@ -1,6 +1,8 @@
 -- The rules of a receiving end on one link (X.228 clause 7): which units it takes, what it answers, and which
 -- steps its half makes.
-use Rattle.std.specs.Prelude.{◌≡◌, ◌⊎◌, ◌<◌, ◌≤◌, ℕ, ◌+◌, ◌&&◌, ◌||◌, ◌==◌, nat_lt, nat_le, not, max, if◌then◌else◌, Bool, true, false, Option, Some, None, IsSome, unwrap_or, List, [], ◌∷◌}
+use Rattle.std.specs.Prelude.{◌≡◌, ◌⊎◌, ◌<◌, ◌≤◌, ℕ, ◌+◌, ◌&&◌, ◌||◌, ◌==◌}
+use Rattle.std.specs.Prelude.{nat_lt, nat_le, not, max, if◌then◌else◌, Bool, true, false, Option, Some, None}
+use Rattle.std.specs.Prelude.{IsSome, unwrap_or, List, [], ◌∷◌}
 use Rattle.mta_lane_recv.specs.declared.state.Last.{Last}
 use Rattle.mta_lane_recv.specs.declared.state.Last.TheVariants as last
 use Rattle.mta_lane_recv.specs.Half.{is_done, is_partial, is_partial_of, stands, takes_piece}
@@ -19,7 +21,8 @@ pub data RecvStage : Type 0 where
   Next : (activity number : ℕ) → RecvStage  -- so many pieces came, each with its Sync
   Held : (activity number : ℕ) (piece : List ℕ) → RecvStage  -- the piece of this number came
   Synced : (activity number : ℕ) (piece : List ℕ) → RecvStage  -- and its Sync: it may be made durable
-  Ended : (activity number : ℕ) (piece : List ℕ) → RecvStage  -- End behind it: the activity may be completed, and EndAck is due
+  Ended : (activity number : ℕ) (piece : List ℕ)
+      → RecvStage  -- End behind it: the activity may be completed, and EndAck is due
   Asked : (activity number : ℕ) → RecvStage  -- Resume came: its answer is due
   Discards : (activity : ℕ) → RecvStage  -- Discard came: its answer is due
   Found : (activity : ℕ) → RecvStage  -- its octets are none of a message: Exception is due
@@ -45,8 +48,10 @@ in_stage e stage = record e { stage = stage }
 
 -- Start k: it is above the highest, no part stands, and no transfer goes on
 abbrev pub take_start : RecvStage → RecvEnd → ℕ → Option RecvEnd
-take_start Free e k = when (nat_lt e.high k && not (is_partial e.last)) (record e { stage = Next k 0; from = 0; acked = 0 })
-take_start (Skips j) e k = when (nat_lt e.high k && not (is_partial e.last)) (record e { stage = Next k 0; from = 0; acked = 0 })
+take_start Free e k = when (nat_lt e.high k && not (is_partial e.last)) (record e { stage = Next k 0; from =
+    0; acked = 0 })
+take_start (Skips j) e k =
+    when (nat_lt e.high k && not (is_partial e.last)) (record e { stage = Next k 0; from = 0; acked = 0 })
 take_start _ e k = None
 
 -- a piece where one is next
@@ -114,9 +119,11 @@ MayPut e (u.SyncAck m) = (k : ℕ) × Syncs e.stage k m × (e.from < m) × (stan
 MayPut e (u.EndAck k) = (n : ℕ) × (piece : List ℕ) × (e.stage ≡ Ended k n piece) × (is_done e.last k ≡ true)
 -- in answer to Resume
 MayPut e (u.ResumeAck k n) = (e.stage ≡ Asked k n) × (1 ≤ n) × (stands e.last k n ≡ true)
-MayPut e u.Unrecognized = (k n : ℕ) × (e.stage ≡ Asked k n) × (is_done e.last k ≡ false) × (is_partial_of e.last k ≡ false)
+MayPut e u.Unrecognized = (k n : ℕ) × (e.stage ≡ Asked k n) × (is_done e.last k ≡ false)
+    × (is_partial_of e.last k ≡ false)
 -- in answer to Discard
-MayPut e (u.DiscardAck k) = (e.stage ≡ Discards k) × (is_done e.last k ≡ false) × (is_partial_of e.last k ≡ false)
+MayPut e (u.DiscardAck k) = (e.stage ≡ Discards k) × (is_done e.last k ≡ false)
+    × (is_partial_of e.last k ≡ false)
 MayPut e u.Completed = (k : ℕ) × (e.stage ≡ Discards k) × (is_done e.last k ≡ true)
 -- where octets are none of a message, once nothing of the activity stands
 MayPut e u.Exception = (k : ℕ) × (e.stage ≡ Found k) × (is_partial_of e.last k ≡ false)
@@ -152,7 +159,9 @@ made e (Drop k) = record e { last = last.None }
 
 -- The octets up to this piece were found to be none of a message
 abbrev pub MayFind : RecvEnd → (activity number : ℕ) (piece : List ℕ) → Type 0
-MayFind e k n piece = ((e.stage ≡ Synced k n piece) ⊎ (e.stage ≡ Ended k n piece)) × (takes_piece e.high e.last k n ≡ true)
+MayFind e k n piece =
+    ((e.stage ≡ Held k n piece) ⊎ ((e.stage ≡ Synced k n piece) ⊎ (e.stage ≡ Ended k n piece)))
+    × (takes_piece e.high e.last k n ≡ true)
 
 abbrev pub found : RecvEnd → (activity : ℕ) → RecvEnd
 found e k = in_stage e (Found k)

@@ -17,7 +17,7 @@ use Rattle.mta_world.proofs.Talk.{Genuine}
 use Rattle.mta_world.proofs.Moves.{Moves, take-moves}
 use Rattle.mta_world.proofs.Answers.{Answers}
 use Rattle.mta_world.proofs.Sends.{Sends, sends_start, sends_resume, discards_first, discards_started, discards_next, discards_sync, discards_last, discards_resume, sends_piece, sends_last, sends_sync, sends_end, puts-send}
-use Rattle.mta_world.proofs.Takes.{Shrinks, shrinks-same, moves-shrinks, cross-shrinks, take-link, take-send, Finds, at_sync, at_end, finds-shrinks, find-link, find-send}
+use Rattle.mta_world.proofs.Takes.{Shrinks, shrinks-same, moves-shrinks, cross-shrinks, take-link, take-send, Finds, at_piece, at_sync, at_end, finds-shrinks, find-link, find-send}
 use Rattle.mta_world.proofs.Puts.{heard-snoc, bad-good, put-answers, put-link, denied-bad, asked-live, put-send, put-acked, cross-put, answers-shrinks}
 use Rattle.mta_world.proofs.Speaks.{Tells, put-tells, part-unheard, cross-unheard, put-stands, put-parts, put-ended, put-cross_there, put-cross_both, got-parts, got-cross}
 use Rattle.mta_world.proofs.Makes.{link-forgets}
@@ -197,6 +197,16 @@ module _ (spells : List ℕ → Bool) (octets : ℕ → List ℕ) (w : World) (k
   bad-at_sync i j zero piece g t f = absurd (not-zero w.high w.last j t)
   bad-at_sync i j (suc m) piece g t f = front-bad spells w.size octets (last_of w.state) w.high w.last w.pieces w.completed k.receives j m piece (goes j m t) g.0 g.1 f
 
+  bad-at_piece : (i j n : ℕ) (piece : List ℕ) → Genuine w.size octets (Bad P) (r.Held j n piece) → takes_piece w.high w.last j n ≡ true → IsFaulty spells (r.Held j n piece) (octets_with w.pieces n piece) → Bad P j
+  bad-at_piece i j zero piece g t f = absurd (not-zero w.high w.last j t)
+  bad-at_piece i j (suc m) piece g t f = by_last (is_last w.size (octets j) (suc m)) refl
+    where
+      by_last : (b : Bool) → is_last w.size (octets j) (suc m) ≡ b → Bad P j
+      by_last true e =
+          sym (ap spells (whole-octets spells w.size octets (last_of w.state) w.high w.last w.pieces w.completed k.receives j m piece (goes j m t) g e))
+          ∙ ap spells (sym (append-nil (octets_with w.pieces (suc m) piece))) ∙ f []
+      by_last false e = front-bad spells w.size octets (last_of w.state) w.high w.last w.pieces w.completed k.receives j m piece (goes j m t) g e f
+
   bad-at_end : (i j n : ℕ) (piece : List ℕ) → piece ≡ piece_of w.size (octets j) n → is_last w.size (octets j) n ≡ true → takes_piece w.high w.last j n ≡ true → spells (octets_with w.pieces n piece) ≡ false → Bad P j
   bad-at_end i j zero piece g e t f = absurd (not-zero w.high w.last j t)
   bad-at_end i j (suc m) piece g e t f =
@@ -207,6 +217,11 @@ module _ (spells : List ℕ → Bool) (octets : ℕ → List ℕ) (w : World) (k
       let l : Link = w.links i in
       elim mf.0 [
         | inl e ↦
+            find-any i j (subst (λ (z : RecvStage). Finds z (r.Found j) j) (sym e) (at_piece {k = j} {n = n} {o = piece}))
+            (bad-at_piece i j n piece (subst (λ (z : RecvStage). Genuine w.size octets (Bad P) z) e (k.linked.links i).genuine) mf.1
+            (subst (λ (z : RecvStage). IsFaulty spells z (octets_with w.pieces n piece)) e f))
+        | inr more ↦ elim more [
+        | inl e ↦
             find-any i j (subst (λ (z : RecvStage). Finds z (r.Found j) j) (sym e) (at_sync {k = j} {n = n} {o = piece}))
             (bad-at_sync i j n piece (subst (λ (z : RecvStage). Genuine w.size octets (Bad P) z) e (k.linked.links i).genuine) mf.1
             (subst (λ (z : RecvStage). IsFaulty spells z (octets_with w.pieces n piece)) e f))
@@ -216,6 +231,7 @@ module _ (spells : List ℕ → Bool) (octets : ℕ → List ℕ) (w : World) (k
             find-any i j (subst (λ (z : RecvStage). Finds z (r.Found j) j) (sym e) (at_end {k = j} {n = n} {o = piece}))
             (bad-at_end i j n piece (subst (λ (z : RecvStage). Genuine w.size octets (Bad P) z) e (k.linked.links i).genuine) fl.0.1 mf.1
             (subst (λ (z : RecvStage). IsFaulty spells z (octets_with w.pieces n piece)) e f)))
+        ]
       ]
 
   -- The sending end puts a unit ---------------------------------------------------------------------------------
