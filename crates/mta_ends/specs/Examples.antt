@@ -11,12 +11,28 @@ five = 1 ∷ 2 ∷ 3 ∷ 4 ∷ 5 ∷ []
 
 -- one piece is confirmed
 abbrev pub broken_sender : s.SendEnd
-broken_sender = record { state = state.Sending 1 1; octets = five; size = 2; window = 1; accepted = true; stage =
-    s.Next 1 1; heard = None }
+broken_sender = record {
+  state = state.Sending 1 1;
+  octets = five;
+  size = 2;
+  window = 1;
+  accepted = true;
+  stage =
+      s.Next 1 1;
+  heard = None;
+}
 
 abbrev pub settled_sender : s.SendEnd
-settled_sender = record { state = state.Idle 1; octets = five; size = 2; window = 1; accepted = true; stage =
-    s.Quiet; heard = None }
+settled_sender = record {
+  state = state.Idle 1;
+  octets = five;
+  size = 2;
+  window = 1;
+  accepted = true;
+  stage =
+      s.Quiet;
+  heard = None;
+}
 
 abbrev pub sending_events : List s.SendEvent
 sending_events =
@@ -40,7 +56,7 @@ receiving_events =
     r.New_link
     ∷ r.Took (Resume 1 1) ∷ r.Put (ResumeAck 1 1)
     ∷ r.Took (Piece (3 ∷ 4 ∷ [])) ∷ r.Took (Sync 2) ∷ r.Made (r.Secure 1 2 (3 ∷ 4 ∷ [])) ∷ r.Put
-        (SyncAck 2)
+    (SyncAck 2)
     ∷ r.Took (Piece (5 ∷ [])) ∷ r.Took (End 1) ∷ r.Made (r.Complete 1 3 (5 ∷ [])) ∷ r.Put (EndAck 1) ∷ []
 
 abbrev pub ReceiverResumes : Type 0

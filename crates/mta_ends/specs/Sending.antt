@@ -238,8 +238,13 @@ heard_after heard Abandon = heard
 heard_after heard step = None
 
 abbrev pub made : SendEnd → SendStep → SendEnd
-made e step = record e { state = state_after e.state step; octets = octets_after e.octets step; stage =
-    stage_after e step; heard = heard_after e.heard step }
+made e step = record e {
+  state = state_after e.state step;
+  octets = octets_after e.octets step;
+  stage =
+      stage_after e step;
+  heard = heard_after e.heard step;
+}
 
 -- A new link
 abbrev pub stage_on_link : SendState → SendStage

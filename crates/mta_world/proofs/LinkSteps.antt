@@ -221,16 +221,16 @@ module _ (spells : List ℕ → Bool) (octets : ℕ → List ℕ) (w : World) (k
             (bad-at_piece i j n piece (subst (λ (z : RecvStage). Genuine w.size octets (Bad P) z) e (k.linked.links i).genuine) mf.1
             (subst (λ (z : RecvStage). IsFaulty spells z (octets_with w.pieces n piece)) e f))
         | inr more ↦ elim more [
-        | inl e ↦
-            find-any i j (subst (λ (z : RecvStage). Finds z (r.Found j) j) (sym e) (at_sync {k = j} {n = n} {o = piece}))
-            (bad-at_sync i j n piece (subst (λ (z : RecvStage). Genuine w.size octets (Bad P) z) e (k.linked.links i).genuine) mf.1
-            (subst (λ (z : RecvStage). IsFaulty spells z (octets_with w.pieces n piece)) e f))
-        | inr e ↦
-            (let fl : Flows w.size octets (place (r.Ended j n piece)) (ups (r.Ended j n piece) l.up.way) =
-            subst (λ (z : RecvStage). Flows w.size octets (place z) (ups z l.up.way)) e (k.linked.links i).flows in
-            find-any i j (subst (λ (z : RecvStage). Finds z (r.Found j) j) (sym e) (at_end {k = j} {n = n} {o = piece}))
-            (bad-at_end i j n piece (subst (λ (z : RecvStage). Genuine w.size octets (Bad P) z) e (k.linked.links i).genuine) fl.0.1 mf.1
-            (subst (λ (z : RecvStage). IsFaulty spells z (octets_with w.pieces n piece)) e f)))
+          | inl e ↦
+              find-any i j (subst (λ (z : RecvStage). Finds z (r.Found j) j) (sym e) (at_sync {k = j} {n = n} {o = piece}))
+              (bad-at_sync i j n piece (subst (λ (z : RecvStage). Genuine w.size octets (Bad P) z) e (k.linked.links i).genuine) mf.1
+              (subst (λ (z : RecvStage). IsFaulty spells z (octets_with w.pieces n piece)) e f))
+          | inr e ↦
+              (let fl : Flows w.size octets (place (r.Ended j n piece)) (ups (r.Ended j n piece) l.up.way) =
+              subst (λ (z : RecvStage). Flows w.size octets (place z) (ups z l.up.way)) e (k.linked.links i).flows in
+              find-any i j (subst (λ (z : RecvStage). Finds z (r.Found j) j) (sym e) (at_end {k = j} {n = n} {o = piece}))
+              (bad-at_end i j n piece (subst (λ (z : RecvStage). Genuine w.size octets (Bad P) z) e (k.linked.links i).genuine) fl.0.1 mf.1
+              (subst (λ (z : RecvStage). IsFaulty spells z (octets_with w.pieces n piece)) e f)))
         ]
       ]
 

@@ -36,4 +36,4 @@ abbrev pub AMessageArrives : Type 0
 AMessageArrives =
     (octets : List ℕ) → 1 ≤ length octets
     → (w : World) × IsWorldRun (λ o. true) w × (w.completed ≡ record { activity = 1; octets = octets } ∷ [])
-        × (w.sent ≡ w.completed)
+    × (w.sent ≡ w.completed)

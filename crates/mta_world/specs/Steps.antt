@@ -19,25 +19,47 @@ with_link w i l = record w { links = set_at w.links i l }
 
 -- the sending end opens its next link: the lane's initiator does
 abbrev pub opened_by_sender : World → World
-opened_by_sender w = record w { opened = w.opened + 1; send_link = Some w.opened; links =
-    set_at w.links w.opened (new_link true false false w.state) }
+opened_by_sender w = record w {
+  opened = w.opened + 1;
+  send_link = Some w.opened;
+  links =
+      set_at w.links w.opened (new_link true false false w.state);
+}
 
 abbrev pub opened_by_receiver : World → World
-opened_by_receiver w = record w { opened = w.opened + 1; recv_link = Some w.opened; links =
-    set_at w.links w.opened (new_link false true false w.state) }
+opened_by_receiver w = record w {
+  opened = w.opened + 1;
+  recv_link = Some w.opened;
+  links =
+      set_at w.links w.opened (new_link false true false w.state);
+}
 
 -- an end takes the Open of link i, which is then its newest; a responder needs no Accept
 abbrev pub joined_by_sender : World → ℕ → Link → World
 joined_by_sender w i l =
-    record w { send_link = Some i; links =
-        set_at w.links i (record l { send_joined = true; send_stopped = false; send =
-        record { accepted = true; stage = s.stage_on_link w.state; heard = None } }) }
+    record w {
+      send_link = Some i;
+      links =
+          set_at w.links i (record l {
+            send_joined = true;
+            send_stopped = false;
+            send =
+                record { accepted = true; stage = s.stage_on_link w.state; heard = None };
+          });
+    }
 
 abbrev pub joined_by_receiver : World → ℕ → Link → World
 joined_by_receiver w i l =
-    record w { recv_link = Some i; links =
-        set_at w.links i (record l { recv_joined = true; recv_stopped = false; recv =
-        record { stage = r.Free; from = 0; acked = 0 } }) }
+    record w {
+      recv_link = Some i;
+      links =
+          set_at w.links i (record l {
+            recv_joined = true;
+            recv_stopped = false;
+            recv =
+                record { stage = r.Free; from = 0; acked = 0 };
+          });
+    }
 
 -- a suffix of a queue is lost
 abbrev pub lost : Queue → ℕ → Queue
@@ -68,12 +90,18 @@ abbrev pub sender_did : World → ℕ → s.SendEnd → World
 sender_did w i e = with_link w i (record (w.links i) { send = send_part e })
 
 abbrev pub sender_put : World → ℕ → LaneUnit → World
-sender_put w i x = with_link w i (record (w.links i) { up = put_on (w.links i).up x; send =
-    send_part (s.put (send_end w (w.links i).send) x) })
+sender_put w i x = with_link w i (record (w.links i) {
+  up = put_on (w.links i).up x;
+  send =
+      send_part (s.put (send_end w (w.links i).send) x);
+})
 
 abbrev pub sender_got : World → ℕ → LaneUnit → Queue → World
-sender_got w i x q = with_link w i (record (w.links i) { down = q; send =
-    send_part (s.got (send_end w (w.links i).send) x) })
+sender_got w i x q = with_link w i (record (w.links i) {
+  down = q;
+  send =
+      send_part (s.got (send_end w (w.links i).send) x);
+})
 
 abbrev pub outcome_of : s.SendStep → Outcome
 outcome_of s.Sent = Was_sent
@@ -124,8 +152,11 @@ IsConfirming (u.DiscardAck k) = Unit {0}
 IsConfirming _ = ⊥
 
 abbrev pub receiver_put : World → ℕ → LaneUnit → World
-receiver_put w i x = with_link w i (record (w.links i) { down = put_on (w.links i).down x; recv =
-    recv_part (r.put (recv_end w (w.links i).recv) x) })
+receiver_put w i x = with_link w i (record (w.links i) {
+  down = put_on (w.links i).down x;
+  recv =
+      recv_part (r.put (recv_end w (w.links i).recv) x);
+})
 
 abbrev pub receiver_took : World → ℕ → Queue → r.RecvEnd → World
 receiver_took w i q e = with_link w i (record (w.links i) { up = q; recv = recv_part e })
@@ -203,14 +234,14 @@ pub data WorldStep (spells : List ℕ → Bool) : World → World → Type 0 whe
   Receiver_puts : {w : World} (i : ℕ) (x : LaneUnit) → ReceiverUses (w.links i)
       → r.MayPut (recv_end w (w.links i).recv) x
       → (w.sender_opens ≡ false → IsConfirming x → w.recv_link ≡ Some i)
-          → WorldStep spells w (receiver_put w i x)
+      → WorldStep spells w (receiver_put w i x)
   -- steps are made on the newest link alone
   Receiver_makes : {w : World} (i : ℕ) (step : r.RecvStep) → ReceiverUses (w.links i) → w.recv_link ≡ Some i
       → r.MayMake (recv_end w (w.links i).recv) step → Spells spells w step
-          → WorldStep spells w (receiver_made w i step)
+      → WorldStep spells w (receiver_made w i step)
   Receiver_finds : {w : World} (i k n : ℕ) (piece : List ℕ) → ReceiverUses (w.links i)
       → r.MayFind (recv_end w (w.links i).recv) k n piece
-          → IsFaulty spells (w.links i).recv.stage (octets_with w.pieces n piece)
+      → IsFaulty spells (w.links i).recv.stage (octets_with w.pieces n piece)
       → WorldStep spells w (receiver_found w i k)
   Loses_up : {w : World} (i n : ℕ) → WithinReach (w.links i).up.reach n
       → WorldStep spells w (with_link w i (record (w.links i) { up = lost (w.links i).up n }))
