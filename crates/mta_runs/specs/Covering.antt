@@ -4,7 +4,8 @@ use Rattle.std.specs.Prelude.{Bool, ◌≡◌, ◌⊎◌, ◌<◌, ◌≤◌, �
 use Rattle.std.specs.Prelude.{slice_get, List, [], ◌∷◌, ◌++◌, map, length}
 use Rattle.mta_ends.specs.Sending as s
 use Rattle.mta_ends.specs.Sending.{SendEvent}
-use Rattle.mta_runs.specs.History.{Step, IsHistory, half_of, half_steps}
+use Rattle.mta_ends.specs.Lanes.{Seen, LanesAllow}
+use Rattle.mta_runs.specs.History.{half_of, half_steps}
 use Rattle.mta_runs.specs.Sendings.{HalfStep, Binds, Makes, sending_step, StepsInOrder}
 use Rattle.mta_runs.specs.Sessions.{SessionList, SessionEvent, Made, sending_event, sending_list}
 use Rattle.mta_runs.specs.Run.{EachGood}
@@ -34,14 +35,14 @@ placed_lists lane (l ∷ ls) =
     record { position = l.at; step = Binds l.at } ∷ (placed_events lane l.events ++ placed_lists lane ls)
 
 -- what the history has at a position for this half
-abbrev pub step_here : (lane position : ℕ) → Option Step → List HalfStep
+abbrev pub step_here : (lane position : ℕ) → Option Seen → List HalfStep
 step_here lane p None = []
 step_here lane p (Some step) = half_of sending_step lane p step
 
-abbrev pub step_at : (history : List Step) → (lane position : ℕ) → List HalfStep
+abbrev pub step_at : (history : List Seen) → (lane position : ℕ) → List HalfStep
 step_at history lane p = step_here lane p (slice_get history p)
 
-abbrev pub EachStands : (history : List Step) → (lane : ℕ) → List Placed → Type 0
+abbrev pub EachStands : (history : List Seen) → (lane : ℕ) → List Placed → Type 0
 EachStands history lane [] = Unit {0}
 EachStands history lane (x ∷ xs) = (step_at history lane x.position ≡ x.step ∷ []) × EachStands history lane xs
 
@@ -65,7 +66,7 @@ NoneGoesOn p (x ∷ xs) = (x.position < p → NoneGoesOn p xs) × (p ≤ x.posit
 
 -- Each step of the lists stands at its position, and these rise. Each step of the half that was added stands in a list,
 -- or it gives an activity up while no list goes on: an Abandon that a list's session could see stands in that list.
-pub record Covers (history : List Step) (from : ℕ) (lane : ℕ) (lists : List SessionList) : Type 0 where
+pub record Covers (history : List Seen) (from : ℕ) (lane : ℕ) (lists : List SessionList) : Type 0 where
   pub stand : EachStands history lane (placed_lists lane lists)
   pub rise : Rises from (placed_lists lane lists)
   pub each : (p : ℕ) (y : HalfStep) → from ≤ p → step_at history lane p ≡ y ∷ []
@@ -74,18 +75,18 @@ pub record Covers (history : List Step) (from : ℕ) (lane : ℕ) (lists : List 
 
 abbrev pub CoveringKeepsOrder : Type 0
 CoveringKeepsOrder =
-    (before added : List Step) (lane : ℕ) (lists : List SessionList)
+    (before added : List Seen) (lane : ℕ) (lists : List SessionList)
     → Covers (before ++ added) (length before) lane lists
     → StepsInOrder (map (sending_list lane) lists) (half_steps sending_step lane (length before) added)
 
 -- Each list begins with a LaneOpen or Bind step of the lane.
-abbrev pub EachBinds : (history : List Step) → (lane : ℕ) → List SessionList → Type 0
+abbrev pub EachBinds : (history : List Seen) → (lane : ℕ) → List SessionList → Type 0
 EachBinds history lane [] = Unit {0}
 EachBinds history lane (l ∷ ls) = (step_at history lane l.at ≡ Binds l.at ∷ []) × EachBinds history lane ls
 
 -- One station had all sessions of the lane: positions rise from one list to the next, and each step of the half that
 -- was added stands in one of them or is an Abandon.
-pub record Owns (history : List Step) (from : ℕ) (lane : ℕ) (lists : List SessionList) : Type 0 where
+pub record Owns (history : List Seen) (from : ℕ) (lane : ℕ) (lists : List SessionList) : Type 0 where
   pub binds : EachBinds history lane lists
   pub rise : Rises from (placed_lists lane lists)
   pub owned : (p : ℕ) (y : HalfStep) → from ≤ p → step_at history lane p ≡ y ∷ []
@@ -93,8 +94,8 @@ pub record Owns (history : List Step) (from : ℕ) (lane : ℕ) (lists : List Se
 
 abbrev pub OwningKeepsOrder : Type 0
 OwningKeepsOrder =
-    (spells : List ℕ → Bool) (before added : List Step) (lane size window : ℕ) (initiator : Bool)
+    (spells : List ℕ → Bool) (before added : List Seen) (lane size window : ℕ) (initiator : Bool)
     (lists : List SessionList)
-    → IsHistory spells (before ++ added) → EachGood spells (before ++ added) lane size window initiator lists
+    → LanesAllow spells (before ++ added) → EachGood spells (before ++ added) lane size window initiator lists
     → Owns (before ++ added) (length before) lane lists
     → StepsInOrder (map (sending_list lane) lists) (half_steps sending_step lane (length before) added)

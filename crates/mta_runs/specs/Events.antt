@@ -12,7 +12,8 @@ use Rattle.mta_world.specs.Steps.{IsWorldRun, opened_by_sender, opened_by_receiv
 use Rattle.mta_world.specs.Steps.{joined_by_receiver, with_link, lost, WithinReach, SenderUses, ReceiverUses}
 use Rattle.mta_world.specs.Steps.{without_sender, without_receiver, sender_put, sender_got, sender_made, given_up}
 use Rattle.mta_world.specs.Steps.{IsOnNewest, IsConfirming, receiver_put, receiver_took, receiver_made, receiver_found}
-use Rattle.mta_world.specs.Steps.{octets_with, Spells, IsFaulty}
+use Rattle.mta_ends.specs.Pieces.{octets_with}
+use Rattle.mta_world.specs.Steps.{Spells, IsFaulty}
 
 pub data WorldEvent : Type 0 where
   Sender_opens : (link : ℕ) → WorldEvent

@@ -3,7 +3,8 @@ use Rattle.std.specs.Prelude.{◌≡◌, ◌⊎◌, ◌≤◌, ℕ, ◌+◌, Opt
 use Rattle.std.specs.Prelude.{◌∷◌, ◌++◌, map, length}
 use Rattle.mta_ends.specs.Receiving as r
 use Rattle.mta_ends.specs.Receiving.{RecvEvent}
-use Rattle.mta_runs.specs.History.{Step, half_of, half_steps}
+use Rattle.mta_ends.specs.Lanes.{Seen}
+use Rattle.mta_runs.specs.History.{half_of, half_steps}
 use Rattle.mta_runs.specs.Receivings.{HalfStep, Binds, Makes, receiving_step, StepsInOrder}
 use Rattle.mta_runs.specs.Sessions.{SessionList, SessionEvent, Made, StepsStand, receiving_event, receiving_list}
 
@@ -30,11 +31,11 @@ placed_lists lane [] = []
 placed_lists lane (l ∷ ls) =
     record { position = l.at; step = Binds l.at } ∷ (placed_events lane l.events ++ placed_lists lane ls)
 
-abbrev pub step_here : (lane position : ℕ) → Option Step → List HalfStep
+abbrev pub step_here : (lane position : ℕ) → Option Seen → List HalfStep
 step_here lane p None = []
 step_here lane p (Some step) = half_of receiving_step lane p step
 
-abbrev pub step_at : (history : List Step) → (lane position : ℕ) → List HalfStep
+abbrev pub step_at : (history : List Seen) → (lane position : ℕ) → List HalfStep
 step_at history lane p = step_here lane p (slice_get history p)
 
 abbrev pub Rises : (from : ℕ) → List Placed → Type 0
@@ -45,13 +46,13 @@ abbrev pub HasPosition : (position : ℕ) → List Placed → Type 0
 HasPosition p [] = ⊥
 HasPosition p (x ∷ xs) = (p ≡ x.position) ⊎ HasPosition p xs
 
-abbrev pub EachBinds : (history : List Step) → (lane : ℕ) → List SessionList → Type 0
+abbrev pub EachBinds : (history : List Seen) → (lane : ℕ) → List SessionList → Type 0
 EachBinds history lane [] = Unit {0}
 EachBinds history lane (l ∷ ls) = (step_at history lane l.at ≡ Binds l.at ∷ []) × StepsStand history l.events
     × EachBinds history lane ls
 
 -- One station had all sessions of the lane: each step of the half that was added stands in one of their lists.
-pub record Owns (history : List Step) (from : ℕ) (lane : ℕ) (lists : List SessionList) : Type 0 where
+pub record Owns (history : List Seen) (from : ℕ) (lane : ℕ) (lists : List SessionList) : Type 0 where
   pub binds : EachBinds history lane lists
   pub rise : Rises from (placed_lists lane lists)
   pub owned : (p : ℕ) (y : HalfStep) → from ≤ p → step_at history lane p ≡ y ∷ []
@@ -59,6 +60,6 @@ pub record Owns (history : List Step) (from : ℕ) (lane : ℕ) (lists : List Se
 
 abbrev pub OwningKeepsReceivingOrder : Type 0
 OwningKeepsReceivingOrder =
-    (before added : List Step) (lane : ℕ) (lists : List SessionList)
+    (before added : List Seen) (lane : ℕ) (lists : List SessionList)
     → Owns (before ++ added) (length before) lane lists
     → StepsInOrder (map (receiving_list lane) lists) (half_steps receiving_step lane (length before) added)

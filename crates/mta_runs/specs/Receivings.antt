@@ -3,11 +3,13 @@ use Rattle.std.specs.Prelude.{◌≡◌, ℕ, ◌+◌, Bool, List, [], ◌∷◌
 use Rattle.mta_ends.specs.Receiving as r
 use Rattle.mta_ends.specs.Receiving.{RecvEnd, RecvEvent, RecvStep}
 use Rattle.mta_world.specs.World.{World}
-use Rattle.mta_world.specs.Steps.{pieces_after, octets_with, IsFaulty}
+use Rattle.mta_ends.specs.Pieces.{octets_with}
+use Rattle.mta_world.specs.Steps.{pieces_after, IsFaulty}
 use Rattle.mta_runs.specs.Events.{WorldEvent}
 use Rattle.mta_runs.specs.Events as x
-use Rattle.mta_runs.specs.History.{Lane, LaneStep, Step, lane_in, half_steps}
-use Rattle.mta_runs.specs.History as h
+use Rattle.mta_ends.specs.Lanes.{Halves, SeenStep, Seen, lane_in}
+use Rattle.mta_runs.specs.History.{half_steps}
+use Rattle.mta_ends.specs.Lanes as h
 
 -- The part of one session list that concerns the receiving half: the position of its LaneOpen or Bind step in the
 -- history, and behind that step the units of this half, its steps, and what it found of octets.
@@ -16,7 +18,7 @@ pub record ReceivingList : Type 0 where
   pub events : List RecvEvent
 
 -- The half as a link finds it
-abbrev pub end_on_link : Lane → RecvEnd
+abbrev pub end_on_link : Halves → RecvEnd
 end_on_link l = record { high = l.high; last = l.last; stage = r.Free; from = 0; acked = 0 }
 
 abbrev pub IsPlain : RecvEvent → Type 0
@@ -43,7 +45,7 @@ AreTrue spells e pieces (y ∷ ys) = IsTrue spells e pieces y
     × AreTrue spells (r.recv_after e y) (pieces_behind pieces y) ys
 
 -- The list keeps the rules of a receiving end, from the half as it stands right after that step.
-pub record IsGoodReceiving (spells : List ℕ → Bool) (history : List Step) (lane : ℕ)
+pub record IsGoodReceiving (spells : List ℕ → Bool) (history : List Seen) (lane : ℕ)
     (l : ReceivingList) : Type 0 where
   pub plain : ArePlain l.events
   pub last_end : RecvEnd
@@ -51,7 +53,7 @@ pub record IsGoodReceiving (spells : List ℕ → Bool) (history : List Step) (l
   pub findings : AreTrue spells (end_on_link (lane_in lane (take (l.at + 1) history)))
       (lane_in lane (take (l.at + 1) history)).pieces l.events
 
-abbrev pub EachGood : (List ℕ → Bool) → (history : List Step) → (lane : ℕ) → List ReceivingList → Type 0
+abbrev pub EachGood : (List ℕ → Bool) → (history : List Seen) → (lane : ℕ) → List ReceivingList → Type 0
 EachGood spells history lane [] = Unit {0}
 EachGood spells history lane (l ∷ ls) = IsGoodReceiving spells history lane l × EachGood spells history lane ls
 
@@ -61,7 +63,7 @@ pub data HalfStep : Type 0 where
   Binds : (at : ℕ) → HalfStep
   Makes : RecvStep → HalfStep
 
-abbrev pub receiving_step : (at : ℕ) → LaneStep → List HalfStep
+abbrev pub receiving_step : (at : ℕ) → SeenStep → List HalfStep
 receiving_step at (h.LaneOpen agreed size window) = Binds at ∷ []
 receiving_step at (h.Bind g) = Binds at ∷ []
 receiving_step at (h.Secure g k n piece) = Makes (r.Secure k n piece) ∷ []
@@ -116,25 +118,25 @@ OwnEventsStand = (link : ℕ → ℕ) (lists : List ReceivingList) (steps : List
     → StepsInOrder lists steps → (own : List OwnEvent) × InOrder lists own steps
 
 -- The half of this world is the one that the lane has.
-pub record IsReceivingOf (w : World) (l : Lane) : Type 0 where
+pub record IsReceivingOf (w : World) (l : Halves) : Type 0 where
   pub high : w.high ≡ l.high
   pub last : w.last ≡ l.last
   pub pieces : w.pieces ≡ l.pieces
 
 -- The world events in which this agent's receiving end did what its sessions did, in the history's order: their
 -- premises are those on the links and on the other end alone.
-pub record ReceivesOnRun (spells : List ℕ → Bool) (before added : List Step) (lane : ℕ)
+pub record ReceivesOnRun (spells : List ℕ → Bool) (before added : List Seen) (lane : ℕ)
     (lists : List ReceivingList) (w : World) (events : List WorldEvent) : Type 0 where
   pub begins : IsReceivingOf w (lane_in lane before)
   pub order : InOrder lists (own_events events) (half_steps receiving_step lane (length before) added)
   pub fits : x.AllFit w events
   pub other : x.SenderKeepsRules w events
   pub good : EachGood spells (before ++ added) lane lists
-  pub possible : h.IsHistory spells (before ++ added)
+  pub possible : h.LanesAllow spells (before ++ added)
 
 -- Such events keep the rules of the receiving end.
 abbrev pub ReceivingsKeepRules : Type 0
 ReceivingsKeepRules =
-    (spells : List ℕ → Bool) (before added : List Step) (lane : ℕ) (lists : List ReceivingList) (w : World)
+    (spells : List ℕ → Bool) (before added : List Seen) (lane : ℕ) (lists : List ReceivingList) (w : World)
     (events : List WorldEvent)
     → ReceivesOnRun spells before added lane lists w events → x.ReceiverKeepsRules spells w events

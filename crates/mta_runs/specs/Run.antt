@@ -4,13 +4,14 @@ use Rattle.mta_world.specs.World.{World}
 use Rattle.mta_world.specs.Steps.{IsWorldRun}
 use Rattle.mta_world.specs.Agrees.{Agrees}
 use Rattle.mta_runs.specs.Events.{WorldEvent, after_all, AllFit, SenderKeepsRules, ReceiverKeepsRules}
-use Rattle.mta_runs.specs.History.{Step, IsHistory, lane_in, half_steps}
+use Rattle.mta_ends.specs.Lanes.{Seen, lane_in, LanesAllow}
+use Rattle.mta_runs.specs.History.{half_steps}
 use Rattle.mta_runs.specs.Sessions.{SessionList, IsGoodSession, sending_list, receiving_list}
 use Rattle.mta_runs.specs.Sendings as sending
 use Rattle.mta_runs.specs.Receivings as receiving
 
 -- each of the station's sessions of this lane has a good list
-abbrev pub EachGood : (List ℕ → Bool) → (history : List Step) → (lane size window : ℕ)
+abbrev pub EachGood : (List ℕ → Bool) → (history : List Seen) → (lane size window : ℕ)
     → (initiator : Bool) → List SessionList → Type 0
 EachGood spells history lane size window initiator [] = Unit {0}
 EachGood spells history lane size window initiator (l ∷ ls) =
@@ -19,7 +20,7 @@ EachGood spells history lane size window initiator (l ∷ ls) =
 -- This agent's end is the sending end. The world had come to its half before the call; in these events its steps are
 -- those that were added, in order, and its units those of the session lists, at their places; the other end keeps its
 -- rules, and units are queued, taken and lost as links allow.
-pub record SendsIn (spells : List ℕ → Bool) (before added : List Step) (lane size window : ℕ) (initiator : Bool)
+pub record SendsIn (spells : List ℕ → Bool) (before added : List Seen) (lane size window : ℕ) (initiator : Bool)
     (sessions : List SessionList) (w : World) (events : List WorldEvent) : Type 0 where
   pub run : IsWorldRun spells w
   pub begins : sending.IsSendingOf w (lane_in lane before)
@@ -32,7 +33,7 @@ pub record SendsIn (spells : List ℕ → Bool) (before added : List Step) (lane
   pub other : ReceiverKeepsRules spells w events
 
 -- The same where it is the receiving end.
-pub record ReceivesIn (spells : List ℕ → Bool) (before added : List Step) (lane : ℕ)
+pub record ReceivesIn (spells : List ℕ → Bool) (before added : List Seen) (lane : ℕ)
     (sessions : List SessionList) (w : World) (events : List WorldEvent) : Type 0 where
   pub run : IsWorldRun spells w
   pub begins : receiving.IsReceivingOf w (lane_in lane before)
@@ -45,7 +46,7 @@ pub record ReceivesIn (spells : List ℕ → Bool) (before added : List Step) (l
 abbrev pub RunsAndAgrees : (List ℕ → Bool) → World → List WorldEvent → Type 0
 RunsAndAgrees spells w events = IsWorldRun spells (after_all w events) × Agrees spells (after_all w events)
 
-pub record EndsAgreeOnRun (spells : List ℕ → Bool) (before added : List Step) (lane size window : ℕ)
+pub record EndsAgreeOnRun (spells : List ℕ → Bool) (before added : List Seen) (lane size window : ℕ)
     (initiator : Bool) (sessions : List SessionList) : Type 0 where
   pub sends : (w : World) (events : List WorldEvent)
       → SendsIn spells before added lane size window initiator sessions w events → RunsAndAgrees spells w events
@@ -55,7 +56,7 @@ pub record EndsAgreeOnRun (spells : List ℕ → Bool) (before added : List Step
 -- Good session lists of one station over a possible history: the ends agree.
 abbrev pub SessionsAgree : Type 0
 SessionsAgree =
-    (spells : List ℕ → Bool) (before added : List Step) (lane size window : ℕ) (initiator : Bool)
+    (spells : List ℕ → Bool) (before added : List Seen) (lane size window : ℕ) (initiator : Bool)
     (sessions : List SessionList)
-    → IsHistory spells (before ++ added) → EachGood spells (before ++ added) lane size window initiator sessions
+    → LanesAllow spells (before ++ added) → EachGood spells (before ++ added) lane size window initiator sessions
     → EndsAgreeOnRun spells before added lane size window initiator sessions

@@ -7,8 +7,9 @@ use Rattle.mta_ends.specs.Sending.{SendEnd, SendEvent, SendStep}
 use Rattle.mta_world.specs.World.{World}
 use Rattle.mta_runs.specs.Events.{WorldEvent}
 use Rattle.mta_runs.specs.Events as x
-use Rattle.mta_runs.specs.History.{Lane, LaneStep, Step, lane_in, half_steps}
-use Rattle.mta_runs.specs.History as h
+use Rattle.mta_ends.specs.Lanes.{Halves, SeenStep, Seen, lane_in}
+use Rattle.mta_runs.specs.History.{half_steps}
+use Rattle.mta_ends.specs.Lanes as h
 
 -- The part of one session list that concerns the sending half: the position of its LaneOpen or Bind step in the
 -- history, and behind that step the units of this half and its steps.
@@ -17,7 +18,7 @@ pub record SendingList : Type 0 where
   pub events : List SendEvent
 
 -- The half as a link finds it
-abbrev pub end_on_link : Lane → (size window : ℕ) → (accepted : Bool) → SendEnd
+abbrev pub end_on_link : Halves → (size window : ℕ) → (accepted : Bool) → SendEnd
 end_on_link l size window accepted =
     record {
       state = l.state;
@@ -40,14 +41,14 @@ ArePlain [] = Unit {0}
 ArePlain (e ∷ es) = IsPlain e × ArePlain es
 
 -- The list keeps the rules of a sending end, from the half as it stands right after that step.
-pub record IsGoodSending (history : List Step) (lane size window : ℕ) (accepted : Bool)
+pub record IsGoodSending (history : List Seen) (lane size window : ℕ) (accepted : Bool)
     (l : SendingList) : Type 0 where
   pub plain : ArePlain l.events
   pub last_end : SendEnd
   pub allowed : s.IsSendingEnd
       (end_on_link (lane_in lane (take (l.at + 1) history)) size window accepted) l.events last_end
 
-abbrev pub EachGood : (history : List Step) (lane size window : ℕ) (accepted : Bool) → List SendingList → Type 0
+abbrev pub EachGood : (history : List Seen) (lane size window : ℕ) (accepted : Bool) → List SendingList → Type 0
 EachGood history lane size window accepted [] = Unit {0}
 EachGood history lane size window accepted (l ∷ ls) = IsGoodSending history lane size window accepted l
     × EachGood history lane size window accepted ls
@@ -59,7 +60,7 @@ pub data HalfStep : Type 0 where
   Binds : (at : ℕ) → HalfStep
   Makes : SendStep → HalfStep
 
-abbrev pub sending_step : (at : ℕ) → LaneStep → List HalfStep
+abbrev pub sending_step : (at : ℕ) → SeenStep → List HalfStep
 sending_step at (h.LaneOpen agreed size window) = Binds at ∷ []
 sending_step at (h.LaneAgree size window) = []
 sending_step at (h.Bind g) = Binds at ∷ []
@@ -135,24 +136,24 @@ OwnEventsStand = (link : ℕ → ℕ) (lists : List SendingList) (steps : List H
     → (own : List OwnEvent) × InOrder lists own steps
 
 -- The half of this world is the one that the lane has.
-pub record IsSendingOf (w : World) (l : Lane) : Type 0 where
+pub record IsSendingOf (w : World) (l : Halves) : Type 0 where
   pub state : w.state ≡ l.state
   pub octets : is_idle l.state ≡ false → w.octets (last_of w.state) ≡ l.octets
 
 -- The world events in which this agent's sending end did what its sessions did, in the history's order: their premises
 -- are those on the links and on the other end alone.
-pub record SendsOnRun (spells : List ℕ → Bool) (before added : List Step) (lane : ℕ) (lists : List SendingList)
+pub record SendsOnRun (spells : List ℕ → Bool) (before added : List Seen) (lane : ℕ) (lists : List SendingList)
     (w : World) (events : List WorldEvent) : Type 0 where
   pub begins : IsSendingOf w (lane_in lane before)
   pub order : InOrder lists (own_events events) (half_steps sending_step lane (length before) added)
   pub fits : x.AllFit w events
   pub other : x.ReceiverKeepsRules spells w events
   pub good : EachGood (before ++ added) lane w.size w.window (not w.sender_opens) lists
-  pub possible : h.IsHistory spells (before ++ added)
+  pub possible : h.LanesAllow spells (before ++ added)
 
 -- Such events keep the rules of the sending end.
 abbrev pub SendingsKeepRules : Type 0
 SendingsKeepRules =
-    (spells : List ℕ → Bool) (before added : List Step) (lane : ℕ) (lists : List SendingList) (w : World)
+    (spells : List ℕ → Bool) (before added : List Seen) (lane : ℕ) (lists : List SendingList) (w : World)
     (events : List WorldEvent)
     → SendsOnRun spells before added lane lists w events → x.SenderKeepsRules w events

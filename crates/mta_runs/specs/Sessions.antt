@@ -2,43 +2,25 @@
 use Rattle.std.specs.Prelude.{◌≡◌, ◌<◌, ◌≤◌, ℕ, ◌+◌, ◌==◌, if◌then◌else◌, Bool, true}
 use Rattle.std.specs.Prelude.{false, not, Some, slice_get, List, [], ◌∷◌, ◌++◌, length, take}
 use Rattle.mta_lane_send.specs.Half.{is_sending, last_of}
+use Rattle.mta_units.specs.declared.unit.Unit.{Unit as AnyUnit}
+use Rattle.mta_units.specs.declared.unit.Unit.TheVariants.{Accept, Reject, Start, Piece, Sync, SyncAck, End, EndAck}
+use Rattle.mta_units.specs.declared.unit.Unit.TheVariants.{Resume, ResumeAck, Discard, DiscardAck, Please, Give}
+use Rattle.mta_units.specs.declared.unit.Unit.TheVariants.{Exception, Abort, Close, CloseAck}
 use Rattle.mta_ends.specs.Units.{LaneUnit}
 use Rattle.mta_ends.specs.Units as u
 use Rattle.mta_ends.specs.Sending as s
 use Rattle.mta_ends.specs.Sending.{SendEnd, SendEvent}
 use Rattle.mta_ends.specs.Receiving as r
 use Rattle.mta_ends.specs.Receiving.{RecvEnd, RecvEvent}
-use Rattle.mta_runs.specs.History.{Lane, LaneStep, Step, On, lane_in}
-use Rattle.mta_runs.specs.History as h
+use Rattle.mta_ends.specs.Lanes.{Halves, SeenStep, Seen, On, lane_in}
+use Rattle.mta_ends.specs.Lanes as h
 use Rattle.mta_runs.specs.Sendings as sendings
 use Rattle.mta_runs.specs.Sendings.{SendingList, IsGoodSending}
 use Rattle.mta_runs.specs.Receivings as receivings
 use Rattle.mta_runs.specs.Receivings.{ReceivingList, IsGoodReceiving}
 
--- The units of an association
-pub data SessionUnit : Type 0 where
-  Open : SessionUnit
-  Accept : SessionUnit
-  Reject : (reason : ℕ) → SessionUnit
-  Start : (activity : ℕ) → SessionUnit
-  Piece : (octets : List ℕ) → SessionUnit
-  Sync : (number : ℕ) → SessionUnit
-  SyncAck : (number : ℕ) → SessionUnit
-  End : (activity : ℕ) → SessionUnit
-  EndAck : (activity : ℕ) → SessionUnit
-  Resume : (activity number : ℕ) → SessionUnit
-  ResumeAck : (activity number : ℕ) → SessionUnit
-  Discard : (activity : ℕ) → SessionUnit
-  DiscardAck : (activity : ℕ) → SessionUnit
-  Please : SessionUnit
-  Give : SessionUnit
-  Exception : (kind at : ℕ) → SessionUnit
-  Abort : (reason : ℕ) → SessionUnit
-  Close : SessionUnit
-  CloseAck : SessionUnit
-
 -- what a unit is for a half: its transfer's units go from the sending end, the answers come from the receiving end
-abbrev pub transfer_unit : SessionUnit → List LaneUnit
+abbrev pub transfer_unit : AnyUnit → List LaneUnit
 transfer_unit (Start k) = u.Start k ∷ []
 transfer_unit (Piece octets) = u.Piece octets ∷ []
 transfer_unit (Sync n) = u.Sync n ∷ []
@@ -50,7 +32,7 @@ transfer_unit _ = []
 abbrev pub abort_unit : (reason : ℕ) → List LaneUnit
 abort_unit reason = if reason == 7 then u.Completed ∷ [] else (if reason == 2 then u.Unrecognized ∷ [] else [])
 
-abbrev pub answer_unit : SessionUnit → List LaneUnit
+abbrev pub answer_unit : AnyUnit → List LaneUnit
 answer_unit (SyncAck n) = u.SyncAck n ∷ []
 answer_unit (EndAck k) = u.EndAck k ∷ []
 answer_unit (ResumeAck k n) = u.ResumeAck k n ∷ []
@@ -58,7 +40,7 @@ answer_unit (DiscardAck k) = u.DiscardAck k ∷ []
 answer_unit (Exception kind at) = u.Exception ∷ []
 answer_unit (Abort reason) = abort_unit reason
 answer_unit (Reject reason) = if reason == 1 then u.CannotRecover ∷ [] else []
-answer_unit Accept = u.Accept ∷ []
+answer_unit (Accept size window answer) = u.Accept ∷ []
 answer_unit _ = []
 
 -- A look is an answer of the spool without a step.
@@ -69,11 +51,11 @@ pub data Look : Type 0 where
   Elsewhere : Look
 
 pub data SessionEvent : Type 0 where
-  Got : SessionUnit → SessionEvent
+  Got : AnyUnit → SessionEvent
   -- got, and not taken: it is not allowed here or one too many, and an Abort at most follows
-  Refused : SessionUnit → SessionEvent
-  Put : SessionUnit → SessionEvent
-  Made : (position : ℕ) → (lane : ℕ) → LaneStep → SessionEvent
+  Refused : AnyUnit → SessionEvent
+  Put : AnyUnit → SessionEvent
+  Made : (position : ℕ) → (lane : ℕ) → SeenStep → SessionEvent
   Looked : (length : ℕ) → Look → SessionEvent
 
 -- The list of a session that has a lane: what came before its LaneOpen or Bind step, the position of that step, and
@@ -94,7 +76,7 @@ gots_of [] = []
 gots_of (x ∷ xs) = s.Got x ∷ gots_of xs
 
 -- a responder puts Accept, which is none of its sending half's
-abbrev pub sending_step_of : LaneStep → List SendEvent
+abbrev pub sending_step_of : SeenStep → List SendEvent
 sending_step_of (h.Start g k octets) = s.Made (s.Start octets) ∷ []
 sending_step_of (h.Confirm g k n) = s.Made (s.Confirm n) ∷ []
 sending_step_of (h.To_end g k) = s.Made s.To_end ∷ []
@@ -105,7 +87,7 @@ sending_step_of (h.Dropped g k) = s.Made s.Dropped ∷ []
 sending_step_of (h.Abandon k) = s.Made s.Abandon ∷ []
 sending_step_of _ = []
 
-abbrev pub receiving_step_of : LaneStep → List RecvEvent
+abbrev pub receiving_step_of : SeenStep → List RecvEvent
 receiving_step_of (h.Secure g k n piece) = r.Made (r.Secure k n piece) ∷ []
 receiving_step_of (h.Complete g k n piece) = r.Made (r.Complete k n piece) ∷ []
 receiving_step_of (h.Drop g k) = r.Made (r.Drop k) ∷ []
@@ -165,20 +147,20 @@ abbrev pub first_turn : (initiator : Bool) → Turn
 first_turn true = Own
 first_turn false = Theirs
 
-abbrev pub turn_put : Turn → SessionUnit → Turn
-turn_put Before_accept Accept = Theirs
+abbrev pub turn_put : Turn → AnyUnit → Turn
+turn_put Before_accept (Accept size window answer) = Theirs
 turn_put Own Give = Theirs
 turn_put Own Close = Own_closing
-turn_put Their_closing Please = Theirs
+turn_put Their_closing (Please priority) = Theirs
 turn_put Their_closing CloseAck = Over
 turn_put t (Abort reason) = Over
 turn_put t x = t
 
-abbrev pub turn_got : Turn → SessionUnit → Turn
-turn_got Before_accept Accept = Own
+abbrev pub turn_got : Turn → AnyUnit → Turn
+turn_got Before_accept (Accept size window answer) = Own
 turn_got Theirs Give = Own
 turn_got Theirs Close = Their_closing
-turn_got Own_closing Please = Own
+turn_got Own_closing (Please priority) = Own
 turn_got Own_closing CloseAck = Over
 turn_got t (Abort reason) = Over
 turn_got t (Reject reason) = Over
@@ -247,10 +229,10 @@ RefusesLast (e ∷ es) = RefusesLast es
 -- Positions --------------------------------------------------------------------------------------------------------
 
 -- the steps stand in the history, for each half in its order; an Abandon of another pass too
-abbrev pub StandsAt : (history : List Step) → ℕ → Step → Type 0
+abbrev pub StandsAt : (history : List Seen) → ℕ → Seen → Type 0
 StandsAt history p step = slice_get history p ≡ Some step
 
-abbrev pub StepsStand : (history : List Step) → List SessionEvent → Type 0
+abbrev pub StepsStand : (history : List Seen) → List SessionEvent → Type 0
 StepsStand history [] = Unit {0}
 StepsStand history (Made p j step ∷ es) = StandsAt history p (On j step) × StepsStand history es
 StepsStand history (Looked n look ∷ es) = (n ≤ length history) × StepsStand history es
@@ -260,12 +242,12 @@ StepsStand history (e ∷ es) = StepsStand history es
 -- ---------
 
 -- from one length of the history up to another this activity is not given up
-abbrev pub IsKept : (history : List Step) → (lane activity from upto : ℕ) → Type 0
+abbrev pub IsKept : (history : List Seen) → (lane activity from upto : ℕ) → Type 0
 IsKept history lane k from upto = (p : ℕ) → from ≤ p → p < upto
     → slice_get history p ≡ Some (On lane (h.Abandon k)) → ⊥
 
 -- so it is while the list's half is sending it
-abbrev pub IsSeen : (history : List Step) → (lane from upto : ℕ) → SendEnd → Type 0
+abbrev pub IsSeen : (history : List Seen) → (lane from upto : ℕ) → SendEnd → Type 0
 IsSeen history lane from upto e = is_sending e.state (last_of e.state) ≡ true
     → IsKept history lane (last_of e.state) from upto
 
@@ -273,11 +255,11 @@ abbrev pub step_seen : (from position : ℕ) → List SendEvent → ℕ
 step_seen from p [] = from
 step_seen from p (e ∷ es) = p + 1
 
-abbrev pub StepSees : (history : List Step) → (lane from position : ℕ) → SendEnd → List SendEvent → Type 0
+abbrev pub StepSees : (history : List Seen) → (lane from position : ℕ) → SendEnd → List SendEvent → Type 0
 StepSees history lane from p e [] = Unit {0}
 StepSees history lane from p e (x ∷ xs) = (from ≤ p) × IsSeen history lane from p e
 
-abbrev pub Sees : (history : List Step) → (lane from : ℕ) → SendEnd → SessionEvent → Type 0
+abbrev pub Sees : (history : List Seen) → (lane from : ℕ) → SendEnd → SessionEvent → Type 0
 Sees history lane from e (Made p j step) = StepSees history lane from p e (sending_event lane (Made p j step))
 Sees history lane from e (Looked n At_sending) = (from ≤ n) × IsSeen history lane from n e
 Sees history lane from e _ = Unit {0}
@@ -287,14 +269,14 @@ seen_after lane from (Made p j step) = step_seen from p (sending_event lane (Mad
 seen_after lane from (Looked n At_sending) = n
 seen_after lane from _ = from
 
-abbrev pub PlacesAbandons : (history : List Step) → (lane from : ℕ) → SendEnd → List SessionEvent → Type 0
+abbrev pub PlacesAbandons : (history : List Seen) → (lane from : ℕ) → SendEnd → List SessionEvent → Type 0
 PlacesAbandons history lane from e [] = Unit {0}
 PlacesAbandons history lane from e (y ∷ ys) = Sees history lane from e y
     × PlacesAbandons history lane (seen_after lane from y) (send_all e (sending_event lane y)) ys
 
 -- A good list --------------------------------------------------------------------------------------------------------
 
-pub record IsGoodSession (spells : List ℕ → Bool) (history : List Step) (lane size window : ℕ)
+pub record IsGoodSession (spells : List ℕ → Bool) (history : List Seen) (lane size window : ℕ)
     (initiator : Bool) (l : SessionList) : Type 0 where
   pub begun : l.at < length history
   pub stands : StepsStand history l.events
@@ -326,7 +308,7 @@ AbandonMayStandBefore =
 -- What is good over what a pass has seen is good over every longer history.
 abbrev pub GoodSessionsGrow : Type 0
 GoodSessionsGrow =
-    (spells : List ℕ → Bool) (history more : List Step) (lane size window : ℕ) (initiator : Bool)
+    (spells : List ℕ → Bool) (history more : List Seen) (lane size window : ℕ) (initiator : Bool)
     (l : SessionList)
     → IsGoodSession spells history lane size window initiator l
     → IsGoodSession spells (history ++ more) lane size window initiator l

@@ -1,6 +1,9 @@
 //! Session lists, histories and the world runs that they make.
 #![tactic(auto)]
 
+ghost use Rattle.std.specs.Prelude.{ℕ};
+ghost use Rattle.mta_rtse.specs.declared.types.Answer.{Answer};
+ghost use Rattle.mta_units.specs.declared.unit.OpenUnit.{OpenUnit};
 ghost use Rattle.mta_runs.specs.Events.{EventsAreARun};
 ghost use Rattle.mta_runs.specs.Sendings.{SendingsKeepRules};
 ghost use Rattle.mta_runs.specs.Receivings.{ReceivingsKeepRules};
@@ -41,7 +44,7 @@ pub fn sessions_agree()
 
 /// The rules allow it: two good session lists that send one message, and a world that has them.
 pub fn two_sessions_send()
-    ensures { TwoSessionsSend }
+    ensures { (o : OpenUnit) (size window : ℕ) (a : Answer) → TwoSessionsSend o size window a }
 {}
 
 /// Lists whose steps are those of a history, in its order, stand in events of the world.
@@ -100,7 +103,8 @@ pub fn one_station_agrees()
 /// A list with an Abandon of another pass is good where the Abandon stands before the look that has it; a list with the
 /// Abandon behind it, and one that takes a unit with a Confirm due, are not.
 pub fn examples_of_lists()
-    ensures dropping { ASessionDrops }
-    ensures late { ALateAbandonIsNotGood }
-    ensures unconfirmed { AnUnconfirmedSyncIsNotGood }
+    ensures dropping { (o : OpenUnit) (size window : ℕ) (a : Answer) → ASessionDrops o size window a }
+    ensures late { (o : OpenUnit) (size window : ℕ) (a : Answer) → ALateAbandonIsNotGood o size window a }
+    ensures unconfirmed { (o : OpenUnit) (size window : ℕ) (a : Answer)
+        → AnUnconfirmedSyncIsNotGood o size window a }
 {}

@@ -5,7 +5,7 @@ use Rattle.std.specs.Prelude.{None, List, [], ◌∷◌, ◌++◌, take}
 use Rattle.mta_lane_send.specs.Half.{last_of, is_sending}
 use Rattle.mta_ends.specs.Units.{LaneUnit}
 use Rattle.mta_ends.specs.Units as u
-use Rattle.mta_ends.specs.Pieces.{joined}
+use Rattle.mta_ends.specs.Pieces.{octets_with}
 use Rattle.mta_ends.specs.Sending as s
 use Rattle.mta_ends.specs.Receiving as r
 use Rattle.mta_world.specs.World.{World, Link, Queue, Message, Outcome, Unsettled, Was_sent, Was_dropped, Was_refused}
@@ -160,10 +160,6 @@ receiver_put w i x = with_link w i (record (w.links i) {
 
 abbrev pub receiver_took : World → ℕ → Queue → r.RecvEnd → World
 receiver_took w i q e = with_link w i (record (w.links i) { up = q; recv = recv_part e })
-
--- the octets of an activity up to this piece
-abbrev pub octets_with : List (List ℕ) → ℕ → List ℕ → List ℕ
-octets_with pieces n piece = joined (take (n - 1) pieces) ++ piece
 
 abbrev pub pieces_after : List (List ℕ) → r.RecvStep → List (List ℕ)
 pieces_after pieces (r.Secure k n piece) = take (n - 1) pieces ++ piece ∷ []
