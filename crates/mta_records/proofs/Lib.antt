@@ -1,3 +1,1 @@
 pub mod Cutting
-pub mod Fields
-pub mod Records
