@@ -23,16 +23,3 @@ fn records_have_their_kind_and_fields(rt: HostRuntime) -> Result<(), Fail> {
     );
     Ok(())
 }
-
-#[test]
-fn references_are_copied_and_compared(rt: HostRuntime) -> Result<(), Fail> {
-    let alloc = rt.alloc();
-    let calling = Octets::from_slice(alloc, b"EAST")?;
-    let reference = Reference::new(calling, 7, None);
-    let copy = reference.copy(alloc)?;
-    assert!(rt; copy.same(&reference));
-    let calling = Octets::from_slice(alloc, b"EAST")?;
-    let later = Reference::new(calling, 8, None);
-    assert!(rt; !later.same(&reference));
-    Ok(())
-}

@@ -4,8 +4,8 @@ use Rattle.std.specs.Int.{Width, w32, w64, byte_len, from_be_bytes, to_be_bytes}
 use Rattle.std.proofs.lemmas.Bool.{cases_lt, ltb-false, le-ltb}
 use Rattle.std.proofs.lemmas.List.{take_at, drop_at, take-append-drop, length-append, length-take, get_or-drop, get_or-take, get_or_past}
 use Rattle.std.proofs.lemmas.Nat.{be_bytes_4, be_bytes_8, from_be_bytes-to_be_bytes_4, from_be_bytes-to_be_bytes_8}
-use Rattle.mta_records.specs.Body.{string, recipient_fields, last_moment}
-use Rattle.mta_records.specs.Reading.{◌>>=◌, number_at, moment_at, string_at}
+use Rattle.mta_first_records.specs.Body.{string, recipient_fields, last_moment}
+use Rattle.mta_first_records.specs.Reading.{◌>>=◌, number_at, moment_at, string_at}
 
 -- each item is one octet
 abbrev pub AreOctets : List ℕ → Type 0

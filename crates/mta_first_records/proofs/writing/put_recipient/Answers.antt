@@ -1,8 +1,8 @@
 use Rattle.std.proofs.Common.{◌≡◌, ◌++◌, List, ℕ, ap, ◌∙◌}
 use Rattle.std.specs.Int.{w32, w64, to_be_bytes}
-use Rattle.mta_records.specs.Body.{recipient_fields}
-use Rattle.mta_records.proofs.Fields.{appended_thrice}
-use Rattle.mta_records.proofs.writing.put_recipient.Goals as goal
+use Rattle.mta_first_records.specs.Body.{recipient_fields}
+use Rattle.mta_first_records.proofs.Fields.{appended_thrice}
+use Rattle.mta_first_records.proofs.writing.put_recipient.Goals as goal
 
 pub returns : goal.returns
 unfolding recipient_fields
