@@ -10,3 +10,9 @@ pub mod ReportContents
 pub mod Recipients
 pub mod Envelopes
 pub mod InAnyOrder
+pub mod Fills
+pub mod Binds
+pub mod Requests
+pub mod Answers
+pub mod Reasons
+pub mod UnitsInAnyOrder
