@@ -1,6 +1,7 @@
 pub mod Orders
 pub mod Slots
 pub mod Persons
+pub mod Supplied
 pub mod Deliveries
 pub mod Failures
 pub mod LastTraces
