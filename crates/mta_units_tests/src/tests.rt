@@ -1,10 +1,12 @@
+//! Streams of units as octets: what they are read as, whatever cuts they come in, and what units are written as.
+
 ghost use Rattle.std.specs.Prelude.{IfOk};
 ghost use Rattle.mta_ber.specs.declared.text.TextClass.TheVariants.{Ia5};
 ghost use Rattle.mta_ber.specs.Strings.{IsText};
 ghost use Rattle.mta_units.specs.Canon.{IsWritable};
 
-use super::*;
 use mta_ber::{Memory, Octets, Word};
+use mta_units::{Answer, BadUnit, Frames, Next, OpenUnit, Reference, Request, Unit, write_unit};
 use std::alloc::{AllocError, Global};
 use std::process::Abort;
 use std::test::Fail;
@@ -358,7 +360,8 @@ fn an_opening_is_written(rt: HostRuntime) -> Result<(), Fail> {
     let additional = Octets::from_slice(alloc, b"0000000007")?;
     let opening = opening_of(name, Reference::new(calling, 0, Some(additional)))?;
     let expected =
-        "00 00 00 37 01 16 04 45 41 53 54 30 21 04 04 45 41 53 54 17 0D 35 30 30 31 30 31 30 30 30 30 30 30 5A 80 0A 30 30 30 30 30 30 30 30 30 37 B0 0C 80 01 04 82 01 01 A3 04 A0 02 05 00";
+        "00 00 00 37 01 16 04 45 41 53 54 30 21 04 04 45 41 53 54 17 0D 35 30 30 31 30 31 30 30 30 30 30 30 5A \
+         80 0A 30 30 30 30 30 30 30 30 30 37 B0 0C 80 01 04 82 01 01 A3 04 A0 02 05 00";
     assert!(rt; is_written_as(alloc, &opening, expected)?);
     Ok(())
 }
