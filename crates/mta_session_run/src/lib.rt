@@ -1,0 +1,8 @@
+//! Runs a session over a link: what it wants put is put, what comes is told to it, and its questions to the spool are
+//! handed to whoever runs it.
+#![tactic(auto)]
+
+mod link;
+mod run;
+
+pub use run::{Came, carry_on, tell};
