@@ -6,7 +6,7 @@ use Rattle.mta_units.specs.declared.unit.Unit.{Unit as AnyUnit}
 use Rattle.mta_units.specs.Feed.{Feed}
 use Rattle.mta_units.specs.Canon.{unit_octets}
 use Rattle.mta_unit_links.specs.Carried.{Carried, PutsAll}
-use Rattle.mta_session.specs.declared.ask.Reply.TheVariants as reply
+use Rattle.mta_session.specs.declared.ask.Reply.{Reply}
 use Rattle.mta_session.specs.declared.event.Event.{Event}
 use Rattle.mta_session.specs.declared.event.Event.TheVariants as event
 use Rattle.mta_session.specs.declared.event.Action.{Action}
@@ -20,7 +20,7 @@ use Rattle.mta_session_laws.specs.Runs.{Turn, IsTurn}
 use Rattle.mta_session_laws.specs.Whole.{IsNew, AreCalls}
 use Rattle.mta_session_laws.specs.Writing.{CanWrite, TellsWritable, PutsWritable}
 use Rattle.mta_session_order.specs.Order.{awaits, is_putting, is_reading}
-use Rattle.mta_session_run.specs.Running.{IsAtLink, HasPut, HasGot, HasDone, IsRead, units_of, IsCalled, HasTold, PutFor, is_cut, Runs, Not_yet, Goes_on, IsRun}
+use Rattle.mta_session_run.specs.Running.{HasPut, HasGot, HasDone, IsRead, units_of, IsCalled, HasTold, PutFor, is_cut, Runs, Not_yet, Goes_on, IsRun, HasStopped}
 
 never : false ≡ true → ⊥
 never i = cc
@@ -70,5 +70,161 @@ done_answers model t (action.Ask x) old fed e new feed w h = elim h [ ]
 done_answers model t (action.Finish x) old fed e new feed w h = elim h [ ]
 
 -- what comes of it tells of no peer
-tells_nothing : (t : State) (e : Event) → ((x : _) → e ≡ event.Reply x → ⊥) → TellsWritable t e
-tells_nothing t e n own o p a b c = absurd (n (reply.Peer (Ok (Some p))) c)
+go_reply : (x : Reply) → event.Go ≡ event.Reply x → ⊥
+go_reply x i = cc
+
+unit_reply : (u : AnyUnit) (x : Reply) → event.Unit u ≡ event.Reply x → ⊥
+unit_reply u x i = cc
+
+bad_reply : (x : Reply) → event.BadUnit ≡ event.Reply x → ⊥
+bad_reply x i = cc
+
+over_reply : (x : Reply) → event.Over ≡ event.Reply x → ⊥
+over_reply x i = cc
+
+put_tells : (e : Event) (t : State) → answers_put e ≡ true → TellsWritable t e
+put_tells event.Go t a = λ own o p i j k. absurd (go_reply _ k)
+put_tells event.Over t a = λ own o p i j k. absurd (over_reply _ k)
+put_tells (event.Unit u) t a = absurd (never a)
+put_tells event.BadUnit t a = absurd (never a)
+put_tells (event.Reply x) t a = absurd (never a)
+
+read_tells : (e : Event) (t : State) → answers_read e ≡ true → TellsWritable t e
+read_tells event.Over t a = λ own o p i j k. absurd (over_reply _ k)
+read_tells (event.Unit u) t a = λ own o p i j k. absurd (unit_reply u _ k)
+read_tells event.BadUnit t a = λ own o p i j k. absurd (bad_reply _ k)
+read_tells event.Go t a = absurd (never a)
+read_tells (event.Reply x) t a = absurd (never a)
+
+pub done_tells : {L : Type 0} → (model : LinkView L) (t : State) (a : Action) (old : L) (fed : Feed) (e : Event) (new : L) (feed : Feed) → HasDone model a old fed e new feed → TellsWritable t e
+done_tells model t (action.Put u) old fed e new feed h = put_tells e t (is_put model u old e new h.0)
+done_tells model t action.Read old fed e new feed h = read_tells e t (is_got model _ e new feed h.read)
+done_tells model t (action.Ask x) old fed e new feed h = elim h [ ]
+done_tells model t (action.Finish x) old fed e new feed h = elim h [ ]
+
+putting_goes : (p : Phase) → is_putting p ≡ true → is_over p ≡ false
+putting_goes (phase.Ended x) i = absurd (never i)
+putting_goes p i = refl
+
+reading_goes : (p : Phase) → is_reading p ≡ true → is_over p ≡ false
+reading_goes (phase.Ended x) i = absurd (never i)
+reading_goes p i = refl
+
+pub done_goes : {L : Type 0} → (model : LinkView L) (t : State) (a : Action) (old : L) (fed : Feed) (e : Event) (new : L) (feed : Feed) → awaits a t.phase ≡ true → HasDone model a old fed e new feed → is_over t.phase ≡ false
+done_goes model t (action.Put u) old fed e new feed w h = putting_goes t.phase w
+done_goes model t action.Read old fed e new feed w h = reading_goes t.phase w
+done_goes model t (action.Ask x) old fed e new feed w h = elim h [ ]
+done_goes model t (action.Finish x) old fed e new feed w h = elim h [ ]
+
+-- What the link has carried then -----------------------------------------------------------
+
+put_carried : (us : List AnyUnit) (os piece : List ℕ) (fed feed : Feed) (f g h : Talk) → feed ≡ fed → Carried us os fed f g → PutsAll piece g h → Carried (us ++ []) (os ++ piece) feed f h
+put_carried us os piece fed feed f g h e c p =
+    let there : Carried us (os ++ piece) fed f h = record {
+      stream = c.stream;
+      read = c.read;
+      got = p.got ∙ c.got;
+      put = p.put ∙ ap (λ (x : List ℕ). x ++ piece) c.put ∙ append_assoc f.put os piece;
+    } in
+    subst (λ (x : List AnyUnit). Carried x (os ++ piece) feed f h) (sym (append-nil us)) (subst (λ (x : Feed). Carried us (os ++ piece) x f h) (sym e) there)
+
+-- the octets that were put for an action, and what was carried
+abbrev Carries : {L : Type 0} → LinkView L → Action → L → Feed → Event → L → Feed → Type 0
+Carries model a old fed e new feed =
+    (piece : List ℕ) × PutFor a e piece × (is_cut a e ≡ true → Rose (model.faults old) (model.faults new))
+    × ((since : Option Talk) (us : List AnyUnit) (os : List ℕ) → Leads (Carried us os fed) since (model.talk old) → Leads (Carried (us ++ units_of e) (os ++ piece) feed) since (model.talk new))
+
+put_carries : {L : Type 0} → (model : LinkView L) (u : AnyUnit) (old : L) (fed : Feed) (e : Event) (new : L) (feed : Feed) → HasPut model u old e new → feed ≡ fed → Carries model (action.Put u) old fed e new feed
+put_carries model u old fed event.Go new feed h q =
+    (unit_octets u, refl, (λ i. absurd (never i)), λ since us os c. leads_then (λ f g k one two. put_carried us os (unit_octets u) fed feed f g k q one two) c h)
+put_carries model u old fed event.Over new feed h q =
+    (take h.0.0 (unit_octets u), (h.0.0, refl), (λ i. h.1), λ since us os c. leads_then (λ f g k one two. put_carried us os (take h.0.0 (unit_octets u)) fed feed f g k q one two) c h.0.1)
+put_carries model u old fed (event.Unit x) new feed h q = elim h [ ]
+put_carries model u old fed event.BadUnit new feed h q = elim h [ ]
+put_carries model u old fed (event.Reply x) new feed h q = elim h [ ]
+
+got_carries : {L : Type 0} → (model : LinkView L) (old : L) (fed : Feed) (e : Event) (new : L) (feed : Feed) → HasGot model old fed e new feed → Carries model action.Read old fed e new feed
+got_carries model old fed e new feed h = (
+  [],
+  refl,
+  (λ i. absurd (never i)),
+  λ since us os c. subst (λ (x : List ℕ). Leads (Carried (us ++ units_of e) x feed) since (model.talk new)) (sym (append-nil os)) (h.carried since us os c),
+)
+
+done_carries : {L : Type 0} → (model : LinkView L) (a : Action) (old : L) (fed : Feed) (e : Event) (new : L) (feed : Feed) → HasDone model a old fed e new feed → Carries model a old fed e new feed
+done_carries model (action.Put u) old fed e new feed h = put_carries model u old fed e new feed h.0 h.1
+done_carries model action.Read old fed e new feed h = got_carries model old fed e new feed h
+done_carries model (action.Ask x) old fed e new feed h = elim h [ ]
+done_carries model (action.Finish x) old fed e new feed h = elim h [ ]
+
+-- Calls ------------------------------------------------------------------------------------
+
+runs_later : (failed gone : Type 0) (t : State) (a : Action) (xs : List Turn) (us : List AnyUnit) (os : List ℕ) (u : State) (b : Action) → (failed → gone) → Runs failed t a xs us os u b → Runs gone t a xs us os u b
+runs_later failed gone t a xs us os u b f Not_yet = Not_yet
+runs_later failed gone t a xs us os u b f (Goes_on ys vs ps w d e c v piece r turn put cut) =
+    Goes_on ys vs ps w d e c v piece (runs_later failed gone t a ys vs ps w d f r) turn put (λ i. f (cut i))
+
+rose_after : (a b c : ℕ) → b ≤ c → Rose a b → Rose a c
+rose_after a b c l r = omega (arith, l, r)
+
+rose_before : (a b c : ℕ) → a ≤ b → Rose b c → Rose a c
+rose_before a b c l r = omega (arith, l, r)
+
+pub not_yet : {L : Type 0} → (model : LinkView L) (t : State) (a : Action) (old : L) (fed : Feed) → IsRun model t a old fed t a old fed
+not_yet model t a old fed = record {
+  turns = [];
+  units = [];
+  octets = [];
+  runs = Not_yet;
+  carried = λ since us os c.
+      subst (λ (x : List AnyUnit). Leads (Carried x (os ++ []) fed) since (model.talk old)) (sym (append-nil us))
+      (subst (λ (x : List ℕ). Leads (Carried us x fed) since (model.talk old)) (sym (append-nil os)) c);
+}
+
+pub one_more : {L : Type 0} → (model : LinkView L) (t : State) (a : Action) (old : L) (fed : Feed) (u : State) (b : Action) (mid : L) (half : Feed) (e : Event) (c : Action) (v : State) (new : L) (feed : Feed) →
+    IsRun model t a old fed u b mid half → HasDone model b mid half e new feed → IsTurn (record { before = u; event = e; action = c; after = v }) →
+    model.faults old ≤ model.faults mid → model.faults mid ≤ model.faults new → IsRun model t a old fed v c new feed
+one_more model t a old fed u b mid half e c v new feed r h turn l m =
+    let k = done_carries model b mid half e new feed h in
+    record {
+      turns = r.turns ++ record { before = u; event = e; action = c; after = v } ∷ [];
+      units = r.units ++ units_of e;
+      octets = r.octets ++ k.0;
+      runs =
+          Goes_on r.turns r.units r.octets u b e c v k.0
+          (runs_later _ _ t a r.turns r.units r.octets u b (λ y. rose_after (model.faults old) (model.faults mid) (model.faults new) m y) r.runs)
+          turn k.1 (λ i. rose_before (model.faults old) (model.faults mid) (model.faults new) l (k.2 i));
+      carried = λ since us os y.
+          subst (λ (x : List AnyUnit). Leads (Carried x (os ++ (r.octets ++ k.0)) feed) since (model.talk new)) (append_assoc us r.units (units_of e))
+          (subst (λ (x : List ℕ). Leads (Carried ((us ++ r.units) ++ units_of e) x feed) since (model.talk new)) (append_assoc os r.octets k.0)
+          (k.3 since (us ++ r.units) (os ++ r.octets) (r.carried since us os y)));
+    }
+
+-- the calls of a session, and one more
+calls_more : (xs : List Turn) (t u : State) (x : Turn) → AreCalls t xs u → x.before ≡ u → IsTurn x → AreCalls t (xs ++ x ∷ []) x.after
+calls_more [] t u x run e is = (e ∙ run, is, refl)
+calls_more (y ∷ ys) t u x run e is = (run.0, run.1, calls_more ys y.after u x run.2 e is)
+
+pub called_more : (t : State) (b : Action) (e : Event) (a : Action) (u : State) → IsCalled t b → TellsWritable t e → HasTold t e a u → IsCalled u a
+called_more t b e a u k w h =
+    let x : Turn = record { before = t; event = e; action = a; after = u } in
+    let calls : AreCalls k.first (k.turns ++ x ∷ []) u = calls_more k.turns k.first t x k.calls refl h.turn in
+    let wrote = h.writes k.writes w in
+    record {
+      first = k.first;
+      turns = k.turns ++ x ∷ [];
+      new = k.new;
+      calls = calls;
+      writes = wrote.0;
+      writable = wrote.1;
+      awaited = h.awaited k.first k.turns k.new calls;
+    }
+
+pub stopped : {L : Type 0} → (model : LinkView L) (t : State) (a : Action) (old : L) (fed : Feed) (u : State) (b : Action) (mid : L) (half : Feed) (new : L) → IsRun model t a old fed u b mid half → model.faults mid ≤ model.faults new → HasStopped model t a old u new
+stopped model t a old fed u b mid half new r m = record {
+  turns = r.turns;
+  units = r.units;
+  octets = r.octets;
+  last = b;
+  runs = runs_later _ _ t a r.turns r.units r.octets u b (λ y. rose_after (model.faults old) (model.faults mid) (model.faults new) m y) r.runs;
+}

@@ -5,7 +5,7 @@ use Rattle.mta_links.specs.Links.{LinkView, Talk, Leads}
 use Rattle.mta_units.specs.declared.unit.Unit.{Unit as AnyUnit}
 use Rattle.mta_units.specs.Feed.{Feed}
 use Rattle.mta_units.specs.Canon.{unit_octets}
-use Rattle.mta_unit_links.specs.Carried.{Carried, Fronted, IsOver, PutsAll, PutsFront}
+use Rattle.mta_unit_links.specs.Carried.{Carried, IsOver, PutsAll, PutsFront}
 use Rattle.mta_session.specs.declared.event.Event.{Event}
 use Rattle.mta_session.specs.declared.event.Event.TheVariants as event
 use Rattle.mta_session.specs.declared.event.Action.{Action}
@@ -16,15 +16,12 @@ use Rattle.mta_session_laws.specs.Runs.{Turn, IsTurn}
 use Rattle.mta_session_laws.specs.Whole.{IsNew, AreCalls}
 use Rattle.mta_session_laws.specs.Writing.{CanWrite, TellsWritable, PutsWritable}
 use Rattle.mta_session_order.specs.Order.{awaits}
-use Rattle.mta_session_run.specs.declared.run.Came.{Came}
-use Rattle.mta_session_run.specs.declared.run.Came.TheVariants as came
+use Rattle.mta_session_run.specs.declared.came.Came.{Came}
+use Rattle.mta_session_run.specs.declared.came.Came.TheVariants as came
+use Rattle.mta_session_run.specs.declared.link.Done.{Done}
+use Rattle.mta_session_run.specs.declared.link.Done.TheVariants as done
 
 -- At the link --------------------------------------------------------------------------------
-
-abbrev pub IsAtLink : Action → Type 0
-IsAtLink (action.Put x) = Unit {0}
-IsAtLink action.Read = Unit {0}
-IsAtLink _ = ⊥
 
 -- a unit is wholly put, or a front of it and the link failed
 abbrev pub HasPut : {L : Type 0} → LinkView L → AnyUnit → L → Event → L → Type 0
@@ -53,6 +50,15 @@ abbrev pub HasDone : {L : Type 0} → LinkView L → Action → L → Feed → E
 HasDone model (action.Put u) old fed e new feed = HasPut model u old e new × (feed ≡ fed)
 HasDone model action.Read old fed e new feed = HasGot model old fed e new feed
 HasDone model _ old fed e new feed = ⊥
+
+abbrev pub action_of : Came → Action
+action_of (came.Asks x) = action.Ask x
+action_of (came.Ends x) = action.Finish x
+
+-- what comes of an action: an event, or it is handed on, and nothing is done at the link
+abbrev pub Exchanged : {L : Type 0} → LinkView L → Action → L → Feed → Done → L → Feed → Type 0
+Exchanged model a old fed (done.Told e) new feed = HasDone model a old fed e new feed
+Exchanged model a old fed (done.Came c) new feed = (a ≡ action_of c) × (new ≡ old) × (feed ≡ fed)
 
 -- Calls --------------------------------------------------------------------------------------
 
@@ -105,16 +111,12 @@ pub record IsRun {L : Type 0} (model : LinkView L) (t : State) (a : Action) (old
   pub carried : (since : Option Talk) (us : List AnyUnit) (os : List ℕ) → Leads (Carried us os fed) since (model.talk old) →
       Leads (Carried (us ++ units) (os ++ octets) feed) since (model.talk new)
 
-abbrev pub action_of : Came → Action
-action_of (came.Asks x) = action.Ask x
-action_of (came.Ends x) = action.Finish x
-
 pub record HasRun {L : Type 0} (model : LinkView L) (t : State) (a : Action) (old : L) (fed : Feed) (c : Came) (u : State) (new : L) (feed : Feed) : Type 0 where
   pub run : IsRun model t a old fed u (action_of c) new feed
   pub called : IsCalled u (action_of c)
 
--- After want of memory the calls so far stand, and so do the units at the front of what was got.
-pub record HasStopped {L : Type 0} (model : LinkView L) (t : State) (a : Action) (old : L) (fed : Feed) (u : State) (new : L) : Type 0 where
+-- After want of memory the calls so far stand.
+pub record HasStopped {L : Type 0} (model : LinkView L) (t : State) (a : Action) (old : L) (u : State) (new : L) : Type 0 where
   pub turns : List Turn
   pub units : List AnyUnit
   pub octets : List ℕ

@@ -2,7 +2,9 @@
 //! handed to whoever runs it.
 #![tactic(auto)]
 
+mod came;
 mod link;
 mod run;
 
-pub use run::{Came, carry_on, tell};
+pub use came::Came;
+pub use run::{carry_on, tell};

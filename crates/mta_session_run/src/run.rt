@@ -1,34 +1,18 @@
 //! A session that is run over its link.
 
-ghost use Rattle.std.specs.Prelude.{◌≡◌, ◌<◌, ◌≤◌, ◌++◌, [], ◌∷◌, List, ℕ, Option, true, false, IfOk, OnErr, OnOk};
-ghost use Rattle.mta_units.specs.declared.unit.Unit.{Unit as AnyUnit};
-ghost use Rattle.mta_links.specs.Links.{Leads};
-ghost use Rattle.mta_links.specs.Links.{Talk as LinkTalk};
-ghost use Rattle.mta_unit_links.specs.Carried.{Carried, Fronted};
-ghost use Rattle.mta_session.specs.State.{State};
+ghost use Rattle.std.specs.Prelude.{◌≡◌, ◌≤◌, IfOk, OnErr};
 ghost use Rattle.mta_session.specs.Fits.{Answers};
-ghost use Rattle.mta_session.specs.Rank.{calls_left, is_over};
-ghost use Rattle.mta_session_laws.specs.Runs.{Turn};
-ghost use Rattle.mta_session_laws.specs.Whole.{IsNew, AreCalls};
-ghost use Rattle.mta_session_laws.specs.Writing.{CanWrite, TellsWritable, PutsWritable};
-ghost use Rattle.mta_session_order.specs.Order.{awaits};
-ghost use Rattle.mta_session_run.specs.Running.{IsCalled, HasTold, IsBegun, HasRun, HasStopped};
+ghost use Rattle.mta_session_run.specs.Running.{IsCalled, HasTold, HasRun, HasStopped};
 
-use crate::link::exchange;
+use crate::came::Came;
+use crate::link::{Done, exchange};
 use mta_ber::Memory;
 use mta_links::Link;
-use mta_session::{Action, Ask, Event, Session, SessionEnd};
+use mta_session::{Action, Event, Session};
 use mta_session_laws::units_put_may_be_written;
 use mta_session_order::actions_are_awaited;
 use mta_units::Frames;
 use std::alloc::Global;
-
-/// What a session that is run comes to: it asks the spool something, or it is over.
-#[derive(Drop)]
-pub enum Came {
-    Asks(Ask),
-    Ends(SessionEnd),
-}
 
 /// Tells the session an event. It is one call more of the session; after want of memory it is none.
 pub fn tell(session: &mut Session, event: Event) -> Result<Action, Memory>
@@ -56,18 +40,14 @@ pub fn carry_on<L: Link>(
 ) -> Result<Came, Memory>
     requires called { IsCalled session.old action }
     ensures run { IfOk result (λ c. HasRun L.model session.old action link.old frames.old c session.new link.new frames.new) }
-    ensures lost { OnErr result (HasStopped L.model session.old action link.old frames.old session.new link.new) }
+    ensures lost { OnErr result (HasStopped L.model session.old action link.old session.new link.new) }
     ensures later { L.model.faults link.old ≤ L.model.faults link.new }
 {
-    let mut action = action;
+    let mut wanted = action;
     loop {
-        match action {
-            Action::Ask(ask) => return Ok(Came::Asks(ask)),
-            Action::Finish(end) => return Ok(Came::Ends(end)),
-            wanted => {
-                let event = exchange(alloc, link, frames, wanted)?;
-                action = tell(session, event)?;
-            }
+        match exchange(alloc, link, frames, wanted)? {
+            Done::Came(came) => return Ok(came),
+            Done::Told(event) => wanted = tell(session, event)?,
         }
     }
 }
