@@ -1,6 +1,7 @@
 //! A session that is stepped by hand, with a spool that answers what the input says.
 
-ghost use Rattle.std.specs.Prelude.{◌≤◌};
+ghost use Rattle.std.specs.Prelude.{IfOk};
+ghost use Rattle.mta_session.specs.Fits.{ValuesFit};
 
 use crate::answers::answer;
 use crate::held::Held;
@@ -21,7 +22,9 @@ pub struct Stepped {
     asked: Option<Ask>,
 }
 
-fn plan(alloc: Global, held: Held, recovering: bool) -> Result<InitiatorPlan, Memory> {
+fn plan(alloc: Global, held: Held, recovering: bool) -> Result<InitiatorPlan, Memory>
+    ensures { IfOk result (λ p. ValuesFit p.checkpoint p.window) }
+{
     Ok(InitiatorPlan {
         own: word(alloc, b"EAST")?,
         peer: word(alloc, b"GOLD-1")?,
@@ -30,7 +33,7 @@ fn plan(alloc: Global, held: Held, recovering: bool) -> Result<InitiatorPlan, Me
         recovering,
         reference: reference(alloc)?,
         checkpoint: 4,
-        window: held.window.clamp(1, 8),
+        window: held.window.max(1).min(8),
         twa: held.twa,
         send_password: Octets::from_slice(alloc, b"pq")?,
         expected_password: Octets::from_slice(alloc, b"pw")?,
@@ -41,6 +44,13 @@ fn limits(units: u32) -> Limits {
     Limits {
         sessions: 1,
         units: units.max(1),
+    }
+}
+
+fn asked_by(action: Action) -> Option<Ask> {
+    match action {
+        Action::Ask(ask) => Some(ask),
+        _other => None,
     }
 }
 
@@ -89,10 +99,7 @@ impl Stepped {
     /// The action as a text. A question is kept, to be answered.
     fn says(&mut self, action: Action) -> Result<String, Memory> {
         let text = action_text(self.alloc, &action)?;
-        match action {
-            Action::Ask(ask) => self.asked = Some(ask),
-            _ => {}
-        }
+        self.asked = asked_by(action);
         Ok(text)
     }
 
