@@ -1,14 +1,18 @@
 -- What a link has carried, call after call.
-use Rattle.std.proofs.Common.{◌≡◌, inl, inr, ℕ, zero, suc, ◌+◌, ◌-◌, ◌≤◌, Option, Some, List, [], ◌++◌, ◌∷◌, length, take, drop, refl, sym, ap, subst, ◌∙◌, arith, append_assoc, append-nil}
+use Rattle.std.proofs.Common.{◌≡◌, inl, inr, Bool, true, false, ℕ, zero, suc, ◌+◌, ◌-◌, ◌≤◌, Option, Result, Ok, Err, IfOk, OnErr, List, [], ◌++◌, ◌∷◌, length, take, drop, refl, sym, ap, subst, ◌∙◌, arith, append_assoc, append-nil}
+use Rattle.std.proofs.lemmas.Grind.{common_steps}
+use Rattle.mta_edge.specs.Causes.{Rose}
 use Rattle.std.proofs.lemmas.List.{take-append-drop, drop-drop, length-drop}
-use Rattle.mta_links.specs.Links.{Leads, Talk, Gets, Puts}
+use Rattle.mta_ber.specs.declared.memory.Memory.{Memory as NoMemory}
+use Rattle.mta_links.specs.Links.{LinkView, Leads, Talk, Gets, Puts}
 use Rattle.mta_units.specs.declared.unit.Unit.{Unit as AnyUnit}
 use Rattle.mta_units.specs.declared.next.Next.{Next}
 use Rattle.mta_units.specs.declared.next.Next.TheVariants as next
 use Rattle.mta_units.specs.Feed.{Feed, Goes, answered, after, seen, fed}
 use Rattle.mta_units.specs.Look.{Look, Nothing, Fails, Reads}
-use Rattle.mta_units.specs.Reading.{HasRead}
-use Rattle.mta_unit_links.specs.Carried.{Carried, Fronted, PutsAll, PutsFront}
+use Rattle.mta_units.specs.Spelling.{IsCutOff}
+use Rattle.mta_units.specs.Reading.{HasRead, and_next}
+use Rattle.mta_unit_links.specs.Carried.{Carried, Fronted, FedBy, IsOver, PutsAll, PutsFront}
 
 -- one step after another, and a step that says less
 pub leads_then : {s t u : Talk → Talk → Type 0} {a b c : Option Talk} → ((f g h : Talk) → s f g → t g h → u f h) → Leads s a b → Leads t b c → Leads u a c
@@ -41,6 +45,17 @@ carried_front us octets feed f g c = record {
   got = c.got ∙ ap (λ (x : List ℕ). f.got ++ x) c.read.stream_is;
   put = c.put;
 }
+
+-- a unit is taken of them
+pub carried_next : (us : List AnyUnit) (octets : List ℕ) (old new : Feed) (f g : Talk) (r : Result Next NoMemory) → (c : Carried us octets old f g) →
+    IfOk r (λ n. HasRead (and_next us n) c.stream new) → IfOk r (λ n. Carried (and_next us n) octets new f g)
+carried_next us octets old new f g (Ok n) c h = record { stream = c.stream; read = h; got = c.got; put = c.put }
+carried_next us octets old new f g (Err e) c h = tt
+
+-- whatever was answered
+pub on_err : {A E : Type 0} (X : Type 0) (r : Result A E) → X → OnErr r X
+on_err X (Ok a) x = tt
+on_err X (Err e) x = x
 
 -- octets are moved into the frames
 pub carried_fed : (us : List AnyUnit) (octets : List ℕ) (old new : Feed) (n : ℕ) (into piece : List ℕ) (f g h : Talk) → piece ≡ take n into →
@@ -93,7 +108,7 @@ more_same old new n g e = g.left ∙ more_is old (seen old) (sym e ∙ g.answer)
 
 -- the first n octets are put, and the others are left
 pub record Parts (bytes rest : List ℕ) (n : ℕ) : Type 0 where
-  pub rest : rest ≡ drop n bytes
+  pub rest_is : rest ≡ drop n bytes
   pub within : n ≤ length bytes
 
 abbrev pub PutsPart : (bytes rest : List ℕ) → Option Talk → Option Talk → Type 0
@@ -103,27 +118,29 @@ puts_none : (f : Talk) → PutsAll [] f f
 puts_none f = record { got = refl; left = refl; put = sym (append-nil f.put) }
 
 pub part_none : (bytes : List ℕ) (a : Option Talk) → PutsPart bytes bytes a a
-part_none bytes a = (0, record { rest = refl; within = omega arith }, leads_refl puts_none)
+part_none bytes a = (0, record { rest_is = refl; within = omega arith }, leads_refl puts_none)
 
 -- the first n octets and m behind them
 take_both : (bytes : List ℕ) (n m : ℕ) → n ≤ length bytes → take n bytes ++ take m (drop n bytes) ≡ take (n + m) bytes
-take_both bytes zero m l = refl
+take_both bytes zero m l = let e : m ≡ 0 + m = omega arith in ap (λ (k : ℕ). take k bytes) e
 take_both [] (suc n) m l = absurd (omega (arith, l))
-take_both (x ∷ bytes) (suc n) m l = ap (λ (z : List ℕ). x ∷ z) (take_both bytes n m (omega (arith, l)))
+take_both (x ∷ bytes) (suc n) m l =
+    let e : suc (n + m) ≡ suc n + m = omega arith in
+    ap (λ (z : List ℕ). x ∷ z) (take_both bytes n m (omega (arith, l))) ∙ ap (λ (k : ℕ). take k (x ∷ bytes)) e
 
 puts_both : (bytes rest : List ℕ) (n m : ℕ) (f g h : Talk) → Parts bytes rest n → PutsAll (take n bytes) f g → Puts m rest g h → PutsAll (take (n + m) bytes) f h
 puts_both bytes rest n m f g h p one two = record {
   got = two.got ∙ one.got;
   left = two.left ∙ one.left;
-  put = two.put ∙ ap (λ (x : List ℕ). x ++ take m rest) one.put ∙ append_assoc f.put (take n bytes) (take m rest) ∙ ap (λ (x : List ℕ). f.put ++ (take n bytes ++ take m x)) p.rest ∙ ap (λ (x : List ℕ). f.put ++ x) (take_both bytes n m p.within);
+  put = two.put ∙ ap (λ (x : List ℕ). x ++ take m rest) one.put ∙ append_assoc f.put (take n bytes) (take m rest) ∙ ap (λ (x : List ℕ). f.put ++ (take n bytes ++ take m x)) p.rest_is ∙ ap (λ (x : List ℕ). f.put ++ x) (take_both bytes n m p.within);
 }
 
 pub part_more : (bytes rest behind : List ℕ) (m : ℕ) (a b c : Option Talk) → behind ≡ drop m rest → m ≤ length rest → PutsPart bytes rest a b → Leads (Puts m rest) b c → PutsPart bytes behind a c
 part_more bytes rest behind m a b c e le p more =
-    let size : length rest ≡ length bytes - p.0 = ap length p.1.rest ∙ length-drop p.0 bytes in (
+    let size : length rest ≡ length bytes - p.0 = ap length p.1.rest_is ∙ length-drop p.0 bytes in (
       p.0 + m,
       record {
-        rest = e ∙ ap (drop m) p.1.rest ∙ drop-drop m p.0 bytes;
+        rest_is = e ∙ ap (drop m) p.1.rest_is ∙ drop-drop m p.0 bytes;
         within = omega (arith, p.1.within, size, le);
       },
       leads_then (λ f g h one two. puts_both bytes rest p.0 m f g h p.1 one two) p.2 more,
@@ -131,10 +148,24 @@ part_more bytes rest behind m a b c e le p more =
 
 take_whole : (bytes rest : List ℕ) (n : ℕ) → rest ≡ [] → Parts bytes rest n → take n bytes ≡ bytes
 take_whole bytes rest n e p =
-    sym (append-nil (take n bytes)) ∙ ap (λ (x : List ℕ). take n bytes ++ x) (sym e ∙ p.rest) ∙ take-append-drop n bytes
+    sym (append-nil (take n bytes)) ∙ ap (λ (x : List ℕ). take n bytes ++ x) (sym e ∙ p.rest_is) ∙ take-append-drop n bytes
 
 pub part_whole : (bytes rest : List ℕ) (a b : Option Talk) → rest ≡ [] → PutsPart bytes rest a b → Leads (PutsAll bytes) a b
 part_whole bytes rest a b e p = subst (λ (x : List ℕ). Leads (PutsAll x) a b) (take_whole bytes rest p.0 e p.1) p.2
 
 pub part_front : (bytes rest : List ℕ) (a b : Option Talk) → PutsPart bytes rest a b → PutsFront bytes a b
 part_front bytes rest a b p = (p.0, p.2)
+
+-- Why no more comes -----------------------------------------------------------------------------
+
+rose_before : (a b c : ℕ) → a ≤ b → Rose b c → Rose a c
+rose_before a b c l r = first_of (omega (arith, l, r), grind (arith, common_steps))
+
+over_before : {L : Type 0} → (model : LinkView L) (a b : ℕ) (link : L) (feed : Feed) → a ≤ b → IsOver model b link feed → IsOver model a link feed
+over_before model a b link feed l (inl r) = inl (rose_before a b (model.faults link) l r)
+over_before model a b link feed l (inr r) = inr r
+
+pub fill_ends : {L : Type 0} → (model : LinkView L) (a b : ℕ) (more : Bool) (mid new : Feed) (link : L) → a ≤ b → more ≡ false → IsCutOff mid.left → FedBy more mid new → (more ≡ false → IsOver model b link new) → IsCutOff new.left × IsOver model a link new
+fill_ends model a b true mid new link l n cut fed over = cc
+fill_ends model a b false mid new link l n cut fed over =
+    (subst (λ (z : Feed). IsCutOff z.left) (sym fed) cut, over_before model a b link new l (over refl))

@@ -4,7 +4,7 @@ ghost use Rattle.std.specs.Prelude.{◌≡◌, ◌≤◌, List, ℕ, Option, tru
 ghost use Rattle.mta_units.specs.declared.next.Next.TheVariants.{More};
 ghost use Rattle.mta_units.specs.declared.unit.Unit.{Unit as AnyUnit};
 ghost use Rattle.mta_links.specs.Links.{Leads, Talk};
-ghost use Rattle.mta_units.specs.Reading.{and_next};
+ghost use Rattle.mta_units.specs.Reading.{Says, and_next};
 ghost use Rattle.mta_unit_links.specs.Carried.{Carried, Fronted, FedBy, IsOver, and_heard, Ends};
 
 use mta_ber::Memory;
@@ -23,6 +23,7 @@ pub enum Heard {
 fn read_next(frames: &mut Frames) -> Result<Next, Memory>
     ensures carried { (f g : Talk) (us : List AnyUnit) (octets : List ℕ) → Carried us octets frames.old f g →
         IfOk result (λ n. Carried (and_next us n) octets frames.new f g) }
+    ensures says { IfOk result (λ n. Says n frames.new) }
     ensures same { IfOk result (λ n. n ≡ More → frames.new ≡ frames.old) }
     ensures err { OnErr result (frames.new ≡ frames.old) }
 {
