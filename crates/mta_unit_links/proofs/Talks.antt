@@ -1,5 +1,5 @@
 -- What a link has carried, call after call.
-use Rattle.std.proofs.Common.{◌≡◌, inl, inr, Bool, true, false, not, ℕ, zero, suc, ◌+◌, ◌-◌, ◌≤◌, Option, Some, Result, Ok, Err, IfOk, OnErr, List, [], ◌++◌, ◌∷◌, length, take, drop, refl, sym, ap, subst, ◌∙◌, arith, append_assoc, append-nil}
+use Rattle.std.proofs.Common.{◌≡◌, inl, inr, Bool, true, false, ℕ, zero, suc, ◌+◌, ◌-◌, ◌≤◌, Option, Result, Ok, Err, IfOk, OnErr, List, [], ◌++◌, ◌∷◌, length, take, drop, refl, sym, ap, subst, ◌∙◌, arith, append_assoc, append-nil}
 use Rattle.std.proofs.lemmas.Grind.{common_steps}
 use Rattle.mta_edge.specs.Causes.{Rose}
 use Rattle.std.proofs.lemmas.List.{take-append-drop, drop-drop, length-drop}
@@ -165,7 +165,7 @@ over_before : {L : Type 0} → (model : LinkView L) (a b : ℕ) (link : L) (feed
 over_before model a b link feed l (inl r) = inl (rose_before a b (model.faults link) l r)
 over_before model a b link feed l (inr r) = inr r
 
-pub fill_ends : {L : Type 0} → (model : LinkView L) (a b : ℕ) (more : Bool) (mid new : Feed) (link : L) → a ≤ b → not more ≡ true → IsCutOff mid.left → FedBy more mid new → (more ≡ false → IsOver model b link new) → IsCutOff new.left × IsOver model a link new
+pub fill_ends : {L : Type 0} → (model : LinkView L) (a b : ℕ) (more : Bool) (mid new : Feed) (link : L) → a ≤ b → more ≡ false → IsCutOff mid.left → FedBy more mid new → (more ≡ false → IsOver model b link new) → IsCutOff new.left × IsOver model a link new
 fill_ends model a b true mid new link l n cut fed over = cc
 fill_ends model a b false mid new link l n cut fed over =
     (subst (λ (z : Feed). IsCutOff z.left) (sym fed) cut, over_before model a b link new l (over refl))
