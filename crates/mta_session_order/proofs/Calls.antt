@@ -259,6 +259,7 @@ owing v o = record { taken = o.taken; put = o.put; next = o.next }
 
 reads_after : (t : State) (e : Event) (v new : State) → OwesNothing v → new ≡ record v { phase = phase.Reads } → After t e action.Read new
 reads_after t e v new o q = record {
+  awaited = subst (λ z. is_reading z.phase ≡ true) (sym q) refl;
   entered = subst (λ z. Enters t e z.phase) (sym q) tt;
   tells = tt;
   owes = λ l. subst (λ z. OwesNothing z) (sym q) (owing v o);
