@@ -20,7 +20,7 @@ use Rattle.mta_session_laws.specs.Runs.{Turn, IsTurn}
 use Rattle.mta_session_laws.specs.Whole.{IsNew, AreCalls}
 use Rattle.mta_session_laws.specs.Writing.{CanWrite, TellsWritable, PutsWritable}
 use Rattle.mta_session_order.specs.Order.{awaits, is_putting, is_reading}
-use Rattle.mta_session_run.specs.Running.{HasPut, HasGot, HasDone, IsRead, units_of, IsCalled, HasTold, PutFor, is_cut, Runs, Not_yet, Goes_on, IsRun, HasStopped}
+use Rattle.mta_session_run.specs.Running.{HasPut, HasGot, HasDone, IsRead, units_of, IsCalled, HasTold, PutFor, is_cut, Runs, Not_yet, Goes_on, IsRun, HasStopped, RunsAreCalls}
 
 never : false ≡ true → ⊥
 never i = cc
@@ -228,3 +228,11 @@ stopped model t a old fed u b mid half new r m = record {
   last = b;
   runs = runs_later _ _ t a r.turns r.units r.octets u b (λ y. rose_after (model.faults old) (model.faults mid) (model.faults new) m y) r.runs;
 }
+
+runs_calls : (failed : Type 0) (t : State) (a : Action) (xs : List Turn) (us : List AnyUnit) (os : List ℕ) (u : State) (b : Action) → Runs failed t a xs us os u b → AreCalls t xs u
+runs_calls failed t a xs us os u b Not_yet = refl
+runs_calls failed t a xs us os u b (Goes_on ys vs ps w d e c v piece r turn put cut) =
+    calls_more ys t w (record { before = w; event = e; action = c; after = v }) (runs_calls failed t a ys vs ps w d r) refl turn
+
+pub runs_are_calls : RunsAreCalls
+runs_are_calls before now t a xs us os u b r = runs_calls (Rose before now) t a xs us os u b r

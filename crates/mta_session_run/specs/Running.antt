@@ -122,3 +122,9 @@ pub record HasStopped {L : Type 0} (model : LinkView L) (t : State) (a : Action)
   pub octets : List ℕ
   pub last : Action
   pub runs : Runs (Rose (model.faults old) (model.faults new)) t a turns units octets u last
+
+-- What was carried on are calls of the session, one after the other.
+abbrev pub RunsAreCalls : Type 0
+RunsAreCalls =
+    (before now : ℕ) (t : State) (a : Action) (xs : List Turn) (us : List AnyUnit) (octets : List ℕ) (u : State)
+    (b : Action) → Runs (Rose before now) t a xs us octets u b → AreCalls t xs u

@@ -3,8 +3,10 @@
 #![tactic(auto)]
 
 mod came;
+mod laws;
 mod link;
 mod run;
 
 pub use came::Came;
+pub use laws::runs_are_calls;
 pub use run::{carry_on, tell};
