@@ -1,6 +1,7 @@
 -- What stands before what in the calls of a session: what is answered before a unit is taken, what was looked for
 -- before the turn is given up, and what came before a lane is closed, room is made, or the session ends.
-use Rattle.std.specs.Prelude.{◌≡◌, ◌⊎◌, ℕ, Bool, true, false, Option, Some, None, Result, Ok, Err, List, [], ◌∷◌, ◌++◌}
+use Rattle.std.specs.Prelude.{◌≡◌, ◌⊎◌, ℕ, Bool, true, false, Option, Some, None, Result, Ok, Err, List}
+use Rattle.std.specs.Prelude.{[], ◌∷◌, ◌++◌}
 use Rattle.mta_ber.specs.declared.memory.Memory.{Memory as NoMemory}
 use Rattle.mta_units.specs.declared.unit.Unit.{Unit as AnyUnit}
 use Rattle.mta_units.specs.declared.unit.Unit.TheVariants as unit
@@ -40,7 +41,8 @@ takes_unit _ = false
 pub record TakesOwingNothing (t : State) : Type 0 where
   pub taken : r.OwesNothing t.recv
   pub put : is_open t.phase ≡ true → t.ours ≡ true → s.OwesNothing t.send
-  pub next : is_open t.phase ≡ true → t.ours ≡ true → t.send.stage ≡ s.Quiet → t.phase ≡ phase.ReadsCloseAck
+  pub next : is_open t.phase ≡ true → t.ours ≡ true → t.send.stage ≡ s.Quiet
+      → t.phase ≡ phase.ReadsCloseAck
 
 abbrev pub AllTakeOwingNothing : List Turn → Type 0
 AllTakeOwingNothing [] = Unit {0}
@@ -64,7 +66,8 @@ DueAt _ stage = is_due stage ≡ false
 
 abbrev pub AllAnswer : List Turn → Type 0
 AllAnswer [] = Unit {0}
-AllAnswer (x ∷ xs) = DueAt x.before.phase x.before.recv.stage × DueAt x.after.phase x.after.recv.stage × AllAnswer xs
+AllAnswer (x ∷ xs) = DueAt x.before.phase x.before.recv.stage × DueAt x.after.phase x.after.recv.stage
+    × AllAnswer xs
 
 abbrev pub AnswersAtOnce : Type 0
 AnswersAtOnce = (t u : State) (xs : List Turn) → IsNew t → AreCalls t xs u → AllAnswer xs

@@ -1,5 +1,6 @@
 -- What a link has carried since a moment: the units read of what it gave, and the octets put.
-use Rattle.std.specs.Prelude.{◌≡◌, ◌⊎◌, ◌<◌, ◌≤◌, ◌+◌, ◌^◌, ℕ, Bool, true, false, Option, Some, List, [], ◌∷◌, ◌++◌, length, take}
+use Rattle.std.specs.Prelude.{◌≡◌, ◌⊎◌, ◌<◌, ◌≤◌, ◌+◌, ◌^◌, ℕ, Bool, true, false}
+use Rattle.std.specs.Prelude.{Option, Some, List, [], ◌∷◌, ◌++◌, length, take}
 use Rattle.mta_edge.specs.Causes.{Rose}
 use Rattle.mta_links.specs.Links.{LinkView, Talk, Leads}
 use Rattle.mta_units.specs.declared.unit.Unit.{Unit as AnyUnit}
