@@ -1,9 +1,12 @@
 -- The rules of a sending end on one link (X.228 clause 7): what it puts, what it makes of the units it gets,
 -- and which steps its half makes.
-use Rattle.std.specs.Prelude.{◌≡◌, ◌⊎◌, ◌<◌, ◌≤◌, ℕ, ◌+◌, ◌-◌, ◌&&◌, ◌||◌, ◌==◌, if◌then◌else◌, Bool, true, false, Option, Some, None, List, [], ◌∷◌, length}
+use Rattle.std.specs.Prelude.{◌≡◌, ◌⊎◌, ◌<◌, ◌≤◌, ℕ, ◌+◌, ◌-◌, ◌&&◌, ◌||◌}
+use Rattle.std.specs.Prelude.{◌==◌, nat_lt, nat_le, not, if◌then◌else◌, Bool, true, false, Option, Some, None}
+use Rattle.std.specs.Prelude.{List, [], ◌∷◌, length}
 use Rattle.mta_lane_send.specs.declared.state.SendState.{SendState}
 use Rattle.mta_lane_send.specs.declared.state.SendState.TheVariants.{Idle, Sending, Ending, Dropping}
-use Rattle.mta_lane_send.specs.Half.{confirmed_of, last_of, goes_on, is_ending, is_live, is_idle, is_sending, confirmed_at}
+use Rattle.mta_lane_send.specs.Half.{confirmed_of, last_of, goes_on, is_ending, is_live, is_idle, is_sending}
+use Rattle.mta_lane_send.specs.Half.{confirmed_at}
 use Rattle.mta_ends.specs.Units.{LaneUnit}
 use Rattle.mta_ends.specs.Units as u
 use Rattle.mta_ends.specs.Pieces.{piece_of, is_last}
@@ -79,7 +82,8 @@ PutsAt e (u.Sync m) = (k : ℕ) × (e.stage ≡ Sync_next k m) × (goes_on e.sta
 -- End k behind the last piece, in Ending
 PutsAt e (u.End k) = (n : ℕ) × (e.stage ≡ Last_put k n) × (is_ending e.state k ≡ true)
 -- after a break: Resume behind what is confirmed, or Discard where nothing is
-PutsAt e (u.Resume k n) = (e.stage ≡ Opened) × (goes_on e.state k ≡ true) × (1 ≤ n) × (confirmed_of e.state ≡ n)
+PutsAt e (u.Resume k n) = (e.stage ≡ Opened) × (goes_on e.state k ≡ true) × (1 ≤ n)
+    × (confirmed_of e.state ≡ n)
 PutsAt e (u.Discard k) =
     ((e.stage ≡ Opened) × (goes_on e.state k ≡ true) × (confirmed_of e.state ≡ 0))
     -- or as soon as the activity is given up
@@ -155,10 +159,40 @@ abbrev pub is_discarded : SendStage → Bool
 is_discarded (Discard_put k) = true
 is_discarded _ = false
 
+-- The units of the receiving end that are allowed here. Where the activity was given up, answers to what was put
+-- before may still come.
+abbrev pub may_sync_ack : SendEnd → ℕ → Bool
+may_sync_ack e n =
+    is_dropping e.state
+    || (goes_on e.state (last_of e.state) && nat_lt (confirmed_of e.state) n && nat_le n (synced e.stage))
+
+abbrev pub may_resume_ack : SendStage → Bool → ℕ → ℕ → Bool
+may_resume_ack (Resume_put k n) dropping j m = (j == k) && (m == n)
+may_resume_ack (Discard_put k) dropping j m = dropping && (j == k)
+may_resume_ack _ dropping j m = false
+
+abbrev pub is_discard_of : SendStage → ℕ → Bool
+is_discard_of (Discard_put k) j = j == k
+is_discard_of _ j = false
+
+abbrev pub may_get : SendEnd → LaneUnit → Bool
+may_get e u.Accept = not e.accepted
+may_get e (u.SyncAck n) = may_sync_ack e n
+may_get e (u.EndAck k) = is_ending e.state k
+may_get e (u.ResumeAck k n) = may_resume_ack e.stage (is_dropping e.state) k n
+may_get e (u.DiscardAck k) = is_live e.state k && is_discard_of e.stage k
+may_get e u.Exception = not (is_idle e.state)
+may_get e u.Completed = is_ending e.state (last_of e.state) && is_discarded e.stage
+may_get e u.Unrecognized = true
+may_get e u.CannotRecover = true
+may_get e u.Other = true
+may_get e _ = false
+
 -- The step that a unit calls for, where the half makes one. A number is compared: EndAck and DiscardAck of
 -- another activity call for nothing, and so does a SyncAck of a Sync that was not put here.
 abbrev pub IsCalledBy : SendEnd → SendStep → LaneUnit → Type 0
-IsCalledBy e (Confirm n) (u.SyncAck m) = (m ≡ n) × (goes_on e.state (last_of e.state) ≡ true) × (confirmed_of e.state < n) × (n ≤ synced e.stage)
+IsCalledBy e (Confirm n) (u.SyncAck m) = (m ≡ n) × (goes_on e.state (last_of e.state) ≡ true)
+    × (confirmed_of e.state < n) × (n ≤ synced e.stage)
 IsCalledBy e Sent (u.EndAck k) = is_ending e.state k ≡ true
 IsCalledBy e Sent u.Completed = (is_ending e.state (last_of e.state) ≡ true) × (is_discarded e.stage ≡ true)
 IsCalledBy e Dropped (u.DiscardAck k) = is_live e.state k ≡ true
@@ -204,7 +238,13 @@ heard_after heard Abandon = heard
 heard_after heard step = None
 
 abbrev pub made : SendEnd → SendStep → SendEnd
-made e step = record e { state = state_after e.state step; octets = octets_after e.octets step; stage = stage_after e step; heard = heard_after e.heard step }
+made e step = record e {
+  state = state_after e.state step;
+  octets = octets_after e.octets step;
+  stage =
+      stage_after e step;
+  heard = heard_after e.heard step;
+}
 
 -- A new link
 abbrev pub stage_on_link : SendState → SendStage
@@ -229,8 +269,13 @@ StageOwesNothing e (End_put k n) = Unit {0}
 StageOwesNothing e (Resume_put k n) = goes_on e.state k ≡ true
 StageOwesNothing e (Discard_put k) = Unit {0}
 
+-- the unit got last calls for no step
+abbrev pub CallsForNothing : SendEnd → Type 0
+CallsForNothing e = (x : LaneUnit) (step : SendStep) → e.heard ≡ Some x → IsCalledBy e step x → ⊥
+
+-- of an end that has the turn and, where it needs one, the Accept
 abbrev pub OwesNothing : SendEnd → Type 0
-OwesNothing e = ((x : LaneUnit) (step : SendStep) → e.heard ≡ Some x → IsCalledBy e step x → ⊥) × StageOwesNothing e e.stage
+OwesNothing e = CallsForNothing e × StageOwesNothing e e.stage
 
 -- Lists of events -----------------------------------------------------------------------------
 
