@@ -17,8 +17,8 @@ use Rattle.mta_history.specs.History.{State, IsHistory, IsPossible, ArePossible,
 use Rattle.mta_history.proofs.Numbered.{numbered_put, numbered_other}
 use Rattle.mta_run.specs.declared.stop.Stop.{Stop}
 use Rattle.mta_run.specs.declared.stop.Stop.TheVariants as Stops
-use Rattle.mta_run.specs.declared.words.Words.{Words}
-use Rattle.mta_run.specs.declared.words.Words.TheVariants as Say
+use Rattle.mta_words.specs.declared.words.Words.{Words}
+use Rattle.mta_words.specs.declared.words.Words.TheVariants as Say
 use Rattle.mta_run.specs.Handed.{Handed, ForInput, ForOpened}
 use Rattle.mta_run.specs.Lines.{accepted_line, line_of}
 use Rattle.mta_run.specs.Output.{Output, IsFront, IsEnded, done, told, cut_text, cut_line}

@@ -7,7 +7,7 @@ use Rattle.mta_apdu.specs.Apdus.{ApduValue, SpellsApdu}
 use Rattle.mta_apdu_text.specs.Apdus.{apdu_text}
 use Rattle.mta_run.specs.declared.stop.Stop.{Stop}
 use Rattle.mta_run.specs.declared.stop.Stop.TheVariants as Stops
-use Rattle.mta_run.specs.declared.words.Words.TheVariants as Say
+use Rattle.mta_words.specs.declared.words.Words.TheVariants as Say
 use Rattle.mta_run.specs.Handed.{Handed, handed}
 use Rattle.mta_run.specs.Inputs.{longest_tables, IsTold, IsInputStop, HasOctets}
 use Rattle.mta_run.specs.Output.{Output, stopped, HasShown}

@@ -18,7 +18,7 @@ use Rattle.mta_spool.specs.Stands.{Stands, step_moment}
 use Rattle.mta_run.specs.declared.inputs.Inputs.{Inputs}
 use Rattle.mta_run.specs.declared.stop.Stop.{Stop}
 use Rattle.mta_run.specs.declared.stop.Stop.TheVariants as Stops
-use Rattle.mta_run.specs.declared.words.Words.TheVariants as Say
+use Rattle.mta_words.specs.declared.words.Words.TheVariants as Say
 use Rattle.mta_run.specs.Words.{ReadsTables, ReadsApdu, OpensDisk}
 use Rattle.mta_run.specs.Handed.{Handed, handed, ForTables, ForInput, ForOpened, DiskFailed, InputsRead}
 use Rattle.mta_run.specs.Inputs.{longest_tables, IsTold, AreTablesRead, HasTables, IsInputStop, HasInput, HasInputs, no_tables, no_apdu, both}
