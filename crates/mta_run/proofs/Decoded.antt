@@ -38,6 +38,7 @@ told_stop input octets failed Stops.Disk told is = absurd is
 told_stop input octets failed (Stops.Full size need) told is = absurd is
 told_stop input octets failed (Stops.Spent last) told is = absurd is
 told_stop input octets failed Stops.Sink told is = absurd is
+told_stop input octets failed Stops.NotBuilt told is = absurd is
 told_stop input octets failed (Stops.NoMailbox name) told is = absurd is
 
 decoded_stop : (input : Option (List ℕ)) (octets : List ℕ) (failed : Type 0) (text : Result (List ℕ) Stop) → IsTold input octets → IsDecodedAs octets text → (stop : Stop) → text ≡ Err stop → IsInputStop input failed stop
@@ -74,6 +75,7 @@ decode_cause disks clocks sources conf input input_after disk clock Stops.Disk i
 decode_cause disks clocks sources conf input input_after disk clock (Stops.Full size need) is = absurd is
 decode_cause disks clocks sources conf input input_after disk clock (Stops.Spent last) is = absurd is
 decode_cause disks clocks sources conf input input_after disk clock Stops.Sink is = absurd is
+decode_cause disks clocks sources conf input input_after disk clock Stops.NotBuilt is = absurd is
 decode_cause disks clocks sources conf input input_after disk clock (Stops.NoMailbox name) is = absurd is
 
 decode_apart : Some Say.Decode ≡ Some Say.Submit → ⊥

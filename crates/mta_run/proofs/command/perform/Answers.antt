@@ -46,8 +46,8 @@ returns-in-Serve-clause-ended g c =
     refl
     (not_built (subst (λ (w : Words). IsUnbuilt (Some w)) (sym c.in-Serve.is) tt))
 
-pub returns-in-Drill-clause-ended : goal.returns-in-Drill-clause-ended
-returns-in-Drill-clause-ended g c =
+pub returns-clause-ended : goal.returns-clause-ended
+returns-clause-ended g c =
     ended_early g.D.Disk.model g.met.D.Disk.laws g.C.Clock.model g.I.Source.model (Some c.args.words) c.args.conf.now
     c.args.conf.now c.args.input.now c.args.input.now c.args.disk c.args.clock
     (output g.O.Sink.model c.args.out.now c.args.out.now) Stops.NotBuilt
