@@ -1,7 +1,8 @@
 -- The steps of a history as far as they concern one lane: each as the lane sees it, with the octets that a Start
 -- transfers. Which of them are possible, and what they leave of the lane's halves (X.228 clause 7), is said of lanes in
 -- `mta_ends`.
-use Rattle.std.specs.Prelude.{◌≡◌, ◌<◌, ℕ, ◌+◌, ◌*◌, Bool, true, List, [], ◌∷◌, length, Option, Some, None}
+use Rattle.std.specs.Prelude.{◌≡◌, ◌<◌, ℕ, ◌+◌, ◌*◌, Bool, true, List, [], ◌∷◌, length}
+use Rattle.std.specs.Prelude.{Option, Some, None}
 use Rattle.mta_ends.specs.Lanes.{Seen, On, Elsewhere, SeenStep, LaneOpen, LaneAgree, Bind, Start}
 use Rattle.mta_ends.specs.Lanes.{Confirm, To_end, Sent, Refused, Denied, Dropped, Abandon, Secure, Complete, Drop}
 use Rattle.mta_ends.specs.Lanes.{CloseLane, Halves, Open, unopened, lane_in, LanesAllow}

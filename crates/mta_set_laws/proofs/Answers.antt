@@ -1,5 +1,5 @@
 -- Components of RTOAC that are neighbours may change places.
-use Rattle.std.proofs.Common.{ℕ, true, Some, refl, inl, inr}
+use Rattle.std.proofs.Common.{ℕ, Some, refl, inl, inr}
 use Rattle.std.specs.Prelude.{is_some}
 use Rattle.mta_rtse.specs.declared.types.Answer.{Answer}
 use Rattle.mta_rtse.specs.declared.answer.AnswerParts.{AnswerParts}

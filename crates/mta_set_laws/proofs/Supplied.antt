@@ -1,5 +1,5 @@
 -- Components of domain supplied information that are neighbours may change places.
-use Rattle.std.proofs.Common.{◌≡◌, ℕ, List, refl}
+use Rattle.std.proofs.Common.{ℕ, List, refl}
 use Rattle.mta_ber.specs.declared.tag.Tag.{Tag}
 use Rattle.mta_ber.specs.Bits.{BitString}
 use Rattle.mta_fields.specs.declared.domain.DomainFields.{DomainFields}
