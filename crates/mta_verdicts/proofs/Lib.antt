@@ -1,0 +1,9 @@
+pub mod CaseSteps
+pub mod Sames
+pub mod Backs
+pub mod Chosen
+pub mod Lengths
+pub mod HopPlaces
+pub mod Copies
+pub mod Wholes
+pub mod Columns
