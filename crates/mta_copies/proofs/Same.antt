@@ -20,7 +20,8 @@ with_parts v name converted outcome intended supplementary extensions = record {
 }
 
 pub same_parts : (v : ReportedFields) (n : Attributes) (c : Option (List ℕ)) (o : Outcome) (i : Option Attributes)
-    (s : Option (List ℕ)) (x : List ExtFields) → n ≡ v.name → c ≡ v.converted → o ≡ v.outcome → i ≡ v.intended
+    (s : Option (List ℕ)) (x : List ExtFields) → n ≡ v.name → c ≡ v.converted → o ≡ v.outcome
+    → i ≡ v.intended
     → s ≡ v.supplementary → x ≡ v.extensions → with_parts v n c o i s x ≡ v
 same_parts v n c o i s x name converted outcome intended supplementary extensions =
     ap (λ t. with_parts v t c o i s x) name
