@@ -1,0 +1,4 @@
+pub mod Fields
+pub mod Numbered
+pub mod Envelopes
+pub mod Chosen
