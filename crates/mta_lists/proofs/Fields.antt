@@ -1,7 +1,7 @@
 -- The extension fields with another history.
 use Rattle.std.proofs.Common.{◌≡◌, ℕ, zero, suc, ◌+◌, ◌<◌, ◌≤◌, Bool, true, false, List, []}
 use Rattle.std.proofs.Common.{◌∷◌}
-use Rattle.std.proofs.Common.{◌++◌, length, get_or, Option, Some, None, refl, sym, ◌∙◌, ap, cond, arith}
+use Rattle.std.proofs.Common.{◌++◌, length, get_or, Some, None, refl, sym, ◌∙◌, ap, cond, arith}
 use Rattle.std.proofs.Common.{inl, inr}
 use Rattle.std.specs.Prelude.{slice_set, ◌==◌, if◌then◌else◌, nat_lt, not}
 use Rattle.std.specs.List.{position, position_or_len}

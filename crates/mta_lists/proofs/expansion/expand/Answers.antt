@@ -4,7 +4,6 @@ use Rattle.std.specs.Option.{option_map}
 use Rattle.mta_recipient.specs.declared.recipient.RecipientFields.{RecipientFields}
 use Rattle.mta_recipient.specs.Recipients.{IsRecipient}
 use Rattle.mta_envelope.specs.declared.envelope.EnvelopeFields.{EnvelopeFields}
-use Rattle.mta_envelope.specs.declared.message.Message.{Message}
 use Rattle.mta_envelope.specs.Messages.{MessageValue, message_value}
 use Rattle.mta_tables.specs.declared.entry.MailList.{MailList}
 use Rattle.mta_procedures.specs.Members.{members_copy}
