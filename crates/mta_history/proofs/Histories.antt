@@ -2,8 +2,8 @@
 use Rattle.std.proofs.Common.{◌≡◌, ℕ, ◌+◌, List, [], ◌∷◌, ◌++◌, length, map, refl, sym, ap, ◌∙◌, arith}
 use Rattle.mta_journal.specs.Bodies.{front}
 use Rattle.mta_journal.proofs.Bodies.{length-front-more}
-use Rattle.mta_records.specs.declared.step.Step.{Step}
-use Rattle.mta_records.specs.Body.{string, body_of, HasFields}
+use Rattle.mta_first_records.specs.declared.step.Step.{Step}
+use Rattle.mta_first_records.specs.Body.{string, body_of, HasFields}
 use Rattle.mta_history.specs.Machine.{Machine, MachineStep, machine_after, machine_run, IsRun, at_start}
 use Rattle.mta_history.specs.History.{State, machine_steps, IsPossible, after_step, after_from, after, ArePossible, IsHistory, empty, project, project_from}
 use Rattle.mta_history.specs.Image.{AreRecords, size_of}

@@ -2,9 +2,9 @@
 use Rattle.std.proofs.Common.{◌≡◌, ℕ, List, [], ◌∷◌, ◌++◌, length, map, drop, refl, sym, ap, subst, ◌∙◌, inl, inr}
 use Rattle.mta_journal.specs.Bodies.{front}
 use Rattle.mta_journal.proofs.Unique.{one_list, not_both, one_place}
-use Rattle.mta_records.specs.declared.step.Step.{Step}
-use Rattle.mta_records.specs.Body.{body_of, HasFields}
-use Rattle.mta_records.proofs.Records.{body_same}
+use Rattle.mta_first_records.specs.declared.step.Step.{Step}
+use Rattle.mta_first_records.specs.Body.{body_of, HasFields}
+use Rattle.mta_first_records.proofs.Records.{body_same}
 use Rattle.mta_history.specs.History.{State, IsPossible, ArePossible, after_from, after_step, empty}
 use Rattle.mta_history.specs.Image.{AreRecords, StandsFor, StopsAt, NoSpoolAt, OnePlace}
 

@@ -1,9 +1,9 @@
 -- An image has one history.
 use Rattle.std.proofs.Common.{◌≡◌, List, [], ◌∷◌, ℕ, map, refl}
 use Rattle.mta_journal.proofs.Unique.{one_list}
-use Rattle.mta_records.specs.declared.step.Step.{Step}
-use Rattle.mta_records.specs.Body.{body_of}
-use Rattle.mta_records.proofs.Records.{body_same}
+use Rattle.mta_first_records.specs.declared.step.Step.{Step}
+use Rattle.mta_first_records.specs.Body.{body_of}
+use Rattle.mta_first_records.proofs.Records.{body_same}
 use Rattle.mta_history.specs.Image.{AreRecords, StandsFor}
 
 same_steps : (s t : List Step) → AreRecords s → AreRecords t → map body_of s ≡ map body_of t → s ≡ t

@@ -1,7 +1,7 @@
 -- Which steps are due: those that the agent makes by itself, at a moment.
 use Rattle.std.specs.Prelude.{◌≡◌, ◌⊎◌, ℕ, ◌<◌, ◌≤◌}
-use Rattle.mta_records.specs.declared.step.Step.{Step}
-use Rattle.mta_records.specs.declared.step.Step.TheVariants.{Deliver}
+use Rattle.mta_first_records.specs.declared.step.Step.{Step}
+use Rattle.mta_first_records.specs.declared.step.Step.TheVariants.{Deliver}
 use Rattle.mta_history.specs.Verdict.{recorded}
 use Rattle.mta_history.specs.Deliveries.{IsDeliverable}
 use Rattle.mta_history.specs.History.{State}

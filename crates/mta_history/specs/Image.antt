@@ -2,8 +2,8 @@
 use Rattle.std.specs.Prelude.{◌≡◌, ◌⊎◌, ℕ, ◌+◌, List, [], ◌∷◌, ◌++◌, length, map}
 use Rattle.mta_journal.specs.Bodies.{front, StandsFor as HoldsBodies}
 use Rattle.mta_journal.specs.Faults.{IsNoJournalAt}
-use Rattle.mta_records.specs.declared.step.Step.{Step}
-use Rattle.mta_records.specs.Body.{body_of, HasFields}
+use Rattle.mta_first_records.specs.declared.step.Step.{Step}
+use Rattle.mta_first_records.specs.Body.{body_of, HasFields}
 use Rattle.mta_history.specs.History.{IsHistory, IsPossible, after}
 
 -- each step's fields are in their types

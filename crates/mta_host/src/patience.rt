@@ -1,5 +1,8 @@
 //! How long a station and its links wait for a peer.
 
+ghost use Rattle.std.specs.Prelude.{◌≡◌, ◌*◌};
+ghost use Rattle.std.specs.Duration.{as_nanos};
+
 use std::time::Duration;
 
 /// A call of a link that gives or takes nothing for so many seconds fails.
@@ -29,7 +32,12 @@ pub struct Patience {
 
 impl Patience {
     /// The numbers of the constants.
-    pub fn usual() -> Patience {
+    pub fn usual() -> Patience
+        ensures silence { as_nanos result.silence ≡ SILENCE_SECONDS * 1_000_000_000 }
+        ensures answer { as_nanos result.answer ≡ ANSWER_SECONDS * 1_000_000_000 }
+        ensures pause { as_nanos result.pause ≡ PAUSE_SECONDS * 1_000_000_000 }
+        ensures calls { result.calls ≡ CALLS }
+    {
         Patience {
             silence: Duration::from_secs(SILENCE_SECONDS),
             answer: Duration::from_secs(ANSWER_SECONDS),

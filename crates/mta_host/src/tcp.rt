@@ -5,6 +5,7 @@
 //! comes back. They tell nothing of what they carry: that the octets which the peer put are those which
 //! a link gives is trusted.
 
+ghost use Rattle.std.specs.Prelude.{◌≡◌};
 ghost use Rattle.mta_links.specs.Links.{untold_link, untold_station};
 
 use crate::patience::Patience;
@@ -12,6 +13,7 @@ use crate::streams::{read_some, write_some};
 use mta_edge::Failed;
 use mta_links::{Link, Role, Station};
 use std::io::{self, ErrorKind};
+use std::marker::Model;
 use std::net::{Ipv4Addr, Net, SocketAddr, SocketAddrV4, TcpListener, TcpStream, ToSocketAddrs};
 use std::{rt, thread};
 
@@ -79,10 +81,22 @@ pub struct TcpStation<'a, R> {
     faults: u64,
 }
 
+impl<'a, R> Model for TcpStation<'a, R> {
+    ghost use Rattle.mta_host.specs.Stations.{Stationed};
+
+    ghost Value = { Stationed };
+
+    ghost view = { λ s. record { role = s.role; out = s.out; faults = s.faults } };
+}
+
 impl<'a, R: Net<Listener = TcpListener, Stream = TcpStream> + rt::Clock> TcpStation<'a, R> {
     /// Listens on this port of all IPv4 addresses of the host, or on a free port for 0. The port can be had at once
     /// after another process that listened on it has ended. Where it cannot be had, each call of `next` fails.
-    pub fn listening(runtime: &'a R, port: u16, patience: Patience) -> TcpStation<'a, R> {
+    pub fn listening(runtime: &'a R, port: u16, patience: Patience) -> TcpStation<'a, R>
+        ensures role { result.role ≡ Role.In }
+        ensures out { result.out ≡ 0 }
+        ensures faults { result.faults ≡ 0 }
+    {
         let address = SocketAddrV4::new(Ipv4Addr::UNSPECIFIED, port);
         TcpStation {
             role: Role::In,
@@ -100,7 +114,11 @@ impl<'a, R: Net<Listener = TcpListener, Stream = TcpStream> + rt::Clock> TcpStat
         host: String,
         port: u16,
         patience: Patience,
-    ) -> TcpStation<'a, R> {
+    ) -> TcpStation<'a, R>
+        ensures role { result.role ≡ role }
+        ensures out { result.out ≡ 0 }
+        ensures faults { result.faults ≡ 0 }
+    {
         TcpStation {
             role,
             origin: Origin::Host {

@@ -1,3 +1,7 @@
+pub mod Appending
 pub mod Cutting
-pub mod Fields
+pub mod FieldForms
+pub mod Forms
 pub mod Records
+pub mod Splits
+pub mod Values

@@ -2,6 +2,8 @@
 #![tactic(auto)]
 
 mod fault;
+mod fields;
+mod kind;
 mod lane;
 mod laws;
 mod outgoing;
@@ -11,6 +13,7 @@ mod step;
 mod writing;
 
 pub use fault::{CompleteFault, RecordFault, StepFault};
+pub use kind::RecordKind;
 pub use lane::{Batch, LaneRole, LaneValues, Recipients};
 pub use laws::{a_body_is_of_one_step, a_record_is_read_again};
 pub use outgoing::Outgoing;
@@ -18,6 +21,3 @@ pub use reading::read_record;
 pub use reference::Reference;
 pub use step::Step;
 pub use writing::write_record;
-
-#[cfg(test)]
-mod tests;

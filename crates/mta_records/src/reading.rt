@@ -1,102 +1,84 @@
-//! The body of a record as the step that it is of.
-//!
-//! In comes a body that opening found on the disk; out goes the one step with these octets, or
-//! `BadRecord` at the first field that passes the end or is outside its type, or at the first octet
-//! behind the last field. Want of memory aside nothing else fails.
+//! Reading records.
 
 ghost use Rattle.std.specs.Prelude.{◌≡◌, ◌<◌, ◌^◌, length, IfOk, Ok};
-ghost use Rattle.std.specs.Int.{w32, w64};
+ghost use Rattle.mta_records.specs.declared.kind.RecordKind.{RecordKind};
 ghost use Rattle.mta_records.specs.declared.step.Step.{Step};
+ghost use Rattle.mta_records.specs.Body.{two_numbers_and_moment, a_lane, an_activity, a_numbered_activity, a_lane_name};
 ghost use Rattle.mta_records.specs.Body.{body_of, HasFields};
-ghost use Rattle.mta_records.specs.Reading.{Gives, Reads, number_at, moment_at, string_at, tables_at, accept_at, deliver_at, fields_at, step_at, record_of};
+ghost use Rattle.mta_records.specs.Answered.{Gives};
+ghost use Rattle.mta_records.specs.Reading.{Reads, fields_at, step_at, record_of};
 
 use crate::fault::RecordFault;
+use crate::fields::{
+    Short, fault_kind_of, long_number_of, moment_of, number_of, numbers_of, reference_of, role_of,
+    string_of, truth_of, word_of,
+};
+use crate::kind::RecordKind;
+use crate::lane::LaneRole;
+use crate::reference::Reference;
 use crate::step::Step;
-use mta_ber::{Memory, Octets};
+use mta_ber::{Octets, Word};
 use std::alloc::Global;
 
-// The last second of 2049, in seconds since 1950-01-01 00:00:00 UTC.
-const LAST_MOMENT: u64 = 3_155_759_999;
-
-/// Why no step was read: a field that begins where this many octets were left, or want of memory.
-#[derive(Clone, Copy, Debug, PartialEq, Eq)]
-pub enum Short {
-    Left(usize),
-    Memory,
-}
-
-impl From<Memory> for Short {
-    ghost use Rattle.std.specs.Prelude.{◌≡◌};
-    ghost use Rattle.mta_records.specs.declared.reading.Short.TheVariants.{Memory as memory_fault};
-
-    ghost from_gives = { λ _ e. e ≡ memory_fault };
-
-    fn from(_: Memory) -> Short {
-        Short::Memory
-    }
-}
-
-fn number_of(octets: &[u8]) -> Result<(u32, &[u8]), Short>
-    ensures { Gives (λ x. (x.0, x.1.now)) result (number_at w32 octets.now) }
+#[tactic(auto, unfolding(crate::specs::Body::two_and_moment_at))]
+fn two_and_moment_of(octets: &[u8]) -> Result<((u32, u32, u64), &[u8]), Short>
+    ensures { Gives (λ x. ((x.0.0, (x.0.1, x.0.2)), x.1.now)) result (two_numbers_and_moment.at octets.now) }
 {
-    if octets.len() < 4 {
-        return Err(Short::Left(octets.len()));
-    }
-    let (front, rest) = octets.split_at(4);
-    Ok((
-        u32::from_be_bytes([front[0], front[1], front[2], front[3]]),
-        rest,
-    ))
+    let (first, rest) = number_of(octets)?;
+    let (second, rest) = number_of(rest)?;
+    let (moment, rest) = moment_of(rest)?;
+    Ok(((first, second, moment), rest))
 }
 
-fn long_number_of(octets: &[u8]) -> Result<(u64, &[u8]), Short>
-    ensures { Gives (λ x. (x.0, x.1.now)) result (number_at w64 octets.now) }
+#[tactic(auto, unfolding(crate::specs::Body::lane_at))]
+fn lane_of(octets: &[u8]) -> Result<((u32, u64), &[u8]), Short>
+    ensures { Gives (λ x. ((x.0.0, x.0.1), x.1.now)) result (a_lane.at octets.now) }
 {
-    if octets.len() < 8 {
-        return Err(Short::Left(octets.len()));
-    }
-    let (front, rest) = octets.split_at(8);
-    let number = u64::from_be_bytes([
-        front[0], front[1], front[2], front[3], front[4], front[5], front[6], front[7],
-    ]);
-    Ok((number, rest))
+    let (lane, rest) = number_of(octets)?;
+    let (generation, rest) = long_number_of(rest)?;
+    Ok(((lane, generation), rest))
 }
 
-#[tactic(auto, unfolding(crate::specs::Reading::moment_at))]
-fn moment_of(octets: &[u8]) -> Result<(u64, &[u8]), Short>
-    ensures { Gives (λ x. (x.0, x.1.now)) result (moment_at octets.now) }
+#[tactic(auto, unfolding(crate::specs::Body::activity_at))]
+fn activity_of(octets: &[u8]) -> Result<((u32, u64, u32), &[u8]), Short>
+    ensures { Gives (λ x. (((x.0.0, x.0.1), x.0.2), x.1.now)) result (an_activity.at octets.now) }
 {
-    let (moment, rest) = long_number_of(octets)?;
-    if moment > LAST_MOMENT {
-        return Err(Short::Left(octets.len()));
-    }
-    Ok((moment, rest))
+    let ((lane, generation), rest) = lane_of(octets)?;
+    let (activity, rest) = number_of(rest)?;
+    Ok(((lane, generation, activity), rest))
 }
 
-#[tactic(auto, unfolding(crate::specs::Reading::string_at))]
-fn string_of(octets: &[u8]) -> Result<(&[u8], &[u8]), Short>
-    ensures { Gives (λ x. (x.0.now, x.1.now)) result (string_at octets.now) }
+#[tactic(auto, unfolding(crate::specs::Body::numbered_activity_at))]
+fn numbered_activity_of(octets: &[u8]) -> Result<((u32, u64, u32, u32), &[u8]), Short>
+    ensures { Gives (λ x. ((((x.0.0, x.0.1), x.0.2), x.0.3), x.1.now)) result (a_numbered_activity.at octets.now) }
 {
-    let (size, rest) = number_of(octets)?;
-    let size = size as usize;
-    if rest.len() < size {
-        return Err(Short::Left(octets.len()));
-    }
-    Ok(rest.split_at(size))
+    let ((lane, generation, activity), rest) = activity_of(octets)?;
+    let (number, rest) = number_of(rest)?;
+    Ok(((lane, generation, activity, number), rest))
 }
 
-#[tactic(auto, unfolding(crate::specs::Reading::tables_at))]
+#[tactic(auto, unfolding(crate::specs::Body::lane_name_at))]
+fn lane_name_of(alloc: Global, octets: &[u8]) -> Result<((LaneRole, Word, Reference), &[u8]), Short>
+    ensures { Gives (λ x. ((x.0.0, (x.0.1, x.0.2)), x.1.now)) result (a_lane_name.at octets.now) }
+{
+    let (role, rest) = role_of(octets)?;
+    let (peer, rest) = word_of(alloc, rest)?;
+    let (reference, rest) = reference_of(alloc, rest)?;
+    Ok(((role, peer, reference), rest))
+}
+
+#[tactic(auto, unfolding(crate::specs::Reading::fields_at))]
 fn tables_of(alloc: Global, octets: &[u8]) -> Result<(Step, &[u8]), Short>
-    ensures { Gives (λ x. (x.0, x.1.now)) result (tables_at octets.now) }
+    ensures { Gives (λ x. (x.0, x.1.now)) result (fields_at RecordKind.Tables octets.now) }
 {
     let (text, rest) = string_of(octets)?;
     let text = Octets::from_slice(alloc, text)?;
     Ok((Step::Tables { text }, rest))
 }
 
-#[tactic(auto, unfolding(crate::specs::Reading::accept_at))]
+#[tactic(auto, unfolding(crate::specs::Reading::fields_at))]
 fn accept_of(alloc: Global, octets: &[u8]) -> Result<(Step, &[u8]), Short>
-    ensures { Gives (λ x. (x.0, x.1.now)) result (accept_at octets.now) }
+    ensures { Gives (λ x. (x.0, x.1.now)) result (fields_at RecordKind.Accept octets.now) }
 {
     let (moment, rest) = moment_of(octets)?;
     let (apdu, rest) = string_of(rest)?;
@@ -104,13 +86,11 @@ fn accept_of(alloc: Global, octets: &[u8]) -> Result<(Step, &[u8]), Short>
     Ok((Step::Accept { moment, apdu }, rest))
 }
 
-#[tactic(auto, unfolding(crate::specs::Reading::deliver_at))]
+#[tactic(auto, unfolding(crate::specs::Reading::fields_at))]
 fn deliver_of(octets: &[u8]) -> Result<(Step, &[u8]), Short>
-    ensures { Gives (λ x. (x.0, x.1.now)) result (deliver_at octets.now) }
+    ensures { Gives (λ x. (x.0, x.1.now)) result (fields_at RecordKind.Deliver octets.now) }
 {
-    let (item, rest) = number_of(octets)?;
-    let (recipient, rest) = number_of(rest)?;
-    let (moment, rest) = moment_of(rest)?;
+    let ((item, recipient, moment), rest) = two_and_moment_of(octets)?;
     let step = Step::Deliver {
         item,
         recipient,
@@ -120,15 +100,317 @@ fn deliver_of(octets: &[u8]) -> Result<(Step, &[u8]), Short>
 }
 
 #[tactic(auto, unfolding(crate::specs::Reading::fields_at))]
-fn fields_of(alloc: Global, kind: u8, octets: &[u8]) -> Result<(Step, &[u8]), Short>
-    requires { length octets.now < 2 ^ 32 }
+fn expand_of(octets: &[u8]) -> Result<(Step, &[u8]), Short>
+    ensures { Gives (λ x. (x.0, x.1.now)) result (fields_at RecordKind.Expand octets.now) }
+{
+    let ((item, recipient, moment), rest) = two_and_moment_of(octets)?;
+    let step = Step::Expand {
+        item,
+        recipient,
+        moment,
+    };
+    Ok((step, rest))
+}
+
+#[tactic(auto, unfolding(crate::specs::Reading::fields_at))]
+fn report_of(octets: &[u8]) -> Result<(Step, &[u8]), Short>
+    ensures { Gives (λ x. (x.0, x.1.now)) result (fields_at RecordKind.Report octets.now) }
+{
+    let ((item, recipient, moment), rest) = two_and_moment_of(octets)?;
+    let step = Step::Report {
+        item,
+        recipient,
+        moment,
+    };
+    Ok((step, rest))
+}
+
+#[tactic(auto, unfolding(crate::specs::Reading::fields_at))]
+fn affirm_of(octets: &[u8]) -> Result<(Step, &[u8]), Short>
+    ensures { Gives (λ x. (x.0, x.1.now)) result (fields_at RecordKind.Affirm octets.now) }
+{
+    let ((item, recipient, moment), rest) = two_and_moment_of(octets)?;
+    let step = Step::Affirm {
+        item,
+        recipient,
+        moment,
+    };
+    Ok((step, rest))
+}
+
+#[tactic(auto, unfolding(crate::specs::Reading::fields_at))]
+fn discard_of(octets: &[u8]) -> Result<(Step, &[u8]), Short>
+    ensures { Gives (λ x. (x.0, x.1.now)) result (fields_at RecordKind.Discard octets.now) }
+{
+    let ((item, recipient, moment), rest) = two_and_moment_of(octets)?;
+    let step = Step::Discard {
+        item,
+        recipient,
+        moment,
+    };
+    Ok((step, rest))
+}
+
+#[tactic(auto, unfolding(crate::specs::Reading::fields_at))]
+fn back_of(octets: &[u8]) -> Result<(Step, &[u8]), Short>
+    ensures { Gives (λ x. (x.0, x.1.now)) result (fields_at RecordKind.Back octets.now) }
+{
+    let ((item, recipient, moment), rest) = two_and_moment_of(octets)?;
+    let step = Step::Back {
+        item,
+        recipient,
+        moment,
+    };
+    Ok((step, rest))
+}
+
+#[tactic(auto, unfolding(crate::specs::Reading::fields_at))]
+fn lane_open_of(alloc: Global, octets: &[u8]) -> Result<(Step, &[u8]), Short>
+    ensures { Gives (λ x. (x.0, x.1.now)) result (fields_at RecordKind.LaneOpen octets.now) }
+{
+    let ((role, peer, reference), rest) = lane_name_of(alloc, octets)?;
+    let (twa, rest) = truth_of(rest)?;
+    let ((checkpoint, window, moment), rest) = two_and_moment_of(rest)?;
+    let step = Step::LaneOpen {
+        role,
+        peer,
+        reference,
+        twa,
+        checkpoint,
+        window,
+        moment,
+    };
+    Ok((step, rest))
+}
+
+#[tactic(auto, unfolding(crate::specs::Reading::fields_at))]
+fn lane_agree_of(octets: &[u8]) -> Result<(Step, &[u8]), Short>
+    ensures { Gives (λ x. (x.0, x.1.now)) result (fields_at RecordKind.LaneAgree octets.now) }
+{
+    let ((lane, generation), rest) = lane_of(octets)?;
+    let (checkpoint, rest) = number_of(rest)?;
+    let (window, rest) = number_of(rest)?;
+    let step = Step::LaneAgree {
+        lane,
+        generation,
+        checkpoint,
+        window,
+    };
+    Ok((step, rest))
+}
+
+#[tactic(auto, unfolding(crate::specs::Reading::fields_at))]
+fn bind_of(octets: &[u8]) -> Result<(Step, &[u8]), Short>
+    ensures { Gives (λ x. (x.0, x.1.now)) result (fields_at RecordKind.Bind octets.now) }
+{
+    let ((lane, generation), rest) = lane_of(octets)?;
+    let step = Step::Bind { lane, generation };
+    Ok((step, rest))
+}
+
+#[tactic(auto, unfolding(crate::specs::Reading::fields_at))]
+fn start_of(alloc: Global, octets: &[u8]) -> Result<(Step, &[u8]), Short>
+    ensures { Gives (λ x. (x.0, x.1.now)) result (fields_at RecordKind.Start octets.now) }
+{
+    let ((lane, generation, activity, item), rest) = numbered_activity_of(octets)?;
+    let (recipients, rest) = numbers_of(alloc, rest)?;
+    let (moment, rest) = moment_of(rest)?;
+    let step = Step::Start {
+        lane,
+        generation,
+        activity,
+        item,
+        recipients,
+        moment,
+    };
+    Ok((step, rest))
+}
+
+#[tactic(auto, unfolding(crate::specs::Reading::fields_at))]
+fn confirm_of(octets: &[u8]) -> Result<(Step, &[u8]), Short>
+    ensures { Gives (λ x. (x.0, x.1.now)) result (fields_at RecordKind.Confirm octets.now) }
+{
+    let ((lane, generation, activity, checkpoint), rest) = numbered_activity_of(octets)?;
+    let step = Step::Confirm {
+        lane,
+        generation,
+        activity,
+        checkpoint,
+    };
+    Ok((step, rest))
+}
+
+#[tactic(auto, unfolding(crate::specs::Reading::fields_at))]
+fn ending_of(octets: &[u8]) -> Result<(Step, &[u8]), Short>
+    ensures { Gives (λ x. (x.0, x.1.now)) result (fields_at RecordKind.Ending octets.now) }
+{
+    let ((lane, generation, activity), rest) = activity_of(octets)?;
+    let step = Step::Ending {
+        lane,
+        generation,
+        activity,
+    };
+    Ok((step, rest))
+}
+
+#[tactic(auto, unfolding(crate::specs::Reading::fields_at))]
+fn sent_of(octets: &[u8]) -> Result<(Step, &[u8]), Short>
+    ensures { Gives (λ x. (x.0, x.1.now)) result (fields_at RecordKind.Sent octets.now) }
+{
+    let ((lane, generation, activity), rest) = activity_of(octets)?;
+    let (moment, rest) = moment_of(rest)?;
+    let step = Step::Sent {
+        lane,
+        generation,
+        activity,
+        moment,
+    };
+    Ok((step, rest))
+}
+
+#[tactic(auto, unfolding(crate::specs::Reading::fields_at))]
+fn denied_of(octets: &[u8]) -> Result<(Step, &[u8]), Short>
+    ensures { Gives (λ x. (x.0, x.1.now)) result (fields_at RecordKind.Denied octets.now) }
+{
+    let ((lane, generation, activity), rest) = activity_of(octets)?;
+    let (moment, rest) = moment_of(rest)?;
+    let step = Step::Denied {
+        lane,
+        generation,
+        activity,
+        moment,
+    };
+    Ok((step, rest))
+}
+
+#[tactic(auto, unfolding(crate::specs::Reading::fields_at))]
+fn refused_of(octets: &[u8]) -> Result<(Step, &[u8]), Short>
+    ensures { Gives (λ x. (x.0, x.1.now)) result (fields_at RecordKind.Refused octets.now) }
+{
+    let ((lane, generation, activity), rest) = activity_of(octets)?;
+    let (kind, rest) = fault_kind_of(rest)?;
+    let (moment, rest) = moment_of(rest)?;
+    let step = Step::Refused {
+        lane,
+        generation,
+        activity,
+        kind,
+        moment,
+    };
+    Ok((step, rest))
+}
+
+#[tactic(auto, unfolding(crate::specs::Reading::fields_at))]
+fn dropped_of(octets: &[u8]) -> Result<(Step, &[u8]), Short>
+    ensures { Gives (λ x. (x.0, x.1.now)) result (fields_at RecordKind.Dropped octets.now) }
+{
+    let ((lane, generation, activity), rest) = activity_of(octets)?;
+    let step = Step::Dropped {
+        lane,
+        generation,
+        activity,
+    };
+    Ok((step, rest))
+}
+
+#[tactic(auto, unfolding(crate::specs::Reading::fields_at))]
+fn abandon_of(octets: &[u8]) -> Result<(Step, &[u8]), Short>
+    ensures { Gives (λ x. (x.0, x.1.now)) result (fields_at RecordKind.Abandon octets.now) }
+{
+    let ((lane, activity, moment), rest) = two_and_moment_of(octets)?;
+    let step = Step::Abandon {
+        lane,
+        activity,
+        moment,
+    };
+    Ok((step, rest))
+}
+
+#[tactic(auto, unfolding(crate::specs::Reading::fields_at))]
+fn secure_of(alloc: Global, octets: &[u8]) -> Result<(Step, &[u8]), Short>
+    ensures { Gives (λ x. (x.0, x.1.now)) result (fields_at RecordKind.Secure octets.now) }
+{
+    let ((lane, generation, activity, number), rest) = numbered_activity_of(octets)?;
+    let (piece, rest) = string_of(rest)?;
+    let piece = Octets::from_slice(alloc, piece)?;
+    let step = Step::Secure {
+        lane,
+        generation,
+        activity,
+        number,
+        piece,
+    };
+    Ok((step, rest))
+}
+
+#[tactic(auto, unfolding(crate::specs::Reading::fields_at))]
+fn complete_of(alloc: Global, octets: &[u8]) -> Result<(Step, &[u8]), Short>
+    ensures { Gives (λ x. (x.0, x.1.now)) result (fields_at RecordKind.Complete octets.now) }
+{
+    let ((lane, generation, activity, number), rest) = numbered_activity_of(octets)?;
+    let (piece, rest) = string_of(rest)?;
+    let (moment, rest) = moment_of(rest)?;
+    let piece = Octets::from_slice(alloc, piece)?;
+    let step = Step::Complete {
+        lane,
+        generation,
+        activity,
+        number,
+        piece,
+        moment,
+    };
+    Ok((step, rest))
+}
+
+#[tactic(auto, unfolding(crate::specs::Reading::fields_at))]
+fn drop_of(octets: &[u8]) -> Result<(Step, &[u8]), Short>
+    ensures { Gives (λ x. (x.0, x.1.now)) result (fields_at RecordKind.Drop octets.now) }
+{
+    let ((lane, generation, activity), rest) = activity_of(octets)?;
+    let step = Step::Drop {
+        lane,
+        generation,
+        activity,
+    };
+    Ok((step, rest))
+}
+
+#[tactic(auto, unfolding(crate::specs::Reading::fields_at))]
+fn close_lane_of(octets: &[u8]) -> Result<(Step, &[u8]), Short>
+    ensures { Gives (λ x. (x.0, x.1.now)) result (fields_at RecordKind.CloseLane octets.now) }
+{
+    let ((lane, generation), rest) = lane_of(octets)?;
+    let step = Step::CloseLane { lane, generation };
+    Ok((step, rest))
+}
+
+fn fields_of(alloc: Global, kind: RecordKind, octets: &[u8]) -> Result<(Step, &[u8]), Short>
     ensures { Gives (λ x. (x.0, x.1.now)) result (fields_at kind octets.now) }
 {
     match kind {
-        1 => tables_of(alloc, octets),
-        2 => accept_of(alloc, octets),
-        3 => deliver_of(octets),
-        _ => Err(Short::Left(octets.len() + 1)),
+        RecordKind::Tables => tables_of(alloc, octets),
+        RecordKind::Accept => accept_of(alloc, octets),
+        RecordKind::Deliver => deliver_of(octets),
+        RecordKind::Expand => expand_of(octets),
+        RecordKind::Report => report_of(octets),
+        RecordKind::Affirm => affirm_of(octets),
+        RecordKind::Discard => discard_of(octets),
+        RecordKind::Back => back_of(octets),
+        RecordKind::LaneOpen => lane_open_of(alloc, octets),
+        RecordKind::LaneAgree => lane_agree_of(octets),
+        RecordKind::Bind => bind_of(octets),
+        RecordKind::Start => start_of(alloc, octets),
+        RecordKind::Confirm => confirm_of(octets),
+        RecordKind::Ending => ending_of(octets),
+        RecordKind::Sent => sent_of(octets),
+        RecordKind::Refused => refused_of(octets),
+        RecordKind::Denied => denied_of(octets),
+        RecordKind::Dropped => dropped_of(octets),
+        RecordKind::Abandon => abandon_of(octets),
+        RecordKind::Secure => secure_of(alloc, octets),
+        RecordKind::Complete => complete_of(alloc, octets),
+        RecordKind::Drop => drop_of(octets),
+        RecordKind::CloseLane => close_lane_of(octets),
     }
 }
 
@@ -137,10 +419,13 @@ fn step_of(alloc: Global, body: &[u8]) -> Result<Step, Short>
     requires { length body.now < 2 ^ 32 }
     ensures { Gives (λ x. x) result (step_at body.now) }
 {
-    let [kind, octets @ ..] = body else {
+    let [octet, octets @ ..] = body else {
         return Err(Short::Left(0));
     };
-    let (step, rest) = fields_of(alloc, *kind, octets)?;
+    let Some(kind) = RecordKind::from_octet(*octet) else {
+        return Err(Short::Left(body.len()));
+    };
+    let (step, rest) = fields_of(alloc, kind, octets)?;
     if !rest.is_empty() {
         return Err(Short::Left(rest.len()));
     }

@@ -7,8 +7,8 @@ use Rattle.std.proofs.lemmas.Fmt.{decimal_injective, decimal_by_steps}
 use Rattle.std.proofs.lemmas.List.{append_cancel_left, append-nil, length-append}
 use Rattle.mta_edge.specs.Outside.{Goes}
 use Rattle.mta_streams.specs.Streams.{TakesFront}
-use Rattle.mta_records.specs.declared.step.Step.{Step}
-use Rattle.mta_records.specs.declared.step.Step.TheVariants.{Tables, Accept, Deliver}
+use Rattle.mta_first_records.specs.declared.step.Step.{Step}
+use Rattle.mta_first_records.specs.declared.step.Step.TheVariants.{Tables, Accept, Deliver}
 use Rattle.mta_history.specs.declared.item.Origin.TheVariants.{Submitted}
 use Rattle.mta_history.specs.declared.item.Status.TheVariants.{Delivered}
 use Rattle.mta_history.specs.Items.{ItemValue, numbered, with_status, with_status_of}

@@ -5,11 +5,11 @@ use Rattle.std.proofs.lemmas.List.Sums.{sum_by-cons}
 use Rattle.mta_edge.specs.Views.{DiskView, DiskLaws}
 use Rattle.std.specs.Prelude.{◌⊎◌}
 use Rattle.mta_journal.specs.Shown.{Shown as JournalShown, Holds}
-use Rattle.mta_records.specs.declared.step.Step.{Step}
-use Rattle.mta_records.specs.declared.step.Step.TheVariants.{Tables, Accept, Deliver}
-use Rattle.mta_records.specs.declared.fault.StepFault.{StepFault}
-use Rattle.mta_records.specs.declared.fault.StepFault.TheVariants as StepFaults
-use Rattle.mta_records.specs.Body.{body_of}
+use Rattle.mta_first_records.specs.declared.step.Step.{Step}
+use Rattle.mta_first_records.specs.declared.step.Step.TheVariants.{Tables, Accept, Deliver}
+use Rattle.mta_first_records.specs.declared.fault.StepFault.{StepFault}
+use Rattle.mta_first_records.specs.declared.fault.StepFault.TheVariants as StepFaults
+use Rattle.mta_first_records.specs.Body.{body_of}
 use Rattle.mta_history.specs.History.{State, IsHistory, IsPossible, ArePossible, after, after_step, after_from, empty}
 use Rattle.mta_history.proofs.Histories.{possible-more}
 use Rattle.mta_spool.specs.Shown.{Shown}

@@ -2,7 +2,7 @@
 use Rattle.std.proofs.Common.{◌≡◌, ◌≢◌, ℕ, ◌≤◌, List, [], ◌++◌, take, drop, None, Some, Result, Ok, Err, refl, sym, ap, subst, ◌∙◌, append_assoc, arith, inl, inr}
 use Rattle.std.proofs.lemmas.List.{take-append-drop, append-nil}
 use Rattle.mta_edge.specs.Views.{SinkView}
-use Rattle.mta_records.specs.declared.step.Step.{Step}
+use Rattle.mta_first_records.specs.declared.step.Step.{Step}
 use Rattle.mta_history.specs.Apdu.{IsApdu}
 use Rattle.mta_history.specs.History.{IsHistory, after, empty}
 use Rattle.mta_history.proofs.Once.{each_recipient_once}

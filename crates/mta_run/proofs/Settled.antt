@@ -4,9 +4,9 @@ use Rattle.std.specs.Prelude.{◌⊎◌}
 use Rattle.std.proofs.lemmas.List.{append-nil}
 use Rattle.mta_edge.specs.Views.{DiskView, DiskLaws, ClockView}
 use Rattle.mta_edge.specs.Causes.{Rose}
-use Rattle.mta_records.specs.declared.step.Step.{Step}
-use Rattle.mta_records.specs.declared.fault.StepFault.{StepFault}
-use Rattle.mta_records.specs.declared.fault.StepFault.TheVariants as StepFaults
+use Rattle.mta_first_records.specs.declared.step.Step.{Step}
+use Rattle.mta_first_records.specs.declared.fault.StepFault.{StepFault}
+use Rattle.mta_first_records.specs.declared.fault.StepFault.TheVariants as StepFaults
 use Rattle.mta_journal.specs.Appending.{journal_limit}
 use Rattle.mta_history.specs.Due.{IsQuiet, IsNext}
 use Rattle.mta_history.specs.History.{State, after, after_step}

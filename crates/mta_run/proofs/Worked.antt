@@ -5,10 +5,10 @@ use Rattle.std.proofs.lemmas.List.{append-nil}
 use Rattle.mta_edge.specs.Views.{DiskView}
 use Rattle.mta_edge.specs.Causes.{Rose}
 use Rattle.mta_edge.specs.Outside.{Goes}
-use Rattle.mta_records.specs.declared.step.Step.{Step}
-use Rattle.mta_records.specs.declared.step.Step.TheVariants.{Accept}
-use Rattle.mta_records.specs.declared.fault.StepFault.{StepFault}
-use Rattle.mta_records.specs.declared.fault.StepFault.TheVariants as StepFaults
+use Rattle.mta_first_records.specs.declared.step.Step.{Step}
+use Rattle.mta_first_records.specs.declared.step.Step.TheVariants.{Accept}
+use Rattle.mta_first_records.specs.declared.fault.StepFault.{StepFault}
+use Rattle.mta_first_records.specs.declared.fault.StepFault.TheVariants as StepFaults
 use Rattle.mta_history.specs.Verdict.{last_of}
 use Rattle.mta_history.specs.History.{State}
 use Rattle.mta_spool.specs.Shown.{Shown}

@@ -1,7 +1,7 @@
 -- What a command prints, and why a run stops without it.
 use Rattle.std.specs.Prelude.{◌≡◌, ◌≢◌, ◌^◌, ℕ, ◌<◌, List, ◌++◌, Option, None, Some, option_and_then}
 use Rattle.mta_ber.specs.declared.fault.Kind.{Kind}
-use Rattle.mta_records.specs.declared.step.Step.{Step}
+use Rattle.mta_first_records.specs.declared.step.Step.{Step}
 use Rattle.mta_tables.specs.declared.fault.LineKind.{LineKind}
 use Rattle.mta_tables.specs.Tables.{TablesValue, mailbox_of as place_of_mailbox}
 use Rattle.mta_tables.specs.Grammar.{IsFirstBadLine}

@@ -1,6 +1,6 @@
 -- What a command leaves before its last line is printed.
 use Rattle.std.specs.Prelude.{◌≡◌, ℕ, List, [], ◌++◌, Some, Result, Ok}
-use Rattle.mta_records.specs.declared.step.Step.{Step}
+use Rattle.mta_first_records.specs.declared.step.Step.{Step}
 use Rattle.mta_apdu.specs.Apdus.{longest_apdu}
 use Rattle.mta_history.specs.Verdict.{last_of}
 use Rattle.mta_history.specs.Due.{IsQuiet}

@@ -2,7 +2,7 @@
 use Rattle.std.specs.Prelude.{◌≡◌, ◌⊎◌, ℕ, List, Option, Some}
 use Rattle.mta_edge.specs.Views.{DiskView, ClockView, SourceView}
 use Rattle.mta_edge.specs.Causes.{Rose}
-use Rattle.mta_records.specs.declared.step.Step.{Step}
+use Rattle.mta_first_records.specs.declared.step.Step.{Step}
 use Rattle.mta_history.specs.Apdu.{IsApdu}
 use Rattle.mta_history.specs.History.{IsTablesText}
 use Rattle.mta_history.specs.Image.{StandsFor}

@@ -1,6 +1,6 @@
 -- What a run leaves of everything that was handed in.
 use Rattle.std.specs.Prelude.{◌≡◌, ◌≢◌, ◌⊎◌, ◌+◌, ◌<◌, ◌≤◌, ◌^◌, ℕ, List, [], ◌∷◌, ◌++◌, length, take, None, Some, Ok}
-use Rattle.mta_records.specs.declared.step.Step.{Step}
+use Rattle.mta_first_records.specs.declared.step.Step.{Step}
 use Rattle.mta_tables.specs.Tables.{TablesValue, tables_of}
 use Rattle.mta_history.specs.Apdu.{IsApdu}
 use Rattle.mta_history.specs.Items.{ItemValue, numbered}

@@ -2,7 +2,7 @@
 use Rattle.std.specs.Prelude.{◌≡◌, ◌≢◌, ◌⊎◌, ℕ, List, [], None, Some, Result, Ok, Err}
 use Rattle.mta_edge.specs.Causes.{Rose}
 use Rattle.mta_edge.specs.Views.{DiskView}
-use Rattle.mta_records.specs.declared.step.Step.{Step}
+use Rattle.mta_first_records.specs.declared.step.Step.{Step}
 use Rattle.mta_history.specs.History.{State, after}
 use Rattle.mta_history.specs.Image.{StandsFor, NoSpoolAt}
 use Rattle.mta_journal.specs.declared.why.OpenWhy.{OpenWhy}

@@ -2,10 +2,10 @@
 use Rattle.std.specs.Prelude.{◌≡◌, ◌≢◌, ◌⊎◌, ◌^◌, ℕ, ◌+◌, ◌≤◌, ◌<◌, List, [], ◌∷◌, ◌++◌, length, Bool, true, false, count_by, min, max, Some, Result, Ok, Err}
 use Rattle.mta_edge.specs.Causes.{Rose}
 use Rattle.mta_edge.specs.Views.{DiskView, StaysTold}
-use Rattle.mta_records.specs.declared.step.Step.{Step}
-use Rattle.mta_records.specs.declared.step.Step.TheVariants.{Tables, Accept, Deliver}
-use Rattle.mta_records.specs.declared.fault.StepFault.{StepFault}
-use Rattle.mta_records.specs.declared.fault.StepFault.TheVariants as StepFaults
+use Rattle.mta_first_records.specs.declared.step.Step.{Step}
+use Rattle.mta_first_records.specs.declared.step.Step.TheVariants.{Tables, Accept, Deliver}
+use Rattle.mta_first_records.specs.declared.fault.StepFault.{StepFault}
+use Rattle.mta_first_records.specs.declared.fault.StepFault.TheVariants as StepFaults
 use Rattle.mta_journal.specs.Appending.{journal_limit}
 use Rattle.mta_history.specs.Verdict.{last_of}
 use Rattle.mta_history.specs.Due.{IsQuiet, IsNext}

@@ -11,7 +11,7 @@
 
 ghost use Rattle.std.specs.Prelude.{◌≡◌, ◌≤◌, List, Ok, Some, false};
 ghost use Rattle.mta_history.specs.Apdu.{IsApdu};
-ghost use Rattle.mta_records.specs.declared.step.Step.{Step};
+ghost use Rattle.mta_first_records.specs.declared.step.Step.{Step};
 ghost use Rattle.mta_spool.specs.Stands.{Stands, TellsFewer};
 ghost use Rattle.mta_tables.specs.Tables.{tables_of};
 ghost use Rattle.mta_run.specs.declared.words.Words.TheVariants as Say;

@@ -1,6 +1,6 @@
 //! What a session knows, and its last words.
 
-ghost use Rattle.std.specs.Prelude.{◌≡◌, ◌≤◌, Result, Ok, Err};
+ghost use Rattle.std.specs.Prelude.{◌≡◌, ◌≤◌, Result, Ok, Err, None};
 ghost use Rattle.mta_session.specs.Rank.{FallsBelow};
 ghost use Rattle.mta_session.specs.State.{let_go};
 ghost use Rattle.mta_session.specs.Wanted.{Aborts, Rejects, Ends};
@@ -107,6 +107,13 @@ impl Machine {
         self.let_go();
         self.phase = Phase::Ended { end };
         Action::Finish(end)
+    }
+
+    /// No unit that was heard is kept.
+    pub fn keeps_no_unit(&self)
+        ensures { self.now.send.heard ≡ None }
+    {
+        let _ = &self.send;
     }
 
     /// What is held of messages is at most the largest unit and a window of pieces.

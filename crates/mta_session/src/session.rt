@@ -1,7 +1,7 @@
 //! A session.
 
-ghost use Rattle.std.specs.Prelude.{◌≡◌, ◌≤◌, ◌↔◌, IsTrue};
-ghost use Rattle.mta_session.specs.Fits.{Answers, ValuesFit};
+ghost use Rattle.std.specs.Prelude.{◌≡◌, ◌≤◌, ◌↔◌, IsTrue, None};
+ghost use Rattle.mta_session.specs.Fits.{Answers, Fits, ValuesFit};
 ghost use Rattle.mta_session.specs.Holding.{HoldsLittle};
 ghost use Rattle.mta_session.specs.Session.{StepsTo, new_machine, new_initiator, new_responder};
 
@@ -110,6 +110,14 @@ impl Session {
         ensures { StepsTo self.old event result self.new }
     {
         self.machine.step(event)
+    }
+
+    /// What it keeps from call to call, of which the laws over its calls speak; it keeps no unit that was heard.
+    pub fn fits(&self)
+        ensures kept { Fits self.now }
+        ensures heard { self.now.send.heard ≡ None }
+    {
+        self.machine.keeps_no_unit();
     }
 
     /// What it holds of messages is at most the largest unit and a window of pieces.

@@ -1,5 +1,6 @@
 -- Octets of the components of a value spell it in any order.
 use Rattle.mta_names.specs.Persons.{MakesPerson, no_person}
+use Rattle.mta_fields.specs.Traces.{MakesSupplied, no_supplied}
 use Rattle.mta_reported.specs.Deliveries.{MakesDelivery, no_delivery}
 use Rattle.mta_reported.specs.Failures.{MakesFailure, no_failure}
 use Rattle.mta_reported.specs.LastTraces.{MakesLast, no_last}
@@ -8,9 +9,11 @@ use Rattle.mta_report.specs.ReportEnvelopes.{MakesEnvelope as MakesReportEnvelop
 use Rattle.mta_report.specs.ReportContents.{MakesContent, no_content}
 use Rattle.mta_recipient.specs.Recipients.{MakesRecipient, no_recipient}
 use Rattle.mta_envelope.specs.Components.{MakesEnvelope, no_envelope}
+use Rattle.mta_set_laws.specs.Laws.{SuppliedInformationInAnyOrder}
 use Rattle.mta_set_laws.specs.Laws.{PersonalNamesInAnyOrder, DeliveriesInAnyOrder, NonDeliveriesInAnyOrder, LastTracesInAnyOrder, ReportedRecipientsInAnyOrder, ReportEnvelopesInAnyOrder, ReportContentsInAnyOrder, RecipientsInAnyOrder, EnvelopesInAnyOrder}
 use Rattle.mta_set_laws.proofs.Orders.{spelled_in_any_order}
 use Rattle.mta_set_laws.proofs.Persons.{persons_change}
+use Rattle.mta_set_laws.proofs.Supplied.{supplied_change}
 use Rattle.mta_set_laws.proofs.Deliveries.{deliveries_change}
 use Rattle.mta_set_laws.proofs.Failures.{failures_change}
 use Rattle.mta_set_laws.proofs.LastTraces.{last_traces_change}
@@ -26,6 +29,16 @@ personal_names_in_any_order depth c content v h ys o = record {
   parts = h.parts;
   spelled = spelled_in_any_order MakesPerson persons_change depth no_person h.parts content h.spelled ys o;
   surname = h.surname;
+  value = h.value;
+}
+
+pub supplied_information_in_any_order : SuppliedInformationInAnyOrder
+supplied_information_in_any_order depth c content v h ys o = record {
+  is_constructed = h.is_constructed;
+  parts = h.parts;
+  spelled = spelled_in_any_order MakesSupplied supplied_change depth no_supplied h.parts content h.spelled ys o;
+  arrival = h.arrival;
+  action = h.action;
   value = h.value;
 }
 

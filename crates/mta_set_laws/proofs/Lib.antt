@@ -1,6 +1,7 @@
 pub mod Orders
 pub mod Slots
 pub mod Persons
+pub mod Supplied
 pub mod Deliveries
 pub mod Failures
 pub mod LastTraces
@@ -10,3 +11,9 @@ pub mod ReportContents
 pub mod Recipients
 pub mod Envelopes
 pub mod InAnyOrder
+pub mod Fills
+pub mod Binds
+pub mod Requests
+pub mod Answers
+pub mod Reasons
+pub mod UnitsInAnyOrder

@@ -4,6 +4,7 @@ use Rattle.std.specs.Prelude.{ℕ, Bool, List}
 use Rattle.std.specs.List.{concat}
 use Rattle.mta_ber.specs.declared.tag.Tag.{Tag}
 use Rattle.mta_names.specs.declared.attributes.PersonFields.{PersonFields}
+use Rattle.mta_fields.specs.declared.supplied.Supplied.{Supplied}
 use Rattle.mta_reported.specs.declared.outcome.Outcome.{Outcome}
 use Rattle.mta_reported.specs.declared.last.LastTrace.{LastTrace}
 use Rattle.mta_reported.specs.declared.reported.ReportedFields.{ReportedFields}
@@ -12,6 +13,7 @@ use Rattle.mta_report.specs.declared.content.ContentFields.{ContentFields}
 use Rattle.mta_recipient.specs.declared.recipient.RecipientFields.{RecipientFields}
 use Rattle.mta_envelope.specs.declared.envelope.EnvelopeFields.{EnvelopeFields}
 use Rattle.mta_names.specs.Persons.{SpellsPerson}
+use Rattle.mta_fields.specs.Traces.{SpellsSupplied}
 use Rattle.mta_reported.specs.Deliveries.{SpellsDelivery}
 use Rattle.mta_reported.specs.Failures.{SpellsFailure}
 use Rattle.mta_reported.specs.LastTraces.{SpellsLast}
@@ -28,6 +30,13 @@ PersonalNamesInAnyOrder =
     (depth : ℕ) (c : Bool) (content : List ℕ) (v : PersonFields) → (h : SpellsPerson depth c content v)
     → (ys : List (List ℕ))
     → IsOrderOf h.spelled.components ys → SpellsPerson depth c (concat ys) v
+
+-- what a domain tells of itself in an element of a trace
+abbrev pub SuppliedInformationInAnyOrder : Type 0
+SuppliedInformationInAnyOrder =
+    (depth : ℕ) (c : Bool) (content : List ℕ) (v : Supplied) → (h : SpellsSupplied depth c content v)
+    → (ys : List (List ℕ))
+    → IsOrderOf h.spelled.components ys → SpellsSupplied depth c (concat ys) v
 
 -- a delivery
 abbrev pub DeliveriesInAnyOrder : Type 0

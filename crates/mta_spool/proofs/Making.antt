@@ -10,10 +10,10 @@ use Rattle.mta_journal.specs.Appending.{Appends as JournalAppends, journal_limit
 use Rattle.mta_journal.specs.declared.journal.AppendFault.{AppendFault}
 use Rattle.mta_journal.specs.declared.journal.AppendFault.TheVariants as AppendFaults
 use Rattle.mta_journal.proofs.Bodies.{stands_for}
-use Rattle.mta_records.specs.declared.step.Step.{Step}
-use Rattle.mta_records.specs.declared.fault.StepFault.{StepFault}
-use Rattle.mta_records.specs.declared.fault.StepFault.TheVariants as StepFaults
-use Rattle.mta_records.specs.Body.{body_of, HasFields}
+use Rattle.mta_first_records.specs.declared.step.Step.{Step}
+use Rattle.mta_first_records.specs.declared.fault.StepFault.{StepFault}
+use Rattle.mta_first_records.specs.declared.fault.StepFault.TheVariants as StepFaults
+use Rattle.mta_first_records.specs.Body.{body_of, HasFields}
 use Rattle.mta_history.specs.History.{State, IsHistory, IsPossible, after, after_step, empty}
 use Rattle.mta_history.specs.Image.{AreRecords, StandsFor}
 use Rattle.mta_history.proofs.Histories.{map-more, AreRecords-more, after_from-more, possible-more}

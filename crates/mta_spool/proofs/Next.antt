@@ -12,8 +12,8 @@ use Rattle.mta_tables.specs.Hops.{best_hop, local_of, mailbox_place as place_nam
 use Rattle.mta_tables.specs.Reading.{is_of_mailbox}
 use Rattle.mta_tables.specs.Tables.{TablesValue}
 use Rattle.mta_tables.proofs.HopLaws.{local_is_mailbox}
-use Rattle.mta_records.specs.declared.step.Step.{Step}
-use Rattle.mta_records.specs.declared.step.Step.TheVariants.{Deliver}
+use Rattle.mta_first_records.specs.declared.step.Step.{Step}
+use Rattle.mta_first_records.specs.declared.step.Step.TheVariants.{Deliver}
 use Rattle.mta_history.specs.declared.verdict.Verdict.TheVariants as Verdicts
 use Rattle.mta_history.specs.Verdict.{recorded, verdict_of_message, verdict_at, attributes_of, hold_time, is_expired}
 use Rattle.mta_history.specs.Items.{ItemValue, numbered}

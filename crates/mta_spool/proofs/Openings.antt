@@ -6,7 +6,7 @@ use Rattle.mta_journal.specs.Shown.{Shown as JournalShown, Holds}
 use Rattle.mta_journal.specs.Opening.{HasRefused as IsNotOpened, IsLeft, LongStays}
 use Rattle.mta_journal.specs.declared.why.OpenWhy.{OpenWhy}
 use Rattle.mta_journal.specs.declared.why.OpenWhy.TheVariants as Whys
-use Rattle.mta_records.specs.declared.step.Step.{Step}
+use Rattle.mta_first_records.specs.declared.step.Step.{Step}
 use Rattle.mta_history.specs.History.{State}
 use Rattle.mta_history.specs.Image.{StandsFor}
 use Rattle.mta_spool.specs.Opening.{HasRefused, OpensSafely}

@@ -3,12 +3,12 @@ use Rattle.std.proofs.Common.{◌≡◌, ◌≢◌, ℕ, zero, suc, ◌+◌, ◌
 use Rattle.std.specs.Prelude.{slice_get}
 use Rattle.std.proofs.lemmas.Bool.{cases_lt, lt-ltb}
 use Rattle.std.proofs.lemmas.List.{length-append}
-use Rattle.mta_records.specs.Body.{recipient_fields}
+use Rattle.mta_first_records.specs.Body.{recipient_fields}
 use Rattle.mta_apdu.specs.Apdus.{longest_apdu}
 use Rattle.mta_tables.specs.Reading.{Bad}
 use Rattle.mta_spool.specs.declared.kept.Kept.{Kept}
 use Rattle.mta_spool.specs.Current.{IsSound}
-use Rattle.mta_records.specs.declared.step.Step.TheVariants as Steps
+use Rattle.mta_first_records.specs.declared.step.Step.TheVariants as Steps
 use Rattle.mta_tables.specs.Tables.{TablesValue, tables_of}
 use Rattle.mta_history.specs.declared.item.Status.{Status}
 use Rattle.mta_history.specs.declared.item.Status.TheVariants.{Delivered}

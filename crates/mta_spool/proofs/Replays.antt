@@ -3,8 +3,8 @@ use Rattle.std.proofs.Common.{◌≡◌, ℕ, zero, suc, ◌+◌, ◌≤◌, ◌
 use Rattle.std.specs.Prelude.{IsOk}
 use Rattle.std.specs.List.{flat_map}
 use Rattle.std.proofs.lemmas.List.{length-append, take-append-drop}
-use Rattle.mta_records.specs.declared.step.Step.{Step}
-use Rattle.mta_records.specs.Body.{body_of}
+use Rattle.mta_first_records.specs.declared.step.Step.{Step}
+use Rattle.mta_first_records.specs.Body.{body_of}
 use Rattle.mta_history.specs.History.{State, IsPossible, after_step, empty}
 use Rattle.mta_journal.specs.Bodies.{longest_body, magic, front, open_record, AreShort}
 use Rattle.mta_history.specs.Image.{StopsAt, size_of}

@@ -1,8 +1,8 @@
 -- The state in memory, and what a step changes of it.
 use Rattle.std.specs.Prelude.{◌≡◌, ℕ, ◌+◌, ◌≤◌, ◌<◌, ◌^◌, List, [], ◌∷◌, ◌++◌, length, Option, Some, None, vec_len, vec_capacity}
-use Rattle.mta_records.specs.Body.{last_moment}
-use Rattle.mta_records.specs.declared.step.Step.{Step}
-use Rattle.mta_records.specs.declared.step.Step.TheVariants as Steps
+use Rattle.mta_first_records.specs.Body.{last_moment}
+use Rattle.mta_first_records.specs.declared.step.Step.{Step}
+use Rattle.mta_first_records.specs.declared.step.Step.TheVariants as Steps
 use Rattle.mta_tables.specs.Tables.{TablesValue}
 use Rattle.mta_history.specs.declared.item.Status.{Status}
 use Rattle.mta_history.specs.Apdu.{IsApdu, statuses_at_first}

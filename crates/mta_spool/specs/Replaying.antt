@@ -1,7 +1,7 @@
 -- What replaying bodies gives.
 use Rattle.std.specs.Prelude.{◌≡◌, ℕ, List, map, Result, Ok, Err, IsOk, IsErrOf}
-use Rattle.mta_records.specs.declared.step.Step.{Step}
-use Rattle.mta_records.specs.Body.{body_of, HasFields}
+use Rattle.mta_first_records.specs.declared.step.Step.{Step}
+use Rattle.mta_first_records.specs.Body.{body_of, HasFields}
 use Rattle.mta_history.specs.History.{State, IsHistory, IsPossible, after, after_step}
 use Rattle.mta_history.specs.Image.{AreRecords, StopsAt}
 use Rattle.mta_journal.specs.declared.why.OpenWhy.{OpenWhy}

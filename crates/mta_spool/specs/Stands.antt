@@ -5,10 +5,10 @@ use Rattle.mta_edge.specs.Views.{ClockView, DiskView, StaysTold}
 use Rattle.mta_edge.specs.Crashes.{AtAnyMoment}
 use Rattle.mta_journal.specs.Shown.{Shown as JournalShown, Holds}
 use Rattle.mta_journal.specs.Appending.{journal_limit, need_of as need_of_body}
-use Rattle.mta_records.specs.declared.fault.StepFault.{StepFault}
-use Rattle.mta_records.specs.declared.fault.StepFault.TheVariants as StepFaults
-use Rattle.mta_records.specs.declared.step.Step.{Step}
-use Rattle.mta_records.specs.Body.{body_of, last_moment}
+use Rattle.mta_first_records.specs.declared.fault.StepFault.{StepFault}
+use Rattle.mta_first_records.specs.declared.fault.StepFault.TheVariants as StepFaults
+use Rattle.mta_first_records.specs.declared.step.Step.{Step}
+use Rattle.mta_first_records.specs.Body.{body_of, last_moment}
 use Rattle.mta_history.specs.History.{State, after, after_step, IsHistory, IsPossible, numbers_needed}
 use Rattle.mta_history.specs.Image.{AreRecords, StandsFor}
 use Rattle.mta_spool.specs.Shown.{Shown}

@@ -1,10 +1,10 @@
 -- What recording tables and a turn leave.
 use Rattle.std.specs.Prelude.{◌≡◌, ◌⊎◌, ℕ, List, None, Some, Result, Ok, Err, true, false, if◌then◌else◌}
 use Rattle.mta_edge.specs.Views.{DiskView}
-use Rattle.mta_records.specs.declared.step.Step.{Step}
-use Rattle.mta_records.specs.declared.step.Step.TheVariants as Steps
-use Rattle.mta_records.specs.declared.fault.StepFault.{StepFault}
-use Rattle.mta_records.specs.declared.fault.StepFault.TheVariants as StepFaults
+use Rattle.mta_first_records.specs.declared.step.Step.{Step}
+use Rattle.mta_first_records.specs.declared.step.Step.TheVariants as Steps
+use Rattle.mta_first_records.specs.declared.fault.StepFault.{StepFault}
+use Rattle.mta_first_records.specs.declared.fault.StepFault.TheVariants as StepFaults
 use Rattle.mta_history.specs.Verdict.{last_of}
 use Rattle.mta_history.specs.History.{State}
 use Rattle.mta_history.specs.Due.{IsQuiet, IsNext}

@@ -4,8 +4,8 @@
 //! is possible in that room, and cannot fail. The disk is not called.
 
 ghost use Rattle.std.specs.Prelude.{◌≡◌, ◌+◌, ◌<◌, ◌≤◌, ◌^◌, ◌∷◌, ◌++◌, [], length, slice_get, vec_len, vec_capacity, OnOk, Some};
-ghost use Rattle.mta_records.specs.declared.step.Step.TheVariants as Steps;
-ghost use Rattle.mta_records.specs.Body.{HasFields};
+ghost use Rattle.mta_first_records.specs.declared.step.Step.TheVariants as Steps;
+ghost use Rattle.mta_first_records.specs.Body.{HasFields};
 ghost use Rattle.mta_history.specs.declared.item.Origin.TheVariants.{Submitted};
 ghost use Rattle.mta_history.specs.Apdu.{statuses_at_first};
 ghost use Rattle.mta_history.specs.Verdict.{recorded, tables_value};
@@ -17,7 +17,7 @@ ghost use Rattle.mta_spool.specs.Current.{state_of, IsSound, HasRoom, IsChange};
 
 use mta_ber::{Memory, Octets};
 use mta_history::{Item, MailboxLine, Origin, Status, Statuses};
-use mta_records::Step;
+use mta_first_records::Step;
 use mta_tables::Tables;
 use std::alloc::Global;
 

@@ -9,7 +9,7 @@
 //! the step or without it (`Makes` in `specs/Stands.antt`).
 
 ghost use Rattle.std.specs.Prelude.{◌≡◌, ◌≤◌, length, false};
-ghost use Rattle.mta_records.specs.Body.{HasFields, body_of};
+ghost use Rattle.mta_first_records.specs.Body.{HasFields, body_of};
 ghost use Rattle.mta_journal.specs.Bodies.{longest_body};
 ghost use Rattle.mta_history.specs.History.{IsPossible};
 ghost use Rattle.mta_spool.specs.Current.{state_of, IsSound, IsChange};
@@ -19,7 +19,7 @@ ghost use Rattle.mta_spool.specs.Stands.{fault_of, IsSpent, Makes};
 use crate::kept::{Change, Kept};
 use mta_edge::Disk;
 use mta_journal::{AppendFault, Journal};
-use mta_records::{Step, StepFault, write_record};
+use mta_first_records::{Step, StepFault, write_record};
 use std::alloc::Global;
 
 fn step_fault(fault: AppendFault) -> StepFault

@@ -10,7 +10,7 @@
 
 ghost use Rattle.std.specs.Prelude.{◌≡◌, ◌≢◌, ◌≤◌, ◌<◌, ◌+◌, ◌^◌, None, length, IfOk, IfErr, false};
 ghost use Rattle.std.specs.Option.{option_copied};
-ghost use Rattle.mta_records.specs.Body.{HasFields, body_of, last_moment};
+ghost use Rattle.mta_first_records.specs.Body.{HasFields, body_of, last_moment};
 ghost use Rattle.mta_journal.specs.Bodies.{longest_body};
 ghost use Rattle.mta_history.specs.Apdu.{IsApdu};
 ghost use Rattle.mta_history.specs.Items.{numbered};
@@ -24,7 +24,7 @@ use mta_ber::Octets;
 use mta_edge::{Clock, Disk};
 use mta_history::{Item, MailboxLine};
 use mta_journal::Journal;
-use mta_records::{Step, StepFault};
+use mta_first_records::{Step, StepFault};
 use mta_tables::Tables;
 use std::alloc::Global;
 use std::marker::Model;
@@ -62,7 +62,7 @@ impl<D: Disk + Drop, C: Clock + Drop> Model for Spool<D, C> {
 }
 
 impl<D: Disk + Drop, C: Clock + Drop> Spool<D, C> {
-    ghost use Rattle.mta_records.specs.declared.step.Step.TheVariants as Steps;
+    ghost use Rattle.mta_first_records.specs.declared.step.Step.TheVariants as Steps;
     ghost use Rattle.mta_history.specs.Due.{IsNext};
     ghost use Rattle.mta_spool.specs.Current.{IsChange};
     ghost use Rattle.mta_spool.specs.Stands.{Appends, AtMoment, fault_of, IsSpent, IsSpentBy, TellsFewer};

@@ -68,17 +68,17 @@ best_is_one routes n i j r s different h k =
 
 -- ---- the one that is found
 
-on_route : (n : Attributes) (r : Route) → matches n r ≡ true → HasRoute n r.pattern
+pub on_route : (n : Attributes) (r : Route) → matches n r ≡ true → HasRoute n r.pattern
 on_route n r e = (route_decides n r.pattern (matches n r) refl).0 e
 
 matching : (n : Attributes) (r : Route) → HasRoute n r.pattern → matches n r ≡ true
 matching n r h = (route_decides n r.pattern (matches n r) refl).1 h
 
-shorter : (b c : Bool) → (not b || c) ≡ true → b ≡ true → c ≡ true
+pub shorter : (b c : Bool) → (not b || c) ≡ true → b ≡ true → c ≡ true
 shorter true c e h = e
 shorter false c e h = absurd cc
 
-no_shorter : (b c : Bool) → (b ≡ true → c ≡ true) → (not b || c) ≡ true
+pub no_shorter : (b c : Bool) → (b ≡ true → c ≡ true) → (not b || c) ≡ true
 no_shorter true c h = h refl
 no_shorter false c h = refl
 

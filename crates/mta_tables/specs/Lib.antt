@@ -13,3 +13,5 @@ pub mod Hops
 pub mod Laws
 pub mod Whole
 pub mod Surnames
+pub mod Indexes
+pub mod Fronts

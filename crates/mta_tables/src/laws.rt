@@ -1,10 +1,12 @@
 //! Laws of the grammar and of the hops, each the contract of a function that does nothing.
 
-ghost use Rattle.std.specs.Prelude.{◌≡◌, ◌↔◌, ◌++◌, ◌∷◌, ◌+◌, ◌≤◌, List, ℕ, Ok, All, length};
+ghost use Rattle.std.specs.Prelude.{◌≡◌, ◌↔◌, ◌++◌, ◌∷◌, ◌+◌, ◌≤◌, List, ℕ, Ok};
+ghost use Rattle.std.specs.Prelude.{All, length};
 ghost use Rattle.mta_names.specs.declared.attributes.Attributes.{Attributes};
 ghost use Rattle.mta_tables.specs.declared.fault.LineKind.{LineKind};
 ghost use Rattle.mta_tables.specs.declared.hop.Hop.{Hop};
-ghost use Rattle.mta_tables.specs.Grammar.{Row, IsRow, text_of, said_by, IsOneLine, CanStand, IsWrong, IsTablesText, IsFirstBadLine};
+ghost use Rattle.mta_tables.specs.Grammar.{Row, IsRow, text_of, said_by, IsOneLine, CanStand, IsWrong};
+ghost use Rattle.mta_tables.specs.Grammar.{IsTablesText, IsFirstBadLine};
 ghost use Rattle.mta_tables.specs.Hops.{best_hop};
 ghost use Rattle.mta_tables.specs.Laws.{IsBestHop};
 ghost use Rattle.mta_tables.specs.Reading.{bad};

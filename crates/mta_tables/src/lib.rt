@@ -8,6 +8,8 @@ mod domain;
 mod draft;
 mod entry;
 mod fault;
+mod found;
+mod fronts;
 mod hop;
 mod laws;
 mod line;

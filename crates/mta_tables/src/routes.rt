@@ -1,46 +1,43 @@
 //! Routes, in the order of their lines.
 
-ghost use Rattle.std.specs.Prelude.{◌≡◌};
-ghost use Rattle.mta_tables.specs.Hops.{is_no_shorter};
-
 use crate::entry::{Route, Target};
+use crate::found::{has_pattern_at, is_route_of, is_route_of_at};
+use crate::fronts::part_at;
 use crate::hop::Hop;
-use crate::same::{is_on_route, is_same_pattern};
+use crate::same::is_same_pattern;
 use mta_ber::Memory;
+use mta_name_digest::{Places, digest_step, text_digest, texts_digest};
 use mta_name_text::Pattern;
 use mta_names::OrName;
 use std::alloc::Global;
 use std::marker::Model;
 
-/// Whether the route has at least as many parts as the other one, where that one matches the name.
-fn is_no_shorter(route: &Route, other: &Route, name: &OrName) -> bool
-    ensures { result ≡ is_no_shorter name.now route.now other.now }
-{
-    !is_on_route(name, &other.pattern) || other.pattern.parts().len() <= route.pattern.parts().len()
-}
-
-/// Routes, in the order of their lines.
+/// Routes, in the order of their lines, with an index of their patterns.
 #[derive(Debug, Drop)]
 pub struct Routes {
     inner: Vec<Route>,
+    patterns: Places,
 }
 
 impl Model for Routes {
     ghost use Rattle.std.specs.Prelude.{List, ◌≤◌, length};
     ghost use Rattle.mta_tables.specs.declared.entry.Route.{Route};
+    ghost use Rattle.mta_tables.specs.Indexes.{HaveParts, IsIndex, route_pattern};
 
     ghost Value = { List Route };
 
     ghost view = { λ r. r.inner.items };
 
-    ghost invariant = { λ r. length r.inner.items ≤ 4096 };
+    ghost invariant = { λ r. (length r.inner.items ≤ 4096) × HaveParts r.inner.items
+        × IsIndex route_pattern r.inner.items r.patterns };
 }
 
 impl Routes {
-    ghost use Rattle.std.specs.Prelude.{◌≡◌, ◌<◌, ◌≤◌, ◌++◌, [], ◌∷◌, length, OnOk};
-    ghost use Rattle.std.specs.List.{list_any, list_all};
-    ghost use Rattle.std.specs.Option.{option_copied};
-    ghost use Rattle.mta_tables.specs.Hops.{is_no_shorter, is_best, best_entry, to_route};
+    ghost use Rattle.std.specs.Prelude.{◌≡◌, ◌<◌, ◌≤◌, ◌++◌, [], ◌∷◌, length, OnOk, IfSome};
+    ghost use Rattle.std.specs.List.{list_any, position};
+    ghost use Rattle.mta_tables.specs.Fronts.{HaveFront, is_route_of, route_at};
+    ghost use Rattle.mta_tables.specs.Hops.{best_entry, to_route};
+    ghost use Rattle.mta_tables.specs.Indexes.{HaveParts, checked};
     ghost use Rattle.mta_tables.specs.Reading.{has_pattern, route_to};
 
     /// No routes.
@@ -49,6 +46,7 @@ impl Routes {
     {
         Routes {
             inner: Vec::new(alloc),
+            patterns: Places::new(alloc),
         }
     }
 
@@ -61,8 +59,7 @@ impl Routes {
 
     /// The routes, lent.
     pub fn as_slice(&self) -> &[Route]
-        ensures exact { result.now ≡ self.now }
-        ensures few { length self.now ≤ 4096 }
+        ensures { result.now ≡ self.now }
     {
         self.inner.as_slice()
     }
@@ -72,12 +69,46 @@ impl Routes {
         requires { length self.old < 4096 }
         ensures { OnOk result (self.new ≡ self.old ++ route_to pattern target ∷ []) }
     {
+        let place = self.inner.len() as u32;
+        let digest = texts_digest(0, pattern.parts());
+        self.patterns.add(digest, place)?;
         self.inner.push(Route { pattern, target })?;
         Ok(())
     }
 
-    /// Whether one of them has an equal pattern.
-    pub fn has_pattern(&self, pattern: &Pattern) -> bool
+    // The place that the index says, where the route there has an equal pattern.
+    fn checked_pattern(&self, said: Option<u32>, pattern: &Pattern) -> Option<u32>
+        ensures { result ≡ checked (has_pattern pattern.now) self.now said }
+    {
+        match said {
+            None => None,
+            Some(place) => {
+                if has_pattern_at(self.inner.as_slice(), place, pattern) {
+                    Some(place)
+                } else {
+                    None
+                }
+            }
+        }
+    }
+
+    // The place that the index says, where the route there matches the name and has so many parts.
+    fn checked_route(&self, said: Option<u32>, count: usize, name: &OrName) -> Option<u32>
+        ensures { result ≡ checked (is_route_of count name.now) self.now said }
+    {
+        match said {
+            None => None,
+            Some(place) => {
+                if is_route_of_at(self.inner.as_slice(), place, count, name) {
+                    Some(place)
+                } else {
+                    None
+                }
+            }
+        }
+    }
+
+    fn scan_patterns(&self, pattern: &Pattern) -> bool
         ensures { result ≡ list_any (has_pattern pattern.now) self.now }
     {
         self.inner
@@ -85,36 +116,78 @@ impl Routes {
             .any(|r| is_same_pattern(&r.pattern, pattern))
     }
 
-    fn is_longest(&self, route: &Route, name: &OrName) -> bool
-        ensures { result ≡ list_all (is_no_shorter name.now route.now) self.now }
+    fn scan_routes(&self, count: usize, name: &OrName) -> Option<usize>
+        ensures exact { result ≡ position (is_route_of count name.now) self.now }
+        ensures bound { IfSome result (λ place. place < 4096) }
     {
-        self.inner
-            .iter()
-            .all(|other| is_no_shorter(route, other, name))
+        self.inner.iter().position(|r| is_route_of(count, name, r))
     }
 
-    #[tactic(auto, unfolding(crate::specs::Hops::is_best))]
-    fn is_best(&self, route: &Route, name: &OrName) -> bool
-        ensures { result ≡ is_best self.now name.now route.now }
+    /// Whether one of them has an equal pattern.
+    pub fn has_pattern(&self, pattern: &Pattern) -> bool
+        ensures { result ≡ list_any (has_pattern pattern.now) self.now }
     {
-        is_on_route(name, &route.pattern) && self.is_longest(route, name)
+        if self.patterns.is_whole() {
+            let said = self.patterns.of(texts_digest(0, pattern.parts()));
+            return self.checked_pattern(said, pattern).is_some();
+        }
+        self.scan_patterns(pattern)
     }
 
-    fn best(&self, name: &OrName) -> Option<&Route>
-        ensures { option_copied result ≡ best_entry self.now name.now }
+    // The place of the first that matches the name and has so many parts, where those have this digest.
+    fn of_front(&self, count: usize, digest: u64, name: &OrName) -> Option<u32>
+        requires { HaveFront count name.now digest }
+        ensures { result ≡ position (is_route_of count name.now) self.now }
     {
-        self.inner.iter().find(|route| self.is_best(route, name))
+        if self.patterns.is_whole() {
+            return self.checked_route(self.patterns.of(digest), count, name);
+        }
+        match self.scan_routes(count, name) {
+            Some(place) => Some(place as u32),
+            None => None,
+        }
+    }
+
+    fn have_parts(&self)
+        ensures { HaveParts self.now }
+    {
+        let _count = self.inner.len();
+    }
+
+    // The place of the route that matches and than which no route that matches has more parts: at most eight look-ups.
+    fn best(&self, name: &OrName) -> Option<u32>
+        ensures { route_at self.now result ≡ best_entry self.now name.now }
+    {
+        self.have_parts();
+        let _attributes = name.attributes();
+        let mut best = None;
+        let mut digest = 0;
+        let mut place = 0;
+        while place < 8 {
+            let Some(part) = part_at(name, place) else {
+                return best;
+            };
+            digest = text_digest(digest, part);
+            place += 1;
+            if let Some(longer) = self.of_front(place, digest_step(digest, 2), name) {
+                best = Some(longer);
+            }
+        }
+        best
     }
 
     /// Where the route goes that matches the name and than which no route that matches has more parts.
     pub fn hop_of(&self, name: &OrName) -> Hop
         ensures { result ≡ to_route (best_entry self.now name.now) }
     {
-        match self.best(name) {
+        let Some(place) = self.best(name) else {
+            return Hop::None;
+        };
+        match self.inner.get(place as usize) {
             None => Hop::None,
             Some(route) => match route.target {
                 Target::Here => Hop::None,
-                Target::Peer(place) => Hop::Peer(place),
+                Target::Peer(peer) => Hop::Peer(peer),
             },
         }
     }

@@ -3,9 +3,11 @@
 ghost use Rattle.std.specs.Prelude.{◌≡◌, [], Some, None};
 ghost use Rattle.mta_names.specs.Normal.{is_same_name, is_same_label, is_same_value, is_same_texts, is_same_persons};
 ghost use Rattle.mta_names.specs.Normal.{is_same_pairs};
+ghost use Rattle.mta_tables.specs.Indexes.{digest_of_name};
 ghost use Rattle.mta_tables.specs.Surnames.{label_of, person_of, name_of_surname};
 
 use mta_ber::Text;
+use mta_name_digest::{digest_step, text_digest};
 use mta_names::{Attributes, Label, OrName, Pair, Person, same_text};
 
 fn is_label(label: &Option<Label>, text: &[u8]) -> bool
@@ -91,4 +93,20 @@ pub fn is_of_surname(name: &OrName, country: &[u8], admd: &[u8], surname: &[u8])
     ensures { result ≡ is_same_name name.now (name_of_surname country.now admd.now surname.now) }
 {
     are_of_surname(name.attributes(), country, admd, surname)
+}
+
+/// The digest of the name that has this country, administration domain and surname and nothing else.
+#[tactic(auto, unfolding(mta_name_digest::specs::Digests::name_digest))]
+pub fn surname_digest(country: &[u8], admd: &[u8], surname: &[u8]) -> u64
+    ensures { result ≡ digest_of_name (name_of_surname country.now admd.now surname.now) }
+{
+    let digest = text_digest(text_digest(0, country), admd);
+    // No private domain, no organization, no unit.
+    let digest = digest_step(digest_step(digest_step(digest, 1), 1), 2);
+    let digest = text_digest(digest, surname);
+    // No given name, no initials, no generation qualifier.
+    let digest = digest_step(digest_step(digest_step(digest, 1), 1), 1);
+    // No common name, no network address, no terminal identifier, no user identifier, no domain-defined attribute.
+    let digest = digest_step(digest_step(digest_step(digest, 1), 1), 1);
+    digest_step(digest_step(digest, 1), 2)
 }

@@ -20,6 +20,3 @@ pub use mta_rtse::{Answer, Request};
 pub use next::Next;
 pub use unit::{OpenUnit, Unit};
 pub use writing::write_unit;
-
-#[cfg(test)]
-mod tests;

@@ -4,20 +4,20 @@ use Rattle.std.proofs.lemmas.Bool.{or_parts, or_from}
 use Rattle.mta_lane_send.specs.Half.{last_of}
 use Rattle.mta_lane_recv.specs.Half.{is_done, takes_piece}
 use Rattle.mta_ends.specs.Units.{LaneUnit, Start, Piece, Sync, End, Resume, Discard, SyncAck, EndAck, ResumeAck, DiscardAck, Exception, Completed, Unrecognized, CannotRecover, Accept, Other}
-use Rattle.mta_ends.specs.Pieces.{piece_of, is_last}
+use Rattle.mta_ends.specs.Pieces.{piece_of, is_last, octets_with}
 use Rattle.mta_ends.specs.Sending as s
 use Rattle.mta_ends.specs.Sending.{SendStage, SendEnd, is_transfer, is_accept, stage_put, stage_got}
 use Rattle.mta_ends.specs.Receiving as r
 use Rattle.mta_ends.specs.Receiving.{RecvStage, RecvEnd}
 use Rattle.mta_world.specs.World.{World, Link, Queue, send_end, recv_end, send_part, recv_part, put_on, Takes}
-use Rattle.mta_world.specs.Steps.{with_link, sender_put, sender_got, receiver_took, receiver_put, receiver_found, SenderUses, ReceiverUses, IsConfirming, IsFaulty, octets_with}
+use Rattle.mta_world.specs.Steps.{with_link, sender_put, sender_got, receiver_took, receiver_put, receiver_found, SenderUses, ReceiverUses, IsConfirming, IsFaulty}
 use Rattle.mta_world.proofs.Units.{Each, each-snoc, pending, transfers, transfers-snoc, UpTo, IsSilent, NoEnd}
 use Rattle.mta_world.proofs.Flow.{Flows, flows-snoc, place}
 use Rattle.mta_world.proofs.Talk.{Genuine}
 use Rattle.mta_world.proofs.Moves.{Moves, take-moves}
 use Rattle.mta_world.proofs.Answers.{Answers}
 use Rattle.mta_world.proofs.Sends.{Sends, sends_start, sends_resume, discards_first, discards_started, discards_next, discards_sync, discards_last, discards_resume, sends_piece, sends_last, sends_sync, sends_end, puts-send}
-use Rattle.mta_world.proofs.Takes.{Shrinks, shrinks-same, moves-shrinks, cross-shrinks, take-link, take-send, Finds, at_sync, at_end, finds-shrinks, find-link, find-send}
+use Rattle.mta_world.proofs.Takes.{Shrinks, shrinks-same, moves-shrinks, cross-shrinks, take-link, take-send, Finds, at_piece, at_sync, at_end, finds-shrinks, find-link, find-send}
 use Rattle.mta_world.proofs.Puts.{heard-snoc, bad-good, put-answers, put-link, denied-bad, asked-live, put-send, put-acked, cross-put, answers-shrinks}
 use Rattle.mta_world.proofs.Speaks.{Tells, put-tells, part-unheard, cross-unheard, put-stands, put-parts, put-ended, put-cross_there, put-cross_both, got-parts, got-cross}
 use Rattle.mta_world.proofs.Makes.{link-forgets}
@@ -197,6 +197,16 @@ module _ (spells : List ℕ → Bool) (octets : ℕ → List ℕ) (w : World) (k
   bad-at_sync i j zero piece g t f = absurd (not-zero w.high w.last j t)
   bad-at_sync i j (suc m) piece g t f = front-bad spells w.size octets (last_of w.state) w.high w.last w.pieces w.completed k.receives j m piece (goes j m t) g.0 g.1 f
 
+  bad-at_piece : (i j n : ℕ) (piece : List ℕ) → Genuine w.size octets (Bad P) (r.Held j n piece) → takes_piece w.high w.last j n ≡ true → IsFaulty spells (r.Held j n piece) (octets_with w.pieces n piece) → Bad P j
+  bad-at_piece i j zero piece g t f = absurd (not-zero w.high w.last j t)
+  bad-at_piece i j (suc m) piece g t f = by_last (is_last w.size (octets j) (suc m)) refl
+    where
+      by_last : (b : Bool) → is_last w.size (octets j) (suc m) ≡ b → Bad P j
+      by_last true e =
+          sym (ap spells (whole-octets spells w.size octets (last_of w.state) w.high w.last w.pieces w.completed k.receives j m piece (goes j m t) g e))
+          ∙ ap spells (sym (append-nil (octets_with w.pieces (suc m) piece))) ∙ f []
+      by_last false e = front-bad spells w.size octets (last_of w.state) w.high w.last w.pieces w.completed k.receives j m piece (goes j m t) g e f
+
   bad-at_end : (i j n : ℕ) (piece : List ℕ) → piece ≡ piece_of w.size (octets j) n → is_last w.size (octets j) n ≡ true → takes_piece w.high w.last j n ≡ true → spells (octets_with w.pieces n piece) ≡ false → Bad P j
   bad-at_end i j zero piece g e t f = absurd (not-zero w.high w.last j t)
   bad-at_end i j (suc m) piece g e t f =
@@ -207,15 +217,21 @@ module _ (spells : List ℕ → Bool) (octets : ℕ → List ℕ) (w : World) (k
       let l : Link = w.links i in
       elim mf.0 [
         | inl e ↦
-            find-any i j (subst (λ (z : RecvStage). Finds z (r.Found j) j) (sym e) (at_sync {k = j} {n = n} {o = piece}))
-            (bad-at_sync i j n piece (subst (λ (z : RecvStage). Genuine w.size octets (Bad P) z) e (k.linked.links i).genuine) mf.1
+            find-any i j (subst (λ (z : RecvStage). Finds z (r.Found j) j) (sym e) (at_piece {k = j} {n = n} {o = piece}))
+            (bad-at_piece i j n piece (subst (λ (z : RecvStage). Genuine w.size octets (Bad P) z) e (k.linked.links i).genuine) mf.1
             (subst (λ (z : RecvStage). IsFaulty spells z (octets_with w.pieces n piece)) e f))
-        | inr e ↦
-            (let fl : Flows w.size octets (place (r.Ended j n piece)) (ups (r.Ended j n piece) l.up.way) =
-            subst (λ (z : RecvStage). Flows w.size octets (place z) (ups z l.up.way)) e (k.linked.links i).flows in
-            find-any i j (subst (λ (z : RecvStage). Finds z (r.Found j) j) (sym e) (at_end {k = j} {n = n} {o = piece}))
-            (bad-at_end i j n piece (subst (λ (z : RecvStage). Genuine w.size octets (Bad P) z) e (k.linked.links i).genuine) fl.0.1 mf.1
-            (subst (λ (z : RecvStage). IsFaulty spells z (octets_with w.pieces n piece)) e f)))
+        | inr more ↦ elim more [
+          | inl e ↦
+              find-any i j (subst (λ (z : RecvStage). Finds z (r.Found j) j) (sym e) (at_sync {k = j} {n = n} {o = piece}))
+              (bad-at_sync i j n piece (subst (λ (z : RecvStage). Genuine w.size octets (Bad P) z) e (k.linked.links i).genuine) mf.1
+              (subst (λ (z : RecvStage). IsFaulty spells z (octets_with w.pieces n piece)) e f))
+          | inr e ↦
+              (let fl : Flows w.size octets (place (r.Ended j n piece)) (ups (r.Ended j n piece) l.up.way) =
+              subst (λ (z : RecvStage). Flows w.size octets (place z) (ups z l.up.way)) e (k.linked.links i).flows in
+              find-any i j (subst (λ (z : RecvStage). Finds z (r.Found j) j) (sym e) (at_end {k = j} {n = n} {o = piece}))
+              (bad-at_end i j n piece (subst (λ (z : RecvStage). Genuine w.size octets (Bad P) z) e (k.linked.links i).genuine) fl.0.1 mf.1
+              (subst (λ (z : RecvStage). IsFaulty spells z (octets_with w.pieces n piece)) e f)))
+        ]
       ]
 
   -- The sending end puts a unit ---------------------------------------------------------------------------------

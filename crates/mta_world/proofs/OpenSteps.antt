@@ -322,7 +322,7 @@ module _ (spells : List ℕ → Bool) (octets : ℕ → List ℕ) (w : World) (k
       let o : LinkOk P l = k.linked.links i in
       let fresh : (l.recv.stage ≡ r.Free) × (transfers l.up.way ≡ []) × Each IsSilent (heard_with l.send.heard l.down.way) = o.fresh (o.not_on so off) in
       let silent : Each IsSilent l.down.way = unheard (λ (D : List LaneUnit). Each IsSilent D) (λ u D g. g.1) l.send.heard l.down.way fresh.2 in
-      let v : Link = record l { send_joined = true; send = record { accepted = true; stage = stage_on_link w.state; heard = None } } in
+      let v : Link = record l { send_joined = true; send_stopped = false; send = record { accepted = true; stage = stage_on_link w.state; heard = None } } in
       let none : ups l.recv.stage l.up.way ≡ [] = ap (λ (z : RecvStage). ups z l.up.way) fresh.0 ∙ fresh.1 in
       let x : Option ℕ = Some i in
       let y : Option ℕ = w.recv_link in
@@ -359,7 +359,7 @@ module _ (spells : List ℕ → Bool) (octets : ℕ → List ℕ) (w : World) (k
       let l : Link = w.links i in
       let o : LinkOk P l = k.linked.links i in
       let fresh : (l.recv.stage ≡ r.Free) × (transfers l.up.way ≡ []) × Each IsSilent (heard_with l.send.heard l.down.way) = o.fresh (o.not_joined so off).0 in
-      let v : Link = record l { recv_joined = true; recv = record { stage = r.Free; from = 0; acked = 0 } } in
+      let v : Link = record l { recv_joined = true; recv_stopped = false; recv = record { stage = r.Free; from = 0; acked = 0 } } in
       let x : Option ℕ = w.send_link in
       let y : Option ℕ = Some i in
       moved x y (set_at w.links i v)

@@ -6,13 +6,13 @@ use Rattle.mta_lane_recv.specs.declared.state.Last.{Last}
 use Rattle.mta_lane_recv.specs.declared.state.Last.TheVariants as last
 use Rattle.mta_lane_recv.specs.Half.{is_done, is_partial_of, takes_piece}
 use Rattle.mta_ends.specs.Units.{LaneUnit, Start, Piece, Sync, End, Resume, Discard, SyncAck, EndAck, ResumeAck, DiscardAck, Exception, Completed, Unrecognized, CannotRecover, Accept, Other}
-use Rattle.mta_ends.specs.Pieces.{piece_of, is_last}
+use Rattle.mta_ends.specs.Pieces.{piece_of, is_last, octets_with}
 use Rattle.mta_ends.specs.Sending.{SendStage, is_dropping}
 use Rattle.mta_ends.specs.Receiving as r
 use Rattle.mta_ends.specs.Receiving.{RecvStage}
 use Rattle.mta_world.specs.World.{Message, SendPart}
 use Rattle.mta_world.specs.Agrees.{IsAmong}
-use Rattle.mta_world.specs.Steps.{octets_with, SpellsNothing}
+use Rattle.mta_world.specs.Steps.{SpellsNothing}
 use Rattle.mta_world.proofs.Units.{Each, each-map, each-both, Own, Leftover, HasBegin, Opens, NoEnd}
 use Rattle.mta_world.proofs.Flow.{after}
 use Rattle.mta_world.proofs.Talk.{Phase, At_rest, Before, During, Behind, phase, Active, Talk}

@@ -14,7 +14,8 @@ use Rattle.mta_ends.specs.Receiving as r
 use Rattle.mta_ends.specs.Receiving.{RecvStage, RecvStep}
 use Rattle.mta_world.specs.World.{World, Link, Message, RecvPart, set_at, recv_end}
 use Rattle.mta_world.specs.Agrees.{IsAmong}
-use Rattle.mta_world.specs.Steps.{receiver_made, Spells, octets_with}
+use Rattle.mta_ends.specs.Pieces.{octets_with}
+use Rattle.mta_world.specs.Steps.{receiver_made, Spells}
 use Rattle.mta_world.proofs.Units.{Each, each-map, each-both, transfers, StageUpTo, NoEnd, NoDiscard}
 use Rattle.mta_world.proofs.Talk.{phase, Talk, Genuine}
 use Rattle.mta_world.proofs.Sends.{ending-last}

@@ -84,7 +84,7 @@ module _ (spells : List ℕ → Bool) where
   stepped w v (step.Receiver_takes i x q e uses t m) g octets f = links.took spells octets w (g octets f) i x q e t m
   stepped w v (step.Receiver_puts i x uses m late) g octets f = links.puts spells octets w (g octets f) i x uses m late
   stepped w v (step.Receiver_makes i st uses on m sp) g octets f = recvs.makes spells octets w (g octets f) i on st m sp
-  stepped w v (step.Receiver_finds i k n piece uses on m bad) g octets f = links.finds spells octets w (g octets f) i k n piece m bad
+  stepped w v (step.Receiver_finds i k n piece uses m bad) g octets f = links.finds spells octets w (g octets f) i k n piece m bad
   stepped w v (step.Loses_up i n reach) g octets f = links.unchanged spells octets w (g octets f) i _ ((g octets f).linked.links i) (λ o. o) (λ o. o) (λ y b c. c) (λ x a c. c)
   stepped w v (step.Loses_down i n reach) g octets f = links.unchanged spells octets w (g octets f) i _ ((g octets f).linked.links i) (λ o. o) (λ o. o) (λ y b c. c) (λ x a c. c)
   stepped w v (step.Sender_stops i) g octets f = links.unchanged spells octets w (g octets f) i _ ((g octets f).linked.links i) (λ o. o) (λ o. o) (λ y b c. c) (λ x a c. c)

@@ -9,7 +9,7 @@ use Rattle.mta_ends.specs.Receiving as r
 use Rattle.mta_ends.specs.Receiving.{RecvStage}
 use Rattle.mta_world.specs.World.{SendPart}
 use Rattle.mta_world.proofs.Units.{Each, each-map, pending, transfers, UpTo, StageUpTo, Own, NoEnd, NoDiscard, LastOnly, IsSilent, NoFinish}
-use Rattle.mta_world.proofs.Flow.{Place, Between, Behind_pieces, Skipping, next, after, place, Flows, Order, under-flows}
+use Rattle.mta_world.proofs.Flow.{Place, Between, Behind_pieces, Behind_piece, Skipping, next, after, place, Flows, Order, under-flows}
 use Rattle.mta_world.proofs.Talk.{Phase, At_rest, Before, During, Behind, phase, Rest, Begun, Active, Talk, Names, Finish, Genuine}
 use Rattle.mta_world.proofs.Moves.{Moves, starts, starts_behind, holds, holds_next, skips_piece, syncs, skips_sync, ends, skips_end, asks, discards, discards_next, discards_held, discards_synced, skips_discard, discards_behind, passes_accept, passes_other, before_it, behind_it, moves-each, moves-last, moves-rest, moves-begun}
 use Rattle.mta_world.proofs.Order.{Kept, moves-order, moves-upto}
@@ -146,26 +146,32 @@ module _ (p : Sides) where
   -- Octets are found faulty -----------------------------------------------------------------------------
 
 pub data Finds : RecvStage → RecvStage → ℕ → Type 0 where
+  at_piece : {k n : ℕ} {o : List ℕ} → Finds (r.Held k n o) (r.Found k) k
   at_sync : {k n : ℕ} {o : List ℕ} → Finds (r.Synced k n o) (r.Found k) k
   at_end : {k n : ℕ} {o : List ℕ} → Finds (r.Ended k n o) (r.Found k) k
 
 pub finds-shrinks : (e f : RecvStage) (k : ℕ) (T : List LaneUnit) → Finds e f k → Shrinks (pending e ++ T) (pending f ++ T)
+finds-shrinks e f k T at_piece = shrinks-same T
 finds-shrinks e f k T at_sync = shrinks-same T
 finds-shrinks e f k T (at_end {k = j}) = record { each = λ P g. g.1; last = λ h g. g.1; none = λ g. not_nil (End j) T _ g }
 
 finds-flow : (size : ℕ) (octets : ℕ → List ℕ) (e f : RecvStage) (k : ℕ) (T : List LaneUnit) → Finds e f k → Flows size octets (place e) (pending e ++ T) → Flows size octets (place f) (pending f ++ T)
+finds-flow size octets e f k T (at_piece {n = n}) g = (under-flows size octets (Behind_piece k n) (Skipping k) T (inr (k, refl, refl)) g).0
 finds-flow size octets e f k T (at_sync {n = n}) g = (under-flows size octets (Behind_pieces k n) (Skipping k) T (inr (k, refl, refl)) g).0
 finds-flow size octets e f k T at_end g = (under-flows size octets Between (Skipping k) T (inr (k, refl, tt)) g.1).0
 
 finds-named : (h : ℕ) (e f : RecvStage) (k : ℕ) → Finds e f k → StageUpTo h e → StageUpTo h f
+finds-named h e f k at_piece g = g
 finds-named h e f k at_sync g = g
 finds-named h e f k at_end g = g
 
 finds-bad : (size : ℕ) (octets : ℕ → List ℕ) (bad : ℕ → Type 0) (e f : RecvStage) (k : ℕ) → Finds e f k → bad k → Genuine size octets bad f
+finds-bad size octets bad e f k at_piece b = b
 finds-bad size octets bad e f k at_sync b = b
 finds-bad size octets bad e f k at_end b = b
 
 finds-free : (e f : RecvStage) (k : ℕ) (A : Type 0) → Finds e f k → e ≡ r.Free → A
+finds-free e f k A at_piece g = absurd cc
 finds-free e f k A at_sync g = absurd cc
 finds-free e f k A at_end g = absurd cc
 
@@ -199,10 +205,12 @@ module _ (bad : ℕ → Type 0) (h : ℕ) where
     pub active : is_rest q ≡ false
 
   found-rest : (i : ℕ) (q : Phase) (e f : RecvStage) (k : ℕ) (T D : List LaneUnit) (A : Type 0) → Finds e f k → Rest bad i e (pending e ++ T) → A
+  found-rest i q e f k T D A at_piece t = absurd t.0
   found-rest i q e f k T D A at_sync t = absurd t.0
   found-rest i q e f k T D A at_end t = absurd t.0
 
   found-begun : (e f : RecvStage) (k : ℕ) (T : List LaneUnit) → Finds e f k → Begun bad h e (pending e ++ T) → (k ≡ h) × Each (Own h) (pending f ++ T) × Begun bad h f (pending f ++ T)
+  found-begun e f k T at_piece b = elim b [ inl z ↦ (z.0, z.1, inl (z.0, z.1)) | inr z ↦ absurd z.0 ]
   found-begun e f k T at_sync b = elim b [ inl z ↦ (z.0, z.1, inl (z.0, z.1)) | inr z ↦ absurd z.0 ]
   found-begun e f k T at_end b = elim b [ inl z ↦ (z.0, z.1.1, inl (z.0, z.1.1)) | inr z ↦ absurd z.0 ]
 
@@ -221,6 +229,7 @@ module _ (bad : ℕ → Type 0) (h : ℕ) where
       ]
 
 finds-place : (e f : RecvStage) (k : ℕ) → Finds e f k → place f ≡ Skipping k
+finds-place e f k at_piece = refl
 finds-place e f k at_sync = refl
 finds-place e f k at_end = refl
 

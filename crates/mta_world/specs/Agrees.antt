@@ -1,5 +1,6 @@
 -- What two ends agree on.
-use Rattle.std.specs.Prelude.{◌≡◌, ◌⊎◌, ◌≤◌, ℕ, Bool, true, false, List, [], ◌∷◌, ◌++◌, length}
+use Rattle.std.specs.Prelude.{◌≡◌, ◌⊎◌, ◌≤◌, ℕ, Bool, true, false, List, [], ◌∷◌, ◌++◌}
+use Rattle.std.specs.Prelude.{length}
 use Rattle.mta_lane_send.specs.declared.state.SendState.TheVariants.{Ending}
 use Rattle.mta_world.specs.World.{World, Message, Was_dropped, Was_refused, Was_denied}
 use Rattle.mta_world.specs.Steps.{IsWorldRun}
@@ -34,4 +35,5 @@ EndsAgree = (spells : List ℕ → Bool) (w : World) → IsWorldRun spells w →
 abbrev pub AMessageArrives : Type 0
 AMessageArrives =
     (octets : List ℕ) → 1 ≤ length octets
-    → (w : World) × IsWorldRun (λ o. true) w × (w.completed ≡ record { activity = 1; octets = octets } ∷ []) × (w.sent ≡ w.completed)
+    → (w : World) × IsWorldRun (λ o. true) w × (w.completed ≡ record { activity = 1; octets = octets } ∷ [])
+    × (w.sent ≡ w.completed)

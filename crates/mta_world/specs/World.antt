@@ -1,5 +1,6 @@
 -- The two ends of one half lane, and the links between them.
-use Rattle.std.specs.Prelude.{ℕ, ◌+◌, ◌==◌, if◌then◌else◌, Bool, false, Option, Some, None, List, [], ◌∷◌, ◌++◌}
+use Rattle.std.specs.Prelude.{ℕ, ◌+◌, ◌==◌, if◌then◌else◌, Bool, false, Option, Some, None, List, []}
+use Rattle.std.specs.Prelude.{◌∷◌, ◌++◌}
 use Rattle.mta_lane_send.specs.declared.state.SendState.{SendState}
 use Rattle.mta_lane_send.specs.declared.state.SendState.TheVariants as state
 use Rattle.mta_lane_recv.specs.declared.state.Last.{Last}
@@ -139,5 +140,7 @@ put_on q x = record q { way = q.way ++ x ∷ [] }
 
 -- the unit x is taken from the front
 pub data Takes : Queue → LaneUnit → Queue → Type 0 where
-  Whole : {x : LaneUnit} {rest : List LaneUnit} → Takes (record { way = x ∷ rest; reach = None }) x (record { way = rest; reach = None })
-  Cut : {x : LaneUnit} {rest : List LaneUnit} {n : ℕ} → Takes (record { way = x ∷ rest; reach = Some (n + 1) }) x (record { way = rest; reach = Some n })
+  Whole : {x : LaneUnit} {rest : List LaneUnit}
+      → Takes (record { way = x ∷ rest; reach = None }) x (record { way = rest; reach = None })
+  Cut : {x : LaneUnit} {rest : List LaneUnit} {n : ℕ}
+      → Takes (record { way = x ∷ rest; reach = Some (n + 1) }) x (record { way = rest; reach = Some n })

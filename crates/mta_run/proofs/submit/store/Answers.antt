@@ -1,5 +1,5 @@
 use Rattle.std.proofs.Common.{ℕ, List, refl, subst}
-use Rattle.mta_records.specs.declared.step.Step.TheVariants.{Accept}
+use Rattle.mta_first_records.specs.declared.step.Step.TheVariants.{Accept}
 use Rattle.mta_spool.specs.Stands.{Appends, AtMoment, fault_of}
 use Rattle.mta_run.proofs.Stored.{recording, stored, tables_refused, recorded_there}
 use Rattle.mta_run.proofs.submit.store.Goals as goal

@@ -1,8 +1,9 @@
 -- The one list of the word is changed.
-use Rattle.std.proofs.Common.{◌≡◌, ◌<◌, length, set, Some, sym, ap, ◌∙◌, arith}
+use Rattle.std.proofs.Common.{◌≡◌, ◌<◌, length, set, Some, refl, sym, ap, ◌∙◌, arith}
 use Rattle.std.specs.Prelude.{map}
 use Rattle.std.specs.List.{position}
 use Rattle.mta_tables.specs.Reading.{has_list_word, joined}
+use Rattle.mta_tables.proofs.ListIndexes.{one_changed}
 use Rattle.mta_tables.proofs.Ones.{words_alone, joined_one, joined_none, at_index}
 use Rattle.mta_tables.proofs.lists.Lists.join.Goals as goal
 
@@ -23,3 +24,26 @@ returns-in_ok-push-in-Some c =
     ap (λ x. set ls i (record l { members = x })) c.in_ok-push-in-Some.ensures.ok
     ∙ sym (joined_one w c.args.name ls i l (words_alone w ls c.self.invariant.1) place at)
     ∙ ap (map (joined w c.args.name)) v
+
+-- its word and its name stay
+pub invariant_of-self-in-Some : goal.invariant_of-self-in-Some
+invariant_of-self-in-Some c =
+    let ls = c.self.inside.inner.items in
+    let i = c.in-Some.place in
+    let l = c.index_mut.result.now in
+    let bound = c.in-Some.ensures.bound in
+    let within : i < length ls = omega (arith, ap length c.self.view_is) in
+    let at = at_index ls i l within c.index_mut.ensures.value in
+    one_changed ls i l (record l { members = c.push.new.self }) c.self.inside.words c.self.inside.names
+    c.self.invariant at refl refl
+
+pub invariant_of-self : goal.invariant_of-self
+invariant_of-self c =
+    let ls = c.self.inside.inner.items in
+    let i = c.in-Some.place in
+    let l = c.index_mut.result.now in
+    let bound = c.in-Some.ensures.bound in
+    let within : i < length ls = omega (arith, ap length c.self.view_is) in
+    let at = at_index ls i l within c.index_mut.ensures.value in
+    one_changed ls i l (record l { members = c.push.new.self }) c.self.inside.words c.self.inside.names
+    c.self.invariant at refl refl

@@ -1,0 +1,5 @@
+pub mod Ascending
+pub mod Queues
+pub mod Recipients
+pub mod Relays
+pub mod Scans

@@ -1,0 +1,162 @@
+-- What goes to a peer, found in turn.
+use Rattle.std.proofs.Common.{inl, inr, ◌≡◌, ◌≢◌, ◌≤◌, ◌<◌, ◌+◌, ℕ, Bool, true, false}
+use Rattle.std.proofs.Common.{List, [], ◌∷◌, ◌++◌, Option, Some, None, length, refl, sym, ap, subst}
+use Rattle.std.proofs.Common.{◌∙◌, arith}
+use Rattle.std.specs.Prelude.{◌⊎◌, ◌↔◌}
+use Rattle.std.proofs.lemmas.Bool.{cases_lt}
+use Rattle.mta_records.specs.declared.lane.Batch.{Batch}
+use Rattle.mta_machine.specs.Items.{ItemValue, Machine, names, numbered, is_pending_at}
+use Rattle.mta_machine.specs.Rules.{verdict_of}
+use Rattle.mta_machine.specs.Machine.{last_tables, relay_by, relay_on, relay_at}
+use Rattle.mta_histories.specs.Lanes.{State, activities_of}
+use Rattle.mta_histories.specs.Due.{IsAscending, IsToRelay, IsBatch, IsNoBatch}
+use Rattle.mta_dues.specs.Answers.{AreRelayedUpTo, AreRelayed, NoneRelayedUpTo, IsBatchOf}
+use Rattle.mta_dues.proofs.Ascending.{named_before, named_last, named_more, ascends}
+use Rattle.mta_dues.proofs.Scans.{cases_le, past, not_there, no_such}
+
+-- ---- one recipient
+
+relay_is : (m : Machine) (i r moment : ℕ) (text : List ℕ) (item : ItemValue)
+    → numbered m.tables (last_tables m) ≡ Some text → numbered m.items i ≡ Some item
+    → relay_at m (last_tables m) i r moment ≡ relay_by text (verdict_of text item.octets item.arrival r moment)
+relay_is m i r moment text item text_is item_is =
+    ap (λ (t : Option (List ℕ)). relay_on t (numbered m.items i) r moment) text_is
+    ∙ ap (λ (x : Option ItemValue). relay_on (Some text) x r moment) item_is
+
+pub relayed : (s : State) (i r moment : ℕ) (text peer : List ℕ) (item : ItemValue) (b : Bool)
+    → numbered s.machine.tables (last_tables s.machine) ≡ Some text → numbered s.machine.items i ≡ Some item
+    → is_pending_at s.machine i r ≡ true → activities_of s.lanes.open_lanes i r ≡ 0
+    → (b ≡ true) ↔ (relay_by text (verdict_of text item.octets item.arrival r moment) ≡ Some peer)
+    → (b ≡ true) ↔ IsToRelay s peer moment i r
+relayed s i r moment text peer item b text_is item_is pending free same = (
+  λ does. record {
+    waiting = record { pending = pending; free = free };
+    relayed = relay_is s.machine i r moment text item text_is item_is ∙ same.0 does;
+  },
+  λ to. same.1 (sym (relay_is s.machine i r moment text item text_is item_is) ∙ to.relayed),
+)
+
+pub not_waiting : (s : State) (i r moment : ℕ) (peer : List ℕ)
+    → (is_pending_at s.machine i r ≡ false) ⊎ (activities_of s.lanes.open_lanes i r ≢ 0)
+    → (false ≡ true) ↔ IsToRelay s peer moment i r
+not_waiting s i r moment peer (inl never) =
+    (λ e. absurd cc, λ to. let does = to.waiting.pending in absurd cc)
+not_waiting s i r moment peer (inr busy) = (λ e. absurd cc, λ to. absurd (busy to.waiting.free))
+
+-- ---- the recipients of an item
+
+none_of_none : (s : State) (peer : List ℕ) (moment i r : ℕ) → is_pending_at s.machine i r ≡ false
+    → IsToRelay s peer moment i r → ⊥
+none_of_none s peer moment i r never to = let does = to.waiting.pending in absurd cc
+
+pub relays_at_first : (s : State) (peer : List ℕ) (moment i : ℕ) (item : ItemValue)
+    → numbered s.machine.items i ≡ Some item → AreRelayedUpTo s peer moment i 0 []
+relays_at_first s peer moment i item is = record {
+  ascending = tt;
+  below = λ r e. absurd cc;
+  each = λ r low.
+      let zero_is : r ≡ 0 = omega (arith, low) in
+      let none : numbered item.statuses r ≡ None = rw zero_is refl in
+      (λ e. absurd cc, λ to. absurd (none_of_none s peer moment i r (no_such s.machine i r item is none) to));
+}
+
+pub relays_further : (s : State) (peer : List ℕ) (moment i most : ℕ) (rs : List ℕ) (b : Bool)
+    → AreRelayedUpTo s peer moment i most rs → b ≡ false → (b ≡ true) ↔ IsToRelay s peer moment i (most + 1)
+    → AreRelayedUpTo s peer moment i (most + 1) rs
+relays_further s peer moment i most rs b are isnt same = record {
+  ascending = are.ascending;
+  below = λ r e. let low = are.below r e in omega (arith, low);
+  each = λ r low. at r low (cases_le r most);
+} where
+  at : (r : ℕ) → r ≤ most + 1 → (r ≤ most) ⊎ (most < r)
+      → (names rs r ≡ true) ↔ IsToRelay s peer moment i r
+  at r low (inl below) = are.each r below
+  at r low (inr above) =
+      let is : r ≡ most + 1 = omega (arith, low, above) in (
+        λ e. let under = are.below r e in absurd (omega (arith, under, above)),
+        λ to. let does = same.1 (subst (λ (q : ℕ). IsToRelay s peer moment i q) is to) in absurd cc,
+      )
+
+pub relays_one_more : (s : State) (peer : List ℕ) (moment i most : ℕ) (rs : List ℕ) (b : Bool)
+    → AreRelayedUpTo s peer moment i most rs → b ≡ true → (b ≡ true) ↔ IsToRelay s peer moment i (most + 1)
+    → AreRelayedUpTo s peer moment i (most + 1) (rs ++ (most + 1) ∷ [])
+relays_one_more s peer moment i most rs b are does same = record {
+  ascending = ascends rs (most + 1) are.ascending (λ r e. let low = are.below r e in omega (arith, low));
+  below = λ r e. under r (named_more rs (most + 1) r e);
+  each = λ r low. at r low (cases_le r most);
+} where
+  under : (r : ℕ) → (names rs r ≡ true) ⊎ (r ≡ most + 1) → r ≤ most + 1
+  under r (inl e) = let low = are.below r e in omega (arith, low)
+  under r (inr is) = omega (arith, is)
+
+  at : (r : ℕ) → r ≤ most + 1 → (r ≤ most) ⊎ (most < r)
+      → (names (rs ++ (most + 1) ∷ []) r ≡ true) ↔ IsToRelay s peer moment i r
+  at r low (inl below) = (
+    λ e. elim (named_more rs (most + 1) r e) [
+      | inl before ↦ (are.each r below).0 before
+      | inr is ↦ absurd (omega (arith, is, below))
+    ],
+    λ to. named_before rs (most + 1) r ((are.each r below).1 to),
+  )
+  at r low (inr above) =
+      let is : most + 1 ≡ r = omega (arith, low, above) in (
+        λ e. subst (λ (q : ℕ). IsToRelay s peer moment i q) is (same.0 does),
+        λ to. subst (λ (q : ℕ). names (rs ++ (most + 1) ∷ []) q ≡ true) is (named_last rs (most + 1)),
+      )
+
+pub all_relays : (s : State) (peer : List ℕ) (moment i most : ℕ) (item : ItemValue) (rs : List ℕ)
+    → numbered s.machine.items i ≡ Some item → length item.statuses ≤ most
+    → AreRelayedUpTo s peer moment i most rs → AreRelayed s peer moment i rs
+all_relays s peer moment i most item rs is few are = record {
+  ascending = are.ascending;
+  each = λ r. at r (cases_le r most);
+} where
+  at : (r : ℕ) → (r ≤ most) ⊎ (most < r) → (names rs r ≡ true) ↔ IsToRelay s peer moment i r
+  at r (inl below) = are.each r below
+  at r (inr above) = (
+    λ e. let under = are.below r e in absurd (omega (arith, under, above)),
+    λ to.
+        absurd
+        (none_of_none s peer moment i r
+        (no_such s.machine i r item is (past item.statuses r (omega (arith, few, above)))) to),
+  )
+
+-- ---- items
+
+pub none_at_start : (s : State) (peer : List ℕ) (moment : ℕ) → NoneRelayedUpTo s peer moment 0
+none_at_start s peer moment i r low to =
+    let zero_is : i ≡ 0 = omega (arith, low) in
+    let none : numbered s.machine.items i ≡ None = rw zero_is refl in
+    none_of_none s peer moment i r (not_there s.machine i r none) to
+
+pub none_of_item : (s : State) (peer : List ℕ) (moment i : ℕ) (rs : List ℕ) → NoneRelayedUpTo s peer moment i
+    → AreRelayed s peer moment (i + 1) rs → rs ≡ [] → NoneRelayedUpTo s peer moment (i + 1)
+none_of_item s peer moment i rs before are none j r low to = elim (cases_le j i) [
+  | inl below ↦ before j r below to
+  | inr above ↦ (let is : j ≡ i + 1 = omega (arith, low, above) in
+      let named : names rs r ≡ true =
+      (are.each r).1 (subst (λ (k : ℕ). IsToRelay s peer moment k r) is to) in
+      let nobody : names rs r ≡ false = rw none refl in absurd cc)
+]
+
+pub no_batch : (s : State) (peer : List ℕ) (moment most : ℕ) → length s.machine.items ≤ most
+    → NoneRelayedUpTo s peer moment most → IsBatchOf s peer moment None
+no_batch s peer moment most few none i r to = elim (cases_le i most) [
+  | inl below ↦ none i r below to
+  | inr above ↦
+      none_of_none s peer moment i r
+      (not_there s.machine i r (past s.machine.items i (omega (arith, few, above)))) to
+]
+
+pub a_batch : (s : State) (peer : List ℕ) (moment i : ℕ) (rs : List ℕ) → NoneRelayedUpTo s peer moment i
+    → AreRelayed s peer moment (i + 1) rs → rs ≢ []
+    → IsBatchOf s peer moment (Some (record { item = i + 1; recipients = rs }))
+a_batch s peer moment i rs before are some = record {
+  some_recipients = some;
+  ascending = are.ascending;
+  each = are.each;
+  lowest = λ j r to. at j r to (cases_lt i j);
+} where
+  at : (j r : ℕ) → IsToRelay s peer moment j r → (i < j) ⊎ (j ≤ i) → i + 1 ≤ j
+  at j r to (inl above) = omega (arith, above)
+  at j r to (inr below) = absurd (before j r below to)

@@ -1,0 +1,13 @@
+use Rattle.std.proofs.Common.{◌≤◌, ◌-◌}
+use Rattle.mta_replay.specs.Kept.{state_of}
+use Rattle.mta_dues.specs.Answers.{NoneRelayedUpTo}
+use Rattle.mta_dues.proofs.relay.batch_for.Given as goal
+
+abbrev pub invariant-loop-number : goal.invariant-loop-number
+invariant-loop-number g l = record {
+  within : l.number ≤ l.count;
+  none : NoneRelayedUpTo (state_of l.kept) l.peer l.moment l.number;
+}
+
+abbrev pub decreases-loop-number : goal.decreases-loop-number
+decreases-loop-number g l = l.count - l.number

@@ -1,0 +1,92 @@
+-- What is answered of what is due.
+use Rattle.std.specs.Prelude.{◌≡◌, ◌≤◌, ◌<◌, ◌^◌, ◌&&◌, ◌↔◌, ℕ, Bool, true, List}
+use Rattle.std.specs.Prelude.{length, Option, Some, None}
+use Rattle.mta_ber.specs.Times.{last_moment}
+use Rattle.mta_lane_send.specs.Half.{is_sending, last_of}
+use Rattle.mta_records.specs.declared.step.Step.{Step}
+use Rattle.mta_records.specs.declared.lane.Batch.{Batch}
+use Rattle.mta_procedures.specs.declared.verdict.Verdict.{Verdict}
+use Rattle.mta_machine.specs.Items.{ItemValue, names}
+use Rattle.mta_histories.specs.Lanes.{Lane, State, is_for}
+use Rattle.mta_histories.specs.Due.{IsDue, IsQuiet, IsNext, IsAscending, IsToRelay, IsBatch, IsNoBatch, IsRoutedTo}
+use Rattle.mta_histories.specs.Due.{step_of}
+
+-- the item arrived up to the last moment of 2049, and its recipients have numbers
+pub record IsStored (item : ItemValue) : Type 0 where
+  pub arrived : item.arrival ≤ last_moment
+  pub few : length item.statuses < 2 ^ 32
+
+-- the step that is due of a recipient, or none
+abbrev pub IsDueOf : State → (i r moment : ℕ) → Option Step → Type 0
+IsDueOf s i r moment None = (due : Step) → IsDue s i r moment due → ⊥
+IsDueOf s i r moment (Some due) = IsDue s i r moment due
+
+-- the due step of the lowest item and recipient, or none
+abbrev pub IsNextOf : State → ℕ → Option Step → Type 0
+IsNextOf s moment None = IsQuiet s moment
+IsNextOf s moment (Some due) = IsNext s moment due
+
+-- the step that a verdict calls for, or none
+abbrev pub step_by : Option Verdict → ℕ → ℕ → ℕ → Option Step
+step_by None i r moment = None
+step_by (Some v) i r moment = step_of v i r moment
+
+-- the activity of the lane is in Sending, and for this recipient
+abbrev pub is_sending_for : ℕ → ℕ → Lane → Bool
+is_sending_for i r lane = is_sending lane.sending (last_of lane.sending) && is_for i r lane.transfer
+
+-- the recipients of an item below or at a number, of which none is due
+abbrev pub NoneDueUpTo : State → (i most moment : ℕ) → Type 0
+NoneDueUpTo s i most moment = (r : ℕ) (due : Step) → r ≤ most → IsDue s i r moment due → ⊥
+
+-- the items below or at a number, of which nothing is due
+abbrev pub NothingDueUpTo : State → (most moment : ℕ) → Type 0
+NothingDueUpTo s most moment = (i r : ℕ) (due : Step) → i ≤ most → IsDue s i r moment due → ⊥
+
+-- the lowest recipient of an item of whom something is due
+pub record IsFirstIn (s : State) (i moment : ℕ) (due : Step) : Type 0 where
+  pub recipient : ℕ
+  pub is_due : IsDue s i recipient moment due
+  pub lowest : (r : ℕ) (other : Step) → r < recipient → IsDue s i r moment other → ⊥
+
+abbrev pub IsFirstOf : State → (i moment : ℕ) → Option Step → Type 0
+IsFirstOf s i moment None = (r : ℕ) (due : Step) → IsDue s i r moment due → ⊥
+IsFirstOf s i moment (Some due) = IsFirstIn s i moment due
+
+-- ---- what goes to a peer
+
+-- the ascending recipients up to a number that are to be relayed to the peer
+pub record AreRelayedUpTo (s : State) (peer : List ℕ) (moment i most : ℕ) (rs : List ℕ) : Type 0 where
+  pub ascending : IsAscending rs
+  pub below : (r : ℕ) → names rs r ≡ true → r ≤ most
+  pub each : (r : ℕ) → r ≤ most → (names rs r ≡ true) ↔ IsToRelay s peer moment i r
+
+-- the ascending recipients of an item that are to be relayed to the peer
+pub record AreRelayed (s : State) (peer : List ℕ) (moment i : ℕ) (rs : List ℕ) : Type 0 where
+  pub ascending : IsAscending rs
+  pub each : (r : ℕ) → (names rs r ≡ true) ↔ IsToRelay s peer moment i r
+
+-- no item up to a number has a recipient to relay to the peer
+abbrev pub NoneRelayedUpTo : State → List ℕ → (moment most : ℕ) → Type 0
+NoneRelayedUpTo s peer moment most = (i r : ℕ) → i ≤ most → IsToRelay s peer moment i r → ⊥
+
+-- the lowest item with recipients to relay to the peer and all those, or none
+abbrev pub IsBatchOf : State → List ℕ → ℕ → Option Batch → Type 0
+IsBatchOf s peer moment None = IsNoBatch s peer moment
+IsBatchOf s peer moment (Some batch) = IsBatch s peer moment batch.item batch.recipients
+
+-- ---- what waits for a peer
+
+-- some recipient of the item waits for the peer
+abbrev pub HasRouted : State → List ℕ → ℕ → Type 0
+HasRouted s peer i = (r : ℕ) × IsRoutedTo s peer i r
+
+-- no recipient up to a number waits for the peer
+abbrev pub NoneRoutedUpTo : State → List ℕ → (i most : ℕ) → Type 0
+NoneRoutedUpTo s peer i most = (r : ℕ) → r ≤ most → IsRoutedTo s peer i r → ⊥
+
+-- the ascending items up to a number of which a recipient waits for the peer
+pub record AreQueuedUpTo (s : State) (peer : List ℕ) (most : ℕ) (items : List ℕ) : Type 0 where
+  pub ascending : IsAscending items
+  pub below : (i : ℕ) → names items i ≡ true → i ≤ most
+  pub each : (i : ℕ) → i ≤ most → (names items i ≡ true) ↔ HasRouted s peer i

@@ -1,0 +1,184 @@
+//! What is due of one recipient.
+
+ghost use Rattle.std.specs.Prelude.{◌≡◌, ◌≢◌, ◌≤◌, IfOk, Some, true};
+ghost use Rattle.std.specs.Option.{option_copied};
+ghost use Rattle.std.specs.List.{find};
+ghost use Rattle.mta_ber.specs.Times.{last_moment};
+ghost use Rattle.mta_machine.specs.Items.{is_pending_at, numbered};
+ghost use Rattle.mta_machine.specs.Machine.{last_tables, verdict_on};
+ghost use Rattle.mta_histories.specs.Lanes.{activities_of};
+ghost use Rattle.mta_histories.specs.Kept.{IsKept};
+ghost use Rattle.mta_items.specs.Parts.{machine_of};
+ghost use Rattle.mta_replay.specs.Kept.{state_of};
+ghost use Rattle.mta_dues.specs.Answers.{IsDueOf, is_sending_for, step_by};
+
+use crate::rules::Rules;
+use mta_ber::Memory;
+use mta_lanes::{Lane, Lanes};
+use mta_machine::Item;
+use mta_procedures::Verdict;
+use mta_records::Step;
+use mta_replay::Kept;
+use std::alloc::Global;
+
+// The verdict on a recipient of an item. A report to a list that cannot be passed back goes no further.
+fn verdict_on<R: Rules>(
+    alloc: Global,
+    rules: &R,
+    items: &[Item],
+    item: &Item,
+    recipient: u32,
+    moment: u64,
+) -> Result<Option<Verdict>, Memory>
+    requires { item.now.arrival ≤ last_moment }
+    ensures { let text = Some (R.text rules.now) in
+        IfOk result (λ v. v ≡ verdict_on items.now text (Some item.now) recipient moment) }
+{
+    let verdict = rules.verdict(alloc, item.octets(), item.arrival(), recipient, moment)?;
+    match verdict {
+        Some(Verdict::Back) => {
+            if rules.passes_back(alloc, items, item)? {
+                Ok(Some(Verdict::Back))
+            } else {
+                Ok(Some(Verdict::Discard))
+            }
+        }
+        other => Ok(other),
+    }
+}
+
+// The step that a verdict calls for at once.
+fn step_by(verdict: Option<Verdict>, item: u32, recipient: u32, moment: u64) -> Option<Step>
+    ensures { result ≡ step_by verdict item recipient moment }
+{
+    match verdict {
+        None => None,
+        Some(Verdict::Deliver(_)) => Some(Step::Deliver {
+            item,
+            recipient,
+            moment,
+        }),
+        Some(Verdict::Expand(_)) => Some(Step::Expand {
+            item,
+            recipient,
+            moment,
+        }),
+        Some(Verdict::Relay(_)) => None,
+        Some(Verdict::Affirm) => Some(Step::Affirm {
+            item,
+            recipient,
+            moment,
+        }),
+        Some(Verdict::NonDeliver { .. }) => Some(Step::Report {
+            item,
+            recipient,
+            moment,
+        }),
+        Some(Verdict::Hold(_)) => None,
+        Some(Verdict::Back) => Some(Step::Back {
+            item,
+            recipient,
+            moment,
+        }),
+        Some(Verdict::Discard) => Some(Step::Discard {
+            item,
+            recipient,
+            moment,
+        }),
+    }
+}
+
+// The open lane whose activity is in Sending and is for this recipient.
+fn sending_for(lanes: &Lanes, item: u32, recipient: u32) -> Option<&Lane>
+    ensures { option_copied result ≡ find (is_sending_for item recipient) lanes.now.open_lanes.items }
+{
+    lanes
+        .open_lanes
+        .iter()
+        .find(|lane| lane.is_sending_for(item, recipient))
+}
+
+// What is due of a recipient who is in an activity.
+#[tactic(auto, using(crate::proofs::Recipients::none_sending, crate::proofs::Recipients::not_expired, crate::proofs::Recipients::abandoned))]
+fn due_in_activity<R: Rules>(
+    alloc: Global,
+    rules: &R,
+    kept: &Kept,
+    number: u32,
+    item: &Item,
+    recipient: u32,
+    moment: u64,
+) -> Result<Option<Step>, Memory>
+    requires text { let m = machine_of kept.now.parts in numbered m.tables (last_tables m) ≡ Some (R.text rules.now) }
+    requires kept { IsKept (state_of kept.now) }
+    requires item { numbered kept.now.parts.items.items number ≡ Some item.now }
+    requires arrived { item.now.arrival ≤ last_moment }
+    requires busy { activities_of kept.now.lanes.open_lanes.items number recipient ≢ 0 }
+    ensures { IfOk result (IsDueOf (state_of kept.now) number recipient moment) }
+{
+    match sending_for(&kept.lanes, number, recipient) {
+        None => Ok(None),
+        Some(lane) => {
+            if rules.has_expired(alloc, item.octets(), item.arrival(), moment)? {
+                Ok(Some(Step::Abandon {
+                    lane: lane.number(),
+                    activity: lane.activity(),
+                    moment,
+                }))
+            } else {
+                Ok(None)
+            }
+        }
+    }
+}
+
+// What is due of a recipient who is pending and in no activity.
+#[tactic(auto, using(crate::proofs::Recipients::by_verdict))]
+fn due_while_free<R: Rules>(
+    alloc: Global,
+    rules: &R,
+    kept: &Kept,
+    number: u32,
+    item: &Item,
+    recipient: u32,
+    moment: u64,
+) -> Result<Option<Step>, Memory>
+    requires text { let m = machine_of kept.now.parts in numbered m.tables (last_tables m) ≡ Some (R.text rules.now) }
+    requires item { numbered kept.now.parts.items.items number ≡ Some item.now }
+    requires arrived { item.now.arrival ≤ last_moment }
+    requires pending { is_pending_at (machine_of kept.now.parts) number recipient ≡ true }
+    requires free { activities_of kept.now.lanes.open_lanes.items number recipient ≡ 0 }
+    ensures { IfOk result (IsDueOf (state_of kept.now) number recipient moment) }
+{
+    let items = kept.parts.items.as_slice();
+    let verdict = verdict_on(alloc, rules, items, item, recipient, moment)?;
+    Ok(step_by(verdict, number, recipient, moment))
+}
+
+/// What is due of a recipient of an item at a moment: none where nothing is.
+#[tactic(auto, using(crate::proofs::Recipients::not_pending))]
+pub fn due_of<R: Rules>(
+    alloc: Global,
+    rules: &R,
+    kept: &Kept,
+    number: u32,
+    item: &Item,
+    recipient: u32,
+    moment: u64,
+) -> Result<Option<Step>, Memory>
+    requires text { let m = machine_of kept.now.parts in numbered m.tables (last_tables m) ≡ Some (R.text rules.now) }
+    requires kept { IsKept (state_of kept.now) }
+    requires item { numbered kept.now.parts.items.items number ≡ Some item.now }
+    requires arrived { item.now.arrival ≤ last_moment }
+    ensures { IfOk result (IsDueOf (state_of kept.now) number recipient moment) }
+{
+    let pending = kept.parts.is_pending(number, recipient);
+    if !pending {
+        return Ok(None);
+    }
+    if kept.lanes.is_free(number, recipient) {
+        due_while_free(alloc, rules, kept, number, item, recipient, moment)
+    } else {
+        due_in_activity(alloc, rules, kept, number, item, recipient, moment)
+    }
+}

@@ -1,0 +1,106 @@
+//! What waits for a peer, found by looking at each recipient of each item in turn.
+
+ghost use Rattle.std.specs.Prelude.{◌≡◌, ◌≤◌, ◌<◌, ◌^◌, ◌↔◌, IfOk, IsTrue, Some, length};
+ghost use Rattle.std.specs.List.{All};
+ghost use Rattle.mta_machine.specs.Items.{numbered};
+ghost use Rattle.mta_machine.specs.Machine.{last_tables};
+ghost use Rattle.mta_histories.specs.Due.{HasQueue, IsQueue, IsRoutedTo};
+ghost use Rattle.mta_items.specs.Parts.{machine_of};
+ghost use Rattle.mta_replay.specs.Kept.{state_of};
+ghost use Rattle.mta_dues.specs.Answers.{HasRouted, IsStored};
+
+use crate::rules::Rules;
+use mta_ber::{Memory, Word};
+use mta_machine::Item;
+use mta_records::Recipients;
+use mta_replay::Kept;
+use std::alloc::Global;
+
+// Whether a recipient of an item is pending, in no activity, and has a name whose best route leads to the peer.
+#[tactic(auto, using(crate::proofs::Queues::is_routed, crate::proofs::Queues::not_routed))]
+fn is_routed<R: Rules>(
+    alloc: Global,
+    rules: &R,
+    kept: &Kept,
+    number: u32,
+    item: &Item,
+    recipient: u32,
+    peer: &[u8],
+) -> Result<bool, Memory>
+    requires text { let m = machine_of kept.now.parts in numbered m.tables (last_tables m) ≡ Some (R.text rules.now) }
+    requires item { numbered kept.now.parts.items.items number ≡ Some item.now }
+    ensures { IfOk result (λ b. IsTrue b ↔ IsRoutedTo (state_of kept.now) peer.now number recipient) }
+{
+    if !kept.parts.is_pending(number, recipient) || !kept.lanes.is_free(number, recipient) {
+        return Ok(false);
+    }
+    rules.routes_to(alloc, item.octets(), recipient, peer)
+}
+
+// Whether some recipient of an item waits for the peer.
+#[tactic(auto, using(crate::proofs::Queues::unrouted_at_first, crate::proofs::Queues::unrouted_further, crate::proofs::Queues::all_unrouted, crate::proofs::Queues::some_routed))]
+fn has_routed<R: Rules>(
+    alloc: Global,
+    rules: &R,
+    kept: &Kept,
+    number: u32,
+    item: &Item,
+    peer: &[u8],
+) -> Result<bool, Memory>
+    requires text { let m = machine_of kept.now.parts in numbered m.tables (last_tables m) ≡ Some (R.text rules.now) }
+    requires item { numbered kept.now.parts.items.items number ≡ Some item.now }
+    requires stored { IsStored item.now }
+    ensures { IfOk result (λ b. IsTrue b ↔ HasRouted (state_of kept.now) peer.now number) }
+{
+    let count = item.statuses().len() as u32;
+    let mut recipient: u32 = 0;
+    while recipient < count {
+        recipient += 1;
+        if is_routed(alloc, rules, kept, number, item, recipient, peer)? {
+            return Ok(true);
+        }
+    }
+    Ok(false)
+}
+
+// The items of which a recipient waits for the peer.
+#[tactic(auto, using(crate::proofs::Queues::queue_at_first, crate::proofs::Queues::queue_further, crate::proofs::Queues::queue_one_more, crate::proofs::Queues::whole_queue))]
+fn queued<R: Rules>(alloc: Global, rules: &R, kept: &Kept, peer: &[u8]) -> Result<Vec<u32>, Memory>
+    requires text { let m = machine_of kept.now.parts in numbered m.tables (last_tables m) ≡ Some (R.text rules.now) }
+    requires stored { All IsStored kept.now.parts.items.items }
+    requires numbers { length kept.now.parts.items.items < 2 ^ 32 }
+    ensures { IfOk result (λ items. IsQueue (state_of kept.now) peer.now items.items) }
+{
+    let items = kept.parts.items.as_slice();
+    let count = items.len() as u32;
+    let mut numbers: Vec<u32> = Vec::new(alloc);
+    let mut number: u32 = 0;
+    while number < count {
+        let item = &items[number as usize];
+        number += 1;
+        if has_routed(alloc, rules, kept, number, item, peer)? {
+            numbers.push(number)?;
+        }
+    }
+    Ok(numbers)
+}
+
+/// The items of which a recipient waits for the peer, by ascending numbers; none where the tables do not name the peer.
+#[tactic(auto, using(crate::proofs::Queues::has_queue, crate::proofs::Queues::no_queue))]
+pub fn waiting<R: Rules>(
+    alloc: Global,
+    rules: &R,
+    kept: &Kept,
+    peer: &Word,
+) -> Result<Option<Recipients>, Memory>
+    requires text { let m = machine_of kept.now.parts in numbered m.tables (last_tables m) ≡ Some (R.text rules.now) }
+    requires stored { All IsStored kept.now.parts.items.items }
+    requires numbers { length kept.now.parts.items.items < 2 ^ 32 }
+    ensures { IfOk result (HasQueue (state_of kept.now) peer.now) }
+{
+    if !rules.names_peer(peer.as_slice()) {
+        return Ok(None);
+    }
+    let numbers = queued(alloc, rules, kept, peer.as_slice())?;
+    Ok(Some(Recipients::from_vec(numbers)))
+}

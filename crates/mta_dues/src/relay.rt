@@ -1,0 +1,129 @@
+//! What goes to a peer next, found by looking at each recipient of each item in turn.
+
+ghost use Rattle.std.specs.Prelude.{◌≡◌, ◌≢◌, ◌≤◌, ◌<◌, ◌^◌, ◌↔◌, [], true, false};
+ghost use Rattle.std.specs.Prelude.{IfOk, IsTrue, Some, length};
+ghost use Rattle.std.specs.List.{All};
+ghost use Rattle.mta_ber.specs.Times.{last_moment};
+ghost use Rattle.mta_machine.specs.Items.{ItemValue, numbered};
+ghost use Rattle.mta_machine.specs.Rules.{verdict_of};
+ghost use Rattle.mta_machine.specs.Machine.{last_tables, relay_by};
+ghost use Rattle.mta_histories.specs.Due.{IsToRelay};
+ghost use Rattle.mta_items.specs.Parts.{machine_of};
+ghost use Rattle.mta_replay.specs.Kept.{state_of};
+ghost use Rattle.mta_dues.specs.Answers.{AreRelayed, IsBatchOf, IsStored};
+
+use crate::rules::Rules;
+use mta_ber::{Memory, Word};
+use mta_machine::Item;
+use mta_procedures::Verdict;
+use mta_records::{Batch, Recipients};
+use mta_replay::Kept;
+use std::alloc::Global;
+
+// Whether a verdict relays to the peer.
+fn relays_to<R: Rules>(rules: &R, verdict: Option<Verdict>, peer: &[u8]) -> bool
+    ensures { IsTrue result ↔ (relay_by (R.text rules.now) verdict ≡ Some peer.now) }
+{
+    let Some(Verdict::Relay(place)) = verdict else {
+        return false;
+    };
+    match rules.peer_at(place) {
+        Some(word) => word == peer,
+        None => false,
+    }
+}
+
+/// Whether a recipient of an item is pending, in no activity, and has a verdict that relays to the peer.
+#[tactic(auto, using(crate::proofs::Relays::relayed, crate::proofs::Relays::not_waiting))]
+pub fn is_to_relay<R: Rules>(
+    alloc: Global,
+    rules: &R,
+    kept: &Kept,
+    number: u32,
+    item: &Item,
+    recipient: u32,
+    peer: &[u8],
+    moment: u64,
+) -> Result<bool, Memory>
+    requires text { let m = machine_of kept.now.parts in numbered m.tables (last_tables m) ≡ Some (R.text rules.now) }
+    requires item { numbered kept.now.parts.items.items number ≡ Some item.now }
+    requires arrived { item.now.arrival ≤ last_moment }
+    ensures { IfOk result (λ b. IsTrue b ↔ IsToRelay (state_of kept.now) peer.now moment number recipient) }
+{
+    if !kept.parts.is_pending(number, recipient) || !kept.lanes.is_free(number, recipient) {
+        return Ok(false);
+    }
+    let verdict = rules.verdict(alloc, item.octets(), item.arrival(), recipient, moment)?;
+    Ok(relays_to(rules, verdict, peer))
+}
+
+// The recipients of an item that are to be relayed to the peer.
+#[tactic(auto, using(crate::proofs::Relays::relays_at_first, crate::proofs::Relays::relays_further, crate::proofs::Relays::relays_one_more, crate::proofs::Relays::all_relays))]
+fn recipients_for<R: Rules>(
+    alloc: Global,
+    rules: &R,
+    kept: &Kept,
+    number: u32,
+    item: &Item,
+    peer: &[u8],
+    moment: u64,
+) -> Result<Vec<u32>, Memory>
+    requires text { let m = machine_of kept.now.parts in numbered m.tables (last_tables m) ≡ Some (R.text rules.now) }
+    requires item { numbered kept.now.parts.items.items number ≡ Some item.now }
+    requires stored { IsStored item.now }
+    ensures { IfOk result (λ rs. AreRelayed (state_of kept.now) peer.now moment number rs.items) }
+{
+    let count = item.statuses().len() as u32;
+    let mut recipients: Vec<u32> = Vec::new(alloc);
+    let mut recipient: u32 = 0;
+    while recipient < count {
+        recipient += 1;
+        if is_to_relay(alloc, rules, kept, number, item, recipient, peer, moment)? {
+            recipients.push(recipient)?;
+        }
+    }
+    Ok(recipients)
+}
+
+fn has_some(recipients: &Vec<u32>) -> bool
+    ensures none { result ≡ false → recipients.now.items ≡ [] }
+    ensures some { result ≡ true → recipients.now.items ≢ [] }
+{
+    match recipients.as_slice() {
+        [] => false,
+        [_, ..] => true,
+    }
+}
+
+/// The lowest item with recipients to relay to the peer, and all those; none where there is no such item.
+#[tactic(auto, using(crate::proofs::Relays::none_at_start, crate::proofs::Relays::none_of_item, crate::proofs::Relays::no_batch, crate::proofs::Relays::a_batch))]
+pub fn batch_for<R: Rules>(
+    alloc: Global,
+    rules: &R,
+    kept: &Kept,
+    peer: &Word,
+    moment: u64,
+) -> Result<Option<Batch>, Memory>
+    requires text { let m = machine_of kept.now.parts in numbered m.tables (last_tables m) ≡ Some (R.text rules.now) }
+    requires stored { All IsStored kept.now.parts.items.items }
+    requires numbers { length kept.now.parts.items.items < 2 ^ 32 }
+    ensures { IfOk result (IsBatchOf (state_of kept.now) peer.now moment) }
+{
+    let word = peer.as_slice();
+    let items = kept.parts.items.as_slice();
+    let count = items.len() as u32;
+    let mut number: u32 = 0;
+    while number < count {
+        let item = &items[number as usize];
+        number += 1;
+        let recipients = recipients_for(alloc, rules, kept, number, item, word, moment)?;
+        let found = has_some(&recipients);
+        if found {
+            return Ok(Some(Batch {
+                item: number,
+                recipients: Recipients::from_vec(recipients),
+            }));
+        }
+    }
+    Ok(None)
+}

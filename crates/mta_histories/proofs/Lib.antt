@@ -1,0 +1,12 @@
+pub mod LaneLists
+pub mod Halves
+pub mod Held
+pub mod Rows
+pub mod Keeps
+pub mod Falls
+pub mod Runs
+pub mod Started
+pub mod Dues
+pub mod Shown
+pub mod Seeing
+pub mod Needed

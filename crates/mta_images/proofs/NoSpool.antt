@@ -1,0 +1,77 @@
+-- An image that is no spool stands for no history, and is none at one place only.
+use Rattle.std.proofs.Common.{◌≡◌, ℕ, List, [], ◌∷◌, ◌++◌, length, map, drop, refl, sym, ap, subst}
+use Rattle.std.proofs.Common.{◌∙◌, inl, inr}
+use Rattle.mta_journal.specs.Bodies.{front}
+use Rattle.mta_journal.proofs.Unique.{one_list, not_both, one_place}
+use Rattle.mta_records.specs.declared.step.Step.{Step}
+use Rattle.mta_records.specs.Body.{body_of, HasFields}
+use Rattle.mta_records.proofs.Records.{body_same}
+use Rattle.mta_histories.specs.Lanes.{State, empty}
+use Rattle.mta_histories.specs.History.{IsPossible, ArePossible, after_from, after_step}
+use Rattle.mta_images.specs.Image.{AreRecords, StandsFor, StopsAt, NoSpoolAt, OnePlace}
+
+-- a history whose bodies begin with those of another, and then this one, has a possible step of this body
+step_there : (s : State) (steps others : List Step) (body : List ℕ) (bodies : List (List ℕ)) → AreRecords steps
+    → AreRecords others → ArePossible s others → map body_of others ≡ map body_of steps ++ body ∷ bodies
+    → (step : Step) × HasFields step × (body_of step ≡ body) × IsPossible (after_from s steps) step
+step_there s [] [] body bodies each each' possible e = absurd cc
+step_there s (t ∷ steps) [] body bodies each each' possible e = absurd cc
+step_there s [] (o ∷ others) body bodies each each' possible e = (o, each'.0, cc, possible.0)
+step_there s (t ∷ steps) (o ∷ others) body bodies each each' possible e =
+    let first : body_of o ≡ body_of t = cc in
+    let rest : map body_of others ≡ map body_of steps ++ body ∷ bodies = ap (drop 1) e in
+    let same : o ≡ t = body_same o t each'.0 each.0 first in
+    step_there (after_step s t) steps others body bodies each.1 each'.1
+    (subst (λ (x : Step). ArePossible (after_step s x) others) same possible.1) rest
+
+pub no_history : (image : List ℕ) (at : ℕ) (steps : List Step) → NoSpoolAt image at → StandsFor image steps
+    → ⊥
+no_history image at steps (inl no_journal) stands = not_both image (map body_of steps) at stands.bodies no_journal
+no_history image at steps (inr there) stands =
+    let stops = there.2 in
+    let same : there.0 ≡ map body_of steps = one_list image there.0 (map body_of steps) there.1 stands.bodies in
+    let found = step_there empty stops.steps steps stops.body stops.more stops.each stands.each stands.history
+    (sym same ∙ stops.bodies_are) in
+    stops.none found.0 found.1 found.2 found.3
+
+-- no step that is possible in the state has this body
+abbrev HasNone : State → List ℕ → Type 0
+HasNone s body = (step : Step) → HasFields step → body_of step ≡ body → IsPossible s step → ⊥
+
+-- of two lists of possible steps, behind each of which the same list of bodies stops, neither is longer
+same_stop : (s : State) (steps others : List Step) (body body' : List ℕ) (more more' : List (List ℕ))
+    → AreRecords steps → AreRecords others
+    → ArePossible s steps → ArePossible s others
+    → map body_of steps ++ body ∷ more ≡ map body_of others ++ body' ∷ more'
+    → HasNone (after_from s steps) body → HasNone (after_from s others) body' → steps ≡ others
+same_stop s [] [] body body' more more' each each' possible possible' e none none' = refl
+same_stop s [] (o ∷ others) body body' more more' each each' possible possible' e none none' =
+    let first : body_of o ≡ body = cc in
+    absurd (none o each'.0 first possible'.0)
+same_stop s (t ∷ steps) [] body body' more more' each each' possible possible' e none none' =
+    let first : body_of t ≡ body' = cc in
+    absurd (none' t each.0 first possible.0)
+same_stop s (t ∷ steps) (o ∷ others) body body' more more' each each' possible possible' e none none' =
+    let first : body_of o ≡ body_of t = cc in
+    let rest : map body_of steps ++ body ∷ more ≡ map body_of others ++ body' ∷ more' = ap (drop 1) e in
+    let same : o ≡ t = body_same o t each'.0 each.0 first in
+    let behind : steps ≡ others =
+    same_stop (after_step s t) steps others body body' more more' each.1 each'.1 possible.1
+    (subst (λ (x : Step). ArePossible (after_step s x) others) same possible'.1) rest none
+    (subst (λ (x : Step). HasNone (after_from (after_step s x) others) body') same none') in
+    cc
+
+stops_once : (bodies : List (List ℕ)) (at other : ℕ) → StopsAt bodies at → StopsAt bodies other → at ≡ other
+stops_once bodies at other a b =
+    let same : a.steps ≡ b.steps =
+    same_stop empty a.steps b.steps a.body b.body a.more b.more a.each b.each a.history b.history
+    (sym a.bodies_are ∙ b.bodies_are) a.none b.none in
+    a.place ∙ ap (λ (steps : List Step). length (front (map body_of steps))) same ∙ sym b.place
+
+pub one_stop : OnePlace
+one_stop image at other (inl a) (inl b) = one_place image at other a b
+one_stop image at other (inl a) (inr b) = absurd (not_both image b.0 at b.1 a)
+one_stop image at other (inr a) (inl b) = absurd (not_both image a.0 other a.1 b)
+one_stop image at other (inr a) (inr b) =
+    stops_once a.0 at other a.2
+    (subst (λ (bodies : List (List ℕ)). StopsAt bodies other) (one_list image b.0 a.0 b.1 a.1) b.2)

@@ -1,0 +1,58 @@
+-- Which history an image of the disk stands for.
+use Rattle.std.specs.Prelude.{◌≡◌, ◌⊎◌, ℕ, ◌+◌, List, [], ◌∷◌, ◌++◌, length, map}
+use Rattle.mta_journal.specs.Bodies.{front, StandsFor as HoldsBodies}
+use Rattle.mta_journal.specs.Faults.{IsNoJournalAt}
+use Rattle.mta_records.specs.declared.step.Step.{Step}
+use Rattle.mta_records.specs.Body.{body_of, HasFields}
+use Rattle.mta_histories.specs.History.{IsHistory, IsPossible, after}
+
+-- each step's fields are in their types
+abbrev pub AreRecords : List Step → Type 0
+AreRecords [] = Unit {0}
+AreRecords (step ∷ steps) = HasFields step × AreRecords steps
+
+-- the octets of a journal of these steps, up to its closed gate and with it
+abbrev pub size_of : List Step → ℕ
+size_of steps = length (front (map body_of steps)) + 1
+
+-- The image stands for this history: as a journal it stands for the bodies of its steps.
+pub record StandsFor (image : List ℕ) (steps : List Step) : Type 0 where
+  pub bodies : HoldsBodies image (map body_of steps)
+  pub each : AreRecords steps
+  pub history : IsHistory steps
+
+-- one image stands for one history
+abbrev pub OneHistory : Type 0
+OneHistory = (image : List ℕ) (s t : List Step) → StandsFor image s → StandsFor image t → s ≡ t
+
+-- no step that is possible behind these has this body
+abbrev pub IsNoStep : List Step → List ℕ → Type 0
+IsNoStep steps body =
+    (step : Step) → HasFields step → body_of step ≡ body → IsPossible (after steps) step → ⊥
+
+-- The bodies begin with those of a history, behind which the next body is that of no step which is possible there.
+-- This is the offset of its gate.
+pub record StopsAt (bodies : List (List ℕ)) (at : ℕ) : Type 0 where
+  pub steps : List Step
+  pub body : List ℕ
+  pub more : List (List ℕ)
+  pub bodies_are : bodies ≡ map body_of steps ++ body ∷ more
+  pub each : AreRecords steps
+  pub history : IsHistory steps
+  pub none : IsNoStep steps body
+  pub place : at ≡ length (front (map body_of steps))
+
+-- The image is no spool, and this is the offset: it is no journal there, or the bodies that it holds stop there.
+abbrev pub NoSpoolAt : List ℕ → ℕ → Type 0
+NoSpoolAt image at =
+    IsNoJournalAt image at
+    ⊎ ((bodies : List (List ℕ)) × HoldsBodies image bodies × StopsAt bodies at)
+
+-- such an image stands for no history
+abbrev pub NoSpoolHasNoHistory : Type 0
+NoSpoolHasNoHistory =
+    (image : List ℕ) (at : ℕ) (steps : List Step) → NoSpoolAt image at → StandsFor image steps → ⊥
+
+-- an image is no spool at one place only
+abbrev pub OnePlace : Type 0
+OnePlace = (image : List ℕ) (at other : ℕ) → NoSpoolAt image at → NoSpoolAt image other → at ≡ other

@@ -1,0 +1,3 @@
+pub mod Concats
+pub mod Holding
+pub mod Numbering

@@ -1,0 +1,32 @@
+-- What a lane answers.
+use Rattle.std.specs.Prelude.{◌≡◌, ◌<◌, ◌&&◌, nat_le, ℕ, Bool, List, length, Result, Ok, Err}
+use Rattle.std.specs.List.{concat}
+use Rattle.mta_lane_recv.specs.Half.{takes_piece}
+use Rattle.mta_histories.specs.Lanes.{Lane, empty}
+use Rattle.mta_histories.specs.Classes.{LaneStep}
+use Rattle.mta_histories.specs.History.{LaneNeeds, longest_activity, longest_piece, with_piece}
+use Rattle.mta_lanes.specs.declared.lane.LaneFault.{LaneFault}
+use Rattle.mta_lanes.specs.declared.lane.LaneFault.TheVariants.{Fenced, Unexpected}
+
+-- what a step needs that looks at the lane alone
+abbrev pub OfLane : Lane → LaneStep → Type 0
+OfLane lane step = LaneNeeds empty lane step 0
+
+-- a step of this generation is one of the lane; an older generation is fenced, and a later one is none that there was
+abbrev pub IsCurrent : {T : Type 0} → Lane → (generation : ℕ) → Result T LaneFault → Type 0
+IsCurrent lane g (Ok v) = g ≡ lane.generation
+IsCurrent lane g (Err (Fenced h)) = (h ≡ lane.generation) × (g < lane.generation)
+IsCurrent lane g (Err Unexpected) = lane.generation < g
+
+-- a piece is one octet at least, and no longer than the lane's pieces may be
+abbrev pub has_size : Lane → ℕ → Bool
+has_size lane octets = nat_le 1 octets && nat_le octets (longest_piece lane.checkpoint)
+
+-- with the piece the pieces are not too many octets
+abbrev pub has_room : Lane → ℕ → List ℕ → Bool
+has_room lane n piece = nat_le (length (concat (with_piece lane.pieces n piece))) longest_activity
+
+-- the receiving half takes the piece; the record of it is `TakesPiece`
+abbrev pub takes : Lane → (activity number : ℕ) → List ℕ → Bool
+takes lane k n piece =
+    lane.agreed && takes_piece lane.high lane.last k n && has_size lane (length piece) && has_room lane n piece

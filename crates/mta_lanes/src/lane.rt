@@ -1,0 +1,514 @@
+//! A lane that is open.
+
+ghost use Rattle.std.specs.Prelude.{◌≡◌, ◌≤◌, ◌<◌, ◌+◌, ◌^◌, ◌==◌, ◌&&◌, ◌↔◌};
+ghost use Rattle.std.specs.Prelude.{IsTrue, IfOk, ◌-◌, length, take, true, [], Some, None};
+ghost use Rattle.std.specs.List.{concat};
+ghost use Rattle.mta_lane_send.specs.Half.{is_idle, is_sending, last_of, is_possible as sends_step};
+ghost use Rattle.mta_lane_send.specs.Half as send;
+ghost use Rattle.mta_lane_recv.specs.Half as recv;
+ghost use Rattle.mta_histories.specs.Lanes.{sender, receiver, total_of, is_for, holds, is_dropping};
+ghost use Rattle.mta_histories.specs.Classes.{agree, secure};
+ghost use Rattle.mta_histories.specs.History.{new_lane, sends, is_with, with_piece, longest_activity};
+ghost use Rattle.mta_lanes.specs.Lane.{OfLane, IsCurrent, has_size, has_room, takes};
+ghost use Rattle.mta_lanes.specs.Finds.{IsNamed};
+ghost use Rattle.std.specs.Option.{option_copied};
+
+use crate::half;
+use crate::pieces::{Pieces, Places};
+use crate::transfer::Transfer;
+use mta_ber::{Memory, Octets, Word};
+use mta_lane_recv::Last;
+use mta_lane_send::SendState;
+use mta_records::{LaneRole, LaneValues, Reference};
+use std::alloc::Global;
+use std::marker::Model;
+
+/// Why a step may not be made on a lane.
+#[derive(Clone, Copy, Debug, PartialEq, Eq)]
+pub enum LaneFault {
+    /// The lane is of this later generation.
+    Fenced { generation: u64 },
+    /// The state of the lane does not allow the step.
+    Unexpected,
+}
+
+/// A lane that is open. Its checkpoint size is at most 64 units of 1,024 octets, and the pieces that came have at most
+/// 2,097,152 octets.
+#[derive(Drop)]
+pub struct Lane {
+    number: u32,
+    role: LaneRole,
+    peer: Word,
+    reference: Reference,
+    checkpoint: u32,
+    window: u32,
+    twa: bool,
+    agreed: bool,
+    generation: u64,
+    sending: SendState,
+    transfer: Option<Transfer>,
+    high: u32,
+    last: Last,
+    pieces: Pieces,
+}
+
+impl Model for Lane {
+    ghost use Rattle.std.specs.Prelude.{◌≤◌, length};
+    ghost use Rattle.std.specs.List.{concat};
+    ghost use Rattle.mta_histories.specs.History.{longest_activity};
+    ghost use Rattle.mta_histories.specs.Lanes.{Lane as LaneValue};
+
+    ghost Value = { LaneValue };
+
+    ghost view = { λ l. record {
+      number = l.number;
+      role = l.role;
+      peer = l.peer;
+      reference = l.reference;
+      checkpoint = l.checkpoint;
+      window = l.window;
+      twa = l.twa;
+      agreed = l.agreed;
+      generation = l.generation;
+      sending = l.sending;
+      transfer = l.transfer;
+      high = l.high;
+      last = l.last;
+      pieces = l.pieces;
+    } };
+
+    ghost invariant = { λ l. (l.checkpoint ≤ 64) × (length (concat l.pieces) ≤ longest_activity) };
+}
+
+fn total_of(transfer: &Option<Transfer>) -> u32
+    ensures { result ≡ total_of transfer.now }
+{
+    match transfer {
+        Some(transfer) => transfer.total(),
+        None => 0,
+    }
+}
+
+fn is_for(transfer: &Option<Transfer>, item: u32, recipient: u32) -> bool
+    ensures { result ≡ is_for item recipient transfer.now }
+{
+    match transfer {
+        Some(transfer) => transfer.is_for(item, recipient),
+        None => false,
+    }
+}
+
+// The octets of pieces, one behind the other.
+#[tactic(auto, using(crate::proofs::Concats::joined_more))]
+fn joined_octets(alloc: Global, pieces: &[Octets]) -> Result<Octets, Memory>
+    ensures { IfOk result (λ octets. octets ≡ concat pieces.now) }
+{
+    let mut octets = Octets::new(alloc);
+    for piece in pieces {
+        octets.extend(piece.as_slice())?;
+    }
+    Ok(octets)
+}
+
+impl Lane {
+    /// A new lane, which takes no memory. The values of a responder's are agreed.
+    pub fn open(
+        number: u32,
+        role: LaneRole,
+        peer: Word,
+        reference: Reference,
+        twa: bool,
+        checkpoint: u32,
+        window: u32,
+        pieces: Pieces,
+    ) -> Lane
+        requires checkpoint { checkpoint ≤ 64 }
+        requires pieces { pieces ≡ [] }
+        ensures { result ≡ new_lane number role peer reference twa checkpoint window }
+    {
+        let agreed = match role {
+            LaneRole::Initiator => false,
+            LaneRole::Responder => true,
+        };
+        Lane {
+            number,
+            role,
+            peer,
+            reference,
+            checkpoint,
+            window,
+            twa,
+            agreed,
+            generation: 1,
+            sending: SendState::Idle { last: 0 },
+            transfer: None,
+            high: 0,
+            last: Last::None,
+            pieces,
+        }
+    }
+
+    /// Its number.
+    pub fn number(&self) -> u32
+        ensures { result ≡ self.now.number }
+    {
+        self.number
+    }
+
+    /// Its generation.
+    pub fn generation(&self) -> u64
+        ensures { result ≡ self.now.generation }
+    {
+        self.generation
+    }
+
+    /// The state of its sending half.
+    pub fn sending(&self) -> SendState
+        ensures { result ≡ self.now.sending }
+    {
+        self.sending
+    }
+
+    /// The highest activity that left a mark in its receiving half, and what stands of it.
+    pub fn receiving(&self) -> (u32, Last)
+        ensures high { result.0 ≡ self.now.high }
+        ensures last { result.1 ≡ self.now.last }
+    {
+        (self.high, self.last)
+    }
+
+    /// Its values.
+    pub fn values(&self) -> LaneValues
+        ensures { result ≡ record {
+          checkpoint = self.now.checkpoint;
+          window = self.now.window;
+          twa = self.now.twa;
+          agreed = self.now.agreed;
+        } }
+    {
+        LaneValues {
+            checkpoint: self.checkpoint,
+            window: self.window,
+            twa: self.twa,
+            agreed: self.agreed,
+        }
+    }
+
+    /// Whether it is with this peer, in this role.
+    pub fn is_with(&self, role: LaneRole, peer: &Word) -> bool
+        ensures { result ≡ is_with role peer.now self.now }
+    {
+        let same_role = match (role, self.role) {
+            (LaneRole::Initiator, LaneRole::Initiator) => true,
+            (LaneRole::Responder, LaneRole::Responder) => true,
+            (LaneRole::Initiator, LaneRole::Responder) => false,
+            (LaneRole::Responder, LaneRole::Initiator) => false,
+        };
+        same_role && peer.as_slice() == self.peer.as_slice()
+    }
+
+    /// Whether a step of this generation is one of the lane as it is now.
+    pub fn check_generation(&self, generation: u64) -> Result<(), LaneFault>
+        ensures { IsCurrent self.now generation result }
+    {
+        if generation < self.generation {
+            return Err(LaneFault::Fenced {
+                generation: self.generation,
+            });
+        }
+        if generation > self.generation {
+            return Err(LaneFault::Unexpected);
+        }
+        Ok(())
+    }
+
+    /// Whether it is of this generation.
+    pub fn is_of(&self, generation: u64) -> bool
+        ensures { result ≡ (generation == self.now.generation) }
+    {
+        generation == self.generation
+    }
+
+    /// Whether this is the generation behind its own.
+    pub fn is_before(&self, generation: u64) -> bool
+        ensures { result ≡ (generation == self.now.generation + 1) }
+    {
+        generation > 0 && generation - 1 == self.generation
+    }
+
+    /// Whether these values may be agreed.
+    pub fn may_agree(&self, checkpoint: u32, window: u32) -> bool
+        ensures exact { IsTrue result ↔ OfLane self.now (agree checkpoint window) }
+        ensures fits { IsTrue result → checkpoint ≤ 64 }
+    {
+        let initiates = match self.role {
+            LaneRole::Initiator => true,
+            LaneRole::Responder => false,
+        };
+        initiates
+            && !self.agreed
+            && checkpoint <= self.checkpoint
+            && 1 <= window
+            && window <= self.window
+    }
+
+    /// These values are agreed.
+    pub fn agree(&mut self, checkpoint: u32, window: u32)
+        requires { checkpoint ≤ 64 }
+        ensures { self.new ≡ record self.old { checkpoint = checkpoint; window = window; agreed = true } }
+    {
+        self.checkpoint = checkpoint;
+        self.window = window;
+        self.agreed = true;
+    }
+
+    /// The next generation begins.
+    pub fn bind(&mut self)
+        requires { self.old.generation + 1 < 2 ^ 64 }
+        ensures { self.new ≡ record self.old { generation = self.old.generation + 1 } }
+    {
+        self.generation += 1;
+    }
+
+    /// Whether a Confirm may be made.
+    pub fn may_confirm(&self, activity: u32, number: u32) -> bool
+        ensures { result ≡ sends_step (sender self.now) (send.Confirm activity number) }
+    {
+        half::goes_on(self.sending, activity)
+            && half::confirmed_of(self.sending) < number
+            && half::has_piece_after(self.checkpoint, total_of(&self.transfer), number)
+    }
+
+    /// The peer has confirmed the activity up to this checkpoint.
+    pub fn confirm(&mut self, activity: u32, number: u32)
+        ensures { self.new ≡ record self.old { sending = sends self.old (send.Confirm activity number) } }
+    {
+        self.sending = half::confirmed_at(self.sending, number);
+    }
+
+    /// Whether an Ending may be made.
+    pub fn may_end(&self, activity: u32) -> bool
+        ensures { result ≡ sends_step (sender self.now) (send.To_end activity) }
+    {
+        half::is_sending(self.sending, activity)
+    }
+
+    /// From now on the peer may complete the activity.
+    pub fn end(&mut self, activity: u32)
+        ensures { self.new ≡ record self.old { sending = sends self.old (send.To_end activity) } }
+    {
+        self.sending = SendState::Ending {
+            activity,
+            confirmed: half::confirmed_of(self.sending),
+        };
+    }
+
+    /// Whether a Sent may be made.
+    pub fn may_be_sent(&self, activity: u32) -> bool
+        ensures { result ≡ sends_step (sender self.now) (send.Sent activity) }
+    {
+        half::is_ending(self.sending, activity)
+    }
+
+    /// Whether a Refused, a Denied or a Dropped may be made.
+    pub fn may_settle(&self, activity: u32) -> bool
+        ensures refused { result ≡ sends_step (sender self.now) (send.Refused activity) }
+        ensures denied { result ≡ sends_step (sender self.now) (send.Denied activity) }
+        ensures dropped { result ≡ sends_step (sender self.now) (send.Dropped activity) }
+    {
+        half::is_live(self.sending, activity)
+    }
+
+    /// The activity under way is settled: sent, refused, denied or dropped.
+    pub fn settle(&mut self)
+        ensures { self.new ≡ record self.old { sending = sends self.old (send.Sent 0); transfer = None } }
+    {
+        self.sending = SendState::Idle {
+            last: half::last_of(self.sending),
+        };
+        self.transfer = None;
+    }
+
+    /// Whether the sending half allows an Abandon.
+    pub fn may_abandon(&self, activity: u32) -> bool
+        ensures { result ≡ sends_step (sender self.now) (send.Abandon activity) }
+    {
+        half::is_sending(self.sending, activity)
+    }
+
+    /// The activity is given up.
+    pub fn abandon(&mut self, activity: u32)
+        ensures { self.new ≡ record self.old { sending = sends self.old (send.Abandon activity) } }
+    {
+        self.sending = SendState::Dropping { activity };
+    }
+
+    /// An activity is started with this transfer.
+    pub fn start(&mut self, transfer: Transfer)
+        requires { last_of self.old.sending + 1 < 2 ^ 32 }
+        ensures { self.new ≡ record self.old { sending = sends self.old (send.Start 0); transfer = Some transfer } }
+    {
+        self.sending = SendState::Sending {
+            activity: half::last_of(self.sending) + 1,
+            confirmed: 0,
+        };
+        self.transfer = Some(transfer);
+    }
+
+    /// Whether the receiving half allows a Drop.
+    pub fn may_drop(&self, activity: u32) -> bool
+        ensures { result ≡ recv.is_possible (receiver self.now) (recv.Drop activity) }
+    {
+        half::is_partial_of(self.last, activity)
+    }
+
+    /// The pieces that came are given up.
+    pub fn drop_pieces(&mut self)
+        ensures { self.new ≡ record self.old { last = Last.None; pieces = [] } }
+    {
+        self.last = Last::None;
+        self.pieces.clear();
+    }
+
+    // Whether a piece of so many octets is neither empty nor too long.
+    fn has_size(&self, octets: u64) -> bool
+        ensures { result ≡ has_size self.now octets }
+    {
+        1 <= octets && octets <= half::longest_piece(self.checkpoint)
+    }
+
+    // Whether the octets of the pieces before one, and of that one, are not too many.
+    #[tactic(auto, using(crate::proofs::Concats::length_behind, crate::proofs::Concats::front_shorter))]
+    fn has_room(&self, number: u32, piece: &[u8]) -> bool
+        ensures { result ≡ has_room self.now number piece.now }
+    {
+        let before = self.pieces.octets_before(number.saturating_sub(1) as usize);
+        piece.len() <= 2_097_152 && before + piece.len() as u64 <= 2_097_152
+    }
+
+    /// Whether the receiving half takes a piece.
+    pub fn may_take(&self, activity: u32, number: u32, piece: &[u8]) -> bool
+        ensures { result ≡ takes self.now activity number piece.now }
+    {
+        self.agreed
+            && half::takes_piece(self.high, self.last, activity, number)
+            && self.has_size(piece.len() as u64)
+            && self.has_room(number, piece)
+    }
+
+    /// Whether a Secure may be made.
+    pub fn may_secure(&self, activity: u32, number: u32, piece: &[u8]) -> bool
+        ensures { IsTrue result ↔ OfLane self.now (secure activity number piece.now) }
+    {
+        self.may_take(activity, number, piece)
+    }
+
+    /// Places for the pieces that stand and for one more.
+    pub fn places(&self, alloc: Global) -> Result<Places, Memory>
+        ensures { IfOk result (λ places. length self.now.pieces + 2 ≤ places) }
+    {
+        self.pieces.places(alloc)
+    }
+
+    /// The octets of the pieces before one, and of that one.
+    #[tactic(auto, using(crate::proofs::Concats::joined_behind))]
+    pub fn joined(&self, alloc: Global, number: u32, piece: &[u8]) -> Result<Octets, Memory>
+        ensures { IfOk result (λ octets. octets ≡ concat (with_piece self.now.pieces number piece.now)) }
+    {
+        let before = self.pieces.first(number.saturating_sub(1) as usize);
+        let mut octets = joined_octets(alloc, before)?;
+        octets.extend(piece)?;
+        Ok(octets)
+    }
+
+    /// How many pieces stand.
+    pub fn piece_count(&self) -> usize
+        ensures { result ≡ length self.now.pieces }
+    {
+        self.pieces.len()
+    }
+
+    /// A piece stands from now on, in place of that piece and all behind it. Two places more than there are pieces are
+    /// handed in.
+    pub fn secure(&mut self, activity: u32, number: u32, piece: Octets, places: Places)
+        requires places { length self.old.pieces + 2 ≤ places }
+        requires within { length (concat (with_piece self.old.pieces number piece)) ≤ longest_activity }
+        ensures { self.new ≡ record self.old {
+          high = activity;
+          last = Last.Partial activity number;
+          pieces = with_piece self.old.pieces number piece;
+        } }
+    {
+        self.pieces
+            .put(number.saturating_sub(1) as usize, piece, places);
+        self.high = activity;
+        self.last = Last::Partial {
+            activity,
+            pieces: number,
+        };
+    }
+
+    /// All of the activity has come.
+    pub fn complete(&mut self, activity: u32)
+        ensures { self.new ≡ record self.old { high = activity; last = Last.Done activity; pieces = [] } }
+    {
+        self.high = activity;
+        self.last = Last::Done { activity };
+        self.pieces.clear();
+    }
+
+    /// The peer.
+    pub fn peer(&self) -> &Word
+        ensures { result.now ≡ self.now.peer }
+    {
+        &self.peer
+    }
+
+    /// What the activity under way transfers; none where none is under way.
+    pub fn transfer(&self) -> Option<&Transfer>
+        ensures { option_copied result ≡ self.now.transfer }
+    {
+        self.transfer.as_ref()
+    }
+
+    /// Whether the activity under way may still be completed, and is for this recipient of the item.
+    pub fn holds(&self, item: u32, recipient: u32) -> bool
+        ensures { result ≡ holds item recipient self.now }
+    {
+        half::is_transferring(self.sending) && is_for(&self.transfer, item, recipient)
+    }
+
+    /// The number of the activity under way, or else of the last one; 0 before the first.
+    pub fn activity(&self) -> u32
+        ensures { result ≡ last_of self.now.sending }
+    {
+        half::last_of(self.sending)
+    }
+
+    /// Whether the activity under way may still be given up, and is for this recipient of the item.
+    pub fn is_sending_for(&self, item: u32, recipient: u32) -> bool
+        ensures { result
+            ≡ (is_sending self.now.sending (last_of self.now.sending) && is_for item recipient self.now.transfer) }
+    {
+        half::is_sending(self.sending, half::last_of(self.sending))
+            && is_for(&self.transfer, item, recipient)
+    }
+
+    /// Whether it is with this peer, in this role, and of this reference, where one is asked for.
+    pub fn is_named(&self, role: LaneRole, peer: &Word, reference: Option<&Reference>) -> bool
+        ensures { IsTrue result ↔ IsNamed role peer.now (option_copied reference.entry) self.now }
+    {
+        let same_name = match reference {
+            None => true,
+            Some(reference) => reference.same(&self.reference),
+        };
+        self.is_with(role, peer) && same_name
+    }
+
+    /// Whether the lane may be closed.
+    pub fn may_close(&self) -> bool
+        ensures { result ≡ is_idle self.now.sending }
+    {
+        half::is_idle(self.sending)
+    }
+}

@@ -1,0 +1,108 @@
+//! What an activity transfers.
+
+ghost use Rattle.std.specs.Prelude.{◌≡◌, length, Some};
+ghost use Rattle.mta_machine.specs.Items.{names};
+ghost use Rattle.mta_histories.specs.Lanes.{is_for};
+
+use mta_records::{Outgoing, Recipients};
+use std::marker::Model;
+
+/// What an activity transfers: an item to recipients, when that was decided, in seconds since 1950-01-01 00:00:00 UTC,
+/// under which tables, counted from 1, and the octets.
+#[derive(Drop)]
+pub struct Transfer {
+    item: u32,
+    recipients: Recipients,
+    moment: u64,
+    tables: u32,
+    outgoing: Outgoing,
+}
+
+impl Model for Transfer {
+    ghost use Rattle.mta_histories.specs.Lanes.{Transfer as TransferValue};
+
+    ghost Value = { TransferValue };
+
+    ghost view = { λ t. record {
+      item = t.item;
+      recipients = t.recipients;
+      moment = t.moment;
+      tables = t.tables;
+      octets = t.outgoing.octets;
+    } };
+}
+
+fn is_among(recipients: &[u32], recipient: u32) -> bool
+    ensures { result ≡ names recipients.now recipient }
+{
+    recipients.iter().any(|other| recipient == *other)
+}
+
+impl Transfer {
+    /// The transfer of these parts, which takes no memory.
+    pub fn new(
+        item: u32,
+        recipients: Recipients,
+        moment: u64,
+        tables: u32,
+        outgoing: Outgoing,
+    ) -> Transfer
+        ensures { result ≡ record {
+          item = item;
+          recipients = recipients;
+          moment = moment;
+          tables = tables;
+          octets = outgoing.octets;
+        } }
+    {
+        Transfer {
+            item,
+            recipients,
+            moment,
+            tables,
+            outgoing,
+        }
+    }
+
+    /// The number of the item.
+    pub fn item(&self) -> u32
+        ensures { result ≡ self.now.item }
+    {
+        self.item
+    }
+
+    /// The numbers of the recipients.
+    pub fn recipients(&self) -> &[u32]
+        ensures { result.now ≡ self.now.recipients }
+    {
+        self.recipients.as_slice()
+    }
+
+    /// When it was decided.
+    pub fn moment(&self) -> u64
+        ensures { result ≡ self.now.moment }
+    {
+        self.moment
+    }
+
+    /// The number of the tables under which it was decided.
+    pub fn tables(&self) -> u32
+        ensures { result ≡ self.now.tables }
+    {
+        self.tables
+    }
+
+    /// Whether it is for this recipient of the item.
+    pub fn is_for(&self, item: u32, recipient: u32) -> bool
+        ensures { result ≡ is_for item recipient (Some self.now) }
+    {
+        item == self.item && is_among(self.recipients.as_slice(), recipient)
+    }
+
+    /// How many octets there are.
+    pub fn total(&self) -> u32
+        ensures { result ≡ length self.now.octets }
+    {
+        self.outgoing.total()
+    }
+}

@@ -1,0 +1,6 @@
+pub mod Discharging
+pub mod OnLane
+pub mod Received
+pub mod Steps
+pub mod Tests
+pub mod Turns

@@ -1,0 +1,10 @@
+//! The state of a spool as a value: what a history leads to. It has no disk and no clock.
+#![tactic(auto)]
+
+mod change;
+mod kept;
+mod on_lane;
+mod secure;
+
+pub use change::{Change, Settlement};
+pub use kept::Kept;
