@@ -28,7 +28,7 @@ Gives view (Err short) read = FailsAs short read
 abbrev pub number_at : Width → List ℕ → Result (ℕ × List ℕ) ℕ
 number_at w octets =
     if nat_lt (length octets) (byte_len w) then Err (length octets)
-        else Ok (from_be_bytes w (take (byte_len w) octets), drop (byte_len w) octets)
+    else Ok (from_be_bytes w (take (byte_len w) octets), drop (byte_len w) octets)
 
 -- a moment, which is at most the last second of 2049
 unfoldable pub moment_at : List ℕ → Result (ℕ × List ℕ) ℕ

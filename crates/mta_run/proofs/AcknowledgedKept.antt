@@ -17,8 +17,8 @@ use Rattle.mta_history.specs.History.{State, IsHistory, IsPossible, ArePossible,
 use Rattle.mta_history.proofs.Numbered.{numbered_put, numbered_other}
 use Rattle.mta_run.specs.declared.stop.Stop.{Stop}
 use Rattle.mta_run.specs.declared.stop.Stop.TheVariants as Stops
-use Rattle.mta_run.specs.declared.words.Words.{Words}
-use Rattle.mta_run.specs.declared.words.Words.TheVariants as Say
+use Rattle.mta_words.specs.declared.words.Words.{Words}
+use Rattle.mta_words.specs.declared.words.Words.TheVariants as Say
 use Rattle.mta_run.specs.Handed.{Handed, ForInput, ForOpened}
 use Rattle.mta_run.specs.Lines.{accepted_line, line_of}
 use Rattle.mta_run.specs.Output.{Output, IsFront, IsEnded, done, told, cut_text, cut_line}
@@ -70,6 +70,7 @@ no_stop Stops.Memory n x e = let h : ◌≡◌ {A = ℕ} 97 111 = ap (λ (l : Li
 no_stop Stops.Source n x e = let h : ◌≡◌ {A = ℕ} 97 115 = ap (λ (l : List ℕ). get_or l 0 0) e in omega (arith, h)
 no_stop Stops.Sink n x e = let h : ◌≡◌ {A = ℕ} 97 0 = ap (λ (l : List ℕ). get_or l 0 0) e in omega (arith, h)
 no_stop (Stops.NoMailbox name) n x e = let h : ◌≡◌ {A = ℕ} 97 110 = ap (λ (l : List ℕ). get_or l 0 0) e in omega (arith, h)
+no_stop Stops.NotBuilt n x e = let h : ◌≡◌ {A = ℕ} 97 110 = ap (λ (l : List ℕ). get_or l 0 0) e in omega (arith, h)
 no_stop (Stops.BadApdu at kind) n x e = let h : ◌≡◌ {A = ℕ} 97 98 = ap (λ (l : List ℕ). get_or l 0 0) e in omega (arith, h)
 
 -- what was taken, where both contents are told

@@ -7,7 +7,7 @@ use Rattle.mta_apdu.specs.Apdus.{ApduValue, SpellsApdu}
 use Rattle.mta_apdu_text.specs.Apdus.{apdu_text}
 use Rattle.mta_run.specs.declared.stop.Stop.{Stop}
 use Rattle.mta_run.specs.declared.stop.Stop.TheVariants as Stops
-use Rattle.mta_run.specs.declared.words.Words.TheVariants as Say
+use Rattle.mta_words.specs.declared.words.Words.TheVariants as Say
 use Rattle.mta_run.specs.Handed.{Handed, handed}
 use Rattle.mta_run.specs.Inputs.{longest_tables, IsTold, IsInputStop, HasOctets}
 use Rattle.mta_run.specs.Output.{Output, stopped, HasShown}
@@ -38,6 +38,7 @@ told_stop input octets failed Stops.Disk told is = absurd is
 told_stop input octets failed (Stops.Full size need) told is = absurd is
 told_stop input octets failed (Stops.Spent last) told is = absurd is
 told_stop input octets failed Stops.Sink told is = absurd is
+told_stop input octets failed Stops.NotBuilt told is = absurd is
 told_stop input octets failed (Stops.NoMailbox name) told is = absurd is
 
 decoded_stop : (input : Option (List ℕ)) (octets : List ℕ) (failed : Type 0) (text : Result (List ℕ) Stop) → IsTold input octets → IsDecodedAs octets text → (stop : Stop) → text ≡ Err stop → IsInputStop input failed stop
@@ -74,6 +75,7 @@ decode_cause disks clocks sources conf input input_after disk clock Stops.Disk i
 decode_cause disks clocks sources conf input input_after disk clock (Stops.Full size need) is = absurd is
 decode_cause disks clocks sources conf input input_after disk clock (Stops.Spent last) is = absurd is
 decode_cause disks clocks sources conf input input_after disk clock Stops.Sink is = absurd is
+decode_cause disks clocks sources conf input input_after disk clock Stops.NotBuilt is = absurd is
 decode_cause disks clocks sources conf input input_after disk clock (Stops.NoMailbox name) is = absurd is
 
 decode_apart : Some Say.Decode ≡ Some Say.Submit → ⊥

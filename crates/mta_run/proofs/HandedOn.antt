@@ -8,8 +8,8 @@ use Rattle.mta_history.specs.History.{IsHistory}
 use Rattle.mta_history.specs.Image.{StandsFor}
 use Rattle.mta_run.specs.declared.stop.Stop.{Stop}
 use Rattle.mta_run.specs.declared.stop.Stop.TheVariants as Stops
-use Rattle.mta_run.specs.declared.words.Words.{Words}
-use Rattle.mta_run.specs.declared.words.Words.TheVariants as Say
+use Rattle.mta_words.specs.declared.words.Words.{Words}
+use Rattle.mta_words.specs.declared.words.Words.TheVariants as Say
 use Rattle.mta_run.specs.Words.{OpensDisk}
 use Rattle.mta_run.specs.Handed.{Handed, handed}
 use Rattle.mta_run.specs.Inputs.{IsDrawn}

@@ -56,6 +56,7 @@ some_status (Stops.Spent last) status e z = omega (arith, e, z)
 some_status Stops.Memory status e z = omega (arith, e, z)
 some_status Stops.Source status e z = omega (arith, e, z)
 some_status Stops.Sink status e z = omega (arith, e, z)
+some_status Stops.NotBuilt status e z = omega (arith, e, z)
 some_status (Stops.NoMailbox name) status e z = omega (arith, e, z)
 some_status (Stops.BadApdu at kind) status e z = omega (arith, e, z)
 

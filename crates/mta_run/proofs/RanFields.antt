@@ -8,8 +8,8 @@ use Rattle.mta_history.specs.History.{IsHistory, after, empty}
 use Rattle.mta_history.proofs.Once.{each_recipient_once}
 use Rattle.mta_run.specs.declared.stop.Stop.{Stop}
 use Rattle.mta_run.specs.declared.stop.Stop.TheVariants as Stops
-use Rattle.mta_run.specs.declared.words.Words.{Words}
-use Rattle.mta_run.specs.declared.words.Words.TheVariants as Say
+use Rattle.mta_words.specs.declared.words.Words.{Words}
+use Rattle.mta_words.specs.declared.words.Words.TheVariants as Say
 use Rattle.mta_run.specs.Words.{ReadsTables, ReadsApdu, OpensDisk}
 use Rattle.mta_run.specs.Handed.{Handed, ForOpened, InputsRead}
 use Rattle.mta_run.specs.Output.{Output, output, HasPrinted, whole, stopped, cut, HasClosed, IsEnded}

@@ -1,5 +1,5 @@
 -- What a status tells, and when it is 0.
-use Rattle.std.proofs.Common.{◌≡◌, ◌≢◌, ℕ, ◌<◌, List, None, Some, Result, Ok, Err, refl, sym, subst, ◌∙◌, arith, inl, inr}
+use Rattle.std.proofs.Common.{◌≡◌, ◌≢◌, ℕ, ◌<◌, List, Option, None, Some, Result, Ok, Err, refl, sym, subst, ◌∙◌, arith, inl, inr}
 use Rattle.std.specs.Prelude.{◌⊎◌}
 use Rattle.mta_ber.specs.declared.fault.Fault.{Fault}
 use Rattle.mta_apdu.specs.Apdus.{ApduValue, apdu_of}
@@ -11,14 +11,14 @@ use Rattle.mta_tables.specs.declared.fault.LineKind.{LineKind}
 use Rattle.mta_tables.proofs.Grammars.{bad_read}
 use Rattle.mta_history.proofs.NoSpool.{no_history}
 use Rattle.mta_run.specs.declared.stop.Stop.{Stop}
-use Rattle.mta_run.specs.declared.words.Words.{Words}
-use Rattle.mta_run.specs.declared.words.Words.TheVariants as Say
-use Rattle.mta_run.specs.Words.{ReadsTables, ReadsApdu, OpensDisk}
+use Rattle.mta_words.specs.declared.words.Words.{Words}
+use Rattle.mta_words.specs.declared.words.Words.TheVariants as Say
+use Rattle.mta_run.specs.Words.{ReadsTables, ReadsApdu, OpensDisk, IsUnbuilt}
 use Rattle.mta_run.specs.Handed.{Handed, SourceFailed, DiskFailed}
 use Rattle.mta_run.specs.Lines.{status_of}
 use Rattle.mta_run.specs.Output.{Output, OutputFailed, IsEnded, done, told, cut_text, cut_line}
 use Rattle.mta_run.specs.DiskLeft.{Opening, uncalled, refused, opened, DiskLeft}
-use Rattle.mta_run.specs.Causes.{IsText, of_submit, of_queue, of_mailbox, of_decode, Cause, usage, memory, source, tables, apdu, not_spool, not_opened, disk, full, spent, no_mailbox}
+use Rattle.mta_run.specs.Causes.{IsText, of_submit, of_queue, of_mailbox, of_decode, Cause, usage, not_built, memory, source, tables, apdu, not_spool, not_opened, disk, full, spent, no_mailbox}
 use Rattle.mta_run.specs.Ran.{EndsBeforeOpening, Tells, AllInOrder, IsComplete}
 
 -- ---- what a status tells
@@ -37,6 +37,8 @@ late status n e a b c d (inr (inr (inr x))) = d (sym e ∙ x)
 record StopTells {D C I : Type 0} (h : Handed D C I) (opening : Opening) (status : ℕ) : Type 0 where
   usage_only : status ≡ 1 → h.words ≡ None
   usage_there : h.words ≡ None → (status ≡ 1) ⊎ (status ≡ 7)
+  unbuilt_only : status ≡ 11 → IsUnbuilt h.words
+  unbuilt_there : IsUnbuilt h.words → (status ≡ 11) ⊎ (status ≡ 7)
   disk_only : status ≡ 4 → OpensDisk h.words × DiskFailed h
   source_only : status ≡ 8 → SourceFailed h
   sink_never : status ≡ 9 → ⊥
@@ -49,6 +51,38 @@ source_known : {D C I : Type 0} (h : Handed D C I) → SourceFailed h → h.word
 source_known h (inl s) none = subst ReadsTables none s.0
 source_known h (inr s) none = subst ReadsApdu none s.0
 
+-- a command that is not built reads nothing and opens nothing
+tables_built : (words : Option Words) → ReadsTables words → IsUnbuilt words → ⊥
+tables_built None reads unbuilt = unbuilt
+tables_built (Some Say.Submit) reads unbuilt = unbuilt
+tables_built (Some (Say.Serve sessions stations)) reads unbuilt = reads
+tables_built (Some Say.Queue) reads unbuilt = unbuilt
+tables_built (Some (Say.Mailbox name)) reads unbuilt = unbuilt
+tables_built (Some Say.Decode) reads unbuilt = unbuilt
+tables_built (Some (Say.Drill messages)) reads unbuilt = reads
+
+apdu_built : (words : Option Words) → ReadsApdu words → IsUnbuilt words → ⊥
+apdu_built None reads unbuilt = unbuilt
+apdu_built (Some Say.Submit) reads unbuilt = unbuilt
+apdu_built (Some (Say.Serve sessions stations)) reads unbuilt = reads
+apdu_built (Some Say.Queue) reads unbuilt = unbuilt
+apdu_built (Some (Say.Mailbox name)) reads unbuilt = unbuilt
+apdu_built (Some Say.Decode) reads unbuilt = unbuilt
+apdu_built (Some (Say.Drill messages)) reads unbuilt = reads
+
+disk_built : (words : Option Words) → OpensDisk words → IsUnbuilt words → ⊥
+disk_built None opens unbuilt = unbuilt
+disk_built (Some Say.Submit) opens unbuilt = unbuilt
+disk_built (Some (Say.Serve sessions stations)) opens unbuilt = opens
+disk_built (Some Say.Queue) opens unbuilt = unbuilt
+disk_built (Some (Say.Mailbox name)) opens unbuilt = unbuilt
+disk_built (Some Say.Decode) opens unbuilt = unbuilt
+disk_built (Some (Say.Drill messages)) opens unbuilt = opens
+
+source_built : {D C I : Type 0} (h : Handed D C I) → SourceFailed h → IsUnbuilt h.words → ⊥
+source_built h (inl s) unbuilt = tables_built h.words s.0 unbuilt
+source_built h (inr s) unbuilt = apdu_built h.words s.0 unbuilt
+
 no_bad : (c : List ℕ) (t : TablesValue) (n : ℕ) (kind : LineKind) → tables_of c ≡ Ok t → tables_of c ≡ bad n kind → ⊥
 no_bad c t n kind good wrong = cc
 
@@ -60,6 +94,18 @@ module _ {D C I : Type 0} (h : Handed D C I) (added : List Step) where
   stop_tells _ _ status (usage none) e = record {
     usage_only = λ x. none;
     usage_there = λ x. inl e;
+    unbuilt_only = λ x. absurd (omega (arith, x, e));
+    unbuilt_there = λ x. absurd (subst IsUnbuilt none x);
+    disk_only = λ x. absurd (omega (arith, x, e));
+    source_only = λ x. absurd (omega (arith, x, e));
+    sink_never = λ x. omega (arith, x, e);
+    early = λ x. refl;
+  }
+  stop_tells _ _ status (not_built unbuilt) e = record {
+    usage_only = λ x. absurd (omega (arith, x, e));
+    usage_there = λ x. absurd (subst IsUnbuilt x unbuilt);
+    unbuilt_only = λ x. unbuilt;
+    unbuilt_there = λ x. inl e;
     disk_only = λ x. absurd (omega (arith, x, e));
     source_only = λ x. absurd (omega (arith, x, e));
     sink_never = λ x. omega (arith, x, e);
@@ -68,6 +114,8 @@ module _ {D C I : Type 0} (h : Handed D C I) (added : List Step) where
   stop_tells _ _ status (memory opening) e = record {
     usage_only = λ x. absurd (omega (arith, x, e));
     usage_there = λ x. inr e;
+    unbuilt_only = λ x. absurd (omega (arith, x, e));
+    unbuilt_there = λ x. inr e;
     disk_only = λ x. absurd (omega (arith, x, e));
     source_only = λ x. absurd (omega (arith, x, e));
     sink_never = λ x. omega (arith, x, e);
@@ -76,6 +124,8 @@ module _ {D C I : Type 0} (h : Handed D C I) (added : List Step) where
   stop_tells _ _ status (source s) e = record {
     usage_only = λ x. absurd (omega (arith, x, e));
     usage_there = λ x. absurd (source_known h s x);
+    unbuilt_only = λ x. absurd (omega (arith, x, e));
+    unbuilt_there = λ x. absurd (source_built h s x);
     disk_only = λ x. absurd (omega (arith, x, e));
     source_only = λ x. s;
     sink_never = λ x. omega (arith, x, e);
@@ -84,6 +134,8 @@ module _ {D C I : Type 0} (h : Handed D C I) (added : List Step) where
   stop_tells _ _ status (tables n kind r first same) e = record {
     usage_only = λ x. absurd (omega (arith, x, e));
     usage_there = λ x. absurd (subst ReadsTables x r);
+    unbuilt_only = λ x. absurd (omega (arith, x, e));
+    unbuilt_there = λ x. absurd (tables_built h.words r x);
     disk_only = λ x. absurd (omega (arith, x, e));
     source_only = λ x. absurd (omega (arith, x, e));
     sink_never = λ x. omega (arith, x, e);
@@ -92,6 +144,8 @@ module _ {D C I : Type 0} (h : Handed D C I) (added : List Step) where
   stop_tells _ _ status (apdu at kind r read first) e = record {
     usage_only = λ x. absurd (omega (arith, x, e));
     usage_there = λ x. absurd (subst ReadsApdu x r);
+    unbuilt_only = λ x. absurd (omega (arith, x, e));
+    unbuilt_there = λ x. absurd (apdu_built h.words r x);
     disk_only = λ x. absurd (omega (arith, x, e));
     source_only = λ x. absurd (omega (arith, x, e));
     sink_never = λ x. omega (arith, x, e);
@@ -100,6 +154,8 @@ module _ {D C I : Type 0} (h : Handed D C I) (added : List Step) where
   stop_tells _ _ status (not_spool at o inputs none) e = record {
     usage_only = λ x. absurd (omega (arith, x, e));
     usage_there = λ x. absurd (subst OpensDisk x o);
+    unbuilt_only = λ x. absurd (omega (arith, x, e));
+    unbuilt_there = λ x. absurd (disk_built h.words o x);
     disk_only = λ x. absurd (omega (arith, x, e));
     source_only = λ x. absurd (omega (arith, x, e));
     sink_never = λ x. omega (arith, x, e);
@@ -108,6 +164,8 @@ module _ {D C I : Type 0} (h : Handed D C I) (added : List Step) where
   stop_tells _ _ status (not_opened o inputs failed) e = record {
     usage_only = λ x. absurd (omega (arith, x, e));
     usage_there = λ x. absurd (subst OpensDisk x o);
+    unbuilt_only = λ x. absurd (omega (arith, x, e));
+    unbuilt_there = λ x. absurd (disk_built h.words o x);
     disk_only = λ x. (o, failed);
     source_only = λ x. absurd (omega (arith, x, e));
     sink_never = λ x. omega (arith, x, e);
@@ -116,6 +174,8 @@ module _ {D C I : Type 0} (h : Handed D C I) (added : List Step) where
   stop_tells _ _ status (disk submit inputs failed) e = record {
     usage_only = λ x. absurd (omega (arith, x, e));
     usage_there = λ x. absurd (no_words h Say.Submit submit x);
+    unbuilt_only = λ x. absurd (omega (arith, x, e));
+    unbuilt_there = λ x. absurd (subst IsUnbuilt submit x);
     disk_only = λ x. (subst OpensDisk (sym submit) tt, failed);
     source_only = λ x. absurd (omega (arith, x, e));
     sink_never = λ x. omega (arith, x, e);
@@ -124,6 +184,8 @@ module _ {D C I : Type 0} (h : Handed D C I) (added : List Step) where
   stop_tells _ _ status (full size need submit inputs why) e = record {
     usage_only = λ x. absurd (omega (arith, x, e));
     usage_there = λ x. absurd (no_words h Say.Submit submit x);
+    unbuilt_only = λ x. absurd (omega (arith, x, e));
+    unbuilt_there = λ x. absurd (subst IsUnbuilt submit x);
     disk_only = λ x. absurd (omega (arith, x, e));
     source_only = λ x. absurd (omega (arith, x, e));
     sink_never = λ x. omega (arith, x, e);
@@ -132,6 +194,8 @@ module _ {D C I : Type 0} (h : Handed D C I) (added : List Step) where
   stop_tells _ _ status (spent last submit inputs why) e = record {
     usage_only = λ x. absurd (omega (arith, x, e));
     usage_there = λ x. absurd (no_words h Say.Submit submit x);
+    unbuilt_only = λ x. absurd (omega (arith, x, e));
+    unbuilt_there = λ x. absurd (subst IsUnbuilt submit x);
     disk_only = λ x. absurd (omega (arith, x, e));
     source_only = λ x. absurd (omega (arith, x, e));
     sink_never = λ x. omega (arith, x, e);
@@ -140,6 +204,8 @@ module _ {D C I : Type 0} (h : Handed D C I) (added : List Step) where
   stop_tells _ _ status (no_mailbox name word none) e = record {
     usage_only = λ x. absurd (omega (arith, x, e));
     usage_there = λ x. absurd (no_words h (Say.Mailbox name) word x);
+    unbuilt_only = λ x. absurd (omega (arith, x, e));
+    unbuilt_there = λ x. absurd (subst IsUnbuilt word x);
     disk_only = λ x. absurd (omega (arith, x, e));
     source_only = λ x. absurd (omega (arith, x, e));
     sink_never = λ x. omega (arith, x, e);
@@ -152,6 +218,12 @@ module _ {D C I : Type 0} (h : Handed D C I) (added : List Step) where
   text_known _ _ (of_queue text word is) none = no_words h Say.Queue word none
   text_known _ _ (of_mailbox name text word named is) none = no_words h (Say.Mailbox name) word none
   text_known _ _ (of_decode text word is) none = no_words h Say.Decode word none
+
+  text_built : (opening : Opening) (text : List ℕ) → IsText h added opening text → IsUnbuilt h.words → ⊥
+  text_built _ _ (of_submit n text word inputs small is acc) unbuilt = subst IsUnbuilt word unbuilt
+  text_built _ _ (of_queue text word is) unbuilt = subst IsUnbuilt word unbuilt
+  text_built _ _ (of_mailbox name text word named is) unbuilt = subst IsUnbuilt word unbuilt
+  text_built _ _ (of_decode text word is) unbuilt = subst IsUnbuilt word unbuilt
 
   ended_early : (opening : Opening) (out : Output) (status : ℕ) → IsEnded (Cause h added opening) (IsText h added opening) out status → IsEarly status → opening ≡ uncalled
   ended_early opening out status (done e t x p) early = absurd (late status 0 e (λ w. omega (arith, w)) (λ w. omega (arith, w)) (λ w. omega (arith, w)) (λ w. omega (arith, w)) early)
@@ -168,6 +240,8 @@ module _ {D C I : Type 0} (h : Handed D C I) (added : List Step) where
   ended_tells opening out status unless same (done e t x p) = record {
     usage = λ w. absurd (omega (arith, w, e));
     usage_where = λ none. absurd (text_known opening t x none);
+    unbuilt = λ w. absurd (omega (arith, w, e));
+    unbuilt_where = λ unbuilt. absurd (text_built opening t x unbuilt);
     disk = λ w. absurd (omega (arith, w, e));
     source = λ w. absurd (omega (arith, w, e));
     sink = λ w. absurd (omega (arith, w, e));
@@ -177,19 +251,23 @@ module _ {D C I : Type 0} (h : Handed D C I) (added : List Step) where
       let s = stop_tells opening stop status why e in
       record {
         usage = s.usage_only;
-        usage_where = λ none. where_known (s.usage_there none);
+        usage_where = λ none. where_known 1 (s.usage_there none);
+        unbuilt = s.unbuilt_only;
+        unbuilt_where = λ unbuilt. where_known 11 (s.unbuilt_there unbuilt);
         disk = s.disk_only;
         source = s.source_only;
         sink = λ w. absurd (s.sink_never w);
         untouched = λ early. same (untouched_unless opening out status unless (told stop why e t f p) early);
       }
     where
-      where_known : (status ≡ 1) ⊎ (status ≡ 7) → (status ≡ 1) ⊎ (status ≡ 7) ⊎ ((status ≡ 9) × OutputFailed out)
-      where_known (inl w) = inl w
-      where_known (inr w) = inr (inl w)
+      where_known : (n : ℕ) → (status ≡ n) ⊎ (status ≡ 7) → (status ≡ n) ⊎ (status ≡ 7) ⊎ ((status ≡ 9) × OutputFailed out)
+      where_known n (inl w) = inl w
+      where_known n (inr w) = inr (inl w)
   ended_tells opening out status unless same (cut_text e t x p) = record {
     usage = λ w. absurd (omega (arith, w, e));
     usage_where = λ none. inr (inr (e, p.0));
+    unbuilt = λ w. absurd (omega (arith, w, e));
+    unbuilt_where = λ unbuilt. inr (inr (e, p.0));
     disk = λ w. absurd (omega (arith, w, e));
     source = λ w. absurd (omega (arith, w, e));
     sink = λ w. p.0;
@@ -198,6 +276,8 @@ module _ {D C I : Type 0} (h : Handed D C I) (added : List Step) where
   ended_tells opening out status unless same (cut_line e stop why t f p) = record {
     usage = λ w. absurd (omega (arith, w, e));
     usage_where = λ none. inr (inr (e, p.0));
+    unbuilt = λ w. absurd (omega (arith, w, e));
+    unbuilt_where = λ unbuilt. inr (inr (e, p.0));
     disk = λ w. absurd (omega (arith, w, e));
     source = λ w. absurd (omega (arith, w, e));
     sink = λ w. p.0;
@@ -208,6 +288,7 @@ module _ {D C I : Type 0} (h : Handed D C I) (added : List Step) where
 
   complete_stop : (opening : Opening) (stop : Stop) (status : ℕ) (out : Output) → Cause h added opening stop → AllInOrder h out → status ≡ status_of stop → (status ≡ 0) ⊎ (status ≡ 7) ⊎ ((status ≡ 5) × (h.words ≡ Some Say.Submit))
   complete_stop _ _ status out (usage none) o e = absurd (o.known none)
+  complete_stop _ _ status out (not_built unbuilt) o e = absurd (o.built unbuilt)
   complete_stop _ _ status out (memory opening) o e = inr (inl e)
   complete_stop _ _ status out (source s) o e = absurd (o.calm_sources s)
   complete_stop _ _ status out (tables n kind r first same) o e = let x = o.tables r in absurd (no_bad x.0 x.2.0 n kind x.2.1 (bad_read x.0 n kind (first x.0 x.1)))

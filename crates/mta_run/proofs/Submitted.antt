@@ -18,7 +18,7 @@ use Rattle.mta_spool.specs.Stands.{Stands, step_moment}
 use Rattle.mta_run.specs.declared.inputs.Inputs.{Inputs}
 use Rattle.mta_run.specs.declared.stop.Stop.{Stop}
 use Rattle.mta_run.specs.declared.stop.Stop.TheVariants as Stops
-use Rattle.mta_run.specs.declared.words.Words.TheVariants as Say
+use Rattle.mta_words.specs.declared.words.Words.TheVariants as Say
 use Rattle.mta_run.specs.Words.{ReadsTables, ReadsApdu, OpensDisk}
 use Rattle.mta_run.specs.Handed.{Handed, handed, ForTables, ForInput, ForOpened, DiskFailed, InputsRead}
 use Rattle.mta_run.specs.Inputs.{longest_tables, IsTold, AreTablesRead, HasTables, IsInputStop, HasInput, HasInputs, no_tables, no_apdu, both}
@@ -47,6 +47,7 @@ tables_cause h Stops.Disk reads same is = absurd is
 tables_cause h (Stops.Full size need) reads same is = absurd is
 tables_cause h (Stops.Spent last) reads same is = absurd is
 tables_cause h Stops.Sink reads same is = absurd is
+tables_cause h Stops.NotBuilt reads same is = absurd is
 tables_cause h (Stops.NoMailbox name) reads same is = absurd is
 
 apdu_cause : {D C I : Type 0} (h : Handed D C I) (stop : Stop) → ReadsApdu h.words → (ReadsTables h.words → ForTables h IsTablesText)
@@ -61,6 +62,7 @@ apdu_cause h Stops.Disk reads read is = absurd is
 apdu_cause h (Stops.Full size need) reads read is = absurd is
 apdu_cause h (Stops.Spent last) reads read is = absurd is
 apdu_cause h Stops.Sink reads read is = absurd is
+apdu_cause h Stops.NotBuilt reads read is = absurd is
 apdu_cause h (Stops.NoMailbox name) reads read is = absurd is
 
 -- the text of tables that were read has a value

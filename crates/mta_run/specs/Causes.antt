@@ -15,9 +15,9 @@ use Rattle.mta_show.specs.Queue.{queue_text}
 use Rattle.mta_show.specs.Mailbox.{mailbox_text}
 use Rattle.mta_run.specs.declared.stop.Stop.{Stop}
 use Rattle.mta_run.specs.declared.stop.Stop.TheVariants as Stops
-use Rattle.mta_run.specs.declared.words.Words.{Words}
-use Rattle.mta_run.specs.declared.words.Words.TheVariants as Say
-use Rattle.mta_run.specs.Words.{ReadsTables, ReadsApdu, OpensDisk}
+use Rattle.mta_words.specs.declared.words.Words.{Words}
+use Rattle.mta_words.specs.declared.words.Words.TheVariants as Say
+use Rattle.mta_run.specs.Words.{ReadsTables, ReadsApdu, OpensDisk, IsUnbuilt}
 use Rattle.mta_run.specs.Handed.{Handed, ForTables, ForInput, ForDisk, ForOpened, SourceFailed, DiskFailed, InputsRead}
 use Rattle.mta_run.specs.Lines.{accepted_line}
 use Rattle.mta_run.specs.DiskLeft.{Opening, uncalled, refused, opened}
@@ -49,6 +49,7 @@ pub data IsText {D C I : Type 0} (h : Handed D C I) (added : List Step) : Openin
 -- output has no line, so it is none of these.
 pub data Cause {D C I : Type 0} (h : Handed D C I) (added : List Step) : Opening → Stop → Type 0 where
   usage : h.words ≡ None → Cause h added uncalled Stops.Usage
+  not_built : IsUnbuilt h.words → Cause h added uncalled Stops.NotBuilt
   memory : (opening : Opening) → Cause h added opening Stops.Memory
   source : SourceFailed h → Cause h added uncalled Stops.Source
   tables : (line : ℕ) (kind : LineKind) → ReadsTables h.words → ForTables h (λ c. IsFirstBadLine c line kind)

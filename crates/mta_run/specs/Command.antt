@@ -7,7 +7,7 @@ use Rattle.mta_history.specs.Due.{IsQuiet}
 use Rattle.mta_history.specs.History.{after, IsHistory}
 use Rattle.mta_spool.specs.Stands.{step_moment}
 use Rattle.mta_run.specs.declared.stop.Stop.{Stop}
-use Rattle.mta_run.specs.declared.words.Words.TheVariants as Say
+use Rattle.mta_words.specs.declared.words.Words.TheVariants as Say
 use Rattle.mta_run.specs.Words.{ReadsTables, ReadsApdu, OpensDisk}
 use Rattle.mta_run.specs.Handed.{Handed, ForTables, ForInput, ForOpened}
 use Rattle.mta_run.specs.Output.{Output, HasPrinted}

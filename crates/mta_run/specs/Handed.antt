@@ -6,7 +6,7 @@ use Rattle.mta_first_records.specs.declared.step.Step.{Step}
 use Rattle.mta_history.specs.Apdu.{IsApdu}
 use Rattle.mta_history.specs.History.{IsTablesText}
 use Rattle.mta_history.specs.Image.{StandsFor}
-use Rattle.mta_run.specs.declared.words.Words.{Words}
+use Rattle.mta_words.specs.declared.words.Words.{Words}
 use Rattle.mta_run.specs.Words.{ReadsTables, ReadsApdu}
 
 -- an object before a run and behind it

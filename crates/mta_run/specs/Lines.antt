@@ -40,6 +40,7 @@ fault_text Faults.Trailing = codes "Trailing"
 unfoldable pub line_of : Stop → List ℕ
 line_of Stops.Usage =
     codes "usage: mta submit or serve SESSIONS STATION... or spool or read MAILBOX or decode or drill N\n"
+line_of Stops.NotBuilt = codes "not built\n"
 line_of (Stops.Tables line kind) = codes "tables line " ++ (decimal line ++ (32 ∷ kind_text kind ++ 10 ∷ []))
 line_of (Stops.NotSpool at) = codes "not a spool at " ++ (decimal at ++ 10 ∷ [])
 line_of Stops.Disk = codes "disk fault\n"
@@ -54,6 +55,7 @@ line_of (Stops.BadApdu at kind) = codes "bad APDU at " ++ (decimal at ++ (32 ∷
 -- the status of a stop
 abbrev pub status_of : Stop → ℕ
 status_of Stops.Usage = 1
+status_of Stops.NotBuilt = 11
 status_of (Stops.Tables line kind) = 2
 status_of (Stops.NotSpool at) = 3
 status_of Stops.Disk = 4

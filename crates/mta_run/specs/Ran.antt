@@ -7,9 +7,9 @@ use Rattle.mta_history.specs.Items.{ItemValue, numbered}
 use Rattle.mta_history.specs.Verdict.{last_of}
 use Rattle.mta_history.specs.History.{after, IsHistory, IsTablesText, RecipientsOnce}
 use Rattle.mta_history.specs.Image.{StandsFor}
-use Rattle.mta_run.specs.declared.words.Words.{Words}
-use Rattle.mta_run.specs.declared.words.Words.TheVariants as Say
-use Rattle.mta_run.specs.Words.{ReadsTables, ReadsApdu, OpensDisk}
+use Rattle.mta_words.specs.declared.words.Words.{Words}
+use Rattle.mta_words.specs.declared.words.Words.TheVariants as Say
+use Rattle.mta_run.specs.Words.{ReadsTables, ReadsApdu, OpensDisk, IsUnbuilt}
 use Rattle.mta_run.specs.Handed.{Handed, ForTables, ForInput, ForDisk, ForOpened, SourceFailed, DiskFailed, InputsRead}
 use Rattle.mta_run.specs.Lines.{accepted_line}
 use Rattle.mta_run.specs.Output.{Output, OutputFailed, IsEnded}
@@ -87,6 +87,9 @@ pub record Tells {D C I : Type 0} (h : Handed D C I) (out : Output) (status : �
   -- 1 comes exactly where the words are outside the grammar, but for want of memory and a fault of the output
   pub usage : status ≡ 1 → h.words ≡ None
   pub usage_where : h.words ≡ None → (status ≡ 1) ⊎ (status ≡ 7) ⊎ ((status ≡ 9) × OutputFailed out)
+  -- and 11 exactly where they are those of a command that is not built yet, but for the same
+  pub unbuilt : status ≡ 11 → IsUnbuilt h.words
+  pub unbuilt_where : IsUnbuilt h.words → (status ≡ 11) ⊎ (status ≡ 7) ⊎ ((status ≡ 9) × OutputFailed out)
   pub disk : status ≡ 4 → OpensDisk h.words × DiskFailed h
   pub source : status ≡ 8 → SourceFailed h
   pub sink : status ≡ 9 → OutputFailed out
@@ -95,6 +98,7 @@ pub record Tells {D C I : Type 0} (h : Handed D C I) (out : Output) (status : �
 -- All is in order that the command reads, and nothing fails.
 pub record AllInOrder {D C I : Type 0} (h : Handed D C I) (out : Output) : Type 0 where
   pub known : h.words ≢ None
+  pub built : IsUnbuilt h.words → ⊥
   pub tables : ReadsTables h.words → (c : List ℕ) × (h.sources.left h.conf.before ≡ Some c) × IsTablesText c
   pub apdu : ReadsApdu h.words → (i : List ℕ) × (h.sources.left h.input.before ≡ Some i) × IsApdu i
   pub spool : OpensDisk h.words → (f : List ℕ) × (steps : List Step) × (h.disks.content h.disk.before ≡ Some f)

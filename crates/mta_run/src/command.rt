@@ -8,12 +8,12 @@
 //! reads and after a crash at any moment; each recipient once; what was acknowledged; what was printed,
 //! the status and why. A command leaves the same in `HasEnded`, before its last line.
 
-ghost use Rattle.std.specs.Prelude.{◌≤◌, Some};
+ghost use Rattle.std.specs.Prelude.{◌≤◌, Some, map, string_bytes};
 ghost use Rattle.mta_run.specs.Command.{HasEnded};
 ghost use Rattle.mta_run.specs.Handed.{handed};
 ghost use Rattle.mta_run.specs.Output.{output};
 ghost use Rattle.mta_run.specs.Ran.{IsComplete, Ran, Tells};
-ghost use Rattle.mta_run.specs.Words.{command_of};
+ghost use Rattle.mta_words.specs.Words.{command_of};
 
 use crate::decode::decode;
 use crate::ended::Ended;
@@ -22,8 +22,8 @@ use crate::mailbox::mailbox;
 use crate::queue::queue;
 use crate::stop::Stop;
 use crate::submit::submit;
-use crate::words::Words;
 use mta_edge::{Clock, Disk, Sink, Source};
+use mta_words::Words;
 use std::alloc::Global;
 
 /// How a run ended: its status, and the disk that was handed in.
@@ -49,11 +49,19 @@ fn perform<D: Disk + Drop, C: Clock + Drop, I: Source, O: Sink>(
 {
     match words {
         Words::Submit => submit(alloc, conf, input, out, disk, clock),
+        Words::Serve { .. } => Ended {
+            disk,
+            outcome: Err(Stop::NotBuilt),
+        },
         Words::Queue => queue(alloc, out, disk, clock),
         Words::Mailbox(name) => mailbox(alloc, name, out, disk, clock),
         Words::Decode => Ended {
             disk,
             outcome: decode(alloc, input, out),
+        },
+        Words::Drill(_) => Ended {
+            disk,
+            outcome: Err(Stop::NotBuilt),
         },
     }
 }
@@ -68,7 +76,7 @@ fn command<D: Disk + Drop, C: Clock + Drop, I: Source, O: Sink>(
     disk: D,
     clock: C,
 ) -> Ended<D>
-    ensures ended { HasEnded (handed D.model C.model I.model (command_of words.now) conf.old conf.new input.old
+    ensures ended { HasEnded (handed D.model C.model I.model (command_of (map string_bytes words.now)) conf.old conf.new input.old
         input.new disk result.disk clock) (output O.model out.old out.new) result.outcome }
     ensures later { O.model.faults out.old ≤ O.model.faults out.new }
 {
@@ -90,7 +98,8 @@ fn command<D: Disk + Drop, C: Clock + Drop, I: Source, O: Sink>(
 ///
 /// `submit` reads the tables and the input to their ends, opens the disk, records the tables where they changed, takes
 /// the APDU, prints `accepted N`, and delivers what is due until nothing is. `spool` prints the queue, `read MAILBOX`
-/// what a mailbox got, and `decode` the APDU that the input is.
+/// what a mailbox got, and `decode` the APDU that the input is. `serve` and `drill` are read and not built yet: they
+/// touch nothing, and are told `not built`.
 pub fn run<D: Disk + Drop, C: Clock + Drop, I: Source, O: Sink>(
     alloc: Global,
     words: &[String],
@@ -100,11 +109,11 @@ pub fn run<D: Disk + Drop, C: Clock + Drop, I: Source, O: Sink>(
     disk: D,
     clock: C,
 ) -> Finished<D>
-    ensures ran { Ran (handed D.model C.model I.model (command_of words.now) conf.old conf.new input.old
+    ensures ran { Ran (handed D.model C.model I.model (command_of (map string_bytes words.now)) conf.old conf.new input.old
         input.new disk result.disk clock) (output O.model out.old out.new) result.status }
-    ensures complete { IsComplete (handed D.model C.model I.model (command_of words.now) conf.old conf.new input.old
+    ensures complete { IsComplete (handed D.model C.model I.model (command_of (map string_bytes words.now)) conf.old conf.new input.old
         input.new disk result.disk clock) (output O.model out.old out.new) result.status }
-    ensures tells { Tells (handed D.model C.model I.model (command_of words.now) conf.old conf.new input.old
+    ensures tells { Tells (handed D.model C.model I.model (command_of (map string_bytes words.now)) conf.old conf.new input.old
         input.new disk result.disk clock) (output O.model out.old out.new) result.status }
 {
     let Ended { disk, outcome } = command(alloc, words, conf, input, out, disk, clock);

@@ -11,9 +11,7 @@ mod print;
 mod queue;
 mod stop;
 mod submit;
-mod words;
 
 pub use command::{Finished, run};
 pub use lines::tell;
 pub use stop::Stop;
-pub use words::Words;

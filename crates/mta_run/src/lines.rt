@@ -80,6 +80,7 @@ fn line_of(alloc: Global, stop: &Stop) -> Result<Octets, Memory>
     let mut line = Octets::new(alloc);
     match stop {
         Stop::Usage => line.extend(USAGE)?,
+        Stop::NotBuilt => line.extend(b"not built\n")?,
         Stop::Tables { line: number, kind } => {
             line.extend(b"tables line ")?;
             put_number(&mut line, u64::from(*number))?;
@@ -123,6 +124,7 @@ fn status_of(stop: &Stop) -> u8
 {
     match stop {
         Stop::Usage => 1,
+        Stop::NotBuilt => 11,
         Stop::Tables { .. } => 2,
         Stop::NotSpool { .. } => 3,
         Stop::Disk => 4,

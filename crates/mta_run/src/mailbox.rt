@@ -6,7 +6,7 @@
 //! leaves.
 
 ghost use Rattle.std.specs.Prelude.{◌≡◌, ◌≤◌};
-ghost use Rattle.mta_run.specs.declared.words.Words.TheVariants as Say;
+ghost use Rattle.mta_words.specs.declared.words.Words.TheVariants as Say;
 ghost use Rattle.mta_run.specs.Output.{output};
 ghost use Rattle.mta_run.specs.Shows.{IsMailboxShown, HasShownSpool};
 

@@ -5,7 +5,7 @@
 //! what opening leaves.
 
 ghost use Rattle.std.specs.Prelude.{◌≡◌, ◌≤◌};
-ghost use Rattle.mta_run.specs.declared.words.Words.TheVariants as Say;
+ghost use Rattle.mta_words.specs.declared.words.Words.TheVariants as Say;
 ghost use Rattle.mta_show.specs.Queue.{queue_text};
 ghost use Rattle.mta_run.specs.Output.{output};
 ghost use Rattle.mta_run.specs.Shows.{IsShown, HasShownSpool};

@@ -15,6 +15,8 @@ use mta_tables::LineKind;
 pub enum Stop {
     /// The words are outside the grammar.
     Usage,
+    /// The words are those of a command that is not built yet.
+    NotBuilt,
     /// The text of the tables has this first bad line, from 1.
     Tables { line: u32, kind: LineKind },
     /// The disk holds no spool from this offset on.

@@ -14,7 +14,7 @@ ghost use Rattle.mta_history.specs.Apdu.{IsApdu};
 ghost use Rattle.mta_first_records.specs.declared.step.Step.{Step};
 ghost use Rattle.mta_spool.specs.Stands.{Stands, TellsFewer};
 ghost use Rattle.mta_tables.specs.Tables.{tables_of};
-ghost use Rattle.mta_run.specs.declared.words.Words.TheVariants as Say;
+ghost use Rattle.mta_words.specs.declared.words.Words.TheVariants as Say;
 ghost use Rattle.mta_run.specs.Command.{HasEnded};
 ghost use Rattle.mta_run.specs.Handed.{handed};
 ghost use Rattle.mta_run.specs.Output.{output};

@@ -279,7 +279,13 @@ fn words_are_refused(rt: HostRuntime) -> Result<(), Fail> {
         name: Some("nobody"),
         ..PLAIN
     };
+    let drill = Given {
+        word: "drill",
+        name: Some("3"),
+        ..PLAIN
+    };
     ends(&rt, alloc, &serve, b"", 1, USAGE)?;
+    ends(&rt, alloc, &drill, b"", 11, b"not built\n")?;
     ends(&rt, alloc, &nobody, b"", 10, b"no such mailbox nobody\n")
 }
 

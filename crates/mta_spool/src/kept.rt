@@ -16,8 +16,8 @@ ghost use Rattle.mta_history.specs.History.{IsPossible, after_step};
 ghost use Rattle.mta_spool.specs.Current.{state_of, IsSound, HasRoom, IsChange};
 
 use mta_ber::{Memory, Octets};
-use mta_history::{Item, MailboxLine, Origin, Status, Statuses};
 use mta_first_records::Step;
+use mta_history::{Item, MailboxLine, Origin, Status, Statuses};
 use mta_tables::Tables;
 use std::alloc::Global;
 

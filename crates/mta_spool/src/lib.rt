@@ -11,9 +11,9 @@ mod replay;
 mod spool;
 
 pub use current::Current;
+pub use mta_first_records::{Step, StepFault};
 pub use mta_history::{Item, MailboxLine, Origin, Status, Statuses};
 pub use mta_journal::{JOURNAL_LIMIT, OpenWhy};
-pub use mta_first_records::{Step, StepFault};
 pub use mta_tables::Tables;
 pub use open::SpoolOpen;
 pub use spool::{Spool, Turned};

@@ -18,8 +18,8 @@ ghost use Rattle.mta_spool.specs.Stands.{fault_of, IsSpent, Makes};
 
 use crate::kept::{Change, Kept};
 use mta_edge::Disk;
-use mta_journal::{AppendFault, Journal};
 use mta_first_records::{Step, StepFault, write_record};
+use mta_journal::{AppendFault, Journal};
 use std::alloc::Global;
 
 fn step_fault(fault: AppendFault) -> StepFault

@@ -10,8 +10,8 @@ ghost use Rattle.mta_spool.specs.Replaying.{HasTaken, Replays};
 
 use crate::current::{Current, NotMade};
 use mta_ber::Octets;
-use mta_journal::OpenWhy;
 use mta_first_records::{RecordFault, read_record};
+use mta_journal::OpenWhy;
 use std::alloc::Global;
 
 // Takes up the step of a body, where it has one that is possible.

@@ -1,5 +1,5 @@
 use Rattle.std.proofs.Common.{refl}
-use Rattle.mta_run.specs.declared.words.Words.TheVariants as Say
+use Rattle.mta_words.specs.declared.words.Words.TheVariants as Say
 use Rattle.mta_run.specs.Output.{output}
 use Rattle.mta_run.proofs.ShownSpool.{shown_not_opened, mailbox_left}
 use Rattle.mta_run.proofs.mailbox.mailbox.Goals as goal

@@ -1,0 +1,40 @@
+#!/usr/bin/env bash
+# How long tables of 4,096 mailboxes, 4,096 routes and 256 lists take to answer where a name goes, beside a plain scan
+# of the mailboxes, and how long reading a text of them takes, beside one of half as many lines. User time, all in one
+# run on this machine. Run it at the top of the repository.
+set -eu
+cd "$(dirname "$0")/.."
+command -v rt >/dev/null || { echo "skipped: rt is not on the PATH"; exit 0; }
+made=$(mktemp -d)
+trap 'rm -rf "$made"' EXIT
+(cd crates/mta_tables_bench && rt run -- read 16) >"$made/log" 2>&1 || { cat "$made/log"; exit 1; }
+program=crates/mta_tables_bench/out/mta_tables_bench
+
+# the seconds of user time of the fastest of seven runs of the program with these words
+TIMEFORMAT=%U
+fastest() {
+  for _ in 1 2 3 4 5 6 7; do
+    { time "$program" "$@" >/dev/null; } 2>&1
+  done | sort -n | head -n 1
+}
+
+[ "$("$program" route 4096)" = "131072 names found" ] || { echo "other names were found"; exit 1; }
+[ "$("$program" scan 4096)" = "4096 names found" ] || { echo "other names were found by the scan"; exit 1; }
+half=$(fastest read 2048)
+whole=$(fastest read 4096)
+few=$(fastest route 256)
+read_few=$(fastest read 256)
+route=$(fastest route 4096)
+scan=$(fastest scan 4096)
+echo "processors: $(nproc), load before: $(cut -d' ' -f1 /proc/loadavg)"
+awk -v half="$half" -v whole="$whole" -v few="$few" -v read_few="$read_few" -v route="$route" -v scan="$scan" 'BEGIN {
+  one = whole / 8
+  asked = (route - one) / 131072 * 1e6
+  asked_few = (few - read_few / 8) / 8192 * 1e6
+  scanned = (scan - one) / 8192 * 1e6
+  printf "reading: %.1f ms for 4,096 mailboxes and routes, ", one * 1000
+  printf "%.1f ms for 2,048; ratio %.2f\n", half / 8 * 1000, whole / (half + 0.001)
+  printf "where a name goes: %.2f us, of 256 mailboxes and routes %.2f us; ", asked, asked_few
+  printf "by a scan of 4,096 mailboxes alone %.2f us; ratio %.0f\n", scanned, scanned / asked
+  if (whole > 2.5 * (half + 0.001)) { print "reading twice the lines takes more than 2.5 times the time"; exit 1 }
+}'
