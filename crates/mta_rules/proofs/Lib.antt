@@ -1,0 +1,5 @@
+pub mod Sames
+pub mod Digits
+pub mod Places
+pub mod Chosen
+pub mod Made
