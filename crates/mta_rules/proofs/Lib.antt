@@ -2,4 +2,8 @@ pub mod Sames
 pub mod Digits
 pub mod Places
 pub mod Chosen
+pub mod Copied
 pub mod Made
+pub mod Responsible
+pub mod Wholes
+pub mod ReportParts

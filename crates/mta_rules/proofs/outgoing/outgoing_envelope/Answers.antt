@@ -1,0 +1,44 @@
+use Rattle.std.proofs.Common.{◌≡◌, List, [], ◌∷◌, ◌++◌, false, sym, ap, subst, ◌∙◌}
+use Rattle.mta_fields.specs.declared.trace.TraceFields.{TraceFields}
+use Rattle.mta_recipient.specs.declared.recipient.RecipientFields.{RecipientFields}
+use Rattle.mta_envelope.specs.declared.envelope.EnvelopeFields.{EnvelopeFields}
+use Rattle.mta_envelope.specs.Envelopes.{IsEnvelope}
+use Rattle.mta_procedures.specs.Copies.{outgoing_envelope, responsible_for}
+use Rattle.mta_procedures.specs.Situations.{Situation, situation}
+use Rattle.mta_procedures.specs.Traces.{own_trace}
+use Rattle.mta_rules.proofs.Copied.{outgoing_is_envelope, outgoing_so}
+use Rattle.mta_rules.proofs.outgoing.outgoing_envelope.Goals as goal
+
+pub from_fields-requires : goal.from_fields-requires
+from_fields-requires c =
+    let s : Situation = situation c.args.tables.now c.args.arrival c.args.moment in
+    let deferred = c.deferred_time-deferred.result in
+    let v : EnvelopeFields = c.fields-fields.result.now in
+    let so = outgoing_so s v c.in_ok-parts.parts c.args.chosen.now deferred
+    c.in_ok-recipients.recipients c.in_ok-trace.trace
+    (c.deferred_time-deferred.ensures.exact c.args.tables.now)
+    (c.in_ok-recipients.ensures
+    ∙ ap (λ (a : List RecipientFields). responsible_for c.args.chosen.now a) c.as_slice.ensures)
+    (c.in_ok-trace.ensures c.args.moment
+    ∙ ap (λ (a : List TraceFields). a ++ own_trace s deferred false ∷ []) c.as_slice-2.ensures)
+    c.in_ok-parts.ensures in
+    let whole = so ∙ ap (λ (a : EnvelopeFields). outgoing_envelope s a c.args.chosen.now)
+    c.fields-fields.ensures.exact in
+    subst IsEnvelope (sym whole)
+    (outgoing_is_envelope s c.args.envelope.now c.args.chosen.now c.fields-fields.ensures.envelope c.requires.room)
+
+pub returns : goal.returns
+returns c =
+    let s : Situation = situation c.args.tables.now c.args.arrival c.args.moment in
+    let deferred = c.deferred_time-deferred.result in
+    let v : EnvelopeFields = c.fields-fields.result.now in
+    let so = outgoing_so s v c.in_ok-parts.parts c.args.chosen.now deferred
+    c.in_ok-recipients.recipients c.in_ok-trace.trace
+    (c.deferred_time-deferred.ensures.exact c.args.tables.now)
+    (c.in_ok-recipients.ensures
+    ∙ ap (λ (a : List RecipientFields). responsible_for c.args.chosen.now a) c.as_slice.ensures)
+    (c.in_ok-trace.ensures c.args.moment
+    ∙ ap (λ (a : List TraceFields). a ++ own_trace s deferred false ∷ []) c.as_slice-2.ensures)
+    c.in_ok-parts.ensures in
+    c.from_fields.ensures ∙ so
+    ∙ ap (λ (a : EnvelopeFields). outgoing_envelope s a c.args.chosen.now) c.fields-fields.ensures.exact
