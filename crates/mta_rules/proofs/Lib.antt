@@ -2,8 +2,4 @@ pub mod Sames
 pub mod Digits
 pub mod Places
 pub mod Chosen
-pub mod Copied
 pub mod Made
-pub mod Responsible
-pub mod Wholes
-pub mod ReportParts

@@ -1,15 +1,14 @@
 -- Indicators with one of them set or cleared.
-use Rattle.std.proofs.Common.{◌≡◌, ℕ, ◌+◌, ◌-◌, ◌*◌, ◌/◌, ◌%◌, ◌^◌, ◌<◌, ◌≤◌}
+use Rattle.std.proofs.Common.{◌≡◌, ℕ, ◌+◌, ◌-◌, ◌*◌, ◌%◌, ◌^◌, ◌<◌}
 use Rattle.std.proofs.Common.{Bool, true, false}
-use Rattle.std.proofs.Common.{refl, ap, subst, ◌∙◌, arith, inl, inr}
-use Rattle.std.specs.Prelude.{if◌then◌else◌, ◌&&◌, ◌==◌, nat_lt}
-use Rattle.std.proofs.Math.Nat.{mod-eq_of_lt, div-eq_of_lt}
+use Rattle.std.proofs.Common.{ap, subst, ◌∙◌, arith}
+use Rattle.std.specs.Prelude.{if◌then◌else◌}
+use Rattle.std.proofs.Math.Nat.{mod-eq_of_lt}
 use Rattle.std.proofs.Math.Pow.{pow-lt}
-use Rattle.std.proofs.lemmas.Bool.{cases_lt}
 use Rattle.mta_ber.specs.Bits.{BitString, bit}
 use Rattle.mta_ber.proofs.BitLaws.{fits_64}
 use Rattle.mta_common.specs.Indicators.{IsIndicators}
-use Rattle.mta_procedures.specs.Bits.{weight, with_word, with_set, with_clear}
+use Rattle.mta_procedures.specs.Bits.{weight, with_word, with_set}
 use Rattle.mta_procedures.proofs.SetLaws.{set_fits}
 
 pub shifted : (k : ℕ) → k < 64 → 1 * 2 ^ k % 2 ^ 64 ≡ 2 ^ k
@@ -39,37 +38,3 @@ pub set_fits_64 : (place : ℕ) (b : BitString) → place < 8 → IsIndicators b
 set_fits_64 place b small i e = fits_64 (b.word + weight b place) b.count (set_room place b small i e) i.at_most
 
 pub ruleset set_steps = (set_already, set_now, set_room, set_fits_64, set_fits)
-
--- ---- a bit that is cleared
-
-and_false : (x : Bool) → (x && false) ≡ false
-and_false true = refl
-and_false false = refl
-
-no_bit : (place : ℕ) (b : BitString) → b.word / weight b place ≡ 0 → bit b place ≡ false
-no_bit place b e = ap (λ x. nat_lt place b.count && (x % 2 == 1)) e ∙ and_false (nat_lt place b.count)
-
-pub clear_room : (place : ℕ) (b : BitString) → bit b place ≡ true → weight b place ≤ b.word
-clear_room place b e = elim (cases_lt b.word (weight b place)) [
-  | inl lt ↦ absurd (cc (no_bit place b (div-eq_of_lt lt), e))
-  | inr le ↦ le
-]
-
-pub clear_already : (place : ℕ) (b : BitString) → bit b place ≡ false → with_clear place b ≡ b
-clear_already place b e = ap (λ v. if v then with_word b (b.word - weight b place) else b) e
-
-pub clear_now : (place : ℕ) (b : BitString) → bit b place ≡ true
-    → with_clear place b ≡ with_word b (b.word - weight b place)
-clear_now place b e = ap (λ v. if v then with_word b (b.word - weight b place) else b) e
-
-pub clear_within : (place : ℕ) (b : BitString) → IsIndicators b → b.word - weight b place < 2 ^ b.count
-clear_within place b i = omega (arith, i.within)
-
-pub clear_fits : (place : ℕ) (b : BitString) → IsIndicators b → IsIndicators (with_clear place b)
-clear_fits place b i = at (bit b place)
-  where
-    at : (v : Bool) → IsIndicators (if v then with_word b (b.word - weight b place) else b)
-    at true = record { at_least = i.at_least; at_most = i.at_most; within = clear_within place b i }
-    at false = i
-
-pub ruleset clear_steps = (clear_room, clear_already, clear_now, clear_within, clear_fits)

@@ -1,8 +1,8 @@
-//! Indicators with one of them set or cleared.
+//! Indicators with one of them set.
 
 ghost use Rattle.std.specs.Prelude.{◌≡◌, ◌<◌};
 ghost use Rattle.mta_common.specs.Indicators.{IsIndicators};
-ghost use Rattle.mta_procedures.specs.Bits.{weight, with_set, with_clear};
+ghost use Rattle.mta_procedures.specs.Bits.{weight, with_set};
 
 use mta_ber::Bits;
 
@@ -26,18 +26,4 @@ pub fn with_set(bits: Bits, place: u8) -> Bits
         return bits;
     }
     Bits::new(bits.count(), bits.word() + weight_of(bits, place))
-}
-
-/// The indicators with the one at a place cleared.
-#[tactic(auto, using(crate::proofs::Places::clear_steps))]
-pub fn with_clear(bits: Bits, place: u8) -> Bits
-    requires place { place < 8 }
-    requires indicators { IsIndicators bits }
-    ensures exact { result ≡ with_clear place bits }
-    ensures indicators { IsIndicators result }
-{
-    if bits.is_set(place) {
-        return Bits::new(bits.count(), bits.word() - weight_of(bits, place));
-    }
-    bits
 }
