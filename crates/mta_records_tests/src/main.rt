@@ -1,8 +1,8 @@
 //! Reads a table of bodies of records from its input, a row a line: what reading the octets answers (the step, or the
 //! place of the first fault), and the octets in hexadecimal, behind a tab. The octets of a step are also written again.
 //! Prints each row that is answered otherwise, and how many rows there are. The rows of `stdin` were worked out from
-//! the format of the journal: of each kind a body, the body cut by an octet and with an octet behind it, and bodies with
-//! a field outside its type.
+//! the format of the journal: of each kind a body, the body cut by an octet and with an octet behind it, and bodies
+//! with a field outside its type.
 #![tactic(auto)]
 
 use anyhow::{Context, Result};

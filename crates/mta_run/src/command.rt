@@ -76,8 +76,8 @@ fn command<D: Disk + Drop, C: Clock + Drop, I: Source, O: Sink>(
     disk: D,
     clock: C,
 ) -> Ended<D>
-    ensures ended { HasEnded (handed D.model C.model I.model (command_of (map string_bytes words.now)) conf.old conf.new input.old
-        input.new disk result.disk clock) (output O.model out.old out.new) result.outcome }
+    ensures ended { HasEnded (handed D.model C.model I.model (command_of (map string_bytes words.now))
+        conf.old conf.new input.old input.new disk result.disk clock) (output O.model out.old out.new) result.outcome }
     ensures later { O.model.faults out.old ≤ O.model.faults out.new }
 {
     match Words::read(alloc, words) {
@@ -109,12 +109,12 @@ pub fn run<D: Disk + Drop, C: Clock + Drop, I: Source, O: Sink>(
     disk: D,
     clock: C,
 ) -> Finished<D>
-    ensures ran { Ran (handed D.model C.model I.model (command_of (map string_bytes words.now)) conf.old conf.new input.old
-        input.new disk result.disk clock) (output O.model out.old out.new) result.status }
-    ensures complete { IsComplete (handed D.model C.model I.model (command_of (map string_bytes words.now)) conf.old conf.new input.old
-        input.new disk result.disk clock) (output O.model out.old out.new) result.status }
-    ensures tells { Tells (handed D.model C.model I.model (command_of (map string_bytes words.now)) conf.old conf.new input.old
-        input.new disk result.disk clock) (output O.model out.old out.new) result.status }
+    ensures ran { Ran (handed D.model C.model I.model (command_of (map string_bytes words.now))
+        conf.old conf.new input.old input.new disk result.disk clock) (output O.model out.old out.new) result.status }
+    ensures complete { IsComplete (handed D.model C.model I.model (command_of (map string_bytes words.now))
+        conf.old conf.new input.old input.new disk result.disk clock) (output O.model out.old out.new) result.status }
+    ensures tells { Tells (handed D.model C.model I.model (command_of (map string_bytes words.now))
+        conf.old conf.new input.old input.new disk result.disk clock) (output O.model out.old out.new) result.status }
 {
     let Ended { disk, outcome } = command(alloc, words, conf, input, out, disk, clock);
     let status = close(alloc, out, outcome);
