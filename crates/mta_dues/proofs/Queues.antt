@@ -161,3 +161,7 @@ pub no_queue : (s : State) (peer text : List ℕ) → numbered s.machine.tables 
 no_queue s peer text is unnamed other other_is =
     let same : text ≡ other = same_Some text other (sym is ∙ other_is) in
     subst (λ (t : List ℕ). names_peer t peer ≡ false) same unnamed
+
+pub ruleset routed_laws = (unrouted_at_first, unrouted_further, all_unrouted, some_routed)
+
+pub ruleset queue_laws = (queue_at_first, queue_further, queue_one_more, whole_queue)

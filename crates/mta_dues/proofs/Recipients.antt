@@ -202,3 +202,5 @@ abandoned s i r moment text item lane kept text_is item_is found does =
       expired = (expires s.machine i r moment text item lane.transfer text_is item_is both.1).1 does;
       step_is = refl;
     })
+
+pub ruleset in_activity_laws = (none_sending, not_expired, abandoned)

@@ -160,3 +160,7 @@ a_batch s peer moment i rs before are some = record {
   at : (j r : ℕ) → IsToRelay s peer moment j r → (i < j) ⊎ (j ≤ i) → i + 1 ≤ j
   at j r to (inl above) = omega (arith, above)
   at j r to (inr below) = absurd (before j r below to)
+
+pub ruleset relay_laws = (relays_at_first, relays_further, relays_one_more, all_relays)
+
+pub ruleset batch_laws = (none_at_start, none_of_item, no_batch, a_batch)

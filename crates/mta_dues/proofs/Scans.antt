@@ -113,3 +113,7 @@ first_item s i moment due before first = record {
   is_due = first.is_due;
   lowest = λ j q other d. by_place s i j q moment due other first before d (cases_le j i);
 }
+
+pub ruleset recipient_laws = (none_at_first, none_further, no_recipient, first_recipient)
+
+pub ruleset item_laws = (nothing_at_first, nothing_further, no_item, first_item)

@@ -99,7 +99,7 @@ fn sending_for(lanes: &Lanes, item: u32, recipient: u32) -> Option<&Lane>
 }
 
 // What is due of a recipient who is in an activity.
-#[tactic(auto, using(crate::proofs::Recipients::none_sending, crate::proofs::Recipients::not_expired, crate::proofs::Recipients::abandoned))]
+#[tactic(auto, using(crate::proofs::Recipients::in_activity_laws))]
 fn due_in_activity<R: Rules>(
     alloc: Global,
     rules: &R,

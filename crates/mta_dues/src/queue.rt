@@ -38,7 +38,7 @@ fn is_routed<R: Rules>(
 }
 
 // Whether some recipient of an item waits for the peer.
-#[tactic(auto, using(crate::proofs::Queues::unrouted_at_first, crate::proofs::Queues::unrouted_further, crate::proofs::Queues::all_unrouted, crate::proofs::Queues::some_routed))]
+#[tactic(auto, using(crate::proofs::Queues::routed_laws))]
 fn has_routed<R: Rules>(
     alloc: Global,
     rules: &R,
@@ -64,7 +64,7 @@ fn has_routed<R: Rules>(
 }
 
 // The items of which a recipient waits for the peer.
-#[tactic(auto, using(crate::proofs::Queues::queue_at_first, crate::proofs::Queues::queue_further, crate::proofs::Queues::queue_one_more, crate::proofs::Queues::whole_queue))]
+#[tactic(auto, using(crate::proofs::Queues::queue_laws))]
 fn queued<R: Rules>(alloc: Global, rules: &R, kept: &Kept, peer: &[u8]) -> Result<Vec<u32>, Memory>
     requires text { let m = machine_of kept.now.parts in numbered m.tables (last_tables m) ≡ Some (R.text rules.now) }
     requires stored { All IsStored kept.now.parts.items.items }

@@ -58,7 +58,7 @@ pub fn is_to_relay<R: Rules>(
 }
 
 // The recipients of an item that are to be relayed to the peer.
-#[tactic(auto, using(crate::proofs::Relays::relays_at_first, crate::proofs::Relays::relays_further, crate::proofs::Relays::relays_one_more, crate::proofs::Relays::all_relays))]
+#[tactic(auto, using(crate::proofs::Relays::relay_laws))]
 fn recipients_for<R: Rules>(
     alloc: Global,
     rules: &R,
@@ -96,7 +96,7 @@ fn has_some(recipients: &Vec<u32>) -> bool
 }
 
 /// The lowest item with recipients to relay to the peer, and all those; none where there is no such item.
-#[tactic(auto, using(crate::proofs::Relays::none_at_start, crate::proofs::Relays::none_of_item, crate::proofs::Relays::no_batch, crate::proofs::Relays::a_batch))]
+#[tactic(auto, using(crate::proofs::Relays::batch_laws))]
 pub fn batch_for<R: Rules>(
     alloc: Global,
     rules: &R,

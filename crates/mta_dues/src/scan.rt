@@ -18,7 +18,7 @@ use mta_replay::Kept;
 use std::alloc::Global;
 
 // What is due of the lowest recipient of an item.
-#[tactic(auto, using(crate::proofs::Scans::none_at_first, crate::proofs::Scans::none_further, crate::proofs::Scans::no_recipient, crate::proofs::Scans::first_recipient))]
+#[tactic(auto, using(crate::proofs::Scans::recipient_laws))]
 fn first_of<R: Rules>(
     alloc: Global,
     rules: &R,
@@ -46,7 +46,7 @@ fn first_of<R: Rules>(
 }
 
 /// The due step of the lowest item and recipient at a moment: none where nothing is due.
-#[tactic(auto, using(crate::proofs::Scans::nothing_at_first, crate::proofs::Scans::nothing_further, crate::proofs::Scans::no_item, crate::proofs::Scans::first_item))]
+#[tactic(auto, using(crate::proofs::Scans::item_laws))]
 pub fn due_step<R: Rules>(
     alloc: Global,
     rules: &R,

@@ -44,3 +44,5 @@ module _ (k : Kept) (n g activity number : ℕ) (piece : List ℕ) where
   not_secured lane found never =
       not_allowed (state_of k) (steps.Secure n g activity number piece) n (Some g) (secure activity number piece) lane
       refl (sym found) (λ current needs. never (current, needs))
+
+pub ruleset secure_laws = (secure_changes, not_secured, not_there)

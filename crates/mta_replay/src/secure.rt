@@ -39,7 +39,7 @@ impl Kept {
     }
 
     /// What a Secure changes; none exactly where it is not possible.
-    #[tactic(auto, using(crate::proofs::Received::secure_changes, crate::proofs::Received::not_secured, crate::proofs::Received::not_there))]
+    #[tactic(auto, using(crate::proofs::Received::secure_laws))]
     pub fn prepare_secure(
         &self,
         alloc: Global,
