@@ -5,12 +5,12 @@ ghost use Rattle.std.specs.Option.{option_copied};
 ghost use Rattle.std.specs.List.{find};
 ghost use Rattle.mta_ber.specs.Times.{last_moment};
 ghost use Rattle.mta_machine.specs.Items.{is_pending_at, numbered};
-ghost use Rattle.mta_machine.specs.Machine.{last_tables, verdict_on};
+ghost use Rattle.mta_machine.specs.Machine.{verdict_on};
 ghost use Rattle.mta_histories.specs.Lanes.{activities_of};
 ghost use Rattle.mta_histories.specs.Kept.{IsKept};
 ghost use Rattle.mta_items.specs.Parts.{machine_of};
 ghost use Rattle.mta_replay.specs.Kept.{state_of};
-ghost use Rattle.mta_dues.specs.Answers.{IsDueOf, is_sending_for, step_by};
+ghost use Rattle.mta_dues.specs.Answers.{IsDueOf, is_sending_for, step_by, IsTextOf};
 
 use crate::rules::Rules;
 use mta_ber::Memory;
@@ -109,7 +109,7 @@ fn due_in_activity<R: Rules>(
     recipient: u32,
     moment: u64,
 ) -> Result<Option<Step>, Memory>
-    requires text { let m = machine_of kept.now.parts in numbered m.tables (last_tables m) ≡ Some (R.text rules.now) }
+    requires text { IsTextOf kept.now (R.text rules.now) }
     requires kept { IsKept (state_of kept.now) }
     requires item { numbered kept.now.parts.items.items number ≡ Some item.now }
     requires arrived { item.now.arrival ≤ last_moment }
@@ -143,7 +143,7 @@ fn due_while_free<R: Rules>(
     recipient: u32,
     moment: u64,
 ) -> Result<Option<Step>, Memory>
-    requires text { let m = machine_of kept.now.parts in numbered m.tables (last_tables m) ≡ Some (R.text rules.now) }
+    requires text { IsTextOf kept.now (R.text rules.now) }
     requires item { numbered kept.now.parts.items.items number ≡ Some item.now }
     requires arrived { item.now.arrival ≤ last_moment }
     requires pending { is_pending_at (machine_of kept.now.parts) number recipient ≡ true }
@@ -166,7 +166,7 @@ pub fn due_of<R: Rules>(
     recipient: u32,
     moment: u64,
 ) -> Result<Option<Step>, Memory>
-    requires text { let m = machine_of kept.now.parts in numbered m.tables (last_tables m) ≡ Some (R.text rules.now) }
+    requires text { IsTextOf kept.now (R.text rules.now) }
     requires kept { IsKept (state_of kept.now) }
     requires item { numbered kept.now.parts.items.items number ≡ Some item.now }
     requires arrived { item.now.arrival ≤ last_moment }

@@ -3,11 +3,9 @@
 ghost use Rattle.std.specs.Prelude.{◌≡◌, ◌≤◌, ◌<◌, ◌^◌, ◌↔◌, IfOk, IsTrue, Some, length};
 ghost use Rattle.std.specs.List.{All};
 ghost use Rattle.mta_machine.specs.Items.{numbered};
-ghost use Rattle.mta_machine.specs.Machine.{last_tables};
 ghost use Rattle.mta_histories.specs.Due.{HasQueue, IsQueue, IsRoutedTo};
-ghost use Rattle.mta_items.specs.Parts.{machine_of};
 ghost use Rattle.mta_replay.specs.Kept.{state_of};
-ghost use Rattle.mta_dues.specs.Answers.{HasRouted, IsStored};
+ghost use Rattle.mta_dues.specs.Answers.{HasRouted, IsStored, IsTextOf};
 
 use crate::rules::Rules;
 use mta_ber::{Memory, Word};
@@ -27,7 +25,7 @@ fn is_routed<R: Rules>(
     recipient: u32,
     peer: &[u8],
 ) -> Result<bool, Memory>
-    requires text { let m = machine_of kept.now.parts in numbered m.tables (last_tables m) ≡ Some (R.text rules.now) }
+    requires text { IsTextOf kept.now (R.text rules.now) }
     requires item { numbered kept.now.parts.items.items number ≡ Some item.now }
     ensures { IfOk result (λ b. IsTrue b ↔ IsRoutedTo (state_of kept.now) peer.now number recipient) }
 {
@@ -47,7 +45,7 @@ fn has_routed<R: Rules>(
     item: &Item,
     peer: &[u8],
 ) -> Result<bool, Memory>
-    requires text { let m = machine_of kept.now.parts in numbered m.tables (last_tables m) ≡ Some (R.text rules.now) }
+    requires text { IsTextOf kept.now (R.text rules.now) }
     requires item { numbered kept.now.parts.items.items number ≡ Some item.now }
     requires stored { IsStored item.now }
     ensures { IfOk result (λ b. IsTrue b ↔ HasRouted (state_of kept.now) peer.now number) }
@@ -66,7 +64,7 @@ fn has_routed<R: Rules>(
 // The items of which a recipient waits for the peer.
 #[tactic(auto, using(crate::proofs::Queues::queue_laws))]
 fn queued<R: Rules>(alloc: Global, rules: &R, kept: &Kept, peer: &[u8]) -> Result<Vec<u32>, Memory>
-    requires text { let m = machine_of kept.now.parts in numbered m.tables (last_tables m) ≡ Some (R.text rules.now) }
+    requires text { IsTextOf kept.now (R.text rules.now) }
     requires stored { All IsStored kept.now.parts.items.items }
     requires numbers { length kept.now.parts.items.items < 2 ^ 32 }
     ensures { IfOk result (λ items. IsQueue (state_of kept.now) peer.now items.items) }
@@ -93,7 +91,7 @@ pub fn waiting<R: Rules>(
     kept: &Kept,
     peer: &Word,
 ) -> Result<Option<Recipients>, Memory>
-    requires text { let m = machine_of kept.now.parts in numbered m.tables (last_tables m) ≡ Some (R.text rules.now) }
+    requires text { IsTextOf kept.now (R.text rules.now) }
     requires stored { All IsStored kept.now.parts.items.items }
     requires numbers { length kept.now.parts.items.items < 2 ^ 32 }
     ensures { IfOk result (HasQueue (state_of kept.now) peer.now) }

@@ -6,11 +6,10 @@ ghost use Rattle.std.specs.List.{All};
 ghost use Rattle.mta_ber.specs.Times.{last_moment};
 ghost use Rattle.mta_machine.specs.Items.{ItemValue, numbered};
 ghost use Rattle.mta_machine.specs.Rules.{verdict_of};
-ghost use Rattle.mta_machine.specs.Machine.{last_tables, relay_by};
+ghost use Rattle.mta_machine.specs.Machine.{relay_by};
 ghost use Rattle.mta_histories.specs.Due.{IsToRelay};
-ghost use Rattle.mta_items.specs.Parts.{machine_of};
 ghost use Rattle.mta_replay.specs.Kept.{state_of};
-ghost use Rattle.mta_dues.specs.Answers.{AreRelayed, IsBatchOf, IsStored};
+ghost use Rattle.mta_dues.specs.Answers.{AreRelayed, IsBatchOf, IsStored, IsTextOf};
 
 use crate::rules::Rules;
 use mta_ber::{Memory, Word};
@@ -45,7 +44,7 @@ pub fn is_to_relay<R: Rules>(
     peer: &[u8],
     moment: u64,
 ) -> Result<bool, Memory>
-    requires text { let m = machine_of kept.now.parts in numbered m.tables (last_tables m) ≡ Some (R.text rules.now) }
+    requires text { IsTextOf kept.now (R.text rules.now) }
     requires item { numbered kept.now.parts.items.items number ≡ Some item.now }
     requires arrived { item.now.arrival ≤ last_moment }
     ensures { IfOk result (λ b. IsTrue b ↔ IsToRelay (state_of kept.now) peer.now moment number recipient) }
@@ -68,7 +67,7 @@ fn recipients_for<R: Rules>(
     peer: &[u8],
     moment: u64,
 ) -> Result<Vec<u32>, Memory>
-    requires text { let m = machine_of kept.now.parts in numbered m.tables (last_tables m) ≡ Some (R.text rules.now) }
+    requires text { IsTextOf kept.now (R.text rules.now) }
     requires item { numbered kept.now.parts.items.items number ≡ Some item.now }
     requires stored { IsStored item.now }
     ensures { IfOk result (λ rs. AreRelayed (state_of kept.now) peer.now moment number rs.items) }
@@ -104,7 +103,7 @@ pub fn batch_for<R: Rules>(
     peer: &Word,
     moment: u64,
 ) -> Result<Option<Batch>, Memory>
-    requires text { let m = machine_of kept.now.parts in numbered m.tables (last_tables m) ≡ Some (R.text rules.now) }
+    requires text { IsTextOf kept.now (R.text rules.now) }
     requires stored { All IsStored kept.now.parts.items.items }
     requires numbers { length kept.now.parts.items.items < 2 ^ 32 }
     ensures { IfOk result (IsBatchOf (state_of kept.now) peer.now moment) }

@@ -3,11 +3,9 @@
 ghost use Rattle.std.specs.Prelude.{◌≡◌, ◌≤◌, ◌<◌, ◌^◌, IfOk, Some, length};
 ghost use Rattle.std.specs.List.{All};
 ghost use Rattle.mta_machine.specs.Items.{numbered};
-ghost use Rattle.mta_machine.specs.Machine.{last_tables};
 ghost use Rattle.mta_histories.specs.Kept.{IsKept};
-ghost use Rattle.mta_items.specs.Parts.{machine_of};
 ghost use Rattle.mta_replay.specs.Kept.{state_of};
-ghost use Rattle.mta_dues.specs.Answers.{IsFirstOf, IsNextOf, IsStored};
+ghost use Rattle.mta_dues.specs.Answers.{IsFirstOf, IsNextOf, IsStored, IsTextOf};
 
 use crate::due::due_of;
 use crate::rules::Rules;
@@ -27,7 +25,7 @@ fn first_of<R: Rules>(
     item: &Item,
     moment: u64,
 ) -> Result<Option<Step>, Memory>
-    requires text { let m = machine_of kept.now.parts in numbered m.tables (last_tables m) ≡ Some (R.text rules.now) }
+    requires text { IsTextOf kept.now (R.text rules.now) }
     requires kept { IsKept (state_of kept.now) }
     requires item { numbered kept.now.parts.items.items number ≡ Some item.now }
     requires stored { IsStored item.now }
@@ -53,7 +51,7 @@ pub fn due_step<R: Rules>(
     kept: &Kept,
     moment: u64,
 ) -> Result<Option<Step>, Memory>
-    requires text { let m = machine_of kept.now.parts in numbered m.tables (last_tables m) ≡ Some (R.text rules.now) }
+    requires text { IsTextOf kept.now (R.text rules.now) }
     requires kept { IsKept (state_of kept.now) }
     requires stored { All IsStored kept.now.parts.items.items }
     requires numbers { length kept.now.parts.items.items < 2 ^ 32 }
