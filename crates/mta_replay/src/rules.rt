@@ -9,7 +9,7 @@ ghost use Rattle.mta_machine.specs.Rules.{delivery_report, expansion, is_expired
 ghost use Rattle.mta_machine.specs.Rules.{non_delivery_report, outgoing_copy, passed_back, peer_word, route_word};
 ghost use Rattle.mta_machine.specs.Rules.{verdict_of};
 ghost use Rattle.mta_items.specs.Parts.{made_items};
-ghost use Rattle.mta_replay.specs.Asked.{CodesAreCodes, Expands, Relays};
+ghost use Rattle.mta_replay.specs.Asked.{AreUnder, CodesAreCodes, Expands, Relays};
 
 use mta_ber::Memory;
 use mta_items::Made;
@@ -23,6 +23,10 @@ use std::alloc::Global;
 pub trait Rules {
     /// The text of the tables.
     ghost text: { Self → List ℕ };
+
+    /// The rules under the tables of a text; none where the grammar of tables does not read it.
+    fn under(alloc: Global, octets: &[u8]) -> Result<Option<Self>, Memory>
+        ensures { IfOk result (AreUnder text octets.now) };
 
     /// The verdict on a recipient of an APDU that arrived at a moment, looked at at another; none where the octets are
     /// those of no APDU, or where it has no such recipient. A report that comes to a list has the verdict Back here.
