@@ -1,0 +1,58 @@
+//! What is due in the state, and what waits in it.
+
+ghost use Rattle.std.specs.Prelude.{IfOk};
+ghost use Rattle.mta_histories.specs.Due.{HasQueue};
+ghost use Rattle.mta_dues.specs.Answers.{IsBatchOf, IsNextOf};
+ghost use Rattle.mta_replay.specs.Kept.{state_of};
+ghost use Rattle.mta_state.specs.Sound.{IsSound};
+
+use crate::replay::Replay;
+use mta_ber::{Memory, Word};
+use mta_dues::{batch_for, due_step, waiting};
+use mta_records::{Batch, Recipients, Step};
+use mta_replay::Rules;
+use std::alloc::Global;
+
+impl<R: Rules + Drop> Replay<R> {
+    /// The due step of the lowest item and recipient at a moment, in seconds since 1950-01-01 00:00:00 UTC: none where
+    /// nothing is due.
+    #[tactic(auto, using(crate::proofs::Nothing::nothing_is_due))]
+    pub fn due_step(&self, alloc: Global, moment: u64) -> Result<Option<Step>, Memory>
+        requires sound { IsSound R.text self.now.kept self.now.rules }
+        ensures { IfOk result (IsNextOf (state_of self.now.kept) moment) }
+    {
+        match &self.rules {
+            None => Ok(None),
+            Some(rules) => due_step(alloc, rules, &self.kept, moment),
+        }
+    }
+
+    /// The lowest item with recipients to relay to the peer, and all those; none where there is no such item.
+    #[tactic(auto, using(crate::proofs::Nothing::nothing_is_relayed))]
+    pub fn batch_for(
+        &self,
+        alloc: Global,
+        peer: &Word,
+        moment: u64,
+    ) -> Result<Option<Batch>, Memory>
+        requires sound { IsSound R.text self.now.kept self.now.rules }
+        ensures { IfOk result (IsBatchOf (state_of self.now.kept) peer.now moment) }
+    {
+        match &self.rules {
+            None => Ok(None),
+            Some(rules) => batch_for(alloc, rules, &self.kept, peer, moment),
+        }
+    }
+
+    /// The items of which a recipient waits for the peer, by ascending numbers; none where no tables name the peer.
+    #[tactic(auto, using(crate::proofs::Nothing::nothing_waits))]
+    pub fn waiting(&self, alloc: Global, peer: &Word) -> Result<Option<Recipients>, Memory>
+        requires sound { IsSound R.text self.now.kept self.now.rules }
+        ensures { IfOk result (HasQueue (state_of self.now.kept) peer.now) }
+    {
+        match &self.rules {
+            None => Ok(None),
+            Some(rules) => waiting(alloc, rules, &self.kept, peer),
+        }
+    }
+}
