@@ -1,7 +1,5 @@
-pub mod KeptStatuses
+pub mod Dues
 pub mod Making
-pub mod Next
 pub mod Openings
-pub mod Possible
 pub mod Replays
 pub mod Turns

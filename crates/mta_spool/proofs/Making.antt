@@ -10,13 +10,15 @@ use Rattle.mta_journal.specs.Appending.{Appends as JournalAppends, journal_limit
 use Rattle.mta_journal.specs.declared.journal.AppendFault.{AppendFault}
 use Rattle.mta_journal.specs.declared.journal.AppendFault.TheVariants as AppendFaults
 use Rattle.mta_journal.proofs.Bodies.{stands_for}
-use Rattle.mta_first_records.specs.declared.step.Step.{Step}
-use Rattle.mta_first_records.specs.declared.fault.StepFault.{StepFault}
-use Rattle.mta_first_records.specs.declared.fault.StepFault.TheVariants as StepFaults
-use Rattle.mta_first_records.specs.Body.{body_of, HasFields}
-use Rattle.mta_history.specs.History.{State, IsHistory, IsPossible, after, after_step, empty}
-use Rattle.mta_history.specs.Image.{AreRecords, StandsFor}
-use Rattle.mta_history.proofs.Histories.{map-more, AreRecords-more, after_from-more, possible-more}
+use Rattle.mta_records.specs.declared.step.Step.{Step}
+use Rattle.mta_records.specs.declared.fault.StepFault.{StepFault}
+use Rattle.mta_records.specs.declared.fault.StepFault.TheVariants as StepFaults
+use Rattle.mta_records.specs.Body.{body_of, HasFields}
+use Rattle.mta_histories.specs.Lanes.{State, empty}
+use Rattle.mta_histories.specs.History.{IsHistory, IsPossible, after, after_step}
+use Rattle.mta_images.specs.Image.{AreRecords, StandsFor}
+use Rattle.mta_histories.proofs.Runs.{after_from-more, possible-more}
+use Rattle.mta_images.proofs.Bodies.{map-more, are-records-more}
 use Rattle.mta_spool.specs.Making.{step_fault}
 use Rattle.mta_spool.specs.Stands.{IsHeld, IsOneOf, IsSpent, MayHave, Makes, need_of}
 
@@ -30,7 +32,7 @@ one_of : (g : List ℕ) (steps : List Step) (step : Step) → AreRecords steps �
 one_of g steps step each history fields possible (inl has) = inl (image_of g steps has each history)
 one_of g steps step each history fields possible (inr has) =
     inr (image_of g (steps ++ step ∷ []) (subst (HasBodies g) (sym (map-more steps step)) has)
-    (AreRecords-more steps step each fields) (possible-more empty steps step history possible))
+    (are-records-more steps step each fields) (possible-more empty steps step history possible))
 
 module _ {D : Type 0} (model : DiskView D) (step : Step) where
   -- behind the history that is held the step is possible
@@ -43,7 +45,7 @@ module _ {D : Type 0} (model : DiskView D) (step : Step) where
       → IsHeld model new s' (steps ++ step ∷ [])
   held_more old new s s' steps held holds fields possible made = record {
     holds = subst (Holds model new) (sym (map-more steps step)) holds;
-    each = AreRecords-more steps step held.each fields;
+    each = are-records-more steps step held.each fields;
     state_is = made ∙ ap (λ (x : State). after_step x step) held.state_is ∙ sym (after_from-more empty steps step);
     history = possible-more empty steps step held.history (possible_there old s steps possible held);
   }

@@ -1,16 +1,16 @@
 -- What opening a disk leaves.
-use Rattle.std.proofs.Common.{inl, inr, ◌≡◌, ℕ, ◌≤◌, ◌<◌, List, map, Some, Err, sym, subst}
+use Rattle.std.proofs.Common.{inl, inr, ◌≡◌, ℕ, ◌≤◌, ◌<◌, List, map, Some, sym, subst}
 use Rattle.mta_edge.specs.Views.{DiskView, StaysTold, WhereTold}
 use Rattle.mta_journal.specs.Bodies.{StandsFor as HoldsBodies}
 use Rattle.mta_journal.specs.Shown.{Shown as JournalShown, Holds}
 use Rattle.mta_journal.specs.Opening.{HasRefused as IsNotOpened, IsLeft, LongStays}
 use Rattle.mta_journal.specs.declared.why.OpenWhy.{OpenWhy}
 use Rattle.mta_journal.specs.declared.why.OpenWhy.TheVariants as Whys
-use Rattle.mta_first_records.specs.declared.step.Step.{Step}
-use Rattle.mta_history.specs.History.{State}
-use Rattle.mta_history.specs.Image.{StandsFor}
+use Rattle.mta_records.specs.declared.step.Step.{Step}
+use Rattle.mta_histories.specs.Lanes.{State}
+use Rattle.mta_images.specs.Image.{StandsFor}
 use Rattle.mta_spool.specs.Opening.{HasRefused, OpensSafely}
-use Rattle.mta_spool.specs.Replaying.{IsReplay, Replays}
+use Rattle.mta_spool.specs.Replaying.{HasStopped, IsReplay}
 use Rattle.mta_spool.specs.Stands.{IsHeld}
 
 module _ {D : Type 0} (model : DiskView D) where
@@ -31,12 +31,12 @@ module _ {D : Type 0} (model : DiskView D) where
   module _ (old new : D) (later : model.faults old ≤ model.faults new) (kept : LongStays model old new) (told : StaysTold model old new)
       (images : OpensSafely model old new) (left : WhereTold model old (λ f. IsLeft model f old new)) where
     -- the bodies are those of no history, or there was no memory for what they say
-    pub replay_refused : (bodies : List (List ℕ)) (why : OpenWhy) → WhereTold model old (λ f. HoldsBodies f bodies) → Replays bodies (Err why)
+    pub replay_refused : (bodies : List (List ℕ)) (why : OpenWhy) → WhereTold model old (λ f. HoldsBodies f bodies) → HasStopped bodies why
         → HasRefused model old new why
     replay_refused bodies (Whys.NotSpool at) stood stops = record {
       later = later;
       disk = λ e. absurd cc;
-      not_spool = λ n e f t. inr (bodies, stood f t, subst (λ (x : ℕ). Replays bodies (Err (Whys.NotSpool x))) (at_same at n e) stops);
+      not_spool = λ n e f t. inr (bodies, stood f t, subst (λ (x : ℕ). HasStopped bodies (Whys.NotSpool x)) (at_same at n e) stops);
       kept = kept;
       told = told;
       images = images;

@@ -3,12 +3,14 @@ use Rattle.std.proofs.Common.{◌≡◌, ℕ, zero, suc, ◌+◌, ◌≤◌, ◌
 use Rattle.std.specs.Prelude.{IsOk}
 use Rattle.std.specs.List.{flat_map}
 use Rattle.std.proofs.lemmas.List.{length-append, take-append-drop}
-use Rattle.mta_first_records.specs.declared.step.Step.{Step}
-use Rattle.mta_first_records.specs.Body.{body_of}
-use Rattle.mta_history.specs.History.{State, IsPossible, after_step, empty}
+use Rattle.mta_records.specs.declared.step.Step.{Step}
+use Rattle.mta_records.specs.Body.{body_of}
+use Rattle.mta_histories.specs.Lanes.{State, empty}
+use Rattle.mta_histories.specs.History.{IsPossible, after_step}
 use Rattle.mta_journal.specs.Bodies.{longest_body, magic, front, open_record, AreShort}
-use Rattle.mta_history.specs.Image.{StopsAt, size_of}
-use Rattle.mta_history.proofs.Histories.{AreRecords-more, after_from-more, map-more, possible-more, size-more}
+use Rattle.mta_images.specs.Image.{StopsAt, size_of}
+use Rattle.mta_histories.proofs.Runs.{after_from-more, possible-more}
+use Rattle.mta_images.proofs.Bodies.{map-more, are-records-more, size-more}
 use Rattle.mta_spool.specs.declared.current.NotMade.{NotMade}
 use Rattle.mta_spool.specs.declared.current.NotMade.TheVariants as NotMades
 use Rattle.mta_spool.specs.Replaying.{IsReplay, HasTaken}
@@ -24,7 +26,7 @@ replay_more bodies body old new result steps is taken ok =
       steps ++ step ∷ [],
       record {
         bodies_are = map-more steps step ∙ ap (λ (b : List ℕ). map body_of steps ++ b ∷ []) t.2 ∙ ap (λ (bs : List (List ℕ)). bs ++ body ∷ []) is.bodies_are;
-        each = AreRecords-more steps step is.each t.1;
+        each = are-records-more steps step is.each t.1;
         history = possible-more empty steps step is.history (subst (λ (s : State). IsPossible s step) is.state_is t.3);
         state_is = t.4 ∙ ap (λ (s : State). after_step s step) is.state_is ∙ sym (after_from-more empty steps step);
       },

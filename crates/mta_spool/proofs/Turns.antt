@@ -2,8 +2,8 @@
 use Rattle.std.proofs.Common.{◌≡◌, ℕ, Result, Ok, Err, subst}
 use Rattle.mta_edge.specs.Views.{DiskView}
 use Rattle.mta_journal.specs.Shown.{Shown as JournalShown}
-use Rattle.mta_first_records.specs.declared.fault.StepFault.{StepFault}
-use Rattle.mta_history.specs.History.{State}
+use Rattle.mta_records.specs.declared.fault.StepFault.{StepFault}
+use Rattle.mta_histories.specs.Lanes.{State}
 use Rattle.mta_spool.specs.declared.spool.Turned.{Turned}
 use Rattle.mta_spool.specs.declared.spool.Turned.TheVariants.{Did, Quiet}
 use Rattle.mta_spool.specs.Shown.{Shown}

@@ -1,7 +1,7 @@
-pub mod Current
-pub mod Making
-pub mod Opening
-pub mod Replaying
+pub mod Due
 pub mod Shown
 pub mod Stands
+pub mod Making
+pub mod Replaying
+pub mod Opening
 pub mod Turning

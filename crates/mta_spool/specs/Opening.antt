@@ -6,8 +6,8 @@ use Rattle.mta_edge.specs.Crashes.{AtAnyMoment}
 use Rattle.mta_journal.specs.Opening.{BeforeOrSame, IsLeft, LongStays, SameSince}
 use Rattle.mta_journal.specs.declared.why.OpenWhy.{OpenWhy}
 use Rattle.mta_journal.specs.declared.why.OpenWhy.TheVariants as Whys
-use Rattle.mta_first_records.specs.declared.step.Step.{Step}
-use Rattle.mta_history.specs.Image.{StandsFor, NoSpoolAt}
+use Rattle.mta_records.specs.declared.step.Step.{Step}
+use Rattle.mta_images.specs.Image.{StandsFor, NoSpoolAt}
 use Rattle.mta_spool.specs.Shown.{Shown}
 use Rattle.mta_spool.specs.Stands.{Stands}
 

@@ -1,23 +1,21 @@
 -- What replaying bodies gives.
-use Rattle.std.specs.Prelude.{◌≡◌, ℕ, List, map, Result, Ok, Err, IsOk, IsErrOf}
-use Rattle.mta_first_records.specs.declared.step.Step.{Step}
-use Rattle.mta_first_records.specs.Body.{body_of, HasFields}
-use Rattle.mta_history.specs.History.{State, IsHistory, IsPossible, after, after_step}
-use Rattle.mta_history.specs.Image.{AreRecords, StopsAt}
+use Rattle.std.specs.Prelude.{◌≡◌, ℕ, List, map, Result, IsOk, IsErrOf}
+use Rattle.mta_records.specs.declared.step.Step.{Step}
+use Rattle.mta_records.specs.Body.{body_of, HasFields}
+use Rattle.mta_histories.specs.Lanes.{State}
+use Rattle.mta_histories.specs.History.{IsHistory, IsPossible, after, after_step}
+use Rattle.mta_images.specs.Image.{AreRecords, StopsAt}
 use Rattle.mta_journal.specs.declared.why.OpenWhy.{OpenWhy}
 use Rattle.mta_journal.specs.declared.why.OpenWhy.TheVariants as Whys
-use Rattle.mta_spool.specs.declared.current.NotMade.{NotMade}
-use Rattle.mta_spool.specs.declared.current.NotMade.TheVariants as NotMades
-
--- a step was taken up where it is possible; Impossible comes only where it is not
-pub record TakesUp {T : Type 0} (step : Step) (old new : State) (result : Result T NotMade) : Type 0 where
-  pub made : IsOk result → IsPossible old step × (new ≡ after_step old step)
-  pub impossible : IsErrOf result NotMades.Impossible → IsPossible old step → ⊥
+use Rattle.mta_state.specs.declared.replay.NotMade.{NotMade}
+use Rattle.mta_state.specs.declared.replay.NotMade.TheVariants as NotMades
 
 -- the step of a body was taken up, or it has none that is possible
 pub record HasTaken {T : Type 0} (body : List ℕ) (old new : State) (result : Result T NotMade) : Type 0 where
-  pub made : IsOk result → (step : Step) × HasFields step × (body_of step ≡ body) × IsPossible old step × (new ≡ after_step old step)
-  pub impossible : IsErrOf result NotMades.Impossible → (step : Step) → HasFields step → body_of step ≡ body → IsPossible old step → ⊥
+  pub made : IsOk result
+      → (step : Step) × HasFields step × (body_of step ≡ body) × IsPossible old step × (new ≡ after_step old step)
+  pub impossible : IsErrOf result NotMades.Impossible
+      → (step : Step) → HasFields step → body_of step ≡ body → IsPossible old step → ⊥
 
 -- these are the steps of the bodies, and this is the state after them
 pub record IsReplay (bodies : List (List ℕ)) (state : State) (steps : List Step) : Type 0 where
@@ -26,8 +24,12 @@ pub record IsReplay (bodies : List (List ℕ)) (state : State) (steps : List Ste
   pub history : IsHistory steps
   pub state_is : state ≡ after steps
 
-abbrev pub Replays : List (List ℕ) → Result State OpenWhy → Type 0
-Replays bodies (Ok state) = (steps : List Step) × IsReplay bodies state steps
-Replays bodies (Err (Whys.NotSpool at)) = StopsAt bodies at
-Replays bodies (Err Whys.Disk) = ⊥
-Replays bodies (Err Whys.Memory) = Unit {0}
+-- this is the state after the steps of the bodies
+abbrev pub HasReplayed : List (List ℕ) → State → Type 0
+HasReplayed bodies state = (steps : List Step) × IsReplay bodies state steps
+
+-- the bodies are those of no history from a place on, or there was no memory for what they say
+abbrev pub HasStopped : List (List ℕ) → OpenWhy → Type 0
+HasStopped bodies (Whys.NotSpool at) = StopsAt bodies at
+HasStopped bodies Whys.Disk = ⊥
+HasStopped bodies Whys.Memory = Unit {0}

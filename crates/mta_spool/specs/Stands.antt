@@ -1,16 +1,20 @@
 -- What a spool stands for, and what a call leaves that makes a step or refuses it.
 use Rattle.std.specs.Prelude.{◌≡◌, ◌≢◌, ◌⊎◌, ◌↔◌, ℕ, ◌+◌, ◌≤◌, ◌<◌, ◌^◌, List, [], ◌∷◌, ◌++◌, length, map, Option, None, Some, Result, Ok, Err, true, false, max, min}
+use Rattle.mta_ber.specs.Times.{last_moment}
 use Rattle.mta_edge.specs.Causes.{Rose}
 use Rattle.mta_edge.specs.Views.{ClockView, DiskView, StaysTold}
 use Rattle.mta_edge.specs.Crashes.{AtAnyMoment}
 use Rattle.mta_journal.specs.Shown.{Shown as JournalShown, Holds}
 use Rattle.mta_journal.specs.Appending.{journal_limit, need_of as need_of_body}
-use Rattle.mta_first_records.specs.declared.fault.StepFault.{StepFault}
-use Rattle.mta_first_records.specs.declared.fault.StepFault.TheVariants as StepFaults
-use Rattle.mta_first_records.specs.declared.step.Step.{Step}
-use Rattle.mta_first_records.specs.Body.{body_of, last_moment}
-use Rattle.mta_history.specs.History.{State, after, after_step, IsHistory, IsPossible, numbers_needed}
-use Rattle.mta_history.specs.Image.{AreRecords, StandsFor}
+use Rattle.mta_records.specs.declared.fault.StepFault.{StepFault}
+use Rattle.mta_records.specs.declared.fault.StepFault.TheVariants as StepFaults
+use Rattle.mta_records.specs.declared.step.Step.{Step}
+use Rattle.mta_records.specs.Body.{body_of}
+use Rattle.mta_histories.specs.Lanes.{State}
+use Rattle.mta_histories.specs.Classes.{class_of}
+use Rattle.mta_histories.specs.History.{after, after_step, IsHistory, IsPossible}
+use Rattle.mta_histories.specs.Numbers.{numbers_needed}
+use Rattle.mta_images.specs.Image.{AreRecords, StandsFor}
 use Rattle.mta_spool.specs.Shown.{Shown}
 
 -- a journal and the state in memory stand for this history, and a crash leaves it
@@ -44,11 +48,11 @@ TellsFewer model old new = (m : ℕ) → model.tells new m → model.tells old m
 
 -- fewer numbers of items are left than the step needs
 abbrev pub IsSpent : State → Step → Type 0
-IsSpent s step = 2 ^ 32 ≤ length s.machine.items + numbers_needed step
+IsSpent s step = 2 ^ 32 ≤ length s.machine.items + numbers_needed s (class_of step)
 
--- with this many items too few numbers are left for a step that may make two
-abbrev pub IsSpentBy : ℕ → StepFault → Type 0
-IsSpentBy count fault = (fault ≡ StepFaults.Spent count) × (2 ^ 32 ≤ count + 2)
+-- with this many items fewer numbers are left than are needed
+abbrev pub IsSpentFor : (count needed : ℕ) → StepFault → Type 0
+IsSpentFor count needed fault = (fault ≡ StepFaults.Spent count) × (2 ^ 32 ≤ count + needed)
 
 -- the image stands for the history, or for that and this step
 abbrev pub IsOneOf : List Step → Step → List ℕ → Type 0

@@ -1,13 +1,15 @@
 -- What recording tables and a turn leave.
-use Rattle.std.specs.Prelude.{◌≡◌, ◌⊎◌, ℕ, List, None, Some, Result, Ok, Err, true, false, if◌then◌else◌}
+use Rattle.std.specs.Prelude.{◌≡◌, ◌⊎◌, ℕ, List, [], Option, None, Some, Result, Ok, Err, true, false, if◌then◌else◌}
 use Rattle.mta_edge.specs.Views.{DiskView}
-use Rattle.mta_first_records.specs.declared.step.Step.{Step}
-use Rattle.mta_first_records.specs.declared.step.Step.TheVariants as Steps
-use Rattle.mta_first_records.specs.declared.fault.StepFault.{StepFault}
-use Rattle.mta_first_records.specs.declared.fault.StepFault.TheVariants as StepFaults
-use Rattle.mta_history.specs.Verdict.{last_of}
-use Rattle.mta_history.specs.History.{State}
-use Rattle.mta_history.specs.Due.{IsQuiet, IsNext}
+use Rattle.mta_records.specs.declared.step.Step.{Step}
+use Rattle.mta_records.specs.declared.step.Step.TheVariants as Steps
+use Rattle.mta_records.specs.declared.fault.StepFault.{StepFault}
+use Rattle.mta_records.specs.declared.fault.StepFault.TheVariants as StepFaults
+use Rattle.mta_tables.specs.Tables.{TablesValue}
+use Rattle.mta_machine.specs.Items.{Machine, numbered}
+use Rattle.mta_machine.specs.Machine.{last_tables}
+use Rattle.mta_histories.specs.Lanes.{State}
+use Rattle.mta_histories.specs.Due.{IsQuiet, IsNext}
 use Rattle.mta_spool.specs.declared.spool.Turned.{Turned}
 use Rattle.mta_spool.specs.declared.spool.Turned.TheVariants.{Did, Quiet}
 use Rattle.mta_spool.specs.Shown.{Shown}
@@ -15,7 +17,12 @@ use Rattle.mta_spool.specs.Stands.{Appends, fault_of}
 
 -- the text is the one recorded last
 abbrev pub IsRecorded : State → List ℕ → Type 0
-IsRecorded s text = last_of s.machine.tables ≡ Some text
+IsRecorded s text = numbered s.machine.tables (last_tables s.machine) ≡ Some text
+
+-- these are the tables recorded last, or none were recorded
+abbrev pub IsLastRecorded : Machine → Option TablesValue → Type 0
+IsLastRecorded m None = m.tables ≡ []
+IsLastRecorded m (Some tables) = numbered m.tables (last_tables m) ≡ Some tables.text
 
 -- nothing but what the clock may answer has changed
 abbrev pub IsUnchanged : {D C : Type 0} → Shown D C → Shown D C → Type 0

@@ -1,56 +1,117 @@
-//! Which recipients can be delivered: what becomes of a recipient under the tables recorded last, at a
-//! moment.
-//!
-//! In come the tables, a moment and an item; out goes the place of the mailbox to which its recipient
-//! is to be delivered now, or none. Nothing is changed, and no memory is taken. The definitions are
-//! `verdict_of_message` and `place_of_item` of `mta_history`.
+//! The steps that are due: how many numbers they need, and how they are told.
 
-ghost use Rattle.std.specs.Prelude.{◌≡◌, Some};
-ghost use Rattle.mta_history.specs.Verdict.{hold_time, is_expired};
-ghost use Rattle.mta_history.specs.Deliveries.{place_of_message, place_of_item};
+ghost use Rattle.std.specs.Prelude.{◌≡◌, ℕ};
+ghost use Rattle.mta_histories.specs.Classes.{abandon, class_of};
+ghost use Rattle.mta_histories.specs.Lanes.{lane_at};
+ghost use Rattle.mta_histories.specs.Numbers.{numbers_needed, numbers_on, recipient_count};
+ghost use Rattle.mta_replay.specs.Kept.{state_of};
+ghost use Rattle.mta_spool.specs.Due.{IsDueStep};
 
-use mta_first_shape::Message;
-use mta_history::{Item, Status};
-use mta_tables::Tables;
+use mta_lanes::{Lane, Lanes};
+use mta_records::Step;
+use mta_replay::Kept;
 
-// Whether a message of normal priority has waited for its hold time. Moments are seconds since 1950-01-01
-// 00:00:00 UTC.
-fn is_expired(tables: &Tables, arrival: u64, moment: u64) -> bool
-    ensures { result ≡ is_expired (hold_time tables.now) arrival moment }
+// How many recipients the activity of a lane has.
+fn recipient_count(lane: &Lane) -> usize
+    ensures { result ≡ recipient_count lane.now.transfer }
 {
-    arrival <= moment && tables.holds().normal <= moment - arrival
+    match lane.transfer() {
+        Some(transfer) => transfer.recipients().len(),
+        None => 0,
+    }
 }
 
-// The place of the mailbox to which X.411, clause 14, has this agent deliver the message now.
-#[tactic(auto, unfolding(mta_history::specs::Deliveries::place_of_message, mta_history::specs::Verdict::verdict_of_message), using(crate::proofs::Next::placed_unless, crate::proofs::Next::never_placed))]
-fn place_of_message(
-    tables: &Tables,
-    arrival: u64,
-    moment: u64,
-    message: &Message<'_>,
-) -> Option<u32>
-    ensures { result ≡ place_of_message tables.now arrival moment message.now }
+// How many numbers giving up the activity of a lane needs.
+fn needed_to_abandon(lanes: &Lanes, lane: u32) -> usize
+    ensures { (k : ℕ) → result ≡ numbers_on (lane_at lane lanes.now.open_lanes.items) (abandon k) }
 {
-    if message.asks_report() {
-        return None;
+    match lanes.get(lane) {
+        Some(open) => recipient_count(open).max(2),
+        None => 0,
     }
-    if is_expired(tables, arrival, moment) {
-        return None;
-    }
-    let name = &message.recipient;
-    tables.mailbox_of_surname(name.country, name.admd, name.surname)
 }
 
-/// The place of the mailbox, from 0, to which the first recipient of the item can be delivered at the moment.
-#[tactic(auto, unfolding(mta_history::specs::Deliveries::place_of_item))]
-pub fn place_of_item(tables: &Tables, moment: u64, item: &Item) -> Option<u32>
-    ensures { result ≡ place_of_item tables.now moment item.now }
+/// How many numbers of items a due step needs.
+pub fn numbers_needed(kept: &Kept, step: &Step) -> usize
+    requires { IsDueStep step.now }
+    ensures { result ≡ numbers_needed (state_of kept.now) (class_of step.now) }
 {
-    let Some(Some(Status::Pending)) = item.statuses().first() else {
-        return None;
-    };
-    match mta_first_shape::read(item.octets()) {
-        Some(message) => place_of_message(tables, item.arrival(), moment, &message),
-        None => None,
+    match step {
+        Step::Discard { .. } => 0,
+        Step::Abandon { lane, .. } => needed_to_abandon(&kept.lanes, *lane),
+        _ => 2,
+    }
+}
+
+/// A due step once more.
+pub fn same(step: &Step) -> Step
+    requires { IsDueStep step.now }
+    ensures { result ≡ step.now }
+{
+    match step {
+        Step::Deliver {
+            item,
+            recipient,
+            moment,
+        } => Step::Deliver {
+            item: *item,
+            recipient: *recipient,
+            moment: *moment,
+        },
+        Step::Expand {
+            item,
+            recipient,
+            moment,
+        } => Step::Expand {
+            item: *item,
+            recipient: *recipient,
+            moment: *moment,
+        },
+        Step::Report {
+            item,
+            recipient,
+            moment,
+        } => Step::Report {
+            item: *item,
+            recipient: *recipient,
+            moment: *moment,
+        },
+        Step::Affirm {
+            item,
+            recipient,
+            moment,
+        } => Step::Affirm {
+            item: *item,
+            recipient: *recipient,
+            moment: *moment,
+        },
+        Step::Discard {
+            item,
+            recipient,
+            moment,
+        } => Step::Discard {
+            item: *item,
+            recipient: *recipient,
+            moment: *moment,
+        },
+        Step::Back {
+            item,
+            recipient,
+            moment,
+        } => Step::Back {
+            item: *item,
+            recipient: *recipient,
+            moment: *moment,
+        },
+        Step::Abandon {
+            lane,
+            activity,
+            moment,
+        } => Step::Abandon {
+            lane: *lane,
+            activity: *activity,
+            moment: *moment,
+        },
+        _ => unreachable!(),
     }
 }

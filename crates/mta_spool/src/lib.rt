@@ -1,19 +1,15 @@
 //! The spool: items and their recipients, over a journal of steps on one disk.
 #![tactic(auto)]
 
-mod apdu;
-mod current;
 mod due;
-mod kept;
 mod make;
 mod open;
 mod replay;
 mod spool;
 
-pub use current::Current;
-pub use mta_first_records::{Step, StepFault};
-pub use mta_history::{Item, MailboxLine, Origin, Status, Statuses};
 pub use mta_journal::{JOURNAL_LIMIT, OpenWhy};
+pub use mta_machine::{Item, MailboxLine, Origin, Status, Statuses};
+pub use mta_records::{Step, StepFault};
 pub use mta_tables::Tables;
 pub use open::SpoolOpen;
 pub use spool::{Spool, Turned};

@@ -48,11 +48,11 @@ impl<D: Disk + Drop, C: Clock + Drop> Spool<D, C> {
             Err(OpenFault { disk, why }) => return Err(SpoolOpen { disk, clock, why }),
         };
         match replay(alloc, bodies.as_slice()) {
-            Ok(current) => Ok(Spool {
+            Ok(replay) => Ok(Spool {
                 alloc,
                 journal,
                 clock,
-                current,
+                replay,
             }),
             Err(why) => Err(SpoolOpen {
                 disk: journal.end(),

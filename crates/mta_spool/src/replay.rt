@@ -1,26 +1,32 @@
 //! Replaying the bodies of a journal: the state in memory after them.
 //!
-//! Each body is read as a step (`read_record`), and prepared and committed where it is possible after
-//! those before it, as a step that is made is, without the journal. Out goes the state, or the place of
-//! the first body that is no such step, or want of memory. The disk is not called.
+//! Each body is read as a step (`read_record`), which is taken up where it is possible after those before it, as a
+//! step that is made is, without the journal. Out goes the state, or the place of the first body that is no such step,
+//! or want of memory. The disk is not called.
 
-ghost use Rattle.std.specs.Prelude.{◌<◌, ◌+◌, ◌^◌, length};
+ghost use Rattle.std.specs.Prelude.{◌<◌, ◌+◌, ◌^◌, length, IfErr, IfOk};
 ghost use Rattle.mta_journal.specs.Bodies.{AreShort, front};
-ghost use Rattle.mta_spool.specs.Replaying.{HasTaken, Replays};
+ghost use Rattle.mta_replay.specs.Kept.{state_of};
+ghost use Rattle.mta_table_rules.specs.Text.{text_of};
+ghost use Rattle.mta_state.specs.Sound.{IsSound};
+ghost use Rattle.mta_spool.specs.Replaying.{HasReplayed, HasStopped, HasTaken};
 
-use crate::current::{Current, NotMade};
 use mta_ber::Octets;
-use mta_first_records::{RecordFault, read_record};
 use mta_journal::OpenWhy;
+use mta_records::{RecordFault, read_record};
+use mta_state::{NotMade, Replay};
+use mta_table_rules::TableRules;
 use std::alloc::Global;
 
 // Takes up the step of a body, where it has one that is possible.
-fn take_up(current: &mut Current, alloc: Global, body: &[u8]) -> Result<(), NotMade>
-    requires { length body.now < 2 ^ 32 }
-    ensures { HasTaken body.now current.old current.new result }
+fn take_up(replay: &mut Replay<TableRules>, alloc: Global, body: &[u8]) -> Result<(), NotMade>
+    requires fits { length body.now < 2 ^ 32 }
+    requires sound { IsSound text_of replay.old.kept replay.old.rules }
+    ensures taken { HasTaken body.now (state_of replay.old.kept) (state_of replay.new.kept) result }
+    ensures sound { IsSound text_of replay.new.kept replay.new.rules }
 {
     match read_record(alloc, body) {
-        Ok(step) => current.add(alloc, step),
+        Ok(step) => replay.add(alloc, step),
         Err(RecordFault::BadRecord { .. }) => Err(NotMade::Impossible),
         Err(RecordFault::Memory) => Err(NotMade::Memory),
     }
@@ -28,19 +34,21 @@ fn take_up(current: &mut Current, alloc: Global, body: &[u8]) -> Result<(), NotM
 
 /// The state after the steps of these bodies, or the offset of the gate of the first body that is that of no possible
 /// step.
-pub fn replay(alloc: Global, bodies: &[Octets]) -> Result<Current, OpenWhy>
+pub fn replay(alloc: Global, bodies: &[Octets]) -> Result<Replay<TableRules>, OpenWhy>
     requires short { AreShort bodies.now }
     requires fits { length (front bodies.now) + 1 < 2 ^ 64 }
-    ensures { Replays bodies.now result }
+    ensures replayed { IfOk result (λ r. HasReplayed bodies.now (state_of r.kept)) }
+    ensures stopped { IfErr result (HasStopped bodies.now) }
+    ensures sound { IfOk result (λ r. IsSound text_of r.kept r.rules) }
 {
-    let mut current = Current::new(alloc);
+    let mut replay = Replay::new(alloc);
     let mut at = 8;
     for body in bodies {
-        match take_up(&mut current, alloc, body.as_slice()) {
+        match take_up(&mut replay, alloc, body.as_slice()) {
             Ok(()) => at += body.len() as u64 + 5,
             Err(NotMade::Impossible) => return Err(OpenWhy::NotSpool { at }),
             Err(NotMade::Memory) => return Err(OpenWhy::Memory),
         }
     }
-    Ok(current)
+    Ok(replay)
 }

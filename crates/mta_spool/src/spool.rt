@@ -1,30 +1,34 @@
 //! The spool: its journal, its state in memory, and the calls that make a step.
 //!
-//! `set_tables`, `accept` and `turn` each make at most one step: refuse where the spool has ended or
-//! too few numbers are left, prepare the change (`current.rt`), and make it (`make.rt`). `turn` makes
-//! what is due for the lowest item and recipient, or says that nothing is.
+//! `set_tables`, `accept` and `turn` each make at most one step: refuse where the spool has ended or too few numbers
+//! are left, and make the step (`make.rt`). `turn` makes what is due for the lowest item and recipient, or says that
+//! nothing is.
 //!
-//! Out goes Ok with the step durable, or a `StepFault`: after `Disk` every further step is `Ended`, and
-//! after any other journal and state are equal to those before. A crash at any moment of a call leaves
-//! the history with the step or without it (`Appends` in `specs/Stands.antt`).
+//! Out goes Ok with the step durable, or a `StepFault`: after `Disk` every further step is `Ended`, and after any other
+//! journal and state are equal to those before. A crash at any moment of a call leaves the history with the step or
+//! without it (`Appends` in `specs/Stands.antt`).
 
-ghost use Rattle.std.specs.Prelude.{◌≡◌, ◌≢◌, ◌≤◌, ◌<◌, ◌+◌, ◌^◌, None, length, IfOk, IfErr, false};
+ghost use Rattle.std.specs.Prelude.{◌≡◌, ◌≢◌, ◌≤◌, ◌<◌, ◌+◌, ◌^◌, [], length, IfOk, IfErr, IsTrue, ◌↔◌, false};
 ghost use Rattle.std.specs.Option.{option_copied};
-ghost use Rattle.mta_first_records.specs.Body.{HasFields, body_of, last_moment};
+ghost use Rattle.mta_ber.specs.Times.{last_moment};
+ghost use Rattle.mta_records.specs.Body.{HasFields, body_of};
 ghost use Rattle.mta_journal.specs.Bodies.{longest_body};
-ghost use Rattle.mta_history.specs.Apdu.{IsApdu};
-ghost use Rattle.mta_history.specs.Items.{numbered};
-ghost use Rattle.mta_history.specs.Verdict.{recorded};
-ghost use Rattle.mta_history.specs.History.{IsPossible};
+ghost use Rattle.mta_machine.specs.Apdu.{IsApdu};
+ghost use Rattle.mta_machine.specs.Items.{numbered};
+ghost use Rattle.mta_machine.specs.Machine.{last_tables};
+ghost use Rattle.mta_histories.specs.History.{IsPossible};
+ghost use Rattle.mta_spool.specs.Turning.{IsLastRecorded, IsRecorded};
 
-use crate::current::{Current, NotMade};
-use crate::kept::Change;
+use crate::due::{numbers_needed, same};
 use crate::make::make;
 use mta_ber::Octets;
 use mta_edge::{Clock, Disk};
-use mta_first_records::{Step, StepFault};
-use mta_history::{Item, MailboxLine};
 use mta_journal::Journal;
+use mta_lanes::Lane;
+use mta_machine::{Item, MailboxLine};
+use mta_records::{Step, StepFault};
+use mta_state::Replay;
+use mta_table_rules::TableRules;
 use mta_tables::Tables;
 use std::alloc::Global;
 use std::marker::Model;
@@ -32,8 +36,11 @@ use std::marker::Model;
 // The last second of 2049, in seconds since 1950-01-01 00:00:00 UTC.
 const LAST_MOMENT: u64 = 3_155_759_999;
 
-// The most items with which a step that may make two is still made: two numbers below 2 ^ 32 are left then.
-const MOST_ITEMS: usize = 4_294_967_293;
+// The number of the last item that there may be.
+const LAST_NUMBER: usize = 4_294_967_295;
+
+// How many numbers an item that is accepted needs: its own, and one for a report.
+const NEEDED_TO_ACCEPT: usize = 2;
 
 /// What a turn did.
 #[derive(Debug, Drop)]
@@ -50,67 +57,84 @@ pub struct Spool<D: Disk + Drop, C: Clock + Drop> {
     pub(crate) alloc: Global,
     pub(crate) journal: Journal<D>,
     pub(crate) clock: C,
-    pub(crate) current: Current,
+    pub(crate) replay: Replay<TableRules>,
 }
 
 impl<D: Disk + Drop, C: Clock + Drop> Model for Spool<D, C> {
+    ghost use Rattle.mta_replay.specs.Kept.{state_of};
+    ghost use Rattle.mta_table_rules.specs.Text.{text_of};
+    ghost use Rattle.mta_state.specs.Sound.{IsSound};
     ghost use Rattle.mta_spool.specs.Shown.{Shown};
 
     ghost Value = { Shown D C };
 
-    ghost view = { λ s. record { journal = s.journal; clock = s.clock; current = s.current } };
+    ghost view = { λ s. record { journal = s.journal; clock = s.clock; current = state_of s.replay.kept } };
+
+    ghost invariant = { λ s. IsSound text_of s.replay.kept s.replay.rules };
 }
 
 impl<D: Disk + Drop, C: Clock + Drop> Spool<D, C> {
-    ghost use Rattle.mta_first_records.specs.declared.step.Step.TheVariants as Steps;
-    ghost use Rattle.mta_history.specs.Due.{IsNext};
-    ghost use Rattle.mta_spool.specs.Current.{IsChange};
-    ghost use Rattle.mta_spool.specs.Stands.{Appends, AtMoment, fault_of, IsSpent, IsSpentBy, TellsFewer};
+    ghost use Rattle.mta_records.specs.declared.step.Step.TheVariants as Steps;
+    ghost use Rattle.mta_histories.specs.Classes.{class_of};
+    ghost use Rattle.mta_histories.specs.Due.{IsNext};
+    ghost use Rattle.mta_histories.specs.Numbers.{numbers_needed};
+    ghost use Rattle.mta_spool.specs.Stands.{Appends, AtMoment, fault_of, IsSpent, IsSpentFor, TellsFewer};
     ghost use Rattle.mta_spool.specs.Turning.{IsUnchanged, Records, Turns};
 
-    // Makes a step that is possible, with what it changes.
-    fn make(&mut self, step: Step, change: Change) -> Result<(), StepFault>
+    // Makes a step that is possible.
+    fn make(&mut self, step: Step) -> Result<(), StepFault>
         requires going { self.old.journal.ended ≡ false }
         requires fields { HasFields step }
         requires short { length (body_of step) ≤ longest_body }
         requires possible { IsPossible self.old.current step }
-        requires change { IsChange self.old.current step change }
         requires numbers { IsSpent self.old.current step → ⊥ }
         ensures made { Appends D.model step self.old self.new (fault_of result) }
         ensures clock { self.new.clock ≡ self.old.clock }
     {
-        make(
-            self.alloc,
-            &mut self.journal,
-            &mut self.current.kept,
-            step,
-            change,
-        )
+        make(self.alloc, &mut self.journal, &mut self.replay, step)
+    }
+
+    // Refuses where fewer numbers of items are left than are needed.
+    fn check_numbers(&self, needed: usize) -> Result<(), StepFault>
+        ensures left { IfOk result (λ _. length self.now.current.machine.items + needed < 2 ^ 32) }
+        ensures spent { IfErr result (IsSpentFor (length self.now.current.machine.items) needed) }
+    {
+        let count = self.items().len();
+        if needed > LAST_NUMBER || count > LAST_NUMBER - needed {
+            return Err(StepFault::Spent { last: count as u64 });
+        }
+        Ok(())
+    }
+
+    // Whether the text is the one of the tables recorded last.
+    fn has_recorded(&self, text: &[u8]) -> bool
+        ensures { IsTrue result ↔ IsRecorded self.now.current text.now }
+    {
+        match self.replay.kept.parts.last_text() {
+            Some(last) => last == text,
+            None => false,
+        }
     }
 
     // Records tables that are not those recorded last.
-    fn record_tables(&mut self, tables: Tables) -> Result<(), StepFault>
+    fn record_tables(&mut self, tables: &Tables) -> Result<(), StepFault>
         requires { self.old.journal.ended ≡ false }
-        ensures made { Appends D.model (Steps.Tables tables.text) self.old self.new (fault_of result) }
+        ensures made { Appends D.model (Steps.Tables tables.now.text) self.old self.new (fault_of result) }
         ensures clock { self.new.clock ≡ self.old.clock }
     {
-        let _items = self.current.items();
-        let text = match Octets::from_slice(self.alloc, tables.text()) {
-            Ok(text) => text,
-            Err(_) => return Err(StepFault::Memory),
-        };
-        self.make(Step::Tables { text }, Change::Tables(tables))
+        let text = Octets::from_slice(self.alloc, tables.text())?;
+        self.make(Step::Tables { text })
     }
 
     /// Records these tables last, or makes no step where their text is the one recorded last.
-    pub fn set_tables(&mut self, tables: Tables) -> Result<(), StepFault>
-        ensures records { Records D.model tables.text self.old self.new result }
+    pub fn set_tables(&mut self, tables: &Tables) -> Result<(), StepFault>
+        ensures records { Records D.model tables.now.text self.old self.new result }
         ensures clock { self.new.clock ≡ self.old.clock }
     {
         if self.journal.is_ended() {
             return Err(StepFault::Ended);
         }
-        if self.current.has_recorded(tables.text()) {
+        if self.has_recorded(tables.text()) {
             return Ok(());
         }
         self.record_tables(tables)
@@ -125,25 +149,13 @@ impl<D: Disk + Drop, C: Clock + Drop> Spool<D, C> {
         ensures machine { self.old.current.machine.moment ≤ result }
         ensures fits { result ≤ last_moment }
     {
-        self.clock.now().min(LAST_MOMENT).max(self.current.moment())
-    }
-
-    // The number of the last item, where numbers for two more are left.
-    fn last_number(&self) -> Result<u32, StepFault>
-        ensures left { IfOk result (λ n. (n ≡ length self.now.current.machine.items) × (n + 2 < 2 ^ 32)) }
-        ensures spent { IfErr result (IsSpentBy (length self.now.current.machine.items)) }
-    {
-        let last = self.current.items().len();
-        if last > MOST_ITEMS {
-            return Err(StepFault::Spent { last: last as u64 });
-        }
-        Ok(last as u32)
+        self.clock.now().min(LAST_MOMENT).max(self.replay.kept.moment)
     }
 
     // Takes a submitted APDU as the next item at a moment.
     fn accept_at(&mut self, moment: u64, apdu: &[u8]) -> Result<u32, StepFault>
         requires apdu { IsApdu apdu.now }
-        requires tables { recorded self.old.current.machine.tables ≢ None }
+        requires tables { self.old.current.machine.tables ≢ [] }
         requires timely { self.old.current.moment ≤ moment }
         requires machine { self.old.current.machine.moment ≤ moment }
         requires fits { moment ≤ last_moment }
@@ -154,30 +166,17 @@ impl<D: Disk + Drop, C: Clock + Drop> Spool<D, C> {
         if self.journal.is_ended() {
             return Err(StepFault::Ended);
         }
-        let last = match self.last_number() {
-            Ok(last) => last,
-            Err(fault) => return Err(fault),
-        };
-        let apdu = match Octets::from_slice(self.alloc, apdu) {
-            Ok(apdu) => apdu,
-            Err(_) => return Err(StepFault::Memory),
-        };
-        let step = Step::Accept { moment, apdu };
-        let change = match self.current.prepare(self.alloc, &step) {
-            Ok(change) => change,
-            Err(NotMade::Memory) => return Err(StepFault::Memory),
-            Err(NotMade::Impossible) => unreachable!(),
-        };
-        match self.make(step, change) {
-            Ok(()) => Ok(last + 1),
-            Err(fault) => Err(fault),
-        }
+        self.check_numbers(NEEDED_TO_ACCEPT)?;
+        let number = self.items().len() as u32 + 1;
+        let apdu = Octets::from_slice(self.alloc, apdu)?;
+        self.make(Step::Accept { moment, apdu })?;
+        Ok(number)
     }
 
     /// Takes a submitted APDU as the next item, and answers its number.
     pub fn accept(&mut self, apdu: &[u8]) -> Result<u32, StepFault>
         requires apdu { IsApdu apdu.now }
-        requires tables { recorded self.old.current.machine.tables ≢ None }
+        requires tables { self.old.current.machine.tables ≢ [] }
         ensures appends { AtMoment C.model self.old.clock self.old.current.moment
             (λ m. Appends D.model (Steps.Accept m apdu.now) self.old self.new (fault_of result)) }
         ensures number { IfOk result (λ n. n ≡ length self.old.current.machine.items + 1) }
@@ -187,37 +186,25 @@ impl<D: Disk + Drop, C: Clock + Drop> Spool<D, C> {
         self.accept_at(moment, apdu)
     }
 
-    // Delivers the recipient who is next at the moment.
-    fn deliver(&mut self, item: u32, recipient: u32, moment: u64) -> Result<(), StepFault>
-        requires next { IsNext self.old.current moment (Steps.Deliver item recipient moment) }
+    // Makes the step that is next at the moment, and tells it.
+    fn make_due(&mut self, step: Step, moment: u64) -> Result<Turned, StepFault>
+        requires next { IsNext self.old.current moment step }
         requires going { self.old.journal.ended ≡ false }
-        requires fits { moment ≤ last_moment }
+        requires fields { HasFields step }
         requires timely { self.old.current.moment ≤ moment }
-        requires machine { self.old.current.machine.moment ≤ moment }
-        ensures made { Appends D.model (Steps.Deliver item recipient moment) self.old self.new (fault_of result) }
+        ensures turned { Turns D.model moment self.old self.new result }
         ensures clock { self.new.clock ≡ self.old.clock }
     {
-        match self.last_number() {
-            Ok(_) => {}
-            Err(fault) => return Err(fault),
-        }
-        let step = Step::Deliver {
-            item,
-            recipient,
-            moment,
-        };
-        let change = match self.current.prepare(self.alloc, &step) {
-            Ok(change) => change,
-            Err(NotMade::Memory) => return Err(StepFault::Memory),
-            Err(NotMade::Impossible) => unreachable!(),
-        };
-        self.make(step, change)
+        let needed = numbers_needed(&self.replay.kept, &step);
+        self.check_numbers(needed)?;
+        let told = same(&step);
+        self.make(step)?;
+        Ok(Turned::Did(told))
     }
 
     // Makes the step that is due for the lowest item and recipient at a moment.
     fn turn_at(&mut self, moment: u64) -> Result<Turned, StepFault>
         requires timely { self.old.current.moment ≤ moment }
-        requires machine { self.old.current.machine.moment ≤ moment }
         requires fits { moment ≤ last_moment }
         ensures turned { Turns D.model moment self.old self.new result }
         ensures clock { self.new.clock ≡ self.old.clock }
@@ -225,16 +212,9 @@ impl<D: Disk + Drop, C: Clock + Drop> Spool<D, C> {
         if self.journal.is_ended() {
             return Err(StepFault::Ended);
         }
-        match self.current.next(moment) {
+        match self.replay.due_step(self.alloc, moment)? {
             None => Ok(Turned::Quiet { moment }),
-            Some((item, recipient)) => match self.deliver(item, recipient, moment) {
-                Ok(()) => Ok(Turned::Did(Step::Deliver {
-                    item,
-                    recipient,
-                    moment,
-                })),
-                Err(fault) => Err(fault),
-            },
+            Some(step) => self.make_due(step, moment),
         }
     }
 
@@ -250,37 +230,48 @@ impl<D: Disk + Drop, C: Clock + Drop> Spool<D, C> {
 
     /// The items, of which the first has number 1.
     pub fn items(&self) -> &[Item]
-        ensures { result.now ≡ self.now.current.machine.items }
+        ensures exact { result.now ≡ self.now.current.machine.items }
+        ensures numbers { length self.now.current.machine.items < 2 ^ 32 }
     {
-        self.current.items()
+        self.replay.kept.parts.items.as_slice()
     }
 
     /// The item with this number, from 1, or none where no item has it.
     pub fn item(&self, number: u32) -> Option<&Item>
         ensures { option_copied result ≡ numbered self.now.current.machine.items number }
     {
-        self.current.item(number)
+        self.replay.kept.parts.item(number)
     }
 
     /// What the mailboxes got, in the order of the deliveries.
     pub fn mailboxes(&self) -> &[MailboxLine]
         ensures { result.now ≡ self.now.current.machine.mailboxes }
     {
-        self.current.mailboxes()
+        self.replay.kept.parts.mailboxes.as_slice()
+    }
+
+    /// The open lanes, by ascending numbers.
+    pub fn lanes(&self) -> &[Lane]
+        ensures { result.now ≡ self.now.current.lanes.open_lanes }
+    {
+        self.replay.kept.lanes.open_lanes.as_slice()
     }
 
     /// The tables recorded last, or none.
     pub fn tables(&self) -> Option<&Tables>
-        ensures { option_copied result ≡ recorded self.now.current.machine.tables }
+        ensures { IsLastRecorded self.now.current.machine (option_copied result) }
     {
-        self.current.tables()
+        match &self.replay.rules {
+            Some(rules) => Some(rules.tables()),
+            None => None,
+        }
     }
 
     /// The last recorded moment, in seconds since 1950-01-01 00:00:00 UTC, or 0 where there is none.
     pub fn moment(&self) -> u64
         ensures { result ≡ self.now.current.moment }
     {
-        self.current.moment()
+        self.replay.kept.moment
     }
 
     /// The disk.

@@ -1,7 +1,8 @@
 use Rattle.std.proofs.Common.{◌≡◌, List, ℕ, Ok, Err, sym, ap, subst, ◌∙◌}
 use Rattle.mta_journal.specs.Appending.{Appends as JournalAppends}
-use Rattle.mta_first_records.specs.Body.{body_of}
-use Rattle.mta_history.specs.History.{State, after_step}
+use Rattle.mta_records.specs.Body.{body_of}
+use Rattle.mta_histories.specs.Lanes.{State}
+use Rattle.mta_histories.specs.History.{after_step}
 use Rattle.mta_spool.specs.Current.{state_of}
 use Rattle.mta_spool.proofs.Making.{made, refused}
 use Rattle.mta_spool.proofs.make.make.Goals as goal

@@ -1,6 +1,6 @@
 use Rattle.std.proofs.Common.{◌≡◌, ◌+◌, List, take}
-use Rattle.mta_first_records.specs.declared.step.Step.{Step}
-use Rattle.mta_history.specs.Image.{size_of}
+use Rattle.mta_records.specs.declared.step.Step.{Step}
+use Rattle.mta_images.specs.Image.{size_of}
 use Rattle.mta_spool.specs.Replaying.{IsReplay}
 use Rattle.mta_spool.proofs.replay.replay.Given as goal
 

@@ -1,5 +1,5 @@
 use Rattle.std.proofs.Common.{◌<◌, ◌^◌, length, refl, ap, ◌∙◌, arith}
-use Rattle.mta_first_records.specs.declared.step.Step.TheVariants as Steps
+use Rattle.mta_records.specs.declared.step.Step.TheVariants as Steps
 use Rattle.mta_tables.specs.Tables.{tables_of}
 use Rattle.mta_history.proofs.Histories.{length-string}
 use Rattle.mta_spool.specs.Shown.{Shown}

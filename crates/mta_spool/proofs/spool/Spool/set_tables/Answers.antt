@@ -1,5 +1,5 @@
 use Rattle.std.proofs.Common.{◌≡◌, Some, refl, sym, ap, ◌∙◌}
-use Rattle.mta_history.specs.History.{State}
+use Rattle.mta_histories.specs.Lanes.{State}
 use Rattle.mta_history.specs.Verdict.{last_of}
 use Rattle.mta_spool.specs.Shown.{Shown}
 use Rattle.mta_spool.specs.Stands.{fault_of}

@@ -1,5 +1,5 @@
 use Rattle.std.proofs.Common.{refl, sym, ap, subst, ◌∙◌}
-use Rattle.mta_history.specs.History.{State}
+use Rattle.mta_histories.specs.Lanes.{State}
 use Rattle.mta_history.specs.Due.{IsQuiet}
 use Rattle.mta_spool.specs.Shown.{Shown}
 use Rattle.mta_spool.proofs.spool.Spool.turn_at.Goals as goal

@@ -1,0 +1,45 @@
+-- What is known of a step that is next.
+use Rattle.std.proofs.Common.{◌≡◌, ℕ, ◌+◌, ◌≤◌, ◌<◌, ◌^◌, inl, inr, Option, Some, None, length, refl, sym, ap, subst, ◌∙◌}
+use Rattle.std.proofs.Common.{arith}
+use Rattle.mta_procedures.specs.declared.verdict.Verdict.{Verdict}
+use Rattle.mta_procedures.specs.declared.verdict.Verdict.TheVariants as Verdicts
+use Rattle.mta_records.specs.declared.step.Step.{Step}
+use Rattle.mta_records.specs.declared.step.Step.TheVariants as step
+use Rattle.mta_histories.specs.Classes.{class_of, moment_of}
+use Rattle.mta_histories.specs.Lanes.{State}
+use Rattle.mta_histories.specs.History.{IsPossible, after_step}
+use Rattle.mta_histories.specs.Kept.{IsKept}
+use Rattle.mta_histories.specs.Due.{IsDue, IsNext, step_of}
+use Rattle.mta_histories.specs.Numbers.{numbers_needed}
+use Rattle.mta_histories.proofs.Dues.{due_steps_are_possible}
+use Rattle.mta_histories.proofs.Needed.{numbers_suffice}
+use Rattle.mta_spool.specs.Due.{IsDueStep}
+
+some-is : (a b : Step) → ◌≡◌ {A = Option Step} (Some a) (Some b) → a ≡ b
+some-is a b e = cc
+
+due-by : (v : Verdict) (i r moment : ℕ) (due : Step) → step_of v i r moment ≡ Some due → IsDueStep due
+due-by (Verdicts.Deliver place) i r moment due e = subst IsDueStep (some-is (step.Deliver i r moment) due e) tt
+due-by (Verdicts.Expand place) i r moment due e = subst IsDueStep (some-is (step.Expand i r moment) due e) tt
+due-by (Verdicts.Relay place) i r moment due e = absurd cc
+due-by Verdicts.Affirm i r moment due e = subst IsDueStep (some-is (step.Affirm i r moment) due e) tt
+due-by (Verdicts.NonDeliver reason diagnostic) i r moment due e =
+    subst IsDueStep (some-is (step.Report i r moment) due e) tt
+due-by (Verdicts.Hold until) i r moment due e = absurd cc
+due-by Verdicts.Back i r moment due e = subst IsDueStep (some-is (step.Back i r moment) due e) tt
+due-by Verdicts.Discard i r moment due e = subst IsDueStep (some-is (step.Discard i r moment) due e) tt
+
+due-of : (s : State) (i r moment : ℕ) (due : Step) → IsDue s i r moment due → IsDueStep due
+due-of s i r moment due (inl d) = due-by d.verdict i r moment due d.step_is
+due-of s i r moment due (inr d) = subst IsDueStep (sym d.step_is) tt
+
+-- it is one of those that may be due
+pub next_is_due : (s : State) (moment : ℕ) (due : Step) → IsNext s moment due → IsDueStep due
+next_is_due s moment due next = due-of s next.item next.recipient moment due next.is_due
+
+-- where enough numbers are left it is possible
+pub next_is_possible : (s : State) (moment : ℕ) (due : Step) → IsKept s → s.moment ≤ moment → IsNext s moment due
+    → length s.machine.items + numbers_needed s (class_of due) < 2 ^ 32 → IsPossible s due
+next_is_possible s moment due kept timely next left =
+    due_steps_are_possible s next.item next.recipient moment due kept timely next.is_due
+    (omega (arith, left, numbers_suffice s due))
