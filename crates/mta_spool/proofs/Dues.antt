@@ -1,6 +1,8 @@
 -- What is known of a step that is next.
 use Rattle.std.proofs.Common.{◌≡◌, ℕ, ◌+◌, ◌≤◌, ◌<◌, ◌^◌, inl, inr, Option, Some, None, length, refl, sym, ap, subst, ◌∙◌}
 use Rattle.std.proofs.Common.{arith}
+use Rattle.std.specs.Prelude.{IfSome}
+use Rattle.mta_ber.specs.Times.{last_moment}
 use Rattle.mta_procedures.specs.declared.verdict.Verdict.{Verdict}
 use Rattle.mta_procedures.specs.declared.verdict.Verdict.TheVariants as Verdicts
 use Rattle.mta_records.specs.declared.step.Step.{Step}
@@ -17,6 +19,10 @@ use Rattle.mta_spool.specs.Due.{IsDueStep}
 
 some-is : (a b : Step) → ◌≡◌ {A = Option Step} (Some a) (Some b) → a ≡ b
 some-is a b e = cc
+
+told : (a b : Step) (moment : ℕ) → ◌≡◌ {A = Option Step} (Some a) (Some b) → moment_of a ≡ Some moment
+    → moment_of b ≡ Some moment
+told a b moment e is = subst (λ (x : Step). moment_of x ≡ Some moment) (some-is a b e) is
 
 due-by : (v : Verdict) (i r moment : ℕ) (due : Step) → step_of v i r moment ≡ Some due → IsDueStep due
 due-by (Verdicts.Deliver place) i r moment due e = subst IsDueStep (some-is (step.Deliver i r moment) due e) tt
@@ -36,6 +42,27 @@ due-of s i r moment due (inr d) = subst IsDueStep (sym d.step_is) tt
 -- it is one of those that may be due
 pub next_is_due : (s : State) (moment : ℕ) (due : Step) → IsNext s moment due → IsDueStep due
 next_is_due s moment due next = due-of s next.item next.recipient moment due next.is_due
+
+moment-by : (v : Verdict) (i r moment : ℕ) (due : Step) → step_of v i r moment ≡ Some due → moment_of due ≡ Some moment
+moment-by (Verdicts.Deliver place) i r moment due e = told (step.Deliver i r moment) due moment e refl
+moment-by (Verdicts.Expand place) i r moment due e = told (step.Expand i r moment) due moment e refl
+moment-by (Verdicts.Relay place) i r moment due e = absurd cc
+moment-by Verdicts.Affirm i r moment due e = told (step.Affirm i r moment) due moment e refl
+moment-by (Verdicts.NonDeliver reason diagnostic) i r moment due e = told (step.Report i r moment) due moment e refl
+moment-by (Verdicts.Hold until) i r moment due e = absurd cc
+moment-by Verdicts.Back i r moment due e = told (step.Back i r moment) due moment e refl
+moment-by Verdicts.Discard i r moment due e = told (step.Discard i r moment) due moment e refl
+
+moment-of : (s : State) (i r moment : ℕ) (due : Step) → IsDue s i r moment due → moment_of due ≡ Some moment
+moment-of s i r moment due (inl d) = moment-by d.verdict i r moment due d.step_is
+moment-of s i r moment due (inr d) = ap moment_of d.step_is
+
+-- it carries the moment at which it is due
+pub next_fits : (s : State) (moment : ℕ) (due : Step) → moment ≤ last_moment → IsNext s moment due
+    → IfSome (moment_of due) (λ m. m ≤ last_moment)
+next_fits s moment due fits next =
+    subst (λ (o : Option ℕ). IfSome o (λ m. m ≤ last_moment))
+    (sym (moment-of s next.item next.recipient moment due next.is_due)) fits
 
 -- where enough numbers are left it is possible
 pub next_is_possible : (s : State) (moment : ℕ) (due : Step) → IsKept s → s.moment ≤ moment → IsNext s moment due

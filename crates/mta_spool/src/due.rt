@@ -1,7 +1,9 @@
 //! The steps that are due: how many numbers they need, and how they are told.
 
-ghost use Rattle.std.specs.Prelude.{◌≡◌, ℕ};
-ghost use Rattle.mta_histories.specs.Classes.{abandon, class_of};
+ghost use Rattle.std.specs.Prelude.{◌≡◌, ◌≤◌, ℕ, IfSome};
+ghost use Rattle.mta_ber.specs.Times.{last_moment};
+ghost use Rattle.mta_records.specs.Body.{HasFields};
+ghost use Rattle.mta_histories.specs.Classes.{abandon, class_of, moment_of};
 ghost use Rattle.mta_histories.specs.Lanes.{lane_at};
 ghost use Rattle.mta_histories.specs.Numbers.{numbers_needed, numbers_on, recipient_count};
 ghost use Rattle.mta_replay.specs.Kept.{state_of};
@@ -43,10 +45,12 @@ pub fn numbers_needed(kept: &Kept, step: &Step) -> usize
     }
 }
 
-/// A due step once more.
+/// A due step once more. Its fields are in their types.
 pub fn same(step: &Step) -> Step
-    requires { IsDueStep step.now }
-    ensures { result ≡ step.now }
+    requires due { IsDueStep step.now }
+    requires fits { IfSome (moment_of step.now) (λ m. m ≤ last_moment) }
+    ensures same { result ≡ step.now }
+    ensures fields { HasFields step.now }
 {
     match step {
         Step::Deliver {

@@ -190,8 +190,8 @@ impl<D: Disk + Drop, C: Clock + Drop> Spool<D, C> {
     fn make_due(&mut self, step: Step, moment: u64) -> Result<Turned, StepFault>
         requires next { IsNext self.old.current moment step }
         requires going { self.old.journal.ended ≡ false }
-        requires fields { HasFields step }
         requires timely { self.old.current.moment ≤ moment }
+        requires fits { moment ≤ last_moment }
         ensures turned { Turns D.model moment self.old self.new result }
         ensures clock { self.new.clock ≡ self.old.clock }
     {
