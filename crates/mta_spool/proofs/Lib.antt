@@ -1,5 +1,6 @@
 pub mod Dues
 pub mod Making
 pub mod Openings
+pub mod Refused
 pub mod Replays
 pub mod Turns

@@ -15,11 +15,14 @@ use Rattle.mta_records.specs.declared.fault.StepFault.{StepFault}
 use Rattle.mta_records.specs.declared.fault.StepFault.TheVariants as StepFaults
 use Rattle.mta_records.specs.Body.{body_of, HasFields}
 use Rattle.mta_histories.specs.Lanes.{State, empty}
-use Rattle.mta_histories.specs.History.{IsHistory, IsPossible, after, after_step}
+use Rattle.mta_histories.specs.History.{IsHistory, IsPossible, after, after_step, when}
 use Rattle.mta_images.specs.Image.{AreRecords, StandsFor}
 use Rattle.mta_histories.proofs.Runs.{after_from-more, possible-more}
 use Rattle.mta_images.proofs.Bodies.{map-more, are-records-more}
+use Rattle.mta_histories.specs.Classes.{class_of}
 use Rattle.mta_spool.specs.Making.{step_fault}
+use Rattle.mta_spool.specs.Refusals.{IsOfLane, IsRefused}
+use Rattle.mta_spool.proofs.Refused.{not_refused}
 use Rattle.mta_spool.specs.Stands.{IsHeld, IsOneOf, IsSpent, MayHave, Makes, need_of}
 
 -- an image that holds the bodies of a history stands for it
@@ -33,6 +36,18 @@ one_of g steps step each history fields possible (inl has) = inl (image_of g ste
 one_of g steps step each history fields possible (inr has) =
     inr (image_of g (steps ++ step ∷ []) (subst (HasBodies g) (sym (map-more steps step)) has)
     (are-records-more steps step each fields) (possible-more empty steps step history possible))
+
+-- ---- no refusal for a lane stands
+
+-- none of the refusals for a lane stands for the step
+abbrev pub IsOfNoRefusal : State → Step → Type 0
+IsOfNoRefusal s step = (f : StepFault) → IsRefused s (class_of step) (when s step) f → ⊥
+
+some-is : (x f : StepFault) → ◌≡◌ {A = Option StepFault} (Some x) (Some f) → x ≡ f
+some-is x f e = cc
+
+of-lane : (x f : StepFault) → ◌≡◌ {A = Option StepFault} (Some x) (Some f) → IsOfLane f → IsOfLane x
+of-lane x f e of = subst IsOfLane (sym (some-is x f e)) of
 
 module _ {D : Type 0} (model : DiskView D) (step : Step) where
   -- behind the history that is held the step is possible
@@ -76,7 +91,8 @@ module _ {D : Type 0} (model : DiskView D) (step : Step) where
       → old.ended ≡ false → HasFields step → IsPossible s step → (IsSpent s step → ⊥) → s' ≡ after_step s step
       → Makes model step old s new s' None
   made laws old new s s' a going fields possible numbers change = record {
-    faults = tt;
+    row = λ f e of. absurd cc;
+    row_where = λ on f is. absurd (not_refused s step f possible is);
     done = λ ok steps held. held_more old new s s' steps held (a.done refl (map body_of steps) held.holds) fields possible change;
     changed = λ ok. change;
     going = λ ok. a.going refl;
@@ -98,7 +114,8 @@ module _ {D : Type 0} (model : DiskView D) (step : Step) where
       → JournalAppends {T = Unit {0}} model (body_of step) old new (Err fault) → old.ended ≡ false → HasFields step → IsPossible s step
       → (IsSpent s step → ⊥) → s' ≡ s → Makes model step old s new s' (Some (step_fault fault))
   refused laws (AppendFaults.Full size need) old new s s' a going fields possible numbers same = record {
-    faults = tt;
+    row = λ f e of. absurd (of-lane (StepFaults.Full size need) f e of);
+    row_where = λ on f is. absurd (not_refused s step f possible is);
     done = λ ok. absurd cc;
     changed = λ ok. absurd cc;
     going = λ ok. absurd cc;
@@ -121,7 +138,8 @@ module _ {D : Type 0} (model : DiskView D) (step : Step) where
         let e : AppendFaults.Full size need ≡ AppendFaults.Full old.size (need_of step) = cc in inl (ap (λ (x : AppendFault). Some (step_fault x)) e);
   }
   refused laws AppendFaults.Disk old new s s' a going fields possible numbers same = record {
-    faults = tt;
+    row = λ f e of. absurd (of-lane StepFaults.Disk f e of);
+    row_where = λ on f is. absurd (not_refused s step f possible is);
     done = λ ok. absurd cc;
     changed = λ ok. absurd cc;
     going = λ ok. absurd cc;
@@ -139,7 +157,8 @@ module _ {D : Type 0} (model : DiskView D) (step : Step) where
   }
   refused laws AppendFaults.Ended old new s s' a going fields possible numbers same = let is_ended = a.ended.0 refl in absurd cc
   refused laws AppendFaults.Memory old new s s' a going fields possible numbers same = record {
-    faults = tt;
+    row = λ f e of. absurd (of-lane StepFaults.Memory f e of);
+    row_where = λ on f is. absurd (not_refused s step f possible is);
     done = λ ok. absurd cc;
     changed = λ ok. absurd cc;
     going = λ ok. absurd cc;
@@ -163,10 +182,12 @@ module _ {D : Type 0} (model : DiskView D) (step : Step) where
   no_later old new same = omega (arith, ap (λ (j : JournalShown D). model.faults j.disk) same)
 
   -- there was no memory
-  pub no_memory : (old new : JournalShown D) (s s' : State) → new ≡ old → s' ≡ s → old.ended ≡ false → (IsSpent s step → ⊥)
+  pub no_memory : (old new : JournalShown D) (s s' : State) → new ≡ old → s' ≡ s → old.ended ≡ false
+      → (IsSpent s step → ⊥) → IsOfNoRefusal s step
       → Makes model step old s new s' (Some StepFaults.Memory)
-  no_memory old new s s' same kept going numbers = record {
-    faults = tt;
+  no_memory old new s s' same kept going numbers lane = record {
+    row = λ f e of. absurd (of-lane StepFaults.Memory f e of);
+    row_where = λ on f is. absurd (lane f is);
     done = λ ok. absurd cc;
     changed = λ ok. absurd cc;
     going = λ ok. absurd cc;
@@ -187,7 +208,8 @@ module _ {D : Type 0} (model : DiskView D) (step : Step) where
   pub is_ended : (old new : JournalShown D) (s s' : State) → new ≡ old → s' ≡ s → old.ended ≡ true
       → Makes model step old s new s' (Some StepFaults.Ended)
   is_ended old new s s' same kept ended = record {
-    faults = tt;
+    row = λ f e of. absurd (of-lane StepFaults.Ended f e of);
+    row_where = λ on f is. absurd cc;
     done = λ ok. absurd cc;
     changed = λ ok. absurd cc;
     going = λ ok. absurd cc;
@@ -206,9 +228,10 @@ module _ {D : Type 0} (model : DiskView D) (step : Step) where
 
   -- too few numbers were left
   pub is_spent : (last : ℕ) (old new : JournalShown D) (s s' : State) → new ≡ old → s' ≡ s → old.ended ≡ false
-      → last ≡ length s.machine.items → IsSpent s step → Makes model step old s new s' (Some (StepFaults.Spent last))
-  is_spent last old new s s' same kept going count spent = record {
-    faults = tt;
+      → last ≡ length s.machine.items → IsSpent s step → IsOfNoRefusal s step → Makes model step old s new s' (Some (StepFaults.Spent last))
+  is_spent last old new s s' same kept going count spent lane = record {
+    row = λ f e of. absurd (of-lane (StepFaults.Spent last) f e of);
+    row_where = λ on f is. absurd (lane f is);
     done = λ ok. absurd cc;
     changed = λ ok. absurd cc;
     going = λ ok. absurd cc;

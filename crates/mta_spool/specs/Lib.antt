@@ -1,4 +1,5 @@
 pub mod Due
+pub mod Refusals
 pub mod Shown
 pub mod Stands
 pub mod Making

@@ -12,9 +12,10 @@ use Rattle.mta_records.specs.declared.step.Step.{Step}
 use Rattle.mta_records.specs.Body.{body_of}
 use Rattle.mta_histories.specs.Lanes.{State}
 use Rattle.mta_histories.specs.Classes.{class_of}
-use Rattle.mta_histories.specs.History.{after, after_step, IsHistory, IsPossible}
+use Rattle.mta_histories.specs.History.{after, after_step, IsHistory, IsPossible, when}
 use Rattle.mta_histories.specs.Numbers.{numbers_needed}
 use Rattle.mta_images.specs.Image.{AreRecords, StandsFor}
+use Rattle.mta_spool.specs.Refusals.{IsOfLane, IsRefused}
 use Rattle.mta_spool.specs.Shown.{Shown}
 
 -- a journal and the state in memory stand for this history, and a crash leaves it
@@ -90,8 +91,10 @@ IsOfNoLane (Some StepFaults.Unexpected) = ⊥
 -- What a call that makes this step, or refuses it by this fault, leaves of the journal and of the state in memory.
 pub record Makes {D : Type 0} (model : DiskView D) (step : Step) (old : JournalShown D) (s : State) (new : JournalShown D) (s' : State)
     (fault : Option StepFault) : Type 0 where
-  -- it is refused by no refusal of a lane's steps
-  pub faults : IsOfNoLane fault
+  -- where it is a step of lanes it is refused for the lane exactly where that stands, or there was no memory to look
+  pub row : (f : StepFault) → fault ≡ Some f → IsOfLane f → IsRefused s (class_of step) (when s step) f
+  pub row_where : old.ended ≡ false → (f : StepFault) → IsRefused s (class_of step) (when s step) f
+      → (fault ≡ Some f) ⊎ (fault ≡ Some StepFaults.Memory)
   -- where it is made it stands behind every history for which they stood
   pub done : fault ≡ None → (steps : List Step) → IsHeld model old s steps → IsHeld model new s' (steps ++ step ∷ [])
   -- in memory is the state after it, and the spool goes on

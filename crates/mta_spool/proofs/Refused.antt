@@ -1,0 +1,99 @@
+-- Where a step is possible none of the refusals for a lane stands.
+use Rattle.std.proofs.Common.{◌≡◌, ℕ, ◌<◌, ◌≤◌, List, Option, None, Some, sym, ap, subst, ◌∙◌, arith}
+use Rattle.mta_records.specs.declared.step.Step.{Step}
+use Rattle.mta_records.specs.declared.fault.StepFault.{StepFault}
+use Rattle.mta_records.specs.declared.fault.StepFault.TheVariants as Faults
+use Rattle.mta_histories.specs.Lanes.{Lane, State, lane_at}
+use Rattle.mta_histories.specs.Classes.{LaneStep, agree, bind, start, confirm, to_end, settle, abandon, secure, complete}
+use Rattle.mta_histories.specs.Classes.{drop_pieces, close, Class, records, accepts, settles, opens, on_lane, class_of}
+use Rattle.mta_histories.specs.History.{StepNeeds, LaneNeeds, IsOfGeneration, IsPossible, when}
+use Rattle.mta_spool.specs.Refusals.{IsFenced, LaneExpects, IsUnexpected, IsRefused}
+
+one-lane : (o : Option Lane) (a b : Lane) → o ≡ Some a → o ≡ Some b → a ≡ b
+one-lane o a b e f = let both : ◌≡◌ {A = Option Lane} (Some a) (Some b) = sym e ∙ f in cc
+
+same-generation : (g h : ℕ) → ◌≡◌ {A = Option ℕ} (Some g) (Some h) → g ≡ h
+same-generation g h e = cc
+
+not-fenced : (lane : Lane) (g : Option ℕ) (step : LaneStep) → IsOfGeneration lane g step → IsFenced lane g step → ⊥
+not-fenced lane None step of fenced = fenced
+not-fenced lane (Some g) (agree checkpoint window) of fenced =
+    omega (arith, fenced, same-generation g lane.generation of)
+not-fenced lane (Some g) bind of fenced = fenced
+not-fenced lane (Some g) (start k i rs) of fenced = omega (arith, fenced, same-generation g lane.generation of)
+not-fenced lane (Some g) (confirm k n) of fenced = omega (arith, fenced, same-generation g lane.generation of)
+not-fenced lane (Some g) (to_end k) of fenced = omega (arith, fenced, same-generation g lane.generation of)
+not-fenced lane (Some g) (settle outcome k) of fenced = omega (arith, fenced, same-generation g lane.generation of)
+not-fenced lane (Some g) (abandon k) of fenced = fenced
+not-fenced lane (Some g) (secure k n piece) of fenced = omega (arith, fenced, same-generation g lane.generation of)
+not-fenced lane (Some g) (complete k n piece) of fenced = omega (arith, fenced, same-generation g lane.generation of)
+not-fenced lane (Some g) (drop_pieces k) of fenced = omega (arith, fenced, same-generation g lane.generation of)
+not-fenced lane (Some g) close of fenced = omega (arith, fenced, same-generation g lane.generation of)
+
+expects : (s : State) (lane : Lane) (step : LaneStep) (moment : ℕ) → LaneNeeds s lane step moment
+    → LaneExpects s lane step moment
+expects s lane (agree checkpoint window) moment needs = needs
+expects s lane bind moment needs = needs
+expects s lane (start k i rs) moment needs = needs
+expects s lane (confirm k n) moment needs = needs
+expects s lane (to_end k) moment needs = needs
+expects s lane (settle outcome k) moment needs = needs
+expects s lane (abandon k) moment needs = needs
+expects s lane (secure k n piece) moment needs = record {
+  agreed = needs.agreed;
+  taken = needs.taken;
+  some_octets = needs.some_octets;
+  short = needs.short;
+}
+expects s lane (complete k n piece) moment needs = record {
+  agreed = needs.0.agreed;
+  taken = needs.0.taken;
+  some_octets = needs.0.some_octets;
+  short = needs.0.short;
+}
+expects s lane (drop_pieces k) moment needs = needs
+expects s lane close moment needs = needs
+
+on-lane : (s : State) (n : ℕ) (g : Option ℕ) (step : LaneStep) (moment : ℕ) (f : StepFault)
+    → StepNeeds s (on_lane n g step) moment → IsRefused s (on_lane n g step) moment f → ⊥
+on-lane s n g step moment (Faults.Full size need) needs is = is
+on-lane s n g step moment Faults.Disk needs is = is
+on-lane s n g step moment Faults.Ended needs is = is
+on-lane s n g step moment (Faults.Fenced generation) needs is =
+    let same = one-lane (lane_at n s.lanes.open_lanes) is.lane needs.lane is.lane_is needs.lane_is in
+    not-fenced needs.lane g step needs.current (subst (λ (l : Lane). IsFenced l g step) same is.fenced)
+on-lane s n g step moment (Faults.NoLane m) needs is =
+    let both : ◌≡◌ {A = Option Lane} None (Some needs.lane) = sym is.1 ∙ needs.lane_is in cc
+on-lane s n g step moment (Faults.BusyLanes count) needs is = is
+on-lane s n g step moment Faults.Unexpected needs is =
+    let same = one-lane (lane_at n s.lanes.open_lanes) needs.lane is.lane needs.lane_is is.lane_is in
+    is.not_now (subst (λ (l : Lane). IsOfGeneration l g step) same needs.current)
+    (subst (λ (l : Lane). LaneExpects s l step moment) same (expects s needs.lane step moment needs.needs))
+on-lane s n g step moment (Faults.Spent last) needs is = is
+on-lane s n g step moment Faults.Memory needs is = is
+
+allowed : (s : State) (c : Class) (moment : ℕ) (f : StepFault) → StepNeeds s c moment → IsRefused s c moment f → ⊥
+allowed s (records text) moment f needs is = is
+allowed s (accepts octets) moment f needs is = is
+allowed s (settles how i r) moment f needs is = is
+allowed s (opens role peer name twa size window) moment (Faults.Full a b) needs is = is
+allowed s (opens role peer name twa size window) moment Faults.Disk needs is = is
+allowed s (opens role peer name twa size window) moment Faults.Ended needs is = is
+allowed s (opens role peer name twa size window) moment (Faults.Fenced generation) needs is = is
+allowed s (opens role peer name twa size window) moment (Faults.NoLane lane) needs is = is
+allowed s (opens role peer name twa size window) moment (Faults.BusyLanes count) needs is =
+    omega (arith, needs.room, is.1, is.2)
+allowed s (opens role peer name twa size window) moment Faults.Unexpected needs is = is (record {
+  named = needs.named;
+  new = needs.new;
+  number = needs.number;
+  checkpoint_fits = needs.checkpoint_fits;
+  window_fits = needs.window_fits;
+})
+allowed s (opens role peer name twa size window) moment (Faults.Spent last) needs is = is
+allowed s (opens role peer name twa size window) moment Faults.Memory needs is = is
+allowed s (on_lane n g step) moment f needs is = on-lane s n g step moment f needs is
+
+pub not_refused : (s : State) (step : Step) (f : StepFault) → IsPossible s step
+    → IsRefused s (class_of step) (when s step) f → ⊥
+not_refused s step f possible is = allowed s (class_of step) (when s step) f possible.allowed is
