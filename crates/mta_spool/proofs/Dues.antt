@@ -15,7 +15,10 @@ use Rattle.mta_histories.specs.Due.{IsDue, IsNext, step_of}
 use Rattle.mta_histories.specs.Numbers.{numbers_needed}
 use Rattle.mta_histories.proofs.Dues.{due_steps_are_possible}
 use Rattle.mta_histories.proofs.Needed.{numbers_suffice}
+use Rattle.mta_lane_send.specs.Half.{last_of}
 use Rattle.mta_spool.specs.Due.{IsDueStep}
+use Rattle.mta_spool.proofs.Making.{IsOfNoRefusal}
+use Rattle.mta_spool.proofs.Refused.{allowed}
 
 some-is : (a b : Step) → ◌≡◌ {A = Option Step} (Some a) (Some b) → a ≡ b
 some-is a b e = cc
@@ -63,6 +66,34 @@ pub next_fits : (s : State) (moment : ℕ) (due : Step) → moment ≤ last_mome
 next_fits s moment due fits next =
     subst (λ (o : Option ℕ). IfSome o (λ m. m ≤ last_moment))
     (sym (moment-of s next.item next.recipient moment due next.is_due)) fits
+
+-- ---- no refusal for a lane stands for it
+
+not-by : (s : State) (v : Verdict) (i r moment : ℕ) (due : Step) → step_of v i r moment ≡ Some due
+    → IsOfNoRefusal s due
+not-by s (Verdicts.Deliver place) i r moment due e =
+    subst (IsOfNoRefusal s) (some-is (step.Deliver i r moment) due e) (λ f is. is)
+not-by s (Verdicts.Expand place) i r moment due e =
+    subst (IsOfNoRefusal s) (some-is (step.Expand i r moment) due e) (λ f is. is)
+not-by s (Verdicts.Relay place) i r moment due e = absurd cc
+not-by s Verdicts.Affirm i r moment due e =
+    subst (IsOfNoRefusal s) (some-is (step.Affirm i r moment) due e) (λ f is. is)
+not-by s (Verdicts.NonDeliver reason diagnostic) i r moment due e =
+    subst (IsOfNoRefusal s) (some-is (step.Report i r moment) due e) (λ f is. is)
+not-by s (Verdicts.Hold until) i r moment due e = absurd cc
+not-by s Verdicts.Back i r moment due e =
+    subst (IsOfNoRefusal s) (some-is (step.Back i r moment) due e) (λ f is. is)
+not-by s Verdicts.Discard i r moment due e =
+    subst (IsOfNoRefusal s) (some-is (step.Discard i r moment) due e) (λ f is. is)
+
+not-of : (s : State) (i r moment : ℕ) (due : Step) → IsDue s i r moment due → IsOfNoRefusal s due
+not-of s i r moment due (inl d) = not-by s d.verdict i r moment due d.step_is
+not-of s i r moment due (inr d) = subst (IsOfNoRefusal s) (sym d.step_is)
+    (λ f is. allowed s (class_of (step.Abandon d.number (last_of d.lane.sending) moment)) moment f
+    (record { lane = d.lane; lane_is = d.lane_is; current = tt; needs = (d.sending, d.expired) }) is)
+
+pub next_not_refused : (s : State) (moment : ℕ) (due : Step) → IsNext s moment due → IsOfNoRefusal s due
+next_not_refused s moment due next = not-of s next.item next.recipient moment due next.is_due
 
 -- where enough numbers are left it is possible
 pub next_is_possible : (s : State) (moment : ℕ) (due : Step) → IsKept s → s.moment ≤ moment → IsNext s moment due

@@ -1,5 +1,5 @@
 -- Where a step is possible none of the refusals for a lane stands.
-use Rattle.std.proofs.Common.{◌≡◌, ℕ, ◌<◌, ◌≤◌, List, Option, None, Some, sym, ap, subst, ◌∙◌, arith}
+use Rattle.std.proofs.Common.{◌≡◌, ℕ, ◌<◌, ◌≤◌, List, Option, None, Some, refl, sym, ap, subst, ◌∙◌, arith}
 use Rattle.mta_records.specs.declared.step.Step.{Step}
 use Rattle.mta_records.specs.declared.fault.StepFault.{StepFault}
 use Rattle.mta_records.specs.declared.fault.StepFault.TheVariants as Faults
@@ -7,7 +7,8 @@ use Rattle.mta_histories.specs.Lanes.{Lane, State, lane_at}
 use Rattle.mta_histories.specs.Classes.{LaneStep, agree, bind, start, confirm, to_end, settle, abandon, secure, complete}
 use Rattle.mta_histories.specs.Classes.{drop_pieces, close, Class, records, accepts, settles, opens, on_lane, class_of}
 use Rattle.mta_histories.specs.History.{StepNeeds, LaneNeeds, IsOfGeneration, IsPossible, when}
-use Rattle.mta_spool.specs.Refusals.{IsFenced, LaneExpects, IsUnexpected, IsRefused}
+use Rattle.mta_spool.specs.Refusals.{IsFenced, LaneExpects, IsUnexpected, IsOfLane, IsRefused}
+use Rattle.mta_spool.specs.Stands.{IsOfNoLane}
 
 one-lane : (o : Option Lane) (a b : Lane) → o ≡ Some a → o ≡ Some b → a ≡ b
 one-lane o a b e f = let both : ◌≡◌ {A = Option Lane} (Some a) (Some b) = sym e ∙ f in cc
@@ -72,7 +73,7 @@ on-lane s n g step moment Faults.Unexpected needs is =
 on-lane s n g step moment (Faults.Spent last) needs is = is
 on-lane s n g step moment Faults.Memory needs is = is
 
-allowed : (s : State) (c : Class) (moment : ℕ) (f : StepFault) → StepNeeds s c moment → IsRefused s c moment f → ⊥
+pub allowed : (s : State) (c : Class) (moment : ℕ) (f : StepFault) → StepNeeds s c moment → IsRefused s c moment f → ⊥
 allowed s (records text) moment f needs is = is
 allowed s (accepts octets) moment f needs is = is
 allowed s (settles how i r) moment f needs is = is
@@ -97,3 +98,17 @@ allowed s (on_lane n g step) moment f needs is = on-lane s n g step moment f nee
 pub not_refused : (s : State) (step : Step) (f : StepFault) → IsPossible s step
     → IsRefused s (class_of step) (when s step) f → ⊥
 not_refused s step f possible is = allowed s (class_of step) (when s step) f possible.allowed is
+
+-- ---- a fault that is none of a lane's
+
+pub no_lane : (fault : Option StepFault) → ((f : StepFault) → fault ≡ Some f → IsOfLane f → ⊥) → IsOfNoLane fault
+no_lane None none = tt
+no_lane (Some (Faults.Full size need)) none = tt
+no_lane (Some Faults.Disk) none = tt
+no_lane (Some Faults.Ended) none = tt
+no_lane (Some (Faults.Fenced generation)) none = none (Faults.Fenced generation) refl tt
+no_lane (Some (Faults.NoLane lane)) none = none (Faults.NoLane lane) refl tt
+no_lane (Some (Faults.BusyLanes count)) none = none (Faults.BusyLanes count) refl tt
+no_lane (Some Faults.Unexpected) none = none Faults.Unexpected refl tt
+no_lane (Some (Faults.Spent last)) none = tt
+no_lane (Some Faults.Memory) none = tt

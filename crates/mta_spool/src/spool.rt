@@ -78,7 +78,8 @@ impl<D: Disk + Drop, C: Clock + Drop> Spool<D, C> {
     ghost use Rattle.mta_histories.specs.Classes.{class_of};
     ghost use Rattle.mta_histories.specs.Due.{IsNext};
     ghost use Rattle.mta_histories.specs.Numbers.{numbers_needed};
-    ghost use Rattle.mta_spool.specs.Stands.{Appends, AtMoment, fault_of, IsSpent, IsSpentFor, TellsFewer};
+    ghost use Rattle.mta_spool.specs.Stands.{Appends, AtMoment, fault_of, IsOfNoLane, IsSpent, IsSpentFor};
+    ghost use Rattle.mta_spool.specs.Stands.{TellsFewer};
     ghost use Rattle.mta_spool.specs.Turning.{IsUnchanged, Records, Turns};
 
     // Makes a step that is possible.
@@ -129,6 +130,7 @@ impl<D: Disk + Drop, C: Clock + Drop> Spool<D, C> {
     /// Records these tables last, or makes no step where their text is the one recorded last.
     pub fn set_tables(&mut self, tables: &Tables) -> Result<(), StepFault>
         ensures records { Records D.model tables.now.text self.old self.new result }
+        ensures no_lane { IsOfNoLane (fault_of result) }
         ensures clock { self.new.clock ≡ self.old.clock }
     {
         if self.journal.is_ended() {
@@ -179,6 +181,7 @@ impl<D: Disk + Drop, C: Clock + Drop> Spool<D, C> {
         requires tables { self.old.current.machine.tables ≢ [] }
         ensures appends { AtMoment C.model self.old.clock self.old.current.moment
             (λ m. Appends D.model (Steps.Accept m apdu.now) self.old self.new (fault_of result)) }
+        ensures no_lane { IsOfNoLane (fault_of result) }
         ensures number { IfOk result (λ n. n ≡ length self.old.current.machine.items + 1) }
         ensures clock { TellsFewer C.model self.old.clock self.new.clock }
     {
@@ -222,6 +225,7 @@ impl<D: Disk + Drop, C: Clock + Drop> Spool<D, C> {
     pub fn turn(&mut self) -> Result<Turned, StepFault>
         ensures turned { AtMoment C.model self.old.clock self.old.current.moment
             (λ m. Turns D.model m self.old self.new result) }
+        ensures no_lane { IsOfNoLane (fault_of result) }
         ensures clock { TellsFewer C.model self.old.clock self.new.clock }
     {
         let moment = self.step_moment();
