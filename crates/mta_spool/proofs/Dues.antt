@@ -17,7 +17,7 @@ use Rattle.mta_histories.proofs.Dues.{due_steps_are_possible}
 use Rattle.mta_histories.proofs.Needed.{numbers_suffice}
 use Rattle.mta_lane_send.specs.Half.{last_of}
 use Rattle.mta_spool.specs.Due.{IsDueStep}
-use Rattle.mta_spool.proofs.Making.{IsOfNoRefusal}
+use Rattle.mta_spool.specs.Stands.{IsOfNoRefusal}
 use Rattle.mta_spool.proofs.Refused.{allowed}
 
 some-is : (a b : Step) → ◌≡◌ {A = Option Step} (Some a) (Some b) → a ≡ b

@@ -23,7 +23,7 @@ use Rattle.mta_histories.specs.Classes.{class_of}
 use Rattle.mta_spool.specs.Making.{step_fault}
 use Rattle.mta_spool.specs.Refusals.{IsOfLane, IsRefused}
 use Rattle.mta_spool.proofs.Refused.{not_refused}
-use Rattle.mta_spool.specs.Stands.{IsHeld, IsOneOf, IsSpent, MayHave, Makes, need_of}
+use Rattle.mta_spool.specs.Stands.{IsHeld, IsOfNoRefusal, IsOneOf, IsSpent, MayHave, Makes, need_of}
 
 -- an image that holds the bodies of a history stands for it
 image_of : (g : List ℕ) (steps : List Step) → HasBodies g (map body_of steps) → AreRecords steps → IsHistory steps → StandsFor g steps
@@ -36,12 +36,6 @@ one_of g steps step each history fields possible (inl has) = inl (image_of g ste
 one_of g steps step each history fields possible (inr has) =
     inr (image_of g (steps ++ step ∷ []) (subst (HasBodies g) (sym (map-more steps step)) has)
     (are-records-more steps step each fields) (possible-more empty steps step history possible))
-
--- ---- no refusal for a lane stands
-
--- none of the refusals for a lane stands for the step
-abbrev pub IsOfNoRefusal : State → Step → Type 0
-IsOfNoRefusal s step = (f : StepFault) → IsRefused s (class_of step) (when s step) f → ⊥
 
 some-is : (x f : StepFault) → ◌≡◌ {A = Option StepFault} (Some x) (Some f) → x ≡ f
 some-is x f e = cc
@@ -104,9 +98,9 @@ module _ {D : Type 0} (model : DiskView D) (step : Step) where
     ended = (λ e. absurd cc, λ e. absurd cc);
     marked = λ e. absurd cc;
     spent = λ last e. absurd cc;
-    spent_where = λ on is. absurd (numbers is);
+    spent_where = λ on no is. absurd (numbers is);
     full = λ size need e. absurd cc;
-    full_where = λ on left long. let refused = a.full_where going long in absurd cc;
+    full_where = λ on no left long. let refused = a.full_where going long in absurd cc;
   }
 
   -- the journal refused the body, and the state is as it was
@@ -127,13 +121,13 @@ module _ {D : Type 0} (model : DiskView D) (step : Step) where
     ended = (λ e. absurd cc, λ e. absurd cc);
     marked = λ e. absurd cc;
     spent = λ last e. absurd cc;
-    spent_where = λ on is. absurd (numbers is);
+    spent_where = λ on no is. absurd (numbers is);
     full = λ n m e.
         let f = a.full size need refl in
         let n_is : n ≡ size = cc in
         let m_is : m ≡ need = cc in
         (n_is ∙ f.0, m_is ∙ f.1, omega (arith, f.2, n_is, m_is));
-    full_where = λ on left long.
+    full_where = λ on no left long.
         let f = a.full size need refl in
         let e : AppendFaults.Full size need ≡ AppendFaults.Full old.size (need_of step) = cc in inl (ap (λ (x : AppendFault). Some (step_fault x)) e);
   }
@@ -151,9 +145,9 @@ module _ {D : Type 0} (model : DiskView D) (step : Step) where
     ended = (λ e. absurd cc, λ e. absurd cc);
     marked = λ e. a.marked refl;
     spent = λ last e. absurd cc;
-    spent_where = λ on is. absurd (numbers is);
+    spent_where = λ on no is. absurd (numbers is);
     full = λ n m e. absurd cc;
-    full_where = λ on left long. let full = a.full_where going long in absurd cc;
+    full_where = λ on no left long. let full = a.full_where going long in absurd cc;
   }
   refused laws AppendFaults.Ended old new s s' a going fields possible numbers same = let is_ended = a.ended.0 refl in absurd cc
   refused laws AppendFaults.Memory old new s s' a going fields possible numbers same = record {
@@ -170,9 +164,9 @@ module _ {D : Type 0} (model : DiskView D) (step : Step) where
     ended = (λ e. absurd cc, λ e. absurd cc);
     marked = λ e. absurd cc;
     spent = λ last e. absurd cc;
-    spent_where = λ on is. absurd (numbers is);
+    spent_where = λ on no is. absurd (numbers is);
     full = λ n m e. absurd cc;
-    full_where = λ on left long. inr refl;
+    full_where = λ on no left long. inr refl;
   }
 
   stays_told : (old new : JournalShown D) → new ≡ old → StaysTold model old.disk new.disk
@@ -199,9 +193,9 @@ module _ {D : Type 0} (model : DiskView D) (step : Step) where
     ended = (λ e. absurd cc, λ e. absurd cc);
     marked = λ e. absurd cc;
     spent = λ last e. absurd cc;
-    spent_where = λ on is. absurd (numbers is);
+    spent_where = λ on no is. absurd (numbers is);
     full = λ n m e. absurd cc;
-    full_where = λ on left long. inr refl;
+    full_where = λ on no left long. inr refl;
   }
 
   -- an earlier step had answered that the disk failed
@@ -221,9 +215,9 @@ module _ {D : Type 0} (model : DiskView D) (step : Step) where
     ended = (λ e. ended, λ e. refl);
     marked = λ e. absurd cc;
     spent = λ last e. absurd cc;
-    spent_where = λ on is. absurd cc;
+    spent_where = λ on no is. absurd cc;
     full = λ n m e. absurd cc;
-    full_where = λ on left long. absurd cc;
+    full_where = λ on no left long. absurd cc;
   }
 
   -- too few numbers were left
@@ -243,9 +237,9 @@ module _ {D : Type 0} (model : DiskView D) (step : Step) where
     ended = (λ e. absurd cc, λ e. absurd cc);
     marked = λ e. absurd cc;
     spent = λ n e. let n_is : n ≡ last = cc in (n_is ∙ count, spent);
-    spent_where = λ on is. ap (λ (n : ℕ). Some (StepFaults.Spent n)) count;
+    spent_where = λ on no is. ap (λ (n : ℕ). Some (StepFaults.Spent n)) count;
     full = λ n m e. absurd cc;
-    full_where = λ on left long. absurd (left spent);
+    full_where = λ on no left long. absurd (left spent);
   }
 
 -- the same of a journal and a state that are equal to those before

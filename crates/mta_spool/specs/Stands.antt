@@ -88,6 +88,10 @@ IsOfNoLane (Some (StepFaults.NoLane lane)) = ⊥
 IsOfNoLane (Some (StepFaults.BusyLanes count)) = ⊥
 IsOfNoLane (Some StepFaults.Unexpected) = ⊥
 
+-- no refusal for a lane stands for the step
+abbrev pub IsOfNoRefusal : State → Step → Type 0
+IsOfNoRefusal s step = (f : StepFault) → IsRefused s (class_of step) (when s step) f → ⊥
+
 -- What a call that makes this step, or refuses it by this fault, leaves of the journal and of the state in memory.
 pub record Makes {D : Type 0} (model : DiskView D) (step : Step) (old : JournalShown D) (s : State) (new : JournalShown D) (s' : State)
     (fault : Option StepFault) : Type 0 where
@@ -112,13 +116,15 @@ pub record Makes {D : Type 0} (model : DiskView D) (step : Step) (old : JournalS
   -- Ended comes exactly where an earlier step answered Disk
   pub ended : (fault ≡ Some StepFaults.Ended) ↔ (old.ended ≡ true)
   pub marked : fault ≡ Some StepFaults.Disk → new.ended ≡ true
-  -- Spent comes exactly where too few numbers are left and the spool has not ended
+  -- Spent comes exactly where too few numbers are left, the spool has not ended and no refusal for a lane stands
   pub spent : (last : ℕ) → fault ≡ Some (StepFaults.Spent last) → (last ≡ length s.machine.items) × IsSpent s step
-  pub spent_where : old.ended ≡ false → IsSpent s step → fault ≡ Some (StepFaults.Spent (length s.machine.items))
+  pub spent_where : old.ended ≡ false → IsOfNoRefusal s step → IsSpent s step
+      → fault ≡ Some (StepFaults.Spent (length s.machine.items))
   -- Full comes exactly where the record would pass the limit, numbers are left, and there was memory for it
   pub full : (size need : ℕ) → fault ≡ Some (StepFaults.Full size need)
       → (size ≡ old.size) × (need ≡ need_of step) × (journal_limit < size + need)
-  pub full_where : old.ended ≡ false → (IsSpent s step → ⊥) → journal_limit < old.size + need_of step
+  pub full_where : old.ended ≡ false → IsOfNoRefusal s step → (IsSpent s step → ⊥)
+      → journal_limit < old.size + need_of step
       → (fault ≡ Some (StepFaults.Full old.size (need_of step))) ⊎ (fault ≡ Some StepFaults.Memory)
 
 -- what a call of the spool that makes this step, or refuses it by this fault, leaves of it
