@@ -84,7 +84,7 @@ module _ (k : Kept) (text : List ℕ) (item : ItemValue) (i r moment : ℕ) (tex
         → made_items made ≡ made_of moment (made_by m item text r delivered moment)
         → option_to_list line ≡ line_at (mailbox_word text place) i moment
         → (change : Option Change) → change ≡ settling_change m.items i r (Statuses.Delivered moment) made line moment
-        → Prepares (state_of k) (step.Deliver i r moment) found
+        → Prepares (state_of k) (step.Deliver i r moment) change
     delivers place made line ready made_is line_is change change_is =
         settles_so (state_of k) (step.Deliver i r moment) deliver i r moment (Verdicts.Deliver place)
         (Statuses.Delivered moment) made line refl refl ready (place, (r, refl, ready.verdict_is))
@@ -94,7 +94,7 @@ module _ (k : Kept) (text : List ℕ) (item : ItemValue) (i r moment : ℕ) (tex
     pub affirms : (made : Made) → IsReady (state_of k) i r moment Verdicts.Affirm
         → made_items made ≡ made_of moment (made_by m item text r delivered moment)
         → (change : Option Change) → change ≡ settling_change m.items i r (Statuses.Affirmed moment) made None moment
-        → Prepares (state_of k) (step.Affirm i r moment) found
+        → Prepares (state_of k) (step.Affirm i r moment) change
     affirms made ready made_is change change_is =
         settles_so (state_of k) (step.Affirm i r moment) affirm i r moment Verdicts.Affirm
         (Statuses.Affirmed moment) made None refl refl ready (r, refl, ready.verdict_is)
@@ -103,7 +103,7 @@ module _ (k : Kept) (text : List ℕ) (item : ItemValue) (i r moment : ℕ) (tex
     pub expands : (place : ℕ) (made : Made) → IsReady (state_of k) i r moment (Verdicts.Expand place)
         → made_items made ≡ made_of moment (expansion text (length m.items + 1) item r moment)
         → (change : Option Change) → change ≡ settling_change m.items i r (Statuses.Expanded moment) made None moment
-        → Prepares (state_of k) (step.Expand i r moment) found
+        → Prepares (state_of k) (step.Expand i r moment) change
     expands place made ready made_is change change_is =
         settles_so (state_of k) (step.Expand i r moment) expand i r moment (Verdicts.Expand place)
         (Statuses.Expanded moment) made None refl refl ready (place, (r, refl, ready.verdict_is))
@@ -114,7 +114,7 @@ module _ (k : Kept) (text : List ℕ) (item : ItemValue) (i r moment : ℕ) (tex
         → status ≡ status_after (is_report (value_of item.octets)) (not_delivered reason diagnostic) moment
         → made_items made ≡ made_of moment (made_by m item text r (not_delivered reason diagnostic) moment)
         → (change : Option Change) → change ≡ settling_change m.items i r status made None moment
-        → Prepares (state_of k) (step.Report i r moment) found
+        → Prepares (state_of k) (step.Report i r moment) change
     reports reason diagnostic status made ready status_is made_is change change_is =
         settles_so (state_of k) (step.Report i r moment) report i r moment (Verdicts.NonDeliver reason diagnostic)
         status made None refl refl ready (r, refl, ready.verdict_is)
@@ -123,7 +123,7 @@ module _ (k : Kept) (text : List ℕ) (item : ItemValue) (i r moment : ℕ) (tex
     pub passes_back : (first : Option ItemValue) → IsReady (state_of k) i r moment Verdicts.Back
         → first ≡ option_map (own_item moment) (passed_back text m.items item)
         → (change : Option Change) → change ≡ settling_change m.items i r (Statuses.Passed moment) (alone first) None moment
-        → Prepares (state_of k) (step.Back i r moment) found
+        → Prepares (state_of k) (step.Back i r moment) change
     passes_back first ready first_is change change_is =
         settles_so (state_of k) (step.Back i r moment) back i r moment Verdicts.Back (Statuses.Passed moment)
         (alone first) None refl refl ready (r, refl, ready.verdict_is)
@@ -132,7 +132,7 @@ module _ (k : Kept) (text : List ℕ) (item : ItemValue) (i r moment : ℕ) (tex
 
     discards-there : IsReady (state_of k) i r moment Verdicts.Discard
         → (change : Option Change) → change ≡ settling_change m.items i r (Statuses.Discarded moment) (alone None) None moment
-        → Prepares (state_of k) (step.Discard i r moment) found
+        → Prepares (state_of k) (step.Discard i r moment) change
     discards-there ready change change_is =
         settles_so (state_of k) (step.Discard i r moment) discard i r moment Verdicts.Discard
         (Statuses.Discarded moment) (alone None) None refl refl ready (r, refl, ready.verdict_is)
@@ -142,7 +142,7 @@ pub discards : (k : Kept) (i r moment : ℕ) → IsReady (state_of k) i r moment
     → (change : Option Change)
     → change
     ≡ settling_change k.parts.items.items i r (Statuses.Discarded moment) (alone None) None moment
-    → Prepares (state_of k) (step.Discard i r moment) found
+    → Prepares (state_of k) (step.Discard i r moment) change
 discards k i r moment ready change change_is =
     let t = there (machine_of k.parts) i r moment Verdicts.Discard ready.verdict_is in
     discards-there k t.text t.item i r moment t.text_is t.item_is ready change change_is

@@ -84,7 +84,7 @@ module _ (s : State) (step : Step) (how : Settling) (i r moment : ℕ) (v : Verd
             let above = ltb-false _ _ test in omega (arith, count, below, above)
 
         pub settles_so : IsJustified s.machine i (r ∷ []) (by (Some v)) moment → Leaves (Some v)
-            → (change : Option Change) → change ≡ settling_change s.machine.items i r status made line moment
+            → (found : Option Change) → found ≡ settling_change s.machine.items i r status made line moment
             → Prepares s step found
         settles_so justified is found found_is =
             subst (λ (o : Option Change). Prepares s step o) (sym found_is) (by_test are_few refl)
