@@ -1,0 +1,5 @@
+pub mod Accepts
+pub mod Made
+pub mod Prepared
+pub mod Ready
+pub mod Settles
