@@ -1,16 +1,15 @@
 -- The recipients of an activity that failed, one after the other.
-use Rattle.std.proofs.Common.{◌≡◌, ◌≤◌, ◌<◌, ◌+◌, ◌^◌, ℕ, Bool, true, false, cond, List, [], ◌∷◌, ◌++◌}
+use Rattle.std.proofs.Common.{◌≡◌, ◌≤◌, ◌<◌, ◌+◌, ◌^◌, ℕ, List, [], ◌∷◌, ◌++◌}
 use Rattle.std.proofs.Common.{length, map, take, drop, get_or, Option, Some, None, option_map, option_to_list}
 use Rattle.std.proofs.Common.{refl, sym, ap, subst, ◌∙◌, arith, length-append}
 use Rattle.std.specs.Global.{Vec}
 use Rattle.std.proofs.lemmas.List.{drop_more, length-map, map-append, take-append-drop, take_all, take_more}
 use Rattle.mta_apdu.specs.Apdus.{ApduValue}
 use Rattle.mta_machine.specs.declared.item.Status.{Status}
-use Rattle.mta_machine.specs.Apdu.{is_report, value_of}
 use Rattle.mta_machine.specs.Items.{ItemValue, Machine, numbered, set_numbered}
 use Rattle.mta_machine.specs.Rules.{Failure, diagnostic_of, non_delivery_report, reason_of}
 use Rattle.mta_machine.specs.Machine.{MachineStep, discharge, discharged_item, failed, items_after, last_tables}
-use Rattle.mta_machine.specs.Machine.{machine_after, machine_run, made_for, own_item, unless_report}
+use Rattle.mta_machine.specs.Machine.{machine_after, machine_run, made_for, own_item}
 use Rattle.mta_machine.proofs.Later.{items-grow, length-set_numbered, machine_run-append}
 use Rattle.mta_machine.proofs.Numbered.{numbered-front, set-same}
 use Rattle.mta_replay.specs.declared.change.Settlement.{Settlement}
@@ -19,9 +18,9 @@ use Rattle.mta_replay.specs.Settling.{IsDischarge}
 use Rattle.mta_replay.proofs.Discharging.{discharged}
 use Rattle.mta_items.specs.Parts.{settled_machine}
 use Rattle.mta_activities.specs.Changes.{settled_in_order}
-use Rattle.mta_activities.specs.Failures.{AreFailed, FailAll, Fails, IsFailed, fail_each, report_on}
+use Rattle.mta_activities.specs.Failures.{AreFailed, FailAll, Fails, IsFailed, fail_each, report_of}
 use Rattle.mta_activities.proofs.Changing.{one_more}
-use Rattle.mta_activities.proofs.Reports.{same_report}
+use Rattle.mta_activities.proofs.Reports.{reported_anyway, same_report}
 
 abbrev with_statuses_of : ItemValue → List (Option Status) → ItemValue
 with_statuses_of item ss = record item { statuses = ss }
@@ -56,10 +55,6 @@ stays (r ∷ rs) m i item failure moment is =
 
 -- ---- one recipient
 
-chosen : {A : Type 0} (b : Bool) (o : Option A) → cond b [] (option_to_list o) ≡ option_to_list (cond b None o)
-chosen true o = refl
-chosen false o = refl
-
 listed : {A B : Type 0} (f : A → B) (o : Option A) → option_to_list (option_map f o) ≡ map f (option_to_list o)
 listed f None = refl
 listed f (Some x) = refl
@@ -72,18 +67,17 @@ module _ (now : Machine) (text : List ℕ) (i : ℕ) (item : ItemValue) (ss : Li
     there = with_statuses_of item ss
 
     abbrev reports : Option ApduValue
-    reports = report_on text count item r failure
+    reports = report_of text count item r failure
 
     made_is : made_for now there (numbered now.tables (last_tables now)) (r ∷ []) (failed failure) moment
         ≡ option_to_list reports
     made_is =
         ap (λ (o : Option (List ℕ)). made_for now there o (r ∷ []) (failed failure) moment) text_is
-        ∙ (chosen (is_report (value_of item.octets))
-        (non_delivery_report text (length now.items + 1) there r (reason_of failure) (diagnostic_of failure))
-        ∙ (ap (λ (o : Option ApduValue). option_to_list (cond (is_report (value_of item.octets)) None o))
+        ∙ (reported_anyway text (length now.items + 1) there r (reason_of failure) (diagnostic_of failure)
+        ∙ (ap (λ (o : Option ApduValue). option_to_list o)
         (same_report text (length now.items + 1) item ss r (reason_of failure) (diagnostic_of failure))
-        ∙ ap (λ (n : ℕ). option_to_list (cond (is_report (value_of item.octets)) None
-        (non_delivery_report text (n + 1) item r (reason_of failure) (diagnostic_of failure)))) (sym count_is)))
+        ∙ ap (λ (n : ℕ). option_to_list
+        (non_delivery_report text (n + 1) item r (reason_of failure) (diagnostic_of failure))) (sym count_is)))
 
     -- how many items there are then
     then_many : length (machine_after now (discharge i (r ∷ []) (failed failure) moment)).items

@@ -1,6 +1,6 @@
 -- How the recipients of an activity that failed are discharged.
 use Rattle.std.specs.Prelude.{◌≡◌, ℕ, ◌+◌, ◌<◌, ◌≤◌, ◌^◌, List, [], ◌∷◌, length, map}
-use Rattle.std.specs.Prelude.{Option, Some, None, option_map, option_to_list, is_some, if◌then◌else◌}
+use Rattle.std.specs.Prelude.{Option, Some, None, option_map, option_to_list}
 use Rattle.std.specs.Global.{Vec}
 use Rattle.mta_apdu.specs.Apdus.{ApduValue}
 use Rattle.mta_machine.specs.Apdu.{is_report, value_of}
@@ -20,33 +20,24 @@ failure_of cause.Violated = violated
 failure_of cause.Denied = denied
 failure_of cause.Expired = expired
 
--- the report on a recipient, as the item behind so many; of a report none is made
-abbrev pub report_on : (text : List ℕ) (count : ℕ) (item : ItemValue) (r : ℕ) → Failure → Option ApduValue
-report_on text count item r failure =
-    if is_report (value_of item.octets)
-    then None
-    else non_delivery_report text (count + 1) item r (reason_of failure) (diagnostic_of failure)
-
--- the item that this report is, where its number is not too great; whether there is one is told in any case
-pub record IsReported (text : List ℕ) (count : ℕ) (item : ItemValue) (r : ℕ) (failure : Failure) (moment : ℕ)
-    (made : Option ItemValue) : Type 0 where
-  pub is_made : is_some made ≡ is_some (report_on text count item r failure)
-  pub exact : count + 1 < 2 ^ 32
-      → made ≡ option_map (own_item moment) (report_on text count item r failure)
+-- the report on a recipient, as the item behind so many
+abbrev pub report_of : (text : List ℕ) (count : ℕ) (item : ItemValue) (r : ℕ) → Failure → Option ApduValue
+report_of text count item r failure =
+    non_delivery_report text (count + 1) item r (reason_of failure) (diagnostic_of failure)
 
 -- how a recipient is discharged whose activity failed, where there are so many items
 pub record IsFailed (text : List ℕ) (count : ℕ) (item : ItemValue) (r : ℕ) (failure : Failure) (moment : ℕ)
     (s : Settlement) : Type 0 where
   pub recipient : s.recipient ≡ r
   pub status : s.status ≡ status_after (is_report (value_of item.octets)) (failed failure) moment
-  pub made : s.made ≡ option_map (own_item moment) (report_on text count item r failure)
+  pub made : s.made ≡ option_map (own_item moment) (report_of text count item r failure)
   pub numbers : count + length (option_to_list s.made) < 2 ^ 32
 
 -- this, or none where the number of the report is too great
 abbrev pub Fails : (text : List ℕ) (count : ℕ) (item : ItemValue) (r : ℕ) → Failure → (moment : ℕ)
     → Option Settlement → Type 0
 Fails text count item r failure moment None =
-    2 ^ 32 ≤ count + length (option_to_list (report_on text count item r failure))
+    2 ^ 32 ≤ count + length (option_to_list (report_of text count item r failure))
 Fails text count item r failure moment (Some s) = IsFailed text count item r failure moment s
 
 -- the recipients of an item, of whom each fails

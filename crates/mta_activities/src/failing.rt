@@ -2,13 +2,14 @@
 //! destination (X.411, clause 14: report generation).
 
 ghost use Rattle.std.specs.Prelude.{◌≡◌, ◌≤◌, ◌<◌, ◌+◌, ◌^◌, IfOk, Some, length};
-ghost use Rattle.std.specs.Prelude.{option_to_list};
+ghost use Rattle.std.specs.Prelude.{option_map, option_to_list};
 ghost use Rattle.mta_ber.specs.Times.{last_moment};
 ghost use Rattle.mta_machine.specs.Apdu.{is_report, value_of};
 ghost use Rattle.mta_machine.specs.Items.{numbered};
+ghost use Rattle.mta_machine.specs.Machine.{own_item};
 ghost use Rattle.mta_items.specs.Parts.{machine_of};
 ghost use Rattle.mta_replay.specs.Asked.{IsTextOf};
-ghost use Rattle.mta_activities.specs.Failures.{failure_of, FailAll, Fails, IsReported};
+ghost use Rattle.mta_activities.specs.Failures.{failure_of, report_of, FailAll, Fails};
 
 use crate::failure::Failure;
 use mta_ber::Memory;
@@ -17,27 +18,21 @@ use mta_machine::Item;
 use mta_replay::{Kept, Rules, Settlement};
 use std::alloc::Global;
 
-// The report on a recipient, as the item behind so many. Where that number is too great it is whatever report has the
-// last number.
-#[tactic(auto, using(crate::proofs::Reports::report_laws))]
+// The report on a recipient, as the item behind so many.
 fn report_on<R: Rules>(
     alloc: Global,
     rules: &R,
-    of_report: bool,
     count: u32,
     item: &Item,
     recipient: u32,
     failure: Failure,
     moment: u64,
 ) -> Result<Option<Item>, Memory>
-    requires arrived { item.now.arrival ≤ last_moment }
-    requires kind { of_report ≡ is_report (value_of item.now.octets) }
-    ensures { IfOk result (IsReported (R.text rules.now) count item.now recipient (failure_of failure) moment) }
+    requires { item.now.arrival ≤ last_moment }
+    ensures { let about = report_of (R.text rules.now) count item.now recipient (failure_of failure) in
+        IfOk result (λ made. made ≡ option_map (own_item moment) about) }
 {
-    if of_report {
-        return Ok(None);
-    }
-    let number = count.saturating_add(1);
+    let number = u64::from(count) + 1;
     let reason = failure.reason();
     let diagnostic = failure.diagnostic();
     rules.non_delivery_report(alloc, number, item, recipient, reason, diagnostic, moment)
@@ -59,7 +54,7 @@ fn failed_one<R: Rules>(
     requires kind { of_report ≡ is_report (value_of item.now.octets) }
     ensures { IfOk result (Fails (R.text rules.now) count item.now recipient (failure_of failure) moment) }
 {
-    let made = report_on(alloc, rules, of_report, count, item, recipient, failure, moment)?;
+    let made = report_on(alloc, rules, count, item, recipient, failure, moment)?;
     if count == u32::MAX && made.is_some() {
         return Ok(None);
     }
