@@ -1,0 +1,10 @@
+pub mod Changing
+pub mod Completing
+pub mod Different
+pub mod Ending
+pub mod Failing
+pub mod Looking
+pub mod Opening
+pub mod Reports
+pub mod Sendings
+pub mod Starting

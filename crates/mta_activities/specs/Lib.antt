@@ -1,0 +1,4 @@
+pub mod Changes
+pub mod Failures
+pub mod Opening
+pub mod Starting

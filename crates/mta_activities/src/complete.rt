@@ -1,0 +1,98 @@
+//! An activity of the peer that is complete.
+
+ghost use Rattle.std.specs.Prelude.{◌≡◌, ◌<◌, ◌+◌, ◌^◌, ◌↔◌, IfOk, IsTrue, Some, length};
+ghost use Rattle.std.specs.Option.{option_copied};
+ghost use Rattle.std.specs.List.{concat};
+ghost use Rattle.mta_histories.specs.Classes.{secure};
+ghost use Rattle.mta_histories.specs.History.{with_piece};
+ghost use Rattle.mta_items.specs.Reading.{IsAccepted};
+ghost use Rattle.mta_machine.specs.declared.item.Origin.TheVariants as Origins;
+ghost use Rattle.mta_records.specs.declared.step.Step.TheVariants as Steps;
+ghost use Rattle.mta_replay.specs.Kept.{state_of};
+ghost use Rattle.mta_replay.specs.Prepared.{Prepares};
+ghost use Rattle.mta_activities.specs.Changes.{OpenFor};
+
+use mta_ber::Memory;
+use mta_items::accepted_item;
+use mta_lanes::Lane;
+use mta_machine::{Item, Origin};
+use mta_replay::{Change, Kept};
+use std::alloc::Global;
+
+// Whether there may be an item more.
+fn has_number_left(kept: &Kept) -> bool
+    ensures { IsTrue result ↔ (length kept.now.parts.items.items + 1 < 2 ^ 32) }
+{
+    kept.parts.items.len() < u32::MAX as usize
+}
+
+// The open lane that takes a piece, as a Secure has it.
+#[tactic(auto, using(crate::proofs::Looking::taking_laws))]
+fn taking_lane<'a>(
+    kept: &'a Kept,
+    lane: u32,
+    generation: u64,
+    activity: u32,
+    number: u32,
+    piece: &[u8],
+    moment: u64,
+) -> Option<&'a Lane>
+    ensures { OpenFor (state_of kept.now) lane (Some generation) (secure activity number piece.now) moment
+        (option_copied result) }
+{
+    let Some(open) = kept.lanes.get(lane) else {
+        return None;
+    };
+    if moment < kept.moment || !open.is_of(generation) || !open.may_secure(activity, number, piece)
+    {
+        return None;
+    }
+    Some(open)
+}
+
+// The item of the pieces and one more; none where they spell no APDU.
+fn joined_item(
+    alloc: Global,
+    open: &Lane,
+    number: u32,
+    piece: &[u8],
+    moment: u64,
+) -> Result<Option<Item>, Memory>
+    ensures { let octets = concat (with_piece open.now.pieces number piece.now) in
+        IfOk result (IsAccepted octets Origins.Lane moment) }
+{
+    let octets = open.joined(alloc, number, piece)?;
+    accepted_item(alloc, octets, Origin::Lane, moment)
+}
+
+/// What a Complete changes; none exactly where it is not possible.
+#[tactic(auto, using(crate::proofs::Completing::complete_laws))]
+pub fn prepare_complete(
+    alloc: Global,
+    kept: &Kept,
+    lane: u32,
+    generation: u64,
+    activity: u32,
+    number: u32,
+    piece: &[u8],
+    moment: u64,
+) -> Result<Option<Change>, Memory>
+    ensures { IfOk result (Prepares (state_of kept.now)
+        (Steps.Complete lane generation activity number piece.now moment)) }
+{
+    let Some(open) = taking_lane(kept, lane, generation, activity, number, piece, moment) else {
+        return Ok(None);
+    };
+    if !has_number_left(kept) {
+        return Ok(None);
+    }
+    match joined_item(alloc, open, number, piece, moment)? {
+        None => Ok(None),
+        Some(item) => Ok(Some(Change::Complete {
+            lane,
+            activity,
+            item,
+            moment,
+        })),
+    }
+}

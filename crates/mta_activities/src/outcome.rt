@@ -1,0 +1,296 @@
+//! An activity that ends: it was sent, refused or denied, or it is given up.
+
+ghost use Rattle.std.specs.Prelude.{◌≡◌, ◌<◌, ◌^◌, IfOk, Some, true, [], length};
+ghost use Rattle.std.specs.List.{All};
+ghost use Rattle.mta_lane_send.specs.Half.{is_live};
+ghost use Rattle.mta_histories.specs.Lanes.{is_dropping, is_transferring, lane_at};
+ghost use Rattle.mta_histories.specs.Classes.{was_denied, was_refused, was_sent};
+ghost use Rattle.mta_histories.specs.History.{failures, outcome_steps};
+ghost use Rattle.mta_histories.specs.Kept.{IsKept};
+ghost use Rattle.mta_lanes.specs.Changes.{MayChange};
+ghost use Rattle.mta_lanes.specs.declared.change.LaneChange.TheVariants as LaneChanges;
+ghost use Rattle.mta_records.specs.declared.step.Step.TheVariants as Steps;
+ghost use Rattle.mta_replay.specs.Asked.{IsStored, IsTextOf};
+ghost use Rattle.mta_replay.specs.Kept.{state_of};
+ghost use Rattle.mta_replay.specs.Prepared.{Prepares};
+ghost use Rattle.mta_activities.specs.Changes.{Makes};
+ghost use Rattle.mta_activities.specs.Failures.{failure_of};
+
+use crate::failing::failed_all;
+use crate::failure::{failure_by, Failure};
+use crate::looking::{ending_lane, expired_lane, live_lane};
+use crate::sending::{last_first, sent_all};
+use mta_ber::Memory;
+use mta_lane_send::SendState;
+use mta_lanes::{Lane, LaneChange};
+use mta_replay::{Change, Kept, Rules};
+use std::alloc::Global;
+
+// Whether the activity under way was given up.
+fn is_dropping(open: &Lane) -> bool
+    ensures { result ≡ is_dropping open.now.sending }
+{
+    match open.sending() {
+        SendState::Idle { .. } => false,
+        SendState::Sending { .. } => false,
+        SendState::Ending { .. } => false,
+        SendState::Dropping { .. } => true,
+    }
+}
+
+// What the failure of the activity under way changes: each of its recipients is discharged, one after the other.
+#[tactic(auto, using(crate::proofs::Ending::fail_laws))]
+fn fail<R: Rules>(
+    alloc: Global,
+    rules: &R,
+    kept: &Kept,
+    lane: u32,
+    open: &Lane,
+    change: LaneChange,
+    failure: Failure,
+    moment: u64,
+) -> Result<Option<Change>, Memory>
+    requires text { IsTextOf kept.now (R.text rules.now) }
+    requires kept { IsKept (state_of kept.now) }
+    requires stored { All IsStored kept.now.parts.items.items }
+    requires numbers { length kept.now.parts.items.items < 2 ^ 32 }
+    requires open { lane_at lane kept.now.lanes.open_lanes.items ≡ Some open.now }
+    requires transferring { is_transferring open.now.sending ≡ true }
+    requires may { MayChange open.now change }
+    ensures { IfOk result (Makes (state_of kept.now)
+        (failures (failure_of failure) moment open.now.transfer) lane change moment) }
+{
+    let Some(transfer) = open.transfer() else {
+        unreachable!()
+    };
+    let number = transfer.item();
+    let Some(item) = kept.parts.item(number) else {
+        unreachable!()
+    };
+    let recipients = transfer.recipients();
+    match failed_all(alloc, rules, kept, number, item, recipients, failure, moment)? {
+        None => Ok(None),
+        Some(settlements) => Ok(Some(Change::Discharge {
+            lane,
+            change,
+            item: number,
+            settlements: last_first(settlements),
+            moment,
+        })),
+    }
+}
+
+// An activity that is settled with nobody discharged.
+#[tactic(auto, using(crate::proofs::Ending::quiet_makes))]
+fn settle_quietly(kept: &Kept, lane: u32, moment: u64) -> Change
+    requires { length kept.now.parts.items.items < 2 ^ 32 }
+    ensures { Makes (state_of kept.now) [] lane LaneChanges.Settle moment (Some result) }
+{
+    Change::OnLane {
+        lane,
+        change: LaneChange::Settle,
+        moment: Some(moment),
+    }
+}
+
+// What changes where the peer has refused the activity. Where it was given up its recipients have been reported.
+#[tactic(auto, using(crate::proofs::Ending::refused_laws))]
+fn refused<R: Rules>(
+    alloc: Global,
+    rules: &R,
+    kept: &Kept,
+    lane: u32,
+    open: &Lane,
+    activity: u32,
+    kind: u8,
+    moment: u64,
+) -> Result<Option<Change>, Memory>
+    requires text { IsTextOf kept.now (R.text rules.now) }
+    requires kept { IsKept (state_of kept.now) }
+    requires stored { All IsStored kept.now.parts.items.items }
+    requires numbers { length kept.now.parts.items.items < 2 ^ 32 }
+    requires open { lane_at lane kept.now.lanes.open_lanes.items ≡ Some open.now }
+    requires live { is_live open.now.sending activity ≡ true }
+    ensures { IfOk result (Makes (state_of kept.now)
+        (outcome_steps open.now (was_refused kind) activity moment) lane LaneChanges.Settle moment) }
+{
+    if is_dropping(open) {
+        return Ok(Some(settle_quietly(kept, lane, moment)));
+    }
+    let failure = failure_by(kind);
+    fail(
+        alloc,
+        rules,
+        kept,
+        lane,
+        open,
+        LaneChange::Settle,
+        failure,
+        moment,
+    )
+}
+
+// What changes where the peer knows nothing of the activity. Only in Ending it has to.
+#[tactic(auto, using(crate::proofs::Ending::denied_laws))]
+fn denied<R: Rules>(
+    alloc: Global,
+    rules: &R,
+    kept: &Kept,
+    lane: u32,
+    open: &Lane,
+    activity: u32,
+    moment: u64,
+) -> Result<Option<Change>, Memory>
+    requires text { IsTextOf kept.now (R.text rules.now) }
+    requires kept { IsKept (state_of kept.now) }
+    requires stored { All IsStored kept.now.parts.items.items }
+    requires numbers { length kept.now.parts.items.items < 2 ^ 32 }
+    requires open { lane_at lane kept.now.lanes.open_lanes.items ≡ Some open.now }
+    ensures { IfOk result (Makes (state_of kept.now)
+        (outcome_steps open.now was_denied activity moment) lane LaneChanges.Settle moment) }
+{
+    if !open.may_be_sent(activity) {
+        return Ok(Some(settle_quietly(kept, lane, moment)));
+    }
+    fail(
+        alloc,
+        rules,
+        kept,
+        lane,
+        open,
+        LaneChange::Settle,
+        Failure::Denied,
+        moment,
+    )
+}
+
+// What changes where the peer has completed the activity: its recipients are discharged.
+#[tactic(auto, using(crate::proofs::Ending::sent_laws))]
+fn sent(
+    alloc: Global,
+    kept: &Kept,
+    lane: u32,
+    open: &Lane,
+    activity: u32,
+    moment: u64,
+) -> Result<Change, Memory>
+    requires kept { IsKept (state_of kept.now) }
+    requires numbers { length kept.now.parts.items.items < 2 ^ 32 }
+    requires open { lane_at lane kept.now.lanes.open_lanes.items ≡ Some open.now }
+    requires transferring { is_transferring open.now.sending ≡ true }
+    ensures { IfOk result (λ change. Makes (state_of kept.now)
+        (outcome_steps open.now was_sent activity moment) lane LaneChanges.Settle moment (Some change)) }
+{
+    let Some(transfer) = open.transfer() else {
+        unreachable!()
+    };
+    let settlements = sent_all(alloc, transfer.recipients(), open.peer(), moment)?;
+    Ok(Change::Discharge {
+        lane,
+        change: LaneChange::Settle,
+        item: transfer.item(),
+        settlements: last_first(settlements),
+        moment,
+    })
+}
+
+/// What a Sent changes; none exactly where it is not possible.
+#[tactic(auto, using(crate::proofs::Ending::prepare_sent_laws))]
+pub fn prepare_sent(
+    alloc: Global,
+    kept: &Kept,
+    lane: u32,
+    generation: u64,
+    activity: u32,
+    moment: u64,
+) -> Result<Option<Change>, Memory>
+    requires kept { IsKept (state_of kept.now) }
+    requires numbers { length kept.now.parts.items.items < 2 ^ 32 }
+    ensures { IfOk result (Prepares (state_of kept.now) (Steps.Sent lane generation activity moment)) }
+{
+    let Some(open) = ending_lane(kept, lane, generation, activity, moment) else {
+        return Ok(None);
+    };
+    let change = sent(alloc, kept, lane, open, activity, moment)?;
+    Ok(Some(change))
+}
+
+/// What a Refused changes, under the rules of the tables recorded last; none exactly where it is not possible.
+#[tactic(auto, using(crate::proofs::Ending::prepare_refused_laws))]
+pub fn prepare_refused<R: Rules>(
+    alloc: Global,
+    rules: &R,
+    kept: &Kept,
+    lane: u32,
+    generation: u64,
+    activity: u32,
+    kind: u8,
+    moment: u64,
+) -> Result<Option<Change>, Memory>
+    requires text { IsTextOf kept.now (R.text rules.now) }
+    requires kept { IsKept (state_of kept.now) }
+    requires stored { All IsStored kept.now.parts.items.items }
+    requires numbers { length kept.now.parts.items.items < 2 ^ 32 }
+    ensures { IfOk result (Prepares (state_of kept.now)
+        (Steps.Refused lane generation activity kind moment)) }
+{
+    let Some(open) = live_lane(kept, lane, generation, activity, moment) else {
+        return Ok(None);
+    };
+    refused(alloc, rules, kept, lane, open, activity, kind, moment)
+}
+
+/// What a Denied changes, under the rules of the tables recorded last; none exactly where it is not possible.
+#[tactic(auto, using(crate::proofs::Ending::prepare_denied_laws))]
+pub fn prepare_denied<R: Rules>(
+    alloc: Global,
+    rules: &R,
+    kept: &Kept,
+    lane: u32,
+    generation: u64,
+    activity: u32,
+    moment: u64,
+) -> Result<Option<Change>, Memory>
+    requires text { IsTextOf kept.now (R.text rules.now) }
+    requires kept { IsKept (state_of kept.now) }
+    requires stored { All IsStored kept.now.parts.items.items }
+    requires numbers { length kept.now.parts.items.items < 2 ^ 32 }
+    ensures { IfOk result (Prepares (state_of kept.now) (Steps.Denied lane generation activity moment)) }
+{
+    let Some(open) = live_lane(kept, lane, generation, activity, moment) else {
+        return Ok(None);
+    };
+    denied(alloc, rules, kept, lane, open, activity, moment)
+}
+
+/// What an Abandon changes, under the rules of the tables recorded last; none exactly where it is not possible. Any
+/// worker may make it, so it tells no generation.
+#[tactic(auto, using(crate::proofs::Ending::prepare_abandon_laws))]
+pub fn prepare_abandon<R: Rules>(
+    alloc: Global,
+    rules: &R,
+    kept: &Kept,
+    lane: u32,
+    activity: u32,
+    moment: u64,
+) -> Result<Option<Change>, Memory>
+    requires text { IsTextOf kept.now (R.text rules.now) }
+    requires kept { IsKept (state_of kept.now) }
+    requires stored { All IsStored kept.now.parts.items.items }
+    requires numbers { length kept.now.parts.items.items < 2 ^ 32 }
+    ensures { IfOk result (Prepares (state_of kept.now) (Steps.Abandon lane activity moment)) }
+{
+    let Some(open) = expired_lane(alloc, rules, kept, lane, activity, moment)? else {
+        return Ok(None);
+    };
+    fail(
+        alloc,
+        rules,
+        kept,
+        lane,
+        open,
+        LaneChange::Abandon { activity },
+        Failure::Expired,
+        moment,
+    )
+}
