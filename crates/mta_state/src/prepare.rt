@@ -41,10 +41,13 @@ fn ready_tables<R: Rules + Drop>(
     let Some(rules) = R::under(alloc, text.as_slice())? else {
         return Ok(None);
     };
-    Ok(Some(Ready {
-        change: prepare_tables(kept, text),
-        rules: Some(rules),
-    }))
+    match prepare_tables(text, true) {
+        None => Ok(None),
+        Some(change) => Ok(Some(Ready {
+            change,
+            rules: Some(rules),
+        })),
+    }
 }
 
 // What a step changes that records no tables, under the rules of the tables recorded last.
@@ -104,7 +107,7 @@ fn prepare_under<R: Rules>(
             window,
             moment,
         } => prepare_open(
-            alloc, rules, kept, role, peer, reference, twa, checkpoint, window, moment,
+            alloc, rules, kept, role, &peer, &reference, twa, checkpoint, window, moment,
         ),
         Step::LaneAgree {
             lane,
@@ -121,7 +124,7 @@ fn prepare_under<R: Rules>(
             recipients,
             moment,
         } => prepare_start(
-            alloc, rules, kept, lane, generation, activity, item, recipients, moment,
+            alloc, rules, kept, lane, generation, activity, item, &recipients, moment,
         ),
         Step::Confirm {
             lane,
@@ -180,7 +183,14 @@ fn prepare_under<R: Rules>(
             piece,
             moment,
         } => prepare_complete(
-            alloc, kept, lane, generation, activity, number, piece, moment,
+            alloc,
+            kept,
+            lane,
+            generation,
+            activity,
+            number,
+            piece.as_slice(),
+            moment,
         ),
         Step::Drop {
             lane,
