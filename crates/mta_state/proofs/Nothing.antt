@@ -30,7 +30,7 @@ no-relay s i r moment is =
     ap (λ (t : Option (List ℕ)). relay_on t (numbered s.machine.items i) r moment) (none-at s.machine is)
 
 not-both : {A : Type 0} (o : Option A) (x : A) → o ≡ None → o ≡ Some x → ⊥
-not-both o x none some = let e : ◌≡◌ {A = Option A} None (Some x) = sym none ∙ some in cc
+not-both {A = A} o x none some = let e : ◌≡◌ {A = Option A} None (Some x) = sym none ∙ some in cc
 
 -- ---- steps
 

@@ -1,7 +1,7 @@
 -- What is sound before a step is sound behind it.
 use Rattle.std.proofs.Common.{◌≡◌, ◌≢◌, ℕ, suc, ◌+◌, ◌≤◌, ◌<◌, ◌^◌, Bool, true, false, cond, List, [], ◌∷◌, ◌++◌, length}
 use Rattle.std.proofs.Common.{map, Option, Some, None, refl, sym, ap, subst, ◌∙◌, arith}
-use Rattle.std.specs.Prelude.{IfSome, option_map, slice_get}
+use Rattle.std.specs.Prelude.{IfSome, is_some, option_map, slice_get}
 use Rattle.std.proofs.lemmas.List.{length-append}
 use Rattle.std.proofs.lemmas.List.Elements.{All-nil}
 use Rattle.std.specs.List.{All, concat}
@@ -109,6 +109,9 @@ lane-fits s lane (complete k n piece) moment fits needs = ((needs.1, fits), tt)
 lane-fits s lane (drop_pieces k) moment fits needs = tt
 lane-fits s lane close moment fits needs = tt
 
+some-is : (a b : Lane) → ◌≡◌ {A = Option Lane} (Some a) (Some b) → a ≡ b
+some-is a b e = cc
+
 class-fits : (s : State) (c : Class) (moment : ℕ) → moment ≤ last_moment → recorded_by c ≡ None
     → StepNeeds s c moment → MachineNeeds s c moment → EachFits (class_steps s c moment)
 class-fits s (records text) moment fits other allowed needs = absurd cc
@@ -123,9 +126,6 @@ class-fits s (on_lane n generation step) moment fits other allowed needs =
     by_lane (Some lane) e =
         lane-fits s lane step moment fits
         (subst (λ (l : Lane). LaneNeeds s l step moment) (some-is allowed.lane lane (sym e)) allowed.needs)
-
-    some-is : (a b : Lane) → ◌≡◌ {A = Option Lane} (Some a) (Some b) → a ≡ b
-    some-is a b e = cc
 
 -- ---- tables
 
@@ -201,6 +201,21 @@ module _ {R : Type 0} (text : R → List ℕ) where
 
     same : state_of new ≡ after_step (state_of kept) step
     same = changed ∙ is.is_change.after
+
+  -- as the rules are that the step records, or those of before
+  pub sound_new : (kept new : Kept) (old ready : Option R) (step : Step) (change : Change)
+      → IsSound text kept old → HasFields step → IsReady text (state_of kept) step change ready
+      → state_of new ≡ changed_state (state_of kept) change → is_some ready ≡ true → IsSound text new ready
+  sound_new kept new old None step change sound fields is changed some = absurd cc
+  sound_new kept new old (Some r) step change sound fields is changed some =
+      sound_after kept new old (Some r) step change sound fields is changed
+
+  pub sound_old : (kept new : Kept) (old ready : Option R) (step : Step) (change : Change)
+      → IsSound text kept old → HasFields step → IsReady text (state_of kept) step change ready
+      → state_of new ≡ changed_state (state_of kept) change → is_some ready ≡ false → IsSound text new old
+  sound_old kept new old None step change sound fields is changed none =
+      sound_after kept new old None step change sound fields is changed
+  sound_old kept new old (Some r) step change sound fields is changed none = absurd cc
 
   -- the same state is as sound
   pub sound_still : (kept new : Kept) (rules : Option R) → state_of new ≡ state_of kept → IsSound text kept rules

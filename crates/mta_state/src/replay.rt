@@ -78,7 +78,6 @@ impl<R: Rules + Drop> Replay<R> {
     }
 
     /// Makes the change of a step that is possible, in room that was found for it.
-    #[tactic(auto, using(crate::proofs::Sounds::made_laws))]
     pub fn commit(&mut self, ready: Ready<R>)
         requires sound { IsSound R.text self.old.kept self.old.rules }
         requires room { HasRoomFor self.old.kept ready.change }
@@ -89,9 +88,10 @@ impl<R: Rules + Drop> Replay<R> {
             → IsReady R.text (state_of self.old.kept) step ready.change ready.rules
             → IsSound R.text self.new.kept self.new.rules }
     {
-        self.kept.commit(ready.change);
-        if let Some(rules) = ready.rules {
-            self.rules = Some(rules);
+        let Ready { change, rules } = ready;
+        self.kept.commit(change);
+        if rules.is_some() {
+            self.rules = rules;
         }
     }
 
