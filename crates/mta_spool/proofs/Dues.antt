@@ -1,7 +1,7 @@
 -- What is known of a step that is next.
-use Rattle.std.proofs.Common.{◌≡◌, ℕ, ◌+◌, ◌≤◌, ◌<◌, ◌^◌, inl, inr, Option, Some, None, length, refl, sym, ap, subst, ◌∙◌}
+use Rattle.std.proofs.Common.{◌≡◌, ℕ, ◌+◌, ◌≤◌, ◌<◌, ◌^◌, inl, inr, List, Result, Ok, Option, Some, None, length, refl, sym, ap, subst, ◌∙◌}
 use Rattle.std.proofs.Common.{arith}
-use Rattle.std.specs.Prelude.{IfSome}
+use Rattle.std.specs.Prelude.{IfSome, is_some}
 use Rattle.mta_ber.specs.Times.{last_moment}
 use Rattle.mta_procedures.specs.declared.verdict.Verdict.{Verdict}
 use Rattle.mta_procedures.specs.declared.verdict.Verdict.TheVariants as Verdicts
@@ -15,6 +15,9 @@ use Rattle.mta_histories.specs.Due.{IsDue, IsNext, step_of}
 use Rattle.mta_histories.specs.Numbers.{numbers_needed}
 use Rattle.mta_histories.proofs.Dues.{due_steps_are_possible}
 use Rattle.mta_histories.proofs.Needed.{numbers_suffice}
+use Rattle.mta_tables.specs.Tables.{TablesValue, tables_of}
+use Rattle.mta_machine.specs.Apdu.{value_read}
+use Rattle.mta_machine.specs.Rules.{is_tables_text, tables_value}
 use Rattle.mta_lane_send.specs.Half.{last_of}
 use Rattle.mta_spool.specs.Due.{IsDueStep}
 use Rattle.mta_spool.specs.Stands.{IsOfNoRefusal}
@@ -101,3 +104,16 @@ pub next_is_possible : (s : State) (moment : ℕ) (due : Step) → IsKept s → 
 next_is_possible s moment due kept timely next left =
     due_steps_are_possible s next.item next.recipient moment due kept timely next.is_due
     (omega (arith, left, numbers_suffice s due))
+
+-- ---- tables
+
+-- a text that is read as tables may be recorded
+pub tables_possible : (s : State) (text : List ℕ) (tables : TablesValue) → tables_of text ≡ Ok tables
+    → length s.machine.items < 2 ^ 32 → IsPossible s (step.Tables text)
+unfolding is_tables_text tables_value
+tables_possible s text tables read numbers = record {
+  allowed = ap (λ r. is_some (value_read r)) read;
+  as_machine = tt;
+  timely = omega arith;
+  numbers = numbers;
+}

@@ -1,4 +1,5 @@
 pub mod Dues
+pub mod Lengths
 pub mod Making
 pub mod Openings
 pub mod Refused

@@ -1,5 +1,5 @@
 -- Steps that are taken up one after the other.
-use Rattle.std.proofs.Common.{◌≡◌, ℕ, zero, suc, ◌+◌, ◌≤◌, ◌<◌, List, [], ◌∷◌, ◌++◌, length, map, take, drop, get_or, Result, IsErrOf, refl, sym, ap, subst, ◌∙◌, append_assoc, arith}
+use Rattle.std.proofs.Common.{◌≡◌, ℕ, zero, suc, ◌+◌, ◌≤◌, ◌<◌, List, [], ◌∷◌, ◌++◌, length, map, take, drop, get_or, Result, Err, IsErrOf, refl, sym, ap, subst, ◌∙◌, append_assoc, arith}
 use Rattle.std.specs.Prelude.{IsOk}
 use Rattle.std.specs.List.{flat_map}
 use Rattle.std.proofs.lemmas.List.{length-append, take-append-drop}
@@ -11,9 +11,9 @@ use Rattle.mta_journal.specs.Bodies.{longest_body, magic, front, open_record, Ar
 use Rattle.mta_images.specs.Image.{StopsAt, size_of}
 use Rattle.mta_histories.proofs.Runs.{after_from-more, possible-more}
 use Rattle.mta_images.proofs.Bodies.{map-more, are-records-more, size-more}
-use Rattle.mta_spool.specs.declared.current.NotMade.{NotMade}
-use Rattle.mta_spool.specs.declared.current.NotMade.TheVariants as NotMades
-use Rattle.mta_spool.specs.Replaying.{IsReplay, HasTaken}
+use Rattle.mta_state.specs.declared.replay.NotMade.{NotMade}
+use Rattle.mta_state.specs.declared.replay.NotMade.TheVariants as NotMades
+use Rattle.mta_spool.specs.Replaying.{IsReplay, HasStopped, HasTaken, open_why}
 
 -- ---- a row of bodies
 
@@ -46,6 +46,14 @@ replay_stops bodies body more all old new result steps at is whole taken wrong p
   none = λ step fields e possible. taken.impossible wrong step fields e (subst (λ (s : State). IsPossible s step) (sym is.state_is) possible);
   place = omega (arith, place);
 }
+
+-- so it is no spool from there on, or there was no memory
+pub replay_stopped : (bodies : List (List ℕ)) (body : List ℕ) (more all : List (List ℕ)) (old new : State)
+    (why : NotMade) (steps : List Step) (at : ℕ) → IsReplay bodies old steps → all ≡ bodies ++ body ∷ more
+    → HasTaken {T = Unit {0}} body old new (Err why) → at + 1 ≡ size_of steps → HasStopped all (open_why why at)
+replay_stopped bodies body more all old new NotMades.Impossible steps at is whole taken place =
+    replay_stops bodies body more all old new (Err NotMades.Impossible) steps at is whole taken refl place
+replay_stopped bodies body more all old new NotMades.Memory steps at is whole taken place = tt
 
 -- ---- how far a row of bodies reaches
 

@@ -33,3 +33,8 @@ abbrev pub HasStopped : List (List ℕ) → OpenWhy → Type 0
 HasStopped bodies (Whys.NotSpool at) = StopsAt bodies at
 HasStopped bodies Whys.Disk = ⊥
 HasStopped bodies Whys.Memory = Unit {0}
+
+-- why a body was not taken up whose gate is at this offset
+abbrev pub open_why : NotMade → ℕ → OpenWhy
+open_why NotMades.Impossible at = Whys.NotSpool at
+open_why NotMades.Memory at = Whys.Memory

@@ -1,6 +1,6 @@
 //! The steps that are due: how many numbers they need, and how they are told.
 
-ghost use Rattle.std.specs.Prelude.{◌≡◌, ◌≤◌, ℕ, IfSome};
+ghost use Rattle.std.specs.Prelude.{◌≡◌, ◌≤◌, ◌<◌, ◌^◌, ℕ, IfSome};
 ghost use Rattle.mta_ber.specs.Times.{last_moment};
 ghost use Rattle.mta_records.specs.Body.{HasFields};
 ghost use Rattle.mta_histories.specs.Classes.{abandon, class_of, moment_of};
@@ -45,6 +45,11 @@ pub fn numbers_needed(kept: &Kept, step: &Step) -> usize
     }
 }
 
+fn numbers_fit(first: u32, second: u32)
+    ensures first { first < 2 ^ 32 }
+    ensures second { second < 2 ^ 32 }
+{}
+
 /// A due step once more. Its fields are in their types.
 pub fn same(step: &Step) -> Step
     requires due { IsDueStep step.now }
@@ -57,65 +62,86 @@ pub fn same(step: &Step) -> Step
             item,
             recipient,
             moment,
-        } => Step::Deliver {
-            item: *item,
-            recipient: *recipient,
-            moment: *moment,
-        },
+        } => {
+            numbers_fit(*item, *recipient);
+            Step::Deliver {
+                item: *item,
+                recipient: *recipient,
+                moment: *moment,
+            }
+        }
         Step::Expand {
             item,
             recipient,
             moment,
-        } => Step::Expand {
-            item: *item,
-            recipient: *recipient,
-            moment: *moment,
-        },
+        } => {
+            numbers_fit(*item, *recipient);
+            Step::Expand {
+                item: *item,
+                recipient: *recipient,
+                moment: *moment,
+            }
+        }
         Step::Report {
             item,
             recipient,
             moment,
-        } => Step::Report {
-            item: *item,
-            recipient: *recipient,
-            moment: *moment,
-        },
+        } => {
+            numbers_fit(*item, *recipient);
+            Step::Report {
+                item: *item,
+                recipient: *recipient,
+                moment: *moment,
+            }
+        }
         Step::Affirm {
             item,
             recipient,
             moment,
-        } => Step::Affirm {
-            item: *item,
-            recipient: *recipient,
-            moment: *moment,
-        },
+        } => {
+            numbers_fit(*item, *recipient);
+            Step::Affirm {
+                item: *item,
+                recipient: *recipient,
+                moment: *moment,
+            }
+        }
         Step::Discard {
             item,
             recipient,
             moment,
-        } => Step::Discard {
-            item: *item,
-            recipient: *recipient,
-            moment: *moment,
-        },
+        } => {
+            numbers_fit(*item, *recipient);
+            Step::Discard {
+                item: *item,
+                recipient: *recipient,
+                moment: *moment,
+            }
+        }
         Step::Back {
             item,
             recipient,
             moment,
-        } => Step::Back {
-            item: *item,
-            recipient: *recipient,
-            moment: *moment,
-        },
+        } => {
+            numbers_fit(*item, *recipient);
+            Step::Back {
+                item: *item,
+                recipient: *recipient,
+                moment: *moment,
+            }
+        }
         Step::Abandon {
             lane,
             activity,
             moment,
-        } => Step::Abandon {
-            lane: *lane,
-            activity: *activity,
-            moment: *moment,
-        },
+        } => {
+            numbers_fit(*lane, *activity);
+            Step::Abandon {
+                lane: *lane,
+                activity: *activity,
+                moment: *moment,
+            }
+        }
         _ => unreachable!(),
     }
 }

@@ -20,7 +20,7 @@ ghost use Rattle.mta_spool.specs.Stands.{fault_of, IsSpent, Makes};
 use mta_edge::Disk;
 use mta_journal::{AppendFault, Journal};
 use mta_records::{Step, StepFault, write_record};
-use mta_state::{Ready, Replay};
+use mta_state::Replay;
 use mta_table_rules::TableRules;
 use std::alloc::Global;
 
@@ -52,15 +52,20 @@ pub fn make<D: Disk + Drop>(
         (fault_of result) }
     ensures sound { IsSound text_of replay.new.kept replay.new.rules }
 {
-    let record = write_record(alloc, &step)?;
-    let Some(ready) = replay.prepare(alloc, step)? else {
-        unreachable!()
+    let Ok(record) = write_record(alloc, &step) else {
+        return Err(StepFault::Memory);
     };
-    replay.reserve(&ready)?;
+    let Ok(ready) = replay.hold(alloc, step) else {
+        return Err(StepFault::Memory);
+    };
     match journal.append(record.as_slice()) {
-        Ok(()) => {}
-        Err(fault) => return Err(step_fault(fault)),
+        Ok(()) => {
+            replay.commit(ready);
+            Ok(())
+        }
+        Err(fault) => {
+            ready.discard();
+            Err(step_fault(fault))
+        }
     }
-    replay.commit(ready);
-    Ok(())
 }

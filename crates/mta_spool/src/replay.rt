@@ -4,12 +4,12 @@
 //! step that is made is, without the journal. Out goes the state, or the place of the first body that is no such step,
 //! or want of memory. The disk is not called.
 
-ghost use Rattle.std.specs.Prelude.{◌<◌, ◌+◌, ◌^◌, length, IfErr, IfOk};
+ghost use Rattle.std.specs.Prelude.{◌≡◌, ◌<◌, ◌+◌, ◌^◌, length, IfErr, IfOk};
 ghost use Rattle.mta_journal.specs.Bodies.{AreShort, front};
 ghost use Rattle.mta_replay.specs.Kept.{state_of};
 ghost use Rattle.mta_table_rules.specs.Text.{text_of};
 ghost use Rattle.mta_state.specs.Sound.{IsSound};
-ghost use Rattle.mta_spool.specs.Replaying.{HasReplayed, HasStopped, HasTaken};
+ghost use Rattle.mta_spool.specs.Replaying.{HasReplayed, HasStopped, HasTaken, open_why};
 
 use mta_ber::Octets;
 use mta_journal::OpenWhy;
@@ -32,6 +32,16 @@ fn take_up(replay: &mut Replay<TableRules>, alloc: Global, body: &[u8]) -> Resul
     }
 }
 
+// Why a body was not taken up whose gate is at this offset.
+fn open_why(why: NotMade, at: u64) -> OpenWhy
+    ensures { result ≡ open_why why at }
+{
+    match why {
+        NotMade::Impossible => OpenWhy::NotSpool { at },
+        NotMade::Memory => OpenWhy::Memory,
+    }
+}
+
 /// The state after the steps of these bodies, or the offset of the gate of the first body that is that of no possible
 /// step.
 pub fn replay(alloc: Global, bodies: &[Octets]) -> Result<Replay<TableRules>, OpenWhy>
@@ -46,8 +56,10 @@ pub fn replay(alloc: Global, bodies: &[Octets]) -> Result<Replay<TableRules>, Op
     for body in bodies {
         match take_up(&mut replay, alloc, body.as_slice()) {
             Ok(()) => at += body.len() as u64 + 5,
-            Err(NotMade::Impossible) => return Err(OpenWhy::NotSpool { at }),
-            Err(NotMade::Memory) => return Err(OpenWhy::Memory),
+            Err(why) => {
+                replay.discard();
+                return Err(open_why(why, at));
+            }
         }
     }
     Ok(replay)

@@ -282,7 +282,10 @@ impl<D: Disk + Drop, C: Clock + Drop> Spool<D, C> {
     pub fn end(self) -> D
         ensures { result ≡ self.journal.disk }
     {
-        let Spool { journal, .. } = self;
+        let Spool {
+            journal, replay, ..
+        } = self;
+        replay.discard();
         journal.end()
     }
 }

@@ -53,7 +53,15 @@ pub struct Ready<R: Rules + Drop> {
     pub rules: Option<R>,
 }
 
+impl<R: Rules + Drop> Ready<R> {
+    /// Lets it go.
+    pub fn discard(self) {}
+}
+
 impl<R: Rules + Drop> Replay<R> {
+    /// Lets it go.
+    pub fn discard(self) {}
+
     /// The state after no step, which takes no memory.
     #[tactic(auto, using(crate::proofs::Sounds::sound_at_first))]
     pub fn new(alloc: Global) -> Replay<R>

@@ -1,6 +1,7 @@
-use Rattle.std.proofs.Common.{List, ℕ, Err, subst}
+use Rattle.std.proofs.Common.{List, ℕ, subst}
 use Rattle.mta_journal.specs.Opening.{synced}
-use Rattle.mta_spool.specs.Replaying.{Replays, IsReplay}
+use Rattle.mta_replay.specs.Kept.{state_of}
+use Rattle.mta_spool.specs.Replaying.{HasStopped, IsReplay}
 use Rattle.mta_spool.proofs.Openings.{stands_opened, history_opened, replay_refused, open_refused}
 use Rattle.mta_spool.proofs.spool.Spool.open.Goals as goal
 
@@ -11,12 +12,12 @@ returns-in-Err-clause-refused g c =
 
 pub returns-in-Ok-replay-clause-opened : goal.returns-in-Ok-replay-clause-opened
 returns-in-Ok-replay-clause-opened g c =
-    let r = c.in-Ok-replay.ensures in
-    let is = subst (λ (bs : List (List ℕ)). IsReplay bs c.in-Ok-replay.current r.0) c.as_slice.ensures.value r.1 in
+    let r = c.in-Ok-replay.ensures.replayed in
+    let is = subst (λ (bs : List (List ℕ)). IsReplay bs (state_of c.in-Ok-replay.replay.kept) r.0) c.as_slice.ensures.value r.1 in
     record {
       steps = r.0;
-      stands = stands_opened g.D.Disk.model c.in-Ok.opened.journal c.in-Ok.opened.bodies.items c.in-Ok-replay.current r.0 c.in-Ok.ensures.holds is;
-      history = history_opened g.D.Disk.model c.args.disk c.in-Ok.opened.bodies.items r.0 c.in-Ok.ensures.stands c.in-Ok-replay.current is;
+      stands = stands_opened g.D.Disk.model c.in-Ok.opened.journal c.in-Ok.opened.bodies.items (state_of c.in-Ok-replay.replay.kept) r.0 c.in-Ok.ensures.holds is;
+      history = history_opened g.D.Disk.model c.args.disk c.in-Ok.opened.bodies.items r.0 c.in-Ok.ensures.stands (state_of c.in-Ok-replay.replay.kept) is;
       later = c.in-Ok.ensures.later;
       told = c.in-Ok.ensures.told;
       images = c.in-Ok.ensures.images;
@@ -28,4 +29,4 @@ returns-clause-refused g c =
     rw c.end.ensures
     (replay_refused g.D.Disk.model c.args.disk c.in-Ok.opened.journal.disk c.in-Ok.ensures.later c.in-Ok.ensures.kept c.in-Ok.ensures.told c.in-Ok.ensures.images
     (λ f told. synced (c.in-Ok.ensures.since f told)) c.in-Ok.opened.bodies.items c.in-Err-replay.why c.in-Ok.ensures.stands
-    (subst (λ (bs : List (List ℕ)). Replays bs (Err c.in-Err-replay.why)) c.as_slice.ensures.value c.in-Err-replay.ensures))
+    (subst (λ (bs : List (List ℕ)). HasStopped bs c.in-Err-replay.why) c.as_slice.ensures.value c.in-Err-replay.ensures.stopped))

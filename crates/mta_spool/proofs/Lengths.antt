@@ -1,0 +1,79 @@
+-- How long the bodies of records are.
+use Rattle.std.proofs.Common.{◌≡◌, ◌≤◌, ◌<◌, ℕ, ◌+◌, true, ltb, inl, inr, List, length, Result, Ok, Err, refl}
+use Rattle.std.proofs.Common.{subst, arith, w32, w64}
+use Rattle.std.proofs.lemmas.Bool.{cases_lt, lt-ltb}
+use Rattle.std.proofs.lemmas.List.{length-append}
+use Rattle.mta_records.specs.declared.step.Step.{Step}
+use Rattle.mta_records.specs.declared.step.Step.TheVariants.{Tables, Accept, Deliver, Expand, Report, Affirm, Discard}
+use Rattle.mta_records.specs.declared.step.Step.TheVariants.{Back, LaneOpen, LaneAgree, Bind, Start, Confirm, Ending}
+use Rattle.mta_records.specs.declared.step.Step.TheVariants.{Sent, Refused, Denied, Dropped, Abandon, Secure, Complete}
+use Rattle.mta_records.specs.declared.step.Step.TheVariants.{Drop, CloseLane}
+use Rattle.mta_records.specs.Body.{body_of, two_and_moment_octets}
+use Rattle.mta_records.specs.Fields.{string}
+use Rattle.mta_records.specs.Form.{number_octets}
+use Rattle.mta_tables.specs.Reading.{Bad}
+use Rattle.mta_tables.specs.Tables.{TablesValue, tables_of}
+use Rattle.mta_journal.specs.Bodies.{longest_body}
+use Rattle.mta_spool.specs.Due.{IsDueStep}
+
+length-long : (n : ℕ) → length (number_octets w64 n) ≡ 8
+unfolding number_octets
+length-long n = refl
+
+length-string : (octets : List ℕ) → length (string octets) ≡ length octets + 4
+unfolding string number_octets
+length-string octets = omega arith
+
+pub length-tables : (text : List ℕ) → length (body_of (Tables text)) ≡ length text + 5
+length-tables text = omega (arith, length-string text)
+
+pub length-accept : (moment : ℕ) (apdu : List ℕ) → length (body_of (Accept moment apdu)) ≡ length apdu + 13
+length-accept moment apdu =
+    omega (arith, length-append (number_octets w64 moment) (string apdu), length-long moment, length-string apdu)
+
+length-two : (a b moment : ℕ) → length (two_and_moment_octets (a, (b, moment))) ≡ 16
+unfolding two_and_moment_octets number_octets
+length-two a b moment = refl
+
+-- a due step has a short body
+pub short-due : (step : Step) → IsDueStep step → length (body_of step) ≤ longest_body
+short-due (Tables text) due = absurd due
+short-due (Accept moment apdu) due = absurd due
+short-due (Deliver item recipient moment) due = omega (arith, length-two item recipient moment)
+short-due (Expand item recipient moment) due = omega (arith, length-two item recipient moment)
+short-due (Report item recipient moment) due = omega (arith, length-two item recipient moment)
+short-due (Affirm item recipient moment) due = omega (arith, length-two item recipient moment)
+short-due (Discard item recipient moment) due = omega (arith, length-two item recipient moment)
+short-due (Back item recipient moment) due = omega (arith, length-two item recipient moment)
+short-due (LaneOpen role peer reference twa checkpoint window moment) due = absurd due
+short-due (LaneAgree lane generation checkpoint window) due = absurd due
+short-due (Bind lane generation) due = absurd due
+short-due (Start lane generation activity item recipients moment) due = absurd due
+short-due (Confirm lane generation activity checkpoint) due = absurd due
+short-due (Ending lane generation activity) due = absurd due
+short-due (Sent lane generation activity moment) due = absurd due
+short-due (Refused lane generation activity kind moment) due = absurd due
+short-due (Denied lane generation activity moment) due = absurd due
+short-due (Dropped lane generation activity) due = absurd due
+short-due (Abandon lane activity moment) due = omega (arith, length-two lane activity moment)
+short-due (Secure lane generation activity number piece) due = absurd due
+short-due (Complete lane generation activity number piece moment) due = absurd due
+short-due (Drop lane generation activity) due = absurd due
+short-due (CloseLane lane generation) due = absurd due
+
+-- ---- a text of tables is short
+
+short_text : (text : List ℕ) (tables : TablesValue) → tables_of text ≡ Ok tables → length text ≤ 1048576
+unfolding tables_of
+short_text text tables read =
+    elim (cases_lt 1048576 (length text)) [
+      | inl long ↦ (let test : ltb 1048576 (length text) ≡ true = lt-ltb _ _ long in absurd (bad_ok (rw test at read)))
+      | inr short ↦ short
+    ]
+  where
+    bad_ok : {b : Bad} → ◌≡◌ {A = Result TablesValue Bad} (Err b) (Ok tables) → ⊥
+    bad_ok w = cc
+
+pub short_tables : (tables : TablesValue) (text : List ℕ) → text ≡ tables.text → tables_of text ≡ Ok tables
+    → length tables.text ≤ 1048576
+short_tables tables text same read = subst (λ (t : List ℕ). length t ≤ 1048576) same (short_text text tables read)
