@@ -48,7 +48,6 @@ fn line_to<R: Rules>(
 }
 
 // The delivery report on a recipient who is delivered to or affirmed, where there is one.
-#[tactic(auto, using(crate::proofs::Made::delivery_is))]
 fn made_of_delivery<R: Rules>(
     alloc: Global,
     rules: &R,

@@ -46,7 +46,6 @@ fn status_of_failure(
 }
 
 // The non-delivery report on a recipient, where there is one.
-#[tactic(auto, using(crate::proofs::Made::failure_is))]
 fn made_of_failure<R: Rules>(
     alloc: Global,
     rules: &R,
