@@ -1,8 +1,7 @@
 -- What is changed by tables that are recorded, and by an APDU that is accepted.
-use Rattle.std.proofs.Common.{◌≡◌, ◌≤◌, ◌<◌, ◌+◌, ◌^◌, ℕ, true, false, List, [], ◌∷◌, ◌++◌}
-use Rattle.std.proofs.Common.{length, Option, Some, None, refl, sym, ap, arith, length-append}
+use Rattle.std.proofs.Common.{◌≡◌, ◌<◌, ◌+◌, ◌^◌, ℕ, true, false, List, [], ◌∷◌, ◌++◌}
+use Rattle.std.proofs.Common.{length, Some, None, refl, ap, arith, length-append}
 use Rattle.mta_records.specs.declared.step.Step.TheVariants as step
-use Rattle.mta_machine.specs.Apdu.{IsApdu}
 use Rattle.mta_machine.specs.declared.item.Origin.TheVariants as Origins
 use Rattle.mta_machine.specs.Items.{ItemValue}
 use Rattle.mta_machine.specs.Machine.{accepted_item}
@@ -31,7 +30,7 @@ pub ruleset tables_laws = (tables_change, no_tables)
 
 -- ---- an APDU
 
-state_with : State → ItemValue → ℕ → State
+abbrev state_with : State → ItemValue → ℕ → State
 state_with s item moment = record s { machine = with_item s.machine item moment; moment = moment }
 
 one-more : (items : List ItemValue) (item : ItemValue) → length (items ++ item ∷ []) ≡ length items + 1
