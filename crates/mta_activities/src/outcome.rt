@@ -27,10 +27,10 @@ use mta_replay::{Change, Kept, Rules};
 use std::alloc::Global;
 
 // Whether the activity under way was given up.
-fn is_dropping(open: &Lane) -> bool
-    ensures { result ≡ is_dropping open.now.sending }
+fn is_dropping(opened: &Lane) -> bool
+    ensures { result ≡ is_dropping opened.now.sending }
 {
-    match open.sending() {
+    match opened.sending() {
         SendState::Idle { .. } => false,
         SendState::Sending { .. } => false,
         SendState::Ending { .. } => false,
@@ -45,7 +45,7 @@ fn fail<R: Rules>(
     rules: &R,
     kept: &Kept,
     lane: u32,
-    open: &Lane,
+    opened: &Lane,
     change: LaneChange,
     failure: Failure,
     moment: u64,
@@ -54,13 +54,13 @@ fn fail<R: Rules>(
     requires kept { IsKept (state_of kept.now) }
     requires stored { All IsStored kept.now.parts.items.items }
     requires numbers { length kept.now.parts.items.items < 2 ^ 32 }
-    requires open { lane_at lane kept.now.lanes.open_lanes.items ≡ Some open.now }
-    requires transferring { is_transferring open.now.sending ≡ true }
-    requires may { MayChange open.now change }
+    requires opened { lane_at lane kept.now.lanes.open_lanes.items ≡ Some opened.now }
+    requires transferring { is_transferring opened.now.sending ≡ true }
+    requires may { MayChange opened.now change }
     ensures { IfOk result (Makes (state_of kept.now)
-        (failures (failure_of failure) moment open.now.transfer) lane change moment) }
+        (failures (failure_of failure) moment opened.now.transfer) lane change moment) }
 {
-    let Some(transfer) = open.transfer() else {
+    let Some(transfer) = opened.transfer() else {
         unreachable!()
     };
     let number = transfer.item();
@@ -100,7 +100,7 @@ fn refused<R: Rules>(
     rules: &R,
     kept: &Kept,
     lane: u32,
-    open: &Lane,
+    opened: &Lane,
     activity: u32,
     kind: u8,
     moment: u64,
@@ -109,12 +109,12 @@ fn refused<R: Rules>(
     requires kept { IsKept (state_of kept.now) }
     requires stored { All IsStored kept.now.parts.items.items }
     requires numbers { length kept.now.parts.items.items < 2 ^ 32 }
-    requires open { lane_at lane kept.now.lanes.open_lanes.items ≡ Some open.now }
-    requires live { is_live open.now.sending activity ≡ true }
+    requires opened { lane_at lane kept.now.lanes.open_lanes.items ≡ Some opened.now }
+    requires live { is_live opened.now.sending activity ≡ true }
     ensures { IfOk result (Makes (state_of kept.now)
-        (outcome_steps open.now (was_refused kind) activity moment) lane LaneChanges.Settle moment) }
+        (outcome_steps opened.now (was_refused kind) activity moment) lane LaneChanges.Settle moment) }
 {
-    if is_dropping(open) {
+    if is_dropping(opened) {
         return Ok(Some(settle_quietly(kept, lane, moment)));
     }
     let failure = failure_by(kind);
@@ -123,7 +123,7 @@ fn refused<R: Rules>(
         rules,
         kept,
         lane,
-        open,
+        opened,
         LaneChange::Settle,
         failure,
         moment,
@@ -137,7 +137,7 @@ fn denied<R: Rules>(
     rules: &R,
     kept: &Kept,
     lane: u32,
-    open: &Lane,
+    opened: &Lane,
     activity: u32,
     moment: u64,
 ) -> Result<Option<Change>, Memory>
@@ -145,11 +145,11 @@ fn denied<R: Rules>(
     requires kept { IsKept (state_of kept.now) }
     requires stored { All IsStored kept.now.parts.items.items }
     requires numbers { length kept.now.parts.items.items < 2 ^ 32 }
-    requires open { lane_at lane kept.now.lanes.open_lanes.items ≡ Some open.now }
+    requires opened { lane_at lane kept.now.lanes.open_lanes.items ≡ Some opened.now }
     ensures { IfOk result (Makes (state_of kept.now)
-        (outcome_steps open.now was_denied activity moment) lane LaneChanges.Settle moment) }
+        (outcome_steps opened.now was_denied activity moment) lane LaneChanges.Settle moment) }
 {
-    if !open.may_be_sent(activity) {
+    if !opened.may_be_sent(activity) {
         return Ok(Some(settle_quietly(kept, lane, moment)));
     }
     fail(
@@ -157,7 +157,7 @@ fn denied<R: Rules>(
         rules,
         kept,
         lane,
-        open,
+        opened,
         LaneChange::Settle,
         Failure::Denied,
         moment,
@@ -170,21 +170,21 @@ fn sent(
     alloc: Global,
     kept: &Kept,
     lane: u32,
-    open: &Lane,
+    opened: &Lane,
     activity: u32,
     moment: u64,
 ) -> Result<Change, Memory>
     requires kept { IsKept (state_of kept.now) }
     requires numbers { length kept.now.parts.items.items < 2 ^ 32 }
-    requires open { lane_at lane kept.now.lanes.open_lanes.items ≡ Some open.now }
-    requires transferring { is_transferring open.now.sending ≡ true }
+    requires opened { lane_at lane kept.now.lanes.open_lanes.items ≡ Some opened.now }
+    requires transferring { is_transferring opened.now.sending ≡ true }
     ensures { IfOk result (λ change. Makes (state_of kept.now)
-        (outcome_steps open.now was_sent activity moment) lane LaneChanges.Settle moment (Some change)) }
+        (outcome_steps opened.now was_sent activity moment) lane LaneChanges.Settle moment (Some change)) }
 {
-    let Some(transfer) = open.transfer() else {
+    let Some(transfer) = opened.transfer() else {
         unreachable!()
     };
-    let settlements = sent_all(alloc, transfer.recipients(), open.peer(), moment)?;
+    let settlements = sent_all(alloc, transfer.recipients(), opened.peer(), moment)?;
     Ok(Change::Discharge {
         lane,
         change: LaneChange::Settle,
@@ -208,10 +208,10 @@ pub fn prepare_sent(
     requires numbers { length kept.now.parts.items.items < 2 ^ 32 }
     ensures { IfOk result (Prepares (state_of kept.now) (Steps.Sent lane generation activity moment)) }
 {
-    let Some(open) = ending_lane(kept, lane, generation, activity, moment) else {
+    let Some(opened) = ending_lane(kept, lane, generation, activity, moment) else {
         return Ok(None);
     };
-    let change = sent(alloc, kept, lane, open, activity, moment)?;
+    let change = sent(alloc, kept, lane, opened, activity, moment)?;
     Ok(Some(change))
 }
 
@@ -234,10 +234,10 @@ pub fn prepare_refused<R: Rules>(
     ensures { IfOk result (Prepares (state_of kept.now)
         (Steps.Refused lane generation activity kind moment)) }
 {
-    let Some(open) = live_lane(kept, lane, generation, activity, moment) else {
+    let Some(opened) = live_lane(kept, lane, generation, activity, moment) else {
         return Ok(None);
     };
-    refused(alloc, rules, kept, lane, open, activity, kind, moment)
+    refused(alloc, rules, kept, lane, opened, activity, kind, moment)
 }
 
 /// What a Denied changes, under the rules of the tables recorded last; none exactly where it is not possible.
@@ -257,10 +257,10 @@ pub fn prepare_denied<R: Rules>(
     requires numbers { length kept.now.parts.items.items < 2 ^ 32 }
     ensures { IfOk result (Prepares (state_of kept.now) (Steps.Denied lane generation activity moment)) }
 {
-    let Some(open) = live_lane(kept, lane, generation, activity, moment) else {
+    let Some(opened) = live_lane(kept, lane, generation, activity, moment) else {
         return Ok(None);
     };
-    denied(alloc, rules, kept, lane, open, activity, moment)
+    denied(alloc, rules, kept, lane, opened, activity, moment)
 }
 
 /// What an Abandon changes, under the rules of the tables recorded last; none exactly where it is not possible. Any
@@ -280,7 +280,7 @@ pub fn prepare_abandon<R: Rules>(
     requires numbers { length kept.now.parts.items.items < 2 ^ 32 }
     ensures { IfOk result (Prepares (state_of kept.now) (Steps.Abandon lane activity moment)) }
 {
-    let Some(open) = expired_lane(alloc, rules, kept, lane, activity, moment)? else {
+    let Some(opened) = expired_lane(alloc, rules, kept, lane, activity, moment)? else {
         return Ok(None);
     };
     fail(
@@ -288,7 +288,7 @@ pub fn prepare_abandon<R: Rules>(
         rules,
         kept,
         lane,
-        open,
+        opened,
         LaneChange::Abandon { activity },
         Failure::Expired,
         moment,

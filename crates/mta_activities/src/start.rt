@@ -24,14 +24,14 @@ use mta_replay::{Change, Kept, Rules};
 use std::alloc::Global;
 
 // Whether the next activity of the lane is this one, and may be started.
-fn may_start(open: &Lane, generation: u64, activity: u32) -> bool
-    ensures { IsTrue result ↔ IsStartable open.now generation activity }
+fn may_start(opened: &Lane, generation: u64, activity: u32) -> bool
+    ensures { IsTrue result ↔ IsStartable opened.now generation activity }
 {
-    open.is_of(generation)
-        && open.values().agreed
-        && open.may_close()
+    opened.is_of(generation)
+        && opened.values().agreed
+        && opened.may_close()
         && 0 < activity
-        && activity - 1 == open.activity()
+        && activity - 1 == opened.activity()
 }
 
 // The open lane on which the activity may be started.
@@ -45,13 +45,13 @@ fn idle_lane(
 ) -> Option<&Lane>
     ensures { FreeFor (state_of kept.now) lane generation activity moment (option_copied result) }
 {
-    let Some(open) = kept.lanes.get(lane) else {
+    let Some(opened) = kept.lanes.get(lane) else {
         return None;
     };
-    if moment < kept.moment || !may_start(open, generation, activity) {
+    if moment < kept.moment || !may_start(opened, generation, activity) {
         return None;
     }
-    Some(open)
+    Some(opened)
 }
 
 // Whether each of the recipients of an item is pending, in no activity, and relayed to the peer.
@@ -173,14 +173,14 @@ pub fn prepare_start<R: Rules>(
     ensures { IfOk result (Prepares (state_of kept.now)
         (Steps.Start lane generation activity item recipients.now moment)) }
 {
-    let Some(open) = idle_lane(kept, lane, generation, activity, moment) else {
+    let Some(opened) = idle_lane(kept, lane, generation, activity, moment) else {
         return Ok(None);
     };
     let Some(stored) = kept.parts.item(item) else {
         return Ok(None);
     };
     let numbers = recipients.as_slice();
-    let peer = open.peer().as_slice();
+    let peer = opened.peer().as_slice();
     let Some(one) = one_of(alloc, rules, kept, item, stored, numbers, peer, moment)? else {
         return Ok(None);
     };
