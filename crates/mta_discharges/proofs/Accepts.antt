@@ -31,7 +31,7 @@ pub ruleset tables_laws = (tables_change, no_tables)
 
 -- ---- an APDU
 
-state_with : State → ItemValue → ℕ → State
+abbrev state_with : State → ItemValue → ℕ → State
 state_with s item moment = record s { machine = with_item s.machine item moment; moment = moment }
 
 one-more : (items : List ItemValue) (item : ItemValue) → length (items ++ item ∷ []) ≡ length items + 1

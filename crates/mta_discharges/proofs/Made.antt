@@ -57,21 +57,26 @@ failure-anyway text number item r reason diagnostic =
     no-report-on (λ t e x. reports.non_delivery_report t number item.arrival e x reason diagnostic) r
     (tables_value text) (value_of item.octets)
 
-module _ (m : Machine) (text : List ℕ) (item : ItemValue) (r moment : ℕ) (first : Option ItemValue) where
-  pub delivery_is : first ≡ option_map (own_item moment) (delivery_report text (length m.items + 1) item r moment)
-      → made_items (alone first) ≡ map (own_item moment) (made_by m item text r delivered moment)
-  delivery_is is =
-      made_alone first moment (delivery_report text (length m.items + 1) item r moment) is
-      ∙ sym (ap (λ (vs : List ApduValue). map (own_item moment) vs)
-      (delivery-anyway text (length m.items + 1) item r moment))
+module _ (m : Machine) (text : List ℕ) (item : ItemValue) (r moment : ℕ) (first : Option ItemValue) (number : ℕ)
+    (number_is : number ≡ length m.items + 1)
+  where
+    abbrev made_of : List ApduValue → List ItemValue
+    made_of vs = map (own_item moment) vs
 
-  pub failure_is : (reason diagnostic : ℕ)
-      → first
-      ≡ option_map (own_item moment)
-      (non_delivery_report text (length m.items + 1) item r reason (Some diagnostic))
-      → made_items (alone first)
-      ≡ map (own_item moment) (made_by m item text r (not_delivered reason diagnostic) moment)
-  failure_is reason diagnostic is =
-      made_alone first moment (non_delivery_report text (length m.items + 1) item r reason (Some diagnostic)) is
-      ∙ sym (ap (λ (vs : List ApduValue). map (own_item moment) vs)
-      (failure-anyway text (length m.items + 1) item r reason (Some diagnostic)))
+    pub delivery_is : first ≡ option_map (own_item moment) (delivery_report text number item r moment)
+        → made_items (alone first) ≡ map (own_item moment) (made_by m item text r delivered moment)
+    delivery_is is =
+        made_alone first moment (delivery_report text number item r moment) is
+        ∙ (ap made_of (sym (delivery-anyway text number item r moment))
+        ∙ ap (λ (n : ℕ). made_of (unless_report item (delivery_report text n item r moment))) number_is)
+
+    pub failure_is : (reason diagnostic : ℕ)
+        → first
+        ≡ option_map (own_item moment) (non_delivery_report text number item r reason (Some diagnostic))
+        → made_items (alone first)
+        ≡ map (own_item moment) (made_by m item text r (not_delivered reason diagnostic) moment)
+    failure_is reason diagnostic is =
+        made_alone first moment (non_delivery_report text number item r reason (Some diagnostic)) is
+        ∙ (ap made_of (sym (failure-anyway text number item r reason (Some diagnostic)))
+        ∙ ap (λ (n : ℕ). made_of (unless_report item (non_delivery_report text n item r reason (Some diagnostic))))
+        number_is)

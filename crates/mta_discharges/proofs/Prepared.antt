@@ -100,14 +100,15 @@ module _ (k : Kept) (text : List ℕ) (item : ItemValue) (i r moment : ℕ) (tex
         (Statuses.Affirmed moment) made None refl refl ready (r, refl, ready.verdict_is)
         (found affirmed (Statuses.Affirmed moment) made None refl made_is refl) change change_is
 
-    pub expands : (place : ℕ) (made : Made) → IsReady (state_of k) i r moment (Verdicts.Expand place)
-        → made_items made ≡ made_of moment (expansion text (length m.items + 1) item r moment)
+    pub expands : (place : ℕ) (made : Made) (number : ℕ) → IsReady (state_of k) i r moment (Verdicts.Expand place)
+        → number ≡ length m.items + 1 → made_items made ≡ made_of moment (expansion text number item r moment)
         → (change : Option Change) → change ≡ settling_change m.items i r (Statuses.Expanded moment) made None moment
         → Prepares (state_of k) (step.Expand i r moment) change
-    expands place made ready made_is change change_is =
+    expands place made number ready number_is made_is change change_is =
         settles_so (state_of k) (step.Expand i r moment) expand i r moment (Verdicts.Expand place)
         (Statuses.Expanded moment) made None refl refl ready (place, (r, refl, ready.verdict_is))
-        (found expanded (Statuses.Expanded moment) made None refl made_is refl) change change_is
+        (found expanded (Statuses.Expanded moment) made None refl
+        (made_is ∙ ap (λ (n : ℕ). made_of moment (expansion text n item r moment)) number_is) refl) change change_is
 
     pub reports : (reason diagnostic : ℕ) (status : Status) (made : Made)
         → IsReady (state_of k) i r moment (Verdicts.NonDeliver reason diagnostic)
@@ -120,15 +121,18 @@ module _ (k : Kept) (text : List ℕ) (item : ItemValue) (i r moment : ℕ) (tex
         status made None refl refl ready (r, refl, ready.verdict_is)
         (found (not_delivered reason diagnostic) status made None status_is made_is refl) change change_is
 
-    pub passes_back : (first : Option ItemValue) → IsReady (state_of k) i r moment Verdicts.Back
-        → first ≡ option_map (own_item moment) (passed_back text m.items item)
+    pub passes_back : (first : Option ItemValue) (items : List ItemValue)
+        → IsReady (state_of k) i r moment Verdicts.Back → items ≡ m.items
+        → first ≡ option_map (own_item moment) (passed_back text items item)
         → (change : Option Change) → change ≡ settling_change m.items i r (Statuses.Passed moment) (alone first) None moment
         → Prepares (state_of k) (step.Back i r moment) change
-    passes_back first ready first_is change change_is =
+    passes_back first items ready items_are first_is change change_is =
         settles_so (state_of k) (step.Back i r moment) back i r moment Verdicts.Back (Statuses.Passed moment)
         (alone first) None refl refl ready (r, refl, ready.verdict_is)
         (found passed (Statuses.Passed moment) (alone first) None refl
-        (made_alone first moment (passed_back text m.items item) first_is) refl) change change_is
+        (made_alone first moment (passed_back text m.items item)
+        (first_is
+        ∙ ap (λ (xs : List ItemValue). option_map (own_item moment) (passed_back text xs item)) items_are)) refl) change change_is
 
     discards-there : IsReady (state_of k) i r moment Verdicts.Discard
         → (change : Option Change) → change ≡ settling_change m.items i r (Statuses.Discarded moment) (alone None) None moment
@@ -149,18 +153,18 @@ discards k i r moment ready change change_is =
 
 -- ---- a list that is expanded
 
-unsettled : (passed : Option ApduValue) (o : Option Verdict) (place : ℕ)
-    → option_map (settled passed) o ≡ Some (Verdicts.Expand place) → o ≡ Some (Verdicts.Expand place)
-unsettled passed None place e = absurd cc
-unsettled passed (Some (Verdicts.Deliver p)) place e = absurd cc
-unsettled passed (Some (Verdicts.Expand p)) place e = e
-unsettled passed (Some (Verdicts.Relay p)) place e = absurd cc
-unsettled passed (Some Verdicts.Affirm) place e = absurd cc
-unsettled passed (Some (Verdicts.NonDeliver a b)) place e = absurd cc
-unsettled passed (Some (Verdicts.Hold until)) place e = absurd cc
+unsettled : (made : Option ApduValue) (o : Option Verdict) (place : ℕ)
+    → option_map (settled made) o ≡ Some (Verdicts.Expand place) → o ≡ Some (Verdicts.Expand place)
+unsettled made None place e = absurd cc
+unsettled made (Some (Verdicts.Deliver p)) place e = absurd cc
+unsettled made (Some (Verdicts.Expand p)) place e = e
+unsettled made (Some (Verdicts.Relay p)) place e = absurd cc
+unsettled made (Some Verdicts.Affirm) place e = absurd cc
+unsettled made (Some (Verdicts.NonDeliver a b)) place e = absurd cc
+unsettled made (Some (Verdicts.Hold until)) place e = absurd cc
 unsettled None (Some Verdicts.Back) place e = absurd cc
 unsettled (Some v) (Some Verdicts.Back) place e = absurd cc
-unsettled passed (Some Verdicts.Discard) place e = absurd cc
+unsettled made (Some Verdicts.Discard) place e = absurd cc
 
 pub is_expanded : (m : Machine) (i r moment place : ℕ) (text : List ℕ) (item : ItemValue)
     → numbered m.tables (last_tables m) ≡ Some text → numbered m.items i ≡ Some item

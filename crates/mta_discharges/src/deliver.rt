@@ -48,7 +48,6 @@ fn line_to<R: Rules>(
 }
 
 // The delivery report on a recipient who is delivered to or affirmed, where there is one.
-#[tactic(auto, using(crate::proofs::Made::delivery_is))]
 fn made_of_delivery<R: Rules>(
     alloc: Global,
     rules: &R,
@@ -96,7 +95,7 @@ fn delivery<R: Rules>(
 
 /// What a Deliver changes, at a moment in seconds since 1950-01-01 00:00:00 UTC (X.411, clause 14: delivery); none
 /// exactly where it is not possible.
-#[tactic(auto, using(crate::proofs::Ready::no_deliver_laws, crate::proofs::Ready::arrived))]
+#[tactic(auto, using(crate::proofs::Called::no_deliver_laws, crate::proofs::Called::arrived))]
 pub fn prepare_deliver<R: Rules>(
     alloc: Global,
     rules: &R,
@@ -145,7 +144,7 @@ fn affirmation<R: Rules>(
 
 /// What an Affirm changes, at a moment in seconds since 1950-01-01 00:00:00 UTC (X.411, clause 14: probes); none
 /// exactly where it is not possible.
-#[tactic(auto, using(crate::proofs::Ready::no_affirm_laws, crate::proofs::Ready::arrived))]
+#[tactic(auto, using(crate::proofs::Called::no_affirm_laws, crate::proofs::Called::arrived))]
 pub fn prepare_affirm<R: Rules>(
     alloc: Global,
     rules: &R,
@@ -193,7 +192,7 @@ fn list_expansion<R: Rules>(
 
 /// What an Expand changes, at a moment in seconds since 1950-01-01 00:00:00 UTC (X.411, clause 14: distribution list
 /// expansion); none exactly where it is not possible.
-#[tactic(auto, using(crate::proofs::Ready::no_expand_laws, crate::proofs::Ready::arrived))]
+#[tactic(auto, using(crate::proofs::Called::no_expand_laws, crate::proofs::Called::arrived))]
 pub fn prepare_expand<R: Rules>(
     alloc: Global,
     rules: &R,

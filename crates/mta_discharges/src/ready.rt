@@ -25,7 +25,7 @@ fn may_settle(kept: &Kept, number: u32, recipient: u32, moment: u64) -> bool
 
 /// The verdict on a recipient of an item who is pending and in no activity, at a moment that is not before the last
 /// one, in seconds since 1950-01-01 00:00:00 UTC; none where there is no such recipient, or the moment is before it.
-#[tactic(auto, using(crate::proofs::Ready::ready_laws))]
+#[tactic(auto, using(crate::proofs::Called::ready_laws))]
 pub fn ready_verdict<R: Rules>(
     alloc: Global,
     rules: &R,

@@ -46,7 +46,6 @@ fn status_of_failure(
 }
 
 // The non-delivery report on a recipient, where there is one.
-#[tactic(auto, using(crate::proofs::Made::failure_is))]
 fn made_of_failure<R: Rules>(
     alloc: Global,
     rules: &R,
@@ -102,7 +101,7 @@ fn failure<R: Rules>(
 
 /// What a Report changes, at a moment in seconds since 1950-01-01 00:00:00 UTC (X.411, clause 14: report generation);
 /// none exactly where it is not possible.
-#[tactic(auto, using(crate::proofs::Ready::no_report_laws, crate::proofs::Ready::arrived))]
+#[tactic(auto, using(crate::proofs::Called::no_report_laws, crate::proofs::Called::arrived))]
 pub fn prepare_report<R: Rules>(
     alloc: Global,
     rules: &R,
@@ -141,7 +140,7 @@ fn no_further(kept: &Kept, number: u32, recipient: u32, moment: u64) -> Option<C
 
 /// What a Discard changes, at a moment in seconds since 1950-01-01 00:00:00 UTC (X.411, clause 14: reports); none
 /// exactly where it is not possible.
-#[tactic(auto, using(crate::proofs::Ready::no_discard_laws, crate::proofs::Ready::arrived))]
+#[tactic(auto, using(crate::proofs::Called::no_discard_laws, crate::proofs::Called::arrived))]
 pub fn prepare_discard<R: Rules>(
     alloc: Global,
     rules: &R,
@@ -190,7 +189,7 @@ fn passing_back<R: Rules>(
 
 /// What a Back changes, at a moment in seconds since 1950-01-01 00:00:00 UTC (X.411, clause 14: reports to
 /// distribution lists); none exactly where it is not possible.
-#[tactic(auto, using(crate::proofs::Ready::no_back_laws, crate::proofs::Ready::arrived))]
+#[tactic(auto, using(crate::proofs::Called::no_back_laws, crate::proofs::Called::arrived))]
 pub fn prepare_back<R: Rules>(
     alloc: Global,
     rules: &R,

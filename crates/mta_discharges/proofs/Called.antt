@@ -37,7 +37,7 @@ ready s i r moment text item text_is item_is may =
     item_is (by_verdict (verdict_at s.machine i r moment) refl))
   where
     by_verdict : (v : Option Verdict) → verdict_at s.machine i r moment ≡ v → IsReadyBy s i r moment v
-    by_verdict None none v is = let some = is.verdict_is in absurd cc
+    by_verdict None none = λ v is. let some = is.verdict_is in absurd cc
     by_verdict (Some v) some = record { may = may; verdict_is = some }
 
 pub never_ready : (s : State) (i r moment : ℕ) → (MaySettle s i r moment → ⊥) → IsReadyBy s i r moment None
