@@ -1,7 +1,7 @@
 -- What the steps change that end an activity.
 use Rattle.std.proofs.Common.{◌≡◌, ◌≢◌, ◌≤◌, ◌<◌, ◌^◌, ℕ, zero, suc, Bool, true, false, cond, List, [], length}
-use Rattle.std.proofs.Common.{map, reverse, Option, Some, None, Result, Ok, Err, IfOk, refl, sym, ap, subst}
-use Rattle.std.proofs.Common.{◌∙◌, arith}
+use Rattle.std.proofs.Common.{map, reverse, Option, Some, None, Result, IfOk, refl, sym, ap, subst}
+use Rattle.std.proofs.Common.{◌∙◌}
 use Rattle.std.specs.Global.{Vec}
 use Rattle.std.specs.List.{All}
 use Rattle.std.proofs.lemmas.Option.{get_or_from_slice_get, slice_get_within}
@@ -10,7 +10,7 @@ use Rattle.mta_lane_send.specs.declared.state.SendState.{SendState}
 use Rattle.mta_lane_send.specs.declared.state.SendState.TheVariants.{Idle, Sending, Ending, Dropping}
 use Rattle.mta_lane_send.specs.Half.{is_ending, is_live, is_sending}
 use Rattle.mta_records.specs.declared.step.Step.TheVariants as steps
-use Rattle.mta_machine.specs.Items.{ItemValue, Machine, numbered}
+use Rattle.mta_machine.specs.Items.{ItemValue, numbered}
 use Rattle.mta_machine.specs.Rules.{Failure, denied, expired}
 use Rattle.mta_machine.specs.Machine.{MachineStep, machine_run}
 use Rattle.mta_machine.proofs.Decided.{relayed-on}

@@ -17,7 +17,6 @@ use Rattle.mta_replay.specs.Kept.{settled_one}
 use Rattle.mta_replay.specs.Settling.{IsDischarge}
 use Rattle.mta_replay.proofs.Discharging.{discharged}
 use Rattle.mta_items.specs.Parts.{settled_machine}
-use Rattle.mta_activities.specs.Changes.{settled_in_order}
 use Rattle.mta_activities.specs.Failures.{AreFailed, FailAll, Fails, IsFailed, fail_each, report_of}
 use Rattle.mta_activities.proofs.Changing.{one_more}
 use Rattle.mta_activities.proofs.Reports.{reported_anyway, same_report}

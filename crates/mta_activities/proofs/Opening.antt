@@ -88,8 +88,8 @@ module _ (role : LaneRole) (peer : List ℕ) (reference : Identifier) (xs : List
       (each_one_more (IsUnnamed role peer reference) (take i xs) (get_or xs i lane) each
       (subst (IsUnnamed role peer reference) is
       (λ role_is peer_is reference_is.
-          let does : b ≡ true =
-          same.1 (record { role_is = role_is; peer_is = peer_is; reference_is = reference_is }) in absurd cc)))
+      let does : b ≡ true =
+      same.1 (record { role_is = role_is; peer_is = peer_is; reference_is = reference_is }) in absurd cc)))
 
   pub named_there : (i : ℕ) (lane : Lane) (b : Bool) → i < length xs → lane ≡ get_or xs i lane
       → (b ≡ true) ↔ IsNamed role peer reference lane → b ≡ true

@@ -1,5 +1,5 @@
 -- When an activity may be started, and what that changes.
-use Rattle.std.proofs.Common.{◌≡◌, ◌≤◌, ◌<◌, ◌+◌, ◌^◌, ℕ, Bool, true, false, List, [], ◌∷◌, ◌++◌}
+use Rattle.std.proofs.Common.{◌≡◌, ◌≤◌, ◌<◌, ◌+◌, ◌^◌, ℕ, Bool, true, false, List, [], ◌∷◌}
 use Rattle.std.proofs.Common.{length, take, get_or, Option, Some, None, refl, sym, ap, subst, ◌∙◌, arith}
 use Rattle.std.proofs.Common.{zero, suc, eqb, inl, inr}
 use Rattle.std.specs.Prelude.{◌↔◌, ◌⊎◌}
@@ -27,7 +27,7 @@ use Rattle.mta_replay.specs.Asked.{Relays}
 use Rattle.mta_replay.specs.Kept.{state_of}
 use Rattle.mta_replay.specs.Prepared.{Prepares}
 use Rattle.mta_replay.proofs.OnLane.{on_lane_change}
-use Rattle.mta_activities.specs.Starting.{AreToRelay, FreeFor, IsFreeFor, IsStartable, MayGo, OneOf}
+use Rattle.mta_activities.specs.Starting.{AreToRelay, FreeFor, IsFreeFor, IsStartable, OneOf}
 
 -- ---- the lane
 
@@ -143,23 +143,23 @@ module _ (k : Kept) (n g activity i : ℕ) (rs : List ℕ) (moment : ℕ) where
       → Prepares (state_of k) (steps.Start n g activity i rs moment) None
   no_start_open never =
       λ possible.
-          let on = possible.allowed in
-          never on.lane (record {
-            found = on.lane_is;
-            startable = record {
-              current = same_Some g on.lane.generation on.current;
-              agreed = on.needs.agreed;
-              idle = on.needs.idle;
-              next = on.needs.next;
-            };
-            timely = possible.timely;
-          })
+      let on = possible.allowed in
+      never on.lane (record {
+        found = on.lane_is;
+        startable = record {
+          current = same_Some g on.lane.generation on.current;
+          agreed = on.needs.agreed;
+          idle = on.needs.idle;
+          next = on.needs.next;
+        };
+        timely = possible.timely;
+      })
 
   pub no_start_item : None ≡ numbered k.parts.items.items i
       → Prepares (state_of k) (steps.Start n g activity i rs moment) None
   no_start_item none =
       λ possible.
-          let both : None ≡ Some possible.allowed.needs.item = none ∙ possible.allowed.needs.item_is in absurd cc
+      let both : None ≡ Some possible.allowed.needs.item = none ∙ possible.allowed.needs.item_is in absurd cc
 
   module _ (lane : Lane) (may : IsFreeFor (state_of k) n g activity moment lane) where
     pub no_start_recipients : (peer : List ℕ) → peer ≡ lane.peer
@@ -167,17 +167,17 @@ module _ (k : Kept) (n g activity i : ℕ) (rs : List ℕ) (moment : ℕ) where
         → Prepares (state_of k) (steps.Start n g activity i rs moment) None
     no_start_recipients peer is never =
         λ possible.
-            let on = possible.allowed in
-            let here : on.lane ≡ lane = same_Some on.lane lane (sym on.lane_is ∙ may.found) in
-            let peers : on.lane.peer ≡ peer = ap (λ (l : Lane). l.peer) here ∙ sym is in
-            never (record {
-              some_recipients = on.needs.some_recipients;
-              different = on.needs.different;
-              each = λ r named. record {
-                waiting = record { pending = on.needs.pending r named; free = on.needs.free r named };
-                relayed = on.needs.relayed r named ∙ ap (λ (p : List ℕ). Some p) peers;
-              };
-            })
+        let on = possible.allowed in
+        let here : on.lane ≡ lane = same_Some on.lane lane (sym on.lane_is ∙ may.found) in
+        let peers : on.lane.peer ≡ peer = ap (λ (l : Lane). l.peer) here ∙ sym is in
+        never (record {
+          some_recipients = on.needs.some_recipients;
+          different = on.needs.different;
+          each = λ r named. record {
+            waiting = record { pending = on.needs.pending r named; free = on.needs.free r named };
+            relayed = on.needs.relayed r named ∙ ap (λ (p : List ℕ). Some p) peers;
+          };
+        })
 
     module _ (peer text : List ℕ) (item : ItemValue) (one : ℕ) (peer_is : peer ≡ lane.peer)
         (text_is : numbered k.parts.texts.items (length k.parts.texts.items) ≡ Some text)

@@ -1,4 +1,4 @@
-//! An activity of the peer that is complete.
+//! An activity of the peer that is complete (X.228, activity management).
 
 ghost use Rattle.std.specs.Prelude.{◌≡◌, ◌<◌, ◌+◌, ◌^◌, ◌↔◌, IfOk, IsTrue, Some, length};
 ghost use Rattle.std.specs.Option.{option_copied};
@@ -43,7 +43,9 @@ fn taking_lane<'a>(
     let Some(opened) = kept.lanes.get(lane) else {
         return None;
     };
-    if moment < kept.moment || !opened.is_of(generation) || !opened.may_secure(activity, number, piece)
+    if moment < kept.moment
+        || !opened.is_of(generation)
+        || !opened.may_secure(activity, number, piece)
     {
         return None;
     }
@@ -65,7 +67,9 @@ fn joined_item(
     accepted_item(alloc, octets, Origin::Lane, moment)
 }
 
-/// What a Complete changes; none exactly where it is not possible.
+/// What a Complete changes: the pieces that stand before this one, and this one, spell an APDU, which is the next item.
+/// None exactly where it is not possible. Pieces are numbered from 1, and `moment` is in seconds since 1950-01-01
+/// 00:00:00 UTC.
 #[tactic(auto, using(crate::proofs::Completing::complete_laws))]
 pub fn prepare_complete(
     alloc: Global,

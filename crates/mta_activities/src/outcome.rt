@@ -1,4 +1,4 @@
-//! An activity that ends: it was sent, refused or denied, or it is given up.
+//! An activity that ends (X.228, activity management): it was sent, refused or denied, or it is given up.
 
 ghost use Rattle.std.specs.Prelude.{◌≡◌, ◌<◌, ◌^◌, IfOk, Some, true, [], length};
 ghost use Rattle.std.specs.List.{All};
@@ -17,7 +17,7 @@ ghost use Rattle.mta_activities.specs.Changes.{Makes};
 ghost use Rattle.mta_activities.specs.Failures.{failure_of};
 
 use crate::failing::failed_all;
-use crate::failure::{failure_by, Failure};
+use crate::failure::{Failure, failure_by};
 use crate::looking::{ending_lane, expired_lane, live_lane};
 use crate::sending::{last_first, sent_all};
 use mta_ber::Memory;
@@ -68,7 +68,9 @@ fn fail<R: Rules>(
         unreachable!()
     };
     let recipients = transfer.recipients();
-    match failed_all(alloc, rules, kept, number, item, recipients, failure, moment)? {
+    match failed_all(
+        alloc, rules, kept, number, item, recipients, failure, moment,
+    )? {
         None => Ok(None),
         Some(settlements) => Ok(Some(Change::Discharge {
             lane,
@@ -130,7 +132,8 @@ fn refused<R: Rules>(
     )
 }
 
-// What changes where the peer knows nothing of the activity. Only in Ending it has to.
+// What changes where the peer knows nothing of the activity. In Ending nobody can tell whether it got it, so its
+// recipients are reported; before that they are only free again.
 #[tactic(auto, using(crate::proofs::Ending::denied_laws))]
 fn denied<R: Rules>(
     alloc: Global,
@@ -194,7 +197,8 @@ fn sent(
     })
 }
 
-/// What a Sent changes; none exactly where it is not possible.
+/// What a Sent changes: the peer has completed the activity, and each of its recipients has the status Sent. None
+/// exactly where it is not possible. `moment` is in seconds since 1950-01-01 00:00:00 UTC.
 #[tactic(auto, using(crate::proofs::Ending::prepare_sent_laws))]
 pub fn prepare_sent(
     alloc: Global,
@@ -215,7 +219,9 @@ pub fn prepare_sent(
     Ok(Some(change))
 }
 
-/// What a Refused changes, under the rules of the tables recorded last; none exactly where it is not possible.
+/// What a Refused changes, under the rules of the tables recorded last: the peer found a fault of this kind in the
+/// octets of the activity, and each of its recipients is reported, unless the activity had been given up (X.411, clause
+/// 14: report generation). None exactly where it is not possible. `moment` is in seconds since 1950-01-01 00:00:00 UTC.
 #[tactic(auto, using(crate::proofs::Ending::prepare_refused_laws))]
 pub fn prepare_refused<R: Rules>(
     alloc: Global,
@@ -240,7 +246,9 @@ pub fn prepare_refused<R: Rules>(
     refused(alloc, rules, kept, lane, opened, activity, kind, moment)
 }
 
-/// What a Denied changes, under the rules of the tables recorded last; none exactly where it is not possible.
+/// What a Denied changes, under the rules of the tables recorded last: the peer has no such activity, and in Ending each
+/// of its recipients is reported (X.411, clause 14: report generation). None exactly where it is not possible. `moment`
+/// is in seconds since 1950-01-01 00:00:00 UTC.
 #[tactic(auto, using(crate::proofs::Ending::prepare_denied_laws))]
 pub fn prepare_denied<R: Rules>(
     alloc: Global,
@@ -263,8 +271,9 @@ pub fn prepare_denied<R: Rules>(
     denied(alloc, rules, kept, lane, opened, activity, moment)
 }
 
-/// What an Abandon changes, under the rules of the tables recorded last; none exactly where it is not possible. Any
-/// worker may make it, so it tells no generation.
+/// What an Abandon changes, under the rules of the tables recorded last: the item of the activity has expired, and each
+/// of its recipients is reported (X.411, clause 14: report generation). None exactly where it is not possible. Any
+/// worker may make it, so it tells no generation. `moment` is in seconds since 1950-01-01 00:00:00 UTC.
 #[tactic(auto, using(crate::proofs::Ending::prepare_abandon_laws))]
 pub fn prepare_abandon<R: Rules>(
     alloc: Global,
