@@ -53,7 +53,9 @@ module _ (s : State) (n g k moment : ℕ) where
 named_at : (xs : List ℕ) (i d : ℕ) → i < length xs → names xs (get_or xs i d) ≡ true
 named_at [] i d p = absurd (omega (arith, p))
 named_at (x ∷ xs) zero d p = or_left (eqb x x) (names xs x) (eq-eqb x x refl)
-named_at (x ∷ xs) (suc i) d p = or_right (eqb (get_or xs i d) x) (names xs (get_or xs i d)) (named_at xs i d (omega (arith, p)))
+named_at (x ∷ xs) (suc i) d p =
+    let more = named_at xs i d (omega (arith, p)) in
+    or_right (eqb (get_or xs i d) x) (names xs (get_or xs i d)) more
 
 module _ (s : State) (peer : List ℕ) (moment i : ℕ) (xs : List ℕ) where
   pub relays_at_start : AreToRelay s peer moment i (take 0 xs)
@@ -216,7 +218,8 @@ module _ (k : Kept) (n g activity i : ℕ) (rs : List ℕ) (moment : ℕ) where
           copy_is = copy_made.1;
         }
 
-        pub start_changes : (transfer : Transfer) → transfer ≡ transfer_of (state_of k).machine i rs moment → activity < 2 ^ 32
+        pub start_changes : (transfer : Transfer) → transfer ≡ transfer_of (state_of k).machine i rs moment
+            → activity < 2 ^ 32
             → length k.parts.items.items < 2 ^ 32
             → Prepares (state_of k) (steps.Start n g activity i rs moment)
             (Some (change.OnLane n (lane_change.Start transfer) (Some moment)))

@@ -98,9 +98,9 @@ fn next_lane(
     ))
 }
 
-/// What a LaneOpen changes, under the rules of the tables recorded last: the next lane is open. None exactly where it is
-/// not possible. `checkpoint` is in units of 1,024 octets, `window` in pieces, and `moment` in seconds since 1950-01-01
-/// 00:00:00 UTC.
+/// What a LaneOpen changes, under the rules of the tables recorded last: the next lane is open. None exactly where it
+/// is not possible. `checkpoint` is in units of 1,024 octets, `window` in pieces, and `moment` in seconds since
+/// 1950-01-01 00:00:00 UTC.
 #[tactic(auto, using(crate::proofs::Opening::open_laws))]
 pub fn prepare_open<R: Rules>(
     alloc: Global,

@@ -246,9 +246,9 @@ pub fn prepare_refused<R: Rules>(
     refused(alloc, rules, kept, lane, opened, activity, kind, moment)
 }
 
-/// What a Denied changes, under the rules of the tables recorded last: the peer has no such activity, and in Ending each
-/// of its recipients is reported (X.411, clause 14: report generation). None exactly where it is not possible. `moment`
-/// is in seconds since 1950-01-01 00:00:00 UTC.
+/// What a Denied changes, under the rules of the tables recorded last: the peer has no such activity, and in Ending
+/// each of its recipients is reported (X.411, clause 14: report generation). None exactly where it is not possible.
+/// `moment` is in seconds since 1950-01-01 00:00:00 UTC.
 #[tactic(auto, using(crate::proofs::Ending::prepare_denied_laws))]
 pub fn prepare_denied<R: Rules>(
     alloc: Global,

@@ -104,8 +104,8 @@ fn one_of<R: Rules>(
     }
 }
 
-// What the activity transfers. A transfer holds the number of the tables in 32 bits, so memory is said to be wanted where
-// there are more of them.
+// What the activity transfers. A transfer holds the number of the tables in 32 bits, so memory is said to be wanted
+// where there are more of them.
 #[tactic(auto, using(crate::proofs::Starting::transfer_is))]
 fn transfer_for<R: Rules>(
     alloc: Global,
