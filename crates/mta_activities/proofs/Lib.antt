@@ -1,3 +1,4 @@
+pub mod Before
 pub mod Changing
 pub mod Completing
 pub mod Distinct
