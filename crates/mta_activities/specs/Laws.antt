@@ -1,5 +1,5 @@
 -- What is possible before tables are recorded.
-use Rattle.std.specs.Prelude.{◌≡◌, ℕ, List, None}
+use Rattle.std.specs.Prelude.{◌≡◌, None}
 use Rattle.mta_records.specs.declared.step.Step.{Step}
 use Rattle.mta_machine.specs.Items.{numbered}
 use Rattle.mta_machine.specs.Machine.{last_tables}
