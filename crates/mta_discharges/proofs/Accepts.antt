@@ -1,8 +1,7 @@
 -- What is changed by tables that are recorded, and by an APDU that is accepted.
-use Rattle.std.proofs.Common.{◌≡◌, ◌≤◌, ◌<◌, ◌+◌, ◌^◌, ℕ, true, false, List, [], ◌∷◌, ◌++◌}
-use Rattle.std.proofs.Common.{length, Option, Some, None, refl, sym, ap, arith, length-append}
+use Rattle.std.proofs.Common.{◌≡◌, ◌<◌, ◌+◌, ◌^◌, ℕ, true, false, List, [], ◌∷◌, ◌++◌}
+use Rattle.std.proofs.Common.{length, Some, None, refl, ap, arith, length-append}
 use Rattle.mta_records.specs.declared.step.Step.TheVariants as step
-use Rattle.mta_machine.specs.Apdu.{IsApdu}
 use Rattle.mta_machine.specs.declared.item.Origin.TheVariants as Origins
 use Rattle.mta_machine.specs.Items.{ItemValue}
 use Rattle.mta_machine.specs.Machine.{accepted_item}

@@ -1,6 +1,6 @@
 -- A recipient is settled under a verdict that calls for it.
 use Rattle.std.proofs.Common.{◌≡◌, ◌≤◌, ℕ, zero, suc, Bool, true, false, eqb, List, [], ◌∷◌}
-use Rattle.std.proofs.Common.{Option, Some, None, refl, sym, subst, ◌∙◌}
+use Rattle.std.proofs.Common.{Option, Some, None, refl, sym, ap, subst, ◌∙◌}
 use Rattle.std.specs.Prelude.{◌||◌}
 use Rattle.std.specs.List.{All}
 use Rattle.std.proofs.lemmas.Bool.{eq-eqb}
@@ -112,6 +112,15 @@ called s discard i r moment p =
     called-by s discard i r moment Verdicts.Discard p.allowed p.as_machine.0 p.as_machine.2 p.as_machine.3 p.timely refl
 called s back i r moment p =
     called-by s back i r moment Verdicts.Back p.allowed p.as_machine.0 p.as_machine.2 p.as_machine.3 p.timely refl
+
+-- before tables are recorded no recipient is settled
+pub before_tables : (s : State) (how : Settling) (i r moment : ℕ)
+    → numbered s.machine.tables (last_tables s.machine) ≡ None → IsPossible s (settling_step how i r moment) → ⊥
+before_tables s how i r moment none possible =
+    let c = called s how i r moment possible in
+    let isnt : verdict_at s.machine i r moment ≡ None =
+    ap (λ (t : Option (List ℕ)). verdict_on s.machine.items t (numbered s.machine.items i) r moment) none in
+    let is = c.ready.verdict_is in absurd cc
 
 -- ---- where no step is possible
 

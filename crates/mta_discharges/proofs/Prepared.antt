@@ -124,7 +124,8 @@ module _ (k : Kept) (text : List ℕ) (item : ItemValue) (i r moment : ℕ) (tex
     pub passes_back : (first : Option ItemValue) (items : List ItemValue)
         → IsReady (state_of k) i r moment Verdicts.Back → items ≡ m.items
         → first ≡ option_map (own_item moment) (passed_back text items item)
-        → (change : Option Change) → change ≡ settling_change m.items i r (Statuses.Passed moment) (alone first) None moment
+        → (change : Option Change)
+        → change ≡ settling_change m.items i r (Statuses.Passed moment) (alone first) None moment
         → Prepares (state_of k) (step.Back i r moment) change
     passes_back first items ready items_are first_is change change_is =
         settles_so (state_of k) (step.Back i r moment) back i r moment Verdicts.Back (Statuses.Passed moment)
@@ -132,10 +133,12 @@ module _ (k : Kept) (text : List ℕ) (item : ItemValue) (i r moment : ℕ) (tex
         (found passed (Statuses.Passed moment) (alone first) None refl
         (made_alone first moment (passed_back text m.items item)
         (first_is
-        ∙ ap (λ (xs : List ItemValue). option_map (own_item moment) (passed_back text xs item)) items_are)) refl) change change_is
+        ∙ ap (λ (xs : List ItemValue). option_map (own_item moment) (passed_back text xs item)) items_are)) refl)
+        change change_is
 
     discards-there : IsReady (state_of k) i r moment Verdicts.Discard
-        → (change : Option Change) → change ≡ settling_change m.items i r (Statuses.Discarded moment) (alone None) None moment
+        → (change : Option Change)
+        → change ≡ settling_change m.items i r (Statuses.Discarded moment) (alone None) None moment
         → Prepares (state_of k) (step.Discard i r moment) change
     discards-there ready change change_is =
         settles_so (state_of k) (step.Discard i r moment) discard i r moment Verdicts.Discard

@@ -1,6 +1,6 @@
 -- A step that settles one recipient is possible where each item that it makes has a number, and is then its change.
-use Rattle.std.proofs.Common.{◌≡◌, ◌≤◌, ◌<◌, ◌+◌, ◌^◌, ℕ, Bool, true, false, cond, nat_lt, List, [], ◌∷◌}
-use Rattle.std.proofs.Common.{◌++◌, length, Option, Some, None, refl, sym, ap, subst, ◌∙◌, arith, length-append}
+use Rattle.std.proofs.Common.{◌≡◌, ◌<◌, ◌+◌, ◌^◌, ℕ, Bool, true, false, cond, nat_lt, List, [], ◌∷◌}
+use Rattle.std.proofs.Common.{length, Option, Some, None, refl, sym, subst, arith, length-append}
 use Rattle.std.specs.Prelude.{option_to_list}
 use Rattle.std.proofs.lemmas.Bool.{ltb-true, ltb-false}
 use Rattle.mta_records.specs.declared.step.Step.{Step}
@@ -8,14 +8,14 @@ use Rattle.mta_procedures.specs.declared.verdict.Verdict.{Verdict}
 use Rattle.mta_machine.specs.declared.item.Status.{Status}
 use Rattle.mta_machine.specs.declared.item.MailboxLine.{MailboxLine}
 use Rattle.mta_machine.specs.Items.{ItemValue, Machine, numbered, is_pending_at}
-use Rattle.mta_machine.specs.Machine.{Discharge, discharge, IsJustified, Needs, verdict_at, machine_run}
+use Rattle.mta_machine.specs.Machine.{Discharge, discharge, IsJustified, Needs, verdict_at}
 use Rattle.mta_machine.proofs.Later.{length-set_numbered}
 use Rattle.mta_items.specs.declared.parts.Made.{Made}
 use Rattle.mta_items.specs.Parts.{made_items, settled_machine}
 use Rattle.mta_items.specs.Settled.{settled, put_settled, with_settled}
 use Rattle.mta_histories.specs.Lanes.{State}
 use Rattle.mta_histories.specs.Classes.{Settling, settles, class_of, moment_of}
-use Rattle.mta_histories.specs.History.{IsPossible, discharge_by, machine_steps}
+use Rattle.mta_histories.specs.History.{IsPossible, discharge_by}
 use Rattle.mta_histories.proofs.Dues.{of-one}
 use Rattle.mta_replay.specs.declared.change.Change.{Change}
 use Rattle.mta_replay.specs.declared.change.Change.TheVariants as change
@@ -66,7 +66,8 @@ module _ (s : State) (step : Step) (how : Settling) (i r moment : ℕ) (v : Verd
         needs : IsJustified s.machine i (r ∷ []) (by (Some v)) moment
             → Needs s.machine (discharge i (r ∷ []) (by (verdict_at s.machine i r moment)) moment)
         needs justified =
-            subst (λ (o : Option Verdict). Needs s.machine (discharge i (r ∷ []) (by o) moment)) (sym ready.verdict_is) (
+            subst (λ (o : Option Verdict). Needs s.machine (discharge i (r ∷ []) (by o) moment))
+            (sym ready.verdict_is) (
               of-one (λ q. is_pending_at s.machine i q ≡ true) r ready.may.waiting.pending,
               (refl, tt),
               justified,

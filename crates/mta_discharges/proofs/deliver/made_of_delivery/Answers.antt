@@ -4,5 +4,6 @@ use Rattle.mta_discharges.proofs.deliver.made_of_delivery.Goals as goal
 
 pub returns : goal.returns
 returns g c =
-    delivery_is (machine_of c.args.kept.now.parts) (g.R.Rules.text c.args.rules.now) c.args.item.now c.args.recipient
-    c.args.moment c.in_ok-first.first c.next_number.result c.next_number.ensures c.in_ok-first.ensures
+    delivery_is (machine_of c.args.kept.now.parts) (g.R.Rules.text c.args.rules.now) c.args.item.now
+    c.args.recipient c.args.moment c.in_ok-first.first c.next_number.result c.next_number.ensures
+    c.in_ok-first.ensures
