@@ -8,7 +8,7 @@ use Rattle.mta_machine.specs.Items.{Machine}
 use Rattle.mta_machine.specs.Machine.{MachineStep, machine_run}
 use Rattle.mta_histories.specs.Lanes.{Lane, Lanes, State, lane_at, put_lane}
 use Rattle.mta_histories.specs.Classes.{Class, LaneStep, on_lane, class_of, moment_of}
-use Rattle.mta_histories.specs.History.{IsOnLane, IsPossible, LaneNeeds, MachineNeeds, StepNeeds, after_step}
+use Rattle.mta_histories.specs.History.{IsOnLane, IsPossible, MachineNeeds, StepNeeds}
 use Rattle.mta_histories.specs.History.{class_steps, lane_after, lane_steps, lanes_after, later, machine_steps}
 use Rattle.mta_histories.specs.History.{on_lane_after, on_lane_steps, when}
 use Rattle.mta_lanes.specs.declared.change.LaneChange.{LaneChange}
@@ -19,7 +19,7 @@ use Rattle.mta_replay.specs.declared.change.Settlement.{Settlement}
 use Rattle.mta_replay.specs.Kept.{lanes_changed, settled_in_turn, settled_one}
 use Rattle.mta_replay.specs.Prepared.{Prepares}
 use Rattle.mta_replay.proofs.Turns.{last_first}
-use Rattle.mta_activities.specs.Changes.{IsMaking, IsOpenFor, Makes, OpenFor, settled_in_order}
+use Rattle.mta_activities.specs.Changes.{IsOpenFor, Makes, OpenFor, settled_in_order}
 
 abbrev pub state : Machine → Lanes → ℕ → State
 state m l t = record { machine = m; lanes = l; moment = t }
@@ -75,11 +75,11 @@ module _ (s : State) (step : Step) (n : ℕ) (g : Option ℕ) (ls : LaneStep) (m
         → (o : Option Change) → Makes s (lane_steps lane ls moment) n new moment o → Prepares s step o
     prepared lane new may after stays None many =
         λ possible.
-            let same : length (machine_run s.machine (machine_steps s step)).items
-            ≡ length (machine_run s.machine (lane_steps lane ls moment)).items =
-            ap (λ (m : Machine). length m.items) (machine_is lane may.found) in
-            let few = possible.numbers in
-            absurd (omega (arith, many, few, same))
+        let same : length (machine_run s.machine (machine_steps s step)).items
+        ≡ length (machine_run s.machine (lane_steps lane ls moment)).items =
+        ap (λ (m : Machine). length m.items) (machine_is lane may.found) in
+        let few = possible.numbers in
+        absurd (omega (arith, many, few, same))
     prepared lane new may after stays (Some c) is = record {
       possible = possible lane may is.numbers;
       after =
@@ -105,15 +105,15 @@ module _ (s : State) (step : Step) (n : ℕ) (g : Option ℕ) (ls : LaneStep) (m
     pub not_prepared : OpenFor s n g ls moment None → Prepares s step None
     not_prepared never =
         λ possible.
-            let on : IsOnLane s n g ls moment =
-            subst (λ (t : ℕ). IsOnLane s n g ls t) when_is
-            (subst (λ (k : Class). StepNeeds s k (when s step)) class_is possible.allowed) in
-            never on.lane (record {
-              found = on.lane_is;
-              current = on.current;
-              needs = on.needs;
-              timely = subst (λ (t : ℕ). s.moment ≤ t) when_is possible.timely;
-            })
+        let on : IsOnLane s n g ls moment =
+        subst (λ (t : ℕ). IsOnLane s n g ls t) when_is
+        (subst (λ (k : Class). StepNeeds s k (when s step)) class_is possible.allowed) in
+        never on.lane (record {
+          found = on.lane_is;
+          current = on.current;
+          needs = on.needs;
+          timely = subst (λ (t : ℕ). s.moment ≤ t) when_is possible.timely;
+        })
 
 -- ---- recipients in their order
 

@@ -68,13 +68,13 @@ module _ (k : Kept) (n g activity number : ℕ) (piece : List ℕ) (moment : ℕ
           → Prepares (state_of k) (steps.Complete n g activity number piece moment) None
       no_number none =
           λ possible.
-              let few = possible.numbers in
-              let same = ap (λ (m : Machine). length m.items)
-              (machine_is (state_of k) (steps.Complete n g activity number piece moment) n (Some g)
-              (complete activity number piece) moment refl refl lane may.found) in
-              let long = more_items k.parts.items.items
-              (accepted_item (concat (with_piece lane.pieces number piece)) Origins.Lane moment) in
-              none (omega (arith, few, same, long))
+          let few = possible.numbers in
+          let same = ap (λ (m : Machine). length m.items)
+          (machine_is (state_of k) (steps.Complete n g activity number piece moment) n (Some g)
+          (complete activity number piece) moment refl refl lane may.found) in
+          let long = more_items k.parts.items.items
+          (accepted_item (concat (with_piece lane.pieces number piece)) Origins.Lane moment) in
+          none (omega (arith, few, same, long))
 
       -- nor where the pieces spell no APDU
       pub not_spelled : IsAccepted (concat (with_piece lane.pieces number piece)) Origins.Lane moment None
@@ -83,9 +83,9 @@ module _ (k : Kept) (n g activity number : ℕ) (piece : List ℕ) (moment : ℕ
           not_prepared (state_of k) (steps.Complete n g activity number piece moment) n (Some g)
           (complete activity number piece) moment refl refl
           (λ other other_may.
-              let same : other ≡ lane = same_Some other lane (sym other_may.found ∙ may.found) in
-              never (subst (λ (l : Lane). IsApdu (concat (with_piece l.pieces number piece))) same
-              other_may.needs.1))
+          let same : other ≡ lane = same_Some other lane (sym other_may.found ∙ may.found) in
+          never (subst (λ (l : Lane). IsApdu (concat (with_piece l.pieces number piece))) same
+          other_may.needs.1))
 
       completes : (item : ItemValue)
           → IsAccepted (concat (with_piece lane.pieces number piece)) Origins.Lane moment (Some item)

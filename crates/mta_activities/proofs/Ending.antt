@@ -1,7 +1,7 @@
 -- What the steps change that end an activity.
 use Rattle.std.proofs.Common.{◌≡◌, ◌≢◌, ◌≤◌, ◌<◌, ◌^◌, ℕ, zero, suc, Bool, true, false, cond, List, [], length}
-use Rattle.std.proofs.Common.{map, reverse, Option, Some, None, Result, Ok, Err, IfOk, refl, sym, ap, subst}
-use Rattle.std.proofs.Common.{◌∙◌, arith}
+use Rattle.std.proofs.Common.{map, reverse, Option, Some, None, Result, IfOk, refl, sym, ap, subst}
+use Rattle.std.proofs.Common.{◌∙◌}
 use Rattle.std.specs.Global.{Vec}
 use Rattle.std.specs.List.{All}
 use Rattle.std.proofs.lemmas.Option.{get_or_from_slice_get, slice_get_within}
@@ -10,7 +10,7 @@ use Rattle.mta_lane_send.specs.declared.state.SendState.{SendState}
 use Rattle.mta_lane_send.specs.declared.state.SendState.TheVariants.{Idle, Sending, Ending, Dropping}
 use Rattle.mta_lane_send.specs.Half.{is_ending, is_live, is_sending}
 use Rattle.mta_records.specs.declared.step.Step.TheVariants as steps
-use Rattle.mta_machine.specs.Items.{ItemValue, Machine, numbered}
+use Rattle.mta_machine.specs.Items.{ItemValue, numbered}
 use Rattle.mta_machine.specs.Rules.{Failure, denied, expired}
 use Rattle.mta_machine.specs.Machine.{MachineStep, machine_run}
 use Rattle.mta_machine.proofs.Decided.{relayed-on}
@@ -37,13 +37,13 @@ use Rattle.mta_activities.proofs.Sendings.{sent_few, sent_in_order}
 
 -- ---- what an activity in Sending or Ending rests on
 
-module _ (s : State) (n : ℕ) (lane : Lane) (kept : IsKept s) (open : lane_at n s.lanes.open_lanes ≡ Some lane)
+module _ (s : State) (n : ℕ) (lane : Lane) (kept : IsKept s) (opened : lane_at n s.lanes.open_lanes ≡ Some lane)
     (transferring : is_transferring lane.sending ≡ true)
   where
     decided_for : (o : Option Transfer) → o ≡ lane.transfer → IsDecidedFor s.machine s.moment lane.peer o
     decided_for o is =
         subst (λ (x : Option Transfer). IsDecidedFor s.machine s.moment lane.peer x) (sym is)
-        (each-at (IsDecided s.machine s.moment) s.lanes.open_lanes n lane open kept.decided transferring)
+        (each-at (IsDecided s.machine s.moment) s.lanes.open_lanes n lane opened kept.decided transferring)
 
     pub a_transfer : None ≡ lane.transfer → ⊥
     a_transfer none = decided_for None none
@@ -124,11 +124,11 @@ module _ (k : Kept) (n moment : ℕ) where
         → turned.items ≡ reverse ss.items → lane_at n k.lanes.open_lanes.items ≡ Some lane → MayChange lane new
         → Makes (state_of k) (failures failure moment lane.transfer) n new moment
         (Some (change.Discharge n new t.item turned moment))
-    fail_made failure t ss turned is all turns open may =
+    fail_made failure t ss turned is all turns opened may =
         subst (λ (o : Option Transfer). Makes (state_of k) (failures failure moment o) n new moment
         (Some (change.Discharge n new t.item turned moment))) is
         (discharging (state_of k) n new t.item turned ss.items moment (failures failure moment (Some t)) turns
-        all.0 (subst (λ (o : Option Lane). MayChangeAt o new) (sym open) may) all.1)
+        all.0 (subst (λ (o : Option Lane). MayChangeAt o new) (sym opened) may) all.1)
 
   module _ (lane : Lane) (activity : ℕ) where
     abbrev After : List MachineStep → Option Change → Type 0
@@ -166,24 +166,27 @@ module _ (k : Kept) (n moment : ℕ) where
     denied_fails r ending made =
         subst (λ (b : Bool). IfOk r (After (cond b (failures denied moment lane.transfer) []))) (sym ending) made
 
-    pub sent_makes : (t : Transfer) (peer : List ℕ) (ss turned : Vec Settlement) → IsKept (state_of k)
+    pub sent_makes : (t : Transfer) (i : ℕ) (peer : List ℕ) (ss turned : Vec Settlement) → IsKept (state_of k)
         → lane_at n k.lanes.open_lanes.items ≡ Some lane → is_transferring lane.sending ≡ true
-        → Some t ≡ lane.transfer → peer ≡ lane.peer → ss.items ≡ map (sent_one peer moment) t.recipients
-        → turned.items ≡ reverse ss.items → length k.parts.items.items < 2 ^ 32
+        → Some t ≡ lane.transfer → i ≡ t.item → peer ≡ lane.peer
+        → ss.items ≡ map (sent_one peer moment) t.recipients → turned.items ≡ reverse ss.items
+        → length k.parts.items.items < 2 ^ 32
         → After (outcome_steps lane was_sent activity moment)
-        (Some (change.Discharge n lane_change.Settle t.item turned moment))
-    sent_makes t peer ss turned kept open transferring is peer_is are turns few =
-        let there = its_item (state_of k) n lane kept open transferring t is in
+        (Some (change.Discharge n lane_change.Settle i turned moment))
+    sent_makes t i peer ss turned kept opened transferring is item_is peer_is are turns few =
+        let there = its_item (state_of k) n lane kept opened transferring t is in
         subst (λ (o : Option Transfer). After (sendings lane.peer moment o)
-        (Some (change.Discharge n lane_change.Settle t.item turned moment))) is
+        (Some (change.Discharge n lane_change.Settle i turned moment))) is
         (subst (λ (p : List ℕ). After (sendings p moment (Some t))
-        (Some (change.Discharge n lane_change.Settle t.item turned moment))) peer_is
+        (Some (change.Discharge n lane_change.Settle i turned moment))) peer_is
+        (subst (λ (j : ℕ). After (sendings peer moment (Some t))
+        (Some (change.Discharge n lane_change.Settle j turned moment))) (sym item_is)
         (discharging (state_of k) n lane_change.Settle t.item turned (map (sent_one peer moment) t.recipients)
         moment (sendings peer moment (Some t)) (turns ∙ ap (λ (xs : List Settlement). reverse xs) are)
         (sent_in_order (state_of k).machine t there.0 peer moment there.1
-        (some_recipients (state_of k) n lane kept open transferring t is))
+        (some_recipients (state_of k) n lane kept opened transferring t is))
         (may_settle_at (lane_at n k.lanes.open_lanes.items))
-        (sent_few (state_of k).machine t there.0 peer moment there.1 few)))
+        (sent_few (state_of k).machine t there.0 peer moment there.1 few))))
 
 -- ---- steps
 

@@ -1,9 +1,10 @@
+pub mod Before
 pub mod Changing
 pub mod Completing
-pub mod Different
+pub mod Distinct
 pub mod Ending
-pub mod Failing
-pub mod Looking
+pub mod FailedOnes
+pub mod Finding
 pub mod Opening
 pub mod Reports
 pub mod Sendings

@@ -1,6 +1,7 @@
 -- When a lane may be opened, and what that changes.
 use Rattle.std.proofs.Common.{◌≡◌, ◌≤◌, ◌<◌, ◌+◌, ◌^◌, ℕ, Bool, true, false, List, [], ◌∷◌, ◌++◌}
-use Rattle.std.proofs.Common.{zero, suc, bytes_eq, count_by, length, take, get_or, Option, Some, None, refl, sym, ap, subst, ◌∙◌}
+use Rattle.std.proofs.Common.{zero, suc, bytes_eq, count_by, length, take, get_or, Option, Some, None}
+use Rattle.std.proofs.Common.{refl, sym, ap, subst, ◌∙◌}
 use Rattle.std.proofs.Common.{arith, inl, inr}
 use Rattle.std.specs.Prelude.{◌↔◌, ◌⊎◌, ◌&&◌}
 use Rattle.std.proofs.lemmas.Bool.{and_parts}
@@ -88,8 +89,8 @@ module _ (role : LaneRole) (peer : List ℕ) (reference : Identifier) (xs : List
       (each_one_more (IsUnnamed role peer reference) (take i xs) (get_or xs i lane) each
       (subst (IsUnnamed role peer reference) is
       (λ role_is peer_is reference_is.
-          let does : b ≡ true =
-          same.1 (record { role_is = role_is; peer_is = peer_is; reference_is = reference_is }) in absurd cc)))
+      let does : b ≡ true =
+      same.1 (record { role_is = role_is; peer_is = peer_is; reference_is = reference_is }) in absurd cc)))
 
   pub named_there : (i : ℕ) (lane : Lane) (b : Bool) → i < length xs → lane ≡ get_or xs i lane
       → (b ≡ true) ↔ IsNamed role peer reference lane → b ≡ true

@@ -12,7 +12,7 @@ use Rattle.mta_procedures.specs.Reports as reports
 use Rattle.mta_machine.specs.declared.item.Status.{Status}
 use Rattle.mta_machine.specs.Apdu.{is_report, value_of}
 use Rattle.mta_machine.specs.Items.{ItemValue}
-use Rattle.mta_machine.specs.Rules.{Failure, diagnostic_of, non_delivery_report, read_both, reason_of, report_on}
+use Rattle.mta_machine.specs.Rules.{Failure, non_delivery_report, read_both, report_on}
 use Rattle.mta_machine.specs.Rules.{tables_value}
 use Rattle.mta_machine.specs.Machine.{failed, own_item, status_after, unless_report}
 use Rattle.mta_activities.specs.Failures.{Fails, report_of}

@@ -1,6 +1,6 @@
 -- The recipients of an activity that was sent.
 use Rattle.std.proofs.Common.{◌≡◌, ◌≢◌, ◌<◌, ◌^◌, ℕ, zero, suc, List, [], ◌∷◌, ◌++◌, length, map, set}
-use Rattle.std.proofs.Common.{get_or, Option, Some, None, refl, sym, ap, ◌∙◌, arith, append-nil}
+use Rattle.std.proofs.Common.{Option, Some, None, refl, sym, ap, ◌∙◌, arith, append-nil}
 use Rattle.std.proofs.lemmas.List.{set-get_or, set-set}
 use Rattle.std.proofs.lemmas.Option.{get_or_from_slice_get}
 use Rattle.mta_machine.specs.declared.item.Status.{Status}
@@ -8,7 +8,7 @@ use Rattle.mta_machine.specs.declared.item.Status.TheVariants.{Sent}
 use Rattle.mta_machine.specs.declared.item.MailboxLine.{MailboxLine}
 use Rattle.mta_apdu.specs.Apdus.{ApduValue}
 use Rattle.mta_machine.specs.Items.{ItemValue, Machine, numbered, set_numbered}
-use Rattle.mta_machine.specs.Machine.{discharge, discharged_item, items_after, last_tables, lines_of, machine_after}
+use Rattle.mta_machine.specs.Machine.{discharge, items_after, last_tables, lines_of, machine_after}
 use Rattle.mta_machine.specs.Machine.{machine_run, made_for, own_item, sent}
 use Rattle.mta_machine.proofs.Later.{length-set_numbered}
 use Rattle.mta_machine.proofs.Numbered.{set-same}

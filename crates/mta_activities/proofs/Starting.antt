@@ -1,5 +1,5 @@
 -- When an activity may be started, and what that changes.
-use Rattle.std.proofs.Common.{◌≡◌, ◌≤◌, ◌<◌, ◌+◌, ◌^◌, ℕ, Bool, true, false, List, [], ◌∷◌, ◌++◌}
+use Rattle.std.proofs.Common.{◌≡◌, ◌≤◌, ◌<◌, ◌+◌, ◌^◌, ℕ, Bool, true, false, List, [], ◌∷◌}
 use Rattle.std.proofs.Common.{length, take, get_or, Option, Some, None, refl, sym, ap, subst, ◌∙◌, arith}
 use Rattle.std.proofs.Common.{zero, suc, eqb, inl, inr}
 use Rattle.std.specs.Prelude.{◌↔◌, ◌⊎◌}
@@ -27,7 +27,7 @@ use Rattle.mta_replay.specs.Asked.{Relays}
 use Rattle.mta_replay.specs.Kept.{state_of}
 use Rattle.mta_replay.specs.Prepared.{Prepares}
 use Rattle.mta_replay.proofs.OnLane.{on_lane_change}
-use Rattle.mta_activities.specs.Starting.{AreToRelay, FreeFor, IsFreeFor, IsStartable, MayGo, OneOf}
+use Rattle.mta_activities.specs.Starting.{AreToRelay, FreeFor, IsFreeFor, IsStartable, OneOf}
 
 -- ---- the lane
 
@@ -53,7 +53,9 @@ module _ (s : State) (n g k moment : ℕ) where
 named_at : (xs : List ℕ) (i d : ℕ) → i < length xs → names xs (get_or xs i d) ≡ true
 named_at [] i d p = absurd (omega (arith, p))
 named_at (x ∷ xs) zero d p = or_left (eqb x x) (names xs x) (eq-eqb x x refl)
-named_at (x ∷ xs) (suc i) d p = or_right (eqb (get_or xs i d) x) (names xs (get_or xs i d)) (named_at xs i d (omega (arith, p)))
+named_at (x ∷ xs) (suc i) d p =
+    let more = named_at xs i d (omega (arith, p)) in
+    or_right (eqb (get_or xs i d) x) (names xs (get_or xs i d)) more
 
 module _ (s : State) (peer : List ℕ) (moment i : ℕ) (xs : List ℕ) where
   pub relays_at_start : AreToRelay s peer moment i (take 0 xs)
@@ -143,23 +145,23 @@ module _ (k : Kept) (n g activity i : ℕ) (rs : List ℕ) (moment : ℕ) where
       → Prepares (state_of k) (steps.Start n g activity i rs moment) None
   no_start_open never =
       λ possible.
-          let on = possible.allowed in
-          never on.lane (record {
-            found = on.lane_is;
-            startable = record {
-              current = same_Some g on.lane.generation on.current;
-              agreed = on.needs.agreed;
-              idle = on.needs.idle;
-              next = on.needs.next;
-            };
-            timely = possible.timely;
-          })
+      let on = possible.allowed in
+      never on.lane (record {
+        found = on.lane_is;
+        startable = record {
+          current = same_Some g on.lane.generation on.current;
+          agreed = on.needs.agreed;
+          idle = on.needs.idle;
+          next = on.needs.next;
+        };
+        timely = possible.timely;
+      })
 
   pub no_start_item : None ≡ numbered k.parts.items.items i
       → Prepares (state_of k) (steps.Start n g activity i rs moment) None
   no_start_item none =
       λ possible.
-          let both : None ≡ Some possible.allowed.needs.item = none ∙ possible.allowed.needs.item_is in absurd cc
+      let both : None ≡ Some possible.allowed.needs.item = none ∙ possible.allowed.needs.item_is in absurd cc
 
   module _ (lane : Lane) (may : IsFreeFor (state_of k) n g activity moment lane) where
     pub no_start_recipients : (peer : List ℕ) → peer ≡ lane.peer
@@ -167,17 +169,17 @@ module _ (k : Kept) (n g activity i : ℕ) (rs : List ℕ) (moment : ℕ) where
         → Prepares (state_of k) (steps.Start n g activity i rs moment) None
     no_start_recipients peer is never =
         λ possible.
-            let on = possible.allowed in
-            let here : on.lane ≡ lane = same_Some on.lane lane (sym on.lane_is ∙ may.found) in
-            let peers : on.lane.peer ≡ peer = ap (λ (l : Lane). l.peer) here ∙ sym is in
-            never (record {
-              some_recipients = on.needs.some_recipients;
-              different = on.needs.different;
-              each = λ r named. record {
-                waiting = record { pending = on.needs.pending r named; free = on.needs.free r named };
-                relayed = on.needs.relayed r named ∙ ap (λ (p : List ℕ). Some p) peers;
-              };
-            })
+        let on = possible.allowed in
+        let here : on.lane ≡ lane = same_Some on.lane lane (sym on.lane_is ∙ may.found) in
+        let peers : on.lane.peer ≡ peer = ap (λ (l : Lane). l.peer) here ∙ sym is in
+        never (record {
+          some_recipients = on.needs.some_recipients;
+          different = on.needs.different;
+          each = λ r named. record {
+            waiting = record { pending = on.needs.pending r named; free = on.needs.free r named };
+            relayed = on.needs.relayed r named ∙ ap (λ (p : List ℕ). Some p) peers;
+          };
+        })
 
     module _ (peer text : List ℕ) (item : ItemValue) (one : ℕ) (peer_is : peer ≡ lane.peer)
         (text_is : numbered k.parts.texts.items (length k.parts.texts.items) ≡ Some text)
@@ -216,7 +218,8 @@ module _ (k : Kept) (n g activity i : ℕ) (rs : List ℕ) (moment : ℕ) where
           copy_is = copy_made.1;
         }
 
-        pub start_changes : (transfer : Transfer) → transfer ≡ transfer_of (state_of k).machine i rs moment → activity < 2 ^ 32
+        pub start_changes : (transfer : Transfer) → transfer ≡ transfer_of (state_of k).machine i rs moment
+            → activity < 2 ^ 32
             → length k.parts.items.items < 2 ^ 32
             → Prepares (state_of k) (steps.Start n g activity i rs moment)
             (Some (change.OnLane n (lane_change.Start transfer) (Some moment)))

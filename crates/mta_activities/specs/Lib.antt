@@ -1,4 +1,5 @@
 pub mod Changes
 pub mod Failures
+pub mod Laws
 pub mod Opening
 pub mod Starting

@@ -1,4 +1,4 @@
-//! An activity of the peer that is complete.
+//! An activity of the peer that is complete (X.228, activity management).
 
 ghost use Rattle.std.specs.Prelude.{◌≡◌, ◌<◌, ◌+◌, ◌^◌, ◌↔◌, IfOk, IsTrue, Some, length};
 ghost use Rattle.std.specs.Option.{option_copied};
@@ -27,7 +27,7 @@ fn has_number_left(kept: &Kept) -> bool
 }
 
 // The open lane that takes a piece, as a Secure has it.
-#[tactic(auto, using(crate::proofs::Looking::taking_laws))]
+#[tactic(auto, using(crate::proofs::Finding::taking_laws))]
 fn taking_lane<'a>(
     kept: &'a Kept,
     lane: u32,
@@ -40,32 +40,36 @@ fn taking_lane<'a>(
     ensures { OpenFor (state_of kept.now) lane (Some generation) (secure activity number piece.now) moment
         (option_copied result) }
 {
-    let Some(open) = kept.lanes.get(lane) else {
+    let Some(opened) = kept.lanes.get(lane) else {
         return None;
     };
-    if moment < kept.moment || !open.is_of(generation) || !open.may_secure(activity, number, piece)
+    if moment < kept.moment
+        || !opened.is_of(generation)
+        || !opened.may_secure(activity, number, piece)
     {
         return None;
     }
-    Some(open)
+    Some(opened)
 }
 
 // The item of the pieces and one more; none where they spell no APDU.
 fn joined_item(
     alloc: Global,
-    open: &Lane,
+    opened: &Lane,
     number: u32,
     piece: &[u8],
     moment: u64,
 ) -> Result<Option<Item>, Memory>
-    ensures { let octets = concat (with_piece open.now.pieces number piece.now) in
+    ensures { let octets = concat (with_piece opened.now.pieces number piece.now) in
         IfOk result (IsAccepted octets Origins.Lane moment) }
 {
-    let octets = open.joined(alloc, number, piece)?;
+    let octets = opened.joined(alloc, number, piece)?;
     accepted_item(alloc, octets, Origin::Lane, moment)
 }
 
-/// What a Complete changes; none exactly where it is not possible.
+/// What a Complete changes: the pieces that stand before this one, and this one, spell an APDU, which is the next item.
+/// None exactly where it is not possible. Pieces are numbered from 1, and `moment` is in seconds since 1950-01-01
+/// 00:00:00 UTC.
 #[tactic(auto, using(crate::proofs::Completing::complete_laws))]
 pub fn prepare_complete(
     alloc: Global,
@@ -80,13 +84,13 @@ pub fn prepare_complete(
     ensures { IfOk result (Prepares (state_of kept.now)
         (Steps.Complete lane generation activity number piece.now moment)) }
 {
-    let Some(open) = taking_lane(kept, lane, generation, activity, number, piece, moment) else {
+    let Some(opened) = taking_lane(kept, lane, generation, activity, number, piece, moment) else {
         return Ok(None);
     };
     if !has_number_left(kept) {
         return Ok(None);
     }
-    match joined_item(alloc, open, number, piece, moment)? {
+    match joined_item(alloc, opened, number, piece, moment)? {
         None => Ok(None),
         Some(item) => Ok(Some(Change::Complete {
             lane,

@@ -10,7 +10,7 @@ fn stands_among(numbers: &[u32], number: u32) -> bool
 }
 
 /// Whether none of the numbers stands twice. Where they ascend, each is looked at once.
-#[tactic(auto, using(crate::proofs::Different::different_laws))]
+#[tactic(auto, using(crate::proofs::Distinct::different_laws))]
 pub(crate) fn are_different(numbers: &[u32]) -> bool
     ensures { IsTrue result ↔ AreDifferent numbers.now }
 {

@@ -74,7 +74,7 @@ fn made_by(settlement: &Settlement) -> u32
 }
 
 /// How the recipients of an item are discharged, in their order; none where the number of a report is too great.
-#[tactic(auto, using(crate::proofs::Failing::failing_laws))]
+#[tactic(auto, using(crate::proofs::FailedOnes::failing_laws))]
 pub(crate) fn failed_all<R: Rules>(
     alloc: Global,
     rules: &R,

@@ -6,6 +6,7 @@ mod complete;
 mod different;
 mod failing;
 mod failure;
+mod law;
 mod looking;
 mod open;
 mod outcome;
@@ -13,6 +14,7 @@ mod sending;
 mod start;
 
 pub use complete::prepare_complete;
+pub use law::tables_come_first;
 pub use open::prepare_open;
 pub use outcome::{prepare_abandon, prepare_denied, prepare_refused, prepare_sent};
 pub use start::prepare_start;

@@ -16,7 +16,7 @@ use mta_replay::{Kept, Rules};
 use std::alloc::Global;
 
 /// The open lane whose activity is in Ending.
-#[tactic(auto, using(crate::proofs::Looking::ending_laws))]
+#[tactic(auto, using(crate::proofs::Finding::ending_laws))]
 pub(crate) fn ending_lane(
     kept: &Kept,
     lane: u32,
@@ -27,17 +27,17 @@ pub(crate) fn ending_lane(
     ensures { OpenFor (state_of kept.now) lane (Some generation) (settle was_sent activity) moment
         (option_copied result) }
 {
-    let Some(open) = kept.lanes.get(lane) else {
+    let Some(opened) = kept.lanes.get(lane) else {
         return None;
     };
-    if moment < kept.moment || !open.is_of(generation) || !open.may_be_sent(activity) {
+    if moment < kept.moment || !opened.is_of(generation) || !opened.may_be_sent(activity) {
         return None;
     }
-    Some(open)
+    Some(opened)
 }
 
 /// The open lane whose activity is not settled.
-#[tactic(auto, using(crate::proofs::Looking::live_laws))]
+#[tactic(auto, using(crate::proofs::Finding::live_laws))]
 pub(crate) fn live_lane(
     kept: &Kept,
     lane: u32,
@@ -48,30 +48,30 @@ pub(crate) fn live_lane(
     ensures { OpenFor (state_of kept.now) lane (Some generation) (settle was_denied activity) moment
         (option_copied result) }
 {
-    let Some(open) = kept.lanes.get(lane) else {
+    let Some(opened) = kept.lanes.get(lane) else {
         return None;
     };
-    if moment < kept.moment || !open.is_of(generation) || !open.may_settle(activity) {
+    if moment < kept.moment || !opened.is_of(generation) || !opened.may_settle(activity) {
         return None;
     }
-    Some(open)
+    Some(opened)
 }
 
 // Whether the item of the activity under way has expired.
-#[tactic(auto, using(crate::proofs::Looking::expiry_laws))]
+#[tactic(auto, using(crate::proofs::Finding::expiry_laws))]
 fn has_expired<R: Rules>(
     alloc: Global,
     rules: &R,
     kept: &Kept,
-    open: &Lane,
+    opened: &Lane,
     moment: u64,
 ) -> Result<bool, Memory>
     requires text { IsTextOf kept.now (R.text rules.now) }
     requires stored { All IsStored kept.now.parts.items.items }
     ensures { IfOk result (λ b. IsTrue b
-        ↔ HasExpired (machine_of kept.now.parts) open.now.transfer moment) }
+        ↔ HasExpired (machine_of kept.now.parts) opened.now.transfer moment) }
 {
-    let Some(transfer) = open.transfer() else {
+    let Some(transfer) = opened.transfer() else {
         return Ok(false);
     };
     match kept.parts.item(transfer.item()) {
@@ -81,7 +81,7 @@ fn has_expired<R: Rules>(
 }
 
 /// The open lane whose activity is in Sending, and is for an item that has expired.
-#[tactic(auto, using(crate::proofs::Looking::expired_laws))]
+#[tactic(auto, using(crate::proofs::Finding::expired_laws))]
 pub(crate) fn expired_lane<'a, R: Rules>(
     alloc: Global,
     rules: &R,
@@ -95,14 +95,14 @@ pub(crate) fn expired_lane<'a, R: Rules>(
     ensures { IfOk result (λ found.
         OpenFor (state_of kept.now) lane None (abandon activity) moment (option_copied found)) }
 {
-    let Some(open) = kept.lanes.get(lane) else {
+    let Some(opened) = kept.lanes.get(lane) else {
         return Ok(None);
     };
-    if moment < kept.moment || !open.may_abandon(activity) {
+    if moment < kept.moment || !opened.may_abandon(activity) {
         return Ok(None);
     }
-    if has_expired(alloc, rules, kept, open, moment)? {
-        Ok(Some(open))
+    if has_expired(alloc, rules, kept, opened, moment)? {
+        Ok(Some(opened))
     } else {
         Ok(None)
     }

@@ -15,7 +15,7 @@ use mta_records::{LaneRole, Reference};
 use mta_replay::{Change, Kept, Rules};
 use std::alloc::Global;
 
-/// The most open lanes of a role with one peer.
+// The most open lanes of a role with one peer.
 const MOST_LANES: usize = 64;
 
 // Whether a lane is with the peer in the role, and of the reference.
@@ -98,7 +98,9 @@ fn next_lane(
     ))
 }
 
-/// What a LaneOpen changes, under the rules of the tables recorded last; none exactly where it is not possible.
+/// What a LaneOpen changes, under the rules of the tables recorded last: the next lane is open. None exactly where it
+/// is not possible. `checkpoint` is in units of 1,024 octets, `window` in pieces, and `moment` in seconds since
+/// 1950-01-01 00:00:00 UTC.
 #[tactic(auto, using(crate::proofs::Opening::open_laws))]
 pub fn prepare_open<R: Rules>(
     alloc: Global,
@@ -117,13 +119,9 @@ pub fn prepare_open<R: Rules>(
     ensures { IfOk result (Prepares (state_of kept.now)
         (Steps.LaneOpen role peer.now reference.now twa checkpoint window moment)) }
 {
-    if moment < kept.moment
-        || !may_open(rules, kept, role, peer, reference, checkpoint, window)
-    {
+    if moment < kept.moment || !may_open(rules, kept, role, peer, reference, checkpoint, window) {
         return Ok(None);
     }
-    let lane = next_lane(
-        alloc, kept, role, peer, reference, twa, checkpoint, window,
-    )?;
+    let lane = next_lane(alloc, kept, role, peer, reference, twa, checkpoint, window)?;
     Ok(Some(Change::Open { lane, moment }))
 }

@@ -1,4 +1,4 @@
-//! An activity that ends: it was sent, refused or denied, or it is given up.
+//! An activity that ends (X.228, activity management): it was sent, refused or denied, or it is given up.
 
 ghost use Rattle.std.specs.Prelude.{◌≡◌, ◌<◌, ◌^◌, IfOk, Some, true, [], length};
 ghost use Rattle.std.specs.List.{All};
@@ -17,7 +17,7 @@ ghost use Rattle.mta_activities.specs.Changes.{Makes};
 ghost use Rattle.mta_activities.specs.Failures.{failure_of};
 
 use crate::failing::failed_all;
-use crate::failure::{failure_by, Failure};
+use crate::failure::{Failure, failure_by};
 use crate::looking::{ending_lane, expired_lane, live_lane};
 use crate::sending::{last_first, sent_all};
 use mta_ber::Memory;
@@ -27,10 +27,10 @@ use mta_replay::{Change, Kept, Rules};
 use std::alloc::Global;
 
 // Whether the activity under way was given up.
-fn is_dropping(open: &Lane) -> bool
-    ensures { result ≡ is_dropping open.now.sending }
+fn is_dropping(opened: &Lane) -> bool
+    ensures { result ≡ is_dropping opened.now.sending }
 {
-    match open.sending() {
+    match opened.sending() {
         SendState::Idle { .. } => false,
         SendState::Sending { .. } => false,
         SendState::Ending { .. } => false,
@@ -45,7 +45,7 @@ fn fail<R: Rules>(
     rules: &R,
     kept: &Kept,
     lane: u32,
-    open: &Lane,
+    opened: &Lane,
     change: LaneChange,
     failure: Failure,
     moment: u64,
@@ -54,13 +54,13 @@ fn fail<R: Rules>(
     requires kept { IsKept (state_of kept.now) }
     requires stored { All IsStored kept.now.parts.items.items }
     requires numbers { length kept.now.parts.items.items < 2 ^ 32 }
-    requires open { lane_at lane kept.now.lanes.open_lanes.items ≡ Some open.now }
-    requires transferring { is_transferring open.now.sending ≡ true }
-    requires may { MayChange open.now change }
+    requires opened { lane_at lane kept.now.lanes.open_lanes.items ≡ Some opened.now }
+    requires transferring { is_transferring opened.now.sending ≡ true }
+    requires may { MayChange opened.now change }
     ensures { IfOk result (Makes (state_of kept.now)
-        (failures (failure_of failure) moment open.now.transfer) lane change moment) }
+        (failures (failure_of failure) moment opened.now.transfer) lane change moment) }
 {
-    let Some(transfer) = open.transfer() else {
+    let Some(transfer) = opened.transfer() else {
         unreachable!()
     };
     let number = transfer.item();
@@ -68,7 +68,9 @@ fn fail<R: Rules>(
         unreachable!()
     };
     let recipients = transfer.recipients();
-    match failed_all(alloc, rules, kept, number, item, recipients, failure, moment)? {
+    match failed_all(
+        alloc, rules, kept, number, item, recipients, failure, moment,
+    )? {
         None => Ok(None),
         Some(settlements) => Ok(Some(Change::Discharge {
             lane,
@@ -100,7 +102,7 @@ fn refused<R: Rules>(
     rules: &R,
     kept: &Kept,
     lane: u32,
-    open: &Lane,
+    opened: &Lane,
     activity: u32,
     kind: u8,
     moment: u64,
@@ -109,12 +111,12 @@ fn refused<R: Rules>(
     requires kept { IsKept (state_of kept.now) }
     requires stored { All IsStored kept.now.parts.items.items }
     requires numbers { length kept.now.parts.items.items < 2 ^ 32 }
-    requires open { lane_at lane kept.now.lanes.open_lanes.items ≡ Some open.now }
-    requires live { is_live open.now.sending activity ≡ true }
+    requires opened { lane_at lane kept.now.lanes.open_lanes.items ≡ Some opened.now }
+    requires live { is_live opened.now.sending activity ≡ true }
     ensures { IfOk result (Makes (state_of kept.now)
-        (outcome_steps open.now (was_refused kind) activity moment) lane LaneChanges.Settle moment) }
+        (outcome_steps opened.now (was_refused kind) activity moment) lane LaneChanges.Settle moment) }
 {
-    if is_dropping(open) {
+    if is_dropping(opened) {
         return Ok(Some(settle_quietly(kept, lane, moment)));
     }
     let failure = failure_by(kind);
@@ -123,21 +125,22 @@ fn refused<R: Rules>(
         rules,
         kept,
         lane,
-        open,
+        opened,
         LaneChange::Settle,
         failure,
         moment,
     )
 }
 
-// What changes where the peer knows nothing of the activity. Only in Ending it has to.
+// What changes where the peer knows nothing of the activity. In Ending nobody can tell whether it got it, so its
+// recipients are reported; before that they are only free again.
 #[tactic(auto, using(crate::proofs::Ending::denied_laws))]
 fn denied<R: Rules>(
     alloc: Global,
     rules: &R,
     kept: &Kept,
     lane: u32,
-    open: &Lane,
+    opened: &Lane,
     activity: u32,
     moment: u64,
 ) -> Result<Option<Change>, Memory>
@@ -145,11 +148,11 @@ fn denied<R: Rules>(
     requires kept { IsKept (state_of kept.now) }
     requires stored { All IsStored kept.now.parts.items.items }
     requires numbers { length kept.now.parts.items.items < 2 ^ 32 }
-    requires open { lane_at lane kept.now.lanes.open_lanes.items ≡ Some open.now }
+    requires opened { lane_at lane kept.now.lanes.open_lanes.items ≡ Some opened.now }
     ensures { IfOk result (Makes (state_of kept.now)
-        (outcome_steps open.now was_denied activity moment) lane LaneChanges.Settle moment) }
+        (outcome_steps opened.now was_denied activity moment) lane LaneChanges.Settle moment) }
 {
-    if !open.may_be_sent(activity) {
+    if !opened.may_be_sent(activity) {
         return Ok(Some(settle_quietly(kept, lane, moment)));
     }
     fail(
@@ -157,7 +160,7 @@ fn denied<R: Rules>(
         rules,
         kept,
         lane,
-        open,
+        opened,
         LaneChange::Settle,
         Failure::Denied,
         moment,
@@ -170,21 +173,21 @@ fn sent(
     alloc: Global,
     kept: &Kept,
     lane: u32,
-    open: &Lane,
+    opened: &Lane,
     activity: u32,
     moment: u64,
 ) -> Result<Change, Memory>
     requires kept { IsKept (state_of kept.now) }
     requires numbers { length kept.now.parts.items.items < 2 ^ 32 }
-    requires open { lane_at lane kept.now.lanes.open_lanes.items ≡ Some open.now }
-    requires transferring { is_transferring open.now.sending ≡ true }
+    requires opened { lane_at lane kept.now.lanes.open_lanes.items ≡ Some opened.now }
+    requires transferring { is_transferring opened.now.sending ≡ true }
     ensures { IfOk result (λ change. Makes (state_of kept.now)
-        (outcome_steps open.now was_sent activity moment) lane LaneChanges.Settle moment (Some change)) }
+        (outcome_steps opened.now was_sent activity moment) lane LaneChanges.Settle moment (Some change)) }
 {
-    let Some(transfer) = open.transfer() else {
+    let Some(transfer) = opened.transfer() else {
         unreachable!()
     };
-    let settlements = sent_all(alloc, transfer.recipients(), open.peer(), moment)?;
+    let settlements = sent_all(alloc, transfer.recipients(), opened.peer(), moment)?;
     Ok(Change::Discharge {
         lane,
         change: LaneChange::Settle,
@@ -194,7 +197,8 @@ fn sent(
     })
 }
 
-/// What a Sent changes; none exactly where it is not possible.
+/// What a Sent changes: the peer has completed the activity, and each of its recipients has the status Sent. None
+/// exactly where it is not possible. `moment` is in seconds since 1950-01-01 00:00:00 UTC.
 #[tactic(auto, using(crate::proofs::Ending::prepare_sent_laws))]
 pub fn prepare_sent(
     alloc: Global,
@@ -208,14 +212,16 @@ pub fn prepare_sent(
     requires numbers { length kept.now.parts.items.items < 2 ^ 32 }
     ensures { IfOk result (Prepares (state_of kept.now) (Steps.Sent lane generation activity moment)) }
 {
-    let Some(open) = ending_lane(kept, lane, generation, activity, moment) else {
+    let Some(opened) = ending_lane(kept, lane, generation, activity, moment) else {
         return Ok(None);
     };
-    let change = sent(alloc, kept, lane, open, activity, moment)?;
+    let change = sent(alloc, kept, lane, opened, activity, moment)?;
     Ok(Some(change))
 }
 
-/// What a Refused changes, under the rules of the tables recorded last; none exactly where it is not possible.
+/// What a Refused changes, under the rules of the tables recorded last: the peer found a fault of this kind in the
+/// octets of the activity, and each of its recipients is reported, unless the activity had been given up (X.411, clause
+/// 14: report generation). None exactly where it is not possible. `moment` is in seconds since 1950-01-01 00:00:00 UTC.
 #[tactic(auto, using(crate::proofs::Ending::prepare_refused_laws))]
 pub fn prepare_refused<R: Rules>(
     alloc: Global,
@@ -234,13 +240,15 @@ pub fn prepare_refused<R: Rules>(
     ensures { IfOk result (Prepares (state_of kept.now)
         (Steps.Refused lane generation activity kind moment)) }
 {
-    let Some(open) = live_lane(kept, lane, generation, activity, moment) else {
+    let Some(opened) = live_lane(kept, lane, generation, activity, moment) else {
         return Ok(None);
     };
-    refused(alloc, rules, kept, lane, open, activity, kind, moment)
+    refused(alloc, rules, kept, lane, opened, activity, kind, moment)
 }
 
-/// What a Denied changes, under the rules of the tables recorded last; none exactly where it is not possible.
+/// What a Denied changes, under the rules of the tables recorded last: the peer has no such activity, and in Ending
+/// each of its recipients is reported (X.411, clause 14: report generation). None exactly where it is not possible.
+/// `moment` is in seconds since 1950-01-01 00:00:00 UTC.
 #[tactic(auto, using(crate::proofs::Ending::prepare_denied_laws))]
 pub fn prepare_denied<R: Rules>(
     alloc: Global,
@@ -257,14 +265,15 @@ pub fn prepare_denied<R: Rules>(
     requires numbers { length kept.now.parts.items.items < 2 ^ 32 }
     ensures { IfOk result (Prepares (state_of kept.now) (Steps.Denied lane generation activity moment)) }
 {
-    let Some(open) = live_lane(kept, lane, generation, activity, moment) else {
+    let Some(opened) = live_lane(kept, lane, generation, activity, moment) else {
         return Ok(None);
     };
-    denied(alloc, rules, kept, lane, open, activity, moment)
+    denied(alloc, rules, kept, lane, opened, activity, moment)
 }
 
-/// What an Abandon changes, under the rules of the tables recorded last; none exactly where it is not possible. Any
-/// worker may make it, so it tells no generation.
+/// What an Abandon changes, under the rules of the tables recorded last: the item of the activity has expired, and each
+/// of its recipients is reported (X.411, clause 14: report generation). None exactly where it is not possible. Any
+/// worker may make it, so it tells no generation. `moment` is in seconds since 1950-01-01 00:00:00 UTC.
 #[tactic(auto, using(crate::proofs::Ending::prepare_abandon_laws))]
 pub fn prepare_abandon<R: Rules>(
     alloc: Global,
@@ -280,7 +289,7 @@ pub fn prepare_abandon<R: Rules>(
     requires numbers { length kept.now.parts.items.items < 2 ^ 32 }
     ensures { IfOk result (Prepares (state_of kept.now) (Steps.Abandon lane activity moment)) }
 {
-    let Some(open) = expired_lane(alloc, rules, kept, lane, activity, moment)? else {
+    let Some(opened) = expired_lane(alloc, rules, kept, lane, activity, moment)? else {
         return Ok(None);
     };
     fail(
@@ -288,7 +297,7 @@ pub fn prepare_abandon<R: Rules>(
         rules,
         kept,
         lane,
-        open,
+        opened,
         LaneChange::Abandon { activity },
         Failure::Expired,
         moment,

@@ -1,4 +1,4 @@
-//! An activity that is started.
+//! An activity that is started (X.228, activity management).
 
 ghost use Rattle.std.specs.Prelude.{◌≡◌, ◌≤◌, ◌<◌, ◌^◌, ◌↔◌, IfOk, IsTrue, Some, length};
 ghost use Rattle.std.specs.Option.{option_copied};
@@ -24,34 +24,28 @@ use mta_replay::{Change, Kept, Rules};
 use std::alloc::Global;
 
 // Whether the next activity of the lane is this one, and may be started.
-fn may_start(open: &Lane, generation: u64, activity: u32) -> bool
-    ensures { IsTrue result ↔ IsStartable open.now generation activity }
+fn may_start(opened: &Lane, generation: u64, activity: u32) -> bool
+    ensures { IsTrue result ↔ IsStartable opened.now generation activity }
 {
-    open.is_of(generation)
-        && open.values().agreed
-        && open.may_close()
+    opened.is_of(generation)
+        && opened.values().agreed
+        && opened.may_close()
         && 0 < activity
-        && activity - 1 == open.activity()
+        && activity - 1 == opened.activity()
 }
 
 // The open lane on which the activity may be started.
 #[tactic(auto, using(crate::proofs::Starting::idle_laws))]
-fn idle_lane(
-    kept: &Kept,
-    lane: u32,
-    generation: u64,
-    activity: u32,
-    moment: u64,
-) -> Option<&Lane>
+fn idle_lane(kept: &Kept, lane: u32, generation: u64, activity: u32, moment: u64) -> Option<&Lane>
     ensures { FreeFor (state_of kept.now) lane generation activity moment (option_copied result) }
 {
-    let Some(open) = kept.lanes.get(lane) else {
+    let Some(opened) = kept.lanes.get(lane) else {
         return None;
     };
-    if moment < kept.moment || !may_start(open, generation, activity) {
+    if moment < kept.moment || !may_start(opened, generation, activity) {
         return None;
     }
-    Some(open)
+    Some(opened)
 }
 
 // Whether each of the recipients of an item is pending, in no activity, and relayed to the peer.
@@ -110,8 +104,8 @@ fn one_of<R: Rules>(
     }
 }
 
-// What the activity transfers. There are no more tables than a number of 32 bits counts, or memory would be wanted
-// for them before.
+// What the activity transfers. A transfer holds the number of the tables in 32 bits, so memory is said to be wanted
+// where there are more of them.
 #[tactic(auto, using(crate::proofs::Starting::transfer_is))]
 fn transfer_for<R: Rules>(
     alloc: Global,
@@ -144,16 +138,12 @@ fn transfer_for<R: Rules>(
         moment,
     )?;
     let recipients = recipients.copy(alloc)?;
-    Ok(Transfer::new(
-        number,
-        recipients,
-        moment,
-        tables as u32,
-        outgoing,
-    ))
+    Ok(Transfer::new(number, recipients, moment, tables as u32, outgoing))
 }
 
-/// What a Start changes, under the rules of the tables recorded last; none exactly where it is not possible.
+/// What a Start changes, under the rules of the tables recorded last: the activity under way transfers the copy of the
+/// item for these recipients. None exactly where it is not possible. Items and recipients are numbered from 1, and
+/// `moment` is in seconds since 1950-01-01 00:00:00 UTC.
 #[tactic(auto, using(crate::proofs::Starting::start_laws))]
 pub fn prepare_start<R: Rules>(
     alloc: Global,
@@ -173,14 +163,14 @@ pub fn prepare_start<R: Rules>(
     ensures { IfOk result (Prepares (state_of kept.now)
         (Steps.Start lane generation activity item recipients.now moment)) }
 {
-    let Some(open) = idle_lane(kept, lane, generation, activity, moment) else {
+    let Some(opened) = idle_lane(kept, lane, generation, activity, moment) else {
         return Ok(None);
     };
     let Some(stored) = kept.parts.item(item) else {
         return Ok(None);
     };
     let numbers = recipients.as_slice();
-    let peer = open.peer().as_slice();
+    let peer = opened.peer().as_slice();
     let Some(one) = one_of(alloc, rules, kept, item, stored, numbers, peer, moment)? else {
         return Ok(None);
     };

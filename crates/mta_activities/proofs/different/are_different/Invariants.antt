@@ -1,4 +1,4 @@
-use Rattle.std.proofs.Common.{◌≤◌, ◌-◌, length, take}
+use Rattle.std.proofs.Common.{◌≤◌, ◌-◌, take}
 use Rattle.mta_machine.specs.Items.{AreDifferent}
 use Rattle.mta_activities.specs.Starting.{AreUpTo}
 use Rattle.mta_activities.proofs.different.are_different.Given as goal

@@ -17,7 +17,6 @@ use Rattle.mta_replay.specs.Kept.{settled_one}
 use Rattle.mta_replay.specs.Settling.{IsDischarge}
 use Rattle.mta_replay.proofs.Discharging.{discharged}
 use Rattle.mta_items.specs.Parts.{settled_machine}
-use Rattle.mta_activities.specs.Changes.{settled_in_order}
 use Rattle.mta_activities.specs.Failures.{AreFailed, FailAll, Fails, IsFailed, fail_each, report_of}
 use Rattle.mta_activities.proofs.Changing.{one_more}
 use Rattle.mta_activities.proofs.Reports.{reported_anyway, same_report}
@@ -183,24 +182,23 @@ module _ (m : Machine) (text : List ℕ) (i : ℕ) (item : ItemValue) (failure :
         → AreFailed m i (take 0 rs) failure moment count []
     failing_starts rs count is = record { same = refl; count_is = is }
 
-    pub failing_goes : (rs : List ℕ) (k r count added : ℕ) (ss : List Settlement) (s : Settlement)
-        → k < length rs → r ≡ get_or rs k r → added ≡ length (option_to_list s.made)
-        → AreFailed m i (take k rs) failure moment count ss → IsFailed text count item r failure moment s
+    pub failing_goes : (rs : List ℕ) (k d count added : ℕ) (ss : List Settlement) (s : Settlement)
+        → k < length rs → added ≡ length (option_to_list s.made)
+        → AreFailed m i (take k rs) failure moment count ss
+        → IsFailed text count item (get_or rs k d) failure moment s
         → AreFailed m i (take (k + 1) rs) failure moment (count + added) (ss ++ s ∷ [])
-    failing_goes rs k r count added ss s within got added_is are is =
+    failing_goes rs k d count added ss s within added_is are is =
         subst (λ (n : ℕ). AreFailed m i (take (k + 1) rs) failure moment (count + n) (ss ++ s ∷ [])) (sym added_is)
         (subst (λ (xs : List ℕ). AreFailed m i xs failure moment (count + length (option_to_list s.made))
-        (ss ++ s ∷ [])) (sym (take_more rs k r within ∙ ap (λ (q : ℕ). take k rs ++ q ∷ []) (sym got)))
-        (one_further (take k rs) r count ss s are is))
+        (ss ++ s ∷ [])) (sym (take_more rs k d within)) (one_further (take k rs) (get_or rs k d) count ss s are is))
 
-    pub failing_stops : (rs : List ℕ) (k r count : ℕ) (ss : List Settlement) → k < length rs
-        → r ≡ get_or rs k r → AreFailed m i (take k rs) failure moment count ss
-        → Fails text count item r failure moment None → FailAll m i rs failure moment None
-    failing_stops rs k r count ss within got are fails =
+    pub failing_stops : (rs : List ℕ) (k d count : ℕ) (ss : List Settlement) → k < length rs
+        → AreFailed m i (take k rs) failure moment count ss
+        → Fails text count item (get_or rs k d) failure moment None → FailAll m i rs failure moment None
+    failing_stops rs k d count ss within are fails =
         subst (λ (xs : List ℕ). 2 ^ 32 ≤ length (run xs).items)
-        (ap (λ (q : ℕ). take k rs ++ q ∷ drop (k + 1) rs) got
-        ∙ (ap (λ (xs : List ℕ). take k rs ++ xs) (sym (drop_more rs k r within)) ∙ take-append-drop k rs))
-        (too_many (take k rs) (drop (k + 1) rs) r count ss are fails)
+        (ap (λ (xs : List ℕ). take k rs ++ xs) (sym (drop_more rs k d within)) ∙ take-append-drop k rs)
+        (too_many (take k rs) (drop (k + 1) rs) (get_or rs k d) count ss are fails)
 
     pub failing_ends : (rs : List ℕ) (k count : ℕ) (ss : Vec Settlement) → length rs ≤ k → count < 2 ^ 32
         → AreFailed m i (take k rs) failure moment count ss.items → FailAll m i rs failure moment (Some ss)

@@ -1,5 +1,5 @@
 -- The open lane on which a step may be made.
-use Rattle.std.proofs.Common.{◌≡◌, ◌≤◌, ◌<◌, ℕ, Bool, true, false, List, Option, Some, None, refl, sym}
+use Rattle.std.proofs.Common.{◌≡◌, ◌≤◌, ◌<◌, ℕ, Bool, true, false, List, Option, Some, None, sym}
 use Rattle.std.proofs.Common.{ap, subst, ◌∙◌, arith, inl, inr, eqb}
 use Rattle.std.specs.Prelude.{◌↔◌, ◌⊎◌}
 use Rattle.std.proofs.lemmas.Bool.{eqb-true, eq-eqb}
@@ -12,7 +12,7 @@ use Rattle.mta_histories.specs.Lanes.{Lane, State, Transfer, lane_at}
 use Rattle.mta_histories.specs.Classes.{LaneStep, abandon, secure, settle, was_denied, was_sent}
 use Rattle.mta_histories.specs.History.{HasExpired, IsExpiredOn, IsOfGeneration, LaneNeeds}
 use Rattle.mta_lanes.specs.Lane.{OfLane}
-use Rattle.mta_activities.specs.Changes.{IsOpenFor, OpenFor}
+use Rattle.mta_activities.specs.Changes.{OpenFor}
 
 module _ (s : State) (n : ℕ) (g : Option ℕ) (step : LaneStep) (moment : ℕ) where
   -- no lane of this number is open
@@ -127,7 +127,6 @@ module _ (s : State) (n g k moment : ℕ) where
         allows s n None (abandon k) moment lane found timely tt (sending, same.0 is)
 
 -- ---- expiry
-
 
 pub no_transfer : (m : Machine) (o : Option Transfer) (moment : ℕ) → None ≡ o
     → (false ≡ true) ↔ HasExpired m o moment

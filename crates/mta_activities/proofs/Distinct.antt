@@ -2,7 +2,7 @@
 use Rattle.std.proofs.Common.{◌≡◌, ◌≤◌, ◌<◌, ◌+◌, ℕ, max, Bool, true, false, eqb, List, [], ◌∷◌, ◌++◌}
 use Rattle.std.proofs.Common.{length, take, drop, get_or, refl, sym, ap, subst, ◌∙◌, arith, inl, inr}
 use Rattle.std.specs.Prelude.{◌↔◌, ◌⊎◌, ◌||◌}
-use Rattle.std.proofs.lemmas.Bool.{cases_Bool, eqb-true, eq-eqb, or_cases, or_parts}
+use Rattle.std.proofs.lemmas.Bool.{eqb-true, eq-eqb, or_cases, or_parts}
 use Rattle.std.proofs.lemmas.List.{drop_more, take-append-drop, take_all, take_more}
 use Rattle.mta_machine.specs.Items.{names, AreDifferent}
 use Rattle.mta_dues.proofs.Ascending.{named_more}
@@ -78,32 +78,33 @@ module _ (xs : List ℕ) where
   pub up_to_none : AreUpTo 0 (take 0 xs)
   up_to_none r e = absurd cc
 
-  pub different_further : (i x most : ℕ) → i < length xs → x ≡ get_or xs i x
-      → (most < x) ⊎ (names (take i xs) x ≡ false) → AreUpTo most (take i xs) → AreDifferent (take i xs)
+  different_more : (i d : ℕ) → i < length xs → names (take i xs) (get_or xs i d) ≡ false
+      → AreDifferent (take i xs) → AreDifferent (take (i + 1) xs)
+  different_more i d within none different =
+      subst AreDifferent (sym (take_more xs i d within)) (different_behind (take i xs) (get_or xs i d) different none)
+
+  pub different_further : (i d most : ℕ) → i < length xs → AreUpTo most (take i xs)
+      → AreDifferent (take i xs) → (most < get_or xs i d) ⊎ (names (take i xs) (get_or xs i d) ≡ false)
       → AreDifferent (take (i + 1) xs)
-  different_further i x most within is (inl above) under different =
-      different_further i x most within is (inr (above_all (take i xs) most x under above)) under different
-  different_further i x most within is (inr none) under different =
-      subst AreDifferent (sym (take_more xs i x within))
-      (different_behind (take i xs) (get_or xs i x) different
-      (subst (λ (y : ℕ). names (take i xs) y ≡ false) is none))
+  different_further i d most within under different (inl above) =
+      different_more i d within (above_all (take i xs) most (get_or xs i d) under above) different
+  different_further i d most within under different (inr none) = different_more i d within none different
 
-  pub up_to_further : (i x most : ℕ) → i < length xs → x ≡ get_or xs i x → AreUpTo most (take i xs)
-      → AreUpTo (max most x) (take (i + 1) xs)
-  up_to_further i x most within is under =
-      subst (AreUpTo (max most x)) (sym (take_more xs i x within))
-      (subst (λ (y : ℕ). AreUpTo (max most x) (take i xs ++ y ∷ [])) is (up_to (take i xs) x most under))
+  pub up_to_further : (i d most : ℕ) → i < length xs → AreUpTo most (take i xs)
+      → AreUpTo (max most (get_or xs i d)) (take (i + 1) xs)
+  up_to_further i d most within under =
+      subst (AreUpTo (max most (get_or xs i d))) (sym (take_more xs i d within))
+      (up_to (take i xs) (get_or xs i d) most under)
 
-  pub not_different : (i x : ℕ) → i < length xs → x ≡ get_or xs i x → names (take i xs) x ≡ true
+  pub not_different : (i d : ℕ) → i < length xs → names (take i xs) (get_or xs i d) ≡ true
       → (false ≡ true) ↔ AreDifferent xs
-  not_different i x within is named = (
+  not_different i d within named = (
     λ e. absurd cc,
     λ different.
-        absurd (twice (take i xs) (drop (i + 1) xs) x named
+        absurd (twice (take i xs) (drop (i + 1) xs) (get_or xs i d) named
         (subst AreDifferent
         (sym (take-append-drop i xs)
-        ∙ (ap (λ (ys : List ℕ). take i xs ++ ys) (drop_more xs i x within)
-        ∙ ap (λ (y : ℕ). take i xs ++ y ∷ drop (i + 1) xs) (sym is))) different)),
+        ∙ ap (λ (ys : List ℕ). take i xs ++ ys) (drop_more xs i d within)) different)),
   )
 
   pub all_different : (i : ℕ) → length xs ≤ i → AreDifferent (take i xs) → (true ≡ true) ↔ AreDifferent xs
