@@ -7,7 +7,7 @@
 
 use anyhow::{Result, anyhow};
 use mta_apdu::Apdu;
-use mta_ber::{Memory, Octets, Tag, Writer};
+use mta_ber::{Memory, Octets, ReadFault, Tag, Writer};
 use mta_envelope::Message;
 use mta_outgoing::{outgoing_head, outgoing_message};
 use mta_tables::Tables;
@@ -181,18 +181,29 @@ fn octets_again(alloc: Global, octets: &[u8]) -> u64 {
     made
 }
 
-fn report_verdicts(rt: &(impl Print + AllocGlobal), work: &Work) -> Result<()> {
-    let alloc = rt.alloc();
-    let tables = Tables::read(alloc, work.tables.as_bytes()).map_err(|_| anyhow!("no tables"))?;
-    let octets = message(alloc, 1_000, b"Hi").map_err(|_| anyhow!("no memory"))?;
-    let apdu = Apdu::read(alloc, octets.as_slice()).map_err(|_| anyhow!("no message"))?;
+/// How many verdicts are so of the message that octets spell.
+fn verdicts_of(
+    alloc: Global,
+    tables: &Tables,
+    octets: &[u8],
+    work: &Work,
+) -> Result<u64, ReadFault> {
+    let apdu = Apdu::read(alloc, octets)?;
     let count = match &apdu {
-        Apdu::Message(message) => passed_on(&tables, message, work.position, work.times),
+        Apdu::Message(message) => passed_on(tables, message, work.position, work.times),
         Apdu::Probe(_) | Apdu::Report(_) => 0,
     };
     apdu.discard();
-    rt.println(format_args!("{}: passed on {count} times", work.word))?;
-    Ok(())
+    Ok(count)
+}
+
+fn verdicts(alloc: Global, work: &Work) -> Result<u64> {
+    let octets = message(alloc, 1_000, b"Hi")?;
+    let tables = Tables::read(alloc, work.tables.as_bytes())?;
+    match verdicts_of(alloc, &tables, octets.as_slice(), work) {
+        Ok(count) => Ok(count),
+        Err(_) => Err(anyhow!("no message")),
+    }
 }
 
 /// How many octets are made of a message, which these octets spell.
@@ -211,20 +222,36 @@ fn made_of(
     }
 }
 
-fn report_copies(rt: &(impl Print + AllocGlobal), word: &str) -> Result<()> {
-    let alloc = rt.alloc();
-    let tables = Tables::read(alloc, TO_A_PEER.as_bytes()).map_err(|_| anyhow!("no tables"))?;
-    let mut content: Vec<u8> = Vec::new(alloc);
-    content.resize(CONTENT_LENGTH, 7)?;
-    let octets = message(alloc, 1, content.as_slice()).map_err(|_| anyhow!("no memory"))?;
-    let apdu = Apdu::read(alloc, octets.as_slice()).map_err(|_| anyhow!("no message"))?;
+/// How many octets are made of the message that octets spell.
+fn made_of_octets(
+    alloc: Global,
+    tables: &Tables,
+    octets: &[u8],
+    word: &str,
+) -> Result<u64, ReadFault> {
+    let apdu = Apdu::read(alloc, octets)?;
     let made = match &apdu {
-        Apdu::Message(message) => made_of(alloc, &tables, message, octets.as_slice(), word),
+        Apdu::Message(message) => made_of(alloc, tables, message, octets, word),
         Apdu::Probe(_) | Apdu::Report(_) => 0,
     };
     apdu.discard();
-    rt.println(format_args!("{word}: {made} octets"))?;
-    Ok(())
+    Ok(made)
+}
+
+/// The message with the longest content.
+fn long_message(alloc: Global) -> Result<Octets, Memory> {
+    let mut content: Vec<u8> = Vec::new(alloc);
+    content.resize(CONTENT_LENGTH, 7)?;
+    message(alloc, 1, content.as_slice())
+}
+
+fn made(alloc: Global, word: &str) -> Result<u64> {
+    let octets = long_message(alloc)?;
+    let tables = Tables::read(alloc, TO_A_PEER.as_bytes())?;
+    match made_of_octets(alloc, &tables, octets.as_slice(), word) {
+        Ok(made) => Ok(made),
+        Err(_) => Err(anyhow!("no message")),
+    }
 }
 
 fn is_asked(asked: &Option<String>, word: &str) -> bool {
@@ -238,12 +265,14 @@ fn main(rt: HostRuntime) -> Result<()> {
     let asked = env::args(&rt)?.nth(1);
     for work in &VERDICTS {
         if is_asked(&asked, work.word) {
-            report_verdicts(&rt, work)?;
+            let count = verdicts(rt.alloc(), work)?;
+            println!(rt; "{}: passed on {count} times", work.word)?;
         }
     }
     for word in ["head", "copy", "octets", "none"] {
         if is_asked(&asked, word) {
-            report_copies(&rt, word)?;
+            let made = made(rt.alloc(), word)?;
+            println!(rt; "{word}: {made} octets")?;
         }
     }
     Ok(())
