@@ -39,30 +39,30 @@ const VERDICTS: [Work; 4] = [
         word: "first-to-mailbox",
         tables: TO_A_MAILBOX,
         position: 1,
-        times: 200_000,
+        times: 2_000_000,
     },
     Work {
         word: "last-to-mailbox",
         tables: TO_A_MAILBOX,
         position: 1_000,
-        times: 200_000,
+        times: 2_000_000,
     },
     Work {
         word: "first-to-peer",
         tables: TO_A_PEER,
         position: 1,
-        times: 2_000,
+        times: 10_000,
     },
     Work {
         word: "last-to-peer",
         tables: TO_A_PEER,
         position: 1_000,
-        times: 2_000,
+        times: 10_000,
     },
 ];
 
 /// How many copies are made.
-const COPIES: u32 = 400;
+const COPIES: u32 = 2_000;
 
 /// How many octets the content has of which copies are made: the longest whose copy for one recipient can be sent.
 const CONTENT_LENGTH: usize = 2_097_008;
