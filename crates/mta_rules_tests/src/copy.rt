@@ -158,6 +158,13 @@ fn outcome_of(numbers: &[u32]) -> Option<Outcome>
     }
 }
 
+/// The octets of an APDU, which is let go.
+fn written(alloc: Global, apdu: Apdu) -> Result<Answer, Memory> {
+    let octets = apdu.write(alloc);
+    apdu.discard();
+    Ok(Answer::Octets(octets?))
+}
+
 fn report_of(
     alloc: Global,
     tables: &Tables,
@@ -179,7 +186,7 @@ fn report_of(
         alloc, tables, *number, arrival, envelope, *position, outcome,
     )? {
         None => Ok(Answer::None),
-        Some(report) => Ok(Answer::Octets(report.write(alloc)?)),
+        Some(report) => written(alloc, Apdu::Report(report)),
     }
 }
 
@@ -220,7 +227,7 @@ fn expanded(
     }
     match expand(alloc, tables, *list, arrival, message, *position, moment)? {
         None => Ok(Answer::None),
-        Some(copy) => Ok(Answer::Octets(copy.write(alloc)?)),
+        Some(copy) => written(alloc, Apdu::Message(copy)),
     }
 }
 
