@@ -1,0 +1,4 @@
+pub mod Codes
+pub mod Counts
+pub mod Lengths
+pub mod Read
