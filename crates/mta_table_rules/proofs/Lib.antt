@@ -1,4 +1,10 @@
 pub mod Codes
+pub mod Copied
 pub mod Counts
+pub mod Expanded
 pub mod Lengths
+pub mod Numbered
 pub mod Read
+pub mod Reports
+pub mod Sames
+pub mod Walking

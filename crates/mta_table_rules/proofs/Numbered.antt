@@ -1,0 +1,22 @@
+-- What has a number in a list that is counted from 1.
+use Rattle.std.proofs.Common.{◌≡◌, ℕ, zero, suc, ◌-◌, ◌<◌, ◌≤◌, List, length, Option, Some, None, arith, ap, ◌∙◌}
+use Rattle.std.specs.Prelude.{slice_get}
+use Rattle.std.proofs.lemmas.Option.{slice_get_within}
+use Rattle.mta_machine.specs.Items.{numbered}
+
+-- the place of what has a number
+pub record IsNumbered {A : Type 0} (xs : List A) (n : ℕ) (x : A) : Type 0 where
+  pub some : 1 ≤ n
+  pub few : n ≤ length xs
+  pub at : slice_get xs (n - 1) ≡ Some x
+
+pub numbered_at : {A : Type 0} (xs : List A) (n : ℕ) (x : A) → numbered xs n ≡ Some x → IsNumbered xs n x
+numbered_at xs zero x e = absurd cc
+numbered_at xs (suc n) x e =
+    let within = slice_get_within xs n x e in
+    let place : suc n - 1 ≡ n = omega arith in
+    record {
+      some = omega arith;
+      few = omega (arith, within);
+      at = ap (λ k. slice_get xs k) place ∙ e;
+    }
