@@ -1,0 +1,40 @@
+#!/usr/bin/env bash
+# What a verdict costs at the last of 1,000 recipients beside the first, where each leads to a mailbox and where each
+# leads to a peer; and what the copy of a message with the longest content costs beside a copy of its octets and the
+# head. User and system time, all in one run on this machine. Run it at the top of the repository.
+set -eu
+cd "$(dirname "$0")/.."
+command -v rt >/dev/null || { echo "skipped: rt is not on the PATH"; exit 0; }
+made=$(mktemp -d)
+trap 'rm -rf "$made"' EXIT
+(cd crates/mta_rules_bench && rt run -- none) >"$made/log" 2>&1 || { cat "$made/log"; exit 1; }
+program=crates/mta_rules_bench/out/mta_rules_bench
+[ "$("$program" copy)" = "copy: 838860800 octets" ] || { echo "other copies were made"; exit 1; }
+
+# the seconds of the fastest of seven runs of the program with this word
+TIMEFORMAT='%U %S'
+fastest() {
+  for _ in 1 2 3 4 5 6 7; do
+    { time "$program" "$1" >/dev/null; } 2>&1
+  done | awk '{ print $1 + $2 }' | sort -n | head -n 1
+}
+
+near=$(fastest first-to-mailbox)
+far=$(fastest last-to-mailbox)
+near_peer=$(fastest first-to-peer)
+far_peer=$(fastest last-to-peer)
+head=$(fastest head)
+copy=$(fastest copy)
+octets=$(fastest octets)
+none=$(fastest none)
+echo "processors: $(nproc), load before: $(cut -d' ' -f1 /proc/loadavg)"
+awk -v near="$near" -v far="$far" -v near_peer="$near_peer" -v far_peer="$far_peer" -v head="$head" -v copy="$copy" \
+  -v octets="$octets" -v none="$none" 'BEGIN {
+  printf "a verdict at the last of 1,000 recipients, to the first: %.2f to a mailbox (%.2f us), ", far / near, far * 5
+  printf "%.2f to a peer (%.0f us)\n", far_peer / near_peer, far_peer * 500
+  whole = (copy - none) / (octets + head - 2 * none)
+  printf "a copy of 2 MiB: %.0f us, its octets alone %.0f us, ", (copy - none) * 2500, (octets - none) * 2500
+  printf "its head %.1f us; ratio %.2f\n", (head - none) * 2500, whole
+  if (far > 1.5 * near || far_peer > 1.5 * near_peer) { print "the last recipient costs more than the first"; exit 1 }
+  if (whole > 1.5) { print "a copy costs more than 1.5 times its octets and the head"; exit 1 }
+}'

@@ -1,0 +1,5 @@
+pub mod Bits
+pub mod Copied
+pub mod Responsible
+pub mod Wholes
+pub mod ReportParts

@@ -1,0 +1,88 @@
+//! Reads rows from its input, each with fields behind tabs: what is asked, what it is about, what is to be answered,
+//! the octets of a message, a probe or a report, and numbers. Asked is the `verdict`; the `copy` for a peer, or its
+//! `head`; the report that is `made`; or the copy for members, `expand`. A row `tables` holds the lines of the tables
+//! of the rows behind it, each ended by `|`. Prints each row that is answered otherwise, and how many rows there are.
+//!
+//! Octets are in hexadecimal, `07*1000` being a thousand of one. The rows of `stdin` were worked out from the formats
+//! by hand and by an independent writer.
+#![tactic(auto)]
+
+mod answer;
+mod copy;
+mod octets;
+mod verdict;
+
+use crate::answer::Answer;
+use crate::octets::octets_of;
+use anyhow::{Context, Result, anyhow};
+use mta_apdu::Apdu;
+use mta_tables::Tables;
+use std::alloc::{AllocError, Global};
+
+/// What these octets are answered.
+fn answer_of(
+    alloc: Global,
+    tables: &Tables,
+    asked: &str,
+    octets: &[u8],
+    numbers: &[u32],
+) -> Result<Answer> {
+    let apdu = Apdu::read(alloc, octets).map_err(|_| anyhow!("no APDU"))?;
+    let answer = Answer::of(alloc, tables, asked, &apdu, numbers);
+    apdu.discard();
+    answer.map_err(|_| anyhow!("no memory"))
+}
+
+/// The numbers of a text, one space between two.
+fn numbers_of(alloc: Global, text: &str) -> Result<Vec<u32>, AllocError> {
+    let mut numbers = Vec::new(alloc);
+    for word in text.split(' ') {
+        if let Ok(number) = word.parse::<u32>() {
+            numbers.push(number)?;
+        }
+    }
+    Ok(numbers)
+}
+
+/// Prints a row that is answered otherwise than it says.
+fn try_row(rt: &impl Print, alloc: Global, tables: &Tables, row: &str) -> Result<()> {
+    let mut fields = row.split('\t');
+    let asked = fields.next().context("nothing is asked")?;
+    let about = fields.next().context("no name")?;
+    let expected = fields.next().context("no answer")?;
+    let octets = octets_of(alloc, fields.next().context("no octets")?)?;
+    let numbers = numbers_of(alloc, fields.next().context("no numbers")?)?;
+    let answered = answer_of(alloc, tables, asked, octets.as_slice(), numbers.as_slice())?;
+    if answered.is(alloc, expected)? {
+        return Ok(());
+    }
+    println!(rt; "{asked} {about}: not {expected}")?;
+    Ok(())
+}
+
+/// The tables of lines that are each ended by `|`.
+fn tables_of(alloc: Global, lines: &str) -> Result<Tables> {
+    let mut text = Vec::new(alloc);
+    for c in lines.as_bytes() {
+        text.push(if *c == b'|' { b'\n' } else { *c })?;
+    }
+    Tables::read(alloc, text.as_slice()).map_err(|_| anyhow!("no tables"))
+}
+
+fn main(rt: HostRuntime) -> Result<()> {
+    let alloc = rt.alloc();
+    let mut tables = tables_of(alloc, "domain C=GB;A=GOLD|name GOLD-1|")?;
+    let mut rows: u64 = 0;
+    for row in rt.lines(alloc) {
+        let row = row?;
+        match row.as_str().strip_prefix("tables\t") {
+            Some(lines) => tables = tables_of(alloc, lines)?,
+            None => {
+                try_row(&rt, alloc, &tables, row.as_str())?;
+                rows = rows.saturating_add(1);
+            }
+        }
+    }
+    println!(rt; "{rows} rows")?;
+    Ok(())
+}
