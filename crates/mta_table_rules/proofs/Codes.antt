@@ -1,23 +1,28 @@
 -- The reasons and diagnostics of verdicts are codes.
-use Rattle.std.proofs.Common.{◌≡◌, ℕ, Bool, true, false, List, Option, Some, None, subst, arith}
-use Rattle.std.specs.Prelude.{IfSome}
+use Rattle.std.proofs.Common.{◌≡◌, ℕ, Bool, true, false, List, [], ◌∷◌, Option, Some, None}
+use Rattle.std.proofs.Common.{subst, arith}
+use Rattle.std.specs.Prelude.{IfSome, unwrap_or}
 use Rattle.std.specs.Option.{option_map}
 use Rattle.std.proofs.lemmas.Option.{same_Some}
 use Rattle.mta_names.specs.Bounded.{IsCode}
+use Rattle.mta_names.specs.declared.attributes.Attributes.{Attributes}
 use Rattle.mta_recipient.specs.declared.recipient.RecipientFields.{RecipientFields}
 use Rattle.mta_envelope.specs.declared.envelope.EnvelopeFields.{EnvelopeFields}
 use Rattle.mta_envelope.specs.Messages.{MessageValue}
 use Rattle.mta_report.specs.declared.fields.ReportFields.{ReportFields}
 use Rattle.mta_apdu.specs.Apdus.{ApduValue, message, probe, report}
 use Rattle.mta_tables.specs.declared.hop.Hop.{Hop}
+use Rattle.mta_tables.specs.Hops.{best_hop}
 use Rattle.mta_tables.specs.Tables.{TablesValue}
 use Rattle.mta_procedures.specs.declared.case.Case.{Case}
 use Rattle.mta_procedures.specs.declared.case.Case.TheVariants as Cases
 use Rattle.mta_procedures.specs.declared.verdict.Verdict.{Verdict}
 use Rattle.mta_procedures.specs.declared.verdict.Verdict.TheVariants as Verdicts
 use Rattle.mta_procedures.specs.Situations.{Situation, situation}
-use Rattle.mta_procedures.specs.Verdicts.{message_column, probe_column, report_column, verdict_of_message}
-use Rattle.mta_procedures.specs.Verdicts.{verdict_of_probe, verdict_of_report}
+use Rattle.mta_procedures.specs.Facts.{facts_of_message, facts_of_probe, facts_of_report}
+use Rattle.mta_procedures.specs.Verdicts.{first_case, length_for_members, message_column, probe_column}
+use Rattle.mta_procedures.specs.Verdicts.{report_column, verdict_of_message, verdict_of_probe, verdict_of_report}
+use Rattle.mta_procedures.specs.Verdicts.{verdict_on_message}
 use Rattle.mta_machine.specs.Apdu.{value_of}
 use Rattle.mta_machine.specs.Items.{numbered}
 use Rattle.mta_machine.specs.Rules.{read_both, tables_value, verdict_of, verdict_under}
@@ -86,14 +91,33 @@ mapped : {A : Type 0} (of : A → Verdict) (o : Option A) → ((x : A) → IsCod
 mapped of None h = tt
 mapped of (Some x) h = h x
 
+of_message : (s : Situation) (m : MessageValue) (r : RecipientFields) (members : ℕ)
+    → IsCoded (verdict_of_message s m r members)
+unfolding verdict_of_message
+of_message s m r members =
+    message_coded (best_hop s.tables r.name) (unwrap_or m.envelope.deferral 0)
+    (first_case (facts_of_message s m r members))
+
+of_probe : (s : Situation) (e : EnvelopeFields) (r : RecipientFields) → IsCoded (verdict_of_probe s e r)
+unfolding verdict_of_probe
+of_probe s e r = probe_coded (best_hop s.tables r.name) (first_case (facts_of_probe s e r))
+
+of_report : (s : Situation) (p : ReportFields) → IsCoded (verdict_of_report s p true)
+unfolding verdict_of_report
+of_report s p = report_coded (best_hop s.tables p.destination) (first_case (facts_of_report s p))
+
 under_coded : (t : TablesValue) (v : ApduValue) (arrival r moment : ℕ)
     → IfSome (verdict_under t v arrival r moment) IsCoded
-unfolding verdict_of_message verdict_of_probe verdict_of_report
 under_coded t (message v) arrival r moment =
-    mapped _ (numbered v.envelope.recipients r) (λ x. message_coded _ _ _)
-under_coded t (probe v) arrival r moment = mapped _ (numbered v.recipients r) (λ x. probe_coded _ _)
+    let s : Situation = situation t arrival moment in
+    mapped (verdict_on_message s v) (numbered v.envelope.recipients r)
+    (λ x. of_message s v x (length_for_members s v x))
+under_coded t (probe v) arrival r moment =
+    let s : Situation = situation t arrival moment in
+    mapped (verdict_of_probe s v) (numbered v.recipients r) (of_probe s v)
 under_coded t (report v) arrival r moment =
-    mapped _ (numbered (v.destination ∷ []) r) (λ x. report_coded _ _)
+    let s : Situation = situation t arrival moment in
+    mapped (λ (n : Attributes). verdict_of_report s v true) (numbered (v.destination ∷ []) r) (λ n. of_report s v)
 
 read_coded : (to : Option TablesValue) (vo : Option ApduValue) (arrival r moment : ℕ)
     → IfSome (read_both to vo (λ t v. verdict_under t v arrival r moment)) IsCoded

@@ -13,6 +13,7 @@ use Rattle.mta_tables.specs.declared.hop.Hop.{Hop}
 use Rattle.mta_tables.specs.declared.hop.Hop.TheVariants as Hops
 use Rattle.mta_tables.specs.Hops.{best_hop}
 use Rattle.mta_tables.specs.Tables.{TablesValue}
+use Rattle.mta_procedures.specs.declared.verdict.Verdict.{Verdict}
 use Rattle.mta_procedures.specs.Copies.{is_long, longest_copy}
 use Rattle.mta_procedures.specs.Facts.{Facts, facts_of_message, list_at}
 use Rattle.mta_procedures.specs.Members.{has_no_copy, members_copy, members_envelope, members_length, message_octets}
@@ -29,7 +30,7 @@ use Rattle.mta_table_rules.proofs.Lengths.{copy_long}
 abbrev with_long : Facts → Bool → Facts
 with_long f b = record f { long_members = b }
 
-abbrev verdict_with : Situation → MessageValue → RecipientFields → Bool → _
+abbrev verdict_with : Situation → MessageValue → RecipientFields → Bool → Verdict
 verdict_with s m r b =
     message_column (best_hop s.tables r.name) (unwrap_or m.envelope.deferral 0)
     (first_case (with_long (facts_of_message s m r 0) b))
@@ -88,11 +89,11 @@ elsewhere_at Hops.None f a b e = refl
 pub elsewhere : (t : TablesValue) (arrival : ℕ) (m : MessageValue) (r : RecipientFields) (n : ℕ) (hop : Hop)
     → hop ≡ best_hop t r.name → leads_to_list hop ≡ false → CountsAsLength t arrival m r n
 unfolding verdict_of_message
-elsewhere t arrival m r n hop e no = λ moment.
+elsewhere t arrival m r n hop e away = λ moment.
     let s : Situation = situation t arrival moment in
     ap (message_column (best_hop t r.name) (unwrap_or m.envelope.deferral 0))
     (elsewhere_at (best_hop t r.name) (facts_of_message s m r 0) (is_long n)
-    (is_long (length_for_members s m r)) (ap leads_to_list (sym e) ∙ no))
+    (is_long (length_for_members s m r)) (ap leads_to_list (sym e) ∙ away))
 
 -- ---- where it does
 

@@ -88,11 +88,11 @@ pub one_other : (t : TablesValue) (p : ReportFields) (l : MailList) (items : Lis
     → AreOthers p l items i → walk ≡ option_map (walk_of t) (find (is_subject_of p l) (accepted_of item))
     → walk ≡ None → AreOthers p l items (i + 1)
 unfolding accepted_in
-one_other t p l items i item walk lt is none walked no =
+one_other t p l items i item walk lt is none walked gone =
     let place : i + 1 ≡ suc i = omega arith in
     ap (λ k. find (is_subject_of p l) (flat_map accepted_of (take k items))) place
     ∙ none_suc (is_subject_of p l) accepted_of items i item lt is none
-    (not_mapped (walk_of t) (find (is_subject_of p l) (accepted_of item)) (sym no ∙ walked))
+    (not_mapped (walk_of t) (find (is_subject_of p l) (accepted_of item)) (sym gone ∙ walked))
 
 pub none_walks : (t : TablesValue) (p : ReportFields) (l : MailList) (items : List ItemValue) (i : ℕ)
     → length items ≤ i → AreOthers p l items i
