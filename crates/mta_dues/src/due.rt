@@ -5,7 +5,6 @@ ghost use Rattle.std.specs.Option.{option_copied};
 ghost use Rattle.std.specs.List.{find};
 ghost use Rattle.mta_ber.specs.Times.{last_moment};
 ghost use Rattle.mta_machine.specs.Items.{is_pending_at, numbered};
-ghost use Rattle.mta_machine.specs.Machine.{verdict_on};
 ghost use Rattle.mta_histories.specs.Lanes.{activities_of};
 ghost use Rattle.mta_histories.specs.Kept.{IsKept};
 ghost use Rattle.mta_items.specs.Parts.{machine_of};
@@ -18,34 +17,8 @@ use mta_lanes::{Lane, Lanes};
 use mta_machine::Item;
 use mta_procedures::Verdict;
 use mta_records::Step;
-use mta_replay::{Kept, Rules};
+use mta_replay::{Kept, Rules, verdict_on};
 use std::alloc::Global;
-
-// The verdict on a recipient of an item. A report to a list that cannot be passed back goes no further.
-fn verdict_on<R: Rules>(
-    alloc: Global,
-    rules: &R,
-    items: &[Item],
-    item: &Item,
-    recipient: u32,
-    moment: u64,
-) -> Result<Option<Verdict>, Memory>
-    requires { item.now.arrival ≤ last_moment }
-    ensures { let text = Some (R.text rules.now) in
-        IfOk result (λ v. v ≡ verdict_on items.now text (Some item.now) recipient moment) }
-{
-    let verdict = rules.verdict(alloc, item.octets(), item.arrival(), recipient, moment)?;
-    match verdict {
-        Some(Verdict::Back) => {
-            if rules.passes_back(alloc, items, item)? {
-                Ok(Some(Verdict::Back))
-            } else {
-                Ok(Some(Verdict::Discard))
-            }
-        }
-        other => Ok(other),
-    }
-}
 
 // The step that a verdict calls for at once.
 fn step_by(verdict: Option<Verdict>, item: u32, recipient: u32, moment: u64) -> Option<Step>

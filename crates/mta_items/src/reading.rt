@@ -1,6 +1,7 @@
 //! What is read of the octets of items.
 
-ghost use Rattle.std.specs.Prelude.{◌≡◌, IfOk};
+ghost use Rattle.std.specs.Prelude.{◌≡◌, IfOk, Some};
+ghost use Rattle.mta_apdu.specs.Apdus.{apdu_value};
 ghost use Rattle.mta_machine.specs.Apdu.{is_report, value_of};
 ghost use Rattle.mta_items.specs.Reading.{AreAccepted, IsAccepted};
 
@@ -10,6 +11,16 @@ use mta_machine::{Item, Origin, Statuses};
 use std::alloc::Global;
 use std::sync::Arc;
 
+fn is_of_report(apdu: &Apdu<'_>) -> bool
+    ensures { result ≡ is_report (Some (apdu_value apdu.now)) }
+{
+    match apdu {
+        Apdu::Message(_) => false,
+        Apdu::Probe(_) => false,
+        Apdu::Report(_) => true,
+    }
+}
+
 /// Whether octets that are kept spell a report.
 pub fn is_report(alloc: Global, octets: &[u8]) -> Result<bool, Memory>
     ensures { IfOk result (λ b. b ≡ is_report (value_of octets.now)) }
@@ -17,8 +28,11 @@ pub fn is_report(alloc: Global, octets: &[u8]) -> Result<bool, Memory>
     match Apdu::read_stored(alloc, octets) {
         Err(ReadFault::Bad(_)) => Ok(false),
         Err(ReadFault::Memory) => Err(Memory),
-        Ok(Apdu::Report(_)) => Ok(true),
-        Ok(Apdu::Message(_)) | Ok(Apdu::Probe(_)) => Ok(false),
+        Ok(read) => {
+            let reports = is_of_report(&read);
+            read.discard();
+            Ok(reports)
+        }
     }
 }
 
@@ -32,7 +46,10 @@ fn statuses_of(alloc: Global, octets: &[u8]) -> Result<Option<Statuses>, Memory>
         Ok(read) => {
             let statuses = Statuses::of_apdu(alloc, &read);
             read.discard();
-            Ok(Some(statuses?))
+            match statuses {
+                Ok(statuses) => Ok(Some(statuses)),
+                Err(_) => Err(Memory),
+            }
         }
     }
 }

@@ -6,7 +6,9 @@ mod kept;
 mod on_lane;
 mod rules;
 mod secure;
+mod verdict;
 
 pub use change::{Change, Settlement};
 pub use kept::Kept;
 pub use rules::Rules;
+pub use verdict::verdict_on;

@@ -1,6 +1,6 @@
 //! What is asked of the rules.
 
-ghost use Rattle.std.specs.Prelude.{◌≡◌, ◌≤◌, ◌↔◌, List, ℕ, IfOk, IfSome, IsTrue, Some, is_some, map};
+ghost use Rattle.std.specs.Prelude.{◌≡◌, ◌≤◌, ◌^◌, ◌↔◌, List, ℕ, IfOk, IfSome, IsTrue, Some, is_some, map};
 ghost use Rattle.std.specs.Option.{option_copied, option_map};
 ghost use Rattle.mta_ber.specs.Times.{last_moment};
 ghost use Rattle.mta_names.specs.Bounded.{IsCode};
@@ -11,7 +11,7 @@ ghost use Rattle.mta_machine.specs.Rules.{verdict_of};
 ghost use Rattle.mta_items.specs.Parts.{made_items};
 ghost use Rattle.mta_replay.specs.Asked.{AreUnder, CodesAreCodes, Expands, Relays};
 
-use mta_ber::Memory;
+use mta_ber::{Memory, Word};
 use mta_items::Made;
 use mta_machine::Item;
 use mta_procedures::Verdict;
@@ -77,7 +77,7 @@ pub trait Rules {
         ensures { option_copied result ≡ peer_word (text self.now) place };
 
     /// The word of the mailbox at a place of the tables, from 0.
-    fn mailbox_at(&self, place: u32) -> Option<&[u8]>
+    fn mailbox_at(&self, place: u32) -> Option<&Word>
         ensures { option_copied result ≡ mailbox_word (text self.now) place };
 
     /// The item that is the delivery report on a recipient, made at a moment as the item of a number; none where no
@@ -85,7 +85,7 @@ pub trait Rules {
     fn delivery_report(
         &self,
         alloc: Global,
-        number: u32,
+        number: u64,
         item: &Item,
         recipient: u32,
         moment: u64,
@@ -100,7 +100,7 @@ pub trait Rules {
     fn non_delivery_report(
         &self,
         alloc: Global,
-        number: u32,
+        number: u64,
         item: &Item,
         recipient: u32,
         reason: u32,
@@ -118,11 +118,12 @@ pub trait Rules {
     fn expansion(
         &self,
         alloc: Global,
-        number: u32,
+        number: u64,
         item: &Item,
         recipient: u32,
         moment: u64,
     ) -> Result<Made, Memory>
+        requires number { number ≤ 2 ^ 32 }
         requires arrived { item.now.arrival ≤ last_moment }
         requires fits { moment ≤ last_moment }
         requires list { Expands (verdict_of (text self.now) item.now.octets item.now.arrival recipient moment) }

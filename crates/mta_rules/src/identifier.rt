@@ -9,7 +9,7 @@ use mta_fields::{Domain, MtsId, MtsIdFields};
 use std::alloc::Global;
 
 /// Puts so many decimal digits of a number, the last ones.
-fn put_digits(octets: &mut Vec<u8>, count: u8, number: u32) -> Result<(), Memory>
+fn put_digits(octets: &mut Vec<u8>, count: u8, number: u64) -> Result<(), Memory>
     ensures { OnOk result (octets.new.items ≡ octets.old.items ++ digits count number) }
 {
     if count == 0 {
@@ -21,7 +21,7 @@ fn put_digits(octets: &mut Vec<u8>, count: u8, number: u32) -> Result<(), Memory
 }
 
 /// The identifier of the report that is the item of a number.
-pub fn report_id(alloc: Global, domain: &Domain, number: u32) -> Result<MtsId, Memory>
+pub fn report_id(alloc: Global, domain: &Domain, number: u64) -> Result<MtsId, Memory>
     ensures { IfOk result (λ i. i ≡ report_id domain.now number) }
 {
     let domain = copied_domain(alloc, domain)?;

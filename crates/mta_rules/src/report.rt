@@ -85,7 +85,7 @@ pub struct About {
 fn copied_about(
     alloc: Global,
     domain: &Domain,
-    number: u32,
+    number: u64,
     subject: &EnvelopeFields,
 ) -> Result<About, Memory>
     ensures { IfOk result (λ a. IsAbout domain.now number subject.now a) }
@@ -146,7 +146,7 @@ fn told(alloc: Global, about: About, destination: OrName, recipients: Row<Report
 fn report_to(
     alloc: Global,
     domain: &Domain,
-    number: u32,
+    number: u64,
     arrival: u64,
     subject: &Envelope,
     recipient: &RecipientFields,
@@ -171,7 +171,7 @@ fn report_to(
 pub fn report_on(
     alloc: Global,
     tables: &Tables,
-    number: u32,
+    number: u64,
     arrival: u64,
     subject: &Envelope,
     recipient: &RecipientFields,
@@ -199,7 +199,7 @@ pub fn report_on(
 pub fn make_report(
     alloc: Global,
     tables: &Tables,
-    number: u32,
+    number: u64,
     arrival: u64,
     subject: &Envelope,
     recipient: u32,

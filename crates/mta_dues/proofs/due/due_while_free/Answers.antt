@@ -15,7 +15,7 @@ returns g c =
     (sym
     (c.step_by.ensures
     ∙ ap (λ (v : Option Verdict). step_by v c.args.number c.args.recipient c.args.moment)
-    (c.in_ok-verdict.ensures
+    (c.in_ok-verdict.ensures.exact
     ∙ ap
     (λ (items : List ItemValue).
     verdict_on items (Some (g.R.Rules.text c.args.rules.now)) (Some c.args.item.now) c.args.recipient
