@@ -34,6 +34,16 @@ pub struct Made {
     pub second: Option<Item>,
 }
 
+impl Made {
+    /// How many items they are.
+    pub fn count(&self) -> usize
+        ensures exact { result ≡ length (made_items self.now) }
+        ensures most { result ≤ 2 }
+    {
+        usize::from(self.first.is_some()) + usize::from(self.second.is_some())
+    }
+}
+
 // The item is the next one, where there is one.
 fn push_item(items: &mut Vec<Item>, item: Option<Item>)
     requires { vec_len items.old + length (option_to_list item) ≤ vec_capacity items.old }

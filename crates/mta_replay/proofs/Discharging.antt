@@ -67,7 +67,7 @@ module _ (s : State) (step : Step) (how : Settling) (i r moment : ℕ) (status :
     abbrev new : Machine
     new = settled_machine s.machine i (r ∷ []) status (made_items made) (option_to_list line) moment
 
-    machine_is : IsDischarge s.machine i r by moment status (made_items made) (option_to_list line)
+    pub machine_is : IsDischarge s.machine i r by moment status (made_items made) (option_to_list line)
         → new ≡ machine_run s.machine (machine_steps s step)
     machine_is is =
         discharged s.machine i r by moment status (made_items made) (option_to_list line) is

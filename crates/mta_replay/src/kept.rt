@@ -31,12 +31,6 @@ pub struct Kept {
     pub moment: u64,
 }
 
-fn made_count(made: &Made) -> usize
-    ensures { result ≡ length (made_items made.now) }
-{
-    usize::from(made.first.is_some()) + usize::from(made.second.is_some())
-}
-
 // How many items it makes.
 fn made_by(settlement: &Settlement) -> usize
     ensures exact { result ≡ length (option_to_list settlement.now.made) }
@@ -113,7 +107,7 @@ impl Kept {
             Change::Accept { .. } => self.parts.reserve(0, 1, 0),
             Change::Settle { made, line, .. } => {
                 self.parts
-                    .reserve(0, made_count(made), usize::from(line.is_some()))
+                    .reserve(0, made.count(), usize::from(line.is_some()))
             }
             Change::Open { .. } => self.lanes.reserve(),
             Change::OnLane { .. } => Ok(()),
