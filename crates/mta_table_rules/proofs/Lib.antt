@@ -5,6 +5,6 @@ pub mod Expanded
 pub mod Lengths
 pub mod Numbered
 pub mod Read
-pub mod Reports
+pub mod Reported
 pub mod Sames
 pub mod Walking

@@ -1,7 +1,7 @@
 -- The first message among items of which a report says something.
 use Rattle.std.proofs.Common.{◌≡◌, ℕ, zero, suc, ◌+◌, ◌<◌, ◌≤◌, Bool, true, false, List, []}
 use Rattle.std.proofs.Common.{◌∷◌, ◌++◌, length, take, get_or, Option, Some, None, refl, sym, ap, ◌∙◌, arith, ◌&&◌, ◌||◌, map}
-use Rattle.std.specs.Prelude.{option_and_then}
+use Rattle.std.specs.Prelude.{is_some, option_and_then}
 use Rattle.std.specs.List.{find, flat_map, list_any, zip}
 use Rattle.std.specs.Option.{option_map, option_or}
 use Rattle.std.proofs.lemmas.List.{take_all}
@@ -12,7 +12,8 @@ use Rattle.mta_recipient.specs.declared.recipient.RecipientFields.{RecipientFiel
 use Rattle.mta_report.specs.declared.fields.ReportFields.{ReportFields}
 use Rattle.mta_tables.specs.declared.entry.MailList.{MailList}
 use Rattle.mta_tables.specs.Tables.{TablesValue}
-use Rattle.mta_procedures.specs.Walks.{Accepted, is_expanded_as, is_subject_of, walk_of}
+use Rattle.mta_tables.specs.Hops.{list_named}
+use Rattle.mta_procedures.specs.Walks.{Accepted, behind_list, is_expanded_as, is_subject_of, passed_to, walk_of}
 use Rattle.mta_machine.specs.declared.item.Status.{Status}
 use Rattle.mta_machine.specs.Items.{ItemValue}
 use Rattle.mta_machine.specs.Rules.{accepted_in, accepted_of, is_expanded}
@@ -121,6 +122,10 @@ pub first_walks : (t : TablesValue) (p : ReportFields) (l : MailList) (items : L
 first_walks t p l items i item found walk lt is none walked e =
     walked_at t p l items i item walk (find (is_subject_of p l) (accepted_of item)) lt is none refl (sym e ∙ walked)
 
+pub is_some_mapped : {A B : Type 0} (f : A → B) (o : Option A) → is_some (option_map f o) ≡ is_some o
+is_some_mapped f None = refl
+is_some_mapped f (Some x) = refl
+
 -- ---- who was expanded
 
 -- a recipient and a status, who is this list and was expanded
@@ -134,3 +139,28 @@ expanded_here l [] statuses = refl
 expanded_here l (r ∷ rs) [] = refl
 expanded_here l (r ∷ rs) (s ∷ statuses) =
     ap (λ b. is_expanded_here l (r, s) || b) (expanded_here l rs statuses)
+
+-- ---- to whom a report is passed back
+
+pub own_passes : (t : TablesValue) (own : Bool) (p : ReportFields) (accepted : List Accepted) → own ≡ true
+    → None ≡ passed_to t own p accepted
+unfolding passed_to
+own_passes t true p accepted e = refl
+own_passes t false p accepted e = absurd cc
+
+pub no_list_passes : (t : TablesValue) (own : Bool) (p q : ReportFields) (accepted : List Accepted)
+    → own ≡ false → q ≡ p → None ≡ list_named t q.destination → None ≡ passed_to t own p accepted
+unfolding passed_to
+no_list_passes t true p q accepted e h k = absurd cc
+no_list_passes t false p q accepted e h k =
+    ap (λ (o : Option MailList). option_and_then (behind_list t p accepted) o)
+    (k ∙ ap (λ (x : ReportFields). list_named t x.destination) h)
+
+pub list_passes : (t : TablesValue) (own : Bool) (p q : ReportFields) (accepted : List Accepted) (l : MailList)
+    → own ≡ false → q ≡ p → Some l ≡ list_named t q.destination
+    → behind_list t p accepted l ≡ passed_to t own p accepted
+unfolding passed_to
+list_passes t true p q accepted l e h k = absurd cc
+list_passes t false p q accepted l e h k =
+    ap (λ (o : Option MailList). option_and_then (behind_list t p accepted) o)
+    (k ∙ ap (λ (x : ReportFields). list_named t x.destination) h)

@@ -1,6 +1,6 @@
 //! What the expansion of a list makes.
 
-ghost use Rattle.std.specs.Prelude.{◌≡◌, ◌≤◌, ◌+◌, ◌<◌, IfOk, Some, None, length, map, slice_get, option_to_list};
+ghost use Rattle.std.specs.Prelude.{◌≡◌, ◌≤◌, ◌+◌, ◌^◌, IfOk, Some, None, length, map, slice_get, option_to_list};
 ghost use Rattle.std.specs.Option.{option_map};
 ghost use Rattle.mta_ber.specs.Times.{last_moment};
 ghost use Rattle.mta_recipient.specs.Recipients.{IsRecipient};
@@ -88,7 +88,7 @@ fn message_item(
 fn expansion_report(
     alloc: Global,
     tables: &Tables,
-    number: u32,
+    number: u64,
     arrival: u64,
     envelope: &Envelope,
     who: &RecipientFields,
@@ -111,17 +111,14 @@ fn expansion_report(
     report_on(alloc, tables, number, arrival, envelope, who, outcome)
 }
 
-/// The number of the item behind one that was made, where one was made. No item has a number of 2^32, which is more
-/// than memory holds.
-fn number_behind(number: u32, made: &Option<Item>) -> Result<u32, Memory>
-    ensures { IfOk result (λ n. n ≡ number + length (option_to_list made.now)) }
+/// The number of the item behind one that was made, where one was made.
+fn number_behind(number: u64, made: &Option<Item>) -> u64
+    requires { number ≤ 2 ^ 32 }
+    ensures { result ≡ number + length (option_to_list made.now) }
 {
     match made {
-        None => Ok(number),
-        Some(_) => match number.checked_add(1) {
-            Some(next) => Ok(next),
-            None => Err(Memory),
-        },
+        None => number,
+        Some(_) => number + 1,
     }
 }
 
@@ -156,7 +153,7 @@ fn copy_item(
 fn expanded_to(
     alloc: Global,
     tables: &Tables,
-    number: u32,
+    number: u64,
     place: u32,
     list: &MailList,
     arrival: u64,
@@ -165,6 +162,7 @@ fn expanded_to(
     who: &RecipientFields,
     moment: u64,
 ) -> Result<Made, Memory>
+    requires number { number ≤ 2 ^ 32 }
     requires list { slice_get tables.now.lists place ≡ Some list.now }
     requires who { numbered message.now.envelope.recipients recipient ≡ Some who.now }
     requires recipient { IsRecipient who.now }
@@ -177,7 +175,7 @@ fn expanded_to(
     let first = copy_item(
         alloc, tables, place, list, arrival, message, recipient, who, moment,
     )?;
-    let behind = number_behind(number, &first)?;
+    let behind = number_behind(number, &first);
     let envelope = &message.envelope;
     let report = expansion_report(
         alloc, tables, behind, arrival, envelope, who, list, moment,
@@ -199,12 +197,13 @@ fn nothing() -> Made
 fn expanded_for(
     alloc: Global,
     tables: &Tables,
-    number: u32,
+    number: u64,
     arrival: u64,
     message: &Message<'_>,
     recipient: u32,
     moment: u64,
 ) -> Result<Made, Memory>
+    requires number { number ≤ 2 ^ 32 }
     requires arrived { arrival ≤ last_moment }
     requires fits { moment ≤ last_moment }
     requires list { Expands (verdict_under tables.now (apdus.message (message_value message.now)) arrival recipient moment) }
@@ -231,12 +230,13 @@ fn expanded_for(
 fn expanded_in(
     alloc: Global,
     tables: &Tables,
-    number: u32,
+    number: u64,
     arrival: u64,
     apdu: &Apdu<'_>,
     recipient: u32,
     moment: u64,
 ) -> Result<Made, Memory>
+    requires number { number ≤ 2 ^ 32 }
     requires arrived { arrival ≤ last_moment }
     requires fits { moment ≤ last_moment }
     requires list { Expands (verdict_under tables.now (apdu_value apdu.now) arrival recipient moment) }
@@ -256,11 +256,12 @@ fn expanded_in(
 pub fn expansion_items(
     alloc: Global,
     tables: &Tables,
-    number: u32,
+    number: u64,
     item: &Item,
     recipient: u32,
     moment: u64,
 ) -> Result<Made, Memory>
+    requires number { number ≤ 2 ^ 32 }
     requires arrived { item.now.arrival ≤ last_moment }
     requires fits { moment ≤ last_moment }
     requires list { Expands (verdict_of tables.now.text item.now.octets item.now.arrival recipient moment) }

@@ -4,12 +4,12 @@ ghost use Rattle.std.specs.Prelude.{◌≡◌, ◌↔◌, IsTrue, IfOk, Some, is
 ghost use Rattle.std.specs.Option.{option_copied, option_map};
 ghost use Rattle.mta_apdu.specs.Apdus.{apdu_value};
 ghost use Rattle.mta_machine.specs.Items.{numbered};
-ghost use Rattle.mta_machine.specs.Rules.{mailbox_word, name_of, names_in, names_peer, peer_on, peer_word};
-ghost use Rattle.mta_machine.specs.Rules.{route_under, route_word};
+ghost use Rattle.mta_machine.specs.Rules.{mailbox_at, mailbox_word, name_of, names_in, names_peer, peer_at};
+ghost use Rattle.mta_machine.specs.Rules.{peer_on, peer_word, route_under, route_word};
 
 use crate::reading::{read_kept, recipient_of, text_reads};
 use mta_apdu::Apdu;
-use mta_ber::Memory;
+use mta_ber::{Memory, Word};
 use mta_envelope::Envelope;
 use mta_names::OrName;
 use mta_recipient::Recipient;
@@ -41,16 +41,23 @@ fn name_in<'a>(apdu: &'a Apdu<'_>, recipient: u32) -> Option<&'a OrName>
     }
 }
 
-/// Whether this tables' hop leads to the peer of a word.
+/// The word of the peer to which a hop leads.
+fn peer_on(tables: &Tables, hop: Hop) -> Option<&[u8]>
+    ensures { option_copied result ≡ peer_on tables.now hop }
+{
+    match hop {
+        Hop::Peer(place) => peer_name(tables, place),
+        Hop::Local(_) | Hop::List(_) | Hop::None => None,
+    }
+}
+
+/// Whether a hop leads to the peer of a word.
 fn is_peer_on(tables: &Tables, hop: Hop, word: &[u8]) -> bool
     ensures { IsTrue result ↔ (peer_on tables.now hop ≡ Some word.now) }
 {
-    match hop {
-        Hop::Peer(place) => match tables.peers().get(place as usize) {
-            Some(peer) => peer.name.as_slice() == word,
-            None => false,
-        },
-        Hop::Local(_) | Hop::List(_) | Hop::None => false,
+    match peer_on(tables, hop) {
+        Some(name) => name == word,
+        None => false,
     }
 }
 
@@ -92,26 +99,38 @@ pub fn names_peer(tables: &Tables, word: &[u8]) -> bool
     tables.peer(word).is_some()
 }
 
-/// The word of the peer at a place of the tables, from 0.
-#[tactic(auto, using(crate::proofs::Read::peer_word_is))]
-pub fn peer_at(tables: &Tables, place: u32) -> Option<&[u8]>
-    ensures { option_copied result ≡ peer_word tables.now.text place }
+fn peer_name(tables: &Tables, place: u32) -> Option<&[u8]>
+    ensures { option_copied result ≡ peer_at tables.now place }
 {
-    text_reads(tables);
     match tables.peers().get(place as usize) {
         Some(peer) => Some(peer.name.as_slice()),
         None => None,
     }
 }
 
+/// The word of the peer at a place of the tables, from 0.
+#[tactic(auto, using(crate::proofs::Read::peer_word_is))]
+pub fn peer_at(tables: &Tables, place: u32) -> Option<&[u8]>
+    ensures { option_copied result ≡ peer_word tables.now.text place }
+{
+    text_reads(tables);
+    peer_name(tables, place)
+}
+
+fn mailbox_name(tables: &Tables, place: u32) -> Option<&Word>
+    ensures { option_copied result ≡ mailbox_at tables.now place }
+{
+    match tables.mailboxes().get(place as usize) {
+        Some(mailbox) => Some(&mailbox.word),
+        None => None,
+    }
+}
+
 /// The word of the mailbox at a place of the tables, from 0.
 #[tactic(auto, using(crate::proofs::Read::mailbox_word_is))]
-pub fn mailbox_at(tables: &Tables, place: u32) -> Option<&[u8]>
+pub fn mailbox_at(tables: &Tables, place: u32) -> Option<&Word>
     ensures { option_copied result ≡ mailbox_word tables.now.text place }
 {
     text_reads(tables);
-    match tables.mailboxes().get(place as usize) {
-        Some(mailbox) => Some(mailbox.word.as_slice()),
-        None => None,
-    }
+    mailbox_name(tables, place)
 }

@@ -198,20 +198,30 @@ fn passed_to(
     }
 }
 
-/// To whom an APDU is passed back, among these items; nobody where it is no report.
-fn destination_in(
+fn is_somebody(name: Option<OrName>) -> bool
+    ensures { result ≡ is_some name }
+{
+    name.is_some()
+}
+
+/// Whether an APDU is a report that can be passed back, among these items.
+#[tactic(auto, using(crate::proofs::Walking::is_some_mapped))]
+fn passes_under(
     alloc: Global,
     tables: &Tables,
     origin: Origin,
     apdu: &Apdu<'_>,
     items: &[Item],
-) -> Result<Option<OrName>, Memory>
-    ensures { IfOk result (λ name. is_some name
+) -> Result<bool, Memory>
+    ensures { IfOk result (λ b. b
         ≡ is_some (passed_under items.now origin tables.now (apdu_value apdu.now))) }
 {
     match apdu {
-        Apdu::Report(report) => passed_to(alloc, tables, origin, report, items),
-        Apdu::Message(_) | Apdu::Probe(_) => Ok(None),
+        Apdu::Report(report) => {
+            let name = passed_to(alloc, tables, origin, report, items)?;
+            Ok(is_somebody(name))
+        }
+        Apdu::Message(_) | Apdu::Probe(_) => Ok(false),
     }
 }
 
@@ -228,9 +238,9 @@ pub fn passes_back(
     let Some(apdu) = read_kept(alloc, item.octets())? else {
         return Ok(false);
     };
-    let name = destination_in(alloc, tables, item.origin(), &apdu, items);
+    let passes = passes_under(alloc, tables, item.origin(), &apdu, items);
     apdu.discard();
-    Ok(name?.is_some())
+    passes
 }
 
 /// The report with another destination.

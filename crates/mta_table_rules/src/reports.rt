@@ -57,7 +57,7 @@ fn user_of(hop: Hop) -> Code
 fn delivery_report(
     alloc: Global,
     tables: &Tables,
-    number: u32,
+    number: u64,
     arrival: u64,
     envelope: &Envelope,
     recipient: &RecipientFields,
@@ -93,7 +93,7 @@ fn code_if(number: Option<u32>) -> Option<Code>
 fn non_delivery_report(
     alloc: Global,
     tables: &Tables,
-    number: u32,
+    number: u64,
     arrival: u64,
     envelope: &Envelope,
     recipient: &RecipientFields,
@@ -117,7 +117,7 @@ fn non_delivery_report(
 fn delivery_report_in(
     alloc: Global,
     tables: &Tables,
-    number: u32,
+    number: u64,
     arrival: u64,
     apdu: &Apdu<'_>,
     recipient: u32,
@@ -141,7 +141,7 @@ fn delivery_report_in(
 fn non_delivery_report_in(
     alloc: Global,
     tables: &Tables,
-    number: u32,
+    number: u64,
     arrival: u64,
     apdu: &Apdu<'_>,
     recipient: u32,
@@ -151,8 +151,9 @@ fn non_delivery_report_in(
     requires arrived { arrival ≤ last_moment }
     requires reason { IsCode reason }
     requires diagnostic { IfSome diagnostic IsCode }
-    ensures { let make = λ e x. non_delivery_report tables.now number arrival e x reason diagnostic in
-        IfOk result (λ r. option_map report r ≡ report_on make recipient (apdu_value apdu.now)) }
+    ensures { IfOk result (λ r. option_map report r
+        ≡ report_on (λ e x. non_delivery_report tables.now number arrival e x reason diagnostic) recipient
+        (apdu_value apdu.now)) }
 {
     let Some(envelope) = envelope_in(apdu) else {
         return Ok(None);
@@ -188,7 +189,7 @@ pub fn report_item(
 pub fn delivery_item(
     alloc: Global,
     tables: &Tables,
-    number: u32,
+    number: u64,
     item: &Item,
     recipient: u32,
     moment: u64,
@@ -213,7 +214,7 @@ pub fn delivery_item(
 pub fn non_delivery_item(
     alloc: Global,
     tables: &Tables,
-    number: u32,
+    number: u64,
     item: &Item,
     recipient: u32,
     reason: u32,

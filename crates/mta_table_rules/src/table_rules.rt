@@ -7,7 +7,7 @@ use crate::passing::{passed_item, passes_back};
 use crate::reading::text_reads;
 use crate::reports::{delivery_item, non_delivery_item};
 use crate::verdicts::{has_expired, verdict};
-use mta_ber::Memory;
+use mta_ber::{Memory, Word};
 use mta_items::Made;
 use mta_machine::Item;
 use mta_procedures::Verdict;
@@ -105,14 +105,14 @@ impl Rules for TableRules {
         peer_at(&self.tables, place)
     }
 
-    fn mailbox_at(&self, place: u32) -> Option<&[u8]> {
+    fn mailbox_at(&self, place: u32) -> Option<&Word> {
         mailbox_at(&self.tables, place)
     }
 
     fn delivery_report(
         &self,
         alloc: Global,
-        number: u32,
+        number: u64,
         item: &Item,
         recipient: u32,
         moment: u64,
@@ -123,7 +123,7 @@ impl Rules for TableRules {
     fn non_delivery_report(
         &self,
         alloc: Global,
-        number: u32,
+        number: u64,
         item: &Item,
         recipient: u32,
         reason: u32,
@@ -145,7 +145,7 @@ impl Rules for TableRules {
     fn expansion(
         &self,
         alloc: Global,
-        number: u32,
+        number: u64,
         item: &Item,
         recipient: u32,
         moment: u64,

@@ -79,7 +79,10 @@ fn members_length(
     ensures { IfOk result (CountsAsLength tables.now arrival (message_value message.now) who.now) }
 {
     let envelope = message.envelope.fields();
-    if envelope.trace.len() >= 512 || envelope.history.len() >= 512 {
+    if envelope.trace.len() >= 512 {
+        return Ok(0);
+    }
+    if envelope.history.len() >= 512 {
         return Ok(0);
     }
     match tables.route(&who.name) {
