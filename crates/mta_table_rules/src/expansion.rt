@@ -1,7 +1,7 @@
 //! What the expansion of a list makes.
 
 ghost use Rattle.std.specs.Prelude.{◌≡◌, ◌≤◌, ◌+◌, ◌^◌, IfOk, Some, None, length, map, slice_get, option_to_list};
-ghost use Rattle.std.specs.Option.{option_map};
+ghost use Rattle.std.specs.Option.{option_copied, option_map};
 ghost use Rattle.mta_ber.specs.Times.{last_moment};
 ghost use Rattle.mta_recipient.specs.Recipients.{IsRecipient};
 ghost use Rattle.mta_envelope.specs.Messages.{message_value};
@@ -193,6 +193,13 @@ fn nothing() -> Made
     }
 }
 
+/// The list at a place of the tables, from 0.
+fn list_of(tables: &Tables, place: u32) -> Option<&MailList>
+    ensures { option_copied result ≡ slice_get tables.now.lists place }
+{
+    tables.lists().get(place as usize)
+}
+
 /// What the expansion of a recipient of a message makes.
 fn expanded_for(
     alloc: Global,
@@ -219,7 +226,7 @@ fn expanded_for(
     let Hop::List(place) = tables.route(&who.name) else {
         return Ok(nothing());
     };
-    let Some(list) = tables.lists().get(place as usize) else {
+    let Some(list) = list_of(tables, place) else {
         return Ok(nothing());
     };
     expanded_to(

@@ -1,11 +1,16 @@
-use Rattle.std.proofs.Common.{◌≡◌, Option, sym, ap, ◌∙◌}
+use Rattle.std.proofs.Common.{◌≡◌, ◌-◌, Option, Some, sym, ap, ◌∙◌}
+use Rattle.std.specs.Prelude.{slice_get}
 use Rattle.std.specs.Option.{option_map}
 use Rattle.std.proofs.lemmas.Option.{slice_get_within}
 use Rattle.mta_envelope.specs.Messages.{MessageValue, message_value}
+use Rattle.mta_recipient.specs.declared.recipient.RecipientFields.{RecipientFields}
+use Rattle.mta_tables.specs.declared.entry.MailList.{MailList}
+use Rattle.mta_procedures.specs.Members.{members_copy}
 use Rattle.mta_procedures.specs.Histories.{is_in_history}
 use Rattle.mta_procedures.specs.Situations.{Situation, situation}
 use Rattle.mta_procedures.proofs.MembersLaws.{none_in_history}
 use Rattle.mta_table_rules.proofs.Numbered.{numbered_at}
+use Rattle.mta_table_rules.proofs.Read.{if_ok_so}
 use Rattle.mta_table_rules.proofs.expansion.members_copy.Goals as goal
 
 pub returns-then-is_in_history : goal.returns-then-is_in_history
@@ -25,4 +30,13 @@ expand-requires-clause-few c =
     at.few
 
 pub returns : goal.returns
-returns c = ?
+returns c =
+    let s : Situation = situation c.args.tables.now c.args.arrival c.args.moment in
+    let m : MessageValue = message_value c.args.message.now in
+    let at = numbered_at m.envelope.recipients c.args.recipient c.args.who.now c.requires.who in
+    if_ok_so c.expand.result
+    (λ made. (l : MailList) (r : RecipientFields) → slice_get c.args.tables.now.lists c.args.place ≡ Some l
+    → slice_get m.envelope.recipients (c.args.recipient - 1) ≡ Some r
+    → option_map message_value made ≡ members_copy s l m r)
+    (λ made. option_map message_value made ≡ members_copy s c.args.list.now m c.args.who.now)
+    (λ made h. h c.args.list.now c.args.who.now c.requires.list at.at) c.expand.ensures
