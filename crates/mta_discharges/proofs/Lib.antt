@@ -1,0 +1,5 @@
+pub mod Accepts
+pub mod Called
+pub mod Made
+pub mod Prepared
+pub mod Settles
