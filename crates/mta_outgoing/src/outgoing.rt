@@ -29,10 +29,8 @@ fn deferred_time(arrival: u64, moment: u64, deferral: Option<u64>) -> Option<u64
     ensures exact { (t : TablesValue) → result ≡ deferred_time (situation t arrival moment) deferral }
     ensures moment { IfSome result (λ m. m ≤ last_moment) }
 {
-    match deferral {
-        None => None,
-        Some(until) => { if arrival < until { Some(moment) } else { None } }
-    }
+    let until = deferral?;
+    if arrival < until { Some(moment) } else { None }
 }
 
 /// A trace with the own element behind it, which is the same at each moment.

@@ -13,7 +13,7 @@ use mta_reported::Reported;
 use std::alloc::Global;
 
 /// What a report says of its subject message.
-#[derive(Debug, Drop)]
+#[derive(Drop)]
 pub struct Subject {
     pub subject: MtsId,
     pub subject_trace: Option<Octets>,
@@ -23,7 +23,7 @@ pub struct Subject {
 }
 
 /// What else a report has, but its trace.
-#[derive(Debug, Drop)]
+#[derive(Drop)]
 pub struct Others {
     pub id: MtsId,
     pub destination: OrName,

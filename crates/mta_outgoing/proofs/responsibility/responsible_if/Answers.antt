@@ -1,4 +1,4 @@
-use Rattle.std.proofs.Common.{◌≡◌, sym, ap, subst, ◌∙◌}
+use Rattle.std.proofs.Common.{sym, ap, subst, ◌∙◌}
 use Rattle.mta_recipient.specs.declared.recipient.RecipientFields.{RecipientFields}
 use Rattle.mta_recipient.specs.Recipients.{IsRecipient}
 use Rattle.mta_procedures.specs.Copies.{responsible_if}
