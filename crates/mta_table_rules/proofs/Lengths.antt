@@ -10,7 +10,7 @@ use Rattle.mta_names.specs.Names.{canonical_name}
 use Rattle.mta_fields.specs.declared.expansion.ExpansionFields.{ExpansionFields}
 use Rattle.mta_fields.specs.declared.extension.ExtFields.{ExtFields}
 use Rattle.mta_fields.specs.Expansions.{canonical_expansion}
-use Rattle.mta_fields.specs.ExtensionFields.{canonical_criticality, canonical_ext, canonical_kind, canonical_value, null}
+use Rattle.mta_fields.specs.ExtensionFields.{canonical_criticality, canonical_ext, canonical_kind, null}
 use Rattle.mta_common.specs.ExtensionLists.{canonical_ext_list}
 use Rattle.mta_recipient.specs.declared.recipient.RecipientFields.{RecipientFields}
 use Rattle.mta_envelope.specs.declared.envelope.EnvelopeFields.{EnvelopeFields}
@@ -18,7 +18,7 @@ use Rattle.mta_envelope.specs.Envelopes.{envelope_back, envelope_content, envelo
 use Rattle.mta_envelope.specs.Messages.{canonical_message}
 use Rattle.mta_tables.specs.declared.entry.MailList.{MailList}
 use Rattle.mta_tables.specs.Tables.{TablesValue}
-use Rattle.mta_procedures.specs.Members.{expanded_history, expansion_of, history_field, history_octets, is_history_field}
+use Rattle.mta_procedures.specs.Members.{expanded_history, history_field, history_octets, is_history_field}
 use Rattle.mta_procedures.specs.Members.{members_envelope, with_history}
 use Rattle.mta_procedures.specs.Situations.{Situation, situation}
 use Rattle.mta_procedures.proofs.LongLaws.{AsLong, both, behind, before, around}

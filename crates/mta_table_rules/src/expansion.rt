@@ -177,9 +177,7 @@ fn expanded_to(
     )?;
     let behind = number_behind(number, &first);
     let envelope = &message.envelope;
-    let report = expansion_report(
-        alloc, tables, behind, arrival, envelope, who, list, moment,
-    )?;
+    let report = expansion_report(alloc, tables, behind, arrival, envelope, who, list, moment)?;
     let second = report_item(alloc, report, moment)?;
     Ok(Made { first, second })
 }
@@ -213,7 +211,8 @@ fn expanded_for(
     requires number { number ≤ 2 ^ 32 }
     requires arrived { arrival ≤ last_moment }
     requires fits { moment ≤ last_moment }
-    requires list { Expands (verdict_under tables.now (apdus.message (message_value message.now)) arrival recipient moment) }
+    requires list { Expands
+        (verdict_under tables.now (apdus.message (message_value message.now)) arrival recipient moment) }
     ensures { let m = message_value message.now in
         let who = numbered message.now.envelope.recipients recipient in IfOk result (λ made. made_items made
         ≡ map (own_item moment) (expanded_for tables.now number arrival m who moment)) }

@@ -11,6 +11,3 @@ mod table_rules;
 mod verdicts;
 
 pub use table_rules::TableRules;
-
-#[cfg(test)]
-mod tests;

@@ -51,10 +51,8 @@ fn is_of_list(list: &MailList, recipient: &Recipient) -> bool
 fn was_expanded(list: &MailList, recipients: &[Recipient], statuses: &[Option<Status>]) -> bool
     ensures { result ≡ list_any (is_expanded_as list.now) (zip recipients.now (map is_expanded statuses.now)) }
 {
-    recipients
-        .iter()
-        .zip(statuses)
-        .any(|(recipient, status)| is_expanded(status) && is_of_list(list, recipient))
+    recipients.iter().zip(statuses).any(|(recipient, status)| is_expanded(status)
+        && is_of_list(list, recipient))
 }
 
 fn is_same_id(first: &MtsId, second: &MtsId) -> bool

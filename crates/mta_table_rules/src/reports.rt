@@ -168,11 +168,7 @@ fn non_delivery_report_in(
 }
 
 /// The item that is a report, where there is one.
-pub fn report_item(
-    alloc: Global,
-    made: Option<Report>,
-    moment: u64,
-) -> Result<Option<Item>, Memory>
+pub fn report_item(alloc: Global, made: Option<Report>, moment: u64) -> Result<Option<Item>, Memory>
     ensures { IfOk result (λ i. i ≡ option_map (own_item moment) (option_map report made)) }
 {
     let Some(report) = made else {

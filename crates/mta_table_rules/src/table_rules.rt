@@ -172,6 +172,14 @@ impl Rules for TableRules {
         recipient: u32,
         moment: u64,
     ) -> Result<Outgoing, Memory> {
-        outgoing_copy(alloc, &self.tables, activity, item, recipients, recipient, moment)
+        outgoing_copy(
+            alloc,
+            &self.tables,
+            activity,
+            item,
+            recipients,
+            recipient,
+            moment,
+        )
     }
 }
