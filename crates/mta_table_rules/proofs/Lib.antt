@@ -7,4 +7,5 @@ pub mod Numbered
 pub mod Read
 pub mod Reported
 pub mod Sames
+pub mod Texts
 pub mod Walking
