@@ -1,6 +1,6 @@
 -- The copies for peers.
-use Rattle.std.proofs.Common.{◌≡◌, ℕ, ◌+◌, ◌-◌, ◌<◌, ◌≤◌, ◌^◌, Bool, true, false, List, [], ◌∷◌}
-use Rattle.std.proofs.Common.{◌++◌, length, take, drop, Option, Some, None, refl, sym, ap, subst, ◌∙◌, arith}
+use Rattle.std.proofs.Common.{◌≡◌, ℕ, ◌+◌, ◌-◌, ◌<◌, ◌^◌, true, List, [], ◌∷◌}
+use Rattle.std.proofs.Common.{◌++◌, length, take, drop, Option, Some, None, refl, sym, ap, ◌∙◌, arith}
 use Rattle.std.proofs.Common.{append_assoc, length-append, append-nil}
 use Rattle.std.proofs.Math.Nat.{add-zero}
 use Rattle.std.specs.Borrow.{Bor}
@@ -8,9 +8,9 @@ use Rattle.std.specs.Option.{option_map}
 use Rattle.std.proofs.Math.Seq.{take-append_seam, drop-append_seam}
 use Rattle.std.proofs.lemmas.List.{length-take-le, length-drop}
 use Rattle.std.proofs.lemmas.Option.{same_Some}
-use Rattle.mta_ber.specs.Spelling.{Stands, ending_of}
+use Rattle.mta_ber.specs.Spelling.{ending_of}
 use Rattle.mta_names.specs.declared.attributes.Attributes.{Attributes}
-use Rattle.mta_records.specs.Outgoing.{Carried, carried}
+use Rattle.mta_records.specs.Outgoing.{carried}
 use Rattle.mta_recipient.specs.declared.recipient.RecipientFields.{RecipientFields}
 use Rattle.mta_envelope.specs.declared.content.Content.{Content}
 use Rattle.mta_envelope.specs.declared.content.Content.TheVariants.{Lent, Joined}
@@ -18,16 +18,14 @@ use Rattle.mta_envelope.specs.declared.envelope.EnvelopeFields.{EnvelopeFields}
 use Rattle.mta_envelope.specs.declared.place.Place.{Place}
 use Rattle.mta_envelope.specs.Contents.{octets_of}
 use Rattle.mta_envelope.specs.Messages.{MessageValue}
-use Rattle.mta_envelope.specs.Places.{IsPlaced, IsPlacedAt}
+use Rattle.mta_envelope.specs.Places.{IsPlaced}
 use Rattle.mta_report.specs.declared.fields.ReportFields.{ReportFields}
 use Rattle.mta_apdu.specs.declared.apdu.Apdu.{Apdu}
 use Rattle.mta_apdu.specs.declared.apdu.Apdu.TheVariants as apdu
 use Rattle.mta_apdu.specs.Apdus.{ApduValue, message, probe, report, IsContentOf, IsPlacedIn}
-use Rattle.mta_tables.specs.Hops.{best_hop}
 use Rattle.mta_tables.specs.Tables.{TablesValue}
-use Rattle.mta_procedures.specs.declared.verdict.Verdict.{Verdict}
 use Rattle.mta_procedures.specs.declared.verdict.Verdict.TheVariants as Verdicts
-use Rattle.mta_procedures.specs.Copies.{outgoing_message, longest_copy}
+use Rattle.mta_procedures.specs.Copies.{outgoing_message}
 use Rattle.mta_procedures.specs.Heads.{outgoing_head}
 use Rattle.mta_procedures.specs.Situations.{Situation, situation}
 use Rattle.mta_procedures.specs.Verdicts.{length_for_members, verdict_of_probe, verdict_of_report}
@@ -35,7 +33,7 @@ use Rattle.mta_procedures.specs.Verdicts.{verdict_on_message}
 use Rattle.mta_procedures.proofs.HeadLaws.{head_is_in_front}
 use Rattle.mta_procedures.proofs.RelayLaws.{relayed_messages, relayed_probes, relayed_reports}
 use Rattle.mta_machine.specs.Items.{numbered}
-use Rattle.mta_machine.specs.Rules.{copy_under, verdict_under}
+use Rattle.mta_machine.specs.Rules.{verdict_under}
 use Rattle.mta_replay.specs.Asked.{Relays}
 use Rattle.mta_table_rules.specs.Copied.{HasCopy, IsCut, IsCutAt, IsCutIn}
 

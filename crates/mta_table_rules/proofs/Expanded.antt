@@ -1,29 +1,27 @@
 -- What the expansion of a list makes.
-use Rattle.std.proofs.Common.{◌≡◌, ℕ, ◌+◌, ◌<◌, ◌≤◌, Bool, true, false, List, [], ◌∷◌, ◌++◌, length, map}
-use Rattle.std.proofs.Common.{Option, Some, None, refl, sym, ap, subst, ◌∙◌, arith}
+use Rattle.std.proofs.Common.{◌≡◌, ℕ, ◌+◌, false, List, [], ◌++◌, length, map}
+use Rattle.std.proofs.Common.{Option, Some, None, refl, sym, ap, ◌∙◌}
 use Rattle.std.specs.Prelude.{option_to_list, slice_get}
 use Rattle.std.specs.Option.{option_map, option_map_or}
 use Rattle.std.proofs.lemmas.List.{map-append}
 use Rattle.std.proofs.lemmas.Option.{same_Some}
 use Rattle.mta_recipient.specs.declared.recipient.RecipientFields.{RecipientFields}
-use Rattle.mta_envelope.specs.declared.envelope.EnvelopeFields.{EnvelopeFields}
 use Rattle.mta_envelope.specs.Messages.{MessageValue}
 use Rattle.mta_report.specs.declared.fields.ReportFields.{ReportFields}
-use Rattle.mta_apdu.specs.Apdus.{ApduValue, message, probe, report}
+use Rattle.mta_apdu.specs.Apdus.{ApduValue, message, report}
 use Rattle.mta_tables.specs.declared.entry.MailList.{MailList}
 use Rattle.mta_tables.specs.declared.hop.Hop.{Hop}
 use Rattle.mta_tables.specs.declared.hop.Hop.TheVariants as Hops
 use Rattle.mta_tables.specs.Hops.{best_hop}
 use Rattle.mta_tables.specs.Tables.{TablesValue}
-use Rattle.mta_procedures.specs.declared.verdict.Verdict.{Verdict}
 use Rattle.mta_procedures.specs.declared.verdict.Verdict.TheVariants as Verdicts
 use Rattle.mta_procedures.specs.Ends.{IsExpanded}
 use Rattle.mta_procedures.specs.Facts.{list_at}
-use Rattle.mta_procedures.specs.Histories.{is_in_history, longest_history}
+use Rattle.mta_procedures.specs.Histories.{is_in_history}
 use Rattle.mta_procedures.specs.Members.{members_copy}
 use Rattle.mta_procedures.specs.Reports.{expansion_report}
 use Rattle.mta_procedures.specs.Situations.{Situation, situation}
-use Rattle.mta_procedures.specs.Verdicts.{length_for_members, verdict_of_message, verdict_on_message}
+use Rattle.mta_procedures.specs.Verdicts.{length_for_members, verdict_on_message}
 use Rattle.mta_procedures.proofs.EndLaws.{expanded_have_room}
 use Rattle.mta_machine.specs.Items.{ItemValue, numbered}
 use Rattle.mta_machine.specs.Machine.{own_item}

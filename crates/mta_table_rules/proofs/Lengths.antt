@@ -3,7 +3,7 @@ use Rattle.std.proofs.Common.{◌≡◌, ℕ, Bool, true, false, List, [], ◌�
 use Rattle.std.specs.Prelude.{bytes_eq, if◌then◌else◌}
 use Rattle.std.specs.List.{flat_map}
 use Rattle.mta_ber.specs.declared.tag.Tag.{Tag}
-use Rattle.mta_ber.specs.Canon.{element, ident_octets, constructed, primitive}
+use Rattle.mta_ber.specs.Canon.{element, ident_octets, constructed}
 use Rattle.mta_ber.specs.Contents.{utc_content}
 use Rattle.mta_names.specs.declared.attributes.Attributes.{Attributes}
 use Rattle.mta_names.specs.Names.{canonical_name}
@@ -20,8 +20,8 @@ use Rattle.mta_tables.specs.declared.entry.MailList.{MailList}
 use Rattle.mta_tables.specs.Tables.{TablesValue}
 use Rattle.mta_procedures.specs.Members.{expanded_history, history_field, history_octets, is_history_field}
 use Rattle.mta_procedures.specs.Members.{members_envelope, with_history}
-use Rattle.mta_procedures.specs.Situations.{Situation, situation}
-use Rattle.mta_procedures.proofs.LongLaws.{AsLong, both, behind, before, around}
+use Rattle.mta_procedures.specs.Situations.{situation}
+use Rattle.mta_procedures.proofs.LongLaws.{AsLong, behind, before, around}
 
 -- ---- the history
 

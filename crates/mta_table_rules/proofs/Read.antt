@@ -1,12 +1,10 @@
 -- What the text of tables and the octets of an item give, once they are read.
-use Rattle.std.proofs.Common.{◌≡◌, ℕ, Bool, true, false, List, [], Option, Some, None, refl, sym, ap, ◌∙◌}
+use Rattle.std.proofs.Common.{◌≡◌, ℕ, List, Option, Some, None, sym, ap, ◌∙◌}
 use Rattle.std.proofs.Common.{Result, Ok, Err}
 use Rattle.std.specs.Prelude.{IfOk, is_some, option_and_then}
 use Rattle.std.specs.Option.{option_map}
 use Rattle.mta_apdu.specs.declared.apdu.Apdu.{Apdu}
 use Rattle.mta_apdu.specs.Apdus.{ApduValue, apdu_value}
-use Rattle.mta_recipient.specs.declared.recipient.RecipientFields.{RecipientFields}
-use Rattle.mta_envelope.specs.declared.envelope.EnvelopeFields.{EnvelopeFields}
 use Rattle.mta_tables.specs.Tables.{TablesValue, peer_of}
 use Rattle.mta_procedures.specs.Reports as reports
 use Rattle.mta_machine.specs.Apdu.{value_of}

@@ -1,4 +1,4 @@
-use Rattle.std.proofs.Common.{◌≡◌, ℕ, List, ap, ◌∙◌}
+use Rattle.std.proofs.Common.{ap, ◌∙◌}
 use Rattle.mta_envelope.specs.Messages.{MessageValue, message_value}
 use Rattle.mta_procedures.specs.Heads.{outgoing_head}
 use Rattle.mta_procedures.specs.Situations.{situation}

@@ -1,4 +1,4 @@
-use Rattle.std.proofs.Common.{◌<◌, length, Some, arith}
+use Rattle.std.proofs.Common.{◌<◌, length, arith}
 use Rattle.mta_table_rules.proofs.Walking.{first_walks, no_items, one_other}
 use Rattle.mta_table_rules.proofs.passing.first_walk.Goals as goal
 

@@ -1,4 +1,4 @@
-use Rattle.std.proofs.Common.{◌≡◌, List, ℕ, None, Some}
+use Rattle.std.proofs.Common.{◌≡◌, None, Some}
 use Rattle.std.specs.Option.{option_map}
 use Rattle.mta_apdu.specs.Apdus.{ApduValue, apdu_value, report}
 use Rattle.mta_machine.specs.Machine.{own_item}

@@ -1,4 +1,4 @@
-use Rattle.std.proofs.Common.{◌≡◌, Option, ap, ◌∙◌}
+use Rattle.std.proofs.Common.{Option, ap, ◌∙◌}
 use Rattle.std.specs.Option.{option_map_or}
 use Rattle.mta_ber.specs.Lengths.{octet_length}
 use Rattle.mta_envelope.specs.Messages.{MessageValue, message_value}

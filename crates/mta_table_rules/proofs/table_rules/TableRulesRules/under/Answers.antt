@@ -6,9 +6,10 @@ use Rattle.mta_table_rules.proofs.Texts.{is_text, no_text, text_kept}
 use Rattle.mta_table_rules.proofs.table_rules.TableRulesRules.under.Goals as goal
 
 pub returns-in-Ok : goal.returns-in-Ok
-returns-in-Ok c =
-    (text_kept c.args.octets.now c.in-Ok.tables c.in-Ok.ensures.exact,
-    is_text c.args.octets.now c.in-Ok.tables c.in-Ok.ensures.exact)
+returns-in-Ok c = (
+  text_kept c.args.octets.now c.in-Ok.tables c.in-Ok.ensures.exact,
+  is_text c.args.octets.now c.in-Ok.tables c.in-Ok.ensures.exact,
+)
 
 pub returns-in-Err-BadLine : goal.returns-in-Err-BadLine
 returns-in-Err-BadLine c =
