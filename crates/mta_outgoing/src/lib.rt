@@ -7,3 +7,4 @@ mod parts;
 mod responsibility;
 
 pub use outgoing::{outgoing_head, outgoing_message, outgoing_probe, outgoing_report};
+pub use parts::report_with;

@@ -7,3 +7,4 @@ mod report;
 mod walk;
 
 pub use report::{make_report, report_on};
+pub use walk::{list_named, report_walk};

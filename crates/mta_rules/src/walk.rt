@@ -25,6 +25,13 @@ fn list_among<'a>(lists: &'a [MailList], name: &OrName) -> Option<&'a MailList>
     lists.iter().find(|list| is_of_list(list, name))
 }
 
+/// The list of a name.
+pub fn list_named<'a>(tables: &'a Tables, name: &OrName) -> Option<&'a MailList>
+    ensures { option_copied result ≡ list_named tables.now name.now }
+{
+    list_among(tables.lists(), name)
+}
+
 /// From the list that was expanded last to the originator: a name that is no list here is it, a list that keeps
 /// reports ends the walk, and one that sends them back is passed over.
 #[tactic(auto, using(crate::proofs::Digits::last_first))]

@@ -1,0 +1,204 @@
+-- The copies for peers.
+use Rattle.std.proofs.Common.{◌≡◌, ℕ, ◌+◌, ◌-◌, ◌<◌, ◌^◌, true, List, [], ◌∷◌}
+use Rattle.std.proofs.Common.{◌++◌, length, take, drop, Option, Some, None, refl, sym, ap, ◌∙◌, arith}
+use Rattle.std.proofs.Common.{append_assoc, length-append, append-nil}
+use Rattle.std.proofs.Math.Nat.{add-zero}
+use Rattle.std.specs.Borrow.{Bor}
+use Rattle.std.specs.Option.{option_map}
+use Rattle.std.proofs.Math.Seq.{take-append_seam, drop-append_seam}
+use Rattle.std.proofs.lemmas.List.{length-take-le, length-drop}
+use Rattle.std.proofs.lemmas.Option.{same_Some}
+use Rattle.mta_ber.specs.Spelling.{ending_of}
+use Rattle.mta_names.specs.declared.attributes.Attributes.{Attributes}
+use Rattle.mta_records.specs.Outgoing.{carried}
+use Rattle.mta_recipient.specs.declared.recipient.RecipientFields.{RecipientFields}
+use Rattle.mta_envelope.specs.declared.content.Content.{Content}
+use Rattle.mta_envelope.specs.declared.content.Content.TheVariants.{Lent, Joined}
+use Rattle.mta_envelope.specs.declared.envelope.EnvelopeFields.{EnvelopeFields}
+use Rattle.mta_envelope.specs.declared.place.Place.{Place}
+use Rattle.mta_envelope.specs.Contents.{octets_of}
+use Rattle.mta_envelope.specs.Messages.{MessageValue}
+use Rattle.mta_envelope.specs.Places.{IsPlaced}
+use Rattle.mta_report.specs.declared.fields.ReportFields.{ReportFields}
+use Rattle.mta_apdu.specs.declared.apdu.Apdu.{Apdu}
+use Rattle.mta_apdu.specs.declared.apdu.Apdu.TheVariants as apdu
+use Rattle.mta_apdu.specs.Apdus.{ApduValue, message, probe, report, IsContentOf, IsPlacedIn}
+use Rattle.mta_tables.specs.Tables.{TablesValue}
+use Rattle.mta_procedures.specs.declared.verdict.Verdict.TheVariants as Verdicts
+use Rattle.mta_procedures.specs.Copies.{outgoing_message}
+use Rattle.mta_procedures.specs.Heads.{outgoing_head}
+use Rattle.mta_procedures.specs.Situations.{Situation, situation}
+use Rattle.mta_procedures.specs.Verdicts.{length_for_members, verdict_of_probe, verdict_of_report}
+use Rattle.mta_procedures.specs.Verdicts.{verdict_on_message}
+use Rattle.mta_procedures.proofs.HeadLaws.{head_is_in_front}
+use Rattle.mta_procedures.proofs.RelayLaws.{relayed_messages, relayed_probes, relayed_reports}
+use Rattle.mta_machine.specs.Items.{numbered}
+use Rattle.mta_machine.specs.Rules.{verdict_under}
+use Rattle.mta_replay.specs.Asked.{Relays}
+use Rattle.mta_table_rules.specs.Copied.{HasCopy, IsCut, IsCutAt, IsCutIn}
+
+-- ---- where a content lies
+
+-- octets behind a front of so many
+record IsBehind (whole octets : List ℕ) (offset : ℕ) : Type 0 where
+  front : List ℕ
+  back : List ℕ
+  whole_is : whole ≡ front ++ (octets ++ back)
+  offset_is : offset ≡ length front
+
+alone : (octets : List ℕ) → IsBehind octets octets 0
+alone octets = record { front = []; back = []; whole_is = sym (append-nil octets); offset_is = refl }
+
+regrouped : (a f octets b back : List ℕ) → a ++ ((f ++ (octets ++ b)) ++ back) ≡ (a ++ f) ++ (octets ++ (b ++ back))
+regrouped a f octets b back = simp append_assoc
+
+-- behind one front more
+behind_more : (big a whole back octets : List ℕ) (total offset : ℕ) → big ≡ a ++ (whole ++ back)
+    → total ≡ length a + offset → IsBehind whole octets offset → IsBehind big octets total
+behind_more big a whole back octets total offset e n h =
+    let count = length-append a h.front in
+    let is = h.offset_is in
+    record {
+      front = a ++ h.front;
+      back = h.back ++ back;
+      whole_is =
+          e ∙ ap (λ xs. a ++ (xs ++ back)) h.whole_is ∙ regrouped a h.front octets h.back back;
+      offset_is = omega (arith, count, n, is);
+    }
+
+content_behind : (whole octets : List ℕ) (offset : ℕ) → IsContentOf whole octets offset
+    → IsBehind whole octets offset
+content_behind whole octets offset h =
+    let inside = h.inside in
+    let last = inside.last in
+    let in_string : IsBehind inside.string octets inside.inner_offset =
+    behind_more inside.string last.stands.header octets (ending_of last.stands.count) octets inside.inner_offset 0
+    last.stands.octets_are (last.offset_is ∙ sym (add-zero (length last.stands.header))) (alone octets) in
+    let in_content : IsBehind h.content octets h.inner_offset =
+    behind_more h.content inside.envelope inside.string [] octets h.inner_offset inside.inner_offset
+    (inside.joined ∙ ap (λ xs. inside.envelope ++ xs) (sym (append-nil inside.string))) inside.offset_is in_string in
+    behind_more whole h.stands.header h.content (ending_of h.stands.count) octets offset h.inner_offset
+    h.stands.octets_are h.offset_is in_content
+
+cut_at : (whole octets : List ℕ) (from to offset : ℕ) → IsBehind whole octets offset → from ≡ offset
+    → to ≡ from + length octets → IsCut whole octets from to
+cut_at whole octets from to offset h e n =
+    let front = h.front in
+    let back = h.back in
+    let is = h.offset_is in
+    let counted = ap length h.whole_is in
+    let first = length-append front (octets ++ back) in
+    let second = length-append octets back in
+    let begin : from ≡ length front = omega (arith, e, is) in
+    let count : to - from ≡ length octets = omega (arith, n) in
+    record {
+      order = omega (arith, n);
+      within = omega (arith, n, begin, counted, first, second);
+      cut =
+          ap (λ k. take k (drop from whole)) count
+          ∙ ap (λ k. take (length octets) (drop k whole)) begin
+          ∙ ap (λ xs. take (length octets) (drop (length front) xs)) h.whole_is
+          ∙ ap (λ xs. take (length octets) xs) (drop-append_seam front (octets ++ back))
+          ∙ take-append_seam octets back;
+    }
+
+content_placed : (whole : Bor (List ℕ)) (c : Content) (place : Option Place)
+    → IsPlaced IsContentOf 0 whole c place → IsCutAt whole.now (octets_of c) place
+content_placed whole (Lent c) (Some place) h =
+    let from = h.from_is in
+    let begin : place.from ≡ h.offset = omega (arith, from) in
+    cut_at whole.now c.now place.from place.to h.offset (content_behind whole.now c.now h.offset h.stands) begin
+    h.to_is
+content_placed whole (Joined o) None h = tt
+content_placed whole (Lent c) None h = tt
+content_placed whole (Joined o) (Some place) h = absurd h
+
+pub placed : (whole : Bor (List ℕ)) (a : Apdu) → IsPlacedIn whole a → IsCutIn whole.now a
+placed whole (apdu.Message m) h = content_placed whole m.content m.place h
+placed whole (apdu.Probe p) h = tt
+placed whole (apdu.Report r) h = tt
+
+-- ---- copies that can be sent
+
+by_message : (t : TablesValue) (m : MessageValue) (arrival : ℕ) (rs : List ℕ) (moment place : ℕ)
+    (o : Option RecipientFields)
+    → option_map (verdict_on_message (situation t arrival moment) m) o ≡ Some (Verdicts.Relay place)
+    → HasCopy t (message m) arrival rs moment
+by_message t m arrival rs moment place None e = absurd cc
+by_message t m arrival rs moment place (Some x) e =
+    let s : Situation = situation t arrival moment in
+    let is = relayed_messages s s m x (length_for_members s m x) place rs refl refl
+    (same_Some (verdict_on_message s m x) (Verdicts.Relay place) e) in
+    record { short_trace = is.short_trace; few = is.few }
+
+by_probe : (t : TablesValue) (v : EnvelopeFields) (arrival : ℕ) (rs : List ℕ) (moment place : ℕ)
+    (o : Option RecipientFields)
+    → option_map (verdict_of_probe (situation t arrival moment) v) o ≡ Some (Verdicts.Relay place)
+    → HasCopy t (probe v) arrival rs moment
+by_probe t v arrival rs moment place None e = absurd cc
+by_probe t v arrival rs moment place (Some x) e =
+    let s : Situation = situation t arrival moment in
+    let is = relayed_probes s s v x place rs refl refl
+    (same_Some (verdict_of_probe s v x) (Verdicts.Relay place) e) in
+    record { short_trace = is.short_trace; few = is.few }
+
+by_report : (t : TablesValue) (v : ReportFields) (arrival : ℕ) (rs : List ℕ) (moment place : ℕ)
+    (o : Option Attributes)
+    → option_map (λ (n : Attributes). verdict_of_report (situation t arrival moment) v true) o
+    ≡ Some (Verdicts.Relay place)
+    → HasCopy t (report v) arrival rs moment
+by_report t v arrival rs moment place None e = absurd cc
+by_report t v arrival rs moment place (Some n) e =
+    let s : Situation = situation t arrival moment in
+    let is = relayed_reports s s v true place refl refl
+    (same_Some (verdict_of_report s v true) (Verdicts.Relay place) e) in
+    record { short_trace = is.short_trace; few = is.few }
+
+-- who is relayed has a copy
+pub relayed : (t : TablesValue) (v : ApduValue) (arrival r : ℕ) (rs : List ℕ) (moment : ℕ)
+    → Relays (verdict_under t v arrival r moment) → HasCopy t v arrival rs moment
+relayed t (message m) arrival r rs moment h =
+    by_message t m arrival rs moment h.0 (numbered m.envelope.recipients r) h.1
+relayed t (probe v) arrival r rs moment h = by_probe t v arrival rs moment h.0 (numbered v.recipients r) h.1
+relayed t (report v) arrival r rs moment h =
+    by_report t v arrival rs moment h.0 (numbered (v.destination ∷ []) r) h.1
+
+-- ---- the copy of a message: a head, and the content
+
+-- the head and the content are as many octets as the copy
+pub few_octets : (t : TablesValue) (m : MessageValue) (arrival : ℕ) (rs head rest : List ℕ) (moment from to : ℕ)
+    → HasCopy t (message m) arrival rs moment
+    → head ≡ outgoing_head (situation t arrival moment) m rs → IsCut rest m.content.octets from to
+    → length head + (to - from) < 2 ^ 32
+few_octets t m arrival rs head rest moment from to copy e cut =
+    let s : Situation = situation t arrival moment in
+    let whole = ap length (head_is_in_front s m rs) in
+    let both = length-append (outgoing_head s m rs) m.content.octets in
+    let long = ap length e in
+    let few = copy.few in
+    let order = cut.order in
+    let within = cut.within in
+    let dropped = length-drop from rest in
+    let count : length (take (to - from) (drop from rest)) ≡ to - from =
+    length-take-le (to - from) (drop from rest) (omega (arith, order, within, dropped)) in
+    let same = ap length cut.cut in
+    omega (arith, whole, both, long, few, count, same)
+
+pub few_content : (t : TablesValue) (m : MessageValue) (arrival : ℕ) (rs : List ℕ) (moment : ℕ)
+    → HasCopy t (message m) arrival rs moment → length m.content.octets < 2 ^ 32
+few_content t m arrival rs moment copy =
+    let s : Situation = situation t arrival moment in
+    let whole = ap length (head_is_in_front s m rs) in
+    let both = length-append (outgoing_head s m rs) m.content.octets in
+    let few = copy.few in
+    omega (arith, whole, both, few)
+
+pub copy_made : (t : TablesValue) (m : MessageValue) (arrival : ℕ) (rs head rest : List ℕ)
+    (moment activity from to : ℕ)
+    → head ≡ outgoing_head (situation t arrival moment) m rs → IsCut rest m.content.octets from to
+    → carried activity head rest from to
+    ≡ record { activity = activity; octets = outgoing_message (situation t arrival moment) m rs }
+copy_made t m arrival rs head rest moment activity from to e cut =
+    let s : Situation = situation t arrival moment in
+    ap (λ (xs : List ℕ). record { activity = activity; octets = xs })
+    (ap (λ xs. head ++ xs) cut.cut ∙ ap (λ xs. xs ++ m.content.octets) e ∙ sym (head_is_in_front s m rs))

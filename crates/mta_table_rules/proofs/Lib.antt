@@ -1,0 +1,11 @@
+pub mod Codes
+pub mod Copied
+pub mod Counts
+pub mod Expanded
+pub mod Lengths
+pub mod Numbered
+pub mod Read
+pub mod Reported
+pub mod Sames
+pub mod Texts
+pub mod Walking

@@ -1,0 +1,13 @@
+//! The rules of X.411, clause 14, under the tables of one text.
+#![tactic(auto)]
+
+mod copies;
+mod expansion;
+mod names;
+mod passing;
+mod reading;
+mod reports;
+mod table_rules;
+mod verdicts;
+
+pub use table_rules::TableRules;

@@ -1,0 +1,185 @@
+//! The rules under tables.
+
+use crate::copies::outgoing_copy;
+use crate::expansion::expansion_items;
+use crate::names::{mailbox_at, names_peer, peer_at, routes_to};
+use crate::passing::{passed_item, passes_back};
+use crate::reading::text_reads;
+use crate::reports::{delivery_item, non_delivery_item};
+use crate::verdicts::{has_expired, verdict};
+use mta_ber::{Memory, Word};
+use mta_items::Made;
+use mta_machine::Item;
+use mta_procedures::Verdict;
+use mta_records::Outgoing;
+use mta_replay::Rules;
+use mta_tables::{Tables, TablesFault};
+use std::alloc::Global;
+use std::marker::Model;
+
+/// The rules of X.411, clause 14, under tables.
+#[derive(Debug, Drop)]
+pub struct TableRules {
+    tables: Tables,
+}
+
+impl Model for TableRules {
+    ghost use Rattle.mta_tables.specs.Tables.{TablesValue};
+
+    ghost Value = { TablesValue };
+
+    ghost view = { λ r. r.tables };
+}
+
+impl TableRules {
+    ghost use Rattle.std.specs.Prelude.{◌≡◌};
+
+    /// The rules under these tables.
+    pub fn new(tables: Tables) -> TableRules
+        ensures { result ≡ tables }
+    {
+        TableRules { tables }
+    }
+
+    /// The tables.
+    pub fn tables(&self) -> &Tables
+        ensures { result.now ≡ self.now }
+    {
+        &self.tables
+    }
+}
+
+impl Rules for TableRules {
+    ghost use Rattle.mta_table_rules.specs.Text.{text_of};
+
+    ghost text = { text_of };
+
+    fn under(alloc: Global, octets: &[u8]) -> Result<Option<TableRules>, Memory> {
+        match Tables::read(alloc, octets) {
+            Ok(tables) => Ok(Some(TableRules { tables })),
+            Err(TablesFault::BadLine { .. }) => Ok(None),
+            Err(TablesFault::Memory) => Err(Memory),
+        }
+    }
+
+    fn verdict(
+        &self,
+        alloc: Global,
+        octets: &[u8],
+        arrival: u64,
+        recipient: u32,
+        moment: u64,
+    ) -> Result<Option<Verdict>, Memory> {
+        verdict(alloc, &self.tables, octets, arrival, recipient, moment)
+    }
+
+    fn has_expired(
+        &self,
+        alloc: Global,
+        octets: &[u8],
+        arrival: u64,
+        moment: u64,
+    ) -> Result<bool, Memory> {
+        has_expired(alloc, &self.tables, octets, arrival, moment)
+    }
+
+    fn passes_back(&self, alloc: Global, items: &[Item], item: &Item) -> Result<bool, Memory> {
+        passes_back(alloc, &self.tables, items, item)
+    }
+
+    fn routes_to(
+        &self,
+        alloc: Global,
+        octets: &[u8],
+        recipient: u32,
+        peer: &[u8],
+    ) -> Result<bool, Memory> {
+        routes_to(alloc, &self.tables, octets, recipient, peer)
+    }
+
+    fn names_peer(&self, word: &[u8]) -> bool {
+        names_peer(&self.tables, word)
+    }
+
+    fn peer_at(&self, place: u32) -> Option<&[u8]> {
+        peer_at(&self.tables, place)
+    }
+
+    fn mailbox_at(&self, place: u32) -> Option<&Word> {
+        mailbox_at(&self.tables, place)
+    }
+
+    fn delivery_report(
+        &self,
+        alloc: Global,
+        number: u64,
+        item: &Item,
+        recipient: u32,
+        moment: u64,
+    ) -> Result<Option<Item>, Memory> {
+        delivery_item(alloc, &self.tables, number, item, recipient, moment)
+    }
+
+    fn non_delivery_report(
+        &self,
+        alloc: Global,
+        number: u64,
+        item: &Item,
+        recipient: u32,
+        reason: u32,
+        diagnostic: Option<u32>,
+        moment: u64,
+    ) -> Result<Option<Item>, Memory> {
+        non_delivery_item(
+            alloc,
+            &self.tables,
+            number,
+            item,
+            recipient,
+            reason,
+            diagnostic,
+            moment,
+        )
+    }
+
+    fn expansion(
+        &self,
+        alloc: Global,
+        number: u64,
+        item: &Item,
+        recipient: u32,
+        moment: u64,
+    ) -> Result<Made, Memory> {
+        expansion_items(alloc, &self.tables, number, item, recipient, moment)
+    }
+
+    fn passed_back(
+        &self,
+        alloc: Global,
+        items: &[Item],
+        item: &Item,
+        moment: u64,
+    ) -> Result<Option<Item>, Memory> {
+        passed_item(alloc, &self.tables, items, item, moment)
+    }
+
+    fn outgoing_copy(
+        &self,
+        alloc: Global,
+        activity: u32,
+        item: &Item,
+        recipients: &[u32],
+        recipient: u32,
+        moment: u64,
+    ) -> Result<Outgoing, Memory> {
+        outgoing_copy(
+            alloc,
+            &self.tables,
+            activity,
+            item,
+            recipients,
+            recipient,
+            moment,
+        )
+    }
+}

@@ -1,0 +1,231 @@
+//! What becomes of recipients.
+
+ghost use Rattle.std.specs.Prelude.{◌≡◌, ◌≤◌, ◌<◌, ℕ, IfOk, Some, length};
+ghost use Rattle.std.specs.Option.{option_map, option_map_or};
+ghost use Rattle.mta_ber.specs.Lengths.{octet_length};
+ghost use Rattle.mta_ber.specs.Times.{last_moment};
+ghost use Rattle.mta_envelope.specs.Messages.{message_value};
+ghost use Rattle.mta_apdu.specs.Apdus.{apdu_value};
+ghost use Rattle.mta_apdu.specs.Apdus as apdus;
+ghost use Rattle.mta_tables.specs.Hops.{best_hop};
+ghost use Rattle.mta_tables.specs.declared.hop.Hop.TheVariants as Hops;
+ghost use Rattle.mta_procedures.specs.Histories.{longest_history};
+ghost use Rattle.mta_procedures.specs.Members.{message_octets};
+ghost use Rattle.mta_procedures.specs.Situations.{situation, terms_of};
+ghost use Rattle.mta_procedures.specs.Situations as situations;
+ghost use Rattle.mta_procedures.specs.Traces.{longest_trace};
+ghost use Rattle.mta_procedures.specs.Verdicts.{verdict_of_probe, verdict_on_message};
+ghost use Rattle.mta_machine.specs.Items.{numbered};
+ghost use Rattle.mta_machine.specs.Rules.{expired_under, is_expired, verdict_of, verdict_under};
+ghost use Rattle.mta_table_rules.specs.Counts.{CountsAsLength};
+ghost use Rattle.mta_replay.specs.Asked.{CodesAreCodes};
+
+use crate::reading::{read_kept, recipient_of, text_reads};
+use mta_apdu::Apdu;
+use mta_ber::Memory;
+use mta_envelope::{Envelope, Message, Priority, Probe};
+use mta_lists::expand;
+use mta_procedures::Verdict;
+use mta_recipient::RecipientFields;
+use mta_report::Report;
+use mta_tables::{Hop, Tables};
+use mta_verdicts::{is_expired, verdict_on_message, verdict_on_probe, verdict_report};
+use std::alloc::Global;
+
+/// How many octets a members' copy has; 0 where there is none.
+fn length_of(copy: Option<Message<'_>>) -> u64
+    ensures { result ≡ option_map_or (λ c. octet_length (message_octets c)) (option_map message_value copy.entry) 0 }
+{
+    match copy {
+        Some(message) => message.length(),
+        None => 0,
+    }
+}
+
+/// How many octets the members' copy has, at whichever moment.
+fn copy_length(
+    alloc: Global,
+    tables: &Tables,
+    list: u32,
+    arrival: u64,
+    message: &Message<'_>,
+    recipient: u32,
+    who: &RecipientFields,
+) -> Result<u64, Memory>
+    requires list { best_hop tables.now who.now.name ≡ Hops.List list }
+    requires place { list < length tables.now.lists }
+    requires who { numbered message.now.envelope.recipients recipient ≡ Some who.now }
+    requires trace { length message.now.envelope.trace < longest_trace }
+    requires history { length message.now.envelope.history < longest_history }
+    requires arrival { arrival ≤ last_moment }
+    ensures { IfOk result (CountsAsLength tables.now arrival (message_value message.now) who.now) }
+{
+    let copy = expand(alloc, tables, list, arrival, message, recipient, arrival)?;
+    Ok(length_of(copy))
+}
+
+/// A number that stands for the length of the members' copy where that counts: the list is looked at, and trace and
+/// history have room.
+fn members_length(
+    alloc: Global,
+    tables: &Tables,
+    arrival: u64,
+    message: &Message<'_>,
+    recipient: u32,
+    who: &RecipientFields,
+) -> Result<u64, Memory>
+    requires who { numbered message.now.envelope.recipients recipient ≡ Some who.now }
+    requires arrival { arrival ≤ last_moment }
+    ensures { IfOk result (CountsAsLength tables.now arrival (message_value message.now) who.now) }
+{
+    let envelope = message.envelope.fields();
+    if envelope.trace.len() >= 512 {
+        return Ok(0);
+    }
+    if envelope.history.len() >= 512 {
+        return Ok(0);
+    }
+    match tables.route(&who.name) {
+        Hop::List(list) => copy_length(alloc, tables, list, arrival, message, recipient, who),
+        Hop::Local(_) | Hop::Peer(_) | Hop::None => Ok(0),
+    }
+}
+
+fn of_message(
+    alloc: Global,
+    tables: &Tables,
+    message: &Message<'_>,
+    arrival: u64,
+    recipient: u32,
+    moment: u64,
+) -> Result<Option<Verdict>, Memory>
+    requires { arrival ≤ last_moment }
+    ensures { let s = situation tables.now arrival moment in
+        let recipients = message.now.envelope.recipients in
+        IfOk result (λ v. v
+        ≡ option_map (verdict_on_message s (message_value message.now)) (numbered recipients recipient)) }
+{
+    let recipients = message.envelope.fields().recipients.as_slice();
+    let Some(found) = recipient_of(recipients, recipient) else {
+        return Ok(None);
+    };
+    let who = found.fields();
+    let members = members_length(alloc, tables, arrival, message, recipient, who)?;
+    let verdict = verdict_on_message(tables, arrival, message, who, members, moment);
+    Ok(Some(verdict))
+}
+
+fn of_probe(
+    tables: &Tables,
+    probe: &Probe,
+    arrival: u64,
+    recipient: u32,
+    moment: u64,
+) -> Option<Verdict>
+    requires { arrival ≤ last_moment }
+    ensures { let s = situation tables.now arrival moment in
+        result
+        ≡ option_map (verdict_of_probe s probe.now.envelope) (numbered probe.now.envelope.recipients recipient) }
+{
+    let recipients = probe.envelope.fields().recipients.as_slice();
+    let found = recipient_of(recipients, recipient)?;
+    Some(verdict_on_probe(tables, arrival, probe, found.fields(), moment))
+}
+
+/// A report that comes to a list has the verdict Back.
+fn of_report(
+    tables: &Tables,
+    report: &Report,
+    arrival: u64,
+    recipient: u32,
+    moment: u64,
+) -> Option<Verdict>
+    requires { arrival ≤ last_moment }
+    ensures { result ≡ verdict_under tables.now (apdus.report report.now) arrival recipient moment }
+{
+    if recipient != 1 {
+        return None;
+    }
+    let back = &report.fields().destination;
+    Some(verdict_report(tables, arrival, report, Some(back), moment))
+}
+
+fn verdict_under(
+    alloc: Global,
+    tables: &Tables,
+    apdu: &Apdu<'_>,
+    arrival: u64,
+    recipient: u32,
+    moment: u64,
+) -> Result<Option<Verdict>, Memory>
+    requires { arrival ≤ last_moment }
+    ensures { IfOk result (λ v. v ≡ verdict_under tables.now (apdu_value apdu.now) arrival recipient moment) }
+{
+    match apdu {
+        Apdu::Message(message) => of_message(alloc, tables, message, arrival, recipient, moment),
+        Apdu::Probe(probe) => Ok(of_probe(tables, probe, arrival, recipient, moment)),
+        Apdu::Report(report) => Ok(of_report(tables, report, arrival, recipient, moment)),
+    }
+}
+
+/// The verdict on a recipient of an APDU that arrived at a moment, looked at at another; none where the octets are
+/// those of no APDU, or where it has no such recipient.
+pub fn verdict(
+    alloc: Global,
+    tables: &Tables,
+    octets: &[u8],
+    arrival: u64,
+    recipient: u32,
+    moment: u64,
+) -> Result<Option<Verdict>, Memory>
+    requires { arrival ≤ last_moment }
+    ensures exact { IfOk result (λ v. v ≡ verdict_of tables.now.text octets.now arrival recipient moment) }
+    ensures codes { IfOk result CodesAreCodes }
+{
+    text_reads(tables);
+    let Some(apdu) = read_kept(alloc, octets)? else {
+        return Ok(None);
+    };
+    let verdict = verdict_under(alloc, tables, &apdu, arrival, recipient, moment);
+    apdu.discard();
+    verdict
+}
+
+fn envelope_expired(tables: &Tables, envelope: &Envelope, arrival: u64, moment: u64) -> bool
+    requires { arrival ≤ last_moment }
+    ensures { result ≡ situations.is_expired (situation tables.now arrival moment) (terms_of envelope.now) }
+{
+    let fields = envelope.fields();
+    is_expired(tables, arrival, moment, fields.priority, fields.deferral)
+}
+
+fn expired_under(tables: &Tables, apdu: &Apdu<'_>, arrival: u64, moment: u64) -> bool
+    requires { arrival ≤ last_moment }
+    ensures { result ≡ expired_under (Some tables.now) (Some (apdu_value apdu.now)) arrival moment }
+{
+    match apdu {
+        Apdu::Message(message) => envelope_expired(tables, &message.envelope, arrival, moment),
+        Apdu::Probe(probe) => envelope_expired(tables, &probe.envelope, arrival, moment),
+        Apdu::Report(_) => is_expired(tables, arrival, moment, Priority::Normal, None),
+    }
+}
+
+/// Whether an APDU that arrived at a moment has waited for its hold time.
+pub fn has_expired(
+    alloc: Global,
+    tables: &Tables,
+    octets: &[u8],
+    arrival: u64,
+    moment: u64,
+) -> Result<bool, Memory>
+    requires { arrival ≤ last_moment }
+    ensures { IfOk result (λ b. b ≡ is_expired tables.now.text octets.now arrival moment) }
+{
+    text_reads(tables);
+    let Some(apdu) = read_kept(alloc, octets)? else {
+        return Ok(false);
+    };
+    let expired = expired_under(tables, &apdu, arrival, moment);
+    apdu.discard();
+    Ok(expired)
+}
