@@ -1,0 +1,6 @@
+pub mod Matches
+pub mod Steps
+pub mod Calls
+pub mod Looks
+pub mod Replies
+pub mod Laws
