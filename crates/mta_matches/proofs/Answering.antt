@@ -60,10 +60,11 @@ made_answers : StepsKeep → (t : State) (s after : spool.State) (o : Carried) (
     → (o.activity ≡ last_of t.send.state + 1) × (1 ≤ length o.octets) × (length o.octets ≤ 2097152)
 made_answers keep t s after o i rs kept still made =
     let fits = filled_after s t.lane (Some t.generation) o.activity i rs (when s made.step) (class_of made.step)
-    made.step_is made.possible.allowed (keep s made.step kept made.possible).filled in
-    (next_after s t.lane (Some t.generation) o.activity i rs (when s made.step) (class_of made.step) t.send.state
-    made.step_is made.possible.allowed still,
-    subst (λ (x : List ℕ). (1 ≤ length x) × (length x ≤ longest_activity)) (sym made.told) fits)
+    made.step_is made.possible.allowed (keep s made.step kept made.possible).filled in (
+      next_after s t.lane (Some t.generation) o.activity i rs (when s made.step) (class_of made.step) t.send.state
+          made.step_is made.possible.allowed still,
+      subst (λ (x : List ℕ). (1 ≤ length x) × (length x ≤ longest_activity)) (sym made.told) fits,
+    )
 
 pub starts_answer : StepsKeep → StartsAnswer
 starts_answer keep t s after handed o kept still made = made_answers keep t s after o made.0 made.1 kept still made.2

@@ -109,8 +109,14 @@ module _ (p : Pieces) where
   unit_knows : HeardKeeps → TakenKeeps → (f : Phase) (t : State) (x : AnyUnit) → follows_lane f ≡ true
       → KnowsAs (learned_of_unit f p t x) (wanted_of_unit f t x)
   unit_knows h r f t x e =
-      search (rules, holder_knows p.stand h t x, listener_knows p.stand r t x, answer_knows t.side t x,
-      close_ack_knows p.stand t x, abort_knows t (known t p.stand))
+      search (
+        rules,
+        holder_knows p.stand h t x,
+        listener_knows p.stand r t x,
+        answer_knows t.side t x,
+        close_ack_knows p.stand t x,
+        abort_knows t (known t p.stand),
+      )
 
   -- how many units are left does not matter
   same_learned : (f : Phase) (t : State) (n : ℕ) (x : AnyUnit)

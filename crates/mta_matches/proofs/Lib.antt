@@ -5,4 +5,6 @@ pub mod Opened
 pub mod Events
 pub mod Replies
 pub mod Answering
+pub mod Asking
 pub mod Staying
+pub mod Generations

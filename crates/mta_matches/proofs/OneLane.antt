@@ -5,8 +5,8 @@ use Rattle.std.proofs.lemmas.Bool.{eqb-true, ne_eqb}
 use Rattle.mta_records.specs.declared.step.Step.{Step}
 use Rattle.mta_histories.specs.Lanes.{Lane, lane_at, put_lane, without_lane}
 use Rattle.mta_histories.specs.Lanes as spool
-use Rattle.mta_histories.specs.Classes.{LaneStep, agree, bind, start, confirm, to_end, settle, abandon, secure, complete}
-use Rattle.mta_histories.specs.Classes.{drop_pieces, close, Class, records, accepts, settles, opens, on_lane, class_of}
+use Rattle.mta_histories.specs.Classes.{LaneStep, agree, bind, start, confirm, to_end, settle, abandon, secure}
+use Rattle.mta_histories.specs.Classes.{complete, drop_pieces, close, Class, records, accepts, settles, opens, on_lane, class_of}
 use Rattle.mta_histories.specs.History.{new_lane, IsOfGeneration, LaneNeeds, lane_after, StepNeeds, lanes_after}
 use Rattle.mta_histories.specs.History.{on_lane_after, IsPossible, ArePossible, after_step, after_from, when}
 use Rattle.mta_histories.specs.Kept.{AreNumbered, IsKept}
@@ -72,7 +72,8 @@ module _ (P : Lane → Type 0) (m : ℕ) (s : spool.State) (n : ℕ) (lane : Lan
       on_put (lane_after s lane (secure k c piece) moment) refl at leads holds
   step_on (complete k c piece) numbered at leads holds =
       on_put (lane_after s lane (complete k c piece) moment) refl at leads holds
-  step_on (drop_pieces k) numbered at leads holds = on_put (lane_after s lane (drop_pieces k) moment) refl at leads holds
+  step_on (drop_pieces k) numbered at leads holds =
+      on_put (lane_after s lane (drop_pieces k) moment) refl at leads holds
   step_on close numbered at leads holds =
       without_on s.lanes.open_lanes s.lanes.count numbered at (eqb m n) refl holds
 

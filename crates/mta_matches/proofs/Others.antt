@@ -7,8 +7,8 @@ use Rattle.mta_lane_send.specs.declared.state.SendState.TheVariants.{Idle, Sendi
 use Rattle.mta_lane_send.specs.Half.{is_sending}
 use Rattle.mta_histories.specs.Lanes.{Lane}
 use Rattle.mta_histories.specs.Lanes as spool
-use Rattle.mta_histories.specs.Classes.{LaneStep, agree, bind, start, confirm, to_end, settle, abandon, secure, complete}
-use Rattle.mta_histories.specs.Classes.{drop_pieces, close, Class, records, accepts, settles, opens, on_lane, class_of}
+use Rattle.mta_histories.specs.Classes.{LaneStep, agree, bind, start, confirm, to_end, settle, abandon, secure}
+use Rattle.mta_histories.specs.Classes.{complete, drop_pieces, close, Class, records, accepts, settles, opens, on_lane, class_of}
 use Rattle.mta_histories.specs.History.{IsOfGeneration, LaneNeeds, lane_after, after_step, when}
 use Rattle.mta_histories.specs.Laws.{StepsKeep}
 use Rattle.mta_matches.specs.Matches.{Known, IsHalf, IsKnown, IsLaterOrKnown}

@@ -8,8 +8,8 @@ use Rattle.mta_lane_send.specs.Pieces.{has_piece_after}
 use Rattle.mta_lane_send.specs.Half.{is_sending, goes_on, last_of, confirmed_of, confirmed_at}
 use Rattle.mta_histories.specs.Lanes.{Lane, lane_at, put_lane, total_of}
 use Rattle.mta_histories.specs.Lanes as spool
-use Rattle.mta_histories.specs.Classes.{LaneStep, agree, bind, start, confirm, to_end, settle, abandon, secure, complete}
-use Rattle.mta_histories.specs.Classes.{drop_pieces, close, Class, on_lane, class_of}
+use Rattle.mta_histories.specs.Classes.{LaneStep, agree, bind, start, confirm, to_end, settle, abandon, secure}
+use Rattle.mta_histories.specs.Classes.{complete, drop_pieces, close, Class, on_lane, class_of}
 use Rattle.mta_histories.specs.Classes.{Outcome, was_sent, was_refused, was_denied, was_dropped}
 use Rattle.mta_histories.specs.History.{IsOfGeneration, LaneNeeds, lane_after, StepNeeds, lanes_after, on_lane_after}
 use Rattle.mta_histories.specs.History.{when, send_step, sends, with_piece}
@@ -55,7 +55,7 @@ settled_is lane was_dropped k = refl
 
 confirm_goes : (lane : Lane) (k n : ℕ)
     → (goes_on lane.sending k && nat_lt (confirmed_of lane.sending) n
-      && has_piece_after lane.checkpoint (total_of lane.transfer) n) ≡ true
+    && has_piece_after lane.checkpoint (total_of lane.transfer) n) ≡ true
     → goes_on lane.sending k ≡ true
 confirm_goes lane k n e =
     let first = and_parts (goes_on lane.sending k && nat_lt (confirmed_of lane.sending) n)

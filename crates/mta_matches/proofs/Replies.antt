@@ -144,7 +144,8 @@ record EachStep (P : Known → Type 0) (p : Pieces) (t : State) (s after : spool
   pub agreed : Makes t s (agree t.checkpoint t.window) [] after
       → P (learned (known t p.stand) [] (agree t.checkpoint t.window))
   pub started : (o : Carried) (i : ℕ) (rs : List ℕ) → is_idle t.send.state ≡ true
-      → Makes t s (start o.activity i rs) o.octets after → P (learned (known t p.stand) o.octets (start o.activity 0 []))
+      → Makes t s (start o.activity i rs) o.octets after
+      → P (learned (known t p.stand) o.octets (start o.activity 0 []))
   pub confirmed : (n : ℕ) → Makes t s (step_on t (own.Confirm n)) [] after
       → P (learned (known t p.stand) [] (step_on t (own.Confirm n)))
   pub ending : Makes t s (step_on t own.Ending) [] after → P (learned (known t p.stand) [] (step_on t own.Ending))
@@ -182,12 +183,24 @@ starts_case P p t s after x idle m same each = same m
 reply_cases : (P : Known → Type 0) (f : Phase) (p : Pieces) (t : State) (s after : spool.State) (x : Reply)
     → IsIdleAt f t → IsReplyOf f p.handed t s x after → (after ≡ s → P (known t p.stand)) → EachStep P p t s after
     → ((told : Option SendState) → told ≡ sending_of (spool.lane_at t.lane s.lanes.open_lanes) → after ≡ s
-      → P (given_up p t told))
+    → P (given_up p t told))
     → P (learned_of f p t x)
 reply_cases P phase.AsksStart p t s after x idle r same each told = starts_case P p t s after x idle r same each
 reply_cases P f p t s after x idle r same each told =
-    search (rules, same, told, each.agreed, each.confirmed, each.ending, each.sent, each.dropped, each.refused,
-    each.secured, each.completed, each.given)
+    search (
+      rules,
+      same,
+      told,
+      each.agreed,
+      each.confirmed,
+      each.ending,
+      each.sent,
+      each.dropped,
+      each.refused,
+      each.secured,
+      each.completed,
+      each.given,
+    )
 
 reply_match : OwnStepsMatch → (f : Phase) (p : Pieces) (t : State) (s : spool.State) (x : Reply) (after : spool.State)
     → FitsAt f t → Matches (known t p.stand) s → IsReplyOf f p.handed t s x after → Matches (learned_of f p t x) after

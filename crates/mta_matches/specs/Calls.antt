@@ -130,7 +130,8 @@ EventsKnow =
 
 -- what is done for it
 abbrev pub ActionsKnow : Type 0
-ActionsKnow = (k : Known) (t : State) (w : Wanted) (a : Action) (new : State) → KnowsAs k w → Does t w a new → Knows k new
+ActionsKnow =
+    (k : Known) (t : State) (w : Wanted) (a : Action) (new : State) → KnowsAs k w → Does t w a new → Knows k new
 
 -- One call: behind it the session knows what it knew, and what the event told.
 abbrev pub CallsKnow : Type 0

@@ -58,8 +58,8 @@ AcceptsMatch =
     → AreNumbered 0 s.lanes.open_lanes s.lanes.count → FitsAt (phase.AsksNewLane again) t
     → Matches (known (with_lane t (Some o) (Some line) (s.lanes.count + 1)) [])
     (after_step s
-      (step.LaneOpen Responder o.name o.reference o.twa (agreed_checkpoint o.checkpoint line.checkpoint)
-        (agreed_window o.window line.window) moment))
+    (step.LaneOpen Responder o.name o.reference o.twa (agreed_checkpoint o.checkpoint line.checkpoint)
+    (agreed_window o.window line.window) moment))
 
 -- ---- any lane
 

@@ -2,8 +2,10 @@
 
 ghost use Rattle.mta_matches.specs.Laws.{OthersKeep, OthersKeepAll, OwnStepsMatch, OpensMatch, AcceptsMatch};
 ghost use Rattle.mta_matches.specs.Laws.{LanesKeepRoles, GivenUpStays, OnlyAbandonsDrop};
+ghost use Rattle.mta_matches.specs.Asks.{AsksAreOfPhase};
 ghost use Rattle.mta_matches.specs.Calls.{HeardKeeps, TakenKeeps, ActionsKnow, EventsKnow, CallsKnow};
 ghost use Rattle.mta_matches.specs.Calls.{RepliesMatch, TurnsMatch};
+ghost use Rattle.mta_matches.specs.Generations.{GenerationsBeginOnce};
 ghost use Rattle.mta_matches.specs.Looks.{LooksAnswer, LooksLead};
 ghost use Rattle.mta_matches.specs.Replies.{StartsAnswer, RepliesAnswer, LooksStill, RefusedIsGivenUp};
 ghost use Rattle.mta_matches.specs.Replies.{PiecesMayBeKept};
@@ -39,6 +41,12 @@ pub fn opened_lanes_match()
 pub fn looks_answer()
     ensures answers { LooksAnswer }
     ensures leads { LooksLead }
+{}
+
+/// What a session asks for is of the phase that it is in then, and each step that it asks for is of its lane and its
+/// generation, but for the closing of another lane to make room for its own.
+pub fn asks_are_of_phase()
+    ensures { AsksAreOfPhase }
 {}
 
 /// A unit changes nothing that is durable of the halves.
@@ -128,3 +136,8 @@ pub fn only_abandons_drop()
 {
     steps_keep();
 }
+
+/// A generation of a lane begins at one position of the history, so no two sessions have a lane in one generation.
+pub fn generations_begin_once()
+    ensures { GenerationsBeginOnce }
+{}
