@@ -15,9 +15,11 @@ use Rattle.mta_histories.specs.Laws.{StepsKeep}
 use Rattle.mta_histories.proofs.LaneLists.{number-at, each-at}
 use Rattle.mta_histories.proofs.Shown.{put-found}
 use Rattle.mta_session.specs.State.{State}
+use Rattle.mta_session.specs.declared.phase.Phase.TheVariants as phase
 use Rattle.mta_matches.specs.Matches.{IsHalf}
 use Rattle.mta_matches.specs.Calls.{Makes, sending_of}
 use Rattle.mta_matches.specs.Replies.{StartsAnswer, LooksStill}
+use Rattle.mta_matches.proofs.Replies.{idle_at}
 
 -- the lane is filled behind the step, and what it transfers is what was started
 started_fits : (s : spool.State) (n k i : ℕ) (rs : List ℕ) (moment : ℕ) (lane : Lane)
@@ -77,5 +79,5 @@ idle_is (Dropping k) kept e h = absurd cc
 
 pub looks_still : LooksStill
 looks_still t pieces s lane fits at k =
-    let quiet : is_idle t.send.state ≡ true = search rules in
+    let quiet : is_idle t.send.state ≡ true = idle_at phase.AsksStart t fits in
     ap sending_of at ∙ ap Some (idle_is t.send.state lane.sending quiet k.sending)

@@ -7,6 +7,7 @@ use Rattle.mta_lane_send.specs.Half.{last_of, is_sending}
 use Rattle.mta_histories.proofs.Halves.{sending-last}
 use Rattle.mta_records.specs.declared.fault.StepFault.{StepFault}
 use Rattle.mta_units.specs.declared.unit.Unit.{Unit as AnyUnit}
+use Rattle.mta_units.specs.declared.unit.Unit.TheVariants as unit
 use Rattle.mta_units.specs.declared.unit.OpenUnit.{OpenUnit}
 use Rattle.mta_session.specs.State.{State, in_phase}
 use Rattle.mta_session.specs.Follows.{Does, GoesOn, AsksFor, ExceptsFor, Follows, FollowsAt, counted}
@@ -22,6 +23,7 @@ use Rattle.mta_session.specs.declared.event.Action.{Action}
 use Rattle.mta_session.specs.declared.event.Action.TheVariants as action
 use Rattle.mta_session.specs.declared.peer.Peer.{Peer}
 use Rattle.mta_session.specs.declared.phase.Phase.{Phase}
+use Rattle.mta_session.specs.declared.phase.Found.{Found}
 use Rattle.mta_session.specs.declared.phase.Phase.TheVariants as phase
 use Rattle.mta_matches.specs.Asks.{IsForOpen, IsAskOf, AsksAreOfPhase}
 
@@ -87,7 +89,7 @@ asked_for t (ask.Ending lane g k) new h =
 asked_for t (ask.BatchFor peer) new h = rw h.3 (rw h.2 refl)
 asked_for t a new h = absurd h
 
-excepted_for : (t : State) (found : _) (a : Ask) (new : State) → ExceptsFor t found (action.Ask a) new
+excepted_for : (t : State) (found : Found) (a : Ask) (new : State) → ExceptsFor t found (action.Ask a) new
     → IsAskOf new.phase new a
 excepted_for t found (ask.DropActivity lane g k) new h = rw h.3 (rw h.1 (rw h.2 refl))
 excepted_for t found a new h = absurd h
@@ -104,11 +106,12 @@ done_asked : (t : State) (w : Wanted) (a : Ask) (new : State) → AsksAs w → D
 done_asked t (Asks x after) a new h d = asked_is t x a after new d.0 d.1 h
 done_asked t (Goes_on after) a new h d = asked_for after a new d
 done_asked t (Excepts after found) a new h d = excepted_for after found a new d
-done_asked t (Aborts reason) a new h d = absurd (let none : _ = d.0 in cc)
-done_asked t (Rejects reason) a new h d = absurd (let none : _ = d.0 in cc)
-done_asked t (Ends e) a new h d = absurd (let none : _ = d.0 in cc)
-done_asked t (Puts x after) a new h d = absurd (let none : _ = d.0 in cc)
-done_asked t (Reads after) a new h d = absurd (let none : _ = d.0 in cc)
+done_asked t (Aborts reason) a new h d = absurd (let none : action.Ask a ≡ action.Put (unit.Abort reason) = d.0 in cc)
+done_asked t (Rejects reason) a new h d =
+    absurd (let none : action.Ask a ≡ action.Put (unit.Reject reason) = d.0 in cc)
+done_asked t (Ends e) a new h d = absurd (let none : action.Ask a ≡ action.Finish e = d.0 in cc)
+done_asked t (Puts x after) a new h d = absurd (let none : action.Ask a ≡ action.Put x = d.0 in cc)
+done_asked t (Reads after) a new h d = absurd (let none : action.Ask a ≡ action.Read = d.0 in cc)
 done_asked t Never a new h d = absurd d
 
 follows_asked : (f : Phase) (t : State) (e : Event) (a : Ask) (new : State) → FollowsAt f t e (action.Ask a) new

@@ -1,5 +1,5 @@
 -- A generation of a lane begins once.
-use Rattle.std.proofs.Common.{◌≡◌, ℕ, zero, suc, ◌+◌, ◌≤◌, Bool, true, false, cond, eqb, List, [], ◌∷◌, ◌++◌, Some}
+use Rattle.std.proofs.Common.{◌≡◌, ℕ, zero, suc, ◌+◌, ◌≤◌, Bool, true, false, cond, eqb, List, [], ◌∷◌, ◌++◌, Some, None}
 use Rattle.std.proofs.Common.{refl, sym, ap, subst, ◌∙◌, arith}
 use Rattle.std.specs.Prelude.{slice_get}
 use Rattle.std.proofs.lemmas.Bool.{eqb-false}
@@ -72,13 +72,17 @@ module _ (spells : List ℕ → Bool) (n g : ℕ) where
       let first = first_allowed l m step (of_lane_all n xs) (eqb m n) refl (mine m step b) may in
       none_begins l m step first.0 p b
 
+  first_is : (x : Seen) (xs : List Seen) → BeginsAt (x ∷ xs) zero n g → Begins n g x
+  first_is x xs b =
+      let at : Some x ≡ Some b.0 = b.1 in
+      let same : b.0 ≡ x = cc in
+      subst (Begins n g) same b.2
+
   none_later : (l : Halves) (xs : List Seen) → AreAllowed spells l (of_lane_all n xs) → Past l
       → (p : ℕ) → BeginsAt xs p n g → ⊥
-  none_later l [] may past p b = absurd (let none = b.1 in cc)
-  none_later l (Elsewhere ∷ xs) may past zero b =
-      let same : b.0 ≡ Elsewhere = cc in subst (Begins n g) same b.2
-  none_later l (On m step ∷ xs) may past zero b =
-      let same : b.0 ≡ On m step = cc in not_first l m step xs may past (subst (Begins n g) same b.2)
+  none_later l [] may past p b = absurd (let none : None ≡ Some b.0 = b.1 in cc)
+  none_later l (Elsewhere ∷ xs) may past zero b = first_is Elsewhere xs b
+  none_later l (On m step ∷ xs) may past zero b = not_first l m step xs may past (first_is (On m step) xs b)
   none_later l (Elsewhere ∷ xs) may past (suc p) b = none_later l xs may past p b
   none_later l (On m step ∷ xs) may past (suc p) b =
       let more = rest_past l step (of_lane_all n xs) (eqb m n) may past in
@@ -91,12 +95,9 @@ module _ (spells : List ℕ → Bool) (n g : ℕ) where
       let first = first_allowed l m step (of_lane_all n xs) (eqb m n) refl (mine m step b) may in
       none_later (halves_after l step) xs first.1 (begun l m step first.0 b) p later
 
-  first_is : (x : Seen) (xs : List Seen) → BeginsAt (x ∷ xs) zero n g → Begins n g x
-  first_is x xs b = let same : b.0 ≡ x = cc in subst (Begins n g) same b.2
-
   once : (l : Halves) (xs : List Seen) → AreAllowed spells l (of_lane_all n xs) → (p q : ℕ)
       → BeginsAt xs p n g → BeginsAt xs q n g → p ≡ q
-  once l [] may p q a b = absurd (let none = a.1 in cc)
+  once l [] may p q a b = absurd (let none : None ≡ Some a.0 = a.1 in cc)
   once l (x ∷ xs) may zero zero a b = refl
   once l (Elsewhere ∷ xs) may zero (suc q) a b = absurd (first_is Elsewhere xs a)
   once l (On m step ∷ xs) may zero (suc q) a b = absurd (no_other l m step xs may (first_is (On m step) xs a) q b)

@@ -164,7 +164,7 @@ abbrev IsIdleAt : Phase → State → Type 0
 IsIdleAt phase.AsksStart t = is_idle t.send.state ≡ true
 IsIdleAt _ t = Unit {0}
 
-idle_at : (f : Phase) (t : State) → FitsAt f t → IsIdleAt f t
+pub idle_at : (f : Phase) (t : State) → FitsAt f t → IsIdleAt f t
 idle_at f t fits = search rules
 
 start_case : (P : Known → Type 0) (p : Pieces) (t : State) (s after : spool.State) (r : Result Carried StepFault)
