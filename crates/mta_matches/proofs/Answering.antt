@@ -1,6 +1,6 @@
 -- The reply to a Start meets the session's condition where a look told of the session's own half.
 use Rattle.std.proofs.Common.{◌≡◌, ℕ, ◌+◌, ◌≤◌, true, List, Option, Some, refl, rules, sym, ap, subst, ◌∙◌, arith}
-use Rattle.std.specs.Prelude.{length, Ok}
+use Rattle.std.specs.Prelude.{length, Ok, Err}
 use Rattle.mta_lane_send.specs.declared.state.SendState.{SendState}
 use Rattle.mta_lane_send.specs.declared.state.SendState.TheVariants.{Idle, Sending, Ending, Dropping}
 use Rattle.mta_lane_send.specs.Half.{last_of, is_idle}
@@ -15,10 +15,14 @@ use Rattle.mta_histories.specs.Laws.{StepsKeep}
 use Rattle.mta_histories.proofs.LaneLists.{number-at, each-at}
 use Rattle.mta_histories.proofs.Shown.{put-found}
 use Rattle.mta_session.specs.State.{State}
+use Rattle.mta_session.specs.Fits.{RepliesTo}
+use Rattle.mta_session.specs.declared.phase.Phase.{Phase}
 use Rattle.mta_session.specs.declared.phase.Phase.TheVariants as phase
+use Rattle.mta_session.specs.declared.ask.Reply.{Reply}
+use Rattle.mta_session.specs.declared.ask.Reply.TheVariants as reply
 use Rattle.mta_matches.specs.Matches.{IsHalf}
-use Rattle.mta_matches.specs.Calls.{Makes, sending_of}
-use Rattle.mta_matches.specs.Replies.{StartsAnswer, LooksStill}
+use Rattle.mta_matches.specs.Calls.{Makes, IsReplyOf, sending_of}
+use Rattle.mta_matches.specs.Replies.{IsReplyTo, IsStill, StartsAnswer, StartsStill, RepliesAnswer, LooksStill}
 use Rattle.mta_matches.proofs.Replies.{idle_at}
 
 -- the lane is filled behind the step, and what it transfers is what was started
@@ -62,10 +66,12 @@ made_answers : StepsKeep → (t : State) (s after : spool.State) (o : Carried) (
     → (o.activity ≡ last_of t.send.state + 1) × (1 ≤ length o.octets) × (length o.octets ≤ 2097152)
 made_answers keep t s after o i rs kept still made =
     let fits = filled_after s t.lane (Some t.generation) o.activity i rs (when s made.step) (class_of made.step)
-    made.step_is made.possible.allowed (keep s made.step kept made.possible).filled in (
+    made.step_is made.possible.allowed (keep s made.step kept made.possible).filled in
+    let some = subst (λ (x : List ℕ). (1 ≤ length x) × (length x ≤ longest_activity)) (sym made.told) fits in (
       next_after s t.lane (Some t.generation) o.activity i rs (when s made.step) (class_of made.step) t.send.state
           made.step_is made.possible.allowed still,
-      subst (λ (x : List ℕ). (1 ≤ length x) × (length x ≤ longest_activity)) (sym made.told) fits,
+      some.0,
+      some.1,
     )
 
 pub starts_answer : StepsKeep → StartsAnswer
@@ -81,3 +87,27 @@ pub looks_still : LooksStill
 looks_still t pieces s lane fits at k =
     let quiet : is_idle t.send.state ≡ true = idle_at phase.AsksStart t fits in
     ap sending_of at ∙ ap Some (idle_is t.send.state lane.sending quiet k.sending)
+
+-- ---- the other replies
+
+module _ (t : State) (s after : spool.State) (handed : List ℕ) where
+  -- what is left to show of a Start
+  abbrev EachStart : Type 0
+  EachStart =
+      (o : Carried) → IsStill t s → IsReplyOf phase.AsksStart handed t s (reply.Start (Ok o)) after
+      → RepliesTo phase.AsksStart t (reply.Start (Ok o))
+
+  start_answers : EachStart → (x : Reply) → StartsStill x t s → IsReplyTo phase.AsksStart x
+      → IsReplyOf phase.AsksStart handed t s x after → RepliesTo phase.AsksStart t x
+  start_answers each (reply.Start (Ok o)) still kind is = each o still is
+  start_answers each (reply.Start (Err f)) still kind is = tt
+  start_answers each x still kind is = absurd kind
+
+  by_kind : EachStart → (f : Phase) (x : Reply) → StartsStill x t s → IsReplyTo f x
+      → IsReplyOf f handed t s x after → RepliesTo f t x
+  by_kind each phase.AsksStart x still kind is = start_answers each x still kind is
+  by_kind each f x still kind is = search rules
+
+pub replies_answer : StartsAnswer → RepliesAnswer
+replies_answer starts t s after handed x kept still kind is =
+    by_kind t s after handed (λ o. starts t s after handed o kept) t.phase x still kind is

@@ -8,3 +8,4 @@ pub mod Answering
 pub mod Asking
 pub mod Staying
 pub mod Generations
+pub mod Turns

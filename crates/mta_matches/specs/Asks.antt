@@ -1,8 +1,6 @@
 -- What a session asks for is of the phase that it is in then, and of its lane.
-use Rattle.std.specs.Prelude.{◌≡◌, ◌⊎◌, ℕ, List, [], Option, Some, None}
+use Rattle.std.specs.Prelude.{◌≡◌, ℕ, List, [], Option, Some}
 use Rattle.mta_lane_send.specs.Half.{last_of}
-use Rattle.mta_records.specs.Reference.{Identifier}
-use Rattle.mta_records.specs.declared.lane.Batch.{Batch}
 use Rattle.mta_records.specs.declared.lane.LaneRole.TheVariants.{Responder}
 use Rattle.mta_units.specs.declared.unit.OpenUnit.{OpenUnit}
 use Rattle.mta_session.specs.State.{State, peer_of}
@@ -27,15 +25,40 @@ abbrev pub IsForOpen : Option OpenUnit → Option Peer → Ask → Type 0
 IsForOpen (Some o) (Some p) a = a ≡ new_lane o p
 IsForOpen _ _ a = ⊥
 
+abbrev pub IsPeer : Ask → Type 0
+IsPeer (ask.Peer name) = Unit {0}
+IsPeer a = ⊥
+
+-- a responder's lane of some name
+abbrev pub IsLaneOf : Ask → Type 0
+IsLaneOf (ask.LaneOf role peer (Some reference)) = role ≡ Responder
+IsLaneOf a = ⊥
+
+abbrev pub IsCloseLane : Ask → Type 0
+IsCloseLane (ask.CloseLane lane generation) = Unit {0}
+IsCloseLane a = ⊥
+
+abbrev pub IsStart : State → Ask → Type 0
+IsStart t (ask.Start lane generation batch) = (lane ≡ t.lane) × (generation ≡ t.generation)
+IsStart t a = ⊥
+
+-- the last step of a session
+abbrev pub IsLast : State → Ask → Type 0
+IsLast t (ask.CloseLane lane generation) = (lane ≡ t.lane) × (generation ≡ t.generation)
+IsLast t (ask.Denied lane generation k) =
+    (lane ≡ t.lane) × (generation ≡ t.generation) × (k ≡ last_of t.send.state)
+IsLast t (ask.Sent lane generation k) = (lane ≡ t.lane) × (generation ≡ t.generation) × (k ≡ last_of t.send.state)
+IsLast t a = ⊥
+
 -- Each step is asked for on the session's lane and generation, and so is each look. A responder that has no lane yet
 -- looks for one, opens one, or closes another for room.
 abbrev pub IsAskOf : Phase → State → Ask → Type 0
-IsAskOf phase.AsksPeer t a = (name : List ℕ) × (a ≡ ask.Peer name)
-IsAskOf phase.AsksStands t a = (name : List ℕ) × (x : Identifier) × (a ≡ ask.LaneOf Responder name (Some x))
+IsAskOf phase.AsksPeer t a = IsPeer a
+IsAskOf phase.AsksStands t a = IsLaneOf a
 IsAskOf (phase.AsksNewLane again) t a = IsForOpen t.opened t.line a
 IsAskOf phase.AsksSpare t a = a ≡ ask.SpareLane Responder (peer_of t.side t.opened)
-IsAskOf phase.AsksRoom t a = (lane generation : ℕ) × (a ≡ ask.CloseLane lane generation)
-IsAskOf phase.AsksOldLane t a = (name : List ℕ) × (x : Identifier) × (a ≡ ask.LaneOf Responder name (Some x))
+IsAskOf phase.AsksRoom t a = IsCloseLane a
+IsAskOf phase.AsksOldLane t a = IsLaneOf a
 IsAskOf phase.AsksBind t a = a ≡ ask.Bind t.lane
 IsAskOf phase.AsksValues t a = a ≡ ask.Values t.lane
 IsAskOf phase.AsksRecovery t a = a ≡ ask.Recovery t.lane
@@ -45,7 +68,7 @@ IsAskOf phase.AsksAgree t a = a ≡ ask.LaneAgree t.lane t.generation t.checkpoi
 IsAskOf phase.AsksDenied t a = a ≡ ask.Denied t.lane t.generation (last_of t.send.state)
 IsAskOf phase.AsksDue t a = a ≡ ask.BatchFor (peer_of t.side t.opened)
 IsAskOf phase.AsksBatch t a = a ≡ ask.BatchFor (peer_of t.side t.opened)
-IsAskOf phase.AsksStart t a = (batch : Batch) × (a ≡ ask.Start t.lane t.generation batch)
+IsAskOf phase.AsksStart t a = IsStart t a
 IsAskOf phase.AsksStillIdle t a = a ≡ ask.Recovery t.lane
 IsAskOf (phase.AsksStep step) t a = a ≡ ask_of t step
 IsAskOf phase.AsksState t a = a ≡ ask.Recovery t.lane
@@ -53,9 +76,7 @@ IsAskOf (phase.AsksSecure k n) t a = a ≡ ask.Secure t.lane t.generation k n (h
 IsAskOf (phase.AsksComplete k n) t a = a ≡ ask.Complete t.lane t.generation k n (handed_by a)
 IsAskOf (phase.AsksDrop k found) t a = a ≡ ask.DropActivity t.lane t.generation k
 IsAskOf phase.AsksClose t a = a ≡ ask.CloseLane t.lane t.generation
-IsAskOf (phase.AsksLast end) t a =
-    (a ≡ ask.CloseLane t.lane t.generation) ⊎ (a ≡ ask.Denied t.lane t.generation (last_of t.send.state))
-    ⊎ (a ≡ ask.Sent t.lane t.generation (last_of t.send.state))
+IsAskOf (phase.AsksLast end) t a = IsLast t a
 IsAskOf _ t a = ⊥
 
 -- So a reply that answers the question is one to the phase (`IsReplyOf`).
