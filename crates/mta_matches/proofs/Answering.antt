@@ -1,14 +1,14 @@
 -- The reply to a Start meets the session's condition where a look told of the session's own half.
-use Rattle.std.proofs.Common.{◌≡◌, ℕ, ◌+◌, ◌≤◌, true, List, Option, Some, refl, rules, sym, ap, subst, ◌∙◌, arith}
-use Rattle.std.specs.Prelude.{length, Ok, Err}
+use Rattle.std.proofs.Common.{◌≡◌, ℕ, ◌+◌, ◌≤◌, true, List, Option, Some, refl, rules, sym, ap, subst, ◌∙◌}
+use Rattle.std.specs.Prelude.{length}
 use Rattle.mta_lane_send.specs.declared.state.SendState.{SendState}
 use Rattle.mta_lane_send.specs.declared.state.SendState.TheVariants.{Idle, Sending, Ending, Dropping}
 use Rattle.mta_lane_send.specs.Half.{last_of, is_idle}
 use Rattle.mta_records.specs.Outgoing.{Carried}
 use Rattle.mta_histories.specs.Lanes.{Lane, lane_at, put_lane, EachLane}
 use Rattle.mta_histories.specs.Lanes as spool
-use Rattle.mta_histories.specs.Classes.{LaneStep, start, Class, on_lane, class_of}
-use Rattle.mta_histories.specs.History.{IsOnLane, StepNeeds, lane_after, lanes_after, on_lane_after, after_step, when}
+use Rattle.mta_histories.specs.Classes.{start, Class, on_lane, class_of}
+use Rattle.mta_histories.specs.History.{IsOnLane, StepNeeds, lane_after, lanes_after, on_lane_after, when}
 use Rattle.mta_histories.specs.History.{transfer_of, longest_activity}
 use Rattle.mta_histories.specs.Kept.{IsFilled, IsKept}
 use Rattle.mta_histories.specs.Laws.{StepsKeep}
@@ -21,8 +21,8 @@ use Rattle.mta_session.specs.declared.phase.Phase.TheVariants as phase
 use Rattle.mta_session.specs.declared.ask.Reply.{Reply}
 use Rattle.mta_session.specs.declared.ask.Reply.TheVariants as reply
 use Rattle.mta_matches.specs.Matches.{IsHalf}
-use Rattle.mta_matches.specs.Calls.{Makes, IsReplyOf, sending_of}
-use Rattle.mta_matches.specs.Replies.{IsReplyTo, IsStill, StartsAnswer, StartsStill, RepliesAnswer, LooksStill}
+use Rattle.mta_matches.specs.Calls.{Makes, sending_of}
+use Rattle.mta_matches.specs.Replies.{IsReplyTo, StartsFit, StartsAnswer, RepliesAnswer, LooksStill}
 use Rattle.mta_matches.proofs.Replies.{idle_at}
 
 -- the lane is filled behind the step, and what it transfers is what was started
@@ -90,24 +90,14 @@ looks_still t pieces s lane fits at k =
 
 -- ---- the other replies
 
-module _ (t : State) (s after : spool.State) (handed : List ℕ) where
-  -- what is left to show of a Start
-  abbrev EachStart : Type 0
-  EachStart =
-      (o : Carried) → IsStill t s → IsReplyOf phase.AsksStart handed t s (reply.Start (Ok o)) after
-      → RepliesTo phase.AsksStart t (reply.Start (Ok o))
+start_answers : (t : State) (x : Reply) → IsReplyTo phase.AsksStart x → StartsFit t.send x
+    → RepliesTo phase.AsksStart t x
+start_answers t (reply.Start x) kind fits = fits
+start_answers t x kind fits = absurd kind
 
-  start_answers : EachStart → (x : Reply) → StartsStill x t s → IsReplyTo phase.AsksStart x
-      → IsReplyOf phase.AsksStart handed t s x after → RepliesTo phase.AsksStart t x
-  start_answers each (reply.Start (Ok o)) still kind is = each o still is
-  start_answers each (reply.Start (Err f)) still kind is = tt
-  start_answers each x still kind is = absurd kind
+by_kind : (f : Phase) (t : State) (x : Reply) → IsReplyTo f x → StartsFit t.send x → RepliesTo f t x
+by_kind phase.AsksStart t x kind fits = start_answers t x kind fits
+by_kind f t x kind fits = search rules
 
-  by_kind : EachStart → (f : Phase) (x : Reply) → StartsStill x t s → IsReplyTo f x
-      → IsReplyOf f handed t s x after → RepliesTo f t x
-  by_kind each phase.AsksStart x still kind is = start_answers each x still kind is
-  by_kind each f x still kind is = search rules
-
-pub replies_answer : StartsAnswer → RepliesAnswer
-replies_answer starts t s after handed x kept still kind is =
-    by_kind t s after handed (λ o. starts t s after handed o kept) t.phase x still kind is
+pub replies_answer : RepliesAnswer
+replies_answer t x kind fits = by_kind t.phase t x kind fits

@@ -1,6 +1,6 @@
 -- What is asked for is of the phase that the session is in then.
-use Rattle.std.proofs.Common.{◌≡◌, ℕ, ◌-◌, ◌==◌, ◌&&◌, not, Bool, true, false, if◌then◌else◌, Option, Some, None, Result, Ok}
-use Rattle.std.proofs.Common.{Err, List, [], refl, rules, sym, ap, subst}
+use Rattle.std.proofs.Common.{◌≡◌, ℕ, ◌==◌, ◌&&◌, not, Bool, true, false, if◌then◌else◌, Option, Some, None, Result, Ok}
+use Rattle.std.proofs.Common.{Err, [], refl, rules, sym, ap, subst}
 use Rattle.std.specs.Str.{bytes_eq}
 use Rattle.mta_ber.specs.declared.memory.Memory.{Memory as NoMemory}
 use Rattle.mta_rtse.specs.declared.types.Request.{Request}
@@ -29,7 +29,8 @@ use Rattle.mta_session.specs.Wanted.{on_request, with_line, on_peer, asks_lane, 
 use Rattle.mta_session.specs.Wanted.{with_lane, on_new_lane, on_spare, on_room, on_old_lane, on_bind, on_lane_values}
 use Rattle.mta_session.specs.Wanted.{on_recovery, restored, answers_link, with_received, on_received, on_receiving}
 use Rattle.mta_session.specs.Wanted.{on_resumed, ask_of, on_abort, goes_on_if, makes_or, as_holder, on_close, takes}
-use Rattle.mta_session.specs.Wanted.{as_listener, on_unit, starts, is_refused_value, on_values, is_same_reference, on_accept}
+use Rattle.mta_session.specs.Wanted.{as_listener, on_unit, starts, is_refused_value, on_values, is_same_reference}
+use Rattle.mta_session.specs.Wanted.{on_accept}
 use Rattle.mta_session.specs.Wanted.{on_reject, on_answer_by, on_close_ack}
 use Rattle.mta_session.specs.Wanted.{within, wanted_of_unit, wanted_of_go, wanted_of_over, wanted_of_reply}
 use Rattle.mta_session.specs.declared.ask.Ask.{Ask}
@@ -95,7 +96,8 @@ room_asked t x = search (rules, lane_asked t t.opened t.line true refl refl)
 
 request_asked : (t : State) (o : OpenUnit) (p : Peer) (x : Request) → AsksAs (on_request t o p x)
 request_asked t o p request.Null = tt
-request_asked t o p (request.Bind name password) = by_test (bytes_eq name p.name && bytes_eq password p.expected_password)
+request_asked t o p (request.Bind name password) =
+    by_test (bytes_eq name p.name && bytes_eq password p.expected_password)
   where
     by_test : (b : Bool) → AsksAs (if b
         then Asks (ask.LaneOf Responder o.name (Some o.reference)) (in_phase (with_line t p) phase.AsksStands)

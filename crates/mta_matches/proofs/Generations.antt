@@ -1,7 +1,6 @@
 -- A generation of a lane begins once.
-use Rattle.std.proofs.Common.{◌≡◌, ℕ, zero, suc, ◌+◌, ◌≤◌, Bool, true, false, cond, eqb, List, [], ◌∷◌, ◌++◌, Some, None}
+use Rattle.std.proofs.Common.{◌≡◌, ℕ, zero, suc, ◌≤◌, Bool, true, false, cond, eqb, List, [], ◌∷◌, ◌++◌, Some, None}
 use Rattle.std.proofs.Common.{refl, sym, ap, subst, ◌∙◌, arith}
-use Rattle.std.specs.Prelude.{slice_get}
 use Rattle.std.proofs.lemmas.Bool.{eqb-false}
 use Rattle.mta_ends.specs.Lanes.{SeenStep, Seen, On, Elsewhere, LaneOpen, LaneAgree, Bind, Start, Confirm, To_end, Sent}
 use Rattle.mta_ends.specs.Lanes.{Refused, Denied, Dropped, Abandon, Secure, Complete, Drop, CloseLane, Unopened, Open}

@@ -6,7 +6,8 @@ use Rattle.mta_records.specs.declared.step.Step.{Step}
 use Rattle.mta_histories.specs.Lanes.{Lane, lane_at, put_lane, without_lane}
 use Rattle.mta_histories.specs.Lanes as spool
 use Rattle.mta_histories.specs.Classes.{LaneStep, agree, bind, start, confirm, to_end, settle, abandon, secure}
-use Rattle.mta_histories.specs.Classes.{complete, drop_pieces, close, Class, records, accepts, settles, opens, on_lane, class_of}
+use Rattle.mta_histories.specs.Classes.{complete, drop_pieces, close, Class, records, accepts, settles, opens}
+use Rattle.mta_histories.specs.Classes.{on_lane, class_of}
 use Rattle.mta_histories.specs.History.{new_lane, IsOfGeneration, LaneNeeds, lane_after, StepNeeds, lanes_after}
 use Rattle.mta_histories.specs.History.{on_lane_after, IsPossible, ArePossible, after_step, after_from, when}
 use Rattle.mta_histories.specs.Kept.{AreNumbered, IsKept}

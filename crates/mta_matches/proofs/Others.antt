@@ -1,5 +1,5 @@
 -- What other workers do to a lane keeps it as the session knows it, or makes it later.
-use Rattle.std.proofs.Common.{◌≡◌, ℕ, ◌<◌, true, Option, Some, None, List, [], ◌∷◌, suc, refl, sym, ap, subst, ◌∙◌}
+use Rattle.std.proofs.Common.{◌≡◌, ℕ, ◌<◌, true, Option, Some, None, [], ◌∷◌, suc, refl, sym, ap, subst, ◌∙◌}
 use Rattle.std.proofs.Common.{arith, inl, inr}
 use Rattle.std.proofs.lemmas.Bool.{eqb-true}
 use Rattle.mta_lane_send.specs.declared.state.SendState.{SendState}
@@ -8,7 +8,8 @@ use Rattle.mta_lane_send.specs.Half.{is_sending}
 use Rattle.mta_histories.specs.Lanes.{Lane}
 use Rattle.mta_histories.specs.Lanes as spool
 use Rattle.mta_histories.specs.Classes.{LaneStep, agree, bind, start, confirm, to_end, settle, abandon, secure}
-use Rattle.mta_histories.specs.Classes.{complete, drop_pieces, close, Class, records, accepts, settles, opens, on_lane, class_of}
+use Rattle.mta_histories.specs.Classes.{complete, drop_pieces, close, Class, records, accepts, settles, opens}
+use Rattle.mta_histories.specs.Classes.{on_lane, class_of}
 use Rattle.mta_histories.specs.History.{IsOfGeneration, LaneNeeds, lane_after, after_step, when}
 use Rattle.mta_histories.specs.Laws.{StepsKeep}
 use Rattle.mta_matches.specs.Matches.{Known, IsHalf, IsKnown, IsLaterOrKnown}

@@ -22,7 +22,7 @@ use Rattle.mta_session.specs.declared.phase.Phase.TheVariants as phase
 use Rattle.mta_session.specs.declared.phase.OwnStep.TheVariants as own
 use Rattle.mta_session.specs.declared.ask.Reply.{Reply}
 use Rattle.mta_session.specs.declared.ask.Reply.TheVariants as reply
-use Rattle.mta_matches.specs.Matches.{Known, known, IsValue, IsKnown, IsLaterOrKnown, MatchesLane, Matches}
+use Rattle.mta_matches.specs.Matches.{Known, known, IsValue, IsKnown, MatchesLane, Matches}
 use Rattle.mta_matches.specs.Steps.{IsAsked, learned}
 use Rattle.mta_matches.specs.Laws.{OwnStepsMatch}
 use Rattle.mta_matches.specs.Calls.{Pieces, Makes, IsReplyOf, RepliesMatch, given_up, sending_of, proposed, learned_of}

@@ -1,5 +1,5 @@
 -- What stays of a lane, whoever makes steps.
-use Rattle.std.proofs.Common.{◌≡◌, ℕ, ◌+◌, ◌≤◌, Bool, true, false, List, [], ◌∷◌, Option, refl, rules, sym, subst}
+use Rattle.std.proofs.Common.{◌≡◌, ℕ, ◌+◌, ◌≤◌, true, false, List, [], ◌∷◌, Option, refl, rules, sym, subst}
 use Rattle.std.proofs.Common.{◌∙◌, arith, eqb}
 use Rattle.std.proofs.lemmas.Bool.{eqb-true, ne_eqb}
 use Rattle.mta_lane_send.specs.declared.state.SendState.{SendState}
@@ -10,12 +10,12 @@ use Rattle.mta_records.specs.declared.lane.LaneRole.{LaneRole}
 use Rattle.mta_histories.specs.Lanes.{Lane}
 use Rattle.mta_histories.specs.Lanes as spool
 use Rattle.mta_histories.specs.Classes.{LaneStep, agree, bind, start, confirm, to_end, settle, abandon, secure}
-use Rattle.mta_histories.specs.Classes.{complete, drop_pieces, close, Class, records, accepts, settles, opens, on_lane, class_of}
+use Rattle.mta_histories.specs.Classes.{complete, drop_pieces, close, Class, records, accepts, settles, opens}
+use Rattle.mta_histories.specs.Classes.{on_lane, class_of}
 use Rattle.mta_histories.specs.Classes.{was_sent, was_refused, was_denied, was_dropped}
 use Rattle.mta_histories.specs.History.{LaneNeeds, lane_after, after_step, ArePossible, after_from, when}
 use Rattle.mta_histories.specs.Kept.{IsKept}
 use Rattle.mta_histories.specs.Laws.{StepsKeep}
-use Rattle.mta_matches.specs.Matches.{WhereOpen}
 use Rattle.mta_matches.specs.Laws.{LanesKeepRoles, IsPast, GivenUpStays, IsDropping, IsNoAbandon, AreNoAbandon}
 use Rattle.mta_matches.specs.Laws.{OnlyAbandonsDrop}
 use Rattle.mta_matches.proofs.OneLane.{LeadsOn, Holds, step_keeps, steps_hold}

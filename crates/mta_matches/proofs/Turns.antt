@@ -1,5 +1,5 @@
 -- One call, and one turn, of a session that follows its lane.
-use Rattle.std.proofs.Common.{◌≡◌, ℕ, Bool, true, false, List, rules, sym, subst}
+use Rattle.std.proofs.Common.{◌≡◌, Bool, true, false, sym, subst}
 use Rattle.mta_histories.specs.Lanes as spool
 use Rattle.mta_session.specs.State.{State}
 use Rattle.mta_session.specs.Follows.{Does, FollowsAt, counted}
@@ -9,7 +9,7 @@ use Rattle.mta_session.specs.declared.event.Action.{Action}
 use Rattle.mta_session.specs.declared.phase.Phase.{Phase}
 use Rattle.mta_session.specs.declared.phase.Phase.TheVariants as phase
 use Rattle.mta_matches.specs.Matches.{Known, known, follows_lane, Matches, MatchesBy}
-use Rattle.mta_matches.specs.Calls.{Pieces, KnowsBy, learned_by, ActionsKnow, EventsKnow, CallsKnow, RepliesMatch}
+use Rattle.mta_matches.specs.Calls.{KnowsBy, learned_by, ActionsKnow, EventsKnow, CallsKnow, RepliesMatch}
 use Rattle.mta_matches.specs.Calls.{TurnsMatch}
 
 follows_does : (f : Phase) (t : State) (e : Event) (a : Action) (new : State) → follows_lane f ≡ true

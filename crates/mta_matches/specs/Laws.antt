@@ -1,5 +1,5 @@
 -- What steps do to a session's lane.
-use Rattle.std.specs.Prelude.{◌≡◌, ◌≤◌, ◌+◌, ℕ, false, Bool, List, [], ◌∷◌, Option, Some}
+use Rattle.std.specs.Prelude.{◌≡◌, ◌≤◌, ◌+◌, ℕ, false, Bool, List, [], ◌∷◌, Some}
 use Rattle.mta_lane_send.specs.Half.{goes_on, last_of}
 use Rattle.mta_lane_send.specs.declared.state.SendState.TheVariants.{Dropping}
 use Rattle.mta_records.specs.declared.step.Step.{Step}

@@ -1,5 +1,5 @@
 -- What a session is told of its lane right behind its Bind, in one turn of the lock.
-use Rattle.std.specs.Prelude.{◌≡◌, true, false, List, Option, Some, None, Result, Ok, Err}
+use Rattle.std.specs.Prelude.{◌≡◌, true, false, Option, Some, None, Result, Ok, Err}
 use Rattle.mta_ber.specs.declared.memory.Memory.{Memory as NoMemory}
 use Rattle.mta_lane_send.specs.Half.{is_idle, last_of}
 use Rattle.mta_records.specs.declared.lane.LaneRole.{LaneRole}

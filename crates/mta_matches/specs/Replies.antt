@@ -1,7 +1,8 @@
--- The replies of the spool to a session that follows its lane.
+-- The replies of the spool meet the session's conditions.
 use Rattle.std.specs.Prelude.{◌≡◌, ◌≤◌, length, ℕ, true, List, Some, Ok}
 use Rattle.mta_lane_recv.specs.Half.{RecvStep}
 use Rattle.mta_lane_recv.specs.Half as recv
+use Rattle.mta_ends.specs.Sending.{SendEnd}
 use Rattle.mta_ends.specs.Receiving as r
 use Rattle.mta_records.specs.Outgoing.{Carried}
 use Rattle.mta_histories.specs.Lanes.{Lane}
@@ -9,7 +10,7 @@ use Rattle.mta_histories.specs.Lanes as spool
 use Rattle.mta_histories.specs.History.{LaneNeeds, Receives, longest_piece}
 use Rattle.mta_histories.specs.Kept.{IsKept, IsWhole}
 use Rattle.mta_session.specs.State.{State}
-use Rattle.mta_session.specs.Fits.{FitsAt, RepliesTo}
+use Rattle.mta_session.specs.Fits.{FitsAt, RepliesTo, StartFits}
 use Rattle.mta_session.specs.Wanted.{is_given_up}
 use Rattle.mta_session.specs.declared.phase.Phase.{Phase}
 use Rattle.mta_session.specs.declared.phase.Phase.TheVariants as phase
@@ -20,9 +21,17 @@ use Rattle.mta_session.specs.declared.ask.Reply.TheVariants as reply
 use Rattle.mta_matches.specs.Matches.{known, IsKnown}
 use Rattle.mta_matches.specs.Calls.{IsReplyOf, step_on, sending_of}
 
--- the reply is to what is asked for
+-- The reply is of the kind that is asked for. The looks of the turn of a Bind, and the peer's line, stand apart, as
+-- more is asked of them.
 abbrev pub IsReplyTo : Phase → Reply → Type 0
+IsReplyTo phase.AsksStands (reply.LaneOf x) = Unit {0}
+IsReplyTo (phase.AsksNewLane again) (reply.LaneOpen x) = Unit {0}
+IsReplyTo phase.AsksSpare (reply.SpareLane x) = Unit {0}
+IsReplyTo phase.AsksRoom (reply.CloseLane x) = Unit {0}
+IsReplyTo phase.AsksOldLane (reply.LaneOf x) = Unit {0}
+IsReplyTo phase.AsksBind (reply.Bind x) = Unit {0}
 IsReplyTo phase.AsksAgree (reply.LaneAgree x) = Unit {0}
+IsReplyTo phase.AsksDenied (reply.Denied x) = Unit {0}
 IsReplyTo phase.AsksDue (reply.BatchFor x) = Unit {0}
 IsReplyTo phase.AsksBatch (reply.BatchFor x) = Unit {0}
 IsReplyTo phase.AsksStart (reply.Start x) = Unit {0}
@@ -36,7 +45,19 @@ IsReplyTo phase.AsksState (reply.Recovery x) = Unit {0}
 IsReplyTo (phase.AsksSecure k n) (reply.Secure x) = Unit {0}
 IsReplyTo (phase.AsksComplete k n) (reply.Complete x) = Unit {0}
 IsReplyTo (phase.AsksDrop k found) (reply.DropActivity x) = Unit {0}
+IsReplyTo phase.AsksClose (reply.CloseLane x) = Unit {0}
+IsReplyTo (phase.AsksLast end) (reply.CloseLane x) = Unit {0}
+IsReplyTo (phase.AsksLast end) (reply.Denied x) = Unit {0}
+IsReplyTo (phase.AsksLast end) (reply.Sent x) = Unit {0}
 IsReplyTo _ _ = ⊥
+
+abbrev pub StartsFit : SendEnd → Reply → Type 0
+StartsFit e (reply.Start x) = StartFits e x
+StartsFit e _ = Unit {0}
+
+-- Such a reply meets the session's condition, but that more is asked of a Start.
+abbrev pub RepliesAnswer : Type 0
+RepliesAnswer = (t : State) (x : Reply) → IsReplyTo t.phase x → StartsFit t.send x → RepliesTo t.phase t x
 
 -- a look tells that the lane's sending half is the session's
 abbrev pub IsStill : State → spool.State → Type 0
@@ -48,17 +69,7 @@ abbrev pub StartsAnswer : Type 0
 StartsAnswer =
     (t : State) (s after : spool.State) (handed : List ℕ) (o : Carried) → IsKept s → IsStill t s
     → IsReplyOf phase.AsksStart handed t s (reply.Start (Ok o)) after
-    → RepliesTo phase.AsksStart t (reply.Start (Ok o))
-
-abbrev pub StartsStill : Reply → State → spool.State → Type 0
-StartsStill (reply.Start (Ok o)) t s = IsStill t s
-StartsStill _ t s = Unit {0}
-
--- So the spool's reply meets the session's condition.
-abbrev pub RepliesAnswer : Type 0
-RepliesAnswer =
-    (t : State) (s after : spool.State) (handed : List ℕ) (x : Reply) → IsKept s → StartsStill x t s
-    → IsReplyTo t.phase x → IsReplyOf t.phase handed t s x after → RepliesTo t.phase t x
+    → StartFits t.send (Ok o)
 
 -- The look tells so of a lane that is as the session knows it.
 abbrev pub LooksStill : Type 0

@@ -99,12 +99,11 @@ pub fn starts_answer()
     steps_keep();
 }
 
-/// Each reply of the spool to a session that follows its lane meets the session's condition.
+/// A reply of the kind that is asked for meets the session's condition, but the looks of the turn of a Bind, the peer's
+/// line and a Start, of which more is asked.
 pub fn replies_answer()
     ensures { RepliesAnswer }
-{
-    starts_answer();
-}
+{}
 
 /// An own step is refused as one that the lane does not allow only where the activity was given up.
 pub fn refused_is_given_up()
