@@ -9,3 +9,4 @@ pub mod Asking
 pub mod Staying
 pub mod Generations
 pub mod Turns
+pub mod Alone

@@ -6,3 +6,4 @@ pub mod Looks
 pub mod Replies
 pub mod Laws
 pub mod Generations
+pub mod Alone

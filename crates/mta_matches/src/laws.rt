@@ -2,6 +2,7 @@
 
 ghost use Rattle.mta_matches.specs.Laws.{OthersKeep, OthersKeepAll, OwnStepsMatch, OpensMatch, AcceptsMatch};
 ghost use Rattle.mta_matches.specs.Laws.{LanesKeepRoles, GivenUpStays, OnlyAbandonsDrop};
+ghost use Rattle.mta_matches.specs.Alone.{AloneBefore, AloneKeeps};
 ghost use Rattle.mta_matches.specs.Asks.{AsksAreOfPhase};
 ghost use Rattle.mta_matches.specs.Calls.{HeardKeeps, TakenKeeps, ActionsKnow, EventsKnow, CallsKnow};
 ghost use Rattle.mta_matches.specs.Calls.{RepliesMatch, TurnsMatch};
@@ -10,7 +11,7 @@ ghost use Rattle.mta_matches.specs.Looks.{LooksAnswer, LooksLead};
 ghost use Rattle.mta_matches.specs.Replies.{StartsAnswer, RepliesAnswer, LooksStill, RefusedIsGivenUp};
 ghost use Rattle.mta_matches.specs.Replies.{PiecesMayBeKept};
 
-use mta_histories::steps_keep;
+use mta_histories::{histories_keep, steps_keep};
 
 /// A possible step of another worker keeps a session matching its lane: any step but those of this lane and
 /// generation, and of these a Bind, a CloseLane and an Abandon.
@@ -24,6 +25,17 @@ pub fn others_keep_all()
 {
     steps_keep();
     others_keep();
+}
+
+/// Where no entry of another is a step of the session's lane and generation, but a Bind, a CloseLane or an Abandon,
+/// what others added to the history keeps the session matching its lane; and where that is so of a longer history, it
+/// was so before.
+pub fn lanes_alone_match()
+    ensures before { AloneBefore }
+    ensures keeps { AloneKeeps }
+{
+    others_keep_all();
+    histories_keep();
 }
 
 /// A possible step that the session asked for leads to what it knows then.
