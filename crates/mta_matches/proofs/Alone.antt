@@ -1,5 +1,6 @@
 -- A session that has its lane alone.
-use Rattle.std.proofs.Common.{◌≡◌, ℕ, ◌+◌, ◌<◌, ◌≤◌, List, [], ◌∷◌, ◌++◌, length, Some, refl, sym, ap, subst, ◌∙◌, arith}
+use Rattle.std.proofs.Common.{◌≡◌, ℕ, ◌+◌, ◌<◌, ◌≤◌, List, [], ◌∷◌, ◌++◌, length, Some, refl, sym, ap, subst, ◌∙◌}
+use Rattle.std.proofs.Common.{arith}
 use Rattle.std.specs.Prelude.{slice_get, get_or}
 use Rattle.std.proofs.lemmas.Option.{slice_get_within, slice_get-get_or, get_or_from_slice_get}
 use Rattle.std.proofs.lemmas.List.{get_or_append_left, get_or-append-add, length-append}
@@ -43,7 +44,7 @@ get-rest xs ys n x at =
     ∙ ap Some (get_or-append-add xs ys n x ∙ get_or_from_slice_get ys n x x at)
 
 pub alone_before : AloneBefore
-alone_before t before more owned owns from same alone p step le at none =
+alone_before l h before more owned owns from same alone p step le at none =
     alone p step le (get-first before more p step at) (same p (slice_get_within before p step at) none)
 
 pub alone_keeps : OthersKeepAll → HistoriesKeep → AloneKeeps

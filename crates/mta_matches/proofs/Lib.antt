@@ -10,3 +10,4 @@ pub mod Staying
 pub mod Generations
 pub mod Turns
 pub mod Alone
+pub mod Lanes

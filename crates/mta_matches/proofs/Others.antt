@@ -47,7 +47,7 @@ module _ (t : Known) (s : spool.State) (lane : Lane) (moment : ℕ) where
 
   -- a step that tells the session's generation is the session's
   none : {T : Type 0} (g : Option ℕ) → lane.generation ≡ t.generation → g ≡ Some lane.generation
-      → IsElsewhere t t.lane g → T
+      → IsElsewhere t.lane t.generation t.lane g → T
   none None same e other = absurd other
   none (Some h) same e other = absurd (other refl (let one : h ≡ lane.generation = cc in one ∙ same))
 
@@ -67,7 +67,8 @@ module _ (t : Known) (s : spool.State) (lane : Lane) (moment : ℕ) where
   }
 
   lane_keeps : (step : LaneStep) (g : Option ℕ) → IsOfGeneration lane g step → LaneNeeds s lane step moment
-      → IsOthersOn t t.lane g step → IsLaterOrKnown t lane → IsLaterOrKnown t (lane_after s lane step moment)
+      → IsOthersOn t.lane t.generation t.lane g step
+      → IsLaterOrKnown t lane → IsLaterOrKnown t (lane_after s lane step moment)
   lane_keeps step g current needs other (inl lt) = inl (still_later step lt)
   lane_keeps (agree c w) g current needs other (inr m) = none g m.generation current other
   lane_keeps bind g current needs other (inr m) = inl (omega (arith, m.generation))
@@ -81,7 +82,7 @@ module _ (t : Known) (s : spool.State) (lane : Lane) (moment : ℕ) where
   lane_keeps (drop_pieces k) g current needs other (inr m) = none g m.generation current other
   lane_keeps close g current needs other (inr m) = inr m
 
-others_lead : (t : Known) (s : spool.State) (c : Class) (moment : ℕ) → IsOthers t c
+others_lead : (t : Known) (s : spool.State) (c : Class) (moment : ℕ) → IsOthers t.lane t.generation c
     → LeadsOn (IsLaterOrKnown t) t.lane s c moment
 others_lead t s (records text) moment other = tt
 others_lead t s (accepts octets) moment other = tt
@@ -89,7 +90,7 @@ others_lead t s (settles how i r) moment other = tt
 others_lead t s (opens role peer reference twa checkpoint window) moment other = tt
 others_lead t s (on_lane n g step) moment other =
     λ lane same current needs. lane_keeps t s lane moment step g current needs
-    (subst (λ (v : ℕ). IsOthersOn t v g step) same other)
+    (subst (λ (v : ℕ). IsOthersOn t.lane t.generation v g step) same other)
 
 pub others_keep : OthersKeep
 others_keep t s step numbered possible others m =

@@ -8,20 +8,20 @@ use Rattle.mta_matches.specs.Steps.{IsOthers}
 
 -- From this position on no entry that is not own is a step of the session's lane and generation, but a Bind, a
 -- CloseLane or an Abandon.
-abbrev pub HasLaneAlone : Known → (history : List Step) → (owns : ℕ → Bool) → (from : ℕ) → Type 0
-HasLaneAlone t history owns from =
-    (p : ℕ) (step : Step) → from ≤ p → slice_get history p ≡ Some step → owns p ≡ false → IsOthers t (class_of step)
+abbrev pub HasLaneAlone : (lane generation : ℕ) → (history : List Step) → (owns : ℕ → Bool) → (from : ℕ) → Type 0
+HasLaneAlone l h history owns from =
+    (p : ℕ) (step : Step) → from ≤ p → slice_get history p ≡ Some step → owns p ≡ false → IsOthers l h (class_of step)
 
 -- Who has it alone in a longer history had it before.
 abbrev pub AloneBefore : Type 0
 AloneBefore =
-    (t : Known) (before more : List Step) (owned owns : ℕ → Bool) (from : ℕ)
+    (l h : ℕ) (before more : List Step) (owned owns : ℕ → Bool) (from : ℕ)
     → ((p : ℕ) → p < length before → owned p ≡ false → owns p ≡ false)
-    → HasLaneAlone t (before ++ more) owns from → HasLaneAlone t before owned from
+    → HasLaneAlone l h (before ++ more) owns from → HasLaneAlone l h before owned from
 
 -- So what others added since the last turn keeps a session matching its lane.
 abbrev pub AloneKeeps : Type 0
 AloneKeeps =
     (t : Known) (before more : List Step) (owns : ℕ → Bool) (from : ℕ) → IsHistory (before ++ more)
-    → from ≤ length before → HasLaneAlone t (before ++ more) owns from
+    → from ≤ length before → HasLaneAlone t.lane t.generation (before ++ more) owns from
     → ((p : ℕ) → length before ≤ p → owns p ≡ false) → Matches t (after before) → Matches t (after (before ++ more))

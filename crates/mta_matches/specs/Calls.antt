@@ -139,6 +139,23 @@ CallsKnow =
     (p : Pieces) (t : State) (e : Event) (a : Action) (new : State) → follows_lane t.phase ≡ true → Follows t e a new
     → Knows (learned_by p t e) new
 
+-- a session that has a lane, from the looks behind its Bind down to its last step
+abbrev pub has_lane : Phase → Bool
+has_lane phase.AsksValues = true
+has_lane phase.AsksRecovery = true
+has_lane (phase.AsksReceiving state) = true
+has_lane (phase.AsksResumed state) = true
+has_lane phase.AsksDenied = true
+has_lane phase.AsksClose = true
+has_lane (phase.AsksLast end) = true
+has_lane f = follows_lane f
+
+-- It has the same lane in the same generation then.
+abbrev pub LanesStay : Type 0
+LanesStay =
+    (t : State) (e : Event) (a : Action) (new : State) → has_lane t.phase ≡ true → Follows t e a new
+    → (new.lane ≡ t.lane) × (new.generation ≡ t.generation)
+
 -- ---- the spool's side
 
 -- this step of the session's was made in the state s, and leads to the state after it

@@ -28,13 +28,13 @@ use Rattle.mta_matches.specs.Steps.{IsOthers, AreOthers, IsAsked, IsTold, learne
 abbrev pub OthersKeep : Type 0
 OthersKeep =
     (t : Known) (s : spool.State) (step : Step) → AreNumbered 0 s.lanes.open_lanes s.lanes.count → IsPossible s step
-    → IsOthers t (class_of step) → Matches t s → Matches t (after_step s step)
+    → IsOthers t.lane t.generation (class_of step) → Matches t s → Matches t (after_step s step)
 
 -- all that other workers did between two turns
 abbrev pub OthersKeepAll : Type 0
 OthersKeepAll =
-    (t : Known) (s : spool.State) (steps : List Step) → IsKept s → ArePossible s steps → AreOthers t steps → Matches t s
-    → Matches t (after_from s steps)
+    (t : Known) (s : spool.State) (steps : List Step) → IsKept s → ArePossible s steps
+    → AreOthers t.lane t.generation steps → Matches t s → Matches t (after_from s steps)
 
 -- a possible step that the session asked for
 abbrev pub OwnStepsMatch : Type 0

@@ -11,35 +11,36 @@ use Rattle.mta_histories.specs.Lanes as spool
 use Rattle.mta_histories.specs.History.{transfer_of, with_piece}
 use Rattle.mta_matches.specs.Matches.{Known}
 
--- the step tells a generation, and lane and generation are not the session's
-abbrev pub IsElsewhere : Known → (number : ℕ) (generation : Option ℕ) → Type 0
-IsElsewhere t n None = ⊥
-IsElsewhere t n (Some g) = n ≡ t.lane → g ≡ t.generation → ⊥
+-- the step tells a generation, and is not of this lane and generation
+abbrev pub IsElsewhere : (lane generation : ℕ) → (number : ℕ) (told : Option ℕ) → Type 0
+IsElsewhere l h n None = ⊥
+IsElsewhere l h n (Some g) = n ≡ l → g ≡ h → ⊥
 
--- Any worker may bind or close the session's lane, or give its activity up. No one else makes another step in the
+-- Any worker may bind or close a session's lane, or give its activity up. No one else makes another step in the
 -- session's generation.
-abbrev pub IsOthersOn : Known → ℕ → Option ℕ → LaneStep → Type 0
-IsOthersOn t n g bind = Unit {0}
-IsOthersOn t n g close = Unit {0}
-IsOthersOn t n g (abandon k) = Unit {0}
-IsOthersOn t n g (agree c w) = IsElsewhere t n g
-IsOthersOn t n g (start k i rs) = IsElsewhere t n g
-IsOthersOn t n g (confirm k c) = IsElsewhere t n g
-IsOthersOn t n g (to_end k) = IsElsewhere t n g
-IsOthersOn t n g (settle outcome k) = IsElsewhere t n g
-IsOthersOn t n g (secure k m piece) = IsElsewhere t n g
-IsOthersOn t n g (complete k m piece) = IsElsewhere t n g
-IsOthersOn t n g (drop_pieces k) = IsElsewhere t n g
+abbrev pub IsOthersOn : (lane generation : ℕ) → ℕ → Option ℕ → LaneStep → Type 0
+IsOthersOn l h n g bind = Unit {0}
+IsOthersOn l h n g close = Unit {0}
+IsOthersOn l h n g (abandon k) = Unit {0}
+IsOthersOn l h n g (agree c w) = IsElsewhere l h n g
+IsOthersOn l h n g (start k i rs) = IsElsewhere l h n g
+IsOthersOn l h n g (confirm k c) = IsElsewhere l h n g
+IsOthersOn l h n g (to_end k) = IsElsewhere l h n g
+IsOthersOn l h n g (settle outcome k) = IsElsewhere l h n g
+IsOthersOn l h n g (secure k m piece) = IsElsewhere l h n g
+IsOthersOn l h n g (complete k m piece) = IsElsewhere l h n g
+IsOthersOn l h n g (drop_pieces k) = IsElsewhere l h n g
 
-abbrev pub IsOthers : Known → Class → Type 0
-IsOthers t (records text) = Unit {0}
-IsOthers t (accepts octets) = Unit {0}
-IsOthers t (settles how i r) = Unit {0}
-IsOthers t (opens role peer reference twa checkpoint window) = Unit {0}
-IsOthers t (on_lane n g step) = IsOthersOn t n g step
+-- a step that others may make while a session has this lane in this generation
+abbrev pub IsOthers : (lane generation : ℕ) → Class → Type 0
+IsOthers l h (records text) = Unit {0}
+IsOthers l h (accepts octets) = Unit {0}
+IsOthers l h (settles how i r) = Unit {0}
+IsOthers l h (opens role peer reference twa checkpoint window) = Unit {0}
+IsOthers l h (on_lane n g step) = IsOthersOn l h n g step
 
-abbrev pub AreOthers : Known → List Step → Type 0
-AreOthers t steps = (n : ℕ) (step : Step) → slice_get steps n ≡ Some step → IsOthers t (class_of step)
+abbrev pub AreOthers : (lane generation : ℕ) → List Step → Type 0
+AreOthers l h steps = (n : ℕ) (step : Step) → slice_get steps n ≡ Some step → IsOthers l h (class_of step)
 
 -- What a session asks for is of the activity that it has under way, or starts one where none is; LaneAgree has the
 -- session's values.

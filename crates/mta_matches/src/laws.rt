@@ -5,6 +5,7 @@ ghost use Rattle.mta_matches.specs.Laws.{LanesKeepRoles, GivenUpStays, OnlyAband
 ghost use Rattle.mta_matches.specs.Alone.{AloneBefore, AloneKeeps};
 ghost use Rattle.mta_matches.specs.Asks.{AsksAreOfPhase};
 ghost use Rattle.mta_matches.specs.Calls.{HeardKeeps, TakenKeeps, ActionsKnow, EventsKnow, CallsKnow};
+ghost use Rattle.mta_matches.specs.Calls.{LanesStay};
 ghost use Rattle.mta_matches.specs.Calls.{RepliesMatch, TurnsMatch};
 ghost use Rattle.mta_matches.specs.Generations.{GenerationsBeginOnce};
 ghost use Rattle.mta_matches.specs.Looks.{LooksAnswer, LooksLead};
@@ -59,6 +60,11 @@ pub fn looks_answer()
 /// generation, but for the closing of another lane to make room for its own.
 pub fn asks_are_of_phase()
     ensures { AsksAreOfPhase }
+{}
+
+/// A session that has a lane keeps it, in its generation.
+pub fn lanes_stay()
+    ensures { LanesStay }
 {}
 
 /// A unit changes nothing that is durable of the halves.
