@@ -1,14 +1,14 @@
 -- A session that has its lane alone.
-use Rattle.std.proofs.Common.{◌≡◌, ℕ, ◌+◌, ◌<◌, ◌≤◌, List, [], ◌∷◌, ◌++◌, length, Some, refl, sym, ap, subst, ◌∙◌}
+use Rattle.std.proofs.Common.{◌≡◌, ℕ, ◌+◌, ◌<◌, List, [], ◌∷◌, ◌++◌, length, Some, refl, sym, ap, subst, ◌∙◌}
 use Rattle.std.proofs.Common.{arith}
-use Rattle.std.specs.Prelude.{slice_get, get_or}
+use Rattle.std.specs.Prelude.{slice_get}
 use Rattle.std.proofs.lemmas.Option.{slice_get_within, slice_get-get_or, get_or_from_slice_get}
 use Rattle.std.proofs.lemmas.List.{get_or_append_left, get_or-append-add, length-append}
 use Rattle.mta_records.specs.declared.step.Step.{Step}
 use Rattle.mta_histories.specs.Lanes as spool
 use Rattle.mta_histories.specs.History.{ArePossible, after_step, after_from}
 use Rattle.mta_histories.specs.Laws.{HistoriesKeep}
-use Rattle.mta_matches.specs.Matches.{Known, Matches}
+use Rattle.mta_matches.specs.Matches.{Matches}
 use Rattle.mta_matches.specs.Laws.{OthersKeepAll}
 use Rattle.mta_matches.specs.Alone.{AloneBefore, AloneKeeps}
 

@@ -1,7 +1,7 @@
 -- A session that has a lane keeps it, in its generation.
 use Rattle.std.proofs.Common.{◌≡◌, ℕ, ◌-◌, ◌==◌, ◌&&◌, not, Bool, true, false, if◌then◌else◌, Option, Some, None}
 use Rattle.std.proofs.Common.{Result}
-use Rattle.std.proofs.Common.{Ok, Err, List, [], refl, rules, sym, ap, subst, ◌∙◌}
+use Rattle.std.proofs.Common.{Ok, Err, [], refl, rules, ap, ◌∙◌}
 use Rattle.std.specs.Str.{bytes_eq}
 use Rattle.mta_ber.specs.declared.memory.Memory.{Memory as NoMemory}
 use Rattle.mta_rtse.specs.declared.types.Answer.{Answer}
@@ -15,7 +15,7 @@ use Rattle.mta_records.specs.declared.lane.LaneValues.{LaneValues}
 use Rattle.mta_records.specs.Outgoing.{Carried}
 use Rattle.mta_units.specs.declared.unit.Unit.{Unit as AnyUnit}
 use Rattle.mta_units.specs.declared.unit.Unit.TheVariants as unit
-use Rattle.mta_session.specs.State.{State, in_phase, let_go, is_initiator}
+use Rattle.mta_session.specs.State.{State, is_initiator}
 use Rattle.mta_session.specs.Receiving.{taken, is_free}
 use Rattle.mta_session.specs.Sending.{heard}
 use Rattle.mta_session.specs.Follows.{Part, Of_sender, Of_receiver, Of_neither, part_of, PutsFor, AsksFor, GoesOn}
