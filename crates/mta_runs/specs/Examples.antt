@@ -6,7 +6,7 @@ use Rattle.mta_units.specs.declared.unit.OpenUnit.{OpenUnit}
 use Rattle.mta_units.specs.declared.unit.Unit.{Unit as AnyUnit}
 use Rattle.mta_units.specs.declared.unit.Unit.TheVariants.{Open, Accept, Start, Piece, Sync, SyncAck, End, EndAck}
 use Rattle.mta_units.specs.declared.unit.Unit.TheVariants.{Resume, ResumeAck, Discard, DiscardAck, Please, Close}
-use Rattle.mta_units.specs.declared.unit.Unit.TheVariants.{CloseAck}
+use Rattle.mta_units.specs.declared.unit.Unit.TheVariants.{CloseAck, Give, Abort}
 use Rattle.mta_ends.specs.Units as u
 use Rattle.mta_ends.specs.Sending as s
 use Rattle.mta_ends.specs.Receiving as r
@@ -17,7 +17,8 @@ use Rattle.mta_ends.specs.Lanes as h
 use Rattle.mta_ends.specs.Lanes.{Seen, On, LanesAllow}
 use Rattle.mta_runs.specs.Covering as sent
 use Rattle.mta_runs.specs.ReceivingOrder as received
-use Rattle.mta_runs.specs.Sessions.{SessionList, Got, Put, Made, Looked, No_batch, At_sending, IsGoodSession}
+use Rattle.mta_runs.specs.Sessions.{SessionList, Got, Put, Made, Looked, No_batch, At_sending, Elsewhere}
+use Rattle.mta_runs.specs.Sessions.{IsGoodSession}
 use Rattle.mta_runs.specs.Run.{EachGood, SendsIn}
 
 abbrev pub three : List ℕ
@@ -56,6 +57,14 @@ abbrev pub given_up : List Seen
 given_up =
     On 0 (h.LaneOpen false 0 0) ∷ On 0 (h.LaneAgree 2 1) ∷ On 0 (h.Start 1 1 three) ∷ On 0 (h.Abandon 1) ∷
     On 0 (h.Dropped 1 1) ∷ []
+
+-- an initiator's lane that is agreed
+abbrev pub agreed_lane : List Seen
+agreed_lane = On 0 (h.LaneOpen false 2 1) ∷ On 0 (h.LaneAgree 2 1) ∷ []
+
+-- a responder's lane on which an activity is started
+abbrev pub crossed_lane : List Seen
+crossed_lane = On 0 (h.LaneOpen true 2 1) ∷ On 0 (h.Start 1 1 three) ∷ []
 
 -- ---- the lists, whatever the Open proposes and the Accept agrees
 
@@ -143,3 +152,29 @@ module _ (proposal : OpenUnit) (size window : ℕ) (answer : Answer) where
 
   abbrev pub AnUnconfirmedSyncIsNotGood : Type 0
   AnUnconfirmedSyncIsNotGood = IsGoodSession (λ o. true) given_up 0 2 1 true idle_session → ⊥
+
+  -- Close crosses the responder's Please: Give comes behind it, and the responder sends.
+  abbrev pub crossed_session : SessionList
+  crossed_session = record {
+    opening = [];
+    at = 0;
+    events =
+        Put accepted ∷ Put (Please 0) ∷ Got Close ∷ Got Give ∷ Made 1 0 (h.Start 1 1 three) ∷ Put (Start 1) ∷
+        [];
+  }
+
+  abbrev pub ACrossedCloseIsGood : Type 0
+  ACrossedCloseIsGood = IsGoodSession (λ o. true) crossed_lane 0 2 1 false crossed_session
+
+  -- An initiator has CloseAck, and its lane cannot be closed: it puts an Abort.
+  abbrev pub unclosed_session : SessionList
+  unclosed_session = record {
+    opening = [];
+    at = 0;
+    events =
+        Put opened ∷ Got accepted ∷ Made 1 0 (h.LaneAgree 2 1) ∷ Looked 2 No_batch ∷ Put Close ∷ Got CloseAck ∷
+        Looked 2 Elsewhere ∷ Put (Abort 3) ∷ [];
+  }
+
+  abbrev pub AnUnclosedLaneIsGood : Type 0
+  AnUnclosedLaneIsGood = IsGoodSession (λ o. true) agreed_lane 0 2 1 true unclosed_session

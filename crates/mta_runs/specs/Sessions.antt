@@ -141,6 +141,7 @@ pub data Turn : Type 0 where
   Theirs : Turn
   Own_closing : Turn  -- Close is put
   Their_closing : Turn  -- Close was got
+  Acknowledged : Turn  -- CloseAck was got
   Over : Turn
 
 abbrev pub first_turn : (initiator : Bool) → Turn
@@ -161,7 +162,9 @@ turn_got Before_accept (Accept size window answer) = Own
 turn_got Theirs Give = Own
 turn_got Theirs Close = Their_closing
 turn_got Own_closing (Please priority) = Own
-turn_got Own_closing CloseAck = Over
+-- a Please that was on its way answers the Close, and Give answers the Please
+turn_got Their_closing Give = Own
+turn_got Own_closing CloseAck = Acknowledged
 turn_got t (Abort reason) = Over
 turn_got t (Reject reason) = Over
 turn_got t x = t
@@ -182,6 +185,9 @@ TurnAllows Theirs (Put x) = IsNone (transfer_unit x)
 TurnAllows Before_accept (Put x) = IsNone (transfer_unit x)
 TurnAllows Own_closing (Put x) = IsNone (transfer_unit x)
 TurnAllows Their_closing (Put x) = IsNone (transfer_unit x)
+-- where the lane cannot be closed then, an Abort follows
+TurnAllows Acknowledged (Put (Abort reason)) = Unit {0}
+TurnAllows Acknowledged (Put x) = ⊥
 TurnAllows Over (Put x) = ⊥
 TurnAllows t e = Unit {0}
 

@@ -11,7 +11,8 @@ ghost use Rattle.mta_runs.specs.Run.{SessionsAgree};
 ghost use Rattle.mta_runs.specs.Sendings as sends;
 ghost use Rattle.mta_runs.specs.Receivings as receives;
 ghost use Rattle.mta_runs.specs.Examples.{TwoSessionsSend, ASessionDrops, ALateAbandonIsNotGood};
-ghost use Rattle.mta_runs.specs.Examples.{AnUnconfirmedSyncIsNotGood};
+ghost use Rattle.mta_runs.specs.Examples.{AnUnconfirmedSyncIsNotGood, ACrossedCloseIsGood};
+ghost use Rattle.mta_runs.specs.Examples.{AnUnclosedLaneIsGood};
 ghost use Rattle.mta_runs.specs.Clause.{OneStationAgrees};
 ghost use Rattle.mta_runs.specs.ReceivingOrder.{OwningKeepsReceivingOrder};
 ghost use Rattle.mta_runs.specs.History.{AgreedValuesStay};
@@ -101,10 +102,13 @@ pub fn one_station_agrees()
 }
 
 /// A list with an Abandon of another pass is good where the Abandon stands before the look that has it; a list with the
-/// Abandon behind it, and one that takes a unit with a Confirm due, are not.
+/// Abandon behind it, and one that takes a unit with a Confirm due, are not. A responder's list in which Close crossed
+/// its Please, and Give follows, is good, and so is an initiator's that puts an Abort behind CloseAck.
 pub fn examples_of_lists()
     ensures dropping { (o : OpenUnit) (size window : ℕ) (a : Answer) → ASessionDrops o size window a }
     ensures late { (o : OpenUnit) (size window : ℕ) (a : Answer) → ALateAbandonIsNotGood o size window a }
     ensures unconfirmed { (o : OpenUnit) (size window : ℕ) (a : Answer)
         → AnUnconfirmedSyncIsNotGood o size window a }
+    ensures crossed { (o : OpenUnit) (size window : ℕ) (a : Answer) → ACrossedCloseIsGood o size window a }
+    ensures unclosed { (o : OpenUnit) (size window : ℕ) (a : Answer) → AnUnclosedLaneIsGood o size window a }
 {}

@@ -1,0 +1,13 @@
+pub mod OneLane
+pub mod Others
+pub mod Own
+pub mod Opened
+pub mod Events
+pub mod Replies
+pub mod Answering
+pub mod Asking
+pub mod Staying
+pub mod Generations
+pub mod Turns
+pub mod Alone
+pub mod Lanes
