@@ -113,7 +113,7 @@ item 4 report C=GB;A=GOLD/R1 arrived 491231235959Z
 recipient 1 pending C=GB;A=GOLD;S=BELL
 ";
 
-/// A message to WATT, and the report to BELL that it makes, each of whose recipients ended in one of the ways.
+/// Items whose recipient ended in each of the ways.
 const ENDED: &str = "item 1 message C=GB;A=GOLD/M0001 arrived 500101000000Z
 recipient 1 reported 500101000000Z 1 0 C=GB;A=GOLD;S=WATT
 item 2 message C=GB;A=GOLD/M0001 arrived 500101000000Z
@@ -279,9 +279,7 @@ fn lane(
 {
     let reference = Reference::new(Octets::new(alloc), 0, None);
     let pieces = Pieces::new(alloc)?;
-    Ok(Lane::open(
-        number, role, peer, reference, false, size, window, pieces,
-    ))
+    Ok(Lane::open(number, role, peer, reference, false, size, window, pieces))
 }
 
 /// What an activity of two octets transfers.
