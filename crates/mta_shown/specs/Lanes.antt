@@ -31,12 +31,15 @@ receiving_text last.None = codes "none"
 receiving_text (last.Partial activity pieces) = pair_text (codes "partial ") activity pieces
 receiving_text (last.Done activity) = codes "done " ++ decimal activity
 
--- its number, which way it goes and with whom, and its generation
+-- which way it goes, and with whom
+unfoldable pub partner_text : Lane → List ℕ
+partner_text lane = way_text lane.role ++ lane.peer
+
+-- its number, the other end, and its generation
 unfoldable pub association_text : Lane → List ℕ
 association_text lane =
     codes "lane "
-    ++ (decimal lane.number
-    ++ (way_text lane.role ++ (lane.peer ++ (codes " generation " ++ decimal lane.generation))))
+    ++ (decimal lane.number ++ (partner_text lane ++ (codes " generation " ++ decimal lane.generation)))
 
 -- the checkpoint size in units of 1,024 octets, and the window in pieces
 unfoldable pub values_text : Lane → List ℕ

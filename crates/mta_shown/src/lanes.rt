@@ -1,8 +1,8 @@
 //! The lines of the lanes that are open (X.228: associations with their recoveries).
 
 ghost use Rattle.std.specs.Prelude.{◌≡◌, ◌++◌, OnOk, decimal};
-ghost use Rattle.mta_shown.specs.Lanes.{way_text, pair_text, sending_text, receiving_text, association_text};
-ghost use Rattle.mta_shown.specs.Lanes.{values_text, halves_text, lane_line, lane_lines};
+ghost use Rattle.mta_shown.specs.Lanes.{way_text, pair_text, sending_text, receiving_text, partner_text};
+ghost use Rattle.mta_shown.specs.Lanes.{association_text, values_text, halves_text, lane_line, lane_lines};
 
 use mta_apdu_text::put_number;
 use mta_ber::{Memory, Octets};
@@ -66,14 +66,21 @@ fn put_receiving(out: &mut Octets, last: Last) -> Result<(), Memory>
     }
 }
 
+#[tactic(auto, unfolding(crate::specs::Lanes::partner_text))]
+fn put_partner(out: &mut Octets, lane: &Lane) -> Result<(), Memory>
+    ensures { OnOk result (out.new ≡ out.old ++ partner_text lane.now) }
+{
+    out.extend(way_of(lane.role()))?;
+    out.extend(lane.peer().as_slice())
+}
+
 #[tactic(auto, unfolding(crate::specs::Lanes::association_text))]
 fn put_association(out: &mut Octets, lane: &Lane) -> Result<(), Memory>
     ensures { OnOk result (out.new ≡ out.old ++ association_text lane.now) }
 {
     out.extend(b"lane ")?;
     put_number(out, u64::from(lane.number()))?;
-    out.extend(way_of(lane.role()))?;
-    out.extend(lane.peer().as_slice())?;
+    put_partner(out, lane)?;
     out.extend(b" generation ")?;
     put_number(out, lane.generation())
 }
