@@ -234,33 +234,57 @@ fn texts_of_what_is_held(rt: HostRuntime) -> Result<(), Fail> {
     Ok(())
 }
 
+fn push_ended(
+    alloc: Global,
+    items: &mut Vec<Item>,
+    octets: &[u8],
+    status: Status,
+) -> Result<(), Fail> {
+    let item = ended(alloc, octets, status)?;
+    items.push(item)?;
+    Ok(())
+}
+
+fn push_reported(
+    alloc: Global,
+    items: &mut Vec<Item>,
+    reason: u32,
+    diagnostic: Option<u32>,
+) -> Result<(), Fail> {
+    let status = Status::Reported {
+        moment: 0,
+        reason,
+        diagnostic,
+    };
+    push_ended(alloc, items, &SAMPLE, status)
+}
+
+fn push_sent(alloc: Global, items: &mut Vec<Item>) -> Result<(), Fail> {
+    let peer = word(alloc, b"EAST")?;
+    let status = Status::Sent {
+        moment: 3_155_759_999,
+        peer,
+    };
+    push_ended(alloc, items, &SAMPLE, status)
+}
+
+/// An item for each status but the first.
+fn all_ended(alloc: Global, items: &mut Vec<Item>) -> Result<(), Fail> {
+    push_reported(alloc, items, 1, Some(0))?;
+    push_reported(alloc, items, 0, None)?;
+    push_ended(alloc, items, &SAMPLE, Status::Delivered(1_000))?;
+    push_ended(alloc, items, &SAMPLE, Status::Expanded(1_000))?;
+    push_sent(alloc, items)?;
+    push_ended(alloc, items, &SAMPLE, Status::Affirmed(1_000))?;
+    push_ended(alloc, items, &REPORT, Status::Discarded(0))?;
+    push_ended(alloc, items, &REPORT, Status::Passed(1_000))
+}
+
 #[test]
 fn texts_of_statuses(rt: HostRuntime) -> Result<(), Fail> {
     let alloc = rt.alloc();
-    let not_delivered = Status::Reported {
-        moment: 0,
-        reason: 1,
-        diagnostic: Some(0),
-    };
-    let denied = Status::Reported {
-        moment: 0,
-        reason: 0,
-        diagnostic: None,
-    };
-    let sent = Status::Sent {
-        moment: 3_155_759_999,
-        peer: word(alloc, b"EAST")?,
-    };
-    let items = vec![in alloc;
-        ended(alloc, &SAMPLE, not_delivered)?,
-        ended(alloc, &SAMPLE, denied)?,
-        ended(alloc, &SAMPLE, Status::Delivered(1_000))?,
-        ended(alloc, &SAMPLE, Status::Expanded(1_000))?,
-        ended(alloc, &SAMPLE, sent)?,
-        ended(alloc, &SAMPLE, Status::Affirmed(1_000))?,
-        ended(alloc, &REPORT, Status::Discarded(0))?,
-        ended(alloc, &REPORT, Status::Passed(1_000))?,
-    ]?;
+    let mut items = Vec::new(alloc);
+    all_ended(alloc, &mut items)?;
     let text = show_queue(alloc, items.as_slice(), &[])?;
     assert_eq!(rt; text.as_slice(), ENDED.as_bytes());
     Ok(())
@@ -328,15 +352,24 @@ fn dropping_lane(alloc: Global) -> Result<Lane, Fail> {
     Ok(lane)
 }
 
+fn push_lane(lanes: &mut Vec<Lane>, lane: Result<Lane, Fail>) -> Result<(), Fail> {
+    let lane = lane?;
+    lanes.push(lane)?;
+    Ok(())
+}
+
+fn all_lanes(alloc: Global, lanes: &mut Vec<Lane>) -> Result<(), Fail> {
+    push_lane(lanes, sent_lane(alloc))?;
+    push_lane(lanes, recovered_lane(alloc))?;
+    push_lane(lanes, ending_lane(alloc))?;
+    push_lane(lanes, dropping_lane(alloc))
+}
+
 #[test]
 fn texts_of_lanes(rt: HostRuntime) -> Result<(), Fail> {
     let alloc = rt.alloc();
-    let lanes = vec![in alloc;
-        sent_lane(alloc)?,
-        recovered_lane(alloc)?,
-        ending_lane(alloc)?,
-        dropping_lane(alloc)?,
-    ]?;
+    let mut lanes = Vec::new(alloc);
+    all_lanes(alloc, &mut lanes)?;
     let text = show_queue(alloc, &[], lanes.as_slice())?;
     assert_eq!(rt; text.as_slice(), LANES.as_bytes());
     Ok(())
