@@ -1,27 +1,14 @@
 -- What is answered of what is due.
-use Rattle.std.specs.Prelude.{◌≡◌, ◌≤◌, ◌<◌, ◌^◌, ◌&&◌, ◌↔◌, ℕ, Bool, true, List}
-use Rattle.std.specs.Prelude.{length, Option, Some, None}
-use Rattle.mta_ber.specs.Times.{last_moment}
+use Rattle.std.specs.Prelude.{◌≡◌, ◌≤◌, ◌<◌, ◌&&◌, ◌↔◌, ℕ, Bool, true, List}
+use Rattle.std.specs.Prelude.{Option, Some, None}
 use Rattle.mta_lane_send.specs.Half.{is_sending, last_of}
 use Rattle.mta_records.specs.declared.step.Step.{Step}
 use Rattle.mta_records.specs.declared.lane.Batch.{Batch}
 use Rattle.mta_procedures.specs.declared.verdict.Verdict.{Verdict}
-use Rattle.mta_machine.specs.Items.{ItemValue, names, numbered}
-use Rattle.mta_machine.specs.Machine.{last_tables}
-use Rattle.mta_items.specs.Parts.{machine_of}
-use Rattle.mta_replay.specs.declared.kept.Kept.{Kept}
+use Rattle.mta_machine.specs.Items.{names}
 use Rattle.mta_histories.specs.Lanes.{Lane, State, is_for}
 use Rattle.mta_histories.specs.Due.{IsDue, IsQuiet, IsNext, IsAscending, IsToRelay, IsBatch, IsNoBatch, IsRoutedTo}
 use Rattle.mta_histories.specs.Due.{step_of}
-
--- this is the text of the tables recorded last
-abbrev pub IsTextOf : Kept → List ℕ → Type 0
-IsTextOf kept text = let m = machine_of kept.parts in numbered m.tables (last_tables m) ≡ Some text
-
--- the item arrived up to the last moment of 2049, and its recipients have numbers
-pub record IsStored (item : ItemValue) : Type 0 where
-  pub arrived : item.arrival ≤ last_moment
-  pub few : length item.statuses < 2 ^ 32
 
 -- the step that is due of a recipient, or none
 abbrev pub IsDueOf : State → (i r moment : ℕ) → Option Step → Type 0

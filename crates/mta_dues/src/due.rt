@@ -10,15 +10,15 @@ ghost use Rattle.mta_histories.specs.Lanes.{activities_of};
 ghost use Rattle.mta_histories.specs.Kept.{IsKept};
 ghost use Rattle.mta_items.specs.Parts.{machine_of};
 ghost use Rattle.mta_replay.specs.Kept.{state_of};
-ghost use Rattle.mta_dues.specs.Answers.{IsDueOf, is_sending_for, step_by, IsTextOf};
+ghost use Rattle.mta_replay.specs.Asked.{IsTextOf};
+ghost use Rattle.mta_dues.specs.Answers.{IsDueOf, is_sending_for, step_by};
 
-use crate::rules::Rules;
 use mta_ber::Memory;
 use mta_lanes::{Lane, Lanes};
 use mta_machine::Item;
 use mta_procedures::Verdict;
 use mta_records::Step;
-use mta_replay::Kept;
+use mta_replay::{Kept, Rules};
 use std::alloc::Global;
 
 // The verdict on a recipient of an item. A report to a list that cannot be passed back goes no further.

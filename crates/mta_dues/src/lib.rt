@@ -4,11 +4,9 @@
 mod due;
 mod queue;
 mod relay;
-mod rules;
 mod scan;
 
 pub use due::due_of;
 pub use queue::waiting;
 pub use relay::{batch_for, is_to_relay};
-pub use rules::Rules;
 pub use scan::due_step;

@@ -9,14 +9,14 @@ ghost use Rattle.mta_machine.specs.Rules.{verdict_of};
 ghost use Rattle.mta_machine.specs.Machine.{relay_by};
 ghost use Rattle.mta_histories.specs.Due.{IsToRelay};
 ghost use Rattle.mta_replay.specs.Kept.{state_of};
-ghost use Rattle.mta_dues.specs.Answers.{AreRelayed, IsBatchOf, IsStored, IsTextOf};
+ghost use Rattle.mta_replay.specs.Asked.{IsStored, IsTextOf};
+ghost use Rattle.mta_dues.specs.Answers.{AreRelayed, IsBatchOf};
 
-use crate::rules::Rules;
 use mta_ber::{Memory, Word};
 use mta_machine::Item;
 use mta_procedures::Verdict;
 use mta_records::{Batch, Recipients};
-use mta_replay::Kept;
+use mta_replay::{Kept, Rules};
 use std::alloc::Global;
 
 // Whether a verdict relays to the peer.

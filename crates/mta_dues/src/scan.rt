@@ -5,14 +5,14 @@ ghost use Rattle.std.specs.List.{All};
 ghost use Rattle.mta_machine.specs.Items.{numbered};
 ghost use Rattle.mta_histories.specs.Kept.{IsKept};
 ghost use Rattle.mta_replay.specs.Kept.{state_of};
-ghost use Rattle.mta_dues.specs.Answers.{IsFirstOf, IsNextOf, IsStored, IsTextOf};
+ghost use Rattle.mta_replay.specs.Asked.{IsStored, IsTextOf};
+ghost use Rattle.mta_dues.specs.Answers.{IsFirstOf, IsNextOf};
 
 use crate::due::due_of;
-use crate::rules::Rules;
 use mta_ber::Memory;
 use mta_machine::Item;
 use mta_records::Step;
-use mta_replay::Kept;
+use mta_replay::{Kept, Rules};
 use std::alloc::Global;
 
 // What is due of the lowest recipient of an item.

@@ -3,7 +3,9 @@
 #![tactic(auto)]
 
 mod parts;
+mod reading;
 mod settle;
 
 pub use parts::{Made, Parts};
+pub use reading::{accepted_item, is_report};
 pub use settle::is_pending;

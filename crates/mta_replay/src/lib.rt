@@ -4,7 +4,9 @@
 mod change;
 mod kept;
 mod on_lane;
+mod rules;
 mod secure;
 
 pub use change::{Change, Settlement};
 pub use kept::Kept;
+pub use rules::Rules;
