@@ -155,6 +155,13 @@ impl Lane {
         self.number
     }
 
+    /// Which end of it this agent is.
+    pub fn role(&self) -> LaneRole
+        ensures { result ≡ self.now.role }
+    {
+        self.role
+    }
+
     /// Its generation.
     pub fn generation(&self) -> u64
         ensures { result ≡ self.now.generation }
