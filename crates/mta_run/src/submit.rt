@@ -1,4 +1,4 @@
-//! `submit`: record the tables, accept the APDU, print its number, deliver what is due.
+//! `submit`: record the tables, accept the APDU, print its number, do what is due.
 //!
 //! The inputs are read first (`inputs.rt`), and then the spool is opened. `store` makes the tables'
 //! step where their text changed, and the Accept; each is durable before its call answers.
@@ -6,12 +6,12 @@
 //! calls `turn` until nothing is due.
 //!
 //! A spool that cannot be opened and a step that is refused are stops, with the steps before them made.
-//! A crash at any moment leaves the history with a beginning of these steps; between the Accept and the
-//! delivery the item is pending, and the next `submit` delivers it.
+//! A crash at any moment leaves the history with a beginning of these steps; a recipient for whom no
+//! step was made yet is pending, and the next `submit` makes what is due then.
 
 ghost use Rattle.std.specs.Prelude.{◌≡◌, ◌≤◌, List, Ok, Some, false};
-ghost use Rattle.mta_history.specs.Apdu.{IsApdu};
-ghost use Rattle.mta_first_records.specs.declared.step.Step.{Step};
+ghost use Rattle.mta_machine.specs.Apdu.{IsApdu};
+ghost use Rattle.mta_records.specs.declared.step.Step.{Step};
 ghost use Rattle.mta_spool.specs.Stands.{Stands, TellsFewer};
 ghost use Rattle.mta_tables.specs.Tables.{tables_of};
 ghost use Rattle.mta_words.specs.declared.words.Words.TheVariants as Say;
@@ -108,7 +108,7 @@ fn work<D: Disk + Drop, C: Clock + Drop, O: Sink>(
     }
 }
 
-/// Reads the tables and the input, records them in the spool, prints the item's number, and delivers what is due.
+/// Reads the tables and the input, records them in the spool, prints the item's number, and does what is due.
 pub fn submit<D: Disk + Drop, C: Clock + Drop, I: Source, O: Sink>(
     alloc: Global,
     conf: &mut I,
