@@ -4,6 +4,7 @@ pub mod CrashStands
 pub mod DiskStands
 pub mod Added
 pub mod Stored
+pub mod Dues
 pub mod Settled
 pub mod Worked
 pub mod HandedOn

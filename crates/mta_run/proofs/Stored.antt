@@ -1,23 +1,23 @@
 -- The tables are recorded, and then an APDU is accepted.
 use Rattle.std.proofs.Common.{◌≡◌, ◌≢◌, ℕ, ◌+◌, ◌≤◌, ◌<◌, ◌^◌, List, [], ◌∷◌, ◌++◌, length, Option, Some, None, Result, Ok, Err, Bool, false, true, refl, sym, ap, subst, ◌∙◌, append_assoc, true≢false, arith, inl, inr}
-use Rattle.std.specs.Prelude.{◌⊎◌, if◌then◌else◌, IfOk, option_and_then}
+use Rattle.std.specs.Prelude.{◌⊎◌, if◌then◌else◌, IfOk}
 use Rattle.std.proofs.lemmas.Bool.{cases_eq, cases_lt}
 use Rattle.std.proofs.lemmas.List.{append-nil}
 use Rattle.mta_edge.specs.Views.{DiskView, DiskLaws, ClockView}
 use Rattle.mta_edge.specs.Causes.{Rose}
-use Rattle.mta_first_records.specs.declared.step.Step.{Step}
-use Rattle.mta_first_records.specs.declared.step.Step.TheVariants.{Tables, Accept}
-use Rattle.mta_first_records.specs.declared.fault.StepFault.{StepFault}
-use Rattle.mta_first_records.specs.declared.fault.StepFault.TheVariants as StepFaults
+use Rattle.mta_records.specs.declared.step.Step.{Step}
+use Rattle.mta_records.specs.declared.step.Step.TheVariants.{Tables, Accept}
+use Rattle.mta_records.specs.declared.fault.StepFault.{StepFault}
+use Rattle.mta_records.specs.declared.fault.StepFault.TheVariants as StepFaults
 use Rattle.mta_journal.specs.Shown.{Shown as JournalShown}
 use Rattle.mta_journal.specs.Appending.{journal_limit}
-use Rattle.mta_tables.specs.Tables.{TablesValue, tables_of}
-use Rattle.mta_history.specs.Verdict.{last_of, recorded, tables_value}
-use Rattle.mta_history.specs.History.{State, after, after_step, empty}
+use Rattle.mta_machine.specs.Items.{numbered}
+use Rattle.mta_machine.specs.Machine.{last_tables}
+use Rattle.mta_histories.specs.Lanes.{State, empty}
+use Rattle.mta_histories.specs.History.{after, after_step}
 use Rattle.mta_spool.specs.Shown.{Shown}
 use Rattle.mta_spool.specs.Stands.{Stands, Appends, AtMoment, step_moment, need_of, fault_of, IsSpent}
 use Rattle.mta_spool.specs.Turning.{IsRecorded, Records, IsUnchanged}
-use Rattle.mta_spool.proofs.Possible.{value_read}
 use Rattle.mta_run.specs.Submit.{IsTimed, IsOwn, AreInTurn, turn_after, Adds, IsNextStep, tables as next_tables, apdu as next_apdu, IsFullFor, IsSpentFor, IsRefusal, IsAccepted, HasStored}
 use Rattle.mta_run.proofs.Same.{some_same, ok_same, err_same}
 use Rattle.mta_run.proofs.Added.{after_append, turn_append, turn_after_append, turn_refused, Refusing, adds_still, adds_one, adds_refused, adds_then, adds_unless, unchanged}
@@ -67,10 +67,14 @@ module _ {D C : Type 0} (disks : DiskView D) where
 
 -- ---- the tables
 
--- where a text that has a value is recorded last, there are tables
-pub recorded_there : (ts : List (List ℕ)) (text : List ℕ) (tables : TablesValue) → last_of ts ≡ Some text → tables_of text ≡ Ok tables → recorded ts ≢ None
-unfolding recorded
-recorded_there ts text tables last read none = let there : option_and_then tables_value (last_of ts) ≡ Some tables = ap (option_and_then tables_value) last ∙ value_read text tables read in cc
+-- the text recorded last
+last_text : State → Option (List ℕ)
+last_text s = numbered s.machine.tables (last_tables s.machine)
+
+-- where a text is recorded last, there are tables
+pub tables_there : (ts : List (List ℕ)) (text : List ℕ) → numbered ts (length ts) ≡ Some text → ts ≢ []
+tables_there [] text last none = absurd cc
+tables_there (t ∷ ts) text last none = absurd cc
 
 -- what recording the tables leaves
 pub record Recording {D C : Type 0} (disks : DiskView D) (tells : ℕ → Type 0) (conf input : List ℕ) (old mid : Shown D C) (added : List Step) : Type 0 where
@@ -118,7 +122,7 @@ module _ {D C : Type 0} (disks : DiskView D) (laws : DiskLaws disks) (tells : �
   -- they were recorded, or are those recorded last
   pub recording : (conf input : List ℕ) (old mid : Shown D C) → ((steps : List Step) × Stands disks old steps) → old.journal.ended ≡ false → Records disks conf old mid (Ok tt) → (added : List Step) × Recording disks tells conf input old mid added
   recording conf input old mid here going records =
-      elim (is_text (last_of old.current.machine.tables) conf) [
+      elim (is_text (last_text old.current) conf) [
         | inl recorded ↦ (
             let is = (records.same recorded).0 in
             let same : IsUnchanged old mid = (ap (λ (v : Shown D C). v.journal) is, ap (λ (v : Shown D C). v.current) is) in (
@@ -127,7 +131,7 @@ module _ {D C : Type 0} (disks : DiskView D) (laws : DiskLaws disks) (tells : �
                 adds = adds_still disks laws tells conf input old mid ⊥ same;
                 in_turn = tt;
                 turn = omega arith;
-                last = ap (λ (s : State). last_of s.machine.tables) same.1 ∙ recorded;
+                last = ap last_text same.1 ∙ recorded;
                 items = ap (λ (s : State). length s.machine.items) same.1;
                 going = ap (λ (j : JournalShown D). j.ended) same.0 ∙ going;
               },
@@ -191,7 +195,7 @@ module _ {D C : Type 0} (disks : DiskView D) (laws : DiskLaws disks) (tells : �
           next = sym (ok_same n k e) ∙ number ∙ ap (λ (x : ℕ). x + 1) so.items ∙ ap (λ (x : State). length x.machine.items + 1) s.state_is;
         };
         turn = λ k e. turn_after_append 0 added (step ∷ []);
-        tables = λ k e. ap (λ (s : State). last_of s.machine.tables) (made_state disks step mid new appends (here.0 ++ added) there) ∙ so.last;
+        tables = λ k e. ap last_text (made_state disks step mid new appends (here.0 ++ added) there) ∙ so.last;
         refused = λ fault e. absurd cc;
         going = λ k e. appends.going refl;
       }

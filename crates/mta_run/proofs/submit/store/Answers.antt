@@ -1,7 +1,7 @@
 use Rattle.std.proofs.Common.{ℕ, List, refl, subst}
-use Rattle.mta_first_records.specs.declared.step.Step.TheVariants.{Accept}
+use Rattle.mta_records.specs.declared.step.Step.TheVariants.{Accept}
 use Rattle.mta_spool.specs.Stands.{Appends, AtMoment, fault_of}
-use Rattle.mta_run.proofs.Stored.{recording, stored, tables_refused, recorded_there}
+use Rattle.mta_run.proofs.Stored.{recording, stored, tables_refused, tables_there}
 use Rattle.mta_run.proofs.submit.store.Goals as goal
 
 pub returns-in-Ok-clause-stored : goal.returns-in-Ok-clause-stored
@@ -17,4 +17,5 @@ returns-in-Err-clause-stored g c =
     tables_refused g.D.Disk.model g.met.D.Disk.laws (g.C.Clock.model.tells c.args.spool.now.clock) c.args.tables.text c.args.apdu.now c.args.spool.now c.set_tables.new.self c.in-Err.fault c.requires.going c.in-Err.ensures.records
 
 pub accept-requires-clause-tables : goal.accept-requires-clause-tables
-accept-requires-clause-tables g c = recorded_there c.set_tables.new.self.current.machine.tables c.args.tables.text c.args.tables (c.in-Ok.ensures.records.recorded refl) c.requires.tables
+accept-requires-clause-tables g c =
+    tables_there c.set_tables.new.self.current.machine.tables c.args.tables.text (c.in-Ok.ensures.records.recorded refl)
