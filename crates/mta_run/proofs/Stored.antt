@@ -68,7 +68,7 @@ module _ {D C : Type 0} (disks : DiskView D) where
 -- ---- the tables
 
 -- the text recorded last
-last_text : State → Option (List ℕ)
+abbrev last_text : State → Option (List ℕ)
 last_text s = numbered s.machine.tables (last_tables s.machine)
 
 -- where a text is recorded last, there are tables
