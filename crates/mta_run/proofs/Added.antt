@@ -17,7 +17,7 @@ use Rattle.mta_histories.specs.Classes as classes
 use Rattle.mta_histories.specs.History.{IsHistory, IsPossible, ArePossible, when, after, after_step, after_from}
 use Rattle.mta_histories.proofs.Runs.{possible-more}
 use Rattle.mta_spool.specs.Shown.{Shown}
-use Rattle.mta_spool.specs.Stands.{Stands, Appends}
+use Rattle.mta_spool.specs.Stands.{Stands, IsOfNoLane, Appends}
 use Rattle.mta_spool.specs.Turning.{IsUnchanged}
 use Rattle.mta_run.specs.Submit.{IsTimed, IsOwnOnLane, IsOwnOf, IsOwn, AreOwn, turn_of_class, turn_of, turn_behind, AreInTurn, turn_after}
 use Rattle.mta_run.specs.Submit.{takes_apdu, is_accept, accepts, Adds}
@@ -208,20 +208,20 @@ module _ {D C : Type 0} (disks : DiskView D) where
   pub unchanged : (step : Step) (old new : Shown D C) (fault : StepFault) → (fault ≡ StepFaults.Disk → ⊥) → Appends disks step old new (Some fault) → IsUnchanged old new
   unchanged step old new fault other appends = appends.kept (λ e. absurd cc) (λ e. other (some_same fault StepFaults.Disk e))
 
-  pub adds_refused : DiskLaws disks → (tells : ℕ → Type 0) (step : Step) (old new : Shown D C) (fault : StepFault) (failed : Type 0) → (fault ≡ StepFaults.Disk → failed) → Appends disks step old new (Some fault) → Refusing disks tells step old new failed
-  adds_refused laws tells step old new StepFaults.Disk failed so appends = record { torn_step = step ∷ []; at_most = inr refl; adds = λ conf input own. adds_torn tells conf input step old new failed (so refl) appends own }
-  adds_refused laws tells step old new (StepFaults.Full size need) failed so appends =
+  pub adds_refused : DiskLaws disks → (tells : ℕ → Type 0) (step : Step) (old new : Shown D C) (fault : StepFault) (failed : Type 0) → (fault ≡ StepFaults.Disk → failed) → IsOfNoLane (Some fault) → Appends disks step old new (Some fault) → Refusing disks tells step old new failed
+  adds_refused laws tells step old new StepFaults.Disk failed so no_lane appends = record { torn_step = step ∷ []; at_most = inr refl; adds = λ conf input own. adds_torn tells conf input step old new failed (so refl) appends own }
+  adds_refused laws tells step old new (StepFaults.Full size need) failed so no_lane appends =
       record { torn_step = []; at_most = inl refl; adds = λ conf input own. adds_still laws tells conf input old new failed (unchanged step old new (StepFaults.Full size need) (λ e. absurd cc) appends) }
-  adds_refused laws tells step old new (StepFaults.Spent last) failed so appends =
+  adds_refused laws tells step old new (StepFaults.Spent last) failed so no_lane appends =
       record { torn_step = []; at_most = inl refl; adds = λ conf input own. adds_still laws tells conf input old new failed (unchanged step old new (StepFaults.Spent last) (λ e. absurd cc) appends) }
-  adds_refused laws tells step old new StepFaults.Ended failed so appends =
+  adds_refused laws tells step old new StepFaults.Ended failed so no_lane appends =
       record { torn_step = []; at_most = inl refl; adds = λ conf input own. adds_still laws tells conf input old new failed (unchanged step old new StepFaults.Ended (λ e. absurd cc) appends) }
-  adds_refused laws tells step old new StepFaults.Memory failed so appends =
+  adds_refused laws tells step old new StepFaults.Memory failed so no_lane appends =
       record { torn_step = []; at_most = inl refl; adds = λ conf input own. adds_still laws tells conf input old new failed (unchanged step old new StepFaults.Memory (λ e. absurd cc) appends) }
-  adds_refused laws tells step old new (StepFaults.Fenced generation) failed so appends = absurd appends.faults
-  adds_refused laws tells step old new (StepFaults.NoLane lane) failed so appends = absurd appends.faults
-  adds_refused laws tells step old new (StepFaults.BusyLanes count) failed so appends = absurd appends.faults
-  adds_refused laws tells step old new StepFaults.Unexpected failed so appends = absurd appends.faults
+  adds_refused laws tells step old new (StepFaults.Fenced generation) failed so no_lane appends = absurd no_lane
+  adds_refused laws tells step old new (StepFaults.NoLane lane) failed so no_lane appends = absurd no_lane
+  adds_refused laws tells step old new (StepFaults.BusyLanes count) failed so no_lane appends = absurd no_lane
+  adds_refused laws tells step old new StepFaults.Unexpected failed so no_lane appends = absurd no_lane
 
   -- a row in which the disk did not fail
   pub adds_calm : (tells : ℕ → Type 0) (conf input : List ℕ) (old new : Shown D C) (a torn_step : List Step) (failed : Type 0) → (failed → ⊥) → Adds disks tells conf input old new a torn_step failed → Adds disks tells conf input old new a [] ⊥

@@ -8,6 +8,7 @@ pub mod Dues
 pub mod Settled
 pub mod Worked
 pub mod HandedOn
+pub mod Named
 pub mod ShownSpool
 pub mod Decoded
 pub mod Submitted

@@ -13,7 +13,7 @@ use Rattle.mta_histories.specs.Due.{IsQuiet, IsNext}
 use Rattle.mta_histories.specs.History.{after}
 use Rattle.mta_images.proofs.Bodies.{size-more}
 use Rattle.mta_spool.specs.Shown.{Shown}
-use Rattle.mta_spool.specs.Stands.{Stands, Appends, TellsFewer, step_moment}
+use Rattle.mta_spool.specs.Stands.{Stands, Appends, TellsFewer, step_moment, IsOfNoLane}
 use Rattle.mta_spool.specs.Turning.{IsUnchanged, Turns}
 use Rattle.mta_run.specs.Submit.{IsOwn, AreInTurn, turn_after, Adds, IsNextStep, due as next_due, IsRefusal, HasSettled}
 use Rattle.mta_run.proofs.Same.{err_same}
@@ -94,12 +94,12 @@ module _ {D C : Type 0} (disks : DiskView D) (laws : DiskLaws disks) (clocks : C
   }
 
   -- the step that is next was refused
-  due_refused : (old mid new : Shown D C) (added : List Step) (step : Step) (told : ℕ) (fault : StepFault) → Settling disks clocks old mid added → clocks.tells mid.clock told → IsNext mid.current (step_moment told mid.current.moment) step → Appends disks step mid new (Some fault)
+  due_refused : (old mid new : Shown D C) (added : List Step) (step : Step) (told : ℕ) (fault : StepFault) → Settling disks clocks old mid added → clocks.tells mid.clock told → IsNext mid.current (step_moment told mid.current.moment) step → IsOfNoLane (Some fault) → Appends disks step mid new (Some fault)
       → HasSettled disks (clocks.tells old.clock) old new (Err fault)
-  due_refused old mid new added step told fault so tell next appends =
+  due_refused old mid new added step told fault so tell next no_lane appends =
       let turn = next_turn mid.current (step_moment told mid.current.moment) step next in
       let failed : Type 0 = ◌≡◌ {A = Result (Unit {0}) StepFault} (Err fault) (Err StepFaults.Disk) in
-      let r = adds_refused disks laws (clocks.tells mid.clock) step mid new fault failed (λ e. ap Err e) appends in
+      let r = adds_refused disks laws (clocks.tells mid.clock) step mid new fault failed (λ e. ap Err e) no_lane appends in
       record {
         added = added;
         torn_step = r.torn_step;
@@ -111,11 +111,11 @@ module _ {D C : Type 0} (disks : DiskView D) (laws : DiskLaws disks) (clocks : C
         quiet = λ ok. absurd cc;
         refused = λ f e conf input before behind. subst (IsRefusal (clocks.tells old.clock) conf input (before ++ added) new.current new.journal.size (Rose (disks.faults old.journal.disk) (disks.faults new.journal.disk))) (err_same fault f e)
             (refusal disks (clocks.tells old.clock) conf input (before ++ added) step mid new (disks.faults old.journal.disk) fault (so.adds [] []).later so.going
-            (next_due (step_moment told mid.current.moment) step (turn_after_append 0 before added ∙ ap (λ (k : ℕ). turn_after k added) behind ∙ turn_stays added so.in_turn) (told, so.clock told tell, refl) next) appends);
+            (next_due (step_moment told mid.current.moment) step (turn_after_append 0 before added ∙ ap (λ (k : ℕ). turn_after k added) behind ∙ turn_stays added so.in_turn) (told, so.clock told tell, refl) next) no_lane appends);
       }
 
   -- a turn was refused
-  pub settling_refused : (old mid new : Shown D C) (added : List Step) (told : ℕ) (fault : StepFault) → Settling disks clocks old mid added → clocks.tells mid.clock told → Turns disks (step_moment told mid.current.moment) mid new (Err fault) → HasSettled disks (clocks.tells old.clock) old new (Err fault)
-  settling_refused old mid new added told fault so tell (inl ended) = absurd (true≢false (sym ended.1 ∙ so.going))
-  settling_refused old mid new added told fault so tell (inr (inl memory)) = subst (λ (f : StepFault). HasSettled disks (clocks.tells old.clock) old new (Err f)) (sym memory.0) (unsettled old mid new added so memory.2)
-  settling_refused old mid new added told fault so tell (inr (inr r)) = due_refused old mid new added r.1.0 told fault so tell r.1.1 r.1.2
+  pub settling_refused : (old mid new : Shown D C) (added : List Step) (told : ℕ) (fault : StepFault) → Settling disks clocks old mid added → clocks.tells mid.clock told → IsOfNoLane (Some fault) → Turns disks (step_moment told mid.current.moment) mid new (Err fault) → HasSettled disks (clocks.tells old.clock) old new (Err fault)
+  settling_refused old mid new added told fault so tell no_lane (inl ended) = absurd (true≢false (sym ended.1 ∙ so.going))
+  settling_refused old mid new added told fault so tell no_lane (inr (inl memory)) = subst (λ (f : StepFault). HasSettled disks (clocks.tells old.clock) old new (Err f)) (sym memory.0) (unsettled old mid new added so memory.2)
+  settling_refused old mid new added told fault so tell no_lane (inr (inr r)) = due_refused old mid new added r.1.0 told fault so tell r.1.1 no_lane r.1.2

@@ -26,13 +26,13 @@ use Rattle.mta_run.specs.Lines.{accepted_line}
 use Rattle.mta_run.specs.DiskLeft.{Opening, uncalled, refused, opened}
 use Rattle.mta_run.specs.Submit.{IsAccepted, IsFullFor, IsSpentFor}
 
--- the tables recorded last, where their text has a value
-abbrev pub recorded : State → Option TablesValue
-recorded s = option_and_then tables_value (numbered s.machine.tables (last_tables s.machine))
+-- the mailbox of this name in the tables of a text
+abbrev pub mailbox_in : (name text : List ℕ) → Option ℕ
+mailbox_in name text = option_and_then (λ (t : TablesValue). place_of_mailbox t name) (tables_value text)
 
 -- the mailbox of this name in the tables recorded last
 abbrev pub mailbox_named : State → List ℕ → Option ℕ
-mailbox_named s name = option_and_then (λ (t : TablesValue). place_of_mailbox t name) (recorded s)
+mailbox_named s name = option_and_then (mailbox_in name) (numbered s.machine.tables (last_tables s.machine))
 
 -- the text of the queue of a state: its items and its lanes
 abbrev pub queue_of : State → List ℕ

@@ -25,8 +25,7 @@ fn queue_of<D: Disk + Drop, C: Clock + Drop>(
 ) -> Result<Octets, Stop>
     ensures { IsShown (queue_of spool.now.current) result }
 {
-    let lanes = spool.lanes().open_lanes.as_slice();
-    match show_queue(alloc, spool.items(), lanes) {
+    match show_queue(alloc, spool.items(), spool.lanes()) {
         Ok(text) => Ok(text),
         Err(_) => Err(Stop::Memory),
     }

@@ -19,7 +19,7 @@ pub returns-in-Err : goal.returns-in-Err
 returns-in-Err g c =
     let i = c.loop-fault.invariant in
     let t = c.in-Err.ensures.turned in
-    settling_refused g.D.Disk.model g.met.D.Disk.laws g.C.Clock.model c.args.spool.now c.loop-fault.spool c.turn.new.self i.0 t.told c.in-Err.fault i.1 t.tells t.at
+    settling_refused g.D.Disk.model g.met.D.Disk.laws g.C.Clock.model c.args.spool.now c.loop-fault.spool c.turn.new.self i.0 t.told c.in-Err.fault i.1 t.tells c.in-Err.ensures.no_lane t.at
 
 pub loop-fault-preserved : goal.loop-fault-preserved
 loop-fault-preserved g c =
