@@ -1,20 +1,21 @@
 -- An item whose number was printed is kept.
-use Rattle.std.proofs.Common.{◌≡◌, ℕ, ◌+◌, ◌%◌, ◌≤◌, ◌<◌, ◌^◌, zero, suc, List, [], ◌∷◌, ◌++◌, length, get_or, Option, Some, None, Result, Ok, Err, refl, sym, ap, subst, ◌∙◌, append_assoc, arith, inl, inr}
+use Rattle.std.proofs.Common.{◌≡◌, ℕ, ◌+◌, ◌%◌, ◌≤◌, ◌<◌, ◌^◌, suc, eqb, List, [], ◌∷◌, ◌++◌, length, get_or, Option, Some, None, Result, Ok, Err, refl, sym, ap, subst, ◌∙◌, append_assoc, arith, inl, inr}
 use Rattle.std.specs.Prelude.{◌⊎◌, slice_get}
 use Rattle.std.specs.Fmt.{decimal}
-use Rattle.std.proofs.lemmas.Bool.{cases_eq}
+use Rattle.std.proofs.lemmas.Bool.{cases_Bool, eqb-true}
 use Rattle.std.proofs.lemmas.Fmt.{decimal_injective, decimal_by_steps}
 use Rattle.std.proofs.lemmas.List.{append_cancel_left, append-nil, length-append}
 use Rattle.mta_edge.specs.Outside.{Goes}
 use Rattle.mta_streams.specs.Streams.{TakesFront}
-use Rattle.mta_first_records.specs.declared.step.Step.{Step}
-use Rattle.mta_first_records.specs.declared.step.Step.TheVariants.{Tables, Accept, Deliver}
-use Rattle.mta_history.specs.declared.item.Origin.TheVariants.{Submitted}
-use Rattle.mta_history.specs.declared.item.Status.TheVariants.{Delivered}
-use Rattle.mta_history.specs.Items.{ItemValue, numbered, with_status, with_status_of}
-use Rattle.mta_history.specs.Machine.{new_item}
-use Rattle.mta_history.specs.History.{State, IsHistory, IsPossible, ArePossible, after, after_step, after_from, empty}
-use Rattle.mta_history.proofs.Numbered.{numbered_put, numbered_other}
+use Rattle.mta_records.specs.declared.step.Step.{Step}
+use Rattle.mta_records.specs.declared.step.Step.TheVariants.{Accept}
+use Rattle.mta_machine.specs.declared.item.Origin.TheVariants.{Submitted}
+use Rattle.mta_machine.specs.Items.{ItemValue, Machine, numbered, set_numbered}
+use Rattle.mta_machine.specs.Machine.{MachineStep, set_tables, accept, discharge, accepted_item, discharged_item}
+use Rattle.mta_machine.specs.Machine.{items_after, machine_after, machine_run}
+use Rattle.mta_machine.proofs.Numbered.{set-same, set-other, numbered-front}
+use Rattle.mta_histories.specs.Lanes.{State, empty}
+use Rattle.mta_histories.specs.History.{machine_steps, after, after_step, after_from}
 use Rattle.mta_run.specs.declared.stop.Stop.{Stop}
 use Rattle.mta_run.specs.declared.stop.Stop.TheVariants as Stops
 use Rattle.mta_words.specs.declared.words.Words.{Words}
@@ -27,7 +28,7 @@ use Rattle.mta_run.specs.Submit.{IsAccepted}
 use Rattle.mta_run.specs.Causes.{IsText, of_submit, of_queue, of_mailbox, of_decode, Cause}
 use Rattle.mta_run.specs.Ran.{IsKept}
 use Rattle.mta_run.proofs.Same.{some_same}
-use Rattle.mta_run.proofs.Added.{after_append, possible_back}
+use Rattle.mta_run.proofs.Added.{after_append}
 
 -- ---- the lines that are printed are told from one another
 
@@ -139,52 +140,55 @@ numbered_last xs x = ap (numbered (xs ++ x ∷ [])) (next (length xs)) ∙ at_en
   at_end [] y = refl
   at_end (z ∷ ys) y = at_end ys y
 
-numbered_front : {A : Type 0} (xs ys : List A) (n : ℕ) (x : A) → numbered xs n ≡ Some x → numbered (xs ++ ys) n ≡ Some x
-numbered_front xs ys zero x is = absurd cc
-numbered_front xs ys (suc n) x is = at xs n is where
-  at : (zs : List _) (k : ℕ) → slice_get zs k ≡ Some x → slice_get (zs ++ ys) k ≡ Some x
-  at [] k e = absurd cc
-  at (z ∷ zs) zero e = e
-  at (z ∷ zs) (suc k) e = at zs k e
-
 -- an item with this number and these octets
-abbrev HasItem : State → ℕ → List ℕ → Type 0
-HasItem s n octets = (item : ItemValue) × (numbered s.machine.items n ≡ Some item) × (item.octets ≡ octets)
+abbrev HasItem : List ItemValue → ℕ → List ℕ → Type 0
+HasItem items n octets = (item : ItemValue) × (numbered items n ≡ Some item) × (item.octets ≡ octets)
 
--- a status changes no item's octets
-status_keeps : (items : List ItemValue) (found : ItemValue) (i r moment n : ℕ) (item : ItemValue) → numbered items i ≡ Some found → numbered items n ≡ Some item
-    → (now : ItemValue) × (numbered (with_status_of items i r (Delivered moment)) n ≡ Some now) × (now.octets ≡ item.octets)
-status_keeps items found i r moment n item is there =
-    elim (cases_eq n i) [
-      | inl same ↦ (
-        with_status found r (Delivered moment),
-        rw (is, same) (numbered_put items i (with_status found r (Delivered moment)) found is),
-        ap (λ (x : ItemValue). x.octets) (some_same found item (sym is ∙ ap (numbered items) (sym same) ∙ there)),
-      )
-      | inr other ↦ (item, rw is (numbered_other items i n (with_status found r (Delivered moment)) other ∙ there), refl)
+-- another item with the same octets in its place
+put_keeps : (items : List ItemValue) (i n : ℕ) (old new : ItemValue) (octets : List ℕ) → numbered items i ≡ Some old → new.octets ≡ old.octets → HasItem items n octets → HasItem (set_numbered items i new) n octets
+put_keeps items i n old new octets there same x =
+    elim (cases_Bool (eqb n i)) [
+      | inl here ↦ (
+          let ni : n ≡ i = eqb-true n i here in
+          let is : old ≡ x.0 = some_same old x.0 (sym there ∙ (ap (numbered items) (sym ni) ∙ x.1)) in (
+            new,
+            subst (λ (k : ℕ). numbered (set_numbered items i new) k ≡ Some new) (sym ni) (set-same items i new old there),
+            same ∙ (ap (λ (item : ItemValue). item.octets) is ∙ x.2),
+          ))
+      | inr apart ↦ (x.0, set-other items i n new apart ∙ x.1, x.2)
     ]
 
+front_keeps : (items more : List ItemValue) (n : ℕ) (octets : List ℕ) → HasItem items n octets → HasItem (items ++ more) n octets
+front_keeps items more n octets x = (x.0, numbered-front items more n x.0 x.1, x.2)
+
 -- what a step leaves of the items: each keeps its number and its octets
-item_kept : (s : State) (step : Step) (n : ℕ) (octets : List ℕ) → IsPossible s step → HasItem s n octets → HasItem (after_step s step) n octets
-item_kept s (Tables text) n octets possible x = x
-item_kept s (Accept moment apdu) n octets possible x = (x.0, numbered_front s.machine.items _ n x.0 x.1, x.2)
-item_kept s (Deliver i r moment) n octets possible x =
-    let d = possible.as_machine.0.1 in
-    let kept = status_keeps s.machine.items d.item i r moment n x.0 d.item_is x.1 in
-    (kept.0, kept.1, kept.2 ∙ x.2)
+item_kept : (m : Machine) (step : MachineStep) (n : ℕ) (octets : List ℕ) → HasItem m.items n octets → HasItem (machine_after m step).items n octets
+item_kept m (set_tables text) n octets x = x
+item_kept m (accept apdu origin moment) n octets x = front_keeps m.items (accepted_item apdu origin moment ∷ []) n octets x
+item_kept m (discharge i rs how moment) n octets x = by_item (numbered m.items i) refl
+  where
+    by_item : (o : Option ItemValue) → numbered m.items i ≡ o → HasItem (items_after m o i rs how moment) n octets
+    by_item None is = x
+    by_item (Some item) is =
+        let y = put_keeps m.items i n item (discharged_item item rs how moment) octets is refl x in
+        (y.0, numbered-front (set_numbered m.items i (discharged_item item rs how moment)) _ n y.0 y.1, y.2)
 
-items_kept : (s : State) (steps : List Step) (n : ℕ) (octets : List ℕ) → ArePossible s steps → HasItem s n octets → HasItem (after_from s steps) n octets
-items_kept s [] n octets possible x = x
-items_kept s (step ∷ steps) n octets possible x = items_kept (after_step s step) steps n octets possible.1 (item_kept s step n octets possible.0 x)
+items_kept : (m : Machine) (steps : List MachineStep) (n : ℕ) (octets : List ℕ) → HasItem m.items n octets → HasItem (machine_run m steps).items n octets
+items_kept m [] n octets x = x
+items_kept m (step ∷ steps) n octets x = items_kept (machine_after m step) steps n octets (item_kept m step n octets x)
 
--- the item of an Accept behind which the history goes on
-pub accepted_kept : (steps added : List Step) (input : List ℕ) (n : ℕ) → IsHistory (steps ++ added) → IsAccepted steps added input n → IsKept steps added input n
-accepted_kept steps added input n history a =
+history_keeps : (s : State) (steps : List Step) (n : ℕ) (octets : List ℕ) → HasItem s.machine.items n octets → HasItem (after_from s steps).machine.items n octets
+history_keeps s [] n octets x = x
+history_keeps s (step ∷ steps) n octets x = history_keeps (after_step s step) steps n octets (items_kept s.machine (machine_steps s step) n octets x)
+
+-- the item of an Accept behind which steps are added
+pub accepted_kept : (steps added : List Step) (input : List ℕ) (n : ℕ) → IsAccepted steps added input n → IsKept steps added input n
+accepted_kept steps added input n a =
     let s : State = after (steps ++ a.front) in
     let step : Step = Accept a.moment input in
-    let made : HasItem (after_step s step) n input = (new_item input Submitted a.moment, rw a.number (numbered_last s.machine.items (new_item input Submitted a.moment)), refl) in
+    let new : ItemValue = accepted_item input Submitted a.moment in
+    let made : HasItem (after_step s step).machine.items n input = (new, rw a.number (numbered_last s.machine.items new), refl) in
     let whole : steps ++ added ≡ (steps ++ a.front) ++ step ∷ a.back = ap (λ (x : List Step). steps ++ x) a.accept ∙ sym (append_assoc steps a.front (step ∷ a.back)) in
-    let possible : ArePossible s (step ∷ a.back) = possible_back empty (steps ++ a.front) (step ∷ a.back) (subst IsHistory whole history) in
-    let item = items_kept (after_step s step) a.back n input possible.1 made in
+    let item = history_keeps (after_step s step) a.back n input made in
     let there : after (steps ++ added) ≡ after_from (after_step s step) a.back = ap after whole ∙ after_append empty (steps ++ a.front) (step ∷ a.back) in
     record { accepted = a; item = item.0; item_is = subst (λ (x : State). numbered x.machine.items n ≡ Some item.0) (sym there) item.1; octets_are = item.2 }

@@ -1,21 +1,26 @@
 -- Steps that are added to a spool.
-use Rattle.std.proofs.Common.{◌≡◌, ℕ, ◌+◌, ◌≤◌, List, [], ◌∷◌, ◌++◌, length, map, max, None, Some, cond, refl, sym, ap, subst, ◌∙◌, append_assoc, arith, inl, inr}
+use Rattle.std.proofs.Common.{◌≡◌, ℕ, ◌+◌, ◌≤◌, List, [], ◌∷◌, ◌++◌, length, map, max, None, Some, Bool, true, false, cond, refl, sym, ap, subst, ◌∙◌, append_assoc, arith, inl, inr}
+use Rattle.std.proofs.lemmas.Bool.{cases_Bool}
 use Rattle.std.proofs.lemmas.List.{append-nil}
 use Rattle.std.proofs.lemmas.List.Sums.{sum_by-cons}
 use Rattle.mta_edge.specs.Views.{DiskView, DiskLaws}
 use Rattle.std.specs.Prelude.{◌⊎◌}
 use Rattle.mta_journal.specs.Shown.{Shown as JournalShown, Holds}
-use Rattle.mta_first_records.specs.declared.step.Step.{Step}
-use Rattle.mta_first_records.specs.declared.step.Step.TheVariants.{Tables, Accept, Deliver}
-use Rattle.mta_first_records.specs.declared.fault.StepFault.{StepFault}
-use Rattle.mta_first_records.specs.declared.fault.StepFault.TheVariants as StepFaults
-use Rattle.mta_first_records.specs.Body.{body_of}
-use Rattle.mta_history.specs.History.{State, IsHistory, IsPossible, ArePossible, after, after_step, after_from, empty}
-use Rattle.mta_history.proofs.Histories.{possible-more}
+use Rattle.mta_records.specs.declared.step.Step.{Step}
+use Rattle.mta_records.specs.declared.fault.StepFault.{StepFault}
+use Rattle.mta_records.specs.declared.fault.StepFault.TheVariants as StepFaults
+use Rattle.mta_records.specs.Body.{body_of}
+use Rattle.mta_histories.specs.Lanes.{State, empty}
+use Rattle.mta_histories.specs.Classes.{LaneStep, agree, bind, start, confirm, to_end, settle, abandon, secure, complete}
+use Rattle.mta_histories.specs.Classes.{drop_pieces, close, Class, class_of}
+use Rattle.mta_histories.specs.Classes as classes
+use Rattle.mta_histories.specs.History.{IsHistory, IsPossible, ArePossible, when, after, after_step, after_from}
+use Rattle.mta_histories.proofs.Runs.{possible-more}
 use Rattle.mta_spool.specs.Shown.{Shown}
-use Rattle.mta_spool.specs.Stands.{Stands, Appends}
+use Rattle.mta_spool.specs.Stands.{Stands, IsOfNoLane, Appends}
 use Rattle.mta_spool.specs.Turning.{IsUnchanged}
-use Rattle.mta_run.specs.Submit.{IsTimed, IsOwn, AreOwn, turn_of, turn_behind, AreInTurn, turn_after, is_accept, accepts, Adds}
+use Rattle.mta_run.specs.Submit.{IsTimed, IsOwnOnLane, IsOwnOf, IsOwn, AreOwn, turn_of_class, turn_of, turn_behind, AreInTurn, turn_after}
+use Rattle.mta_run.specs.Submit.{takes_apdu, is_accept, accepts, Adds}
 use Rattle.mta_run.proofs.CrashStands.{still, made, torn, leaves_then}
 use Rattle.mta_run.proofs.Same.{some_same}
 
@@ -47,14 +52,32 @@ own_append tells conf input s (step ∷ a) b p q = (p.0, own_append tells conf i
 pub timed_more : (tells other : ℕ → Type 0) (last moment : ℕ) → ((t : ℕ) → tells t → other t) → IsTimed tells last moment → IsTimed other last moment
 timed_more tells other last moment more t = (t.0, more t.0 t.1, t.2)
 
-own_one : (tells other : ℕ → Type 0) (conf input : List ℕ) (last : ℕ) (step : Step) → ((t : ℕ) → tells t → other t) → IsOwn tells conf input last step → IsOwn other conf input last step
-own_one tells other conf input last (Tables text) more own = own
-own_one tells other conf input last (Accept moment apdu) more own = (own.0, timed_more tells other last moment more own.1)
-own_one tells other conf input last (Deliver item recipient moment) more own = timed_more tells other last moment more own
+on_lane_more : (tells other : ℕ → Type 0) (last moment : ℕ) (step : LaneStep) → ((t : ℕ) → tells t → other t) → IsOwnOnLane tells last step moment → IsOwnOnLane other last step moment
+on_lane_more tells other last moment (agree checkpoint window) more own = own
+on_lane_more tells other last moment bind more own = own
+on_lane_more tells other last moment (start k i rs) more own = own
+on_lane_more tells other last moment (confirm k n) more own = own
+on_lane_more tells other last moment (to_end k) more own = own
+on_lane_more tells other last moment (settle outcome k) more own = own
+on_lane_more tells other last moment (abandon k) more own = timed_more tells other last moment more own
+on_lane_more tells other last moment (secure k n piece) more own = own
+on_lane_more tells other last moment (complete k n piece) more own = own
+on_lane_more tells other last moment (drop_pieces k) more own = own
+on_lane_more tells other last moment close more own = own
+
+class_more : (tells other : ℕ → Type 0) (conf input : List ℕ) (last moment : ℕ) (c : Class) → ((t : ℕ) → tells t → other t) → IsOwnOf tells conf input last c moment → IsOwnOf other conf input last c moment
+class_more tells other conf input last moment (classes.records text) more own = own
+class_more tells other conf input last moment (classes.accepts octets) more own = (own.0, timed_more tells other last moment more own.1)
+class_more tells other conf input last moment (classes.settles how i r) more own = timed_more tells other last moment more own
+class_more tells other conf input last moment (classes.opens role peer reference twa checkpoint window) more own = own
+class_more tells other conf input last moment (classes.on_lane n generation step) more own = on_lane_more tells other last moment step more own
+
+own_one : (tells other : ℕ → Type 0) (conf input : List ℕ) (s : State) (step : Step) → ((t : ℕ) → tells t → other t) → IsOwn tells conf input s step → IsOwn other conf input s step
+own_one tells other conf input s step more own = class_more tells other conf input s.moment (when s step) (class_of step) more own
 
 own_more : (tells other : ℕ → Type 0) (conf input : List ℕ) (s : State) (a : List Step) → ((t : ℕ) → tells t → other t) → AreOwn tells conf input s a → AreOwn other conf input s a
 own_more tells other conf input s [] more own = tt
-own_more tells other conf input s (step ∷ a) more own = (own_one tells other conf input s.moment step more own.0, own_more tells other conf input (after_step s step) a more own.1)
+own_more tells other conf input s (step ∷ a) more own = (own_one tells other conf input s step more own.0, own_more tells other conf input (after_step s step) a more own.1)
 
 -- ---- their order
 
@@ -80,19 +103,47 @@ accepts_append (step ∷ a) b = omega (arith, sum_by-cons (λ (x : Step). cond (
 accepts_cons : (step : Step) (a : List Step) → accepts (step ∷ a) ≡ cond (is_accept step) 1 0 + accepts a
 accepts_cons step a = sum_by-cons (λ (x : Step). cond (is_accept x) 1 0) step a
 
--- what is due takes no item
+-- the turn of an Accept, and of what takes no APDU
+taking_turn : (c : Class) → takes_apdu c ≡ true → turn_of_class c ≡ 1
+taking_turn (classes.records text) e = absurd cc
+taking_turn (classes.accepts octets) e = refl
+taking_turn (classes.settles how i r) e = absurd cc
+taking_turn (classes.opens role peer reference twa checkpoint window) e = absurd cc
+taking_turn (classes.on_lane n generation step) e = absurd cc
+
+late_takes_none : (c : Class) → 2 ≤ turn_of_class c → takes_apdu c ≡ false
+late_takes_none (classes.records text) late = absurd (omega (arith, late))
+late_takes_none (classes.accepts octets) late = absurd (omega (arith, late))
+late_takes_none (classes.settles how i r) late = refl
+late_takes_none (classes.opens role peer reference twa checkpoint window) late = refl
+late_takes_none (classes.on_lane n generation step) late = refl
+
+taken_count : (step : Step) (b : Bool) → is_accept step ≡ b → ◌≡◌ {A = ℕ} (cond (is_accept step) 1 0) (cond b 1 0)
+taken_count step b e = ap (λ (x : Bool). cond x 1 0) e
+
+-- what is due takes no APDU
 pub none_due : (a : List Step) → AreInTurn 2 a → accepts a ≡ 0
 none_due [] p = refl
-none_due (Tables text ∷ a) p = absurd (omega (arith, p.0))
-none_due (Accept moment apdu ∷ a) p = absurd (omega (arith, p.0))
-none_due (Deliver item recipient moment ∷ a) p = omega (arith, accepts_cons (Deliver item recipient moment) a, none_due a p.2)
+none_due (step ∷ a) p =
+    let behind : turn_behind step ≡ 2 = omega (arith, p.0) in
+    let none = taken_count step false (late_takes_none (class_of step) p.0) in
+    let rest = none_due a (subst (λ (k : ℕ). AreInTurn k a) behind p.2) in
+    omega (arith, accepts_cons step a, none, rest)
 
--- steps that come in their turns take one item at most
+-- steps that come in their turns take one APDU at most
 pub one_accept : (turn : ℕ) (a : List Step) → AreInTurn turn a → accepts a ≤ 1
 one_accept turn [] p = let none : accepts [] ≡ 0 = refl in omega (arith, none)
-one_accept turn (Tables text ∷ a) p = omega (arith, accepts_cons (Tables text) a, one_accept 1 a p.2)
-one_accept turn (Accept moment apdu ∷ a) p = omega (arith, accepts_cons (Accept moment apdu) a, none_due a p.2)
-one_accept turn (Deliver item recipient moment ∷ a) p = omega (arith, accepts_cons (Deliver item recipient moment) a, none_due a p.2)
+one_accept turn (step ∷ a) p =
+    elim (cases_Bool (is_accept step)) [
+      | inl takes ↦ (
+          let one = taken_count step true takes in
+          let behind : turn_behind step ≡ 2 = omega (arith, taking_turn (class_of step) takes) in
+          let rest = none_due a (subst (λ (k : ℕ). AreInTurn k a) behind p.2) in
+          omega (arith, accepts_cons step a, one, rest))
+      | inr other ↦ (
+          let none = taken_count step false other in
+          omega (arith, accepts_cons step a, none, one_accept (turn_behind step) a p.2))
+    ]
 
 -- ---- what was added
 
@@ -100,7 +151,7 @@ one_accept turn (Deliver item recipient moment ∷ a) p = omega (arith, accepts_
 pub record Refusing {D C : Type 0} (disks : DiskView D) (tells : ℕ → Type 0) (step : Step) (old new : Shown D C) (failed : Type 0) : Type 0 where
   pub torn_step : List Step
   pub at_most : (torn_step ≡ []) ⊎ (torn_step ≡ step ∷ [])
-  pub adds : (conf input : List ℕ) → ((steps : List Step) → Stands disks old steps → IsOwn tells conf input (after steps).moment step)
+  pub adds : (conf input : List ℕ) → ((steps : List Step) → Stands disks old steps → IsOwn tells conf input (after steps) step)
       → Adds disks tells conf input old new [] torn_step failed
 
 module _ {D C : Type 0} (disks : DiskView D) where
@@ -128,7 +179,7 @@ module _ {D C : Type 0} (disks : DiskView D) where
 
   -- a step was made
   pub adds_one : (tells : ℕ → Type 0) (conf input : List ℕ) (step : Step) (old new : Shown D C) (failed : Type 0) → Appends disks step old new None
-      → ((steps : List Step) → Stands disks old steps → IsOwn tells conf input (after steps).moment step) → Adds disks tells conf input old new (step ∷ []) [] failed
+      → ((steps : List Step) → Stands disks old steps → IsOwn tells conf input (after steps) step) → Adds disks tells conf input old new (step ∷ []) [] failed
   adds_one tells conf input step old new failed appends own = record {
     stands = λ calm steps s. appends.done refl steps s;
     calm = λ calm. refl;
@@ -142,7 +193,7 @@ module _ {D C : Type 0} (disks : DiskView D) where
 
   -- the disk failed in a step
   pub adds_torn : (tells : ℕ → Type 0) (conf input : List ℕ) (step : Step) (old new : Shown D C) (failed : Type 0) → failed → Appends disks step old new (Some StepFaults.Disk)
-      → ((steps : List Step) → Stands disks old steps → IsOwn tells conf input (after steps).moment step) → Adds disks tells conf input old new [] (step ∷ []) failed
+      → ((steps : List Step) → Stands disks old steps → IsOwn tells conf input (after steps) step) → Adds disks tells conf input old new [] (step ∷ []) failed
   adds_torn tells conf input step old new failed so appends own = record {
     stands = λ calm. absurd (calm so);
     calm = λ calm. absurd (calm so);
@@ -157,20 +208,20 @@ module _ {D C : Type 0} (disks : DiskView D) where
   pub unchanged : (step : Step) (old new : Shown D C) (fault : StepFault) → (fault ≡ StepFaults.Disk → ⊥) → Appends disks step old new (Some fault) → IsUnchanged old new
   unchanged step old new fault other appends = appends.kept (λ e. absurd cc) (λ e. other (some_same fault StepFaults.Disk e))
 
-  pub adds_refused : DiskLaws disks → (tells : ℕ → Type 0) (step : Step) (old new : Shown D C) (fault : StepFault) (failed : Type 0) → (fault ≡ StepFaults.Disk → failed) → Appends disks step old new (Some fault) → Refusing disks tells step old new failed
-  adds_refused laws tells step old new StepFaults.Disk failed so appends = record { torn_step = step ∷ []; at_most = inr refl; adds = λ conf input own. adds_torn tells conf input step old new failed (so refl) appends own }
-  adds_refused laws tells step old new (StepFaults.Full size need) failed so appends =
+  pub adds_refused : DiskLaws disks → (tells : ℕ → Type 0) (step : Step) (old new : Shown D C) (fault : StepFault) (failed : Type 0) → (fault ≡ StepFaults.Disk → failed) → IsOfNoLane (Some fault) → Appends disks step old new (Some fault) → Refusing disks tells step old new failed
+  adds_refused laws tells step old new StepFaults.Disk failed so no_lane appends = record { torn_step = step ∷ []; at_most = inr refl; adds = λ conf input own. adds_torn tells conf input step old new failed (so refl) appends own }
+  adds_refused laws tells step old new (StepFaults.Full size need) failed so no_lane appends =
       record { torn_step = []; at_most = inl refl; adds = λ conf input own. adds_still laws tells conf input old new failed (unchanged step old new (StepFaults.Full size need) (λ e. absurd cc) appends) }
-  adds_refused laws tells step old new (StepFaults.Spent last) failed so appends =
+  adds_refused laws tells step old new (StepFaults.Spent last) failed so no_lane appends =
       record { torn_step = []; at_most = inl refl; adds = λ conf input own. adds_still laws tells conf input old new failed (unchanged step old new (StepFaults.Spent last) (λ e. absurd cc) appends) }
-  adds_refused laws tells step old new StepFaults.Ended failed so appends =
+  adds_refused laws tells step old new StepFaults.Ended failed so no_lane appends =
       record { torn_step = []; at_most = inl refl; adds = λ conf input own. adds_still laws tells conf input old new failed (unchanged step old new StepFaults.Ended (λ e. absurd cc) appends) }
-  adds_refused laws tells step old new StepFaults.Memory failed so appends =
+  adds_refused laws tells step old new StepFaults.Memory failed so no_lane appends =
       record { torn_step = []; at_most = inl refl; adds = λ conf input own. adds_still laws tells conf input old new failed (unchanged step old new StepFaults.Memory (λ e. absurd cc) appends) }
-  adds_refused laws tells step old new (StepFaults.Fenced generation) failed so appends = absurd appends.faults
-  adds_refused laws tells step old new (StepFaults.NoLane lane) failed so appends = absurd appends.faults
-  adds_refused laws tells step old new (StepFaults.BusyLanes count) failed so appends = absurd appends.faults
-  adds_refused laws tells step old new StepFaults.Unexpected failed so appends = absurd appends.faults
+  adds_refused laws tells step old new (StepFaults.Fenced generation) failed so no_lane appends = absurd no_lane
+  adds_refused laws tells step old new (StepFaults.NoLane lane) failed so no_lane appends = absurd no_lane
+  adds_refused laws tells step old new (StepFaults.BusyLanes count) failed so no_lane appends = absurd no_lane
+  adds_refused laws tells step old new StepFaults.Unexpected failed so no_lane appends = absurd no_lane
 
   -- a row in which the disk did not fail
   pub adds_calm : (tells : ℕ → Type 0) (conf input : List ℕ) (old new : Shown D C) (a torn_step : List Step) (failed : Type 0) → (failed → ⊥) → Adds disks tells conf input old new a torn_step failed → Adds disks tells conf input old new a [] ⊥

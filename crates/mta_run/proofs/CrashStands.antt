@@ -6,12 +6,12 @@ use Rattle.mta_edge.specs.Crashes.{AtAnyMoment}
 use Rattle.mta_edge.proofs.Moments.{weaken, joined}
 use Rattle.mta_disk.proofs.Writing.{settled_once}
 use Rattle.mta_journal.specs.Shown.{Shown as JournalShown}
-use Rattle.mta_first_records.specs.declared.step.Step.{Step}
+use Rattle.mta_records.specs.declared.step.Step.{Step}
 use Rattle.mta_journal.specs.Bodies.{HasBodies}
 use Rattle.mta_journal.proofs.Bodies.{stands_for}
-use Rattle.mta_first_records.specs.Body.{body_of}
-use Rattle.mta_history.specs.History.{IsHistory}
-use Rattle.mta_history.specs.Image.{AreRecords, StandsFor}
+use Rattle.mta_records.specs.Body.{body_of}
+use Rattle.mta_histories.specs.History.{IsHistory}
+use Rattle.mta_images.specs.Image.{AreRecords, StandsFor}
 use Rattle.mta_spool.specs.Shown.{Shown}
 use Rattle.mta_spool.specs.Stands.{Stands, IsOneOf, MayHave}
 use Rattle.mta_run.specs.Images.{Reached, IsLeftWith, Leaves}

@@ -8,10 +8,10 @@ use Rattle.mta_edge.specs.Crashes.{AtAnyMoment}
 use Rattle.mta_journal.specs.Bodies.{StandsFor as HoldsBodies}
 use Rattle.mta_journal.specs.Opening.{IsSame, BeforeOrSame, IsLeft, unsynced, synced}
 use Rattle.mta_journal.specs.declared.why.OpenWhy.{OpenWhy}
-use Rattle.mta_first_records.specs.declared.step.Step.{Step}
-use Rattle.mta_first_records.specs.Body.{body_of}
-use Rattle.mta_history.specs.Image.{StandsFor}
-use Rattle.mta_history.proofs.Unique.{one_history}
+use Rattle.mta_records.specs.declared.step.Step.{Step}
+use Rattle.mta_records.specs.Body.{body_of}
+use Rattle.mta_images.specs.Image.{StandsFor}
+use Rattle.mta_images.proofs.Unique.{one_history}
 use Rattle.mta_spool.specs.Opening.{HasOpened, HasRefused}
 use Rattle.mta_spool.specs.Shown.{Shown}
 use Rattle.mta_run.specs.Images.{Reached, IsLeftWith, Leaves, Synced, IsSafe}

@@ -3,9 +3,9 @@ use Rattle.std.proofs.Common.{◌≡◌, ℕ, ◌+◌, ◌≤◌, List, [], ◌+
 use Rattle.std.proofs.lemmas.List.{append-nil}
 use Rattle.mta_edge.specs.Views.{DiskView, DiskLaws, ClockView, SourceView}
 use Rattle.mta_streams.specs.Streams.{TakesAtMost}
-use Rattle.mta_first_records.specs.declared.step.Step.{Step}
-use Rattle.mta_history.specs.History.{IsHistory}
-use Rattle.mta_history.specs.Image.{StandsFor}
+use Rattle.mta_records.specs.declared.step.Step.{Step}
+use Rattle.mta_histories.specs.History.{IsHistory}
+use Rattle.mta_images.specs.Image.{StandsFor}
 use Rattle.mta_run.specs.declared.stop.Stop.{Stop}
 use Rattle.mta_run.specs.declared.stop.Stop.TheVariants as Stops
 use Rattle.mta_words.specs.declared.words.Words.{Words}

@@ -4,9 +4,11 @@ pub mod CrashStands
 pub mod DiskStands
 pub mod Added
 pub mod Stored
+pub mod Dues
 pub mod Settled
 pub mod Worked
 pub mod HandedOn
+pub mod Named
 pub mod ShownSpool
 pub mod Decoded
 pub mod Submitted

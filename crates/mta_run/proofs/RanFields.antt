@@ -2,10 +2,11 @@
 use Rattle.std.proofs.Common.{◌≡◌, ◌≢◌, ℕ, ◌≤◌, List, [], ◌++◌, take, drop, None, Some, Result, Ok, Err, refl, sym, ap, subst, ◌∙◌, append_assoc, arith, inl, inr}
 use Rattle.std.proofs.lemmas.List.{take-append-drop, append-nil}
 use Rattle.mta_edge.specs.Views.{SinkView}
-use Rattle.mta_first_records.specs.declared.step.Step.{Step}
-use Rattle.mta_history.specs.Apdu.{IsApdu}
-use Rattle.mta_history.specs.History.{IsHistory, after, empty}
-use Rattle.mta_history.proofs.Once.{each_recipient_once}
+use Rattle.mta_records.specs.declared.step.Step.{Step}
+use Rattle.mta_machine.specs.Apdu.{IsApdu}
+use Rattle.mta_histories.specs.Lanes.{empty}
+use Rattle.mta_histories.specs.History.{IsHistory, after}
+use Rattle.mta_histories.proofs.Runs.{histories_are_runs, each_recipient_once}
 use Rattle.mta_run.specs.declared.stop.Stop.{Stop}
 use Rattle.mta_run.specs.declared.stop.Stop.TheVariants as Stops
 use Rattle.mta_words.specs.declared.words.Words.{Words}
@@ -17,7 +18,7 @@ use Rattle.mta_run.specs.DiskLeft.{Opening, uncalled, opened}
 use Rattle.mta_run.specs.Submit.{IsAccepted}
 use Rattle.mta_run.specs.Causes.{mailbox_named, IsText, of_submit, of_queue, of_mailbox, of_decode, Cause, memory}
 use Rattle.mta_run.specs.Command.{HasEnded}
-use Rattle.mta_run.specs.Ran.{IsKept, EndedWell, Ran}
+use Rattle.mta_run.specs.Ran.{RecipientsOnce, IsKept, EndedWell, Ran}
 use Rattle.mta_run.proofs.Same.{some_same}
 use Rattle.mta_run.proofs.Added.{possible_front, one_accept}
 use Rattle.mta_run.proofs.Printed.{ended, closed_well}
@@ -29,8 +30,9 @@ history_front : (steps tried : List Step) (n : ℕ) → IsHistory (steps ++ trie
 history_front steps tried n history =
     possible_front empty (steps ++ take n tried) (drop n tried) (subst IsHistory (ap (λ (x : List Step). steps ++ x) (sym (take-append-drop n tried)) ∙ sym (append_assoc steps (take n tried) (drop n tried))) history)
 
-history_first : (steps added torn_step : List Step) → IsHistory (steps ++ (added ++ torn_step)) → IsHistory (steps ++ added)
-history_first steps added torn_step history = possible_front empty (steps ++ added) torn_step (subst IsHistory (sym (append_assoc steps added torn_step)) history)
+-- in a history each recipient is discharged once at most
+once_in : (steps : List Step) → IsHistory steps → RecipientsOnce steps
+once_in steps history = record { run = histories_are_runs steps history; once = each_recipient_once steps history }
 
 -- no cause is a fault of the output
 no_sink : {D C I : Type 0} (h : Handed D C I) (added : List Step) (opening : Opening) → Cause h added opening Stops.Sink → ⊥
@@ -100,11 +102,10 @@ ran h sinks a b c result status has closed first then = record {
   sources = has.sources;
   uncalled_unless = has.uncalled_unless;
   disk_stands = has.disk;
-  recipients_once = λ f steps was s n. each_recipient_once (steps ++ take n (has.added ++ has.torn_step)) (history_front steps (has.added ++ has.torn_step) n (has.history f steps was s));
+  recipients_once = λ f steps was s n. once_in (steps ++ take n (has.added ++ has.torn_step)) (history_front steps (has.added ++ has.torn_step) n (has.history f steps was s));
   acknowledged_kept = λ submit x y was is n rest small begun i w f steps there s.
       let acc = ended_accepted h has.added submit n small has.opening (output sinks a c) status x y rest printed was is begun i w f steps there s in
-      let history = has.history f steps there s in
-      (accepted_kept steps has.added i n (history_first steps has.added has.torn_step history) acc, accepted_kept steps (has.added ++ has.torn_step) i n history (accepted_more steps has.added has.torn_step i n acc));
+      (accepted_kept steps has.added i n acc, accepted_kept steps (has.added ++ has.torn_step) i n (accepted_more steps has.added has.torn_step i n acc));
   printed = printed;
   provenance = has.own;
   in_turn = has.in_turn;

@@ -4,18 +4,20 @@ use Rattle.std.specs.Prelude.{◌⊎◌}
 use Rattle.std.proofs.lemmas.List.{append-nil}
 use Rattle.mta_edge.specs.Views.{DiskView, DiskLaws, ClockView}
 use Rattle.mta_edge.specs.Causes.{Rose}
-use Rattle.mta_first_records.specs.declared.step.Step.{Step}
-use Rattle.mta_first_records.specs.declared.fault.StepFault.{StepFault}
-use Rattle.mta_first_records.specs.declared.fault.StepFault.TheVariants as StepFaults
+use Rattle.mta_records.specs.declared.step.Step.{Step}
+use Rattle.mta_records.specs.declared.fault.StepFault.{StepFault}
+use Rattle.mta_records.specs.declared.fault.StepFault.TheVariants as StepFaults
 use Rattle.mta_journal.specs.Appending.{journal_limit}
-use Rattle.mta_history.specs.Due.{IsQuiet, IsNext}
-use Rattle.mta_history.specs.History.{State, after, after_step}
-use Rattle.mta_history.proofs.Histories.{size-more}
+use Rattle.mta_histories.specs.Lanes.{State}
+use Rattle.mta_histories.specs.Due.{IsQuiet, IsNext}
+use Rattle.mta_histories.specs.History.{after}
+use Rattle.mta_images.proofs.Bodies.{size-more}
 use Rattle.mta_spool.specs.Shown.{Shown}
-use Rattle.mta_spool.specs.Stands.{Stands, Appends, TellsFewer, step_moment}
+use Rattle.mta_spool.specs.Stands.{Stands, Appends, TellsFewer, step_moment, IsOfNoLane}
 use Rattle.mta_spool.specs.Turning.{IsUnchanged, Turns}
-use Rattle.mta_run.specs.Submit.{IsOwn, turn_of, AreInTurn, turn_after, Adds, IsNextStep, due as next_due, IsRefusal, HasSettled}
-use Rattle.mta_run.proofs.Same.{some_same, err_same}
+use Rattle.mta_run.specs.Submit.{IsOwn, AreInTurn, turn_after, Adds, IsNextStep, due as next_due, IsRefusal, HasSettled}
+use Rattle.mta_run.proofs.Same.{err_same}
+use Rattle.mta_run.proofs.Dues.{next_turn, next_own, next_tables}
 use Rattle.mta_run.proofs.Added.{turn_append, turn_after_append, turn_stays, turn_refused, Refusing, adds_still, adds_one, adds_refused, adds_then, adds_more, unchanged}
 use Rattle.mta_run.proofs.Stored.{made_state, fits, refusal}
 
@@ -28,19 +30,12 @@ pub record Settling {D C : Type 0} (disks : DiskView D) (clocks : ClockView C) (
   pub clock : TellsFewer clocks old.clock now.clock
   pub stands : (steps : List Step) × Stands disks now steps
 
--- a step that is next is of the turn of what is due
-next_turn : (s : State) (moment : ℕ) (step : Step) → IsNext s moment step → turn_of step ≡ 2
-next_turn s moment step next = ap turn_of next.due.step_is
-
--- and changes no tables
-next_tables : (s : State) (moment : ℕ) (step : Step) → IsNext s moment step → (after_step s step).machine.tables ≡ s.machine.tables
-next_tables s moment step next = ap (λ (x : Step). (after_step s x).machine.tables) next.due.step_is
-
 module _ {D C : Type 0} (disks : DiskView D) (laws : DiskLaws disks) (clocks : ClockView C) where
-  next_own : (mid : Shown D C) (step : Step) (told : ℕ) → clocks.tells mid.clock told → IsNext mid.current (step_moment told mid.current.moment) step
-      → (conf input : List ℕ) (steps : List Step) → Stands disks mid steps → IsOwn (clocks.tells mid.clock) conf input (after steps).moment step
-  next_own mid step told tell next conf input steps s =
-      subst (IsOwn (clocks.tells mid.clock) conf input (after steps).moment) (sym next.due.step_is) (told, tell, ap (λ (x : State). step_moment told x.moment) s.state_is)
+  due_own : (mid : Shown D C) (step : Step) (told : ℕ) → clocks.tells mid.clock told → IsNext mid.current (step_moment told mid.current.moment) step
+      → (conf input : List ℕ) (steps : List Step) → Stands disks mid steps → IsOwn (clocks.tells mid.clock) conf input (after steps) step
+  due_own mid step told tell next conf input steps s =
+      subst (λ (x : State). IsOwn (clocks.tells mid.clock) conf input x step) s.state_is
+      (next_own (clocks.tells mid.clock) conf input mid.current (step_moment told mid.current.moment) step (told, tell, refl) next)
 
   pub settling_none : (old : Shown D C) → old.journal.ended ≡ false → ((steps : List Step) × Stands disks old steps) → Settling disks clocks old old []
   settling_none old going stands = record {
@@ -59,7 +54,7 @@ module _ {D C : Type 0} (disks : DiskView D) (laws : DiskLaws disks) (clocks : C
       let here = so.stands in
       record {
         adds = λ conf input. adds_then disks (clocks.tells old.clock) conf input old mid new added (step ∷ []) [] ⊥ (so.adds conf input)
-            (adds_more disks (clocks.tells mid.clock) (clocks.tells old.clock) conf input mid new (step ∷ []) [] ⊥ so.clock (adds_one disks (clocks.tells mid.clock) conf input step mid new ⊥ appends (next_own mid step told tell next conf input)));
+            (adds_more disks (clocks.tells mid.clock) (clocks.tells old.clock) conf input mid new (step ∷ []) [] ⊥ so.clock (adds_one disks (clocks.tells mid.clock) conf input step mid new ⊥ appends (due_own mid step told tell next conf input)));
         in_turn = turn_append 2 added (step ∷ []) so.in_turn (subst (λ (k : ℕ). AreInTurn k (step ∷ [])) (sym (turn_stays added so.in_turn)) (omega (arith, turn), omega (arith, turn), tt));
         tables = ap (λ (s : State). s.machine.tables) (made_state disks step mid new appends here.0 here.1) ∙ next_tables mid.current (step_moment told mid.current.moment) step next ∙ so.tables;
         going = appends.going refl;
@@ -99,28 +94,28 @@ module _ {D C : Type 0} (disks : DiskView D) (laws : DiskLaws disks) (clocks : C
   }
 
   -- the step that is next was refused
-  due_refused : (old mid new : Shown D C) (added : List Step) (step : Step) (told : ℕ) (fault : StepFault) → Settling disks clocks old mid added → clocks.tells mid.clock told → IsNext mid.current (step_moment told mid.current.moment) step → Appends disks step mid new (Some fault)
+  due_refused : (old mid new : Shown D C) (added : List Step) (step : Step) (told : ℕ) (fault : StepFault) → Settling disks clocks old mid added → clocks.tells mid.clock told → IsNext mid.current (step_moment told mid.current.moment) step → IsOfNoLane (Some fault) → Appends disks step mid new (Some fault)
       → HasSettled disks (clocks.tells old.clock) old new (Err fault)
-  due_refused old mid new added step told fault so tell next appends =
+  due_refused old mid new added step told fault so tell next no_lane appends =
       let turn = next_turn mid.current (step_moment told mid.current.moment) step next in
       let failed : Type 0 = ◌≡◌ {A = Result (Unit {0}) StepFault} (Err fault) (Err StepFaults.Disk) in
-      let r = adds_refused disks laws (clocks.tells mid.clock) step mid new fault failed (λ e. ap Err e) appends in
+      let r = adds_refused disks laws (clocks.tells mid.clock) step mid new fault failed (λ e. ap Err e) no_lane appends in
       record {
         added = added;
         torn_step = r.torn_step;
         adds = λ conf input. subst (λ (x : List Step). Adds disks (clocks.tells old.clock) conf input old new x r.torn_step failed) (append-nil added)
             (adds_then disks (clocks.tells old.clock) conf input old mid new added [] r.torn_step failed (so.adds conf input)
-            (adds_more disks (clocks.tells mid.clock) (clocks.tells old.clock) conf input mid new [] r.torn_step failed so.clock (r.adds conf input (next_own mid step told tell next conf input))));
+            (adds_more disks (clocks.tells mid.clock) (clocks.tells old.clock) conf input mid new [] r.torn_step failed so.clock (r.adds conf input (due_own mid step told tell next conf input))));
         in_turn = turn_append 2 added r.torn_step so.in_turn (subst (λ (k : ℕ). AreInTurn k r.torn_step) (sym (turn_stays added so.in_turn)) (turn_refused 2 step r.torn_step (omega (arith, turn)) (omega (arith, turn)) r.at_most));
         tables = λ calm. ap (λ (s : State). s.machine.tables) (unchanged disks step mid new fault (λ e. calm (ap Err e)) appends).1 ∙ so.tables;
         quiet = λ ok. absurd cc;
         refused = λ f e conf input before behind. subst (IsRefusal (clocks.tells old.clock) conf input (before ++ added) new.current new.journal.size (Rose (disks.faults old.journal.disk) (disks.faults new.journal.disk))) (err_same fault f e)
             (refusal disks (clocks.tells old.clock) conf input (before ++ added) step mid new (disks.faults old.journal.disk) fault (so.adds [] []).later so.going
-            (next_due (step_moment told mid.current.moment) step (turn_after_append 0 before added ∙ ap (λ (k : ℕ). turn_after k added) behind ∙ turn_stays added so.in_turn) (told, so.clock told tell, refl) next) appends);
+            (next_due (step_moment told mid.current.moment) step (turn_after_append 0 before added ∙ ap (λ (k : ℕ). turn_after k added) behind ∙ turn_stays added so.in_turn) (told, so.clock told tell, refl) next) no_lane appends);
       }
 
   -- a turn was refused
-  pub settling_refused : (old mid new : Shown D C) (added : List Step) (told : ℕ) (fault : StepFault) → Settling disks clocks old mid added → clocks.tells mid.clock told → Turns disks (step_moment told mid.current.moment) mid new (Err fault) → HasSettled disks (clocks.tells old.clock) old new (Err fault)
-  settling_refused old mid new added told fault so tell (inl ended) = absurd (true≢false (sym ended.1 ∙ so.going))
-  settling_refused old mid new added told fault so tell (inr (inl memory)) = subst (λ (f : StepFault). HasSettled disks (clocks.tells old.clock) old new (Err f)) (sym memory.0) (unsettled old mid new added so memory.2)
-  settling_refused old mid new added told fault so tell (inr (inr r)) = due_refused old mid new added r.1.0 told fault so tell r.1.1 r.1.2
+  pub settling_refused : (old mid new : Shown D C) (added : List Step) (told : ℕ) (fault : StepFault) → Settling disks clocks old mid added → clocks.tells mid.clock told → IsOfNoLane (Some fault) → Turns disks (step_moment told mid.current.moment) mid new (Err fault) → HasSettled disks (clocks.tells old.clock) old new (Err fault)
+  settling_refused old mid new added told fault so tell no_lane (inl ended) = absurd (true≢false (sym ended.1 ∙ so.going))
+  settling_refused old mid new added told fault so tell no_lane (inr (inl memory)) = subst (λ (f : StepFault). HasSettled disks (clocks.tells old.clock) old new (Err f)) (sym memory.0) (unsettled old mid new added so memory.2)
+  settling_refused old mid new added told fault so tell no_lane (inr (inr r)) = due_refused old mid new added r.1.0 told fault so tell r.1.1 no_lane r.1.2

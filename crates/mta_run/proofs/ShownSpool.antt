@@ -4,14 +4,13 @@ use Rattle.std.specs.Prelude.{◌⊎◌}
 use Rattle.mta_edge.specs.Views.{DiskView, DiskLaws, ClockView, SourceView}
 use Rattle.mta_journal.specs.declared.why.OpenWhy.{OpenWhy}
 use Rattle.mta_journal.specs.declared.why.OpenWhy.TheVariants as Whys
-use Rattle.mta_first_records.specs.declared.step.Step.{Step}
+use Rattle.mta_records.specs.declared.step.Step.{Step}
 use Rattle.mta_apdu.specs.Apdus.{longest_apdu}
-use Rattle.mta_history.specs.History.{State, after}
-use Rattle.mta_history.specs.Image.{StandsFor}
+use Rattle.mta_histories.specs.Lanes.{State}
+use Rattle.mta_histories.specs.History.{after}
+use Rattle.mta_images.specs.Image.{StandsFor}
 use Rattle.mta_spool.specs.Opening.{HasOpened, HasRefused}
 use Rattle.mta_spool.specs.Shown.{Shown}
-use Rattle.mta_show.specs.Queue.{queue_text}
-use Rattle.mta_show.specs.Mailbox.{mailbox_text}
 use Rattle.mta_run.specs.declared.stop.Stop.{Stop}
 use Rattle.mta_run.specs.declared.stop.Stop.TheVariants as Stops
 use Rattle.mta_words.specs.declared.words.Words.{Words}
@@ -21,7 +20,7 @@ use Rattle.mta_run.specs.Handed.{Handed, handed, InputsRead}
 use Rattle.mta_run.specs.Inputs.{longest_tables}
 use Rattle.mta_run.specs.Output.{Output, stopped, HasShown}
 use Rattle.mta_run.specs.DiskLeft.{Opening, refused, opened}
-use Rattle.mta_run.specs.Causes.{mailbox_named, IsText, of_queue, of_mailbox, Cause, memory as cause_memory, not_spool as cause_not_spool, not_opened as cause_not_opened, no_mailbox as cause_no_mailbox}
+use Rattle.mta_run.specs.Causes.{mailbox_named, queue_of, mailbox_of, IsText, of_queue, of_mailbox, Cause, memory as cause_memory, not_spool as cause_not_spool, not_opened as cause_not_opened, no_mailbox as cause_no_mailbox}
 use Rattle.mta_run.specs.Command.{SourcesLeft, HasEnded}
 use Rattle.mta_run.specs.Shows.{stop_of_open, IsShown, IsMailboxShown, ForHistoryOf, IsShownText, shows_queue, shows_mailbox, IsShownStop, not_spool, not_opened, memory, no_mailbox, HasShownSpool}
 use Rattle.mta_run.proofs.Same.{ok_same, err_same}
@@ -53,7 +52,7 @@ queue_stopped : (text : List ℕ) (result : Result (List ℕ) Stop) (stop : Stop
 queue_stopped text (Ok s) stop is e = absurd cc
 queue_stopped text (Err s) stop is e = sym (err_same s stop e) ∙ is
 
-mailbox_shown : (s : State) (name : List ℕ) (result : Result (List ℕ) Stop) (t : List ℕ) → IsMailboxShown s name result → result ≡ Ok t → (t ≡ mailbox_text name s.machine.items s.machine.mailboxes) × (mailbox_named s name ≢ None)
+mailbox_shown : (s : State) (name : List ℕ) (result : Result (List ℕ) Stop) (t : List ℕ) → IsMailboxShown s name result → result ≡ Ok t → (t ≡ mailbox_of name s) × (mailbox_named s name ≢ None)
 mailbox_shown s name (Ok x) t is e = (sym (ok_same x t e) ∙ is.0, is.1)
 mailbox_shown s name (Err x) t is e = absurd cc
 
@@ -66,13 +65,13 @@ module _ {D C : Type 0} (disks : DiskView D) (laws : DiskLaws disks) (old : D) (
   state_there : (f : List ℕ) (steps : List Step) → disks.content old ≡ Some f → StandsFor f steps → spool.current ≡ after steps
   state_there f steps was s = o.stands.state_is ∙ ap after (same_steps disks laws old spool o f steps was s)
 
-  pub queue_left : (text : Result (List ℕ) Stop) (result : Result (Unit {0}) Stop) → IsShown (queue_text spool.current.machine.items) text → HasShown text out result → HasShownSpool disks Say.Queue out old spool.journal.disk result
+  pub queue_left : (text : Result (List ℕ) Stop) (result : Result (Unit {0}) Stop) → IsShown (queue_of spool.current) text → HasShown text out result → HasShownSpool disks Say.Queue out old spool.journal.disk result
   queue_left text result is shown = record {
     opening = opened;
     disk = disk_read disks laws old spool o;
     printed = shown_printed (IsShownStop disks Say.Queue old spool.journal.disk opened) (IsShownText disks Say.Queue old opened) out text result
-        (λ t e. shows_queue t refl (λ f steps was s. queue_shown (queue_text spool.current.machine.items) text t is e ∙ ap (λ (x : State). queue_text x.machine.items) (state_there f steps was s)))
-        (λ stop e. subst (IsShownStop disks Say.Queue old spool.journal.disk opened) (sym (queue_stopped (queue_text spool.current.machine.items) text stop is e)) (memory opened)) shown;
+        (λ t e. shows_queue t refl (λ f steps was s. queue_shown (queue_of spool.current) text t is e ∙ ap queue_of (state_there f steps was s)))
+        (λ stop e. subst (IsShownStop disks Say.Queue old spool.journal.disk opened) (sym (queue_stopped (queue_of spool.current) text stop is e)) (memory opened)) shown;
   }
 
   mailbox_why : (name : List ℕ) (stop : Stop) → (stop ≡ Stops.Memory) ⊎ ((stop ≡ Stops.NoMailbox name) × (mailbox_named spool.current name ≡ None)) → IsShownStop disks (Say.Mailbox name) old spool.journal.disk opened stop
@@ -87,7 +86,7 @@ module _ {D C : Type 0} (disks : DiskView D) (laws : DiskLaws disks) (old : D) (
     printed = shown_printed (IsShownStop disks (Say.Mailbox name) old spool.journal.disk opened) (IsShownText disks (Say.Mailbox name) old opened) out text result
         (λ t e. let m = mailbox_shown spool.current name text t is e in
         shows_mailbox name t refl (λ f steps was s none. m.1 (ap (λ (x : State). mailbox_named x name) (state_there f steps was s) ∙ none))
-        (λ f steps was s. m.0 ∙ ap (λ (x : State). mailbox_text name x.machine.items x.machine.mailboxes) (state_there f steps was s)))
+        (λ f steps was s. m.0 ∙ ap (mailbox_of name) (state_there f steps was s)))
         (λ stop e. mailbox_why name stop (mailbox_stopped spool.current name text stop is e)) shown;
   }
 

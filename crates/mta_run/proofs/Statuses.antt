@@ -4,12 +4,12 @@ use Rattle.std.specs.Prelude.{◌⊎◌}
 use Rattle.mta_ber.specs.declared.fault.Fault.{Fault}
 use Rattle.mta_apdu.specs.Apdus.{ApduValue, apdu_of}
 use Rattle.mta_apdu.proofs.ApduLaws.{apdu_full}
-use Rattle.mta_first_records.specs.declared.step.Step.{Step}
+use Rattle.mta_records.specs.declared.step.Step.{Step}
 use Rattle.mta_tables.specs.Tables.{TablesValue, tables_of}
 use Rattle.mta_tables.specs.Reading.{bad}
 use Rattle.mta_tables.specs.declared.fault.LineKind.{LineKind}
 use Rattle.mta_tables.proofs.Grammars.{bad_read}
-use Rattle.mta_history.proofs.NoSpool.{no_history}
+use Rattle.mta_images.proofs.NoSpool.{no_history}
 use Rattle.mta_run.specs.declared.stop.Stop.{Stop}
 use Rattle.mta_words.specs.declared.words.Words.{Words}
 use Rattle.mta_words.specs.declared.words.Words.TheVariants as Say

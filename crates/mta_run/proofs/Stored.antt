@@ -1,23 +1,23 @@
 -- The tables are recorded, and then an APDU is accepted.
 use Rattle.std.proofs.Common.{◌≡◌, ◌≢◌, ℕ, ◌+◌, ◌≤◌, ◌<◌, ◌^◌, List, [], ◌∷◌, ◌++◌, length, Option, Some, None, Result, Ok, Err, Bool, false, true, refl, sym, ap, subst, ◌∙◌, append_assoc, true≢false, arith, inl, inr}
-use Rattle.std.specs.Prelude.{◌⊎◌, if◌then◌else◌, IfOk, option_and_then}
+use Rattle.std.specs.Prelude.{◌⊎◌, if◌then◌else◌, IfOk}
 use Rattle.std.proofs.lemmas.Bool.{cases_eq, cases_lt}
 use Rattle.std.proofs.lemmas.List.{append-nil}
 use Rattle.mta_edge.specs.Views.{DiskView, DiskLaws, ClockView}
 use Rattle.mta_edge.specs.Causes.{Rose}
-use Rattle.mta_first_records.specs.declared.step.Step.{Step}
-use Rattle.mta_first_records.specs.declared.step.Step.TheVariants.{Tables, Accept}
-use Rattle.mta_first_records.specs.declared.fault.StepFault.{StepFault}
-use Rattle.mta_first_records.specs.declared.fault.StepFault.TheVariants as StepFaults
+use Rattle.mta_records.specs.declared.step.Step.{Step}
+use Rattle.mta_records.specs.declared.step.Step.TheVariants.{Tables, Accept}
+use Rattle.mta_records.specs.declared.fault.StepFault.{StepFault}
+use Rattle.mta_records.specs.declared.fault.StepFault.TheVariants as StepFaults
 use Rattle.mta_journal.specs.Shown.{Shown as JournalShown}
 use Rattle.mta_journal.specs.Appending.{journal_limit}
-use Rattle.mta_tables.specs.Tables.{TablesValue, tables_of}
-use Rattle.mta_history.specs.Verdict.{last_of, recorded, tables_value}
-use Rattle.mta_history.specs.History.{State, after, after_step, empty}
+use Rattle.mta_machine.specs.Items.{numbered}
+use Rattle.mta_machine.specs.Machine.{last_tables}
+use Rattle.mta_histories.specs.Lanes.{State, empty}
+use Rattle.mta_histories.specs.History.{after, after_step}
 use Rattle.mta_spool.specs.Shown.{Shown}
-use Rattle.mta_spool.specs.Stands.{Stands, Appends, AtMoment, step_moment, need_of, fault_of, IsSpent}
+use Rattle.mta_spool.specs.Stands.{Stands, Appends, AtMoment, step_moment, need_of, fault_of, IsSpent, IsOfNoLane, IsOfNoRefusal}
 use Rattle.mta_spool.specs.Turning.{IsRecorded, Records, IsUnchanged}
-use Rattle.mta_spool.proofs.Possible.{value_read}
 use Rattle.mta_run.specs.Submit.{IsTimed, IsOwn, AreInTurn, turn_after, Adds, IsNextStep, tables as next_tables, apdu as next_apdu, IsFullFor, IsSpentFor, IsRefusal, IsAccepted, HasStored}
 use Rattle.mta_run.proofs.Same.{some_same, ok_same, err_same}
 use Rattle.mta_run.proofs.Added.{after_append, turn_append, turn_after_append, turn_refused, Refusing, adds_still, adds_one, adds_refused, adds_then, adds_unless, unchanged}
@@ -29,15 +29,23 @@ module _ {D C : Type 0} (disks : DiskView D) where
   pub made_state : (step : Step) (old new : Shown D C) → Appends disks step old new None → (steps : List Step) → Stands disks old steps → new.current ≡ after_step old.current step
   made_state step old new appends steps s = (appends.done refl steps s).state_is ∙ after_append empty steps (step ∷ []) ∙ ap (λ (x : State). after_step x step) (sym s.state_is)
 
+  -- no refusal for a lane stood for it
+  no_refusal : (step : Step) (old new : Shown D C) → Appends disks step old new None → old.journal.ended ≡ false → IsOfNoRefusal old.current step
+  no_refusal step old new appends going f stands = refused (appends.row_where going f stands)
+    where
+      refused : (None ≡ Some f) ⊎ (None ≡ Some StepFaults.Memory) → ⊥
+      refused (inl e) = cc
+      refused (inr e) = cc
+
   -- numbers were left for it
   pub numbers_left : (step : Step) (old new : Shown D C) → Appends disks step old new None → old.journal.ended ≡ false → IsSpent old.current step → ⊥
-  numbers_left step old new appends going spent = let e = appends.spent_where going spent in cc
+  numbers_left step old new appends going spent = let e = appends.spent_where going (no_refusal step old new appends going) spent in cc
 
   -- and it fits
   pub fits : (step : Step) (old new : Shown D C) → Appends disks step old new None → old.journal.ended ≡ false → old.journal.size + need_of step ≤ journal_limit
   fits step old new appends going =
       elim (cases_lt journal_limit (old.journal.size + need_of step)) [
-        | inl over ↦ absurd (refused (appends.full_where going (numbers_left step old new appends going) over))
+        | inl over ↦ absurd (refused (appends.full_where going (no_refusal step old new appends going) (numbers_left step old new appends going) over))
         | inr fit ↦ fit
       ]
     where
@@ -47,30 +55,34 @@ module _ {D C : Type 0} (disks : DiskView D) where
 
   -- why a step that is next was refused
   pub refusal : (tells : ℕ → Type 0) (conf input : List ℕ) (added : List Step) (step : Step) (mid new : Shown D C) (before : ℕ) (fault : StepFault) → before ≤ disks.faults mid.journal.disk → mid.journal.ended ≡ false
-      → IsNextStep tells conf input added mid.current step → Appends disks step mid new (Some fault) → IsRefusal tells conf input added new.current new.journal.size (Rose before (disks.faults new.journal.disk)) fault
-  refusal tells conf input added step mid new before (StepFaults.Full size need) le going next appends =
+      → IsNextStep tells conf input added mid.current step → IsOfNoLane (Some fault) → Appends disks step mid new (Some fault) → IsRefusal tells conf input added new.current new.journal.size (Rose before (disks.faults new.journal.disk)) fault
+  refusal tells conf input added step mid new before (StepFaults.Full size need) le going next no_lane appends =
       let is = unchanged disks step mid new (StepFaults.Full size need) (λ e. absurd cc) appends in
       let full = appends.full size need refl in
       subst (λ (s : State). IsFullFor tells conf input added s new.journal.size size need) (sym is.1)
       (record { step = step; next = next; size_is = full.0 ∙ ap (λ (j : JournalShown D). j.size) (sym is.0); need_is = full.1; over = full.2 })
-  refusal tells conf input added step mid new before (StepFaults.Spent last) le going next appends =
+  refusal tells conf input added step mid new before (StepFaults.Spent last) le going next no_lane appends =
       let is = unchanged disks step mid new (StepFaults.Spent last) (λ e. absurd cc) appends in
       let spent = appends.spent last refl in
       subst (λ (s : State). IsSpentFor tells conf input added s last) (sym is.1) (record { step = step; next = next; last_is = spent.0; over = spent.1 })
-  refusal tells conf input added step mid new before StepFaults.Disk le going next appends = let rose = appends.disk refl in omega (arith, rose, le)
-  refusal tells conf input added step mid new before StepFaults.Ended le going next appends = let ended = appends.ended.0 refl in absurd (true≢false (sym ended ∙ going))
-  refusal tells conf input added step mid new before StepFaults.Memory le going next appends = tt
-  refusal tells conf input added step mid new before (StepFaults.Fenced generation) le going next appends = appends.faults
-  refusal tells conf input added step mid new before (StepFaults.NoLane lane) le going next appends = appends.faults
-  refusal tells conf input added step mid new before (StepFaults.BusyLanes count) le going next appends = appends.faults
-  refusal tells conf input added step mid new before StepFaults.Unexpected le going next appends = appends.faults
+  refusal tells conf input added step mid new before StepFaults.Disk le going next no_lane appends = let rose = appends.disk refl in omega (arith, rose, le)
+  refusal tells conf input added step mid new before StepFaults.Ended le going next no_lane appends = let ended = appends.ended.0 refl in absurd (true≢false (sym ended ∙ going))
+  refusal tells conf input added step mid new before StepFaults.Memory le going next no_lane appends = tt
+  refusal tells conf input added step mid new before (StepFaults.Fenced generation) le going next no_lane appends = no_lane
+  refusal tells conf input added step mid new before (StepFaults.NoLane lane) le going next no_lane appends = no_lane
+  refusal tells conf input added step mid new before (StepFaults.BusyLanes count) le going next no_lane appends = no_lane
+  refusal tells conf input added step mid new before StepFaults.Unexpected le going next no_lane appends = no_lane
 
 -- ---- the tables
 
--- where a text that has a value is recorded last, there are tables
-pub recorded_there : (ts : List (List ℕ)) (text : List ℕ) (tables : TablesValue) → last_of ts ≡ Some text → tables_of text ≡ Ok tables → recorded ts ≢ None
-unfolding recorded
-recorded_there ts text tables last read none = let there : option_and_then tables_value (last_of ts) ≡ Some tables = ap (option_and_then tables_value) last ∙ value_read text tables read in cc
+-- the text recorded last
+abbrev last_text : State → Option (List ℕ)
+last_text s = numbered s.machine.tables (last_tables s.machine)
+
+-- where a text is recorded last, there are tables
+pub tables_there : (ts : List (List ℕ)) (text : List ℕ) → numbered ts (length ts) ≡ Some text → ts ≢ []
+tables_there [] text last none = absurd cc
+tables_there (t ∷ ts) text last none = absurd cc
 
 -- what recording the tables leaves
 pub record Recording {D C : Type 0} (disks : DiskView D) (tells : ℕ → Type 0) (conf input : List ℕ) (old mid : Shown D C) (added : List Step) : Type 0 where
@@ -118,7 +130,7 @@ module _ {D C : Type 0} (disks : DiskView D) (laws : DiskLaws disks) (tells : �
   -- they were recorded, or are those recorded last
   pub recording : (conf input : List ℕ) (old mid : Shown D C) → ((steps : List Step) × Stands disks old steps) → old.journal.ended ≡ false → Records disks conf old mid (Ok tt) → (added : List Step) × Recording disks tells conf input old mid added
   recording conf input old mid here going records =
-      elim (is_text (last_of old.current.machine.tables) conf) [
+      elim (is_text (last_text old.current) conf) [
         | inl recorded ↦ (
             let is = (records.same recorded).0 in
             let same : IsUnchanged old mid = (ap (λ (v : Shown D C). v.journal) is, ap (λ (v : Shown D C). v.current) is) in (
@@ -127,7 +139,7 @@ module _ {D C : Type 0} (disks : DiskView D) (laws : DiskLaws disks) (tells : �
                 adds = adds_still disks laws tells conf input old mid ⊥ same;
                 in_turn = tt;
                 turn = omega arith;
-                last = ap (λ (s : State). last_of s.machine.tables) same.1 ∙ recorded;
+                last = ap last_text same.1 ∙ recorded;
                 items = ap (λ (s : State). length s.machine.items) same.1;
                 going = ap (λ (j : JournalShown D). j.ended) same.0 ∙ going;
               },
@@ -147,11 +159,11 @@ module _ {D C : Type 0} (disks : DiskView D) (laws : DiskLaws disks) (tells : �
       ]
 
   -- they were refused
-  pub tables_refused : (conf input : List ℕ) (old new : Shown D C) (fault : StepFault) → old.journal.ended ≡ false → Records disks conf old new (Err fault) → HasStored disks tells conf input old new (Err fault)
-  tables_refused conf input old new fault going records =
+  pub tables_refused : (conf input : List ℕ) (old new : Shown D C) (fault : StepFault) → old.journal.ended ≡ false → IsOfNoLane (Some fault) → Records disks conf old new (Err fault) → HasStored disks tells conf input old new (Err fault)
+  tables_refused conf input old new fault going no_lane records =
       let other : IsRecorded old.current conf → ⊥ = λ recorded. not_same old.journal.ended fault going (records.same recorded).1 in
       let a = records.appends other in
-      let r = adds_refused disks laws tells (Tables conf) old new fault (◌≡◌ {A = Result ℕ StepFault} (Err fault) (Err StepFaults.Disk)) (λ e. ap Err e) a in
+      let r = adds_refused disks laws tells (Tables conf) old new fault (◌≡◌ {A = Result ℕ StepFault} (Err fault) (Err StepFaults.Disk)) (λ e. ap Err e) no_lane a in
       record {
         added = [];
         torn_step = r.torn_step;
@@ -162,7 +174,7 @@ module _ {D C : Type 0} (disks : DiskView D) (laws : DiskLaws disks) (tells : �
         turn = λ n e. absurd cc;
         tables = λ n e. absurd cc;
         refused = λ f e. subst (IsRefusal tells conf input [] new.current new.journal.size (Rose (disks.faults old.journal.disk) (disks.faults new.journal.disk))) (err_same fault f e)
-            (refusal disks tells conf input [] (Tables conf) old new (disks.faults old.journal.disk) fault (omega arith) going (next_tables refl other) a);
+            (refusal disks tells conf input [] (Tables conf) old new (disks.faults old.journal.disk) fault (omega arith) going (next_tables refl other) no_lane a);
         going = λ n e. absurd cc;
       }
 
@@ -191,7 +203,7 @@ module _ {D C : Type 0} (disks : DiskView D) (laws : DiskLaws disks) (tells : �
           next = sym (ok_same n k e) ∙ number ∙ ap (λ (x : ℕ). x + 1) so.items ∙ ap (λ (x : State). length x.machine.items + 1) s.state_is;
         };
         turn = λ k e. turn_after_append 0 added (step ∷ []);
-        tables = λ k e. ap (λ (s : State). last_of s.machine.tables) (made_state disks step mid new appends (here.0 ++ added) there) ∙ so.last;
+        tables = λ k e. ap last_text (made_state disks step mid new appends (here.0 ++ added) there) ∙ so.last;
         refused = λ fault e. absurd cc;
         going = λ k e. appends.going refl;
       }
@@ -203,12 +215,12 @@ module _ {D C : Type 0} (disks : DiskView D) (laws : DiskLaws disks) (tells : �
       ]
 
   -- it was refused behind the tables
-  accept_refused : (now : ℕ → Type 0) (conf input : List ℕ) (old mid new : Shown D C) (added : List Step) (told : ℕ) (fault : StepFault) → Recording disks tells conf input old mid added → now told → ((t : ℕ) → now t → tells t)
+  accept_refused : (now : ℕ → Type 0) (conf input : List ℕ) (old mid new : Shown D C) (added : List Step) (told : ℕ) (fault : StepFault) → Recording disks tells conf input old mid added → now told → ((t : ℕ) → now t → tells t) → IsOfNoLane (Some fault)
       → Appends disks (Accept (step_moment told mid.current.moment) input) mid new (Some fault) → HasStored disks tells conf input old new (Err fault)
-  accept_refused now conf input old mid new added told fault so tell more appends =
+  accept_refused now conf input old mid new added told fault so tell more no_lane appends =
       let when : ℕ = step_moment told mid.current.moment in
       let step : Step = Accept when input in
-      let r = adds_refused disks laws tells step mid new fault (◌≡◌ {A = Result ℕ StepFault} (Err fault) (Err StepFaults.Disk)) (λ e. ap Err e) appends in
+      let r = adds_refused disks laws tells step mid new fault (◌≡◌ {A = Result ℕ StepFault} (Err fault) (Err StepFaults.Disk)) (λ e. ap Err e) no_lane appends in
       record {
         added = added;
         torn_step = r.torn_step;
@@ -220,12 +232,12 @@ module _ {D C : Type 0} (disks : DiskView D) (laws : DiskLaws disks) (tells : �
         turn = λ n e. absurd cc;
         tables = λ n e. absurd cc;
         refused = λ f e. subst (IsRefusal tells conf input added new.current new.journal.size (Rose (disks.faults old.journal.disk) (disks.faults new.journal.disk))) (err_same fault f e)
-            (refusal disks tells conf input added step mid new (disks.faults old.journal.disk) fault so.adds.later so.going (next_apdu when so.turn so.last (told, more told tell, refl)) appends);
+            (refusal disks tells conf input added step mid new (disks.faults old.journal.disk) fault so.adds.later so.going (next_apdu when so.turn so.last (told, more told tell, refl)) no_lane appends);
         going = λ n e. absurd cc;
       }
 
   -- what accepting it leaves
-  pub stored : (clocks : ClockView C) (conf input : List ℕ) (old mid new : Shown D C) (added : List Step) (result : Result ℕ StepFault) → Recording disks tells conf input old mid added → ((steps : List Step) × Stands disks old steps) → ((t : ℕ) → clocks.tells mid.clock t → tells t)
+  pub stored : (clocks : ClockView C) (conf input : List ℕ) (old mid new : Shown D C) (added : List Step) (result : Result ℕ StepFault) → Recording disks tells conf input old mid added → ((steps : List Step) × Stands disks old steps) → ((t : ℕ) → clocks.tells mid.clock t → tells t) → IsOfNoLane (fault_of result)
       → AtMoment clocks mid.clock mid.current.moment (λ m. Appends disks (Accept m input) mid new (fault_of result)) → IfOk result (λ n. n ≡ length mid.current.machine.items + 1) → HasStored disks tells conf input old new result
-  stored clocks conf input old mid new added (Ok n) so here more made number = accepted (clocks.tells mid.clock) conf input old mid new added made.told n so here made.tells more made.at number
-  stored clocks conf input old mid new added (Err fault) so here more made number = accept_refused (clocks.tells mid.clock) conf input old mid new added made.told fault so made.tells more made.at
+  stored clocks conf input old mid new added (Ok n) so here more no_lane made number = accepted (clocks.tells mid.clock) conf input old mid new added made.told n so here made.tells more made.at number
+  stored clocks conf input old mid new added (Err fault) so here more no_lane made number = accept_refused (clocks.tells mid.clock) conf input old mid new added made.told fault so made.tells more no_lane made.at

@@ -4,24 +4,25 @@ use Rattle.mta_edge.specs.Views.{DiskView, DiskLaws, ClockView, SourceView}
 use Rattle.mta_edge.specs.Causes.{Rose}
 use Rattle.mta_journal.specs.declared.why.OpenWhy.{OpenWhy}
 use Rattle.mta_journal.specs.declared.why.OpenWhy.TheVariants as Whys
-use Rattle.mta_first_records.specs.declared.step.Step.{Step}
+use Rattle.mta_records.specs.declared.step.Step.{Step}
 use Rattle.mta_tables.specs.Tables.{TablesValue, tables_of}
 use Rattle.mta_apdu.specs.Apdus.{longest_apdu}
-use Rattle.mta_history.specs.Apdu.{IsApdu}
-use Rattle.mta_history.specs.Verdict.{last_of}
-use Rattle.mta_history.specs.Due.{IsQuiet}
-use Rattle.mta_history.specs.History.{State, IsHistory, IsTablesText, after}
-use Rattle.mta_history.specs.Image.{size_of, StandsFor}
+use Rattle.mta_machine.specs.Apdu.{IsApdu}
+use Rattle.mta_histories.specs.Lanes.{State}
+use Rattle.mta_histories.specs.Due.{IsQuiet}
+use Rattle.mta_histories.specs.History.{IsHistory, after}
+use Rattle.mta_images.specs.Image.{size_of, StandsFor}
 use Rattle.mta_spool.specs.Opening.{HasOpened, HasRefused}
 use Rattle.mta_spool.specs.Shown.{Shown}
 use Rattle.mta_spool.specs.Stands.{Stands, step_moment}
+use Rattle.mta_spool.specs.Turning.{IsRecorded}
 use Rattle.mta_run.specs.declared.inputs.Inputs.{Inputs}
 use Rattle.mta_run.specs.declared.stop.Stop.{Stop}
 use Rattle.mta_run.specs.declared.stop.Stop.TheVariants as Stops
 use Rattle.mta_words.specs.declared.words.Words.TheVariants as Say
 use Rattle.mta_run.specs.Words.{ReadsTables, ReadsApdu, OpensDisk}
 use Rattle.mta_run.specs.Handed.{Handed, handed, ForTables, ForInput, ForOpened, DiskFailed, InputsRead}
-use Rattle.mta_run.specs.Inputs.{longest_tables, IsTold, AreTablesRead, HasTables, IsInputStop, HasInput, HasInputs, no_tables, no_apdu, both}
+use Rattle.mta_run.specs.Inputs.{longest_tables, IsReadAsTables, IsTold, AreTablesRead, HasTables, IsInputStop, HasInput, HasInputs, no_tables, no_apdu, both}
 use Rattle.mta_run.specs.Output.{Output, HasPrinted, whole, stopped, cut}
 use Rattle.mta_run.specs.DiskLeft.{uncalled, refused, opened, DiskLeft}
 use Rattle.mta_run.specs.Submit.{AreOwn, IsFullFor, IsSpentFor, IsAccepted, IsWorkStop, full, spent, disk, memory, IsAcceptedLine, HasWorked}
@@ -50,7 +51,7 @@ tables_cause h Stops.Sink reads same is = absurd is
 tables_cause h Stops.NotBuilt reads same is = absurd is
 tables_cause h (Stops.NoMailbox name) reads same is = absurd is
 
-apdu_cause : {D C I : Type 0} (h : Handed D C I) (stop : Stop) → ReadsApdu h.words → (ReadsTables h.words → ForTables h IsTablesText)
+apdu_cause : {D C I : Type 0} (h : Handed D C I) (stop : Stop) → ReadsApdu h.words → (ReadsTables h.words → ForTables h IsReadAsTables)
     → IsInputStop (h.sources.left h.input.before) (Rose (h.sources.faults h.input.before) (h.sources.faults h.input.after)) stop → Cause h [] uncalled stop
 apdu_cause h (Stops.BadApdu at kind) reads read is = cause_apdu at kind reads read is
 apdu_cause h Stops.Source reads read is = cause_source (inr (reads, is))
@@ -66,7 +67,7 @@ apdu_cause h Stops.NotBuilt reads read is = absurd is
 apdu_cause h (Stops.NoMailbox name) reads read is = absurd is
 
 -- the text of tables that were read has a value
-tables_text : (conf : Option (List ℕ)) (failed : Type 0) (t : TablesValue) → AreTablesRead conf failed (Ok t) → (c : List ℕ) → conf ≡ Some c → IsTablesText c
+tables_text : (conf : Option (List ℕ)) (failed : Type 0) (t : TablesValue) → AreTablesRead conf failed (Ok t) → (c : List ℕ) → conf ≡ Some c → IsReadAsTables c
 tables_text conf failed t read c e = (t, subst (λ (x : List ℕ). tables_of x ≡ Ok t) (read.0 c e) read.1)
 
 module _ {D C I : Type 0} (disks : DiskView D) (laws : DiskLaws disks) (clocks : ClockView C) (sources : SourceView I) (conf conf_after input input_after : I) (clock : C) (out : Output) where
@@ -164,8 +165,8 @@ module _ {D C I : Type 0} (h : Handed D C I) (is : h.words ≡ Some Say.Submit) 
     only_submit = λ other. absurd (other is);
     calm = λ ok. has.adds.calm (λ e. ok_err (sym ok ∙ e));
     settled = λ e ok f steps was s. settled_there ok f steps was s;
-    recorded = λ e ok c w f steps was s. subst (λ (y : List Step). last_of (after (y ++ has.added)).machine.tables ≡ Some c) (same f steps was s)
-        (ap (λ (y : State). last_of y.machine.tables) (sym (there ok).state_is) ∙ has.tables ok ∙ ap (λ (y : List ℕ). Some y) (read.read.0 c w));
+    recorded = λ e ok c w f steps was s. subst (λ (y : List Step). IsRecorded (after (y ++ has.added)) c) (same f steps was s)
+        (subst (λ (y : State). IsRecorded y c) (there ok).state_is (subst (IsRecorded new.current) (read.read.0 c w) (has.tables ok)));
   } where
     ok_err : ◌≡◌ {A = Result (Unit {0}) Stop} (Ok tt) (Err Stops.Disk) → ⊥
     ok_err e = cc

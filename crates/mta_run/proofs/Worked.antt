@@ -1,16 +1,16 @@
 -- What `submit` leaves of an open spool.
-use Rattle.std.proofs.Common.{◌≡◌, ℕ, ◌+◌, ◌≤◌, List, [], ◌∷◌, ◌++◌, Result, Ok, Err, Some, refl, sym, ap, subst, ◌∙◌, append_assoc, arith, inl, inr}
+use Rattle.std.proofs.Common.{◌≡◌, ℕ, ◌+◌, ◌≤◌, List, [], ◌∷◌, ◌++◌, length, Result, Ok, Err, Some, refl, sym, ap, subst, ◌∙◌, append_assoc, arith, inl, inr}
 use Rattle.std.specs.Prelude.{◌⊎◌}
 use Rattle.std.proofs.lemmas.List.{append-nil}
 use Rattle.mta_edge.specs.Views.{DiskView}
 use Rattle.mta_edge.specs.Causes.{Rose}
 use Rattle.mta_edge.specs.Outside.{Goes}
-use Rattle.mta_first_records.specs.declared.step.Step.{Step}
-use Rattle.mta_first_records.specs.declared.step.Step.TheVariants.{Accept}
-use Rattle.mta_first_records.specs.declared.fault.StepFault.{StepFault}
-use Rattle.mta_first_records.specs.declared.fault.StepFault.TheVariants as StepFaults
-use Rattle.mta_history.specs.Verdict.{last_of}
-use Rattle.mta_history.specs.History.{State}
+use Rattle.mta_records.specs.declared.step.Step.{Step}
+use Rattle.mta_records.specs.declared.step.Step.TheVariants.{Accept}
+use Rattle.mta_records.specs.declared.fault.StepFault.{StepFault}
+use Rattle.mta_records.specs.declared.fault.StepFault.TheVariants as StepFaults
+use Rattle.mta_machine.specs.Items.{numbered}
+use Rattle.mta_histories.specs.Lanes.{State}
 use Rattle.mta_spool.specs.Shown.{Shown}
 use Rattle.mta_spool.specs.Stands.{Stands, IsOfNoLane}
 use Rattle.mta_run.specs.declared.stop.Stop.{Stop}
@@ -171,7 +171,7 @@ module _ {D C : Type 0} (disks : DiskView D) (tells : ℕ → Type 0) (conf inpu
     in_turn = settling_turn later mid new n has settled;
     printed = whole tt (accepted_line n) (accepted_text n mid has settled.added) printed;
     quiet = λ ok. let q = settled.quiet refl in (q.0, more q.0 q.1, q.2);
-    tables = λ ok. ap last_of (settled.tables settled_calm) ∙ has.tables n refl;
+    tables = λ ok. ap (λ (ts : List (List ℕ)). numbered ts (length ts)) (settled.tables settled_calm) ∙ has.tables n refl;
   } where
     settled_calm : ◌≡◌ {A = Result (Unit {0}) StepFault} (Ok tt) (Err StepFaults.Disk) → ⊥
     settled_calm e = cc

@@ -1,16 +1,18 @@
 -- What a command prints, and why a run stops without it.
 use Rattle.std.specs.Prelude.{◌≡◌, ◌≢◌, ◌^◌, ℕ, ◌<◌, List, ◌++◌, Option, None, Some, option_and_then}
 use Rattle.mta_ber.specs.declared.fault.Kind.{Kind}
-use Rattle.mta_first_records.specs.declared.step.Step.{Step}
+use Rattle.mta_records.specs.declared.step.Step.{Step}
 use Rattle.mta_tables.specs.declared.fault.LineKind.{LineKind}
 use Rattle.mta_tables.specs.Tables.{TablesValue, mailbox_of as place_of_mailbox}
 use Rattle.mta_tables.specs.Grammar.{IsFirstBadLine}
 use Rattle.mta_apdu.specs.Apdus.{ApduValue, SpellsApdu}
 use Rattle.mta_apdu_text.specs.Apdus.{apdu_text}
-use Rattle.mta_history.specs.Apdu.{HasFault}
-use Rattle.mta_history.specs.Verdict.{recorded}
-use Rattle.mta_history.specs.History.{State, after, IsTablesText}
-use Rattle.mta_history.specs.Image.{size_of, NoSpoolAt}
+use Rattle.mta_machine.specs.Items.{numbered}
+use Rattle.mta_machine.specs.Rules.{tables_value}
+use Rattle.mta_machine.specs.Machine.{last_tables}
+use Rattle.mta_histories.specs.Lanes.{State}
+use Rattle.mta_histories.specs.History.{after}
+use Rattle.mta_images.specs.Image.{size_of, NoSpoolAt}
 use Rattle.mta_show.specs.Queue.{queue_text}
 use Rattle.mta_show.specs.Mailbox.{mailbox_text}
 use Rattle.mta_run.specs.declared.stop.Stop.{Stop}
@@ -19,13 +21,26 @@ use Rattle.mta_words.specs.declared.words.Words.{Words}
 use Rattle.mta_words.specs.declared.words.Words.TheVariants as Say
 use Rattle.mta_run.specs.Words.{ReadsTables, ReadsApdu, OpensDisk, IsUnbuilt}
 use Rattle.mta_run.specs.Handed.{Handed, ForTables, ForInput, ForDisk, ForOpened, SourceFailed, DiskFailed, InputsRead}
+use Rattle.mta_run.specs.Inputs.{IsReadAsTables, HasFault}
 use Rattle.mta_run.specs.Lines.{accepted_line}
 use Rattle.mta_run.specs.DiskLeft.{Opening, uncalled, refused, opened}
 use Rattle.mta_run.specs.Submit.{IsAccepted, IsFullFor, IsSpentFor}
 
+-- the mailbox of this name in the tables of a text
+abbrev pub mailbox_in : (name text : List ℕ) → Option ℕ
+mailbox_in name text = option_and_then (λ (t : TablesValue). place_of_mailbox t name) (tables_value text)
+
 -- the mailbox of this name in the tables recorded last
 abbrev pub mailbox_named : State → List ℕ → Option ℕ
-mailbox_named s name = option_and_then (λ (t : TablesValue). place_of_mailbox t name) (recorded s.machine.tables)
+mailbox_named s name = option_and_then (mailbox_in name) (numbered s.machine.tables (last_tables s.machine))
+
+-- the text of the queue of a state: its items and its lanes
+abbrev pub queue_of : State → List ℕ
+queue_of s = queue_text s.machine.items s.lanes.open_lanes
+
+-- the text of a mailbox in a state
+abbrev pub mailbox_of : List ℕ → State → List ℕ
+mailbox_of name s = mailbox_text name s.machine.items s.machine.mailboxes
 
 -- What a command prints where it does not stop: `submit` the number of the item, `spool` the queue, `read` the
 -- mailbox, and `decode` the APDU. All but `decode` have opened the disk then.
@@ -34,11 +49,11 @@ pub data IsText {D C I : Type 0} (h : Handed D C I) (added : List Step) : Openin
       → text ≡ accepted_line number
       → ForInput h (λ i. ForOpened h (λ steps. IsAccepted steps added i number)) → IsText h added opened text
   of_queue : (text : List ℕ) → h.words ≡ Some Say.Queue
-      → ForOpened h (λ steps. text ≡ queue_text (after steps).machine.items)
+      → ForOpened h (λ steps. text ≡ queue_of (after steps))
       → IsText h added opened text
   of_mailbox : (name text : List ℕ) → h.words ≡ Some (Say.Mailbox name)
       → ForOpened h (λ steps. mailbox_named (after steps) name ≢ None)
-      → ForOpened h (λ steps. text ≡ mailbox_text name (after steps).machine.items (after steps).machine.mailboxes)
+      → ForOpened h (λ steps. text ≡ mailbox_of name (after steps))
       → IsText h added opened text
   of_decode : (text : List ℕ) → h.words ≡ Some Say.Decode
       → ForInput h (λ i. (v : ApduValue) × SpellsApdu i v × (text ≡ apdu_text v))
@@ -54,7 +69,7 @@ pub data Cause {D C I : Type 0} (h : Handed D C I) (added : List Step) : Opening
   source : SourceFailed h → Cause h added uncalled Stops.Source
   tables : (line : ℕ) (kind : LineKind) → ReadsTables h.words → ForTables h (λ c. IsFirstBadLine c line kind)
       → h.input.after ≡ h.input.before → Cause h added uncalled (Stops.Tables line kind)
-  apdu : (at : ℕ) (kind : Kind) → ReadsApdu h.words → (ReadsTables h.words → ForTables h IsTablesText)
+  apdu : (at : ℕ) (kind : Kind) → ReadsApdu h.words → (ReadsTables h.words → ForTables h IsReadAsTables)
       → ForInput h (λ i. HasFault i (record { at = at; kind = kind })) → Cause h added uncalled (Stops.BadApdu at kind)
   not_spool : (at : ℕ) → OpensDisk h.words → InputsRead h → ForDisk h (λ f. NoSpoolAt f at)
       → Cause h added refused (Stops.NotSpool at)

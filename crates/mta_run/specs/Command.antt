@@ -1,11 +1,11 @@
 -- What a command leaves before its last line is printed.
 use Rattle.std.specs.Prelude.{◌≡◌, ℕ, List, [], ◌++◌, Some, Result, Ok}
-use Rattle.mta_first_records.specs.declared.step.Step.{Step}
+use Rattle.mta_records.specs.declared.step.Step.{Step}
 use Rattle.mta_apdu.specs.Apdus.{longest_apdu}
-use Rattle.mta_history.specs.Verdict.{last_of}
-use Rattle.mta_history.specs.Due.{IsQuiet}
-use Rattle.mta_history.specs.History.{after, IsHistory}
+use Rattle.mta_histories.specs.Due.{IsQuiet}
+use Rattle.mta_histories.specs.History.{after, IsHistory}
 use Rattle.mta_spool.specs.Stands.{step_moment}
+use Rattle.mta_spool.specs.Turning.{IsRecorded}
 use Rattle.mta_run.specs.declared.stop.Stop.{Stop}
 use Rattle.mta_words.specs.declared.words.Words.TheVariants as Say
 use Rattle.mta_run.specs.Words.{ReadsTables, ReadsApdu, OpensDisk}
@@ -45,4 +45,4 @@ pub record HasEnded {D C I : Type 0} (h : Handed D C I) (out : Output) (result :
   pub settled : h.words ≡ Some Say.Submit → result ≡ Ok tt
       → ForOpened h (λ steps. IsSettled (h.clocks.tells h.clock) (steps ++ added))
   pub recorded : h.words ≡ Some Say.Submit → result ≡ Ok tt
-      → ForTables h (λ c. ForOpened h (λ steps. last_of (after (steps ++ added)).machine.tables ≡ Some c))
+      → ForTables h (λ c. ForOpened h (λ steps. IsRecorded (after (steps ++ added)) c))

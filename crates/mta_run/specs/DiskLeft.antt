@@ -2,8 +2,8 @@
 use Rattle.std.specs.Prelude.{◌≡◌, ◌≢◌, ◌⊎◌, ℕ, ◌≤◌, List, [], ◌++◌, length, Some}
 use Rattle.mta_edge.specs.Views.{DiskView, StaysTold}
 use Rattle.mta_edge.specs.Causes.{Rose}
-use Rattle.mta_first_records.specs.declared.step.Step.{Step}
-use Rattle.mta_history.specs.Image.{StandsFor}
+use Rattle.mta_records.specs.declared.step.Step.{Step}
+use Rattle.mta_images.specs.Image.{StandsFor}
 use Rattle.mta_run.specs.Images.{IsLeftWith, Synced, IsSafe}
 
 -- The disk was not called; or opening refused it; or opening answered that it is a spool.

@@ -2,12 +2,12 @@
 use Rattle.std.specs.Prelude.{◌≡◌, ◌⊎◌, ℕ, List, Option, Some}
 use Rattle.mta_edge.specs.Views.{DiskView, ClockView, SourceView}
 use Rattle.mta_edge.specs.Causes.{Rose}
-use Rattle.mta_first_records.specs.declared.step.Step.{Step}
-use Rattle.mta_history.specs.Apdu.{IsApdu}
-use Rattle.mta_history.specs.History.{IsTablesText}
-use Rattle.mta_history.specs.Image.{StandsFor}
+use Rattle.mta_records.specs.declared.step.Step.{Step}
+use Rattle.mta_machine.specs.Apdu.{IsApdu}
+use Rattle.mta_images.specs.Image.{StandsFor}
 use Rattle.mta_words.specs.declared.words.Words.{Words}
 use Rattle.mta_run.specs.Words.{ReadsTables, ReadsApdu}
+use Rattle.mta_run.specs.Inputs.{IsReadAsTables}
 
 -- an object before a run and behind it
 pub record Used (A : Type 0) : Type 0 where
@@ -71,5 +71,5 @@ module _ {D C I : Type 0} (h : Handed D C I) where
 
 -- what the command reads before it opens the disk is in order
 pub record InputsRead {D C I : Type 0} (h : Handed D C I) : Type 0 where
-  pub tables : ReadsTables h.words → ForTables h IsTablesText
+  pub tables : ReadsTables h.words → ForTables h IsReadAsTables
   pub apdu : ReadsApdu h.words → ForInput h IsApdu

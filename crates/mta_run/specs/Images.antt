@@ -2,8 +2,8 @@
 use Rattle.std.specs.Prelude.{◌≡◌, ◌⊎◌, ℕ, ◌≤◌, List, [], ◌++◌, take}
 use Rattle.mta_edge.specs.Views.{DiskView}
 use Rattle.mta_edge.specs.Crashes.{AtAnyMoment}
-use Rattle.mta_first_records.specs.declared.step.Step.{Step}
-use Rattle.mta_history.specs.Image.{StandsFor}
+use Rattle.mta_records.specs.declared.step.Step.{Step}
+use Rattle.mta_images.specs.Image.{StandsFor}
 
 -- the image stands for the history with a beginning of these steps
 abbrev pub Reached : List Step → List Step → List ℕ → Type 0

@@ -1,5 +1,6 @@
 -- What is read before the disk is opened: the tables, and an APDU.
 use Rattle.std.specs.Prelude.{◌≡◌, ◌≤◌, ◌+◌, ℕ, List, length, drop, Option, Some, Result, Ok, Err}
+use Rattle.mta_ber.specs.declared.fault.Fault.{Fault}
 use Rattle.mta_ber.specs.declared.fault.Kind.{Kind}
 use Rattle.mta_ber.specs.declared.fault.ReadFault.{ReadFault}
 use Rattle.mta_ber.specs.declared.fault.ReadFault.TheVariants.{Bad, Memory}
@@ -7,8 +8,8 @@ use Rattle.mta_edge.specs.Causes.{Rose}
 use Rattle.mta_edge.specs.Views.{SourceView}
 use Rattle.mta_tables.specs.Tables.{TablesValue, tables_of}
 use Rattle.mta_tables.specs.Grammar.{IsFirstBadLine}
-use Rattle.mta_apdu.specs.Apdus.{longest_apdu}
-use Rattle.mta_history.specs.Apdu.{IsApdu, HasFault}
+use Rattle.mta_apdu.specs.Apdus.{longest_apdu, apdu_of}
+use Rattle.mta_machine.specs.Apdu.{IsApdu}
 use Rattle.mta_streams.specs.Streams.{TakesAtMost}
 use Rattle.mta_run.specs.declared.stop.Stop.{Stop}
 use Rattle.mta_run.specs.declared.stop.Stop.TheVariants as Stops
@@ -30,6 +31,10 @@ pub record IsDrawn {I : Type 0} (sources : SourceView I) (longest : ℕ) (old ne
 
 -- ---- the tables
 
+-- the grammar of tables reads the text
+abbrev pub IsReadAsTables : List ℕ → Type 0
+IsReadAsTables text = (t : TablesValue) × (tables_of text ≡ Ok t)
+
 -- the tables of the text, or why there are none
 abbrev pub AreTablesRead : Option (List ℕ) → (failed : Type 0) → Result TablesValue Stop → Type 0
 AreTablesRead conf failed (Ok t) = IsTold conf t.text × (tables_of t.text ≡ Ok t)
@@ -44,6 +49,10 @@ pub record HasTables {I : Type 0} (sources : SourceView I) (old new : I) (result
   pub read : AreTablesRead (sources.left old) (Rose (sources.faults old) (sources.faults new)) result
 
 -- ---- an APDU
+
+-- the octets spell no APDU, and this is their first fault
+abbrev pub HasFault : List ℕ → Fault → Type 0
+HasFault octets fault = apdu_of octets ≡ Err fault
 
 -- the input, where it is told, has this first fault
 abbrev pub HasFirstFault : Option (List ℕ) → ℕ → Kind → Type 0

@@ -1,22 +1,33 @@
 -- What a run leaves of everything that was handed in.
 use Rattle.std.specs.Prelude.{◌≡◌, ◌≢◌, ◌⊎◌, ◌+◌, ◌<◌, ◌≤◌, ◌^◌, ℕ, List, [], ◌∷◌, ◌++◌, length, take, None, Some, Ok}
-use Rattle.mta_first_records.specs.declared.step.Step.{Step}
+use Rattle.mta_records.specs.declared.step.Step.{Step}
 use Rattle.mta_tables.specs.Tables.{TablesValue, tables_of}
-use Rattle.mta_history.specs.Apdu.{IsApdu}
-use Rattle.mta_history.specs.Items.{ItemValue, numbered}
-use Rattle.mta_history.specs.Verdict.{last_of}
-use Rattle.mta_history.specs.History.{after, IsHistory, IsTablesText, RecipientsOnce}
-use Rattle.mta_history.specs.Image.{StandsFor}
+use Rattle.mta_machine.specs.Apdu.{IsApdu}
+use Rattle.mta_machine.specs.declared.item.Status.{Status}
+use Rattle.mta_machine.specs.Items.{ItemValue, at_start, numbered, status_at}
+use Rattle.mta_machine.specs.Machine.{IsRun, discharges}
+use Rattle.mta_machine.specs.Laws.{IsPendingOrDischarged}
+use Rattle.mta_histories.specs.History.{after, IsHistory, project}
+use Rattle.mta_images.specs.Image.{StandsFor}
+use Rattle.mta_spool.specs.Turning.{IsRecorded}
 use Rattle.mta_words.specs.declared.words.Words.{Words}
 use Rattle.mta_words.specs.declared.words.Words.TheVariants as Say
 use Rattle.mta_run.specs.Words.{ReadsTables, ReadsApdu, OpensDisk, IsUnbuilt}
 use Rattle.mta_run.specs.Handed.{Handed, ForTables, ForInput, ForDisk, ForOpened, SourceFailed, DiskFailed, InputsRead}
+use Rattle.mta_run.specs.Inputs.{IsReadAsTables}
 use Rattle.mta_run.specs.Lines.{accepted_line}
 use Rattle.mta_run.specs.Output.{Output, OutputFailed, IsEnded}
 use Rattle.mta_run.specs.DiskLeft.{Opening, uncalled, opened, DiskLeft}
 use Rattle.mta_run.specs.Submit.{AreOwn, AreInTurn, accepts, IsAccepted}
 use Rattle.mta_run.specs.Causes.{Cause, IsText, mailbox_named}
 use Rattle.mta_run.specs.Command.{IsSettled, SourcesLeft}
+
+-- What the steps are for the machine of recipients is a run of it, and each recipient for whom this agent is
+-- responsible is pending with no discharge, or is not pending and has one.
+pub record RecipientsOnce (steps : List Step) : Type 0 where
+  pub run : IsRun at_start (project steps)
+  pub once : (i r : ℕ) (s : Status) → status_at (after steps).machine i r ≡ Some (Some s)
+      → IsPendingOrDischarged s (discharges (project steps) i r)
 
 -- An added Accept of these octets makes the item of this number, which is the next one behind the history, and the
 -- item has these octets.
@@ -41,7 +52,7 @@ pub record EndedWell {D C I : Type 0} (h : Handed D C I) (opening : Opening) (ad
   -- with `submit` nothing is due, and the tables recorded last are those that were read
   pub settled : h.words ≡ Some Say.Submit → ForOpened h (λ steps. IsSettled (h.clocks.tells h.clock) (steps ++ added))
   pub recorded : h.words ≡ Some Say.Submit
-      → ForTables h (λ c. ForOpened h (λ steps. last_of (after (steps ++ added)).machine.tables ≡ Some c))
+      → ForTables h (λ c. ForOpened h (λ steps. IsRecorded (after (steps ++ added)) c))
 
 -- What a run leaves, each part where the objects that it speaks of tell what they hold. `opening` says how far it
 -- came with the disk, `added` are the steps that it added to the history for which the disk stood, and `torn_step`
@@ -99,7 +110,7 @@ pub record Tells {D C I : Type 0} (h : Handed D C I) (out : Output) (status : �
 pub record AllInOrder {D C I : Type 0} (h : Handed D C I) (out : Output) : Type 0 where
   pub known : h.words ≢ None
   pub built : IsUnbuilt h.words → ⊥
-  pub tables : ReadsTables h.words → (c : List ℕ) × (h.sources.left h.conf.before ≡ Some c) × IsTablesText c
+  pub tables : ReadsTables h.words → (c : List ℕ) × (h.sources.left h.conf.before ≡ Some c) × IsReadAsTables c
   pub apdu : ReadsApdu h.words → (i : List ℕ) × (h.sources.left h.input.before ≡ Some i) × IsApdu i
   pub spool : OpensDisk h.words → (f : List ℕ) × (steps : List Step) × (h.disks.content h.disk.before ≡ Some f)
       × StandsFor f steps

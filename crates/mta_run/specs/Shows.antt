@@ -2,20 +2,19 @@
 use Rattle.std.specs.Prelude.{◌≡◌, ◌≢◌, ◌⊎◌, ℕ, List, [], None, Some, Result, Ok, Err}
 use Rattle.mta_edge.specs.Causes.{Rose}
 use Rattle.mta_edge.specs.Views.{DiskView}
-use Rattle.mta_first_records.specs.declared.step.Step.{Step}
-use Rattle.mta_history.specs.History.{State, after}
-use Rattle.mta_history.specs.Image.{StandsFor, NoSpoolAt}
+use Rattle.mta_records.specs.declared.step.Step.{Step}
+use Rattle.mta_histories.specs.Lanes.{State}
+use Rattle.mta_histories.specs.History.{after}
+use Rattle.mta_images.specs.Image.{StandsFor, NoSpoolAt}
 use Rattle.mta_journal.specs.declared.why.OpenWhy.{OpenWhy}
 use Rattle.mta_journal.specs.declared.why.OpenWhy.TheVariants as Whys
-use Rattle.mta_show.specs.Queue.{queue_text}
-use Rattle.mta_show.specs.Mailbox.{mailbox_text}
 use Rattle.mta_run.specs.declared.stop.Stop.{Stop}
 use Rattle.mta_run.specs.declared.stop.Stop.TheVariants as Stops
 use Rattle.mta_words.specs.declared.words.Words.{Words}
 use Rattle.mta_words.specs.declared.words.Words.TheVariants as Say
 use Rattle.mta_run.specs.Output.{Output, HasPrinted}
 use Rattle.mta_run.specs.DiskLeft.{Opening, refused, opened, DiskLeft}
-use Rattle.mta_run.specs.Causes.{mailbox_named}
+use Rattle.mta_run.specs.Causes.{mailbox_named, queue_of, mailbox_of}
 
 abbrev pub stop_of_open : OpenWhy → Stop
 stop_of_open (Whys.NotSpool at) = Stops.NotSpool at
@@ -29,8 +28,7 @@ IsShown text (Err stop) = stop ≡ Stops.Memory
 
 -- the text of a mailbox that is named, or that it is not, or want of memory
 abbrev pub IsMailboxShown : State → List ℕ → Result (List ℕ) Stop → Type 0
-IsMailboxShown s name (Ok shown) = (shown ≡ mailbox_text name s.machine.items s.machine.mailboxes)
-    × (mailbox_named s name ≢ None)
+IsMailboxShown s name (Ok shown) = (shown ≡ mailbox_of name s) × (mailbox_named s name ≢ None)
 IsMailboxShown s name (Err stop) = (stop ≡ Stops.Memory)
     ⊎ ((stop ≡ Stops.NoMailbox name) × (mailbox_named s name ≡ None))
 
@@ -41,12 +39,11 @@ ForHistoryOf disks disk P = (f : List ℕ) (steps : List Step) → disks.content
 -- what is shown of a spool
 pub data IsShownText {D : Type 0} (disks : DiskView D) (words : Words) (disk : D) : Opening → List ℕ → Type 0 where
   shows_queue : (text : List ℕ) → words ≡ Say.Queue
-      → ForHistoryOf disks disk (λ steps. text ≡ queue_text (after steps).machine.items)
+      → ForHistoryOf disks disk (λ steps. text ≡ queue_of (after steps))
       → IsShownText disks words disk opened text
   shows_mailbox : (name text : List ℕ) → words ≡ Say.Mailbox name
       → ForHistoryOf disks disk (λ steps. mailbox_named (after steps) name ≢ None)
-      → ForHistoryOf disks disk (λ steps. text ≡ mailbox_text name (after steps).machine.items
-      (after steps).machine.mailboxes)
+      → ForHistoryOf disks disk (λ steps. text ≡ mailbox_of name (after steps))
       → IsShownText disks words disk opened text
 
 -- why it is not

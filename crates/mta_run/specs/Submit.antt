@@ -1,17 +1,21 @@
 -- What `submit` adds to a spool.
-use Rattle.std.specs.Prelude.{◌≡◌, ◌≢◌, ◌⊎◌, ◌^◌, ℕ, ◌+◌, ◌≤◌, ◌<◌, List, [], ◌∷◌, ◌++◌, length, Bool, true, false, count_by, min, max, Some, Result, Ok, Err}
+use Rattle.std.specs.Prelude.{◌≡◌, ◌⊎◌, ◌^◌, ℕ, ◌+◌, ◌≤◌, ◌<◌, List, [], ◌∷◌, ◌++◌, length, Bool, true, false}
+use Rattle.std.specs.Prelude.{count_by, min, max, Some, Result, Ok, Err}
 use Rattle.mta_edge.specs.Causes.{Rose}
 use Rattle.mta_edge.specs.Views.{DiskView, StaysTold}
-use Rattle.mta_first_records.specs.declared.step.Step.{Step}
-use Rattle.mta_first_records.specs.declared.step.Step.TheVariants.{Tables, Accept, Deliver}
-use Rattle.mta_first_records.specs.declared.fault.StepFault.{StepFault}
-use Rattle.mta_first_records.specs.declared.fault.StepFault.TheVariants as StepFaults
+use Rattle.mta_records.specs.declared.step.Step.{Step}
+use Rattle.mta_records.specs.declared.step.Step.TheVariants.{Tables, Accept}
+use Rattle.mta_records.specs.declared.fault.StepFault.{StepFault}
+use Rattle.mta_records.specs.declared.fault.StepFault.TheVariants as StepFaults
 use Rattle.mta_journal.specs.Appending.{journal_limit}
-use Rattle.mta_history.specs.Verdict.{last_of}
-use Rattle.mta_history.specs.Due.{IsQuiet, IsNext}
-use Rattle.mta_history.specs.History.{State, IsHistory, after, after_step}
+use Rattle.mta_histories.specs.Lanes.{State}
+use Rattle.mta_histories.specs.Classes.{LaneStep, abandon, Class, class_of}
+use Rattle.mta_histories.specs.Classes as classes
+use Rattle.mta_histories.specs.Due.{IsQuiet, IsNext}
+use Rattle.mta_histories.specs.History.{IsHistory, when, after, after_step}
 use Rattle.mta_spool.specs.Shown.{Shown}
 use Rattle.mta_spool.specs.Stands.{Stands, step_moment, need_of, IsSpent}
+use Rattle.mta_spool.specs.Turning.{IsRecorded}
 use Rattle.mta_run.specs.declared.stop.Stop.{Stop}
 use Rattle.mta_run.specs.declared.stop.Stop.TheVariants as Stops
 use Rattle.mta_run.specs.Images.{Leaves}
@@ -24,24 +28,40 @@ use Rattle.mta_run.specs.Output.{Output, Prints, PrintsFront, HasPrinted}
 abbrev pub IsTimed : (ℕ → Type 0) → ℕ → ℕ → Type 0
 IsTimed tells last moment = (told : ℕ) × tells told × (moment ≡ step_moment told last)
 
--- a step of these tables, this input, and a moment of this clock
-abbrev pub IsOwn : (ℕ → Type 0) → (conf input : List ℕ) → (last : ℕ) → Step → Type 0
-IsOwn tells conf input last (Tables text) = text ≡ conf
-IsOwn tells conf input last (Accept moment apdu) = (apdu ≡ input) × IsTimed tells last moment
-IsOwn tells conf input last (Deliver item recipient moment) = IsTimed tells last moment
+-- of the steps on lanes the one that gives an activity up, whose item has expired
+abbrev pub IsOwnOnLane : (ℕ → Type 0) → (last : ℕ) → LaneStep → (moment : ℕ) → Type 0
+IsOwnOnLane tells last (abandon k) moment = IsTimed tells last moment
+IsOwnOnLane tells last step moment = ⊥
+
+abbrev pub IsOwnOf : (ℕ → Type 0) → (conf input : List ℕ) → (last : ℕ) → Class → (moment : ℕ) → Type 0
+IsOwnOf tells conf input last (classes.records text) moment = text ≡ conf
+IsOwnOf tells conf input last (classes.accepts octets) moment = (octets ≡ input) × IsTimed tells last moment
+IsOwnOf tells conf input last (classes.settles how i r) moment = IsTimed tells last moment
+IsOwnOf tells conf input last (classes.opens role peer reference twa checkpoint window) moment = ⊥
+IsOwnOf tells conf input last (classes.on_lane n generation step) moment = IsOwnOnLane tells last step moment
+
+-- In a state, a step of these tables, or of this input, or one that settles a recipient or gives an activity up, at a
+-- moment of this clock. No other step on a lane is one, and none opens a lane.
+abbrev pub IsOwn : (ℕ → Type 0) → (conf input : List ℕ) → State → Step → Type 0
+IsOwn tells conf input s step = IsOwnOf tells conf input s.moment (class_of step) (when s step)
 
 abbrev pub AreOwn : (ℕ → Type 0) → (conf input : List ℕ) → State → List Step → Type 0
 AreOwn tells conf input s [] = Unit {0}
-AreOwn tells conf input s (step ∷ steps) = IsOwn tells conf input s.moment step
+AreOwn tells conf input s (step ∷ steps) = IsOwn tells conf input s step
     × AreOwn tells conf input (after_step s step) steps
 
 -- ---- their order
 
+abbrev pub turn_of_class : Class → ℕ
+turn_of_class (classes.records text) = 0
+turn_of_class (classes.accepts octets) = 1
+turn_of_class (classes.settles how i r) = 2
+turn_of_class (classes.opens role peer reference twa checkpoint window) = 2
+turn_of_class (classes.on_lane n generation step) = 2
+
 -- The turn of a step: first the tables, then the APDU, then what is due.
 abbrev pub turn_of : Step → ℕ
-turn_of (Tables text) = 0
-turn_of (Accept moment apdu) = 1
-turn_of (Deliver item recipient moment) = 2
+turn_of step = turn_of_class (class_of step)
 
 -- the turn behind a step: tables and an APDU come once
 abbrev pub turn_behind : Step → ℕ
@@ -58,12 +78,17 @@ abbrev pub turn_after : ℕ → List Step → ℕ
 turn_after turn [] = turn
 turn_after turn (step ∷ steps) = turn_after (turn_behind step) steps
 
-abbrev pub is_accept : Step → Bool
-is_accept (Tables text) = false
-is_accept (Accept moment apdu) = true
-is_accept (Deliver item recipient moment) = false
+abbrev pub takes_apdu : Class → Bool
+takes_apdu (classes.records text) = false
+takes_apdu (classes.accepts octets) = true
+takes_apdu (classes.settles how i r) = false
+takes_apdu (classes.opens role peer reference twa checkpoint window) = false
+takes_apdu (classes.on_lane n generation step) = false
 
--- how many items the steps take
+abbrev pub is_accept : Step → Bool
+is_accept step = takes_apdu (class_of step)
+
+-- how many APDUs the steps take
 abbrev pub accepts : List Step → ℕ
 accepts steps = count_by is_accept steps
 
@@ -73,9 +98,9 @@ accepts steps = count_by is_accept steps
 -- those recorded last; else the APDU, where it was not accepted; else what is due for the lowest item and
 -- recipient, at a moment that the clock tells.
 pub data IsNextStep (tells : ℕ → Type 0) (conf input : List ℕ) (added : List Step) (s : State) : Step → Type 0 where
-  tables : turn_after 0 added ≡ 0 → last_of s.machine.tables ≢ Some conf
+  tables : turn_after 0 added ≡ 0 → (IsRecorded s conf → ⊥)
       → IsNextStep tells conf input added s (Tables conf)
-  apdu : (moment : ℕ) → turn_after 0 added ≤ 1 → last_of s.machine.tables ≡ Some conf → IsTimed tells s.moment moment
+  apdu : (moment : ℕ) → turn_after 0 added ≤ 1 → IsRecorded s conf → IsTimed tells s.moment moment
       → IsNextStep tells conf input added s (Accept moment input)
   due : (moment : ℕ) (step : Step) → turn_after 0 added ≡ 2 → IsTimed tells s.moment moment → IsNext s moment step
       → IsNextStep tells conf input added s step
@@ -149,7 +174,7 @@ pub record HasStored {D C : Type 0} (disks : DiskView D) (tells : ℕ → Type 0
   pub small : (n : ℕ) → result ≡ Ok n → n < 2 ^ 32
   pub accepted : (n : ℕ) → result ≡ Ok n → (steps : List Step) → Stands disks old steps → IsAccepted steps added input n
   pub turn : (n : ℕ) → result ≡ Ok n → turn_after 0 added ≡ 2
-  pub tables : (n : ℕ) → result ≡ Ok n → last_of new.current.machine.tables ≡ Some conf
+  pub tables : (n : ℕ) → result ≡ Ok n → IsRecorded new.current conf
   pub refused : (fault : StepFault) → result ≡ Err fault
       → IsRefusal tells conf input added new.current new.journal.size (Rose (disks.faults old.journal.disk)
       (disks.faults new.journal.disk)) fault
@@ -216,4 +241,4 @@ pub record HasWorked {D C : Type 0} (disks : DiskView D) (tells : ℕ → Type 0
       (disks.faults old.journal.disk) (disks.faults new.journal.disk)))
       (IsAcceptedLine disks old added input) out result
   pub quiet : result ≡ Ok tt → (told : ℕ) × tells told × IsQuiet new.current (step_moment told new.current.moment)
-  pub tables : result ≡ Ok tt → last_of new.current.machine.tables ≡ Some conf
+  pub tables : result ≡ Ok tt → IsRecorded new.current conf

@@ -97,9 +97,10 @@ fn command<D: Disk + Drop, C: Clock + Drop, I: Source, O: Sink>(
 /// back.
 ///
 /// `submit` reads the tables and the input to their ends, opens the disk, records the tables where they changed, takes
-/// the APDU, prints `accepted N`, and delivers what is due until nothing is. `spool` prints the queue, `read MAILBOX`
-/// what a mailbox got, and `decode` the APDU that the input is. `serve` and `drill` are read and not built yet: they
-/// touch nothing, and are told `not built`.
+/// the APDU, prints `accepted N`, and does what is due until nothing is: it delivers, expands lists, affirms probes and
+/// makes reports. `spool` prints the queue and the lanes that are open, `read MAILBOX` what a mailbox got, and `decode`
+/// the APDU that the input is. `serve` and `drill` are read and not built yet: they touch nothing, and are told `not
+/// built`.
 pub fn run<D: Disk + Drop, C: Clock + Drop, I: Source, O: Sink>(
     alloc: Global,
     words: &[String],

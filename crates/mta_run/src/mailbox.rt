@@ -5,8 +5,9 @@
 //! such mailbox is named, the sink fails, or memory is refused; what a crash leaves is what opening
 //! leaves.
 
-ghost use Rattle.std.specs.Prelude.{◌≡◌, ◌≤◌};
+ghost use Rattle.std.specs.Prelude.{◌≡◌, ◌≤◌, is_some};
 ghost use Rattle.mta_words.specs.declared.words.Words.TheVariants as Say;
+ghost use Rattle.mta_run.specs.Causes.{mailbox_in, mailbox_named};
 ghost use Rattle.mta_run.specs.Output.{output};
 ghost use Rattle.mta_run.specs.Shows.{IsMailboxShown, HasShownSpool};
 
@@ -17,7 +18,28 @@ use mta_ber::{Octets, Word};
 use mta_edge::{Clock, Disk, Sink};
 use mta_show::show_mailbox;
 use mta_spool::Spool;
+use mta_tables::Tables;
 use std::alloc::Global;
+
+// Whether the tables have a mailbox of this word.
+#[tactic(auto, unfolding(mta_machine::specs::Rules::tables_value))]
+fn has_mailbox(tables: &Tables, name: &[u8]) -> bool
+    ensures { result ≡ is_some (mailbox_in name.now tables.now.text) }
+{
+    let _text = tables.text();
+    tables.mailbox(name).is_some()
+}
+
+// Whether the tables recorded last have a mailbox of this word.
+#[tactic(auto, using(crate::proofs::Named::named_under, crate::proofs::Named::none_named))]
+fn is_named<D: Disk + Drop, C: Clock + Drop>(spool: &Spool<D, C>, name: &[u8]) -> bool
+    ensures { result ≡ is_some (mailbox_named spool.now.current name.now) }
+{
+    match spool.tables() {
+        Some(tables) => has_mailbox(tables, name),
+        None => false,
+    }
+}
 
 fn mailbox_of<D: Disk + Drop, C: Clock + Drop>(
     alloc: Global,
@@ -26,11 +48,7 @@ fn mailbox_of<D: Disk + Drop, C: Clock + Drop>(
 ) -> Result<Octets, Stop>
     ensures { IsMailboxShown spool.now.current name result }
 {
-    let named = match spool.tables() {
-        Some(tables) => tables.mailbox(name.as_slice()).is_some(),
-        None => false,
-    };
-    if !named {
+    if !is_named(spool, name.as_slice()) {
         return Err(Stop::NoMailbox(name));
     }
     match show_mailbox(alloc, name.as_slice(), spool.items(), spool.mailboxes()) {

@@ -1,4 +1,4 @@
-//! The word `spool`: the queue, printed.
+//! The word `spool`: the queue and the lanes that are open, printed.
 //!
 //! The disk is opened as a spool and handed back; the text is that of `mta_show`. No step is added. It
 //! stops where opening refuses the disk, the sink fails, or memory is refused; what a crash leaves is
@@ -6,7 +6,7 @@
 
 ghost use Rattle.std.specs.Prelude.{◌≡◌, ◌≤◌};
 ghost use Rattle.mta_words.specs.declared.words.Words.TheVariants as Say;
-ghost use Rattle.mta_show.specs.Queue.{queue_text};
+ghost use Rattle.mta_run.specs.Causes.{queue_of};
 ghost use Rattle.mta_run.specs.Output.{output};
 ghost use Rattle.mta_run.specs.Shows.{IsShown, HasShownSpool};
 
@@ -23,15 +23,15 @@ fn queue_of<D: Disk + Drop, C: Clock + Drop>(
     alloc: Global,
     spool: &Spool<D, C>,
 ) -> Result<Octets, Stop>
-    ensures { IsShown (queue_text spool.now.current.machine.items) result }
+    ensures { IsShown (queue_of spool.now.current) result }
 {
-    match show_queue(alloc, spool.items()) {
+    match show_queue(alloc, spool.items(), spool.lanes()) {
         Ok(text) => Ok(text),
         Err(_) => Err(Stop::Memory),
     }
 }
 
-/// Prints the queue.
+/// Prints the queue and the lanes that are open.
 pub fn queue<D: Disk + Drop, C: Clock + Drop, O: Sink>(
     alloc: Global,
     out: &mut O,

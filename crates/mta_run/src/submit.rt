@@ -1,4 +1,4 @@
-//! `submit`: record the tables, accept the APDU, print its number, deliver what is due.
+//! `submit`: record the tables, accept the APDU, print its number, do what is due.
 //!
 //! The inputs are read first (`inputs.rt`), and then the spool is opened. `store` makes the tables'
 //! step where their text changed, and the Accept; each is durable before its call answers.
@@ -6,14 +6,13 @@
 //! calls `turn` until nothing is due.
 //!
 //! A spool that cannot be opened and a step that is refused are stops, with the steps before them made.
-//! A crash at any moment leaves the history with a beginning of these steps; between the Accept and the
-//! delivery the item is pending, and the next `submit` delivers it.
+//! A crash at any moment leaves the history with a beginning of these steps; a recipient for whom no
+//! step was made yet is pending, and the next `submit` makes what is due then.
 
-ghost use Rattle.std.specs.Prelude.{◌≡◌, ◌≤◌, List, Ok, Some, false};
-ghost use Rattle.mta_history.specs.Apdu.{IsApdu};
-ghost use Rattle.mta_first_records.specs.declared.step.Step.{Step};
+ghost use Rattle.std.specs.Prelude.{◌≡◌, ◌≤◌, List, Some, false};
+ghost use Rattle.mta_machine.specs.Apdu.{IsApdu};
+ghost use Rattle.mta_records.specs.declared.step.Step.{Step};
 ghost use Rattle.mta_spool.specs.Stands.{Stands, TellsFewer};
-ghost use Rattle.mta_tables.specs.Tables.{tables_of};
 ghost use Rattle.mta_words.specs.declared.words.Words.TheVariants as Say;
 ghost use Rattle.mta_run.specs.Command.{HasEnded};
 ghost use Rattle.mta_run.specs.Handed.{handed};
@@ -33,14 +32,14 @@ use std::alloc::Global;
 // Records the tables, where they changed, and takes the APDU; its number.
 fn store<D: Disk + Drop, C: Clock + Drop>(
     spool: &mut Spool<D, C>,
-    tables: Tables,
+    tables: &Tables,
     apdu: &Octets,
 ) -> Result<u32, StepFault>
     requires going { spool.old.journal.ended ≡ false }
-    requires tables { tables_of tables.text ≡ Ok tables }
     requires apdu { IsApdu apdu.now }
     requires stands { (steps : List Step) × Stands D.model spool.old steps }
-    ensures stored { HasStored D.model (C.model.tells spool.old.clock) tables.text apdu.now spool.old spool.new result }
+    ensures stored { HasStored D.model (C.model.tells spool.old.clock) tables.now.text apdu.now spool.old spool.new
+        result }
     ensures clock { TellsFewer C.model spool.old.clock spool.new.clock }
 {
     match spool.set_tables(tables) {
@@ -86,7 +85,6 @@ fn work<D: Disk + Drop, C: Clock + Drop, O: Sink>(
     out: &mut O,
 ) -> Result<(), Stop>
     requires going { spool.old.journal.ended ≡ false }
-    requires tables { tables_of inputs.tables.text ≡ Ok inputs.tables }
     requires apdu { IsApdu inputs.apdu }
     requires stands { (steps : List Step) × Stands D.model spool.old steps }
     ensures worked { HasWorked D.model (C.model.tells spool.old.clock) inputs.tables.text inputs.apdu
@@ -94,7 +92,7 @@ fn work<D: Disk + Drop, C: Clock + Drop, O: Sink>(
     ensures later { O.model.faults out.old ≤ O.model.faults out.new }
 {
     let Inputs { tables, apdu } = inputs;
-    let number = match store(spool, tables, &apdu) {
+    let number = match store(spool, &tables, &apdu) {
         Ok(number) => number,
         Err(fault) => return Err(stop_of_step(fault)),
     };
@@ -108,7 +106,7 @@ fn work<D: Disk + Drop, C: Clock + Drop, O: Sink>(
     }
 }
 
-/// Reads the tables and the input, records them in the spool, prints the item's number, and delivers what is due.
+/// Reads the tables and the input, records them in the spool, prints the item's number, and does what is due.
 pub fn submit<D: Disk + Drop, C: Clock + Drop, I: Source, O: Sink>(
     alloc: Global,
     conf: &mut I,

@@ -5,6 +5,8 @@
 #[cfg(test)]
 mod full;
 #[cfg(test)]
+mod rows;
+#[cfg(test)]
 mod spool;
 #[cfg(test)]
 mod tests;

@@ -24,7 +24,7 @@ fn tables_are_journaled(rt: HostRuntime) -> Result<(), Fail> {
     let alloc = rt.alloc();
     let mut spool = opened(alloc)?;
     let tables = Tables::read(alloc, b"domain C=GB;A=GOLD\nname GOLD-1\n")?;
-    assert_eq!(rt; spool.set_tables(tables), Ok(()));
+    assert_eq!(rt; spool.set_tables(&tables), Ok(()));
     assert!(rt; spool.items().is_empty());
     let disk = spool.end();
     assert_eq!(rt; disk.octets().len(), 9 + 5 + 5 + 31);

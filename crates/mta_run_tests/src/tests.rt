@@ -42,24 +42,27 @@ const QUEUE: &[u8] =
 const MAILBOX: &[u8] =
     b"delivered 500101001640Z item 1\nmessage C=GB;A=GOLD/M0001\noriginator C=GB;A=GOLD;S=BELL\ncontent-type 22\npriority normal\nindicators 00000000\nrecipient 1 10101000 C=GB;A=GOLD;S=WATT\ncontent 2 4869\n";
 
-// What is handed in to a run, and the first call that fails of the input, the sink and the disk, or 0.
+// What is handed in to a run, the moment that the clock tells, and the first call that fails of the input, the sink and
+// the disk, or 0.
 #[derive(Drop)]
-struct Given {
-    word: &'static str,
-    name: Option<&'static str>,
-    tables: &'static [u8],
-    input: &'static [u8],
-    input_fails: u64,
-    sink_fails: u64,
-    disk_fails: u64,
+pub struct Given {
+    pub word: &'static str,
+    pub name: Option<&'static str>,
+    pub tables: &'static [u8],
+    pub input: &'static [u8],
+    pub moment: u64,
+    pub input_fails: u64,
+    pub sink_fails: u64,
+    pub disk_fails: u64,
 }
 
 // A run of `submit` of the sample message, where nothing fails.
-const PLAIN: Given = Given {
+pub const PLAIN: Given = Given {
     word: "submit",
     name: None,
     tables: TABLES,
     input: &MESSAGE,
+    moment: 1000,
     input_fails: 0,
     sink_fails: 0,
     disk_fails: 0,
@@ -67,10 +70,10 @@ const PLAIN: Given = Given {
 
 // What a run leaves: the status, what was printed, and what the disk holds.
 #[derive(Drop)]
-struct Left {
-    status: u8,
-    text: Vec<u8>,
-    disk: Vec<u8>,
+pub struct Left {
+    pub status: u8,
+    pub text: Vec<u8>,
+    pub disk: Vec<u8>,
 }
 
 fn octets(alloc: Global, bytes: &[u8]) -> Result<Octets, Fail> {
@@ -135,11 +138,11 @@ fn finished(
     let conf = source(alloc, given.tables, 0)?;
     let input = source(alloc, given.input, given.input_fails)?;
     let disk = disk_of(alloc, disk, given.disk_fails)?;
-    let clock = MemClock::new([1000].to_vec(alloc)?);
+    let clock = MemClock::new([given.moment].to_vec(alloc)?);
     Ok(called(alloc, &words, conf, input, out, disk, clock))
 }
 
-fn outcome(alloc: Global, given: &Given, disk: &[u8]) -> Result<Left, Fail> {
+pub fn outcome(alloc: Global, given: &Given, disk: &[u8]) -> Result<Left, Fail> {
     let mut out = MemSink::new(alloc, [given.sink_fails].to_vec(alloc)?);
     let finished = finished(alloc, given, disk, &mut out)?;
     read_back(alloc, &out, &finished)
@@ -196,7 +199,7 @@ fn the_queue_and_the_mailbox_are_printed(rt: HostRuntime) -> Result<(), Fail> {
     prints(&rt, alloc, "read", Some("watt"), MAILBOX)
 }
 
-fn ends(
+pub fn ends(
     rt: &impl Abort,
     alloc: Global,
     given: &Given,
@@ -252,7 +255,7 @@ fn an_apdu_is_decoded(rt: HostRuntime) -> Result<(), Fail> {
 }
 
 #[test]
-fn a_message_of_another_shape_waits(rt: HostRuntime) -> Result<(), Fail> {
+fn a_message_in_another_order_is_delivered(rt: HostRuntime) -> Result<(), Fail> {
     let alloc = rt.alloc();
     let reversed = Given {
         input: &REVERSED,
@@ -264,7 +267,7 @@ fn a_message_of_another_shape_waits(rt: HostRuntime) -> Result<(), Fail> {
     };
     let left = outcome(alloc, &reversed, b"")?;
     assert_eq!(rt; left.text.as_slice(), b"accepted 1\n".as_slice());
-    ends(&rt, alloc, &queue, &left.disk, 0, WAITING)
+    ends(&rt, alloc, &queue, &left.disk, 0, QUEUE)
 }
 
 #[test]

@@ -1,5 +1,5 @@
 use Rattle.std.proofs.Common.{◌-◌, List}
-use Rattle.mta_first_records.specs.declared.step.Step.{Step}
+use Rattle.mta_records.specs.declared.step.Step.{Step}
 use Rattle.mta_journal.specs.Appending.{journal_limit}
 use Rattle.mta_run.proofs.Settled.{Settling}
 use Rattle.mta_run.proofs.submit.settle.Given as goal

@@ -19,8 +19,5 @@ returns-in-Ok-open-clause-ended g c =
     let worked = subst (λ k. HasWorked g.D.Disk.model (g.C.Clock.model.tells k) c.in-Ok.inputs.tables.text c.in-Ok.inputs.apdu out c.in-Ok-open.spool c.work-outcome.new.spool c.work-outcome.result) c.in-Ok-open.ensures.clock c.work-outcome.ensures.worked in
     rw c.end.ensures (submit_opened g.D.Disk.model g.met.D.Disk.laws g.C.Clock.model g.I.Source.model c.args.conf.now c.inputs_of.new.conf c.args.input.now c.inputs_of.new.input c.args.clock out c.args.disk c.in-Ok.inputs c.in-Ok.ensures c.in-Ok-open.spool c.work-outcome.new.spool c.work-outcome.result c.in-Ok-open.ensures.opened worked)
 
-pub work-outcome-requires-clause-tables : goal.work-outcome-requires-clause-tables
-work-outcome-requires-clause-tables g c = (both_read g.I.Source.model c.args.conf.now c.inputs_of.new.conf c.args.input.now c.inputs_of.new.input c.in-Ok.inputs c.in-Ok.ensures).0.read.1
-
 pub work-outcome-requires-clause-apdu : goal.work-outcome-requires-clause-apdu
 work-outcome-requires-clause-apdu g c = (both_read g.I.Source.model c.args.conf.now c.inputs_of.new.conf c.args.input.now c.inputs_of.new.input c.in-Ok.inputs c.in-Ok.ensures).1.read.1
