@@ -1,19 +1,21 @@
 -- The text of a mailbox: what was delivered to it, in the order in which it was.
-use Rattle.std.specs.Prelude.{ℕ, ◌-◌, Bool, List, [], ◌∷◌, ◌++◌, filter, Option, Some, None, Result, Ok, Err, slice_get, codes, decimal}
+use Rattle.std.specs.Prelude.{ℕ, ◌-◌, Bool, List, [], ◌∷◌, ◌++◌, filter, Option, Some, None, Result, Ok, Err}
+use Rattle.std.specs.Prelude.{slice_get, codes, decimal}
 use Rattle.std.specs.List.{flat_map}
 use Rattle.std.specs.Str.{bytes_eq}
 use Rattle.mta_ber.specs.declared.fault.Fault.{Fault}
 use Rattle.mta_apdu.specs.Apdus.{ApduValue, stored_of}
 use Rattle.mta_apdu_text.specs.Pieces.{moment_text}
 use Rattle.mta_apdu_text.specs.Apdus.{apdu_text}
-use Rattle.mta_history.specs.Items.{ItemValue}
-use Rattle.mta_history.specs.declared.item.MailboxLine.{MailboxLine}
+use Rattle.mta_machine.specs.Items.{ItemValue}
+use Rattle.mta_machine.specs.declared.item.MailboxLine.{MailboxLine}
 
 abbrev pub is_for : List ℕ → MailboxLine → Bool
 is_for word line = bytes_eq line.mailbox word
 
 unfoldable pub delivered_line : MailboxLine → List ℕ
-delivered_line line = codes "delivered " ++ (moment_text line.moment ++ (codes " item " ++ (decimal line.item ++ 10 ∷ [])))
+delivered_line line =
+    codes "delivered " ++ (moment_text line.moment ++ (codes " item " ++ (decimal line.item ++ 10 ∷ [])))
 
 -- nothing where the octets are no APDU, which those of an item always are
 abbrev pub text_if : Result ApduValue Fault → List ℕ

@@ -1,16 +1,17 @@
 -- The text of the queue: the items, numbered from 1, and what became of each recipient for whom this agent is
--- responsible.
-use Rattle.std.specs.Prelude.{ℕ, ◌+◌, List, [], ◌∷◌, ◌++◌, Option, Some, None, unwrap_or, Result, Ok, Err, slice_get, codes, decimal}
+-- responsible; then the lanes that are open.
+use Rattle.std.specs.Prelude.{ℕ, ◌+◌, List, [], ◌∷◌, ◌++◌, Option, Some, None, unwrap_or, Result, Ok, Err}
+use Rattle.std.specs.Prelude.{slice_get, codes, decimal}
 use Rattle.mta_ber.specs.declared.fault.Fault.{Fault}
-use Rattle.mta_names.specs.declared.attributes.Attributes.{Attributes}
-use Rattle.mta_name_text.specs.Forms.{text_form}
 use Rattle.mta_fields.specs.declared.identifier.MtsIdFields.{MtsIdFields}
 use Rattle.mta_recipient.specs.declared.recipient.RecipientFields.{RecipientFields}
 use Rattle.mta_apdu.specs.Apdus.{ApduValue, message, probe, report, stored_of}
 use Rattle.mta_apdu_text.specs.Pieces.{moment_text, id_text}
-use Rattle.mta_history.specs.Items.{ItemValue}
-use Rattle.mta_history.specs.declared.item.Status.{Status}
-use Rattle.mta_history.specs.declared.item.Status.TheVariants.{Pending, Delivered}
+use Rattle.mta_machine.specs.Items.{ItemValue}
+use Rattle.mta_machine.specs.declared.item.Status.{Status}
+use Rattle.mta_histories.specs.Lanes.{Lane}
+use Rattle.mta_show.specs.Statuses.{status_line_if}
+use Rattle.mta_show.specs.Lanes.{lane_lines}
 
 abbrev pub word_of : ApduValue → List ℕ
 word_of (message m) = codes " message "
@@ -23,29 +24,20 @@ id_of (probe e) = e.id
 id_of (report r) = r.id
 
 unfoldable pub item_line : ℕ → ℕ → ApduValue → List ℕ
-item_line number arrival v = codes "item " ++ (decimal number ++ (word_of v ++ (id_text (id_of v) ++ (codes " arrived " ++ (moment_text arrival ++ 10 ∷ [])))))
+item_line number arrival v =
+    codes "item "
+    ++ (decimal number
+    ++ (word_of v ++ (id_text (id_of v) ++ (codes " arrived " ++ (moment_text arrival ++ 10 ∷ [])))))
 
--- what became of it, in words
-abbrev pub status_text : Status → List ℕ
-status_text Pending = codes "pending"
-status_text (Delivered moment) = codes "delivered " ++ moment_text moment
+-- the status at a place, from 0; none past the last one
+abbrev pub status_at_place : List (Option Status) → ℕ → Option Status
+status_at_place statuses i = unwrap_or (slice_get statuses i) None
 
-unfoldable pub status_line : ℕ → Status → Attributes → List ℕ
-status_line number status name = codes "recipient " ++ (decimal number ++ (32 ∷ status_text status ++ (32 ∷ text_form name ++ 10 ∷ [])))
-
--- nothing for a recipient that has no status
-abbrev pub status_line_if : ℕ → Option Status → Attributes → List ℕ
-status_line_if number None name = []
-status_line_if number (Some status) name = status_line number status name
-
--- the status at an index; none past the last one
-abbrev pub status_at : List (Option Status) → ℕ → Option Status
-status_at statuses i = unwrap_or (slice_get statuses i) None
-
--- recipients from an index on, each numbered by its position from 1
+-- recipients from a place on, each numbered by its position from 1
 abbrev pub recipients_from : ℕ → List (Option Status) → List RecipientFields → List ℕ
 recipients_from i statuses [] = []
-recipients_from i statuses (r ∷ rs) = status_line_if (i + 1) (status_at statuses i) r.name ++ recipients_from (i + 1) statuses rs
+recipients_from i statuses (r ∷ rs) =
+    status_line_if (i + 1) (status_at_place statuses i) r.name ++ recipients_from (i + 1) statuses rs
 
 unfoldable pub recipient_lines : List (Option Status) → List RecipientFields → List ℕ
 recipient_lines statuses rs = recipients_from 0 statuses rs
@@ -54,7 +46,7 @@ recipient_lines statuses rs = recipients_from 0 statuses rs
 abbrev pub status_lines : List (Option Status) → ApduValue → List ℕ
 status_lines statuses (message m) = recipient_lines statuses m.envelope.recipients
 status_lines statuses (probe e) = recipient_lines statuses e.recipients
-status_lines statuses (report r) = status_line_if 1 (status_at statuses 0) r.destination
+status_lines statuses (report r) = status_line_if 1 (status_at_place statuses 0) r.destination
 
 -- nothing where the octets are no APDU, which those of an item always are
 abbrev pub lines_if : ℕ → ItemValue → Result ApduValue Fault → List ℕ
@@ -69,5 +61,5 @@ abbrev pub items_text : ℕ → List ItemValue → List ℕ
 items_text number [] = []
 items_text number (item ∷ items) = item_text number item ++ items_text (number + 1) items
 
-abbrev pub queue_text : List ItemValue → List ℕ
-queue_text items = items_text 1 items
+abbrev pub queue_text : List ItemValue → List Lane → List ℕ
+queue_text items lanes = items_text 1 items ++ lane_lines lanes

@@ -1,11 +1,11 @@
-//! The texts that show what an agent holds: an APDU, the queue, and a mailbox. Each line ends with a line feed.
+//! The texts that show what an agent holds: the queue with its lanes, and a mailbox. Each line ends with a line feed.
 #![tactic(auto)]
 
+mod lanes;
 mod mailbox;
 mod queue;
-#[cfg(test)]
-mod tests;
+mod status;
 
 pub use mailbox::show_mailbox;
-pub use mta_apdu_text::{put_number, show_apdu};
+pub use mta_apdu_text::show_apdu;
 pub use queue::show_queue;

@@ -11,7 +11,7 @@ ghost use Rattle.mta_show.specs.Mailbox.{delivered_line, octets_text, item_if, d
 use mta_apdu::Apdu;
 use mta_apdu_text::{put_apdu, put_moment, put_number};
 use mta_ber::{Memory, Octets, ReadFault};
-use mta_history::{Item, MailboxLine};
+use mta_machine::{Item, MailboxLine};
 use std::alloc::Global;
 
 #[tactic(auto, unfolding(crate::specs::Mailbox::delivered_line))]

@@ -1,19 +1,23 @@
 //! The text of the queue: each item, and what became of each recipient for whom this agent is
-//! responsible.
+//! responsible; then the lanes that are open.
 //!
-//! In come the items of the state in memory, whose octets are read again; out goes the text, as
-//! `queue_text` has it. Only want of memory fails, and nothing is changed.
+//! In come the items of the state in memory, whose octets are read again, and its lanes; out goes the
+//! text, as `queue_text` has it. Only want of memory fails, and nothing is changed.
 
 ghost use Rattle.std.specs.Prelude.{◌≡◌, ◌++◌, IfOk, OnOk};
+ghost use Rattle.std.specs.Option.{option_copied};
 ghost use Rattle.mta_apdu.specs.Apdus.{apdu_value};
-ghost use Rattle.mta_show.specs.Queue.{word_of, id_of, item_line, status_text, status_line, status_line_if, status_at, recipient_lines, status_lines, item_text, queue_text};
+ghost use Rattle.mta_show.specs.Queue.{word_of, id_of, item_line, status_at_place, recipient_lines, status_lines};
+ghost use Rattle.mta_show.specs.Queue.{item_text, items_text, queue_text};
 
+use crate::lanes::put_lane_lines;
+use crate::status::put_status_line_if;
 use mta_apdu::Apdu;
-use mta_apdu_text::{put_id, put_moment, put_name, put_number};
+use mta_apdu_text::{put_id, put_moment, put_number};
 use mta_ber::{Memory, Octets, ReadFault};
 use mta_fields::MtsId;
-use mta_history::{Item, Status};
-use mta_names::OrName;
+use mta_lanes::Lane;
+use mta_machine::{Item, Status};
 use mta_recipient::Recipient;
 use std::alloc::Global;
 
@@ -56,59 +60,13 @@ fn put_item_line(
     out.extend(b"\n")
 }
 
-fn put_status(alloc: Global, out: &mut Octets, status: Status) -> Result<(), Memory>
-    ensures { OnOk result (out.new ≡ out.old ++ status_text status) }
+/// The status at a place, from 0; none past the last one.
+fn status_at_place(statuses: &[Option<Status>], place: usize) -> Option<&Status>
+    ensures { option_copied result ≡ status_at_place statuses.now place }
 {
-    match status {
-        Status::Pending => out.extend(b"pending"),
-        Status::Delivered(moment) => {
-            out.extend(b"delivered ")?;
-            put_moment(alloc, out, moment)
-        }
-    }
-}
-
-#[tactic(auto, unfolding(crate::specs::Queue::status_line))]
-fn put_status_line(
-    alloc: Global,
-    out: &mut Octets,
-    number: u64,
-    status: Status,
-    name: &OrName,
-) -> Result<(), Memory>
-    ensures { OnOk result (out.new ≡ out.old ++ status_line number status name.now) }
-{
-    out.extend(b"recipient ")?;
-    put_number(out, number)?;
-    out.extend(b" ")?;
-    put_status(alloc, out, status)?;
-    out.extend(b" ")?;
-    put_name(alloc, out, name)?;
-    out.extend(b"\n")
-}
-
-fn put_status_line_if(
-    alloc: Global,
-    out: &mut Octets,
-    number: u64,
-    status: Option<Status>,
-    name: &OrName,
-) -> Result<(), Memory>
-    ensures { OnOk result (out.new ≡ out.old ++ status_line_if number status name.now) }
-{
-    match status {
-        None => Ok(()),
-        Some(status) => put_status_line(alloc, out, number, status, name),
-    }
-}
-
-/// The status at an index; none past the last one.
-fn status_at(statuses: &[Option<Status>], i: usize) -> Option<Status>
-    ensures { result ≡ status_at statuses.now i }
-{
-    match statuses.get(i) {
-        Some(status) => *status,
-        None => None,
+    match statuses.get(place) {
+        Some(Some(status)) => Some(status),
+        _ => None,
     }
 }
 
@@ -123,7 +81,7 @@ fn put_recipient_lines(
 {
     for (i, recipient) in recipients.iter().enumerate() {
         let name = &recipient.fields().name;
-        put_status_line_if(alloc, out, i as u64 + 1, status_at(statuses, i), name)?;
+        put_status_line_if(alloc, out, i as u64 + 1, status_at_place(statuses, i), name)?;
     }
     Ok(())
 }
@@ -148,7 +106,7 @@ fn put_status_lines(
         }
         Apdu::Report(report) => {
             let destination = &report.fields().destination;
-            put_status_line_if(alloc, out, 1, status_at(statuses, 0), destination)
+            put_status_line_if(alloc, out, 1, status_at_place(statuses, 0), destination)
         }
     }
 }
@@ -160,7 +118,9 @@ fn put_lines(
     item: &Item,
     apdu: &Apdu,
 ) -> Result<(), Memory>
-    ensures { OnOk result (out.new ≡ out.old ++ (item_line number item.now.arrival (apdu_value apdu.now) ++ status_lines item.now.statuses (apdu_value apdu.now))) }
+    ensures { OnOk result (out.new ≡ out.old
+        ++ (item_line number item.now.arrival (apdu_value apdu.now)
+        ++ status_lines item.now.statuses (apdu_value apdu.now))) }
 {
     put_item_line(alloc, out, number, item.arrival(), apdu)?;
     put_status_lines(alloc, out, item.statuses(), apdu)
@@ -181,14 +141,23 @@ fn put_item(alloc: Global, out: &mut Octets, number: u64, item: &Item) -> Result
     }
 }
 
-/// The items in the order in which they were accepted, numbered from 1, each with a line per recipient for whom this
-/// agent is responsible: what became of it, and its name.
-pub fn show_queue(alloc: Global, items: &[Item]) -> Result<Octets, Memory>
-    ensures { IfOk result (λ text. text ≡ queue_text items.now) }
+fn put_items(alloc: Global, out: &mut Octets, items: &[Item]) -> Result<(), Memory>
+    ensures { OnOk result (out.new ≡ out.old ++ items_text 1 items.now) }
+{
+    for (i, item) in items.iter().enumerate() {
+        put_item(alloc, out, i as u64 + 1, item)?;
+    }
+    Ok(())
+}
+
+/// The items in the order in which they were accepted or made, numbered from 1, each with a line per recipient for
+/// whom this agent is responsible: what became of it, and its name. Then a line per lane that is open, with the states
+/// of its two halves.
+pub fn show_queue(alloc: Global, items: &[Item], lanes: &[Lane]) -> Result<Octets, Memory>
+    ensures { IfOk result (λ text. text ≡ queue_text items.now lanes.now) }
 {
     let mut out = Octets::new(alloc);
-    for (i, item) in items.iter().enumerate() {
-        put_item(alloc, &mut out, i as u64 + 1, item)?;
-    }
+    put_items(alloc, &mut out, items)?;
+    put_lane_lines(&mut out, lanes)?;
     Ok(out)
 }

@@ -151,7 +151,10 @@ impl<D: Disk + Drop, C: Clock + Drop> Spool<D, C> {
         ensures machine { self.old.current.machine.moment ≤ result }
         ensures fits { result ≤ last_moment }
     {
-        self.clock.now().min(LAST_MOMENT).max(self.replay.kept.moment)
+        self.clock
+            .now()
+            .min(LAST_MOMENT)
+            .max(self.replay.kept.moment)
     }
 
     // Takes a submitted APDU as the next item at a moment.
@@ -283,7 +286,9 @@ impl<D: Disk + Drop, C: Clock + Drop> Spool<D, C> {
         ensures { result ≡ self.journal.disk }
     {
         let Spool {
-            journal, replay, ..
+            journal,
+            replay,
+            ..
         } = self;
         replay.discard();
         journal.end()

@@ -256,8 +256,11 @@ discharged-stored : (item : ItemValue) (rs : List ℕ) (how : Discharge) (moment
     → IsStored (discharged_item item rs how moment)
 discharged-stored item rs how moment stored = record {
   arrived = stored.arrived;
-  few = omega (arith, stored.few,
-      length-with item.statuses rs (status_after (is_report (value_of item.octets)) how moment));
+  few = omega (
+    arith,
+    stored.few,
+    length-with item.statuses rs (status_after (is_report (value_of item.octets)) how moment),
+  );
 }
 
 set-stored : (items : List ItemValue) (i : ℕ) (item : ItemValue) → IsStored item → All IsStored items

@@ -124,7 +124,15 @@ fn prepare_under<R: Rules>(
             recipients,
             moment,
         } => prepare_start(
-            alloc, rules, kept, lane, generation, activity, item, &recipients, moment,
+            alloc,
+            rules,
+            kept,
+            lane,
+            generation,
+            activity,
+            item,
+            &recipients,
+            moment,
         ),
         Step::Confirm {
             lane,
@@ -149,9 +157,7 @@ fn prepare_under<R: Rules>(
             activity,
             kind,
             moment,
-        } => prepare_refused(
-            alloc, rules, kept, lane, generation, activity, kind, moment,
-        ),
+        } => prepare_refused(alloc, rules, kept, lane, generation, activity, kind, moment),
         Step::Denied {
             lane,
             generation,

@@ -13,8 +13,8 @@ pub returns-in-Ok-append-clause-made : goal.returns-in-Ok-append-clause-made
 returns-in-Ok-append-clause-made g c =
     let body : c.as_slice.result.now ≡ body_of c.args.step = c.as_slice.ensures ∙ c.in-Ok.ensures in
     let ready = subst
-        (λ (s : State). IsReady text_of s c.args.step c.in-Ok-hold.ready.change c.in-Ok-hold.ready.rules)
-        (sym c.hold.ensures.same) c.in-Ok-hold.ensures.ready in
+    (λ (s : State). IsReady text_of s c.args.step c.in-Ok-hold.ready.change c.in-Ok-hold.ready.rules)
+    (sym c.hold.ensures.same) c.in-Ok-hold.ensures.ready in
     made g.D.Disk.model c.args.step g.met.D.Disk.laws c.args.journal.now c.append.new.self
     (state_of c.args.replay.now.kept) (state_of c.commit.new.self.kept)
     (subst

@@ -7,13 +7,22 @@ use Rattle.mta_spool.proofs.spool.Spool.record_tables.Goals as goal
 
 pub make-requires-clause-fields : goal.make-requires-clause-fields
 make-requires-clause-fields g c =
-    omega (arith, ap length c.in_ok-text.ensures, ap length c.text.ensures.exact,
-    short_tables c.args.tables.now c.text.result.now c.text.ensures.exact c.text.ensures.read)
+    omega (
+      arith,
+      ap length c.in_ok-text.ensures,
+      ap length c.text.ensures.exact,
+      short_tables c.args.tables.now c.text.result.now c.text.ensures.exact c.text.ensures.read,
+    )
 
 pub make-requires-clause-short : goal.make-requires-clause-short
 make-requires-clause-short g c =
-    omega (arith, length-tables c.in_ok-text.text, ap length c.in_ok-text.ensures, ap length c.text.ensures.exact,
-    short_tables c.args.tables.now c.text.result.now c.text.ensures.exact c.text.ensures.read)
+    omega (
+      arith,
+      length-tables c.in_ok-text.text,
+      ap length c.in_ok-text.ensures,
+      ap length c.text.ensures.exact,
+      short_tables c.args.tables.now c.text.result.now c.text.ensures.exact c.text.ensures.read,
+    )
 
 pub make-requires-clause-possible : goal.make-requires-clause-possible
 make-requires-clause-possible g c =

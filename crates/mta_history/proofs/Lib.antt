@@ -1,6 +1,0 @@
-pub mod Deliveries
-pub mod Histories
-pub mod NoSpool
-pub mod Numbered
-pub mod Once
-pub mod Unique

@@ -1,5 +1,0 @@
-use Rattle.mta_history.proofs.NoSpool.{one_stop}
-use Rattle.mta_history.proofs.law.no_spool_at_one_place.Goals as goal
-
-pub returns : goal.returns
-returns c = one_stop

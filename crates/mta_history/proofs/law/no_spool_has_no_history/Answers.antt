@@ -1,5 +1,0 @@
-use Rattle.mta_history.proofs.NoSpool.{no_history}
-use Rattle.mta_history.proofs.law.no_spool_has_no_history.Goals as goal
-
-pub returns : goal.returns
-returns c = no_history
