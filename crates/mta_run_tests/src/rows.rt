@@ -1,4 +1,5 @@
-//! Worked cases: what `submit` makes of messages and probes, and what is printed of it. Clocks tell moment 0 unless said.
+//! Worked cases: what `submit` makes of messages and probes, and what is printed of it. Clocks tell moment 0 unless
+//! said.
 
 use crate::tests::{Given, MESSAGE, PLAIN, ends, outcome};
 use std::alloc::Global;

@@ -11,7 +11,8 @@ use Rattle.mta_machine.specs.Items.{numbered}
 use Rattle.mta_machine.specs.Machine.{last_tables}
 use Rattle.mta_histories.specs.Lanes.{Lane, State, lane_at, EachLane}
 use Rattle.mta_histories.specs.Classes.{LaneStep, bind, abandon, secure, complete, Class, opens, on_lane}
-use Rattle.mta_histories.specs.History.{IsOfGeneration, LaneNeeds, NamesPeer, Receives, is_with, longest_piece, most_lanes}
+use Rattle.mta_histories.specs.History.{IsOfGeneration, LaneNeeds, NamesPeer, Receives, is_with}
+use Rattle.mta_histories.specs.History.{longest_piece, most_lanes}
 
 -- ---- a step on a lane
 

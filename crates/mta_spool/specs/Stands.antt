@@ -1,5 +1,6 @@
 -- What a spool stands for, and what a call leaves that makes a step or refuses it.
-use Rattle.std.specs.Prelude.{◌≡◌, ◌≢◌, ◌⊎◌, ◌↔◌, ℕ, ◌+◌, ◌≤◌, ◌<◌, ◌^◌, List, [], ◌∷◌, ◌++◌, length, map, Option, None, Some, Result, Ok, Err, true, false, max, min}
+use Rattle.std.specs.Prelude.{◌≡◌, ◌≢◌, ◌⊎◌, ◌↔◌, ℕ, ◌+◌, ◌≤◌, ◌<◌, ◌^◌, List, [], ◌∷◌, ◌++◌, length, map}
+use Rattle.std.specs.Prelude.{Option, None, Some, Result, Ok, Err, true, false, max, min}
 use Rattle.mta_ber.specs.Times.{last_moment}
 use Rattle.mta_edge.specs.Causes.{Rose}
 use Rattle.mta_edge.specs.Views.{ClockView, DiskView, StaysTold}
@@ -19,7 +20,8 @@ use Rattle.mta_spool.specs.Refusals.{IsOfLane, IsRefused}
 use Rattle.mta_spool.specs.Shown.{Shown}
 
 -- a journal and the state in memory stand for this history, and a crash leaves it
-pub record IsHeld {D : Type 0} (model : DiskView D) (journal : JournalShown D) (state : State) (steps : List Step) : Type 0 where
+pub record IsHeld {D : Type 0} (model : DiskView D) (journal : JournalShown D) (state : State) (steps : List Step)
+    : Type 0 where
   pub holds : Holds model journal (map body_of steps)
   pub each : AreRecords steps
   pub state_is : state ≡ after steps
@@ -61,8 +63,8 @@ IsOneOf steps step image = StandsFor image steps ⊎ StandsFor image (steps ++ s
 
 -- Behind each history for which the spool stood the step was possible, and a crash at any moment of the call leaves
 -- the history with it or without it.
-pub record MayHave {D : Type 0} (model : DiskView D) (step : Step) (old : JournalShown D) (s : State) (new : JournalShown D)
-    : Type 0 where
+pub record MayHave {D : Type 0} (model : DiskView D) (step : Step) (old : JournalShown D) (s : State)
+    (new : JournalShown D) : Type 0 where
   pub possible : (steps : List Step) → IsHeld model old s steps → IsPossible (after steps) step
   pub during : (f : List ℕ) → model.content old.disk ≡ Some f → (steps : List Step) → IsHeld model old s steps
       → AtAnyMoment model (IsOneOf steps step) old.disk new.disk
@@ -93,8 +95,8 @@ abbrev pub IsOfNoRefusal : State → Step → Type 0
 IsOfNoRefusal s step = (f : StepFault) → IsRefused s (class_of step) (when s step) f → ⊥
 
 -- What a call that makes this step, or refuses it by this fault, leaves of the journal and of the state in memory.
-pub record Makes {D : Type 0} (model : DiskView D) (step : Step) (old : JournalShown D) (s : State) (new : JournalShown D) (s' : State)
-    (fault : Option StepFault) : Type 0 where
+pub record Makes {D : Type 0} (model : DiskView D) (step : Step) (old : JournalShown D) (s : State)
+    (new : JournalShown D) (s' : State) (fault : Option StepFault) : Type 0 where
   -- where it is a step of lanes it is refused for the lane exactly where that stands, or there was no memory to look
   pub row : (f : StepFault) → fault ≡ Some f → IsOfLane f → IsRefused s (class_of step) (when s step) f
   pub row_where : old.ended ≡ false → (f : StepFault) → IsRefused s (class_of step) (when s step) f

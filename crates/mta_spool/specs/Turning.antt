@@ -29,8 +29,8 @@ abbrev pub IsUnchanged : {D C : Type 0} → Shown D C → Shown D C → Type 0
 IsUnchanged old new = (new.journal ≡ old.journal) × (new.current ≡ old.current)
 
 -- Tables that are recorded last already make no step. Others are recorded by one, or the step is refused.
-pub record Records {D C : Type 0} (model : DiskView D) (text : List ℕ) (old new : Shown D C) (result : Result (Unit {0}) StepFault)
-    : Type 0 where
+pub record Records {D C : Type 0} (model : DiskView D) (text : List ℕ) (old new : Shown D C)
+    (result : Result (Unit {0}) StepFault) : Type 0 where
   pub same : IsRecorded old.current text
       → (new ≡ old) × (result ≡ (if old.journal.ended then Err StepFaults.Ended else Ok tt))
   pub appends : (IsRecorded old.current text → ⊥) → Appends model (Steps.Tables text) old new (fault_of result)
@@ -40,7 +40,8 @@ pub record Records {D C : Type 0} (model : DiskView D) (text : List ℕ) (old ne
 -- is next was refused, or there was no memory to look for it.
 abbrev pub Turns : {D C : Type 0} → DiskView D → ℕ → Shown D C → Shown D C → Result Turned StepFault → Type 0
 Turns model when old new (Ok (Did step)) = IsNext old.current when step × Appends model step old new None
-Turns model when old new (Ok (Quiet at)) = (old.journal.ended ≡ false) × (at ≡ when) × IsQuiet old.current when × IsUnchanged old new
+Turns model when old new (Ok (Quiet at)) =
+    (old.journal.ended ≡ false) × (at ≡ when) × IsQuiet old.current when × IsUnchanged old new
 Turns model when old new (Err fault) =
     ((fault ≡ StepFaults.Ended) × (old.journal.ended ≡ true) × IsUnchanged old new)
     ⊎ ((fault ≡ StepFaults.Memory) × (old.journal.ended ≡ false) × IsUnchanged old new)
