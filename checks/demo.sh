@@ -13,7 +13,7 @@ lines=(
   "accepted 1" "item 1 message C=GB;A=GOLD/M0001 arrived" "recipient 1 delivered" "content 2 4869"
   "accepted 2" "recipient 1 expanded" "item 3 message C=GB;A=GOLD/M0003 arrived" "recipient 2 reported"
   "item 4 report C=GB;A=GOLD/R0000000004 arrived" "destination C=GB;A=GOLD;S=BELL" "recipient 2 10101000 non-delivery 1 0"
-  "subject C=GB;A=GOLD/M0003" "subject C=GB;A=GOLD/M0001" "the spool has 657 octets"
+  "subject C=GB;A=GOLD/M0003" "subject C=GB;A=GOLD/M0001" "the spool has 673 octets"
 )
 for line in "${lines[@]}"; do
   case "$got" in
