@@ -182,9 +182,8 @@ fn report_of(
     let Some(outcome) = outcome_of(outcome) else {
         return Ok(Answer::NotAsked);
     };
-    match make_report(
-        alloc, tables, *number, arrival, envelope, *position, outcome,
-    )? {
+    let number = u64::from(*number);
+    match make_report(alloc, tables, number, arrival, envelope, *position, outcome)? {
         None => Ok(Answer::None),
         Some(report) => written(alloc, Apdu::Report(report)),
     }

@@ -60,6 +60,10 @@ moment-fits (Complete lane generation activity number piece moment) f = f.1.1
 moment-fits (Drop lane generation activity) f = tt
 moment-fits (CloseLane lane generation) f = tt
 
+pub fits_of : (step : Step) (moment : ℕ) → HasFields step → moment_of step ≡ Some moment → moment ≤ last_moment
+fits_of step moment fields is =
+    subst (λ (o : Option ℕ). IfSome o (λ m. m ≤ last_moment)) is (moment-fits step fields)
+
 pub when-fits : (s : State) (step : Step) → HasFields step → s.moment ≤ last_moment → when s step ≤ last_moment
 when-fits s step f timely = by_moment (moment_of step) (moment-fits step f)
   where

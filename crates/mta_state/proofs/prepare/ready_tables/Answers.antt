@@ -1,0 +1,14 @@
+use Rattle.std.proofs.Common.{Option, Some, ap, subst, ◌∙◌}
+use Rattle.mta_replay.specs.Asked.{AreUnder}
+use Rattle.mta_replay.specs.Kept.{state_of}
+use Rattle.mta_state.proofs.prepare.ready_tables.Goals as goal
+
+pub returns-in-Some-prepare_tables-clause-ready : goal.returns-in-Some-prepare_tables-clause-ready
+returns-in-Some-prepare_tables-clause-ready g c =
+    let under = subst
+    (λ (o : Option g.row.R.Denot). AreUnder g.R.Rules.text c.as_slice.result.now o) c.in-Some.is
+    c.in_ok-rules.ensures in
+    record {
+      is_change = c.in-Some-prepare_tables.ensures (state_of c.args.kept.now) c.requires.numbers;
+      under = ap Some (under.0 ∙ c.as_slice.ensures);
+    }
