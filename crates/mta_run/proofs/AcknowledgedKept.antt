@@ -145,26 +145,31 @@ abbrev HasItem : List ItemValue → ℕ → List ℕ → Type 0
 HasItem items n octets = (item : ItemValue) × (numbered items n ≡ Some item) × (item.octets ≡ octets)
 
 -- another item with the same octets in its place
-put_keeps : (items : List ItemValue) (i n : ℕ) (old new : ItemValue) (octets : List ℕ) → numbered items i ≡ Some old → new.octets ≡ old.octets → HasItem items n octets → HasItem (set_numbered items i new) n octets
+put_keeps : (items : List ItemValue) (i n : ℕ) (old new : ItemValue) (octets : List ℕ) → numbered items i ≡ Some old
+    → new.octets ≡ old.octets → HasItem items n octets → HasItem (set_numbered items i new) n octets
 put_keeps items i n old new octets there same x =
     elim (cases_Bool (eqb n i)) [
       | inl here ↦ (
           let ni : n ≡ i = eqb-true n i here in
           let is : old ≡ x.0 = some_same old x.0 (sym there ∙ (ap (numbered items) (sym ni) ∙ x.1)) in (
             new,
-            subst (λ (k : ℕ). numbered (set_numbered items i new) k ≡ Some new) (sym ni) (set-same items i new old there),
+            subst (λ (k : ℕ). numbered (set_numbered items i new) k ≡ Some new) (sym ni)
+                (set-same items i new old there),
             same ∙ (ap (λ (item : ItemValue). item.octets) is ∙ x.2),
           ))
       | inr apart ↦ (x.0, set-other items i n new apart ∙ x.1, x.2)
     ]
 
-front_keeps : (items more : List ItemValue) (n : ℕ) (octets : List ℕ) → HasItem items n octets → HasItem (items ++ more) n octets
+front_keeps : (items more : List ItemValue) (n : ℕ) (octets : List ℕ) → HasItem items n octets
+    → HasItem (items ++ more) n octets
 front_keeps items more n octets x = (x.0, numbered-front items more n x.0 x.1, x.2)
 
 -- what a step leaves of the items: each keeps its number and its octets
-item_kept : (m : Machine) (step : MachineStep) (n : ℕ) (octets : List ℕ) → HasItem m.items n octets → HasItem (machine_after m step).items n octets
+item_kept : (m : Machine) (step : MachineStep) (n : ℕ) (octets : List ℕ) → HasItem m.items n octets
+    → HasItem (machine_after m step).items n octets
 item_kept m (set_tables text) n octets x = x
-item_kept m (accept apdu origin moment) n octets x = front_keeps m.items (accepted_item apdu origin moment ∷ []) n octets x
+item_kept m (accept apdu origin moment) n octets x =
+    front_keeps m.items (accepted_item apdu origin moment ∷ []) n octets x
 item_kept m (discharge i rs how moment) n octets x = by_item (numbered m.items i) refl
   where
     by_item : (o : Option ItemValue) → numbered m.items i ≡ o → HasItem (items_after m o i rs how moment) n octets
@@ -173,21 +178,26 @@ item_kept m (discharge i rs how moment) n octets x = by_item (numbered m.items i
         let y = put_keeps m.items i n item (discharged_item item rs how moment) octets is refl x in
         (y.0, numbered-front (set_numbered m.items i (discharged_item item rs how moment)) _ n y.0 y.1, y.2)
 
-items_kept : (m : Machine) (steps : List MachineStep) (n : ℕ) (octets : List ℕ) → HasItem m.items n octets → HasItem (machine_run m steps).items n octets
+items_kept : (m : Machine) (steps : List MachineStep) (n : ℕ) (octets : List ℕ) → HasItem m.items n octets
+    → HasItem (machine_run m steps).items n octets
 items_kept m [] n octets x = x
 items_kept m (step ∷ steps) n octets x = items_kept (machine_after m step) steps n octets (item_kept m step n octets x)
 
-history_keeps : (s : State) (steps : List Step) (n : ℕ) (octets : List ℕ) → HasItem s.machine.items n octets → HasItem (after_from s steps).machine.items n octets
+history_keeps : (s : State) (steps : List Step) (n : ℕ) (octets : List ℕ) → HasItem s.machine.items n octets
+    → HasItem (after_from s steps).machine.items n octets
 history_keeps s [] n octets x = x
-history_keeps s (step ∷ steps) n octets x = history_keeps (after_step s step) steps n octets (items_kept s.machine (machine_steps s step) n octets x)
+history_keeps s (step ∷ steps) n octets x =
+    history_keeps (after_step s step) steps n octets (items_kept s.machine (machine_steps s step) n octets x)
 
 -- the item of an Accept behind which steps are added
-pub accepted_kept : (steps added : List Step) (input : List ℕ) (n : ℕ) → IsAccepted steps added input n → IsKept steps added input n
+pub accepted_kept : (steps added : List Step) (input : List ℕ) (n : ℕ) → IsAccepted steps added input n
+    → IsKept steps added input n
 accepted_kept steps added input n a =
     let s : State = after (steps ++ a.front) in
     let step : Step = Accept a.moment input in
     let new : ItemValue = accepted_item input Submitted a.moment in
-    let made : HasItem (after_step s step).machine.items n input = (new, rw a.number (numbered_last s.machine.items new), refl) in
+    let made : HasItem (after_step s step).machine.items n input =
+    (new, rw a.number (numbered_last s.machine.items new), refl) in
     let whole : steps ++ added ≡ (steps ++ a.front) ++ step ∷ a.back = ap (λ (x : List Step). steps ++ x) a.accept ∙ sym (append_assoc steps a.front (step ∷ a.back)) in
     let item = history_keeps (after_step s step) a.back n input made in
     let there : after (steps ++ added) ≡ after_from (after_step s step) a.back = ap after whole ∙ after_append empty (steps ++ a.front) (step ∷ a.back) in

@@ -52,7 +52,8 @@ own_append tells conf input s (step ∷ a) b p q = (p.0, own_append tells conf i
 pub timed_more : (tells other : ℕ → Type 0) (last moment : ℕ) → ((t : ℕ) → tells t → other t) → IsTimed tells last moment → IsTimed other last moment
 timed_more tells other last moment more t = (t.0, more t.0 t.1, t.2)
 
-on_lane_more : (tells other : ℕ → Type 0) (last moment : ℕ) (step : LaneStep) → ((t : ℕ) → tells t → other t) → IsOwnOnLane tells last step moment → IsOwnOnLane other last step moment
+on_lane_more : (tells other : ℕ → Type 0) (last moment : ℕ) (step : LaneStep) → ((t : ℕ) → tells t → other t)
+    → IsOwnOnLane tells last step moment → IsOwnOnLane other last step moment
 on_lane_more tells other last moment (agree checkpoint window) more own = own
 on_lane_more tells other last moment bind more own = own
 on_lane_more tells other last moment (start k i rs) more own = own
@@ -65,19 +66,26 @@ on_lane_more tells other last moment (complete k n piece) more own = own
 on_lane_more tells other last moment (drop_pieces k) more own = own
 on_lane_more tells other last moment close more own = own
 
-class_more : (tells other : ℕ → Type 0) (conf input : List ℕ) (last moment : ℕ) (c : Class) → ((t : ℕ) → tells t → other t) → IsOwnOf tells conf input last c moment → IsOwnOf other conf input last c moment
+class_more : (tells other : ℕ → Type 0) (conf input : List ℕ) (last moment : ℕ) (c : Class)
+    → ((t : ℕ) → tells t → other t) → IsOwnOf tells conf input last c moment → IsOwnOf other conf input last c moment
 class_more tells other conf input last moment (classes.records text) more own = own
-class_more tells other conf input last moment (classes.accepts octets) more own = (own.0, timed_more tells other last moment more own.1)
-class_more tells other conf input last moment (classes.settles how i r) more own = timed_more tells other last moment more own
+class_more tells other conf input last moment (classes.accepts octets) more own =
+    (own.0, timed_more tells other last moment more own.1)
+class_more tells other conf input last moment (classes.settles how i r) more own =
+    timed_more tells other last moment more own
 class_more tells other conf input last moment (classes.opens role peer reference twa checkpoint window) more own = own
-class_more tells other conf input last moment (classes.on_lane n generation step) more own = on_lane_more tells other last moment step more own
+class_more tells other conf input last moment (classes.on_lane n generation step) more own =
+    on_lane_more tells other last moment step more own
 
-own_one : (tells other : ℕ → Type 0) (conf input : List ℕ) (s : State) (step : Step) → ((t : ℕ) → tells t → other t) → IsOwn tells conf input s step → IsOwn other conf input s step
-own_one tells other conf input s step more own = class_more tells other conf input s.moment (when s step) (class_of step) more own
+own_one : (tells other : ℕ → Type 0) (conf input : List ℕ) (s : State) (step : Step) → ((t : ℕ) → tells t → other t)
+    → IsOwn tells conf input s step → IsOwn other conf input s step
+own_one tells other conf input s step more own =
+    class_more tells other conf input s.moment (when s step) (class_of step) more own
 
 own_more : (tells other : ℕ → Type 0) (conf input : List ℕ) (s : State) (a : List Step) → ((t : ℕ) → tells t → other t) → AreOwn tells conf input s a → AreOwn other conf input s a
 own_more tells other conf input s [] more own = tt
-own_more tells other conf input s (step ∷ a) more own = (own_one tells other conf input s step more own.0, own_more tells other conf input (after_step s step) a more own.1)
+own_more tells other conf input s (step ∷ a) more own =
+    (own_one tells other conf input s step more own.0, own_more tells other conf input (after_step s step) a more own.1)
 
 -- ---- their order
 
@@ -151,7 +159,8 @@ one_accept turn (step ∷ a) p =
 pub record Refusing {D C : Type 0} (disks : DiskView D) (tells : ℕ → Type 0) (step : Step) (old new : Shown D C) (failed : Type 0) : Type 0 where
   pub torn_step : List Step
   pub at_most : (torn_step ≡ []) ⊎ (torn_step ≡ step ∷ [])
-  pub adds : (conf input : List ℕ) → ((steps : List Step) → Stands disks old steps → IsOwn tells conf input (after steps) step)
+  pub adds : (conf input : List ℕ)
+      → ((steps : List Step) → Stands disks old steps → IsOwn tells conf input (after steps) step)
       → Adds disks tells conf input old new [] torn_step failed
 
 module _ {D C : Type 0} (disks : DiskView D) where
@@ -179,7 +188,8 @@ module _ {D C : Type 0} (disks : DiskView D) where
 
   -- a step was made
   pub adds_one : (tells : ℕ → Type 0) (conf input : List ℕ) (step : Step) (old new : Shown D C) (failed : Type 0) → Appends disks step old new None
-      → ((steps : List Step) → Stands disks old steps → IsOwn tells conf input (after steps) step) → Adds disks tells conf input old new (step ∷ []) [] failed
+      → ((steps : List Step) → Stands disks old steps → IsOwn tells conf input (after steps) step)
+      → Adds disks tells conf input old new (step ∷ []) [] failed
   adds_one tells conf input step old new failed appends own = record {
     stands = λ calm steps s. appends.done refl steps s;
     calm = λ calm. refl;
@@ -193,7 +203,8 @@ module _ {D C : Type 0} (disks : DiskView D) where
 
   -- the disk failed in a step
   pub adds_torn : (tells : ℕ → Type 0) (conf input : List ℕ) (step : Step) (old new : Shown D C) (failed : Type 0) → failed → Appends disks step old new (Some StepFaults.Disk)
-      → ((steps : List Step) → Stands disks old steps → IsOwn tells conf input (after steps) step) → Adds disks tells conf input old new [] (step ∷ []) failed
+      → ((steps : List Step) → Stands disks old steps → IsOwn tells conf input (after steps) step)
+      → Adds disks tells conf input old new [] (step ∷ []) failed
   adds_torn tells conf input step old new failed so appends own = record {
     stands = λ calm. absurd (calm so);
     calm = λ calm. absurd (calm so);
@@ -208,8 +219,16 @@ module _ {D C : Type 0} (disks : DiskView D) where
   pub unchanged : (step : Step) (old new : Shown D C) (fault : StepFault) → (fault ≡ StepFaults.Disk → ⊥) → Appends disks step old new (Some fault) → IsUnchanged old new
   unchanged step old new fault other appends = appends.kept (λ e. absurd cc) (λ e. other (some_same fault StepFaults.Disk e))
 
-  pub adds_refused : DiskLaws disks → (tells : ℕ → Type 0) (step : Step) (old new : Shown D C) (fault : StepFault) (failed : Type 0) → (fault ≡ StepFaults.Disk → failed) → IsOfNoLane (Some fault) → Appends disks step old new (Some fault) → Refusing disks tells step old new failed
-  adds_refused laws tells step old new StepFaults.Disk failed so no_lane appends = record { torn_step = step ∷ []; at_most = inr refl; adds = λ conf input own. adds_torn tells conf input step old new failed (so refl) appends own }
+  pub adds_refused : DiskLaws disks
+      → (tells : ℕ → Type 0) (step : Step) (old new : Shown D C) (fault : StepFault) (failed : Type 0)
+      → (fault ≡ StepFaults.Disk → failed) → IsOfNoLane (Some fault) → Appends disks step old new (Some fault)
+      → Refusing disks tells step old new failed
+  adds_refused laws tells step old new StepFaults.Disk failed so no_lane appends =
+      record {
+        torn_step = step ∷ [];
+        at_most = inr refl;
+        adds = λ conf input own. adds_torn tells conf input step old new failed (so refl) appends own;
+      }
   adds_refused laws tells step old new (StepFaults.Full size need) failed so no_lane appends =
       record { torn_step = []; at_most = inl refl; adds = λ conf input own. adds_still laws tells conf input old new failed (unchanged step old new (StepFaults.Full size need) (λ e. absurd cc) appends) }
   adds_refused laws tells step old new (StepFaults.Spent last) failed so no_lane appends =

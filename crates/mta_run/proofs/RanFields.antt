@@ -102,10 +102,14 @@ ran h sinks a b c result status has closed first then = record {
   sources = has.sources;
   uncalled_unless = has.uncalled_unless;
   disk_stands = has.disk;
-  recipients_once = λ f steps was s n. once_in (steps ++ take n (has.added ++ has.torn_step)) (history_front steps (has.added ++ has.torn_step) n (has.history f steps was s));
+  recipients_once = λ f steps was s n. once_in (steps ++ take n (has.added ++ has.torn_step))
+      (history_front steps (has.added ++ has.torn_step) n (has.history f steps was s));
   acknowledged_kept = λ submit x y was is n rest small begun i w f steps there s.
-      let acc = ended_accepted h has.added submit n small has.opening (output sinks a c) status x y rest printed was is begun i w f steps there s in
-      (accepted_kept steps has.added i n acc, accepted_kept steps (has.added ++ has.torn_step) i n (accepted_more steps has.added has.torn_step i n acc));
+      let acc = ended_accepted h has.added submit n small has.opening (output sinks a c) status x y rest
+      printed was is begun i w f steps there s in (
+        accepted_kept steps has.added i n acc,
+        accepted_kept steps (has.added ++ has.torn_step) i n (accepted_more steps has.added has.torn_step i n acc),
+      );
   printed = printed;
   provenance = has.own;
   in_turn = has.in_turn;

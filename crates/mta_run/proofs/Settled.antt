@@ -31,11 +31,14 @@ pub record Settling {D C : Type 0} (disks : DiskView D) (clocks : ClockView C) (
   pub stands : (steps : List Step) × Stands disks now steps
 
 module _ {D C : Type 0} (disks : DiskView D) (laws : DiskLaws disks) (clocks : ClockView C) where
-  due_own : (mid : Shown D C) (step : Step) (told : ℕ) → clocks.tells mid.clock told → IsNext mid.current (step_moment told mid.current.moment) step
-      → (conf input : List ℕ) (steps : List Step) → Stands disks mid steps → IsOwn (clocks.tells mid.clock) conf input (after steps) step
+  due_own : (mid : Shown D C) (step : Step) (told : ℕ) → clocks.tells mid.clock told
+      → IsNext mid.current (step_moment told mid.current.moment) step
+      → (conf input : List ℕ) (steps : List Step) → Stands disks mid steps
+      → IsOwn (clocks.tells mid.clock) conf input (after steps) step
   due_own mid step told tell next conf input steps s =
       subst (λ (x : State). IsOwn (clocks.tells mid.clock) conf input x step) s.state_is
-      (next_own (clocks.tells mid.clock) conf input mid.current (step_moment told mid.current.moment) step (told, tell, refl) next)
+      (next_own (clocks.tells mid.clock) conf input mid.current (step_moment told mid.current.moment) step
+      (told, tell, refl) next)
 
   pub settling_none : (old : Shown D C) → old.journal.ended ≡ false → ((steps : List Step) × Stands disks old steps) → Settling disks clocks old old []
   settling_none old going stands = record {
@@ -54,7 +57,9 @@ module _ {D C : Type 0} (disks : DiskView D) (laws : DiskLaws disks) (clocks : C
       let here = so.stands in
       record {
         adds = λ conf input. adds_then disks (clocks.tells old.clock) conf input old mid new added (step ∷ []) [] ⊥ (so.adds conf input)
-            (adds_more disks (clocks.tells mid.clock) (clocks.tells old.clock) conf input mid new (step ∷ []) [] ⊥ so.clock (adds_one disks (clocks.tells mid.clock) conf input step mid new ⊥ appends (due_own mid step told tell next conf input)));
+            (adds_more disks (clocks.tells mid.clock) (clocks.tells old.clock) conf input mid new (step ∷ []) [] ⊥
+            so.clock (adds_one disks (clocks.tells mid.clock) conf input step mid new ⊥ appends
+            (due_own mid step told tell next conf input)));
         in_turn = turn_append 2 added (step ∷ []) so.in_turn (subst (λ (k : ℕ). AreInTurn k (step ∷ [])) (sym (turn_stays added so.in_turn)) (omega (arith, turn), omega (arith, turn), tt));
         tables = ap (λ (s : State). s.machine.tables) (made_state disks step mid new appends here.0 here.1) ∙ next_tables mid.current (step_moment told mid.current.moment) step next ∙ so.tables;
         going = appends.going refl;
@@ -94,28 +99,42 @@ module _ {D C : Type 0} (disks : DiskView D) (laws : DiskLaws disks) (clocks : C
   }
 
   -- the step that is next was refused
-  due_refused : (old mid new : Shown D C) (added : List Step) (step : Step) (told : ℕ) (fault : StepFault) → Settling disks clocks old mid added → clocks.tells mid.clock told → IsNext mid.current (step_moment told mid.current.moment) step → IsOfNoLane (Some fault) → Appends disks step mid new (Some fault)
+  due_refused : (old mid new : Shown D C) (added : List Step) (step : Step) (told : ℕ) (fault : StepFault)
+      → Settling disks clocks old mid added → clocks.tells mid.clock told
+      → IsNext mid.current (step_moment told mid.current.moment) step → IsOfNoLane (Some fault)
+      → Appends disks step mid new (Some fault)
       → HasSettled disks (clocks.tells old.clock) old new (Err fault)
   due_refused old mid new added step told fault so tell next no_lane appends =
       let turn = next_turn mid.current (step_moment told mid.current.moment) step next in
       let failed : Type 0 = ◌≡◌ {A = Result (Unit {0}) StepFault} (Err fault) (Err StepFaults.Disk) in
-      let r = adds_refused disks laws (clocks.tells mid.clock) step mid new fault failed (λ e. ap Err e) no_lane appends in
+      let r = adds_refused disks laws (clocks.tells mid.clock) step mid new fault failed (λ e. ap Err e) no_lane
+      appends in
       record {
         added = added;
         torn_step = r.torn_step;
         adds = λ conf input. subst (λ (x : List Step). Adds disks (clocks.tells old.clock) conf input old new x r.torn_step failed) (append-nil added)
             (adds_then disks (clocks.tells old.clock) conf input old mid new added [] r.torn_step failed (so.adds conf input)
-            (adds_more disks (clocks.tells mid.clock) (clocks.tells old.clock) conf input mid new [] r.torn_step failed so.clock (r.adds conf input (due_own mid step told tell next conf input))));
+            (adds_more disks (clocks.tells mid.clock) (clocks.tells old.clock) conf input mid new [] r.torn_step failed
+            so.clock (r.adds conf input (due_own mid step told tell next conf input))));
         in_turn = turn_append 2 added r.torn_step so.in_turn (subst (λ (k : ℕ). AreInTurn k r.torn_step) (sym (turn_stays added so.in_turn)) (turn_refused 2 step r.torn_step (omega (arith, turn)) (omega (arith, turn)) r.at_most));
         tables = λ calm. ap (λ (s : State). s.machine.tables) (unchanged disks step mid new fault (λ e. calm (ap Err e)) appends).1 ∙ so.tables;
         quiet = λ ok. absurd cc;
         refused = λ f e conf input before behind. subst (IsRefusal (clocks.tells old.clock) conf input (before ++ added) new.current new.journal.size (Rose (disks.faults old.journal.disk) (disks.faults new.journal.disk))) (err_same fault f e)
             (refusal disks (clocks.tells old.clock) conf input (before ++ added) step mid new (disks.faults old.journal.disk) fault (so.adds [] []).later so.going
-            (next_due (step_moment told mid.current.moment) step (turn_after_append 0 before added ∙ ap (λ (k : ℕ). turn_after k added) behind ∙ turn_stays added so.in_turn) (told, so.clock told tell, refl) next) no_lane appends);
+            (next_due (step_moment told mid.current.moment) step
+            (turn_after_append 0 before added ∙ ap (λ (k : ℕ). turn_after k added) behind ∙ turn_stays added so.in_turn)
+            (told, so.clock told tell, refl) next) no_lane appends);
       }
 
   -- a turn was refused
-  pub settling_refused : (old mid new : Shown D C) (added : List Step) (told : ℕ) (fault : StepFault) → Settling disks clocks old mid added → clocks.tells mid.clock told → IsOfNoLane (Some fault) → Turns disks (step_moment told mid.current.moment) mid new (Err fault) → HasSettled disks (clocks.tells old.clock) old new (Err fault)
-  settling_refused old mid new added told fault so tell no_lane (inl ended) = absurd (true≢false (sym ended.1 ∙ so.going))
-  settling_refused old mid new added told fault so tell no_lane (inr (inl memory)) = subst (λ (f : StepFault). HasSettled disks (clocks.tells old.clock) old new (Err f)) (sym memory.0) (unsettled old mid new added so memory.2)
-  settling_refused old mid new added told fault so tell no_lane (inr (inr r)) = due_refused old mid new added r.1.0 told fault so tell r.1.1 no_lane r.1.2
+  pub settling_refused : (old mid new : Shown D C) (added : List Step) (told : ℕ) (fault : StepFault)
+      → Settling disks clocks old mid added → clocks.tells mid.clock told → IsOfNoLane (Some fault)
+      → Turns disks (step_moment told mid.current.moment) mid new (Err fault)
+      → HasSettled disks (clocks.tells old.clock) old new (Err fault)
+  settling_refused old mid new added told fault so tell no_lane (inl ended) =
+      absurd (true≢false (sym ended.1 ∙ so.going))
+  settling_refused old mid new added told fault so tell no_lane (inr (inl memory)) =
+      subst (λ (f : StepFault). HasSettled disks (clocks.tells old.clock) old new (Err f)) (sym memory.0)
+      (unsettled old mid new added so memory.2)
+  settling_refused old mid new added told fault so tell no_lane (inr (inr r)) =
+      due_refused old mid new added r.1.0 told fault so tell r.1.1 no_lane r.1.2

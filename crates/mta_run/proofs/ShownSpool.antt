@@ -52,7 +52,8 @@ queue_stopped : (text : List ℕ) (result : Result (List ℕ) Stop) (stop : Stop
 queue_stopped text (Ok s) stop is e = absurd cc
 queue_stopped text (Err s) stop is e = sym (err_same s stop e) ∙ is
 
-mailbox_shown : (s : State) (name : List ℕ) (result : Result (List ℕ) Stop) (t : List ℕ) → IsMailboxShown s name result → result ≡ Ok t → (t ≡ mailbox_of name s) × (mailbox_named s name ≢ None)
+mailbox_shown : (s : State) (name : List ℕ) (result : Result (List ℕ) Stop) (t : List ℕ) → IsMailboxShown s name result
+    → result ≡ Ok t → (t ≡ mailbox_of name s) × (mailbox_named s name ≢ None)
 mailbox_shown s name (Ok x) t is e = (sym (ok_same x t e) ∙ is.0, is.1)
 mailbox_shown s name (Err x) t is e = absurd cc
 
@@ -65,13 +66,17 @@ module _ {D C : Type 0} (disks : DiskView D) (laws : DiskLaws disks) (old : D) (
   state_there : (f : List ℕ) (steps : List Step) → disks.content old ≡ Some f → StandsFor f steps → spool.current ≡ after steps
   state_there f steps was s = o.stands.state_is ∙ ap after (same_steps disks laws old spool o f steps was s)
 
-  pub queue_left : (text : Result (List ℕ) Stop) (result : Result (Unit {0}) Stop) → IsShown (queue_of spool.current) text → HasShown text out result → HasShownSpool disks Say.Queue out old spool.journal.disk result
+  pub queue_left : (text : Result (List ℕ) Stop) (result : Result (Unit {0}) Stop)
+      → IsShown (queue_of spool.current) text → HasShown text out result
+      → HasShownSpool disks Say.Queue out old spool.journal.disk result
   queue_left text result is shown = record {
     opening = opened;
     disk = disk_read disks laws old spool o;
     printed = shown_printed (IsShownStop disks Say.Queue old spool.journal.disk opened) (IsShownText disks Say.Queue old opened) out text result
-        (λ t e. shows_queue t refl (λ f steps was s. queue_shown (queue_of spool.current) text t is e ∙ ap queue_of (state_there f steps was s)))
-        (λ stop e. subst (IsShownStop disks Say.Queue old spool.journal.disk opened) (sym (queue_stopped (queue_of spool.current) text stop is e)) (memory opened)) shown;
+        (λ t e. shows_queue t refl (λ f steps was s. queue_shown (queue_of spool.current) text t is e
+        ∙ ap queue_of (state_there f steps was s)))
+        (λ stop e. subst (IsShownStop disks Say.Queue old spool.journal.disk opened)
+        (sym (queue_stopped (queue_of spool.current) text stop is e)) (memory opened)) shown;
   }
 
   mailbox_why : (name : List ℕ) (stop : Stop) → (stop ≡ Stops.Memory) ⊎ ((stop ≡ Stops.NoMailbox name) × (mailbox_named spool.current name ≡ None)) → IsShownStop disks (Say.Mailbox name) old spool.journal.disk opened stop

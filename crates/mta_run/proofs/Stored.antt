@@ -30,7 +30,8 @@ module _ {D C : Type 0} (disks : DiskView D) where
   made_state step old new appends steps s = (appends.done refl steps s).state_is ∙ after_append empty steps (step ∷ []) ∙ ap (λ (x : State). after_step x step) (sym s.state_is)
 
   -- no refusal for a lane stood for it
-  no_refusal : (step : Step) (old new : Shown D C) → Appends disks step old new None → old.journal.ended ≡ false → IsOfNoRefusal old.current step
+  no_refusal : (step : Step) (old new : Shown D C) → Appends disks step old new None → old.journal.ended ≡ false
+      → IsOfNoRefusal old.current step
   no_refusal step old new appends going f stands = refused (appends.row_where going f stands)
     where
       refused : (None ≡ Some f) ⊎ (None ≡ Some StepFaults.Memory) → ⊥
@@ -39,13 +40,15 @@ module _ {D C : Type 0} (disks : DiskView D) where
 
   -- numbers were left for it
   pub numbers_left : (step : Step) (old new : Shown D C) → Appends disks step old new None → old.journal.ended ≡ false → IsSpent old.current step → ⊥
-  numbers_left step old new appends going spent = let e = appends.spent_where going (no_refusal step old new appends going) spent in cc
+  numbers_left step old new appends going spent =
+      let e = appends.spent_where going (no_refusal step old new appends going) spent in cc
 
   -- and it fits
   pub fits : (step : Step) (old new : Shown D C) → Appends disks step old new None → old.journal.ended ≡ false → old.journal.size + need_of step ≤ journal_limit
   fits step old new appends going =
       elim (cases_lt journal_limit (old.journal.size + need_of step)) [
-        | inl over ↦ absurd (refused (appends.full_where going (no_refusal step old new appends going) (numbers_left step old new appends going) over))
+        | inl over ↦ absurd (refused (appends.full_where going (no_refusal step old new appends going)
+            (numbers_left step old new appends going) over))
         | inr fit ↦ fit
       ]
     where
@@ -55,7 +58,10 @@ module _ {D C : Type 0} (disks : DiskView D) where
 
   -- why a step that is next was refused
   pub refusal : (tells : ℕ → Type 0) (conf input : List ℕ) (added : List Step) (step : Step) (mid new : Shown D C) (before : ℕ) (fault : StepFault) → before ≤ disks.faults mid.journal.disk → mid.journal.ended ≡ false
-      → IsNextStep tells conf input added mid.current step → IsOfNoLane (Some fault) → Appends disks step mid new (Some fault) → IsRefusal tells conf input added new.current new.journal.size (Rose before (disks.faults new.journal.disk)) fault
+      → IsNextStep tells conf input added mid.current step → IsOfNoLane (Some fault)
+      → Appends disks step mid new (Some fault)
+      → IsRefusal tells conf input added new.current new.journal.size
+      (Rose before (disks.faults new.journal.disk)) fault
   refusal tells conf input added step mid new before (StepFaults.Full size need) le going next no_lane appends =
       let is = unchanged disks step mid new (StepFaults.Full size need) (λ e. absurd cc) appends in
       let full = appends.full size need refl in
@@ -65,12 +71,16 @@ module _ {D C : Type 0} (disks : DiskView D) where
       let is = unchanged disks step mid new (StepFaults.Spent last) (λ e. absurd cc) appends in
       let spent = appends.spent last refl in
       subst (λ (s : State). IsSpentFor tells conf input added s last) (sym is.1) (record { step = step; next = next; last_is = spent.0; over = spent.1 })
-  refusal tells conf input added step mid new before StepFaults.Disk le going next no_lane appends = let rose = appends.disk refl in omega (arith, rose, le)
-  refusal tells conf input added step mid new before StepFaults.Ended le going next no_lane appends = let ended = appends.ended.0 refl in absurd (true≢false (sym ended ∙ going))
+  refusal tells conf input added step mid new before StepFaults.Disk le going next no_lane appends =
+      let rose = appends.disk refl in omega (arith, rose, le)
+  refusal tells conf input added step mid new before StepFaults.Ended le going next no_lane appends =
+      let ended = appends.ended.0 refl in absurd (true≢false (sym ended ∙ going))
   refusal tells conf input added step mid new before StepFaults.Memory le going next no_lane appends = tt
-  refusal tells conf input added step mid new before (StepFaults.Fenced generation) le going next no_lane appends = no_lane
+  refusal tells conf input added step mid new before (StepFaults.Fenced generation) le going next no_lane appends =
+      no_lane
   refusal tells conf input added step mid new before (StepFaults.NoLane lane) le going next no_lane appends = no_lane
-  refusal tells conf input added step mid new before (StepFaults.BusyLanes count) le going next no_lane appends = no_lane
+  refusal tells conf input added step mid new before (StepFaults.BusyLanes count) le going next no_lane appends =
+      no_lane
   refusal tells conf input added step mid new before StepFaults.Unexpected le going next no_lane appends = no_lane
 
 -- ---- the tables
@@ -159,11 +169,14 @@ module _ {D C : Type 0} (disks : DiskView D) (laws : DiskLaws disks) (tells : �
       ]
 
   -- they were refused
-  pub tables_refused : (conf input : List ℕ) (old new : Shown D C) (fault : StepFault) → old.journal.ended ≡ false → IsOfNoLane (Some fault) → Records disks conf old new (Err fault) → HasStored disks tells conf input old new (Err fault)
+  pub tables_refused : (conf input : List ℕ) (old new : Shown D C) (fault : StepFault) → old.journal.ended ≡ false
+      → IsOfNoLane (Some fault) → Records disks conf old new (Err fault)
+      → HasStored disks tells conf input old new (Err fault)
   tables_refused conf input old new fault going no_lane records =
       let other : IsRecorded old.current conf → ⊥ = λ recorded. not_same old.journal.ended fault going (records.same recorded).1 in
       let a = records.appends other in
-      let r = adds_refused disks laws tells (Tables conf) old new fault (◌≡◌ {A = Result ℕ StepFault} (Err fault) (Err StepFaults.Disk)) (λ e. ap Err e) no_lane a in
+      let r = adds_refused disks laws tells (Tables conf) old new fault
+      (◌≡◌ {A = Result ℕ StepFault} (Err fault) (Err StepFaults.Disk)) (λ e. ap Err e) no_lane a in
       record {
         added = [];
         torn_step = r.torn_step;
@@ -174,7 +187,8 @@ module _ {D C : Type 0} (disks : DiskView D) (laws : DiskLaws disks) (tells : �
         turn = λ n e. absurd cc;
         tables = λ n e. absurd cc;
         refused = λ f e. subst (IsRefusal tells conf input [] new.current new.journal.size (Rose (disks.faults old.journal.disk) (disks.faults new.journal.disk))) (err_same fault f e)
-            (refusal disks tells conf input [] (Tables conf) old new (disks.faults old.journal.disk) fault (omega arith) going (next_tables refl other) no_lane a);
+            (refusal disks tells conf input [] (Tables conf) old new (disks.faults old.journal.disk) fault
+            (omega arith) going (next_tables refl other) no_lane a);
         going = λ n e. absurd cc;
       }
 
@@ -215,12 +229,15 @@ module _ {D C : Type 0} (disks : DiskView D) (laws : DiskLaws disks) (tells : �
       ]
 
   -- it was refused behind the tables
-  accept_refused : (now : ℕ → Type 0) (conf input : List ℕ) (old mid new : Shown D C) (added : List Step) (told : ℕ) (fault : StepFault) → Recording disks tells conf input old mid added → now told → ((t : ℕ) → now t → tells t) → IsOfNoLane (Some fault)
+  accept_refused : (now : ℕ → Type 0) (conf input : List ℕ) (old mid new : Shown D C) (added : List Step)
+      (told : ℕ) (fault : StepFault) → Recording disks tells conf input old mid added → now told
+      → ((t : ℕ) → now t → tells t) → IsOfNoLane (Some fault)
       → Appends disks (Accept (step_moment told mid.current.moment) input) mid new (Some fault) → HasStored disks tells conf input old new (Err fault)
   accept_refused now conf input old mid new added told fault so tell more no_lane appends =
       let when : ℕ = step_moment told mid.current.moment in
       let step : Step = Accept when input in
-      let r = adds_refused disks laws tells step mid new fault (◌≡◌ {A = Result ℕ StepFault} (Err fault) (Err StepFaults.Disk)) (λ e. ap Err e) no_lane appends in
+      let r = adds_refused disks laws tells step mid new fault
+      (◌≡◌ {A = Result ℕ StepFault} (Err fault) (Err StepFaults.Disk)) (λ e. ap Err e) no_lane appends in
       record {
         added = added;
         torn_step = r.torn_step;
@@ -232,12 +249,19 @@ module _ {D C : Type 0} (disks : DiskView D) (laws : DiskLaws disks) (tells : �
         turn = λ n e. absurd cc;
         tables = λ n e. absurd cc;
         refused = λ f e. subst (IsRefusal tells conf input added new.current new.journal.size (Rose (disks.faults old.journal.disk) (disks.faults new.journal.disk))) (err_same fault f e)
-            (refusal disks tells conf input added step mid new (disks.faults old.journal.disk) fault so.adds.later so.going (next_apdu when so.turn so.last (told, more told tell, refl)) no_lane appends);
+            (refusal disks tells conf input added step mid new (disks.faults old.journal.disk) fault
+            so.adds.later so.going (next_apdu when so.turn so.last (told, more told tell, refl)) no_lane appends);
         going = λ n e. absurd cc;
       }
 
   -- what accepting it leaves
-  pub stored : (clocks : ClockView C) (conf input : List ℕ) (old mid new : Shown D C) (added : List Step) (result : Result ℕ StepFault) → Recording disks tells conf input old mid added → ((steps : List Step) × Stands disks old steps) → ((t : ℕ) → clocks.tells mid.clock t → tells t) → IsOfNoLane (fault_of result)
+  pub stored : (clocks : ClockView C) (conf input : List ℕ) (old mid new : Shown D C) (added : List Step)
+      (result : Result ℕ StepFault) → Recording disks tells conf input old mid added
+      → ((steps : List Step) × Stands disks old steps) → ((t : ℕ) → clocks.tells mid.clock t → tells t)
+      → IsOfNoLane (fault_of result)
       → AtMoment clocks mid.clock mid.current.moment (λ m. Appends disks (Accept m input) mid new (fault_of result)) → IfOk result (λ n. n ≡ length mid.current.machine.items + 1) → HasStored disks tells conf input old new result
-  stored clocks conf input old mid new added (Ok n) so here more no_lane made number = accepted (clocks.tells mid.clock) conf input old mid new added made.told n so here made.tells more made.at number
-  stored clocks conf input old mid new added (Err fault) so here more no_lane made number = accept_refused (clocks.tells mid.clock) conf input old mid new added made.told fault so made.tells more no_lane made.at
+  stored clocks conf input old mid new added (Ok n) so here more no_lane made number =
+      accepted (clocks.tells mid.clock) conf input old mid new added made.told n so here made.tells more made.at number
+  stored clocks conf input old mid new added (Err fault) so here more no_lane made number =
+      accept_refused (clocks.tells mid.clock) conf input old mid new added made.told fault so
+      made.tells more no_lane made.at

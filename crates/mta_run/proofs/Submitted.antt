@@ -51,7 +51,8 @@ tables_cause h Stops.Sink reads same is = absurd is
 tables_cause h Stops.NotBuilt reads same is = absurd is
 tables_cause h (Stops.NoMailbox name) reads same is = absurd is
 
-apdu_cause : {D C I : Type 0} (h : Handed D C I) (stop : Stop) → ReadsApdu h.words → (ReadsTables h.words → ForTables h IsReadAsTables)
+apdu_cause : {D C I : Type 0} (h : Handed D C I) (stop : Stop) → ReadsApdu h.words
+    → (ReadsTables h.words → ForTables h IsReadAsTables)
     → IsInputStop (h.sources.left h.input.before) (Rose (h.sources.faults h.input.before) (h.sources.faults h.input.after)) stop → Cause h [] uncalled stop
 apdu_cause h (Stops.BadApdu at kind) reads read is = cause_apdu at kind reads read is
 apdu_cause h Stops.Source reads read is = cause_source (inr (reads, is))
@@ -67,7 +68,8 @@ apdu_cause h Stops.NotBuilt reads read is = absurd is
 apdu_cause h (Stops.NoMailbox name) reads read is = absurd is
 
 -- the text of tables that were read has a value
-tables_text : (conf : Option (List ℕ)) (failed : Type 0) (t : TablesValue) → AreTablesRead conf failed (Ok t) → (c : List ℕ) → conf ≡ Some c → IsReadAsTables c
+tables_text : (conf : Option (List ℕ)) (failed : Type 0) (t : TablesValue) → AreTablesRead conf failed (Ok t)
+    → (c : List ℕ) → conf ≡ Some c → IsReadAsTables c
 tables_text conf failed t read c e = (t, subst (λ (x : List ℕ). tables_of x ≡ Ok t) (read.0 c e) read.1)
 
 module _ {D C I : Type 0} (disks : DiskView D) (laws : DiskLaws disks) (clocks : ClockView C) (sources : SourceView I) (conf conf_after input input_after : I) (clock : C) (out : Output) where
@@ -165,8 +167,10 @@ module _ {D C I : Type 0} (h : Handed D C I) (is : h.words ≡ Some Say.Submit) 
     only_submit = λ other. absurd (other is);
     calm = λ ok. has.adds.calm (λ e. ok_err (sym ok ∙ e));
     settled = λ e ok f steps was s. settled_there ok f steps was s;
-    recorded = λ e ok c w f steps was s. subst (λ (y : List Step). IsRecorded (after (y ++ has.added)) c) (same f steps was s)
-        (subst (λ (y : State). IsRecorded y c) (there ok).state_is (subst (IsRecorded new.current) (read.read.0 c w) (has.tables ok)));
+    recorded = λ e ok c w f steps was s. subst (λ (y : List Step). IsRecorded (after (y ++ has.added)) c)
+        (same f steps was s)
+        (subst (λ (y : State). IsRecorded y c) (there ok).state_is
+        (subst (IsRecorded new.current) (read.read.0 c w) (has.tables ok)));
   } where
     ok_err : ◌≡◌ {A = Result (Unit {0}) Stop} (Ok tt) (Err Stops.Disk) → ⊥
     ok_err e = cc

@@ -171,7 +171,8 @@ module _ {D C : Type 0} (disks : DiskView D) (tells : ℕ → Type 0) (conf inpu
     in_turn = settling_turn later mid new n has settled;
     printed = whole tt (accepted_line n) (accepted_text n mid has settled.added) printed;
     quiet = λ ok. let q = settled.quiet refl in (q.0, more q.0 q.1, q.2);
-    tables = λ ok. ap (λ (ts : List (List ℕ)). numbered ts (length ts)) (settled.tables settled_calm) ∙ has.tables n refl;
+    tables = λ ok. ap (λ (ts : List (List ℕ)). numbered ts (length ts)) (settled.tables settled_calm)
+        ∙ has.tables n refl;
   } where
     settled_calm : ◌≡◌ {A = Result (Unit {0}) StepFault} (Ok tt) (Err StepFaults.Disk) → ⊥
     settled_calm e = cc

@@ -222,7 +222,8 @@ module _ {D : Type 0} (model : DiskView D) (step : Step) where
 
   -- too few numbers were left
   pub is_spent : (last : ℕ) (old new : JournalShown D) (s s' : State) → new ≡ old → s' ≡ s → old.ended ≡ false
-      → last ≡ length s.machine.items → IsSpent s step → IsOfNoRefusal s step → Makes model step old s new s' (Some (StepFaults.Spent last))
+      → last ≡ length s.machine.items → IsSpent s step → IsOfNoRefusal s step
+      → Makes model step old s new s' (Some (StepFaults.Spent last))
   is_spent last old new s s' same kept going count spent lane = record {
     row = λ f e of. absurd (of-lane (StepFaults.Spent last) f e of);
     row_where = λ on f is. absurd (lane f is);

@@ -31,12 +31,16 @@ module _ {D : Type 0} (model : DiskView D) where
   module _ (old new : D) (later : model.faults old ≤ model.faults new) (kept : LongStays model old new) (told : StaysTold model old new)
       (images : OpensSafely model old new) (left : WhereTold model old (λ f. IsLeft model f old new)) where
     -- the bodies are those of no history, or there was no memory for what they say
-    pub replay_refused : (bodies : List (List ℕ)) (why : OpenWhy) → WhereTold model old (λ f. HoldsBodies f bodies) → HasStopped bodies why
-        → HasRefused model old new why
+    pub replay_refused : (bodies : List (List ℕ)) (why : OpenWhy) → WhereTold model old (λ f. HoldsBodies f bodies)
+        → HasStopped bodies why → HasRefused model old new why
     replay_refused bodies (Whys.NotSpool at) stood stops = record {
       later = later;
       disk = λ e. absurd cc;
-      not_spool = λ n e f t. inr (bodies, stood f t, subst (λ (x : ℕ). HasStopped bodies (Whys.NotSpool x)) (at_same at n e) stops);
+      not_spool = λ n e f t. inr (
+        bodies,
+        stood f t,
+        subst (λ (x : ℕ). HasStopped bodies (Whys.NotSpool x)) (at_same at n e) stops,
+      );
       kept = kept;
       told = told;
       images = images;

@@ -22,7 +22,8 @@ none-at m is = ap (λ (ts : List (List ℕ)). numbered ts (length ts)) is
 
 no-verdict : (s : State) (i r moment : ℕ) → s.machine.tables ≡ [] → verdict_at s.machine i r moment ≡ None
 no-verdict s i r moment is =
-    ap (λ (t : Option (List ℕ)). verdict_on s.machine.items t (numbered s.machine.items i) r moment) (none-at s.machine is)
+    ap (λ (t : Option (List ℕ)). verdict_on s.machine.items t (numbered s.machine.items i) r moment)
+    (none-at s.machine is)
 
 no-relay : (s : State) (i r moment : ℕ) → s.machine.tables ≡ []
     → relay_at s.machine (last_tables s.machine) i r moment ≡ None

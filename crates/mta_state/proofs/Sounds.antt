@@ -196,7 +196,8 @@ module _ {R : Type 0} (text : R → List ℕ) where
     stored = subst (λ (t : State). All IsStored t.machine.items) (sym same)
         (stored-after (state_of kept) step fields sound.timely possible sound.stored);
     numbers = subst (λ (t : State). length t.machine.items < 2 ^ 32) (sym same) possible.numbers;
-    timely = subst (λ (t : State). t.moment ≤ last_moment) (sym same) (when-fits (state_of kept) step fields sound.timely);
+    timely = subst (λ (t : State). t.moment ≤ last_moment) (sym same)
+        (when-fits (state_of kept) step fields sound.timely);
     last = subst (λ (t : State). AreLast text t.machine (rules_after old ready)) (sym same)
         (last-after (state_of kept) step old ready fields sound.timely possible is.under sound.last);
   } where

@@ -73,7 +73,11 @@ value-is octets v spells = ap value_read (stored_is octets spells.short ∙ apdu
 
 few-accepted : (octets : List ℕ) → IsApdu octets → length (statuses_read (value_of octets)) < 2 ^ 32
 few-accepted octets is =
-    omega (arith, few-whole is.0 (apdus_kept octets is.0 is.1).1, ap (λ o. length (statuses_read o)) (value-is octets is.0 is.1))
+    omega (
+      arith,
+      few-whole is.0 (apdus_kept octets is.0 is.1).1,
+      ap (λ o. length (statuses_read o)) (value-is octets is.0 is.1),
+    )
 
 -- ---- what is made has few recipients
 

@@ -18,4 +18,5 @@ pub returns-in-Ok : goal.returns-in-Ok
 returns-in-Ok c =
     let octets = c.args.octets.now in
     c.is_of_report-reports.ensures
-    ∙ sym (ap (λ (v : Option ApduValue). is_report v) (value_stored octets (apdu_value c.in-Ok.read) c.in-Ok.ensures.exact))
+    ∙ sym (ap (λ (v : Option ApduValue). is_report v)
+    (value_stored octets (apdu_value c.in-Ok.read) c.in-Ok.ensures.exact))

@@ -19,7 +19,8 @@ pub returns-in-Err : goal.returns-in-Err
 returns-in-Err g c =
     let i = c.loop-fault.invariant in
     let t = c.in-Err.ensures.turned in
-    settling_refused g.D.Disk.model g.met.D.Disk.laws g.C.Clock.model c.args.spool.now c.loop-fault.spool c.turn.new.self i.0 t.told c.in-Err.fault i.1 t.tells c.in-Err.ensures.no_lane t.at
+    settling_refused g.D.Disk.model g.met.D.Disk.laws g.C.Clock.model c.args.spool.now c.loop-fault.spool
+    c.turn.new.self i.0 t.told c.in-Err.fault i.1 t.tells c.in-Err.ensures.no_lane t.at
 
 pub loop-fault-preserved : goal.loop-fault-preserved
 loop-fault-preserved g c =
@@ -46,12 +47,21 @@ pub loop-fault-smaller-in-Ok-Did-8 : goal.loop-fault-smaller-in-Ok-Did-8
 loop-fault-smaller-in-Ok-Did-8 g c =
     let i = c.loop-fault.invariant in
     let t = c.in-Ok-Did.ensures.turned in
-    let q = subst (λ (x : Turned). Turns g.D.Disk.model (step_moment t.told c.loop-fault.spool.current.moment) c.loop-fault.spool c.turn.new.self (Ok x)) c.in-Ok-Did.field-0-is t.at in
-    less_room g.D.Disk.model g.met.D.Disk.laws g.C.Clock.model c.loop-fault.spool c.turn.new.self c.in-Ok-Did.field-0-0 i.1.going i.1.stands q.1
+    let moment = step_moment t.told c.loop-fault.spool.current.moment in
+    let q = subst (λ (x : Turned). Turns g.D.Disk.model moment c.loop-fault.spool c.turn.new.self (Ok x))
+    c.in-Ok-Did.field-0-is t.at in
+    less_room g.D.Disk.model g.met.D.Disk.laws g.C.Clock.model c.loop-fault.spool c.turn.new.self c.in-Ok-Did.field-0-0
+    i.1.going i.1.stands q.1
 
 pub loop-fault-preserved-in-Ok-Did-8 : goal.loop-fault-preserved-in-Ok-Did-8
 loop-fault-preserved-in-Ok-Did-8 g c =
     let i = c.loop-fault.invariant in
     let t = c.in-Ok-Did.ensures.turned in
-    let q = subst (λ (x : Turned). Turns g.D.Disk.model (step_moment t.told c.loop-fault.spool.current.moment) c.loop-fault.spool c.turn.new.self (Ok x)) c.in-Ok-Did.field-0-is t.at in
-    (i.0 ++ c.in-Ok-Did.field-0-0 ∷ [], settling_more g.D.Disk.model g.met.D.Disk.laws g.C.Clock.model c.args.spool.now c.loop-fault.spool c.turn.new.self i.0 c.in-Ok-Did.field-0-0 t.told i.1 t.tells q.0 q.1 c.in-Ok-Did.ensures.clock)
+    let moment = step_moment t.told c.loop-fault.spool.current.moment in
+    let q = subst (λ (x : Turned). Turns g.D.Disk.model moment c.loop-fault.spool c.turn.new.self (Ok x))
+    c.in-Ok-Did.field-0-is t.at in (
+      i.0 ++ c.in-Ok-Did.field-0-0 ∷ [],
+      settling_more g.D.Disk.model g.met.D.Disk.laws g.C.Clock.model c.args.spool.now
+          c.loop-fault.spool c.turn.new.self i.0 c.in-Ok-Did.field-0-0 t.told i.1 t.tells
+          q.0 q.1 c.in-Ok-Did.ensures.clock,
+    )

@@ -59,7 +59,8 @@ loop-body-preserved c =
       (
         more.0,
         subst (λ (bs : List (List ℕ)). IsReplay bs (state_of c.take_up.new.replay.kept) more.0)
-            (sym (take_more c.args.bodies.now c.loop-body.body-index c.body-item.result c.loop-body-test.true c.body-item.is))
+            (sym (take_more c.args.bodies.now c.loop-body.body-index c.body-item.result c.loop-body-test.true
+            c.body-item.is))
             more.1,
         omega (arith, more.2, i.2, c.len.ensures),
       ),

@@ -13,11 +13,14 @@ returns-in-Err-clause-refused g c =
 pub returns-in-Ok-replay-clause-opened : goal.returns-in-Ok-replay-clause-opened
 returns-in-Ok-replay-clause-opened g c =
     let r = c.in-Ok-replay.ensures.replayed in
-    let is = subst (λ (bs : List (List ℕ)). IsReplay bs (state_of c.in-Ok-replay.replay.kept) r.0) c.as_slice.ensures.value r.1 in
+    let is = subst (λ (bs : List (List ℕ)). IsReplay bs (state_of c.in-Ok-replay.replay.kept) r.0)
+    c.as_slice.ensures.value r.1 in
     record {
       steps = r.0;
-      stands = stands_opened g.D.Disk.model c.in-Ok.opened.journal c.in-Ok.opened.bodies.items (state_of c.in-Ok-replay.replay.kept) r.0 c.in-Ok.ensures.holds is;
-      history = history_opened g.D.Disk.model c.args.disk c.in-Ok.opened.bodies.items r.0 c.in-Ok.ensures.stands (state_of c.in-Ok-replay.replay.kept) is;
+      stands = stands_opened g.D.Disk.model c.in-Ok.opened.journal c.in-Ok.opened.bodies.items
+          (state_of c.in-Ok-replay.replay.kept) r.0 c.in-Ok.ensures.holds is;
+      history = history_opened g.D.Disk.model c.args.disk c.in-Ok.opened.bodies.items r.0 c.in-Ok.ensures.stands
+          (state_of c.in-Ok-replay.replay.kept) is;
       later = c.in-Ok.ensures.later;
       told = c.in-Ok.ensures.told;
       images = c.in-Ok.ensures.images;
@@ -29,4 +32,5 @@ returns-clause-refused g c =
     rw c.end.ensures
     (replay_refused g.D.Disk.model c.args.disk c.in-Ok.opened.journal.disk c.in-Ok.ensures.later c.in-Ok.ensures.kept c.in-Ok.ensures.told c.in-Ok.ensures.images
     (λ f told. synced (c.in-Ok.ensures.since f told)) c.in-Ok.opened.bodies.items c.in-Err-replay.why c.in-Ok.ensures.stands
-    (subst (λ (bs : List (List ℕ)). HasStopped bs c.in-Err-replay.why) c.as_slice.ensures.value c.in-Err-replay.ensures.stopped))
+    (subst (λ (bs : List (List ℕ)). HasStopped bs c.in-Err-replay.why) c.as_slice.ensures.value
+    c.in-Err-replay.ensures.stopped))
