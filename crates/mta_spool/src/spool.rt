@@ -276,7 +276,8 @@ impl<D: Disk + Drop, C: Clock + Drop> Spool<D, C> {
 
     /// The last recorded moment, in seconds since 1950-01-01 00:00:00 UTC, or 0 where there is none.
     pub fn moment(&self) -> u64
-        ensures { result ≡ self.now.current.moment }
+        ensures exact { result ≡ self.now.current.moment }
+        ensures fits { self.now.current.moment ≤ last_moment }
     {
         self.replay.kept.moment
     }
