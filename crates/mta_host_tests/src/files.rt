@@ -1,7 +1,7 @@
 //! The adapters over real files, streams that stop and start, and the real clock.
 
-use crate::{FileDisk, Octets as Stream, Reading, SystemClock, Writing};
 use mta_edge::{Clock, Disk, Failed, Sink, Source};
+use mta_host::{FileDisk, Octets as Stream, Reading, SystemClock, Writing};
 use std::fs::{self, File};
 use std::io::{self, Empty, ErrorKind, Read, Write};
 use std::test::Fail;
