@@ -1,7 +1,7 @@
-//! Reads rows from its input: a name, what reading octets answers ("ok", or the place and the kind of the first fault),
-//! and the octets, each behind a tab. Behind another tab may stand the octets that are written again of what was read.
-//! Where `fronts` and a kind are to be answered, each front of the octets has a first fault of this kind. Prints each row
-//! that is answered otherwise, and how many rows there are.
+//! Reads rows from its input: a name, what reading octets answers ("ok", or the place and the kind of the first
+//! fault), and the octets, each behind a tab. Behind another tab may stand the octets that are written again of what
+//! was read. Where `fronts` and a kind are to be answered, each front of the octets has a first fault of this kind.
+//! Prints each row that is answered otherwise, and how many rows there are.
 //!
 //! Octets are in hexadecimal, `07*1000` being a thousand of one. The rows of `stdin` were worked out from the formats
 //! by hand and by an independent reader.

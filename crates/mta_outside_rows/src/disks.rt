@@ -1,7 +1,7 @@
 //! Disks. `write`, `cut`, `sync`, `size` and `read` answer what the call answers, `read` with the four octets of its
-//! buffer besides; `octets` what the disk holds, `calls` how many calls it had, and `image` what a crash leaves behind so
-//! many calls by this choice. `put-closed` puts a body behind the gate at an offset, `lift-gate` opens the gate there,
-//! and `read-at` reads so many octets; the first two stand behind a sync.
+//! buffer besides; `octets` what the disk holds, `calls` how many calls it had, and `image` what a crash leaves behind
+//! so many calls by this choice. `put-closed` puts a body behind the gate at an offset, `lift-gate` opens the gate
+//! there, and `read-at` reads so many octets; the first two stand behind a sync.
 
 use crate::numbers::{number, numbers, octets};
 use anyhow::{Result, anyhow};

@@ -1,6 +1,6 @@
-//! Journals. `journal` opens one over octets on a disk whose calls of these numbers fail, appends bodies, and ends it: it
-//! answers why it was not opened, or the offset of the first record's end, how many bodies there are and the size, what
-//! each append answers, and what the disk holds then.
+//! Journals. `journal` opens one over octets on a disk whose calls of these numbers fail, appends bodies, and ends it:
+//! it answers why it was not opened, or the offset of the first record's end, how many bodies there are and the size,
+//! what each append answers, and what the disk holds then.
 //!
 //! `stops` opens octets which have the body `07 08`, and appends `09`. Every image that a crash leaves at any call has
 //! the first body, and once the append has answered both. Each image that lacks the second is opened and appended to

@@ -1,18 +1,18 @@
-//! Runs of the program over objects in memory: what each prints, its status, and the octets that it leaves on the disk.
-//! Reads rows from its input, each with fields behind tabs. Tells of each row that wants something whether it was
-//! answered so, under the name of its case.
+//! Runs of the program over objects in memory: what each prints, its status, and the octets that it leaves on the
+//! disk. Reads rows from its input, each with fields behind tabs. Tells of each row that wants something whether it
+//! was answered so, under the name of its case.
 //!
 //! These rows want nothing. `case NAME` begins a case, with an empty disk and nothing that fails; tables, input and
 //! clock stay until another is said. `tables TEXT`, where each line ends with `|`; `input OCTETS`, in hexadecimal;
 //! `clock MOMENT`; `fails PLACE CALL`, the place being `input`, `output` or `disk` and the first call 1; `disk COUNT
 //! OCTETS` and `disk-text COUNT TEXT`, which put octets or a text behind what the disk holds, so many times.
 //!
-//! In these a field behind the first says what is wanted. `run` runs the words behind it, over the disk as it is, and is
-//! answered the status and what was printed. `large` is the same over a disk that is changed in place, which nothing
-//! makes fail. `holds` is answered what the disk holds, and `records` records the tables in the spool that the disk
-//! holds, and is answered how many items it has. `stops` runs `submit`, stops it at each of its device calls by each of
-//! eight choices of what a crash leaves, and runs `spool` over the image: at the end it has to be answered as the first
-//! field behind says, and before as that or as one of the others.
+//! In these a field behind the first says what is wanted. `run` runs the words behind it, over the disk as it is, and
+//! is answered the status and what was printed. `large` is the same over a disk that is changed in place, which
+//! nothing makes fail. `holds` is answered what the disk holds, and `records` records the tables in the spool that the
+//! disk holds, and is answered how many items it has. `stops` runs `submit`, stops it at each of its device calls by
+//! each of eight choices of what a crash leaves, and runs `spool` over the image: at the end it has to be answered as
+//! the first field behind says, and before as that or as one of the others.
 //!
 //! The rows were worked out by hand from the manual, the format of the journal and X.411.
 #![tactic(auto)]

@@ -2,8 +2,8 @@
 //!
 //! `text`, `own` (the agent's name), `private` (whether the domain has a private one), `peers`, `lists` and `routes`
 //! (how many there are), `holds` (the three hold times), `peer`, `list` and `route` (what stands at a place, from 0),
-//! `peer-of` and `mailbox-of` (the place of a word), `hop` (where a name goes) and `surname` (which mailbox has a name of
-//! these three parts: a country, an administrative domain and a surname).
+//! `peer-of` and `mailbox-of` (the place of a word), `hop` (where a name goes) and `surname` (which mailbox has a name
+//! of these three parts: a country, an administrative domain and a surname).
 
 use crate::made::text_of;
 use crate::names::name_answer;
