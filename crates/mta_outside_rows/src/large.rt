@@ -29,8 +29,8 @@ fn octets_read(disk: &mut SafeDisk, piece: &mut [u8], reads: u64) -> u64 {
     read
 }
 
-/// How many octets a disk of so many gives in so many reads of a mebibyte, in how many rounds of four calls behind them
-/// each call succeeds, and the size that it has then.
+/// How many octets a disk of so many gives in so many reads of a mebibyte, in how many rounds of four calls behind
+/// them each call succeeds, and the size that it has then.
 pub fn large(alloc: Global, size: usize, reads: u64, rounds: u64) -> Result<String, AllocError> {
     let octets = vec![in alloc; 7u8; size]?;
     let mut disk = SafeDisk::new(alloc, Octets::from_vec(octets));
