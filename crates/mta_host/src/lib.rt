@@ -12,6 +12,3 @@ pub use file_disk::FileDisk;
 pub use patience::{ANSWER_SECONDS, CALLS, PAUSE_SECONDS, Patience, SILENCE_SECONDS};
 pub use streams::{Octets, Reading, Writing};
 pub use tcp::{TcpLink, TcpStation};
-
-#[cfg(test)]
-mod tests;

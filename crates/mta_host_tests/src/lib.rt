@@ -1,5 +1,7 @@
-//! Tests of connections over the loopback.
+//! Tests of the adapters over real files and streams, of the real clock, and of connections over the loopback.
 #![tactic(auto)]
 
+#[cfg(test)]
+mod files;
 #[cfg(test)]
 mod tests;

@@ -5,38 +5,13 @@
 //! with a field outside its type.
 #![tactic(auto)]
 
-use anyhow::{Context, Result};
+use anyhow::Result;
 use mta_records::{RecordFault, read_record, write_record};
+use mta_rows::{Fields, octets_of};
 use std::alloc::{AllocError, Global};
 
 // No body of a row is longer.
 const LONGEST: usize = 4_096;
-
-fn digit(c: u8) -> Option<u8> {
-    match c {
-        b'0'..=b'9' => Some(c - b'0'),
-        b'a'..=b'f' => Some(c - b'a' + 10),
-        _ => None,
-    }
-}
-
-/// The octets of pairs of hexadecimal digits.
-fn octets_of(alloc: Global, text: &str) -> Result<Vec<u8>, AllocError> {
-    let mut octets = Vec::new(alloc);
-    let mut high = None;
-    for c in text.as_bytes() {
-        if let Some(d) = digit(*c) {
-            match high {
-                None => high = Some(d),
-                Some(h) => {
-                    octets.push((h % 16) * 16 + d % 16)?;
-                    high = None;
-                }
-            }
-        }
-    }
-    Ok(octets)
-}
 
 /// What reading the octets answers.
 fn answer(alloc: Global, body: &[u8]) -> Result<String, AllocError> {
@@ -62,9 +37,8 @@ fn print_row(rt: &impl Print, octets: &str, answered: &str, expected: &str) -> R
 
 /// Prints a row that is answered otherwise than it says.
 fn try_row(rt: &impl Print, alloc: Global, row: &str) -> Result<()> {
-    let mut fields = row.split('\t');
-    let expected = fields.next().context("no answer")?;
-    let octets = fields.next().context("no octets")?;
+    let mut fields = Fields { rest: row };
+    let (expected, octets) = (fields.take(), fields.take());
     let body = octets_of(alloc, octets)?;
     let answered = answer(alloc, body.as_slice())?;
     if answered.as_str() == expected {

@@ -1,13 +1,13 @@
 //! What is answered.
 
 use crate::copy::{copy, expansion, head, made};
-use crate::octets::octets_of;
 use crate::verdict::verdict;
 use mta_apdu::Apdu;
 use mta_ber::{Memory, Octets};
 use mta_procedures::Verdict;
+use mta_rows::{RowFault, octets_of};
 use mta_tables::Tables;
-use std::alloc::{AllocError, Global};
+use std::alloc::Global;
 
 /// What is answered.
 #[derive(Debug, Drop)]
@@ -40,7 +40,7 @@ impl Answer {
     }
 
     /// Whether it is what a text says: a verdict, `none`, or octets.
-    pub fn is(&self, alloc: Global, expected: &str) -> Result<bool, AllocError> {
+    pub fn is(&self, alloc: Global, expected: &str) -> Result<bool, RowFault> {
         match self {
             Answer::Verdict(verdict) => {
                 let text = format!(in alloc; "{verdict:?}")?;

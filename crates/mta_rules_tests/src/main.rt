@@ -9,13 +9,12 @@
 
 mod answer;
 mod copy;
-mod octets;
 mod verdict;
 
 use crate::answer::Answer;
-use crate::octets::octets_of;
-use anyhow::{Context, Result, anyhow};
+use anyhow::{Result, anyhow};
 use mta_apdu::Apdu;
+use mta_rows::{Fields, lines_of, octets_of};
 use mta_tables::Tables;
 use std::alloc::{AllocError, Global};
 
@@ -46,12 +45,10 @@ fn numbers_of(alloc: Global, text: &str) -> Result<Vec<u32>, AllocError> {
 
 /// Prints a row that is answered otherwise than it says.
 fn try_row(rt: &impl Print, alloc: Global, tables: &Tables, row: &str) -> Result<()> {
-    let mut fields = row.split('\t');
-    let asked = fields.next().context("nothing is asked")?;
-    let about = fields.next().context("no name")?;
-    let expected = fields.next().context("no answer")?;
-    let octets = octets_of(alloc, fields.next().context("no octets")?)?;
-    let numbers = numbers_of(alloc, fields.next().context("no numbers")?)?;
+    let mut fields = Fields { rest: row };
+    let (asked, about, expected) = (fields.take(), fields.take(), fields.take());
+    let octets = octets_of(alloc, fields.take())?;
+    let numbers = numbers_of(alloc, fields.take())?;
     let answered = answer_of(alloc, tables, asked, octets.as_slice(), numbers.as_slice())?;
     if answered.is(alloc, expected)? {
         return Ok(());
@@ -62,10 +59,7 @@ fn try_row(rt: &impl Print, alloc: Global, tables: &Tables, row: &str) -> Result
 
 /// The tables of lines that are each ended by `|`.
 fn tables_of(alloc: Global, lines: &str) -> Result<Tables> {
-    let mut text = Vec::new(alloc);
-    for c in lines.as_bytes() {
-        text.push(if *c == b'|' { b'\n' } else { *c })?;
-    }
+    let text = lines_of(alloc, lines)?;
     Tables::read(alloc, text.as_slice()).map_err(|_| anyhow!("no tables"))
 }
 

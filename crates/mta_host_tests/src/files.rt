@@ -1,0 +1,110 @@
+//! The adapters over real files, streams that stop and start, and the real clock.
+
+use mta_edge::{Clock, Disk, Failed, Sink, Source};
+use mta_host::{FileDisk, Octets as Stream, Reading, SystemClock, Writing};
+use std::fs::{self, File};
+use std::io::{self, Empty, ErrorKind, Read, Write};
+use std::test::Fail;
+
+#[test]
+fn a_file_is_a_disk(rt: HostRuntime) -> Result<(), Fail> {
+    let mut disk = FileDisk::new(&rt, ".", "disk.try");
+    let mut buffer = [0u8; 4];
+    assert_eq!(rt; disk.sync(), Ok(()));
+    assert_eq!(rt; disk.cut(0), Ok(()));
+    assert_eq!(rt; disk.write_at(0, b"abcd"), Ok(()));
+    assert_eq!(rt; disk.sync(), Ok(()));
+    assert_eq!(rt; disk.size(), Ok(4));
+    assert_eq!(rt; disk.cut(3), Ok(()));
+    assert_eq!(rt; disk.read(1, &mut buffer), Ok(2));
+    assert_eq!(rt; buffer, *b"bc\0\0");
+    fs::remove_file(&rt, "disk.try")?;
+    Ok(())
+}
+
+// No file is made before the first call, and every call fails where there is no folder for it.
+#[test]
+fn a_file_is_opened_at_the_first_call(rt: HostRuntime) -> Result<(), Fail> {
+    let mut disk = FileDisk::new(&rt, ".", "late.try");
+    assert!(rt; File::open(&rt, "late.try").is_err());
+    assert_eq!(rt; disk.size(), Ok(0));
+    assert!(rt; File::open(&rt, "late.try").is_ok());
+    fs::remove_file(&rt, "late.try")?;
+    let mut none = FileDisk::new(&rt, "absent.try", "absent.try/late.try");
+    assert_eq!(rt; none.sync(), Err(Failed));
+    assert_eq!(rt; none.size(), Err(Failed));
+    Ok(())
+}
+
+#[test]
+fn files_are_sources_and_sinks_and_the_clock_goes(rt: HostRuntime) -> Result<(), Fail> {
+    let mut sink = Writing::new(File::create(&rt, "sink.try")?);
+    assert_eq!(rt; sink.put(b"abc"), Ok(3));
+    let mut buffer = [0u8; 4];
+    let file: Stream<Empty> = Stream::File(File::open(&rt, "sink.try").ok());
+    let mut source = Reading::new(file);
+    assert_eq!(rt; source.take(&mut buffer), Ok(3));
+    assert_eq!(rt; source.take(&mut buffer), Ok(0));
+    let mut none: Reading<Empty> = Reading::new(Stream::File(None));
+    assert_eq!(rt; none.take(&mut buffer), Err(Failed));
+    fs::remove_file(&rt, "sink.try")?;
+    // 2026-01-01, which is 27,759 days after 1950-01-01.
+    assert!(rt; SystemClock::new(&rt).now() > 27_759 * 86_400);
+    Ok(())
+}
+
+// A stream whose calls fail with these kinds in turn, and then succeed with one octet each.
+#[derive(Drop)]
+struct Uneven {
+    kinds: Vec<ErrorKind>,
+}
+
+impl Uneven {
+    fn next(&mut self) -> io::Result<usize> {
+        match self.kinds.pop() {
+            Some(kind) => Err(kind.into()),
+            None => Ok(1),
+        }
+    }
+}
+
+impl Read for Uneven {
+    fn read(&mut self, into: &mut [u8]) -> io::Result<usize> {
+        let count = self.next()?.min(into.len());
+        into[..count].fill(7);
+        Ok(count)
+    }
+}
+
+impl Write for Uneven {
+    fn write(&mut self, bytes: &[u8]) -> io::Result<usize> {
+        Ok(self.next()?.min(bytes.len()))
+    }
+
+    fn flush(&mut self) -> io::Result<()> {
+        Ok(())
+    }
+}
+
+#[test]
+fn interrupted_calls_are_made_again(rt: HostRuntime) -> Result<(), Fail> {
+    let kinds = [
+        ErrorKind::BrokenPipe,
+        ErrorKind::Interrupted,
+        ErrorKind::Interrupted,
+    ];
+    let mut buffer = [0u8; 2];
+    let mut source = Reading::new(Stream::Stream(Uneven {
+        kinds: kinds.to_vec(rt.alloc())?,
+    }));
+    assert_eq!(rt; source.take(&mut buffer), Err(Failed));
+    assert_eq!(rt; source.take(&mut buffer), Ok(1));
+    assert_eq!(rt; buffer, [7, 0]);
+    let mut sink = Writing::new(Uneven {
+        kinds: kinds.to_vec(rt.alloc())?,
+    });
+    assert_eq!(rt; sink.put(b"ab"), Err(Failed));
+    assert_eq!(rt; sink.put(b"ab"), Ok(1));
+    assert_eq!(rt; sink.put(b""), Ok(0));
+    Ok(())
+}

@@ -1,0 +1,68 @@
+//! Runs of the program over objects in memory: what each prints, its status, and the octets that it leaves on the
+//! disk. Reads rows from its input, each with fields behind tabs. Tells of each row that wants something whether it
+//! was answered so, under the name of its case.
+//!
+//! These rows want nothing. `case NAME` begins a case, with an empty disk and nothing that fails; tables, input and
+//! clock stay until another is said. `tables TEXT`, where each line ends with `|`; `input OCTETS`, in hexadecimal;
+//! `clock MOMENT`; `fails PLACE CALL`, the place being `input`, `output` or `disk` and the first call 1; `disk COUNT
+//! OCTETS` and `disk-text COUNT TEXT`, which put octets or a text behind what the disk holds, so many times.
+//!
+//! In these a field behind the first says what is wanted. `run` runs the words behind it, over the disk as it is, and
+//! is answered the status and what was printed. `large` is the same over a disk that is changed in place, which
+//! nothing makes fail. `holds` is answered what the disk holds, and `records` records the tables in the spool that the
+//! disk holds, and is answered how many items it has. `stops` runs `submit`, stops it at each of its device calls by
+//! each of eight choices of what a crash leaves, and runs `spool` over the image: at the end it has to be answered as
+//! the first field behind says, and before as that or as one of the others.
+//!
+//! The rows were worked out by hand from the manual, the format of the journal and X.411.
+#![tactic(auto)]
+
+mod given;
+mod held;
+mod runs;
+mod spool;
+mod stops;
+
+use crate::held::Held;
+use crate::runs::{large, run_words};
+use crate::spool::records;
+use crate::stops::stops;
+use anyhow::{Result, bail};
+use mta_rows::{Fields, shown, tell};
+use std::alloc::Global;
+
+fn answer_of(alloc: Global, held: &mut Held, asked: &str, fields: Fields<'_>) -> Result<String> {
+    match asked {
+        "run" => run_words(alloc, held, fields.rest),
+        "large" => large(alloc, held, fields.rest),
+        "holds" => Ok(shown(alloc, held.disk.as_slice())?),
+        "records" => records(alloc, held),
+        "stops" => stops(alloc, held, fields),
+        _ => bail!("nothing is asked"),
+    }
+}
+
+fn try_row(rt: &impl Print, alloc: Global, held: &mut Held, row: &str) -> Result<()> {
+    let mut fields = Fields { rest: row };
+    let asked = fields.take();
+    if held.take(alloc, asked, fields)? {
+        return Ok(());
+    }
+    let wanted = fields.take();
+    let answered = answer_of(alloc, held, asked, fields)?;
+    let about = if asked == "stops" { "" } else { fields.rest };
+    let case = held.case.as_str();
+    let name = format!(in alloc; "{case}: {asked}")?;
+    tell(rt, name.as_str(), about, answered.as_str(), wanted)?;
+    Ok(())
+}
+
+fn main(rt: HostRuntime) -> Result<()> {
+    let alloc = rt.alloc();
+    let mut held = Held::new(alloc);
+    for row in rt.lines(alloc) {
+        let row = row?;
+        try_row(&rt, alloc, &mut held, row.as_str())?;
+    }
+    Ok(())
+}

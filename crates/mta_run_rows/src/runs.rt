@@ -1,0 +1,96 @@
+//! Runs, and what they print.
+
+use crate::given::{clock, disk_of, safe_source, source, words_of};
+use crate::held::Held;
+use anyhow::Result;
+use mta_edge::{MemClock, MemDisk, MemSink, MemSource, Octets, SafeDisk, SafeSource};
+use mta_rows::shown;
+use mta_run::{Finished, run};
+use std::alloc::{AllocError, Global};
+
+// The run alone, since nothing behind it asks for its clauses.
+fn called(
+    alloc: Global,
+    words: &[String],
+    mut conf: MemSource,
+    mut input: MemSource,
+    out: &mut MemSink,
+    disk: MemDisk,
+    clock: MemClock,
+) -> Finished<MemDisk> {
+    run(alloc, words, &mut conf, &mut input, out, disk, clock)
+}
+
+// The run alone, over a disk that is changed in place.
+fn called_in_place(
+    alloc: Global,
+    words: &[String],
+    mut conf: SafeSource,
+    mut input: SafeSource,
+    out: &mut MemSink,
+    disk: SafeDisk,
+    clock: MemClock,
+) -> Finished<SafeDisk> {
+    run(alloc, words, &mut conf, &mut input, out, disk, clock)
+}
+
+/// The status and what was printed.
+fn said(alloc: Global, status: u8, out: &MemSink) -> Result<String, AllocError> {
+    let text = shown(alloc, out.octets())?;
+    let text = text.as_str();
+    format!(in alloc; "{status} {text}")
+}
+
+/// What words make of a disk, with what they print.
+pub fn finished(
+    alloc: Global,
+    held: &Held,
+    line: &str,
+    disk: MemDisk,
+    out: &mut MemSink,
+) -> Result<Finished<MemDisk>> {
+    let words = words_of(alloc, line)?;
+    let conf = source(alloc, held.tables.as_slice(), 0)?;
+    let input = source(alloc, held.input.as_slice(), held.input_fails)?;
+    let clock = clock(alloc, held)?;
+    Ok(called(alloc, words.as_slice(), conf, input, out, disk, clock))
+}
+
+/// What `spool` prints of these octets.
+pub fn queue(alloc: Global, held: &Held, octets: &[u8]) -> Result<String> {
+    let mut out = MemSink::new(alloc, Vec::new(alloc));
+    let disk = disk_of(alloc, octets, 0)?;
+    let Finished { disk: _, status } = finished(alloc, held, "spool", disk, &mut out)?;
+    Ok(said(alloc, status, &out)?)
+}
+
+/// Runs words over the disk, and keeps what it holds then.
+pub fn run_words(alloc: Global, held: &mut Held, line: &str) -> Result<String> {
+    let mut out = MemSink::new(alloc, [held.output_fails].to_vec(alloc)?);
+    let disk = disk_of(alloc, held.disk.as_slice(), held.disk_fails)?;
+    let Finished { disk, status } = finished(alloc, held, line, disk, &mut out)?;
+    held.disk = disk.octets().to_vec(alloc)?;
+    Ok(said(alloc, status, &out)?)
+}
+
+/// Runs words over a disk that is changed in place, and keeps what it holds then.
+pub fn large(alloc: Global, held: &mut Held, line: &str) -> Result<String> {
+    let mut out = MemSink::new(alloc, Vec::new(alloc));
+    let words = words_of(alloc, line)?;
+    let conf = safe_source(alloc, held.tables.as_slice())?;
+    let input = safe_source(alloc, held.input.as_slice())?;
+    let octets = std::mem::replace(&mut held.disk, Vec::new(alloc));
+    let disk = SafeDisk::new(alloc, Octets::from_vec(octets));
+    let clock = clock(alloc, held)?;
+    let Finished { disk, status } = called_in_place(
+        alloc,
+        words.as_slice(),
+        conf,
+        input,
+        &mut out,
+        disk,
+        clock,
+    );
+    held.disk = disk.octets().to_vec(alloc)?;
+    Ok(said(alloc, status, &out)?)
+}

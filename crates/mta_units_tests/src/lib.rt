@@ -1,5 +1,0 @@
-//! Tests of the units of an association. They stand apart, so that the library is not proved again with them.
-#![tactic(auto)]
-
-#[cfg(test)]
-mod tests;
