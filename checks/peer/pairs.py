@@ -45,7 +45,6 @@ class Pair:
                 record.step("queue", octets)
         self.lines = {"initiator": [], "responder": []}
         self.ends, self.counts = {}, {}
-        self.listener = LISTENER
         self.give_up = 0
 
     def side(self, name, role, own, peer, connection, breaks):
@@ -64,8 +63,7 @@ class Pair:
     def session(self, breaks=None):
         """One association; `breaks` has a Break for a side."""
         breaks = breaks or {}
-        calling = socket.create_connection(self.listener.getsockname())
-        called = self.listener.accept()[0]
+        calling, called = connected()
         other = threading.Thread(target=self.side, args=("responder", Responder, b"gold", b"silver", called, breaks.get("responder")))
         other.start()
         self.side("initiator", Initiator, b"silver", b"gold", calling, breaks.get("initiator"))
@@ -99,6 +97,13 @@ class Pair:
 
 
 LISTENER = socket.create_server(("127.0.0.1", 0))
+ONE = threading.Lock()
+
+
+def connected():
+    """Two ends of one connection over loopback: the one that called, and the one that was called."""
+    with ONE:
+        return socket.create_connection(LISTENER.getsockname()), LISTENER.accept()[0]
 
 
 def break_at(side, number, place):
