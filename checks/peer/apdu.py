@@ -1,4 +1,4 @@
-"""Messages of X.411 for trying transfers: how one is made, and whether octets spell an APDU as far as this peer looks."""
+"""Messages of X.411 for trying transfers: how one is made, and whether octets spell one as far as this peer looks."""
 import ber
 from ber import IA5, OCTETS, written
 

@@ -1,4 +1,4 @@
-"""Elements of X.690: what the units of an association need of them. Reads every form of length, writes the shortest."""
+"""Elements of X.690, as units need them. Every form of length is read, and the shortest is written."""
 
 UNIVERSAL, APPLICATION, CONTEXT = 0, 1, 2
 INTEGER, OCTETS, NULL, IA5, TIME, SEQUENCE, SET = 2, 4, 5, 22, 23, 16, 17
@@ -13,7 +13,8 @@ class Element:
     """One element: its class, tag number, whether it is constructed, and its contents octets."""
 
     def __init__(self, kind, number, constructed, contents, depth):
-        self.kind, self.number, self.constructed, self.contents, self.depth = kind, number, constructed, contents, depth
+        self.kind, self.number, self.constructed = kind, number, constructed
+        self.contents, self.depth = contents, depth
 
     def is_tag(self, kind, number):
         return (self.kind, self.number) == (kind, number)
@@ -55,7 +56,9 @@ class Element:
 
 
 def header(octets, at):
-    """Class, tag number, form, and length (None where it is indefinite) of the element at `at`, and where its contents begin."""
+    """Class, tag number, form and length of the element at `at`, and where its contents begin.
+
+    The length is None where it is indefinite."""
     try:
         first = octets[at]
         kind, constructed, number = first >> 6, bool(first & 32), first & 31

@@ -21,7 +21,8 @@ def words(parser):
     parser.add_argument("--peer", default="gold")
     parser.add_argument("--password", default="ours")
     parser.add_argument("--expected", default="theirs")
-    parser.add_argument("--mode", choices=("monologue", "twa"), default="monologue", help="what the foreign peer takes")
+    parser.add_argument("--mode", choices=("monologue", "twa"), default="monologue",
+                        help="what the foreign peer takes")
     parser.add_argument("--from", dest="origin", default="C=GB;A=SILVER;S=BELL")
     parser.add_argument("--to", default="C=GB;A=GOLD;S=WATT")
     parser.add_argument("--moment", default="500101000000Z")
@@ -50,8 +51,8 @@ class Side:
 
     def values(self, mode, checkpoint, window):
         it = self.arguments
-        return Values(it.name.encode(), it.peer.encode(), it.password.encode(), it.expected.encode(), mode, checkpoint, window,
-                      moment=it.moment)
+        words = [text.encode() for text in (it.name, it.peer, it.password, it.expected)]
+        return Values(*words, mode, checkpoint, window, moment=it.moment)
 
     def session(self, role, connection, values, breaks=None):
         link = Link(connection, self.lines.append, breaks)
@@ -66,7 +67,9 @@ class Side:
 
 
 def calls(arguments):
-    """Binds to the foreign responder: for each case an unbroken session, then breaks at units of it, and sessions until closed."""
+    """Binds to the foreign responder: for each case an unbroken session, then breaks at units of it.
+
+    Behind each there are sessions until one closes."""
     side, at = Side(arguments), where(arguments.call)
     modes = (MONOLOGUE, TWO_WAY) if arguments.mode == "twa" else (MONOLOGUE,)
 
@@ -99,7 +102,9 @@ def calls(arguments):
 
 
 def listens(arguments):
-    """Takes associations of the foreign initiator: session i is broken at unit i, until all that is expected came and one closed."""
+    """Takes associations of the foreign initiator, until all that is expected came and one closed.
+
+    Sessions are broken at unit 1, 1, 2, 2 and so on, in turn in its place and behind it."""
     side = Side(arguments)
     listener = socket.create_server(where(arguments.listen))
     print("listening", flush=True)

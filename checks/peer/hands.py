@@ -1,8 +1,14 @@
-"""The hands of a peer that does not keep the rules: they open associations, put any unit, and look at what is answered."""
+"""The hands of a peer that does not keep the rules: they put any unit, and look at what is answered."""
 import apdu
 import units
 from link import BadUnit, Link, Over
-from units import (CANNOT_RECOVER, Abort, Accept, Bind, Close, End, Fault, Open, Recover, Reference, Reject, Sync, SyncAck)
+from units import (CANNOT_RECOVER, Abort, Accept, Bind, Close, End, Fault, Open, Recover, Reference, Reject, Sync,
+                   SyncAck)
+
+
+def kind_of(wanted):
+    """The kind of a unit, which may be told in place of one."""
+    return wanted if isinstance(wanted, type) else type(wanted)
 
 
 class Unexpected(Exception):
@@ -62,11 +68,11 @@ class Hands:
     def accept(self, request, **changed):
         """The Accept that answers this Open, with what is changed in it."""
         it = self.values
-        accept = Accept(min(request.checkpoint, it.checkpoint), max(1, min(request.window, it.window)), Bind(it.own, it.password))
-        return accept._replace(**changed)
+        checkpoint, window = min(request.checkpoint, it.checkpoint), max(1, min(request.window, it.window))
+        return Accept(checkpoint, window, Bind(it.own, it.password))._replace(**changed)
 
     def came(self, recovering=False):
-        """An Open that came. One that recovers a lane of an earlier run is answered cannotRecover, so that the lane goes."""
+        """An Open that came. One that recovers a lane of an earlier run is answered cannotRecover: that lane goes."""
         while True:
             self.connect()
             request = self.until(Open)
@@ -97,12 +103,14 @@ class Hands:
         return apdu.message("C=GB;A=SILVER;S=BELL", "C=GB;A=GOLD;S=WATT", b"H0001", b"Hi")
 
     def answer(self, wanted):
-        """The answer: the first unit of the kind that is wanted, or that ends an association; None where it just ends."""
-        ends = (Abort, Reject, Fault) + (() if wanted is None else (wanted if isinstance(wanted, type) else type(wanted),))
+        """The first unit of the kind that is wanted, or that ends an association; None where it just ends."""
+        ends = [Abort, Reject, Fault]
+        if wanted is not None:
+            ends.append(kind_of(wanted))
         try:
             while True:
                 unit = self.link.get()
-                if isinstance(unit, ends):
+                if isinstance(unit, tuple(ends)):
                     return unit
         except Over:
             return None
@@ -112,7 +120,7 @@ class Hands:
         try:
             wanted = does(self)
             found = self.answer(wanted)
-            good = isinstance(found, wanted) if isinstance(wanted, type) else type(found) is type(wanted) and found == wanted
+            good = type(found) is kind_of(wanted) and (isinstance(wanted, type) or found == wanted)
         except (Over, Unexpected, BadUnit) as why:
             self.say(f"not so: {type(why).__name__} before the answer")
             self.drop()

@@ -3,12 +3,11 @@
 Each kind is a function of the hand that puts units, and gives the answer that is expected. A kind that needs more than
 any peer gives says so: `twa` and `monologue` are what the peer's line must say, `pieces` that several pieces are due.
 """
-import apdu
 import units
 from hands import Hands
-from units import (CANNOT_RECOVER, COMPLETED, NOT_VALID, PARAMETER, PERMANENT, PROTOCOL, TEMPORARY, TOO_LONG, TWO_WAY, UNRECOGNIZED,
-                   WRONG_MODE, Abort, Accept, Bind, Close, CloseAck, Data, Discard, DiscardAck, End, EndAck, Fault, Give, Nothing,
-                   Open, Please, Recover, Reject, Resume, ResumeAck, Start, Sync, SyncAck)
+from units import (CANNOT_RECOVER, COMPLETED, NOT_VALID, PARAMETER, PERMANENT, PROTOCOL, TEMPORARY, TOO_LONG, TWO_WAY,
+                   UNRECOGNIZED, WRONG_MODE, Abort, Accept, Bind, Close, CloseAck, Data, Discard, DiscardAck, End,
+                   EndAck, Fault, Give, Nothing, Please, Recover, Reject, Resume, ResumeAck, Start, Sync, SyncAck)
 
 WRONG = Abort(PROTOCOL)
 LENGTH = (2**21 + 6).to_bytes(4, "big") + bytes((5,))
@@ -291,7 +290,8 @@ answered("listen", "accept-name", Abort(PERMANENT),
          lambda hands, it: hands.accept(it, data=Bind(b"nobody", hands.values.password)))
 answered("listen", "accept-password", Abort(PERMANENT),
          lambda hands, it: hands.accept(it, data=Bind(hands.values.own, hands.values.password + b"x")))
-answered("listen", "accept-checkpoint", Abort(PARAMETER), lambda hands, it: hands.accept(it, checkpoint=it.checkpoint + 1))
+answered("listen", "accept-checkpoint", Abort(PARAMETER),
+         lambda hands, it: hands.accept(it, checkpoint=it.checkpoint + 1))
 answered("listen", "accept-window", Abort(PARAMETER), lambda hands, it: hands.accept(it, window=it.window + 1))
 answered("listen", "accept-no-window", Abort(PARAMETER), lambda hands, it: hands.accept(it, window=0))
 

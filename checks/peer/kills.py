@@ -1,70 +1,101 @@
-"""Processes of `peer.py` that are killed at every unit of a session and started again over their folders."""
+"""Processes of the peer that are killed at every unit of a session, and new ones over the same folders."""
 import os
 import subprocess
 import sys
 import tempfile
 import time
 
+import apdu
+import peer
 from pairs import Wrong
+from record import Folder, Record
 
 PEER = os.path.join(os.path.dirname(os.path.abspath(__file__)), "peer.py")
 NAMES = {"call": ["--name", "silver", "--peer", "gold", "--password", "ours", "--expected", "theirs"],
          "listen": ["--name", "gold", "--peer", "silver", "--password", "theirs", "--expected", "ours"]}
 
 
-def peer(*words):
-    return subprocess.run([sys.executable, PEER, *words], capture_output=True, text=True)
+class Process:
+    """A process of its own that runs the peer with these words; what it tells goes into a file."""
+
+    def __init__(self, told, *words):
+        self.told = told
+        sys.stdout.flush()
+        self.number = os.fork()
+        if self.number == 0:
+            status = 9
+            try:
+                os.dup2(os.open(told, os.O_WRONLY | os.O_CREAT | os.O_TRUNC, 0o600), 1)
+                status = peer.main(list(words))
+            finally:
+                os._exit(status)
+
+    def wait(self):
+        """Whether it was killed, and its lines."""
+        _, status = os.waitpid(self.number, 0)
+        with open(self.told) as told:
+            return os.WIFSIGNALED(status), told.read()
 
 
-def listening(folder, made, mode, more):
-    """A process that takes one association, and its port."""
-    file = os.path.join(made, "port")
-    if os.path.exists(file):
-        os.remove(file)
-    words = [sys.executable, PEER, "listen", "127.0.0.1:0", folder, "--port-file", file, "--mode", mode, *NAMES["listen"], *more]
-    running = subprocess.Popen(words, stdout=subprocess.PIPE, text=True)
+def port_of(file):
     while not os.path.exists(file):
-        if running.poll() is not None:
-            raise Wrong(f"the listening peer ended with {running.returncode}")
-        time.sleep(0.01)
+        time.sleep(0.002)
     with open(file) as port:
-        return running, int(port.read())
+        return int(port.read())
 
 
 def session(folders, made, mode, kill=None, number=0):
     """One association between two new processes; `kill` is the side that is killed at this unit."""
-    more = ["--break-after", str(number), "--how", "kill"]
-    running, port = listening(folders["listen"], made, mode, more if kill == "listen" else [])
-    called = peer("call", f"127.0.0.1:{port}", folders["call"], "--mode", mode, *NAMES["call"],
-                  *(more if kill == "call" else []))
-    told = running.communicate()[0]
-    killed = -9 in (called.returncode, running.returncode)
-    return killed, called.stdout.endswith("end closed\n"), called.stdout + told
+    more = {side: ["--break-after", str(number), "--how", "kill"] if side == kill else [] for side in folders}
+    port = os.path.join(made, "port")
+    if os.path.exists(port):
+        os.remove(port)
+    listens = Process(os.path.join(made, "listens"), "listen", "127.0.0.1:0", folders["listen"], "--port-file", port,
+                      "--mode", mode, *NAMES["listen"], *more["listen"])
+    calls = Process(os.path.join(made, "calls"), "call", f"127.0.0.1:{port_of(port)}", folders["call"], "--mode", mode,
+                    *NAMES["call"], *more["call"])
+    one, told = calls.wait()
+    other, also = listens.wait()
+    return one or other, told.endswith("end closed\n"), told + also
 
 
 def one(made, mode, side, number):
-    """A message with a kill at this unit; answers whether the session was so long."""
+    """Messages both ways with a kill at this unit; answers whether the session was so long."""
     folders = {which: os.path.join(made, f"{which}-{mode}-{side}-{number}") for which in ("call", "listen")}
-    peer("queue", folders["call"], "--size", "1500")
-    if mode == "twa":
-        peer("queue", folders["listen"], "--size", "900", "--number", "2")
+    sizes = {"call": 1000} if mode == "monologue" else {"call": 100, "listen": 1000}
+    for which, size in sizes.items():
+        text = apdu.message("C=GB;A=SILVER;S=BELL", "C=GB;A=GOLD;S=WATT", b"M0001", apdu.content_of(size))
+        Record(Folder(folders[which])).step("queue", text)
     killed, closed, told = session(folders, made, mode, side, number)
     for _ in range(5):
         if closed:
             break
         _, closed, more = session(folders, made, mode)
         told += more
-    for one_way, other in (("call", "listen"), ("listen", "call")):
-        sent = [line for line in peer("show", folders[one_way]).stdout.splitlines() if line.startswith("message")]
-        came = [line for line in peer("show", folders[other]).stdout.splitlines() if line.startswith("received")]
-        if len(came) != len(sent) or not all(line.endswith(" sent") for line in sent):
-            raise Wrong(f"{mode}, {side} killed at unit {number}: {sent} and {came}\n{told}")
+    states = {which: Record(Folder(folder)).state for which, folder in folders.items()}
+    for which, other in (("call", "listen"), ("listen", "call")):
+        sent = states[which].messages
+        if [octets for octets, _ in sent] != states[other].received or any(status != "sent" for _, status in sent):
+            raise Wrong(f"{mode}, {side} killed at unit {number}: the messages did not arrive once each\n{told}")
     return killed
+
+
+def command_line(made):
+    """The command's own words, once."""
+    folder = os.path.join(made, "words")
+    wanted = [(["queue", folder, "--size", "0"], "queued 145 octets\n"),
+              (["show", folder], "message 0 octets 145 waits\n")]
+    for words, told in wanted:
+        found = subprocess.run([sys.executable, PEER, *words], capture_output=True, text=True)
+        if found.stdout != told:
+            raise Wrong(f"{words}: {found.stdout}{found.stderr}")
 
 
 def run():
     count = 0
-    with tempfile.TemporaryDirectory() as made:
+    # a kill loses nothing that was written, so a folder in memory does where there is one
+    with tempfile.TemporaryDirectory(dir="/dev/shm" if os.access("/dev/shm", os.W_OK) else None) as made:
+        command_line(made)
         for mode, side in (("monologue", "call"), ("monologue", "listen"), ("twa", "call"), ("twa", "listen")):
             number = 1
             while one(made, mode, side, number):

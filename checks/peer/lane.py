@@ -1,7 +1,7 @@
-"""The two halves of a lane at one end, on one link: what the sending half puts next, and what the receiving half answers."""
+"""The two halves of a lane at one end, on one link: what is put next, and what is answered."""
 from apdu import fault_of
-from units import (COMPLETED, LONGEST_PIECE, TOO_LONG, UNRECOGNIZED, Abort, Data, Discard, DiscardAck, End, EndAck, Fault, Resume,
-                   ResumeAck, Start, Sync, SyncAck)
+from units import (COMPLETED, LONGEST_PIECE, TOO_LONG, UNRECOGNIZED, Abort, Data, Discard, DiscardAck, End, EndAck,
+                   Fault, Resume, ResumeAck, Start, Sync, SyncAck)
 
 
 class NotAllowed(Exception):
@@ -107,8 +107,10 @@ class Sender(Half):
 
 
 class Receiver(Half):
-    """The receiving half. `stage` is free, next (a piece is next), piece (one is held) or skip (an activity that was answered
-    by Exception still comes)."""
+    """The receiving half.
+
+    `stage` is free, next (a piece is next), piece (one is held) or skip (an activity that was answered by Exception
+    still comes)."""
 
     def __init__(self, *of):
         super().__init__(*of)
@@ -128,7 +130,8 @@ class Receiver(Half):
 
     def take(self, unit):
         """Takes a unit of the peer's sending half, makes its step, and gives the answer to put, if any."""
-        took = {Start: self.start, Data: self.data, Sync: self.sync, End: self.end, Resume: self.resume, Discard: self.discard}
+        took = {Start: self.start, Data: self.data, Sync: self.sync, End: self.end, Resume: self.resume,
+                Discard: self.discard}
         return took[type(unit)](*unit)
 
     def start(self, activity):

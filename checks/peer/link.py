@@ -19,8 +19,9 @@ class BadUnit(Exception):
 
 
 class Break:
-    """A break at unit `number` of a link, put or got: behind it, or in its place. Orderly (what was put still comes, what
-    comes is thrown away), by a reset, or by a kill of this process."""
+    """A break at unit `number` of a link, put or got: behind it, or in its place.
+
+    Orderly (what was put still comes, what comes is thrown away), by a reset, or by a kill of this process."""
 
     def __init__(self, number, place="after", how="orderly"):
         self.number, self.place, self.how = number, place, how

@@ -1,4 +1,4 @@
-"""Two peers over loopback, each a thread of its own with its record in memory, and what has to hold behind every run."""
+"""Two peers over loopback, each a thread with its record in memory, and what has to hold behind every run."""
 import socket
 import threading
 
@@ -64,7 +64,8 @@ class Pair:
         """One association; `breaks` has a Break for a side."""
         breaks = breaks or {}
         calling, called = connected()
-        other = threading.Thread(target=self.side, args=("responder", Responder, b"gold", b"silver", called, breaks.get("responder")))
+        also = ("responder", Responder, b"gold", b"silver", called, breaks.get("responder"))
+        other = threading.Thread(target=self.side, args=also)
         other.start()
         self.side("initiator", Initiator, b"silver", b"gold", calling, breaks.get("initiator"))
         other.join()
@@ -87,10 +88,11 @@ class Pair:
 
     def check(self):
         """Each message arrived exactly once, in its order, and is known to have been sent."""
-        for one, other, messages in (("initiator", "responder", self.case.out), ("responder", "initiator", self.case.back)):
+        ways = ("initiator", "responder", self.case.out), ("responder", "initiator", self.case.back)
+        for one, other, messages in ways:
             found = self.state(other).received
             if found != messages:
-                raise Wrong(f"{other} has {len(found)} messages, and {len(messages)} were sent to it or their octets differ")
+                raise Wrong(f"{other} has {len(found)} messages of {len(messages)}, or their octets differ")
             states = [status for _, status in self.state(one).messages]
             if any(status != "sent" for status in states):
                 raise Wrong(f"{one} says of its messages: {states}")

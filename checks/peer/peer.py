@@ -1,8 +1,8 @@
 #!/usr/bin/env python3
 """A plain peer of an association, written from docs/PROTOCOL.md. `peer.py --help` tells its words.
 
-It keeps what it has sent and received in a folder, so it may be stopped at any moment and started again. What it prints
-is the same for the same run: no moment, no port and no number of a process stands there.
+It keeps what it has sent and received in a folder, so it may be stopped at any moment and started again. What it
+prints is the same for the same run: no moment, no port and no number of a process stands there.
 """
 import argparse
 import hashlib
@@ -24,7 +24,7 @@ def say(words):
     print(words, flush=True)
 
 
-def words():
+def grammar():
     parser = argparse.ArgumentParser(prog="peer.py", description="A peer of an association in plain Python.")
     commands = parser.add_subparsers(dest="command", required=True)
     call = commands.add_parser("call", help="bind as the initiator")
@@ -94,8 +94,9 @@ def associate(arguments):
         for kind in hostile.kinds(it.command):
             say(kind)
         return 0
-    values = Values(it.name.encode(), it.peer.encode(), it.password.encode(), it.expected.encode(),
-                    TWO_WAY if it.mode == "twa" else MONOLOGUE, it.checkpoint, it.window, it.units, it.moment, it.give_up)
+    words = [text.encode() for text in (it.name, it.peer, it.password, it.expected)]
+    mode = TWO_WAY if it.mode == "twa" else MONOLOGUE
+    values = Values(*words, mode, it.checkpoint, it.window, it.units, it.moment, it.give_up)
     connections = Calls(it) if it.command == "call" else Listens(it)
     if it.hostile:
         return hostile.run(it.command, it.hostile, connections, values, say)
@@ -160,8 +161,8 @@ def received(arguments):
     return 0
 
 
-def main():
-    arguments = words().parse_args()
+def main(given=None):
+    arguments = grammar().parse_args(given)
     does = {"call": associate, "listen": associate, "queue": queue, "show": show, "received": received}
     try:
         return does[arguments.command](arguments)

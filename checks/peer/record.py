@@ -18,7 +18,9 @@ class Refused(Exception):
 
 
 class Lane:
-    """A lane as the steps left it. `send` is idle, sending, ending or dropping, with the activity and what is confirmed of it."""
+    """A lane as the steps left it.
+
+    `send` is idle, sending, ending or dropping, with the activity and what is confirmed of it."""
 
     def __init__(self, number, role, reference, mode, checkpoint, window, agreed):
         self.number, self.role, self.reference, self.mode = number, role, reference, mode
@@ -127,7 +129,8 @@ class State:
         self.settled(self.under_way(number, generation, activity, "sending", "ending", "dropping"), "waits")
 
     def do_refused(self, number, generation, activity, kind, place):
-        self.settled(self.under_way(number, generation, activity, "sending", "ending", "dropping"), f"refused {kind} {place}")
+        lane = self.under_way(number, generation, activity, "sending", "ending", "dropping")
+        self.settled(lane, f"refused {kind} {place}")
 
     def do_denied(self, number, generation, activity):
         lane = self.under_way(number, generation, activity, "sending", "ending", "dropping")

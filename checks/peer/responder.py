@@ -1,9 +1,9 @@
-"""The responder of an association: it answers an Open by Accept or Reject, and asks for the turn where it has something to send."""
+"""The responder of an association: it answers an Open, and asks for the turn where it has something to send."""
 from lane import NotAllowed
 from record import Refused
 from session import Ended, Session
-from units import (BUSY, CANNOT_RECOVER, MONOLOGUE, NOT_VALID, TWO_WAY, WRONG_MODE, Abort, Accept, Bind, Nothing, Open, Please, Recover,
-                   Reject)
+from units import (BUSY, CANNOT_RECOVER, MONOLOGUE, NOT_VALID, TWO_WAY, WRONG_MODE, Abort, Accept, Bind, Nothing, Open,
+                   Please, Recover, Reject)
 
 
 class Responder(Session):

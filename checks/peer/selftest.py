@@ -2,8 +2,8 @@
 """The peer against itself over loopback, or against a foreign peer in place of one side.
 
 Without words: transfers unbroken, with a break at every unit of a session at either side, with two breaks, with an
-activity that is given up, with kills of processes, and one wrong unit of each kind. Behind every run each message has to
-have arrived exactly once. `selftest.py --help` tells how a foreign peer is named.
+activity that is given up, with kills of processes, and one wrong unit of each kind. Behind every run each message has
+to have arrived exactly once. `selftest.py --help` tells how a foreign peer is named.
 """
 import argparse
 import sys
@@ -24,11 +24,13 @@ def cases():
             for size in SIZES for checkpoint in CHECKPOINTS for window in WINDOWS for mode in MODES]
 
 
-def points(units, whole):
-    """The units at which a session is broken: all of a short one, else the first, the last and some between."""
+def points(units, variant, whole):
+    """The units at which a session is broken: all of a short one. Of a long one six, other ones for each variant."""
     if whole or units <= 60:
         return list(range(1, units + 1))
-    return sorted(set(range(1, 7)) | set(range(units - 5, units + 1)) | set(range(units // 5, units, units // 5)))
+    early, late = variant % 12, variant % 7
+    middle = units // 3 + 5 * variant
+    return [1 + early, 13 + early, middle, middle + units // 3, units - 7 - late, units - late]
 
 
 def unbroken(case):
@@ -72,9 +74,11 @@ def transfers(whole):
     every = cases()
     pairs = all_of(unbroken, [(case,) for case in every])
     print(f"{len(pairs)} transfers without a break: every message arrived once", flush=True)
+    sides, places = ("initiator", "responder"), ("after", "before")
+    ways = [(pair, side, place) for pair in pairs for side in sides for place in places]
     jobs = [(pair.case, [(side, number, place)])
-            for pair in pairs for side in ("initiator", "responder") for place in ("after", "before")
-            for number in points(pair.counts[side], whole)]
+            for variant, (pair, side, place) in enumerate(ways)
+            for number in points(pair.counts[side], variant, whole)]
     all_of(broken, jobs)
     print(f"{len(jobs)} transfers with a break: every message arrived once", flush=True)
 
@@ -125,7 +129,7 @@ def same_lines():
 
 def main():
     parser = argparse.ArgumentParser(description="The peer against itself, or against a foreign peer.")
-    parser.add_argument("--whole", action="store_true", help="break long sessions at every unit too (some twenty minutes)")
+    parser.add_argument("--whole", action="store_true", help="break long sessions at every unit too, which takes long")
     foreign.words(parser)
     arguments = parser.parse_args()
     try:

@@ -3,8 +3,8 @@ import units
 from lane import NotAllowed, Receiver, Sender
 from link import BadUnit, Over
 from record import Refused
-from units import (COMPLETED, PROTOCOL, TEMPORARY, TWO_WAY, UNRECOGNIZED, Abort, Close, CloseAck, Data, Discard, DiscardAck, End,
-                   EndAck, Fault, Give, Please, Reject, Resume, ResumeAck, Start, Sync, SyncAck)
+from units import (COMPLETED, PROTOCOL, TEMPORARY, TWO_WAY, UNRECOGNIZED, Abort, Close, CloseAck, Data, Discard,
+                   DiscardAck, End, EndAck, Fault, Give, Please, Resume, ResumeAck, Start, Sync, SyncAck)
 
 TRANSFER = (Start, Data, Sync, End, Resume, Discard)
 ANSWERS = (SyncAck, ResumeAck, EndAck, DiscardAck, Fault)
@@ -15,10 +15,10 @@ class Ended(Exception):
 
 
 class Values:
-    """What this end is and asks for: names, passwords, mode, checkpoint size and window, and how many units a session takes."""
+    """What this end is and asks for, and which unit of a session is one too many."""
 
-    def __init__(self, own, peer, password, expected, mode, checkpoint, window, limit=1_000_000, moment="500101000000Z",
-                 give_up=0):
+    def __init__(self, own, peer, password, expected, mode, checkpoint, window, limit=1_000_000,
+                 moment="500101000000Z", give_up=0):
         self.own, self.peer, self.password, self.expected = own, peer, password, expected
         self.mode, self.checkpoint, self.window, self.limit = mode, checkpoint, window, limit
         self.moment, self.give_up = moment, give_up
@@ -177,7 +177,3 @@ class Session:
         self.step("close", self.lane.number, self.generation)
         self.link.put(CloseAck())
         raise Ended("closed")
-
-
-def is_reject(unit):
-    return isinstance(unit, Reject)

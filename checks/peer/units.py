@@ -2,7 +2,7 @@
 from collections import namedtuple
 
 import ber
-from ber import CONTEXT, IA5, INTEGER, NULL, OCTETS, SEQUENCE, SET, TIME, UNIVERSAL, Bad, written, written_integer
+from ber import CONTEXT, IA5, INTEGER, NULL, OCTETS, SEQUENCE, TIME, UNIVERSAL, Bad, written, written_integer
 
 LONGEST = 2_097_157  # octets of a body
 LONGEST_PIECE = 2_097_152
@@ -38,8 +38,8 @@ Abort = namedtuple("Abort", "reason")
 Close = namedtuple("Close", "")
 CloseAck = namedtuple("CloseAck", "")
 
-KINDS = (Open, Accept, Reject, Start, Data, Sync, SyncAck, End, EndAck, Resume, ResumeAck, Discard, DiscardAck, Please, Give,
-         Fault, Abort, Close, CloseAck)
+KINDS = (Open, Accept, Reject, Start, Data, Sync, SyncAck, End, EndAck, Resume, ResumeAck, Discard, DiscardAck, Please,
+         Give, Fault, Abort, Close, CloseAck)
 NUMBERS = {Start: 1, Sync: 1, SyncAck: 1, End: 1, EndAck: 1, Resume: 2, ResumeAck: 2, Discard: 1, DiscardAck: 1}
 EMPTY = (Give, Close, CloseAck)
 
@@ -203,7 +203,7 @@ def read_reference(it):
 
 
 def moment(octets):
-    """A UTCTime with seconds and Z. Other forms are read by programs that need their moment; this one compares texts."""
+    """A UTCTime in the forms with Z. An offset in its place is not read here."""
     if len(octets) == 13 and octets[:12].isdigit() and octets[12:] == b"Z":
         return octets.decode()
     if len(octets) == 11 and octets[:10].isdigit() and octets[10:] == b"Z":

@@ -19,7 +19,8 @@ class Opposite:
 
     def __init__(self, command, mode, size):
         self.role, self.mode, self.store = (Responder if command == "call" else Initiator), mode, Memory()
-        Record(self.store).step("queue", apdu.message("C=GB;A=GOLD;S=WATT", "C=GB;A=SILVER;S=BELL", b"M1", bytes(size)))
+        message = apdu.message("C=GB;A=GOLD;S=WATT", "C=GB;A=SILVER;S=BELL", b"M1", bytes(size))
+        Record(self.store).step("queue", message)
         if command == "call" and mode == MONOLOGUE:
             self.store = Memory()
         self.running, self.lines = [], []
