@@ -24,12 +24,14 @@ def or_name(name):
 
 
 def message(origin, recipient, local, content, moment=MOMENT):
-    """A message from one name to another, with one element of trace: `local` and `content` are octets."""
+    """A message from one name to another, of an unidentified content type and with one element of trace.
+
+    `local`, the local identifier, and `content` are octets."""
     origin, recipient = name_of(origin), name_of(recipient)
     here = written(0x63, domain(origin))
     came = written(0x31, written(0x80, moment) + written(0x82, b"\0"))
     fields = or_name(recipient) + bytes.fromhex("800101 810200A8")
-    envelope = (or_name(origin) + written(0x64, here + written(IA5, local)) + bytes.fromhex("460116")
+    envelope = (or_name(origin) + written(0x64, here + written(IA5, local)) + bytes.fromhex("460100")
                 + written(0x69, written(0x30, here + came)) + written(0xA2, written(0x31, fields)))
     return written(0xA0, written(0x31, envelope) + written(OCTETS, content))
 

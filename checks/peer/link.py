@@ -33,6 +33,7 @@ class Link:
     def __init__(self, connection, say, breaks=None):
         self.connection, self.say, self.breaks = connection, say, breaks
         self.count = self.got = 0
+        self.tap = None  # called with the octets of each unit before they are put
         self.over = False
         connection.setsockopt(socket.IPPROTO_TCP, socket.TCP_NODELAY, 1)
         connection.settimeout(SILENCE)
@@ -55,6 +56,8 @@ class Link:
         if self.over:
             raise Over()
         self.turn("before")
+        if self.tap:
+            self.tap(octets)
         try:
             self.connection.sendall(octets)
         except OSError:

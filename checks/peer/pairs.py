@@ -46,10 +46,13 @@ class Pair:
         self.lines = {"initiator": [], "responder": []}
         self.ends, self.counts = {}, {}
         self.give_up = 0
+        self.tap = None  # called with the side and the octets of each unit that is put
 
     def side(self, name, role, own, peer, connection, breaks):
         lines = self.lines[name]
         link = Link(connection, lines.append, breaks)
+        if self.tap:
+            link.tap = lambda octets: self.tap(name, octets)
         values = self.case.values(own, peer, self.give_up if name == "initiator" else 0)
         try:
             self.ends[name] = role(link, Record(self.stores[name]), values).run()
