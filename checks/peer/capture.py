@@ -1,8 +1,9 @@
 #!/usr/bin/env python3
 """A capture of what the peer and itself put, and whether tshark reads the same with our dissector.
 
-`capture.py FOLDER DISSECTOR` writes FOLDER/capture.pcap, has tshark read it, and compares units, activities, checkpoint
-numbers and the identifiers of the messages. The packets are made here, so nobody has to be allowed to capture.
+`capture.py FOLDER DISSECTOR` writes FOLDER/capture.pcap, has tshark read it, and compares units, activities,
+checkpoint numbers and the identifiers of the messages. The packets are made here, so nobody has to be allowed to
+capture.
 """
 import os
 import struct
@@ -56,8 +57,8 @@ class Capture:
     def segment(self, side, octets):
         other = "responder" if side == "initiator" else "initiator"
         ports = {name: PORTS[name] + (self.session if name == "initiator" else 0) for name in PORTS}
-        tcp = struct.pack(">HHIIBBHHH", ports[side], ports[other], self.next[side], self.next[other], 0x50, 0x18, 65535,
-                          0, 0)
+        places = ports[side], ports[other], self.next[side], self.next[other]
+        tcp = struct.pack(">HHIIBBHHH", *places, 0x50, 0x18, 65535, 0, 0)
         addresses = bytes((10, 0, 0, 1)), bytes((10, 0, 0, 2))
         if side == "responder":
             addresses = addresses[::-1]
@@ -91,9 +92,8 @@ def associations(capture):
 
 def read_back(path, dissector):
     """What tshark tells: the fields of LINES for each association and side, and identifiers of messages."""
-    words = ["tshark", "-r", path, "-X", f"lua_script:{dissector}", "-T", "fields", "-E", "occurrence=a", "-e", "tcp.srcport",
-             "-e", "tcp.dstport"]
-    for field in LINES + ("p1.local_identifier",):
+    words = ["tshark", "-r", path, "-X", f"lua_script:{dissector}", "-T", "fields", "-E", "occurrence=a"]
+    for field in ("tcp.srcport", "tcp.dstport") + LINES + ("p1.local_identifier",):
         words += ["-e", field]
     told = subprocess.run(words, capture_output=True, text=True)
     found, messages = defaultdict(lambda: [[], [], []]), []

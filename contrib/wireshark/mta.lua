@@ -250,12 +250,28 @@ local WANTED = {
   [19] = 0,
 }
 
-local function reason(tree, tvb, field)
-  local it = element(tvb, 5, tvb:len())
-  if not it then return end
+-- The tags of a body's first element, for bodies that are elements.
+local FIRST = {
+  [1] = { [0x16] = true, [0x36] = true }, [2] = { [0xB1] = true }, [3] = { [0xB2] = true },
+  [5] = { [0x04] = true, [0x24] = true }, [14] = { [0x02] = true }, [17] = { [0xB6] = true },
+}
+
+-- Whether a body can be one of this kind, as far as its length and its first element tell.
+local function is_body(tvb, kind, length)
+  if FIRST[kind] then
+    local it = element(tvb, 5, tvb:len())
+    return it ~= nil and FIRST[kind][it.tag] ~= nil
+  end
+  return WANTED[kind] == length
+end
+
+-- The reason in a Reject or Abort, in words; one that is absent is 0.
+local function reason(tree, tvb, field, names)
+  local it, found = element(tvb, 5, tvb:len()), 0
   each(tvb, it.from, it.to, function(part)
-    if part.tag == 0x80 then integer(tree, field, tvb, part) end
+    if part.tag == 0x80 then found = integer(tree, field, tvb, part) or 0 end
   end)
+  return " " .. found .. (names[found] and " " .. names[found] or "")
 end
 
 local function one_unit(tvb, pinfo, root)
@@ -264,7 +280,7 @@ local function one_unit(tvb, pinfo, root)
   local tree = root:add(association, tvb())
   tree:add(fields.length, tvb(0, 4))
   tree:add(fields.kind, tvb(4, 1))
-  if length > LONGEST or not KINDS[kind] or WANTED[kind] and WANTED[kind] ~= length then
+  if length > LONGEST or not KINDS[kind] or not is_body(tvb, kind, length) then
     tree:add_proto_expert_info(bad)
     tree:append_text(": no unit")
     pinfo.cols.info:append(" (no unit)")
@@ -275,17 +291,19 @@ local function one_unit(tvb, pinfo, root)
   connections[stream] = connections[stream] or {}
   local connection = connections[stream]
   local message
+  local words = told(kind, tvb)
   if kind == 1 then
     open(tree, tvb, connection, from)
   elseif kind == 2 then
-    local it = element(tvb, 5, tvb:len())
-    if it then values(tree, tvb, it, 0xA2) end
-  elseif kind == 3 or kind == 17 then
-    reason(tree, tvb, kind == 3 and fields.refusal or fields.abort)
+    values(tree, tvb, element(tvb, 5, tvb:len()), 0xA2)
+  elseif kind == 3 then
+    words = words .. reason(tree, tvb, fields.refusal, REFUSALS)
+  elseif kind == 17 then
+    words = words .. reason(tree, tvb, fields.abort, ABORTS)
   elseif kind == 14 then
-    local it = element(tvb, 5, tvb:len())
-    if it then integer(tree, fields.priority, tvb, it) end
+    integer(tree, fields.priority, tvb, element(tvb, 5, tvb:len()))
   elseif kind == 16 then
+    words = words .. " " .. (FAULTS[tvb(5, 1):uint()] or tvb(5, 1):uint()) .. " at " .. tvb(6, 4):uint()
     tree:add(fields.fault, tvb(5, 1))
     tree:add(fields.place, tvb(6, 4))
   else
@@ -294,7 +312,6 @@ local function one_unit(tvb, pinfo, root)
     if kind == 10 or kind == 11 then tree:add(fields.number, tvb(9, 4)) end
     message = transfer(tree, tvb, pinfo, kind, connection, from, stream)
   end
-  local words = told(kind, tvb)
   tree:append_text(": " .. words)
   local info = tostring(pinfo.cols.info)
   info = (info == "" and "" or info .. ", ") .. words
@@ -321,7 +338,8 @@ end
 
 -- A connection whose first unit is an Open is known by it: a short name as IA5String and a SEQUENCE behind it.
 local function is_open(tvb, pinfo, root)
-  if tvb:len() < 9 or tvb(4, 1):uint() ~= 1 or tvb(0, 4):uint() > 4096 or tvb(5, 1):uint() ~= 0x16 then return false end
+  if tvb:len() < 9 or tvb(0, 4):uint() > 4096 then return false end
+  if tvb(4, 1):uint() ~= 1 or tvb(5, 1):uint() ~= 0x16 then return false end
   local size = tvb(6, 1):uint()
   if size < 1 or size > 32 or tvb:len() < 8 + size or tvb(7 + size, 1):uint() ~= 0x30 then return false end
   pinfo.conversation = association
