@@ -1,5 +1,7 @@
 """The units of an association and their octets, as docs/PROTOCOL.md has them."""
+import re
 from collections import namedtuple
+from datetime import datetime, timedelta
 
 import ber
 from ber import CONTEXT, IA5, INTEGER, NULL, OCTETS, SEQUENCE, TIME, UNIVERSAL, Bad, written, written_integer
@@ -11,6 +13,7 @@ MONOLOGUE, TWO_WAY = 0, 1
 # why an association is refused, and why one is aborted
 BUSY, CANNOT_RECOVER, NOT_VALID, WRONG_MODE = 0, 1, 2, 3
 LOCAL, PARAMETER, UNRECOGNIZED, TEMPORARY, PROTOCOL, PERMANENT, USER, COMPLETED = range(8)
+TIMES = re.compile(rb"(\d\d)(\d\d)(\d\d)(\d\d)(\d\d)(\d\d)?(?:Z|([+-])(\d\d)(\d\d))")
 TOO_LONG = 11  # the kind of fault of octets that pass the longest message
 
 Reference = namedtuple("Reference", "calling common additional")  # octets, a UTCTime's text, octets or None
@@ -203,12 +206,23 @@ def read_reference(it):
 
 
 def moment(octets):
-    """A UTCTime in the forms with Z. An offset in its place is not read here."""
-    if len(octets) == 13 and octets[:12].isdigit() and octets[12:] == b"Z":
-        return octets.decode()
-    if len(octets) == 11 and octets[:10].isdigit() and octets[10:] == b"Z":
-        return octets[:10].decode() + "00Z"
-    raise Bad("a moment in a form that this peer does not read")
+    """The text with seconds and Z of the moment that a UTCTime tells, so that equal moments have equal texts."""
+    parts = TIMES.fullmatch(octets)
+    if not parts:
+        raise Bad("no UTCTime")
+    year, month, day, hour, minute, second, sign, hours, minutes = (it and it.decode() for it in parts.groups())
+    if sign and (int(hours) > 23 or int(minutes) > 59):
+        raise Bad("no offset of a UTCTime")
+    try:
+        local = datetime(int(year) + (1900 if int(year) >= 50 else 2000), int(month), int(day), int(hour), int(minute),
+                         int(second or 0))
+    except ValueError:
+        raise Bad("a UTCTime that does not exist") from None
+    away = timedelta(hours=int(hours), minutes=int(minutes)) if sign else timedelta(0)
+    at = local + away if sign == "-" else local - away
+    if not 1950 <= at.year <= 2049:
+        raise Bad("a moment out of its range")
+    return at.strftime("%y%m%d%H%M%SZ")
 
 
 def read_data(it):
