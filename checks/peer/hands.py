@@ -19,6 +19,7 @@ class Hands:
     def __init__(self, command, name, connections, values, say):
         self.command, self.name, self.connections, self.values, self.say = command, name, connections, values, say
         self.link, self.size, self.first = None, None, None
+        self.strict = False  # whether the very next unit has to be the answer
 
     def connect(self):
         self.link = Link(self.connections.next(), self.say)
@@ -110,7 +111,7 @@ class Hands:
         try:
             while True:
                 unit = self.link.get()
-                if isinstance(unit, tuple(ends)):
+                if self.strict or isinstance(unit, tuple(ends)):
                     return unit
         except Over:
             return None

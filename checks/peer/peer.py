@@ -69,7 +69,9 @@ def associations(parser):
     parser.add_argument("--how", choices=("orderly", "reset", "kill"), default="orderly",
                         help="a break: what was put still comes; a reset; this process is killed")
     parser.add_argument("--give-up", type=int, default=0, metavar="N", help="give up the activity under way at unit N")
-    parser.add_argument("--hostile", metavar="KIND", help="one wrong unit; 'kinds' tells which there are")
+    parser.add_argument("--hostile", metavar="KIND",
+                        help="one wrong unit; 'kinds' tells which there are, 'all' tries all")
+    parser.add_argument("--stations", type=int, default=1, help="how many links the peer takes at once")
 
 
 def breaks_of(arguments, session):
@@ -99,7 +101,7 @@ def associate(arguments):
     values = Values(*words, mode, it.checkpoint, it.window, it.units, it.moment, it.give_up)
     connections = Calls(it) if it.command == "call" else Listens(it)
     if it.hostile:
-        return hostile.run(it.command, it.hostile, connections, values, say)
+        return hostile.run(it.command, it.hostile, connections, values, say, it.stations)
     role = Initiator if it.command == "call" else Responder
     end = "none"
     for session in range(it.sessions):

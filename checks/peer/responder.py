@@ -1,6 +1,6 @@
 """The responder of an association: it answers an Open, and asks for the turn where it has something to send."""
 from lane import NotAllowed
-from record import Refused
+from record import LANES, Refused
 from session import Ended, Session
 from units import (BUSY, CANNOT_RECOVER, MONOLOGUE, NOT_VALID, TWO_WAY, WRONG_MODE, Abort, Accept, Bind, Nothing, Open,
                    Please, Recover, Reject)
@@ -26,6 +26,7 @@ class Responder(Session):
             self.stop(Reject(WRONG_MODE))
         checkpoint = min(unit.checkpoint, it.checkpoint)  # 0 at either end means whole activities
         window = max(1, min(unit.window, it.window))
+        self.make_room()
         try:
             self.step("open", "in", tuple(unit.reference), unit.mode, checkpoint, window, True)
         except Refused as why:
@@ -37,6 +38,13 @@ class Responder(Session):
     def standing(self, reference):
         lanes = self.record.look().lanes
         return next((it for it in lanes if it.role == "in" and it.open and it.reference == tuple(reference)), None)
+
+    def make_room(self):
+        """Closes the lowest lane that nothing was sent over, where as many are open as this end keeps."""
+        lanes = [it for it in self.record.look().lanes if it.role == "in" and it.open]
+        unused = [it for it in lanes if it.high == 0 and it.send == ("idle", 0, 0)]
+        if len(lanes) >= LANES and unused:
+            self.step("close", unused[0].number, unused[0].generation)
 
     def recover(self, unit):
         self.lane = self.standing(unit.data.reference)

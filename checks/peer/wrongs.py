@@ -42,9 +42,9 @@ class Opposite:
 
 def one(command, kind, mode):
     """Runs one kind; answers whether it was run, not left out."""
-    opposite, lines = Opposite(command, mode, 3_000), []
+    opposite, lines = Opposite(command, mode, 5_000), []
     values = Values(b"silver", b"gold", b"ours", b"theirs", mode, 1, 3, LIMIT)
-    if hostile.run(command, kind, opposite, values, lines.append):
+    if hostile.run(command, kind, opposite, values, lines.append, stations=2):
         told = "\n".join([f"  hostile: {it}" for it in lines] + [f"  the other end: {it}" for it in opposite.lines])
         raise Wrong(f"{command} {kind} was not answered as it has to be\n{told}")
     opposite.done()
