@@ -207,7 +207,12 @@ def overtaken(hands):
     hands.drop()
     hands.link = first
     hands.put(End(1))
-    return WRONG
+    if hands.until(Abort) != WRONG:
+        return WRONG
+    hands.drop()
+    hands.recovered()
+    hands.put(Discard(1))
+    return DiscardAck(1)
 
 
 @kind("call", "too-long")

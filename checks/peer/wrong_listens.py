@@ -1,6 +1,6 @@
 """The wrong units of a responder."""
-from units import (NOT_VALID, PARAMETER, PERMANENT, TEMPORARY, Abort, Bind, Close, Data, DiscardAck, End, EndAck, Give,
-                   Nothing, Please, Recover, Reject, Start, Sync, SyncAck)
+from units import (NOT_VALID, PARAMETER, PERMANENT, TEMPORARY, Abort, Bind, Close, Data, Discard, DiscardAck, End,
+                   EndAck, Give, Nothing, Please, Recover, Reject, Resume, Start, Sync, SyncAck)
 from wrong_rows import BODY, KIND, LENGTH, ROWS, WRONG, kind, row
 
 row("listen", "start", WRONG, Start(1))
@@ -87,6 +87,34 @@ def again(hands):
     hands.until(Start)
     hands.drop()
     return first, hands.came(recovering=True)
+
+
+@kind("listen", "goes-on", "pieces")
+def goes_on(hands):
+    """No wrong unit: behind a break with a piece confirmed the first unit is Resume behind that piece."""
+    first = hands.opened()
+    activity = hands.until(Start).activity
+    hands.until(Sync)
+    hands.put(SyncAck(1))
+    hands.drop()
+    return recovered_first(hands, first, Resume(activity, 1))
+
+
+@kind("listen", "begins-anew")
+def begins_anew(hands):
+    """No wrong unit: behind a break with nothing confirmed the first unit is Discard."""
+    first = hands.opened()
+    activity = hands.until(Start).activity
+    hands.drop()
+    return recovered_first(hands, first, Discard(activity))
+
+
+def recovered_first(hands, first, wanted):
+    """Takes the Open that recovers this lane; the next unit has to be the one that is wanted."""
+    it = hands.came(recovering=True)
+    hands.put(first._replace(data=it.data))
+    hands.strict = True
+    return wanted
 
 
 @kind("listen", "recover-values")
