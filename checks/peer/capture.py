@@ -3,18 +3,23 @@
 
 `capture.py FOLDER DISSECTOR` writes FOLDER/capture.pcap, has tshark read it, and compares units, activities,
 checkpoint numbers and the identifiers of the messages. The packets are made here, so nobody has to be allowed to
-capture.
+capture. With `--call HOST:PORT` a foreign responder is called in place of the peer's own.
 """
+import argparse
 import os
+import socket
 import struct
 import subprocess
 import sys
 import threading
 from collections import defaultdict
 
+import foreign
 import units
+from initiator import Initiator
+from link import Break
 from pairs import Case, Pair, break_at
-from units import TWO_WAY, End
+from units import MONOLOGUE, TWO_WAY, End
 
 CUT = 700  # octets of a segment: units are cut, and a segment may hold the end of one and the beginning of the next
 PORTS = {"initiator": 50_000, "responder": 1001}
@@ -90,6 +95,19 @@ def associations(capture):
         pair.check()
 
 
+def foreign_associations(capture, arguments):
+    """Messages to a foreign responder: unbroken, then over associations with two breaks."""
+    side = foreign.Side(arguments)
+    values = side.values(TWO_WAY if arguments.mode == "twa" else MONOLOGUE, 1, 3)
+    for size, breaks in ((0, [None]), (3_000, [Break(14), Break(9, "before"), None])):
+        side.queue(size)
+        for it in breaks:
+            capture.begin()
+            connection = socket.create_connection(foreign.where(arguments.call))
+            side.session(Initiator, connection, values, it,
+                         lambda put, octets: capture.tap("initiator" if put else "responder", octets))
+
+
 def read_back(path, dissector):
     """What tshark tells: the fields of LINES for each association and side, and identifiers of messages."""
     words = ["tshark", "-r", path, "-X", f"lua_script:{dissector}", "-T", "fields", "-E", "occurrence=a"]
@@ -107,12 +125,20 @@ def read_back(path, dissector):
     return found, messages
 
 
-def main(folder, dissector):
-    path = os.path.join(folder, "capture.pcap")
+def main():
+    parser = argparse.ArgumentParser(description="Compares what a dissector shows with what was put.")
+    parser.add_argument("made", metavar="FOLDER")
+    parser.add_argument("dissector", metavar="DISSECTOR")
+    foreign.words(parser)
+    arguments = parser.parse_args()
+    path = os.path.join(arguments.made, "capture.pcap")
     capture = Capture(path)
-    associations(capture)
+    if arguments.call:
+        foreign_associations(capture, arguments)
+    else:
+        associations(capture)
     capture.flush()
-    found, messages = read_back(path, dissector)
+    found, messages = read_back(path, arguments.dissector)
     wrong = 0
     for key, those in capture.put.items():
         if found[key] != numbers_of(those):
@@ -127,4 +153,4 @@ def main(folder, dissector):
 
 
 if __name__ == "__main__":
-    sys.exit(main(*sys.argv[1:]))
+    sys.exit(main())

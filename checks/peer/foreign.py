@@ -54,8 +54,9 @@ class Side:
         words = [text.encode() for text in (it.name, it.peer, it.password, it.expected)]
         return Values(*words, mode, checkpoint, window, moment=it.moment)
 
-    def session(self, role, connection, values, breaks=None):
+    def session(self, role, connection, values, breaks=None, tap=None):
         link = Link(connection, self.lines.append, breaks)
+        link.tap = tap
         return role(link, self.record, values).run(), link.count
 
     def once(self):

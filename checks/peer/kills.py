@@ -19,7 +19,7 @@ class Process:
     """A process of its own that runs the peer with these words; what it tells goes into a file."""
 
     def __init__(self, told, *words):
-        self.told = told
+        self.told, self.status = told, None
         sys.stdout.flush()
         self.number = os.fork()
         if self.number == 0:
@@ -30,15 +30,25 @@ class Process:
             finally:
                 os._exit(status)
 
+    def gone(self, how=os.WNOHANG):
+        """Whether it is over."""
+        if self.status is None:
+            number, status = os.waitpid(self.number, how)
+            self.status = status if number else None
+        return self.status is not None
+
     def wait(self):
         """Whether it was killed, and its lines."""
-        _, status = os.waitpid(self.number, 0)
+        self.gone(0)
         with open(self.told) as told:
-            return os.WIFSIGNALED(status), told.read()
+            return os.WIFSIGNALED(self.status), told.read()
 
 
-def port_of(file):
+def port_of(file, process):
+    """The port that the process has written there."""
     while not os.path.exists(file):
+        if process.gone():
+            raise Wrong("the listening process ended before it had a port")
         time.sleep(0.002)
     with open(file) as port:
         return int(port.read())
@@ -52,8 +62,9 @@ def session(folders, made, mode, kill=None, number=0):
         os.remove(port)
     listens = Process(os.path.join(made, "listens"), "listen", "127.0.0.1:0", folders["listen"], "--port-file", port,
                       "--mode", mode, *NAMES["listen"], *more["listen"])
-    calls = Process(os.path.join(made, "calls"), "call", f"127.0.0.1:{port_of(port)}", folders["call"], "--mode", mode,
-                    *NAMES["call"], *more["call"])
+    at = f"127.0.0.1:{port_of(port, listens)}"
+    calls = Process(os.path.join(made, "calls"), "call", at, folders["call"], "--mode", mode, *NAMES["call"],
+                    *more["call"])
     one, told = calls.wait()
     other, also = listens.wait()
     return one or other, told.endswith("end closed\n"), told + also

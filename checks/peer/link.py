@@ -33,7 +33,7 @@ class Link:
     def __init__(self, connection, say, breaks=None):
         self.connection, self.say, self.breaks = connection, say, breaks
         self.count = self.got = 0
-        self.tap = None  # called with the octets of each unit before they are put
+        self.tap = None  # called with whether a unit is put, and its octets: before they are put, or once they came
         self.over = False
         connection.setsockopt(socket.IPPROTO_TCP, socket.TCP_NODELAY, 1)
         connection.settimeout(SILENCE)
@@ -57,7 +57,7 @@ class Link:
             raise Over()
         self.turn("before")
         if self.tap:
-            self.tap(octets)
+            self.tap(True, octets)
         try:
             self.connection.sendall(octets)
         except OSError:
@@ -90,6 +90,8 @@ class Link:
         if not 1 <= kind <= len(units.KINDS):
             raise self.bad(f"kind octet {kind}")
         body = self.octets(length)
+        if self.tap:
+            self.tap(False, units.frame(kind, body))
         try:
             unit = units.read(kind, body)
         except units.Bad as why:

@@ -52,7 +52,7 @@ class Pair:
         lines = self.lines[name]
         link = Link(connection, lines.append, breaks)
         if self.tap:
-            link.tap = lambda octets: self.tap(name, octets)
+            link.tap = lambda put, octets: put and self.tap(name, octets)
         values = self.case.values(own, peer, self.give_up if name == "initiator" else 0)
         try:
             self.ends[name] = role(link, Record(self.stores[name]), values).run()
