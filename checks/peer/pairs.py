@@ -68,7 +68,7 @@ class Pair:
         breaks = breaks or {}
         calling, called = connected()
         also = ("responder", Responder, b"gold", b"silver", called, breaks.get("responder"))
-        other = threading.Thread(target=self.side, args=also)
+        other = threading.Thread(target=self.side, args=also, daemon=True)
         other.start()
         self.side("initiator", Initiator, b"silver", b"gold", calling, breaks.get("initiator"))
         other.join()

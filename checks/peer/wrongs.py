@@ -29,7 +29,7 @@ class Opposite:
         ours, theirs = connected()
         values = Values(b"gold", b"silver", b"theirs", b"ours", self.mode, 1, 3, LIMIT)
         link = Link(theirs, self.lines.append)
-        running = threading.Thread(target=lambda: self.role(link, Record(self.store), values).run())
+        running = threading.Thread(target=lambda: self.role(link, Record(self.store), values).run(), daemon=True)
         running.start()
         self.running.append(running)
         return ours
