@@ -1,0 +1,5 @@
+pub mod Wordings
+pub mod Entries
+pub mod Telling
+pub mod Planning
+pub mod Sides
