@@ -2,4 +2,3 @@ pub mod Wordings
 pub mod Entries
 pub mod Telling
 pub mod Planning
-pub mod Sides

@@ -6,9 +6,10 @@ use Rattle.mta_rtse.specs.Canon.{IsWritableBind, IsWritableRequest}
 use Rattle.mta_rtse.specs.Spelling.{request_of}
 use Rattle.mta_session.specs.declared.peer.Peer.{Peer}
 use Rattle.mta_session.specs.Wanted.{answer_to}
+use Rattle.mta_session_laws.specs.Writing.{SideWrites}
 use Rattle.mta_plans.specs.Lines.{IsLine}
 use Rattle.mta_plans.specs.Names.{IsName}
-use Rattle.mta_plans.specs.Told.{ShowsName, TellsLine, LinesMayBeAccepted, LinesMayBeTold}
+use Rattle.mta_plans.specs.Told.{TellsLine, LinesMayBeAccepted, LinesMayBeTold}
 use Rattle.mta_plans.proofs.Wordings.{password_is_text}
 
 pub bind : (own : List ℕ) (p : Peer) → IsName own → IsLine p → IsWritableBind own p.send_password
@@ -24,5 +25,5 @@ pub lines_may_be_accepted : LinesMayBeAccepted
 lines_may_be_accepted own o p name line = λ checkpoint window fits. answer own p o.request name line
 
 pub lines_may_be_told : LinesMayBeTold
-lines_may_be_told t e shows tells = λ own o p side opened is.
-    lines_may_be_accepted own o p (subst ShowsName side shows) (subst TellsLine is tells)
+lines_may_be_told t e writes tells = λ own o p side opened is.
+    lines_may_be_accepted own o p (subst SideWrites side writes) (subst TellsLine is tells)

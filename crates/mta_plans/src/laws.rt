@@ -3,7 +3,7 @@
 ghost use Rattle.std.specs.Prelude.{◌≡◌, List, ℕ, Ok};
 ghost use Rattle.mta_tables.specs.Tables.{TablesValue, tables_of};
 ghost use Rattle.mta_plans.specs.Lines.{HaveLines};
-ghost use Rattle.mta_plans.specs.Told.{LinesMayBeAccepted, LinesMayBeTold, SidesStay, SidesStayInCalls};
+ghost use Rattle.mta_plans.specs.Told.{LinesMayBeAccepted, LinesMayBeTold};
 
 use mta_tables::tables_of_a_text_are_read;
 
@@ -18,10 +18,4 @@ pub fn tables_of_a_text_have_lines()
 pub fn lines_may_be_told()
     ensures accepted { LinesMayBeAccepted }
     ensures told { LinesMayBeTold }
-{}
-
-/// A session is an initiator's of this plan or a responder's of this name from its first call to its end.
-pub fn sessions_keep_their_side()
-    ensures one { SidesStay }
-    ensures all { SidesStayInCalls }
 {}
