@@ -1,0 +1,4 @@
+pub mod Wordings
+pub mod Entries
+pub mod Telling
+pub mod Planning
