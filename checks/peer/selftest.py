@@ -114,8 +114,11 @@ def given_up():
     jobs = [(case, [], number) for number in range(1, count + 1)]
     jobs += [(case, [(side, number + later, "after")], number)
              for number in range(1, count + 1) for later in range(4) for side in ("initiator", "responder")]
-    all_of(broken, jobs)
-    print(f"{len(jobs)} transfers with an activity given up: it did not arrive, or was sent before", flush=True)
+    states = [status for pair in all_of(broken, jobs) for _, status in pair.state("initiator").messages]
+    count = states.count("given up")
+    if count < len(jobs) // 4:
+        raise Wrong(f"of {len(jobs)} activities that were to be given up {count} were")
+    print(f"{count} activities given up, in {len(jobs)} transfers: none arrived", flush=True)
 
 
 def same_lines():
