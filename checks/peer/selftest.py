@@ -98,6 +98,16 @@ def pairs_of_breaks():
     print(f"{len(jobs)} transfers with two breaks: every message arrived once", flush=True)
 
 
+def resets():
+    """A break at every unit by a reset of the connection, which may lose what is on its way in either direction."""
+    case = Case(2_500, 1, 2, TWO_WAY)
+    counts = unbroken(case).counts
+    jobs = [(case, [(side, number, place, "reset")])
+            for side in counts for number in range(1, counts[side] + 1) for place in ("after", "before")]
+    all_of(broken, jobs)
+    print(f"{len(jobs)} transfers with a connection that is reset: every message arrived once", flush=True)
+
+
 def each_in_turn():
     """Session i is broken behind unit i, until one closes before its break comes."""
     for mode in MODES:
@@ -140,6 +150,7 @@ def main():
             return foreign.run(arguments)
         transfers(arguments.whole)
         pairs_of_breaks()
+        resets()
         each_in_turn()
         given_up()
         same_lines()
