@@ -84,10 +84,10 @@ def transfers(whole):
 
 
 def pairs_of_breaks():
-    """A break at every unit of a session of three pieces, and one at every unit of the session that recovers."""
+    """A break at every unit of a session of two or three pieces, and one at every unit of the one that recovers."""
     jobs = []
-    for mode, window in ((MONOLOGUE, 2), (TWO_WAY, 1)):
-        case = Case(2_500, 1, window, mode)
+    for size, mode, window in ((2_500, MONOLOGUE, 2), (1_500, TWO_WAY, 1)):
+        case = Case(size, 1, window, mode)
         count = unbroken(case).counts["initiator"]
         for first in range(1, count + 1):
             for second in range(1, count + 1):
