@@ -1,5 +1,5 @@
 #!/usr/bin/env bash
-# A plain peer of associations, written from docs/PROTOCOL.md, against itself over loopback: transfers with breaks at every unit, kills, and wrong
+# A plain peer of associations, as docs/PROTOCOL.md has them, against itself over loopback: transfers with breaks at every unit, kills, and wrong
 # units. Run it at the top of the repository; words go on to checks/peer/selftest.py, which can meet a foreign peer too.
 set -u
 cd "$(dirname "$0")/.." || exit 2

@@ -105,6 +105,8 @@ class Hands:
 
     def answer(self, wanted):
         """The first unit of the kind that is wanted, or that ends an association; None where it just ends."""
+        # the end of what is put stands behind the wrong unit, so a peer that takes that unit does not wait for more
+        self.link.finish()
         ends = [Abort, Reject, Fault]
         if wanted is not None:
             ends.append(kind_of(wanted))

@@ -104,6 +104,13 @@ class Link:
         self.say(f"got no unit: {why}")
         return BadUnit()
 
+    def finish(self):
+        """Puts nothing more; what comes is still read."""
+        try:
+            self.connection.shutdown(socket.SHUT_WR)
+        except OSError:
+            pass
+
     def drop(self, how="orderly"):
         """Ends the connection. Orderly: what comes is thrown away until the other end is through too."""
         if self.over:
@@ -114,8 +121,8 @@ class Link:
         if how == "reset":
             self.connection.setsockopt(socket.SOL_SOCKET, socket.SO_LINGER, struct.pack("ii", 1, 0))
         else:
+            self.finish()
             try:
-                self.connection.shutdown(socket.SHUT_WR)
                 while self.stream.read1(65536):
                     pass
             except OSError:

@@ -111,5 +111,5 @@ def connected():
         return socket.create_connection(LISTENER.getsockname()), LISTENER.accept()[0]
 
 
-def break_at(side, number, place):
-    return {side: Break(number, place)}
+def break_at(side, number, place, how="orderly"):
+    return {side: Break(number, place, how)}

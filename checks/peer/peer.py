@@ -1,5 +1,5 @@
 #!/usr/bin/env python3
-"""A plain peer of an association, written from docs/PROTOCOL.md. `peer.py --help` tells its words.
+"""A plain peer of an association, as docs/PROTOCOL.md has it. `peer.py --help` tells its words.
 
 It keeps what it has sent and received in a folder, so it may be stopped at any moment and started again. What it
 prints is the same for the same run: no moment, no port and no number of a process stands there.

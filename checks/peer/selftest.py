@@ -84,10 +84,10 @@ def transfers(whole):
 
 
 def pairs_of_breaks():
-    """A break at every unit of a session of three pieces, and one at every unit of the session that recovers."""
+    """A break at every unit of a session of two or three pieces, and one at every unit of the one that recovers."""
     jobs = []
-    for mode, window in ((MONOLOGUE, 2), (TWO_WAY, 1)):
-        case = Case(2_500, 1, window, mode)
+    for size, mode, window in ((2_500, MONOLOGUE, 2), (1_500, TWO_WAY, 1)):
+        case = Case(size, 1, window, mode)
         count = unbroken(case).counts["initiator"]
         for first in range(1, count + 1):
             for second in range(1, count + 1):
@@ -96,6 +96,16 @@ def pairs_of_breaks():
                 jobs.append((case, [(other, first, "before"), (one, second, "after")]))
     all_of(broken, jobs)
     print(f"{len(jobs)} transfers with two breaks: every message arrived once", flush=True)
+
+
+def resets():
+    """A break at every unit by a reset of the connection, which may lose what is on its way in either direction."""
+    case = Case(2_500, 1, 2, TWO_WAY)
+    counts = unbroken(case).counts
+    jobs = [(case, [(side, number, place, "reset")])
+            for side in counts for number in range(1, counts[side] + 1) for place in ("after", "before")]
+    all_of(broken, jobs)
+    print(f"{len(jobs)} transfers with a connection that is reset: every message arrived once", flush=True)
 
 
 def each_in_turn():
@@ -114,8 +124,11 @@ def given_up():
     jobs = [(case, [], number) for number in range(1, count + 1)]
     jobs += [(case, [(side, number + later, "after")], number)
              for number in range(1, count + 1) for later in range(4) for side in ("initiator", "responder")]
-    all_of(broken, jobs)
-    print(f"{len(jobs)} transfers with an activity given up: it did not arrive, or was sent before", flush=True)
+    states = [status for pair in all_of(broken, jobs) for _, status in pair.state("initiator").messages]
+    count = states.count("given up")
+    if count < len(jobs) // 4:
+        raise Wrong(f"of {len(jobs)} activities that were to be given up {count} were")
+    print(f"{count} activities given up, in {len(jobs)} transfers: none arrived", flush=True)
 
 
 def same_lines():
@@ -137,6 +150,7 @@ def main():
             return foreign.run(arguments)
         transfers(arguments.whole)
         pairs_of_breaks()
+        resets()
         each_in_turn()
         given_up()
         same_lines()
