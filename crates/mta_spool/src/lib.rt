@@ -8,7 +8,6 @@ mod looks;
 mod make;
 mod open;
 mod opening;
-mod receiving;
 mod replay;
 mod settling;
 mod spool;
