@@ -18,11 +18,11 @@ use Rattle.mta_journal.specs.Bodies.{longest_body}
 use Rattle.mta_spool.specs.Due.{IsDueStep}
 use Rattle.mta_spool.specs.OnLanes.{IsBrief}
 
-length-long : (n : ℕ) → length (number_octets w64 n) ≡ 8
+pub length-long : (n : ℕ) → length (number_octets w64 n) ≡ 8
 unfolding number_octets
 length-long n = refl
 
-length-string : (octets : List ℕ) → length (string octets) ≡ length octets + 4
+pub length-string : (octets : List ℕ) → length (string octets) ≡ length octets + 4
 unfolding string number_octets
 length-string octets = omega arith
 
@@ -33,7 +33,7 @@ pub length-accept : (moment : ℕ) (apdu : List ℕ) → length (body_of (Accept
 length-accept moment apdu =
     omega (arith, length-append (number_octets w64 moment) (string apdu), length-long moment, length-string apdu)
 
-length-two : (a b moment : ℕ) → length (two_and_moment_octets (a, (b, moment))) ≡ 16
+pub length-two : (a b moment : ℕ) → length (two_and_moment_octets (a, (b, moment))) ≡ 16
 unfolding two_and_moment_octets number_octets
 length-two a b moment = refl
 
@@ -90,11 +90,11 @@ length-activity : (n g k : ℕ) → length (activity_octets ((n, g), k)) ≡ 16
 unfolding activity_octets lane_octets number_octets
 length-activity n g k = refl
 
-length-numbered : (n g k m : ℕ) → length (numbered_activity_octets (((n, g), k), m)) ≡ 20
+pub length-numbered : (n g k m : ℕ) → length (numbered_activity_octets (((n, g), k), m)) ≡ 20
 unfolding numbered_activity_octets activity_octets lane_octets number_octets
 length-numbered n g k m = refl
 
-length-number : (n : ℕ) → length (number_octets w32 n) ≡ 4
+pub length-number : (n : ℕ) → length (number_octets w32 n) ≡ 4
 unfolding number_octets
 length-number n = refl
 

@@ -8,3 +8,6 @@ pub mod Refused
 pub mod Replays
 pub mod Turns
 pub mod Opened
+pub mod LaneLengths
+pub mod PeerWords
+pub mod Started

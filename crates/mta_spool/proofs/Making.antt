@@ -201,6 +201,28 @@ module _ {D : Type 0} (model : DiskView D) (step : Step) where
     full_where = λ on no left long. inr refl;
   }
 
+  -- there was no memory to look whether a refusal for its lane stands
+  pub no_memory_to_look : (old new : JournalShown D) (s s' : State) → new ≡ old → s' ≡ s → old.ended ≡ false
+      → (IsSpent s step → ⊥) → Makes model step old s new s' (Some StepFaults.Memory)
+  no_memory_to_look old new s s' same kept going numbers = record {
+    row = λ f e of. absurd (of-lane StepFaults.Memory f e of);
+    row_where = λ on f is. inr refl;
+    done = λ ok. absurd cc;
+    changed = λ ok. absurd cc;
+    going = λ ok. absurd cc;
+    told = stays_told old new same;
+    crash = λ calm. elim calm [ inl e ↦ absurd cc | inr e ↦ absurd cc ];
+    kept = λ some other. (same, kept);
+    later = no_later old new same;
+    disk = λ e. absurd cc;
+    ended = (λ e. absurd cc, λ e. absurd cc);
+    marked = λ e. absurd cc;
+    spent = λ last e. absurd cc;
+    spent_where = λ on no is. absurd (numbers is);
+    full = λ n m e. absurd cc;
+    full_where = λ on no left long. inr refl;
+  }
+
   -- an earlier step had answered that the disk failed
   pub is_ended : (old new : JournalShown D) (s s' : State) → new ≡ old → s' ≡ s → old.ended ≡ true
       → Makes model step old s new s' (Some StepFaults.Ended)

@@ -1,18 +1,31 @@
--- When a lane may be opened.
-use Rattle.std.proofs.Common.{◌≡◌, ◌≤◌, ◌+◌, ℕ, Bool, true, false, List, [], ◌∷◌, length, count_by, bytes_eq}
-use Rattle.std.proofs.Common.{Option, None, Some, inl, inr, refl, sym, subst, arith}
-use Rattle.std.specs.Prelude.{◌&&◌, suc, if◌then◌else◌}
+-- When a lane may be opened, and what is written down then.
+use Rattle.std.proofs.Common.{◌≡◌, ◌≤◌, ◌<◌, ◌+◌, ◌^◌, ℕ, Bool, true, false, List, [], ◌∷◌, length, count_by}
+use Rattle.std.proofs.Common.{bytes_eq, Option, None, Some, inl, inr, refl, sym, subst, ◌∙◌, arith}
+use Rattle.std.specs.Prelude.{◌&&◌, ◌↔◌, suc, if◌then◌else◌}
 use Rattle.std.proofs.lemmas.Bool.{and_parts}
 use Rattle.std.proofs.lemmas.Slice.Eq.{bytes_eq-Decides}
-use Rattle.mta_records.specs.Reference.{Identifier}
+use Rattle.mta_ber.specs.Times.{last_moment}
+use Rattle.mta_journal.specs.Bodies.{longest_body}
+use Rattle.mta_records.specs.Body.{HasFields, body_of}
+use Rattle.mta_records.specs.Reference.{Identifier, IsIdentifier}
 use Rattle.mta_records.specs.declared.lane.LaneRole.{LaneRole}
 use Rattle.mta_records.specs.declared.lane.LaneRole.TheVariants.{Initiator, Responder}
-use Rattle.mta_histories.specs.Lanes.{Lane, EachLane}
-use Rattle.mta_histories.specs.History.{is_role, is_with}
+use Rattle.mta_records.specs.declared.step.Step.TheVariants as steps
+use Rattle.mta_machine.specs.Items.{Machine, numbered}
+use Rattle.mta_machine.specs.Machine.{last_tables}
+use Rattle.mta_machine.specs.Rules.{names_peer}
+use Rattle.mta_histories.specs.Classes.{opens}
+use Rattle.mta_histories.specs.Lanes.{Lane, State, EachLane}
+use Rattle.mta_histories.specs.History.{IsPossible, NamesPeer, is_role, is_with}
 use Rattle.mta_histories.specs.Kept.{AreNumbered}
 use Rattle.mta_lanes.specs.Finds.{IsNamed}
 use Rattle.mta_spool.specs.Looking.{IsFirstNamed}
 use Rattle.mta_spool.specs.Opened.{IsOther}
+use Rattle.mta_spool.specs.Refusals.{MayOpen, open_with}
+use Rattle.mta_spool.specs.Stands.{IsOfNoRefusal}
+use Rattle.mta_spool.proofs.LaneLengths.{short_opening}
+use Rattle.mta_spool.proofs.PeerWords.{peer_word}
+use Rattle.mta_spool.proofs.Refused.{allowed}
 
 role-same : (a b : LaneRole) → is_role a b ≡ true → b ≡ a
 role-same Initiator Initiator e = refl
@@ -80,3 +93,94 @@ pub few_with : (role : LaneRole) (peer : List ℕ) (lanes : List Lane) (most : �
     → count_by (is_with role peer) lanes ≤ most
 few_with role peer lanes most each =
     omega (arith, numbered-most 0 lanes most each, count-most (is_with role peer) lanes)
+
+-- ---- what is needed, and what is written down
+
+module _ (s : State) (role : LaneRole) (peer : List ℕ) (name : Identifier) (size window : ℕ) where
+  -- four tests tell whether a lane may be opened, if not too many are open
+  pub may_open : (a b c d : Bool) → (a ≡ true) ↔ NamesPeer (numbered s.machine.tables (last_tables s.machine)) peer
+      → (b ≡ true) ↔ EachLane (IsOther role peer name) s.lanes.open_lanes
+      → (c ≡ true) ↔ (s.lanes.count + 1 < 2 ^ 32)
+      → (d ≡ true) ↔ ((size ≤ 64) × ((1 ≤ window) × (window ≤ 8)))
+      → ((a && (b && (c && d))) ≡ true) ↔ MayOpen s role peer name size window
+  may_open a b c d named new number fits = (
+    λ all.
+        let first = and_parts a (b && (c && d)) all in
+        let second = and_parts b (c && d) first.1 in
+        let third = and_parts c d second.1 in
+        let values = fits.0 third.1 in
+        record {
+          named = named.0 first.0;
+          new = new.0 second.0;
+          number = number.0 third.0;
+          checkpoint_fits = values.0;
+          window_fits = values.1;
+        },
+    λ may.
+        both-true a (b && (c && d)) (named.1 may.named)
+        (both-true b (c && d) (new.1 may.new)
+        (both-true c d (number.1 may.number) (fits.1 (may.checkpoint_fits, may.window_fits)))),
+  )
+
+  module _ (twa : Bool) (moment : ℕ) (may : MayOpen s role peer name size window) where
+    pub opening_fields : IsIdentifier name → moment ≤ last_moment
+        → HasFields (steps.LaneOpen role peer name twa size window moment)
+    opening_fields is fits =
+        let size_fits = may.checkpoint_fits in
+        let window_fits = may.window_fits.1 in
+        (
+          (tt, (peer_word (numbered s.machine.tables (last_tables s.machine)) peer may.named, is)),
+          (tt, (omega (arith, size_fits), (omega (arith, window_fits), fits))),
+        )
+
+    pub opening_short : IsIdentifier name
+        → length (body_of (steps.LaneOpen role peer name twa size window moment)) ≤ longest_body
+    opening_short is =
+        short_opening role peer name twa size window moment
+        (peer_word (numbered s.machine.tables (last_tables s.machine)) peer may.named) is
+
+    pub opening_possible : open_with s role peer < 64 → s.moment ≤ moment → length s.machine.items < 2 ^ 32
+        → IsPossible s (steps.LaneOpen role peer name twa size window moment)
+    opening_possible room timely few = record {
+      allowed = record {
+        named = may.named;
+        room = room;
+        new = may.new;
+        number = may.number;
+        checkpoint_fits = may.checkpoint_fits;
+        window_fits = may.window_fits;
+      };
+      as_machine = tt;
+      timely = timely;
+      numbers = few;
+    }
+
+    -- where it may be opened and there is room no refusal for a lane stands
+    pub opening_allowed : open_with s role peer < 64
+        → IsOfNoRefusal s (steps.LaneOpen role peer name twa size window moment)
+    opening_allowed room f is =
+        allowed s (opens role peer name twa size window) moment f (record {
+          named = may.named;
+          room = room;
+          new = may.new;
+          number = may.number;
+          checkpoint_fits = may.checkpoint_fits;
+          window_fits = may.window_fits;
+        }) is
+
+pub ruleset may_open_laws = (may_open)
+
+-- ---- tables
+
+-- where none were recorded no peer is named
+pub no_peer : (m : Machine) (peer : List ℕ) → m.tables ≡ []
+    → NamesPeer (numbered m.tables (last_tables m)) peer → ⊥
+no_peer m peer none named =
+    subst (λ (ts : List (List ℕ)). NamesPeer (numbered ts (length ts)) peer) none named
+
+pub last_peer : (m : Machine) (text peer : List ℕ) (b : Bool) → numbered m.tables (last_tables m) ≡ Some text
+    → b ≡ names_peer text peer → (b ≡ true) ↔ NamesPeer (numbered m.tables (last_tables m)) peer
+last_peer m text peer b last is = (
+  λ does. subst (λ (o : Option (List ℕ)). NamesPeer o peer) (sym last) (sym is ∙ does),
+  λ named. is ∙ subst (λ (o : Option (List ℕ)). NamesPeer o peer) last named,
+)

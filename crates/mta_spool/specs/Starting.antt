@@ -1,16 +1,13 @@
 -- An activity that is started or goes on.
-use Rattle.std.specs.Prelude.{◌≡◌, ℕ, ◌+◌, ◌-◌, ◌^◌, true, false, Option, None, Some, Result, Err, if◌then◌else◌}
+use Rattle.std.specs.Prelude.{◌≡◌, ℕ, ◌+◌, ◌-◌, ◌^◌, ◌==◌, ◌&&◌, nat_lt, true, false, List, Option, None, Some}
+use Rattle.std.specs.Prelude.{Result, Err, if◌then◌else◌}
 use Rattle.mta_records.specs.declared.fault.StepFault.{StepFault}
 use Rattle.mta_records.specs.declared.fault.StepFault.TheVariants as Faults
 use Rattle.mta_records.specs.Outgoing.{Carried}
 use Rattle.mta_lane_send.specs.Half.{is_idle, last_of}
 use Rattle.mta_records.specs.declared.step.Step.{Step}
-use Rattle.mta_records.specs.declared.step.Step.TheVariants as step
-use Rattle.mta_histories.specs.Lanes.{Transfer, Lane, State}
-use Rattle.mta_histories.specs.History.{IsPossible, transfer_of}
-use Rattle.mta_lanes.specs.declared.change.LaneChange.TheVariants as lane_change
-use Rattle.mta_replay.specs.declared.change.Change.{Change}
-use Rattle.mta_replay.specs.declared.change.Change.TheVariants as change
+use Rattle.mta_histories.specs.Lanes.{Transfer, Lane, State, lane_at}
+use Rattle.mta_histories.specs.History.{CanStart, IsPossible}
 use Rattle.mta_spool.specs.Shown.{Shown}
 use Rattle.mta_spool.specs.Turning.{IsUnchanged}
 
@@ -32,28 +29,28 @@ IsResumed (Some lane) None = is_idle lane.sending ≡ true
 IsResumed (Some lane) (Some outgoing) =
     (is_idle lane.sending ≡ false) × Carries lane.transfer (last_of lane.sending) outgoing
 
+-- why no activity is started on the lane, where each number was given: the refusals for a lane come first
+abbrev pub refusal_past_last : Option Lane → (number generation : ℕ) → StepFault
+refusal_past_last None n g = Faults.NoLane n
+refusal_past_last (Some lane) n g =
+    if nat_lt g lane.generation then Faults.Fenced lane.generation
+    else if (g == lane.generation) && lane.agreed && is_idle lane.sending then Faults.Spent (2 ^ 32 - 1)
+    else Faults.Unexpected
+
 -- no number of an activity is left on the lane
-abbrev pub StartsPastLast : {D C T : Type 0} → Shown D C → Shown D C → Result T StepFault → Type 0
-StartsPastLast old new result =
+abbrev pub StartsPastLast : {D C T : Type 0} → (number generation : ℕ) → Shown D C → Shown D C → Result T StepFault
+    → Type 0
+StartsPastLast n g old new result =
     IsUnchanged old new
-    × (result ≡ (if old.journal.ended then Err Faults.Ended else Err (Faults.Spent (2 ^ 32 - 1))))
+    × (result
+    ≡ (if old.journal.ended then Err Faults.Ended
+    else Err (refusal_past_last (lane_at n old.current.lanes.open_lanes) n g)))
 
--- it starts an activity of this number
-abbrev pub Starts : ℕ → Step → Type 0
-Starts activity (step.Start lane generation k item recipients moment) = k ≡ activity
-Starts activity other = ⊥
+-- an activity of this number may be started on some lane, for these recipients of the item
+abbrev pub MayStart : State → (k i : ℕ) → List ℕ → (moment : ℕ) → Type 0
+MayStart s k i rs moment = (lane : Lane) × CanStart s lane k i rs moment
 
--- what a change of a lane transfers, as the activity of this number; none where it starts none
-abbrev pub IsStartedBy : ℕ → Change → Option Carried → Type 0
-IsStartedBy activity (change.OnLane n (lane_change.Start t) moment) None = ⊥
-IsStartedBy activity (change.OnLane n (lane_change.Start t) moment) (Some outgoing) = Carries (Some t) activity outgoing
-IsStartedBy activity other found = found ≡ None
-
--- What a Start transfers where it is possible: what the lane transfers after it.
-abbrev pub IsStartedAt : State → Step → Option Carried → Type 0
-IsStartedAt s (step.Start lane generation k item recipients moment) None =
-    IsPossible s (step.Start lane generation k item recipients moment) → ⊥
-IsStartedAt s (step.Start lane generation k item recipients moment) (Some outgoing) =
-    IsPossible s (step.Start lane generation k item recipients moment)
-    × Carries (Some (transfer_of s.machine item recipients moment)) k outgoing
-IsStartedAt s other found = ⊥
+-- what a step transfers as the activity of this number, where it is possible; none where it is not
+abbrev pub StartsAs : State → Step → Transfer → ℕ → Option Carried → Type 0
+StartsAs s step t k None = IsPossible s step → ⊥
+StartsAs s step t k (Some outgoing) = IsPossible s step × Carries (Some t) k outgoing

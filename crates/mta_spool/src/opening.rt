@@ -1,7 +1,8 @@
 //! A lane is opened (X.228, association establishment).
 
-ghost use Rattle.std.specs.Prelude.{◌≡◌, ◌≤◌, ◌+◌, ◌↔◌, IfOk, IsTrue};
+ghost use Rattle.std.specs.Prelude.{◌≡◌, ◌≤◌, ◌<◌, ◌+◌, ◌^◌, ◌↔◌, IfOk, IsTrue};
 ghost use Rattle.mta_ber.specs.Times.{last_moment};
+ghost use Rattle.mta_records.specs.Reference.{IsIdentifier};
 ghost use Rattle.mta_histories.specs.Lanes.{EachLane};
 ghost use Rattle.mta_spool.specs.Refusals.{MayOpen, open_with};
 
@@ -19,6 +20,13 @@ fn may_be_values(checkpoint: u32, window: u32) -> bool
     ensures { IsTrue result ↔ (checkpoint ≤ 64) × ((1 ≤ window) × (window ≤ 8)) }
 {
     checkpoint <= 64 && 1 <= window && window <= 8
+}
+
+// The parts of a reference are in their ranges.
+fn reference_fits(reference: &Reference)
+    ensures { IsIdentifier reference.now }
+{
+    reference.common();
 }
 
 impl<D: Disk + Drop, C: Clock + Drop> Spool<D, C> {
@@ -52,7 +60,15 @@ impl<D: Disk + Drop, C: Clock + Drop> Spool<D, C> {
         }
     }
 
+    // Whether a number of a lane is left.
+    fn has_number(&self) -> bool
+        ensures { IsTrue result ↔ (self.now.current.lanes.count + 1 < 2 ^ 32) }
+    {
+        self.replay.kept.lanes.count < u32::MAX
+    }
+
     // Whether a lane may be opened, if not too many of the role are open with the peer.
+    #[tactic(auto, using(crate::proofs::Opened::may_open_laws))]
     fn may_open(
         &self,
         role: LaneRole,
@@ -65,7 +81,7 @@ impl<D: Disk + Drop, C: Clock + Drop> Spool<D, C> {
     {
         self.names_peer(peer)
             && self.is_new(role, peer, reference)
-            && self.replay.kept.lanes.count < u32::MAX
+            && self.has_number()
             && may_be_values(checkpoint, window)
     }
 
@@ -104,6 +120,7 @@ impl<D: Disk + Drop, C: Clock + Drop> Spool<D, C> {
         if MOST_LANES <= count {
             return Err(StepFault::BusyLanes { count });
         }
+        reference_fits(&reference);
         let number = self.replay.kept.lanes.count + 1;
         let peer = peer.copy(self.alloc)?;
         self.make(Step::LaneOpen {

@@ -1,26 +1,37 @@
 //! An activity is started, or goes on after a break (X.228, activity management): its number and its octets.
+//!
+//! `start` takes what `batch_for` answered. It finds what the Start would transfer before it makes the step, so that
+//! nothing can be refused behind it. `resumed` lends nothing: a session holds the octets while the spool goes on.
 
-ghost use Rattle.std.specs.Prelude.{◌≡◌, ◌≤◌, ◌<◌, ◌+◌, ◌^◌, IfOk, IfSome, IfNone, Some, None, false};
+ghost use Rattle.std.specs.Prelude.{◌≡◌, ◌≤◌, ◌<◌, ◌+◌, ◌^◌, IfOk, IfSome, IfNone, Some, None, false, length};
+ghost use Rattle.std.specs.List.{AllByRecursion};
 ghost use Rattle.mta_ber.specs.Times.{last_moment};
+ghost use Rattle.mta_journal.specs.Bodies.{longest_body};
+ghost use Rattle.mta_histories.specs.History.{transfer_of};
+ghost use Rattle.mta_histories.specs.Kept.{IsFilled};
 ghost use Rattle.mta_histories.specs.Lanes.{lane_at};
-ghost use Rattle.mta_records.specs.Body.{HasFields};
+ghost use Rattle.mta_records.specs.Body.{HasFields, body_of};
 ghost use Rattle.mta_records.specs.declared.step.Step.TheVariants as Steps;
 ghost use Rattle.mta_replay.specs.Kept.{state_of};
 ghost use Rattle.mta_table_rules.specs.Text.{text_of};
 ghost use Rattle.mta_state.specs.Sound.{IsSound};
-ghost use Rattle.mta_spool.specs.Starting.{IsResumed, IsStartedAt, IsStartedBy, next_activity, Starts, StartsPastLast};
+ghost use Rattle.mta_spool.specs.Starting.{IsResumed, MayStart, next_activity, refusal_past_last, StartsAs};
+ghost use Rattle.mta_spool.specs.Starting.{StartsPastLast};
 
 use crate::lanes::refusal_on;
 use crate::spool::Spool;
 use mta_ber::{Memory, Octets};
 use mta_edge::{Clock, Disk};
-use mta_lanes::{Lane, LaneChange, Transfer};
+use mta_lanes::{Lane, Lanes, Transfer};
 use mta_records::{Batch, Outgoing, Step, StepFault};
-use mta_replay::Change;
+use mta_replay::Rules;
 use mta_state::Replay;
 use mta_table_rules::TableRules;
 use std::alloc::Global;
 use std::sync::Arc;
+
+// The most recipients of an activity, whose record holds no more. No APDU that may be transferred has as many.
+const MOST_RECIPIENTS: usize = 1_000_000;
 
 // The octets that are transferred, as the activity of this number.
 fn outgoing_of(alloc: Global, activity: u32, transfer: &Transfer) -> Result<Outgoing, Memory>
@@ -36,6 +47,7 @@ fn outgoing_of(alloc: Global, activity: u32, transfer: &Transfer) -> Result<Outg
 
 // The activity of the sending half of a lane; none where none is under way.
 fn resumed_on(alloc: Global, opened: &Lane) -> Result<Option<Outgoing>, Memory>
+    requires { IsFilled opened.now }
     ensures { IfOk result (IsResumed (Some opened.now)) }
 {
     if opened.may_close() {
@@ -43,11 +55,17 @@ fn resumed_on(alloc: Global, opened: &Lane) -> Result<Option<Outgoing>, Memory>
     }
     match opened.transfer() {
         Some(transfer) => Ok(Some(outgoing_of(alloc, opened.activity(), transfer)?)),
-        None => Ok(None),
+        None => unreachable!(),
     }
 }
 
-// The Start of the batch, as the next activity of the lane.
+// Numbers in memory fit the fields of a record.
+fn numbers_fit(numbers: &[u32])
+    ensures { AllByRecursion (λ n. n < 2 ^ 32) numbers.now }
+{}
+
+// The Start of the batch, as an activity of this number. Memory is said to be wanted where the batch has more
+// recipients than an activity may have.
 fn start_step(
     alloc: Global,
     lane: u32,
@@ -56,9 +74,17 @@ fn start_step(
     batch: &Batch,
     moment: u64,
 ) -> Result<Step, Memory>
-    ensures { IfOk result
+    requires { moment ≤ last_moment }
+    ensures step { IfOk result
         (λ s. s ≡ Steps.Start lane generation activity batch.now.item batch.now.recipients moment) }
+    ensures fields { IfOk result HasFields }
+    ensures short { IfOk result (λ s. length (body_of s) ≤ longest_body) }
 {
+    let numbers = batch.recipients.as_slice();
+    if numbers.len() > MOST_RECIPIENTS {
+        return Err(Memory);
+    }
+    numbers_fit(numbers);
     let recipients = batch.recipients.copy(alloc)?;
     Ok(Step::Start {
         lane,
@@ -70,38 +96,85 @@ fn start_step(
     })
 }
 
-// The activity that a change starts.
-fn started_by(alloc: Global, activity: u32, change: &Change) -> Result<Option<Outgoing>, Memory>
-    ensures { IfOk result (IsStartedBy activity change.now) }
-{
-    match change {
-        Change::OnLane {
-            change: LaneChange::Start(transfer),
-            ..
-        } => Ok(Some(outgoing_of(alloc, activity, transfer)?)),
-        _ => Ok(None),
-    }
-}
-
-// The activity that a Start begins; none where it is not possible.
-fn started_at(
+// The copy of the item for a batch that may be started, as an activity of this number.
+fn copy_for(
     alloc: Global,
     replay: &Replay<TableRules>,
     activity: u32,
-    step: Step,
+    batch: &Batch,
+    moment: u64,
+) -> Result<Outgoing, Memory>
+    requires sound { IsSound text_of replay.now.kept replay.now.rules }
+    requires fits { moment ≤ last_moment }
+    requires may { MayStart (state_of replay.now.kept) activity batch.now.item batch.now.recipients moment }
+    ensures activity { IfOk result (λ o. o.activity ≡ activity) }
+    ensures octets { IfOk result (λ o. o.octets
+        ≡ (transfer_of (state_of replay.now.kept).machine batch.now.item batch.now.recipients moment).octets) }
+{
+    let Some(rules) = &replay.rules else {
+        unreachable!()
+    };
+    let Some(item) = replay.kept.parts.item(batch.item) else {
+        unreachable!()
+    };
+    let recipients = batch.recipients.as_slice();
+    let [first, ..] = recipients else {
+        unreachable!()
+    };
+    rules.outgoing_copy(alloc, activity, item, recipients, *first, moment)
+}
+
+// The activity that a Start of the batch begins; none where it is not possible.
+fn started_at(
+    alloc: Global,
+    replay: &Replay<TableRules>,
+    lane: u32,
+    generation: u64,
+    activity: u32,
+    batch: &Batch,
+    moment: u64,
 ) -> Result<Option<Outgoing>, Memory>
     requires sound { IsSound text_of replay.now.kept replay.now.rules }
-    requires fields { HasFields step }
-    requires start { Starts activity step }
-    ensures { IfOk result (IsStartedAt (state_of replay.now.kept) step) }
+    requires fits { moment ≤ last_moment }
+    ensures { let s = state_of replay.now.kept in
+        let step = Steps.Start lane generation activity batch.now.item batch.now.recipients moment in
+        let transfer = transfer_of s.machine batch.now.item batch.now.recipients moment in
+        IfOk result (StartsAs s step transfer activity) }
 {
+    let step = start_step(alloc, lane, generation, activity, batch, moment)?;
     match replay.prepare(alloc, step)? {
         Some(ready) => {
-            let outgoing = started_by(alloc, activity, &ready.change);
             ready.discard();
-            outgoing
+            Ok(Some(copy_for(alloc, replay, activity, batch, moment)?))
         }
         None => Ok(None),
+    }
+}
+
+// Why no activity of this generation is started on an open lane that has given each number.
+fn refusal_of_last(opened: &Lane, lane: u32, generation: u64) -> StepFault
+    ensures { result ≡ refusal_past_last (Some opened.now) lane generation }
+{
+    if generation < opened.generation() {
+        StepFault::Fenced {
+            generation: opened.generation(),
+        }
+    } else if generation == opened.generation() && opened.values().agreed && opened.may_close() {
+        StepFault::Spent {
+            last: u64::from(u32::MAX),
+        }
+    } else {
+        StepFault::Unexpected
+    }
+}
+
+// Why no activity of this generation is started on the lane of this number that has given each number.
+fn refusal_past_last(lanes: &Lanes, lane: u32, generation: u64) -> StepFault
+    ensures { result ≡ refusal_past_last (lane_at lane lanes.now.open_lanes.items) lane generation }
+{
+    match lanes.get(lane) {
+        Some(opened) => refusal_of_last(opened, lane, generation),
+        None => StepFault::NoLane { lane },
     }
 }
 
@@ -124,6 +197,7 @@ impl<D: Disk + Drop, C: Clock + Drop> Spool<D, C> {
         ensures next { IfSome result
             (λ k. next_activity (lane_at lane self.now.current.lanes.open_lanes) ≡ k + 1) }
         ensures none { IfNone result (lane_at lane self.now.current.lanes.open_lanes ≡ None) }
+        ensures first { IfNone result (next_activity (lane_at lane self.now.current.lanes.open_lanes) ≡ 1) }
     {
         match self.replay.kept.lanes.get(lane) {
             Some(opened) => Some(opened.activity()),
@@ -143,7 +217,6 @@ impl<D: Disk + Drop, C: Clock + Drop> Spool<D, C> {
         requires going { self.old.journal.ended ≡ false }
         requires timely { self.old.current.moment ≤ moment }
         requires fits { moment ≤ last_moment }
-        requires next { activity ≡ next_activity (lane_at lane self.old.current.lanes.open_lanes) }
         ensures made { Appends D.model
             (Steps.Start lane generation activity batch.now.item batch.now.recipients moment) self.old self.new
             (fault_of result) }
@@ -151,11 +224,12 @@ impl<D: Disk + Drop, C: Clock + Drop> Spool<D, C> {
             (λ o. IsResumed (lane_at lane self.new.current.lanes.open_lanes) (Some o)) }
         ensures clock { self.new.clock ≡ self.old.clock }
     {
-        let step = start_step(self.alloc, lane, generation, activity, batch, moment)?;
-        let Some(outgoing) = started_at(self.alloc, &self.replay, activity, step)? else {
+        let alloc = self.alloc;
+        let started = started_at(alloc, &self.replay, lane, generation, activity, batch, moment)?;
+        let Some(outgoing) = started else {
             return Err(refusal_on(&self.replay.kept.lanes, lane, generation));
         };
-        let step = start_step(self.alloc, lane, generation, activity, batch, moment)?;
+        let step = start_step(alloc, lane, generation, activity, batch, moment)?;
         self.make(step)?;
         Ok(outgoing)
     }
@@ -175,7 +249,7 @@ impl<D: Disk + Drop, C: Clock + Drop> Spool<D, C> {
             (Steps.Start lane generation next batch.now.item batch.now.recipients moment) self.old self.new
             (fault_of result) }
         ensures past_last { 2 ^ 32 ≤ next_activity (lane_at lane self.old.current.lanes.open_lanes)
-            → StartsPastLast self.old self.new result }
+            → StartsPastLast lane generation self.old self.new result }
         ensures outgoing { IfOk result
             (λ o. IsResumed (lane_at lane self.new.current.lanes.open_lanes) (Some o)) }
         ensures clock { self.new.clock ≡ self.old.clock }
@@ -187,9 +261,7 @@ impl<D: Disk + Drop, C: Clock + Drop> Spool<D, C> {
             return Err(StepFault::NoLane { lane });
         };
         let Some(activity) = last.checked_add(1) else {
-            return Err(StepFault::Spent {
-                last: u64::from(last),
-            });
+            return Err(refusal_past_last(&self.replay.kept.lanes, lane, generation));
         };
         self.start_at(moment, lane, generation, activity, batch)
     }
@@ -198,7 +270,8 @@ impl<D: Disk + Drop, C: Clock + Drop> Spool<D, C> {
     ///
     /// # Errors
     /// As the steps of `lanes.rt`: `Unexpected` also where a recipient is no longer pending, is in an activity, or goes
-    /// elsewhere by now; `Spent` where no number of an activity is left on the lane.
+    /// elsewhere by now; `Spent` where no number of an activity is left on the lane. A batch of more than 1,000,000
+    /// recipients is answered `Memory`.
     pub fn start(
         &mut self,
         lane: u32,
@@ -210,7 +283,7 @@ impl<D: Disk + Drop, C: Clock + Drop> Spool<D, C> {
             (λ m. Appends D.model (Steps.Start lane generation next batch.now.item batch.now.recipients m) self.old
             self.new (fault_of result)) }
         ensures past_last { 2 ^ 32 ≤ next_activity (lane_at lane self.old.current.lanes.open_lanes)
-            → StartsPastLast self.old self.new result }
+            → StartsPastLast lane generation self.old self.new result }
         ensures outgoing { IfOk result
             (λ o. IsResumed (lane_at lane self.new.current.lanes.open_lanes) (Some o)) }
         ensures clock { TellsFewer C.model self.old.clock self.new.clock }
