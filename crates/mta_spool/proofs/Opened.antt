@@ -1,8 +1,9 @@
 -- When a lane may be opened, and what is written down then.
 use Rattle.std.proofs.Common.{◌≡◌, ◌≤◌, ◌<◌, ◌+◌, ◌^◌, ℕ, Bool, true, false, List, [], ◌∷◌, length, count_by}
 use Rattle.std.proofs.Common.{bytes_eq, Option, None, Some, inl, inr, refl, sym, subst, ◌∙◌, arith}
-use Rattle.std.specs.Prelude.{◌&&◌, ◌↔◌, suc, if◌then◌else◌}
+use Rattle.std.specs.Prelude.{◌&&◌, ◌↔◌}
 use Rattle.std.proofs.lemmas.Bool.{and_parts}
+use Rattle.std.proofs.lemmas.List.Sums.{count_by-le-length}
 use Rattle.std.proofs.lemmas.Slice.Eq.{bytes_eq-Decides}
 use Rattle.mta_ber.specs.Times.{last_moment}
 use Rattle.mta_journal.specs.Bodies.{longest_body}
@@ -11,21 +12,17 @@ use Rattle.mta_records.specs.Reference.{Identifier, IsIdentifier}
 use Rattle.mta_records.specs.declared.lane.LaneRole.{LaneRole}
 use Rattle.mta_records.specs.declared.lane.LaneRole.TheVariants.{Initiator, Responder}
 use Rattle.mta_records.specs.declared.step.Step.TheVariants as steps
-use Rattle.mta_machine.specs.Items.{Machine, numbered}
+use Rattle.mta_machine.specs.Items.{numbered}
 use Rattle.mta_machine.specs.Machine.{last_tables}
-use Rattle.mta_machine.specs.Rules.{names_peer}
-use Rattle.mta_histories.specs.Classes.{opens}
 use Rattle.mta_histories.specs.Lanes.{Lane, State, EachLane}
-use Rattle.mta_histories.specs.History.{IsPossible, NamesPeer, is_role, is_with}
+use Rattle.mta_histories.specs.History.{NamesPeer, is_role, is_with}
 use Rattle.mta_histories.specs.Kept.{AreNumbered}
 use Rattle.mta_lanes.specs.Finds.{IsNamed}
 use Rattle.mta_spool.specs.Looking.{IsFirstNamed}
 use Rattle.mta_spool.specs.Opened.{IsOther}
-use Rattle.mta_spool.specs.Refusals.{MayOpen, open_with}
-use Rattle.mta_spool.specs.Stands.{IsOfNoRefusal}
+use Rattle.mta_spool.specs.Refusals.{MayOpen}
 use Rattle.mta_spool.proofs.LaneLengths.{short_opening}
 use Rattle.mta_spool.proofs.PeerWords.{peer_word}
-use Rattle.mta_spool.proofs.Refused.{allowed}
 
 role-same : (a b : LaneRole) → is_role a b ≡ true → b ≡ a
 role-same Initiator Initiator e = refl
@@ -56,7 +53,8 @@ module _ (role : LaneRole) (peer : List ℕ) (name : Identifier) where
       other (role-same role lane.role parts.0) (sym ((bytes_eq-Decides peer lane.peer).0 parts.1)) (sym named.1)
 
   -- where none is so named each has another name
-  pub each_other : (lanes : List Lane) → IsFirstNamed role peer (Some name) lanes None → EachLane (IsOther role peer name) lanes
+  pub each_other : (lanes : List Lane) → IsFirstNamed role peer (Some name) lanes None
+      → EachLane (IsOther role peer name) lanes
   each_other [] first = tt
   each_other (lane ∷ lanes) (inl first) = let e : ◌≡◌ {A = Option ℕ} None (Some lane.number) = first.1 in absurd cc
   each_other (lane ∷ lanes) (inr first) = (
@@ -79,20 +77,11 @@ numbered-most above [] most each = omega (arith, each)
 numbered-most above (lane ∷ lanes) most each =
     omega (arith, each.0, numbered-most lane.number lanes most each.1)
 
-count-most : (P : Lane → Bool) (lanes : List Lane) → count_by P lanes ≤ length lanes
-count-most P [] = omega arith
-count-most P (lane ∷ lanes) = by-test (P lane) (count-most P lanes)
-  where
-    by-test : (b : Bool) → count_by P lanes ≤ length lanes
-        → (if b then suc (count_by P lanes) else count_by P lanes) ≤ suc (length lanes)
-    by-test true most = omega (arith, most)
-    by-test false most = omega (arith, most)
-
 -- open lanes are no more than there are numbers
 pub few_with : (role : LaneRole) (peer : List ℕ) (lanes : List Lane) (most : ℕ) → AreNumbered 0 lanes most
     → count_by (is_with role peer) lanes ≤ most
 few_with role peer lanes most each =
-    omega (arith, numbered-most 0 lanes most each, count-most (is_with role peer) lanes)
+    omega (arith, numbered-most 0 lanes most each, count_by-le-length (is_with role peer) lanes)
 
 -- ---- what is needed, and what is written down
 
@@ -127,8 +116,7 @@ module _ (s : State) (role : LaneRole) (peer : List ℕ) (name : Identifier) (si
         → HasFields (steps.LaneOpen role peer name twa size window moment)
     opening_fields is fits =
         let size_fits = may.checkpoint_fits in
-        let window_fits = may.window_fits.1 in
-        (
+        let window_fits = may.window_fits.1 in (
           (tt, (peer_word (numbered s.machine.tables (last_tables s.machine)) peer may.named, is)),
           (tt, (omega (arith, size_fits), (omega (arith, window_fits), fits))),
         )
@@ -139,48 +127,4 @@ module _ (s : State) (role : LaneRole) (peer : List ℕ) (name : Identifier) (si
         short_opening role peer name twa size window moment
         (peer_word (numbered s.machine.tables (last_tables s.machine)) peer may.named) is
 
-    pub opening_possible : open_with s role peer < 64 → s.moment ≤ moment → length s.machine.items < 2 ^ 32
-        → IsPossible s (steps.LaneOpen role peer name twa size window moment)
-    opening_possible room timely few = record {
-      allowed = record {
-        named = may.named;
-        room = room;
-        new = may.new;
-        number = may.number;
-        checkpoint_fits = may.checkpoint_fits;
-        window_fits = may.window_fits;
-      };
-      as_machine = tt;
-      timely = timely;
-      numbers = few;
-    }
-
-    -- where it may be opened and there is room no refusal for a lane stands
-    pub opening_allowed : open_with s role peer < 64
-        → IsOfNoRefusal s (steps.LaneOpen role peer name twa size window moment)
-    opening_allowed room f is =
-        allowed s (opens role peer name twa size window) moment f (record {
-          named = may.named;
-          room = room;
-          new = may.new;
-          number = may.number;
-          checkpoint_fits = may.checkpoint_fits;
-          window_fits = may.window_fits;
-        }) is
-
 pub ruleset may_open_laws = (may_open)
-
--- ---- tables
-
--- where none were recorded no peer is named
-pub no_peer : (m : Machine) (peer : List ℕ) → m.tables ≡ []
-    → NamesPeer (numbered m.tables (last_tables m)) peer → ⊥
-no_peer m peer none named =
-    subst (λ (ts : List (List ℕ)). NamesPeer (numbered ts (length ts)) peer) none named
-
-pub last_peer : (m : Machine) (text peer : List ℕ) (b : Bool) → numbered m.tables (last_tables m) ≡ Some text
-    → b ≡ names_peer text peer → (b ≡ true) ↔ NamesPeer (numbered m.tables (last_tables m)) peer
-last_peer m text peer b last is = (
-  λ does. subst (λ (o : Option (List ℕ)). NamesPeer o peer) (sym last) (sym is ∙ does),
-  λ named. is ∙ subst (λ (o : Option (List ℕ)). NamesPeer o peer) last named,
-)

@@ -1,11 +1,15 @@
 -- An activity that is started or goes on.
-use Rattle.std.proofs.Common.{◌≡◌, ◌≤◌, ◌<◌, ◌+◌, ◌^◌, ℕ, zero, suc, Bool, true, false, List, [], ◌∷◌, length}
+use Rattle.std.proofs.Common.{◌≡◌, ◌≤◌, ◌<◌, ◌+◌, ◌^◌, ℕ, zero, suc, true, false, List, [], ◌∷◌, length}
 use Rattle.std.proofs.Common.{Option, None, Some, eqb, refl, sym, ap, subst, ◌∙◌, arith}
 use Rattle.std.specs.List.{All}
 use Rattle.std.proofs.lemmas.Bool.{eq-eqb, or_left}
 use Rattle.std.proofs.lemmas.Option.{get_or_from_slice_get, slice_get_within}
 use Rattle.mta_ber.specs.Times.{last_moment}
+use Rattle.mta_edge.specs.Views.{DiskView}
+use Rattle.mta_journal.specs.Shown.{Shown as JournalShown}
 use Rattle.mta_records.specs.Outgoing.{Carried}
+use Rattle.mta_records.specs.declared.fault.StepFault.{StepFault}
+use Rattle.mta_records.specs.declared.step.Step.{Step}
 use Rattle.mta_records.specs.declared.step.Step.TheVariants as steps
 use Rattle.mta_lane_send.specs.Half.{is_idle, last_of}
 use Rattle.mta_machine.specs.Items.{ItemValue, Machine, names, numbered}
@@ -23,8 +27,8 @@ use Rattle.mta_histories.proofs.Shown.{put-found}
 use Rattle.mta_replay.specs.Asked.{IsStored, Relays}
 use Rattle.mta_spool.specs.OnLanes.{refusal_on}
 use Rattle.mta_spool.specs.Refusals.{IsRefused}
-use Rattle.mta_spool.specs.Stands.{IsSpent}
-use Rattle.mta_spool.specs.Starting.{Carries, IsResumed}
+use Rattle.mta_spool.specs.Stands.{IsSpent, Makes}
+use Rattle.mta_spool.specs.Starting.{AreRelayed, Carries, IsCarried, IsCopy, IsResumed, StartsAs}
 use Rattle.mta_spool.proofs.OnLanes.{lane_possible, refused_plainly}
 
 -- ---- an activity that goes on
@@ -32,8 +36,15 @@ use Rattle.mta_spool.proofs.OnLanes.{lane_possible, refused_plainly}
 -- an activity that is not settled transfers something
 pub nothing_idle : (lane : Lane) → IsFilled lane → None ≡ lane.transfer → is_idle lane.sending ≡ false → ⊥
 nothing_idle lane filled none busy =
-    let some : 1 ≤ total_of None = subst (λ (t : Option Transfer). 1 ≤ total_of t) (sym none) (filled.some_octets busy) in
+    let some : 1 ≤ total_of None =
+    subst (λ (t : Option Transfer). 1 ≤ total_of t) (sym none) (filled.some_octets busy) in
     omega (arith, some)
+
+pub carried_on : (lane : Lane) (t : Transfer) (outgoing : Carried) → Some t ≡ lane.transfer
+    → is_idle lane.sending ≡ false → outgoing.activity ≡ last_of lane.sending → outgoing.octets ≡ t.octets
+    → IsResumed (Some lane) (Some outgoing)
+carried_on lane t outgoing found busy activity octets =
+    (busy, subst (λ (x : Option Transfer). Carries x (last_of lane.sending) outgoing) found (activity, octets))
 
 pub filled_at : (s : State) (n : ℕ) (lane : Lane) → EachLane IsFilled s.lanes.open_lanes
     → Some lane ≡ lane_at n s.lanes.open_lanes → IsFilled lane
@@ -52,6 +63,14 @@ module _ (m : Machine) (i : ℕ) (rs : List ℕ) (moment : ℕ) where
       ∙ (ap (λ (o : Option ItemValue). copied (Some text) o rs moment) (sym item_is)
       ∙ ap (λ (o : Option (List ℕ)). copied o (numbered m.items i) rs moment) (sym text_is))
 
+  -- and so it is what the copy carries
+  pub copy_carried : (text : List ℕ) (item : ItemValue) (k : ℕ) (found : Option Carried)
+      → numbered m.tables (last_tables m) ≡ Some text → numbered m.items i ≡ Some item
+      → IsCopy text item rs moment k found → IsCarried (transfer_of m i rs moment) k found
+  copy_carried text item k None text_is item_is copy = copy
+  copy_carried text item k (Some outgoing) text_is item_is copy =
+      (copy.0, copy_transferred text item outgoing.octets text_is item_is copy.1)
+
 -- tables were recorded where an activity may be started
 pub some_tables : (s : State) (lane : Lane) (k i : ℕ) (rs : List ℕ) (moment : ℕ) → CanStart s lane k i rs moment
     → s.machine.tables ≡ [] → ⊥
@@ -60,19 +79,28 @@ some_tables s lane k i rs moment can none =
     subst (λ (ts : List (List ℕ)). numbered ts (length ts) ≡ Some can.text) none can.text_is in
     cc
 
+pub some_item : (s : State) (lane : Lane) (k i : ℕ) (rs : List ℕ) (moment : ℕ) → CanStart s lane k i rs moment
+    → None ≡ numbered s.machine.items i → ⊥
+some_item s lane k i rs moment can none =
+    let there : ◌≡◌ {A = Option ItemValue} None (Some can.item) = none ∙ can.item_is in cc
+
 -- and each of the recipients is relayed under them
-pub first_relays : (s : State) (lane : Lane) (k i : ℕ) (rs : List ℕ) (moment : ℕ) (text : List ℕ) (item : ItemValue)
-    (r : ℕ) (rest : List ℕ) → CanStart s lane k i rs moment
-    → numbered s.machine.tables (last_tables s.machine) ≡ Some text → numbered s.machine.items i ≡ Some item
-    → rs ≡ r ∷ rest → Relays (verdict_of text item.octets item.arrival r moment)
-first_relays s lane k i rs moment text item r rest can text_is item_is first =
-    let named : names rs r ≡ true =
-    subst (λ (xs : List ℕ). names xs r ≡ true) (sym first)
-    (or_left (eqb r r) (names rest r) (eq-eqb r r refl)) in
+pub all_relayed : (s : State) (lane : Lane) (k i : ℕ) (rs : List ℕ) (moment : ℕ) (text : List ℕ) (item : ItemValue)
+    → CanStart s lane k i rs moment → numbered s.machine.tables (last_tables s.machine) ≡ Some text
+    → numbered s.machine.items i ≡ Some item → AreRelayed text item rs moment
+all_relayed s lane k i rs moment text item can text_is item_is r named =
     relay-verdict text (verdict_of text item.octets item.arrival r moment) lane.peer
     (sym (ap (λ (o : Option (List ℕ)). relay_on o (numbered s.machine.items i) r moment) text_is
     ∙ ap (λ (o : Option ItemValue). relay_on (Some text) o r moment) item_is)
     ∙ can.relayed r named)
+
+-- so the first of them is
+pub first_relayed : (text : List ℕ) (item : ItemValue) (rs rest : List ℕ) (first moment : ℕ) → rs ≡ first ∷ rest
+    → AreRelayed text item rs moment → Relays (verdict_of text item.octets item.arrival first moment)
+first_relayed text item rs rest first moment is relayed =
+    relayed first
+    (subst (λ (xs : List ℕ). names xs first ≡ true) (sym is)
+    (or_left (eqb first first) (names rest first) (eq-eqb first first refl)))
 
 pub arrived_at : (items : List ItemValue) (i : ℕ) (item : ItemValue) → All IsStored items
     → numbered items i ≡ Some item → item.arrival ≤ last_moment
@@ -83,6 +111,18 @@ arrived_at items (suc i) item each found =
     here.arrived
 
 -- ---- a Start
+
+pub starts_as : (s : State) (step : Step) (t : Transfer) (k : ℕ) (found : Option Carried) → IsPossible s step
+    → IsCarried t k found → StartsAs s step t k found
+starts_as s step t k None possible carried = absurd carried
+starts_as s step t k (Some outgoing) possible carried = (possible, carried)
+
+-- the same of a number that is equal
+pub start_along : {D : Type 0} (model : DiskView D) (n g k h i : ℕ) (rs : List ℕ) (moment : ℕ) (old new : JournalShown D)
+    (s s' : State) (fault : Option StepFault) → k ≡ h → Makes model (steps.Start n g k i rs moment) old s new s' fault
+    → Makes model (steps.Start n g h i rs moment) old s new s' fault
+start_along model n g k h i rs moment old new s s' fault e m =
+    subst (λ (x : ℕ). Makes model (steps.Start n g x i rs moment) old s new s' fault) e m
 
 none-to-start : (o : Option Lane) (k i : ℕ) (rs : List ℕ) → numbers_on o (start k i rs) ≡ 0
 none-to-start None k i rs = refl

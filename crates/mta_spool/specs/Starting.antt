@@ -6,8 +6,11 @@ use Rattle.mta_records.specs.declared.fault.StepFault.TheVariants as Faults
 use Rattle.mta_records.specs.Outgoing.{Carried}
 use Rattle.mta_lane_send.specs.Half.{is_idle, last_of}
 use Rattle.mta_records.specs.declared.step.Step.{Step}
+use Rattle.mta_machine.specs.Items.{ItemValue, names}
+use Rattle.mta_machine.specs.Rules.{outgoing_copy, verdict_of}
 use Rattle.mta_histories.specs.Lanes.{Transfer, Lane, State, lane_at}
 use Rattle.mta_histories.specs.History.{CanStart, IsPossible}
+use Rattle.mta_replay.specs.Asked.{Relays}
 use Rattle.mta_spool.specs.Shown.{Shown}
 use Rattle.mta_spool.specs.Turning.{IsUnchanged}
 
@@ -49,6 +52,22 @@ StartsPastLast n g old new result =
 -- an activity of this number may be started on some lane, for these recipients of the item
 abbrev pub MayStart : State → (k i : ℕ) → List ℕ → (moment : ℕ) → Type 0
 MayStart s k i rs moment = (lane : Lane) × CanStart s lane k i rs moment
+
+-- the verdict on each of these recipients of the item relays
+abbrev pub AreRelayed : (text : List ℕ) → ItemValue → List ℕ → (moment : ℕ) → Type 0
+AreRelayed text item rs moment =
+    (r : ℕ) → names rs r ≡ true → Relays (verdict_of text item.octets item.arrival r moment)
+
+-- it is the copy of an item for these recipients, as the activity of this number
+abbrev pub IsCopy : (text : List ℕ) → ItemValue → List ℕ → (moment k : ℕ) → Option Carried → Type 0
+IsCopy text item rs moment k None = ⊥
+IsCopy text item rs moment k (Some outgoing) =
+    (outgoing.activity ≡ k) × (Some outgoing.octets ≡ outgoing_copy text item.octets item.arrival rs moment)
+
+-- it carries what is transferred as the activity of this number
+abbrev pub IsCarried : Transfer → ℕ → Option Carried → Type 0
+IsCarried t k None = ⊥
+IsCarried t k (Some outgoing) = Carries (Some t) k outgoing
 
 -- what a step transfers as the activity of this number, where it is possible; none where it is not
 abbrev pub StartsAs : State → Step → Transfer → ℕ → Option Carried → Type 0

@@ -22,6 +22,11 @@ fn may_be_values(checkpoint: u32, window: u32) -> bool
     checkpoint <= 64 && 1 <= window && window <= 8
 }
 
+// The number of the last lane is in its range.
+fn count_fits(count: u32)
+    ensures { count < 2 ^ 32 }
+{}
+
 // The parts of a reference are in their ranges.
 fn reference_fits(reference: &Reference)
     ensures { IsIdentifier reference.now }
@@ -89,6 +94,7 @@ impl<D: Disk + Drop, C: Clock + Drop> Spool<D, C> {
     fn open_with(&self, role: LaneRole, peer: &Word) -> u32
         ensures { result ≡ open_with self.now.current role peer.now }
     {
+        count_fits(self.replay.kept.lanes.count);
         self.replay.kept.lanes.count_with(role, peer) as u32
     }
 
@@ -141,8 +147,8 @@ impl<D: Disk + Drop, C: Clock + Drop> Spool<D, C> {
     ///
     /// # Errors
     /// `Unexpected` where the tables recorded last do not name the peer, where an open lane has this peer, role and
-    /// reference, where a value is outside its range, or where no number of a lane is left; `BusyLanes` where 64 lanes of
-    /// the role are open with the peer.
+    /// reference, where a value is outside its range, or where no number of a lane is left; `BusyLanes` where 64 lanes
+    /// of the role are open with the peer.
     pub fn lane_open(
         &mut self,
         role: LaneRole,

@@ -3,28 +3,33 @@
 //! `start` takes what `batch_for` answered. It finds what the Start would transfer before it makes the step, so that
 //! nothing can be refused behind it. `resumed` lends nothing: a session holds the octets while the spool goes on.
 
-ghost use Rattle.std.specs.Prelude.{◌≡◌, ◌≤◌, ◌<◌, ◌+◌, ◌^◌, IfOk, IfSome, IfNone, Some, None, false, length};
-ghost use Rattle.std.specs.List.{AllByRecursion};
+ghost use Rattle.std.specs.Prelude.{◌≡◌, ◌≢◌, ◌≤◌, ◌<◌, ◌+◌, ◌^◌, ◌==◌, ◌&&◌, [], IfOk, IfSome, IfNone, Some, None};
+ghost use Rattle.std.specs.Prelude.{false, length};
+ghost use Rattle.std.specs.List.{All, AllByRecursion};
 ghost use Rattle.mta_ber.specs.Times.{last_moment};
 ghost use Rattle.mta_journal.specs.Bodies.{longest_body};
+ghost use Rattle.mta_lane_send.specs.Half.{is_idle};
 ghost use Rattle.mta_histories.specs.History.{transfer_of};
 ghost use Rattle.mta_histories.specs.Kept.{IsFilled};
 ghost use Rattle.mta_histories.specs.Lanes.{lane_at};
+ghost use Rattle.mta_items.specs.Parts.{machine_of};
 ghost use Rattle.mta_records.specs.Body.{HasFields, body_of};
 ghost use Rattle.mta_records.specs.declared.step.Step.TheVariants as Steps;
+ghost use Rattle.mta_replay.specs.Asked.{IsStored, IsTextOf};
 ghost use Rattle.mta_replay.specs.Kept.{state_of};
 ghost use Rattle.mta_table_rules.specs.Text.{text_of};
 ghost use Rattle.mta_state.specs.Sound.{IsSound};
-ghost use Rattle.mta_spool.specs.Starting.{IsResumed, MayStart, next_activity, refusal_past_last, StartsAs};
-ghost use Rattle.mta_spool.specs.Starting.{StartsPastLast};
+ghost use Rattle.mta_spool.specs.Starting.{AreRelayed, IsCarried, IsCopy, IsResumed, MayStart, next_activity};
+ghost use Rattle.mta_spool.specs.Starting.{refusal_past_last, StartsAs, StartsPastLast};
 
 use crate::lanes::refusal_on;
 use crate::spool::Spool;
 use mta_ber::{Memory, Octets};
 use mta_edge::{Clock, Disk};
 use mta_lanes::{Lane, Lanes, Transfer};
+use mta_machine::Item;
 use mta_records::{Batch, Outgoing, Step, StepFault};
-use mta_replay::Rules;
+use mta_replay::{Kept, Rules};
 use mta_state::Replay;
 use mta_table_rules::TableRules;
 use std::alloc::Global;
@@ -53,15 +58,17 @@ fn resumed_on(alloc: Global, opened: &Lane) -> Result<Option<Outgoing>, Memory>
     if opened.may_close() {
         return Ok(None);
     }
-    match opened.transfer() {
-        Some(transfer) => Ok(Some(outgoing_of(alloc, opened.activity(), transfer)?)),
-        None => unreachable!(),
-    }
+    let Some(transfer) = opened.transfer() else {
+        return Ok(None);
+    };
+    let outgoing = outgoing_of(alloc, opened.activity(), transfer)?;
+    Ok(Some(outgoing))
 }
 
 // Numbers in memory fit the fields of a record.
-fn numbers_fit(numbers: &[u32])
-    ensures { AllByRecursion (λ n. n < 2 ^ 32) numbers.now }
+fn numbers_fit(item: u32, recipients: &[u32])
+    ensures item { item < 2 ^ 32 }
+    ensures recipients { AllByRecursion (λ n. n < 2 ^ 32) recipients.now }
 {}
 
 // The Start of the batch, as an activity of this number. Memory is said to be wanted where the batch has more
@@ -84,7 +91,7 @@ fn start_step(
     if numbers.len() > MOST_RECIPIENTS {
         return Err(Memory);
     }
-    numbers_fit(numbers);
+    numbers_fit(batch.item, numbers);
     let recipients = batch.recipients.copy(alloc)?;
     Ok(Step::Start {
         lane,
@@ -96,32 +103,76 @@ fn start_step(
     })
 }
 
-// The copy of the item for a batch that may be started, as an activity of this number.
+// The copy of an item for recipients who are relayed, as an activity of this number.
+#[tactic(auto, using(crate::proofs::Started::first_relayed))]
+fn copy_of(
+    alloc: Global,
+    rules: &TableRules,
+    activity: u32,
+    item: &Item,
+    recipients: &[u32],
+    moment: u64,
+) -> Result<Option<Outgoing>, Memory>
+    requires arrived { item.now.arrival ≤ last_moment }
+    requires fits { moment ≤ last_moment }
+    requires relayed { AreRelayed (text_of rules.now) item.now recipients.now moment }
+    requires some { recipients.now ≢ [] }
+    ensures { IfOk result (IsCopy (text_of rules.now) item.now recipients.now moment activity) }
+{
+    let [first, ..] = recipients else {
+        return Ok(None);
+    };
+    let outgoing = rules.outgoing_copy(alloc, activity, item, recipients, *first, moment)?;
+    Ok(Some(outgoing))
+}
+
+// The copy of the item for a batch that may be started under these rules.
+fn copy_under(
+    alloc: Global,
+    rules: &TableRules,
+    kept: &Kept,
+    activity: u32,
+    batch: &Batch,
+    moment: u64,
+) -> Result<Option<Outgoing>, Memory>
+    requires text { IsTextOf kept.now (text_of rules.now) }
+    requires stored { All IsStored kept.now.parts.items.items }
+    requires fits { moment ≤ last_moment }
+    requires may { MayStart (state_of kept.now) activity batch.now.item batch.now.recipients moment }
+    ensures { let m = machine_of kept.now.parts in
+        IfOk result (IsCarried (transfer_of m batch.now.item batch.now.recipients moment) activity) }
+{
+    let Some(item) = kept.parts.item(batch.item) else {
+        return Ok(None);
+    };
+    copy_of(
+        alloc,
+        rules,
+        activity,
+        item,
+        batch.recipients.as_slice(),
+        moment,
+    )
+}
+
+// The copy of the item for a batch that may be started.
 fn copy_for(
     alloc: Global,
     replay: &Replay<TableRules>,
     activity: u32,
     batch: &Batch,
     moment: u64,
-) -> Result<Outgoing, Memory>
+) -> Result<Option<Outgoing>, Memory>
     requires sound { IsSound text_of replay.now.kept replay.now.rules }
     requires fits { moment ≤ last_moment }
     requires may { MayStart (state_of replay.now.kept) activity batch.now.item batch.now.recipients moment }
-    ensures activity { IfOk result (λ o. o.activity ≡ activity) }
-    ensures octets { IfOk result (λ o. o.octets
-        ≡ (transfer_of (state_of replay.now.kept).machine batch.now.item batch.now.recipients moment).octets) }
+    ensures { let m = machine_of replay.now.kept.parts in
+        IfOk result (IsCarried (transfer_of m batch.now.item batch.now.recipients moment) activity) }
 {
-    let Some(rules) = &replay.rules else {
-        unreachable!()
-    };
-    let Some(item) = replay.kept.parts.item(batch.item) else {
-        unreachable!()
-    };
-    let recipients = batch.recipients.as_slice();
-    let [first, ..] = recipients else {
-        unreachable!()
-    };
-    rules.outgoing_copy(alloc, activity, item, recipients, *first, moment)
+    match &replay.rules {
+        Some(rules) => copy_under(alloc, rules, &replay.kept, activity, batch, moment),
+        None => Ok(None),
+    }
 }
 
 // The activity that a Start of the batch begins; none where it is not possible.
@@ -136,19 +187,24 @@ fn started_at(
 ) -> Result<Option<Outgoing>, Memory>
     requires sound { IsSound text_of replay.now.kept replay.now.rules }
     requires fits { moment ≤ last_moment }
-    ensures { let s = state_of replay.now.kept in
-        let step = Steps.Start lane generation activity batch.now.item batch.now.recipients moment in
-        let transfer = transfer_of s.machine batch.now.item batch.now.recipients moment in
-        IfOk result (StartsAs s step transfer activity) }
+    ensures { let step = Steps.Start lane generation activity batch.now.item batch.now.recipients moment in
+        let transfer = transfer_of (machine_of replay.now.kept.parts) batch.now.item batch.now.recipients moment in
+        IfOk result (StartsAs (state_of replay.now.kept) step transfer activity) }
 {
     let step = start_step(alloc, lane, generation, activity, batch, moment)?;
-    match replay.prepare(alloc, step)? {
-        Some(ready) => {
-            ready.discard();
-            Ok(Some(copy_for(alloc, replay, activity, batch, moment)?))
-        }
-        None => Ok(None),
-    }
+    let Some(ready) = replay.prepare(alloc, step)? else {
+        return Ok(None);
+    };
+    ready.discard();
+    copy_for(alloc, replay, activity, batch, moment)
+}
+
+// Whether the lane would start an activity of this generation if it had a number left.
+fn may_start(opened: &Lane, generation: u64) -> bool
+    ensures { result
+        ≡ ((generation == opened.now.generation) && opened.now.agreed && is_idle opened.now.sending) }
+{
+    generation == opened.generation() && opened.values().agreed && opened.may_close()
 }
 
 // Why no activity of this generation is started on an open lane that has given each number.
@@ -159,7 +215,7 @@ fn refusal_of_last(opened: &Lane, lane: u32, generation: u64) -> StepFault
         StepFault::Fenced {
             generation: opened.generation(),
         }
-    } else if generation == opened.generation() && opened.values().agreed && opened.may_close() {
+    } else if may_start(opened, generation) {
         StepFault::Spent {
             last: u64::from(u32::MAX),
         }
@@ -181,8 +237,8 @@ fn refusal_past_last(lanes: &Lanes, lane: u32, generation: u64) -> StepFault
 impl<D: Disk + Drop, C: Clock + Drop> Spool<D, C> {
     ghost use Rattle.mta_spool.specs.Stands.{Appends, AtMoment, fault_of, TellsFewer};
 
-    /// The number and the octets of the activity of the lane's sending half; none exactly where the lane is not open, or
-    /// where that half is idle.
+    /// The number and the octets of the activity of the lane's sending half; none exactly where the lane is not open,
+    /// or where that half is idle.
     pub fn resumed(&self, lane: u32) -> Result<Option<Outgoing>, Memory>
         ensures { IfOk result (IsResumed (lane_at lane self.now.current.lanes.open_lanes)) }
     {
@@ -225,7 +281,15 @@ impl<D: Disk + Drop, C: Clock + Drop> Spool<D, C> {
         ensures clock { self.new.clock ≡ self.old.clock }
     {
         let alloc = self.alloc;
-        let started = started_at(alloc, &self.replay, lane, generation, activity, batch, moment)?;
+        let started = started_at(
+            alloc,
+            &self.replay,
+            lane,
+            generation,
+            activity,
+            batch,
+            moment,
+        )?;
         let Some(outgoing) = started else {
             return Err(refusal_on(&self.replay.kept.lanes, lane, generation));
         };
@@ -235,6 +299,7 @@ impl<D: Disk + Drop, C: Clock + Drop> Spool<D, C> {
     }
 
     // Starts the next activity of a lane at a moment.
+    #[tactic(auto, using(crate::proofs::Started::start_along))]
     fn start_next(
         &mut self,
         moment: u64,

@@ -18,5 +18,7 @@ make_on_lane-requires-clause-exact g c =
 pub make_on_lane-requires-clause-needed : goal.make_on_lane-requires-clause-needed
 make_on_lane-requires-clause-needed g c =
     c.needed_to_fail-needed.ensures.denied c.args.activity
-    ∙ ap (λ (v : Shown _ _). numbers_on (lane_at c.args.lane v.current.lanes.open_lanes) (settle was_denied c.args.activity))
+    ∙ ap
+    (λ (v : Shown _ _).
+    numbers_on (lane_at c.args.lane v.current.lanes.open_lanes) (settle was_denied c.args.activity))
     c.self.view_is
