@@ -1,5 +1,5 @@
 -- How long the bodies of records are.
-use Rattle.std.proofs.Common.{◌≡◌, ◌≤◌, ◌<◌, ℕ, ◌+◌, true, ltb, inl, inr, List, length, Result, Ok, Err, refl}
+use Rattle.std.proofs.Common.{◌≡◌, ◌≤◌, ◌<◌, ℕ, ◌+◌, true, ltb, inl, inr, List, ◌∷◌, ◌++◌, length, Result, Ok, Err, refl}
 use Rattle.std.proofs.Common.{subst, arith, w32, w64}
 use Rattle.std.proofs.lemmas.Bool.{cases_lt, lt-ltb}
 use Rattle.std.proofs.lemmas.List.{length-append}
@@ -8,13 +8,15 @@ use Rattle.mta_records.specs.declared.step.Step.TheVariants.{Tables, Accept, Del
 use Rattle.mta_records.specs.declared.step.Step.TheVariants.{Back, LaneOpen, LaneAgree, Bind, Start, Confirm, Ending}
 use Rattle.mta_records.specs.declared.step.Step.TheVariants.{Sent, Refused, Denied, Dropped, Abandon, Secure, Complete}
 use Rattle.mta_records.specs.declared.step.Step.TheVariants.{Drop, CloseLane}
-use Rattle.mta_records.specs.Body.{body_of, two_and_moment_octets}
+use Rattle.mta_records.specs.Body.{body_of, two_and_moment_octets, lane_octets, activity_octets}
+use Rattle.mta_records.specs.Body.{numbered_activity_octets}
 use Rattle.mta_records.specs.Fields.{string}
 use Rattle.mta_records.specs.Form.{number_octets}
 use Rattle.mta_tables.specs.Reading.{Bad}
 use Rattle.mta_tables.specs.Tables.{TablesValue, tables_of}
 use Rattle.mta_journal.specs.Bodies.{longest_body}
 use Rattle.mta_spool.specs.Due.{IsDueStep}
+use Rattle.mta_spool.specs.OnLanes.{IsBrief}
 
 length-long : (n : ℕ) → length (number_octets w64 n) ≡ 8
 unfolding number_octets
@@ -77,3 +79,74 @@ short_text text tables read =
 pub short_tables : (tables : TablesValue) (text : List ℕ) → text ≡ tables.text → tables_of text ≡ Ok tables
     → length tables.text ≤ 1048576
 short_tables tables text same read = subst (λ (t : List ℕ). length t ≤ 1048576) same (short_text text tables read)
+
+-- ---- the records of lanes that tell numbers alone
+
+length-lane : (n g : ℕ) → length (lane_octets (n, g)) ≡ 12
+unfolding lane_octets number_octets
+length-lane n g = refl
+
+length-activity : (n g k : ℕ) → length (activity_octets ((n, g), k)) ≡ 16
+unfolding activity_octets lane_octets number_octets
+length-activity n g k = refl
+
+length-numbered : (n g k m : ℕ) → length (numbered_activity_octets (((n, g), k), m)) ≡ 20
+unfolding numbered_activity_octets activity_octets lane_octets number_octets
+length-numbered n g k m = refl
+
+length-number : (n : ℕ) → length (number_octets w32 n) ≡ 4
+unfolding number_octets
+length-number n = refl
+
+-- such a record has a short body
+pub short_brief : (step : Step) → IsBrief step → length (body_of step) ≤ longest_body
+short_brief (Tables text) brief = absurd brief
+short_brief (Accept moment apdu) brief = absurd brief
+short_brief (Deliver item recipient moment) brief = absurd brief
+short_brief (Expand item recipient moment) brief = absurd brief
+short_brief (Report item recipient moment) brief = absurd brief
+short_brief (Affirm item recipient moment) brief = absurd brief
+short_brief (Discard item recipient moment) brief = absurd brief
+short_brief (Back item recipient moment) brief = absurd brief
+short_brief (LaneOpen role peer reference twa checkpoint window moment) brief = absurd brief
+short_brief (LaneAgree lane generation checkpoint window) brief =
+    omega (
+      arith,
+      length-append (lane_octets (lane, generation)) (number_octets w32 checkpoint ++ number_octets w32 window),
+      length-append (number_octets w32 checkpoint) (number_octets w32 window),
+      length-lane lane generation,
+      length-number checkpoint,
+      length-number window,
+    )
+short_brief (Bind lane generation) brief = omega (arith, length-lane lane generation)
+short_brief (Start lane generation activity item recipients moment) brief = absurd brief
+short_brief (Confirm lane generation activity checkpoint) brief =
+    omega (arith, length-numbered lane generation activity checkpoint)
+short_brief (Ending lane generation activity) brief = omega (arith, length-activity lane generation activity)
+short_brief (Sent lane generation activity moment) brief =
+    omega (
+      arith,
+      length-append (activity_octets ((lane, generation), activity)) (number_octets w64 moment),
+      length-activity lane generation activity,
+      length-long moment,
+    )
+short_brief (Refused lane generation activity kind moment) brief =
+    omega (
+      arith,
+      length-append (activity_octets ((lane, generation), activity)) (kind ∷ number_octets w64 moment),
+      length-activity lane generation activity,
+      length-long moment,
+    )
+short_brief (Denied lane generation activity moment) brief =
+    omega (
+      arith,
+      length-append (activity_octets ((lane, generation), activity)) (number_octets w64 moment),
+      length-activity lane generation activity,
+      length-long moment,
+    )
+short_brief (Dropped lane generation activity) brief = omega (arith, length-activity lane generation activity)
+short_brief (Abandon lane activity moment) brief = absurd brief
+short_brief (Secure lane generation activity number piece) brief = absurd brief
+short_brief (Complete lane generation activity number piece moment) brief = absurd brief
+short_brief (Drop lane generation activity) brief = omega (arith, length-activity lane generation activity)
+short_brief (CloseLane lane generation) brief = omega (arith, length-lane lane generation)

@@ -1,7 +1,10 @@
 pub mod Dues
 pub mod Lengths
+pub mod Looking
 pub mod Making
+pub mod OnLanes
 pub mod Openings
 pub mod Refused
 pub mod Replays
 pub mod Turns
+pub mod Opened

@@ -22,7 +22,7 @@ use Rattle.mta_images.proofs.Bodies.{map-more, are-records-more}
 use Rattle.mta_histories.specs.Classes.{class_of}
 use Rattle.mta_spool.specs.Making.{step_fault}
 use Rattle.mta_spool.specs.Refusals.{IsOfLane, IsRefused}
-use Rattle.mta_spool.proofs.Refused.{not_refused}
+use Rattle.mta_spool.proofs.Refused.{not_refused, refusal_of_lane, one_refusal}
 use Rattle.mta_spool.specs.Stands.{IsHeld, IsOfNoRefusal, IsOneOf, IsSpent, MayHave, Makes, need_of}
 
 -- an image that holds the bodies of a history stands for it
@@ -42,6 +42,9 @@ some-is x f e = cc
 
 of-lane : (x f : StepFault) → ◌≡◌ {A = Option StepFault} (Some x) (Some f) → IsOfLane f → IsOfLane x
 of-lane x f e of = subst IsOfLane (sym (some-is x f e)) of
+
+lane-of : (x f : StepFault) → ◌≡◌ {A = Option StepFault} (Some x) (Some f) → IsOfLane x → IsOfLane f
+lane-of x f e of = subst IsOfLane (some-is x f e) of
 
 module _ {D : Type 0} (model : DiskView D) (step : Step) where
   -- behind the history that is held the step is possible
@@ -242,6 +245,31 @@ module _ {D : Type 0} (model : DiskView D) (step : Step) where
     full = λ n m e. absurd cc;
     full_where = λ on no left long. absurd (left spent);
   }
+
+  -- a refusal for its lane stands
+  pub refused_for_lane : (f : StepFault) (old new : JournalShown D) (s s' : State) → new ≡ old → s' ≡ s
+      → old.ended ≡ false → IsRefused s (class_of step) (when s step) f → Makes model step old s new s' (Some f)
+  refused_for_lane f old new s s' same kept going refusal =
+      let of = refusal_of_lane s (class_of step) (when s step) f refusal in
+      record {
+        row = λ h e is. subst (λ (x : StepFault). IsRefused s (class_of step) (when s step) x) (some-is f h e) refusal;
+        row_where = λ on h other.
+            inl (ap (λ (x : StepFault). Some x) (sym (one_refusal s (class_of step) (when s step) f h refusal other)));
+        done = λ ok. absurd cc;
+        changed = λ ok. absurd cc;
+        going = λ ok. absurd cc;
+        told = stays_told old new same;
+        crash = λ calm. elim calm [ inl e ↦ absurd cc | inr e ↦ absurd (lane-of f StepFaults.Disk e of) ];
+        kept = λ some other. (same, kept);
+        later = no_later old new same;
+        disk = λ e. absurd (lane-of f StepFaults.Disk e of);
+        ended = (λ e. absurd (lane-of f StepFaults.Ended e of), λ e. absurd cc);
+        marked = λ e. absurd (lane-of f StepFaults.Disk e of);
+        spent = λ last e. absurd (lane-of f (StepFaults.Spent last) e of);
+        spent_where = λ on no is. absurd (no f refusal);
+        full = λ size need e. absurd (lane-of f (StepFaults.Full size need) e of);
+        full_where = λ on no left long. absurd (no f refusal);
+      }
 
 -- the same of a journal and a state that are equal to those before
 pub makes_along : {D : Type 0} (model : DiskView D) (step : Step) (mid old new : JournalShown D) (t s s' : State) (fault : Option StepFault)

@@ -6,3 +6,8 @@ pub mod Making
 pub mod Replaying
 pub mod Opening
 pub mod Turning
+pub mod OnLanes
+pub mod Looking
+pub mod Receiving
+pub mod Starting
+pub mod Opened

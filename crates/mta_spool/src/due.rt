@@ -3,7 +3,7 @@
 ghost use Rattle.std.specs.Prelude.{◌≡◌, ◌≤◌, ◌<◌, ◌^◌, ℕ, IfSome};
 ghost use Rattle.mta_ber.specs.Times.{last_moment};
 ghost use Rattle.mta_records.specs.Body.{HasFields};
-ghost use Rattle.mta_histories.specs.Classes.{abandon, class_of, moment_of};
+ghost use Rattle.mta_histories.specs.Classes.{abandon, class_of, moment_of, settle, was_denied, was_refused};
 ghost use Rattle.mta_histories.specs.Lanes.{lane_at};
 ghost use Rattle.mta_histories.specs.Numbers.{numbers_needed, numbers_on, recipient_count};
 ghost use Rattle.mta_replay.specs.Kept.{state_of};
@@ -23,9 +23,12 @@ fn recipient_count(lane: &Lane) -> usize
     }
 }
 
-// How many numbers giving up the activity of a lane needs.
-fn needed_to_abandon(lanes: &Lanes, lane: u32) -> usize
-    ensures { (k : ℕ) → result ≡ numbers_on (lane_at lane lanes.now.open_lanes.items) (abandon k) }
+/// How many numbers of items the failure of the activity of a lane needs.
+pub(crate) fn needed_to_fail(lanes: &Lanes, lane: u32) -> usize
+    ensures given_up { (k : ℕ) → result ≡ numbers_on (lane_at lane lanes.now.open_lanes.items) (abandon k) }
+    ensures refused { (kind k : ℕ)
+        → result ≡ numbers_on (lane_at lane lanes.now.open_lanes.items) (settle (was_refused kind) k) }
+    ensures denied { (k : ℕ) → result ≡ numbers_on (lane_at lane lanes.now.open_lanes.items) (settle was_denied k) }
 {
     match lanes.get(lane) {
         Some(open) => recipient_count(open).max(2),
@@ -40,7 +43,7 @@ pub fn numbers_needed(kept: &Kept, step: &Step) -> usize
 {
     match step {
         Step::Discard { .. } => 0,
-        Step::Abandon { lane, .. } => needed_to_abandon(&kept.lanes, *lane),
+        Step::Abandon { lane, .. } => needed_to_fail(&kept.lanes, *lane),
         _ => 2,
     }
 }

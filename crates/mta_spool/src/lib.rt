@@ -1,15 +1,22 @@
 //! The spool: items and their recipients, over a journal of steps on one disk.
 #![tactic(auto)]
 
+mod binding;
 mod due;
+mod lanes;
+mod looks;
 mod make;
 mod open;
+mod opening;
+mod receiving;
 mod replay;
+mod settling;
 mod spool;
+mod starting;
 
 pub use mta_journal::{JOURNAL_LIMIT, OpenWhy};
 pub use mta_machine::{Item, MailboxLine, Origin, Status, Statuses};
-pub use mta_records::{Step, StepFault};
+pub use mta_records::{CompleteFault, Step, StepFault};
 pub use mta_tables::Tables;
 pub use open::SpoolOpen;
 pub use spool::{Spool, Turned};

@@ -83,7 +83,7 @@ impl<D: Disk + Drop, C: Clock + Drop> Spool<D, C> {
     ghost use Rattle.mta_spool.specs.Turning.{IsUnchanged, Records, Turns};
 
     // Makes a step that is possible.
-    fn make(&mut self, step: Step) -> Result<(), StepFault>
+    pub(crate) fn make(&mut self, step: Step) -> Result<(), StepFault>
         requires going { self.old.journal.ended ≡ false }
         requires fields { HasFields step }
         requires short { length (body_of step) ≤ longest_body }
@@ -96,7 +96,7 @@ impl<D: Disk + Drop, C: Clock + Drop> Spool<D, C> {
     }
 
     // Refuses where fewer numbers of items are left than are needed.
-    fn check_numbers(&self, needed: usize) -> Result<(), StepFault>
+    pub(crate) fn check_numbers(&self, needed: usize) -> Result<(), StepFault>
         ensures left { IfOk result (λ _. length self.now.current.machine.items + needed < 2 ^ 32) }
         ensures spent { IfErr result (IsSpentFor (length self.now.current.machine.items) needed) }
     {
@@ -143,7 +143,7 @@ impl<D: Disk + Drop, C: Clock + Drop> Spool<D, C> {
     }
 
     // The moment of a step that is made now.
-    fn step_moment(&mut self) -> u64
+    pub(crate) fn step_moment(&mut self) -> u64
         ensures moment { AtMoment C.model self.old.clock self.old.current.moment (λ m. result ≡ m) }
         ensures clock { TellsFewer C.model self.old.clock self.new.clock }
         ensures rest { IsUnchanged self.old self.new }

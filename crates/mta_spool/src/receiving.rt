@@ -1,0 +1,301 @@
+//! The steps that take pieces of an activity of the peer (X.228, activity management): a piece is made durable
+//! (`secure`), or the last one comes and the pieces become the next item (`complete`).
+//!
+//! They are refused as the steps of `lanes.rt` are, and with `Bad` before `Spent` where the lane takes the piece, but
+//! the octets up to it are too many, or at a `complete` spell no APDU.
+
+ghost use Rattle.std.specs.Prelude.{◌≡◌, ◌≤◌, ◌<◌, ◌+◌, ◌^◌, ◌↔◌, ℕ, Some, IsTrue, IfOk, IfErr, false, length};
+ghost use Rattle.std.specs.List.{concat};
+ghost use Rattle.mta_ber.specs.Times.{last_moment};
+ghost use Rattle.mta_apdu.specs.Apdus.{apdu_of};
+ghost use Rattle.mta_histories.specs.Classes.{complete, secure};
+ghost use Rattle.mta_histories.specs.History.{IsOnLane, longest_piece, with_piece};
+ghost use Rattle.mta_histories.specs.Lanes.{lane_at};
+ghost use Rattle.mta_lane_recv.specs.Half.{takes_piece};
+ghost use Rattle.mta_lane_recv.specs.Half as recv;
+ghost use Rattle.mta_spool.specs.Receiving.{HasFault, HasFaultOn, IsBad, IsExpected, IsMemoryOrSpent, IsNoApdu};
+ghost use Rattle.mta_spool.specs.Receiving.{IsTooLong};
+ghost use Rattle.mta_spool.specs.Refusals.{ExpectsPiece};
+
+use crate::lanes::refusal_on;
+use crate::spool::Spool;
+use mta_apdu::Apdu;
+use mta_ber::{Fault, Kind, Memory, Octets, ReadFault};
+use mta_edge::{Clock, Disk};
+use mta_lane_recv::Last;
+use mta_lanes::Lane;
+use mta_records::{CompleteFault, Step, StepFault};
+use std::alloc::Global;
+
+// The most octets of an activity.
+const LONGEST_ACTIVITY: u32 = 2_097_152;
+
+// The most octets of a piece. `checkpoint` is in units of 1,024 octets, and with 0 an activity is one piece.
+fn longest_piece(checkpoint: u32) -> u64
+    ensures { result ≡ longest_piece checkpoint }
+{
+    if checkpoint == 0 {
+        u64::from(LONGEST_ACTIVITY)
+    } else {
+        1024 * u64::from(checkpoint)
+    }
+}
+
+// Whether the piece begins a new activity, goes on from what stands, or replaces a part of it.
+fn takes_piece(high: u32, last: Last, activity: u32, number: u32) -> bool
+    ensures { result ≡ takes_piece high last activity number }
+{
+    match last {
+        Last::None => high < activity && number == 1,
+        Last::Partial {
+            activity: standing,
+            pieces,
+        } => activity == standing && 1 <= number && u64::from(number) <= u64::from(pieces) + 1,
+        Last::Done { .. } => high < activity && number == 1,
+    }
+}
+
+// Whether the lane takes the piece, whatever its octets spell with those before.
+fn expects(opened: &Lane, generation: u64, activity: u32, number: u32, piece: &[u8]) -> bool
+    ensures { IsTrue result
+        ↔ (generation ≡ opened.now.generation) × ExpectsPiece opened.now (recv.Secure activity number) piece.now }
+{
+    let values = opened.values();
+    let (high, last) = opened.receiving();
+    opened.is_of(generation)
+        && values.agreed
+        && takes_piece(high, last, activity, number)
+        && 1 <= piece.len()
+        && piece.len() as u64 <= longest_piece(values.checkpoint)
+}
+
+// The first fault of the octets up to the piece; none where they spell an APDU.
+fn fault_of_apdu(
+    alloc: Global,
+    opened: &Lane,
+    number: u32,
+    piece: &[u8],
+) -> Result<Option<Fault>, Memory>
+    ensures { let octets = concat (with_piece opened.now.pieces number piece.now) in
+        IfOk result (HasFault octets) }
+{
+    let octets = opened.joined(alloc, number, piece)?;
+    match Apdu::read(alloc, octets.as_slice()) {
+        Ok(read) => {
+            read.discard();
+            Ok(None)
+        }
+        Err(ReadFault::Bad(fault)) => Ok(Some(fault)),
+        Err(ReadFault::Memory) => Err(Memory),
+    }
+}
+
+impl<D: Disk + Drop, C: Clock + Drop> Spool<D, C> {
+    ghost use Rattle.mta_records.specs.declared.step.Step.TheVariants as Steps;
+    ghost use Rattle.mta_spool.specs.Receiving.{Receives};
+    ghost use Rattle.mta_spool.specs.Stands.{Appends, AtMoment, fault_of, TellsFewer};
+
+    // Whether the lane takes the piece, whatever its octets spell with those before.
+    fn expects_piece(
+        &self,
+        lane: u32,
+        generation: u64,
+        activity: u32,
+        number: u32,
+        piece: &[u8],
+    ) -> bool
+        ensures secures { IsTrue result ↔ IsExpected self.now.current lane generation
+            (secure activity number piece.now) self.now.current.moment }
+        ensures completes { (moment : ℕ) → IsTrue result ↔ IsExpected self.now.current lane generation
+            (complete activity number piece.now) moment }
+    {
+        match self.replay.kept.lanes.get(lane) {
+            Some(opened) => expects(opened, generation, activity, number, piece),
+            None => false,
+        }
+    }
+
+    // Makes a piece durable that the lane takes.
+    fn make_secure(
+        &mut self,
+        lane: u32,
+        generation: u64,
+        activity: u32,
+        number: u32,
+        piece: &[u8],
+    ) -> Result<(), StepFault>
+        requires going { self.old.journal.ended ≡ false }
+        requires allowed { IsOnLane self.old.current lane (Some generation) (secure activity number piece.now)
+            self.old.current.moment }
+        ensures made { Appends D.model (Steps.Secure lane generation activity number piece.now) self.old self.new
+            (fault_of result) }
+        ensures clock { self.new.clock ≡ self.old.clock }
+    {
+        let piece = Octets::from_slice(self.alloc, piece)?;
+        self.make(Step::Secure {
+            lane,
+            generation,
+            activity,
+            number,
+            piece,
+        })
+    }
+
+    /// Makes a piece of an activity of the peer durable, in place of this piece and all behind it. Pieces are numbered
+    /// from 1, and have 1 octet up to the size that both ends hold to.
+    ///
+    /// # Errors
+    /// `Bad` of kind TooLong at 2,097,152 exactly where the pieces with this one pass 2,097,152 octets.
+    pub fn secure(
+        &mut self,
+        lane: u32,
+        generation: u64,
+        activity: u32,
+        number: u32,
+        piece: &[u8],
+    ) -> Result<(), CompleteFault>
+        ensures receives { Receives D.model (Steps.Secure lane generation activity number piece.now)
+            (λ f. IsBad self.old.current lane generation (secure activity number piece.now) self.old.current.moment
+            (IsTooLong number piece.now f))
+            self.old self.new result }
+        ensures clock { self.new.clock ≡ self.old.clock }
+    {
+        if self.journal.is_ended() {
+            return Err(CompleteFault::Step(StepFault::Ended));
+        }
+        if !self.expects_piece(lane, generation, activity, number, piece) {
+            let fault = refusal_on(&self.replay.kept.lanes, lane, generation);
+            return Err(CompleteFault::Step(fault));
+        }
+        if !self
+            .replay
+            .kept
+            .may_secure(lane, generation, activity, number, piece)
+        {
+            return Err(CompleteFault::Bad(Fault {
+                at: LONGEST_ACTIVITY,
+                kind: Kind::TooLong,
+            }));
+        }
+        match self.make_secure(lane, generation, activity, number, piece) {
+            Ok(()) => Ok(()),
+            Err(fault) => Err(CompleteFault::Step(fault)),
+        }
+    }
+
+    // The first fault of the octets up to a piece of an open lane; none where they spell an APDU.
+    fn fault_of_pieces(&self, lane: u32, number: u32, piece: &[u8]) -> Result<Option<Fault>, Memory>
+        ensures { IfOk result (HasFaultOn (lane_at lane self.now.current.lanes.open_lanes) number piece.now) }
+    {
+        match self.replay.kept.lanes.get(lane) {
+            Some(opened) => fault_of_apdu(self.alloc, opened, number, piece),
+            None => Ok(None),
+        }
+    }
+
+    // Makes the item of an activity whose last piece this is, which the lane takes.
+    fn make_complete(
+        &mut self,
+        moment: u64,
+        lane: u32,
+        generation: u64,
+        activity: u32,
+        number: u32,
+        piece: &[u8],
+    ) -> Result<u32, StepFault>
+        requires going { self.old.journal.ended ≡ false }
+        requires timely { self.old.current.moment ≤ moment }
+        requires fits { moment ≤ last_moment }
+        requires allowed { IsOnLane self.old.current lane (Some generation) (complete activity number piece.now)
+            moment }
+        ensures made { Appends D.model (Steps.Complete lane generation activity number piece.now moment) self.old
+            self.new (fault_of result) }
+        ensures number { IfOk result (λ n. n ≡ length self.old.current.machine.items + 1) }
+        ensures clock { self.new.clock ≡ self.old.clock }
+    {
+        self.check_numbers(2)?;
+        let item = self.items().len() as u32 + 1;
+        let piece = Octets::from_slice(self.alloc, piece)?;
+        self.make(Step::Complete {
+            lane,
+            generation,
+            activity,
+            number,
+            piece,
+            moment,
+        })?;
+        Ok(item)
+    }
+
+    // Takes the last piece of an activity of the peer, at a moment.
+    fn complete_at(
+        &mut self,
+        moment: u64,
+        lane: u32,
+        generation: u64,
+        activity: u32,
+        number: u32,
+        piece: &[u8],
+    ) -> Result<u32, CompleteFault>
+        requires timely { self.old.current.moment ≤ moment }
+        requires fits { moment ≤ last_moment }
+        ensures receives { Receives D.model (Steps.Complete lane generation activity number piece.now moment)
+            (λ f. IsBad self.old.current lane generation (complete activity number piece.now) moment
+            (IsNoApdu number piece.now f))
+            self.old self.new result }
+        ensures number { IfOk result (λ n. n ≡ length self.old.current.machine.items + 1) }
+        ensures clock { self.new.clock ≡ self.old.clock }
+    {
+        if self.journal.is_ended() {
+            return Err(CompleteFault::Step(StepFault::Ended));
+        }
+        if !self.expects_piece(lane, generation, activity, number, piece) {
+            let fault = refusal_on(&self.replay.kept.lanes, lane, generation);
+            return Err(CompleteFault::Step(fault));
+        }
+        match self.fault_of_pieces(lane, number, piece) {
+            Ok(None) => {}
+            Ok(Some(fault)) => return Err(CompleteFault::Bad(fault)),
+            Err(Memory) => return Err(CompleteFault::Step(self.no_memory())),
+        }
+        match self.make_complete(moment, lane, generation, activity, number, piece) {
+            Ok(item) => Ok(item),
+            Err(fault) => Err(CompleteFault::Step(fault)),
+        }
+    }
+
+    // What is told where there was no memory to look at the octets: too few numbers, where too few are left.
+    fn no_memory(&self) -> StepFault
+        ensures { IsMemoryOrSpent (length self.now.current.machine.items) 2 result }
+    {
+        match self.check_numbers(2) {
+            Ok(()) => StepFault::Memory,
+            Err(fault) => fault,
+        }
+    }
+
+    /// Takes the last piece of an activity of the peer, and answers the number of the item that its pieces become.
+    ///
+    /// # Errors
+    /// `Bad` exactly where the octets up to the piece spell no APDU, with their first fault; `Spent` where fewer than
+    /// two numbers of items are left.
+    pub fn complete(
+        &mut self,
+        lane: u32,
+        generation: u64,
+        activity: u32,
+        number: u32,
+        piece: &[u8],
+    ) -> Result<u32, CompleteFault>
+        ensures receives { AtMoment C.model self.old.clock self.old.current.moment
+            (λ m. Receives D.model (Steps.Complete lane generation activity number piece.now m)
+            (λ f. IsBad self.old.current lane generation (complete activity number piece.now) m
+            (IsNoApdu number piece.now f))
+            self.old self.new result) }
+        ensures number { IfOk result (λ n. n ≡ length self.old.current.machine.items + 1) }
+        ensures clock { TellsFewer C.model self.old.clock self.new.clock }
+    {
+        let moment = self.step_moment();
+        self.complete_at(moment, lane, generation, activity, number, piece)
+    }
+}
