@@ -8,3 +8,4 @@ pub mod Refused
 pub mod Replays
 pub mod Turns
 pub mod Opened
+pub mod Receiving

@@ -7,12 +7,10 @@ mod lanes;
 mod looks;
 mod make;
 mod open;
-mod opening;
 mod receiving;
 mod replay;
 mod settling;
 mod spool;
-mod starting;
 
 pub use mta_journal::{JOURNAL_LIMIT, OpenWhy};
 pub use mta_machine::{Item, MailboxLine, Origin, Status, Statuses};
