@@ -8,4 +8,4 @@ pub mod Refused
 pub mod Replays
 pub mod Turns
 pub mod Opened
-pub mod Receiving
+pub mod Pieces

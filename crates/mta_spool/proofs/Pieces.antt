@@ -9,7 +9,11 @@ use Rattle.std.proofs.lemmas.List.{length-append}
 use Rattle.std.proofs.lemmas.Option.{same_Some}
 use Rattle.mta_ber.specs.declared.fault.Fault.{Fault}
 use Rattle.mta_ber.specs.declared.fault.Kind.TheVariants as Kinds
+use Rattle.mta_edge.specs.Views.{DiskView}
+use Rattle.mta_records.specs.declared.step.Step.{Step}
 use Rattle.mta_records.specs.declared.step.Step.TheVariants as steps
+use Rattle.mta_records.specs.declared.fault.CompleteFault.{CompleteFault}
+use Rattle.mta_records.specs.declared.fault.CompleteFault.TheVariants as CompleteFaults
 use Rattle.mta_records.specs.declared.fault.StepFault.{StepFault}
 use Rattle.mta_records.specs.declared.fault.StepFault.TheVariants as Faults
 use Rattle.mta_apdu.specs.Apdus.{ApduValue, apdu_of, SpellsApdu}
@@ -24,11 +28,15 @@ use Rattle.mta_records.specs.Body.{body_of, lane_octets, activity_octets, number
 use Rattle.mta_records.specs.Fields.{string}
 use Rattle.mta_records.specs.Form.{number_octets}
 use Rattle.mta_journal.specs.Bodies.{longest_body}
+use Rattle.mta_journal.specs.Shown.{Shown as JournalShown}
 use Rattle.mta_lanes.proofs.Concats.{length_behind}
 use Rattle.mta_spool.specs.OnLanes.{refusal_on}
-use Rattle.mta_spool.specs.Receiving.{HasFaultOn, IsBad, IsExpected, IsNoApdu, IsTooLong}
+use Rattle.mta_spool.specs.Receiving.{HasFaultOn, IsBad, IsExpected, IsNoApdu, IsTooLong, Receives, step_fault_of}
 use Rattle.mta_spool.specs.Refusals.{ExpectsPiece, IsFenced, IsRefused, LaneExpects}
-use Rattle.mta_spool.specs.Stands.{IsSpent}
+use Rattle.mta_spool.specs.Shown.{Shown}
+use Rattle.mta_spool.specs.Stands.{Appends, IsSpent}
+use Rattle.mta_spool.specs.Turning.{IsUnchanged}
+use Rattle.mta_spool.proofs.Making.{refused_for_lane}
 use Rattle.mta_spool.proofs.OnLanes.{lane_possible}
 
 -- ---- whether the lane takes it
@@ -375,3 +383,44 @@ module _ (n g activity number : ℕ) (piece : List ℕ) (fits : length piece ≤
         string-octets piece,
         moment-octets moment,
       )
+
+-- ---- what is answered for the step
+
+module _ {D C T : Type 0} (model : DiskView D) (step : Step) (Bad : Fault → Type 0) (old new : Shown D C)
+    (never : (fault : Fault) → Bad fault → ⊥) where
+  -- the step was made or refused, and the octets are not bad
+  pub step_receives : (result : Result T CompleteFault) (fault : Option StepFault) → step_fault_of result ≡ Some fault
+      → Appends model step old new fault → Receives model step Bad old new result
+  step_receives result fault is appends = record {
+    appends = λ other e.
+        subst (λ (f : Option StepFault). Appends model step old new f) (same_Some fault other (sym is ∙ e)) appends;
+    bad = λ bad e.
+        let none : step_fault_of result ≡ None = ap (λ (r : Result T CompleteFault). step_fault_of r) e in
+        let both : ◌≡◌ {A = Option (Option StepFault)} None (Some fault) = sym none ∙ is in absurd cc;
+    bad_where = λ bad going is_bad. absurd (never bad is_bad);
+  }
+
+  -- it was refused for the lane
+  pub lane_receives : (f : StepFault) → IsUnchanged old new → old.journal.ended ≡ false
+      → IsRefused old.current (class_of step) (when old.current step) f
+      → Receives {T = T} model step Bad old new (Err (CompleteFaults.Step f))
+  lane_receives f same going refusal =
+      step_receives (Err (CompleteFaults.Step f)) (Some f) refl
+      (refused_for_lane model step f old.journal new.journal old.current new.current same.0 same.1 going refusal)
+
+-- the same of a journal and a state that are equal to those before
+pub receives_along : {D C T : Type 0} (model : DiskView D) (step : Step) (Bad : State → Fault → Type 0)
+    (old mid new : Shown D C) (result : Result T CompleteFault) → IsUnchanged old mid
+    → Receives model step (Bad mid.current) mid new result → Receives model step (Bad old.current) old new result
+receives_along {D} {C} model step Bad old mid new result same receives =
+    subst
+    (λ (s : State).
+    Receives model step (Bad s) (record { journal = old.journal; clock = old.clock; current = s }) new result) same.1
+    (subst
+    (λ (j : JournalShown D).
+    Receives model step (Bad mid.current) (record { journal = j; clock = old.clock; current = mid.current }) new result)
+    same.0 moved)
+  where
+    moved : Receives model step (Bad mid.current)
+        (record { journal = mid.journal; clock = old.clock; current = mid.current }) new result
+    moved = record { appends = receives.appends; bad = receives.bad; bad_where = receives.bad_where }
