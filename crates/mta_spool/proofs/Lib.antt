@@ -11,3 +11,4 @@ pub mod Opened
 pub mod LaneLengths
 pub mod PeerWords
 pub mod Started
+pub mod Pieces

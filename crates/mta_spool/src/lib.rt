@@ -8,6 +8,7 @@ mod looks;
 mod make;
 mod open;
 mod opening;
+mod receiving;
 mod replay;
 mod settling;
 mod spool;

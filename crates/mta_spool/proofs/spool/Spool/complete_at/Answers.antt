@@ -1,0 +1,81 @@
+use Rattle.std.proofs.Common.{◌≡◌, true, Option, None, Some, Ok, Err, refl, sym, ap, subst, ◌∙◌}
+use Rattle.mta_ber.specs.declared.fault.Fault.{Fault}
+use Rattle.mta_records.specs.declared.step.Step.TheVariants as steps
+use Rattle.mta_records.specs.declared.fault.StepFault.{StepFault}
+use Rattle.mta_records.specs.declared.fault.CompleteFault.TheVariants as CompleteFaults
+use Rattle.mta_histories.specs.Classes.{class_of, complete}
+use Rattle.mta_histories.specs.History.{when}
+use Rattle.mta_histories.specs.Lanes.{lane_at}
+use Rattle.mta_spool.specs.OnLanes.{refusal_on}
+use Rattle.mta_spool.specs.Receiving.{HasFaultOn, IsBad, IsExpected, IsNoApdu}
+use Rattle.mta_spool.specs.Refusals.{IsRefused}
+use Rattle.mta_spool.specs.Shown.{Shown}
+use Rattle.mta_spool.proofs.Pieces.{bad_complete, complete_refused, lane_receives, may_complete, not_no_apdu}
+use Rattle.mta_spool.proofs.Pieces.{step_receives}
+use Rattle.mta_spool.proofs.spool.Spool.complete_at.Goals as goal
+
+pub returns-then-not-expects_piece-clause-receives : goal.returns-then-not-expects_piece-clause-receives
+returns-then-not-expects_piece-clause-receives g c =
+    let s = c.args.self.now.current in
+    let piece = c.args.piece.now in
+    let moment = c.args.moment in
+    let step = steps.Complete c.args.lane c.args.generation c.args.activity c.args.number piece moment in
+    let iff = c.expects_piece.ensures.completes moment in
+    let never : IsExpected s c.args.lane c.args.generation (complete c.args.activity c.args.number piece) moment → ⊥ =
+    λ is. let does : c.expects_piece.result ≡ true = iff.1 is in
+    let isnt = c.if-not-expects_piece.true in absurd cc in
+    let going = sym (ap (λ (v : Shown _ _). v.journal.ended) c.self.view_is) ∙ sym c.is_ended.ensures
+    ∙ c.if-is_ended.false in
+    let fault : c.refusal_on-fault.result
+    ≡ refusal_on (lane_at c.args.lane s.lanes.open_lanes) c.args.lane c.args.generation =
+    c.refusal_on-fault.ensures
+    ∙ ap (λ (v : Shown _ _). refusal_on (lane_at c.args.lane v.current.lanes.open_lanes) c.args.lane c.args.generation)
+    c.self.view_is in
+    lane_receives g.D.Disk.model step
+    (λ f.
+    IsBad s c.args.lane c.args.generation (complete c.args.activity c.args.number piece) moment
+    (IsNoApdu c.args.number piece f))
+    c.args.self.now c.args.self.now
+    (λ f bad. never (bad_complete s c.args.lane c.args.generation c.args.activity c.args.number piece moment f bad))
+    c.refusal_on-fault.result (refl, refl) going
+    (subst (λ (f : StepFault). IsRefused s (class_of step) (when s step) f) (sym fault)
+    (complete_refused s c.args.lane c.args.generation c.args.activity c.args.number piece moment never))
+
+pub returns-in-Ok-clause-receives : goal.returns-in-Ok-clause-receives
+returns-in-Ok-clause-receives g c =
+    let s = c.args.self.now.current in
+    let piece = c.args.piece.now in
+    let moment = c.args.moment in
+    let iff = c.expects_piece.ensures.completes moment in
+    let apdu = subst (λ (o : Option Fault). HasFaultOn (lane_at c.args.lane s.lanes.open_lanes) c.args.number piece o)
+    c.in-Ok-None.field-0-is c.in-Ok-None.ensures in
+    let on = may_complete s c.args.lane c.args.generation c.args.activity c.args.number piece moment
+    (iff.0 c.if-not-expects_piece.false) apdu in
+    step_receives g.D.Disk.model
+    (steps.Complete c.args.lane c.args.generation c.args.activity c.args.number piece moment)
+    (λ f.
+    IsBad s c.args.lane c.args.generation (complete c.args.activity c.args.number piece) moment
+    (IsNoApdu c.args.number piece f))
+    c.args.self.now c.make_complete.new.self
+    (λ f bad. not_no_apdu s c.args.lane c.args.generation c.args.activity c.args.number piece moment on f bad)
+    (Ok c.in-Ok.item) None refl c.in-Ok.ensures.made
+
+pub returns-in-Err-make_complete-clause-receives : goal.returns-in-Err-make_complete-clause-receives
+returns-in-Err-make_complete-clause-receives g c =
+    let s = c.args.self.now.current in
+    let piece = c.args.piece.now in
+    let moment = c.args.moment in
+    let iff = c.expects_piece.ensures.completes moment in
+    let apdu = subst (λ (o : Option Fault). HasFaultOn (lane_at c.args.lane s.lanes.open_lanes) c.args.number piece o)
+    c.in-Ok-None.field-0-is c.in-Ok-None.ensures in
+    let on = may_complete s c.args.lane c.args.generation c.args.activity c.args.number piece moment
+    (iff.0 c.if-not-expects_piece.false) apdu in
+    step_receives g.D.Disk.model
+    (steps.Complete c.args.lane c.args.generation c.args.activity c.args.number piece moment)
+    (λ f.
+    IsBad s c.args.lane c.args.generation (complete c.args.activity c.args.number piece) moment
+    (IsNoApdu c.args.number piece f))
+    c.args.self.now c.make_complete.new.self
+    (λ f bad. not_no_apdu s c.args.lane c.args.generation c.args.activity c.args.number piece moment on f bad)
+    (Err (CompleteFaults.Step c.in-Err-make_complete.fault)) (Some c.in-Err-make_complete.fault) refl
+    c.in-Err-make_complete.ensures.made
