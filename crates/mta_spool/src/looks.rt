@@ -110,4 +110,18 @@ impl<D: Disk + Drop, C: Clock + Drop> Spool<D, C> {
             None => None,
         }
     }
+
+    /// The open lane of this number; none where it is not open.
+    pub fn lane(&self, number: u32) -> Option<&Lane>
+        ensures { option_copied result ≡ lane_at number self.now.current.lanes.open_lanes }
+    {
+        self.replay.kept.lanes.get(number)
+    }
+
+    /// How many lanes there were so far, those that are closed among them.
+    pub fn lane_count(&self) -> u32
+        ensures { result ≡ self.now.current.lanes.count }
+    {
+        self.replay.kept.lanes.count
+    }
 }
