@@ -4,7 +4,7 @@
 //! They are refused as the steps of `lanes.rt` are, and with `Bad` before `Spent` where the lane takes the piece, but
 //! the octets up to it are too many, or at a `complete` spell no APDU.
 
-ghost use Rattle.std.specs.Prelude.{◌≡◌, ◌≤◌, ◌<◌, ◌+◌, ◌^◌, ◌↔◌, ℕ, Some, IsTrue, IfOk, IfErr, false, length};
+ghost use Rattle.std.specs.Prelude.{◌≡◌, ◌≤◌, ◌<◌, ◌+◌, ◌^◌, ◌↔◌, ℕ, Some, Err, IsTrue, IfOk, IfErr, false, length};
 ghost use Rattle.std.specs.List.{concat};
 ghost use Rattle.mta_ber.specs.Times.{last_moment};
 ghost use Rattle.mta_apdu.specs.Apdus.{apdu_of};
@@ -92,6 +92,8 @@ fn fault_of_apdu(
 
 impl<D: Disk + Drop, C: Clock + Drop> Spool<D, C> {
     ghost use Rattle.mta_records.specs.declared.step.Step.TheVariants as Steps;
+    ghost use Rattle.mta_ber.specs.declared.fault.Fault.{Fault};
+    ghost use Rattle.mta_records.specs.declared.fault.CompleteFault.TheVariants as CompleteFaults;
     ghost use Rattle.mta_spool.specs.Receiving.{Receives};
     ghost use Rattle.mta_spool.specs.Stands.{Appends, AtMoment, fault_of, TellsFewer};
 
@@ -158,6 +160,9 @@ impl<D: Disk + Drop, C: Clock + Drop> Spool<D, C> {
             (λ f. IsBad self.old.current lane generation (secure activity number piece.now) self.old.current.moment
             (IsTooLong number piece.now f))
             self.old self.new result }
+        ensures too_long { self.old.journal.ended ≡ false → (f : Fault)
+            → IsBad self.old.current lane generation (secure activity number piece.now) self.old.current.moment
+            (IsTooLong number piece.now f) → result ≡ Err (CompleteFaults.Bad f) }
         ensures clock { self.new.clock ≡ self.old.clock }
     {
         if self.journal.is_ended() {

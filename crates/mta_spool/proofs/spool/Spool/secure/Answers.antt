@@ -36,3 +36,10 @@ returns-then-not-expects_piece-clause-receives g c =
     c.refusal_on-fault.result (refl, refl) going
     (subst (λ (f : StepFault). IsRefused s (class_of step) (when s step) f) (sym fault)
     (secure_refused s c.args.lane c.args.generation c.args.activity c.args.number piece s.moment never))
+
+pub returns-then-not-expects_piece-clause-too_long : goal.returns-then-not-expects_piece-clause-too_long
+returns-then-not-expects_piece-clause-too_long g c going f bad =
+    let is = bad_secure c.args.self.now.current c.args.lane c.args.generation c.args.activity c.args.number
+    c.args.piece.now c.args.self.now.current.moment f bad in
+    let does : c.expects_piece.result ≡ true = c.expects_piece.ensures.secures.1 is in
+    let isnt = c.if-not-expects_piece.true in absurd cc
