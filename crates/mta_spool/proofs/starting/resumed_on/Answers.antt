@@ -4,7 +4,8 @@ use Rattle.mta_spool.proofs.starting.resumed_on.Goals as goal
 
 pub returns-in_default : goal.returns-in_default
 returns-in_default c =
-    absurd (nothing_idle c.args.opened.now c.requires c.in_default.ensures (sym c.may_close.ensures ∙ c.if-may_close.false))
+    absurd
+    (nothing_idle c.args.opened.now c.requires c.in_default.ensures (sym c.may_close.ensures ∙ c.if-may_close.false))
 
 pub returns : goal.returns
 returns c =
