@@ -9,8 +9,7 @@ pub make-requires-clause-fields : goal.make-requires-clause-fields
 make-requires-clause-fields g c =
     let s = c.args.self.now.current in
     let fits = secured_fits s c.args.lane c.args.generation c.args.activity c.args.number s.moment c.args.piece.now
-    c.requires.allowed in
-    (
+    c.requires.allowed in (
       (((c.ranges.lane.fits, c.ranges.generation.fits), c.ranges.activity.fits), c.ranges.number.fits),
       omega (arith, fits, ap length c.in_ok-piece.ensures),
     )
