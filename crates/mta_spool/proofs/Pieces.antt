@@ -42,8 +42,8 @@ use Rattle.mta_spool.proofs.OnLanes.{lane_possible}
 -- ---- whether the lane takes it
 
 module _ (s : State) (n g : ℕ) where
-  pub on_expected : (step : LaneStep) (moment : ℕ) (lane : Lane) (A : Type 0) → Some lane ≡ lane_at n s.lanes.open_lanes
-      → A ↔ ((g ≡ lane.generation) × LaneExpects s lane step moment) → A ↔ IsExpected s n g step moment
+  pub on_expected : (step : LaneStep) (moment : ℕ) (lane : Lane) (A : Type 0)
+      → Some lane ≡ lane_at n s.lanes.open_lanes → A ↔ ((g ≡ lane.generation) × LaneExpects s lane step moment) → A ↔ IsExpected s n g step moment
   on_expected step moment lane A found same = (
     λ a. let both = same.0 a in
         record { lane = lane; lane_is = sym found; current = both.0; expected = both.1 },
@@ -255,7 +255,8 @@ module _ (s : State) (n g activity number : ℕ) (piece : List ℕ) (moment : �
 
   spells-no-fault : (octets : List ℕ) (f : Fault) → IsApdu octets → apdu_of octets ≡ Err f → ⊥
   spells-no-fault octets f apdu wrong =
-      let both : ◌≡◌ {A = Result ApduValue Fault} (Ok apdu.0) (Err f) = sym (apdu_full octets apdu.0 apdu.1) ∙ wrong in cc
+      let both : ◌≡◌ {A = Result ApduValue Fault} (Ok apdu.0) (Err f) = sym (apdu_full octets apdu.0 apdu.1) ∙ wrong in
+      cc
 
   pub not_no_apdu : IsOnLane s n (Some g) (complete activity number piece) moment → (f : Fault)
       → IsBad s n g (complete activity number piece) moment (IsNoApdu number piece f) → ⊥
@@ -418,8 +419,8 @@ receives_along {D} {C} model step Bad old mid new result same receives =
     Receives model step (Bad s) (record { journal = old.journal; clock = old.clock; current = s }) new result) same.1
     (subst
     (λ (j : JournalShown D).
-    Receives model step (Bad mid.current) (record { journal = j; clock = old.clock; current = mid.current }) new result)
-    same.0 moved)
+    Receives model step (Bad mid.current) (record { journal = j; clock = old.clock; current = mid.current }) new
+    result) same.0 moved)
   where
     moved : Receives model step (Bad mid.current)
         (record { journal = mid.journal; clock = old.clock; current = mid.current }) new result

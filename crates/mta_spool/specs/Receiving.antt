@@ -1,4 +1,5 @@
--- What a call leaves that takes a piece of an activity: beside the refusals of steps it may find that the octets are bad.
+-- What a call leaves that takes a piece of an activity. Beside the refusals of steps it may find that the octets are
+-- bad.
 use Rattle.std.specs.Prelude.{◌≡◌, ◌⊎◌, ℕ, ◌+◌, ◌^◌, ◌<◌, List, length, false, Option, None, Some, Result, Ok, Err}
 use Rattle.std.specs.List.{concat}
 use Rattle.mta_ber.specs.declared.fault.Fault.{Fault}
@@ -70,7 +71,8 @@ pub record Receives {D C T : Type 0} (model : DiskView D) (step : Step) (Bad : F
   pub bad_where : (fault : Fault) → old.journal.ended ≡ false → Bad fault
       → (result ≡ Err (CompleteFaults.Bad fault))
       ⊎ (result ≡ Err (CompleteFaults.Step StepFaults.Memory))
-      ⊎ (IsSpent old.current step × (result ≡ Err (CompleteFaults.Step (StepFaults.Spent (length old.current.machine.items)))))
+      ⊎ (IsSpent old.current step
+      × (result ≡ Err (CompleteFaults.Step (StepFaults.Spent (length old.current.machine.items)))))
 
 -- too few numbers are left, or there was no memory
 abbrev pub IsMemoryOrSpent : (count needed : ℕ) → StepFault → Type 0
