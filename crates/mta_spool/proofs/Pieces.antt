@@ -43,7 +43,8 @@ use Rattle.mta_spool.proofs.OnLanes.{lane_possible}
 
 module _ (s : State) (n g : ℕ) where
   pub on_expected : (step : LaneStep) (moment : ℕ) (lane : Lane) (A : Type 0)
-      → Some lane ≡ lane_at n s.lanes.open_lanes → A ↔ ((g ≡ lane.generation) × LaneExpects s lane step moment) → A ↔ IsExpected s n g step moment
+      → Some lane ≡ lane_at n s.lanes.open_lanes → A ↔ ((g ≡ lane.generation) × LaneExpects s lane step moment)
+      → A ↔ IsExpected s n g step moment
   on_expected step moment lane A found same = (
     λ a. let both = same.0 a in
         record { lane = lane; lane_is = sym found; current = both.0; expected = both.1 },
