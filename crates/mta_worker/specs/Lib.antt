@@ -1,0 +1,4 @@
+pub mod Answers
+pub mod Halting
+pub mod Lines
+pub mod Telling

@@ -1,0 +1,13 @@
+//! A worker: it serves one session after another on the links of a station, over a spool that it shares with other
+//! workers under a lock.
+#![tactic(auto)]
+
+mod answering;
+mod end;
+mod line;
+mod telling;
+
+pub use answering::answer;
+pub use end::{Halt, WorkerEnd, halt_of};
+pub use line::line_of;
+pub use telling::{Lost, fault_of, halt_after, told};
