@@ -23,7 +23,7 @@ use Rattle.mta_procedures.specs.Verdicts.{first_case, leads_to_list, length_for_
 use Rattle.mta_procedures.specs.Verdicts.{verdict_of_message}
 use Rattle.mta_verdicts.proofs.CaseSteps.{looped_first}
 use Rattle.mta_table_rules.specs.Counts.{CountsAsLength}
-use Rattle.mta_table_rules.proofs.Lengths.{copy_long}
+use Rattle.mta_idle.proofs.Lengths.{copy_long}
 
 -- the facts, with a members' copy that is long or not
 abbrev with_long : Facts → Bool → Facts
