@@ -164,7 +164,7 @@ none_sending s i r moment busy none due (inr d) =
     let does = sends_for s i r moment due d in absurd cc
 
 -- what expires of an activity for a recipient of the item
-expires : (m : Machine) (i r moment : ℕ) (text : List ℕ) (item : ItemValue) (t : Option Transfer)
+pub expires : (m : Machine) (i r moment : ℕ) (text : List ℕ) (item : ItemValue) (t : Option Transfer)
     → numbered m.tables (last_tables m) ≡ Some text → numbered m.items i ≡ Some item → is_for i r t ≡ true
     → HasExpired m t moment ↔ (is_expired text item.octets item.arrival moment ≡ true)
 expires m i r moment text item None text_is item_is has = absurd cc

@@ -1,7 +1,9 @@
-//! What is due in the state of a spool, and what goes to a peer next, found by looking at each item in turn.
+//! What is due in the state of a spool, and what goes to a peer next, found by looking at each item in turn. What is
+//! due is looked for only in items that are not known to be idle.
 #![tactic(auto)]
 
 mod due;
+mod idle;
 mod queue;
 mod relay;
 mod scan;

@@ -1,8 +1,10 @@
 //! What is asked of the rules.
 
-ghost use Rattle.std.specs.Prelude.{◌≡◌, ◌≤◌, ◌^◌, ◌↔◌, List, ℕ, IfOk, IfSome, IsTrue, Some, is_some, map};
+ghost use Rattle.std.specs.Prelude.{◌≡◌, ◌≤◌, ◌<◌, ◌^◌, ◌↔◌, List, ℕ, IfOk, IfSome, IsTrue, Some, is_some};
+ghost use Rattle.std.specs.Prelude.{length, map};
 ghost use Rattle.std.specs.Option.{option_copied, option_map};
 ghost use Rattle.mta_ber.specs.Times.{last_moment};
+ghost use Rattle.mta_idle.specs.Idle.{IsIdleUntil};
 ghost use Rattle.mta_names.specs.Bounded.{IsCode};
 ghost use Rattle.mta_machine.specs.Machine.{own_item};
 ghost use Rattle.mta_machine.specs.Rules.{delivery_report, expansion, is_expired, mailbox_word, names_peer};
@@ -52,6 +54,14 @@ pub trait Rules {
     ) -> Result<bool, Memory>
         requires { arrival ≤ last_moment }
         ensures { IfOk result (λ b. b ≡ is_expired (text self.now) octets.now arrival moment) };
+
+    /// Until when nothing is called for at once of those recipients of an item who are pending: the next moment behind
+    /// this one at which a verdict may change, the end of the deferral or else of the hold time. None where something
+    /// is called for, where the item has waited for its hold time, or where its octets are those of no APDU.
+    fn idle_until(&self, alloc: Global, item: &Item, moment: u64) -> Result<Option<u64>, Memory>
+        requires arrived { item.now.arrival ≤ last_moment }
+        requires few { length item.now.statuses < 2 ^ 32 }
+        ensures { IfOk result (IsIdleUntil (text self.now) item.now moment) };
 
     /// Whether a report that comes to a list can be passed back, among these items.
     fn passes_back(&self, alloc: Global, items: &[Item], item: &Item) -> Result<bool, Memory>

@@ -269,7 +269,7 @@ impl<D: Disk + Drop, C: Clock + Drop> Spool<D, C> {
         ensures { IsLastRecorded self.now.current.machine (option_copied result) }
     {
         match &self.replay.rules {
-            Some(rules) => Some(rules.tables()),
+            Some(force) => Some(force.rules.tables()),
             None => None,
         }
     }

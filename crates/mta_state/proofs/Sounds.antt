@@ -1,5 +1,5 @@
 -- What is sound before a step is sound behind it.
-use Rattle.std.proofs.Common.{◌≡◌, ◌≢◌, ℕ, suc, ◌+◌, ◌≤◌, ◌<◌, ◌^◌, Bool, true, false, cond, List, [], ◌∷◌, ◌++◌, length}
+use Rattle.std.proofs.Common.{◌≡◌, ◌≢◌, ℕ, zero, suc, ◌+◌, ◌≤◌, ◌<◌, ◌^◌, Bool, true, false, cond, List, [], ◌∷◌, ◌++◌, length}
 use Rattle.std.proofs.Common.{map, Option, Some, None, refl, sym, ap, subst, ◌∙◌, arith}
 use Rattle.std.specs.Prelude.{IfSome, is_some, option_map, slice_get}
 use Rattle.std.proofs.lemmas.List.{length-append}
@@ -13,7 +13,10 @@ use Rattle.mta_records.specs.declared.step.Step.TheVariants.{Back, LaneOpen, Lan
 use Rattle.mta_records.specs.declared.step.Step.TheVariants.{Sent, Refused, Denied, Dropped, Abandon, Secure, Complete}
 use Rattle.mta_records.specs.declared.step.Step.TheVariants.{Drop, CloseLane}
 use Rattle.mta_records.specs.Body.{HasFields}
-use Rattle.mta_machine.specs.Items.{Machine, numbered}
+use Rattle.mta_idle.specs.declared.span.Span.{Span}
+use Rattle.mta_idle.specs.Spans.{AreIdle}
+use Rattle.mta_idle.proofs.Kept.{idle_items_stay}
+use Rattle.mta_machine.specs.Items.{ItemValue, Machine, numbered}
 use Rattle.mta_machine.specs.Rules.{Failure, denied, expired}
 use Rattle.mta_machine.specs.Machine.{MachineStep, discharge, failed, last_tables, machine_run}
 use Rattle.mta_histories.specs.Classes.{was_sent, was_refused, was_denied, was_dropped, LaneStep, agree, bind, start}
@@ -29,8 +32,9 @@ use Rattle.mta_replay.specs.declared.kept.Kept.{Kept}
 use Rattle.mta_replay.specs.declared.change.Change.{Change}
 use Rattle.mta_replay.specs.Asked.{IsStored}
 use Rattle.mta_replay.specs.Kept.{state_of, changed_state}
-use Rattle.mta_state.specs.Ready.{recorded_by, IsReady}
-use Rattle.mta_state.specs.Sound.{AreLast, IsSound}
+use Rattle.mta_state.specs.declared.replay.InForce.{InForce}
+use Rattle.mta_state.specs.Ready.{recorded_by, AreFresh, IsReady}
+use Rattle.mta_state.specs.Sound.{AreIdleUnder, AreLast, IsSound}
 use Rattle.mta_state.proofs.Stored.{EachFits, stored-run, tables-stay}
 
 -- ---- moments
@@ -170,13 +174,21 @@ abbrev pub rules_after : {R : Type 0} → Option R → Option R → Option R
 rules_after old None = old
 rules_after old (Some new) = Some new
 
+-- what is known of no item is true
+idle-fresh : (text : List ℕ) (items : List ItemValue) (spans : List Span) → spans ≡ [] → AreIdle text items spans
+idle-fresh text items spans fresh = subst (AreIdle text items) (sym fresh) none
+  where
+    none : AreIdle text items []
+    none zero span there moment within = absurd cc
+    none (suc k) span there moment within = absurd cc
+
 module _ {R : Type 0} (text : R → List ℕ) where
-  stays-last : (m n : Machine) (rules : Option R) → n.tables ≡ m.tables → AreLast text m rules → AreLast text n rules
+  stays-last : (m n : Machine) (rules : Option (InForce R)) → n.tables ≡ m.tables → AreLast text m rules → AreLast text n rules
   stays-last m n None same last = same ∙ last
   stays-last m n (Some r) same last = ap (λ (ts : List (List ℕ)). numbered ts (length ts)) same ∙ last
 
-  last-after : (s : State) (step : Step) (old new : Option R) → HasFields step → s.moment ≤ last_moment
-      → IsPossible s step → option_map text new ≡ recorded_by (class_of step) → AreLast text s.machine old
+  last-after : (s : State) (step : Step) (old new : Option (InForce R)) → HasFields step → s.moment ≤ last_moment
+      → IsPossible s step → option_map (λ (force : InForce R). text force.rules) new ≡ recorded_by (class_of step) → AreLast text s.machine old
       → AreLast text (after_step s step).machine (rules_after old new)
   last-after s step old None fields timely possible under last =
       stays-last s.machine (after_step s step).machine old
@@ -185,10 +197,21 @@ module _ {R : Type 0} (text : R → List ℕ) where
       possible.as_machine)) last
   last-after s step old (Some r) fields timely possible under last =
       subst (λ (c : Class). AreLast text (machine_run s.machine (class_steps s c (when s step))) (Some r))
-      (sym (records-of (class_of step) (text r) (sym under)))
-      (numbered-last s.machine.tables (text r))
+      (sym (records-of (class_of step) (text r.rules) (sym under)))
+      (numbered-last s.machine.tables (text r.rules))
 
-  pub sound_after : (kept new : Kept) (old ready : Option R) (step : Step) (change : Change)
+  -- items stay idle under the same rules, and of other rules nothing is known yet
+  idle-after : (s : State) (step : Step) (old new : Option (InForce R)) → AreFresh new
+      → AreIdleUnder text s.machine old → AreIdleUnder text (after_step s step).machine (rules_after old new)
+  idle-after s step None None fresh idle = tt
+  idle-after s step (Some f) None fresh idle =
+      idle_items_stay (text f.rules) s.machine (class_steps s (class_of step) (when s step)) f.idle.items idle
+  idle-after s step None (Some f) fresh idle =
+      idle-fresh (text f.rules) (after_step s step).machine.items f.idle.items fresh
+  idle-after s step (Some other) (Some f) fresh idle =
+      idle-fresh (text f.rules) (after_step s step).machine.items f.idle.items fresh
+
+  pub sound_after : (kept new : Kept) (old ready : Option (InForce R)) (step : Step) (change : Change)
       → IsSound text kept old → HasFields step → IsReady text (state_of kept) step change ready
       → state_of new ≡ changed_state (state_of kept) change → IsSound text new (rules_after old ready)
   sound_after kept new old ready step change sound fields is changed = record {
@@ -200,6 +223,8 @@ module _ {R : Type 0} (text : R → List ℕ) where
         (when-fits (state_of kept) step fields sound.timely);
     last = subst (λ (t : State). AreLast text t.machine (rules_after old ready)) (sym same)
         (last-after (state_of kept) step old ready fields sound.timely possible is.under sound.last);
+    idle = subst (λ (t : State). AreIdleUnder text t.machine (rules_after old ready)) (sym same)
+        (idle-after (state_of kept) step old ready is.fresh sound.idle);
   } where
     possible : IsPossible (state_of kept) step
     possible = is.is_change.possible
@@ -208,14 +233,14 @@ module _ {R : Type 0} (text : R → List ℕ) where
     same = changed ∙ is.is_change.after
 
   -- as the rules are that the step records, or those of before
-  pub sound_new : (kept new : Kept) (old ready : Option R) (step : Step) (change : Change)
+  pub sound_new : (kept new : Kept) (old ready : Option (InForce R)) (step : Step) (change : Change)
       → IsSound text kept old → HasFields step → IsReady text (state_of kept) step change ready
       → state_of new ≡ changed_state (state_of kept) change → is_some ready ≡ true → IsSound text new ready
   sound_new kept new old None step change sound fields is changed some = absurd cc
   sound_new kept new old (Some r) step change sound fields is changed some =
       sound_after kept new old (Some r) step change sound fields is changed
 
-  pub sound_old : (kept new : Kept) (old ready : Option R) (step : Step) (change : Change)
+  pub sound_old : (kept new : Kept) (old ready : Option (InForce R)) (step : Step) (change : Change)
       → IsSound text kept old → HasFields step → IsReady text (state_of kept) step change ready
       → state_of new ≡ changed_state (state_of kept) change → is_some ready ≡ false → IsSound text new old
   sound_old kept new old None step change sound fields is changed none =
@@ -223,7 +248,7 @@ module _ {R : Type 0} (text : R → List ℕ) where
   sound_old kept new old (Some r) step change sound fields is changed none = absurd cc
 
   -- the same state is as sound
-  pub sound_still : (kept new : Kept) (rules : Option R) → state_of new ≡ state_of kept → IsSound text kept rules
+  pub sound_still : (kept new : Kept) (rules : Option (InForce R)) → state_of new ≡ state_of kept → IsSound text kept rules
       → IsSound text new rules
   sound_still kept new rules same sound = record {
     of_history = subst IsKept (sym same) sound.of_history;
@@ -231,6 +256,20 @@ module _ {R : Type 0} (text : R → List ℕ) where
     numbers = subst (λ (t : State). length t.machine.items < 2 ^ 32) (sym same) sound.numbers;
     timely = subst (λ (t : State). t.moment ≤ last_moment) (sym same) sound.timely;
     last = subst (λ (t : State). AreLast text t.machine rules) (sym same) sound.last;
+    idle = subst (λ (t : State). AreIdleUnder text t.machine rules) (sym same) sound.idle;
+  }
+
+  -- and so it is with other spans, as long as they are true
+  pub sound_with : (kept : Kept) (force new : InForce R) → new.rules ≡ force.rules
+      → AreIdle (text force.rules) kept.parts.items.items new.idle.items → IsSound text kept (Some force)
+      → IsSound text kept (Some new)
+  sound_with kept force new same idle sound = record {
+    of_history = sound.of_history;
+    stored = sound.stored;
+    numbers = sound.numbers;
+    timely = sound.timely;
+    last = sound.last ∙ ap (λ (r : R). Some (text r)) (sym same);
+    idle = subst (λ (r : R). AreIdle (text r) kept.parts.items.items new.idle.items) (sym same) idle;
   }
 
   -- and so is the state after no step
@@ -241,4 +280,5 @@ module _ {R : Type 0} (text : R → List ℕ) where
     numbers = subst (λ (t : State). length t.machine.items < 2 ^ 32) (sym same) (omega arith);
     timely = subst (λ (t : State). t.moment ≤ last_moment) (sym same) (omega arith);
     last = ap (λ (t : State). t.machine.tables) same;
+    idle = tt;
   }

@@ -1,5 +1,5 @@
 -- What a step changes, with the rules under the tables that it records.
-use Rattle.std.specs.Prelude.{◌≡◌, List, ℕ, Option, Some, None, Result, Ok, Err, IsOk, IsErrOf}
+use Rattle.std.specs.Prelude.{◌≡◌, List, [], ℕ, Option, Some, None, Result, Ok, Err, IsOk, IsErrOf}
 use Rattle.std.specs.Option.{option_map}
 use Rattle.mta_records.specs.declared.step.Step.{Step}
 use Rattle.mta_histories.specs.Classes.{Class, records, accepts, settles, opens, on_lane, class_of}
@@ -7,6 +7,7 @@ use Rattle.mta_histories.specs.Lanes.{State}
 use Rattle.mta_histories.specs.History.{IsPossible, after_step}
 use Rattle.mta_replay.specs.declared.change.Change.{Change}
 use Rattle.mta_replay.specs.Prepared.{IsChangeOf}
+use Rattle.mta_state.specs.declared.replay.InForce.{InForce}
 use Rattle.mta_state.specs.declared.replay.NotMade.{NotMade}
 use Rattle.mta_state.specs.declared.replay.NotMade.TheVariants as NotMades
 
@@ -18,11 +19,17 @@ recorded_by (settles how i r) = None
 recorded_by (opens role peer reference twa checkpoint window) = None
 recorded_by (on_lane n generation step) = None
 
+-- of no item it is known that it is idle
+abbrev pub AreFresh : {R : Type 0} → Option (InForce R) → Type 0
+AreFresh None = Unit {0}
+AreFresh (Some force) = force.idle.items ≡ []
+
 -- the step is possible, and this is what it changes, with the rules under the tables that it records
-pub record IsReady {R : Type 0} (text : R → List ℕ) (s : State) (step : Step) (change : Change) (rules : Option R)
-    : Type 0 where
+pub record IsReady {R : Type 0} (text : R → List ℕ) (s : State) (step : Step) (change : Change)
+    (rules : Option (InForce R)) : Type 0 where
   pub is_change : IsChangeOf s step change
-  pub under : option_map text rules ≡ recorded_by (class_of step)
+  pub under : option_map (λ (force : InForce R). text force.rules) rules ≡ recorded_by (class_of step)
+  pub fresh : AreFresh rules
 
 -- a step was taken up where it is possible; Impossible comes only where it is not
 pub record TakesUp (step : Step) (old new : State) (result : Result (Unit {0}) NotMade) : Type 0 where

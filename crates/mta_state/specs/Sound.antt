@@ -5,20 +5,29 @@ use Rattle.mta_ber.specs.Times.{last_moment}
 use Rattle.mta_machine.specs.Items.{Machine, numbered}
 use Rattle.mta_machine.specs.Machine.{last_tables}
 use Rattle.mta_histories.specs.Kept.{IsKept}
+use Rattle.mta_idle.specs.Spans.{AreIdle}
 use Rattle.mta_items.specs.Parts.{machine_of}
 use Rattle.mta_replay.specs.Asked.{IsStored}
 use Rattle.mta_replay.specs.declared.kept.Kept.{Kept}
 use Rattle.mta_replay.specs.Kept.{state_of}
+use Rattle.mta_state.specs.declared.replay.InForce.{InForce}
 
 -- The rules are those under the tables recorded last; there are none where no tables were recorded.
-abbrev pub AreLast : {R : Type 0} → (R → List ℕ) → Machine → Option R → Type 0
+abbrev pub AreLast : {R : Type 0} → (R → List ℕ) → Machine → Option (InForce R) → Type 0
 AreLast text m None = m.tables ≡ []
-AreLast text m (Some rules) = numbered m.tables (last_tables m) ≡ Some (text rules)
+AreLast text m (Some force) = numbered m.tables (last_tables m) ≡ Some (text force.rules)
 
--- what is kept is that of a history, moments and numbers are in their ranges, and the rules are those recorded last
-pub record IsSound {R : Type 0} (text : R → List ℕ) (kept : Kept) (rules : Option R) : Type 0 where
+-- under the rules each item is idle in the span beside it
+abbrev pub AreIdleUnder : {R : Type 0} → (R → List ℕ) → Machine → Option (InForce R) → Type 0
+AreIdleUnder text m None = Unit {0}
+AreIdleUnder text m (Some force) = AreIdle (text force.rules) m.items force.idle.items
+
+-- what is kept is that of a history, moments and numbers are in their ranges, the rules are those recorded last, and
+-- items are idle as is known
+pub record IsSound {R : Type 0} (text : R → List ℕ) (kept : Kept) (rules : Option (InForce R)) : Type 0 where
   pub of_history : IsKept (state_of kept)
   pub stored : All IsStored kept.parts.items.items
   pub numbers : length kept.parts.items.items < 2 ^ 32
   pub timely : kept.moment ≤ last_moment
   pub last : AreLast text (machine_of kept.parts) rules
+  pub idle : AreIdleUnder text (machine_of kept.parts) rules

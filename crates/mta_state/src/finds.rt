@@ -1,6 +1,6 @@
 //! What is due in the state, and what waits in it.
 
-ghost use Rattle.std.specs.Prelude.{IfOk};
+ghost use Rattle.std.specs.Prelude.{◌≡◌, IfOk};
 ghost use Rattle.mta_histories.specs.Due.{HasQueue};
 ghost use Rattle.mta_dues.specs.Answers.{IsBatchOf, IsNextOf};
 ghost use Rattle.mta_replay.specs.Kept.{state_of};
@@ -15,15 +15,17 @@ use std::alloc::Global;
 
 impl<R: Rules + Drop> Replay<R> {
     /// The due step of the lowest item and recipient at a moment, in seconds since 1950-01-01 00:00:00 UTC: none where
-    /// nothing is due.
-    #[tactic(auto, using(crate::proofs::Nothing::nothing_is_due))]
-    pub fn due_step(&self, alloc: Global, moment: u64) -> Result<Option<Step>, Memory>
-        requires sound { IsSound R.text self.now.kept self.now.rules }
-        ensures { IfOk result (IsNextOf (state_of self.now.kept) moment) }
+    /// nothing is due. What is found out of idle items is kept for the next call.
+    #[tactic(auto, using(crate::proofs::Nothing::nothing_is_due, crate::proofs::Sounds::sound_with))]
+    pub fn due_step(&mut self, alloc: Global, moment: u64) -> Result<Option<Step>, Memory>
+        requires sound { IsSound R.text self.old.kept self.old.rules }
+        ensures next { IfOk result (IsNextOf (state_of self.old.kept) moment) }
+        ensures same { state_of self.new.kept ≡ state_of self.old.kept }
+        ensures sound { IsSound R.text self.new.kept self.new.rules }
     {
-        match &self.rules {
+        match &mut self.rules {
             None => Ok(None),
-            Some(rules) => due_step(alloc, rules, &self.kept, moment),
+            Some(force) => due_step(alloc, &force.rules, &self.kept, &mut force.idle, moment),
         }
     }
 
@@ -40,7 +42,7 @@ impl<R: Rules + Drop> Replay<R> {
     {
         match &self.rules {
             None => Ok(None),
-            Some(rules) => batch_for(alloc, rules, &self.kept, peer, moment),
+            Some(force) => batch_for(alloc, &force.rules, &self.kept, peer, moment),
         }
     }
 
@@ -52,7 +54,7 @@ impl<R: Rules + Drop> Replay<R> {
     {
         match &self.rules {
             None => Ok(None),
-            Some(rules) => waiting(alloc, rules, &self.kept, peer),
+            Some(force) => waiting(alloc, &force.rules, &self.kept, peer),
         }
     }
 }

@@ -6,4 +6,4 @@ mod finds;
 mod prepare;
 mod replay;
 
-pub use replay::{NotMade, Ready, Replay};
+pub use replay::{InForce, NotMade, Ready, Replay};

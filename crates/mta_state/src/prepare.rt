@@ -13,7 +13,7 @@ ghost use Rattle.mta_replay.specs.Prepared.{Prepares};
 ghost use Rattle.mta_state.specs.Ready.{IsReady, recorded_by};
 ghost use Rattle.mta_state.specs.Sound.{IsSound};
 
-use crate::replay::{Ready, Replay};
+use crate::replay::{InForce, Ready, Replay};
 use mta_activities::{
     prepare_abandon, prepare_complete, prepare_denied, prepare_open, prepare_refused, prepare_sent,
     prepare_start,
@@ -45,7 +45,7 @@ fn ready_tables<R: Rules + Drop>(
         None => Ok(None),
         Some(change) => Ok(Some(Ready {
             change,
-            rules: Some(rules),
+            rules: Some(InForce::new(alloc, rules)),
         })),
     }
 }
@@ -218,10 +218,10 @@ impl<R: Rules + Drop> Replay<R> {
             IsReady R.text (state_of self.now.kept) step ready.change ready.rules)) }
         ensures none { IfOk result (λ found. IfNone found (IsPossible (state_of self.now.kept) step → ⊥)) }
     {
-        let Some(rules) = &self.rules else {
+        let Some(force) = &self.rules else {
             return Ok(None);
         };
-        match prepare_under(alloc, rules, &self.kept, step)? {
+        match prepare_under(alloc, &force.rules, &self.kept, step)? {
             None => Ok(None),
             Some(change) => Ok(Some(Ready {
                 change,

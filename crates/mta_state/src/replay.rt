@@ -4,7 +4,7 @@
 //! memory is refused; `commit` makes the change and cannot fail. Between the last two the spool writes the step's
 //! record down; replaying a history does not.
 
-ghost use Rattle.std.specs.Prelude.{◌≡◌, IfOk, IfSome, IfNone, OnErr, OnOk};
+ghost use Rattle.std.specs.Prelude.{◌≡◌, [], IfOk, IfSome, IfNone, OnErr, OnOk};
 ghost use Rattle.mta_records.specs.declared.step.Step.{Step};
 ghost use Rattle.mta_records.specs.Body.{HasFields};
 ghost use Rattle.mta_histories.specs.Lanes.{empty};
@@ -14,6 +14,7 @@ ghost use Rattle.mta_state.specs.Ready.{IsReady, TakesUp};
 ghost use Rattle.mta_state.specs.Sound.{IsSound};
 
 use mta_ber::Memory;
+use mta_idle::Span;
 use mta_records::Step;
 use mta_replay::{Change, Kept, Rules};
 use std::alloc::Global;
@@ -38,19 +39,40 @@ impl From<Memory> for NotMade {
     }
 }
 
+/// The rules under the tables recorded last, and what is known of items under them.
+#[derive(Drop)]
+pub struct InForce<R: Rules + Drop> {
+    pub rules: R,
+    /// Beside each item a span of moments in which nothing is due of it. An item behind the last has none.
+    pub idle: Vec<Span>,
+}
+
+impl<R: Rules + Drop> InForce<R> {
+    /// Rules under which nothing is known of any item yet. It takes no memory.
+    pub fn new(alloc: Global, rules: R) -> InForce<R>
+        ensures rules { result.rules ≡ rules }
+        ensures fresh { result.idle.items ≡ [] }
+    {
+        InForce {
+            rules,
+            idle: Vec::new(alloc),
+        }
+    }
+}
+
 /// The state that a history leads to, and the rules under the tables recorded last, where some were. Its fields are
 /// plain, since room for a change has to be seen by whoever commits it.
 #[derive(Drop)]
 pub struct Replay<R: Rules + Drop> {
     pub kept: Kept,
-    pub rules: Option<R>,
+    pub rules: Option<InForce<R>>,
 }
 
 /// What a step changes, with the rules under the tables that it records.
 #[derive(Drop)]
 pub struct Ready<R: Rules + Drop> {
     pub change: Change,
-    pub rules: Option<R>,
+    pub rules: Option<InForce<R>>,
 }
 
 impl<R: Rules + Drop> Ready<R> {

@@ -1,3 +1,4 @@
 pub mod Counts
 pub mod Copied
 pub mod Text
+pub mod Waits

@@ -3,6 +3,7 @@
 
 mod copies;
 mod expansion;
+mod idle;
 mod names;
 mod passing;
 mod reading;

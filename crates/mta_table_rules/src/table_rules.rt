@@ -2,6 +2,7 @@
 
 use crate::copies::outgoing_copy;
 use crate::expansion::expansion_items;
+use crate::idle::idle_until;
 use crate::names::{mailbox_at, names_peer, peer_at, routes_to};
 use crate::passing::{passed_item, passes_back};
 use crate::reading::text_reads;
@@ -81,6 +82,10 @@ impl Rules for TableRules {
         moment: u64,
     ) -> Result<bool, Memory> {
         has_expired(alloc, &self.tables, octets, arrival, moment)
+    }
+
+    fn idle_until(&self, alloc: Global, item: &Item, moment: u64) -> Result<Option<u64>, Memory> {
+        idle_until(alloc, &self.tables, item, moment)
     }
 
     fn passes_back(&self, alloc: Global, items: &[Item], item: &Item) -> Result<bool, Memory> {

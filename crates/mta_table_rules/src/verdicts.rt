@@ -150,7 +150,8 @@ fn of_report(
     Some(verdict_report(tables, arrival, report, Some(back), moment))
 }
 
-fn verdict_under(
+/// The verdict on a recipient of an APDU that was read.
+pub fn verdict_under(
     alloc: Global,
     tables: &Tables,
     apdu: &Apdu<'_>,

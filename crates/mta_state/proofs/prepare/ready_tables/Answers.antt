@@ -1,4 +1,4 @@
-use Rattle.std.proofs.Common.{Option, Some, ap, subst, ◌∙◌}
+use Rattle.std.proofs.Common.{List, ℕ, Option, Some, ap, subst, ◌∙◌}
 use Rattle.mta_replay.specs.Asked.{AreUnder}
 use Rattle.mta_replay.specs.Kept.{state_of}
 use Rattle.mta_state.proofs.prepare.ready_tables.Goals as goal
@@ -10,5 +10,7 @@ returns-in-Some-prepare_tables-clause-ready g c =
     c.in_ok-rules.ensures in
     record {
       is_change = c.in-Some-prepare_tables.ensures (state_of c.args.kept.now) c.requires.numbers;
-      under = ap Some (under.0 ∙ c.as_slice.ensures);
+      under = ap (λ (t : List ℕ). Some t)
+          (ap g.R.Rules.text c.new.ensures.rules ∙ (under.0 ∙ c.as_slice.ensures));
+      fresh = c.new.ensures.fresh;
     }

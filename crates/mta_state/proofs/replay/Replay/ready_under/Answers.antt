@@ -1,6 +1,7 @@
 use Rattle.std.proofs.Common.{Option, subst}
 use Rattle.mta_items.specs.Parts.{machine_of}
 use Rattle.mta_replay.specs.Kept.{state_of}
+use Rattle.mta_state.specs.declared.replay.InForce.{InForce}
 use Rattle.mta_state.specs.Sound.{AreLast}
 use Rattle.mta_state.proofs.Nothing.{nothing_but_tables}
 use Rattle.mta_state.proofs.replay.Replay.ready_under.Goals as goal
@@ -8,6 +9,6 @@ use Rattle.mta_state.proofs.replay.Replay.ready_under.Goals as goal
 pub returns-in_default-clause-none : goal.returns-in_default-clause-none
 returns-in_default-clause-none g c =
     let last = subst
-    (λ (o : Option g.row.R.Denot). AreLast g.R.Rules.text (machine_of c.args.self.now.kept.parts) o)
+    (λ (o : Option (InForce g.row.R.Denot)). AreLast g.R.Rules.text (machine_of c.args.self.now.kept.parts) o)
     c.in_default.is c.requires.sound.last in
     nothing_but_tables (state_of c.args.self.now.kept) c.args.step c.requires.sound.of_history last c.requires.other

@@ -1,0 +1,68 @@
+-- Until when an item is idle, once its APDU is read.
+use Rattle.std.proofs.Common.{◌≡◌, ℕ, zero, suc, ◌+◌, ◌≤◌, ◌<◌, true, false, List, length, Option, Some, None}
+use Rattle.std.proofs.Common.{refl, sym, ap, subst, ◌∙◌, inl, inr, arith}
+use Rattle.std.proofs.lemmas.Bool.{cases_lt}
+use Rattle.std.proofs.lemmas.Option.{slice_get_past}
+use Rattle.mta_apdu.specs.Apdus.{ApduValue}
+use Rattle.mta_tables.specs.Tables.{TablesValue}
+use Rattle.mta_machine.specs.declared.item.Status.{Status}
+use Rattle.mta_machine.specs.Apdu.{value_of}
+use Rattle.mta_machine.specs.Items.{ItemValue, numbered, has_status, is_pending}
+use Rattle.mta_machine.specs.Rules.{tables_value}
+use Rattle.mta_idle.specs.Idle.{calls_at_once, IsIdleUntil}
+use Rattle.mta_idle.specs.Next.{next_change, next_under}
+use Rattle.mta_table_rules.specs.Waits.{WaitsUnder, AllWaitUnder, WaitUpTo, IsIdleUnder}
+use Rattle.mta_table_rules.proofs.Read.{verdict_is}
+
+-- ---- recipients in turn
+
+past : (ss : List (Option Status)) (r : ℕ) → length ss < r → has_status is_pending (numbered ss r) ≡ false
+past ss zero above = refl
+past ss (suc k) above = ap (has_status is_pending) (slice_get_past ss k (omega (arith, above)))
+
+-- no recipient is numbered 0
+pub wait_at_first : (t : TablesValue) (v : ApduValue) (item : ItemValue) (moment : ℕ) → WaitUpTo t v item 0 moment
+wait_at_first t v item moment zero low pending = absurd cc
+wait_at_first t v item moment (suc r) low pending = absurd (omega (arith, low))
+
+pub wait_further : (t : TablesValue) (v : ApduValue) (item : ItemValue) (n moment : ℕ) → WaitUpTo t v item n moment
+    → WaitsUnder t v item (n + 1) moment → WaitUpTo t v item (n + 1) moment
+wait_further t v item n moment before here r low = elim (cases_lt n r) [
+  | inl above ↦ (let is : n + 1 ≡ r = omega (arith, low, above) in
+      subst (λ (q : ℕ). WaitsUnder t v item q moment) is here)
+  | inr below ↦ before r below
+]
+
+pub all_up_to : (t : TablesValue) (v : ApduValue) (item : ItemValue) (most moment : ℕ)
+    → length item.statuses ≤ most → WaitUpTo t v item most moment → AllWaitUnder t v item moment
+all_up_to t v item most moment few all r pending = elim (cases_lt most r) [
+  | inl above ↦ (let never = past item.statuses r (omega (arith, few, above)) in absurd cc)
+  | inr below ↦ all r below pending
+]
+
+-- ---- what is read
+
+next_is : (t : TablesValue) (octets : List ℕ) (v : Option ApduValue) (arrival moment : ℕ)
+    → tables_value t.text ≡ Some t → value_of octets ≡ v
+    → next_change t.text octets arrival moment ≡ next_under (Some t) v arrival moment
+unfolding next_change
+next_is t octets v arrival moment e h =
+    ap (λ (o : Option TablesValue). next_under o (value_of octets) arrival moment) e
+    ∙ ap (λ (o : Option ApduValue). next_under (Some t) o arrival moment) h
+
+pub idle_is : (t : TablesValue) (item : ItemValue) (v : ApduValue) (moment : ℕ) (until : Option ℕ)
+    → tables_value t.text ≡ Some t → value_of item.octets ≡ Some v → IsIdleUnder t v item moment until
+    → IsIdleUntil t.text item moment until
+idle_is t item v moment None e h is = λ all.
+    next_is t item.octets (Some v) item.arrival moment e h
+    ∙ is (λ r pending. ap calls_at_once (sym (verdict_is t item.octets v item.arrival r moment e h)) ∙ all r pending)
+idle_is t item v moment (Some until) e h is = (
+  λ r pending. ap calls_at_once (verdict_is t item.octets v item.arrival r moment e h) ∙ is.0 r pending,
+  next_is t item.octets (Some v) item.arrival moment e h ∙ is.1,
+)
+
+pub none_is : (t : TablesValue) (item : ItemValue) (moment : ℕ) → tables_value t.text ≡ Some t
+    → value_of item.octets ≡ None → IsIdleUntil t.text item moment None
+none_is t item moment e h = λ all. next_is t item.octets None item.arrival moment e h
+
+pub ruleset waiting_laws = (wait_at_first, wait_further, all_up_to)

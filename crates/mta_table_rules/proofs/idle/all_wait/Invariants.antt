@@ -1,0 +1,13 @@
+use Rattle.std.proofs.Common.{◌≤◌, ◌-◌}
+use Rattle.mta_apdu.specs.Apdus.{apdu_value}
+use Rattle.mta_table_rules.specs.Waits.{WaitUpTo}
+use Rattle.mta_table_rules.proofs.idle.all_wait.Given as goal
+
+abbrev pub invariant-loop-recipient : goal.invariant-loop-recipient
+invariant-loop-recipient l = record {
+  within : l.recipient ≤ l.count;
+  all : WaitUpTo l.tables (apdu_value l.apdu) l.item l.recipient l.moment;
+}
+
+abbrev pub decreases-loop-recipient : goal.decreases-loop-recipient
+decreases-loop-recipient l = l.count - l.recipient
