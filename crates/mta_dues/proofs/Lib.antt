@@ -1,5 +1,5 @@
 pub mod Ascending
-pub mod Idle
+pub mod IdleItems
 pub mod Queues
 pub mod Recipients
 pub mod Relays

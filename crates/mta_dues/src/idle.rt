@@ -14,7 +14,7 @@ use mta_replay::Rules;
 use std::alloc::Global;
 
 // Whether some recipient of an item is pending.
-#[tactic(auto, using(crate::proofs::Idle::pending_laws))]
+#[tactic(auto, using(crate::proofs::IdleItems::pending_laws))]
 fn has_pending(item: &Item) -> bool
     requires stored { IsStored item.now }
     ensures { IsTrue result ↔ HasPending item.now }
@@ -31,7 +31,7 @@ fn has_pending(item: &Item) -> bool
 }
 
 /// A span of moments in which an item is idle. It has no moment where the item is not idle at this one.
-#[tactic(auto, using(crate::proofs::Idle::span_laws))]
+#[tactic(auto, using(crate::proofs::IdleItems::span_laws))]
 pub fn idle_span<R: Rules>(
     alloc: Global,
     rules: &R,

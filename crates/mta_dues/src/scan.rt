@@ -48,7 +48,7 @@ fn first_of<R: Rules>(
 
 // What is due of the lowest recipient of an item, which is passed over where it is known to be idle. Where it is looked
 // at, the span in which it is idle is noted.
-#[tactic(auto, using(crate::proofs::Idle::idle_laws))]
+#[tactic(auto, using(crate::proofs::IdleItems::idle_laws))]
 fn look<R: Rules>(
     alloc: Global,
     rules: &R,

@@ -2,7 +2,7 @@ pub mod Codes
 pub mod Copied
 pub mod Counts
 pub mod Expanded
-pub mod Idle
+pub mod IdleItems
 pub mod Numbered
 pub mod Read
 pub mod Reported

@@ -149,7 +149,7 @@ fn waits(
 }
 
 /// Whether all recipients who are pending wait.
-#[tactic(auto, using(crate::proofs::Idle::waiting_laws))]
+#[tactic(auto, using(crate::proofs::IdleItems::waiting_laws))]
 fn all_wait(
     alloc: Global,
     tables: &Tables,

@@ -189,10 +189,10 @@ noted_idle text items item old new place span idle noted item_is for i s is mome
     elim (was_there old new place i span s noted is) [
       | inl there ↦ idle i s there moment within
       | inr (at, same) ↦ (
-          item,
-          ap (numbered items) at ∙ item_is,
-          for moment (subst (λ (x : Span). IsWithin x moment) same within),
-        )
+        item,
+        ap (numbered items) at ∙ item_is,
+        for moment (subst (λ (x : Span). IsWithin x moment) same within),
+      )
     ]
 
 pub ruleset pending_laws = (none_pending_at_first, none_pending_further, none_pending)
