@@ -163,7 +163,8 @@ was_there : (old new : List Span) (place i : ℕ) (span s : Span) → IsNoted ol
     → numbered new i ≡ Some s → (numbered old i ≡ Some s) ⊎ ((i ≡ place + 1) × (s ≡ span))
 was_there old new place zero span s noted e = absurd cc
 was_there old new place (suc k) span s (inl (within, is)) e =
-    let there : slice_get (slice_set old place span) k ≡ Some s = sym (ap (λ (xs : List Span). slice_get xs k) is) ∙ e in
+    let there : slice_get (slice_set old place span) k ≡ Some s =
+    sym (ap (λ (xs : List Span). slice_get xs k) is) ∙ e in
     elim (cases_eq k place) [
       | inl same ↦ (
           let here : slice_get (slice_set old place span) place ≡ Some s =

@@ -183,12 +183,14 @@ idle-fresh text items spans fresh = subst (AreIdle text items) (sym fresh) none
     none (suc k) span there moment within = absurd cc
 
 module _ {R : Type 0} (text : R → List ℕ) where
-  stays-last : (m n : Machine) (rules : Option (InForce R)) → n.tables ≡ m.tables → AreLast text m rules → AreLast text n rules
+  stays-last : (m n : Machine) (rules : Option (InForce R)) → n.tables ≡ m.tables → AreLast text m rules
+      → AreLast text n rules
   stays-last m n None same last = same ∙ last
   stays-last m n (Some r) same last = ap (λ (ts : List (List ℕ)). numbered ts (length ts)) same ∙ last
 
   last-after : (s : State) (step : Step) (old new : Option (InForce R)) → HasFields step → s.moment ≤ last_moment
-      → IsPossible s step → option_map (λ (force : InForce R). text force.rules) new ≡ recorded_by (class_of step) → AreLast text s.machine old
+      → IsPossible s step → option_map (λ (force : InForce R). text force.rules) new ≡ recorded_by (class_of step)
+      → AreLast text s.machine old
       → AreLast text (after_step s step).machine (rules_after old new)
   last-after s step old None fields timely possible under last =
       stays-last s.machine (after_step s step).machine old
@@ -248,8 +250,8 @@ module _ {R : Type 0} (text : R → List ℕ) where
   sound_old kept new old (Some r) step change sound fields is changed none = absurd cc
 
   -- the same state is as sound
-  pub sound_still : (kept new : Kept) (rules : Option (InForce R)) → state_of new ≡ state_of kept → IsSound text kept rules
-      → IsSound text new rules
+  pub sound_still : (kept new : Kept) (rules : Option (InForce R)) → state_of new ≡ state_of kept
+      → IsSound text kept rules → IsSound text new rules
   sound_still kept new rules same sound = record {
     of_history = subst IsKept (sym same) sound.of_history;
     stored = subst (λ (t : State). All IsStored t.machine.items) (sym same) sound.stored;
