@@ -13,6 +13,6 @@ returns-in-None-clause-turned g c = (
   refl,
   subst (λ (s : State). IsQuiet s c.args.moment) (ap (λ (v : Shown _ _). v.current) c.self.view_is)
       (subst (λ (d : Option Step). IsNextOf (state_of c.self.inside.replay.kept) c.args.moment d) c.in-None.is
-      c.in_ok-due_step.ensures),
+      c.in_ok-due_step.ensures.next),
   (refl, refl),
 )
