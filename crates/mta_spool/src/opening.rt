@@ -48,7 +48,7 @@ impl<D: Disk + Drop, C: Clock + Drop> Spool<D, C> {
             IsTrue result ↔ NamesPeer (numbered m.tables (last_tables m)) peer.now }
     {
         match &self.replay.rules {
-            Some(rules) => rules.names_peer(peer.as_slice()),
+            Some(force) => force.rules.names_peer(peer.as_slice()),
             None => false,
         }
     }

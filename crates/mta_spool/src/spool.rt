@@ -21,7 +21,7 @@ ghost use Rattle.mta_spool.specs.Turning.{IsLastRecorded, IsRecorded};
 
 use crate::due::{numbers_needed, same};
 use crate::make::make;
-use mta_ber::Octets;
+use mta_ber::{Memory, Octets};
 use mta_edge::{Clock, Disk};
 use mta_journal::Journal;
 use mta_lanes::Lane;
@@ -77,6 +77,7 @@ impl<D: Disk + Drop, C: Clock + Drop> Spool<D, C> {
     ghost use Rattle.mta_records.specs.declared.step.Step.TheVariants as Steps;
     ghost use Rattle.mta_histories.specs.Classes.{class_of};
     ghost use Rattle.mta_histories.specs.Due.{IsNext};
+    ghost use Rattle.mta_dues.specs.Answers.{IsNextOf};
     ghost use Rattle.mta_histories.specs.Numbers.{numbers_needed};
     ghost use Rattle.mta_spool.specs.Stands.{Appends, AtMoment, fault_of, IsOfNoLane, IsSpent, IsSpentFor};
     ghost use Rattle.mta_spool.specs.Stands.{TellsFewer};
@@ -208,6 +209,15 @@ impl<D: Disk + Drop, C: Clock + Drop> Spool<D, C> {
         Ok(Turned::Did(told))
     }
 
+    // The step that is due for the lowest item and recipient at a moment; none where nothing is due.
+    fn find_due(&mut self, moment: u64) -> Result<Option<Step>, Memory>
+        ensures next { IfOk result (IsNextOf self.old.current moment) }
+        ensures same { IsUnchanged self.old self.new }
+        ensures clock { self.new.clock ≡ self.old.clock }
+    {
+        self.replay.due_step(self.alloc, moment)
+    }
+
     // Makes the step that is due for the lowest item and recipient at a moment.
     fn turn_at(&mut self, moment: u64) -> Result<Turned, StepFault>
         requires timely { self.old.current.moment ≤ moment }
@@ -218,7 +228,7 @@ impl<D: Disk + Drop, C: Clock + Drop> Spool<D, C> {
         if self.journal.is_ended() {
             return Err(StepFault::Ended);
         }
-        match self.replay.due_step(self.alloc, moment)? {
+        match self.find_due(moment)? {
             None => Ok(Turned::Quiet { moment }),
             Some(step) => self.make_due(step, moment),
         }

@@ -170,7 +170,7 @@ fn copy_for(
         IfOk result (IsCarried (transfer_of m batch.now.item batch.now.recipients moment) activity) }
 {
     match &replay.rules {
-        Some(rules) => copy_under(alloc, rules, &replay.kept, activity, batch, moment),
+        Some(force) => copy_under(alloc, &force.rules, &replay.kept, activity, batch, moment),
         None => Ok(None),
     }
 }
