@@ -99,6 +99,13 @@ impl Transfer {
         item == self.item && is_among(self.recipients.as_slice(), recipient)
     }
 
+    /// The octets, lent.
+    pub fn outgoing(&self) -> &Outgoing
+        ensures { result.now.octets ≡ self.now.octets }
+    {
+        &self.outgoing
+    }
+
     /// How many octets there are.
     pub fn total(&self) -> u32
         ensures { result ≡ length self.now.octets }

@@ -40,3 +40,11 @@ is_receiving (phase.AsksComplete k n) = true
 is_receiving (phase.AsksDrop k found) = true
 is_receiving phase.AsksClose = true
 is_receiving _ = false
+
+-- it comes to its end: no unit but its last may be put
+abbrev pub has_turned : Phase → Bool
+has_turned phase.AsksDenied = true
+has_turned (phase.AsksLast end) = true
+has_turned (phase.PutsLast end) = true
+has_turned (phase.Ended end) = true
+has_turned _ = false

@@ -2,6 +2,7 @@
 
 ghost use Rattle.std.specs.Prelude.{◌≡◌, ◌≤◌, ◌↔◌, IsTrue, None};
 ghost use Rattle.mta_session.specs.Fits.{Answers, Fits, ValuesFit};
+ghost use Rattle.mta_session.specs.Groups.{has_turned};
 ghost use Rattle.mta_session.specs.Holding.{HoldsLittle};
 ghost use Rattle.mta_session.specs.Session.{StepsTo, new_machine, new_initiator, new_responder};
 
@@ -110,6 +111,26 @@ impl Session {
         ensures { StepsTo self.old event result self.new }
     {
         self.machine.step(event)
+    }
+
+    /// How far the own sending half is, as this end knows it.
+    pub fn sending(&self) -> SendState
+        ensures { result ≡ self.now.send.state }
+    {
+        self.machine.send.state
+    }
+
+    /// Whether it comes to its end: of its own it puts its last unit now, or none any more.
+    pub fn has_turned(&self) -> bool
+        ensures { result ≡ has_turned self.now.phase }
+    {
+        matches!(
+            self.machine.phase,
+            Phase::AsksDenied
+                | Phase::AsksLast { .. }
+                | Phase::PutsLast { .. }
+                | Phase::Ended { .. }
+        )
     }
 
     /// What it keeps from call to call, of which the laws over its calls speak; it keeps no unit that was heard.
