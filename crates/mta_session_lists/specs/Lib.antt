@@ -1,0 +1,5 @@
+pub mod Calls
+pub mod Abandons
+pub mod Standing
+pub mod Lists
+pub mod Laws
