@@ -2,4 +2,10 @@ pub mod Found
 pub mod Insertion
 pub mod Lanes
 pub mod Standing
+pub mod Waiting
 pub mod Refusing
+pub mod Turns
+pub mod TurnsUnits
+pub mod TurnsReplies
+pub mod TurnsCalls
+pub mod Ordering

@@ -1,5 +1,5 @@
 -- Behind a unit that is not taken there is an Abort at most.
-use Rattle.std.proofs.Common.{◌≡◌, ◌⊎◌, inl, inr, ℕ, ◌-◌, ◌==◌, Bool, true, false, List, [], ◌∷◌, ◌++◌, refl, sym, ap, subst, ◌∙◌}
+use Rattle.std.proofs.Common.{◌≡◌, ◌⊎◌, inl, inr, ℕ, ◌-◌, ◌==◌, Bool, true, false, Option, Some, None, List, [], ◌∷◌, ◌++◌, refl, sym, ap, subst, ◌∙◌}
 use Rattle.mta_units.specs.declared.unit.Unit.{Unit as AnyUnit}
 use Rattle.mta_units.specs.declared.unit.Unit.TheVariants as unit
 use Rattle.mta_session.specs.declared.event.Event.{Event}
@@ -12,45 +12,17 @@ use Rattle.mta_session.specs.declared.phase.Phase.{Phase}
 use Rattle.mta_session.specs.declared.phase.Phase.TheVariants as phase
 use Rattle.mta_session.specs.State.{State}
 use Rattle.mta_session.specs.Wanted.{Wanted, Aborts, Rejects, Ends, Puts, Asks, Reads, Goes_on, Excepts, Never}
-use Rattle.mta_session.specs.Wanted.{cut_short}
+use Rattle.mta_session.specs.Wanted.{cut_short, wanted_of_go, wanted_of_over}
 use Rattle.mta_session.specs.Follows.{Does, FollowsAt, counted}
 use Rattle.mta_session.specs.Fits.{AnswersAt, answers_put}
 use Rattle.mta_session_laws.specs.Turning.{called_for}
 use Rattle.mta_session_laws.specs.Runs.{Turn, IsTurn}
 use Rattle.mta_session_laws.specs.Whole.{AreCalls}
 use Rattle.mta_session_laws.proofs.Whole.{is_ended, follows_does}
-use Rattle.mta_session_order.specs.Order.{awaits, is_reading}
-use Rattle.mta_session_order.proofs.Wants.{Due}
-use Rattle.mta_session_order.proofs.Calls.{After, call_after}
-use Rattle.mta_runs.specs.Sessions.{SessionEvent, Got, Refused, Put, EndsSo, RefusesLast}
-use Rattle.mta_session_lists.specs.Calls.{Call, turns_of, step_told, look_told, told_as, got_as, event_of, list_of}
+use Rattle.mta_runs.specs.Sessions.{SessionEvent, Got, Refused, Put, Look, EndsSo, RefusesLast}
+use Rattle.mta_session_lists.specs.Calls.{Call, StepOn, turns_of, step_told, look_told, told_as, got_as, come_of, event_of, list_of}
 use Rattle.mta_session_lists.proofs.Found.{never}
-
--- ---- what a session that goes on waits for
-
--- it is not over where it reads
-abbrev pub Reading : Action → Phase → Type 0
-Reading action.Read p = is_ended p ≡ false
-Reading a p = Unit {0}
-
-reads_on : (p : Phase) → is_reading p ≡ true → is_ended p ≡ false
-reads_on (phase.Ended y) i = absurd (never i)
-reads_on p i = refl
-
-awaits_reading : (a : Action) (p : Phase) → awaits a p ≡ true → Reading a p
-awaits_reading action.Read p i = reads_on p i
-awaits_reading (action.Put u) p i = tt
-awaits_reading (action.Ask q) p i = tt
-awaits_reading (action.Finish y) p i = tt
-
-pub record Ready (a : Action) (t : State) : Type 0 where
-  pub due : Due t.phase t.recv.stage
-  pub reading : Reading a t.phase
-
-pub ready_next : (x : Turn) → IsTurn x → Due x.before.phase x.before.recv.stage → Ready x.action x.after
-ready_next x is due =
-    let after = call_after x.before x.event x.action x.after is.fits due is.follows in
-    record { due = after.due; reading = awaits_reading x.action x.after.phase after.awaited }
+use Rattle.mta_session_lists.proofs.Waiting.{goes_with, Ready, ready_next, reading_going}
 
 -- ---- at the end
 
@@ -75,11 +47,11 @@ put_finishes : (y : SessionEnd) (t : State) (e : Event) (a : Action) (new : Stat
     → t.phase ≡ phase.PutsLast y → FollowsAt (phase.PutsLast y) t e a new → Finishes t e a new
 put_finishes y t event.Go a new i q d =
     let does : Does t (Ends y) a new =
-    subst (λ p. Does t (Rattle.mta_session.specs.Wanted.wanted_of_go p t) a new) q d in
+    subst (λ p. Does t (wanted_of_go p t) a new) q d in
     (y, does.0, ap {A = State} (λ z. z.phase) does.1)
 put_finishes y t event.Over a new i q d =
     let does : Does t (Ends (cut_short y)) a new =
-    subst (λ p. Does t (Rattle.mta_session.specs.Wanted.wanted_of_over p) a new) q d in
+    subst (λ p. Does t (wanted_of_over p) a new) q d in
     (cut_short y, does.0, ap {A = State} (λ z. z.phase) does.1)
 put_finishes y t (event.Unit u) a new i q d = absurd (never i)
 put_finishes y t event.BadUnit a new i q d = absurd (never i)
@@ -105,9 +77,6 @@ last_list (c ∷ cs) t u y reason q run =
 
 -- ---- a unit
 
-abbrev Follows_so : Wanted → State → Action → State → Type 0
-Follows_so w t a new = Does t w a new
-
 -- where it is not taken, an Abort is put
 got_refuses : (w : Wanted) (u : AnyUnit) (t : State) (a : Action) (new v : State) (cs : List Call) → Does t w a new
     → AreCalls new (turns_of cs) v → RefusesLast (list_of a cs) → RefusesLast (got_as w u ∷ list_of a cs)
@@ -123,11 +92,11 @@ got_refuses (Goes_on f) u t a new v cs d run k = k
 got_refuses (Excepts f y) u t a new v cs d run k = k
 got_refuses Never u t a new v cs d run k = k
 
-told_refuses : (seen : ℕ) (o : Rattle.std.specs.Prelude.Option Rattle.mta_session_lists.specs.Calls.StepOn)
-    (look : Rattle.mta_runs.specs.Sessions.Look) (rest : List SessionEvent) → RefusesLast rest
+told_refuses : (seen : ℕ) (o : Option StepOn)
+    (look : Look) (rest : List SessionEvent) → RefusesLast rest
     → RefusesLast (told_as seen o look ∷ rest)
-told_refuses seen (Rattle.std.specs.Prelude.Some x) look rest k = k
-told_refuses seen Rattle.std.specs.Prelude.None look rest k = k
+told_refuses seen (Some x) look rest k = k
+told_refuses seen None look rest k = k
 
 unit_does : (x : Turn) (u : AnyUnit) → IsTurn x → x.event ≡ event.Unit u → is_ended x.before.phase ≡ false
     → Does (counted x.before (event.Unit u)) (called_for x.before.phase x.before u) x.action x.after
@@ -136,12 +105,12 @@ unit_does x u is e i =
     (subst (λ z. FollowsAt x.before.phase x.before z x.action x.after) e is.follows)
 
 come_refuses : (a : Action) (c : Call) (e : Event) (cs : List Call) (v : State) → c.turn.event ≡ e → IsTurn c.turn
-    → Reading a c.turn.before.phase → AreCalls c.turn.after (turns_of cs) v → RefusesLast (list_of c.turn.action cs)
-    → RefusesLast (Rattle.mta_session_lists.specs.Calls.come_of a c.turn c.seen e ++ list_of c.turn.action cs)
+    → goes_with a c.turn.before.phase ≡ true → AreCalls c.turn.after (turns_of cs) v → RefusesLast (list_of c.turn.action cs)
+    → RefusesLast (come_of a c.turn c.seen e ++ list_of c.turn.action cs)
 come_refuses (action.Put u) c e cs v q is r run k = k
 come_refuses action.Read c (event.Unit u) cs v q is r run k =
     got_refuses (called_for c.turn.before.phase c.turn.before u) u (counted c.turn.before (event.Unit u)) c.turn.action
-    c.turn.after v cs (unit_does c.turn u is q r) run k
+    c.turn.after v cs (unit_does c.turn u is q (reading_going c.turn.before.phase r)) run k
 come_refuses action.Read c event.Go cs v q is r run k = k
 come_refuses action.Read c event.BadUnit cs v q is r run k = k
 come_refuses action.Read c (event.Reply y) cs v q is r run k = k
@@ -160,4 +129,4 @@ calls_refuse [] a t u k run = tt
 calls_refuse (c ∷ cs) a t u k run =
     let here : Ready a c.turn.before = subst (Ready a) (sym run.0) k in
     let next = ready_next c.turn run.1 here.due in
-    come_refuses a c c.turn.event cs u refl run.1 here.reading run.2 (calls_refuse cs c.turn.action c.turn.after u next run.2)
+    come_refuses a c c.turn.event cs u refl run.1 here.waits run.2 (calls_refuse cs c.turn.action c.turn.after u next run.2)

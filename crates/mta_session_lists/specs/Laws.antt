@@ -1,10 +1,15 @@
 -- Laws of session lists, one for each thing that is asked of them.
-use Rattle.std.specs.Prelude.{◌≡◌, ◌≤◌, ℕ, Option, Some, None, List, [], ◌∷◌}
+use Rattle.std.specs.Prelude.{◌≡◌, ◌<◌, ◌≤◌, ℕ, ◌+◌, Bool, Option, Some, None, List, [], ◌∷◌, length}
 use Rattle.mta_ends.specs.Sending.{SendEnd}
 use Rattle.mta_ends.specs.Lanes.{Seen}
 use Rattle.mta_runs.specs.Sessions.{SessionEvent, seen_after, PlacesAbandons, StepsStand, Turn, KeepsTurn, RefusesLast}
 use Rattle.mta_runs.specs.Sessions.{receiving_events}
+use Rattle.mta_runs.specs.Sessions.{SessionList, Before_accept}
+use Rattle.mta_session.specs.State.{State, is_initiator}
+use Rattle.mta_session_laws.specs.Whole.{AreCalls}
+use Rattle.mta_session_lists.specs.Calls.{Call, turns_of}
 use Rattle.mta_session_lists.specs.Abandons.{has_before, with_abandons}
+use Rattle.mta_session_lists.specs.Lists.{IsListOf, end_begun, completed}
 
 -- ---- Abandons that are put in
 
@@ -43,3 +48,22 @@ abbrev pub AbandonsKeepReceived : Type 0
 AbandonsKeepReceived =
     (history : List Seen) (lane from : ℕ) (e : SendEnd) (ys : List SessionEvent)
     → receiving_events lane (with_abandons history lane from e ys) ≡ receiving_events lane ys
+
+-- ---- lists of calls
+
+-- What is asked of a session's list beside the rules of its two halves: the step that it begins with and its own stand
+-- in the history, it keeps the turn, behind a unit that is not taken there is an Abort at most, and each Abandon of
+-- another pass has its place.
+pub record IsOrdered (history : List Seen) (lane size window : ℕ) (initiator : Bool) (l : SessionList) : Type 0 where
+  pub begun : l.at < length history
+  pub stands : StepsStand history l.events
+  pub turn : KeepsTurn Before_accept l.events
+  pub refuses : RefusesLast l.events
+  pub placed : PlacesAbandons history lane (l.at + 1) (end_begun history lane size window l.at initiator) l.events
+
+abbrev pub ListsAreOrdered : Type 0
+ListsAreOrdered =
+    (spells : List ℕ → Bool) (history : List Seen) (first u : State) (calls : List Call) (lane size window : ℕ)
+    (l : SessionList) → IsListOf spells history first calls lane l → AreCalls first (turns_of calls) u
+    → IsOrdered history lane size window (is_initiator first.side)
+    (completed history lane size window (is_initiator first.side) l)

@@ -1,7 +1,7 @@
 //! Laws over the definitions.
 
 ghost use Rattle.mta_session_lists.specs.Laws.{AbandonsArePlaced, AbandonsStand, AbandonsKeepTurns};
-ghost use Rattle.mta_session_lists.specs.Laws.{AbandonsKeepRefusals, AbandonsKeepReceived};
+ghost use Rattle.mta_session_lists.specs.Laws.{AbandonsKeepRefusals, AbandonsKeepReceived, ListsAreOrdered};
 
 /// Each Abandon that is put into a list has its place, and stands in the history. It concerns neither the turn nor the
 /// receiving half nor what is refused.
@@ -11,4 +11,10 @@ pub fn abandons_stand()
     ensures turns { AbandonsKeepTurns }
     ensures refusals { AbandonsKeepRefusals }
     ensures received { AbandonsKeepReceived }
+{}
+
+/// The list of a session, with the Abandons of other passes: its steps stand in the history, it keeps the turn, behind a
+/// unit that is not taken there is an Abort at most, and each Abandon has its place.
+pub fn lists_are_ordered()
+    ensures { ListsAreOrdered }
 {}
