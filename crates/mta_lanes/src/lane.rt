@@ -471,6 +471,13 @@ impl Lane {
         &self.peer
     }
 
+    /// What both ends call the lane.
+    pub fn reference(&self) -> &Reference
+        ensures { result.now ≡ self.now.reference }
+    {
+        &self.reference
+    }
+
     /// What the activity under way transfers; none where none is under way.
     pub fn transfer(&self) -> Option<&Transfer>
         ensures { option_copied result ≡ self.now.transfer }

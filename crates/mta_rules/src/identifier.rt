@@ -8,8 +8,8 @@ use mta_copies::copied_domain;
 use mta_fields::{Domain, MtsId, MtsIdFields};
 use std::alloc::Global;
 
-/// Puts so many decimal digits of a number, the last ones.
-fn put_digits(octets: &mut Vec<u8>, count: u8, number: u64) -> Result<(), Memory>
+/// Puts so many decimal digits of a number behind the octets, the last ones.
+pub fn put_digits(octets: &mut Vec<u8>, count: u8, number: u64) -> Result<(), Memory>
     ensures { OnOk result (octets.new.items ≡ octets.old.items ++ digits count number) }
 {
     if count == 0 {

@@ -6,5 +6,6 @@ mod identifier;
 mod report;
 mod walk;
 
+pub use identifier::put_digits;
 pub use report::{make_report, report_on};
 pub use walk::{list_named, report_walk};

@@ -1,5 +1,7 @@
 -- What a session puts may be written.
 use Rattle.std.specs.Prelude.{◌≡◌, ℕ, Bool, true, false, Option, Some, Ok, List}
+use Rattle.mta_ber.specs.declared.text.TextClass.TheVariants.{Ia5}
+use Rattle.mta_ber.specs.Strings.{IsText}
 use Rattle.mta_units.specs.declared.unit.Unit.TheVariants as unit
 use Rattle.mta_units.specs.declared.unit.OpenUnit.{OpenUnit}
 use Rattle.mta_units.specs.Canon.{IsWritable}
@@ -38,9 +40,10 @@ CanAccept own o p =
     (checkpoint window : ℕ) → ValuesFit checkpoint window →
     IsWritable (unit.Accept checkpoint window (answer_to own p o.request))
 
+-- what an initiator opens with may be written, and so may a responder's name
 abbrev pub SideWrites : Side → Type 0
 SideWrites (side.Initiator p) = CanOpen p
-SideWrites (side.Responder own) = Unit {0}
+SideWrites (side.Responder own) = IsText Ia5 1 32 own
 
 abbrev pub CallWrites : Side → Option OpenUnit → Option Peer → Type 0
 CallWrites (side.Responder own) (Some o) (Some p) = CanAccept own o p
