@@ -9,3 +9,9 @@ pub mod TurnsUnits
 pub mod TurnsReplies
 pub mod TurnsCalls
 pub mod Ordering
+pub mod Handing
+pub mod Received
+pub mod Receiving
+pub mod ReceivingPhases
+pub mod ReceivingCalls
+pub mod Worked

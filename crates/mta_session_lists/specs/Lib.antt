@@ -3,3 +3,4 @@ pub mod Abandons
 pub mod Standing
 pub mod Lists
 pub mod Laws
+pub mod Examples

@@ -61,11 +61,11 @@ IsInTurn (phase.AsksReceiving state) from seen = seen ≡ from
 IsInTurn (phase.AsksResumed state) from seen = seen ≡ from
 IsInTurn p from seen = Unit {0}
 
--- What came of an action is so in the history. What is put and got concerns no history.
+-- What came of an action is so in the history. What is put and got sees no more of it than was seen before.
 abbrev pub ComesTrue : (List ℕ → Bool) → List Seen → (from seen : ℕ) → Phase → Action → Event → Type 0
 ComesTrue spells history from seen p (action.Ask a) (event.Reply x) =
     IsInTurn p from seen × StandsAs spells history from seen a x (step_told a x)
-ComesTrue spells history from seen p a e = from ≤ seen
+ComesTrue spells history from seen p a e = seen ≡ from
 
 -- So it is of calls one after the other, the first of which tells what came of this action.
 abbrev pub AllComeTrue : (List ℕ → Bool) → List Seen → (from : ℕ) → Action → List Call → Type 0

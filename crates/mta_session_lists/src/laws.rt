@@ -1,5 +1,6 @@
 //! Laws over the definitions.
 
+ghost use Rattle.mta_session_lists.specs.Examples.{TakesOne, GivesUp, Resumes};
 ghost use Rattle.mta_session_lists.specs.Laws.{AbandonsArePlaced, AbandonsStand, AbandonsKeepTurns};
 ghost use Rattle.mta_session_lists.specs.Laws.{AbandonsKeepRefusals, AbandonsKeepReceived, ListsAreOrdered};
 
@@ -17,4 +18,12 @@ pub fn abandons_stand()
 /// unit that is not taken there is an Abort at most, and each Abandon has its place.
 pub fn lists_are_ordered()
     ensures { ListsAreOrdered }
+{}
+
+/// Worked rows: a responder takes a message and the lane is closed; another pass gives up what an initiator sends; a lane
+/// is recovered.
+pub fn worked_rows()
+    ensures takes { TakesOne }
+    ensures gives_up { GivesUp }
+    ensures resumes { Resumes }
 {}

@@ -3,4 +3,4 @@
 
 mod laws;
 
-pub use laws::{abandons_stand, lists_are_ordered};
+pub use laws::{abandons_stand, lists_are_ordered, worked_rows};
