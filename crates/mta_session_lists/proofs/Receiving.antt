@@ -75,7 +75,7 @@ common_put v (unit.Accept c w a) new g = elim g [ ]
 common_put v (unit.Reject reason) new g = elim g [ ]
 common_put v y new g = refl
 
-goes_common : (v : State) (a : Action) (new : State) → GoesOn v a new → IsCommon a
+pub goes_common : (v : State) (a : Action) (new : State) → GoesOn v a new → IsCommon a
 goes_common v (action.Put y) new g = common_put v y new g
 goes_common v (action.Ask q) new g = tt
 goes_common v action.Read new g = tt
@@ -168,7 +168,7 @@ asks_next e events v (ask.BatchFor peer) new a f k' i =
     reached_next e events _ new (ap {A = State} (λ t. hands t.phase) a.3) i (on_goes e events v (action.Ask (ask.BatchFor peer)) new a f k')
 asks_next e events v q new a f k' i = elim a [ ]
 
-goes_next : (e : RecvEnd) (events : List RecvEvent) (v : State) (a : Action) (new : State) → GoesOn v a new → Fits new
+pub goes_next : (e : RecvEnd) (events : List RecvEvent) (v : State) (a : Action) (new : State) → GoesOn v a new → Fits new
     → Reaches e events phase.Puts v.recv → is_open new.phase ≡ true → Next e (with_action events a) a new
 goes_next e events v (action.Put y) new g f k i =
     reached_next e _ _ new (put_hands v (part_of y) y new g) i (on_goes e events v (action.Put y) new g f k)

@@ -216,8 +216,8 @@ open_going p i = refl
 
 module _ (l : Halves) (t : Turn) (e : Event) (same : t.event ≡ e) (is : IsTurn t) (i : is_open t.before.phase ≡ true)
     (q : List ℕ) where
-  abbrev end : RecvEnd
-  end = whole t.before.phase t.before.recv q
+  abbrev here : RecvEnd
+  here = whole t.before.phase t.before.recv q
 
   abbrev told : List RecvEvent
   told = told_by t.before.phase t.before q e
@@ -225,12 +225,12 @@ module _ (l : Halves) (t : Turn) (e : Event) (same : t.event ≡ e) (is : IsTurn
   does : Does (counted t.before e) (wanted_in t.before.phase (counted t.before e) e) t.action t.after
   does = does_at t e same is (open_going t.before.phase i)
 
-  goes : RecvGoes end told (wanted_in t.before.phase (counted t.before e) e)
+  goes : RecvGoes here told (wanted_in t.before.phase (counted t.before e) e)
   goes =
-      subst (λ w. RecvGoes end told w) (in_phase_wanted t.before e)
+      subst (λ w. RecvGoes here told w) (in_phase_wanted t.before e)
       (events_go t.before e q i is.fits (subst (λ z. Answers t.before z) same is.answers))
 
-  pub open_after : Allowed end told × After (first l) (recv_all end told) t.action t.after
+  pub open_after : Allowed here told × After (first l) (recv_all here told) t.action t.after
   open_after =
       elim (open_way t.before.phase t.before e t.action t.after i does) [ inl j ↦ on j | inr k ↦ off (turned_last t.after.phase t.before e k.to) ]
     where
@@ -240,15 +240,15 @@ module _ (l : Halves) (t : Turn) (e : Event) (same : t.event ≡ e) (is : IsTurn
       puts : with_action told t.action ≡ told ++ pending t.action
       puts = common_action told t.action (does_common (counted t.before e) (wanted_in t.before.phase (counted t.before e) e) t.action t.after none does)
 
-      on : is_open t.after.phase ≡ true → Allowed end told × After (first l) (recv_all end told) t.action t.after
+      on : is_open t.after.phase ≡ true → Allowed here told × After (first l) (recv_all here told) t.action t.after
       on j =
-          let next = does_next end told (counted t.before e) (wanted_in t.before.phase (counted t.before e) e) t.action t.after goes none does is.fits_after j in
+          let next = does_next here told (counted t.before e) (wanted_in t.before.phase (counted t.before e) e) t.action t.after goes none does is.fits_after j in
           let f : RecvEnd = whole t.after.phase t.after.recv next.piece in
-          let parts = split_run end f told (pending t.action) (subst (λ z. r.IsReceivingEnd end z f) puts next.run) in
+          let parts = split_run here f told (pending t.action) (subst (λ z. r.IsReceivingEnd here z f) puts next.run) in
           (parts.0, record { ended = f; run = parts.1; at = open_at (first l) t.after.phase t.after t.action f j (record { piece = next.piece; on = next.on; is = refl }) })
 
-      off : is_last_phase t.after.phase ≡ true → Allowed end told × After (first l) (recv_all end told) t.action t.after
+      off : is_last_phase t.after.phase ≡ true → Allowed here told × After (first l) (recv_all here told) t.action t.after
       off j =
-          let run = wanted_runs end told (counted t.before e) (wanted_in t.before.phase (counted t.before e) e) t.action t.after goes (plain t.before.phase t.before q e i) does is.fits_after in
-          let parts = split_run end run.0 told (pending t.action) (subst (λ z. r.IsReceivingEnd end z run.0) puts run.1) in
+          let run = wanted_runs here told (counted t.before e) (wanted_in t.before.phase (counted t.before e) e) t.action t.after goes (plain t.before.phase t.before q e i) does is.fits_after in
+          let parts = split_run here run.0 told (pending t.action) (subst (λ z. r.IsReceivingEnd here z run.0) puts run.1) in
           (parts.0, record { ended = run.0; run = parts.1; at = last_at (first l) t.after.phase t.after t.action run.0 j })

@@ -24,7 +24,7 @@ use Rattle.mta_session.specs.declared.event.Side.{Side}
 use Rattle.mta_session.specs.declared.event.Side.TheVariants as side
 use Rattle.mta_session.specs.declared.phase.Phase.{Phase}
 use Rattle.mta_session.specs.declared.phase.Phase.TheVariants as phase
-use Rattle.mta_session.specs.State.{State}
+use Rattle.mta_session.specs.State.{State, in_phase}
 use Rattle.mta_session.specs.Sending.{is_discard_put}
 use Rattle.mta_session.specs.Wanted.{Wanted, Aborts, Rejects, Ends, Puts, Asks, Reads, Goes_on, Excepts, Never}
 use Rattle.mta_session.specs.Wanted.{begins, answers_link, puts_accept, on_received, with_received, restored, on_abort}
@@ -286,6 +286,6 @@ module _ (l : Halves) where
   accepted_waits t e =
       if_waits t.twa _ _
       (λ b. if_waits (is_idle t.send.state) _ _
-      (λ i. λ a. opened phase.AsksDue t a (sym (ap (λ (z : RecvEnd). whole phase.AsksDue z []) e)) tt)
-      (λ i. (refl, λ a. opened phase.Puts t a (sym (ap (λ (z : RecvEnd). whole phase.Puts z []) e)) tt)))
+      (λ i. λ a. opened phase.AsksDue (in_phase t phase.AsksDue) a (sym (ap (λ (z : RecvEnd). whole phase.AsksDue z []) e)) tt)
+      (λ i. (refl, λ a. opened phase.Puts (record t { phase = phase.Puts; please = true }) a (sym (ap (λ (z : RecvEnd). whole phase.Puts z []) e)) tt)))
       (λ b. e)
