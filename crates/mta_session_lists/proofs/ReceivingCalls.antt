@@ -214,7 +214,7 @@ open_going : (p : Phase) → is_open p ≡ true → is_ended p ≡ false
 open_going (phase.Ended y) i = absurd (never i)
 open_going p i = refl
 
-module _ (l : Halves) (t : Turn) (e : Event) (same : t.event ≡ e) (is : IsTurn t) (i : is_open t.before.phase ≡ true)
+module _ (l : Halves) (early : Type 0) (t : Turn) (e : Event) (same : t.event ≡ e) (is : IsTurn t) (i : is_open t.before.phase ≡ true)
     (q : List ℕ) where
   abbrev here : RecvEnd
   here = whole t.before.phase t.before.recv q
@@ -230,7 +230,7 @@ module _ (l : Halves) (t : Turn) (e : Event) (same : t.event ≡ e) (is : IsTurn
       subst (λ w. RecvGoes here told w) (in_phase_wanted t.before e)
       (events_go t.before e q i is.fits (subst (λ z. Answers t.before z) same is.answers))
 
-  pub open_after : Allowed here told × After (first l) (recv_all here told) t.action t.after
+  pub open_after : Allowed here told × After early (first l early) (recv_all here told) t.action t.after
   open_after =
       elim (open_way t.before.phase t.before e t.action t.after i does) [ inl j ↦ on j | inr k ↦ off (turned_last t.after.phase t.before e k.to) ]
     where
@@ -240,15 +240,15 @@ module _ (l : Halves) (t : Turn) (e : Event) (same : t.event ≡ e) (is : IsTurn
       puts : with_action told t.action ≡ told ++ pending t.action
       puts = common_action told t.action (does_common (counted t.before e) (wanted_in t.before.phase (counted t.before e) e) t.action t.after none does)
 
-      on : is_open t.after.phase ≡ true → Allowed here told × After (first l) (recv_all here told) t.action t.after
+      on : is_open t.after.phase ≡ true → Allowed here told × After early (first l early) (recv_all here told) t.action t.after
       on j =
           let next = does_next here told (counted t.before e) (wanted_in t.before.phase (counted t.before e) e) t.action t.after goes none does is.fits_after j in
           let f : RecvEnd = whole t.after.phase t.after.recv next.piece in
           let parts = split_run here f told (pending t.action) (subst (λ z. r.IsReceivingEnd here z f) puts next.run) in
-          (parts.0, record { ended = f; run = parts.1; at = open_at (first l) t.after.phase t.after t.action f j (record { piece = next.piece; on = next.on; is = refl }) })
+          (parts.0, record { ended = f; run = parts.1; at = open_at early (first l early) t.after.phase t.after t.action f j (record { piece = next.piece; on = next.on; is = refl }) })
 
-      off : is_last_phase t.after.phase ≡ true → Allowed here told × After (first l) (recv_all here told) t.action t.after
+      off : is_last_phase t.after.phase ≡ true → Allowed here told × After early (first l early) (recv_all here told) t.action t.after
       off j =
           let run = wanted_runs here told (counted t.before e) (wanted_in t.before.phase (counted t.before e) e) t.action t.after goes (plain t.before.phase t.before q e i) does is.fits_after in
           let parts = split_run here run.0 told (pending t.action) (subst (λ z. r.IsReceivingEnd here z run.0) puts run.1) in
-          (parts.0, record { ended = run.0; run = parts.1; at = last_at (first l) t.after.phase t.after t.action run.0 j })
+          (parts.0, record { ended = run.0; run = parts.1; at = last_at early (first l early) t.after.phase t.after t.action run.0 j })

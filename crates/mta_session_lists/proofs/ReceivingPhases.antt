@@ -57,83 +57,84 @@ abbrev pub NewRecv : Side → State → RecvEnd → Type 0
 NewRecv (side.Initiator p) t b = p.recovering ≡ false → t.recv ≡ b
 NewRecv (side.Responder own) t b = ⊥
 
-abbrev pub RecvAt : RecvEnd → Phase → State → Action → RecvEnd → Type 0
-RecvAt first phase.Begin t a b = (b ≡ first) × NewRecv t.side t first
-RecvAt first phase.AsksValues t a b = b ≡ first
-RecvAt first phase.AsksRecovery t a b = b ≡ first
-RecvAt first (phase.AsksReceiving state) t a b = b ≡ first
-RecvAt first (phase.AsksResumed state) t a b = (b ≡ first) × (t.recv ≡ first)
-RecvAt first phase.PutsOpen t a b = (b ≡ first) × (t.recv ≡ first)
-RecvAt first phase.ReadsAnswer t a b = (b ≡ first) × (t.recv ≡ first)
-RecvAt first phase.AsksAgree t a b = (b ≡ first) × (t.recv ≡ first)
-RecvAt first phase.PutsAccept t a b = (b ≡ first) × (t.recv ≡ first)
-RecvAt first phase.AsksDenied t a b = Unit {0}
-RecvAt first phase.AsksClose t a b = Unit {0}
-RecvAt first (phase.AsksLast y) t a b = Unit {0}
-RecvAt first (phase.PutsLast y) t a b = Unit {0}
-RecvAt first (phase.Ended y) t a b = Unit {0}
-RecvAt first phase.ReadsOpen t a b = ⊥
-RecvAt first phase.AsksPeer t a b = ⊥
-RecvAt first phase.AsksStands t a b = ⊥
-RecvAt first (phase.AsksNewLane again) t a b = ⊥
-RecvAt first phase.AsksSpare t a b = ⊥
-RecvAt first phase.AsksRoom t a b = ⊥
-RecvAt first phase.AsksOldLane t a b = ⊥
-RecvAt first phase.AsksBind t a b = ⊥
-RecvAt first p t a b = OpenAt p t a b
+-- (`early` is what is known while the spool is asked for the lane)
+abbrev pub RecvAt : (early : Type 0) → RecvEnd → Phase → State → Action → RecvEnd → Type 0
+RecvAt early first phase.Begin t a b = (b ≡ first) × NewRecv t.side t first × early
+RecvAt early first phase.AsksValues t a b = (b ≡ first) × early
+RecvAt early first phase.AsksRecovery t a b = (b ≡ first) × early
+RecvAt early first (phase.AsksReceiving state) t a b = (b ≡ first) × early
+RecvAt early first (phase.AsksResumed state) t a b = (b ≡ first) × (t.recv ≡ first)
+RecvAt early first phase.PutsOpen t a b = (b ≡ first) × (t.recv ≡ first)
+RecvAt early first phase.ReadsAnswer t a b = (b ≡ first) × (t.recv ≡ first)
+RecvAt early first phase.AsksAgree t a b = (b ≡ first) × (t.recv ≡ first)
+RecvAt early first phase.PutsAccept t a b = (b ≡ first) × (t.recv ≡ first)
+RecvAt early first phase.AsksDenied t a b = Unit {0}
+RecvAt early first phase.AsksClose t a b = Unit {0}
+RecvAt early first (phase.AsksLast y) t a b = Unit {0}
+RecvAt early first (phase.PutsLast y) t a b = Unit {0}
+RecvAt early first (phase.Ended y) t a b = Unit {0}
+RecvAt early first phase.ReadsOpen t a b = ⊥
+RecvAt early first phase.AsksPeer t a b = ⊥
+RecvAt early first phase.AsksStands t a b = ⊥
+RecvAt early first (phase.AsksNewLane again) t a b = ⊥
+RecvAt early first phase.AsksSpare t a b = ⊥
+RecvAt early first phase.AsksRoom t a b = ⊥
+RecvAt early first phase.AsksOldLane t a b = ⊥
+RecvAt early first phase.AsksBind t a b = ⊥
+RecvAt early first p t a b = OpenAt p t a b
 
-pub open_at : (first : RecvEnd) (p : Phase) (t : State) (a : Action) (b : RecvEnd) → is_open p ≡ true
-    → OpenAt p t a b → RecvAt first p t a b
-open_at first phase.Puts t a b i k = k
-open_at first phase.Reads t a b i k = k
-open_at first phase.AsksDue t a b i k = k
-open_at first phase.AsksBatch t a b i k = k
-open_at first phase.AsksStart t a b i k = k
-open_at first phase.AsksStillIdle t a b i k = k
-open_at first (phase.AsksStep step) t a b i k = k
-open_at first phase.AsksState t a b i k = k
-open_at first (phase.AsksSecure j n) t a b i k = k
-open_at first (phase.AsksComplete j n) t a b i k = k
-open_at first (phase.AsksDrop j found) t a b i k = k
-open_at first phase.PutsClose t a b i k = k
-open_at first phase.ReadsCloseAck t a b i k = k
-open_at first p t a b i k = absurd (never i)
+pub open_at : (early : Type 0) (first : RecvEnd) (p : Phase) (t : State) (a : Action) (b : RecvEnd) → is_open p ≡ true
+    → OpenAt p t a b → RecvAt early first p t a b
+open_at early first phase.Puts t a b i k = k
+open_at early first phase.Reads t a b i k = k
+open_at early first phase.AsksDue t a b i k = k
+open_at early first phase.AsksBatch t a b i k = k
+open_at early first phase.AsksStart t a b i k = k
+open_at early first phase.AsksStillIdle t a b i k = k
+open_at early first (phase.AsksStep step) t a b i k = k
+open_at early first phase.AsksState t a b i k = k
+open_at early first (phase.AsksSecure j n) t a b i k = k
+open_at early first (phase.AsksComplete j n) t a b i k = k
+open_at early first (phase.AsksDrop j found) t a b i k = k
+open_at early first phase.PutsClose t a b i k = k
+open_at early first phase.ReadsCloseAck t a b i k = k
+open_at early first p t a b i k = absurd (never i)
 
-pub at_open : (first : RecvEnd) (p : Phase) (t : State) (a : Action) (b : RecvEnd) → is_open p ≡ true
-    → RecvAt first p t a b → OpenAt p t a b
-at_open first phase.Puts t a b i k = k
-at_open first phase.Reads t a b i k = k
-at_open first phase.AsksDue t a b i k = k
-at_open first phase.AsksBatch t a b i k = k
-at_open first phase.AsksStart t a b i k = k
-at_open first phase.AsksStillIdle t a b i k = k
-at_open first (phase.AsksStep step) t a b i k = k
-at_open first phase.AsksState t a b i k = k
-at_open first (phase.AsksSecure j n) t a b i k = k
-at_open first (phase.AsksComplete j n) t a b i k = k
-at_open first (phase.AsksDrop j found) t a b i k = k
-at_open first phase.PutsClose t a b i k = k
-at_open first phase.ReadsCloseAck t a b i k = k
-at_open first p t a b i k = absurd (never i)
+pub at_open : (early : Type 0) (first : RecvEnd) (p : Phase) (t : State) (a : Action) (b : RecvEnd) → is_open p ≡ true
+    → RecvAt early first p t a b → OpenAt p t a b
+at_open early first phase.Puts t a b i k = k
+at_open early first phase.Reads t a b i k = k
+at_open early first phase.AsksDue t a b i k = k
+at_open early first phase.AsksBatch t a b i k = k
+at_open early first phase.AsksStart t a b i k = k
+at_open early first phase.AsksStillIdle t a b i k = k
+at_open early first (phase.AsksStep step) t a b i k = k
+at_open early first phase.AsksState t a b i k = k
+at_open early first (phase.AsksSecure j n) t a b i k = k
+at_open early first (phase.AsksComplete j n) t a b i k = k
+at_open early first (phase.AsksDrop j found) t a b i k = k
+at_open early first phase.PutsClose t a b i k = k
+at_open early first phase.ReadsCloseAck t a b i k = k
+at_open early first p t a b i k = absurd (never i)
 
-pub last_at : (first : RecvEnd) (p : Phase) (t : State) (a : Action) (b : RecvEnd) → is_last_phase p ≡ true
-    → RecvAt first p t a b
-last_at first phase.AsksDenied t a b i = tt
-last_at first phase.AsksClose t a b i = tt
-last_at first (phase.AsksLast y) t a b i = tt
-last_at first (phase.PutsLast y) t a b i = tt
-last_at first (phase.Ended y) t a b i = tt
-last_at first p t a b i = absurd (never i)
+pub last_at : (early : Type 0) (first : RecvEnd) (p : Phase) (t : State) (a : Action) (b : RecvEnd) → is_last_phase p ≡ true
+    → RecvAt early first p t a b
+last_at early first phase.AsksDenied t a b i = tt
+last_at early first phase.AsksClose t a b i = tt
+last_at early first (phase.AsksLast y) t a b i = tt
+last_at early first (phase.PutsLast y) t a b i = tt
+last_at early first (phase.Ended y) t a b i = tt
+last_at early first p t a b i = absurd (never i)
 
 -- behind an event: what is put now is allowed, and leads to the end that the session has
-pub record After (first mid : RecvEnd) (a : Action) (new : State) : Type 0 where
+pub record After (early : Type 0) (first mid : RecvEnd) (a : Action) (new : State) : Type 0 where
   pub ended : RecvEnd
   pub run : r.IsReceivingEnd mid (pending a) ended
-  pub at : RecvAt first new.phase new a ended
+  pub at : RecvAt early first new.phase new a ended
 
 -- ---- before a session is open
 
-module _ (l : Halves) where
+module _ (l : Halves) (early : Type 0) where
   abbrev pub first : RecvEnd
   first = end_on_link l
 
@@ -142,9 +143,9 @@ module _ (l : Halves) where
   RecvWaits (Rejects reason) = ⊥
   RecvWaits (Ends y) = Unit {0}
   RecvWaits (Puts y t) = r.IsReceivingEnd first (answers_of (answer_unit y)) first
-      × ((a : Action) → RecvAt first t.phase t a first)
-  RecvWaits (Asks q t) = (a : Action) → RecvAt first t.phase t a first
-  RecvWaits (Reads t) = (a : Action) → RecvAt first t.phase t a first
+      × ((a : Action) → RecvAt early first t.phase t a first)
+  RecvWaits (Asks q t) = (a : Action) → RecvAt early first t.phase t a first
+  RecvWaits (Reads t) = (a : Action) → RecvAt early first t.phase t a first
   RecvWaits (Goes_on t) = t.recv ≡ first
   RecvWaits (Excepts t f) = ⊥
   RecvWaits Never = Unit {0}
@@ -161,7 +162,7 @@ module _ (l : Halves) where
   put_last (phase.PutsLast y) k = refl
   put_last p k = elim k [ ]
 
-  goes_after : (v : State) (a : Action) (new : State) → v.recv ≡ first → GoesOn v a new → Fits new → After first first a new
+  goes_after : (v : State) (a : Action) (new : State) → v.recv ≡ first → GoesOn v a new → Fits new → After early first first a new
   goes_after v a new e g f =
       elim (goes_way v a new g) [ inl i ↦ on i | inr k ↦ off (put_last new.phase k.last) ]
     where
@@ -171,52 +172,52 @@ module _ (l : Halves) where
       same : with_action [] a ≡ pending a
       same = common_action [] a (goes_common v a new g)
 
-      on : is_open new.phase ≡ true → After first first a new
+      on : is_open new.phase ≡ true → After early first first a new
       on i =
           let next : Next first (with_action [] a) a new = goes_next first [] v a new g f reached i in
           record {
             ended = whole new.phase new.recv next.piece;
             run = subst (λ z. r.IsReceivingEnd first z (whole new.phase new.recv next.piece)) same next.run;
-            at = open_at first new.phase new a _ i (record { piece = next.piece; on = next.on; is = refl });
+            at = open_at early first new.phase new a _ i (record { piece = next.piece; on = next.on; is = refl });
           }
 
-      off : is_last_phase new.phase ≡ true → After first first a new
+      off : is_last_phase new.phase ≡ true → After early first first a new
       off i =
           let run = goes_runs first [] v a new g f reached in
           record {
             ended = run.0;
             run = subst (λ z. r.IsReceivingEnd first z run.0) same run.1;
-            at = last_at first new.phase new a run.0 i;
+            at = last_at early first new.phase new a run.0 i;
           }
 
   pub waits_after : (c : State) (w : Wanted) (a : Action) (new : State) → RecvWaits w → Does c w a new → Fits new
-      → After first first a new
+      → After early first first a new
   waits_after c (Aborts reason) a new k d f = record {
     ended = first;
     run = subst (λ z. r.IsReceivingEnd first (pending z) first) (sym d.0)
         (subst (λ z. r.IsReceivingEnd first z first) (sym (none_put reason k)) refl);
-    at = last_at first new.phase new a first (ap {A = State} (λ z. is_last_phase z.phase) d.1);
+    at = last_at early first new.phase new a first (ap {A = State} (λ z. is_last_phase z.phase) d.1);
   }
   waits_after c (Rejects reason) a new k d f = absurd k
   waits_after c (Ends y) a new k d f = record {
     ended = first;
     run = subst (λ z. r.IsReceivingEnd first (pending z) first) (sym d.0) refl;
-    at = last_at first new.phase new a first (ap {A = State} (λ z. is_last_phase z.phase) d.1);
+    at = last_at early first new.phase new a first (ap {A = State} (λ z. is_last_phase z.phase) d.1);
   }
   waits_after c (Puts y t) a new k d f = record {
     ended = first;
     run = subst (λ z. r.IsReceivingEnd first (pending z) first) (sym d.0) k.0;
-    at = subst (λ z. RecvAt first z.phase z a first) (sym d.1) (k.1 a);
+    at = subst (λ z. RecvAt early first z.phase z a first) (sym d.1) (k.1 a);
   }
   waits_after c (Asks q t) a new k d f = record {
     ended = first;
     run = subst (λ z. r.IsReceivingEnd first (pending z) first) (sym d.0) refl;
-    at = subst (λ z. RecvAt first z.phase z a first) (sym d.1) (k a);
+    at = subst (λ z. RecvAt early first z.phase z a first) (sym d.1) (k a);
   }
   waits_after c (Reads t) a new k d f = record {
     ended = first;
     run = subst (λ z. r.IsReceivingEnd first (pending z) first) (sym d.0) refl;
-    at = subst (λ z. RecvAt first z.phase z a first) (sym d.1) (k a);
+    at = subst (λ z. RecvAt early first z.phase z a first) (sym d.1) (k a);
   }
   waits_after c (Goes_on t) a new k d f = goes_after t a new k d f
   waits_after c (Excepts t y) a new k d f = absurd k
@@ -232,9 +233,10 @@ module _ (l : Halves) where
   link_waits t (side.Initiator p) e = (refl, λ b. (refl, e))
   link_waits t (side.Responder own) e = accept_waits t _ e
 
-  pub begin_waits : (t : State) (s : Side) → NewRecv s t first → RecvWaits (begins s t)
-  begin_waits t (side.Initiator p) k = if_waits p.recovering _ _ (λ b. λ a. refl) (λ b. (refl, λ a. (refl, k b)))
-  begin_waits t (side.Responder own) k = absurd k
+  pub begin_waits : (t : State) (s : Side) → NewRecv s t first → early → RecvWaits (begins s t)
+  begin_waits t (side.Initiator p) k e =
+      if_waits p.recovering _ _ (λ b. λ a. (refl, e)) (λ b. (refl, λ a. (refl, k b)))
+  begin_waits t (side.Responder own) k e = absurd k
 
   pub received_waits : (t : State) (state : SendState) → t.recv ≡ first → RecvWaits (on_received t state)
   received_waits t state e =
