@@ -14,4 +14,5 @@ pub mod Received
 pub mod Receiving
 pub mod ReceivingPhases
 pub mod ReceivingCalls
+pub mod ReceivingEnds
 pub mod Worked
