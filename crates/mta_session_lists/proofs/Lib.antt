@@ -15,4 +15,6 @@ pub mod Receiving
 pub mod ReceivingPhases
 pub mod ReceivingCalls
 pub mod ReceivingEnds
+pub mod ReceivingLists
+pub mod ReceivedLists
 pub mod Worked

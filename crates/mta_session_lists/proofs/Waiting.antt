@@ -67,7 +67,7 @@ going (action.Finish y) p n i = absurd (never (sym n))
 
 -- ---- what comes of an action
 
-put_answers : (p : Phase) (t : State) (e : Event) → is_putting p ≡ true → AnswersAt p t e → answers_put e ≡ true
+pub put_answers : (p : Phase) (t : State) (e : Event) → is_putting p ≡ true → AnswersAt p t e → answers_put e ≡ true
 put_answers phase.PutsOpen t e i a = a
 put_answers phase.PutsAccept t e i a = a
 put_answers phase.Puts t e i a = a
@@ -75,7 +75,7 @@ put_answers phase.PutsClose t e i a = a
 put_answers (phase.PutsLast y) t e i a = a
 put_answers p t e i a = absurd (never i)
 
-ask_answers : (p : Phase) (t : State) (e : Event) → is_asking p ≡ true → AnswersAt p t e → AnswersAsk p t e
+pub ask_answers : (p : Phase) (t : State) (e : Event) → is_asking p ≡ true → AnswersAt p t e → AnswersAsk p t e
 ask_answers phase.Begin t e i a = absurd (never i)
 ask_answers phase.PutsOpen t e i a = absurd (never i)
 ask_answers phase.PutsAccept t e i a = absurd (never i)
