@@ -17,4 +17,7 @@ pub mod ReceivingCalls
 pub mod ReceivingEnds
 pub mod ReceivingLists
 pub mod ReceivedLists
+pub mod Answering
+pub mod ReceivedAll
+pub mod ReceivingLaw
 pub mod Worked

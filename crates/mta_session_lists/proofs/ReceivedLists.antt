@@ -129,7 +129,7 @@ module _ (l : Halves) (early later : Type 0) (lane : ℕ) where
   behind b c events t rest e g more =
       subst (λ z. Allowed z events × RecvKeeps lane (recv_all z events) rest) e (g.0, more (recv_all c events) g.1)
 
-  come_receives : (a : Action) (t : Turn) (seen : ℕ) (e : Event) (b c : RecvEnd) (rest : List SessionEvent)
+  pub come_receives : (a : Action) (t : Turn) (seen : ℕ) (e : Event) (b c : RecvEnd) (rest : List SessionEvent)
       → RecvHere l early lane a t c → r.IsReceivingEnd b (pending a) c → t.event ≡ e → Tells l t.before.phase e
       → (is_early t.before.phase ≡ true → early → later) → Rest t rest → RecvKeeps lane b (come_of a t seen e ++ rest)
   come_receives (action.Put u) t seen e b c rest k put q tells next more =

@@ -203,14 +203,14 @@ reads_owing p t q i k f = absurd (never k)
 
 -- ---- a call of an open session
 
-turned_last : (q : Phase) (t : State) (e : Event) → TurnsTo q t e → is_last_phase q ≡ true
+pub turned_last : (q : Phase) (t : State) (e : Event) → TurnsTo q t e → is_last_phase q ≡ true
 turned_last (phase.PutsLast y) t e k = refl
 turned_last (phase.Ended y) t e k = refl
 turned_last phase.AsksClose t e k = refl
 turned_last (phase.AsksLast (end.PeerAborted reason)) t e k = refl
 turned_last q t e k = elim k [ ]
 
-open_going : (p : Phase) → is_open p ≡ true → is_ended p ≡ false
+pub open_going : (p : Phase) → is_open p ≡ true → is_ended p ≡ false
 open_going (phase.Ended y) i = absurd (never i)
 open_going p i = refl
 

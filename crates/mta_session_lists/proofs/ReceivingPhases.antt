@@ -225,7 +225,7 @@ module _ (l : Halves) (early : Type 0) where
 
   -- ---- phase by phase
 
-  accept_waits : (t : State) (a : Option Answer) → t.recv ≡ first → RecvWaits (puts_accept t a)
+  pub accept_waits : (t : State) (a : Option Answer) → t.recv ≡ first → RecvWaits (puts_accept t a)
   accept_waits t (Some a) e = ((tt, refl), λ b. (refl, e))
   accept_waits t None e = tt
 

@@ -60,7 +60,7 @@ reads_here phase.Reads t e v i a b h = refl
 reads_here phase.ReadsCloseAck t e v i a b h = refl
 reads_here p t e v i a b h = absurd (never i)
 
-bad_goes : (p : Phase) (t : State) (v : x.Turn) → reads_list p ≡ true → Holds p t v
+pub bad_goes : (p : Phase) (t : State) (v : x.Turn) → reads_list p ≡ true → Holds p t v
     → TurnGoes v (within t (Aborts 4))
 bad_goes p t v i h =
     if_goes v (t.left == 0) (Aborts 3) (Aborts 4) (λ b. reading_aborts p t v 3 i h) (λ b. reading_aborts p t v 4 i h)

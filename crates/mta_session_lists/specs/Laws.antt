@@ -1,9 +1,12 @@
 -- Laws of session lists, one for each thing that is asked of them.
-use Rattle.std.specs.Prelude.{◌≡◌, ◌<◌, ◌≤◌, ℕ, ◌+◌, Bool, Option, Some, None, List, [], ◌∷◌, length}
+use Rattle.std.specs.Prelude.{◌≡◌, ◌<◌, ◌≤◌, ℕ, ◌+◌, Bool, Option, Some, None, List, [], ◌∷◌, length, take}
 use Rattle.mta_ends.specs.Sending.{SendEnd}
-use Rattle.mta_ends.specs.Lanes.{Seen}
+use Rattle.mta_ends.specs.Lanes.{Seen, lane_in, LanesAllow}
+use Rattle.mta_ends.specs.Receiving as r
+use Rattle.mta_ends.specs.Receiving.{RecvEnd}
+use Rattle.mta_runs.specs.Receivings.{end_on_link, ArePlain}
 use Rattle.mta_runs.specs.Sessions.{SessionEvent, seen_after, PlacesAbandons, StepsStand, Turn, KeepsTurn, RefusesLast}
-use Rattle.mta_runs.specs.Sessions.{receiving_events}
+use Rattle.mta_runs.specs.Sessions.{Got, Refused, receiving_event, receiving_events, recv_all}
 use Rattle.mta_runs.specs.Sessions.{SessionList, Before_accept}
 use Rattle.mta_session.specs.State.{State, is_initiator}
 use Rattle.mta_session_laws.specs.Whole.{AreCalls}
@@ -67,3 +70,31 @@ ListsAreOrdered =
     (l : SessionList) → IsListOf spells history first calls lane l → AreCalls first (turns_of calls) u
     → IsOrdered history lane size window (is_initiator first.side)
     (completed history lane size window (is_initiator first.side) l)
+
+-- ---- the receiving half
+
+-- where a unit is got, each unit that was taken has its answer
+abbrev pub OwesAt : RecvEnd → SessionEvent → Type 0
+OwesAt b (Got x) = r.OwesNothing b
+OwesAt b (Refused x) = r.OwesNothing b
+OwesAt b y = Unit {0}
+
+abbrev pub OwesNothingAt : (lane : ℕ) → RecvEnd → List SessionEvent → Type 0
+OwesNothingAt lane b [] = Unit {0}
+OwesNothingAt lane b (y ∷ ys) = OwesAt b y × OwesNothingAt lane (recv_all b (receiving_event lane y)) ys
+
+-- The list keeps the rules of a receiving end, from the half as the lane has it right behind the step that begins the
+-- list, and owes nothing where a unit is got.
+pub record KeepsReceiving (history : List Seen) (lane : ℕ) (l : SessionList) : Type 0 where
+  pub plain : ArePlain (receiving_events lane l.events)
+  pub last_end : RecvEnd
+  pub allowed : r.IsReceivingEnd (end_on_link (lane_in lane (take (l.at + 1) history))) (receiving_events lane l.events)
+      last_end
+  pub owes : OwesNothingAt lane (end_on_link (lane_in lane (take (l.at + 1) history))) l.events
+
+abbrev pub ListsReceive : Type 0
+ListsReceive =
+    (spells : List ℕ → Bool) (history : List Seen) (first u : State) (calls : List Call) (lane size window : ℕ)
+    (l : SessionList) → LanesAllow spells history → IsListOf spells history first calls lane l
+    → AreCalls first (turns_of calls) u
+    → KeepsReceiving history lane (completed history lane size window (is_initiator first.side) l)

@@ -3,6 +3,7 @@
 ghost use Rattle.mta_session_lists.specs.Examples.{TakesOne, GivesUp, Resumes};
 ghost use Rattle.mta_session_lists.specs.Laws.{AbandonsArePlaced, AbandonsStand, AbandonsKeepTurns};
 ghost use Rattle.mta_session_lists.specs.Laws.{AbandonsKeepRefusals, AbandonsKeepReceived, ListsAreOrdered};
+ghost use Rattle.mta_session_lists.specs.Laws.{ListsReceive};
 
 /// Each Abandon that is put into a list has its place, and stands in the history. It concerns neither the turn nor the
 /// receiving half nor what is refused.
@@ -26,4 +27,9 @@ pub fn worked_rows()
     ensures takes { TakesOne }
     ensures gives_up { GivesUp }
     ensures resumes { Resumes }
+{}
+
+/// The list of a session keeps the rules of its receiving half, and owes nothing of it where a unit is got.
+pub fn lists_receive()
+    ensures { ListsReceive }
 {}
