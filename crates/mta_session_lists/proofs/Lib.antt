@@ -20,4 +20,5 @@ pub mod ReceivedLists
 pub mod Answering
 pub mod ReceivedAll
 pub mod ReceivingLaw
+pub mod Sent
 pub mod Worked

@@ -3,4 +3,5 @@ pub mod Abandons
 pub mod Standing
 pub mod Lists
 pub mod Laws
+pub mod Sent
 pub mod Examples

@@ -4,6 +4,7 @@ ghost use Rattle.mta_session_lists.specs.Examples.{TakesOne, GivesUp, Resumes};
 ghost use Rattle.mta_session_lists.specs.Laws.{AbandonsArePlaced, AbandonsStand, AbandonsKeepTurns};
 ghost use Rattle.mta_session_lists.specs.Laws.{AbandonsKeepRefusals, AbandonsKeepReceived, ListsAreOrdered};
 ghost use Rattle.mta_session_lists.specs.Laws.{ListsReceive};
+ghost use Rattle.mta_session_lists.specs.Sent.{OthersMayBeLeftOut, NoneGoesOn, NoneDrops};
 
 /// Each Abandon that is put into a list has its place, and stands in the history. It concerns neither the turn nor the
 /// receiving half nor what is refused.
@@ -32,4 +33,12 @@ pub fn worked_rows()
 /// The list of a session keeps the rules of its receiving half, and owes nothing of it where a unit is got.
 pub fn lists_receive()
     ensures { ListsReceive }
+{}
+
+/// Of a sending half: units that say nothing of a transfer may be left out of a list. Behind an Abandon of an activity no
+/// Confirm and no Ending of it follows, and without one no lane comes to drop it.
+pub fn halves_send()
+    ensures others { OthersMayBeLeftOut }
+    ensures past { NoneGoesOn }
+    ensures undropped { NoneDrops }
 {}

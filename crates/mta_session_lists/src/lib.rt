@@ -3,4 +3,4 @@
 
 mod laws;
 
-pub use laws::{abandons_stand, lists_are_ordered, lists_receive, worked_rows};
+pub use laws::{abandons_stand, halves_send, lists_are_ordered, lists_receive, worked_rows};
