@@ -1,9 +1,8 @@
 -- Before a responder has its lane, its receiving end is new.
-use Rattle.std.proofs.Common.{◌≡◌, ◌⊎◌, inl, inr, ℕ, ◌-◌, ◌==◌, Bool, true, false, Option, Some, None, List, [], ◌∷◌, ◌++◌}
+use Rattle.std.proofs.Common.{◌≡◌, inl, inr, Bool, true, false, Some, List, [], ◌∷◌}
 use Rattle.std.proofs.Common.{refl, sym, ap, subst, ◌∙◌}
 use Rattle.mta_units.specs.declared.unit.Unit.{Unit as AnyUnit}
 use Rattle.mta_ends.specs.Receiving.{RecvEnd}
-use Rattle.mta_session.specs.declared.ask.Reply.{Reply}
 use Rattle.mta_session.specs.declared.ask.Reply.TheVariants as reply
 use Rattle.mta_session.specs.declared.event.Action.{Action}
 use Rattle.mta_session.specs.declared.event.Action.TheVariants as action
@@ -24,19 +23,18 @@ use Rattle.mta_session_laws.proofs.Ending.{open_way}
 use Rattle.mta_session_laws.proofs.Whole.{is_ended}
 use Rattle.mta_runs.specs.Sessions as x
 use Rattle.mta_runs.specs.Sessions.{turn_after}
-use Rattle.mta_session_lists.specs.Calls.{Call, turns_of, got_as}
+use Rattle.mta_session_lists.specs.Calls.{Call, turns_of}
 use Rattle.mta_session_lists.proofs.Found.{never}
 use Rattle.mta_session_order.specs.Order.{awaits}
-use Rattle.mta_session_order.proofs.Calls.{After, call_after}
+use Rattle.mta_session_order.proofs.Calls.{call_after}
 use Rattle.mta_session_lists.proofs.Waiting.{Ready, ready_next, does_at}
 use Rattle.mta_session_lists.proofs.Turns.{Holds, TurnGoes}
 use Rattle.mta_session_lists.proofs.TurnsUnits.{unit_goes}
-use Rattle.mta_session_lists.proofs.TurnsReplies.{reply_goes, go_goes, over_goes, turned, Done, does_done}
+use Rattle.mta_session_lists.proofs.TurnsReplies.{reply_goes, go_goes, over_goes, does_done}
 use Rattle.mta_session_lists.proofs.TurnsCalls.{bad_goes}
 use Rattle.mta_session_lists.proofs.ReceivingCalls.{turned_last, open_going}
-use Rattle.mta_session_lists.proofs.ReceivingEnds.{is_opening}
 use Rattle.mta_session_lists.proofs.ReceivedLists.{any_silent}
-use Rattle.mta_session_lists.proofs.ReceivingLists.{is_unlisted, opening_going}
+use Rattle.mta_session_lists.proofs.ReceivingLists.{is_unlisted}
 
 -- ---- phases
 

@@ -28,7 +28,7 @@ use Rattle.mta_session.specs.Receiving.{taken, is_free}
 use Rattle.mta_session.specs.Sending.{called, heard, is_discard_put}
 use Rattle.mta_session.specs.Wanted.{Wanted, Aborts, Rejects, Ends, Puts, Asks, Reads, Goes_on, Excepts, Never}
 use Rattle.mta_session.specs.Wanted.{on_abort, makes_or, goes_on_if, as_holder, as_listener, on_close, takes, on_unit}
-use Rattle.mta_session.specs.Wanted.{on_close_ack, wanted_of_unit, within, on_batch, on_due, on_start, on_still_idle}
+use Rattle.mta_session.specs.Wanted.{on_close_ack, wanted_of_unit, on_batch, on_due, on_start, on_still_idle}
 use Rattle.mta_session.specs.Wanted.{is_still, on_step, on_state, is_given_up, on_secured, on_completed, on_dropped}
 use Rattle.mta_session.specs.Wanted.{wanted_of_reply, wanted_of_go, wanted_of_over}
 use Rattle.mta_session_laws.specs.Turning.{is_open}

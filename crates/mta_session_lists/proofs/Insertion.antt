@@ -1,10 +1,9 @@
 -- Abandons that are put into a list: each stands where the rules of session lists ask for it, and they leave the rules of
 -- the receiving half and of the turn as they were.
-use Rattle.std.proofs.Common.{◌≡◌, ◌<◌, ◌≤◌, ℕ, ◌+◌, ◌-◌, ◌==◌, if◌then◌else◌, Bool, true, false, Option, Some, None}
-use Rattle.std.proofs.Common.{slice_get, List, [], ◌∷◌, ◌++◌, length, refl, sym, ap, subst, ◌∙◌, arith}
+use Rattle.std.proofs.Common.{◌≡◌, ◌≤◌, ℕ, ◌+◌, ◌==◌, if◌then◌else◌, Bool, true, false, Option, Some, None}
+use Rattle.std.proofs.Common.{List, [], ◌∷◌, ◌++◌, refl, sym, ap, subst, ◌∙◌, arith}
 use Rattle.std.proofs.lemmas.Bool.{eq-eqb}
-use Rattle.mta_lane_send.specs.Half.{is_sending, last_of}
-use Rattle.mta_units.specs.declared.unit.Unit.{Unit as AnyUnit}
+use Rattle.mta_lane_send.specs.Half.{last_of}
 use Rattle.mta_units.specs.declared.unit.Unit.TheVariants as unit
 use Rattle.mta_ends.specs.Sending as s
 use Rattle.mta_ends.specs.Sending.{SendEnd, SendEvent}
@@ -86,10 +85,11 @@ module _ (history : List Seen) (lane : ℕ) where
       → Placed history lane from upto e found → Leads y from e found ws
   found_leads y from upto e found ws sees same le (kept seen) rest = (sees from e le seen, rest)
   found_leads y from upto e found ws sees same le (placed p i a b is none) rest =
-      behind_abandon y from p e ws a (λ j. none)
-      (sees (p + 1) (s.made e s.Abandon) (omega (arith, b)) (λ j. absurd (never j)),
-      subst (λ z. PlacesAbandons history lane z (send_all (s.made e s.Abandon) (sending_event lane y)) ws)
-      (same from (p + 1)) rest)
+      behind_abandon y from p e ws a (λ j. none) (
+        sees (p + 1) (s.made e s.Abandon) (omega (arith, b)) (λ j. absurd (never j)),
+        subst (λ z. PlacesAbandons history lane z (send_all (s.made e s.Abandon) (sending_event lane y)) ws)
+            (same from (p + 1)) rest,
+      )
 
   leads : (y : SessionEvent) (from : ℕ) (e : SendEnd) (ws : List SessionEvent) → Shape y
       → RisesBehind from (has_before lane y)
@@ -164,10 +164,12 @@ module _ (history : List Seen) (lane : ℕ) where
       → KeepsTurn t (with_abandons history lane from e ys)
   turns [] from e t k = tt
   turns (y ∷ ys) from e t k =
-      turns_before t e (abandoned_upto history lane from e (has_before lane y)) _
-      (k.0, turns ys (seen_after lane from y)
-      (send_all (given_up e (abandoned_upto history lane from e (has_before lane y))) (sending_event lane y))
-      (turn_after t y) k.1)
+      turns_before t e (abandoned_upto history lane from e (has_before lane y)) _ (
+        k.0,
+        turns ys (seen_after lane from y)
+            (send_all (given_up e (abandoned_upto history lane from e (has_before lane y))) (sending_event lane y))
+            (turn_after t y) k.1,
+      )
 
   -- what follows a refused unit is no step and no look
   ends_still : (ys : List SessionEvent) (from : ℕ) (e : SendEnd) → EndsSo ys

@@ -1,10 +1,9 @@
 -- Lists of calls are ordered.
-use Rattle.std.proofs.Common.{◌≡◌, ◌<◌, ◌≤◌, ℕ, ◌+◌, ◌-◌, Bool, true, false, Option, Some, None, Ok, List, [], ◌∷◌, ◌++◌}
-use Rattle.std.proofs.Common.{length, refl, sym, ap, subst, ◌∙◌, arith}
+use Rattle.std.proofs.Common.{◌≡◌, ℕ, ◌+◌, Bool, true, false, Option, Some, None, Ok, List, [], ◌∷◌, ◌++◌}
+use Rattle.std.proofs.Common.{refl, sym, subst, arith}
 use Rattle.std.proofs.lemmas.Option.{slice_get_within}
 use Rattle.mta_ends.specs.Lanes.{Seen}
 use Rattle.mta_ends.specs.Sending.{SendEnd}
-use Rattle.mta_session.specs.declared.ask.Reply.{Reply}
 use Rattle.mta_session.specs.declared.ask.Reply.TheVariants as reply
 use Rattle.mta_session.specs.declared.event.Event.{Event}
 use Rattle.mta_session.specs.declared.event.Event.TheVariants as event
@@ -12,7 +11,7 @@ use Rattle.mta_session.specs.declared.event.Action.{Action}
 use Rattle.mta_session.specs.declared.event.Action.TheVariants as action
 use Rattle.mta_session.specs.declared.phase.Phase.{Phase}
 use Rattle.mta_session.specs.declared.phase.Phase.TheVariants as phase
-use Rattle.mta_session.specs.State.{State, is_initiator}
+use Rattle.mta_session.specs.State.{State}
 use Rattle.mta_session.specs.Session.{new_responder}
 use Rattle.mta_session.specs.Wanted.{with_lane, answer_for}
 use Rattle.mta_session.specs.Follows.{counted}
@@ -24,9 +23,8 @@ use Rattle.mta_runs.specs.Sessions as x
 use Rattle.mta_runs.specs.Sessions.{SessionList}
 use Rattle.mta_session_lists.specs.Calls.{Call, StepOn, turns_of, list_of}
 use Rattle.mta_session_lists.specs.Standing.{AllComeTrue}
-use Rattle.mta_session_lists.specs.Lists.{HasAt, step_for, step_by, IsListOf, Initiates, Responds, end_begun, completed}
+use Rattle.mta_session_lists.specs.Lists.{HasAt, step_for, step_by, Initiates, Responds, end_begun, completed}
 use Rattle.mta_session_lists.specs.Laws.{IsOrdered, ListsAreOrdered}
-use Rattle.mta_session_lists.proofs.Found.{never}
 use Rattle.mta_session_lists.proofs.Insertion.{places, stand, turns, refusals}
 use Rattle.mta_session_lists.proofs.Standing.{calls_rise, calls_stand}
 use Rattle.mta_session_lists.proofs.Waiting.{Ready, ready_next, does_at}

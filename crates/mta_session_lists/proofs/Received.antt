@@ -1,27 +1,24 @@
 -- What the events of a session's list are for its receiving half.
-use Rattle.std.proofs.Common.{◌≡◌, ℕ, ◌==◌, ◌-◌, if◌then◌else◌, Bool, true, false, Option, Some, None, Ok, Err, List, [], ◌∷◌}
-use Rattle.std.proofs.Common.{◌++◌, refl, sym, ap, subst, ◌∙◌}
+use Rattle.std.proofs.Common.{◌≡◌, ℕ, ◌==◌, if◌then◌else◌, Bool, true, false, Option, Some, None, Ok, Err, List, [], ◌∷◌}
+use Rattle.std.proofs.Common.{◌++◌, refl, sym, ap}
 use Rattle.std.proofs.lemmas.Bool.{eq-eqb}
 use Rattle.std.proofs.lemmas.List.{append-nil}
 use Rattle.mta_units.specs.declared.unit.Unit.{Unit as AnyUnit}
 use Rattle.mta_units.specs.declared.unit.Unit.TheVariants as unit
 use Rattle.mta_ends.specs.Units.{LaneUnit}
-use Rattle.mta_ends.specs.Units as u
-use Rattle.mta_ends.specs.Receiving as r
 use Rattle.mta_ends.specs.Receiving.{RecvEvent}
-use Rattle.mta_records.specs.declared.fault.CompleteFault.TheVariants as piece
 use Rattle.mta_records.specs.declared.lane.LaneRole.TheVariants as role
 use Rattle.mta_session.specs.declared.ask.Ask.{Ask}
 use Rattle.mta_session.specs.declared.ask.Ask.TheVariants as ask
 use Rattle.mta_session.specs.declared.ask.Reply.{Reply}
 use Rattle.mta_session.specs.declared.ask.Reply.TheVariants as reply
 use Rattle.mta_session.specs.Wanted.{Wanted, Aborts, Rejects, Ends, Puts, Asks, Reads, Goes_on, Excepts, Never}
-use Rattle.mta_session.specs.Follows.{part_of, part_of_abort, Of_receiver, Of_neither}
+use Rattle.mta_session.specs.Follows.{part_of_abort}
 use Rattle.mta_session_laws.specs.TurningRecv.{taken_as, unless_refused, with_put, with_unit}
 use Rattle.mta_runs.specs.Sessions as x
 use Rattle.mta_runs.specs.Sessions.{SessionEvent, Made, Looked, Look, transfer_unit, answer_unit, abort_unit, took_of}
 use Rattle.mta_runs.specs.Sessions.{answers_of, found_by, receiving_step_of, receiving_event, TurnAllows, IsNone}
-use Rattle.mta_session_lists.specs.Calls.{StepOn, on, step_told, look_told, told_as, got_as, looked_at}
+use Rattle.mta_session_lists.specs.Calls.{StepOn, step_told, look_told, told_as, got_as, looked_at}
 use Rattle.mta_session_lists.proofs.Found.{never}
 use Rattle.mta_session_lists.proofs.Handing.{is_common}
 

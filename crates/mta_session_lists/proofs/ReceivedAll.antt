@@ -1,23 +1,18 @@
 -- All calls of a session: the receiving half of its list keeps the rules.
-use Rattle.std.proofs.Common.{◌≡◌, ◌⊎◌, inl, inr, ◌<◌, ◌≤◌, ℕ, zero, suc, ◌==◌, ◌-◌, ◌+◌, if◌then◌else◌, Bool, true, false}
-use Rattle.std.proofs.Common.{Option, Some, None, Ok, Err, List, [], ◌∷◌, ◌++◌, length, take, refl, sym, ap, subst, ◌∙◌, arith}
-use Rattle.std.proofs.lemmas.Option.{slice_get_within}
+use Rattle.std.proofs.Common.{◌≡◌, ◌⊎◌, inl, inr, ℕ, ◌+◌, if◌then◌else◌, Bool, true, false}
+use Rattle.std.proofs.Common.{Some, List, [], ◌∷◌, take, refl, sym, ap, subst, ◌∙◌}
 use Rattle.mta_lane_send.specs.declared.state.SendState.{SendState}
 use Rattle.mta_lane_recv.specs.declared.state.Last.{Last}
-use Rattle.mta_lane_recv.specs.declared.state.Last.TheVariants as last
-use Rattle.mta_ends.specs.Lanes as h
-use Rattle.mta_ends.specs.Lanes.{Halves, SeenStep, Seen, On, Unopened, Open, unopened, Allows, LanesAllow, halves_after, lane_in}
+use Rattle.mta_ends.specs.Lanes.{Halves, Seen, lane_in}
 use Rattle.mta_ends.specs.Receiving as r
 use Rattle.mta_ends.specs.Receiving.{RecvEnd}
 use Rattle.mta_session.specs.declared.ask.Ask.{Ask}
 use Rattle.mta_session.specs.declared.ask.Ask.TheVariants as ask
-use Rattle.mta_session.specs.declared.ask.Reply.{Reply}
 use Rattle.mta_session.specs.declared.ask.Reply.TheVariants as reply
 use Rattle.mta_session.specs.declared.event.Action.{Action}
 use Rattle.mta_session.specs.declared.event.Action.TheVariants as action
 use Rattle.mta_session.specs.declared.event.Event.{Event}
 use Rattle.mta_session.specs.declared.event.Event.TheVariants as event
-use Rattle.mta_session.specs.declared.event.InitiatorPlan.{InitiatorPlan}
 use Rattle.mta_session.specs.declared.event.Side.{Side}
 use Rattle.mta_session.specs.declared.event.Side.TheVariants as side
 use Rattle.mta_session.specs.declared.phase.Phase.{Phase}
@@ -34,14 +29,14 @@ use Rattle.mta_session_laws.proofs.Whole.{is_ended}
 use Rattle.mta_matches.specs.Asks.{IsAskOf}
 use Rattle.mta_matches.specs.Calls.{has_lane}
 use Rattle.mta_matches.proofs.Lanes.{lanes_stay}
-use Rattle.mta_session_lists.specs.Calls.{Call, StepOn, turns_of, step_told, list_of}
-use Rattle.mta_session_lists.specs.Standing.{IsTrue, Looks, StandsAs, IsInTurn, ComesTrue, AllComeTrue}
+use Rattle.mta_session_lists.specs.Calls.{Call, turns_of, step_told, list_of}
+use Rattle.mta_session_lists.specs.Standing.{Looks, StandsAs, IsInTurn, ComesTrue, AllComeTrue}
 use Rattle.mta_session_lists.proofs.Found.{never}
 use Rattle.mta_session_lists.proofs.Waiting.{goes_with, Ready, ready_next, does_at}
 use Rattle.mta_session_lists.proofs.Receiving.{pending}
-use Rattle.mta_session_lists.proofs.ReceivingPhases.{RecvAt, After, first}
+use Rattle.mta_session_lists.proofs.ReceivingPhases.{RecvAt, first}
 use Rattle.mta_session_lists.proofs.ReceivingEnds.{is_opening}
-use Rattle.mta_session_lists.proofs.ReceivingLists.{RecvKeeps, Part, at_opening, in_open, at_last, at_none, part, none_here, Asked, asked_next, is_early, Tells, RecvHere, open_not_last}
+use Rattle.mta_session_lists.proofs.ReceivingLists.{RecvKeeps, Part, at_opening, in_open, at_last, at_none, part, none_here, Asked, asked_next, is_early, Tells, open_not_last}
 use Rattle.mta_session_lists.proofs.ReceivedLists.{any_silent, come_receives}
 
 -- ---- the turn of the lock

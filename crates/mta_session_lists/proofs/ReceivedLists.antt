@@ -1,48 +1,35 @@
 -- The receiving half of a session's list keeps the rules from its begin to its end.
-use Rattle.std.proofs.Common.{◌≡◌, ◌⊎◌, inl, inr, ℕ, ◌==◌, ◌-◌, ◌+◌, if◌then◌else◌, Bool, true, false, Option, Some, None}
-use Rattle.std.proofs.Common.{List, [], ◌∷◌, ◌++◌, take, refl, sym, ap, subst, ◌∙◌}
-use Rattle.mta_lane_recv.specs.declared.state.Last.{Last}
+use Rattle.std.proofs.Common.{◌≡◌, ℕ, Bool, true, false, Option, Some, None}
+use Rattle.std.proofs.Common.{List, [], ◌++◌, refl, sym, ap, subst, ◌∙◌}
 use Rattle.mta_units.specs.declared.unit.Unit.{Unit as AnyUnit}
-use Rattle.mta_ends.specs.Lanes.{Halves, Seen, lane_in}
+use Rattle.mta_ends.specs.Lanes.{Halves}
 use Rattle.mta_ends.specs.Receiving as r
 use Rattle.mta_ends.specs.Receiving.{RecvEnd, RecvEvent}
-use Rattle.mta_session.specs.declared.ask.Ask.{Ask}
-use Rattle.mta_session.specs.declared.ask.Ask.TheVariants as ask
-use Rattle.mta_session.specs.declared.ask.Reply.{Reply}
-use Rattle.mta_session.specs.declared.ask.Reply.TheVariants as reply
 use Rattle.mta_session.specs.declared.event.Action.{Action}
 use Rattle.mta_session.specs.declared.event.Action.TheVariants as action
 use Rattle.mta_session.specs.declared.event.Event.{Event}
 use Rattle.mta_session.specs.declared.event.Event.TheVariants as event
-use Rattle.mta_session.specs.declared.event.Side.{Side}
-use Rattle.mta_session.specs.declared.event.Side.TheVariants as side
 use Rattle.mta_session.specs.declared.phase.Phase.{Phase}
 use Rattle.mta_session.specs.declared.phase.Phase.TheVariants as phase
 use Rattle.mta_session.specs.State.{State}
 use Rattle.mta_session.specs.Rank.{is_over}
-use Rattle.mta_session.specs.Wanted.{Wanted, Aborts, Rejects, Ends, Puts, Asks, Reads, Goes_on, Excepts, Never, begins}
-use Rattle.mta_session.specs.Follows.{Follows, Does, counted}
+use Rattle.mta_session.specs.Wanted.{Wanted, Aborts, Rejects, Ends, Puts, Asks, Reads, Goes_on, Excepts, Never}
+use Rattle.mta_session.specs.Follows.{counted}
 use Rattle.mta_session.specs.Fits.{AnswersAt}
 use Rattle.mta_session_laws.specs.Runs.{Turn, IsTurn}
-use Rattle.mta_session_laws.specs.Whole.{AreCalls}
-use Rattle.mta_session_laws.specs.Turning.{is_open, is_last_phase, called_for}
-use Rattle.mta_session_laws.specs.TurningRecv.{whole, told_by}
+use Rattle.mta_session_laws.specs.Turning.{is_last_phase, called_for}
+use Rattle.mta_session_laws.specs.TurningRecv.{told_by}
 use Rattle.mta_session_laws.proofs.Opening.{wanted_in}
 use Rattle.mta_session_laws.proofs.Whole.{is_ended}
-use Rattle.mta_session_order.specs.Order.{is_reading}
-use Rattle.mta_runs.specs.Sessions as x
 use Rattle.mta_runs.specs.Sessions.{SessionEvent, Look, receiving_event, recv_all}
-use Rattle.mta_matches.specs.Calls.{has_lane}
-use Rattle.mta_matches.proofs.Lanes.{lanes_stay}
-use Rattle.mta_session_lists.specs.Calls.{Call, StepOn, turns_of, step_told, look_told, told_as, got_as, come_of, list_of}
-use Rattle.mta_session_lists.specs.Standing.{StandsAs, ComesTrue, AllComeTrue}
+use Rattle.mta_session_lists.specs.Calls.{StepOn, step_told, look_told, told_as, got_as, come_of}
 use Rattle.mta_session_lists.proofs.Found.{never}
-use Rattle.mta_session_lists.proofs.Waiting.{goes_with, Ready, ready_next, is_finish, does_at, over_says}
+use Rattle.mta_session_lists.proofs.Waiting.{is_finish, does_at, over_says}
 use Rattle.mta_session_lists.proofs.Receiving.{Allowed, run_allowed, pending}
-use Rattle.mta_session_lists.proofs.ReceivingPhases.{OpenAt, RecvAt, at_open, After, first, waits_after}
+use Rattle.mta_session_lists.proofs.ReceivingPhases.{at_open, After, first, waits_after}
 use Rattle.mta_session_lists.proofs.ReceivingCalls.{reads_owing, open_after}
-use Rattle.mta_session_lists.proofs.ReceivingEnds.{Silent, last_silent, silent_after, is_opening}
-use Rattle.mta_session_lists.proofs.ReceivingLists.{RestsRecv, RecvKeeps, Part, at_opening, in_open, at_last, at_none, part, none_here, Asked, asked_next, is_early, Tells, opening_wants, opening_first, opening_going, heard, RecvHere, open_reads, open_heard, opening_heard, last_reads, last_heard, open_not_last}
+use Rattle.mta_session_lists.proofs.ReceivingEnds.{Silent, last_silent, silent_after}
+use Rattle.mta_session_lists.proofs.ReceivingLists.{RestsRecv, RecvKeeps, Part, at_opening, in_open, at_last, at_none, part, none_here, is_early, Tells, opening_wants, opening_first, opening_going, heard, RecvHere, open_reads, open_heard, opening_heard, last_reads, last_heard}
 
 -- ---- at the end
 
@@ -77,11 +64,13 @@ module _ (l : Halves) (early later : Type 0) (lane : ℕ) where
       (open_after l later t e q k.is i o.piece))
   in_part a t seen e b k q tells next n (at_opening i) =
       let one : b ≡ first l early = opening_first early (first l early) t.before.phase t.before a b i k.at in
-      subst (λ z. Goes b z t) (sym (opening_heard l early lane a t seen e b k i n))
-      (tt, subst (λ c. After later (first l later) c t.action t.after) (sym one)
-      (waits_after l later (counted t.before e) (wanted_in t.before.phase (counted t.before e) e) t.action t.after
-      (opening_wants l later early t.before.phase t.before e a b i k.at next n tells)
-      (does_at t e q k.is (opening_going t.before.phase i)) k.is.fits_after))
+      subst (λ z. Goes b z t) (sym (opening_heard l early lane a t seen e b k i n)) (
+        tt,
+        subst (λ c. After later (first l later) c t.action t.after) (sym one)
+            (waits_after l later (counted t.before e) (wanted_in t.before.phase (counted t.before e) e) t.action t.after
+            (opening_wants l later early t.before.phase t.before e a b i k.at next n tells)
+            (does_at t e q k.is (opening_going t.before.phase i)) k.is.fits_after),
+      )
   in_part a t seen e b k q tells next n (at_last i) =
       subst (λ z. Goes b z t) (sym (last_heard l early lane a t seen e b k i n))
       (tt, silent_after later (first l later) b t.action t.after (any_silent t k.is i (is_ended t.before.phase) refl))

@@ -1,8 +1,7 @@
 -- One call of an open session, as the receiving end of its list sees it.
-use Rattle.std.proofs.Common.{◌≡◌, ◌⊎◌, inl, inr, ℕ, ◌==◌, ◌-◌, if◌then◌else◌, Bool, true, false, Option, Some, None, Result}
-use Rattle.std.proofs.Common.{Ok, Err, List, [], ◌∷◌, ◌++◌, refl, sym, ap, subst, ◌∙◌}
+use Rattle.std.proofs.Common.{◌≡◌, ℕ, true, false}
+use Rattle.std.proofs.Common.{List, [], ◌∷◌, ◌++◌, refl, sym, ap, subst, ◌∙◌}
 use Rattle.std.proofs.lemmas.List.{append-nil}
-use Rattle.mta_lane_recv.specs.declared.state.Last.{Last}
 use Rattle.mta_lane_recv.specs.Half.{is_done}
 use Rattle.mta_units.specs.declared.unit.Unit.{Unit as AnyUnit}
 use Rattle.mta_units.specs.declared.unit.Unit.TheVariants as unit
@@ -12,19 +11,17 @@ use Rattle.mta_session.specs.declared.ask.Ask.{Ask}
 use Rattle.mta_session.specs.declared.ask.Ask.TheVariants as ask
 use Rattle.mta_session.specs.declared.event.Action.{Action}
 use Rattle.mta_session.specs.declared.event.Action.TheVariants as action
-use Rattle.mta_session.specs.declared.event.Event.{Event}
-use Rattle.mta_session.specs.declared.event.SessionEnd.TheVariants as end
 use Rattle.mta_session.specs.declared.phase.Found.{Found}
 use Rattle.mta_session.specs.declared.phase.Phase.{Phase}
 use Rattle.mta_session.specs.declared.phase.Phase.TheVariants as phase
 use Rattle.mta_session.specs.State.{State}
 use Rattle.mta_session.specs.Wanted.{Wanted, Aborts, Rejects, Ends, Puts, Asks, Reads, Goes_on, Excepts, Never}
 use Rattle.mta_session.specs.Follows.{Part, Of_sender, Of_receiver, Of_neither, part_of, phase_behind, PutsFor, AsksFor}
-use Rattle.mta_session.specs.Follows.{GoesOn, ExceptsFor, Does, counted}
+use Rattle.mta_session.specs.Follows.{GoesOn, ExceptsFor, Does}
 use Rattle.mta_session.specs.Fits.{Fits, FitsAt}
-use Rattle.mta_session_laws.specs.Turning.{is_open, is_last_phase}
+use Rattle.mta_session_laws.specs.Turning.{is_open}
 use Rattle.mta_session_laws.specs.TurningRecv.{filled, whole, Reaches, ReachesBy, ReachesAt, RecvGoes, with_action}
-use Rattle.mta_session_laws.proofs.CallsRecv.{at, on_goes, except_goes, does_goes}
+use Rattle.mta_session_laws.proofs.CallsRecv.{at, on_goes, does_goes}
 use Rattle.mta_session_laws.proofs.Runs.{open_goes_on}
 use Rattle.mta_runs.specs.Sessions.{answer_unit, answers_of, recv_all}
 use Rattle.mta_matches.specs.Asks.{handed_by}

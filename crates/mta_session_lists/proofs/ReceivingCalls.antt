@@ -1,8 +1,7 @@
 -- The receiving half of a session's list, call by call.
-use Rattle.std.proofs.Common.{◌≡◌, ◌⊎◌, inl, inr, ℕ, ◌==◌, ◌-◌, ◌+◌, if◌then◌else◌, Bool, true, false, Option, Some, None}
+use Rattle.std.proofs.Common.{◌≡◌, inl, inr, ℕ, ◌==◌, if◌then◌else◌, Bool, true, false}
 use Rattle.std.proofs.Common.{Result, Ok, Err, List, [], ◌∷◌, ◌++◌, refl, sym, ap, subst, ◌∙◌}
 use Rattle.mta_lane_recv.specs.declared.state.Last.{Last}
-use Rattle.mta_lane_recv.specs.Half.{is_done}
 use Rattle.mta_units.specs.declared.unit.Unit.{Unit as AnyUnit}
 use Rattle.mta_units.specs.declared.unit.Unit.TheVariants as unit
 use Rattle.mta_ends.specs.Lanes.{Halves}
@@ -15,7 +14,6 @@ use Rattle.mta_session.specs.declared.ask.Ask.{Ask}
 use Rattle.mta_session.specs.declared.ask.Ask.TheVariants as ask
 use Rattle.mta_session.specs.declared.ask.Reply.{Reply}
 use Rattle.mta_session.specs.declared.ask.Reply.TheVariants as reply
-use Rattle.mta_session.specs.declared.event.Action.{Action}
 use Rattle.mta_session.specs.declared.event.Action.TheVariants as action
 use Rattle.mta_session.specs.declared.event.Event.{Event}
 use Rattle.mta_session.specs.declared.event.Event.TheVariants as event
@@ -26,12 +24,12 @@ use Rattle.mta_session.specs.declared.phase.Phase.{Phase}
 use Rattle.mta_session.specs.declared.phase.Phase.TheVariants as phase
 use Rattle.mta_session.specs.State.{State}
 use Rattle.mta_session.specs.Receiving.{is_free}
-use Rattle.mta_session.specs.Wanted.{Wanted, Aborts, on_close_ack, on_abort, within, wanted}
+use Rattle.mta_session.specs.Wanted.{Wanted, Aborts, on_close_ack}
 use Rattle.mta_session.specs.Follows.{Does, counted}
-use Rattle.mta_session.specs.Fits.{Fits, FitsAt, Answers, RepliesTo, AnswersStep}
+use Rattle.mta_session.specs.Fits.{FitsAt, Answers, RepliesTo, AnswersStep}
 use Rattle.mta_session_laws.specs.Runs.{Turn, IsTurn}
 use Rattle.mta_session_laws.specs.Turning.{is_open, is_last_phase, called_for}
-use Rattle.mta_session_laws.specs.TurningRecv.{filled, held_stage, whole, RecvGoes, secured_by, completed_by, dropped_by, told_by, taken_as, unless_refused, with_action}
+use Rattle.mta_session_laws.specs.TurningRecv.{filled, whole, RecvGoes, secured_by, completed_by, dropped_by, told_by, taken_as, unless_refused, with_action}
 use Rattle.mta_session_laws.proofs.Opening.{wanted_in}
 use Rattle.mta_session_laws.proofs.Whole.{is_ended, in_phase_wanted}
 use Rattle.mta_session_laws.proofs.Ending.{TurnsTo, open_way}
@@ -46,8 +44,8 @@ use Rattle.mta_session_lists.proofs.Found.{never}
 use Rattle.mta_session_lists.proofs.Waiting.{does_at}
 use Rattle.mta_session_lists.proofs.Handing.{NoHand, open_hands}
 use Rattle.mta_session_lists.proofs.Received.{nothing_taken, own_taken, their_taken, quiet_reply, own_step}
-use Rattle.mta_session_lists.proofs.Receiving.{Allowed, run_allowed, split_run, pending, common_action, does_common, HandsOn, Next, does_next}
-use Rattle.mta_session_lists.proofs.ReceivingPhases.{OpenAt, RecvAt, open_at, last_at, After, first}
+use Rattle.mta_session_lists.proofs.Receiving.{Allowed, split_run, pending, common_action, does_common, HandsOn, does_next}
+use Rattle.mta_session_lists.proofs.ReceivingPhases.{open_at, last_at, After, first}
 use Rattle.mta_session_lists.proofs.Turns.{HoldsBy}
 use Rattle.mta_session_lists.proofs.TurnsUnits.{unit_goes}
 

@@ -1,6 +1,6 @@
 -- What a session wants at its end concerns no transfer, and before it is open no unit of one is taken.
-use Rattle.std.proofs.Common.{◌≡◌, ℕ, ◌==◌, ◌-◌, if◌then◌else◌, Bool, true, false, Option, Some, None, Result, Ok, Err, List, []}
-use Rattle.std.proofs.Common.{◌∷◌, refl, sym, ap, subst, ◌∙◌}
+use Rattle.std.proofs.Common.{◌≡◌, ℕ, ◌==◌, if◌then◌else◌, Bool, true, false, Result, Ok, Err, List, []}
+use Rattle.std.proofs.Common.{refl, sym, ap, subst, ◌∙◌}
 use Rattle.mta_units.specs.declared.unit.Unit.{Unit as AnyUnit}
 use Rattle.mta_units.specs.declared.unit.Unit.TheVariants as unit
 use Rattle.mta_ends.specs.Receiving as r
@@ -11,7 +11,6 @@ use Rattle.mta_session.specs.declared.ask.Ask.TheVariants as ask
 use Rattle.mta_session.specs.declared.ask.Reply.{Reply}
 use Rattle.mta_session.specs.declared.ask.Reply.TheVariants as reply
 use Rattle.mta_session.specs.declared.event.Action.{Action}
-use Rattle.mta_session.specs.declared.event.Action.TheVariants as action
 use Rattle.mta_session.specs.declared.event.Event.{Event}
 use Rattle.mta_session.specs.declared.event.Event.TheVariants as event
 use Rattle.mta_session.specs.declared.event.Side.{Side}
@@ -20,7 +19,7 @@ use Rattle.mta_session.specs.declared.phase.Phase.{Phase}
 use Rattle.mta_session.specs.declared.phase.Phase.TheVariants as phase
 use Rattle.mta_session.specs.State.{State}
 use Rattle.mta_session.specs.Wanted.{Wanted, Aborts, Rejects, Ends, Puts, Asks, Reads, Goes_on, Excepts, Never}
-use Rattle.mta_session.specs.Wanted.{on_denied, closed, on_closed, on_answer_by, within, wanted_of_go, wanted_of_unit}
+use Rattle.mta_session.specs.Wanted.{on_denied, closed, on_closed, on_answer_by, wanted_of_go, wanted_of_unit}
 use Rattle.mta_session.specs.Wanted.{wanted_of_reply, wanted_of_over}
 use Rattle.mta_session.specs.Follows.{Of_neither, part_of_abort, Does, counted}
 use Rattle.mta_session_laws.specs.Turning.{is_last_phase, called_for}
@@ -37,7 +36,7 @@ use Rattle.mta_session_lists.proofs.Found.{never}
 use Rattle.mta_session_lists.proofs.Waiting.{does_at}
 use Rattle.mta_session_lists.proofs.Received.{nothing_taken, quiet_reply, put_same}
 use Rattle.mta_session_lists.proofs.Receiving.{pending}
-use Rattle.mta_session_lists.proofs.ReceivingPhases.{RecvAt, last_at, After}
+use Rattle.mta_session_lists.proofs.ReceivingPhases.{last_at, After}
 
 -- ---- at the end
 

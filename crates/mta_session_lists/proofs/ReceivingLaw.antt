@@ -1,6 +1,6 @@
 -- The receiving half of a session's list, with Abandons of other passes, from the step that begins the list.
-use Rattle.std.proofs.Common.{◌≡◌, ◌<◌, ◌≤◌, ℕ, zero, suc, ◌==◌, ◌-◌, ◌+◌, ◌*◌, if◌then◌else◌, Bool, true, false, Option}
-use Rattle.std.proofs.Common.{Some, None, Ok, Err, List, [], ◌∷◌, ◌++◌, length, take, refl, sym, ap, subst, ◌∙◌, arith}
+use Rattle.std.proofs.Common.{◌≡◌, ℕ, suc, ◌==◌, ◌+◌, ◌*◌, if◌then◌else◌, Bool, true, false, Option}
+use Rattle.std.proofs.Common.{Some, None, Ok, List, [], ◌∷◌, ◌++◌, take, refl, sym, ap, subst, ◌∙◌, arith}
 use Rattle.std.proofs.lemmas.Option.{slice_get_within}
 use Rattle.mta_lane_recv.specs.declared.state.Last.TheVariants as last
 use Rattle.mta_lane_send.specs.Half.{last_of}
@@ -12,7 +12,6 @@ use Rattle.mta_ends.specs.Lanes.{lane_in}
 use Rattle.mta_ends.specs.Receiving as r
 use Rattle.mta_ends.specs.Receiving.{RecvEnd, RecvEvent}
 use Rattle.mta_ends.specs.Sending.{SendEnd}
-use Rattle.mta_session.specs.declared.ask.Reply.{Reply}
 use Rattle.mta_session.specs.declared.ask.Reply.TheVariants as reply
 use Rattle.mta_session.specs.declared.event.Action.{Action}
 use Rattle.mta_session.specs.declared.event.Action.TheVariants as action
@@ -22,32 +21,30 @@ use Rattle.mta_session.specs.declared.event.InitiatorPlan.{InitiatorPlan}
 use Rattle.mta_session.specs.declared.peer.Peer.{Peer}
 use Rattle.mta_session.specs.declared.phase.Phase.{Phase}
 use Rattle.mta_session.specs.declared.phase.Phase.TheVariants as phase
-use Rattle.mta_session.specs.State.{State, is_initiator}
+use Rattle.mta_session.specs.State.{State}
 use Rattle.mta_session.specs.Session.{new_initiator, new_responder}
 use Rattle.mta_session.specs.Wanted.{with_lane, answer_for}
 use Rattle.mta_session.specs.Follows.{counted}
-use Rattle.mta_session_laws.specs.Runs.{Turn, IsTurn}
 use Rattle.mta_session_laws.specs.Whole.{AreCalls}
 use Rattle.mta_session_laws.proofs.Opening.{wanted_in}
 use Rattle.mta_session_laws.proofs.Whole.{is_ended}
-use Rattle.mta_runs.specs.Receivings.{end_on_link, IsPlain, ArePlain}
+use Rattle.mta_runs.specs.Receivings.{end_on_link, ArePlain}
 use Rattle.mta_runs.specs.Sessions as x
 use Rattle.mta_runs.specs.Sessions.{SessionEvent, Made, Looked, Got, Refused, Put, took_of, answers_of, receiving_step_of}
 use Rattle.mta_runs.specs.Sessions.{transfer_unit, answer_unit, receiving_event, receiving_events, recv_all, seen_after}
 use Rattle.mta_runs.specs.Sessions.{send_all, sending_event}
 use Rattle.mta_session_lists.specs.Calls.{Call, StepOn, turns_of, list_of}
 use Rattle.mta_session_lists.specs.Abandons.{has_before, abandoned_upto, abandon_at, given_up, with_abandons}
-use Rattle.mta_session_lists.specs.Lists.{HasAt, step_for, step_by, IsListOf, Initiates, Responds, end_begun, completed}
+use Rattle.mta_session_lists.specs.Lists.{HasAt, step_for, step_by, Initiates, Responds, end_begun, completed}
 use Rattle.mta_session_lists.specs.Laws.{OwesAt, OwesNothingAt, KeepsReceiving, ListsReceive}
-use Rattle.mta_session_lists.proofs.Found.{never}
 use Rattle.mta_session_lists.proofs.Insertion.{none_received}
 use Rattle.mta_session_lists.proofs.Lanes.{lane_at, step_allowed, step_leads, between_keeps}
 use Rattle.mta_session_lists.proofs.Waiting.{Ready, does_at}
-use Rattle.mta_session_lists.proofs.Ordering.{IsSome, is_some, Later, later_calls}
+use Rattle.mta_session_lists.proofs.Ordering.{is_some, later_calls}
 use Rattle.mta_session_lists.proofs.Answering.{reached_without}
-use Rattle.mta_session_lists.proofs.Receiving.{Allowed, allowed_run, pending}
-use Rattle.mta_session_lists.proofs.ReceivingPhases.{RecvAt, After, first, RecvWaits, waits_after, accept_waits}
-use Rattle.mta_session_lists.proofs.ReceivingLists.{is_unlisted, RestsRecv, RecvKeeps, Asked, asked_next}
+use Rattle.mta_session_lists.proofs.Receiving.{Allowed, allowed_run}
+use Rattle.mta_session_lists.proofs.ReceivingPhases.{first, RecvWaits, waits_after, accept_waits}
+use Rattle.mta_session_lists.proofs.ReceivingLists.{is_unlisted, RestsRecv, RecvKeeps, asked_next}
 use Rattle.mta_session_lists.proofs.ReceivedAll.{calls_receive}
 
 -- ---- a lane that was never opened has done nothing
@@ -168,9 +165,12 @@ keeps_with : (history : List Seen) (lane : ℕ) (ys : List SessionEvent) (from :
 keeps_with history lane [] from e b k = tt
 keeps_with history lane (y ∷ ys) from e b k =
     let found : Option ℕ = abandoned_upto history lane from e (has_before lane y) in
-    keeps_before lane b history e found _
-    (k.0, k.1, keeps_with history lane ys (seen_after lane from y) (send_all (given_up e found) (sending_event lane y))
-    (recv_all b (receiving_event lane y)) k.2)
+    keeps_before lane b history e found _ (
+      k.0,
+      k.1,
+      keeps_with history lane ys (seen_after lane from y) (send_all (given_up e found) (sending_event lane y))
+          (recv_all b (receiving_event lane y)) k.2,
+    )
 
 -- ---- where a list begins
 
@@ -203,9 +203,11 @@ module _ (spells : List ℕ → Bool) (history : List Seen) (at : ℕ) (allow : 
       → RecvWaits (half new.lane) now (wanted_in p (counted t e) e) × (is_ended p ≡ false)
   responds (phase.AsksNewLane again) t (event.Reply (reply.LaneOpen (Ok lane))) new y q is k =
       let v : State = with_lane t t.opened t.line lane in
-      let there = opened_first new.lane true (1024 * new.checkpoint) new.window (subst (λ z. HasAt history at z) (sym (some_is _ y q)) is) in
-      (accept_waits (half new.lane) now v (answer_for v.side v.opened v.line)
-      (same_recv t t.opened t.line lane ∙ k refl ∙ there), refl)
+      let there = opened_first new.lane true (1024 * new.checkpoint) new.window (subst (λ z. HasAt history at z) (sym (some_is _ y q)) is) in (
+        accept_waits (half new.lane) now v (answer_for v.side v.opened v.line)
+            (same_recv t t.opened t.line lane ∙ k refl ∙ there),
+        refl,
+      )
   responds phase.AsksBind t (event.Reply (reply.Bind (Ok generation))) new y q is k = ((λ a. (refl, refl)), refl)
   responds p t e new y q is k = elim (is_some (step_by p e new) y q) [ ]
 

@@ -1,53 +1,41 @@
 -- The receiving half of a session's list keeps the rules, call by call, and owes nothing where a unit is got.
-use Rattle.std.proofs.Common.{◌≡◌, ◌⊎◌, inl, inr, ℕ, ◌==◌, ◌-◌, ◌+◌, if◌then◌else◌, Bool, true, false, Option, Some, None}
-use Rattle.std.proofs.Common.{Result, Ok, Err, List, [], ◌∷◌, ◌++◌, take, refl, sym, ap, subst, ◌∙◌}
+use Rattle.std.proofs.Common.{◌≡◌, ℕ, Bool, true, false, Some, None}
+use Rattle.std.proofs.Common.{Ok, Err, List, [], ◌∷◌, refl, sym, ap, ◌∙◌}
 use Rattle.mta_lane_send.specs.declared.state.SendState.{SendState}
 use Rattle.mta_lane_recv.specs.declared.state.Last.{Last}
 use Rattle.mta_units.specs.declared.unit.Unit.{Unit as AnyUnit}
-use Rattle.mta_units.specs.declared.unit.Unit.TheVariants as unit
-use Rattle.mta_ends.specs.Lanes.{Halves, Seen, lane_in}
+use Rattle.mta_ends.specs.Lanes.{Halves}
 use Rattle.mta_ends.specs.Receiving as r
 use Rattle.mta_ends.specs.Receiving.{RecvEnd, RecvEvent}
-use Rattle.mta_session.specs.declared.ask.Ask.{Ask}
-use Rattle.mta_session.specs.declared.ask.Ask.TheVariants as ask
 use Rattle.mta_session.specs.declared.ask.Reply.{Reply}
 use Rattle.mta_session.specs.declared.ask.Reply.TheVariants as reply
 use Rattle.mta_session.specs.declared.event.Action.{Action}
 use Rattle.mta_session.specs.declared.event.Action.TheVariants as action
 use Rattle.mta_session.specs.declared.event.Event.{Event}
 use Rattle.mta_session.specs.declared.event.Event.TheVariants as event
-use Rattle.mta_session.specs.declared.event.SessionEnd.{SessionEnd}
-use Rattle.mta_session.specs.declared.event.Side.{Side}
-use Rattle.mta_session.specs.declared.event.Side.TheVariants as side
 use Rattle.mta_session.specs.declared.phase.Phase.{Phase}
 use Rattle.mta_session.specs.declared.phase.Phase.TheVariants as phase
 use Rattle.mta_session.specs.State.{State}
 use Rattle.mta_session.specs.Rank.{is_over}
-use Rattle.mta_session.specs.Wanted.{Wanted, Aborts, with_received, restored}
-use Rattle.mta_session.specs.Follows.{Follows, Does, counted}
-use Rattle.mta_session.specs.Fits.{FitsAt, AnswersAt, AnswersAsk, RepliesTo, answers_put}
+use Rattle.mta_session.specs.Wanted.{with_received, restored}
+use Rattle.mta_session.specs.Follows.{Follows, counted}
+use Rattle.mta_session.specs.Fits.{AnswersAt}
 use Rattle.mta_session_laws.specs.Runs.{Turn, IsTurn}
-use Rattle.mta_session_laws.specs.Whole.{AreCalls}
 use Rattle.mta_session_laws.specs.Turning.{is_open, is_last_phase, called_for}
-use Rattle.mta_session_laws.specs.TurningRecv.{whole, told_by}
+use Rattle.mta_session_laws.specs.TurningRecv.{told_by}
 use Rattle.mta_session_laws.proofs.Opening.{wanted_in}
 use Rattle.mta_session_laws.proofs.Whole.{is_ended}
-use Rattle.mta_session_order.specs.Order.{is_reading, is_putting, is_asking}
-use Rattle.mta_runs.specs.Receivings.{end_on_link}
-use Rattle.mta_runs.specs.Sessions as x
-use Rattle.mta_runs.specs.Sessions.{SessionEvent, Got, Refused, Put, Look, receiving_event, recv_all}
+use Rattle.mta_session_order.specs.Order.{is_reading}
+use Rattle.mta_runs.specs.Sessions.{SessionEvent, Got, Refused, receiving_event, recv_all}
 use Rattle.mta_matches.specs.Asks.{IsAskOf}
-use Rattle.mta_matches.specs.Calls.{has_lane}
 use Rattle.mta_matches.proofs.Asking.{asks_are_of_phase}
-use Rattle.mta_matches.proofs.Lanes.{lanes_stay}
-use Rattle.mta_session_lists.specs.Calls.{Call, StepOn, turns_of, step_told, look_told, told_as, got_as, come_of, list_of}
-use Rattle.mta_session_lists.specs.Standing.{IsTrue, Looks, StandsAs, ComesTrue, AllComeTrue}
+use Rattle.mta_session_lists.specs.Calls.{step_told, look_told, told_as, got_as}
 use Rattle.mta_session_lists.proofs.Found.{never}
-use Rattle.mta_session_lists.proofs.Waiting.{goes_with, Ready, ready_next, going, is_finish, none_put, none_asked, none_first, does_at, over_says, put_answers, ask_answers}
-use Rattle.mta_session_lists.proofs.Receiving.{Allowed, run_allowed, pending, HandsOn}
-use Rattle.mta_session_lists.proofs.ReceivingPhases.{OpenAt, NewRecv, RecvAt, at_open, After, first, RecvWaits, waits_after, begin_waits, received_waits, link_waits, unit_waits, bad_waits, agreed_waits, accepted_waits}
-use Rattle.mta_session_lists.proofs.ReceivingCalls.{heard_is, told_is, go_told, bad_told, over_told, reads_owing, open_after}
-use Rattle.mta_session_lists.proofs.ReceivingEnds.{Silent, last_silent, silent_after, end_quiet, is_opening, opening_quiet, answer_quiet}
+use Rattle.mta_session_lists.proofs.Waiting.{goes_with, none_put, none_asked, put_answers, ask_answers}
+use Rattle.mta_session_lists.proofs.Receiving.{Allowed, HandsOn}
+use Rattle.mta_session_lists.proofs.ReceivingPhases.{NewRecv, RecvAt, first, RecvWaits, begin_waits, received_waits, link_waits, unit_waits, bad_waits, agreed_waits, accepted_waits}
+use Rattle.mta_session_lists.proofs.ReceivingCalls.{heard_is, told_is, go_told, bad_told, over_told}
+use Rattle.mta_session_lists.proofs.ReceivingEnds.{end_quiet, is_opening, opening_quiet, answer_quiet}
 
 -- ---- what is asked of a list
 

@@ -1,10 +1,9 @@
 -- The receiving end of a session's list in each phase, and what a session wants before it is open and at its end.
-use Rattle.std.proofs.Common.{◌≡◌, ◌⊎◌, inl, inr, ℕ, ◌==◌, ◌-◌, ◌&&◌, ◌||◌, not, if◌then◌else◌, Bool, true, false, Option}
-use Rattle.std.proofs.Common.{Some, None, Result, Ok, Err, List, [], ◌∷◌, ◌++◌, refl, sym, ap, subst, ◌∙◌}
+use Rattle.std.proofs.Common.{◌≡◌, inl, inr, ℕ, ◌==◌, ◌&&◌, ◌||◌, not, if◌then◌else◌, Bool, true, false, Option}
+use Rattle.std.proofs.Common.{Some, None, Result, Ok, Err, List, [], refl, sym, ap, subst, ◌∙◌}
 use Rattle.std.specs.Str.{bytes_eq}
 use Rattle.mta_lane_send.specs.declared.state.SendState.{SendState}
 use Rattle.mta_lane_send.specs.Half.{is_idle, is_ending, last_of}
-use Rattle.mta_lane_recv.specs.declared.state.Last.{Last}
 use Rattle.mta_rtse.specs.declared.types.Answer.{Answer}
 use Rattle.mta_rtse.specs.declared.types.Answer.TheVariants as answer
 use Rattle.mta_units.specs.declared.unit.Unit.{Unit as AnyUnit}
@@ -13,12 +12,7 @@ use Rattle.mta_ends.specs.Lanes.{Halves}
 use Rattle.mta_ends.specs.Receiving as r
 use Rattle.mta_ends.specs.Receiving.{RecvEnd, RecvEvent}
 use Rattle.mta_records.specs.declared.fault.StepFault.{StepFault}
-use Rattle.mta_session.specs.declared.ask.Reply.{Reply}
-use Rattle.mta_session.specs.declared.ask.Reply.TheVariants as reply
 use Rattle.mta_session.specs.declared.event.Action.{Action}
-use Rattle.mta_session.specs.declared.event.Action.TheVariants as action
-use Rattle.mta_session.specs.declared.event.Event.{Event}
-use Rattle.mta_session.specs.declared.event.Event.TheVariants as event
 use Rattle.mta_session.specs.declared.event.InitiatorPlan.{InitiatorPlan}
 use Rattle.mta_session.specs.declared.event.Side.{Side}
 use Rattle.mta_session.specs.declared.event.Side.TheVariants as side
@@ -27,15 +21,13 @@ use Rattle.mta_session.specs.declared.phase.Phase.TheVariants as phase
 use Rattle.mta_session.specs.State.{State, in_phase}
 use Rattle.mta_session.specs.Sending.{is_discard_put}
 use Rattle.mta_session.specs.Wanted.{Wanted, Aborts, Rejects, Ends, Puts, Asks, Reads, Goes_on, Excepts, Never}
-use Rattle.mta_session.specs.Wanted.{begins, answers_link, puts_accept, on_received, with_received, restored, on_abort}
+use Rattle.mta_session.specs.Wanted.{begins, answers_link, puts_accept, on_received, restored, on_abort}
 use Rattle.mta_session.specs.Wanted.{on_values, is_refused_value, is_same_reference, on_accept, on_reject, on_answer_by}
-use Rattle.mta_session.specs.Wanted.{after_accept, within, on_agreed, closed, on_closed, on_denied, wanted_of_go}
-use Rattle.mta_session.specs.Wanted.{wanted_of_unit, wanted_of_reply, wanted_of_over}
+use Rattle.mta_session.specs.Wanted.{after_accept, within, on_agreed}
 use Rattle.mta_session.specs.Follows.{Of_neither, part_of_abort, Does, GoesOn}
 use Rattle.mta_session.specs.Fits.{Fits}
 use Rattle.mta_session_laws.specs.Turning.{is_open, is_last_phase}
 use Rattle.mta_session_laws.specs.TurningRecv.{whole, Reaches, with_put, with_action}
-use Rattle.mta_session_laws.proofs.Opening.{wanted_in}
 use Rattle.mta_session_laws.proofs.OpeningRecv.{refusal_says_nothing}
 use Rattle.mta_session_laws.proofs.Ending.{IsPutLast, goes_way}
 use Rattle.mta_session_laws.proofs.EndingRecv.{goes_runs}
@@ -43,7 +35,7 @@ use Rattle.mta_runs.specs.Receivings.{end_on_link}
 use Rattle.mta_runs.specs.Sessions.{answer_unit, answers_of}
 use Rattle.mta_session_lists.proofs.Found.{never}
 use Rattle.mta_session_lists.proofs.Received.{put_same}
-use Rattle.mta_session_lists.proofs.Receiving.{pending, common_action, IsCommon, HandsOn, Next, goes_next, goes_common}
+use Rattle.mta_session_lists.proofs.Receiving.{pending, common_action, HandsOn, Next, goes_next, goes_common}
 
 -- ---- the end of the list
 

@@ -1,5 +1,5 @@
 -- Behind a unit that is not taken there is an Abort at most.
-use Rattle.std.proofs.Common.{◌≡◌, ◌⊎◌, inl, inr, ℕ, ◌-◌, ◌==◌, Bool, true, false, Option, Some, None, List, [], ◌∷◌, ◌++◌, refl, sym, ap, subst, ◌∙◌}
+use Rattle.std.proofs.Common.{◌≡◌, ℕ, true, false, Option, Some, None, List, [], ◌∷◌, ◌++◌, refl, sym, ap, subst, ◌∙◌}
 use Rattle.mta_units.specs.declared.unit.Unit.{Unit as AnyUnit}
 use Rattle.mta_units.specs.declared.unit.Unit.TheVariants as unit
 use Rattle.mta_session.specs.declared.event.Event.{Event}
@@ -8,7 +8,6 @@ use Rattle.mta_session.specs.declared.event.Action.{Action}
 use Rattle.mta_session.specs.declared.event.Action.TheVariants as action
 use Rattle.mta_session.specs.declared.event.SessionEnd.{SessionEnd}
 use Rattle.mta_session.specs.declared.event.SessionEnd.TheVariants as end
-use Rattle.mta_session.specs.declared.phase.Phase.{Phase}
 use Rattle.mta_session.specs.declared.phase.Phase.TheVariants as phase
 use Rattle.mta_session.specs.State.{State}
 use Rattle.mta_session.specs.Wanted.{Wanted, Aborts, Rejects, Ends, Puts, Asks, Reads, Goes_on, Excepts, Never}
@@ -19,7 +18,7 @@ use Rattle.mta_session_laws.specs.Turning.{called_for}
 use Rattle.mta_session_laws.specs.Runs.{Turn, IsTurn}
 use Rattle.mta_session_laws.specs.Whole.{AreCalls}
 use Rattle.mta_session_laws.proofs.Whole.{is_ended, follows_does}
-use Rattle.mta_runs.specs.Sessions.{SessionEvent, Got, Refused, Put, Look, EndsSo, RefusesLast}
+use Rattle.mta_runs.specs.Sessions.{SessionEvent, Put, Look, EndsSo, RefusesLast}
 use Rattle.mta_session_lists.specs.Calls.{Call, StepOn, turns_of, step_told, look_told, told_as, got_as, come_of, event_of, list_of}
 use Rattle.mta_session_lists.proofs.Found.{never}
 use Rattle.mta_session_lists.proofs.Waiting.{goes_with, Ready, ready_next, reading_going}

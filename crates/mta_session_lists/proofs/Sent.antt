@@ -1,5 +1,5 @@
 -- Units that say nothing of a transfer may be left out, and Abandons end activities.
-use Rattle.std.proofs.Common.{◌≡◌, ◌⊎◌, inl, inr, ◌<◌, ◌≤◌, ℕ, ◌||◌, Bool, true, false, Option, Some, None, List, [], ◌∷◌}
+use Rattle.std.proofs.Common.{◌≡◌, ◌⊎◌, inl, inr, ◌||◌, Bool, true, false, Option, Some, None, List, [], ◌∷◌}
 use Rattle.std.proofs.Common.{refl, sym, ap, subst, ◌∙◌}
 use Rattle.mta_ends.specs.Units.{LaneUnit}
 use Rattle.mta_ends.specs.Units as u
@@ -109,9 +109,10 @@ others_left_out e f ys run = leads ys e f e.heard (inl refl) run
 -- ---- Abandons
 
 pub none_goes_on : NoneGoesOn
-none_goes_on spells history lane k p upto allow is lt =
-    ((λ g n there. none_confirms spells history lane allow k p upto g n is lt there),
-    (λ g there. none_ends spells history lane allow k p upto g is lt there))
+none_goes_on spells history lane k p upto allow is lt = (
+  (λ g n there. none_confirms spells history lane allow k p upto g n is lt there),
+  (λ g there. none_ends spells history lane allow k p upto g is lt there),
+)
 
 pub none_drops : NoneDrops
 none_drops spells history lane k from upto allow a b kept not_so =

@@ -1,5 +1,5 @@
 -- The events of calls stand in the history, one behind the other.
-use Rattle.std.proofs.Common.{◌≡◌, ◌<◌, ◌≤◌, ℕ, ◌+◌, ◌-◌, Bool, Option, Some, None, List, [], ◌∷◌, ◌++◌, length, refl, arith}
+use Rattle.std.proofs.Common.{◌≤◌, ℕ, ◌+◌, ◌-◌, Bool, Option, Some, None, List, [], ◌∷◌, ◌++◌, arith}
 use Rattle.mta_units.specs.declared.unit.Unit.{Unit as AnyUnit}
 use Rattle.mta_ends.specs.Sending.{SendEvent}
 use Rattle.mta_ends.specs.Lanes.{Seen}
@@ -16,7 +16,7 @@ use Rattle.mta_session_laws.specs.Runs.{Turn}
 use Rattle.mta_runs.specs.Sessions as x
 use Rattle.mta_runs.specs.Sessions.{SessionEvent, Looked, Made, Got, Refused, Put, Look, sending_event, step_seen}
 use Rattle.mta_runs.specs.Sessions.{seen_after, StepsStand}
-use Rattle.mta_session_lists.specs.Calls.{Call, StepOn, step_told, look_told, told_as, got_as, come_of, event_of, list_of}
+use Rattle.mta_session_lists.specs.Calls.{Call, StepOn, step_told, look_told, told_as, got_as, come_of, list_of}
 use Rattle.mta_session_lists.specs.Abandons.{step_upto, has_before}
 use Rattle.mta_session_lists.specs.Standing.{StandsAs, ComesTrue, AllComeTrue}
 use Rattle.mta_session_lists.specs.Laws.{RisesBehind, Rises}

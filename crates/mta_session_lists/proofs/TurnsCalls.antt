@@ -1,7 +1,6 @@
 -- Call by call a session's list keeps the turn.
-use Rattle.std.proofs.Common.{◌≡◌, ℕ, ◌==◌, ◌-◌, Bool, true, false, Option, Some, None, List, [], ◌∷◌, ◌++◌, refl, sym}
-use Rattle.std.proofs.Common.{ap, subst, ◌∙◌}
-use Rattle.mta_units.specs.declared.unit.Unit.{Unit as AnyUnit}
+use Rattle.std.proofs.Common.{◌≡◌, ℕ, ◌==◌, ◌-◌, true, false, Option, Some, None, List, [], ◌∷◌, ◌++◌, refl, sym}
+use Rattle.std.proofs.Common.{subst}
 use Rattle.mta_session.specs.declared.event.Event.{Event}
 use Rattle.mta_session.specs.declared.event.Event.TheVariants as event
 use Rattle.mta_session.specs.declared.event.Action.{Action}
@@ -10,18 +9,16 @@ use Rattle.mta_session.specs.declared.event.SessionEnd.{SessionEnd}
 use Rattle.mta_session.specs.declared.phase.Phase.{Phase}
 use Rattle.mta_session.specs.declared.phase.Phase.TheVariants as phase
 use Rattle.mta_session.specs.State.{State}
-use Rattle.mta_session.specs.Rank.{is_over}
-use Rattle.mta_session.specs.Wanted.{Wanted, Aborts, within}
+use Rattle.mta_session.specs.Wanted.{Aborts, within}
 use Rattle.mta_session.specs.Follows.{counted}
-use Rattle.mta_session.specs.Fits.{AnswersAt, FitsAt}
+use Rattle.mta_session.specs.Fits.{AnswersAt}
 use Rattle.mta_session_laws.specs.Runs.{Turn, IsTurn}
 use Rattle.mta_session_laws.specs.Whole.{AreCalls}
 use Rattle.mta_session_laws.proofs.Opening.{wanted_in}
-use Rattle.mta_session_laws.proofs.Whole.{is_ended}
 use Rattle.mta_session_order.specs.Order.{takes_unit}
 use Rattle.mta_runs.specs.Sessions as x
 use Rattle.mta_runs.specs.Sessions.{SessionEvent, Put, Looked, Made, Look, KeepsTurn, TurnAllows, turn_after}
-use Rattle.mta_session_lists.specs.Calls.{Call, StepOn, turns_of, step_told, look_told, told_as, got_as, come_of, list_of}
+use Rattle.mta_session_lists.specs.Calls.{Call, StepOn, turns_of, step_told, look_told, told_as, come_of, list_of}
 use Rattle.mta_session_lists.proofs.Found.{never}
 use Rattle.mta_session_lists.proofs.Waiting.{goes_with, Ready, ready_next, going, is_finish, none_put, none_asked, none_first, does_at, over_says}
 use Rattle.mta_session_lists.proofs.Turns.{Holds, TurnGoes, if_goes}

@@ -1,6 +1,6 @@
 -- The turn at the other events, and what is done then.
-use Rattle.std.proofs.Common.{◌≡◌, ◌⊎◌, inl, inr, ℕ, ◌-◌, ◌==◌, ◌&&◌, ◌||◌, not, nat_lt, if◌then◌else◌, Bool, true, false}
-use Rattle.std.proofs.Common.{Option, Some, None, Result, Ok, Err, List, [], refl, sym, ap, subst, ◌∙◌}
+use Rattle.std.proofs.Common.{◌≡◌, inl, ℕ, ◌==◌, ◌&&◌, not, nat_lt, if◌then◌else◌, Bool, true, false}
+use Rattle.std.proofs.Common.{Option, Some, None, Result, Ok, Err, [], refl, sym, subst}
 use Rattle.mta_ber.specs.declared.memory.Memory.{Memory as NoMemory}
 use Rattle.mta_lane_send.specs.declared.state.SendState.{SendState}
 use Rattle.mta_lane_send.specs.Half.{is_idle}
@@ -20,9 +20,6 @@ use Rattle.mta_session.specs.declared.ask.Reply.{Reply}
 use Rattle.mta_session.specs.declared.ask.Reply.TheVariants as reply
 use Rattle.mta_session.specs.declared.event.Action.{Action}
 use Rattle.mta_session.specs.declared.event.Action.TheVariants as action
-use Rattle.mta_session.specs.declared.event.Event.{Event}
-use Rattle.mta_session.specs.declared.event.Event.TheVariants as event
-use Rattle.mta_session.specs.declared.event.InitiatorPlan.{InitiatorPlan}
 use Rattle.mta_session.specs.declared.event.Side.{Side}
 use Rattle.mta_session.specs.declared.event.Side.TheVariants as side
 use Rattle.mta_session.specs.declared.phase.Found.{Found}
@@ -32,7 +29,7 @@ use Rattle.mta_session.specs.declared.phase.Phase.{Phase}
 use Rattle.mta_session.specs.declared.phase.Phase.TheVariants as phase
 use Rattle.mta_session.specs.State.{State, is_initiator}
 use Rattle.mta_session.specs.Wanted.{Wanted, Aborts, Rejects, Ends, Puts, Asks, Reads, Goes_on, Excepts, Never}
-use Rattle.mta_session.specs.Wanted.{open_unit, abort_of, begins, answers_link, puts_accept, on_received, on_batch, on_due, on_start, on_still_idle, is_still, on_step, on_state, is_given_up, on_secured, on_completed, on_dropped, goes_on_with, closed, on_closed, on_agreed, after_accept, with_received, restored, wanted_of_reply, wanted_of_go, wanted_of_over}
+use Rattle.mta_session.specs.Wanted.{open_unit, abort_of, begins, answers_link, puts_accept, on_received, on_batch, on_due, on_start, on_still_idle, is_still, on_step, on_state, is_given_up, on_secured, on_completed, on_dropped, closed, after_accept, with_received, restored, wanted_of_reply, wanted_of_go, wanted_of_over}
 use Rattle.mta_session.specs.Follows.{part_of, part_of_abort, Of_receiver, Of_neither, PutsFor, AsksFor, GoesOn, ExceptsFor, Does}
 use Rattle.mta_session.specs.Fits.{FitsAt}
 use Rattle.mta_runs.specs.Sessions as x

@@ -1,6 +1,6 @@
 -- The turn at a unit that is got.
-use Rattle.std.proofs.Common.{◌≡◌, ◌⊎◌, inl, inr, ℕ, ◌-◌, ◌==◌, ◌&&◌, not, if◌then◌else◌, Bool, true, false, Option, Some}
-use Rattle.std.proofs.Common.{None, Result, Ok, Err, refl, sym, ap, subst, ◌∙◌, ◌||◌}
+use Rattle.std.proofs.Common.{◌≡◌, inl, inr, ℕ, ◌==◌, ◌&&◌, not, if◌then◌else◌, Bool, true, false, Option, Some}
+use Rattle.std.proofs.Common.{None, refl, sym, subst, ◌||◌}
 use Rattle.std.specs.Str.{bytes_eq}
 use Rattle.mta_lane_send.specs.Half.{is_idle, is_ending, last_of}
 use Rattle.mta_rtse.specs.declared.types.Answer.{Answer}
@@ -16,16 +16,16 @@ use Rattle.mta_session.specs.declared.phase.OwnStep.{OwnStep}
 use Rattle.mta_session.specs.declared.phase.Phase.{Phase}
 use Rattle.mta_session.specs.declared.phase.Phase.TheVariants as phase
 use Rattle.mta_session.specs.State.{State, is_initiator}
-use Rattle.mta_session.specs.Receiving.{taken, is_free}
+use Rattle.mta_session.specs.Receiving.{is_free}
 use Rattle.mta_session.specs.Sending.{called, heard, is_discard_put}
-use Rattle.mta_session.specs.Wanted.{Wanted, Aborts, Rejects, Ends, Puts, Asks, Reads, Goes_on, Excepts, Never}
+use Rattle.mta_session.specs.Wanted.{Aborts}
 use Rattle.mta_session.specs.Wanted.{on_abort, on_reject, on_accept, on_values, is_refused_value, is_same_reference}
 use Rattle.mta_session.specs.Wanted.{makes_or, goes_on_if, as_holder, as_listener, on_close, takes, on_unit, within}
 use Rattle.mta_session.specs.Wanted.{on_close_ack, wanted_of_unit, on_answer_by}
 use Rattle.mta_runs.specs.Sessions as x
 use Rattle.mta_runs.specs.Sessions.{Got, Put, Turn, turn_put, turn_got, TurnAllows}
 use Rattle.mta_session_lists.proofs.Found.{never}
-use Rattle.mta_session_lists.proofs.Turns.{HoldsBy, HasTurn, Closes, Holds, TurnGoes, UnitGoes, if_goes, if_unit, own_turn, abort_allowed, is_transfer, is_answer}
+use Rattle.mta_session_lists.proofs.Turns.{HoldsBy, HasTurn, Closes, Holds, UnitGoes, if_unit, own_turn, abort_allowed, is_answer}
 
 -- ---- an Abort of the other end: the session is about to end
 
@@ -143,11 +143,17 @@ closing_behind : (v : Turn) (t : State) → t.ours ≡ false → not (is_initiat
     → turn_got v unit.Close ≡ x.Their_closing → UnitGoes v unit.Close (on_close t)
 closing_behind v t o s k c =
     if_unit v unit.Close t.please _ _
-    (λ b. (k, subst (λ z. HoldsBy t.ours t.please z) (sym c)
-    (subst (λ i. HoldsBy i t.please x.Their_closing) (sym o) (inr (refl, b)))))
+    (λ b. (
+      k,
+      subst (λ z. HoldsBy t.ours t.please z) (sym c)
+          (subst (λ i. HoldsBy i t.please x.Their_closing) (sym o) (inr (refl, b))),
+    ))
     (λ b. if_unit v unit.Close (t.twa && not (is_idle t.send.state)) _ _
-    (λ d. (k, subst (λ z. TurnAllows z (Put (unit.Please 0)) × HoldsBy t.ours true (turn_put z (unit.Please 0))) (sym c)
-    (tt, subst (λ i. HoldsBy i true x.Theirs) (sym o) (inl refl))))
+    (λ d. (
+      k,
+      subst (λ z. TurnAllows z (Put (unit.Please 0)) × HoldsBy t.ours true (turn_put z (unit.Please 0))) (sym c)
+          (tt, subst (λ i. HoldsBy i true x.Theirs) (sym o) (inl refl)),
+    ))
     (λ d. (k, subst (λ z. Closes t.side z) (sym c) (closes_by t.side s))))
 
 theirs_goes : (t : State) (u : AnyUnit) → t.ours ≡ false → is_abort u ≡ false → UnitGoes x.Theirs u (as_listener t u)

@@ -1,23 +1,21 @@
 -- What a session waits for behind an action, and what comes of it.
-use Rattle.std.proofs.Common.{◌≡◌, ℕ, Bool, true, false, refl, sym, ap, subst, ◌∙◌}
-use Rattle.mta_units.specs.declared.unit.Unit.{Unit as AnyUnit}
+use Rattle.std.proofs.Common.{◌≡◌, Bool, true, false, refl, sym, ap, subst}
 use Rattle.mta_session.specs.declared.event.Event.{Event}
 use Rattle.mta_session.specs.declared.event.Event.TheVariants as event
 use Rattle.mta_session.specs.declared.event.Action.{Action}
 use Rattle.mta_session.specs.declared.event.Action.TheVariants as action
-use Rattle.mta_session.specs.declared.event.SessionEnd.{SessionEnd}
 use Rattle.mta_session.specs.declared.phase.Phase.{Phase}
 use Rattle.mta_session.specs.declared.phase.Phase.TheVariants as phase
 use Rattle.mta_session.specs.State.{State}
 use Rattle.mta_session.specs.Rank.{is_over}
 use Rattle.mta_session.specs.Follows.{Does, FollowsAt, counted}
-use Rattle.mta_session.specs.Fits.{AnswersAt, AnswersAsk, answers_put, answers_read, is_go}
+use Rattle.mta_session.specs.Fits.{AnswersAt, AnswersAsk, answers_put, is_go}
 use Rattle.mta_session_laws.specs.Runs.{Turn, IsTurn}
 use Rattle.mta_session_laws.proofs.Opening.{wanted_in}
 use Rattle.mta_session_laws.proofs.Whole.{is_ended, follows_does, in_phase_wanted}
-use Rattle.mta_session_order.specs.Order.{awaits, is_reading, is_putting, is_asking, takes_unit}
+use Rattle.mta_session_order.specs.Order.{awaits, is_putting, is_asking, takes_unit}
 use Rattle.mta_session_order.proofs.Wants.{Due}
-use Rattle.mta_session_order.proofs.Calls.{After, call_after}
+use Rattle.mta_session_order.proofs.Calls.{call_after}
 use Rattle.mta_session_lists.proofs.Found.{never}
 
 -- the first call comes of nothing

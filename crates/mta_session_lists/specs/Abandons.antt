@@ -1,14 +1,14 @@
 -- Abandons of other passes in a session's list. Any pass may give up what a session sends, and the session learns of it
 -- late or not at all. The history has it, and so its place in the list is found.
-use Rattle.std.specs.Prelude.{ℕ, zero, suc, ◌+◌, ◌-◌, ◌&&◌, ◌==◌, if◌then◌else◌, Bool, true, false, Option, Some, None}
+use Rattle.std.specs.Prelude.{ℕ, zero, suc, ◌+◌, ◌-◌, ◌&&◌, ◌==◌, if◌then◌else◌, Bool, false, Option, Some, None}
 use Rattle.std.specs.Prelude.{slice_get, List, [], ◌∷◌, ◌++◌}
 use Rattle.mta_lane_send.specs.Half.{is_sending, last_of}
 use Rattle.mta_ends.specs.Sending as s
 use Rattle.mta_ends.specs.Sending.{SendEnd, SendEvent}
 use Rattle.mta_ends.specs.Lanes as h
 use Rattle.mta_ends.specs.Lanes.{SeenStep, Seen, On}
-use Rattle.mta_runs.specs.Sessions.{SessionEvent, Got, Refused, Put, Made, Looked, Look, Finds, At_sending, No_batch}
-use Rattle.mta_runs.specs.Sessions.{Elsewhere, sending_event, send_all, seen_after}
+use Rattle.mta_runs.specs.Sessions.{SessionEvent, Made, Looked, At_sending}
+use Rattle.mta_runs.specs.Sessions.{sending_event, send_all, seen_after}
 
 -- ---- in the history
 

@@ -1,21 +1,17 @@
 -- The list of a session that has a lane.
-use Rattle.std.specs.Prelude.{◌≡◌, ◌<◌, ◌≤◌, ℕ, ◌+◌, ◌-◌, ◌*◌, not, Bool, true, false, Option, Some, None, Ok, if◌then◌else◌}
-use Rattle.std.specs.Prelude.{slice_get, List, [], ◌∷◌, ◌++◌, length, take}
+use Rattle.std.specs.Prelude.{◌≡◌, ℕ, ◌+◌, ◌*◌, not, Bool, true, false, Option, Some, None, Ok, if◌then◌else◌}
+use Rattle.std.specs.Prelude.{slice_get, List, [], ◌∷◌, ◌++◌, take}
 use Rattle.mta_ends.specs.Sending.{SendEnd}
 use Rattle.mta_ends.specs.Lanes as h
 use Rattle.mta_ends.specs.Lanes.{Seen, On, lane_in}
-use Rattle.mta_session.specs.declared.ask.Ask.{Ask}
-use Rattle.mta_session.specs.declared.ask.Ask.TheVariants as ask
-use Rattle.mta_session.specs.declared.ask.Reply.{Reply}
 use Rattle.mta_session.specs.declared.ask.Reply.TheVariants as reply
 use Rattle.mta_session.specs.declared.event.Event.{Event}
 use Rattle.mta_session.specs.declared.event.Event.TheVariants as event
-use Rattle.mta_session.specs.declared.event.Action.{Action}
 use Rattle.mta_session.specs.declared.event.Action.TheVariants as action
 use Rattle.mta_session.specs.declared.event.InitiatorPlan.{InitiatorPlan}
 use Rattle.mta_session.specs.declared.phase.Phase.{Phase}
 use Rattle.mta_session.specs.declared.phase.Phase.TheVariants as phase
-use Rattle.mta_session.specs.State.{State, is_initiator}
+use Rattle.mta_session.specs.State.{State}
 use Rattle.mta_session.specs.Session.{new_initiator, new_responder}
 use Rattle.mta_runs.specs.Sendings.{end_on_link}
 use Rattle.mta_runs.specs.Sessions.{SessionList}

@@ -1,6 +1,6 @@
 -- What the history has of a session's calls: each step that was made, and what each look told. Nothing is asked of what
 -- other workers did.
-use Rattle.std.specs.Prelude.{◌≡◌, ◌<◌, ◌≤◌, ℕ, ◌-◌, ◌*◌, Bool, true, false, Option, Some, None, Ok, Err}
+use Rattle.std.specs.Prelude.{◌≡◌, ◌<◌, ◌≤◌, ℕ, ◌-◌, ◌*◌, Bool, false, Option, Some, None, Ok, Err}
 use Rattle.std.specs.Prelude.{slice_get, List, [], ◌∷◌, length, take}
 use Rattle.mta_records.specs.declared.fault.CompleteFault.TheVariants.{Bad}
 use Rattle.mta_ends.specs.Lanes.{Seen, On, Halves, IsHeld, lane_in}
