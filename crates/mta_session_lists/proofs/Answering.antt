@@ -107,9 +107,12 @@ unlisted_going p i = refl
 
 same_end : (c : State) (w : Wanted) (a : Action) (new : State) (e : RecvEnd) → Leaves e false w → Does c w a new
     → is_unlisted new.phase ≡ true → new.recv ≡ e
-same_end c (Aborts reason) a new e k d i = absurd (unlisted_not_last new.phase i (ap {A = State} (λ z. is_last_phase z.phase) d.1))
-same_end c (Rejects reason) a new e k d i = absurd (unlisted_not_last new.phase i (ap {A = State} (λ z. is_last_phase z.phase) d.1))
-same_end c (Ends y) a new e k d i = absurd (unlisted_not_last new.phase i (ap {A = State} (λ z. is_last_phase z.phase) d.1))
+same_end c (Aborts reason) a new e k d i = absurd
+    (unlisted_not_last new.phase i (ap {A = State} (λ z. is_last_phase z.phase) d.1))
+same_end c (Rejects reason) a new e k d i = absurd
+    (unlisted_not_last new.phase i (ap {A = State} (λ z. is_last_phase z.phase) d.1))
+same_end c (Ends y) a new e k d i = absurd
+    (unlisted_not_last new.phase i (ap {A = State} (λ z. is_last_phase z.phase) d.1))
 same_end c (Puts y v) a new e k d i =
     ap {A = State} (λ z. z.recv) d.1 ∙ leaf_same v.phase _ e v.recv (subst (λ z. is_unlisted z.phase ≡ true) d.1 i) k.0
 same_end c (Asks q v) a new e k d i =
@@ -165,7 +168,8 @@ linking_going : (p : Phase) → is_linking p ≡ true → is_ended p ≡ false
 linking_going (phase.Ended y) i = absurd (never i)
 linking_going p i = refl
 
-linking_read : (p : Phase) (t : State) (u : AnyUnit) → is_linking p ≡ true → AnswersAt p t (event.Unit u) → p ≡ phase.ReadsAnswer
+linking_read : (p : Phase) (t : State) (u : AnyUnit) → is_linking p ≡ true → AnswersAt p t (event.Unit u) → p
+    ≡ phase.ReadsAnswer
 linking_read phase.ReadsAnswer t u i n = refl
 linking_read phase.PutsOpen t u i n = absurd (never n)
 linking_read phase.PutsAccept t u i n = absurd (never n)
@@ -256,16 +260,24 @@ first_told e p f q = subst (λ z. told_end e z f ≡ f) (sym q) (told_begin e f)
     told_begin e f = refl
 
 was_without : (t : Turn) → IsTurn t → is_unlisted t.after.phase ≡ true → Group t.before.phase → WasWithout t
-was_without t is i (at_first q) =
-    (ap {A = Phase} first_or_unlisted q, staged_same t is (first_stage t.before.phase q) (ap {A = Phase} is_ended q) (λ f. first_told t.event t.before.phase f q) i)
-was_without t is i (without k) =
-    (first_unlisted t.before.phase k, staged_same t is (stage_of t.before.phase k) (unlisted_going t.before.phase k) (λ f. told_same t.event t.before.phase f k) i)
+was_without t is i (at_first q) = (
+  ap {A = Phase} first_or_unlisted q,
+  staged_same t is (first_stage t.before.phase q) (ap {A = Phase} is_ended q)
+      (λ f. first_told t.event t.before.phase f q) i,
+)
+was_without t is i (without k) = (
+  first_unlisted t.before.phase k,
+  staged_same t is (stage_of t.before.phase k) (unlisted_going t.before.phase k)
+      (λ f. told_same t.event t.before.phase f k) i,
+)
 was_without t is i (linking k) =
     let leads = linking_leads t.before.phase t.before t.event k is.fits is.answers in
-    let done = does_done (counted t.before t.event) (wanted_in t.before.phase (counted t.before t.event) t.event) t.action t.after leads.0 leads.1 (does_at t t.event refl is (linking_going t.before.phase k)) in
+    let done = does_done (counted t.before t.event) (wanted_in t.before.phase (counted t.before t.event) t.event)
+    t.action t.after leads.0 leads.1 (does_at t t.event refl is (linking_going t.before.phase k)) in
     absurd (unlisted_no_turn t.after.phase t.after _ i done.holds)
 was_without t is i (opened k) =
-    elim (open_way t.before.phase t.before t.event t.action t.after k (does_at t t.event refl is (open_going t.before.phase k))) [
+    elim (open_way t.before.phase t.before t.event t.action t.after k
+    (does_at t t.event refl is (open_going t.before.phase k))) [
       | inl j ↦ absurd (unlisted_not_open t.after.phase i j)
       | inr j ↦ absurd (unlisted_not_last t.after.phase i (turned_last t.after.phase t.before t.event j.to))
     ]

@@ -95,7 +95,8 @@ module _ (history : List Seen) (lane : ℕ) where
 
   by_sending : (from upto : ℕ) (e : SendEnd) (b : Bool) → from ≤ upto → is_sending e.state (last_of e.state) ≡ b
       → Placed from upto e (if b then given_up_in history lane (last_of e.state) from (upto - from) else None)
-  by_sending from upto e true le i = by_found from upto e _ le i (found history lane (last_of e.state) (upto - from) from)
+  by_sending from upto e true le i = by_found from upto e _ le i
+      (found history lane (last_of e.state) (upto - from) from)
   by_sending from upto e false le i = kept (λ j. absurd (never (sym i ∙ j)))
 
   pub placed_upto : (from upto : ℕ) (e : SendEnd) → from ≤ upto

@@ -65,7 +65,8 @@ if_none false w z p q = q
 abort_none : (t : State) (reason : ℕ) → NoHand (on_abort t reason)
 abort_none t reason =
     if_none ((reason == 2) && not (is_idle t.send.state)) _ _ refl
-    (if_none ((reason == 7) && is_ending t.send.state (last_of t.send.state) && is_discard_put t.send.stage (last_of t.send.state))
+    (if_none ((reason == 7) && is_ending t.send.state (last_of t.send.state) && is_discard_put t.send.stage
+    (last_of t.send.state))
     _ _ refl tt)
 
 passes_none : (t : State) (f : Option SendEnd) → NoHand (goes_on_if t f)

@@ -1,5 +1,5 @@
--- Abandons that are put into a list: each stands where the rules of session lists ask for it, and they leave the rules of
--- the receiving half and of the turn as they were.
+-- Abandons that are put into a list: each stands where the rules of session lists ask for it, and they leave the rules
+-- of the receiving half and of the turn as they were.
 use Rattle.std.proofs.Common.{◌≡◌, ◌≤◌, ℕ, ◌+◌, ◌==◌, if◌then◌else◌, Bool, true, false, Option, Some, None}
 use Rattle.std.proofs.Common.{List, [], ◌∷◌, ◌++◌, refl, sym, ap, subst, ◌∙◌, arith}
 use Rattle.std.proofs.lemmas.Bool.{eq-eqb}
@@ -99,7 +99,8 @@ module _ (history : List Seen) (lane : ℕ) where
   leads y from e ws (half upto n sees same) le =
       subst (λ z. Leads y from e (abandoned_upto history lane from e z) ws) (sym n)
       (found_leads y from upto e (abandoned_upto history lane from e (Some upto)) ws sees same
-      (subst (λ z. RisesBehind from z) n le) (placed_upto history lane from upto e (subst (λ z. RisesBehind from z) n le)))
+      (subst (λ z. RisesBehind from z) n le)
+      (placed_upto history lane from upto e (subst (λ z. RisesBehind from z) n le)))
 
   pub places : (ys : List SessionEvent) (from : ℕ) (e : SendEnd) → Rises lane from ys
       → PlacesAbandons history lane from e (with_abandons history lane from e ys)
@@ -192,11 +193,13 @@ module _ (history : List Seen) (lane : ℕ) where
   refusals (Made p j step ∷ ys) from e k =
       let y : SessionEvent = Made p j step in
       let found : Option ℕ = abandoned_upto history lane from e (has_before lane y) in
-      refusals_before e found _ (refusals ys (seen_after lane from y) (send_all (given_up e found) (sending_event lane y)) k)
+      refusals_before e found _ (refusals ys (seen_after lane from y)
+      (send_all (given_up e found) (sending_event lane y)) k)
   refusals (Looked n look ∷ ys) from e k =
       let y : SessionEvent = Looked n look in
       let found : Option ℕ = abandoned_upto history lane from e (has_before lane y) in
-      refusals_before e found _ (refusals ys (seen_after lane from y) (send_all (given_up e found) (sending_event lane y)) k)
+      refusals_before e found _ (refusals ys (seen_after lane from y)
+      (send_all (given_up e found) (sending_event lane y)) k)
 
   -- nothing of the receiving half
   received_before : (e : SendEnd) (found : Option ℕ) (ys : List SessionEvent)

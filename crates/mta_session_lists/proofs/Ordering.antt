@@ -87,7 +87,8 @@ list_ordered spells history lane size window at initiator cs a t u step opening 
     record {
       begun = slice_get_within history at _ is;
       stands = stand history lane (list_of a cs) (at + 1) e rises (calls_stand spells history lane cs (at + 1) a true_);
-      turn = turns history lane (list_of a cs) (at + 1) e x.Before_accept (calls_turn cs a t u x.Before_accept k p h run);
+      turn = turns history lane (list_of a cs) (at + 1) e x.Before_accept
+          (calls_turn cs a t u x.Before_accept k p h run);
       refuses = refusals history lane (list_of a cs) (at + 1) e (calls_refuse cs a t u k run);
       placed = places history lane (list_of a cs) (at + 1) e rises;
     }
@@ -96,8 +97,11 @@ pub lists_ordered : ListsAreOrdered
 lists_ordered spells history first u calls lane size window l (Initiates p units at cs is true_) run =
     list_ordered spells history p.lane size window at true calls action.Read _ u (step_for p) [] is true_
     (record { due = refl; waits = refl }) tt (refl, refl) run
-lists_ordered spells history first u calls lane size window l (Responds own units at before cs c y by seen is true_) run =
-    let later = later_calls before cs c action.Read (new_responder own units) u (record { due = refl; waits = refl }) run in
+lists_ordered spells history first u calls lane size window l (Responds own units at before cs c y by seen is true_)
+    run =
+    let later = later_calls before cs c action.Read (new_responder own units) u (record { due = refl; waits = refl })
+    run in
     let begins = begins_done c.turn later.is (is_some (step_by c.turn.before.phase c.turn.event c.turn.after) y by) in
-    list_ordered spells history lane size window at false cs c.turn.action c.turn.after u y (list_of action.Read before) is
+    list_ordered spells history lane size window at false cs c.turn.action c.turn.after u y
+    (list_of action.Read before) is
     true_ later.ready begins.allowed begins.holds later.run

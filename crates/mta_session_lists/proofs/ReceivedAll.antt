@@ -42,7 +42,8 @@ use Rattle.mta_session_lists.proofs.ReceivedLists.{any_silent, come_receives}
 -- ---- the turn of the lock
 
 asked_first : (q : Ask) (p : Phase) (a : Action) → a ≡ action.Ask q → p ≡ phase.Begin → goes_with a p ≡ true → ⊥
-asked_first q p a e f i = never (subst (λ z. goes_with (action.Ask q) z ≡ true) f (subst (λ z. goes_with z p ≡ true) e i))
+asked_first q p a e f i = never
+    (subst (λ z. goes_with (action.Ask q) z ≡ true) f (subst (λ z. goes_with z p ≡ true) e i))
 
 early_asks : (p : Phase) (q : Ask) (from seen : ℕ) → goes_with (action.Ask q) p ≡ true → is_early p ≡ true
     → IsInTurn p from seen → seen ≡ from
@@ -74,9 +75,11 @@ module _ (spells : List ℕ → Bool) (history : List Seen) where
       → ((Half lane at).high ≡ z.0) × ((Half lane at).last ≡ z.1)
   told_so lane at from seen s t q z e f g k =
       let stands : Looks spells history from seen (ask.Receiving t.lane) (reply.Receiving (Some z)) =
-      subst (λ w. StandsAs spells history from seen w (reply.Receiving (Some z)) (step_told w (reply.Receiving (Some z)))) e k in
+      subst (λ w. StandsAs spells history from seen w (reply.Receiving (Some z))
+      (step_told w (reply.Receiving (Some z)))) e k in
       subst (λ n. ((lane_in lane (take n history)).high ≡ z.0) × ((lane_in lane (take n history)).last ≡ z.1)) g
-      (subst (λ n. ((lane_in n (take seen history)).high ≡ z.0) × ((lane_in n (take seen history)).last ≡ z.1)) f stands.told)
+      (subst (λ n. ((lane_in n (take seen history)).high ≡ z.0) × ((lane_in n (take seen history)).last ≡ z.1)) f
+      stands.told)
 
   tells_by : (lane at from seen : ℕ) (s : SendState) (z : ℕ × Last)
       (t : State) (a : Action) → (a_asked : t.phase ≡ phase.AsksReceiving s) → Asked a t
@@ -183,9 +186,11 @@ first_lane : (t : Turn) → IsTurn t → t.before.phase ≡ phase.Begin → t.af
 first_lane t is q =
     let answers : AnswersAt phase.Begin t.before t.event = subst (λ p. AnswersAt p t.before t.event) q is.answers in
     let does = does_at t t.event refl is (ap {A = Phase} is_ended q) in
-    does_kept t.before (counted t.before t.event) (wanted_in phase.Begin (counted t.before t.event) t.event) t.action t.after
+    does_kept t.before (counted t.before t.event) (wanted_in phase.Begin (counted t.before t.event) t.event) t.action
+    t.after
     (counted_lane t.before t.event) (first_kept t.before t.event answers)
-    (subst (λ p. Does (counted t.before t.event) (wanted_in p (counted t.before t.event) t.event) t.action t.after) q does)
+    (subst (λ p. Does (counted t.before t.event) (wanted_in p (counted t.before t.event) t.event) t.action t.after) q
+    does)
 
 opening_lane : (t : Turn) → IsTurn t → (t.before.phase ≡ phase.Begin) ⊎ (has_lane t.before.phase ≡ true)
     → t.after.lane ≡ t.before.lane
@@ -197,7 +202,8 @@ lane_next : (early : Type 0) (one b : RecvEnd) (a : Action) (lane : ℕ) (t : Tu
     → RecvAt early one t.before.phase t.before a b → (is_last_phase t.before.phase ≡ false → t.before.lane ≡ lane)
     → Part t.before.phase → is_last_phase t.after.phase ≡ false → t.after.lane ≡ lane
 lane_next early one b a lane t is k f (in_open i) n =
-    (lanes_stay t.before t.event t.action t.after (open_has t.before.phase i) is.follows).0 ∙ f (open_not_last t.before.phase i)
+    (lanes_stay t.before t.event t.action t.after (open_has t.before.phase i) is.follows).0 ∙ f
+    (open_not_last t.before.phase i)
 lane_next early one b a lane t is k f (at_opening i) n =
     opening_lane t is (opening_has t.before.phase i) ∙ f (opening_not_last t.before.phase i)
 lane_next early one b a lane t is k f (at_last i) n =
@@ -224,14 +230,17 @@ module _ (spells : List ℕ → Bool) (history : List Seen) (lane at : ℕ) wher
       subst (λ z. RecvAt (from ≡ at + 1) (first half (from ≡ at + 1)) z.phase z a c) (sym run.0) here in
       let next : is_early d.turn.before.phase ≡ true → from ≡ at + 1 → d.seen ≡ at + 1 =
       λ i e. in_turn spells history d.turn.before.phase a d.turn.event from d.seen is.0 ready.waits i ∙ e in
-      come_receives half (from ≡ at + 1) (d.seen ≡ at + 1) lane a d.turn d.seen d.turn.event b c (list_of d.turn.action ds)
+      come_receives half (from ≡ at + 1) (d.seen ≡ at + 1) lane a d.turn d.seen d.turn.event b c
+      (list_of d.turn.action ds)
       (record { is = run.1; waits = ready.waits; asked = asks; lane_is = keeps; at = stands }) put refl
-      (tells spells history d.turn.before.phase d.turn.event lane at from d.seen d.turn.before a refl asks ready.waits keeps
+      (tells spells history d.turn.before.phase d.turn.event lane at from d.seen d.turn.before a refl asks ready.waits
+      keeps
       (λ i. next i (early_here d.turn.before.phase d.turn.before a c from i stands)) is.0)
       next
       (λ e more. calls_receive ds d.turn.action d.turn.after u e more.ended d.seen (ready_next d.turn run.1 ready.due)
       (asked_next d.turn.action d.turn.before d.turn.event d.turn.after run.1.follows)
-      (lane_next (from ≡ at + 1) (first half (from ≡ at + 1)) c a lane d.turn run.1 stands keeps (part d.turn.before.phase))
+      (lane_next (from ≡ at + 1) (first half (from ≡ at + 1)) c a lane d.turn run.1 stands keeps
+      (part d.turn.before.phase))
       more.run more.at is.1 run.2)
     where
       early_here : (p : Phase) (t : State) (a : Action) (c : RecvEnd) (from : ℕ) → is_early p ≡ true

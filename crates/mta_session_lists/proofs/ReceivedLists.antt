@@ -128,7 +128,8 @@ module _ (l : Halves) (early later : Type 0) (lane : ℕ) where
   come_receives action.Read t seen (event.Unit y) b c rest k put q tells next more =
       let w : Wanted = called_for t.before.phase t.before y in
       let owes : r.OwesNothing b = subst (λ z. r.OwesNothing z) put (owes_in t c k (part t.before.phase)) in
-      let later_ = behind b c (receiving_event lane (got_as w y)) t rest put (event_goes action.Read t seen (event.Unit y) c k q tells next) more in
+      let later_ = behind b c (receiving_event lane (got_as w y)) t rest put
+      (event_goes action.Read t seen (event.Unit y) c k q tells next) more in
       (got_rests w y b owes, later_.0, later_.1)
   come_receives (action.Ask a) t seen (event.Reply y) b c rest k put q tells next more =
       let later_ = behind b c (receiving_event lane (told_as seen (step_told a y) (look_told a y))) t rest put

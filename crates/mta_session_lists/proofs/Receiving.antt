@@ -78,7 +78,8 @@ goes_common v (action.Ask q) new g = tt
 goes_common v action.Read new g = tt
 goes_common v (action.Finish y) new g = tt
 
-except_common : (v : State) (f : Found) (y : AnyUnit) (new : State) → ExceptsFor v f (action.Put y) new → is_common y ≡ true
+except_common : (v : State) (f : Found) (y : AnyUnit) (new : State) → ExceptsFor v f (action.Put y) new → is_common y
+    ≡ true
 except_common v f (unit.Exception kind at_) new g = refl
 except_common v f y new g = elim g [ ]
 
@@ -147,7 +148,8 @@ asks_next e events v (ask.Secure lane g k n octets) new a f k' i =
     (record {
       piece = octets;
       on = refl;
-      run = subst (λ s. r.IsReceivingEnd e events (record v.recv { stage = s })) (at v.recv (r.Synced k n octets) k'.0 a.0.0 refl) k'.1;
+      run = subst (λ s. r.IsReceivingEnd e events (record v.recv { stage = s }))
+          (at v.recv (r.Synced k n octets) k'.0 a.0.0 refl) k'.1;
     })
 asks_next e events v (ask.Complete lane g k n octets) new a f k' i =
     let fits = subst (λ t. FitsAt t.phase t) a.3 f in
@@ -155,17 +157,22 @@ asks_next e events v (ask.Complete lane g k n octets) new a f k' i =
     (record {
       piece = octets;
       on = refl;
-      run = subst (λ s. r.IsReceivingEnd e events (record v.recv { stage = s })) (at_open v.recv k n octets k'.0 a.0.0 fits.3) k'.1;
+      run = subst (λ s. r.IsReceivingEnd e events (record v.recv { stage = s }))
+          (at_open v.recv k n octets k'.0 a.0.0 fits.3) k'.1;
     })
 asks_next e events v (ask.DropActivity lane g k) new a f k' i =
-    reached_next e events _ new (ap {A = State} (λ t. hands t.phase) a.3) i (on_goes e events v (action.Ask (ask.DropActivity lane g k)) new a f k')
+    reached_next e events _ new (ap {A = State} (λ t. hands t.phase) a.3) i
+    (on_goes e events v (action.Ask (ask.DropActivity lane g k)) new a f k')
 asks_next e events v (ask.Ending lane g k) new a f k' i =
-    reached_next e events _ new (ap {A = State} (λ t. hands t.phase) a.6) i (on_goes e events v (action.Ask (ask.Ending lane g k)) new a f k')
+    reached_next e events _ new (ap {A = State} (λ t. hands t.phase) a.6) i
+    (on_goes e events v (action.Ask (ask.Ending lane g k)) new a f k')
 asks_next e events v (ask.BatchFor peer) new a f k' i =
-    reached_next e events _ new (ap {A = State} (λ t. hands t.phase) a.3) i (on_goes e events v (action.Ask (ask.BatchFor peer)) new a f k')
+    reached_next e events _ new (ap {A = State} (λ t. hands t.phase) a.3) i
+    (on_goes e events v (action.Ask (ask.BatchFor peer)) new a f k')
 asks_next e events v q new a f k' i = elim a [ ]
 
-pub goes_next : (e : RecvEnd) (events : List RecvEvent) (v : State) (a : Action) (new : State) → GoesOn v a new → Fits new
+pub goes_next : (e : RecvEnd) (events : List RecvEvent) (v : State) (a : Action) (new : State) → GoesOn v a new → Fits
+    new
     → Reaches e events phase.Puts v.recv → is_open new.phase ≡ true → Next e (with_action events a) a new
 goes_next e events v (action.Put y) new g f k i =
     reached_next e _ _ new (put_hands v (part_of y) y new g) i (on_goes e events v (action.Put y) new g f k)
@@ -174,11 +181,13 @@ goes_next e events v action.Read new g f k i =
     reached_next e _ _ new (ap {A = State} (λ t. hands t.phase) g.1) i (on_goes e events v action.Read new g f k)
 goes_next e events v (action.Finish y) new g f k i = elim g [ ]
 
-except_hands : (v : State) (f : Found) (q : Ask) (new : State) → ExceptsFor v f (action.Ask q) new → hands new.phase ≡ false
+except_hands : (v : State) (f : Found) (q : Ask) (new : State) → ExceptsFor v f (action.Ask q) new → hands new.phase
+    ≡ false
 except_hands v f (ask.DropActivity lane g k) new a = ap {A = State} (λ t. hands t.phase) a.3
 except_hands v f q new a = elim a [ ]
 
-except_put_hands : (v : State) (f : Found) (y : AnyUnit) (new : State) → ExceptsFor v f (action.Put y) new → hands new.phase ≡ false
+except_put_hands : (v : State) (f : Found) (y : AnyUnit) (new : State) → ExceptsFor v f (action.Put y) new → hands
+    new.phase ≡ false
 except_put_hands v f (unit.Exception kind at_) new a = ap {A = State} (λ t. hands t.phase) a.3
 except_put_hands v f y new a = elim a [ ]
 
@@ -192,12 +201,18 @@ excepts_hands v f (action.Finish y) new g = elim g [ ]
 pub does_next : (e : RecvEnd) (told : List RecvEvent) (c : State) (w : Wanted) (a : Action) (new : State)
     → RecvGoes e told w → NoHand w → Does c w a new → Fits new → is_open new.phase ≡ true
     → Next e (with_action told a) a new
-does_next e told c (Aborts reason) a new g n d f i = reached_next e _ a new (ap {A = State} (λ t. hands t.phase) d.1) i (does_goes e told c (Aborts reason) a new g d f)
+does_next e told c (Aborts reason) a new g n d f i = reached_next e _ a new (ap {A = State} (λ t. hands t.phase) d.1)
+    i (does_goes e told c (Aborts reason) a new g d f)
 does_next e told c (Rejects reason) a new g n d f i = absurd n
-does_next e told c (Ends y) a new g n d f i = reached_next e _ a new (ap {A = State} (λ t. hands t.phase) d.1) i (does_goes e told c (Ends y) a new g d f)
-does_next e told c (Puts u t) a new g n d f i = reached_next e _ a new (ap {A = State} (λ z. hands z.phase) d.1 ∙ n.1) i (does_goes e told c (Puts u t) a new g d f)
-does_next e told c (Asks q t) a new g n d f i = reached_next e _ a new (ap {A = State} (λ z. hands z.phase) d.1 ∙ n) i (does_goes e told c (Asks q t) a new g d f)
-does_next e told c (Reads t) a new g n d f i = reached_next e _ a new (ap {A = State} (λ z. hands z.phase) d.1 ∙ n) i (does_goes e told c (Reads t) a new g d f)
+does_next e told c (Ends y) a new g n d f i = reached_next e _ a new (ap {A = State} (λ t. hands t.phase) d.1) i
+    (does_goes e told c (Ends y) a new g d f)
+does_next e told c (Puts u t) a new g n d f i = reached_next e _ a new (ap {A = State} (λ z. hands z.phase) d.1 ∙ n.1)
+    i (does_goes e told c (Puts u t) a new g d f)
+does_next e told c (Asks q t) a new g n d f i = reached_next e _ a new (ap {A = State} (λ z. hands z.phase) d.1 ∙ n) i
+    (does_goes e told c (Asks q t) a new g d f)
+does_next e told c (Reads t) a new g n d f i = reached_next e _ a new (ap {A = State} (λ z. hands z.phase) d.1 ∙ n) i
+    (does_goes e told c (Reads t) a new g d f)
 does_next e told c (Goes_on t) a new g n d f i = goes_next e told t a new d f g i
-does_next e told c (Excepts t y) a new g n d f i = reached_next e _ a new (excepts_hands t y a new d) i (does_goes e told c (Excepts t y) a new g d f)
+does_next e told c (Excepts t y) a new g n d f i = reached_next e _ a new (excepts_hands t y a new d) i
+    (does_goes e told c (Excepts t y) a new g d f)
 does_next e told c Never a new g n d f i = elim d [ ]

@@ -54,7 +54,8 @@ use Rattle.mta_session_lists.proofs.TurnsUnits.{unit_goes}
 -- of a unit behind Close
 close_unit : (lane : ℕ) (t : State) (y : AnyUnit) → receiving_event lane (got_as (on_close_ack t y) y) ≡ []
 close_unit lane t unit.CloseAck = refl
-close_unit lane t (unit.Please priority) = nothing_taken lane (on_close_ack t (unit.Please priority)) (unit.Please priority) refl
+close_unit lane t (unit.Please priority) = nothing_taken lane (on_close_ack t (unit.Please priority))
+    (unit.Please priority) refl
 close_unit lane t (unit.Abort reason) = nothing_taken lane (on_close_ack t (unit.Abort reason)) (unit.Abort reason) refl
 close_unit lane t y = refl
 
@@ -87,21 +88,24 @@ heard_is lane phase.ReadsAnswer t q y i k = absurd (never i)
 heard_is lane p t q y i k = absurd (never k)
 
 secured_is : (lane g k n seen : ℕ) (q : List ℕ) (z : Result (Unit {0}) CompleteFault)
-    → receiving_event lane (told_as seen (step_told (ask.Secure lane g k n q) (reply.Secure z)) (look_told (ask.Secure lane g k n q) (reply.Secure z)))
+    → receiving_event lane (told_as seen (step_told (ask.Secure lane g k n q) (reply.Secure z))
+    (look_told (ask.Secure lane g k n q) (reply.Secure z)))
     ≡ secured_by k n q z
 secured_is lane g k n seen q (Ok v) = own_step lane (r.Made (r.Secure k n q) ∷ [])
 secured_is lane g k n seen q (Err (piece.Bad f)) = refl
 secured_is lane g k n seen q (Err (piece.Step f)) = refl
 
 completed_is : (lane g k n seen : ℕ) (q : List ℕ) (z : Result ℕ CompleteFault)
-    → receiving_event lane (told_as seen (step_told (ask.Complete lane g k n q) (reply.Complete z)) (look_told (ask.Complete lane g k n q) (reply.Complete z)))
+    → receiving_event lane (told_as seen (step_told (ask.Complete lane g k n q) (reply.Complete z))
+    (look_told (ask.Complete lane g k n q) (reply.Complete z)))
     ≡ completed_by k n q z
 completed_is lane g k n seen q (Ok v) = own_step lane (r.Made (r.Complete k n q) ∷ [])
 completed_is lane g k n seen q (Err (piece.Bad f)) = refl
 completed_is lane g k n seen q (Err (piece.Step f)) = refl
 
 dropped_is : (lane g k seen : ℕ) (z : Result (Unit {0}) StepFault)
-    → receiving_event lane (told_as seen (step_told (ask.DropActivity lane g k) (reply.DropActivity z)) (look_told (ask.DropActivity lane g k) (reply.DropActivity z)))
+    → receiving_event lane (told_as seen (step_told (ask.DropActivity lane g k) (reply.DropActivity z))
+    (look_told (ask.DropActivity lane g k) (reply.DropActivity z)))
     ≡ dropped_by k z
 dropped_is lane g k seen (Ok v) = own_step lane (r.Made (r.Drop k) ∷ [])
 dropped_is lane g k seen (Err f) = refl
@@ -124,17 +128,20 @@ pub told_is : (lane seen : ℕ) (p : Phase) (t : State) (a : Ask) (y : Reply) (q
 told_is lane seen phase.AsksDue t a (reply.BatchFor z) q i k rep e h = quiet_reply lane seen a (reply.BatchFor z) refl
 told_is lane seen phase.AsksBatch t a (reply.BatchFor z) q i k rep e h = quiet_reply lane seen a (reply.BatchFor z) refl
 told_is lane seen phase.AsksStart t a (reply.Start z) q i k rep e h = quiet_reply lane seen a (reply.Start z) refl
-told_is lane seen phase.AsksStillIdle t a (reply.Recovery z) q i k rep e h = quiet_reply lane seen a (reply.Recovery z) refl
+told_is lane seen phase.AsksStillIdle t a (reply.Recovery z) q i k rep e h = quiet_reply lane seen a
+    (reply.Recovery z) refl
 told_is lane seen phase.AsksState t a (reply.Recovery z) q i k rep e h = quiet_reply lane seen a (reply.Recovery z) refl
 told_is lane seen (phase.AsksStep step) t a y q i k rep e h = step_quiet lane seen step a y rep
 told_is lane seen (phase.AsksSecure j n) t a (reply.Secure z) q i k rep e h =
     let same : a ≡ ask.Secure lane t.generation j n q =
-    k ∙ ap (λ (w : ℕ). ask.Secure w t.generation j n (handed_by a)) e ∙ ap (λ (w : List ℕ). ask.Secure lane t.generation j n w) h in
+    k ∙ ap (λ (w : ℕ). ask.Secure w t.generation j n (handed_by a)) e ∙ ap
+    (λ (w : List ℕ). ask.Secure lane t.generation j n w) h in
     subst (λ w. RecvTold lane seen w (reply.Secure z) ≡ secured_by j n q z) (sym same)
     (secured_is lane t.generation j n seen q z)
 told_is lane seen (phase.AsksComplete j n) t a (reply.Complete z) q i k rep e h =
     let same : a ≡ ask.Complete lane t.generation j n q =
-    k ∙ ap (λ (w : ℕ). ask.Complete w t.generation j n (handed_by a)) e ∙ ap (λ (w : List ℕ). ask.Complete lane t.generation j n w) h in
+    k ∙ ap (λ (w : ℕ). ask.Complete w t.generation j n (handed_by a)) e ∙ ap
+    (λ (w : List ℕ). ask.Complete lane t.generation j n w) h in
     subst (λ w. RecvTold lane seen w (reply.Complete z) ≡ completed_by j n q z) (sym same)
     (completed_is lane t.generation j n seen q z)
 told_is lane seen (phase.AsksDrop j found) t a (reply.DropActivity z) q i k rep e h =
@@ -212,7 +219,8 @@ pub open_going : (p : Phase) → is_open p ≡ true → is_ended p ≡ false
 open_going (phase.Ended y) i = absurd (never i)
 open_going p i = refl
 
-module _ (l : Halves) (early : Type 0) (t : Turn) (e : Event) (same : t.event ≡ e) (is : IsTurn t) (i : is_open t.before.phase ≡ true)
+module _ (l : Halves) (early : Type 0) (t : Turn) (e : Event) (same : t.event ≡ e) (is : IsTurn t)
+    (i : is_open t.before.phase ≡ true)
     (q : List ℕ) where
   abbrev here : RecvEnd
   here = whole t.before.phase t.before.recv q
@@ -230,23 +238,45 @@ module _ (l : Halves) (early : Type 0) (t : Turn) (e : Event) (same : t.event �
 
   pub open_after : Allowed here told × After early (first l early) (recv_all here told) t.action t.after
   open_after =
-      elim (open_way t.before.phase t.before e t.action t.after i does) [ inl j ↦ on j | inr k ↦ off (turned_last t.after.phase t.before e k.to) ]
+      elim (open_way t.before.phase t.before e t.action t.after i does)
+      [ inl j ↦ on j | inr k ↦ off (turned_last t.after.phase t.before e k.to) ]
     where
       none : NoHand (wanted_in t.before.phase (counted t.before e) e)
       none = open_hands t.before.phase (counted t.before e) e i
 
       puts : with_action told t.action ≡ told ++ pending t.action
-      puts = common_action told t.action (does_common (counted t.before e) (wanted_in t.before.phase (counted t.before e) e) t.action t.after none does)
+      puts = common_action told t.action
+          (does_common (counted t.before e) (wanted_in t.before.phase (counted t.before e) e) t.action t.after none
+          does)
 
-      on : is_open t.after.phase ≡ true → Allowed here told × After early (first l early) (recv_all here told) t.action t.after
+      on : is_open t.after.phase ≡ true → Allowed here told × After early (first l early) (recv_all here told)
+          t.action t.after
       on j =
-          let next = does_next here told (counted t.before e) (wanted_in t.before.phase (counted t.before e) e) t.action t.after goes none does is.fits_after j in
+          let next = does_next here told (counted t.before e) (wanted_in t.before.phase (counted t.before e) e)
+          t.action t.after goes none does is.fits_after j in
           let f : RecvEnd = whole t.after.phase t.after.recv next.piece in
-          let parts = split_run here f told (pending t.action) (subst (λ z. r.IsReceivingEnd here z f) puts next.run) in
-          (parts.0, record { ended = f; run = parts.1; at = open_at early (first l early) t.after.phase t.after t.action f j (record { piece = next.piece; on = next.on; is = refl }) })
+          let parts = split_run here f told (pending t.action) (subst (λ z. r.IsReceivingEnd here z f) puts next.run) in (
+            parts.0,
+            record {
+              ended = f;
+              run = parts.1;
+              at = open_at early (first l early) t.after.phase t.after
+                  t.action f j (record { piece = next.piece; on = next.on; is = refl });
+            },
+          )
 
-      off : is_last_phase t.after.phase ≡ true → Allowed here told × After early (first l early) (recv_all here told) t.action t.after
+      off : is_last_phase t.after.phase ≡ true → Allowed here told × After early (first l early) (recv_all here told)
+          t.action t.after
       off j =
-          let run = wanted_runs here told (counted t.before e) (wanted_in t.before.phase (counted t.before e) e) t.action t.after goes (plain t.before.phase t.before q e i) does is.fits_after in
-          let parts = split_run here run.0 told (pending t.action) (subst (λ z. r.IsReceivingEnd here z run.0) puts run.1) in
-          (parts.0, record { ended = run.0; run = parts.1; at = last_at early (first l early) t.after.phase t.after t.action run.0 j })
+          let run = wanted_runs here told (counted t.before e) (wanted_in t.before.phase (counted t.before e) e)
+          t.action t.after goes (plain t.before.phase t.before q e i) does is.fits_after in
+          let parts = split_run here run.0 told (pending t.action)
+          (subst (λ z. r.IsReceivingEnd here z run.0) puts run.1) in (
+            parts.0,
+            record {
+              ended = run.0;
+              run = parts.1;
+              at = last_at early (first l early) t.after.phase t.after
+                  t.action run.0 j;
+            },
+          )

@@ -112,11 +112,15 @@ pub record Silent (a : Action) (new : State) : Type 0 where
   pub last : is_last_phase new.phase ≡ true
 
 does_silent : (c : State) (w : Wanted) (a : Action) (new : State) → LastWaits w → Does c w a new → Silent a new
-does_silent c (Aborts reason) a new k d = record { none = ap {A = Action} pending d.0 ∙ none_put reason k; last = ap {A = State} (λ z. is_last_phase z.phase) d.1 }
+does_silent c (Aborts reason) a new k d = record
+    { none = ap {A = Action} pending d.0 ∙ none_put reason k; last = ap {A = State} (λ z. is_last_phase z.phase) d.1 }
 does_silent c (Rejects reason) a new k d = absurd k
-does_silent c (Ends y) a new k d = record { none = ap {A = Action} pending d.0; last = ap {A = State} (λ z. is_last_phase z.phase) d.1 }
-does_silent c (Puts y t) a new k d = record { none = ap {A = Action} pending d.0 ∙ k.0; last = ap {A = State} (λ z. is_last_phase z.phase) d.1 ∙ k.1 }
-does_silent c (Asks q t) a new k d = record { none = ap {A = Action} pending d.0; last = ap {A = State} (λ z. is_last_phase z.phase) d.1 ∙ k }
+does_silent c (Ends y) a new k d = record
+    { none = ap {A = Action} pending d.0; last = ap {A = State} (λ z. is_last_phase z.phase) d.1 }
+does_silent c (Puts y t) a new k d = record
+    { none = ap {A = Action} pending d.0 ∙ k.0; last = ap {A = State} (λ z. is_last_phase z.phase) d.1 ∙ k.1 }
+does_silent c (Asks q t) a new k d = record
+    { none = ap {A = Action} pending d.0; last = ap {A = State} (λ z. is_last_phase z.phase) d.1 ∙ k }
 does_silent c (Reads t) a new k d = absurd k
 does_silent c (Goes_on t) a new k d = absurd k
 does_silent c (Excepts t f) a new k d = absurd k
@@ -126,10 +130,12 @@ does_silent c Never a new k d = elim d [ ]
 pub last_silent : (t : Turn) → IsTurn t → is_ended t.before.phase ≡ false → is_last_phase t.before.phase ≡ true
     → Silent t.action t.after
 last_silent t is i l =
-    does_silent (counted t.before t.event) (wanted_in t.before.phase (counted t.before t.event) t.event) t.action t.after
+    does_silent (counted t.before t.event) (wanted_in t.before.phase (counted t.before t.event) t.event) t.action
+    t.after
     (last_waits t.before.phase (counted t.before t.event) t.event l) (does_at t t.event refl is i)
 
-pub silent_after : (early : Type 0) (first b : RecvEnd) (a : Action) (new : State) → Silent a new → After early first b a new
+pub silent_after : (early : Type 0) (first b : RecvEnd) (a : Action) (new : State) → Silent a new → After early first
+    b a new
 silent_after early first b a new k = record {
   ended = b;
   run = subst (λ z. r.IsReceivingEnd b z b) (sym k.none) refl;
@@ -181,9 +187,12 @@ is_opening p = false
 pub opening_quiet : (lane seen : ℕ) (p : Phase) (t : State) (a : Ask) (y : Reply) → is_opening p ≡ true
     → RepliesTo p t y → RecvTold lane seen a y ≡ []
 opening_quiet lane seen phase.AsksValues t a (reply.Values z) i rep = quiet_reply lane seen a (reply.Values z) refl
-opening_quiet lane seen phase.AsksRecovery t a (reply.Recovery z) i rep = quiet_reply lane seen a (reply.Recovery z) refl
-opening_quiet lane seen (phase.AsksReceiving s) t a (reply.Receiving z) i rep = quiet_reply lane seen a (reply.Receiving z) refl
-opening_quiet lane seen (phase.AsksResumed s) t a (reply.Resumed z) i rep = quiet_reply lane seen a (reply.Resumed z) refl
+opening_quiet lane seen phase.AsksRecovery t a (reply.Recovery z) i rep = quiet_reply lane seen a (reply.Recovery z)
+    refl
+opening_quiet lane seen (phase.AsksReceiving s) t a (reply.Receiving z) i rep = quiet_reply lane seen a
+    (reply.Receiving z) refl
+opening_quiet lane seen (phase.AsksResumed s) t a (reply.Resumed z) i rep = quiet_reply lane seen a (reply.Resumed z)
+    refl
 opening_quiet lane seen phase.AsksAgree t a (reply.LaneAgree z) i rep = quiet_reply lane seen a (reply.LaneAgree z) refl
 opening_quiet lane seen phase.AsksPeer t a y i rep = absurd (never i)
 opening_quiet lane seen phase.AsksStands t a y i rep = absurd (never i)
@@ -206,7 +215,8 @@ opening_quiet lane seen phase.AsksClose t a y i rep = absurd (never i)
 opening_quiet lane seen (phase.AsksLast z) t a y i rep = absurd (never i)
 opening_quiet lane seen p t a y i rep = absurd rep
 
-answer_taken : (lane : ℕ) (s : Side) (t : State) (y : AnyUnit) → receiving_event lane (got_as (on_answer_by s t y) y) ≡ []
+answer_taken : (lane : ℕ) (s : Side) (t : State) (y : AnyUnit) → receiving_event lane (got_as (on_answer_by s t y) y)
+    ≡ []
 answer_taken lane (side.Initiator p) t (unit.Accept c w a) = nothing_taken lane _ (unit.Accept c w a) refl
 answer_taken lane (side.Initiator p) t (unit.Reject reason) = nothing_taken lane _ (unit.Reject reason) refl
 answer_taken lane (side.Initiator p) t (unit.Abort reason) = nothing_taken lane _ (unit.Abort reason) refl

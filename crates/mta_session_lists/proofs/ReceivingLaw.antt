@@ -78,7 +78,8 @@ module _ (spells : List ℕ → Bool) (history : List Seen) (lane : ℕ) (allow 
   new_before at a s w is =
       let within = slice_get_within history at _ is in
       between_keeps spells history lane allow IsNew 0 at (omega arith) (omega (arith, within))
-      (λ q i j step e k. new_step spells (lane_at spells history lane allow q) step (step_allowed spells history lane allow q step e))
+      (λ q i j step e k. new_step spells (lane_at spells history lane allow q) step
+      (step_allowed spells history lane allow q step e))
       (λ u. refl) (step_allowed spells history lane allow at (h.LaneOpen a s w) is)
 
   -- a lane as it is opened
@@ -129,13 +130,15 @@ both_plain (v ∷ vs) ys p q = (p.0, both_plain vs ys p.1 q)
 
 pub all_plain : (lane : ℕ) (ys : List SessionEvent) → ArePlain (receiving_events lane ys)
 all_plain lane [] = tt
-all_plain lane (y ∷ ys) = both_plain (receiving_event lane y) (receiving_events lane ys) (event_plain lane y) (all_plain lane ys)
+all_plain lane (y ∷ ys) = both_plain (receiving_event lane y) (receiving_events lane ys) (event_plain lane y)
+    (all_plain lane ys)
 
 both_allowed : (b : RecvEnd) (xs ys : List RecvEvent) → Allowed b xs → Allowed (recv_all b xs) ys → Allowed b (xs ++ ys)
 both_allowed b [] ys p q = q
 both_allowed b (v ∷ vs) ys p q = (p.0, both_allowed (r.recv_after b v) vs ys p.1 q)
 
-keeps_allowed : (lane : ℕ) (b : RecvEnd) (ys : List SessionEvent) → RecvKeeps lane b ys → Allowed b (receiving_events lane ys)
+keeps_allowed : (lane : ℕ) (b : RecvEnd) (ys : List SessionEvent) → RecvKeeps lane b ys → Allowed b
+    (receiving_events lane ys)
 keeps_allowed lane b [] k = tt
 keeps_allowed lane b (y ∷ ys) k =
     both_allowed b (receiving_event lane y) (receiving_events lane ys) k.1
@@ -196,14 +199,19 @@ module _ (spells : List ℕ → Bool) (history : List Seen) (at : ℕ) (allow : 
   planned : (p : InitiatorPlan) → HasAt history at (step_for p) → p.recovering ≡ false → fresh ≡ first (half p.lane) now
   planned p is e =
       opened_first p.lane false (1024 * p.checkpoint) p.window
-      (subst (λ b. HasAt history at (record { lane = p.lane; step = if b then h.Bind p.generation else h.LaneOpen false (1024 * p.checkpoint) p.window })) e is)
+      (subst (λ b. HasAt history at (record {
+        lane = p.lane;
+        step = if b then h.Bind p.generation else h.LaneOpen false (1024 * p.checkpoint) p.window;
+      })) e is)
 
-  responds : (p : Phase) (t : State) (e : Event) (new : State) (y : StepOn) → step_by p e new ≡ Some y → HasAt history at y
+  responds : (p : Phase) (t : State) (e : Event) (new : State) (y : StepOn) → step_by p e new ≡ Some y → HasAt history
+      at y
       → (is_unlisted p ≡ true → t.recv ≡ fresh)
       → RecvWaits (half new.lane) now (wanted_in p (counted t e) e) × (is_ended p ≡ false)
   responds (phase.AsksNewLane again) t (event.Reply (reply.LaneOpen (Ok lane))) new y q is k =
       let v : State = with_lane t t.opened t.line lane in
-      let there = opened_first new.lane true (1024 * new.checkpoint) new.window (subst (λ z. HasAt history at z) (sym (some_is _ y q)) is) in (
+      let there = opened_first new.lane true (1024 * new.checkpoint) new.window
+      (subst (λ z. HasAt history at z) (sym (some_is _ y q)) is) in (
         accept_waits (half new.lane) now v (answer_for v.side v.opened v.line)
             (same_recv t t.opened t.line lane ∙ k refl ∙ there),
         refl,
@@ -239,15 +247,19 @@ lists_receive spells history one u calls lane size window l allow (Initiates p u
     (first (lane_in p.lane (take (at + 1) history)) (at + 1 ≡ at + 1))
     (first (lane_in p.lane (take (at + 1) history)) (at + 1 ≡ at + 1)) (at + 1) (record { due = refl; waits = refl }) tt
     (λ n. refl) refl (refl, (λ n. planned spells history at allow p is n), refl) true_ run)
-lists_receive spells history one u calls lane size window l allow (Responds own units at before cs c y by seen is true_) run =
+lists_receive spells history one u calls lane size window l allow
+    (Responds own units at before cs c y by seen is true_) run =
     let start : Ready action.Read (new_responder own units) = record { due = refl; waits = refl } in
     let later = later_calls before cs c action.Read (new_responder own units) u start run in
     let waits = responds spells history at allow c.turn.before.phase c.turn.before c.turn.event c.turn.after y by is
-    (λ i. (reached_without before action.Read (new_responder own units) c.turn.before start (run_front before cs c (new_responder own units) u run) i).1) in
-    let after = waits_after (lane_in c.turn.after.lane (take (at + 1) history)) (at + 1 ≡ at + 1) (counted c.turn.before c.turn.event)
+    (λ i. (reached_without before action.Read (new_responder own units) c.turn.before start
+    (run_front before cs c (new_responder own units) u run) i).1) in
+    let after = waits_after (lane_in c.turn.after.lane (take (at + 1) history)) (at + 1 ≡ at + 1)
+    (counted c.turn.before c.turn.event)
     (wanted_in c.turn.before.phase (counted c.turn.before c.turn.event) c.turn.event) c.turn.action c.turn.after waits.0
     (does_at c.turn c.turn.event refl later.is waits.1) later.is.fits_after in
     kept history c.turn.after.lane size window at false c.turn.action cs (list_of action.Read before)
     (calls_receive spells history c.turn.after.lane at cs c.turn.action c.turn.after u
     (first (lane_in c.turn.after.lane (take (at + 1) history)) (at + 1 ≡ at + 1)) after.ended (at + 1) later.ready
-    (asked_next c.turn.action c.turn.before c.turn.event c.turn.after later.is.follows) (λ n. refl) after.run after.at true_ later.run)
+    (asked_next c.turn.action c.turn.before c.turn.event c.turn.after later.is.follows) (λ n. refl) after.run after.at
+    true_ later.run)

@@ -163,12 +163,14 @@ module _ (l : Halves) (later : Type 0) where
 
   resumed_wants : (t : State) (s : SendState) (e : Event)
       → t.recv ≡ first l later → AnswersAt (phase.AsksResumed s) t e → Waits (phase.AsksResumed s) t e
-  resumed_wants t s (event.Reply (reply.Resumed (Ok (Some o)))) k n = link_waits l later (restored t s o.octets) t.side k
+  resumed_wants t s (event.Reply (reply.Resumed (Ok (Some o)))) k n = link_waits l later (restored t s o.octets)
+      t.side k
   resumed_wants t s (event.Reply (reply.Resumed (Ok None))) k n = tt
   resumed_wants t s (event.Reply (reply.Resumed (Err m))) k n = refl
   resumed_wants t s e k n = absurd n
 
-  opens_wants : (t : State) (e : Event) → t.recv ≡ first l later → AnswersAt phase.PutsOpen t e → Waits phase.PutsOpen t e
+  opens_wants : (t : State) (e : Event) → t.recv ≡ first l later → AnswersAt phase.PutsOpen t e → Waits phase.PutsOpen
+      t e
   opens_wants t event.Go k n = λ q. (refl, k)
   opens_wants t event.Over k n = tt
   opens_wants t (event.Unit y) k n = absurd (never n)
@@ -183,7 +185,8 @@ module _ (l : Halves) (later : Type 0) where
   answer_wants t event.Go k n = absurd (never n)
   answer_wants t (event.Reply y) k n = absurd (never n)
 
-  agree_wants : (t : State) (e : Event) → t.recv ≡ first l later → AnswersAt phase.AsksAgree t e → Waits phase.AsksAgree t e
+  agree_wants : (t : State) (e : Event) → t.recv ≡ first l later → AnswersAt phase.AsksAgree t e → Waits
+      phase.AsksAgree t e
   agree_wants t (event.Reply (reply.LaneAgree z)) k n = agreed_waits l later t z k
   agree_wants t e k n = absurd n
 
@@ -209,7 +212,8 @@ module _ (l : Halves) (later : Type 0) where
   opening_wants early phase.PutsAccept t e a b i k next n tells = accept_wants t e k.1 n
   opening_wants early p t e a b i k next n tells = absurd (never i)
 
-pub opening_first : (early : Type 0) (one : RecvEnd) (p : Phase) (t : State) (a : Action) (b : RecvEnd) → is_opening p ≡ true
+pub opening_first : (early : Type 0) (one : RecvEnd) (p : Phase) (t : State) (a : Action) (b : RecvEnd) → is_opening p
+    ≡ true
     → RecvAt early one p t a b → b ≡ one
 opening_first early one phase.Begin t a b i k = k.0
 opening_first early one phase.AsksValues t a b i k = k.0
@@ -245,7 +249,8 @@ pub open_reads : (p : Phase) → is_open p ≡ true → goes_with action.Read p 
 open_reads phase.Begin i k = absurd (never i)
 open_reads p i k = k
 
-read_replied : (p : Phase) (t : State) (q : List ℕ) (y : Reply) → is_reading p ≡ true → told_by p t q (event.Reply y) ≡ []
+read_replied : (p : Phase) (t : State) (q : List ℕ) (y : Reply) → is_reading p ≡ true → told_by p t q (event.Reply y)
+    ≡ []
 read_replied phase.ReadsOpen t q y i = refl
 read_replied phase.ReadsAnswer t q y i = refl
 read_replied phase.Reads t q y i = refl
@@ -265,7 +270,8 @@ open_not_last (phase.Ended y) i = absurd (never i)
 open_not_last p i = refl
 
 module _ (l : Halves) (early : Type 0) (lane : ℕ) where
-  pub open_heard : (a : Action) (t : Turn) (seen : ℕ) (e : Event) (b : RecvEnd) (q : List ℕ) → RecvHere l early lane a t b
+  pub open_heard : (a : Action) (t : Turn) (seen : ℕ) (e : Event) (b : RecvEnd) (q : List ℕ) → RecvHere l early lane a
+      t b
       → is_open t.before.phase ≡ true → HandsOn t.before.phase a q → AnswersAt t.before.phase t.before e
       → heard lane a t seen e ≡ told_by t.before.phase t.before q e
   open_heard (action.Put u) t seen event.Go b q k i h n = sym (go_told t.before.phase t.before q)

@@ -109,7 +109,8 @@ at_open early first phase.PutsClose t a b i k = k
 at_open early first phase.ReadsCloseAck t a b i k = k
 at_open early first p t a b i k = absurd (never i)
 
-pub last_at : (early : Type 0) (first : RecvEnd) (p : Phase) (t : State) (a : Action) (b : RecvEnd) → is_last_phase p ≡ true
+pub last_at : (early : Type 0) (first : RecvEnd) (p : Phase) (t : State) (a : Action) (b : RecvEnd) → is_last_phase p
+    ≡ true
     → RecvAt early first p t a b
 last_at early first phase.AsksDenied t a b i = tt
 last_at early first phase.AsksClose t a b i = tt
@@ -154,7 +155,8 @@ module _ (l : Halves) (early : Type 0) where
   put_last (phase.PutsLast y) k = refl
   put_last p k = elim k [ ]
 
-  goes_after : (v : State) (a : Action) (new : State) → v.recv ≡ first → GoesOn v a new → Fits new → After early first first a new
+  goes_after : (v : State) (a : Action) (new : State) → v.recv ≡ first → GoesOn v a new → Fits new → After early first
+      first a new
   goes_after v a new e g f =
       elim (goes_way v a new g) [ inl i ↦ on i | inr k ↦ off (put_last new.phase k.last) ]
     where
@@ -237,17 +239,20 @@ module _ (l : Halves) (early : Type 0) where
   abort_waits : (t : State) (reason : ℕ) → RecvWaits (on_abort t reason)
   abort_waits t reason =
       if_waits ((reason == 2) && not (is_idle t.send.state)) _ _ (λ b. λ a. tt)
-      (λ b. if_waits ((reason == 7) && is_ending t.send.state (last_of t.send.state) && is_discard_put t.send.stage (last_of t.send.state))
+      (λ b. if_waits ((reason == 7) && is_ending t.send.state (last_of t.send.state) && is_discard_put t.send.stage
+      (last_of t.send.state))
       _ _ (λ c. λ a. tt) (λ c. tt))
 
   values_waits : (t : State) (c w : ℕ) → t.recv ≡ first → RecvWaits (on_values t c w)
   values_waits t c w e =
       if_waits (is_refused_value t c w) _ _ (λ b. refl) (λ b. if_waits t.agreed _ _ (λ i. e) (λ i. λ a. (refl, e)))
 
-  accepts_waits : (p : InitiatorPlan) (t : State) (c w : ℕ) (a : Answer) → t.recv ≡ first → RecvWaits (on_accept p t c w a)
+  accepts_waits : (p : InitiatorPlan) (t : State) (c w : ℕ) (a : Answer) → t.recv ≡ first → RecvWaits
+      (on_accept p t c w a)
   accepts_waits p t c w (answer.Bind name password) e =
       if_waits p.recovering _ _ (λ b. refl)
-      (λ b. if_waits (bytes_eq name p.peer && bytes_eq password p.expected_password) _ _ (λ i. values_waits t c w e) (λ i. refl))
+      (λ b. if_waits (bytes_eq name p.peer && bytes_eq password p.expected_password) _ _ (λ i. values_waits t c w e)
+      (λ i. refl))
   accepts_waits p t c w (answer.Recover reference) e =
       if_waits (p.recovering && is_same_reference reference p.reference) _ _ (λ b. values_waits t c w e) (λ b. refl)
 
@@ -264,7 +269,8 @@ module _ (l : Halves) (early : Type 0) where
   answer_waits (side.Responder own) t y e = refl
 
   pub unit_waits : (t : State) (y : AnyUnit) → t.recv ≡ first → RecvWaits (within t (on_answer_by t.side t y))
-  unit_waits t y e = if_waits (t.left == 0) (Aborts 3) (on_answer_by t.side t y) (λ b. refl) (λ b. answer_waits t.side t y e)
+  unit_waits t y e = if_waits (t.left == 0) (Aborts 3) (on_answer_by t.side t y) (λ b. refl)
+      (λ b. answer_waits t.side t y e)
 
   pub bad_waits : (t : State) → RecvWaits (within t (Aborts 4))
   bad_waits t = if_waits (t.left == 0) (Aborts 3) (Aborts 4) (λ b. refl) (λ b. refl)
@@ -280,6 +286,11 @@ module _ (l : Halves) (early : Type 0) where
   accepted_waits t e =
       if_waits t.twa _ _
       (λ b. if_waits (is_idle t.send.state) _ _
-      (λ i. λ a. opened phase.AsksDue (in_phase t phase.AsksDue) a (sym (ap (λ (z : RecvEnd). whole phase.AsksDue z []) e)) tt)
-      (λ i. (refl, λ a. opened phase.Puts (record t { phase = phase.Puts; please = true }) a (sym (ap (λ (z : RecvEnd). whole phase.Puts z []) e)) tt)))
+      (λ i. λ a. opened phase.AsksDue (in_phase t phase.AsksDue) a
+      (sym (ap (λ (z : RecvEnd). whole phase.AsksDue z []) e)) tt)
+      (λ i. (
+        refl,
+        λ a. opened phase.Puts (record t { phase = phase.Puts; please = true }) a
+            (sym (ap (λ (z : RecvEnd). whole phase.Puts z []) e)) tt,
+      )))
       (λ b. e)

@@ -104,7 +104,8 @@ unit_does x u is e i =
     (subst (λ z. FollowsAt x.before.phase x.before z x.action x.after) e is.follows)
 
 come_refuses : (a : Action) (c : Call) (e : Event) (cs : List Call) (v : State) → c.turn.event ≡ e → IsTurn c.turn
-    → goes_with a c.turn.before.phase ≡ true → AreCalls c.turn.after (turns_of cs) v → RefusesLast (list_of c.turn.action cs)
+    → goes_with a c.turn.before.phase ≡ true → AreCalls c.turn.after (turns_of cs) v → RefusesLast
+    (list_of c.turn.action cs)
     → RefusesLast (come_of a c.turn c.seen e ++ list_of c.turn.action cs)
 come_refuses (action.Put u) c e cs v q is r run k = k
 come_refuses action.Read c (event.Unit u) cs v q is r run k =
@@ -128,4 +129,5 @@ calls_refuse [] a t u k run = tt
 calls_refuse (c ∷ cs) a t u k run =
     let here : Ready a c.turn.before = subst (Ready a) (sym run.0) k in
     let next = ready_next c.turn run.1 here.due in
-    come_refuses a c c.turn.event cs u refl run.1 here.waits run.2 (calls_refuse cs c.turn.action c.turn.after u next run.2)
+    come_refuses a c c.turn.event cs u refl run.1 here.waits run.2
+    (calls_refuse cs c.turn.action c.turn.after u next run.2)

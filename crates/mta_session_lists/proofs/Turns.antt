@@ -129,21 +129,36 @@ transfer_put u i = absurd (never i)
 
 answer_put : (v : Turn) (u : AnyUnit) → is_answer u ≡ true → (v ≡ x.Own) ⊎ ((v ≡ x.Theirs) ⊎ (v ≡ x.Their_closing))
     → TurnAllows v (Put u) × (turn_put v u ≡ v)
-answer_put v (unit.SyncAck n) i (inl k) = subst (λ z. TurnAllows z (Put (unit.SyncAck n)) × (turn_put z (unit.SyncAck n) ≡ z)) (sym k) (tt, refl)
-answer_put v (unit.EndAck n) i (inl k) = subst (λ z. TurnAllows z (Put (unit.EndAck n)) × (turn_put z (unit.EndAck n) ≡ z)) (sym k) (tt, refl)
-answer_put v (unit.ResumeAck j n) i (inl k) = subst (λ z. TurnAllows z (Put (unit.ResumeAck j n)) × (turn_put z (unit.ResumeAck j n) ≡ z)) (sym k) (tt, refl)
-answer_put v (unit.DiscardAck n) i (inl k) = subst (λ z. TurnAllows z (Put (unit.DiscardAck n)) × (turn_put z (unit.DiscardAck n) ≡ z)) (sym k) (tt, refl)
-answer_put v (unit.Exception j n) i (inl k) = subst (λ z. TurnAllows z (Put (unit.Exception j n)) × (turn_put z (unit.Exception j n) ≡ z)) (sym k) (tt, refl)
-answer_put v (unit.SyncAck n) i (inr (inl k)) = subst (λ z. TurnAllows z (Put (unit.SyncAck n)) × (turn_put z (unit.SyncAck n) ≡ z)) (sym k) (tt, refl)
-answer_put v (unit.EndAck n) i (inr (inl k)) = subst (λ z. TurnAllows z (Put (unit.EndAck n)) × (turn_put z (unit.EndAck n) ≡ z)) (sym k) (tt, refl)
-answer_put v (unit.ResumeAck j n) i (inr (inl k)) = subst (λ z. TurnAllows z (Put (unit.ResumeAck j n)) × (turn_put z (unit.ResumeAck j n) ≡ z)) (sym k) (tt, refl)
-answer_put v (unit.DiscardAck n) i (inr (inl k)) = subst (λ z. TurnAllows z (Put (unit.DiscardAck n)) × (turn_put z (unit.DiscardAck n) ≡ z)) (sym k) (tt, refl)
-answer_put v (unit.Exception j n) i (inr (inl k)) = subst (λ z. TurnAllows z (Put (unit.Exception j n)) × (turn_put z (unit.Exception j n) ≡ z)) (sym k) (tt, refl)
-answer_put v (unit.SyncAck n) i (inr (inr k)) = subst (λ z. TurnAllows z (Put (unit.SyncAck n)) × (turn_put z (unit.SyncAck n) ≡ z)) (sym k) (tt, refl)
-answer_put v (unit.EndAck n) i (inr (inr k)) = subst (λ z. TurnAllows z (Put (unit.EndAck n)) × (turn_put z (unit.EndAck n) ≡ z)) (sym k) (tt, refl)
-answer_put v (unit.ResumeAck j n) i (inr (inr k)) = subst (λ z. TurnAllows z (Put (unit.ResumeAck j n)) × (turn_put z (unit.ResumeAck j n) ≡ z)) (sym k) (tt, refl)
-answer_put v (unit.DiscardAck n) i (inr (inr k)) = subst (λ z. TurnAllows z (Put (unit.DiscardAck n)) × (turn_put z (unit.DiscardAck n) ≡ z)) (sym k) (tt, refl)
-answer_put v (unit.Exception j n) i (inr (inr k)) = subst (λ z. TurnAllows z (Put (unit.Exception j n)) × (turn_put z (unit.Exception j n) ≡ z)) (sym k) (tt, refl)
+answer_put v (unit.SyncAck n) i (inl k) = subst
+    (λ z. TurnAllows z (Put (unit.SyncAck n)) × (turn_put z (unit.SyncAck n) ≡ z)) (sym k) (tt, refl)
+answer_put v (unit.EndAck n) i (inl k) = subst
+    (λ z. TurnAllows z (Put (unit.EndAck n)) × (turn_put z (unit.EndAck n) ≡ z)) (sym k) (tt, refl)
+answer_put v (unit.ResumeAck j n) i (inl k) = subst
+    (λ z. TurnAllows z (Put (unit.ResumeAck j n)) × (turn_put z (unit.ResumeAck j n) ≡ z)) (sym k) (tt, refl)
+answer_put v (unit.DiscardAck n) i (inl k) = subst
+    (λ z. TurnAllows z (Put (unit.DiscardAck n)) × (turn_put z (unit.DiscardAck n) ≡ z)) (sym k) (tt, refl)
+answer_put v (unit.Exception j n) i (inl k) = subst
+    (λ z. TurnAllows z (Put (unit.Exception j n)) × (turn_put z (unit.Exception j n) ≡ z)) (sym k) (tt, refl)
+answer_put v (unit.SyncAck n) i (inr (inl k)) = subst
+    (λ z. TurnAllows z (Put (unit.SyncAck n)) × (turn_put z (unit.SyncAck n) ≡ z)) (sym k) (tt, refl)
+answer_put v (unit.EndAck n) i (inr (inl k)) = subst
+    (λ z. TurnAllows z (Put (unit.EndAck n)) × (turn_put z (unit.EndAck n) ≡ z)) (sym k) (tt, refl)
+answer_put v (unit.ResumeAck j n) i (inr (inl k)) = subst
+    (λ z. TurnAllows z (Put (unit.ResumeAck j n)) × (turn_put z (unit.ResumeAck j n) ≡ z)) (sym k) (tt, refl)
+answer_put v (unit.DiscardAck n) i (inr (inl k)) = subst
+    (λ z. TurnAllows z (Put (unit.DiscardAck n)) × (turn_put z (unit.DiscardAck n) ≡ z)) (sym k) (tt, refl)
+answer_put v (unit.Exception j n) i (inr (inl k)) = subst
+    (λ z. TurnAllows z (Put (unit.Exception j n)) × (turn_put z (unit.Exception j n) ≡ z)) (sym k) (tt, refl)
+answer_put v (unit.SyncAck n) i (inr (inr k)) = subst
+    (λ z. TurnAllows z (Put (unit.SyncAck n)) × (turn_put z (unit.SyncAck n) ≡ z)) (sym k) (tt, refl)
+answer_put v (unit.EndAck n) i (inr (inr k)) = subst
+    (λ z. TurnAllows z (Put (unit.EndAck n)) × (turn_put z (unit.EndAck n) ≡ z)) (sym k) (tt, refl)
+answer_put v (unit.ResumeAck j n) i (inr (inr k)) = subst
+    (λ z. TurnAllows z (Put (unit.ResumeAck j n)) × (turn_put z (unit.ResumeAck j n) ≡ z)) (sym k) (tt, refl)
+answer_put v (unit.DiscardAck n) i (inr (inr k)) = subst
+    (λ z. TurnAllows z (Put (unit.DiscardAck n)) × (turn_put z (unit.DiscardAck n) ≡ z)) (sym k) (tt, refl)
+answer_put v (unit.Exception j n) i (inr (inr k)) = subst
+    (λ z. TurnAllows z (Put (unit.Exception j n)) × (turn_put z (unit.Exception j n) ≡ z)) (sym k) (tt, refl)
 answer_put v u i k = absurd (never i)
 
 some_turn : (o p : Bool) (v : Turn) → HoldsBy o p v → (v ≡ x.Own) ⊎ ((v ≡ x.Theirs) ⊎ (v ≡ x.Their_closing))

@@ -113,31 +113,45 @@ over_done y t v k =
 come_turns : (a : Action) (t : Turn) (seen : ℕ) (e : Event) (v : x.Turn) (rest : List SessionEvent) → Here a t v
     → t.event ≡ e → ((z : x.Turn) → Done t.action t.after z → KeepsTurn z rest)
     → KeepsTurn v (come_of a t seen e ++ rest)
-come_turns (action.Put u) t seen event.Go v rest k q more = (k.allowed, more _ (quiet_done (action.Put u) t event.Go v k refl q refl))
-come_turns (action.Put u) t seen event.Over v rest k q more = (k.allowed, more _ (quiet_done (action.Put u) t event.Over v k refl q refl))
-come_turns (action.Put u) t seen (event.Reply y) v rest k q more = (k.allowed, more _ (quiet_done (action.Put u) t (event.Reply y) v k refl q refl))
+come_turns (action.Put u) t seen event.Go v rest k q more =
+    (k.allowed, more _ (quiet_done (action.Put u) t event.Go v k refl q refl))
+come_turns (action.Put u) t seen event.Over v rest k q more =
+    (k.allowed, more _ (quiet_done (action.Put u) t event.Over v k refl q refl))
+come_turns (action.Put u) t seen (event.Reply y) v rest k q more =
+    (k.allowed, more _ (quiet_done (action.Put u) t (event.Reply y) v k refl q refl))
 come_turns (action.Put u) t seen (event.Unit w) v rest k q more =
-    absurd (none_put t.before.phase t.before (event.Unit w) k.waits (subst (λ z. AnswersAt t.before.phase t.before z) q k.is.answers) refl)
+    absurd (none_put t.before.phase t.before (event.Unit w) k.waits
+    (subst (λ z. AnswersAt t.before.phase t.before z) q k.is.answers) refl)
 come_turns (action.Put u) t seen event.BadUnit v rest k q more =
-    absurd (none_put t.before.phase t.before event.BadUnit k.waits (subst (λ z. AnswersAt t.before.phase t.before z) q k.is.answers) refl)
+    absurd (none_put t.before.phase t.before event.BadUnit k.waits
+    (subst (λ z. AnswersAt t.before.phase t.before z) q k.is.answers) refl)
 come_turns action.Read t seen (event.Unit u) v rest k q more =
     let e : Event = event.Unit u in
-    let answers : AnswersAt t.before.phase t.before e = subst (λ z. AnswersAt t.before.phase t.before z) q k.is.answers in
-    let reads : reads_list t.before.phase ≡ true = reads_here t.before.phase t.before e v k.waits answers refl k.holds in
-    let goes = unit_goes t.before.phase (counted t.before e) v u reads (less_holds t.before.phase t.before (t.before.left - 1) v k.holds) in
+    let answers : AnswersAt t.before.phase t.before e = subst (λ z. AnswersAt t.before.phase t.before z) q
+    k.is.answers in
+    let reads : reads_list t.before.phase ≡ true = reads_here t.before.phase t.before e v k.waits answers refl k.holds
+    in
+    let goes = unit_goes t.before.phase (counted t.before e) v u reads
+    (less_holds t.before.phase t.before (t.before.left - 1) v k.holds) in
     (goes.0, more _ (done_by action.Read t e v _ k refl q goes.1))
 come_turns action.Read t seen event.BadUnit v rest k q more = more v (bad_done t v k q)
 come_turns action.Read t seen event.Go v rest k q more = more v (quiet_done action.Read t event.Go v k refl q refl)
 come_turns action.Read t seen event.Over v rest k q more = more v (quiet_done action.Read t event.Over v k refl q refl)
-come_turns action.Read t seen (event.Reply y) v rest k q more = more v (quiet_done action.Read t (event.Reply y) v k refl q refl)
+come_turns action.Read t seen (event.Reply y) v rest k q more = more v
+    (quiet_done action.Read t (event.Reply y) v k refl q refl)
 come_turns (action.Ask a) t seen (event.Reply y) v rest k q more =
-    told_turns v seen (step_told a y) (look_told a y) rest (more v (quiet_done (action.Ask a) t (event.Reply y) v k refl q refl))
-come_turns (action.Ask a) t seen event.Go v rest k q more = more v (quiet_done (action.Ask a) t event.Go v k refl q refl)
-come_turns (action.Ask a) t seen event.Over v rest k q more = more v (quiet_done (action.Ask a) t event.Over v k refl q refl)
+    told_turns v seen (step_told a y) (look_told a y) rest
+    (more v (quiet_done (action.Ask a) t (event.Reply y) v k refl q refl))
+come_turns (action.Ask a) t seen event.Go v rest k q more = more v
+    (quiet_done (action.Ask a) t event.Go v k refl q refl)
+come_turns (action.Ask a) t seen event.Over v rest k q more = more v
+    (quiet_done (action.Ask a) t event.Over v k refl q refl)
 come_turns (action.Ask a) t seen (event.Unit u) v rest k q more =
-    absurd (none_asked t.before.phase t.before (event.Unit u) k.waits (subst (λ z. AnswersAt t.before.phase t.before z) q k.is.answers) refl)
+    absurd (none_asked t.before.phase t.before (event.Unit u) k.waits
+    (subst (λ z. AnswersAt t.before.phase t.before z) q k.is.answers) refl)
 come_turns (action.Ask a) t seen event.BadUnit v rest k q more =
-    absurd (none_asked t.before.phase t.before event.BadUnit k.waits (subst (λ z. AnswersAt t.before.phase t.before z) q k.is.answers) refl)
+    absurd (none_asked t.before.phase t.before event.BadUnit k.waits
+    (subst (λ z. AnswersAt t.before.phase t.before z) q k.is.answers) refl)
 come_turns (action.Finish y) t seen e v rest k q more = more v (over_done y t v k)
 
 -- ---- all calls
@@ -147,7 +161,8 @@ pub calls_turn : (cs : List Call) (a : Action) (t u : State) (v : x.Turn) → Re
 calls_turn [] a t u v k p h run = tt
 calls_turn (c ∷ cs) a t u v k p h run =
     let here : Ready a c.turn.before = subst (Ready a) (sym run.0) k in
-    let holds : Holds c.turn.before.phase c.turn.before (turned a v) = subst (λ z. Holds z.phase z (turned a v)) (sym run.0) h in
+    let holds : Holds c.turn.before.phase c.turn.before (turned a v) = subst (λ z. Holds z.phase z (turned a v))
+    (sym run.0) h in
     come_turns a c.turn c.seen c.turn.event v (list_of c.turn.action cs)
     (record { is = run.1; waits = here.waits; allowed = p; holds = holds }) refl
     (λ z d. calls_turn cs c.turn.action c.turn.after u z (ready_next c.turn run.1 here.due) d.allowed d.holds run.2)

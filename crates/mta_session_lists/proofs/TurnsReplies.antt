@@ -41,12 +41,14 @@ use Rattle.mta_session_lists.proofs.Turns.{HoldsBy, HasTurn, Closes, Holds, Turn
 
 pub accept_goes : (v : Turn) (t : State) (a : Option Answer) → v ≡ x.Before_accept → TurnGoes v (puts_accept t a)
 accept_goes v t (Some a) k =
-    subst (λ z. TurnAllows z (Put (unit.Accept t.checkpoint t.window a)) × (turn_put z (unit.Accept t.checkpoint t.window a) ≡ x.Theirs)) (sym k) (tt, refl)
+    subst (λ z. TurnAllows z (Put (unit.Accept t.checkpoint t.window a))
+    × (turn_put z (unit.Accept t.checkpoint t.window a) ≡ x.Theirs)) (sym k) (tt, refl)
 accept_goes v t None k = tt
 
 link_goes : (v : Turn) (t : State) (s : Side) → v ≡ x.Before_accept → TurnGoes v (answers_link t s)
 link_goes v t (side.Initiator p) k =
-    subst (λ z. TurnAllows z (Put (unit.Open (open_unit p t))) × (turn_put z (unit.Open (open_unit p t)) ≡ x.Before_accept)) (sym k) (tt, refl)
+    subst (λ z. TurnAllows z (Put (unit.Open (open_unit p t)))
+    × (turn_put z (unit.Open (open_unit p t)) ≡ x.Before_accept)) (sym k) (tt, refl)
 link_goes v t (side.Responder own) k = accept_goes v t _ k
 
 begins_goes : (v : Turn) (t : State) (s : Side) → v ≡ x.Before_accept → is_initiator s ≡ true → TurnGoes v (begins s t)
@@ -83,8 +85,11 @@ batch_goes v t (Ok (Some batch)) h o = h
 batch_goes v t (Ok None) h o =
     let same : v ≡ x.Own = own_turn t.ours t.please v o h in
     if_goes v (is_initiator t.side && not (t.please && t.twa)) _ _
-    (λ b. subst (λ z. TurnAllows z (Put unit.Close) × ((turn_put z unit.Close ≡ x.Own_closing) × (is_initiator t.side ≡ true))) (sym same) (tt, (refl, (both (is_initiator t.side) (not (t.please && t.twa)) b).0)))
-    (λ b. subst (λ z. TurnAllows z (Put unit.Give) × HoldsBy false false (turn_put z unit.Give)) (sym same) (tt, inl refl))
+    (λ b. subst (λ z. TurnAllows z (Put unit.Close)
+    × ((turn_put z unit.Close ≡ x.Own_closing) × (is_initiator t.side ≡ true))) (sym same)
+    (tt, (refl, (both (is_initiator t.side) (not (t.please && t.twa)) b).0)))
+    (λ b. subst (λ z. TurnAllows z (Put unit.Give) × HoldsBy false false (turn_put z unit.Give)) (sym same)
+    (tt, inl refl))
 batch_goes v t (Err m) h o = abort_allowed t.ours t.please v 0 h
 
 start_goes : (v : Turn) (t : State) (r : Result Carried StepFault) → HasTurn t v → TurnGoes v (on_start t r)
@@ -153,7 +158,8 @@ reply_goes phase.AsksRecovery t (reply.Recovery (Some z)) v h f = h
 reply_goes phase.AsksRecovery t (reply.Recovery None) v h f = tt
 reply_goes (phase.AsksReceiving state) t (reply.Receiving (Some z)) v h f = received_goes v (with_received t z) state h
 reply_goes (phase.AsksReceiving state) t (reply.Receiving None) v h f = tt
-reply_goes (phase.AsksResumed state) t (reply.Resumed (Ok (Some o))) v h f = link_goes v (restored t state o.octets) t.side h
+reply_goes (phase.AsksResumed state) t (reply.Resumed (Ok (Some o))) v h f = link_goes v (restored t state o.octets)
+    t.side h
 reply_goes (phase.AsksResumed state) t (reply.Resumed (Ok None)) v h f = tt
 reply_goes (phase.AsksResumed state) t (reply.Resumed (Err m)) v h f =
     subst (λ z. TurnAllows z (Put (unit.Abort 0))) (sym h) tt
@@ -218,29 +224,47 @@ landed a b new t v p q k h = record {
 abort_put : (t : State) (z : ℕ) (new : State) (v : Turn) (b c : Bool) → (z == 7) ≡ b → (z == 2) ≡ c
     → PutsFor t (part_of_abort z) (unit.Abort z) new → HasTurn t v → Done (action.Put (unit.Abort z)) new v
 abort_put t z new v true c p q g h =
-    let first = subst (λ b. PutsFor t (if b then Of_receiver u.Completed else (if z == 2 then Of_receiver u.Unrecognized else Of_neither)) (unit.Abort z) new) p g in
+    let first = subst (λ b. PutsFor t
+    (if b then Of_receiver u.Completed else (if z == 2 then Of_receiver u.Unrecognized else Of_neither))
+    (unit.Abort z) new) p g in
     landed _ _ new _ v refl first.1 (abort_allowed t.ours t.please v z h) tt
 abort_put t z new v false true p q g h =
-    let first = subst (λ b. PutsFor t (if b then Of_receiver u.Completed else (if z == 2 then Of_receiver u.Unrecognized else Of_neither)) (unit.Abort z) new) p g in
-    let second = subst (λ b. PutsFor t (if b then Of_receiver u.Unrecognized else Of_neither) (unit.Abort z) new) q first in
+    let first = subst (λ b. PutsFor t
+    (if b then Of_receiver u.Completed else (if z == 2 then Of_receiver u.Unrecognized else Of_neither))
+    (unit.Abort z) new) p g in
+    let second = subst (λ b. PutsFor t (if b then Of_receiver u.Unrecognized else Of_neither) (unit.Abort z) new) q
+    first in
     landed _ _ new _ v refl second.1 (abort_allowed t.ours t.please v z h) tt
 abort_put t z new v false false p q g h =
-    let first = subst (λ b. PutsFor t (if b then Of_receiver u.Completed else (if z == 2 then Of_receiver u.Unrecognized else Of_neither)) (unit.Abort z) new) p g in
-    let second = subst (λ b. PutsFor t (if b then Of_receiver u.Unrecognized else Of_neither) (unit.Abort z) new) q first in
+    let first = subst (λ b. PutsFor t
+    (if b then Of_receiver u.Completed else (if z == 2 then Of_receiver u.Unrecognized else Of_neither))
+    (unit.Abort z) new) p g in
+    let second = subst (λ b. PutsFor t (if b then Of_receiver u.Unrecognized else Of_neither) (unit.Abort z) new) q
+    first in
     elim second [ ]
 
 puts_done : (t : State) (y : AnyUnit) (new : State) (v : Turn) → HasTurn t v → PutsFor t (part_of y) y new
     → Done (action.Put y) new v
-puts_done t (unit.Start k) new v h g = let z = transfer_keeps t.ours t.please v (unit.Start k) refl g.0 h in landed _ _ new _ v refl g.2 z.0 z.1
-puts_done t (unit.Piece k) new v h g = let z = transfer_keeps t.ours t.please v (unit.Piece k) refl g.0 h in landed _ _ new _ v refl g.2 z.0 z.1
-puts_done t (unit.Sync k) new v h g = let z = transfer_keeps t.ours t.please v (unit.Sync k) refl g.0 h in landed _ _ new _ v refl g.2 z.0 z.1
-puts_done t (unit.End k) new v h g = let z = transfer_keeps t.ours t.please v (unit.End k) refl g.0 h in landed _ _ new _ v refl g.2 z.0 z.1
-puts_done t (unit.Resume k n) new v h g = let z = transfer_keeps t.ours t.please v (unit.Resume k n) refl g.0 h in landed _ _ new _ v refl g.2 z.0 z.1
-puts_done t (unit.Discard k) new v h g = let z = transfer_keeps t.ours t.please v (unit.Discard k) refl g.0 h in landed _ _ new _ v refl g.2 z.0 z.1
-puts_done t (unit.SyncAck k) new v h g = let z = answer_keeps t.ours t.please v (unit.SyncAck k) refl h in landed _ _ new _ v refl g.1 z.0 z.1
-puts_done t (unit.EndAck k) new v h g = let z = answer_keeps t.ours t.please v (unit.EndAck k) refl h in landed _ _ new _ v refl g.1 z.0 z.1
-puts_done t (unit.ResumeAck k n) new v h g = let z = answer_keeps t.ours t.please v (unit.ResumeAck k n) refl h in landed _ _ new _ v refl g.1 z.0 z.1
-puts_done t (unit.DiscardAck k) new v h g = let z = answer_keeps t.ours t.please v (unit.DiscardAck k) refl h in landed _ _ new _ v refl g.1 z.0 z.1
+puts_done t (unit.Start k) new v h g = let z = transfer_keeps t.ours t.please v (unit.Start k) refl g.0 h in landed _
+    _ new _ v refl g.2 z.0 z.1
+puts_done t (unit.Piece k) new v h g = let z = transfer_keeps t.ours t.please v (unit.Piece k) refl g.0 h in landed _
+    _ new _ v refl g.2 z.0 z.1
+puts_done t (unit.Sync k) new v h g = let z = transfer_keeps t.ours t.please v (unit.Sync k) refl g.0 h in landed _ _
+    new _ v refl g.2 z.0 z.1
+puts_done t (unit.End k) new v h g = let z = transfer_keeps t.ours t.please v (unit.End k) refl g.0 h in landed _ _
+    new _ v refl g.2 z.0 z.1
+puts_done t (unit.Resume k n) new v h g = let z = transfer_keeps t.ours t.please v (unit.Resume k n) refl g.0 h
+    in landed _ _ new _ v refl g.2 z.0 z.1
+puts_done t (unit.Discard k) new v h g = let z = transfer_keeps t.ours t.please v (unit.Discard k) refl g.0 h
+    in landed _ _ new _ v refl g.2 z.0 z.1
+puts_done t (unit.SyncAck k) new v h g = let z = answer_keeps t.ours t.please v (unit.SyncAck k) refl h in landed _ _
+    new _ v refl g.1 z.0 z.1
+puts_done t (unit.EndAck k) new v h g = let z = answer_keeps t.ours t.please v (unit.EndAck k) refl h in landed _ _
+    new _ v refl g.1 z.0 z.1
+puts_done t (unit.ResumeAck k n) new v h g = let z = answer_keeps t.ours t.please v (unit.ResumeAck k n) refl h
+    in landed _ _ new _ v refl g.1 z.0 z.1
+puts_done t (unit.DiscardAck k) new v h g = let z = answer_keeps t.ours t.please v (unit.DiscardAck k) refl h
+    in landed _ _ new _ v refl g.1 z.0 z.1
 puts_done t (unit.Abort z) new v h g = abort_put t z new v (z == 7) (z == 2) refl refl g h
 puts_done t y new v h g = elim g [ ]
 
@@ -258,23 +282,28 @@ goes_done t (action.Ask y) new v h g = asks_done t y new v h g
 goes_done t action.Read new v h g = landed _ _ new _ v refl g.1 tt h
 goes_done t (action.Finish y) new v h g = elim g [ ]
 
-excepts_asked : (t : State) (f : Found) (y : Ask) (new : State) (v : Turn) → HasTurn t v → ExceptsFor t f (action.Ask y) new
+excepts_asked : (t : State) (f : Found) (y : Ask) (new : State) (v : Turn) → HasTurn t v → ExceptsFor t f
+    (action.Ask y) new
     → Done (action.Ask y) new v
 excepts_asked t f (ask.DropActivity lane g k) new v h a = landed _ _ new _ v refl a.3 tt h
 excepts_asked t f y new v h a = elim a [ ]
 
-excepts_put : (t : State) (f : Found) (y : AnyUnit) (new : State) (v : Turn) → HasTurn t v → ExceptsFor t f (action.Put y) new
+excepts_put : (t : State) (f : Found) (y : AnyUnit) (new : State) (v : Turn) → HasTurn t v → ExceptsFor t f
+    (action.Put y) new
     → Done (action.Put y) new v
-excepts_put t f (unit.Exception kind at) new v h a = let z = answer_keeps t.ours t.please v (unit.Exception kind at) refl h in landed _ _ new _ v refl a.3 z.0 z.1
+excepts_put t f (unit.Exception kind at) new v h a = let z = answer_keeps t.ours t.please v (unit.Exception kind at)
+    refl h in landed _ _ new _ v refl a.3 z.0 z.1
 excepts_put t f y new v h a = elim a [ ]
 
-excepts_done : (t : State) (f : Found) (a : Action) (new : State) (v : Turn) → HasTurn t v → ExceptsFor t f a new → Done a new v
+excepts_done : (t : State) (f : Found) (a : Action) (new : State) (v : Turn) → HasTurn t v → ExceptsFor t f a new
+    → Done a new v
 excepts_done t f (action.Ask y) new v h g = excepts_asked t f y new v h g
 excepts_done t f (action.Put y) new v h g = excepts_put t f y new v h g
 excepts_done t f action.Read new v h g = elim g [ ]
 excepts_done t f (action.Finish y) new v h g = elim g [ ]
 
-pub does_done : (t : State) (w : Wanted) (a : Action) (new : State) (v : Turn) → TurnGoes v w → Does t w a new → Done a new v
+pub does_done : (t : State) (w : Wanted) (a : Action) (new : State) (v : Turn) → TurnGoes v w → Does t w a new → Done
+    a new v
 does_done t (Aborts reason) a new v k d = landed a _ new _ v d.0 d.1 k tt
 does_done t (Rejects reason) a new v k d = landed a _ new _ v d.0 d.1 k tt
 does_done t (Ends y) a new v k d = landed a _ new _ v d.0 d.1 tt tt

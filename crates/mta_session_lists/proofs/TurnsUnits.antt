@@ -42,7 +42,8 @@ pub abort_goes : (v : Turn) (t : State) (reason : ℕ) → UnitGoes v (unit.Abor
 abort_goes v t reason =
     if_unit v (unit.Abort reason) ((reason == 2) && not (is_idle t.send.state)) _ _ (λ b. (got_abort v reason, tt))
     (λ b. if_unit v (unit.Abort reason)
-    ((reason == 7) && is_ending t.send.state (last_of t.send.state) && is_discard_put t.send.stage (last_of t.send.state))
+    ((reason == 7) && is_ending t.send.state (last_of t.send.state) && is_discard_put t.send.stage
+    (last_of t.send.state))
     _ _ (λ c. (got_abort v reason, tt)) (λ c. (got_abort v reason, tt)))
 
 -- ---- the answer to an Open
@@ -66,7 +67,8 @@ reject_goes : (p : InitiatorPlan) (t : State) (reason : ℕ)
     → UnitGoes x.Before_accept (unit.Reject reason) (on_reject p t reason)
 reject_goes p t reason =
     if_unit x.Before_accept (unit.Reject reason) ((reason == 1) && not (is_idle t.send.state)) _ _ (λ b. (tt, tt))
-    (λ b. if_unit x.Before_accept (unit.Reject reason) ((reason == 1) || not p.recovering) _ _ (λ c. (tt, tt)) (λ c. (tt, tt)))
+    (λ b. if_unit x.Before_accept (unit.Reject reason) ((reason == 1) || not p.recovering) _ _ (λ c. (tt, tt))
+    (λ c. (tt, tt)))
 
 answer_goes : (s : Side) (t : State) (u : AnyUnit) → UnitGoes x.Before_accept u (on_answer_by s t u)
 answer_goes (side.Initiator p) t (unit.Accept c w a) = accept_goes p t c w a
@@ -116,9 +118,12 @@ holder_goes : (t : State) (u : AnyUnit) → t.ours ≡ true → is_abort u ≡ f
 holder_goes t (unit.Please priority) o a = please_goes t priority o
 holder_goes t (unit.SyncAck n) o a = makes_goes (unit.SyncAck n) t (called t.send (unit.SyncAck n)) (tt, refl) o
 holder_goes t (unit.EndAck k) o a = makes_goes (unit.EndAck k) t (called t.send (unit.EndAck k)) (tt, refl) o
-holder_goes t (unit.ResumeAck k n) o a = makes_goes (unit.ResumeAck k n) t (called t.send (unit.ResumeAck k n)) (tt, refl) o
-holder_goes t (unit.DiscardAck k) o a = makes_goes (unit.DiscardAck k) t (called t.send (unit.DiscardAck k)) (tt, refl) o
-holder_goes t (unit.Exception k n) o a = makes_goes (unit.Exception k n) t (called t.send (unit.Exception k n)) (tt, refl) o
+holder_goes t (unit.ResumeAck k n) o a = makes_goes (unit.ResumeAck k n) t (called t.send (unit.ResumeAck k n))
+    (tt, refl) o
+holder_goes t (unit.DiscardAck k) o a = makes_goes (unit.DiscardAck k) t (called t.send (unit.DiscardAck k))
+    (tt, refl) o
+holder_goes t (unit.Exception k n) o a = makes_goes (unit.Exception k n) t (called t.send (unit.Exception k n))
+    (tt, refl) o
 holder_goes t (unit.Abort reason) o a = absurd (never (sym a))
 holder_goes t u o a = (tt, tt)
 
@@ -139,7 +144,8 @@ first_so true b e = refl
 first_so false b e = absurd (never e)
 
 -- behind Close: it waits for Give, asks for the turn, or closes the lane
-closing_behind : (v : Turn) (t : State) → t.ours ≡ false → not (is_initiator t.side) ≡ true → TurnAllows v (Got unit.Close)
+closing_behind : (v : Turn) (t : State) → t.ours ≡ false → not (is_initiator t.side) ≡ true → TurnAllows v
+    (Got unit.Close)
     → turn_got v unit.Close ≡ x.Their_closing → UnitGoes v unit.Close (on_close t)
 closing_behind v t o s k c =
     if_unit v unit.Close t.please _ _
@@ -161,13 +167,20 @@ theirs_goes t unit.Give o a =
     if_unit x.Theirs unit.Give (t.twa && is_free t.recv.stage) _ _ (λ b. (tt, refl)) (λ b. (tt, tt))
 theirs_goes t unit.Close o a =
     if_unit x.Theirs unit.Close (not (is_initiator t.side) && is_free t.recv.stage) _ _
-    (λ b. closing_behind x.Theirs t o (first_so (not (is_initiator t.side)) (is_free t.recv.stage) b) tt refl) (λ b. (tt, tt))
-theirs_goes t (unit.Start k) o a = takes_goes x.Theirs (unit.Start k) t _ tt tt tt (subst (λ i. HoldsBy i t.please x.Theirs) (sym o) (inl refl))
-theirs_goes t (unit.Piece k) o a = takes_goes x.Theirs (unit.Piece k) t _ tt tt tt (subst (λ i. HoldsBy i t.please x.Theirs) (sym o) (inl refl))
-theirs_goes t (unit.Sync k) o a = takes_goes x.Theirs (unit.Sync k) t _ tt tt tt (subst (λ i. HoldsBy i t.please x.Theirs) (sym o) (inl refl))
-theirs_goes t (unit.End k) o a = takes_goes x.Theirs (unit.End k) t _ tt tt tt (subst (λ i. HoldsBy i t.please x.Theirs) (sym o) (inl refl))
-theirs_goes t (unit.Resume k n) o a = takes_goes x.Theirs (unit.Resume k n) t _ tt tt tt (subst (λ i. HoldsBy i t.please x.Theirs) (sym o) (inl refl))
-theirs_goes t (unit.Discard k) o a = takes_goes x.Theirs (unit.Discard k) t _ tt tt tt (subst (λ i. HoldsBy i t.please x.Theirs) (sym o) (inl refl))
+    (λ b. closing_behind x.Theirs t o (first_so (not (is_initiator t.side)) (is_free t.recv.stage) b) tt refl)
+    (λ b. (tt, tt))
+theirs_goes t (unit.Start k) o a = takes_goes x.Theirs (unit.Start k) t _ tt tt tt
+    (subst (λ i. HoldsBy i t.please x.Theirs) (sym o) (inl refl))
+theirs_goes t (unit.Piece k) o a = takes_goes x.Theirs (unit.Piece k) t _ tt tt tt
+    (subst (λ i. HoldsBy i t.please x.Theirs) (sym o) (inl refl))
+theirs_goes t (unit.Sync k) o a = takes_goes x.Theirs (unit.Sync k) t _ tt tt tt
+    (subst (λ i. HoldsBy i t.please x.Theirs) (sym o) (inl refl))
+theirs_goes t (unit.End k) o a = takes_goes x.Theirs (unit.End k) t _ tt tt tt
+    (subst (λ i. HoldsBy i t.please x.Theirs) (sym o) (inl refl))
+theirs_goes t (unit.Resume k n) o a = takes_goes x.Theirs (unit.Resume k n) t _ tt tt tt
+    (subst (λ i. HoldsBy i t.please x.Theirs) (sym o) (inl refl))
+theirs_goes t (unit.Discard k) o a = takes_goes x.Theirs (unit.Discard k) t _ tt tt tt
+    (subst (λ i. HoldsBy i t.please x.Theirs) (sym o) (inl refl))
 theirs_goes t (unit.Abort reason) o a = absurd (never (sym a))
 theirs_goes t u o a = (tt, tt)
 
@@ -179,12 +192,18 @@ closing_goes t unit.Close o q a =
     if_unit x.Their_closing unit.Close (not (is_initiator t.side) && is_free t.recv.stage) _ _
     (λ b. closing_behind x.Their_closing t o (first_so (not (is_initiator t.side)) (is_free t.recv.stage) b) tt refl)
     (λ b. (tt, tt))
-closing_goes t (unit.Start k) o q a = takes_goes x.Their_closing (unit.Start k) t _ tt tt tt (subst (λ i. HoldsBy i t.please x.Their_closing) (sym o) (inr (refl, q)))
-closing_goes t (unit.Piece k) o q a = takes_goes x.Their_closing (unit.Piece k) t _ tt tt tt (subst (λ i. HoldsBy i t.please x.Their_closing) (sym o) (inr (refl, q)))
-closing_goes t (unit.Sync k) o q a = takes_goes x.Their_closing (unit.Sync k) t _ tt tt tt (subst (λ i. HoldsBy i t.please x.Their_closing) (sym o) (inr (refl, q)))
-closing_goes t (unit.End k) o q a = takes_goes x.Their_closing (unit.End k) t _ tt tt tt (subst (λ i. HoldsBy i t.please x.Their_closing) (sym o) (inr (refl, q)))
-closing_goes t (unit.Resume k n) o q a = takes_goes x.Their_closing (unit.Resume k n) t _ tt tt tt (subst (λ i. HoldsBy i t.please x.Their_closing) (sym o) (inr (refl, q)))
-closing_goes t (unit.Discard k) o q a = takes_goes x.Their_closing (unit.Discard k) t _ tt tt tt (subst (λ i. HoldsBy i t.please x.Their_closing) (sym o) (inr (refl, q)))
+closing_goes t (unit.Start k) o q a = takes_goes x.Their_closing (unit.Start k) t _ tt tt tt
+    (subst (λ i. HoldsBy i t.please x.Their_closing) (sym o) (inr (refl, q)))
+closing_goes t (unit.Piece k) o q a = takes_goes x.Their_closing (unit.Piece k) t _ tt tt tt
+    (subst (λ i. HoldsBy i t.please x.Their_closing) (sym o) (inr (refl, q)))
+closing_goes t (unit.Sync k) o q a = takes_goes x.Their_closing (unit.Sync k) t _ tt tt tt
+    (subst (λ i. HoldsBy i t.please x.Their_closing) (sym o) (inr (refl, q)))
+closing_goes t (unit.End k) o q a = takes_goes x.Their_closing (unit.End k) t _ tt tt tt
+    (subst (λ i. HoldsBy i t.please x.Their_closing) (sym o) (inr (refl, q)))
+closing_goes t (unit.Resume k n) o q a = takes_goes x.Their_closing (unit.Resume k n) t _ tt tt tt
+    (subst (λ i. HoldsBy i t.please x.Their_closing) (sym o) (inr (refl, q)))
+closing_goes t (unit.Discard k) o q a = takes_goes x.Their_closing (unit.Discard k) t _ tt tt tt
+    (subst (λ i. HoldsBy i t.please x.Their_closing) (sym o) (inr (refl, q)))
 closing_goes t (unit.Abort reason) o q a = absurd (never (sym a))
 closing_goes t u o q a = (tt, tt)
 

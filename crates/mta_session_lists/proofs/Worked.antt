@@ -8,7 +8,16 @@ takes_one = record {
     refl,
     (
       refl,
-      (refl, (refl, ((tt, record { later = omega arith; entry = refl }), (refl, (refl, ((tt, record { later = omega arith; entry = refl }), (refl, tt))))))),
+      (
+        refl,
+        (
+          refl,
+          (
+            (tt, record { later = omega arith; entry = refl }),
+            (refl, (refl, ((tt, record { later = omega arith; entry = refl }), (refl, tt)))),
+          ),
+        ),
+      ),
     ),
   );
   list = refl;
@@ -34,7 +43,10 @@ gives_up = record {
                   refl,
                   (
                     (tt, record { later = omega arith; within = omega arith; told = tt }),
-                    ((tt, record { later = omega arith; within = omega arith; told = refl }), (refl, (refl, ((tt, record { later = omega arith; entry = refl }), tt)))),
+                    (
+                      (tt, record { later = omega arith; within = omega arith; told = refl }),
+                      (refl, (refl, ((tt, record { later = omega arith; entry = refl }), tt))),
+                    ),
                   ),
                 ),
               ),

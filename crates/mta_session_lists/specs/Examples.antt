@@ -158,7 +158,8 @@ given_up_calls =
     (event.Reply (reply.Start (Ok (record { activity = 1; octets = two })))) (action.Put (unit.Start 1))
     (sender phase.Puts true true (sending (state.Sending 1 0) two true (s.Next 1 0))) 3 ∷
     call (sender phase.Puts true true (sending (state.Sending 1 0) two true (s.Next 1 0))) event.Go
-    (action.Put (unit.Piece two)) (sender phase.Puts true true (sending (state.Sending 1 0) two true (s.Last_put 1 1))) 3 ∷
+    (action.Put (unit.Piece two)) (sender phase.Puts true true
+    (sending (state.Sending 1 0) two true (s.Last_put 1 1))) 3 ∷
     call (sender phase.Puts true true (sending (state.Sending 1 0) two true (s.Last_put 1 1))) event.Go
     (action.Ask (ask.Ending 1 1 1))
     (sender (phase.AsksStep own.Ending) true true (sending (state.Sending 1 0) two true (s.Last_put 1 1))) 3 ∷
@@ -233,7 +234,8 @@ resumed_calls =
     call (resumes phase.PutsOpen resumed) event.Go action.Read (resumes phase.ReadsAnswer resumed) 5 ∷
     call (resumes phase.ReadsAnswer resumed) (event.Unit reaccepted) (action.Put (unit.Resume 1 1))
     (resumes phase.Puts resumed) 5 ∷
-    call (resumes phase.Puts resumed) event.Over (action.Finish end.Broken) (resumes (phase.Ended end.Broken) resumed) 5 ∷
+    call (resumes phase.Puts resumed) event.Over (action.Finish end.Broken) (resumes (phase.Ended end.Broken) resumed)
+    5 ∷
     []
 
 -- The looks of the turn of the Bind come first. A unit of which it is not known whether it was put wholly stands.

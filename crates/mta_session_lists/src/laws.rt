@@ -16,14 +16,14 @@ pub fn abandons_stand()
     ensures received { AbandonsKeepReceived }
 {}
 
-/// The list of a session, with the Abandons of other passes: its steps stand in the history, it keeps the turn, behind a
-/// unit that is not taken there is an Abort at most, and each Abandon has its place.
+/// The list of a session, with the Abandons of other passes: its steps stand in the history, it keeps the turn, behind
+/// a unit that is not taken there is an Abort at most, and each Abandon has its place.
 pub fn lists_are_ordered()
     ensures { ListsAreOrdered }
 {}
 
-/// Worked rows: a responder takes a message and the lane is closed; another pass gives up what an initiator sends; a lane
-/// is recovered.
+/// Worked rows: a responder takes a message and the lane is closed; another pass gives up what an initiator sends; a
+/// lane is recovered.
 pub fn worked_rows()
     ensures takes { TakesOne }
     ensures gives_up { GivesUp }
@@ -35,8 +35,8 @@ pub fn lists_receive()
     ensures { ListsReceive }
 {}
 
-/// Of a sending half: units that say nothing of a transfer may be left out of a list. Behind an Abandon of an activity no
-/// Confirm and no Ending of it follows, and without one no lane comes to drop it.
+/// Of a sending half: units that say nothing of a transfer may be left out of a list. Behind an Abandon of an activity
+/// no Confirm and no Ending of it follows, and without one no lane comes to drop it.
 pub fn halves_send()
     ensures others { OthersMayBeLeftOut }
     ensures past { NoneGoesOn }
