@@ -21,4 +21,5 @@ pub mod Answering
 pub mod ReceivedAll
 pub mod ReceivingLaw
 pub mod Sent
+pub mod SentEvents
 pub mod Worked

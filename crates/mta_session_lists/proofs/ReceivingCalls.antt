@@ -255,7 +255,8 @@ module _ (l : Halves) (early : Type 0) (t : Turn) (e : Event) (same : t.event �
           let next = does_next here told (counted t.before e) (wanted_in t.before.phase (counted t.before e) e)
           t.action t.after goes none does is.fits_after j in
           let f : RecvEnd = whole t.after.phase t.after.recv next.piece in
-          let parts = split_run here f told (pending t.action) (subst (λ z. r.IsReceivingEnd here z f) puts next.run) in (
+          let parts = split_run here f told (pending t.action) (subst (λ z. r.IsReceivingEnd here z f) puts next.run)
+          in (
             parts.0,
             record {
               ended = f;
