@@ -1,0 +1,100 @@
+-- Laws of session lists, one for each thing that is asked of them.
+use Rattle.std.specs.Prelude.{◌≡◌, ◌<◌, ◌≤◌, ℕ, ◌+◌, Bool, Option, Some, None, List, [], ◌∷◌, length, take}
+use Rattle.mta_ends.specs.Sending.{SendEnd}
+use Rattle.mta_ends.specs.Lanes.{Seen, lane_in, LanesAllow}
+use Rattle.mta_ends.specs.Receiving as r
+use Rattle.mta_ends.specs.Receiving.{RecvEnd}
+use Rattle.mta_runs.specs.Receivings.{end_on_link, ArePlain}
+use Rattle.mta_runs.specs.Sessions.{SessionEvent, seen_after, PlacesAbandons, StepsStand, Turn, KeepsTurn, RefusesLast}
+use Rattle.mta_runs.specs.Sessions.{Got, Refused, receiving_event, receiving_events, recv_all}
+use Rattle.mta_runs.specs.Sessions.{SessionList, Before_accept}
+use Rattle.mta_session.specs.State.{State, is_initiator}
+use Rattle.mta_session_laws.specs.Whole.{AreCalls}
+use Rattle.mta_session_lists.specs.Calls.{Call, turns_of}
+use Rattle.mta_session_lists.specs.Abandons.{has_before, with_abandons}
+use Rattle.mta_session_lists.specs.Lists.{IsListOf, end_begun, completed}
+
+-- ---- Abandons that are put in
+
+abbrev pub RisesBehind : (from : ℕ) → Option ℕ → Type 0
+RisesBehind from None = Unit {0}
+RisesBehind from (Some upto) = from ≤ upto
+
+-- the steps of the sending half and the looks at it stand one behind the other
+abbrev pub Rises : (lane from : ℕ) → List SessionEvent → Type 0
+Rises lane from [] = Unit {0}
+Rises lane from (y ∷ ys) = RisesBehind from (has_before lane y) × Rises lane (seen_after lane from y) ys
+
+-- So each Abandon has its place.
+abbrev pub AbandonsArePlaced : Type 0
+AbandonsArePlaced =
+    (history : List Seen) (lane from : ℕ) (e : SendEnd) (ys : List SessionEvent) → Rises lane from ys
+    → PlacesAbandons history lane from e (with_abandons history lane from e ys)
+
+-- It stands in the history, and concerns neither the turn nor what is refused.
+abbrev pub AbandonsStand : Type 0
+AbandonsStand =
+    (history : List Seen) (lane from : ℕ) (e : SendEnd) (ys : List SessionEvent) → Rises lane from ys
+    → StepsStand history ys → StepsStand history (with_abandons history lane from e ys)
+
+abbrev pub AbandonsKeepTurns : Type 0
+AbandonsKeepTurns =
+    (history : List Seen) (lane from : ℕ) (e : SendEnd) (t : Turn) (ys : List SessionEvent) → KeepsTurn t ys
+    → KeepsTurn t (with_abandons history lane from e ys)
+
+abbrev pub AbandonsKeepRefusals : Type 0
+AbandonsKeepRefusals =
+    (history : List Seen) (lane from : ℕ) (e : SendEnd) (ys : List SessionEvent) → RefusesLast ys
+    → RefusesLast (with_abandons history lane from e ys)
+
+abbrev pub AbandonsKeepReceived : Type 0
+AbandonsKeepReceived =
+    (history : List Seen) (lane from : ℕ) (e : SendEnd) (ys : List SessionEvent)
+    → receiving_events lane (with_abandons history lane from e ys) ≡ receiving_events lane ys
+
+-- ---- lists of calls
+
+-- What is asked of a session's list beside the rules of its two halves: the step that it begins with and its own stand
+-- in the history, it keeps the turn, behind a unit that is not taken there is an Abort at most, and each Abandon of
+-- another pass has its place.
+pub record IsOrdered (history : List Seen) (lane size window : ℕ) (initiator : Bool) (l : SessionList) : Type 0 where
+  pub begun : l.at < length history
+  pub stands : StepsStand history l.events
+  pub turn : KeepsTurn Before_accept l.events
+  pub refuses : RefusesLast l.events
+  pub placed : PlacesAbandons history lane (l.at + 1) (end_begun history lane size window l.at initiator) l.events
+
+abbrev pub ListsAreOrdered : Type 0
+ListsAreOrdered =
+    (spells : List ℕ → Bool) (history : List Seen) (first u : State) (calls : List Call) (lane size window : ℕ)
+    (l : SessionList) → IsListOf spells history first calls lane l → AreCalls first (turns_of calls) u
+    → IsOrdered history lane size window (is_initiator first.side)
+    (completed history lane size window (is_initiator first.side) l)
+
+-- ---- the receiving half
+
+-- where a unit is got, each unit that was taken has its answer
+abbrev pub OwesAt : RecvEnd → SessionEvent → Type 0
+OwesAt b (Got x) = r.OwesNothing b
+OwesAt b (Refused x) = r.OwesNothing b
+OwesAt b y = Unit {0}
+
+abbrev pub OwesNothingAt : (lane : ℕ) → RecvEnd → List SessionEvent → Type 0
+OwesNothingAt lane b [] = Unit {0}
+OwesNothingAt lane b (y ∷ ys) = OwesAt b y × OwesNothingAt lane (recv_all b (receiving_event lane y)) ys
+
+-- The list keeps the rules of a receiving end, from the half as the lane has it right behind the step that begins the
+-- list, and owes nothing where a unit is got.
+pub record KeepsReceiving (history : List Seen) (lane : ℕ) (l : SessionList) : Type 0 where
+  pub plain : ArePlain (receiving_events lane l.events)
+  pub last_end : RecvEnd
+  pub allowed : r.IsReceivingEnd (end_on_link (lane_in lane (take (l.at + 1) history))) (receiving_events lane l.events)
+      last_end
+  pub owes : OwesNothingAt lane (end_on_link (lane_in lane (take (l.at + 1) history))) l.events
+
+abbrev pub ListsReceive : Type 0
+ListsReceive =
+    (spells : List ℕ → Bool) (history : List Seen) (first u : State) (calls : List Call) (lane size window : ℕ)
+    (l : SessionList) → LanesAllow spells history → IsListOf spells history first calls lane l
+    → AreCalls first (turns_of calls) u
+    → KeepsReceiving history lane (completed history lane size window (is_initiator first.side) l)

@@ -1,0 +1,7 @@
+pub mod Calls
+pub mod Abandons
+pub mod Standing
+pub mod Lists
+pub mod Laws
+pub mod Sent
+pub mod Examples
