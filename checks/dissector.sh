@@ -1,6 +1,7 @@
 #!/usr/bin/env bash
-# Associations of the peer in checks/peer as Wireshark shows them with contrib/wireshark/mta.lua: the units, and the messages that were joined
-# from pieces over breaks, are the ones that were put. Run it at the top of the repository; with `--call HOST:PORT` a foreign responder is called.
+# Associations of the peer in checks/peer as Wireshark shows them with contrib/wireshark/mta.lua: the units, and the
+# messages that were joined from pieces over breaks, are the ones that were put. Run it at the top of the repository;
+# with `--call HOST:PORT` a foreign responder is called.
 set -u
 cd "$(dirname "$0")/.." || exit 2
 for tool in tshark python3; do

@@ -1,8 +1,8 @@
 #!/usr/bin/env bash
-# What `mta submit` of a message to a mailbox costs beside 2,000 messages that are held for a peer, to what it costs in an
-# empty spool, and what reading such a spool costs alone, by `mta spool`. User and system time of the fastest of five runs
-# on this machine. Run it at the top of the repository: checks/held_speed.sh [HELD]. Where MTA names a program, that one is
-# timed, and nothing is built.
+# What `mta submit` of a message to a mailbox costs beside 2,000 messages that are held for a peer, to what it costs
+# in an empty spool, and what reading such a spool costs alone, by `mta spool`. User and system time of the fastest of
+# five runs on this machine. Run it at the top of the repository: checks/held_speed.sh [HELD]. Where MTA names a
+# program, that one is timed, and nothing is built.
 set -u
 cd "$(dirname "$0")/.." || exit 2
 if [ -n "${MTA:-}" ]; then

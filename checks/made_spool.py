@@ -1,7 +1,9 @@
 #!/usr/bin/env python3
-"""made_spool.py ITEMS TABLES MESSAGE FILE: writes a spool in which the message was accepted so many times under these tables, and each item was
-delivered to its first recipient, as a journal of steps that is made here from its format (docs/ARCHITECTURE.md): a record is an open gate, four octets
-of length and the body, and a closed gate ends the history."""
+"""made_spool.py ITEMS TABLES MESSAGE FILE: writes a spool in which the message was accepted so many times.
+
+Each item was delivered to its first recipient, under these tables. The journal of steps is made here from its format
+(docs/ARCHITECTURE.md): a record is an open gate, four octets of length and the body, and a closed gate ends the history.
+"""
 import sys
 
 

@@ -1,8 +1,8 @@
 #!/usr/bin/env bash
 # Messages that are submitted a second into an empty spool and into one of many items, what opening such a spool takes
 # beside one of half as many, and the memory that it takes beside the octets of its file, in one run on this machine.
-# Run it at the top of the repository: checks/submit_speed.sh [ITEMS]. The files are made under /var/tmp. Where MTA names a
-# program, that one is timed, and nothing is built.
+# Run it at the top of the repository: checks/submit_speed.sh [ITEMS]. The files are made under /var/tmp. Where MTA
+# names a program, that one is timed, and nothing is built.
 set -eu
 cd "$(dirname "$0")/.."
 if [ -n "${MTA:-}" ]; then
@@ -69,6 +69,7 @@ memory = (opened[2] - fresh[2]) * 1024
 print(f"processors: {os.cpu_count()}, load before: {os.getloadavg()[0]:.1f}")
 print(f"submitted a second into an empty spool, {many} in all: {into_empty:.0f}")
 print(f"submitted a second into a spool of {items} items: {1 / opened[0]:.2f}")
-print(f"opening {items} items of one recipient: {user:.2f} s of a processor, {user / lower:.2f} of that for half as many")
+print(f"opening {items} items of one recipient: {user:.2f} s of a processor, "
+      f"{user / lower:.2f} of that for half as many")
 print(f"memory of such a spool: {memory / octets:.2f} of the octets of its file")
 PYTHON
