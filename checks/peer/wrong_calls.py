@@ -117,29 +117,30 @@ def whole(hands, activity):
     hands.put(Start(activity), Data(hands.message()), End(activity))
 
 
-@kind("call", "start-done")
-def start_done(hands):
+def completed(hands):
+    """Sends activity 1, and reads until it is acknowledged."""
     hands.opened()
     whole(hands, 1)
     hands.until(EndAck)
+
+
+@kind("call", "start-done")
+def start_done(hands):
+    completed(hands)
     hands.put(Start(1))
     return WRONG
 
 
 @kind("call", "end-twice")
 def end_twice(hands):
-    hands.opened()
-    whole(hands, 1)
-    hands.until(EndAck)
+    completed(hands)
     hands.put(End(1))
     return WRONG
 
 
 @kind("call", "discard-done")
 def discard_done(hands):
-    hands.opened()
-    whole(hands, 1)
-    hands.until(EndAck)
+    completed(hands)
     hands.put(Discard(1))
     return Abort(COMPLETED)
 
@@ -147,9 +148,7 @@ def discard_done(hands):
 @kind("call", "resume-done")
 def resume_done(hands):
     """What is done is confirmed again, and does not come twice."""
-    hands.opened()
-    whole(hands, 1)
-    hands.until(EndAck)
+    completed(hands)
     hands.put(Resume(1, 1), Data(b"x"), End(1))
     return EndAck(1)
 
