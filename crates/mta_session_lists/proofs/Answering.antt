@@ -18,7 +18,9 @@ use Rattle.mta_session_laws.specs.Runs.{Turn, IsTurn}
 use Rattle.mta_session_laws.specs.Whole.{AreCalls}
 use Rattle.mta_session_laws.specs.Turning.{is_open, is_last_phase}
 use Rattle.mta_session_laws.proofs.Opening.{wanted_in}
-use Rattle.mta_session_laws.proofs.OpeningRecv.{Leaf, Leaves, Stage, at_begin, at_open_read, at_peer, at_stands, at_new_lane, at_spare, at_room, at_old_lane, at_bind, told_end, opening_leaves}
+use Rattle.mta_session_laws.proofs.OpeningRecv.{Leaf, Leaves, Stage, at_begin, at_open_read, at_peer, at_stands}
+use Rattle.mta_session_laws.proofs.OpeningRecv.{at_new_lane, at_spare, at_room, at_old_lane, at_bind, told_end}
+use Rattle.mta_session_laws.proofs.OpeningRecv.{opening_leaves}
 use Rattle.mta_session_laws.proofs.Ending.{open_way}
 use Rattle.mta_session_laws.proofs.Whole.{is_ended}
 use Rattle.mta_runs.specs.Sessions as x

@@ -36,7 +36,8 @@ use Rattle.mta_session_lists.proofs.Waiting.{goes_with, Ready, ready_next, does_
 use Rattle.mta_session_lists.proofs.Receiving.{pending}
 use Rattle.mta_session_lists.proofs.ReceivingPhases.{RecvAt, first}
 use Rattle.mta_session_lists.proofs.ReceivingEnds.{is_opening}
-use Rattle.mta_session_lists.proofs.ReceivingLists.{RecvKeeps, Part, at_opening, in_open, at_last, at_none, part, none_here, Asked, asked_next, is_early, Tells, open_not_last}
+use Rattle.mta_session_lists.proofs.ReceivingLists.{RecvKeeps, Part, at_opening, in_open, at_last, at_none, part}
+use Rattle.mta_session_lists.proofs.ReceivingLists.{none_here, Asked, asked_next, is_early, Tells, open_not_last}
 use Rattle.mta_session_lists.proofs.ReceivedLists.{any_silent, come_receives}
 
 -- ---- the turn of the lock

@@ -29,7 +29,10 @@ use Rattle.mta_session_lists.proofs.Receiving.{Allowed, run_allowed, pending}
 use Rattle.mta_session_lists.proofs.ReceivingPhases.{at_open, After, first, waits_after}
 use Rattle.mta_session_lists.proofs.ReceivingCalls.{reads_owing, open_after}
 use Rattle.mta_session_lists.proofs.ReceivingEnds.{Silent, last_silent, silent_after}
-use Rattle.mta_session_lists.proofs.ReceivingLists.{RestsRecv, RecvKeeps, Part, at_opening, in_open, at_last, at_none, part, none_here, is_early, Tells, opening_wants, opening_first, opening_going, heard, RecvHere, open_reads, open_heard, opening_heard, last_reads, last_heard}
+use Rattle.mta_session_lists.proofs.ReceivingLists.{RestsRecv, RecvKeeps, Part, at_opening, in_open, at_last, at_none}
+use Rattle.mta_session_lists.proofs.ReceivingLists.{part, none_here, is_early, Tells, opening_wants, opening_first}
+use Rattle.mta_session_lists.proofs.ReceivingLists.{opening_going, heard, RecvHere, open_reads, open_heard}
+use Rattle.mta_session_lists.proofs.ReceivingLists.{opening_heard, last_reads, last_heard}
 
 -- ---- at the end
 

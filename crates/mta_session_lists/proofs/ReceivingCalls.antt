@@ -29,7 +29,8 @@ use Rattle.mta_session.specs.Follows.{Does, counted}
 use Rattle.mta_session.specs.Fits.{FitsAt, Answers, RepliesTo, AnswersStep}
 use Rattle.mta_session_laws.specs.Runs.{Turn, IsTurn}
 use Rattle.mta_session_laws.specs.Turning.{is_open, is_last_phase, called_for}
-use Rattle.mta_session_laws.specs.TurningRecv.{filled, whole, RecvGoes, secured_by, completed_by, dropped_by, told_by, taken_as, unless_refused, with_action}
+use Rattle.mta_session_laws.specs.TurningRecv.{filled, whole, RecvGoes, secured_by, completed_by, dropped_by, told_by}
+use Rattle.mta_session_laws.specs.TurningRecv.{taken_as, unless_refused, with_action}
 use Rattle.mta_session_laws.proofs.Opening.{wanted_in}
 use Rattle.mta_session_laws.proofs.Whole.{is_ended, in_phase_wanted}
 use Rattle.mta_session_laws.proofs.Ending.{TurnsTo, open_way}
@@ -44,7 +45,8 @@ use Rattle.mta_session_lists.proofs.Found.{never}
 use Rattle.mta_session_lists.proofs.Waiting.{does_at}
 use Rattle.mta_session_lists.proofs.Handing.{NoHand, open_hands}
 use Rattle.mta_session_lists.proofs.Received.{nothing_taken, own_taken, their_taken, quiet_reply, own_step}
-use Rattle.mta_session_lists.proofs.Receiving.{Allowed, split_run, pending, common_action, does_common, HandsOn, does_next}
+use Rattle.mta_session_lists.proofs.Receiving.{Allowed, split_run, pending, common_action, does_common, HandsOn}
+use Rattle.mta_session_lists.proofs.Receiving.{does_next}
 use Rattle.mta_session_lists.proofs.ReceivingPhases.{open_at, last_at, After, first}
 use Rattle.mta_session_lists.proofs.Turns.{HoldsBy}
 use Rattle.mta_session_lists.proofs.TurnsUnits.{unit_goes}

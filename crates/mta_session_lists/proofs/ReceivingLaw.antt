@@ -7,7 +7,8 @@ use Rattle.mta_lane_send.specs.Half.{last_of}
 use Rattle.mta_units.specs.declared.unit.OpenUnit.{OpenUnit}
 use Rattle.mta_ends.specs.Units.{LaneUnit}
 use Rattle.mta_ends.specs.Lanes as h
-use Rattle.mta_ends.specs.Lanes.{Halves, SeenStep, Seen, On, Unopened, Open, Closed, unopened, Allows, LanesAllow, halves_after}
+use Rattle.mta_ends.specs.Lanes.{Halves, SeenStep, Seen, On, Unopened, Open, Closed, unopened, Allows, LanesAllow}
+use Rattle.mta_ends.specs.Lanes.{halves_after}
 use Rattle.mta_ends.specs.Lanes.{lane_in}
 use Rattle.mta_ends.specs.Receiving as r
 use Rattle.mta_ends.specs.Receiving.{RecvEnd, RecvEvent}
@@ -30,7 +31,8 @@ use Rattle.mta_session_laws.proofs.Opening.{wanted_in}
 use Rattle.mta_session_laws.proofs.Whole.{is_ended}
 use Rattle.mta_runs.specs.Receivings.{end_on_link, ArePlain}
 use Rattle.mta_runs.specs.Sessions as x
-use Rattle.mta_runs.specs.Sessions.{SessionEvent, Made, Looked, Got, Refused, Put, took_of, answers_of, receiving_step_of}
+use Rattle.mta_runs.specs.Sessions.{SessionEvent, Made, Looked, Got, Refused, Put, took_of, answers_of}
+use Rattle.mta_runs.specs.Sessions.{receiving_step_of}
 use Rattle.mta_runs.specs.Sessions.{transfer_unit, answer_unit, receiving_event, receiving_events, recv_all, seen_after}
 use Rattle.mta_runs.specs.Sessions.{send_all, sending_event}
 use Rattle.mta_session_lists.specs.Calls.{Call, StepOn, turns_of, list_of}

@@ -33,7 +33,8 @@ use Rattle.mta_session_lists.specs.Calls.{step_told, look_told, told_as, got_as}
 use Rattle.mta_session_lists.proofs.Found.{never}
 use Rattle.mta_session_lists.proofs.Waiting.{goes_with, none_put, none_asked, put_answers, ask_answers}
 use Rattle.mta_session_lists.proofs.Receiving.{Allowed, HandsOn}
-use Rattle.mta_session_lists.proofs.ReceivingPhases.{NewRecv, RecvAt, first, RecvWaits, begin_waits, received_waits, link_waits, unit_waits, bad_waits, agreed_waits, accepted_waits}
+use Rattle.mta_session_lists.proofs.ReceivingPhases.{NewRecv, RecvAt, first, RecvWaits, begin_waits, received_waits}
+use Rattle.mta_session_lists.proofs.ReceivingPhases.{link_waits, unit_waits, bad_waits, agreed_waits, accepted_waits}
 use Rattle.mta_session_lists.proofs.ReceivingCalls.{heard_is, told_is, go_told, bad_told, over_told}
 use Rattle.mta_session_lists.proofs.ReceivingEnds.{end_quiet, is_opening, opening_quiet, answer_quiet}
 

@@ -19,7 +19,8 @@ use Rattle.mta_session_laws.specs.Runs.{Turn, IsTurn}
 use Rattle.mta_session_laws.specs.Whole.{AreCalls}
 use Rattle.mta_session_laws.proofs.Whole.{is_ended, follows_does}
 use Rattle.mta_runs.specs.Sessions.{SessionEvent, Put, Look, EndsSo, RefusesLast}
-use Rattle.mta_session_lists.specs.Calls.{Call, StepOn, turns_of, step_told, look_told, told_as, got_as, come_of, event_of, list_of}
+use Rattle.mta_session_lists.specs.Calls.{Call, StepOn, turns_of, step_told, look_told, told_as, got_as, come_of}
+use Rattle.mta_session_lists.specs.Calls.{event_of, list_of}
 use Rattle.mta_session_lists.proofs.Found.{never}
 use Rattle.mta_session_lists.proofs.Waiting.{goes_with, Ready, ready_next, reading_going}
 

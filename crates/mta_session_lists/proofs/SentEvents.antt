@@ -1,6 +1,7 @@
 -- What the events of a session's list are for its sending half: those that the rules speak of, without the units that
 -- say nothing of a transfer.
-use Rattle.std.proofs.Common.{◌≡◌, ℕ, ◌==◌, ◌-◌, if◌then◌else◌, Bool, true, false, Option, Some, None, Result, Ok, Err, List}
+use Rattle.std.proofs.Common.{◌≡◌, ℕ, ◌==◌, ◌-◌, if◌then◌else◌, Bool, true, false, Option, Some, None, Result, Ok}
+use Rattle.std.proofs.Common.{Err, List}
 use Rattle.std.proofs.Common.{[], ◌∷◌, ◌++◌, refl, sym, ap, subst, ◌∙◌}
 use Rattle.std.proofs.lemmas.Bool.{eq-eqb}
 use Rattle.mta_lane_send.specs.Half.{last_of}

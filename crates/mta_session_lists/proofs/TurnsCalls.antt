@@ -20,7 +20,8 @@ use Rattle.mta_runs.specs.Sessions as x
 use Rattle.mta_runs.specs.Sessions.{SessionEvent, Put, Looked, Made, Look, KeepsTurn, TurnAllows, turn_after}
 use Rattle.mta_session_lists.specs.Calls.{Call, StepOn, turns_of, step_told, look_told, told_as, come_of, list_of}
 use Rattle.mta_session_lists.proofs.Found.{never}
-use Rattle.mta_session_lists.proofs.Waiting.{goes_with, Ready, ready_next, going, is_finish, none_put, none_asked, none_first, does_at, over_says}
+use Rattle.mta_session_lists.proofs.Waiting.{goes_with, Ready, ready_next, going, is_finish, none_put, none_asked}
+use Rattle.mta_session_lists.proofs.Waiting.{none_first, does_at, over_says}
 use Rattle.mta_session_lists.proofs.Turns.{Holds, TurnGoes, if_goes}
 use Rattle.mta_session_lists.proofs.TurnsUnits.{reads_list, reading_aborts, unit_goes}
 use Rattle.mta_session_lists.proofs.TurnsReplies.{reply_goes, go_goes, over_goes, PutAllowed, turned, Done, does_done}

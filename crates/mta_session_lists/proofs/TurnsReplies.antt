@@ -29,13 +29,18 @@ use Rattle.mta_session.specs.declared.phase.Phase.{Phase}
 use Rattle.mta_session.specs.declared.phase.Phase.TheVariants as phase
 use Rattle.mta_session.specs.State.{State, is_initiator}
 use Rattle.mta_session.specs.Wanted.{Wanted, Aborts, Rejects, Ends, Puts, Asks, Reads, Goes_on, Excepts, Never}
-use Rattle.mta_session.specs.Wanted.{open_unit, abort_of, begins, answers_link, puts_accept, on_received, on_batch, on_due, on_start, on_still_idle, is_still, on_step, on_state, is_given_up, on_secured, on_completed, on_dropped, closed, after_accept, with_received, restored, wanted_of_reply, wanted_of_go, wanted_of_over}
-use Rattle.mta_session.specs.Follows.{part_of, part_of_abort, Of_receiver, Of_neither, PutsFor, AsksFor, GoesOn, ExceptsFor, Does}
+use Rattle.mta_session.specs.Wanted.{open_unit, abort_of, begins, answers_link, puts_accept, on_received, on_batch}
+use Rattle.mta_session.specs.Wanted.{on_due, on_start, on_still_idle, is_still, on_step, on_state, is_given_up}
+use Rattle.mta_session.specs.Wanted.{on_secured, on_completed, on_dropped, closed, after_accept, with_received}
+use Rattle.mta_session.specs.Wanted.{restored, wanted_of_reply, wanted_of_go, wanted_of_over}
+use Rattle.mta_session.specs.Follows.{part_of, part_of_abort, Of_receiver, Of_neither, PutsFor, AsksFor, GoesOn}
+use Rattle.mta_session.specs.Follows.{ExceptsFor, Does}
 use Rattle.mta_session.specs.Fits.{FitsAt}
 use Rattle.mta_runs.specs.Sessions as x
 use Rattle.mta_runs.specs.Sessions.{Put, Turn, turn_put, TurnAllows}
 use Rattle.mta_session_lists.proofs.Found.{never, both}
-use Rattle.mta_session_lists.proofs.Turns.{HoldsBy, HasTurn, Closes, Holds, TurnGoes, if_goes, own_turn, abort_allowed, transfer_keeps, answer_keeps}
+use Rattle.mta_session_lists.proofs.Turns.{HoldsBy, HasTurn, Closes, Holds, TurnGoes, if_goes, own_turn}
+use Rattle.mta_session_lists.proofs.Turns.{abort_allowed, transfer_keeps, answer_keeps}
 
 -- ---- before the link is answered
 

@@ -25,7 +25,8 @@ use Rattle.mta_session.specs.Wanted.{on_close_ack, wanted_of_unit, on_answer_by}
 use Rattle.mta_runs.specs.Sessions as x
 use Rattle.mta_runs.specs.Sessions.{Got, Put, Turn, turn_put, turn_got, TurnAllows}
 use Rattle.mta_session_lists.proofs.Found.{never}
-use Rattle.mta_session_lists.proofs.Turns.{HoldsBy, HasTurn, Closes, Holds, UnitGoes, if_unit, own_turn, abort_allowed, is_answer}
+use Rattle.mta_session_lists.proofs.Turns.{HoldsBy, HasTurn, Closes, Holds, UnitGoes, if_unit, own_turn}
+use Rattle.mta_session_lists.proofs.Turns.{abort_allowed, is_answer}
 
 -- ---- an Abort of the other end: the session is about to end
 
