@@ -7,7 +7,8 @@ use Rattle.std.proofs.lemmas.Option.{slice_get_within, get_or_from_slice_get}
 use Rattle.mta_tables.specs.declared.entry.Peer.{Peer as Entry}
 use Rattle.mta_tables.specs.declared.line.Line.{Line}
 use Rattle.mta_tables.specs.declared.line.Line.TheVariants as Said
-use Rattle.mta_tables.specs.Grammar.{Words, NameLine, PeerLine, HasWords, ArePeerWords, IsPeerOf, Mean, Row, IsRow, said_by, name_in, peer_in, names_of, peers_of, first_of, IsTablesText}
+use Rattle.mta_tables.specs.Grammar.{Words, NameLine, PeerLine, HasWords, ArePeerWords, IsPeerOf, Mean, Row, IsRow}
+use Rattle.mta_tables.specs.Grammar.{said_by, name_in, peer_in, names_of, peers_of, first_of, IsTablesText}
 use Rattle.mta_tables.specs.Lines.{PeerText}
 use Rattle.mta_tables.specs.Tables.{TablesValue, peer_of}
 use Rattle.mta_tables.specs.Words.{is_word, is_password, is_mode, is_filled}

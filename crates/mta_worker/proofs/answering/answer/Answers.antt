@@ -38,7 +38,8 @@ returns-in-Complete-clause-answered g c =
     (reply.Complete c.complete.result) c.complete.new.self) (sym c.in-Complete.is) (
       subst (λ (p : List ℕ). AtMoment g.C.Clock.model c.args.spool.now.clock s.moment
           (λ m. Receives g.D.Disk.model (step.Complete l h k n p m)
-          (λ f. IsBad s l h (complete k n p) m (IsNoApdu n p f)) c.args.spool.now c.complete.new.self c.complete.result))
+          (λ f. IsBad s l h (complete k n p) m (IsNoApdu n p f)) c.args.spool.now c.complete.new.self
+          c.complete.result))
           c.as_slice-in-Complete.ensures c.complete.ensures.receives,
       c.complete.ensures.number,
     )
