@@ -2,7 +2,8 @@
 """made_spool.py ITEMS TABLES MESSAGE FILE: writes a spool in which the message was accepted so many times.
 
 Each item was delivered to its first recipient, under these tables. The journal of steps is made here from its format
-(docs/ARCHITECTURE.md): a record is an open gate, four octets of length and the body, and a closed gate ends the history.
+(docs/ARCHITECTURE.md): a record is an open gate, four octets of length and the body, and a closed gate ends the
+history.
 """
 import sys
 
