@@ -174,9 +174,11 @@ impl MemClock {
 }
 
 impl Clock for MemClock {
-    ghost use Rattle.mta_edge.specs.Moments.{may_tell, later_moments};
+    ghost use Rattle.mta_edge.specs.Moments.{may_tell, later_moments, memory_clock, memory_clock_laws};
 
-    ghost model = { record { tells = may_tell } };
+    ghost model = { memory_clock };
+
+    ghost laws = { memory_clock_laws };
 
     fn now(&mut self) -> u64
         ensures told { may_tell self.old result }

@@ -22,7 +22,11 @@ impl<'a, R: rt::Clock> SystemClock<'a, R> {
 }
 
 impl<R: rt::Clock> Clock for SystemClock<'_, R> {
-    ghost model = { record { tells = λ _ _. Unit {0} } };
+    ghost use Rattle.mta_edge.specs.Views.{untold_clock, untold_clock_laws};
+
+    ghost model = { untold_clock };
+
+    ghost laws = { untold_clock_laws };
 
     fn now(&mut self) -> u64 {
         let Ok(now) = SystemTime::now(self.runtime) else {

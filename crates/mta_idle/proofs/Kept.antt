@@ -7,7 +7,8 @@ use Rattle.mta_machine.specs.declared.item.Status.{Status}
 use Rattle.mta_machine.specs.Apdu.{value_of, is_report}
 use Rattle.mta_machine.specs.Items.{ItemValue, Machine, numbered, set_numbered, names, has_status, is_pending}
 use Rattle.mta_machine.specs.Rules.{Failure}
-use Rattle.mta_machine.specs.Machine.{Discharge, delivered, expanded, affirmed, not_delivered, failed, discarded, passed}
+use Rattle.mta_machine.specs.Machine.{Discharge, delivered, expanded, affirmed, not_delivered, failed, discarded}
+use Rattle.mta_machine.specs.Machine.{passed}
 use Rattle.mta_machine.specs.Machine.{sent, MachineStep, set_tables, accept, discharge, machine_after, machine_run}
 use Rattle.mta_machine.specs.Machine.{items_after, discharged_item, status_after, with_statuses}
 use Rattle.mta_machine.proofs.Numbered.{set-same, set-other, numbered-front}

@@ -17,7 +17,8 @@ use Rattle.mta_tables.specs.Tables.{TablesValue}
 use Rattle.mta_procedures.specs.declared.verdict.Verdict.{Verdict}
 use Rattle.mta_procedures.specs.Copies.{is_long, outgoing_message, outgoing_probe, outgoing_report}
 use Rattle.mta_procedures.specs.Criticals.{has_critical}
-use Rattle.mta_procedures.specs.Facts.{Facts, facts_of_message, facts_of_probe, facts_of_report, is_unwanted, list_at, of_list}
+use Rattle.mta_procedures.specs.Facts.{Facts, facts_of_message, facts_of_probe, facts_of_report, is_unwanted, list_at}
+use Rattle.mta_procedures.specs.Facts.{of_list}
 use Rattle.mta_procedures.specs.Histories.{is_in_history, has_full_history}
 use Rattle.mta_procedures.specs.Members.{has_no_copy, members_copy, members_envelope, members_length, message_octets}
 use Rattle.mta_procedures.specs.Situations.{Situation, situation, Terms, terms_of, report_terms, hold_of, is_deferred}
@@ -29,7 +30,8 @@ use Rattle.mta_procedures.proofs.LongLaws.{messages_long, probes_long}
 use Rattle.mta_names.specs.declared.attributes.Attributes.{Attributes}
 use Rattle.mta_machine.specs.Apdu.{value_of}
 use Rattle.mta_machine.specs.Items.{numbered}
-use Rattle.mta_machine.specs.Rules.{expired_under, is_expired, read_both, tables_value, terms_in, verdict_of, verdict_under}
+use Rattle.mta_machine.specs.Rules.{expired_under, is_expired, read_both, tables_value, terms_in, verdict_of}
+use Rattle.mta_machine.specs.Rules.{verdict_under}
 use Rattle.mta_idle.specs.Next.{next_in, next_under, next_change}
 use Rattle.mta_idle.specs.Idle.{calls_at_once}
 use Rattle.mta_idle.specs.Laws.{AreSame, StaysUntil, VerdictsStay, VerdictsAreLast, IdleUntilNext}

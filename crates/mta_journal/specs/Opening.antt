@@ -66,12 +66,23 @@ LongStays model old new = (f : List ℕ) → model.content old ≡ Some f → 9 
 abbrev pub BeforeOrSame : {D : Type 0} → DiskView D → D → List ℕ → List ℕ → Type 0
 BeforeOrSame model old f g = model.may_leave old g ⊎ IsSame f g
 
+-- since this moment of the call a crash leaves the same
+pub record IsSameFrom {D : Type 0} (model : DiskView D) (f : List ℕ) (old new : D) (since : ℕ) : Type 0 where
+  pub from : model.moment old ≤ since
+  pub until : since ≤ model.moment new
+  pub same : (g : List ℕ) → model.left_since new since g → IsSame f g
+
 -- since a moment in the call, that of its first sync, a crash leaves the same
 pub record SameSince {D : Type 0} (model : DiskView D) (f : List ℕ) (old new : D) : Type 0 where
   pub since : ℕ
   pub from : model.moment old ≤ since
   pub until : since ≤ model.moment new
   pub same : (g : List ℕ) → model.left_since new since g → IsSame f g
+
+-- at which moment that is need not be told
+pub same_since : {D : Type 0} (model : DiskView D) (f : List ℕ) (old new : D) (since : ℕ)
+    → IsSameFrom model f old new since → SameSince model f old new
+same_since model f old new since is = record { since = since; from = is.from; until = is.until; same = is.same }
 
 -- What a crash leaves of a disk on which a journal is opened: where the first sync failed, what one before might have
 -- left, and since that sync the same.

@@ -14,7 +14,8 @@ ghost use Rattle.mta_edge.specs.Outside.{ContentGoes};
 ghost use Rattle.mta_edge.specs.Views.{StaysTold, WhereTold};
 ghost use Rattle.mta_journal.specs.Bodies.{AreShort, StandsFor};
 ghost use Rattle.mta_journal.specs.Faults.{IsNoJournalAt};
-ghost use Rattle.mta_journal.specs.Opening.{BeforeOrSame, HasOpenCause, HasRefused, IsLeft, IsRefused, IsSame, LongStays, OnNotSpool, SameSince, Stored};
+ghost use Rattle.mta_journal.specs.Opening.{BeforeOrSame, HasOpenCause, HasRefused, IsLeft, IsRefused, IsSame, IsSameFrom, LongStays};
+ghost use Rattle.mta_journal.specs.Opening.{OnNotSpool, Stored};
 
 use crate::journal::Journal;
 use crate::read::{Found, check_magic, read_bodies};
@@ -22,6 +23,7 @@ use crate::why::OpenWhy;
 use mta_disk::write_synced;
 use mta_edge::{Disk, Octets};
 use std::alloc::Global;
+use std::snapshot::Snapshot;
 
 // The octets `MTASPL01` and a closed gate.
 const EMPTY: [u8; 9] = *b"MTASPL01\0";
@@ -29,12 +31,14 @@ const EMPTY: [u8; 9] = *b"MTASPL01\0";
 // The offset of the first gate.
 const FIRST_GATE: u64 = 8;
 
-/// A journal that was opened: the offset of its first record's gate, and the bodies that it holds.
+/// A journal that was opened: the offset of its first record's gate, the bodies that it holds, and, for clauses alone, the
+/// disk as the first sync left it.
 #[derive(Drop)]
 pub struct Opened<D: Disk + Drop> {
     pub journal: Journal<D>,
     pub first: u64,
     pub bodies: Vec<Octets>,
+    pub synced: Snapshot<D>,
 }
 
 /// A refusal, which hands the disk back.
@@ -100,22 +104,31 @@ fn find<D: Disk>(alloc: Global, disk: &mut D) -> Result<Found, OpenWhy>
     Ok(found)
 }
 
+// What was found on a disk, and the disk as the first sync left it.
+#[derive(Drop)]
+struct Recovered<D> {
+    found: Found,
+    synced: Snapshot<D>,
+}
+
 // Finds the bodies on a disk that a crash may have left.
-fn recover<D: Disk>(alloc: Global, disk: &mut D) -> Result<Found, OpenWhy>
-    ensures stands { IfOk result (λ r. WhereTold D.model disk.old (λ f. StandsFor f r.bodies.items)) }
-    ensures stored { IfOk result (λ r. Stored D.model disk.new r.size r.bodies.items) }
+fn recover<D: Disk>(alloc: Global, disk: &mut D) -> Result<Recovered<D>, OpenWhy>
+    ensures stands { IfOk result (λ r. WhereTold D.model disk.old (λ f. StandsFor f r.found.bodies.items)) }
+    ensures stored { IfOk result (λ r. Stored D.model disk.new r.found.size r.found.bodies.items) }
     ensures told { StaysTold D.model disk.old disk.new }
     ensures settled { OnOk result (Settled D.model disk.new) }
     ensures refused { OnNotSpool result (λ p. ContentGoes D.model (IsRefused p) disk.old disk.new) }
     ensures kept { LongStays D.model disk.old disk.new }
     ensures cause { HasOpenCause (D.model.faults disk.old) (D.model.faults disk.new) result }
     ensures images { CrashLeaves D.model (BeforeOrSame D.model disk.old) disk.old disk.new }
-    ensures since { OnOk result (WhereTold D.model disk.old (λ f. SameSince D.model f disk.old disk.new)) }
+    ensures since { IfOk result (λ r. WhereTold D.model disk.old
+        (λ f. IsSameFrom D.model f disk.old disk.new (D.model.moment r.synced.value))) }
     ensures left { WhereTold D.model disk.old (λ f. IsLeft D.model f disk.old disk.new) }
 {
     disk.sync()?;
+    let synced = Snapshot::of(disk);
     let found = find(alloc, disk)?;
-    Ok(found)
+    Ok(Recovered { found, synced })
 }
 
 impl<D: Disk + Drop> Journal<D> {
@@ -136,7 +149,8 @@ impl<D: Disk + Drop> Journal<D> {
         ensures later { IfOk result (λ o. D.model.faults disk ≤ D.model.faults o.journal.disk) }
         ensures kept { IfOk result (λ o. LongStays D.model disk o.journal.disk) }
         ensures images { IfOk result (λ o. CrashLeaves D.model (BeforeOrSame D.model disk) disk o.journal.disk) }
-        ensures since { IfOk result (λ o. WhereTold D.model disk (λ f. SameSince D.model f disk o.journal.disk)) }
+        ensures since { IfOk result (λ o. WhereTold D.model disk
+            (λ f. IsSameFrom D.model f disk o.journal.disk (D.model.moment o.synced.value))) }
         ensures refused { IfErr result (λ e. HasRefused D.model disk e.disk e.why) }
         ensures refused_told { IfErr result (λ e. StaysTold D.model disk e.disk) }
         ensures refused_kept { IfErr result (λ e. LongStays D.model disk e.disk) }
@@ -144,7 +158,12 @@ impl<D: Disk + Drop> Journal<D> {
         ensures refused_images { IfErr result (λ e. CrashLeaves D.model (BeforeOrSame D.model disk) disk e.disk) }
     {
         match recover(alloc, &mut disk) {
-            Ok(Found { size, bodies }) => Ok(Opened {
+            Ok(
+                Recovered {
+                    found: Found { size, bodies },
+                    synced,
+                },
+            ) => Ok(Opened {
                 journal: Journal {
                     alloc,
                     disk,
@@ -153,6 +172,7 @@ impl<D: Disk + Drop> Journal<D> {
                 },
                 first: FIRST_GATE,
                 bodies,
+                synced,
             }),
             Err(why) => Err(OpenFault { disk, why }),
         }

@@ -50,6 +50,7 @@ fn append_all(alloc: Global, file: File, body: &[u8], count: u32) -> Result<()>
         mut journal,
         first: _,
         bodies: _,
+        synced: _,
     } = opened;
     for _ in 0..count {
         if journal.append(body).is_err() {

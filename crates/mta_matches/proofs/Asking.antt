@@ -199,6 +199,7 @@ listener_asked : (t : State) (x : AnyUnit) → AsksAs (as_listener t x)
 listener_asked t unit.Give = if_asked (t.twa && is_free t.recv.stage) (Goes_on _) (Aborts 4) tt tt
 listener_asked t unit.Close =
     if_asked (not (is_initiator t.side) && is_free t.recv.stage) (on_close t) (Aborts 4) (close_asked t) tt
+listener_asked t (unit.Please priority) = if_asked t.twa (Goes_on _) (Aborts 4) tt tt
 listener_asked t x = takes_asked t (taken t.checkpoint t.recv x)
 
 open_unit_asked : (t : State) (x : AnyUnit) → AsksAs (on_unit t x)

@@ -122,6 +122,7 @@ listener_place : (t : State) (x : AnyUnit) → PlaceAs t (as_listener t x)
 listener_place t unit.Give = if_place t (t.twa && is_free t.recv.stage) (Goes_on _) (Aborts 4) refl tt
 listener_place t unit.Close =
     if_place t (not (is_initiator t.side) && is_free t.recv.stage) (on_close t) (Aborts 4) (close_place t) tt
+listener_place t (unit.Please priority) = if_place t t.twa (Goes_on _) (Aborts 4) refl tt
 listener_place t x = takes_place t (taken t.checkpoint t.recv x)
 
 open_place : (t : State) (x : AnyUnit) → PlaceAs t (on_unit t x)

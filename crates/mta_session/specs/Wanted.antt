@@ -445,6 +445,10 @@ on_close t =
     else (if t.twa && not (is_idle t.send.state) then puts_please t
     else Asks (ask.CloseLane t.lane t.generation) (in_phase (let_go t) phase.AsksClose))
 
+-- a Please that crossed a Give, or came again, means nothing
+abbrev pub passes_please : State → Wanted
+passes_please t = if t.twa then Goes_on t else Aborts 4
+
 abbrev pub takes : State → Option r.RecvEnd → Wanted
 takes t (Some e) = Goes_on (record t { recv = e })
 takes t None = Aborts 4
@@ -453,6 +457,7 @@ abbrev pub as_listener : State → AnyUnit → Wanted
 as_listener t unit.Give =
     if t.twa && is_free t.recv.stage then Goes_on (record t { ours = true; please = false }) else Aborts 4
 as_listener t unit.Close = if not (is_initiator t.side) && is_free t.recv.stage then on_close t else Aborts 4
+as_listener t (unit.Please priority) = passes_please t
 as_listener t u = takes t (taken t.checkpoint t.recv u)
 
 abbrev pub on_unit : State → AnyUnit → Wanted

@@ -102,6 +102,7 @@ close_stays t v e = if_stays t e v.please _ _ (λ b. tt) (λ b. if_stays t e (v.
 listener_stays : (t v : State) (e : Event) (x : AnyUnit) → Stays t e (as_listener v x)
 listener_stays t v e unit.Give = if_stays t e (v.twa && is_free v.recv.stage) _ _ (λ b. tt) (λ b. tt)
 listener_stays t v e unit.Close = if_stays t e (not (is_initiator v.side) && is_free v.recv.stage) _ _ (λ b. close_stays t v e) (λ b. tt)
+listener_stays t v e (unit.Please priority) = if_stays t e v.twa _ _ (λ b. tt) (λ b. tt)
 listener_stays t v e x = takes_stays t v e (taken v.checkpoint v.recv x)
 
 unit_stays : (p : Phase) (t : State) (x : AnyUnit) → is_open p ≡ true → (t.left - 1 == 0) ≡ false → Stays t (event.Unit x) (wanted_of_unit p (less t) x)

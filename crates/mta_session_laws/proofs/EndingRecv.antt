@@ -112,6 +112,7 @@ close_met t = if_met [] t.please _ _ tt (if_met [] (t.twa && not (is_idle t.send
 listener_met : (t : State) (x : AnyUnit) → Met (taken_as x) (as_listener t x)
 listener_met t unit.Give = if_met [] (t.twa && is_free t.recv.stage) _ _ tt refl
 listener_met t unit.Close = if_met [] (not (is_initiator t.side) && is_free t.recv.stage) _ _ (close_met t) refl
+listener_met t (unit.Please priority) = if_met [] t.twa _ _ tt refl
 listener_met t x = takes_met t (taken_as x) (taken t.checkpoint t.recv x)
 
 unit_met : (t : State) (x : AnyUnit) → Met (if t.ours then [] else taken_as x) (on_unit t x)

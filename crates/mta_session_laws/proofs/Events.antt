@@ -82,7 +82,7 @@ listener_goes t h o (unit.Resume z1 z2) = takes_goes t h o (taken t.checkpoint t
 listener_goes t h o (unit.ResumeAck z1 z2) = takes_goes t h o (taken t.checkpoint t.recv (unit.ResumeAck z1 z2))
 listener_goes t h o (unit.Discard z) = takes_goes t h o (taken t.checkpoint t.recv (unit.Discard z))
 listener_goes t h o (unit.DiscardAck z) = takes_goes t h o (taken t.checkpoint t.recv (unit.DiscardAck z))
-listener_goes t h o (unit.Please z) = takes_goes t h o (taken t.checkpoint t.recv (unit.Please z))
+listener_goes t h o (unit.Please z) = if_goes (listed t.send h o) [] t.twa (Goes_on t) (Aborts 4) (h, o, refl, tt) tt
 listener_goes t h o unit.Give = if_goes (listed t.send h o) [] (t.twa && is_free t.recv.stage) (Goes_on (record t { ours = true; please = false })) (Aborts 4) (h, o, refl, tt) tt
 listener_goes t h o (unit.Exception z1 z2) = takes_goes t h o (taken t.checkpoint t.recv (unit.Exception z1 z2))
 listener_goes t h o (unit.Abort z) = takes_goes t h o (taken t.checkpoint t.recv (unit.Abort z))

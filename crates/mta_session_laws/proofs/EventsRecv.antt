@@ -153,7 +153,7 @@ listener_goes t p (unit.Resume z1 z2) o = takes_goes t p (u.Resume z1 z2) (r.tak
 listener_goes t p (unit.ResumeAck z1 z2) o = tt
 listener_goes t p (unit.Discard z) o = takes_goes t p (u.Discard z) (r.take t.recv (u.Discard z)) o refl
 listener_goes t p (unit.DiscardAck z) o = tt
-listener_goes t p (unit.Please z) o = tt
+listener_goes t p (unit.Please z) o = if_goes (whole phase.Reads t.recv p) [] t.twa (Goes_on t) (Aborts 4) (p, refl) tt
 listener_goes t p unit.Give o = if_goes (whole phase.Reads t.recv p) [] (t.twa && is_free t.recv.stage) (Goes_on (record t { ours = true; please = false })) (Aborts 4) (p, refl) tt
 listener_goes t p (unit.Exception z1 z2) o = tt
 listener_goes t p (unit.Abort z) o = tt

@@ -86,6 +86,7 @@ takes_writes v None a = tt
 listener_writes : (v : State) (x : AnyUnit) → Ends_write v → Writes (as_listener v x)
 listener_writes v unit.Give a = writes_if (v.twa && is_free v.recv.stage) _ _ a tt
 listener_writes v unit.Close a = writes_if (not (is_initiator v.side) && is_free v.recv.stage) _ _ (close_writes v a) tt
+listener_writes v (unit.Please priority) a = writes_if v.twa _ _ a tt
 listener_writes v x a = takes_writes v (taken v.checkpoint v.recv x) a
 
 reads_writes : (v : State) (x : AnyUnit) → Ends_write v → Writes (wanted_of_unit phase.Reads v x)

@@ -95,6 +95,7 @@ IsUnheard t x = (called t.send x ≡ None) × (heard t.send x ≡ None)
 abbrev pub IsUntaken : State → AnyUnit → Type 0
 IsUntaken t unit.Give = (t.twa && is_free t.recv.stage) ≡ false
 IsUntaken t unit.Close = (not (is_initiator t.side) && is_free t.recv.stage) ≡ false
+IsUntaken t (unit.Please priority) = t.twa ≡ false
 IsUntaken t x = taken t.checkpoint t.recv x ≡ None
 
 abbrev pub IsUnallowed : (ours : Bool) → State → AnyUnit → Type 0

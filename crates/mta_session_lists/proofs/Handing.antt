@@ -92,6 +92,7 @@ takes_none t None = tt
 listener_none : (t : State) (u : AnyUnit) → NoHand (as_listener t u)
 listener_none t unit.Give = if_none (t.twa && is_free t.recv.stage) _ _ tt tt
 listener_none t unit.Close = if_none (not (is_initiator t.side) && is_free t.recv.stage) _ _ (close_none t) tt
+listener_none t (unit.Please priority) = if_none t.twa _ _ tt tt
 listener_none t u = takes_none t (taken t.checkpoint t.recv u)
 
 reads_none : (t : State) (u : AnyUnit) → NoHand (on_unit t u)

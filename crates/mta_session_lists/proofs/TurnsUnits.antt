@@ -170,6 +170,9 @@ theirs_goes t unit.Close o a =
     if_unit x.Theirs unit.Close (not (is_initiator t.side) && is_free t.recv.stage) _ _
     (λ b. closing_behind x.Theirs t o (first_so (not (is_initiator t.side)) (is_free t.recv.stage) b) tt refl)
     (λ b. (tt, tt))
+theirs_goes t (unit.Please priority) o a =
+    if_unit x.Theirs (unit.Please priority) t.twa _ _
+    (λ b. (tt, subst (λ i. HoldsBy i t.please x.Theirs) (sym o) (inl refl))) (λ b. (tt, tt))
 theirs_goes t (unit.Start k) o a = takes_goes x.Theirs (unit.Start k) t _ tt tt tt
     (subst (λ i. HoldsBy i t.please x.Theirs) (sym o) (inl refl))
 theirs_goes t (unit.Piece k) o a = takes_goes x.Theirs (unit.Piece k) t _ tt tt tt
@@ -193,6 +196,9 @@ closing_goes t unit.Close o q a =
     if_unit x.Their_closing unit.Close (not (is_initiator t.side) && is_free t.recv.stage) _ _
     (λ b. closing_behind x.Their_closing t o (first_so (not (is_initiator t.side)) (is_free t.recv.stage) b) tt refl)
     (λ b. (tt, tt))
+closing_goes t (unit.Please priority) o q a =
+    if_unit x.Their_closing (unit.Please priority) t.twa _ _
+    (λ b. (tt, subst (λ i. HoldsBy i t.please x.Their_closing) (sym o) (inr (refl, q)))) (λ b. (tt, tt))
 closing_goes t (unit.Start k) o q a = takes_goes x.Their_closing (unit.Start k) t _ tt tt tt
     (subst (λ i. HoldsBy i t.please x.Their_closing) (sym o) (inr (refl, q)))
 closing_goes t (unit.Piece k) o q a = takes_goes x.Their_closing (unit.Piece k) t _ tt tt tt

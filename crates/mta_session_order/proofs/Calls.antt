@@ -107,6 +107,7 @@ takes_leads t e None o = tt
 listener_leads : (t : State) (x : AnyUnit) → t.ours ≡ false → Clear t → Leads t (event.Unit x) (as_listener (less t) x)
 listener_leads t unit.Give o d = if_leads t _ (t.twa && is_free t.recv.stage) _ _ (λ b. λ i. d) (λ b. tt)
 listener_leads t unit.Close o d = if_leads t _ (not (is_initiator t.side) && is_free t.recv.stage) _ _ (λ b. close_leads t d) (λ b. tt)
+listener_leads t (unit.Please priority) o d = if_leads t _ t.twa _ _ (λ b. λ i. d) (λ b. tt)
 listener_leads t x o d = takes_leads t (event.Unit x) (taken t.checkpoint t.recv x) o
 
 reads_leads : (t : State) (x : AnyUnit) → Clear t → Leads t (event.Unit x) (wanted_of_unit phase.Reads (less t) x)

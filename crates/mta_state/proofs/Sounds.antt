@@ -1,5 +1,6 @@
 -- What is sound before a step is sound behind it.
-use Rattle.std.proofs.Common.{◌≡◌, ◌≢◌, ℕ, zero, suc, ◌+◌, ◌≤◌, ◌<◌, ◌^◌, Bool, true, false, cond, List, [], ◌∷◌, ◌++◌, length}
+use Rattle.std.proofs.Common.{◌≡◌, ◌≢◌, ℕ, zero, suc, ◌+◌, ◌≤◌, ◌<◌, ◌^◌, Bool, true, false, cond, List, [], ◌∷◌}
+use Rattle.std.proofs.Common.{◌++◌, length}
 use Rattle.std.proofs.Common.{map, Option, Some, None, refl, sym, ap, subst, ◌∙◌, arith}
 use Rattle.std.specs.Prelude.{IfSome, is_some, option_map, slice_get}
 use Rattle.std.proofs.lemmas.List.{length-append}
@@ -23,7 +24,8 @@ use Rattle.mta_histories.specs.Classes.{was_sent, was_refused, was_denied, was_d
 use Rattle.mta_histories.specs.Classes.{confirm, to_end, settle, abandon, secure, complete, drop_pieces, close}
 use Rattle.mta_histories.specs.Classes.{Class, records, accepts, settles, opens, on_lane, class_of, moment_of}
 use Rattle.mta_histories.specs.Lanes.{Transfer, Lane, State, empty, lane_at, is_dropping}
-use Rattle.mta_histories.specs.History.{StepNeeds, MachineNeeds, LaneNeeds, IsPossible, after_step, class_steps, lane_steps}
+use Rattle.mta_histories.specs.History.{StepNeeds, MachineNeeds, LaneNeeds, IsPossible, after_step, class_steps}
+use Rattle.mta_histories.specs.History.{lane_steps}
 use Rattle.mta_histories.specs.History.{on_lane_steps, outcome_steps, failures, sendings, failure_of_kind, later, when}
 use Rattle.mta_histories.specs.Kept.{IsKept}
 use Rattle.mta_histories.proofs.Keeps.{histories_keep, steps_keep}

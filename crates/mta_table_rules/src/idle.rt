@@ -1,11 +1,11 @@
 //! Until when items are idle.
 
-ghost use Rattle.std.specs.Prelude.{◌≡◌, ◌≤◌, ◌<◌, ◌^◌, ◌↔◌, IfOk, IfSome, IsTrue, Some, max, nat_lt};
-ghost use Rattle.std.specs.Prelude.{unwrap_or, false, length};
+ghost use Rattle.std.specs.Prelude.{◌≡◌, ◌≤◌, ◌<◌, ◌^◌, ◌↔◌, IfOk, IfSome, IsTrue, Some, nat_lt};
+ghost use Rattle.std.specs.Prelude.{false, length};
 ghost use Rattle.std.specs.Option.{option_map_or};
 ghost use Rattle.mta_apdu.specs.Apdus.{apdu_value};
 ghost use Rattle.mta_ber.specs.Times.{last_moment};
-ghost use Rattle.mta_procedures.specs.Situations.{expiry, hold_of, situation, terms_of};
+ghost use Rattle.mta_procedures.specs.Situations.{situation, terms_of};
 ghost use Rattle.mta_idle.specs.Idle.{calls_at_once, IsIdleUntil};
 ghost use Rattle.mta_idle.specs.Next.{next_in, next_under};
 ghost use Rattle.mta_table_rules.specs.Waits.{AllWaitUnder, IsIdleUnder, WaitsUnder};
@@ -19,45 +19,8 @@ use mta_items::is_pending;
 use mta_machine::Item;
 use mta_procedures::Verdict;
 use mta_tables::Tables;
-use mta_verdicts::is_expired;
+use mta_verdicts::{expiry, is_expired};
 use std::alloc::Global;
-
-/// For how many seconds an item of a priority may wait, at most a year.
-fn hold_of(tables: &Tables, priority: Priority) -> u64
-    ensures exact { result ≡ hold_of tables.now.holds priority }
-    ensures small { result ≤ 31536000 }
-{
-    tables.are_whole();
-    let holds = tables.holds();
-    match priority {
-        Priority::Urgent => holds.urgent,
-        Priority::Normal => holds.normal,
-        Priority::NonUrgent => holds.non_urgent,
-    }
-}
-
-/// The greater of the arrival and the deferral.
-fn later_of(arrival: u64, deferral: Option<u64>) -> u64
-    requires within { arrival ≤ last_moment }
-    requires deferred { IfSome deferral (λ d. d ≤ last_moment) }
-    ensures exact { result ≡ max arrival (unwrap_or deferral 0) }
-    ensures small { result ≤ last_moment }
-{
-    match deferral {
-        Some(deferral) => arrival.max(deferral),
-        None => arrival,
-    }
-}
-
-/// When an item of these terms expires.
-fn expiry(tables: &Tables, arrival: u64, priority: Priority, deferral: Option<u64>) -> u64
-    requires within { arrival ≤ last_moment }
-    requires deferred { IfSome deferral (λ d. d ≤ last_moment) }
-    ensures { let s = situation tables.now arrival arrival in
-        result ≡ expiry s (record { priority = priority; deferral = deferral }) }
-{
-    later_of(arrival, deferral) + hold_of(tables, priority)
-}
 
 /// Whether the deferral is still to come.
 fn is_deferred(deferral: Option<u64>, moment: u64) -> bool

@@ -8,7 +8,7 @@ mod looks;
 mod verdict;
 
 pub use list::is_in_history;
-pub use looks::is_expired;
+pub use looks::{expiry, is_expired};
 pub use mta_procedures::Verdict;
 pub use verdict::{
     verdict_message, verdict_on_message, verdict_on_probe, verdict_probe, verdict_report,

@@ -4,7 +4,7 @@ ghost use Rattle.std.specs.Prelude.{◌≡◌, ◌==◌, ◌≤◌, IfSome, max,
 ghost use Rattle.std.specs.List.{list_any};
 ghost use Rattle.mta_ber.specs.Times.{last_moment};
 ghost use Rattle.mta_procedures.specs.Criticals.{honoured_numbers, is_honoured, is_here, is_critical, has_critical};
-ghost use Rattle.mta_procedures.specs.Situations.{situation, hold_of, is_expired, is_deferred};
+ghost use Rattle.mta_procedures.specs.Situations.{expiry, situation, hold_of, is_expired, is_deferred};
 ghost use Rattle.mta_procedures.specs.Traces.{is_of_domain, comes_back, has_looped};
 
 use mta_envelope::{EnvelopeFields, Priority};
@@ -114,6 +114,16 @@ fn later_of(arrival: u64, deferral: Option<u64>) -> u64
     }
 }
 
+/// When an item of these terms expires.
+pub fn expiry(tables: &Tables, arrival: u64, priority: Priority, deferral: Option<u64>) -> u64
+    requires within { arrival ≤ last_moment }
+    requires deferred { IfSome deferral (λ d. d ≤ last_moment) }
+    ensures { let s = situation tables.now arrival arrival in
+        result ≡ expiry s (record { priority = priority; deferral = deferral }) }
+{
+    later_of(arrival, deferral) + hold_of(tables, priority)
+}
+
 /// Whether an item of these terms has expired.
 pub fn is_expired(
     tables: &Tables,
@@ -127,8 +137,7 @@ pub fn is_expired(
     ensures { let s = situation tables.now arrival moment in
         result ≡ is_expired s (record { priority = priority; deferral = deferral }) }
 {
-    let from = later_of(arrival, deferral);
-    from + hold_of(tables, priority) <= moment
+    expiry(tables, arrival, priority, deferral) <= moment
 }
 
 /// Whether the deferral is still to come.

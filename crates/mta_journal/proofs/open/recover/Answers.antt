@@ -1,5 +1,6 @@
 use Rattle.std.proofs.Common.{⊎_elim, ◌∙◌, sym, subst, arith}
-use Rattle.mta_journal.specs.Opening.{synced, unsynced}
+use Rattle.mta_edge.specs.Views.{WhereTold}
+use Rattle.mta_journal.specs.Opening.{IsSameFrom, synced, unsynced}
 use Rattle.mta_journal.proofs.open.recover.Goals as goal
 
 pub returns-in_err-sync-clause-left : goal.returns-in_err-sync-clause-left
@@ -16,9 +17,22 @@ returns-in_err-found-clause-left g c = λ f told.
     synced (record { since = g.D.Disk.model.moment c.sync.new.self; from = c.sync.ensures.crash.later; until = images.later; same = images.each })
 
 pub returns-clause-since : goal.returns-clause-since
-returns-clause-since g c = λ f told.
+returns-clause-since g c =
+    subst
+    (λ (d : g.row.D.Denot).
+    WhereTold g.D.Disk.model c.args.disk.now
+    (λ f. IsSameFrom g.D.Disk.model f c.args.disk.now c.find.new.disk (g.D.Disk.model.moment d)))
+    (sym c.of-synced.ensures)
+    (λ f told.
     let images = c.find.ensures.images f (c.sync.ensures.content ∙ told) in
-    record { since = g.D.Disk.model.moment c.sync.new.self; from = c.sync.ensures.crash.later; until = images.later; same = images.each }
+    record { from = c.sync.ensures.crash.later; until = images.later; same = images.each })
 
 pub returns-clause-left : goal.returns-clause-left
-returns-clause-left g c = λ f told. synced (returns-clause-since g c f told)
+returns-clause-left g c = λ f told.
+    let images = c.find.ensures.images f (c.sync.ensures.content ∙ told) in
+    synced (record {
+      since = g.D.Disk.model.moment c.sync.new.self;
+      from = c.sync.ensures.crash.later;
+      until = images.later;
+      same = images.each;
+    })

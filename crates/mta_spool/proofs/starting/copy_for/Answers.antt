@@ -12,5 +12,6 @@ pub returns-in-None : goal.returns-in-None
 returns-in-None c =
     some_tables (state_of c.args.replay.now.kept) c.requires.may.0 c.args.activity c.args.batch.now.item
     c.args.batch.now.recipients c.args.moment c.requires.may.1
-    (subst (λ (o : Option (InForce TablesValue)). AreLast text_of (machine_of c.args.replay.now.kept.parts) o) c.in-None.is
-    c.requires.sound.last)
+    (subst
+    (λ (o : Option (InForce TablesValue)). AreLast text_of (machine_of c.args.replay.now.kept.parts) o)
+    c.in-None.is c.requires.sound.last)
