@@ -23,3 +23,15 @@ pub mod ReceivingLaw
 pub mod Sent
 pub mod SentEvents
 pub mod Worked
+pub mod SendingGoes
+pub mod SendingLeft
+pub mod SendingOpen
+pub mod SendingPhases
+pub mod SendingOpening
+pub mod SendingEnds
+pub mod SendingLooks
+pub mod SendingCalls
+pub mod SendingTold
+pub mod SendingAsked
+pub mod SendingList
+pub mod SendingLaw

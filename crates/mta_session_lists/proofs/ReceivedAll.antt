@@ -102,7 +102,7 @@ module _ (spells : List ℕ → Bool) (history : List Seen) where
 
 -- ---- the lane
 
-opening_not_last : (p : Phase) → is_opening p ≡ true → is_last_phase p ≡ false
+pub opening_not_last : (p : Phase) → is_opening p ≡ true → is_last_phase p ≡ false
 opening_not_last phase.AsksDenied i = absurd (never i)
 opening_not_last phase.AsksClose i = absurd (never i)
 opening_not_last (phase.AsksLast y) i = absurd (never i)
@@ -110,7 +110,7 @@ opening_not_last (phase.PutsLast y) i = absurd (never i)
 opening_not_last (phase.Ended y) i = absurd (never i)
 opening_not_last p i = refl
 
-open_has : (p : Phase) → is_open p ≡ true → has_lane p ≡ true
+pub open_has : (p : Phase) → is_open p ≡ true → has_lane p ≡ true
 open_has phase.Puts i = refl
 open_has phase.Reads i = refl
 open_has phase.AsksDue i = refl
@@ -126,7 +126,7 @@ open_has phase.PutsClose i = refl
 open_has phase.ReadsCloseAck i = refl
 open_has p i = absurd (never i)
 
-opening_has : (p : Phase) → is_opening p ≡ true → (p ≡ phase.Begin) ⊎ (has_lane p ≡ true)
+pub opening_has : (p : Phase) → is_opening p ≡ true → (p ≡ phase.Begin) ⊎ (has_lane p ≡ true)
 opening_has phase.Begin i = inl refl
 opening_has phase.AsksValues i = inr refl
 opening_has phase.AsksRecovery i = inr refl
@@ -193,7 +193,7 @@ first_lane t is q =
     (subst (λ p. Does (counted t.before t.event) (wanted_in p (counted t.before t.event) t.event) t.action t.after) q
     does)
 
-opening_lane : (t : Turn) → IsTurn t → (t.before.phase ≡ phase.Begin) ⊎ (has_lane t.before.phase ≡ true)
+pub opening_lane : (t : Turn) → IsTurn t → (t.before.phase ≡ phase.Begin) ⊎ (has_lane t.before.phase ≡ true)
     → t.after.lane ≡ t.before.lane
 opening_lane t is (inl q) = first_lane t is q
 opening_lane t is (inr i) = (lanes_stay t.before t.event t.action t.after i is.follows).0
