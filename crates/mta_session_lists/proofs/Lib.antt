@@ -35,3 +35,6 @@ pub mod SendingTold
 pub mod SendingAsked
 pub mod SendingList
 pub mod SendingLaw
+pub mod Finding
+pub mod FindingCalls
+pub mod FindingLaw

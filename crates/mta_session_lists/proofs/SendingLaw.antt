@@ -346,7 +346,7 @@ call_side : (z : Side) (o : Option OpenUnit) → HasCall z o → is_initiator z 
 call_side (side.Initiator p) o k = absurd k
 call_side (side.Responder own) o k = refl
 
-accept_new : (c v : State) (a : Option Answer) (act : Action) (new : State) → Does c (puts_accept v a) act new
+pub accept_new : (c v : State) (a : Option Answer) (act : Action) (new : State) → Does c (puts_accept v a) act new
     → new ≡ in_phase v phase.PutsAccept
 accept_new c v (Some a) act new d = d.1
 accept_new c v None act new d = elim d [ ]
