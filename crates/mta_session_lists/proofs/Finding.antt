@@ -1,12 +1,13 @@
 -- The pieces of the other end's activity in a history: while a session has the lane in one generation, they are those
 -- that its own steps leave.
-use Rattle.std.proofs.Common.{◌≡◌, ◌⊎◌, inl, inr, ℕ, ◌+◌, ◌-◌, ◌<◌, ◌≤◌, Bool, true, false, Option, Some, None, slice_get}
-use Rattle.std.proofs.Common.{List, [], ◌∷◌, ◌++◌, length, take, refl, sym, ap, subst, ◌∙◌, arith}
+use Rattle.std.proofs.Common.{◌≡◌, ◌⊎◌, inl, inr, ℕ, ◌+◌, ◌<◌, ◌≤◌, Bool, Some, slice_get}
+use Rattle.std.proofs.Common.{List, [], ◌∷◌, length, sym, ap, ◌∙◌, arith}
 use Rattle.mta_ends.specs.Lanes as h
 use Rattle.mta_ends.specs.Lanes.{Halves, SeenStep, Seen, On, Unopened, Open, Closed, Allows, IsHeld, LanesAllow}
 use Rattle.mta_ends.specs.Lanes.{halves_after}
 use Rattle.mta_runs.specs.Sessions as x
 use Rattle.mta_runs.specs.Sessions.{SessionEvent, Made, Looked, Got, Refused, Put, receiving_step_of}
+use Rattle.mta_units.specs.declared.unit.Unit.{Unit as AnyUnit}
 use Rattle.mta_session_lists.specs.Laws.{IsPiece, IsIn}
 use Rattle.mta_session_lists.proofs.Lanes.{lane_at, step_allowed, between_keeps}
 
@@ -96,16 +97,16 @@ module _ (spells : List ℕ → Bool) (history : List Seen) (lane : ℕ) (allow 
       → Owned from ys
   owned_behind from y ys other k = λ q step a e piece. behind_else y q step ys other piece (k q step a e piece)
 
-  pub put_else : (u : _) → IsElse (Put u)
+  pub put_else : (u : AnyUnit) → IsElse (Put u)
   put_else u q step piece e = cc
 
   pub looked_else : (n : ℕ) (look : x.Look) → IsElse (Looked n look)
   looked_else n look q step piece e = cc
 
-  pub got_else : (u : _) → IsElse (Got u)
+  pub got_else : (u : AnyUnit) → IsElse (Got u)
   got_else u q step piece e = cc
 
-  pub refused_else : (u : _) → IsElse (Refused u)
+  pub refused_else : (u : AnyUnit) → IsElse (Refused u)
   refused_else u q step piece e = cc
 
   piece_steps : (step : SeenStep) → IsPiece gen step → receiving_step_of step ≡ [] → ⊥

@@ -1,6 +1,6 @@
 -- What a session finds of octets is so, call by call.
-use Rattle.std.proofs.Common.{◌≡◌, ◌⊎◌, inl, inr, ℕ, suc, ◌+◌, ◌-◌, ◌*◌, ◌<◌, ◌≤◌, ◌==◌, if◌then◌else◌, Bool, true, false}
-use Rattle.std.proofs.Common.{Option, Some, None, Result, Ok, Err, slice_get, List, [], ◌∷◌, ◌++◌, length, take}
+use Rattle.std.proofs.Common.{◌≡◌, inl, inr, ℕ, suc, ◌+◌, ◌-◌, ◌≤◌, if◌then◌else◌, Bool, false}
+use Rattle.std.proofs.Common.{Option, Some, None, Result, Ok, Err, List, [], ◌∷◌, ◌++◌, take}
 use Rattle.std.proofs.Common.{refl, sym, ap, subst, ◌∙◌, arith}
 use Rattle.std.proofs.lemmas.Option.{slice_get_within}
 use Rattle.std.proofs.lemmas.Bool.{eq-eqb}
@@ -28,29 +28,22 @@ use Rattle.mta_session.specs.declared.phase.Phase.{Phase}
 use Rattle.mta_session.specs.declared.phase.Phase.TheVariants as phase
 use Rattle.mta_session.specs.State.{State}
 use Rattle.mta_session.specs.Wanted.{Wanted, Aborts, Rejects, Ends, Puts, Asks, Reads, Goes_on, Excepts, Never}
-use Rattle.mta_session.specs.Fits.{AnswersAt, RepliesTo}
-use Rattle.mta_session_laws.specs.Runs.{Turn, IsTurn}
+use Rattle.mta_session.specs.Fits.{RepliesTo}
+use Rattle.mta_session_laws.specs.Runs.{Turn}
 use Rattle.mta_session_laws.specs.Turning.{called_for, is_last_phase}
-use Rattle.mta_session_laws.specs.TurningRecv.{whole}
-use Rattle.mta_session_laws.proofs.Whole.{is_ended}
 use Rattle.mta_runs.specs.Receivings.{AreTrue, pieces_behind}
 use Rattle.mta_runs.specs.Sessions as x
 use Rattle.mta_runs.specs.Sessions.{SessionEvent, Made, Looked, Got, Refused, Put, receiving_event, receiving_step_of}
 use Rattle.mta_runs.specs.Sessions.{took_of, answers_of, transfer_unit, answer_unit, recv_all, found_by}
 use Rattle.mta_matches.specs.Asks.{IsAskOf, handed_by}
 use Rattle.mta_session_lists.specs.Calls.{Call, StepOn, step_told, look_told, told_as, got_as, come_of, list_of}
-use Rattle.mta_session_lists.specs.Laws.{IsPiece, IsIn}
 use Rattle.mta_session_lists.specs.Standing.{Stands, Looks, StandsAs, ComesTrue, AllComeTrue}
 use Rattle.mta_session_lists.proofs.Found.{never}
 use Rattle.mta_session_lists.proofs.Lanes.{lane_at, step_allowed, step_leads}
-use Rattle.mta_session_lists.proofs.Waiting.{goes_with, ask_answers}
 use Rattle.mta_session_lists.proofs.Received.{is_receiving, quiet_reply, QuietStep, quiet_step}
-use Rattle.mta_session_lists.proofs.Receiving.{pending, run_allowed, HandsOn}
 use Rattle.mta_session_lists.proofs.ReceivingPhases.{After, first, RecvAt, OpenAt}
-use Rattle.mta_session_lists.proofs.ReceivingLists.{Tells, RecvHere, heard, last_heard, is_early}
-use Rattle.mta_session_lists.proofs.ReceivedLists.{any_silent, event_goes}
-use Rattle.mta_session_lists.proofs.Finding.{Tracks, held_pieces, NonePiece, tracks_between, Owned, IsElse, owned_behind}
-use Rattle.mta_session_lists.proofs.Finding.{put_else, looked_else, got_else, refused_else, made_else, owned_step}
+use Rattle.mta_session_lists.proofs.Finding.{Tracks, held_pieces, tracks_between, Owned, IsElse, owned_behind}
+use Rattle.mta_session_lists.proofs.Finding.{looked_else, got_else, refused_else, made_else, owned_step}
 use Rattle.mta_session_lists.proofs.Finding.{StandBehind, none_before_step, none_before_look}
 
 -- ---- what is asked of a list
@@ -165,7 +158,8 @@ told_else spells history lane allow gen seen (Some z) look k =
     made_else spells history lane allow gen (seen - 1) z.lane z.step k
 told_else spells history lane allow gen seen None look k = looked_else spells history lane allow gen seen look
 
-pub got_as_else : (spells : List ℕ → Bool) (history : List Seen) (lane : ℕ) (allow : LanesAllow spells history) (gen : ℕ)
+pub got_as_else : (spells : List ℕ → Bool) (history : List Seen) (lane : ℕ) (allow : LanesAllow spells history) (gen :
+    ℕ)
     (w : Wanted) (y : AnyUnit) → IsElse spells history lane allow gen (got_as w y)
 got_as_else spells history lane allow gen (Aborts reason) y = refused_else spells history lane allow gen y
 got_as_else spells history lane allow gen (Rejects reason) y = got_else spells history lane allow gen y
@@ -288,18 +282,21 @@ module _ (spells : List ℕ → Bool) (history : List Seen) (lane : ℕ) (allow 
         ∙ step_leads spells history lane allow p step there.entry in
         let left = leaves m in
         let tracked : Tracks gen (pieces_after pieces st) (lane_at spells history lane allow (p + 1)) =
-        subst (λ z. Tracks gen (pieces_after pieces st) z) (sym leads)
-        ((λ u. tracks.0 (sym left.1 ∙ u)),
-        inr (left.0 ∙ sym now, left.2 ∙ ap (λ (z : List (List ℕ)). pieces_after z st) same)) in
+        subst (λ z. Tracks gen (pieces_after pieces st) z) (sym leads) (
+          (λ u. tracks.0 (sym left.1 ∙ u)),
+          inr (left.0 ∙ sym now, left.2 ∙ ap (λ (z : List (List ℕ)). pieces_after z st) same),
+        ) in
         subst (λ o. FindKeeps spells lane b pieces (told_as seen o (look_told q y) ∷ rest)) (sym told)
         (subst (λ z. AreTrue spells b pieces z × FindKeeps spells lane (recv_all b z) (pieces_all pieces z) rest)
-        (sym events)
-        ((tt, tt), more (recv_all b (r.Made st ∷ [])) (pieces_after pieces st) (p + 1) after
-        (λ i. record {
-          before = omega (arith, lt);
-          tracks = tracked;
-          owned = owned_step spells history lane allow gen n p lane step rest up found.owned;
-        })))
+        (sym events) (
+          (tt, tt),
+          more (recv_all b (r.Made st ∷ [])) (pieces_after pieces st) (p + 1) after
+              (λ i. record {
+                before = omega (arith, lt);
+                tracks = tracked;
+                owned = owned_step spells history lane allow gen n p lane step rest up found.owned;
+              }),
+        ))
 
     -- octets that are none of a message
     finds_goal : (q : Ask) (y : Reply) (j m : ℕ) (o : List ℕ) → Here q y → step_told q y ≡ None
@@ -322,10 +319,12 @@ module _ (spells : List ℕ → Bool) (history : List Seen) (lane : ℕ) (allow 
         found.tracks in
         let same = held_pieces gen pieces (lane_in lane (take seen history)) held.1 tracks in
         subst (λ z. FindKeeps spells lane b pieces (told_as seen z (look_told q y) ∷ rest)) (sym told)
-        (subst (λ z. FindKeeps spells lane b pieces (Looked seen z ∷ rest)) (sym looked)
-        ((faulty same, tt), more (recv_all b (r.Finds j m o ∷ [])) pieces n after
-        (λ i. else_found spells history lane allow gen from seen pieces n y0 rest there.later
-        (looked_else spells history lane allow gen seen (x.Finds j m o)) found)))
+        (subst (λ z. FindKeeps spells lane b pieces (Looked seen z ∷ rest)) (sym looked) (
+          (faulty same, tt),
+          more (recv_all b (r.Finds j m o ∷ [])) pieces n after
+              (λ i. else_found spells history lane allow gen from seen pieces n y0 rest there.later
+              (looked_else spells history lane allow gen seen (x.Finds j m o)) found),
+        ))
 
     -- anything else
     else_goal : (q : Ask) (y : Reply) → Here q y
@@ -335,9 +334,12 @@ module _ (spells : List ℕ → Bool) (history : List Seen) (lane : ℕ) (allow 
         let y0 : SessionEvent = told_as seen (step_told q y) (look_told q y) in
         let after : After_at b t = subst (λ z. After_at (recv_all b z) t) none k.after in
         subst (λ z. AreTrue spells b pieces z × FindKeeps spells lane (recv_all b z) (pieces_all pieces z) rest)
-        (sym none)
-        (tt, more b pieces n after
-        (λ i. else_found spells history lane allow gen from seen pieces n y0 rest (later_of q y (step_told q y) k.stands) other k.found))
+        (sym none) (
+          tt,
+          more b pieces n after
+              (λ i. else_found spells history lane allow gen from seen pieces n y0 rest (later_of q y (step_told q y)
+              k.stands) other k.found),
+        )
 
     secured_goal : (j m : ℕ) (o : List ℕ) (z : Result (Unit {0}) CompleteFault)
         → Here (ask.Secure lane gen j m o) (reply.Secure z) → b.stage ≡ r.Synced j m o
@@ -358,7 +360,8 @@ module _ (spells : List ℕ → Bool) (history : List Seen) (lane : ℕ) (allow 
         → Here (ask.Complete lane gen j m o) (reply.Complete z) → b.stage ≡ r.Ended j m o
         → Goal (ask.Complete lane gen j m o) (reply.Complete z)
     completed_goal j m o (Ok w) k s =
-        piece_goal (ask.Complete lane gen j m o) (reply.Complete (Ok w)) (h.Complete gen j m o) (r.Complete j m o) k refl
+        piece_goal (ask.Complete lane gen j m o) (reply.Complete (Ok w)) (h.Complete gen j m o) (r.Complete j m o) k
+        refl
         refl (λ c may. may.0.1) (λ c. (refl, refl, refl))
     completed_goal j m o (Err (piece.Bad f)) k s =
         let told = k.stands.told in

@@ -1,11 +1,12 @@
 -- What a session finds of octets is so, from the step that begins its list; and the whole of a good list.
-use Rattle.std.proofs.Common.{◌≡◌, ◌⊎◌, inl, inr, ℕ, suc, ◌+◌, ◌-◌, ◌*◌, ◌<◌, ◌≤◌, ◌==◌, if◌then◌else◌, Bool, true, false}
-use Rattle.std.proofs.Common.{not, Option, Some, None, Result, Ok, Err, slice_get, List, [], ◌∷◌, ◌++◌, length, take}
+use Rattle.std.proofs.Common.{◌≡◌, ◌⊎◌, inl, inr, ℕ, suc, ◌+◌, ◌*◌, ◌≤◌, if◌then◌else◌, Bool, true, false}
+use Rattle.std.proofs.Common.{Option, Some, None, Ok, slice_get, List, [], ◌∷◌, ◌++◌, take}
 use Rattle.std.proofs.Common.{refl, sym, ap, subst, ◌∙◌, arith}
 use Rattle.mta_units.specs.declared.unit.OpenUnit.{OpenUnit}
 use Rattle.mta_units.specs.declared.unit.Unit.{Unit as AnyUnit}
 use Rattle.mta_ends.specs.Lanes as h
-use Rattle.mta_ends.specs.Lanes.{Halves, SeenStep, Seen, On, Unopened, Open, LanesAllow, lane_in, halves_after, unopened}
+use Rattle.mta_ends.specs.Lanes.{Halves, SeenStep, Seen, On, Unopened, Open, LanesAllow, lane_in, halves_after}
+use Rattle.mta_ends.specs.Lanes.{unopened}
 use Rattle.mta_ends.specs.Receiving as r
 use Rattle.mta_ends.specs.Receiving.{RecvEnd, RecvEvent}
 use Rattle.mta_ends.specs.Sending.{SendEnd}
@@ -29,7 +30,7 @@ use Rattle.mta_session.specs.Wanted.{with_lane, answer_for}
 use Rattle.mta_session.specs.Follows.{Does, counted}
 use Rattle.mta_session.specs.Fits.{AnswersAt, FitsAt, HasCall, HasLine}
 use Rattle.mta_session_laws.specs.Runs.{Turn, IsTurn}
-use Rattle.mta_session_laws.specs.Turning.{EventsGo, called_for, is_last_phase}
+use Rattle.mta_session_laws.specs.Turning.{called_for, is_last_phase}
 use Rattle.mta_session_laws.specs.Whole.{AreCalls}
 use Rattle.mta_session_laws.proofs.Opening.{wanted_in}
 use Rattle.mta_session_laws.proofs.Whole.{is_ended}
@@ -41,27 +42,28 @@ use Rattle.mta_runs.specs.Sessions.{Rests, RestsAt, SendOwesNothing}
 use Rattle.mta_matches.proofs.Lanes.{lanes_stay}
 use Rattle.mta_matches.specs.Calls.{has_lane}
 use Rattle.mta_session_lists.specs.Abandons.{has_before, abandoned_upto, abandon_at, given_up, with_abandons}
-use Rattle.mta_session_lists.specs.Calls.{Call, StepOn, on, turns_of, step_told, look_told, told_as, got_as, come_of, list_of}
-use Rattle.mta_session_lists.specs.Laws.{IsPiece, IsIn, OwnsPieces, OpensFirst, ListsFind, ListsAreGood, ListsSend}
+use Rattle.mta_session_lists.specs.Calls.{Call, StepOn, turns_of, step_told, look_told, told_as, got_as, come_of}
+use Rattle.mta_session_lists.specs.Calls.{list_of}
+use Rattle.mta_session_lists.specs.Laws.{IsPiece, IsIn, OwnsPieces, ListsFind, ListsAreGood, ListsSend}
 use Rattle.mta_session_lists.specs.Laws.{SendOwesAt, SendOwesNothingAt, OwesAt, OwesNothingAt}
 use Rattle.mta_session_lists.specs.Lists.{HasAt, step_for, step_by, Initiates, Responds, end_begun, completed}
 use Rattle.mta_session_lists.specs.Standing.{StandsAs, ComesTrue, AllComeTrue}
 use Rattle.mta_session_lists.proofs.Found.{never}
 use Rattle.mta_session_lists.proofs.Insertion.{received}
 use Rattle.mta_session_lists.proofs.Lanes.{lane_at, step_allowed, step_leads}
-use Rattle.mta_session_lists.proofs.Waiting.{goes_with, Ready, ready_next, does_at, ask_answers}
+use Rattle.mta_session_lists.proofs.Waiting.{Ready, ready_next, does_at, ask_answers}
 use Rattle.mta_session_lists.proofs.Ordering.{is_some, later_calls, lists_ordered}
 use Rattle.mta_session_lists.proofs.Answering.{reached_without}
 use Rattle.mta_session_lists.proofs.Receiving.{pending, run_allowed}
-use Rattle.mta_session_lists.proofs.ReceivingPhases.{After, first, RecvAt, RecvWaits, waits_after}
-use Rattle.mta_session_lists.proofs.ReceivingEnds.{is_opening}
+use Rattle.mta_session_lists.proofs.ReceivingPhases.{After, first, RecvAt, waits_after}
 use Rattle.mta_session_lists.proofs.ReceivingLists.{Part, at_opening, in_open, at_last, at_none, part, none_here, Asked}
-use Rattle.mta_session_lists.proofs.ReceivingLists.{open_not_last, asked_next, is_early, Tells, RecvHere, heard, last_heard}
+use Rattle.mta_session_lists.proofs.ReceivingLists.{open_not_last, asked_next, is_early, Tells, RecvHere, heard}
+use Rattle.mta_session_lists.proofs.ReceivingLists.{last_heard}
 use Rattle.mta_session_lists.proofs.ReceivedLists.{any_silent, event_goes}
 use Rattle.mta_session_lists.proofs.ReceivedAll.{in_turn, tells, open_has, opening_has, opening_not_last, lane_next}
-use Rattle.mta_session_lists.proofs.ReceivingLaw.{opened_half, planned, responds, run_front, lists_receive}
+use Rattle.mta_session_lists.proofs.ReceivingLaw.{planned, responds, run_front, lists_receive}
 use Rattle.mta_session_lists.proofs.SendingLaw.{accept_new}
-use Rattle.mta_session_lists.proofs.Finding.{Tracks, Owned, put_else}
+use Rattle.mta_session_lists.proofs.Finding.{put_else}
 use Rattle.mta_session_lists.proofs.FindingCalls.{pieces_all, FindKeeps, put_true, got_true, got_as_else, Behind}
 use Rattle.mta_session_lists.proofs.FindingCalls.{calls_behind, FoundSo, else_found, More, reply_finds}
 
@@ -119,8 +121,7 @@ module _ (spells : List ℕ → Bool) (history : List Seen) (lane : ℕ) (allow 
       → FindKeeps spells lane b pieces (Put u ∷ rest)
   put_finds u t seen from e b c pieces n rest k q told le found more =
       let ran = run_allowed b c (pending (action.Put u)) k.put in
-      let so = put_true spells b pieces (answer_unit u) in
-      (
+      let so = put_true spells b pieces (answer_unit u) in (
         so.0,
         subst (λ z. FindKeeps spells lane (recv_all b (answers_of (answer_unit u))) z rest) (sym so.1)
             (subst (λ z. FindKeeps spells lane z pieces rest) ran.1
@@ -139,8 +140,7 @@ module _ (spells : List ℕ → Bool) (history : List Seen) (lane : ℕ) (allow 
   got_finds y t seen from b c pieces n rest k q told le found more =
       let w : Wanted = called_for t.before.phase t.before y in
       let so = got_true spells lane b pieces w y in
-      let same : c ≡ b = k.put in
-      (
+      let same : c ≡ b = k.put in (
         so.0,
         subst (λ z. FindKeeps spells lane (recv_all b (receiving_event lane (got_as w y))) z rest) (sym so.1)
             (more (recv_all b (receiving_event lane (got_as w y))) pieces n
@@ -165,12 +165,15 @@ module _ (spells : List ℕ → Bool) (history : List Seen) (lane : ℕ) (allow 
       let answers : AnswersAt t.before.phase t.before e =
       subst (λ w. AnswersAt t.before.phase t.before w) q k.here.is.answers in
       let none : receiving_event lane y0 ≡ [] = last_heard l early lane (action.Ask z) t seen e c k.here i answers in
-      subst (λ w. AreTrue spells b pieces w × FindKeeps spells lane (recv_all b w) (pieces_all pieces w) rest) (sym none)
-      (tt, more b pieces n
-      (subst (λ w. After later (first l later) w t.action t.after) same
-      (subst (λ w. After later (first l later) (recv_all c w) t.action t.after) none
-      (after (action.Ask z) t seen from e b c pieces n k q told)))
-      (λ j. absurd (never (sym (before (action.Ask z) t seen from e b c pieces n k q told j) ∙ i))))
+      subst (λ w. AreTrue spells b pieces w × FindKeeps spells lane (recv_all b w) (pieces_all pieces w) rest) (sym
+      none) (
+        tt,
+        more b pieces n
+            (subst (λ w. After later (first l later) w t.action t.after) same
+            (subst (λ w. After later (first l later) (recv_all c w) t.action t.after) none
+            (after (action.Ask z) t seen from e b c pieces n k q told)))
+            (λ j. absurd (never (sym (before (action.Ask z) t seen from e b c pieces n k q told j) ∙ i))),
+      )
   told_finds z y t seen from b c pieces n rest k q told stands found more behind false i =
       let e : Event = event.Reply y in
       let y0 : SessionEvent = told_as seen (step_told z y) (look_told z y) in
@@ -200,10 +203,12 @@ module _ (spells : List ℕ → Bool) (history : List Seen) (lane : ℕ) (allow 
   come_finds action.Read t seen from (event.Unit y) b c pieces n rest k q told is found more behind =
       got_finds y t seen from b c pieces n rest k q told (same_length from seen is) found more
   come_finds action.Read t seen from event.Go b c pieces n rest k q told is found more behind =
-      nothing_finds action.Read t seen from event.Go b c pieces n rest k q told (same_length from seen is) refl refl found
+      nothing_finds action.Read t seen from event.Go b c pieces n rest k q told (same_length from seen is) refl refl
+      found
       more
   come_finds action.Read t seen from event.BadUnit b c pieces n rest k q told is found more behind =
-      nothing_finds action.Read t seen from event.BadUnit b c pieces n rest k q told (same_length from seen is) refl refl
+      nothing_finds action.Read t seen from event.BadUnit b c pieces n rest k q told (same_length from seen is) refl
+      refl
       found more
   come_finds action.Read t seen from event.Over b c pieces n rest k q told is found more behind =
       nothing_finds action.Read t seen from event.Over b c pieces n rest k q told (same_length from seen is) refl refl
@@ -223,10 +228,12 @@ module _ (spells : List ℕ → Bool) (history : List Seen) (lane : ℕ) (allow 
       nothing_finds (action.Ask z) t seen from event.BadUnit b c pieces n rest k q told (same_length from seen is) refl
       refl found more
   come_finds (action.Ask z) t seen from event.Over b c pieces n rest k q told is found more behind =
-      nothing_finds (action.Ask z) t seen from event.Over b c pieces n rest k q told (same_length from seen is) refl refl
+      nothing_finds (action.Ask z) t seen from event.Over b c pieces n rest k q told (same_length from seen is) refl
+      refl
       found more
   come_finds (action.Finish y) t seen from e b c pieces n rest k q told is found more behind =
-      nothing_finds (action.Finish y) t seen from e b c pieces n rest k q told (same_length from seen is) refl refl found
+      nothing_finds (action.Finish y) t seen from e b c pieces n rest k q told (same_length from seen is) refl refl
+      found
       more
 
 -- ---- all calls
@@ -300,61 +307,62 @@ gen_next early one b a gen t is k f (at_last i) n =
 gen_next early one b a gen t is k f (at_none i) n = absurd (none_here early one t.before.phase t.before a b i k)
 
 module _ (spells : List ℕ → Bool) (history : List Seen) (lane : ℕ) (allow : LanesAllow spells history) (gen at : ℕ)
-    where
-  abbrev half : Halves
-  half = lane_in lane (take (at + 1) history)
+  where
+    abbrev half : Halves
+    half = lane_in lane (take (at + 1) history)
 
-  pub calls_find : (cs : List Call) (a : Action) (t u : State) (b c : RecvEnd) (pieces : List (List ℕ)) (n from : ℕ)
-      → Ready a t → Asked a t → (is_last_phase t.phase ≡ false → t.lane ≡ lane)
-      → (is_last_phase t.phase ≡ false → t.generation ≡ gen) → r.IsReceivingEnd b (pending a) c
-      → RecvAt (from ≡ at + 1) (first half (from ≡ at + 1)) t.phase t a c
-      → (is_last_phase t.phase ≡ false → FoundSo spells history lane allow gen from pieces n (list_of a cs))
-      → AllComeTrue spells history from a cs → AreCalls t (turns_of cs) u
-      → FindKeeps spells lane b pieces (list_of a cs)
-  calls_find [] a t u b c pieces n from k asked f d put here found is run = tt
-  calls_find (w ∷ ws) a t u b c pieces n from k asked f d put here found is run =
-      let ready : Ready a w.turn.before = subst (Ready a) (sym run.0) k in
-      let asks : Asked a w.turn.before = subst (Asked a) (sym run.0) asked in
-      let keeps : is_last_phase w.turn.before.phase ≡ false → w.turn.before.lane ≡ lane =
-      subst (λ z. is_last_phase z.phase ≡ false → z.lane ≡ lane) (sym run.0) f in
-      let gens : is_last_phase w.turn.before.phase ≡ false → w.turn.before.generation ≡ gen =
-      subst (λ z. is_last_phase z.phase ≡ false → z.generation ≡ gen) (sym run.0) d in
-      let stands : RecvAt (from ≡ at + 1) (first half (from ≡ at + 1)) w.turn.before.phase w.turn.before a c =
-      subst (λ z. RecvAt (from ≡ at + 1) (first half (from ≡ at + 1)) z.phase z a c) (sym run.0) here in
-      let so : is_last_phase w.turn.before.phase ≡ false
-      → FoundSo spells history lane allow gen from pieces n (list_of a (w ∷ ws)) =
-      subst (λ z. is_last_phase z.phase ≡ false
-      → FoundSo spells history lane allow gen from pieces n (list_of a (w ∷ ws))) (sym run.0) found in
-      let next : is_early w.turn.before.phase ≡ true → from ≡ at + 1 → w.seen ≡ at + 1 =
-      λ i e. in_turn spells history w.turn.before.phase a w.turn.event from w.seen is.0 ready.waits i ∙ e in
-      come_finds spells history lane allow gen half (from ≡ at + 1) (w.seen ≡ at + 1) a w.turn w.seen from w.turn.event
-      b c pieces n (list_of w.turn.action ws)
-      (record {
-        here = record { is = run.1; waits = ready.waits; asked = asks; lane_is = keeps; at = stands };
-        gen_is = gens;
-        put = put;
-        next = next;
-      }) refl
-      (tells spells history w.turn.before.phase w.turn.event lane at from w.seen w.turn.before a refl asks ready.waits
-      keeps (λ i. next i (early_here w.turn.before.phase w.turn.before a c from i stands)) is.0)
-      is.0 so
-      (λ e many m after left. calls_find ws w.turn.action w.turn.after u e after.ended many m w.seen
-      (ready_next w.turn run.1 ready.due)
-      (asked_next w.turn.action w.turn.before w.turn.event w.turn.after run.1.follows)
-      (lane_next (from ≡ at + 1) (first half (from ≡ at + 1)) c a lane w.turn run.1 stands keeps
-      (part w.turn.before.phase))
-      (gen_next (from ≡ at + 1) (first half (from ≡ at + 1)) c a gen w.turn run.1 stands gens
-      (part w.turn.before.phase))
-      after.run after.at left is.1 run.2)
-      (calls_behind spells history lane allow gen ws w.seen w.turn.action is.1)
-    where
-      early_here : (p : Phase) (t : State) (a : Action) (c : RecvEnd) (from : ℕ) → is_early p ≡ true
-          → RecvAt (from ≡ at + 1) (first half (from ≡ at + 1)) p t a c → from ≡ at + 1
-      early_here phase.Begin t a c from i k = k.2
-      early_here phase.AsksValues t a c from i k = k.1
-      early_here phase.AsksRecovery t a c from i k = k.1
-      early_here (phase.AsksReceiving st) t a c from i k = k.1
-      early_here p t a c from i k = absurd (never i)
+    pub calls_find : (cs : List Call) (a : Action) (t u : State) (b c : RecvEnd) (pieces : List (List ℕ)) (n from : ℕ)
+        → Ready a t → Asked a t → (is_last_phase t.phase ≡ false → t.lane ≡ lane)
+        → (is_last_phase t.phase ≡ false → t.generation ≡ gen) → r.IsReceivingEnd b (pending a) c
+        → RecvAt (from ≡ at + 1) (first half (from ≡ at + 1)) t.phase t a c
+        → (is_last_phase t.phase ≡ false → FoundSo spells history lane allow gen from pieces n (list_of a cs))
+        → AllComeTrue spells history from a cs → AreCalls t (turns_of cs) u
+        → FindKeeps spells lane b pieces (list_of a cs)
+    calls_find [] a t u b c pieces n from k asked f d put here found is run = tt
+    calls_find (w ∷ ws) a t u b c pieces n from k asked f d put here found is run =
+        let ready : Ready a w.turn.before = subst (Ready a) (sym run.0) k in
+        let asks : Asked a w.turn.before = subst (Asked a) (sym run.0) asked in
+        let keeps : is_last_phase w.turn.before.phase ≡ false → w.turn.before.lane ≡ lane =
+        subst (λ z. is_last_phase z.phase ≡ false → z.lane ≡ lane) (sym run.0) f in
+        let gens : is_last_phase w.turn.before.phase ≡ false → w.turn.before.generation ≡ gen =
+        subst (λ z. is_last_phase z.phase ≡ false → z.generation ≡ gen) (sym run.0) d in
+        let stands : RecvAt (from ≡ at + 1) (first half (from ≡ at + 1)) w.turn.before.phase w.turn.before a c =
+        subst (λ z. RecvAt (from ≡ at + 1) (first half (from ≡ at + 1)) z.phase z a c) (sym run.0) here in
+        let so : is_last_phase w.turn.before.phase ≡ false
+        → FoundSo spells history lane allow gen from pieces n (list_of a (w ∷ ws)) =
+        subst (λ z. is_last_phase z.phase ≡ false
+        → FoundSo spells history lane allow gen from pieces n (list_of a (w ∷ ws))) (sym run.0) found in
+        let next : is_early w.turn.before.phase ≡ true → from ≡ at + 1 → w.seen ≡ at + 1 =
+        λ i e. in_turn spells history w.turn.before.phase a w.turn.event from w.seen is.0 ready.waits i ∙ e in
+        come_finds spells history lane allow gen half (from ≡ at + 1) (w.seen ≡ at + 1) a w.turn w.seen from
+        w.turn.event
+        b c pieces n (list_of w.turn.action ws)
+        (record {
+          here = record { is = run.1; waits = ready.waits; asked = asks; lane_is = keeps; at = stands };
+          gen_is = gens;
+          put = put;
+          next = next;
+        }) refl
+        (tells spells history w.turn.before.phase w.turn.event lane at from w.seen w.turn.before a refl asks ready.waits
+        keeps (λ i. next i (early_here w.turn.before.phase w.turn.before a c from i stands)) is.0)
+        is.0 so
+        (λ e many m after left. calls_find ws w.turn.action w.turn.after u e after.ended many m w.seen
+        (ready_next w.turn run.1 ready.due)
+        (asked_next w.turn.action w.turn.before w.turn.event w.turn.after run.1.follows)
+        (lane_next (from ≡ at + 1) (first half (from ≡ at + 1)) c a lane w.turn run.1 stands keeps
+        (part w.turn.before.phase))
+        (gen_next (from ≡ at + 1) (first half (from ≡ at + 1)) c a gen w.turn run.1 stands gens
+        (part w.turn.before.phase))
+        after.run after.at left is.1 run.2)
+        (calls_behind spells history lane allow gen ws w.seen w.turn.action is.1)
+      where
+        early_here : (p : Phase) (t : State) (a : Action) (c : RecvEnd) (from : ℕ) → is_early p ≡ true
+            → RecvAt (from ≡ at + 1) (first half (from ≡ at + 1)) p t a c → from ≡ at + 1
+        early_here phase.Begin t a c from i k = k.2
+        early_here phase.AsksValues t a c from i k = k.1
+        early_here phase.AsksRecovery t a c from i k = k.1
+        early_here (phase.AsksReceiving st) t a c from i k = k.1
+        early_here p t a c from i k = absurd (never i)
 
 -- ---- a list and the Abandons in it
 
@@ -416,8 +424,7 @@ module _ (spells : List ℕ → Bool) (history : List Seen) (at : ℕ) (allow : 
   opened_so : (lane : ℕ) (a : Bool) (sz w : ℕ) → slice_get history at ≡ Some (On lane (h.LaneOpen a sz w))
       → ((half_at lane).phase ≡ Unopened → ⊥) × ((half_at lane).generation ≡ 1)
   opened_so lane a sz w is =
-      let there = behind lane (h.LaneOpen a sz w) is in
-      (
+      let there = behind lane (h.LaneOpen a sz w) is in (
         (λ u. let c : Open ≡ Unopened = sym (ap (λ (z : Halves). z.phase) there) ∙ u in absurd (not_so c)),
         ap (λ (z : Halves). z.generation) there,
       )
@@ -429,8 +436,7 @@ module _ (spells : List ℕ → Bool) (history : List Seen) (at : ℕ) (allow : 
       → ((half_at lane).phase ≡ Unopened → ⊥) × ((half_at lane).generation ≡ g)
   bound_so lane g is =
       let there = behind lane (h.Bind g) is in
-      let may = step_allowed spells history lane allow at (h.Bind g) is in
-      (
+      let may = step_allowed spells history lane allow at (h.Bind g) is in (
         (λ u. let c : Open ≡ Unopened = sym may.0 ∙ sym (ap (λ (z : Halves). z.phase) there) ∙ u in absurd (not_so c)),
         ap (λ (z : Halves). z.generation) there,
       )
@@ -471,14 +477,14 @@ module _ (spells : List ℕ → Bool) (history : List Seen) (at : ℕ) (allow : 
   some_is y z e = cc
 
   responds_so : (p : Phase) (t : State) (e : Event) (a : Action) (new : State) (y : StepOn)
-      → step_by p e new ≡ Some y → HasAt history at y → FitsAt p t → Does (counted t e) (wanted_in p (counted t e) e) a new
+      → step_by p e new ≡ Some y → HasAt history at y → FitsAt p t → Does (counted t e) (wanted_in p (counted t e) e) a
+      new
       → Begins new.lane new.generation
   responds_so (phase.AsksNewLane again) t (event.Reply (reply.LaneOpen (Ok lane))) a new y q is f d =
       let v : State = with_lane t t.opened t.line lane in
       let same = accept_new t v (answer_for v.side v.opened v.line) a new d in
       let k = opened_so new.lane true (1024 * new.checkpoint) new.window
-      (subst (λ z. HasAt history at z) (sym (some_is _ y q)) is) in
-      (
+      (subst (λ z. HasAt history at z) (sym (some_is _ y q)) is) in (
         k.0,
         ap (λ (z : State). z.generation) same ∙ with_gen t t.opened t.line lane f.0.1 f.1 ∙ sym k.1,
       )
@@ -557,11 +563,10 @@ rests_at v a b (Looked n look) p q = tt
 rests : (lane : ℕ) (v : x.Turn) (a : SendEnd) (b : RecvEnd) (ys : List SessionEvent) → SendOwesNothingAt lane v a ys
     → OwesNothingAt lane b ys → Rests lane v a b ys
 rests lane v a b [] p q = tt
-rests lane v a b (y ∷ ys) p q =
-    (
-      rests_at v a b y p.0 q.0,
-      rests lane (turn_after v y) (send_all a (sending_event lane y)) (recv_all b (receiving_event lane y)) ys p.1 q.1,
-    )
+rests lane v a b (y ∷ ys) p q = (
+  rests_at v a b y p.0 q.0,
+  rests lane (turn_after v y) (send_all a (sending_event lane y)) (recv_all b (receiving_event lane y)) ys p.1 q.1,
+)
 
 pub lists_good : ListsSend → ListsAreGood
 lists_good sends spells history one u calls lane size window l allow is values opens owns run =

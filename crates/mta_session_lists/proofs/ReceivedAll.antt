@@ -157,7 +157,8 @@ begins_kept : (t : State) (s : Side) → LaneKept t (begins s t)
 begins_kept t (side.Initiator p) = if_kept t p.recovering _ _ refl refl
 begins_kept t (side.Responder own) = refl
 
-pub first_kept : (t : State) (e : Event) → AnswersAt phase.Begin t e → LaneKept t (wanted_in phase.Begin (counted t e) e)
+pub first_kept : (t : State) (e : Event) → AnswersAt phase.Begin t e
+    → LaneKept t (wanted_in phase.Begin (counted t e) e)
 first_kept t event.Go n = begins_kept t t.side
 first_kept t event.Over n = tt
 first_kept t (event.Unit u) n = absurd (never n)

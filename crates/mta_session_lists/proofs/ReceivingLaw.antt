@@ -198,7 +198,8 @@ module _ (spells : List ℕ → Bool) (history : List Seen) (at : ℕ) (allow : 
       → fresh ≡ first (half lane) now
   opened_first lane a s w is = sym (ap end_on_link (opened_half spells history lane allow at a s w is))
 
-  pub planned : (p : InitiatorPlan) → HasAt history at (step_for p) → p.recovering ≡ false → fresh ≡ first (half p.lane) now
+  pub planned : (p : InitiatorPlan) → HasAt history at (step_for p) → p.recovering ≡ false
+      → fresh ≡ first (half p.lane) now
   planned p is e =
       opened_first p.lane false (1024 * p.checkpoint) p.window
       (subst (λ b. HasAt history at (record {
@@ -206,7 +207,8 @@ module _ (spells : List ℕ → Bool) (history : List Seen) (at : ℕ) (allow : 
         step = if b then h.Bind p.generation else h.LaneOpen false (1024 * p.checkpoint) p.window;
       })) e is)
 
-  pub responds : (p : Phase) (t : State) (e : Event) (new : State) (y : StepOn) → step_by p e new ≡ Some y → HasAt history
+  pub responds : (p : Phase) (t : State) (e : Event) (new : State) (y : StepOn) → step_by p e new ≡ Some y
+      → HasAt history
       at y
       → (is_unlisted p ≡ true → t.recv ≡ fresh)
       → RecvWaits (half new.lane) now (wanted_in p (counted t e) e) × (is_ended p ≡ false)

@@ -1,7 +1,7 @@
 -- The sending half of a session's list where a question is answered: what the reply tells, with the Abandon of another
 -- pass that stands before it.
-use Rattle.std.proofs.Common.{◌≡◌, ◌⊎◌, inl, inr, ℕ, suc, ◌+◌, ◌-◌, ◌<◌, ◌≤◌, ◌==◌, ◌&&◌, if◌then◌else◌, Bool, true}
-use Rattle.std.proofs.Common.{false, Option, Some, None, Result, Ok, Err, slice_get, List, [], ◌∷◌, ◌++◌, length, take}
+use Rattle.std.proofs.Common.{◌≡◌, ◌⊎◌, inl, inr, ℕ, ◌+◌, ◌-◌, ◌<◌, ◌≤◌, ◌==◌, Bool, true}
+use Rattle.std.proofs.Common.{false, Option, Some, None, Ok, Err, slice_get, List, [], ◌∷◌, length, take}
 use Rattle.std.proofs.Common.{refl, sym, ap, subst, ◌∙◌, arith}
 use Rattle.std.proofs.lemmas.Bool.{eqb-true}
 use Rattle.mta_lane_send.specs.declared.state.SendState.{SendState}
@@ -15,12 +15,12 @@ use Rattle.mta_ends.specs.Sending.{SendEnd, SendEvent}
 use Rattle.mta_records.specs.Outgoing.{Carried}
 use Rattle.mta_records.specs.declared.fault.StepFault.{StepFault}
 use Rattle.mta_records.specs.declared.fault.StepFault.TheVariants as fault
+use Rattle.mta_records.specs.declared.lane.Batch.{Batch}
 use Rattle.mta_session.specs.declared.ask.Ask.{Ask}
 use Rattle.mta_session.specs.declared.ask.Ask.TheVariants as ask
 use Rattle.mta_session.specs.declared.ask.Reply.{Reply}
 use Rattle.mta_session.specs.declared.ask.Reply.TheVariants as reply
 use Rattle.mta_session.specs.declared.event.Action.TheVariants as action
-use Rattle.mta_session.specs.declared.event.Event.{Event}
 use Rattle.mta_session.specs.declared.event.Event.TheVariants as event
 use Rattle.mta_session.specs.declared.phase.OwnStep.{OwnStep}
 use Rattle.mta_session.specs.declared.phase.OwnStep.TheVariants as own
@@ -28,36 +28,34 @@ use Rattle.mta_session.specs.declared.phase.Phase.{Phase}
 use Rattle.mta_session.specs.declared.phase.Phase.TheVariants as phase
 use Rattle.mta_session.specs.Sending.{step_of}
 use Rattle.mta_session.specs.State.{State}
-use Rattle.mta_session.specs.Wanted.{Aborts, Goes_on, ask_of, on_step, on_state, is_given_up, is_cut, wanted_of_reply}
-use Rattle.mta_session.specs.Follows.{Does, counted}
+use Rattle.mta_session.specs.Wanted.{Aborts, ask_of, on_step, on_state, is_given_up, is_cut, wanted_of_reply}
+use Rattle.mta_session.specs.Follows.{Does}
 use Rattle.mta_session.specs.Fits.{FitsAt, RepliesTo, AnswersAt, SendFitsAt}
 use Rattle.mta_session_laws.specs.Runs.{Turn, IsTurn}
 use Rattle.mta_session_laws.specs.Turning.{listed, MayFollow, EventsGo, told_by, made_by, is_open, is_last_phase}
-use Rattle.mta_session_laws.proofs.Opening.{wanted_in}
 use Rattle.mta_session_laws.proofs.Turning.{given_up, kept_live, sending_live}
 use Rattle.mta_session_laws.proofs.Whole.{is_ended}
 use Rattle.mta_runs.specs.Sessions as x
 use Rattle.mta_runs.specs.Sessions.{SessionEvent, Made, Looked, sending_event, send_all, turn_after, IsSeen}
-use Rattle.mta_matches.specs.Asks.{IsAskOf, IsStart}
+use Rattle.mta_matches.specs.Asks.{IsAskOf}
 use Rattle.mta_session_lists.specs.Calls.{StepOn, on, step_told, look_told, told_as}
 use Rattle.mta_session_lists.specs.Sent.{without_other}
 use Rattle.mta_session_lists.specs.Standing.{Stands, Looks, StandsAs}
 use Rattle.mta_session_lists.proofs.Found.{never, both}
-use Rattle.mta_session_lists.proofs.Lanes.{lane_at}
 use Rattle.mta_session_lists.proofs.Waiting.{goes_with, ask_answers, does_at}
 use Rattle.mta_session_lists.proofs.ReceivingEnds.{is_opening}
 use Rattle.mta_session_lists.proofs.SendingGoes.{Allowed}
-use Rattle.mta_session_lists.proofs.SendingLeft.{Calm, LastAt, LastAsk, Leaves, OpenSend, StateSend, none_heard}
+use Rattle.mta_session_lists.proofs.SendingLeft.{LastAsk, Leaves, OpenSend, StateSend, none_heard}
 use Rattle.mta_session_lists.proofs.SendingOpen.{asks_own, reply_leaves, step_leaves, given_calm}
-use Rattle.mta_session_lists.proofs.SendingPhases.{SendAt, AfterSend, SendWaits, if_waits, waits_after, at_open, at_last}
+use Rattle.mta_session_lists.proofs.SendingPhases.{SendAt, AfterSend, SendWaits, if_waits, waits_after}
 use Rattle.mta_session_lists.proofs.SendingPhases.{asks_state}
 use Rattle.mta_session_lists.proofs.SendingOpening.{SendTells, is_soon, opening_wants}
 use Rattle.mta_session_lists.proofs.SendingEnds.{end_after}
-use Rattle.mta_session_lists.proofs.SendingLooks.{RestsSend, SendKeeps, With, silent_keeps, look_keeps, NotYet}
+use Rattle.mta_session_lists.proofs.SendingLooks.{SendKeeps, With, silent_keeps, look_keeps, NotYet}
 use Rattle.mta_session_lists.proofs.SendingLooks.{not_yet_seen, not_yet_given, not_yet_started, not_yet_own, own_seen}
 use Rattle.mta_session_lists.proofs.SendingLooks.{own_keeps, denied_keeps, sent_keeps, start_keeps, idle_none}
 use Rattle.mta_session_lists.proofs.SendingCalls.{told_after, left_calm}
-use Rattle.mta_session_lists.proofs.SendingTold.{IsQuiet, Told, other_quiet, close_quiet, asks_else, else_quiet}
+use Rattle.mta_session_lists.proofs.SendingTold.{Told, other_quiet, close_quiet, asks_else, else_quiet}
 use Rattle.mta_session_lists.proofs.SendingTold.{StepReply, makes, refuses, step_reply}
 
 -- ---- what is told by the laws of sessions
@@ -236,7 +234,7 @@ module _ (g : EventsGo) (spells : List ℕ → Bool) (history : List Seen) (lane
     idle_there : FitsAt phase.AsksStart t.before → is_idle t.before.send.state ≡ true
     idle_there f = subst (λ z. SendFitsAt z t.before.send) f.3 f.0.3.0
 
-    start_made : (n gen : ℕ) (batch : _) (o : Carried) → Here (ask.Start n gen batch) (reply.Start (Ok o))
+    start_made : (n gen : ℕ) (batch : Batch) (o : Carried) → Here (ask.Start n gen batch) (reply.Start (Ok o))
         → Phase_is phase.AsksStart → FitsAt phase.AsksStart t.before → n ≡ t.before.lane
         → RepliesTo phase.AsksStart t.before (reply.Start (Ok o))
         → OpenSend phase.AsksStart t.before (action.Ask (ask.Start n gen batch)) c
@@ -258,7 +256,7 @@ module _ (g : EventsGo) (spells : List ℕ → Bool) (history : List Seen) (lane
         (not_yet_started spells history lane allow (seen - 1) gen o.activity o.octets mid
         (subst (λ z. slice_get history (seen - 1) ≡ Some (On z (h.Start gen o.activity o.octets))) same there.entry)))
 
-    start_refused : (n gen : ℕ) (batch : _) (z : StepFault) → Here (ask.Start n gen batch) (reply.Start (Err z))
+    start_refused : (n gen : ℕ) (batch : Batch) (z : StepFault) → Here (ask.Start n gen batch) (reply.Start (Err z))
         → Phase_is phase.AsksStart → FitsAt phase.AsksStart t.before
         → OpenSend phase.AsksStart t.before (action.Ask (ask.Start n gen batch)) c
         → Goal (ask.Start n gen batch) (reply.Start (Err z))
@@ -286,11 +284,10 @@ module _ (g : EventsGo) (spells : List ℕ → Bool) (history : List Seen) (lane
 
     recovery_look : (q : Ask) (y : Reply) (n : ℕ) → q ≡ ask.Recovery n
         → (step_told q y ≡ None) × (look_told q y ≡ x.At_sending)
-    recovery_look q y n e =
-        (
-          ap (λ (z : Ask). step_told z y) e,
-          ap (λ (z : Ask). look_told z y) e,
-        )
+    recovery_look q y n e = (
+      ap (λ (z : Ask). step_told z y) e,
+      ap (λ (z : Ask). look_told z y) e,
+    )
 
     still_goal : (q : Ask) (y : Reply) → Here q y → Phase_is phase.AsksStillIdle
         → FitsAt phase.AsksStillIdle t.before → IsAskOf phase.AsksStillIdle t.before q
@@ -363,8 +360,10 @@ module _ (g : EventsGo) (spells : List ℕ → Bool) (history : List Seen) (lane
         (refused_waits step f (s.made c s.Abandon) (record {
           heard = at.heard;
           before = at.before;
-          is = inr (subst (λ z. is_sending z.state (last_of z.state) ≡ true) at.is i,
-              ap (λ (z : SendEnd). s.made z s.Abandon) at.is);
+          is = inr (
+            subst (λ z. is_sending z.state (last_of z.state) ≡ true) at.is i,
+            ap (λ (z : SendEnd). s.made z s.Abandon) at.is,
+          );
         })) done)
 
     step_goal : (q : Ask) (y : Reply) → Here q y → (step : OwnStep) → Phase_is (phase.AsksStep step)
@@ -480,7 +479,8 @@ module _ (g : EventsGo) (spells : List ℕ → Bool) (history : List Seen) (lane
         let there = made_there q y (record { lane = n; step = h.Denied gen j }) k refl in
         denied_keeps spells history lane allow v behind (seen - 1) n gen j c rest (eqb-true n lane e) m
         (before_step q y k there.later)
-        (step_more q y (s.made c s.Denied) k there.later (last_after q y k i (s.made c s.Denied)) (λ w. absurd (never w)))
+        (step_more q y (s.made c s.Denied) k there.later (last_after q y k i (s.made c s.Denied)) (λ w. absurd (never
+        w)))
     denied_made n gen j z k i m false e =
         let q : Ask = ask.Denied n gen j in
         let y : Reply = reply.Denied (Ok z) in
@@ -520,11 +520,10 @@ module _ (g : EventsGo) (spells : List ℕ → Bool) (history : List Seen) (lane
 
     resumed_look : (q : Ask) (y : Reply) (n : ℕ) → q ≡ ask.Resumed n
         → (step_told q y ≡ None) × (look_told q y ≡ x.At_sending)
-    resumed_look q y n e =
-        (
-          ap (λ (z : Ask). step_told z y) e,
-          ap (λ (z : Ask). look_told z y) e,
-        )
+    resumed_look q y n e = (
+      ap (λ (z : Ask). step_told z y) e,
+      ap (λ (z : Ask). look_told z y) e,
+    )
 
     by_phase : (q : Ask) (y : Reply) → Here q y → (p : Phase) → Phase_is p → FitsAt p t.before
         → IsAskOf p t.before q → AnswersAt p t.before (event.Reply y) → RepliesTo p t.before y
@@ -535,13 +534,15 @@ module _ (g : EventsGo) (spells : List ℕ → Bool) (history : List Seen) (lane
         (opening_after q y k phase.AsksValues e refl refl f n at tells)
     by_phase q y k phase.AsksRecovery e f a n r at tells =
         let looks = recovery_look q y t.before.lane a in
-        early_goal q y k (k.soon (ap is_soon e) at.2) looks.0 looks.1 (opening_after q y k phase.AsksRecovery e refl refl f n at tells)
+        early_goal q y k (k.soon (ap is_soon e) at.2) looks.0 looks.1 (opening_after q y k phase.AsksRecovery e refl
+        refl f n at tells)
     by_phase q y k (phase.AsksReceiving st) e f a n r at tells =
         quiet_goal q y k (else_quiet lane seen (phase.AsksReceiving st) t.before q y refl a r)
         (opening_after q y k (phase.AsksReceiving st) e refl refl f n at tells)
     by_phase q y k (phase.AsksResumed st) e f a n r at tells =
         let looks = resumed_look q y t.before.lane a in
-        early_goal q y k (k.soon (ap is_soon e) at.3) looks.0 looks.1 (opening_after q y k (phase.AsksResumed st) e refl refl f n at tells)
+        early_goal q y k (k.soon (ap is_soon e) at.3) looks.0 looks.1 (opening_after q y k (phase.AsksResumed st) e refl
+        refl f n at tells)
     by_phase q y k phase.AsksAgree e f a n r at tells =
         quiet_goal q y k (else_quiet lane seen phase.AsksAgree t.before q y refl a r)
         (opening_after q y k phase.AsksAgree e refl refl f n at tells)

@@ -1,16 +1,15 @@
 -- The sending half of a session's list, call by call: an open session, and what is told in each phase.
-use Rattle.std.proofs.Common.{◌≡◌, ◌⊎◌, inl, inr, ℕ, ◌==◌, if◌then◌else◌, Bool, true, false, Option, Some, None}
-use Rattle.std.proofs.Common.{Result, Ok, Err, List, [], ◌∷◌, ◌++◌, refl, sym, ap, subst, ◌∙◌}
-use Rattle.mta_ber.specs.declared.memory.Memory.{Memory as NoMemory}
+use Rattle.std.proofs.Common.{◌≡◌, inl, inr, ℕ, Bool, true, false, Option}
+use Rattle.std.proofs.Common.{List, [], ◌∷◌, refl, sym, ap, subst, ◌∙◌}
 use Rattle.mta_units.specs.declared.unit.Unit.{Unit as AnyUnit}
 use Rattle.mta_units.specs.declared.unit.Unit.TheVariants as unit
 use Rattle.mta_ends.specs.Lanes.{Halves}
 use Rattle.mta_ends.specs.Units.{LaneUnit}
 use Rattle.mta_ends.specs.Sending as s
 use Rattle.mta_ends.specs.Sending.{SendEnd, SendEvent, SendStage}
+use Rattle.mta_session.specs.declared.event.Action.{Action}
 use Rattle.mta_session.specs.declared.event.Event.{Event}
 use Rattle.mta_session.specs.declared.event.Event.TheVariants as event
-use Rattle.mta_session.specs.declared.event.SessionEnd.TheVariants as end
 use Rattle.mta_session.specs.declared.phase.Phase.{Phase}
 use Rattle.mta_session.specs.declared.phase.Phase.TheVariants as phase
 use Rattle.mta_session.specs.State.{State}
@@ -35,11 +34,10 @@ use Rattle.mta_session_lists.proofs.Handing.{NoHand, open_hands}
 use Rattle.mta_session_lists.proofs.Receiving.{IsCommon, does_common}
 use Rattle.mta_session_lists.proofs.ReceivingCalls.{open_going, turned_last}
 use Rattle.mta_session_lists.proofs.SentEvents.{holder_heard, reads_heard}
-use Rattle.mta_session_lists.proofs.Turns.{Holds, HasTurn, HoldsBy}
-use Rattle.mta_session_lists.proofs.SendingGoes.{Allowed, pending, action_put, goes_behind}
-use Rattle.mta_session_lists.proofs.SendingLeft.{Calm, Rested, LeftAt, Leaves, left_after, OpenSend, open_after}
-use Rattle.mta_session_lists.proofs.SendingLeft.{none_heard}
-use Rattle.mta_session_lists.proofs.SendingOpen.{quiet_calm, asks_own, reads_hears, closing_hears, reply_leaves}
+use Rattle.mta_session_lists.proofs.Turns.{HasTurn, HoldsBy}
+use Rattle.mta_session_lists.proofs.SendingGoes.{Allowed, action_put, goes_behind}
+use Rattle.mta_session_lists.proofs.SendingLeft.{Calm, Rested, LeftAt, Leaves, left_after, open_after}
+use Rattle.mta_session_lists.proofs.SendingOpen.{asks_own, reads_hears, closing_hears}
 use Rattle.mta_session_lists.proofs.SendingOpen.{go_leaves, bad_leaves, over_leaves}
 use Rattle.mta_session_lists.proofs.SendingPhases.{AfterSend, opened_after, ended_after}
 use Rattle.mta_session_lists.proofs.SendingLooks.{RestsSend}
@@ -114,7 +112,7 @@ over_told (phase.AsksLast y) t i = absurd (never i)
 over_told p t i = refl
 
 -- what is left where no own step was asked for
-pub left_calm : (p : Phase) (t : State) (a : _) (b : SendEnd) → is_open p ≡ true → asks_own p ≡ false
+pub left_calm : (p : Phase) (t : State) (a : Action) (b : SendEnd) → is_open p ≡ true → asks_own p ≡ false
     → LeftAt p t a b → Calm t b
 left_calm phase.Reads t a b i o k = inl k.0
 left_calm (phase.AsksStep step) t a b i o k = absurd (never (sym o))
@@ -219,7 +217,8 @@ module _ (g : EventsGo) (l : Halves) (size window : ℕ) (accepted : Bool) (late
     pub bad_after : t.event ≡ event.BadUnit → Here_after at
     bad_after q =
         told_after g l size window accepted later t event.BadUnit q is i heard before at may
-        (nothing_told event.BadUnit (bad_told t.before.phase t.before i)) (bad_leaves at (counted t.before event.BadUnit))
+        (nothing_told event.BadUnit (bad_told t.before.phase t.before i)) (bad_leaves at (counted t.before
+        event.BadUnit))
 
     pub over_after : t.event ≡ event.Over → Here_after at
     over_after q =

@@ -1,8 +1,7 @@
 -- At the end of a session: what is wanted says nothing of a transfer, and the last step is asked for once.
-use Rattle.std.proofs.Common.{◌≡◌, ℕ, ◌==◌, if◌then◌else◌, Bool, true, false, Result, Ok, Err, List, []}
+use Rattle.std.proofs.Common.{◌≡◌, ℕ, ◌==◌, if◌then◌else◌, Bool, true, false, Result, Ok, Err, []}
 use Rattle.std.proofs.Common.{refl, sym, ap, subst, ◌∙◌}
 use Rattle.mta_units.specs.declared.unit.Unit.{Unit as AnyUnit}
-use Rattle.mta_units.specs.declared.unit.Unit.TheVariants as unit
 use Rattle.mta_ends.specs.Lanes.{Halves}
 use Rattle.mta_ends.specs.Sending as s
 use Rattle.mta_ends.specs.Sending.{SendEnd, SendEvent}
@@ -33,8 +32,8 @@ use Rattle.mta_runs.specs.Sessions.{transfer_unit, puts_of}
 use Rattle.mta_session_lists.proofs.Found.{never}
 use Rattle.mta_session_lists.proofs.Waiting.{is_finish, does_at, over_says}
 use Rattle.mta_session_lists.proofs.SendingGoes.{pending}
-use Rattle.mta_session_lists.proofs.SendingLeft.{LastAt, LeftAt}
-use Rattle.mta_session_lists.proofs.SendingPhases.{SendAt, AfterSend, ended_after, last_at}
+use Rattle.mta_session_lists.proofs.SendingLeft.{LastAt}
+use Rattle.mta_session_lists.proofs.SendingPhases.{SendAt, AfterSend}
 
 abbrev Closes : Ask → Type 0
 Closes (ask.CloseLane lane g) = Unit {0}

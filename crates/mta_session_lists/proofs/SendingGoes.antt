@@ -1,5 +1,5 @@
 -- The sending end of a session's list behind what is told in a call, and behind what is put then.
-use Rattle.std.proofs.Common.{◌≡◌, ◌⊎◌, inl, inr, ℕ, Bool, true, false, Option, Some, None}
+use Rattle.std.proofs.Common.{◌≡◌, inl, Bool, true, false, Option}
 use Rattle.std.proofs.Common.{List, [], ◌∷◌, ◌++◌, refl, sym, ap, subst, ◌∙◌}
 use Rattle.std.proofs.lemmas.List.{append-nil}
 use Rattle.mta_units.specs.declared.unit.Unit.{Unit as AnyUnit}
@@ -13,9 +13,8 @@ use Rattle.mta_session.specs.declared.event.Action.TheVariants as action
 use Rattle.mta_session.specs.declared.phase.Phase.{Phase}
 use Rattle.mta_session.specs.declared.phase.Phase.TheVariants as phase
 use Rattle.mta_session.specs.Sending.{step_of}
-use Rattle.mta_session.specs.State.{State}
 use Rattle.mta_session.specs.Wanted.{Wanted, Aborts, Rejects, Ends, Puts, Asks, Reads, Goes_on, Excepts, Never}
-use Rattle.mta_session_laws.specs.Turning.{listed, MayFollow, Reaches, ReachesBy, ReachesAt, SendGoes}
+use Rattle.mta_session_laws.specs.Turning.{listed, MayFollow, Reaches, ReachesBy, SendGoes}
 use Rattle.mta_session_laws.specs.Turning.{with_unit, with_action}
 use Rattle.mta_session_laws.proofs.Ending.{abort_says_nothing}
 use Rattle.mta_session_laws.specs.Turning.{is_last_phase}
@@ -118,8 +117,7 @@ led_unit : (e : SendEnd) (told : List SendEvent) (y : AnyUnit) (p : Phase) (f : 
     → Reaches e (with_unit told y) p f → Reaches (send_all e (without_other told)) (with_unit [] y) p f
 led_unit e told y p f i k =
     let there = (led e (listed f k.0 k.1) told (transfer_unit y) (subst (λ z. s.IsSendingEnd e z (listed f k.0 k.1))
-    (unit_put told y i) k.2)).1 in
-    (
+    (unit_put told y i) k.2)).1 in (
       there.heard,
       k.1,
       subst (λ z. s.IsSendingEnd (send_all e (without_other told)) z (listed f there.heard k.1)) (sym (unit_put [] y i))

@@ -1,6 +1,6 @@
 -- The sending half of a session's list, with Abandons of other passes, from the step that begins the list.
-use Rattle.std.proofs.Common.{◌≡◌, ◌⊎◌, inl, inr, ℕ, ◌+◌, ◌-◌, ◌*◌, ◌==◌, ◌<◌, ◌≤◌, suc, not, if◌then◌else◌, Bool, true}
-use Rattle.std.proofs.Common.{false, Option, Some, None, Result, Ok, Err, slice_get, List, [], ◌∷◌, ◌++◌, length, take}
+use Rattle.std.proofs.Common.{◌≡◌, ℕ, ◌+◌, ◌-◌, ◌*◌, ◌==◌, ◌≤◌, suc, not, if◌then◌else◌, Bool, true}
+use Rattle.std.proofs.Common.{false, Option, Some, None, Ok, slice_get, List, [], ◌∷◌, ◌++◌, take}
 use Rattle.std.proofs.Common.{drop, refl, sym, ap, subst, ◌∙◌, arith}
 use Rattle.std.proofs.lemmas.List.{take-append-drop}
 use Rattle.mta_lane_send.specs.declared.state.SendState.{SendState}
@@ -30,11 +30,11 @@ use Rattle.mta_session.specs.declared.phase.Phase.{Phase}
 use Rattle.mta_session.specs.declared.phase.Phase.TheVariants as phase
 use Rattle.mta_session.specs.Session.{new_initiator, new_responder}
 use Rattle.mta_session.specs.State.{State, is_initiator, in_phase}
-use Rattle.mta_session.specs.Wanted.{Wanted, accepts, answer_for, puts_accept, with_lane}
+use Rattle.mta_session.specs.Wanted.{answer_for, puts_accept, with_lane}
 use Rattle.mta_session.specs.Follows.{Does, counted}
 use Rattle.mta_session.specs.Fits.{FitsAt, IsBlank, HasCall, HasLine}
 use Rattle.mta_session_laws.specs.Runs.{Turn, IsTurn}
-use Rattle.mta_session_laws.specs.Turning.{kept, EventsGo, is_open, is_last_phase}
+use Rattle.mta_session_laws.specs.Turning.{kept, EventsGo, is_last_phase}
 use Rattle.mta_session_laws.specs.Whole.{AreCalls}
 use Rattle.mta_session_laws.proofs.Opening.{wanted_in}
 use Rattle.mta_session_laws.proofs.Whole.{is_ended}
@@ -46,7 +46,7 @@ use Rattle.mta_runs.specs.Sessions.{SessionEvent, Got, Refused, Put, Made, Looke
 use Rattle.mta_runs.specs.Sessions.{sending_step_of, send_all, turn_after, gots_of, puts_of, answer_unit, transfer_unit}
 use Rattle.mta_matches.proofs.Lanes.{lanes_stay}
 use Rattle.mta_matches.specs.Asks.{IsAskOf}
-use Rattle.mta_session_lists.specs.Calls.{Call, StepOn, on, turns_of, step_told, list_of}
+use Rattle.mta_session_lists.specs.Calls.{Call, StepOn, turns_of, step_told, list_of}
 use Rattle.mta_session_lists.specs.Abandons.{with_abandons}
 use Rattle.mta_session_lists.specs.Lists.{HasAt, step_for, step_by, Initiates, Responds, end_begun, completed}
 use Rattle.mta_session_lists.specs.Lists.{AreValues}
@@ -58,13 +58,14 @@ use Rattle.mta_session_lists.proofs.Ordering.{is_some, later_calls, begins_done}
 use Rattle.mta_session_lists.proofs.ReceivedAll.{open_has, opening_has, opening_lane, opening_not_last}
 use Rattle.mta_session_lists.proofs.ReceivedLists.{any_silent}
 use Rattle.mta_session_lists.proofs.ReceivingLaw.{opened_half}
-use Rattle.mta_session_lists.proofs.ReceivingLists.{Part, at_opening, in_open, at_last, at_none, part, Asked, asked_next}
+use Rattle.mta_session_lists.proofs.ReceivingLists.{Part, at_opening, in_open, at_last, at_none, part, Asked}
+use Rattle.mta_session_lists.proofs.ReceivingLists.{asked_next}
 use Rattle.mta_session_lists.proofs.ReceivingLists.{open_not_last}
 use Rattle.mta_session_lists.proofs.Turns.{Holds}
-use Rattle.mta_session_lists.proofs.TurnsReplies.{PutAllowed, turned, Done}
+use Rattle.mta_session_lists.proofs.TurnsReplies.{PutAllowed, turned}
 use Rattle.mta_session_lists.proofs.Waiting.{goes_with, Ready, ready_next, does_at}
 use Rattle.mta_session_lists.proofs.SendingGoes.{Allowed, allowed_run, pending}
-use Rattle.mta_session_lists.proofs.SendingPhases.{one, SendAt, Has, HasHalf, AfterSend, SendWaits, waits_after}
+use Rattle.mta_session_lists.proofs.SendingPhases.{one, SendAt, Has, SendWaits, waits_after}
 use Rattle.mta_session_lists.proofs.SendingOpening.{SendTells, is_soon, accept_waits}
 use Rattle.mta_session_lists.proofs.SendingLooks.{RestsSend, SendKeeps, With, NotYet}
 use Rattle.mta_session_lists.proofs.SendingList.{none_here, come_sends}
@@ -103,8 +104,7 @@ module _ (spells : List ℕ → Bool) (history : List Seen) (lane : ℕ) (allow 
       let whole : take n history ++ drop n history ≡ history = take-append-drop n history in
       let stays = stay spells (take n history) (drop n history) lane
       (subst (λ z. LanesAllow spells z) (sym whole) allow) agreed in
-      let there = values (ap (λ (z : List Seen). (lane_in lane z).agreed) (sym whole) ∙ stays.0) in
-      (
+      let there = values (ap (λ (z : List Seen). (lane_in lane z).agreed) (sym whole) ∙ stays.0) in (
         sym there.0 ∙ ap (λ (z : List Seen). (lane_in lane z).size) (sym whole) ∙ stays.1,
         sym there.1 ∙ ap (λ (z : List Seen). (lane_in lane z).window) (sym whole) ∙ stays.2,
       )
@@ -117,8 +117,7 @@ module _ (spells : List ℕ → Bool) (history : List Seen) (lane : ℕ) (allow 
   agreed_by p sz w step is sets =
       let leads = step_leads spells history lane allow p step is in
       let set = sets (lane_at spells history lane allow p) in
-      let there = agreed_values (suc p) (ap (λ (z : Halves). z.agreed) leads ∙ set.0) in
-      (
+      let there = agreed_values (suc p) (ap (λ (z : Halves). z.agreed) leads ∙ set.0) in (
         there.0 ∙ ap (λ (z : Halves). z.size) leads ∙ set.1,
         there.1 ∙ ap (λ (z : Halves). z.window) leads ∙ set.2,
       )
@@ -164,15 +163,14 @@ module _ (spells : List ℕ → Bool) (history : List Seen) (lane : ℕ) (allow 
   on_reply phase.AsksValues t q (reply.Values (Some v)) from seen a k e soon =
       let look = look_of from seen t q (ask.Values t.lane) (reply.Values (Some v)) a refl k in
       λ agreed.
-          let told = look.told in
-          let there : lane_in t.lane (take seen history) ≡ half =
-          ap (λ (n : ℕ). lane_in n (take seen history)) e ∙ ap (λ (n : ℕ). lane_in lane (take n history)) (soon refl) in
-          let is = agreed_values spells history lane allow size window values low
-          (ap (λ (z : Halves). z.agreed) (sym there) ∙ told.agreed_is ∙ agreed) in
-          (
-            is.0 ∙ ap (λ (z : Halves). z.size) (sym there) ∙ told.size_is,
-            is.1 ∙ ap (λ (z : Halves). z.window) (sym there) ∙ told.window_is,
-          )
+      let told = look.told in
+      let there : lane_in t.lane (take seen history) ≡ half =
+      ap (λ (n : ℕ). lane_in n (take seen history)) e ∙ ap (λ (n : ℕ). lane_in lane (take n history)) (soon refl) in
+      let is = agreed_values spells history lane allow size window values low
+      (ap (λ (z : Halves). z.agreed) (sym there) ∙ told.agreed_is ∙ agreed) in (
+        is.0 ∙ ap (λ (z : Halves). z.size) (sym there) ∙ told.size_is,
+        is.1 ∙ ap (λ (z : Halves). z.window) (sym there) ∙ told.window_is,
+      )
   on_reply phase.AsksRecovery t q (reply.Recovery (Some st)) from seen a k e soon =
       let look = look_of from seen t q (ask.Recovery t.lane) (reply.Recovery (Some st)) a refl k in
       subst (λ n. (lane_in lane (take n history)).state ≡ st) (soon refl)
@@ -390,8 +388,7 @@ module _ (g : EventsGo) (spells : List ℕ → Bool) (history : List Seen) (at :
       let stage : t.send.stage ≡ s.stage_on_link (half_at lane).state =
       k.0.2 ∙ ap s.stage_on_link (ap (λ (z : Halves). z.state) (sym there)) in
       let own = agreed_by spells history lane allow size window values at (1024 * new.checkpoint) new.window
-      (h.LaneOpen true (1024 * new.checkpoint) new.window) is (λ l. (refl, refl, refl)) in
-      (
+      (h.LaneOpen true (1024 * new.checkpoint) new.window) is (λ l. (refl, refl, refl)) in (
         (st, kept_none t.send.state (half_at lane).octets t.send.octets (k.1), stage),
         (
           (refl, refl),
@@ -421,7 +418,8 @@ module _ (g : EventsGo) (spells : List ℕ → Bool) (history : List Seen) (at :
       let v : State = with_lane t t.opened t.line lane in
       let same = accept_new t v (answer_for v.side v.opened v.line) a new d in
       accept_waits (half_at new.lane) size window true now v (answer_for v.side v.opened v.line)
-      (with_half t t.opened t.line lane new new.lane f.0.0 f.0.1 f.1 (subst (λ z. HasAt history at z) (sym (some_is _ y q)) is) values same) refl
+      (with_half t t.opened t.line lane new new.lane f.0.0 f.0.1 f.1 (subst (λ z. HasAt history at z) (sym (some_is _ y
+      q)) is) values same) refl
     where
       some_is : (y z : StepOn) → Some y ≡ Some z → y ≡ z
       some_is y z e = cc
@@ -527,7 +525,8 @@ lists_send g spells history first u calls lane size window l allow
     let later = later_calls before cs c action.Read (new_responder own units) u start run in
     let begins = begins_done c.turn later.is (is_some (step_by c.turn.before.phase c.turn.event c.turn.after) y by) in
     let lane_ : ℕ = c.turn.after.lane in
-    let done = does_at c.turn c.turn.event refl later.is (not_ended c.turn.before.phase c.turn.event c.turn.after y by) in
+    let done = does_at c.turn c.turn.event refl later.is (not_ended c.turn.before.phase c.turn.event c.turn.after y by)
+    in
     let waits = responds g spells history at allow size window c.turn.before.phase c.turn.before c.turn.event
     c.turn.action c.turn.after y by is later.is.fits values done in
     let after = waits_after (lane_in lane_ (take (at + 1) history)) size window true (at + 1 ≡ at + 1)
@@ -537,7 +536,8 @@ lists_send g spells history first u calls lane size window l allow
     sends history lane_ size window at false c.turn.action cs (list_of action.Read before)
     (calls_send g spells history lane_ allow size window values true (at + 1) cs c.turn.action c.turn.after u
     (one (lane_in lane_ (take (at + 1) history)) size window true) after.ended (at + 1) (at + 1) x.Before_accept
-    later.ready (asked_next c.turn.action c.turn.before c.turn.event c.turn.after later.is.follows) (λ n. refl) after.run
+    later.ready (asked_next c.turn.action c.turn.before c.turn.event c.turn.after later.is.follows) (λ n. refl)
+    after.run
     after.at begins.allowed begins.holds (begin_yet g spells history at allow size window lane_ true) (omega arith)
     (omega arith) true_ later.run)
   where

@@ -1,7 +1,7 @@
 -- The sending end of a session's list in each phase of an open session, and at its end: what was heard last calls for
 -- nothing where a unit is got, and the last step may be made.
-use Rattle.std.proofs.Common.{◌≡◌, ◌⊎◌, inl, inr, ℕ, Bool, true, false, Option, Some, None}
-use Rattle.std.proofs.Common.{List, [], ◌∷◌, ◌++◌, refl, sym, ap, subst, ◌∙◌}
+use Rattle.std.proofs.Common.{◌≡◌, ◌⊎◌, inl, inr, ℕ, true, Option, Some, None}
+use Rattle.std.proofs.Common.{List, [], ◌∷◌, refl, sym, ap, subst, ◌∙◌}
 use Rattle.mta_lane_send.specs.Half.{is_sending, last_of}
 use Rattle.mta_units.specs.declared.unit.Unit.{Unit as AnyUnit}
 use Rattle.mta_units.specs.declared.unit.Unit.TheVariants as unit
@@ -19,14 +19,13 @@ use Rattle.mta_session.specs.State.{State}
 use Rattle.mta_session.specs.Wanted.{Wanted, Aborts, Rejects, Ends, Puts, Asks, Reads, Goes_on, Excepts, Never}
 use Rattle.mta_session.specs.Follows.{Part, Of_sender, Of_receiver, Of_neither, part_of, phase_behind, PutsFor, AsksFor}
 use Rattle.mta_session.specs.Follows.{GoesOn, ExceptsFor, Does}
-use Rattle.mta_session_laws.specs.Turning.{listed, MayFollow, Reaches, ReachesBy, ReachesAt, SendGoes, with_action}
-use Rattle.mta_session_laws.specs.Turning.{is_open, is_last_phase}
+use Rattle.mta_session_laws.specs.Turning.{listed, MayFollow, ReachesBy, SendGoes, with_action}
+use Rattle.mta_session_laws.specs.Turning.{is_open}
 use Rattle.mta_session_laws.proofs.Calls.{does_goes}
 use Rattle.mta_session_laws.proofs.Runs.{open_goes_on}
 use Rattle.mta_runs.specs.Sessions.{transfer_unit, puts_of, send_all}
-use Rattle.mta_session_lists.proofs.Found.{never}
 use Rattle.mta_session_lists.proofs.Receiving.{IsCommon}
-use Rattle.mta_session_lists.proofs.SendingGoes.{run_allowed, units_of, pending, action_put}
+use Rattle.mta_session_lists.proofs.SendingGoes.{run_allowed, pending, action_put}
 
 -- ---- what was heard last
 

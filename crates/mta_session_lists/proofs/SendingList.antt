@@ -1,20 +1,17 @@
 -- All calls of a session: the sending half of its list keeps the rules.
-use Rattle.std.proofs.Common.{◌≡◌, ◌⊎◌, inl, inr, ℕ, ◌+◌, ◌-◌, ◌*◌, ◌<◌, ◌≤◌, if◌then◌else◌, Bool, true, false, Option}
-use Rattle.std.proofs.Common.{Some, None, Result, Ok, Err, slice_get, List, [], ◌∷◌, ◌++◌, length, take, drop}
+use Rattle.std.proofs.Common.{◌≡◌, ℕ, ◌-◌, ◌≤◌, Bool, true, false}
+use Rattle.std.proofs.Common.{None, List, [], ◌∷◌, ◌++◌}
 use Rattle.std.proofs.Common.{refl, sym, ap, subst, ◌∙◌, arith}
-use Rattle.std.proofs.lemmas.List.{take-append-drop}
 use Rattle.mta_units.specs.declared.unit.Unit.{Unit as AnyUnit}
-use Rattle.mta_ends.specs.Lanes as h
-use Rattle.mta_ends.specs.Lanes.{Halves, Seen, On, LanesAllow, lane_in, halves_after}
+use Rattle.mta_ends.specs.Lanes.{Halves, Seen, LanesAllow}
 use Rattle.mta_ends.specs.Units.{LaneUnit}
 use Rattle.mta_ends.specs.Sending as s
 use Rattle.mta_ends.specs.Sending.{SendEnd, SendEvent}
 use Rattle.mta_lane_send.specs.declared.state.SendState.TheVariants as state
 use Rattle.mta_lane_send.specs.Half.{is_sending, last_of}
+use Rattle.mta_session.specs.declared.event.SessionEnd.{SessionEnd}
 use Rattle.mta_session.specs.declared.ask.Ask.{Ask}
-use Rattle.mta_session.specs.declared.ask.Ask.TheVariants as ask
 use Rattle.mta_session.specs.declared.ask.Reply.{Reply}
-use Rattle.mta_session.specs.declared.ask.Reply.TheVariants as reply
 use Rattle.mta_session.specs.declared.event.Action.{Action}
 use Rattle.mta_session.specs.declared.event.Action.TheVariants as action
 use Rattle.mta_session.specs.declared.event.Event.{Event}
@@ -24,43 +21,37 @@ use Rattle.mta_session.specs.declared.phase.Phase.TheVariants as phase
 use Rattle.mta_session.specs.State.{State}
 use Rattle.mta_session.specs.Wanted.{Wanted, Aborts, Rejects, Ends, Puts, Asks, Reads, Goes_on, Excepts, Never}
 use Rattle.mta_session.specs.Follows.{Does, counted}
-use Rattle.mta_session.specs.Fits.{FitsAt, AnswersAt, AnswersAsk}
+use Rattle.mta_session.specs.Fits.{FitsAt, AnswersAt}
 use Rattle.mta_session_laws.specs.Runs.{Turn, IsTurn}
-use Rattle.mta_session_laws.specs.Whole.{AreCalls}
-use Rattle.mta_session_laws.specs.Turning.{listed, EventsGo, called_for, is_open, is_last_phase}
+use Rattle.mta_session_laws.specs.Turning.{EventsGo, called_for, is_open, is_last_phase}
 use Rattle.mta_session_laws.proofs.Opening.{wanted_in}
-use Rattle.mta_session_laws.proofs.Whole.{is_ended}
-use Rattle.mta_session_order.specs.Order.{is_putting, is_asking, is_reading, takes_unit}
-use Rattle.mta_runs.proofs.Values.{stay}
 use Rattle.mta_runs.specs.Sessions as x
 use Rattle.mta_runs.specs.Sessions.{SessionEvent, Put, sending_event, answer_unit, gots_of, puts_of, transfer_unit}
 use Rattle.mta_runs.specs.Sessions.{send_all, turn_after, seen_after, SendOwesNothing}
-use Rattle.mta_matches.specs.Asks.{IsAskOf}
 use Rattle.mta_session_lists.specs.Abandons.{has_before}
-use Rattle.mta_session_lists.specs.Calls.{Call, StepOn, turns_of, step_told, look_told, told_as, got_as, come_of, list_of}
-use Rattle.mta_session_lists.specs.Lists.{AreValues}
-use Rattle.mta_session_lists.specs.Standing.{Stands, Looks, StandsAs, IsInTurn, ComesTrue, AllComeTrue}
+use Rattle.mta_session_lists.specs.Calls.{step_told, look_told, told_as, got_as, come_of}
+use Rattle.mta_session_lists.specs.Standing.{StandsAs, ComesTrue}
 use Rattle.mta_session_lists.proofs.Found.{never}
-use Rattle.mta_session_lists.proofs.Lanes.{lane_at, step_leads}
-use Rattle.mta_session_lists.proofs.Waiting.{goes_with, Ready, ready_next, put_answers, ask_answers, none_put}
+use Rattle.mta_session_lists.proofs.Lanes.{lane_at}
+use Rattle.mta_session_lists.proofs.Waiting.{goes_with, put_answers, ask_answers, none_put}
 use Rattle.mta_session_lists.proofs.Waiting.{none_asked, does_at, is_finish}
 use Rattle.mta_session_lists.proofs.Turns.{Holds}
 use Rattle.mta_session_lists.proofs.TurnsUnits.{unit_goes, reads_list}
-use Rattle.mta_session_lists.proofs.TurnsReplies.{PutAllowed, turned, Done}
+use Rattle.mta_session_lists.proofs.TurnsReplies.{turned, Done}
 use Rattle.mta_session_lists.proofs.TurnsCalls.{Here, quiet_done, bad_done, over_done, done_by, reads_here, less_holds}
 use Rattle.mta_session_lists.proofs.ReceivingEnds.{is_opening}
 use Rattle.mta_session_lists.proofs.ReceivingLists.{Part, at_opening, in_open, at_last, at_none, part, is_unlisted}
-use Rattle.mta_session_lists.proofs.ReceivingLists.{Asked, asked_next, opening_going, open_not_last}
-use Rattle.mta_session_lists.proofs.SendingGoes.{Allowed, pending, run_allowed, units_of}
+use Rattle.mta_session_lists.proofs.ReceivingLists.{Asked, opening_going}
+use Rattle.mta_session_lists.proofs.SendingGoes.{pending, run_allowed}
 use Rattle.mta_session_lists.proofs.SendingLeft.{Calm, LeftAt, OpenSend, none_heard}
 use Rattle.mta_session_lists.proofs.SendingOpen.{quiet_calm, asks_own}
 use Rattle.mta_session_lists.proofs.SendingPhases.{one, SendAt, AfterSend, waits_after, at_open, asks_state}
 use Rattle.mta_session_lists.proofs.SendingOpening.{SendTells, is_soon, is_unit, answer_hears, opening_wants}
 use Rattle.mta_session_lists.proofs.SendingEnds.{end_after}
-use Rattle.mta_session_lists.proofs.SendingLooks.{RestsSend, SendKeeps, With, silent_keeps, NotYet}
+use Rattle.mta_session_lists.proofs.SendingLooks.{SendKeeps, With, silent_keeps, NotYet}
 use Rattle.mta_session_lists.proofs.SendingCalls.{left_calm, got_allowed, got_rests, reads_rest, closing_rest}
 use Rattle.mta_session_lists.proofs.SendingCalls.{before_rest, go_after, bad_after, over_after, unit_after, IsReads}
-use Rattle.mta_session_lists.proofs.SendingAsked.{Yet, Answered, asked_keeps}
+use Rattle.mta_session_lists.proofs.SendingAsked.{asked_keeps}
 
 -- ---- phases and what they wait for
 
@@ -299,8 +290,7 @@ module _ (g : EventsGo) (spells : List ℕ → Bool) (history : List Seen) (lane
 
     open_got : (i : is_open t.before.phase ≡ true) → OpenSend t.before.phase t.before action.Read c → Got_well
     open_got i k =
-        let calm = open_calm t.before.phase t.before c i turn.waits turn.is.fits k.left in
-        (
+        let calm = open_calm t.before.phase t.before c i turn.waits turn.is.fits k.left in (
           open_owes t.before.phase t.before v c i turn.waits turn.is.fits turn.holds k,
           subst (λ z. After_at (send_all z (sending_event lane (got_as calls_for y))) t) (sym k.is)
               (unit_after g l size window accepted later lane t y k.heard k.before same turn.is i
@@ -311,12 +301,11 @@ module _ (g : EventsGo) (spells : List ℕ → Bool) (history : List Seen) (lane
     got_part (in_open i) =
         open_got i (at_open l size window accepted early t.before.phase t.before action.Read c i
         (reads_no_state t.before.phase turn.waits) at)
-    got_part (at_opening i) =
-        (
-          opening_owes t.before.phase t.before v c i turn.waits turn.holds at,
-          opening_unit t.before.phase t y c i turn.waits answers at
-              (does_at t (event.Unit y) same turn.is (opening_going t.before.phase i)),
-        )
+    got_part (at_opening i) = (
+      opening_owes t.before.phase t.before v c i turn.waits turn.holds at,
+      opening_unit t.before.phase t y c i turn.waits answers at
+          (does_at t (event.Unit y) same turn.is (opening_going t.before.phase i)),
+    )
     got_part (at_last i) = absurd (last_reads t.before.phase i turn.waits)
     got_part (at_none i) =
         absurd (none_here l size window accepted early t.before.phase t.before action.Read c i at)
@@ -417,7 +406,7 @@ module _ (g : EventsGo) (spells : List ℕ → Bool) (history : List Seen) (lane
   finished_last p (action.Finish y) i w = absurd (never w)
   finished_last p a i w = absurd (never i)
 
-  come_finished : (y : _) (t : Turn) (seen : ℕ) (e : Event) (b c : SendEnd) (behind from : ℕ) (v : x.Turn)
+  come_finished : (y : SessionEnd) (t : Turn) (seen : ℕ) (e : Event) (b c : SendEnd) (behind from : ℕ) (v : x.Turn)
       (rest : List SessionEvent) → SendHere (action.Finish y) t b c behind from seen v → from ≤ seen → More t seen rest
       → Keeps_at v behind b rest
   come_finished y t seen e b c behind from v rest k le more =

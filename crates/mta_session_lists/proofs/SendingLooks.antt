@@ -1,7 +1,7 @@
 -- Abandons of other passes in a session's list, as its sending end sees them: before a look or a step of the half, and
 -- never before one that goes on with the activity.
-use Rattle.std.proofs.Common.{◌≡◌, ◌<◌, ◌≤◌, ℕ, suc, ◌+◌, ◌-◌, ◌==◌, if◌then◌else◌, Bool, true, false, Option}
-use Rattle.std.proofs.Common.{Some, None, slice_get, List, [], ◌∷◌, ◌++◌, length, take, refl, sym, ap, subst, ◌∙◌}
+use Rattle.std.proofs.Common.{◌≡◌, ◌<◌, ◌≤◌, ℕ, suc, ◌+◌, if◌then◌else◌, Bool, true, Option}
+use Rattle.std.proofs.Common.{Some, None, slice_get, List, [], ◌∷◌, ◌++◌, length, refl, sym, ap, subst, ◌∙◌}
 use Rattle.std.proofs.Common.{arith}
 use Rattle.std.proofs.lemmas.Bool.{eq-eqb}
 use Rattle.mta_lane_send.specs.declared.state.SendState.{SendState}
@@ -55,9 +55,12 @@ module _ (history : List Seen) (lane : ℕ) where
       subst (λ o. SendKeeps lane v e (abandon_at lane e (abandoned_upto history lane from e o) ++ y ∷
       With (seen_after lane from y)
       (send_all (given_up e (abandoned_upto history lane from e o)) (sending_event lane y)) rest))
-      (sym n)
-      (r, a, subst (λ z. SendKeeps lane (turn_after v y) (send_all e (sending_event lane y))
-      (With z (send_all e (sending_event lane y)) rest)) (sym q) k)
+      (sym n) (
+        r,
+        a,
+        subst (λ z. SendKeeps lane (turn_after v y) (send_all e (sending_event lane y))
+            (With z (send_all e (sending_event lane y)) rest)) (sym q) k,
+      )
 
   made_keeps : (v : x.Turn) (e : SendEnd) (p k : ℕ) (ws : List SessionEvent)
       → is_sending e.state (last_of e.state) ≡ true → SendKeeps lane v (s.made e s.Abandon) ws
@@ -101,17 +104,17 @@ module _ (history : List Seen) (lane : ℕ) where
   front : (v : x.Turn) (e : SendEnd) (y : SessionEvent) (st : SendStep) (ws : List SessionEvent)
       → turn_after v y ≡ v → RestsSend v e y → sending_event lane y ≡ s.Made st ∷ [] → s.MayMake e st
       → SendKeeps lane v (s.made e st) ws → SendKeeps lane v e (y ∷ ws)
-  front v e y st ws t r q m k =
-      (
-        r,
-        subst (λ z. Allowed e z) (sym q) (m, tt),
-        subst (λ z. SendKeeps lane z (send_all e (sending_event lane y)) ws) (sym t)
-            (subst (λ z. SendKeeps lane v (send_all e z) ws) (sym q) k),
-      )
+  front v e y st ws t r q m k = (
+    r,
+    subst (λ z. Allowed e z) (sym q) (m, tt),
+    subst (λ z. SendKeeps lane z (send_all e (sending_event lane y)) ws) (sym t)
+        (subst (λ z. SendKeeps lane v (send_all e z) ws) (sym q) k),
+  )
 
   by_step : (v : x.Turn) (from p j : ℕ) (e : SendEnd) (step : SeenStep) (st : SendStep) (rest : List SessionEvent)
       (found : Option ℕ) → sending_event lane (Made p j step) ≡ s.Made st ∷ []
-      → (IsSeen history lane from p e → s.MayMake e st × SendKeeps lane v (s.made e st) (With (p + 1) (s.made e st) rest))
+      → (IsSeen history lane from p e → s.MayMake e st × SendKeeps lane v (s.made e st) (With (p + 1) (s.made e st)
+      rest))
       → ((q : ℕ) → is_sending e.state (last_of e.state) ≡ true → q < p
       → slice_get history q ≡ Some (On lane (h.Abandon (last_of e.state)))
       → s.MayMake (s.made e s.Abandon) st
@@ -130,7 +133,8 @@ module _ (history : List Seen) (lane : ℕ) where
 
   pub step_keeps : (v : x.Turn) (from p j : ℕ) (e : SendEnd) (step : SeenStep) (st : SendStep)
       (rest : List SessionEvent) → j ≡ lane → sending_step_of step ≡ s.Made st ∷ [] → from ≤ p
-      → (IsSeen history lane from p e → s.MayMake e st × SendKeeps lane v (s.made e st) (With (p + 1) (s.made e st) rest))
+      → (IsSeen history lane from p e → s.MayMake e st × SendKeeps lane v (s.made e st) (With (p + 1) (s.made e st)
+      rest))
       → ((q : ℕ) → is_sending e.state (last_of e.state) ≡ true → q < p
       → slice_get history q ≡ Some (On lane (h.Abandon (last_of e.state)))
       → s.MayMake (s.made e s.Abandon) st
@@ -240,7 +244,10 @@ module _ (spells : List ℕ → Bool) (history : List Seen) (lane : ℕ) (allow 
       → Keeps v (p + 1) (s.made e (step_of step)) rest
       → SendKeeps lane v e (With history lane from e (Made p lane (own_seen t step) ∷ rest))
   own_keeps v from p t (own.Confirm n) e rest q m le is k =
-      step_keeps history lane v from p lane e (own_seen t (own.Confirm n)) (s.Confirm n) rest refl refl le (λ seen. (m, k))
+      step_keeps history lane v from p lane e (own_seen t (own.Confirm n)) (s.Confirm n) rest refl refl le (λ seen. (
+        m,
+        k,
+      ))
       (λ w i b there. absurd (none_confirms spells history lane allow (last_of e.state) w p t.generation n there b
       (subst (λ z. slice_get history p ≡ Some (On lane (h.Confirm t.generation (last_of z) n))) (sym q) is)))
   own_keeps v from p t own.Ending e rest q m le is k =
@@ -254,7 +261,10 @@ module _ (spells : List ℕ → Bool) (history : List Seen) (lane : ℕ) (allow 
       step_keeps history lane v from p lane e (own_seen t own.Dropped) s.Dropped rest refl refl le (λ seen. (m, k))
       (λ w i b there. settles v (p + 1) e s.Dropped rest tt i m k)
   own_keeps v from p t (own.Refused kind) e rest q m le is k =
-      step_keeps history lane v from p lane e (own_seen t (own.Refused kind)) s.Refused rest refl refl le (λ seen. (m, k))
+      step_keeps history lane v from p lane e (own_seen t (own.Refused kind)) s.Refused rest refl refl le (λ seen. (
+        m,
+        k,
+      ))
       (λ w i b there. settles v (p + 1) e s.Refused rest tt i m k)
 
   pub denied_keeps : (v : x.Turn) (from p j g k : ℕ) (e : SendEnd) (rest : List SessionEvent) → j ≡ lane

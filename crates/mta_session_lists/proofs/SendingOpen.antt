@@ -1,6 +1,6 @@
 -- What a session that is open makes of what comes leaves its list's sending end at rest.
-use Rattle.std.proofs.Common.{◌≡◌, ◌⊎◌, inl, inr, ℕ, ◌&&◌, ◌==◌, ◌-◌, not, nat_lt, if◌then◌else◌, Bool, true, false}
-use Rattle.std.proofs.Common.{Option, Some, None, Result, Ok, Err, List, [], ◌∷◌, refl, sym, ap, subst, ◌∙◌}
+use Rattle.std.proofs.Common.{◌≡◌, inl, inr, ℕ, ◌&&◌, ◌==◌, not, nat_lt, if◌then◌else◌, Bool, true, false}
+use Rattle.std.proofs.Common.{Option, Some, None, Result, Ok, Err, [], refl, sym, ap, subst, ◌∙◌}
 use Rattle.mta_ber.specs.declared.memory.Memory.{Memory as NoMemory}
 use Rattle.mta_lane_send.specs.declared.state.SendState.{SendState}
 use Rattle.mta_lane_send.specs.declared.state.SendState.TheVariants as state
@@ -20,9 +20,7 @@ use Rattle.mta_records.specs.declared.fault.StepFault.TheVariants as fault
 use Rattle.mta_records.specs.declared.lane.Batch.{Batch}
 use Rattle.mta_session.specs.declared.ask.Reply.{Reply}
 use Rattle.mta_session.specs.declared.ask.Reply.TheVariants as reply
-use Rattle.mta_session.specs.declared.event.Event.{Event}
 use Rattle.mta_session.specs.declared.event.Event.TheVariants as event
-use Rattle.mta_session.specs.declared.event.SessionEnd.TheVariants as end
 use Rattle.mta_session.specs.declared.phase.Found.{Found}
 use Rattle.mta_session.specs.declared.phase.OwnStep.{OwnStep}
 use Rattle.mta_session.specs.declared.phase.Phase.{Phase}
@@ -30,23 +28,20 @@ use Rattle.mta_session.specs.declared.phase.Phase.TheVariants as phase
 use Rattle.mta_session.specs.Receiving.{taken, is_free}
 use Rattle.mta_session.specs.Sending.{called, heard, is_discard_put}
 use Rattle.mta_session.specs.State.{State, is_initiator}
-use Rattle.mta_session.specs.Wanted.{Wanted, Aborts, Rejects, Ends, Puts, Asks, Reads, Goes_on, Excepts, Never}
+use Rattle.mta_session.specs.Wanted.{Wanted, Aborts}
 use Rattle.mta_session.specs.Wanted.{on_abort, makes_or, goes_on_if, as_holder, as_listener, on_close, takes, on_unit}
-use Rattle.mta_session.specs.Wanted.{on_close_ack, wanted_of_unit, on_batch, on_due, on_start, on_still_idle, within}
+use Rattle.mta_session.specs.Wanted.{on_close_ack, on_batch, on_due, on_start, on_still_idle, within}
 use Rattle.mta_session.specs.Wanted.{is_still, is_cut, on_step, on_state, is_given_up, on_secured, on_completed}
 use Rattle.mta_session.specs.Wanted.{on_dropped, goes_on_with, wanted_of_reply, wanted_of_go, wanted_of_over}
-use Rattle.mta_session.specs.Wanted.{passes_please}
 use Rattle.mta_session.specs.Follows.{counted}
 use Rattle.mta_session.specs.Fits.{FitsAt}
 use Rattle.mta_session_laws.specs.Called.{abort_unit}
 use Rattle.mta_session_laws.specs.Turning.{is_open, called_for}
-use Rattle.mta_session_laws.proofs.Opening.{wanted_in}
 use Rattle.mta_session_laws.proofs.Linking.{eq_of, denied_last, sent_last}
-use Rattle.mta_runs.specs.Sessions as x
 use Rattle.mta_runs.specs.Sessions.{sending_event, answer_unit, gots_of, send_all}
 use Rattle.mta_session_lists.specs.Calls.{got_as}
 use Rattle.mta_session_lists.proofs.Found.{never, both}
-use Rattle.mta_session_lists.proofs.SendingLeft.{Owes, Calm, Rested, LeftAt, Leaves, none_heard}
+use Rattle.mta_session_lists.proofs.SendingLeft.{Owes, Calm, Leaves}
 use Rattle.mta_session_lists.proofs.TurnsUnits.{is_abort}
 
 -- ---- calm ends

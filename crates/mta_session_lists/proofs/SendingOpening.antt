@@ -1,6 +1,6 @@
 -- What a session wants before it is open, and at its end: what its list's sending end is then.
-use Rattle.std.proofs.Common.{◌≡◌, inl, inr, ℕ, ◌*◌, ◌==◌, ◌-◌, ◌&&◌, ◌||◌, not, if◌then◌else◌, Bool, true, false}
-use Rattle.std.proofs.Common.{Option, Some, None, Result, Ok, Err, List, [], ◌∷◌, refl, sym, ap, subst, ◌∙◌}
+use Rattle.std.proofs.Common.{◌≡◌, inl, ℕ, ◌*◌, ◌==◌, ◌&&◌, ◌||◌, not, if◌then◌else◌, Bool, true, false}
+use Rattle.std.proofs.Common.{Option, Some, None, Result, Ok, Err, List, [], refl, sym, ap, subst, ◌∙◌}
 use Rattle.std.specs.Str.{bytes_eq}
 use Rattle.mta_lane_send.specs.declared.state.SendState.{SendState}
 use Rattle.mta_lane_send.specs.declared.state.SendState.TheVariants as state
@@ -15,10 +15,8 @@ use Rattle.mta_ends.specs.Units as u
 use Rattle.mta_ends.specs.Sending as s
 use Rattle.mta_ends.specs.Sending.{SendEnd, SendEvent, SendStep, stage_got, stage_on_link}
 use Rattle.mta_records.specs.declared.fault.StepFault.{StepFault}
-use Rattle.mta_session.specs.declared.ask.Reply.{Reply}
 use Rattle.mta_session.specs.declared.ask.Reply.TheVariants as reply
 use Rattle.mta_session.specs.declared.event.Action.{Action}
-use Rattle.mta_session.specs.declared.event.Action.TheVariants as action
 use Rattle.mta_session.specs.declared.event.Event.{Event}
 use Rattle.mta_session.specs.declared.event.Event.TheVariants as event
 use Rattle.mta_session.specs.declared.event.InitiatorPlan.{InitiatorPlan}
@@ -28,8 +26,8 @@ use Rattle.mta_session.specs.declared.phase.Phase.{Phase}
 use Rattle.mta_session.specs.declared.phase.Phase.TheVariants as phase
 use Rattle.mta_session.specs.Sending.{is_discard_put}
 use Rattle.mta_session.specs.State.{State, is_initiator}
-use Rattle.mta_session.specs.Wanted.{Wanted, Aborts, Rejects, Ends, Puts, Asks, Reads, Goes_on, Excepts, Never}
-use Rattle.mta_session.specs.Wanted.{begins, opens, answers_link, puts_accept, on_received, restored, on_abort, starts}
+use Rattle.mta_session.specs.Wanted.{Wanted, Aborts}
+use Rattle.mta_session.specs.Wanted.{begins, answers_link, puts_accept, on_received, restored, on_abort, starts}
 use Rattle.mta_session.specs.Wanted.{on_values, is_refused_value, is_same_reference, on_accept, on_reject, on_answer_by}
 use Rattle.mta_session.specs.Wanted.{after_accept, within, on_agreed, with_received}
 use Rattle.mta_session.specs.Follows.{counted}
@@ -41,9 +39,9 @@ use Rattle.mta_runs.specs.Sessions.{sending_event, answer_unit, gots_of, send_al
 use Rattle.mta_session_lists.specs.Calls.{got_as}
 use Rattle.mta_session_lists.proofs.Found.{never, both}
 use Rattle.mta_session_lists.proofs.ReceivingEnds.{is_opening}
-use Rattle.mta_session_lists.proofs.SendingLeft.{Calm, none_heard, OpenSend}
+use Rattle.mta_session_lists.proofs.SendingLeft.{none_heard}
 use Rattle.mta_session_lists.proofs.SendingOpen.{denied_at, sent_at}
-use Rattle.mta_session_lists.proofs.SendingPhases.{one, HasHalf, IsSide, HasValues, Has, NewSend, SendAt, OpensAs}
+use Rattle.mta_session_lists.proofs.SendingPhases.{one, HasHalf, IsSide, HasValues, Has, NewSend, SendAt}
 use Rattle.mta_session_lists.proofs.SendingPhases.{SendWaits, if_waits}
 
 -- ---- the list's end where the link is answered
@@ -347,7 +345,8 @@ module _ (l : Halves) (size window : ℕ) (accepted : Bool) where
         → (is_soon p ≡ true → early → later)
         → FitsAt p t → AnswersAt p t e → SendTells p t e → Waits b (wanted_in p (counted t e) e)
     opening_wants early phase.Begin t e a b i j k next f n tells =
-        subst (λ z. Waits z (wanted_in phase.Begin (counted t e) e)) (sym k.0) (begin_wants t e k.1 k.2 (next refl k.3) n)
+        subst (λ z. Waits z (wanted_in phase.Begin (counted t e) e)) (sym k.0) (begin_wants t e k.1 k.2 (next refl k.3)
+        n)
     opening_wants early phase.AsksValues t e a b i j k next f n tells =
         subst (λ z. Waits z (wanted_in phase.AsksValues (counted t e) e)) (sym k.0)
         (values_wants t e k.1 (next refl k.2) n tells)

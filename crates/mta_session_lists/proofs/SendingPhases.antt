@@ -1,24 +1,13 @@
 -- The sending end of a session's list in each phase, and what a session wants before it is open and at its end.
-use Rattle.std.proofs.Common.{◌≡◌, inl, inr, ℕ, ◌*◌, ◌==◌, ◌&&◌, ◌||◌, not, if◌then◌else◌, Bool, true, false, Option}
-use Rattle.std.proofs.Common.{Some, None, Result, Ok, Err, List, [], ◌∷◌, refl, sym, ap, subst, ◌∙◌}
-use Rattle.std.specs.Str.{bytes_eq}
-use Rattle.mta_ber.specs.declared.memory.Memory.{Memory as NoMemory}
-use Rattle.mta_lane_send.specs.declared.state.SendState.{SendState}
-use Rattle.mta_lane_send.specs.declared.state.SendState.TheVariants as state
-use Rattle.mta_lane_send.specs.Half.{is_idle, is_ending, last_of}
-use Rattle.mta_rtse.specs.declared.types.Answer.{Answer}
-use Rattle.mta_rtse.specs.declared.types.Answer.TheVariants as answer
-use Rattle.mta_units.specs.declared.unit.Unit.{Unit as AnyUnit}
-use Rattle.mta_units.specs.declared.unit.Unit.TheVariants as unit
+use Rattle.std.proofs.Common.{◌≡◌, inl, inr, ℕ, ◌*◌, not, if◌then◌else◌, Bool, true, false, Option}
+use Rattle.std.proofs.Common.{List, [], refl, sym, ap, subst, ◌∙◌}
 use Rattle.mta_ends.specs.Lanes.{Halves}
 use Rattle.mta_ends.specs.Units.{LaneUnit}
 use Rattle.mta_ends.specs.Units as u
 use Rattle.mta_ends.specs.Sending as s
 use Rattle.mta_ends.specs.Sending.{SendEnd, SendEvent}
-use Rattle.mta_records.specs.declared.fault.StepFault.{StepFault}
 use Rattle.mta_session.specs.declared.event.Action.{Action}
 use Rattle.mta_session.specs.declared.event.Action.TheVariants as action
-use Rattle.mta_session.specs.declared.event.InitiatorPlan.{InitiatorPlan}
 use Rattle.mta_session.specs.declared.event.Side.{Side}
 use Rattle.mta_session.specs.declared.event.Side.TheVariants as side
 use Rattle.mta_session.specs.declared.phase.Phase.{Phase}
@@ -27,12 +16,12 @@ use Rattle.mta_session.specs.State.{State, is_initiator}
 use Rattle.mta_session.specs.Wanted.{Wanted, Aborts, Rejects, Ends, Puts, Asks, Reads, Goes_on, Excepts, Never}
 use Rattle.mta_session.specs.Follows.{Does, GoesOn}
 use Rattle.mta_session.specs.Fits.{HasSize}
-use Rattle.mta_session_laws.specs.Turning.{kept, listed, is_open, is_last_phase, with_action}
+use Rattle.mta_session_laws.specs.Turning.{kept, listed, is_open, is_last_phase}
 use Rattle.mta_session_laws.proofs.Ending.{IsPutLast, Answered, goes_way}
 use Rattle.mta_runs.specs.Sendings.{end_on_link}
 use Rattle.mta_runs.specs.Sessions.{transfer_unit, puts_of, send_all}
 use Rattle.mta_session_lists.proofs.Found.{never}
-use Rattle.mta_session_lists.proofs.Receiving.{IsCommon, goes_common}
+use Rattle.mta_session_lists.proofs.Receiving.{goes_common}
 use Rattle.mta_session_lists.proofs.SendingGoes.{pending, action_put}
 use Rattle.mta_session_lists.proofs.SendingLeft.{Calm, LastAt, LeftAt, left_after, OpenSend, StateSend, OpenAfter}
 use Rattle.mta_session_lists.proofs.SendingLeft.{open_after}

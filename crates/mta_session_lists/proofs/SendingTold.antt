@@ -1,6 +1,6 @@
 -- What a reply tells of the sending half: nothing, an own step, or that one is refused.
 use Rattle.std.proofs.Common.{◌≡◌, ℕ, ◌==◌, ◌-◌, if◌then◌else◌, Bool, true, false, Option, Some, None, Result, Ok, Err}
-use Rattle.std.proofs.Common.{List, [], ◌∷◌, refl, sym, ap, subst, ◌∙◌}
+use Rattle.std.proofs.Common.{List, [], ◌∷◌, refl, sym, ap, subst}
 use Rattle.mta_ber.specs.declared.memory.Memory.{Memory as NoMemory}
 use Rattle.mta_ends.specs.Lanes as h
 use Rattle.mta_ends.specs.Lanes.{SeenStep}
@@ -28,7 +28,7 @@ use Rattle.mta_runs.specs.Sessions.{SessionEvent, Made, Looked, sending_event, s
 use Rattle.mta_runs.specs.Sessions.{turn_after}
 use Rattle.mta_matches.specs.Asks.{IsAskOf, handed_by}
 use Rattle.mta_session_lists.specs.Abandons.{step_upto, has_before}
-use Rattle.mta_session_lists.specs.Calls.{StepOn, on, step_told, look_told, told_as}
+use Rattle.mta_session_lists.specs.Calls.{on, step_told, look_told, told_as}
 use Rattle.mta_session_lists.proofs.Found.{never}
 use Rattle.mta_session_lists.proofs.SendingLooks.{RestsSend, own_seen}
 

@@ -79,13 +79,34 @@ made_step e f h (s.Start octets) ys k m more = let rest = more None (inl refl)
     in (rest.0, rest.1, (may_same e h (s.Start octets) k m, rest.2))
 made_step e f h (s.Confirm n) ys k m more = let rest = more None (inl refl)
     in (rest.0, rest.1, (may_same e h (s.Confirm n) k m, rest.2))
-made_step e f h s.To_end ys k m more = let rest = more None (inl refl) in (rest.0, rest.1, (may_same e h s.To_end k m, rest.2))
-made_step e f h s.Sent ys k m more = let rest = more None (inl refl) in (rest.0, rest.1, (may_same e h s.Sent k m, rest.2))
+made_step e f h s.To_end ys k m more = let rest = more None (inl refl) in (
+  rest.0,
+  rest.1,
+  (
+    may_same e h s.To_end k m,
+    rest.2,
+  ),
+)
+made_step e f h s.Sent ys k m more = let rest = more None (inl refl) in (
+  rest.0,
+  rest.1,
+  (
+    may_same e h s.Sent k m,
+    rest.2,
+  ),
+)
 made_step e f h s.Dropped ys k m more = let rest = more None (inl refl)
     in (rest.0, rest.1, (may_same e h s.Dropped k m, rest.2))
 made_step e f h s.Refused ys k m more = let rest = more None (inl refl)
     in (rest.0, rest.1, (may_same e h s.Refused k m, rest.2))
-made_step e f h s.Denied ys k m more = let rest = more None (inl refl) in (rest.0, rest.1, (may_same e h s.Denied k m, rest.2))
+made_step e f h s.Denied ys k m more = let rest = more None (inl refl) in (
+  rest.0,
+  rest.1,
+  (
+    may_same e h s.Denied k m,
+    rest.2,
+  ),
+)
 
 got_unit : (e f : SendEnd) (h : Option LaneUnit) (y : LaneUnit) (ys : List SendEvent)
     → ((g : Option LaneUnit) → Hears g (s.got e y).heard → Leads (s.got e y) g ys f) → Leads e h (s.Got y ∷ ys) f
