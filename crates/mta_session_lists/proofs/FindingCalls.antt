@@ -92,13 +92,13 @@ module _ (spells : List ℕ → Bool) (history : List Seen) (lane : ℕ) (allow 
   made_is : (p q i j : ℕ) (a b : SeenStep) → Made p i a ≡ Made q j b → p ≡ q
   made_is p q i j a b e = cc
 
-  behind_other : (from seen : ℕ) (y : SessionEvent) (rest : List SessionEvent) → from ≤ seen
+  pub behind_other : (from seen : ℕ) (y : SessionEvent) (rest : List SessionEvent) → from ≤ seen
       → ((q j : ℕ) (step : SeenStep) → Made q j step ≡ y → from ≤ q) → Behind seen rest → Behind from (y ∷ rest)
   behind_other from seen y rest le here more q j step (inl e) = here q j step e
   behind_other from seen y rest le here more q j step (inr k) =
       let a = more q j step k in omega (arith, le, a)
 
-  told_behind : (from seen : ℕ) (q : Ask) (y : Reply) (o : Option StepOn) (look : x.Look) (rest : List SessionEvent)
+  pub told_behind : (from seen : ℕ) (q : Ask) (y : Reply) (o : Option StepOn) (look : x.Look) (rest : List SessionEvent)
       → StandsAs spells history from seen q y o → Behind seen rest → Behind from (told_as seen o look ∷ rest)
   told_behind from seen q y (Some z) look rest k more =
       let lt = k.later in
@@ -124,7 +124,7 @@ module _ (spells : List ℕ → Bool) (history : List Seen) (lane : ℕ) (allow 
   same_behind : (from seen : ℕ) (rest : List SessionEvent) → seen ≡ from → Behind seen rest → Behind from rest
   same_behind from seen rest e more = subst (λ n. Behind n rest) e more
 
-  come_behind : (from seen : ℕ) (p : Phase) (a : Action) (t : Turn) (e : Event) (rest : List SessionEvent)
+  pub come_behind : (from seen : ℕ) (p : Phase) (a : Action) (t : Turn) (e : Event) (rest : List SessionEvent)
       → ComesTrue spells history from seen p a e → Behind seen rest → Behind from (come_of a t seen e ++ rest)
   come_behind from seen p (action.Put u) t e rest is more =
       behind_other from seen (Put u) rest (omega (arith, is)) (λ q j step k. cc) more
@@ -212,31 +212,28 @@ module _ (spells : List ℕ → Bool) (history : List Seen) (lane : ℕ) (allow 
       }
 
 module _ (spells : List ℕ → Bool) (history : List Seen) (lane : ℕ) (allow : LanesAllow spells history) (gen : ℕ)
-    (l : Halves) (early later : Type 0) where
+    (l : Halves) (early : Type 0) (After_at : RecvEnd → Type 0) (Goes : Type 0) where
   abbrev pub So_far : (upto : ℕ) → List (List ℕ) → (n : ℕ) → List SessionEvent → Type 0
   So_far upto pieces n rest = FoundSo spells history lane allow gen upto pieces n rest
 
-  abbrev pub After_at : RecvEnd → Turn → Type 0
-  After_at b t = After later (first l later) b t.action t.after
-
   -- what follows a call
-  abbrev pub More : Turn → (seen : ℕ) → List SessionEvent → Type 0
-  More t seen rest = (b : RecvEnd) (pieces : List (List ℕ)) (n : ℕ) → After_at b t
-      → (is_last_phase t.after.phase ≡ false → So_far seen pieces n rest) → FindKeeps spells lane b pieces rest
+  abbrev pub More : (seen : ℕ) → List SessionEvent → Type 0
+  More seen rest = (b : RecvEnd) (pieces : List (List ℕ)) (n : ℕ) → After_at b
+      → (Goes → So_far seen pieces n rest) → FindKeeps spells lane b pieces rest
 
   -- ---- a question is answered
 
-  pub record Replied (t : Turn) (q : Ask) (y : Reply) (b : RecvEnd) (pieces : List (List ℕ)) (n from seen : ℕ)
+  pub record Replied (q : Ask) (y : Reply) (b : RecvEnd) (pieces : List (List ℕ)) (n from seen : ℕ)
       (rest : List SessionEvent) : Type 0 where
     pub stands : StandsAs spells history from seen q y (step_told q y)
     pub found : So_far from pieces n (told_as seen (step_told q y) (look_told q y) ∷ rest)
-    pub after : After_at (recv_all b (receiving_event lane (told_as seen (step_told q y) (look_told q y)))) t
+    pub after : After_at (recv_all b (receiving_event lane (told_as seen (step_told q y) (look_told q y))))
     pub behind : Behind spells history lane allow gen seen rest
 
-  module _ (t : Turn) (b : RecvEnd) (pieces : List (List ℕ)) (n from seen : ℕ) (rest : List SessionEvent)
-      (more : More t seen rest) where
+  module _ (t : State) (b : RecvEnd) (pieces : List (List ℕ)) (n from seen : ℕ) (rest : List SessionEvent)
+      (more : More seen rest) where
     abbrev pub Here : Ask → Reply → Type 0
-    Here q y = Replied t q y b pieces n from seen rest
+    Here q y = Replied q y b pieces n from seen rest
 
     abbrev pub Goal : Ask → Reply → Type 0
     Goal q y = FindKeeps spells lane b pieces (told_as seen (step_told q y) (look_told q y) ∷ rest)
@@ -263,9 +260,9 @@ module _ (spells : List ℕ → Bool) (history : List Seen) (lane : ℕ) (allow 
         ap (λ (c : Bool). if c then receiving_step_of step else []) (eq-eqb lane lane refl) ∙ received in
         let found : So_far from pieces n (made ∷ rest) =
         subst (λ o. So_far from pieces n (told_as seen o (look_told q y) ∷ rest)) told k.found in
-        let after : After_at (recv_all b (r.Made st ∷ [])) t =
-        subst (λ z. After_at (recv_all b z) t) events
-        (subst (λ o. After_at (recv_all b (receiving_event lane (told_as seen o (look_told q y)))) t) told k.after) in
+        let after : After_at (recv_all b (r.Made st ∷ [])) =
+        subst (λ z. After_at (recv_all b z)) events
+        (subst (λ o. After_at (recv_all b (receiving_event lane (told_as seen o (look_told q y))))) told k.after) in
         let behind : Behind spells history lane allow gen (p + 1) rest =
         (let e : seen ≡ p + 1 = omega (arith, lt) in
         subst (λ z. Behind spells history lane allow gen z rest) e k.behind) in
@@ -310,9 +307,9 @@ module _ (spells : List ℕ → Bool) (history : List Seen) (lane : ℕ) (allow 
         let found : So_far from pieces n (y0 ∷ rest) =
         subst (λ z. So_far from pieces n (Looked seen z ∷ rest)) looked
         (subst (λ z. So_far from pieces n (told_as seen z (look_told q y) ∷ rest)) told k.found) in
-        let after : After_at (recv_all b (r.Finds j m o ∷ [])) t =
-        subst (λ z. After_at (recv_all b (receiving_event lane (Looked seen z))) t) looked
-        (subst (λ z. After_at (recv_all b (receiving_event lane (told_as seen z (look_told q y)))) t) told k.after) in
+        let after : After_at (recv_all b (r.Finds j m o ∷ [])) =
+        subst (λ z. After_at (recv_all b (receiving_event lane (Looked seen z)))) looked
+        (subst (λ z. After_at (recv_all b (receiving_event lane (told_as seen z (look_told q y))))) told k.after) in
         let up : n ≤ seen = (let w = found.before in let z = there.later in omega (arith, w, z)) in
         let tracks = tracks_between spells history lane allow gen pieces n seen up there.within
         (none_before_look spells history lane allow gen n seen (x.Finds j m o) rest found.owned k.behind)
@@ -332,7 +329,7 @@ module _ (spells : List ℕ → Bool) (history : List Seen) (lane : ℕ) (allow 
         → IsElse spells history lane allow gen (told_as seen (step_told q y) (look_told q y)) → Goal q y
     else_goal q y k none other =
         let y0 : SessionEvent = told_as seen (step_told q y) (look_told q y) in
-        let after : After_at b t = subst (λ z. After_at (recv_all b z) t) none k.after in
+        let after : After_at b = subst (λ z. After_at (recv_all b z)) none k.after in
         subst (λ z. AreTrue spells b pieces z × FindKeeps spells lane (recv_all b z) (pieces_all pieces z) rest)
         (sym none) (
           tt,
@@ -389,20 +386,20 @@ module _ (spells : List ℕ → Bool) (history : List Seen) (lane : ℕ) (allow 
     -- by the reply
 
     abbrev pub Stage_at : Ask → Type 0
-    Stage_at q = RecvAt early (first l early) t.before.phase t.before (action.Ask q) b
+    Stage_at q = RecvAt early (first l early) t.phase t (action.Ask q) b
 
     secure_reply : (q : Ask) (z : Result (Unit {0}) CompleteFault) → Here q (reply.Secure z)
-        → is_last_phase t.before.phase ≡ false → IsAskOf t.before.phase t.before q
-        → RepliesTo t.before.phase t.before (reply.Secure z) → t.before.lane ≡ lane → t.before.generation ≡ gen
+        → is_last_phase t.phase ≡ false → IsAskOf t.phase t q
+        → RepliesTo t.phase t (reply.Secure z) → t.lane ≡ lane → t.generation ≡ gen
         → Stage_at q → Goal q (reply.Secure z)
     secure_reply q z k i a f e d at =
-        let p = secure_phase t.before.phase t.before z i f in
-        let asked : q ≡ ask.Secure t.before.lane t.before.generation p.0 p.1 (handed_by q) =
-        subst (λ c. IsAskOf c t.before q) p.2 a in
-        let open_ : OpenAt (phase.AsksSecure p.0 p.1) t.before (action.Ask q) b =
-        subst (λ c. RecvAt early (first l early) c t.before (action.Ask q) b) p.2 at in
+        let p = secure_phase t.phase t z i f in
+        let asked : q ≡ ask.Secure t.lane t.generation p.0 p.1 (handed_by q) =
+        subst (λ c. IsAskOf c t q) p.2 a in
+        let open_ : OpenAt (phase.AsksSecure p.0 p.1) t (action.Ask q) b =
+        subst (λ c. RecvAt early (first l early) c t (action.Ask q) b) p.2 at in
         let same : q ≡ ask.Secure lane gen p.0 p.1 (handed_by q) =
-        asked ∙ ap (λ (c : ℕ). ask.Secure c t.before.generation p.0 p.1 (handed_by q)) e
+        asked ∙ ap (λ (c : ℕ). ask.Secure c t.generation p.0 p.1 (handed_by q)) e
         ∙ ap (λ (c : ℕ). ask.Secure lane c p.0 p.1 (handed_by q)) d in
         let stage : b.stage ≡ r.Synced p.0 p.1 (handed_by q) =
         ap (λ (c : RecvEnd). c.stage) open_.is ∙ ap (λ (c : List ℕ). r.Synced p.0 p.1 c) (sym open_.on) in
@@ -410,17 +407,17 @@ module _ (spells : List ℕ → Bool) (history : List Seen) (lane : ℕ) (allow 
         (λ w. secured_goal p.0 p.1 (handed_by q) z w stage) k
 
     complete_reply : (q : Ask) (z : Result ℕ CompleteFault) → Here q (reply.Complete z)
-        → is_last_phase t.before.phase ≡ false → IsAskOf t.before.phase t.before q
-        → RepliesTo t.before.phase t.before (reply.Complete z) → t.before.lane ≡ lane → t.before.generation ≡ gen
+        → is_last_phase t.phase ≡ false → IsAskOf t.phase t q
+        → RepliesTo t.phase t (reply.Complete z) → t.lane ≡ lane → t.generation ≡ gen
         → Stage_at q → Goal q (reply.Complete z)
     complete_reply q z k i a f e d at =
-        let p = complete_phase t.before.phase t.before z i f in
-        let asked : q ≡ ask.Complete t.before.lane t.before.generation p.0 p.1 (handed_by q) =
-        subst (λ c. IsAskOf c t.before q) p.2 a in
-        let open_ : OpenAt (phase.AsksComplete p.0 p.1) t.before (action.Ask q) b =
-        subst (λ c. RecvAt early (first l early) c t.before (action.Ask q) b) p.2 at in
+        let p = complete_phase t.phase t z i f in
+        let asked : q ≡ ask.Complete t.lane t.generation p.0 p.1 (handed_by q) =
+        subst (λ c. IsAskOf c t q) p.2 a in
+        let open_ : OpenAt (phase.AsksComplete p.0 p.1) t (action.Ask q) b =
+        subst (λ c. RecvAt early (first l early) c t (action.Ask q) b) p.2 at in
         let same : q ≡ ask.Complete lane gen p.0 p.1 (handed_by q) =
-        asked ∙ ap (λ (c : ℕ). ask.Complete c t.before.generation p.0 p.1 (handed_by q)) e
+        asked ∙ ap (λ (c : ℕ). ask.Complete c t.generation p.0 p.1 (handed_by q)) e
         ∙ ap (λ (c : ℕ). ask.Complete lane c p.0 p.1 (handed_by q)) d in
         let stage : b.stage ≡ r.Ended p.0 p.1 (handed_by q) =
         ap (λ (c : RecvEnd). c.stage) open_.is ∙ ap (λ (c : List ℕ). r.Ended p.0 p.1 c) (sym open_.on) in
@@ -428,20 +425,20 @@ module _ (spells : List ℕ → Bool) (history : List Seen) (lane : ℕ) (allow 
         (λ w. completed_goal p.0 p.1 (handed_by q) z w stage) k
 
     drop_reply : (q : Ask) (z : Result (Unit {0}) StepFault) → Here q (reply.DropActivity z)
-        → is_last_phase t.before.phase ≡ false → IsAskOf t.before.phase t.before q
-        → RepliesTo t.before.phase t.before (reply.DropActivity z) → t.before.lane ≡ lane → t.before.generation ≡ gen
+        → is_last_phase t.phase ≡ false → IsAskOf t.phase t q
+        → RepliesTo t.phase t (reply.DropActivity z) → t.lane ≡ lane → t.generation ≡ gen
         → Goal q (reply.DropActivity z)
     drop_reply q z k i a f e d =
-        let p = drop_ask t.before.phase t.before q z i f a in
+        let p = drop_ask t.phase t q z i f a in
         let same : q ≡ ask.DropActivity lane gen p.0 =
-        p.1 ∙ ap (λ (c : ℕ). ask.DropActivity c t.before.generation p.0) e
+        p.1 ∙ ap (λ (c : ℕ). ask.DropActivity c t.generation p.0) e
         ∙ ap (λ (c : ℕ). ask.DropActivity lane c p.0) d in
         subst (λ c. Here c (reply.DropActivity z) → Goal c (reply.DropActivity z)) (sym same)
         (λ w. dropped_goal p.0 z w) k
 
-    pub reply_finds : (q : Ask) (y : Reply) → Here q y → is_last_phase t.before.phase ≡ false
-        → IsAskOf t.before.phase t.before q → RepliesTo t.before.phase t.before y → t.before.lane ≡ lane
-        → t.before.generation ≡ gen → Stage_at q → Goal q y
+    pub reply_finds : (q : Ask) (y : Reply) → Here q y → is_last_phase t.phase ≡ false
+        → IsAskOf t.phase t q → RepliesTo t.phase t y → t.lane ≡ lane
+        → t.generation ≡ gen → Stage_at q → Goal q y
     reply_finds q (reply.Secure z) k i a f e d at = secure_reply q z k i a f e d at
     reply_finds q (reply.Complete z) k i a f e d at = complete_reply q z k i a f e d at
     reply_finds q (reply.DropActivity z) k i a f e d at = drop_reply q z k i a f e d

@@ -76,13 +76,15 @@ not_last_before t is false e i = e
 
 module _ (spells : List ℕ → Bool) (history : List Seen) (lane : ℕ) (allow : LanesAllow spells history) (gen : ℕ)
     (l : Halves) (early later : Type 0) where
-  abbrev So : (upto : ℕ) → List (List ℕ) → (n : ℕ) → List SessionEvent → Type 0
+  abbrev pub So : (upto : ℕ) → List (List ℕ) → (n : ℕ) → List SessionEvent → Type 0
   So upto pieces n rest = FoundSo spells history lane allow gen upto pieces n rest
 
-  abbrev Follow : Turn → (seen : ℕ) → List SessionEvent → Type 0
-  Follow t seen rest = More spells history lane allow gen l early later t seen rest
+  abbrev pub Follow : Turn → (seen : ℕ) → List SessionEvent → Type 0
+  Follow t seen rest =
+      More spells history lane allow gen l early (λ z. After later (first l later) z t.action t.after)
+      (is_last_phase t.after.phase ≡ false) seen rest
 
-  record FindHere (a : Action) (t : Turn) (b c : RecvEnd) : Type 0 where
+  pub record FindHere (a : Action) (t : Turn) (b c : RecvEnd) : Type 0 where
     pub here : RecvHere l early lane a t c
     pub gen_is : is_last_phase t.before.phase ≡ false → t.before.generation ≡ gen
     pub put : r.IsReceivingEnd b (pending a) c
@@ -180,7 +182,8 @@ module _ (spells : List ℕ → Bool) (history : List Seen) (lane : ℕ) (allow 
       let same : c ≡ b = k.put in
       let answers : AnswersAt t.before.phase t.before e =
       subst (λ w. AnswersAt t.before.phase t.before w) q k.here.is.answers in
-      reply_finds spells history lane allow gen l early later t b pieces n from seen rest more z y
+      reply_finds spells history lane allow gen l early (λ w. After later (first l later) w t.action t.after)
+      (is_last_phase t.after.phase ≡ false) t.before b pieces n from seen rest more z y
       (record {
         stands = stands;
         found = found i;
@@ -193,7 +196,7 @@ module _ (spells : List ℕ → Bool) (history : List Seen) (lane : ℕ) (allow 
   same_length : (from seen : ℕ) → seen ≡ from → from ≤ seen
   same_length from seen e = omega (arith, e)
 
-  come_finds : (a : Action) (t : Turn) (seen from : ℕ) (e : Event) (b c : RecvEnd) (pieces : List (List ℕ)) (n : ℕ)
+  pub come_finds : (a : Action) (t : Turn) (seen from : ℕ) (e : Event) (b c : RecvEnd) (pieces : List (List ℕ)) (n : ℕ)
       (rest : List SessionEvent) → FindHere a t b c → t.event ≡ e → Tells l t.before.phase e
       → ComesTrue spells history from seen t.before.phase a e
       → (is_last_phase t.before.phase ≡ false → So from pieces n (come_of a t seen e ++ rest)) → Follow t seen rest
@@ -294,7 +297,7 @@ opening_gen t is (inl q) =
     does)
 opening_gen t is (inr i) = (lanes_stay t.before t.event t.action t.after i is.follows).1
 
-gen_next : (early : Type 0) (one b : RecvEnd) (a : Action) (gen : ℕ) (t : Turn) → IsTurn t
+pub gen_next : (early : Type 0) (one b : RecvEnd) (a : Action) (gen : ℕ) (t : Turn) → IsTurn t
     → RecvAt early one t.before.phase t.before a b → (is_last_phase t.before.phase ≡ false → t.before.generation ≡ gen)
     → Part t.before.phase → is_last_phase t.after.phase ≡ false → t.after.generation ≡ gen
 gen_next early one b a gen t is k f (in_open i) n =
@@ -401,7 +404,7 @@ both_true spells b pieces [] ys p q = q
 both_true spells b pieces (v ∷ vs) ys p q =
     (p.0, both_true spells (r.recv_after b v) (pieces_behind pieces v) vs ys p.1 q)
 
-keeps_true : (spells : List ℕ → Bool) (lane : ℕ) (b : RecvEnd) (pieces : List (List ℕ)) (ys : List SessionEvent)
+pub keeps_true : (spells : List ℕ → Bool) (lane : ℕ) (b : RecvEnd) (pieces : List (List ℕ)) (ys : List SessionEvent)
     → FindKeeps spells lane b pieces ys → AreTrue spells b pieces (receiving_events lane ys)
 keeps_true spells lane b pieces [] k = tt
 keeps_true spells lane b pieces (y ∷ ys) k =
@@ -447,7 +450,7 @@ module _ (spells : List ℕ → Bool) (history : List Seen) (at : ℕ) (allow : 
   abbrev Begins : (lane generation : ℕ) → Type 0
   Begins lane g = ((half_at lane).phase ≡ Unopened → ⊥) × (g ≡ (half_at lane).generation)
 
-  planned_so : (p : InitiatorPlan) → HasAt history at (step_for p) → (p.recovering ≡ false → p.generation ≡ 1)
+  pub planned_so : (p : InitiatorPlan) → HasAt history at (step_for p) → (p.recovering ≡ false → p.generation ≡ 1)
       → Begins p.lane p.generation
   planned_so p is one = by_plan p.recovering refl
     where
@@ -476,7 +479,7 @@ module _ (spells : List ℕ → Bool) (history : List Seen) (at : ℕ) (allow : 
   some_is : (y z : StepOn) → Some y ≡ Some z → y ≡ z
   some_is y z e = cc
 
-  responds_so : (p : Phase) (t : State) (e : Event) (a : Action) (new : State) (y : StepOn)
+  pub responds_so : (p : Phase) (t : State) (e : Event) (a : Action) (new : State) (y : StepOn)
       → step_by p e new ≡ Some y → HasAt history at y → FitsAt p t → Does (counted t e) (wanted_in p (counted t e) e) a
       new
       → Begins new.lane new.generation
@@ -560,7 +563,7 @@ rests_at v a b (Put u) p q = tt
 rests_at v a b (Made n j step) p q = tt
 rests_at v a b (Looked n look) p q = tt
 
-rests : (lane : ℕ) (v : x.Turn) (a : SendEnd) (b : RecvEnd) (ys : List SessionEvent) → SendOwesNothingAt lane v a ys
+pub rests : (lane : ℕ) (v : x.Turn) (a : SendEnd) (b : RecvEnd) (ys : List SessionEvent) → SendOwesNothingAt lane v a ys
     → OwesNothingAt lane b ys → Rests lane v a b ys
 rests lane v a b [] p q = tt
 rests lane v a b (y ∷ ys) p q = (

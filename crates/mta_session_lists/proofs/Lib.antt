@@ -38,3 +38,6 @@ pub mod SendingLaw
 pub mod Finding
 pub mod FindingCalls
 pub mod FindingLaw
+pub mod LostLists
+pub mod LostHalves
+pub mod LostLaw

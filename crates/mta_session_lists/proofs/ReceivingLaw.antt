@@ -139,7 +139,7 @@ both_allowed : (b : RecvEnd) (xs ys : List RecvEvent) → Allowed b xs → Allow
 both_allowed b [] ys p q = q
 both_allowed b (v ∷ vs) ys p q = (p.0, both_allowed (r.recv_after b v) vs ys p.1 q)
 
-keeps_allowed : (lane : ℕ) (b : RecvEnd) (ys : List SessionEvent) → RecvKeeps lane b ys → Allowed b
+pub keeps_allowed : (lane : ℕ) (b : RecvEnd) (ys : List SessionEvent) → RecvKeeps lane b ys → Allowed b
     (receiving_events lane ys)
 keeps_allowed lane b [] k = tt
 keeps_allowed lane b (y ∷ ys) k =
@@ -153,7 +153,7 @@ rests_owes b (Put u) k = tt
 rests_owes b (Made p j step) k = tt
 rests_owes b (Looked n look) k = tt
 
-keeps_owes : (lane : ℕ) (b : RecvEnd) (ys : List SessionEvent) → RecvKeeps lane b ys → OwesNothingAt lane b ys
+pub keeps_owes : (lane : ℕ) (b : RecvEnd) (ys : List SessionEvent) → RecvKeeps lane b ys → OwesNothingAt lane b ys
 keeps_owes lane b [] k = tt
 keeps_owes lane b (y ∷ ys) k = (rests_owes b y k.0, keeps_owes lane (recv_all b (receiving_event lane y)) ys k.2)
 
@@ -165,7 +165,7 @@ keeps_before lane b history e (Some p) ys k =
     subst (λ z. Unit {0} × Allowed b z × RecvKeeps lane (recv_all b z) ys)
     (sym (none_received history lane p (last_of e.state))) (tt, tt, k)
 
-keeps_with : (history : List Seen) (lane : ℕ) (ys : List SessionEvent) (from : ℕ) (e : SendEnd) (b : RecvEnd)
+pub keeps_with : (history : List Seen) (lane : ℕ) (ys : List SessionEvent) (from : ℕ) (e : SendEnd) (b : RecvEnd)
     → RecvKeeps lane b ys → RecvKeeps lane b (with_abandons history lane from e ys)
 keeps_with history lane [] from e b k = tt
 keeps_with history lane (y ∷ ys) from e b k =

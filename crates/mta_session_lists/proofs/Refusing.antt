@@ -26,7 +26,7 @@ use Rattle.mta_session_lists.proofs.Waiting.{goes_with, Ready, ready_next, readi
 
 -- ---- at the end
 
-over_says : (y : SessionEnd) (x : Turn) → x.before.phase ≡ phase.Ended y → IsTurn x
+pub over_says : (y : SessionEnd) (x : Turn) → x.before.phase ≡ phase.Ended y → IsTurn x
     → (x.action ≡ action.Finish y) × (x.after ≡ x.before)
 over_says y x q is = subst (λ p. FollowsAt p x.before x.event x.action x.after) q is.follows
 
@@ -40,7 +40,7 @@ over_list (c ∷ cs) t u y a f q run =
     ap {A = Action} (λ b. event_of b c ++ list_of c.turn.action cs) f ∙ rest
 
 -- it finishes when its last unit was put
-abbrev Finishes : State → Event → Action → State → Type 0
+abbrev pub Finishes : State → Event → Action → State → Type 0
 Finishes t e a new = (y : SessionEnd) × (a ≡ action.Finish y) × (new.phase ≡ phase.Ended y)
 
 put_finishes : (y : SessionEnd) (t : State) (e : Event) (a : Action) (new : State) → answers_put e ≡ true
@@ -57,7 +57,7 @@ put_finishes y t (event.Unit u) a new i q d = absurd (never i)
 put_finishes y t event.BadUnit a new i q d = absurd (never i)
 put_finishes y t (event.Reply r) a new i q d = absurd (never i)
 
-last_turn : (y : SessionEnd) (x : Turn) → x.before.phase ≡ phase.PutsLast y → IsTurn x
+pub last_turn : (y : SessionEnd) (x : Turn) → x.before.phase ≡ phase.PutsLast y → IsTurn x
     → Finishes x.before x.event x.action x.after
 last_turn y x q is =
     let answers : AnswersAt (phase.PutsLast y) x.before x.event =
@@ -92,13 +92,13 @@ got_refuses (Goes_on f) u t a new v cs d run k = k
 got_refuses (Excepts f y) u t a new v cs d run k = k
 got_refuses Never u t a new v cs d run k = k
 
-told_refuses : (seen : ℕ) (o : Option StepOn)
+pub told_refuses : (seen : ℕ) (o : Option StepOn)
     (look : Look) (rest : List SessionEvent) → RefusesLast rest
     → RefusesLast (told_as seen o look ∷ rest)
 told_refuses seen (Some x) look rest k = k
 told_refuses seen None look rest k = k
 
-unit_does : (x : Turn) (u : AnyUnit) → IsTurn x → x.event ≡ event.Unit u → is_ended x.before.phase ≡ false
+pub unit_does : (x : Turn) (u : AnyUnit) → IsTurn x → x.event ≡ event.Unit u → is_ended x.before.phase ≡ false
     → Does (counted x.before (event.Unit u)) (called_for x.before.phase x.before u) x.action x.after
 unit_does x u is e i =
     follows_does x.before.phase x.before (event.Unit u) x.action x.after i

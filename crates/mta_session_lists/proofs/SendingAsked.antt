@@ -30,7 +30,7 @@ use Rattle.mta_session.specs.Sending.{step_of}
 use Rattle.mta_session.specs.State.{State}
 use Rattle.mta_session.specs.Wanted.{Aborts, ask_of, on_step, on_state, is_given_up, is_cut, wanted_of_reply}
 use Rattle.mta_session.specs.Follows.{Does}
-use Rattle.mta_session.specs.Fits.{FitsAt, RepliesTo, AnswersAt, SendFitsAt}
+use Rattle.mta_session.specs.Fits.{Fits, FitsAt, RepliesTo, AnswersAt, SendFitsAt}
 use Rattle.mta_session_laws.specs.Runs.{Turn, IsTurn}
 use Rattle.mta_session_laws.specs.Turning.{listed, MayFollow, EventsGo, told_by, made_by, is_open, is_last_phase}
 use Rattle.mta_session_laws.proofs.Turning.{given_up, kept_live, sending_live}
@@ -102,44 +102,50 @@ given_listed t hd o i =
     ap (λ (os : List ℕ). record (s.made (listed t.send hd o) s.Abandon) { octets = os })
     (kept_live t.send.state o t.send.octets (sending_live t.send.state (last_of t.send.state) i))
 
-module _ (g : EventsGo) (spells : List ℕ → Bool) (history : List Seen) (lane : ℕ) (allow : LanesAllow spells history)
-    (l : Halves) (size window : ℕ) (accepted : Bool) (low : ℕ) (early later : Type 0) where
+-- (`After` is what is asked of the list's end behind a call)
+module _ (spells : List ℕ → Bool) (history : List Seen) (lane : ℕ) (allow : LanesAllow spells history)
+    (l : Halves) (size window : ℕ) (accepted : Bool) (low : ℕ) (early later : Type 0) (After : SendEnd → Type 0) where
   abbrev pub Yet : ℕ → SendEnd → Type 0
   Yet n e = NotYet spells history lane allow n e
-
-  abbrev pub After : SendEnd → Turn → Type 0
-  After mid t = AfterSend l size window accepted later mid t.action t.after
 
   abbrev pub Keeps : x.Turn → ℕ → SendEnd → List SessionEvent → Type 0
   Keeps v n e rest = SendKeeps lane v e (With history lane n e rest)
 
   -- what follows a call
-  abbrev pub Rest : Turn → (seen : ℕ) → x.Turn → List SessionEvent → Type 0
-  Rest t seen v rest = (e : SendEnd) (to : ℕ) → After e t → Yet to e → low ≤ to → to ≤ seen → Keeps v to e rest
+  abbrev pub Rest : (seen : ℕ) → x.Turn → List SessionEvent → Type 0
+  Rest seen v rest = (e : SendEnd) (to : ℕ) → After e → Yet to e → low ≤ to → to ≤ seen → Keeps v to e rest
 
   -- a question is answered
-  pub record Answered (t : Turn) (q : Ask) (y : Reply) (behind from seen : ℕ) (c : SendEnd) : Type 0 where
-    pub is : IsTurn t
-    pub same : t.event ≡ event.Reply y
-    pub waits : goes_with (action.Ask q) t.before.phase ≡ true
-    pub asked : IsAskOf t.before.phase t.before q
-    pub lane_is : is_last_phase t.before.phase ≡ false → t.before.lane ≡ lane
-    pub at : SendAt l size window accepted early t.before.phase t.before (action.Ask q) c
+  pub record Answered (t : State) (q : Ask) (y : Reply) (behind from seen : ℕ) (c : SendEnd) : Type 0 where
+    pub fits : Fits t
+    pub answers : AnswersAt t.phase t (event.Reply y)
+    pub waits : goes_with (action.Ask q) t.phase ≡ true
+    pub asked : IsAskOf t.phase t q
+    pub lane_is : is_last_phase t.phase ≡ false → t.lane ≡ lane
+    pub at : SendAt l size window accepted early t.phase t (action.Ask q) c
     pub begun : low ≤ behind
     pub upto : behind ≤ from
     pub stands : StandsAs spells history from seen q y (step_told q y)
     pub yet : Yet behind c
-    pub tells : SendTells l size window accepted t.before.phase t.before (event.Reply y)
-    pub next : is_soon t.before.phase ≡ true → early → later
-    pub soon : is_soon t.before.phase ≡ true → early → seen ≡ low
+    pub tells : SendTells l size window accepted t.phase t (event.Reply y)
+    pub next : is_soon t.phase ≡ true → early → later
+    pub soon : is_soon t.phase ≡ true → early → seen ≡ low
+    -- what is wanted for the reply leaves the list so
+    pub open_after : is_open t.phase ≡ true → (hd : Option LaneUnit) (o : List ℕ)
+        → MayFollow t.phase (listed t.send hd o) → (mid : SendEnd)
+        → mid ≡ send_all (listed t.send hd o) (without_other (told_by t.phase t (event.Reply y)))
+        → Leaves mid (wanted_of_reply t.phase t y) → After mid
+    pub waits_after : is_ended t.phase ≡ false → (mid : SendEnd)
+        → SendWaits l size window accepted later mid (wanted_of_reply t.phase t y) → After mid
+    pub last_after : is_last_phase t.phase ≡ true → (mid : SendEnd) → After mid
 
   later_of : (from seen : ℕ) (q : Ask) (y : Reply) (o : Option StepOn) → StandsAs spells history from seen q y o
       → from ≤ seen
   later_of from seen q y (Some z) k = let a = k.later in omega (arith, a)
   later_of from seen q y None k = k.later
 
-  module _ (t : Turn) (behind from seen : ℕ) (c : SendEnd) (v : x.Turn) (rest : List SessionEvent)
-      (more : Rest t seen v rest) where
+  module _ (t : State) (behind from seen : ℕ) (c : SendEnd) (v : x.Turn) (rest : List SessionEvent)
+      (more : Rest seen v rest) where
     abbrev Here : Ask → Reply → Type 0
     Here q y = Answered t q y behind from seen c
 
@@ -155,7 +161,7 @@ module _ (g : EventsGo) (spells : List ℕ → Bool) (history : List Seen) (lane
 
     -- ---- the three kinds of events
 
-    quiet_goal : (q : Ask) (y : Reply) → Here q y → Told lane seen q y → After c t → Goal q y
+    quiet_goal : (q : Ask) (y : Reply) → Here q y → Told lane seen q y → After c → Goal q y
     quiet_goal q y k z after =
         let event_ : SessionEvent = told_as seen (step_told q y) (look_told q y) in
         silent_keeps history lane v behind c event_ rest z.before
@@ -166,8 +172,8 @@ module _ (g : EventsGo) (spells : List ℕ → Bool) (history : List Seen) (lane
         (more c behind after k.yet k.begun (within q y k))))
 
     look_goal : (q : Ask) (y : Reply) → Here q y → step_told q y ≡ None → look_told q y ≡ x.At_sending
-        → (IsSeen history lane behind seen c → seen ≤ length history → After c t)
-        → (is_sending c.state (last_of c.state) ≡ true → behind < seen → After (s.made c s.Abandon) t) → Goal q y
+        → (IsSeen history lane behind seen c → seen ≤ length history → After c)
+        → (is_sending c.state (last_of c.state) ≡ true → behind < seen → After (s.made c s.Abandon)) → Goal q y
     look_goal q y k n w one some =
         let there : Looks spells history from seen q y =
         subst (λ o. StandsAs spells history from seen q y o) n k.stands in
@@ -190,7 +196,7 @@ module _ (g : EventsGo) (spells : List ℕ → Bool) (history : List Seen) (lane
     made_there q y z k e = subst (λ o. StandsAs spells history from seen q y o) e k.stands
 
     -- what follows a step at the last position
-    step_more : (q : Ask) (y : Reply) (mid : SendEnd) → Here q y → from < seen → After mid t → Yet (seen - 1 + 1) mid
+    step_more : (q : Ask) (y : Reply) (mid : SendEnd) → Here q y → from < seen → After mid → Yet (seen - 1 + 1) mid
         → Keeps v (seen - 1 + 1) mid rest
     step_more q y mid k lt after yet =
         let up = k.upto in
@@ -203,41 +209,38 @@ module _ (g : EventsGo) (spells : List ℕ → Bool) (history : List Seen) (lane
     -- ---- an open session
 
     abbrev Phase_is : Phase → Type 0
-    Phase_is p = t.before.phase ≡ p
+    Phase_is p = t.phase ≡ p
 
     after_open : (q : Ask) (y : Reply) → Here q y → (p : Phase) → Phase_is p → is_open p ≡ true
-        → (hd : Option LaneUnit) (o : List ℕ) → MayFollow p (listed t.before.send hd o) → (mid : SendEnd)
-        → mid ≡ send_all (listed t.before.send hd o) (without_other (told_by p t.before (event.Reply y)))
-        → Leaves mid (wanted_of_reply p t.before y) → After mid t
+        → (hd : Option LaneUnit) (o : List ℕ) → MayFollow p (listed t.send hd o) → (mid : SendEnd)
+        → mid ≡ send_all (listed t.send hd o) (without_other (told_by p t (event.Reply y)))
+        → Leaves mid (wanted_of_reply p t y) → After mid
     after_open q y k p e i hd o may mid told leaves =
-        told_after g l size window accepted later t (event.Reply y) k.same k.is
-        (subst (λ z. is_open z ≡ true) (sym e) i) hd o
-        mid
-        (subst (λ z. MayFollow z (listed t.before.send hd o)) (sym e) may)
-        (subst (λ z. mid ≡ send_all (listed t.before.send hd o) (without_other (told_by z t.before (event.Reply y))))
-        (sym e) told)
-        (subst (λ z. Leaves mid (wanted_of_reply z t.before y)) (sym e) leaves)
+        k.open_after (subst (λ z. is_open z ≡ true) (sym e) i) hd o
+        (subst (λ z. MayFollow z (listed t.send hd o)) (sym e) may) mid
+        (subst (λ z. mid ≡ send_all (listed t.send hd o) (without_other (told_by z t (event.Reply y)))) (sym e) told)
+        (subst (λ z. Leaves mid (wanted_of_reply z t y)) (sym e) leaves)
 
     else_goal : (q : Ask) (y : Reply) → Here q y → (p : Phase) → Phase_is p → is_open p ≡ true → asks_else p ≡ true
-        → FitsAt p t.before → IsAskOf p t.before q → RepliesTo p t.before y → OpenSend p t.before (action.Ask q) c
+        → FitsAt p t → IsAskOf p t q → RepliesTo p t y → OpenSend p t (action.Ask q) c
         → Goal q y
     else_goal q y k p e i j f a r at =
-        quiet_goal q y k (else_quiet lane seen p t.before q y j a r)
+        quiet_goal q y k (else_quiet lane seen p t q y j a r)
         (after_open q y k p e i at.heard at.before at.may c
-        (at.is ∙ ap (λ (z : List SendEvent). send_all (listed t.before.send at.heard at.before) (without_other z))
-        (sym (else_none p t.before y j)))
-        (reply_leaves c p t.before y i (else_own p j) f
-        (left_calm p t.before (action.Ask q) c i (else_own p j) at.left)))
+        (at.is ∙ ap (λ (z : List SendEvent). send_all (listed t.send at.heard at.before) (without_other z))
+        (sym (else_none p t y j)))
+        (reply_leaves c p t y i (else_own p j) f
+        (left_calm p t (action.Ask q) c i (else_own p j) at.left)))
 
     -- an activity is started
 
-    idle_there : FitsAt phase.AsksStart t.before → is_idle t.before.send.state ≡ true
-    idle_there f = subst (λ z. SendFitsAt z t.before.send) f.3 f.0.3.0
+    idle_there : FitsAt phase.AsksStart t → is_idle t.send.state ≡ true
+    idle_there f = subst (λ z. SendFitsAt z t.send) f.3 f.0.3.0
 
     start_made : (n gen : ℕ) (batch : Batch) (o : Carried) → Here (ask.Start n gen batch) (reply.Start (Ok o))
-        → Phase_is phase.AsksStart → FitsAt phase.AsksStart t.before → n ≡ t.before.lane
-        → RepliesTo phase.AsksStart t.before (reply.Start (Ok o))
-        → OpenSend phase.AsksStart t.before (action.Ask (ask.Start n gen batch)) c
+        → Phase_is phase.AsksStart → FitsAt phase.AsksStart t → n ≡ t.lane
+        → RepliesTo phase.AsksStart t (reply.Start (Ok o))
+        → OpenSend phase.AsksStart t (action.Ask (ask.Start n gen batch)) c
         → Goal (ask.Start n gen batch) (reply.Start (Ok o))
     start_made n gen batch o k e f a r at =
         let q : Ask = ask.Start n gen batch in
@@ -252,26 +255,26 @@ module _ (g : EventsGo) (spells : List ℕ → Bool) (history : List Seen) (lane
         (step_more q y mid k there.later
         (after_open q y k phase.AsksStart e refl at.heard at.before tt mid
         (ap (λ (z : SendEnd). s.made z (s.Start o.octets)) at.is)
-        (reply_leaves mid phase.AsksStart t.before y refl refl f (inl (none_heard mid refl))))
+        (reply_leaves mid phase.AsksStart t y refl refl f (inl (none_heard mid refl))))
         (not_yet_started spells history lane allow (seen - 1) gen o.activity o.octets mid
         (subst (λ z. slice_get history (seen - 1) ≡ Some (On z (h.Start gen o.activity o.octets))) same there.entry)))
 
     start_refused : (n gen : ℕ) (batch : Batch) (z : StepFault) → Here (ask.Start n gen batch) (reply.Start (Err z))
-        → Phase_is phase.AsksStart → FitsAt phase.AsksStart t.before
-        → OpenSend phase.AsksStart t.before (action.Ask (ask.Start n gen batch)) c
+        → Phase_is phase.AsksStart → FitsAt phase.AsksStart t
+        → OpenSend phase.AsksStart t (action.Ask (ask.Start n gen batch)) c
         → Goal (ask.Start n gen batch) (reply.Start (Err z))
     start_refused n gen batch z k e f at =
         let q : Ask = ask.Start n gen batch in
         let y : Reply = reply.Start (Err z) in
         look_goal q y k refl refl
         (λ w b. after_open q y k phase.AsksStart e refl at.heard at.before tt c at.is
-        (reply_leaves c phase.AsksStart t.before y refl refl f at.left))
-        (λ i w. absurd (idle_none t.before.send.state (idle_there f)
+        (reply_leaves c phase.AsksStart t y refl refl f at.left))
+        (λ i w. absurd (idle_none t.send.state (idle_there f)
         (subst (λ z. is_sending z.state (last_of z.state) ≡ true) at.is i)))
 
-    start_goal : (q : Ask) (y : Reply) → Here q y → Phase_is phase.AsksStart → FitsAt phase.AsksStart t.before
-        → IsAskOf phase.AsksStart t.before q → RepliesTo phase.AsksStart t.before y
-        → OpenSend phase.AsksStart t.before (action.Ask q) c → Goal q y
+    start_goal : (q : Ask) (y : Reply) → Here q y → Phase_is phase.AsksStart → FitsAt phase.AsksStart t
+        → IsAskOf phase.AsksStart t q → RepliesTo phase.AsksStart t y
+        → OpenSend phase.AsksStart t (action.Ask q) c → Goal q y
     start_goal (ask.Start n gen batch) (reply.Start (Ok o)) k e f a r at = start_made n gen batch o k e f a.0 r at
     start_goal (ask.Start n gen batch) (reply.Start (Err z)) k e f a r at = start_refused n gen batch z k e f at
     start_goal (ask.Start n gen batch) y k e f a r at = absurd r
@@ -279,8 +282,8 @@ module _ (g : EventsGo) (spells : List ℕ → Bool) (history : List Seen) (lane
 
     -- another worker was first
 
-    idle_still : FitsAt phase.AsksStillIdle t.before → is_idle t.before.send.state ≡ true
-    idle_still f = subst (λ z. SendFitsAt z t.before.send) f.3 f.0.3.0
+    idle_still : FitsAt phase.AsksStillIdle t → is_idle t.send.state ≡ true
+    idle_still f = subst (λ z. SendFitsAt z t.send) f.3 f.0.3.0
 
     recovery_look : (q : Ask) (y : Reply) (n : ℕ) → q ≡ ask.Recovery n
         → (step_told q y ≡ None) × (look_told q y ≡ x.At_sending)
@@ -290,53 +293,53 @@ module _ (g : EventsGo) (spells : List ℕ → Bool) (history : List Seen) (lane
     )
 
     still_goal : (q : Ask) (y : Reply) → Here q y → Phase_is phase.AsksStillIdle
-        → FitsAt phase.AsksStillIdle t.before → IsAskOf phase.AsksStillIdle t.before q
-        → RepliesTo phase.AsksStillIdle t.before y → OpenSend phase.AsksStillIdle t.before (action.Ask q) c → Goal q y
+        → FitsAt phase.AsksStillIdle t → IsAskOf phase.AsksStillIdle t q
+        → RepliesTo phase.AsksStillIdle t y → OpenSend phase.AsksStillIdle t (action.Ask q) c → Goal q y
     still_goal q (reply.Recovery z) k e f a r at =
         let y : Reply = reply.Recovery z in
-        let looks = recovery_look q y t.before.lane a in
+        let looks = recovery_look q y t.lane a in
         look_goal q y k looks.0 looks.1
         (λ w b. after_open q y k phase.AsksStillIdle e refl at.heard at.before tt c at.is
-        (reply_leaves c phase.AsksStillIdle t.before y refl refl f at.left))
-        (λ i w. absurd (idle_none t.before.send.state (idle_still f)
+        (reply_leaves c phase.AsksStillIdle t y refl refl f at.left))
+        (λ i w. absurd (idle_none t.send.state (idle_still f)
         (subst (λ z. is_sending z.state (last_of z.state) ≡ true) at.is i)))
     still_goal q y k e f a r at = absurd r
 
     -- an own step
 
-    does : (q : Ask) (y : Reply) → Here q y → (p : Phase) → Phase_is p → is_ended p ≡ false
-        → Does t.before (wanted_of_reply p t.before y) t.action t.after
-    does q y k p e i =
-        subst (λ z. Does t.before (wanted_of_reply z t.before y) t.action t.after) e
-        (does_at t (event.Reply y) k.same k.is (ap is_ended e ∙ i))
+    waits_for : (q : Ask) (y : Reply) → Here q y → (p : Phase) → Phase_is p → is_ended p ≡ false → (mid : SendEnd)
+        → SendWaits l size window accepted later mid (wanted_of_reply p t y) → After mid
+    waits_for q y k p e i mid waits =
+        k.waits_after (ap is_ended e ∙ i) mid
+        (subst (λ z. SendWaits l size window accepted later mid (wanted_of_reply z t y)) (sym e) waits)
 
     -- it is refused, and the activity may have been given up
-    refused_waits : (step : OwnStep) (f : StepFault) (mid : SendEnd) → StateSend t.before mid
-        → SendWaits l size window accepted later mid (on_step t.before step (Err f))
+    refused_waits : (step : OwnStep) (f : StepFault) (mid : SendEnd) → StateSend t mid
+        → SendWaits l size window accepted later mid (on_step t step (Err f))
     refused_waits step fault.Unexpected mid at = record { heard = at.heard; before = at.before; is = at.is }
     refused_waits step f mid at = tt
 
     step_made : (q : Ask) (y : Reply) → Here q y → (step : OwnStep) → Phase_is (phase.AsksStep step)
-        → q ≡ ask_of t.before step → step_told (ask_of t.before step) y ≡ on t.before.lane (own_seen t.before step)
+        → q ≡ ask_of t step → step_told (ask_of t step) y ≡ on t.lane (own_seen t step)
         → made_by step y ≡ s.Made (step_of step) ∷ []
-        → wanted_of_reply (phase.AsksStep step) t.before y ≡ on_step t.before step (Ok tt)
-        → OpenSend (phase.AsksStep step) t.before (action.Ask q) c → Goal q y
+        → wanted_of_reply (phase.AsksStep step) t y ≡ on_step t step (Ok tt)
+        → OpenSend (phase.AsksStep step) t (action.Ask q) c → Goal q y
     step_made q y k step e a told made wants at =
-        let own_lane : t.before.lane ≡ lane = k.lane_is (ap is_last_phase e) in
-        let is : step_told q y ≡ on lane (own_seen t.before step) =
-        ap (λ (z : Ask). step_told z y) a ∙ told ∙ ap (λ (n : ℕ). on n (own_seen t.before step)) own_lane in
-        let there = made_there q y (record { lane = lane; step = own_seen t.before step }) k is in
+        let own_lane : t.lane ≡ lane = k.lane_is (ap is_last_phase e) in
+        let is : step_told q y ≡ on lane (own_seen t step) =
+        ap (λ (z : Ask). step_told z y) a ∙ told ∙ ap (λ (n : ℕ). on n (own_seen t step)) own_lane in
+        let there = made_there q y (record { lane = lane; step = own_seen t step }) k is in
         let may : s.MayMake c (step_of step) = subst (λ z. s.MayMake z (step_of step)) (sym at.is) at.may in
         let mid : SendEnd = s.made c (step_of step) in
         subst (λ o. SendKeeps lane v c (With history lane behind c (told_as seen o (look_told q y) ∷ rest))) (sym is)
-        (own_keeps spells history lane allow v behind (seen - 1) t.before step c rest
+        (own_keeps spells history lane allow v behind (seen - 1) t step c rest
         (ap (λ (z : SendEnd). z.state) at.is) may (before_step q y k there.later) there.entry
         (step_more q y mid k there.later
         (after_open q y k (phase.AsksStep step) e refl at.heard at.before at.may mid
         (ap (λ (z : SendEnd). s.made z (step_of step)) at.is
-        ∙ ap (λ (z : List SendEvent). send_all (listed t.before.send at.heard at.before) (without_other z)) (sym made))
-        (subst (λ z. Leaves mid z) (sym wants) (step_leaves mid t.before step (Ok tt) (calm step))))
-        (not_yet_own spells history lane allow t.before step c (seen - 1) there.entry)))
+        ∙ ap (λ (z : List SendEvent). send_all (listed t.send at.heard at.before) (without_other z)) (sym made))
+        (subst (λ z. Leaves mid z) (sym wants) (step_leaves mid t step (Ok tt) (calm step))))
+        (not_yet_own spells history lane allow t step c (seen - 1) there.entry)))
       where
         calm : (step : OwnStep) → s.CallsForNothing (s.made c (step_of step))
         calm (own.Confirm n) = none_heard (s.made c (s.Confirm n)) refl
@@ -346,17 +349,17 @@ module _ (g : EventsGo) (spells : List ℕ → Bool) (history : List Seen) (lane
         calm (own.Refused kind) = none_heard (s.made c s.Refused) refl
 
     step_refused : (q : Ask) (y : Reply) → Here q y → (step : OwnStep) (f : StepFault) → Phase_is (phase.AsksStep step)
-        → q ≡ ask_of t.before step → step_told (ask_of t.before step) y ≡ None
-        → look_told (ask_of t.before step) y ≡ x.At_sending
-        → wanted_of_reply (phase.AsksStep step) t.before y ≡ on_step t.before step (Err f)
-        → OpenSend (phase.AsksStep step) t.before (action.Ask q) c → Goal q y
+        → q ≡ ask_of t step → step_told (ask_of t step) y ≡ None
+        → look_told (ask_of t step) y ≡ x.At_sending
+        → wanted_of_reply (phase.AsksStep step) t y ≡ on_step t step (Err f)
+        → OpenSend (phase.AsksStep step) t (action.Ask q) c → Goal q y
     step_refused q y k step f e a told looked wants at =
-        let done = subst (λ z. Does t.before z t.action t.after) wants (does q y k (phase.AsksStep step) e refl) in
         look_goal q y k (ap (λ (z : Ask). step_told z y) a ∙ told) (ap (λ (z : Ask). look_told z y) a ∙ looked)
-        (λ w b. waits_after l size window accepted later c t.before (on_step t.before step (Err f)) t.action t.after
-        (refused_waits step f c (record { heard = at.heard; before = at.before; is = inl at.is })) done)
-        (λ i w. waits_after l size window accepted later (s.made c s.Abandon) t.before (on_step t.before step (Err f))
-        t.action t.after
+        (λ w b. waits_for q y k (phase.AsksStep step) e refl c
+        (subst (λ z. SendWaits l size window accepted later c z) (sym wants)
+        (refused_waits step f c (record { heard = at.heard; before = at.before; is = inl at.is }))))
+        (λ i w. waits_for q y k (phase.AsksStep step) e refl (s.made c s.Abandon)
+        (subst (λ z. SendWaits l size window accepted later (s.made c s.Abandon) z) (sym wants)
         (refused_waits step f (s.made c s.Abandon) (record {
           heard = at.heard;
           before = at.before;
@@ -364,83 +367,77 @@ module _ (g : EventsGo) (spells : List ℕ → Bool) (history : List Seen) (lane
             subst (λ z. is_sending z.state (last_of z.state) ≡ true) at.is i,
             ap (λ (z : SendEnd). s.made z s.Abandon) at.is,
           );
-        })) done)
+        }))))
 
     step_goal : (q : Ask) (y : Reply) → Here q y → (step : OwnStep) → Phase_is (phase.AsksStep step)
-        → IsAskOf (phase.AsksStep step) t.before q → StepReply t.before step y
-        → OpenSend (phase.AsksStep step) t.before (action.Ask q) c → Goal q y
+        → IsAskOf (phase.AsksStep step) t q → StepReply t step y
+        → OpenSend (phase.AsksStep step) t (action.Ask q) c → Goal q y
     step_goal q y k step e a (makes told made wants) at = step_made q y k step e a told made wants at
     step_goal q y k step e a (refuses f told looked none wants) at = step_refused q y k step f e a told looked wants at
 
     -- whether the own activity was given up
 
-    state_waits : (told : SendState) (mid : SendEnd) (hd : Option LaneUnit) (o : List ℕ) → t.before.ours ≡ true
-        → (is_given_up t.before told ≡ true → mid ≡ s.made (listed t.before.send hd o) s.Abandon)
-        → SendWaits l size window accepted later mid (on_state t.before (Some told))
+    state_waits : (told : SendState) (mid : SendEnd) (hd : Option LaneUnit) (o : List ℕ) → t.ours ≡ true
+        → (is_given_up t told ≡ true → mid ≡ s.made (listed t.send hd o) s.Abandon)
+        → SendWaits l size window accepted later mid (on_state t (Some told))
     state_waits told mid hd o own given =
-        if_waits l size window accepted later mid (is_given_up t.before told) _ _
+        if_waits l size window accepted later mid (is_given_up t told) _ _
         (λ i. record {
           heard = hd;
           before = o;
-          is = given i ∙ given_listed t.before hd o (given_up t.before told i);
-          calm = inr (own, given_calm mid t.before told own i);
+          is = given i ∙ given_listed t hd o (given_up t told i);
+          calm = inr (own, given_calm mid t told own i);
         })
         (λ i. tt)
 
     -- the look tells of it where it was not given up so far
     none_given : (n : ℕ) (told : SendState) → IsSeen history lane behind seen c → seen ≤ length history
         → behind ≤ seen → Yet behind c → (lane_in lane (take seen history)).state ≡ told
-        → c.state ≡ t.before.send.state → is_given_up t.before told ≡ true → ⊥
+        → c.state ≡ t.send.state → is_given_up t told ≡ true → ⊥
     none_given n told w b le yet is e i =
         not_yet_seen spells history lane allow behind seen c le b w yet
-        (subst (λ z. is_sending z (last_of z) ≡ true) (sym e) (given_up t.before told i))
-        (is ∙ given_told t.before told i ∙ ap (λ (z : SendState). state.Dropping (last_of z)) (sym e))
+        (subst (λ z. is_sending z (last_of z) ≡ true) (sym e) (given_up t told i))
+        (is ∙ given_told t told i ∙ ap (λ (z : SendState). state.Dropping (last_of z)) (sym e))
 
-    told_state : (q : Ask) (told : SendState) → Here q (reply.Recovery (Some told)) → q ≡ ask.Recovery t.before.lane
-        → t.before.lane ≡ lane → (lane_in lane (take seen history)).state ≡ told
+    told_state : (q : Ask) (told : SendState) → Here q (reply.Recovery (Some told)) → q ≡ ask.Recovery t.lane
+        → t.lane ≡ lane → (lane_in lane (take seen history)).state ≡ told
     told_state q told k a e =
         let y : Reply = reply.Recovery (Some told) in
-        let stands : Looks spells history from seen (ask.Recovery t.before.lane) y =
+        let stands : Looks spells history from seen (ask.Recovery t.lane) y =
         subst (λ z. StandsAs spells history from seen z y (step_told z y)) a k.stands in
         subst (λ n. (lane_in n (take seen history)).state ≡ told) e stands.told
 
     state_told : (q : Ask) (told : SendState) → Here q (reply.Recovery (Some told)) → Phase_is phase.AsksState
-        → FitsAt phase.AsksState t.before → IsAskOf phase.AsksState t.before q → (hd : Option LaneUnit) (o : List ℕ)
-        → (c ≡ listed t.before.send hd o)
-        ⊎ ((is_sending t.before.send.state (last_of t.before.send.state) ≡ true)
-        × (c ≡ s.made (listed t.before.send hd o) s.Abandon)) → Goal q (reply.Recovery (Some told))
+        → FitsAt phase.AsksState t → IsAskOf phase.AsksState t q → (hd : Option LaneUnit) (o : List ℕ)
+        → (c ≡ listed t.send hd o)
+        ⊎ ((is_sending t.send.state (last_of t.send.state) ≡ true)
+        × (c ≡ s.made (listed t.send hd o) s.Abandon)) → Goal q (reply.Recovery (Some told))
     state_told q told k e f a hd o (inl is) =
         let y : Reply = reply.Recovery (Some told) in
-        let looks = recovery_look q y t.before.lane a in
-        let done = does q y k phase.AsksState e refl in
+        let looks = recovery_look q y t.lane a in
         let there = told_state q told k a (k.lane_is (ap is_last_phase e)) in
         look_goal q y k looks.0 looks.1
-        (λ w b. waits_after l size window accepted later c t.before (on_state t.before (Some told)) t.action t.after
+        (λ w b. waits_for q y k phase.AsksState e refl c
         (state_waits told c hd o f.2 (λ i. absurd (none_given 0 told w b (within q y k) k.yet there
-        (ap (λ (z : SendEnd). z.state) is) i))) done)
-        (λ i w. waits_after l size window accepted later (s.made c s.Abandon) t.before (on_state t.before (Some told))
-        t.action t.after
-        (state_waits told (s.made c s.Abandon) hd o f.2 (λ j. ap (λ (z : SendEnd). s.made z s.Abandon) is)) done)
+        (ap (λ (z : SendEnd). z.state) is) i))))
+        (λ i w. waits_for q y k phase.AsksState e refl (s.made c s.Abandon)
+        (state_waits told (s.made c s.Abandon) hd o f.2 (λ j. ap (λ (z : SendEnd). s.made z s.Abandon) is)))
     state_told q told k e f a hd o (inr is) =
         let y : Reply = reply.Recovery (Some told) in
-        let looks = recovery_look q y t.before.lane a in
-        let done = does q y k phase.AsksState e refl in
+        let looks = recovery_look q y t.lane a in
         look_goal q y k looks.0 looks.1
-        (λ w b. waits_after l size window accepted later c t.before (on_state t.before (Some told)) t.action t.after
-        (state_waits told c hd o f.2 (λ i. is.1)) done)
+        (λ w b. waits_for q y k phase.AsksState e refl c (state_waits told c hd o f.2 (λ i. is.1)))
         (λ i w. absurd (never (subst (λ z. is_sending z.state (last_of z.state) ≡ true) is.1 i)))
 
-    state_goal : (q : Ask) (y : Reply) → Here q y → Phase_is phase.AsksState → FitsAt phase.AsksState t.before
-        → IsAskOf phase.AsksState t.before q → RepliesTo phase.AsksState t.before y → StateSend t.before c → Goal q y
+    state_goal : (q : Ask) (y : Reply) → Here q y → Phase_is phase.AsksState → FitsAt phase.AsksState t
+        → IsAskOf phase.AsksState t q → RepliesTo phase.AsksState t y → StateSend t c → Goal q y
     state_goal q (reply.Recovery (Some told)) k e f a r at = state_told q told k e f a at.heard at.before at.is
     state_goal q (reply.Recovery None) k e f a r at =
         let y : Reply = reply.Recovery None in
-        let looks = recovery_look q y t.before.lane a in
-        let done = does q y k phase.AsksState e refl in
+        let looks = recovery_look q y t.lane a in
         look_goal q y k looks.0 looks.1
-        (λ w b. waits_after l size window accepted later c t.before (Aborts 4) t.action t.after tt done)
-        (λ i w. waits_after l size window accepted later (s.made c s.Abandon) t.before (Aborts 4) t.action t.after tt
-        done)
+        (λ w b. waits_for q y k phase.AsksState e refl c tt)
+        (λ i w. waits_for q y k phase.AsksState e refl (s.made c s.Abandon) tt)
     state_goal q y k e f a r at = absurd r
 
     -- ---- before the session is open
@@ -451,27 +448,27 @@ module _ (g : EventsGo) (spells : List ℕ → Bool) (history : List Seen) (lane
     looks_early p = false
 
     opening_after : (q : Ask) (y : Reply) → Here q y → (p : Phase) → Phase_is p → is_opening p ≡ true
-        → is_ended p ≡ false → FitsAt p t.before → AnswersAt p t.before (event.Reply y)
-        → SendAt l size window accepted early p t.before (action.Ask q) c
-        → SendTells l size window accepted p t.before (event.Reply y) → After c t
+        → is_ended p ≡ false → FitsAt p t → AnswersAt p t (event.Reply y)
+        → SendAt l size window accepted early p t (action.Ask q) c
+        → SendTells l size window accepted p t (event.Reply y) → After c
     opening_after q y k p e i n f a at tells =
-        waits_after l size window accepted later c t.before (wanted_of_reply p t.before y) t.action t.after
-        (opening_wants l size window accepted later early p t.before (event.Reply y) (action.Ask q) c i refl at
-        (λ j. k.next (ap is_soon e ∙ j)) f a tells) (does q y k p e n)
+        waits_for q y k p e n c
+        (opening_wants l size window accepted later early p t (event.Reply y) (action.Ask q) c i refl at
+        (λ j. k.next (ap is_soon e ∙ j)) f a tells)
 
     early_goal : (q : Ask) (y : Reply) → Here q y → seen ≡ low → step_told q y ≡ None → look_told q y ≡ x.At_sending
-        → After c t → Goal q y
+        → After c → Goal q y
     early_goal q y k same n w after =
         look_goal q y k n w (λ z b. after)
         (λ i b. let down = k.begun in absurd (omega (arith, same, down, b)))
 
     -- ---- at the end
 
-    last_after : (q : Ask) (y : Reply) → Here q y → is_last_phase t.before.phase ≡ true → (mid : SendEnd) → After mid t
-    last_after q y k i mid = end_after l size window accepted later mid t k.is i
+    last_after : (q : Ask) (y : Reply) → Here q y → is_last_phase t.phase ≡ true → (mid : SendEnd) → After mid
+    last_after q y k i mid = k.last_after i mid
 
     denied_made : (n gen j : ℕ) (z : Unit {0}) → Here (ask.Denied n gen j) (reply.Denied (Ok z))
-        → is_last_phase t.before.phase ≡ true → s.MayMake c s.Denied → (b : Bool) → (n == lane) ≡ b
+        → is_last_phase t.phase ≡ true → s.MayMake c s.Denied → (b : Bool) → (n == lane) ≡ b
         → Goal (ask.Denied n gen j) (reply.Denied (Ok z))
     denied_made n gen j z k i m true e =
         let q : Ask = ask.Denied n gen j in
@@ -487,7 +484,7 @@ module _ (g : EventsGo) (spells : List ℕ → Bool) (history : List Seen) (lane
         quiet_goal q y k (other_quiet lane (seen - 1) n (h.Denied gen j) e) (last_after q y k i c)
 
     sent_made : (n gen j : ℕ) (z : Unit {0}) → Here (ask.Sent n gen j) (reply.Sent (Ok z))
-        → is_last_phase t.before.phase ≡ true → s.MayMake c s.Sent → (b : Bool) → (n == lane) ≡ b
+        → is_last_phase t.phase ≡ true → s.MayMake c s.Sent → (b : Bool) → (n == lane) ≡ b
         → Goal (ask.Sent n gen j) (reply.Sent (Ok z))
     sent_made n gen j z k i m true e =
         let q : Ask = ask.Sent n gen j in
@@ -501,12 +498,12 @@ module _ (g : EventsGo) (spells : List ℕ → Bool) (history : List Seen) (lane
         let y : Reply = reply.Sent (Ok z) in
         quiet_goal q y k (other_quiet lane (seen - 1) n (h.Sent gen j) e) (last_after q y k i c)
 
-    last_look : (q : Ask) (y : Reply) → Here q y → is_last_phase t.before.phase ≡ true → step_told q y ≡ None
+    last_look : (q : Ask) (y : Reply) → Here q y → is_last_phase t.phase ≡ true → step_told q y ≡ None
         → look_told q y ≡ x.At_sending → Goal q y
     last_look q y k i n w =
         look_goal q y k n w (λ z b. last_after q y k i c) (λ z b. last_after q y k i (s.made c s.Abandon))
 
-    last_goal : (q : Ask) (y : Reply) → Here q y → is_last_phase t.before.phase ≡ true → LastAsk q c → Goal q y
+    last_goal : (q : Ask) (y : Reply) → Here q y → is_last_phase t.phase ≡ true → LastAsk q c → Goal q y
     last_goal (ask.Denied n gen j) (reply.Denied (Ok z)) k i m = denied_made n gen j z k i m (n == lane) refl
     last_goal (ask.Denied n gen j) y k i m = last_look (ask.Denied n gen j) y k i refl refl
     last_goal (ask.Sent n gen j) (reply.Sent (Ok z)) k i m = sent_made n gen j z k i m (n == lane) refl
@@ -525,26 +522,26 @@ module _ (g : EventsGo) (spells : List ℕ → Bool) (history : List Seen) (lane
       ap (λ (z : Ask). look_told z y) e,
     )
 
-    by_phase : (q : Ask) (y : Reply) → Here q y → (p : Phase) → Phase_is p → FitsAt p t.before
-        → IsAskOf p t.before q → AnswersAt p t.before (event.Reply y) → RepliesTo p t.before y
-        → SendAt l size window accepted early p t.before (action.Ask q) c
-        → SendTells l size window accepted p t.before (event.Reply y) → Goal q y
+    by_phase : (q : Ask) (y : Reply) → Here q y → (p : Phase) → Phase_is p → FitsAt p t
+        → IsAskOf p t q → AnswersAt p t (event.Reply y) → RepliesTo p t y
+        → SendAt l size window accepted early p t (action.Ask q) c
+        → SendTells l size window accepted p t (event.Reply y) → Goal q y
     by_phase q y k phase.AsksValues e f a n r at tells =
-        quiet_goal q y k (else_quiet lane seen phase.AsksValues t.before q y refl a r)
+        quiet_goal q y k (else_quiet lane seen phase.AsksValues t q y refl a r)
         (opening_after q y k phase.AsksValues e refl refl f n at tells)
     by_phase q y k phase.AsksRecovery e f a n r at tells =
-        let looks = recovery_look q y t.before.lane a in
+        let looks = recovery_look q y t.lane a in
         early_goal q y k (k.soon (ap is_soon e) at.2) looks.0 looks.1 (opening_after q y k phase.AsksRecovery e refl
         refl f n at tells)
     by_phase q y k (phase.AsksReceiving st) e f a n r at tells =
-        quiet_goal q y k (else_quiet lane seen (phase.AsksReceiving st) t.before q y refl a r)
+        quiet_goal q y k (else_quiet lane seen (phase.AsksReceiving st) t q y refl a r)
         (opening_after q y k (phase.AsksReceiving st) e refl refl f n at tells)
     by_phase q y k (phase.AsksResumed st) e f a n r at tells =
-        let looks = resumed_look q y t.before.lane a in
+        let looks = resumed_look q y t.lane a in
         early_goal q y k (k.soon (ap is_soon e) at.3) looks.0 looks.1 (opening_after q y k (phase.AsksResumed st) e refl
         refl f n at tells)
     by_phase q y k phase.AsksAgree e f a n r at tells =
-        quiet_goal q y k (else_quiet lane seen phase.AsksAgree t.before q y refl a r)
+        quiet_goal q y k (else_quiet lane seen phase.AsksAgree t q y refl a r)
         (opening_after q y k phase.AsksAgree e refl refl f n at tells)
     by_phase q y k phase.AsksDue e f a n r at tells = else_goal q y k phase.AsksDue e refl refl f a r at
     by_phase q y k phase.AsksBatch e f a n r at tells = else_goal q y k phase.AsksBatch e refl refl f a r at
@@ -557,7 +554,7 @@ module _ (g : EventsGo) (spells : List ℕ → Bool) (history : List Seen) (lane
     by_phase q y k phase.AsksStart e f a n r at tells = start_goal q y k e f a r at
     by_phase q y k phase.AsksStillIdle e f a n r at tells = still_goal q y k e f a r at
     by_phase q y k (phase.AsksStep step) e f a n r at tells =
-        step_goal q y k step e a (step_reply t.before step y r) at
+        step_goal q y k step e a (step_reply t step y r) at
     by_phase q y k phase.AsksState e f a n r at tells = state_goal q y k e f a r at
     by_phase q y k phase.AsksDenied e f a n r at tells = last_goal q y k (ap is_last_phase e) at
     by_phase q y k phase.AsksClose e f a n r at tells = last_goal q y k (ap is_last_phase e) at
@@ -573,7 +570,5 @@ module _ (g : EventsGo) (spells : List ℕ → Bool) (history : List Seen) (lane
 
     pub asked_keeps : (q : Ask) (y : Reply) → Here q y → Goal q y
     asked_keeps q y k =
-        let answers : AnswersAt t.before.phase t.before (event.Reply y) =
-        subst (λ z. AnswersAt t.before.phase t.before z) k.same k.is.answers in
-        by_phase q y k t.before.phase refl k.is.fits k.asked answers
-        (ask_answers t.before.phase t.before (event.Reply y) k.waits answers) k.at k.tells
+        by_phase q y k t.phase refl k.fits k.asked k.answers
+        (ask_answers t.phase t (event.Reply y) k.waits k.answers) k.at k.tells

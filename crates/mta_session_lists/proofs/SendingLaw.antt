@@ -82,7 +82,7 @@ soon_asks (phase.AsksResumed st) q from seen w i k = k
 soon_asks p q from seen w i k = absurd (never i)
 
 module _ (spells : List ℕ → Bool) (history : List Seen) where
-  in_turn : (p : Phase) (a : Action) (e : Event) (from seen : ℕ) → ComesTrue spells history from seen p a e
+  pub in_turn : (p : Phase) (a : Action) (e : Event) (from seen : ℕ) → ComesTrue spells history from seen p a e
       → goes_with a p ≡ true → is_soon p ≡ true → seen ≡ from
   in_turn p (action.Ask q) (event.Reply y) from seen c w i = soon_asks p q from seen w i c.0
   in_turn p (action.Ask q) event.Go from seen c w i = c
@@ -242,7 +242,7 @@ module _ (spells : List ℕ → Bool) (history : List Seen) (lane : ℕ) (allow 
   by_last p t q y from seen a k false i e soon = on_reply p t q y from seen a k (e i) soon
   by_last p t q y from seen a k true i e soon = else_tells p t y (last_told p i)
 
-  on_event : (p : Phase) (t : State) (a : Action) (e : Event) (from seen : ℕ) → Asked a t → t.phase ≡ p
+  pub on_event : (p : Phase) (t : State) (a : Action) (e : Event) (from seen : ℕ) → Asked a t → t.phase ≡ p
       → goes_with a p ≡ true → ComesTrue spells history from seen p a e
       → (is_last_phase p ≡ false → t.lane ≡ lane) → (is_soon p ≡ true → seen ≡ low) → TellsIn p t e
   on_event p t a event.Go from seen k i w c e soon = (plain_tells p t).0
@@ -266,7 +266,7 @@ module _ (g : EventsGo) (spells : List ℕ → Bool) (history : List Seen) (lane
   whole = lane_in lane (take low history)
 
   -- a session that goes on keeps its lane
-  lane_next : (early : Type 0) (b : SendEnd) (a : Action) (t : Turn) → IsTurn t
+  pub lane_next : (early : Type 0) (b : SendEnd) (a : Action) (t : Turn) → IsTurn t
       → SendAt whole size window accepted early t.before.phase t.before a b
       → (is_last_phase t.before.phase ≡ false → t.before.lane ≡ lane) → Part t.before.phase
       → is_last_phase t.after.phase ≡ false → t.after.lane ≡ lane
@@ -357,12 +357,12 @@ module _ (g : EventsGo) (spells : List ℕ → Bool) (history : List Seen) (at :
   abbrev now : Type 0
   now = at + 1 ≡ at + 1
 
-  begin_yet : (lane : ℕ) (accepted : Bool) → NotYet spells history lane allow (at + 1)
+  pub begin_yet : (lane : ℕ) (accepted : Bool) → NotYet spells history lane allow (at + 1)
       (one (half_at lane) size window accepted)
   begin_yet lane accepted i e = dropping_none (half_at lane).state (last_of (half_at lane).state) i e
 
   -- an initiator's new lane
-  planned : (p : InitiatorPlan) (units : ℕ) → HasAt history at (step_for p) → p.recovering ≡ false
+  pub planned : (p : InitiatorPlan) (units : ℕ) → HasAt history at (step_for p) → p.recovering ≡ false
       → Has (half_at p.lane) size window false (new_initiator p units)
   planned p units is e =
       let there : half_at p.lane ≡ halves_after unopened (h.LaneOpen false (1024 * p.checkpoint) p.window) =
@@ -409,7 +409,7 @@ module _ (g : EventsGo) (spells : List ℕ → Bool) (history : List Seen) (at :
       no_call (side.Initiator p) k = k
       no_call (side.Responder own) k = k
 
-  responds : (p : Phase) (t : State) (e : Event) (a : Action) (new : State) (y : StepOn)
+  pub responds : (p : Phase) (t : State) (e : Event) (a : Action) (new : State) (y : StepOn)
       → step_by p e new ≡ Some y → HasAt history at y → FitsAt p t → AreValues history new.lane size window
       → Does (counted t e) (wanted_in p (counted t e) e) a new
       → SendWaits (half_at new.lane) size window true now (one (half_at new.lane) size window true)
@@ -463,7 +463,7 @@ both_plain : (xs ys : List SendEvent) → ArePlain xs → ArePlain ys → ArePla
 both_plain [] ys p q = q
 both_plain (v ∷ vs) ys p q = (p.0, both_plain vs ys p.1 q)
 
-all_plain : (lane : ℕ) (ys : List SessionEvent) → ArePlain (sending_events lane ys)
+pub all_plain : (lane : ℕ) (ys : List SessionEvent) → ArePlain (sending_events lane ys)
 all_plain lane [] = tt
 all_plain lane (y ∷ ys) = both_plain (sending_event lane y) (sending_events lane ys) (event_plain lane y)
     (all_plain lane ys)
@@ -472,7 +472,7 @@ both_allowed : (b : SendEnd) (xs ys : List SendEvent) → Allowed b xs → Allow
 both_allowed b [] ys p q = q
 both_allowed b (v ∷ vs) ys p q = (p.0, both_allowed (s.send_after b v) vs ys p.1 q)
 
-keeps_allowed : (lane : ℕ) (v : x.Turn) (b : SendEnd) (ys : List SessionEvent) → SendKeeps lane v b ys
+pub keeps_allowed : (lane : ℕ) (v : x.Turn) (b : SendEnd) (ys : List SessionEvent) → SendKeeps lane v b ys
     → Allowed b (sending_events lane ys)
 keeps_allowed lane v b [] k = tt
 keeps_allowed lane v b (y ∷ ys) k =
@@ -486,13 +486,13 @@ rests_owes v b (Put u) k = tt
 rests_owes v b (Made p j step) k = tt
 rests_owes v b (Looked n look) k = tt
 
-keeps_owes : (lane : ℕ) (v : x.Turn) (b : SendEnd) (ys : List SessionEvent) → SendKeeps lane v b ys
+pub keeps_owes : (lane : ℕ) (v : x.Turn) (b : SendEnd) (ys : List SessionEvent) → SendKeeps lane v b ys
     → SendOwesNothingAt lane v b ys
 keeps_owes lane v b [] k = tt
 keeps_owes lane v b (y ∷ ys) k =
     (rests_owes v b y k.0, keeps_owes lane (turn_after v y) (send_all b (sending_event lane y)) ys k.2)
 
-sends : (history : List Seen) (lane size window at : ℕ) (initiator : Bool) (a : Action) (cs : List Call)
+pub sends : (history : List Seen) (lane size window at : ℕ) (initiator : Bool) (a : Action) (cs : List Call)
     (opening : List SessionEvent)
     → SendKeeps lane x.Before_accept (end_begun history lane size window at initiator)
     (With history lane (at + 1) (end_begun history lane size window at initiator) (list_of a cs))

@@ -51,6 +51,7 @@ use Rattle.mta_session_lists.proofs.SendingEnds.{end_after}
 use Rattle.mta_session_lists.proofs.SendingLooks.{SendKeeps, With, silent_keeps, NotYet}
 use Rattle.mta_session_lists.proofs.SendingCalls.{left_calm, got_allowed, got_rests, reads_rest, closing_rest}
 use Rattle.mta_session_lists.proofs.SendingCalls.{before_rest, go_after, bad_after, over_after, unit_after, IsReads}
+use Rattle.mta_session_lists.proofs.SendingCalls.{told_after}
 use Rattle.mta_session_lists.proofs.SendingAsked.{asked_keeps}
 
 -- ---- phases and what they wait for
@@ -213,7 +214,7 @@ module _ (g : EventsGo) (spells : List ℕ → Bool) (history : List Seen) (lane
   reads_of phase.ReadsAnswer i k = absurd (never i)
   reads_of p i k = absurd (never k)
 
-  reads_no_state : (p : Phase) → goes_with action.Read p ≡ true → asks_state p ≡ false
+  pub reads_no_state : (p : Phase) → goes_with action.Read p ≡ true → asks_state p ≡ false
   reads_no_state phase.AsksState k = absurd (never k)
   reads_no_state p k = refl
 
@@ -227,7 +228,7 @@ module _ (g : EventsGo) (spells : List ℕ → Bool) (history : List Seen) (lane
   open_calm phase.ReadsAnswer t c i k f left = absurd (never i)
   open_calm p t c i k f left = absurd (never k)
 
-  open_owes : (p : Phase) (t : State) (v : x.Turn) (c : SendEnd) → is_open p ≡ true → goes_with action.Read p ≡ true
+  pub open_owes : (p : Phase) (t : State) (v : x.Turn) (c : SendEnd) → is_open p ≡ true → goes_with action.Read p ≡ true
       → FitsAt p t → Holds p t v → OpenSend p t action.Read c → SendOwesNothing v c
   open_owes phase.Reads t v c i k f hd at =
       subst (λ z. SendOwesNothing v z) (sym at.is)
@@ -240,7 +241,7 @@ module _ (g : EventsGo) (spells : List ℕ → Bool) (history : List Seen) (lane
   open_owes p t v c i k f hd at = absurd (never k)
 
   -- before the session is open a unit is got as the answer
-  opening_owes : (p : Phase) (t : State) (v : x.Turn) (c : SendEnd) → is_opening p ≡ true
+  pub opening_owes : (p : Phase) (t : State) (v : x.Turn) (c : SendEnd) → is_opening p ≡ true
       → goes_with action.Read p ≡ true → Holds p t v → SendAt l size window accepted early p t action.Read c
       → SendOwesNothing v c
   opening_owes phase.ReadsAnswer t v c i k hd at =
@@ -375,11 +376,13 @@ module _ (g : EventsGo) (spells : List ℕ → Bool) (history : List Seen) (lane
   come_asked q t seen y b c behind from v rest k e stands tells more =
       let same : c ≡ b = k.put in
       let done = quiet_done (action.Ask q) t (event.Reply y) v k.turn refl e refl in
-      asked_keeps g spells history lane allow l size window accepted low early later t behind from seen b v rest
-      (λ mid to after yet a z. more v mid to done after yet a z) q y
+      let is = k.turn.is in
+      let p : Phase = t.before.phase in
+      asked_keeps spells history lane allow l size window accepted low early later (λ z. After_at z t) t.before behind
+      from seen b v rest (λ mid to after yet a z. more v mid to done after yet a z) q y
       (record {
-        is = k.turn.is;
-        same = e;
+        fits = is.fits;
+        answers = subst (λ z. AnswersAt t.before.phase t.before z) e is.answers;
         waits = k.turn.waits;
         asked = k.asked;
         lane_is = k.lane_is;
@@ -391,6 +394,12 @@ module _ (g : EventsGo) (spells : List ℕ → Bool) (history : List Seen) (lane
         tells = tells;
         next = k.next;
         soon = k.soon;
+        open_after = λ i hd o may mid told leaves.
+            told_after g l size window accepted later t (event.Reply y) e is i hd o mid may told leaves;
+        waits_after = λ i mid waits.
+            waits_after l size window accepted later mid t.before (wanted_in t.before.phase t.before (event.Reply y))
+            t.action t.after waits (does_at t (event.Reply y) e is i);
+        last_after = λ i mid. end_after l size window accepted later mid t is i;
       })
 
   none_asked_plain : (q : Ask) (t : Turn) (e : Event) (v : x.Turn) → Here (action.Ask q) t v → is_plain e ≡ true

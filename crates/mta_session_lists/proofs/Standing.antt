@@ -39,7 +39,7 @@ module _ (spells : List ℕ → Bool) (history : List Seen) (lane : ℕ) where
   abbrev From : (seen : ℕ) → List SessionEvent → Type 0
   From seen rest = (low : ℕ) → low ≤ seen → Rises lane low rest
 
-  told_rises : (low from seen : ℕ) (a : Ask) (y : Reply) (o : Option StepOn) (look : Look) (rest : List SessionEvent)
+  pub told_rises : (low from seen : ℕ) (a : Ask) (y : Reply) (o : Option StepOn) (look : Look) (rest : List SessionEvent)
       → low ≤ from → StandsAs spells history from seen a y o → From seen rest
       → Rises lane low (told_as seen o look ∷ rest)
   told_rises low from seen a y (Some step) look rest le is more =
@@ -62,7 +62,7 @@ module _ (spells : List ℕ → Bool) (history : List Seen) (lane : ℕ) where
   got_rises low (Excepts t f) u rest r = (tt, r)
   got_rises low Never u rest r = (tt, r)
 
-  come_rises : (low from seen : ℕ) (p : Phase) (a : Action) (t : Turn) (e : Event) (rest : List SessionEvent)
+  pub come_rises : (low from seen : ℕ) (p : Phase) (a : Action) (t : Turn) (e : Event) (rest : List SessionEvent)
       → low ≤ from → ComesTrue spells history from seen p a e → From seen rest
       → Rises lane low (come_of a t seen e ++ rest)
   come_rises low from seen p (action.Put u) t e rest le is more = (tt, more low (omega (arith, le, is)))
@@ -89,7 +89,7 @@ module _ (spells : List ℕ → Bool) (history : List Seen) (lane : ℕ) where
 
   -- ---- in the history
 
-  told_stands : (from seen : ℕ) (a : Ask) (y : Reply) (o : Option StepOn) (look : Look) (rest : List SessionEvent)
+  pub told_stands : (from seen : ℕ) (a : Ask) (y : Reply) (o : Option StepOn) (look : Look) (rest : List SessionEvent)
       → StandsAs spells history from seen a y o → StepsStand history rest
       → StepsStand history (told_as seen o look ∷ rest)
   told_stands from seen a y (Some step) look rest is more = (is.entry, more)
@@ -107,7 +107,7 @@ module _ (spells : List ℕ → Bool) (history : List Seen) (lane : ℕ) where
   got_stands (Excepts t f) u rest k = k
   got_stands Never u rest k = k
 
-  come_stands : (from seen : ℕ) (p : Phase) (a : Action) (t : Turn) (e : Event) (rest : List SessionEvent)
+  pub come_stands : (from seen : ℕ) (p : Phase) (a : Action) (t : Turn) (e : Event) (rest : List SessionEvent)
       → ComesTrue spells history from seen p a e → StepsStand history rest
       → StepsStand history (come_of a t seen e ++ rest)
   come_stands from seen p (action.Put u) t e rest is more = more

@@ -27,7 +27,7 @@ use Rattle.mta_session_lists.proofs.TurnsUnits.{reads_list, reading_aborts, unit
 use Rattle.mta_session_lists.proofs.TurnsReplies.{reply_goes, go_goes, over_goes, PutAllowed, turned, Done, does_done}
 
 -- a step or a look concerns no turn
-told_turns : (v : x.Turn) (seen : ℕ) (o : Option StepOn) (look : Look) (rest : List SessionEvent) → KeepsTurn v rest
+pub told_turns : (v : x.Turn) (seen : ℕ) (o : Option StepOn) (look : Look) (rest : List SessionEvent) → KeepsTurn v rest
     → KeepsTurn v (told_as seen o look ∷ rest)
 told_turns x.Before_accept seen (Some z) look rest k = (tt, k)
 told_turns x.Own seen (Some z) look rest k = (tt, k)
@@ -111,7 +111,7 @@ over_done y t v k =
     finished (action.Finish y) new v i h = record { allowed = tt; holds = h }
     finished a new v i h = absurd (never i)
 
-come_turns : (a : Action) (t : Turn) (seen : ℕ) (e : Event) (v : x.Turn) (rest : List SessionEvent) → Here a t v
+pub come_turns : (a : Action) (t : Turn) (seen : ℕ) (e : Event) (v : x.Turn) (rest : List SessionEvent) → Here a t v
     → t.event ≡ e → ((z : x.Turn) → Done t.action t.after z → KeepsTurn z rest)
     → KeepsTurn v (come_of a t seen e ++ rest)
 come_turns (action.Put u) t seen event.Go v rest k q more =

@@ -12,13 +12,15 @@ use Rattle.mta_runs.specs.Sessions.{Got, Refused, Made, receiving_event, receivi
 use Rattle.mta_runs.specs.Sessions.{SessionList, Before_accept, SendOwesNothing, sending_event, sending_list, send_all}
 use Rattle.mta_runs.specs.Sessions.{turn_after}
 use Rattle.mta_runs.specs.Sendings.{IsGoodSending}
+use Rattle.mta_session.specs.declared.event.Action.TheVariants as action
 use Rattle.mta_session.specs.declared.event.Side.{Side}
 use Rattle.mta_session.specs.declared.event.Side.TheVariants as side
 use Rattle.mta_session.specs.State.{State, is_initiator}
 use Rattle.mta_session_laws.specs.Whole.{AreCalls}
-use Rattle.mta_session_lists.specs.Calls.{Call, turns_of}
+use Rattle.mta_session_lists.specs.Calls.{Call, turns_of, action_of}
 use Rattle.mta_session_lists.specs.Abandons.{has_before, with_abandons}
 use Rattle.mta_session_lists.specs.Lists.{IsListOf, end_begun, completed, AreValues}
+use Rattle.mta_session_lists.specs.Lost.{Lost, IsLost, seen_of, stopped}
 
 -- ---- Abandons that are put in
 
@@ -180,3 +182,15 @@ ListsAreGood =
     → AreCalls first (turns_of calls) u
     → IsGoodSession spells history lane size window (is_initiator first.side)
     (completed history lane size window (is_initiator first.side) l)
+
+-- So is the list of a session that ends because memory is wanted, with the Abort that its worker puts.
+abbrev pub ListsMayStop : Type 0
+ListsMayStop =
+    (spells : List ℕ → Bool) (history : List Seen) (first u : State) (calls : List Call) (lane size window : ℕ)
+    (l : SessionList) (x : Lost) → LanesAllow spells history → IsListOf spells history first calls lane l
+    → AreValues history lane size window → OpensFirst first.side
+    → OwnsPieces history lane (completed history lane size window (is_initiator first.side) (stopped calls l x))
+    → AreCalls first (turns_of calls) u
+    → IsLost spells history (seen_of (l.at + 1) calls) (action_of action.Read calls) u x
+    → IsGoodSession spells history lane size window (is_initiator first.side)
+    (completed history lane size window (is_initiator first.side) (stopped calls l x))

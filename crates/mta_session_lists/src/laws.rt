@@ -3,7 +3,7 @@
 ghost use Rattle.mta_session_lists.specs.Examples.{TakesOne, GivesUp, Resumes};
 ghost use Rattle.mta_session_lists.specs.Laws.{AbandonsArePlaced, AbandonsStand, AbandonsKeepTurns};
 ghost use Rattle.mta_session_lists.specs.Laws.{AbandonsKeepRefusals, AbandonsKeepReceived, ListsAreOrdered};
-ghost use Rattle.mta_session_lists.specs.Laws.{ListsReceive, ListsSend, ListsFind, ListsAreGood};
+ghost use Rattle.mta_session_lists.specs.Laws.{ListsReceive, ListsSend, ListsFind, ListsAreGood, ListsMayStop};
 ghost use Rattle.mta_session_lists.specs.Sent.{OthersMayBeLeftOut, NoneGoesOn, NoneDrops};
 
 /// Each Abandon that is put into a list has its place, and stands in the history. It concerns neither the turn nor the
@@ -62,4 +62,12 @@ pub fn lists_are_good()
     ensures { ListsAreGood }
 {
     lists_send();
+}
+
+/// So is the list of a session that ends because memory is wanted: what came of its last action stands in it, and the
+/// Abort that its worker puts.
+pub fn lists_may_stop()
+    ensures { ListsMayStop }
+{
+    mta_session_laws::events_lead_on();
 }
