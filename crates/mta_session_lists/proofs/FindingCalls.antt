@@ -41,7 +41,7 @@ use Rattle.mta_session_lists.specs.Standing.{Stands, Looks, StandsAs, ComesTrue,
 use Rattle.mta_session_lists.proofs.Found.{never}
 use Rattle.mta_session_lists.proofs.Lanes.{lane_at, step_allowed, step_leads}
 use Rattle.mta_session_lists.proofs.Received.{is_receiving, quiet_reply, QuietStep, quiet_step}
-use Rattle.mta_session_lists.proofs.ReceivingPhases.{After, first, RecvAt, OpenAt}
+use Rattle.mta_session_lists.proofs.ReceivingPhases.{first, RecvAt, OpenAt}
 use Rattle.mta_session_lists.proofs.Finding.{Tracks, held_pieces, tracks_between, Owned, IsElse, owned_behind}
 use Rattle.mta_session_lists.proofs.Finding.{looked_else, got_else, refused_else, made_else, owned_step}
 use Rattle.mta_session_lists.proofs.Finding.{StandBehind, none_before_step, none_before_look}

@@ -1,10 +1,8 @@
 -- The two halves of the list of a session that ends because memory is wanted.
-use Rattle.std.proofs.Common.{◌≡◌, ◌⊎◌, inl, inr, ℕ, ◌+◌, ◌-◌, ◌<◌, ◌≤◌, if◌then◌else◌, Bool, true, false, Option, Some, None}
-use Rattle.std.proofs.Common.{Result, Ok, Err, List, [], ◌∷◌, ◌++◌, length, take, refl, sym, ap, subst, ◌∙◌, arith}
-use Rattle.std.proofs.Common.{append_assoc}
-use Rattle.mta_units.specs.declared.unit.Unit.{Unit as AnyUnit}
+use Rattle.std.proofs.Common.{◌≡◌, ◌⊎◌, inl, inr, ℕ, ◌≤◌, Bool, true, false, Option, Some, None}
+use Rattle.std.proofs.Common.{Ok, Err, List, [], ◌∷◌, ◌++◌, refl, sym, subst}
 use Rattle.mta_units.specs.declared.unit.Unit.TheVariants as unit
-use Rattle.mta_ends.specs.Lanes.{Halves, SeenStep, Seen, LanesAllow, lane_in}
+use Rattle.mta_ends.specs.Lanes.{Halves, SeenStep, Seen, LanesAllow}
 use Rattle.mta_ends.specs.Receiving as r
 use Rattle.mta_ends.specs.Receiving.{RecvEnd, RecvEvent}
 use Rattle.mta_ends.specs.Sending as s
@@ -21,38 +19,29 @@ use Rattle.mta_session.specs.declared.phase.Phase.{Phase}
 use Rattle.mta_session.specs.declared.phase.Phase.TheVariants as phase
 use Rattle.mta_session.specs.State.{State}
 use Rattle.mta_session.specs.Wanted.{wanted_of_reply}
-use Rattle.mta_session.specs.Follows.{counted}
-use Rattle.mta_session.specs.Fits.{Fits, Answers, AnswersAt, RepliesTo}
-use Rattle.mta_session_laws.specs.Runs.{Turn, IsTurn}
-use Rattle.mta_session_laws.specs.Turning.{EventsGo, is_open, is_last_phase}
+use Rattle.mta_session.specs.Fits.{Fits, Answers}
+use Rattle.mta_session_laws.specs.Turning.{EventsGo, is_last_phase}
 use Rattle.mta_session_laws.specs.TurningRecv.{whole, Reaches, RecvGoes, told_by}
-use Rattle.mta_session_laws.specs.Whole.{AreCalls}
 use Rattle.mta_session_laws.proofs.EventsRecv.{events_go}
 use Rattle.mta_session_laws.proofs.Whole.{in_phase_wanted}
 use Rattle.mta_runs.specs.Receivings.{AreTrue}
 use Rattle.mta_runs.specs.Sessions as x
 use Rattle.mta_runs.specs.Sessions.{SessionEvent, Got, Refused, Put, Made, Looked, Look, receiving_event, recv_all}
 use Rattle.mta_runs.specs.Sessions.{answer_unit, answers_of, send_all, SendOwesNothing, transfer_unit}
-use Rattle.mta_matches.specs.Asks.{IsAskOf}
-use Rattle.mta_session_lists.specs.Calls.{Call, StepOn, turns_of, step_told, look_told, told_as, list_of, event_of}
-use Rattle.mta_session_lists.specs.Calls.{action_of}
-use Rattle.mta_session_lists.specs.Lists.{AreValues}
-use Rattle.mta_session_lists.specs.Lost.{Lost, lost_of, abort_of, tail_of, seen_of, IsLost}
-use Rattle.mta_session_lists.specs.Standing.{StandsAs, ComesTrue, AllComeTrue}
-use Rattle.mta_session_lists.proofs.Found.{never}
-use Rattle.mta_session_lists.proofs.Waiting.{goes_with, Ready, ready_next, ask_answers}
+use Rattle.mta_session_lists.specs.Calls.{StepOn, step_told, look_told, told_as}
+use Rattle.mta_session_lists.specs.Lost.{Lost, lost_of, abort_of}
+use Rattle.mta_session_lists.specs.Standing.{StandsAs, ComesTrue}
+use Rattle.mta_session_lists.proofs.Waiting.{goes_with, ask_answers}
 use Rattle.mta_session_lists.proofs.Turns.{Holds}
-use Rattle.mta_session_lists.proofs.TurnsReplies.{PutAllowed, turned}
+use Rattle.mta_session_lists.proofs.TurnsReplies.{turned}
 use Rattle.mta_session_lists.proofs.Receiving as recv
 use Rattle.mta_session_lists.proofs.Receiving.{run_allowed}
-use Rattle.mta_session_lists.proofs.ReceivingPhases.{RecvAt, OpenAt, first, at_open}
+use Rattle.mta_session_lists.proofs.ReceivingPhases.{RecvAt, first, at_open}
 use Rattle.mta_session_lists.proofs.ReceivingCalls.{told_is, reads_owing}
-use Rattle.mta_session_lists.proofs.ReceivingEnds.{is_opening, opening_quiet, end_quiet}
+use Rattle.mta_session_lists.proofs.ReceivingEnds.{opening_quiet, end_quiet}
 use Rattle.mta_session_lists.proofs.ReceivingLists.{RestsRecv, RecvKeeps, Part, at_opening, in_open, at_last, at_none}
 use Rattle.mta_session_lists.proofs.ReceivingLists.{part, none_here, opening_first, open_reads, open_not_last, Asked}
-use Rattle.mta_session_lists.proofs.ReceivingLists.{asked_next, is_early, Tells, RecvHere, last_reads}
-use Rattle.mta_session_lists.proofs.ReceivedLists.{come_receives}
-use Rattle.mta_session_lists.proofs.ReceivedAll as received
+use Rattle.mta_session_lists.proofs.ReceivingLists.{last_reads}
 use Rattle.mta_session_lists.proofs.SendingGoes as send
 use Rattle.mta_session_lists.proofs.SendingPhases as sending
 use Rattle.mta_session_lists.proofs.SendingPhases.{SendAt}
@@ -60,11 +49,7 @@ use Rattle.mta_session_lists.proofs.SendingOpening.{SendTells, is_soon}
 use Rattle.mta_session_lists.proofs.SendingLooks.{SendKeeps, With, silent_keeps, NotYet}
 use Rattle.mta_session_lists.proofs.SendingAsked.{asked_keeps}
 use Rattle.mta_session_lists.proofs.SendingList as calls
-use Rattle.mta_session_lists.proofs.SendingLaw as law
-use Rattle.mta_session_lists.proofs.Finding.{Tracks}
 use Rattle.mta_session_lists.proofs.FindingCalls.{FindKeeps, put_true, pieces_all, FoundSo, reply_finds, Behind}
-use Rattle.mta_session_lists.proofs.FindingCalls.{calls_behind}
-use Rattle.mta_session_lists.proofs.FindingLaw.{come_finds, gen_next}
 
 -- ---- the receiving half
 
@@ -160,8 +145,7 @@ module _ (l : Halves) (early : Type 0) (lane : ℕ) where
   tail_receives action.Read u y event.Over b c k n = abort_receives lane b y.aborts
   tail_receives action.Read u y (event.Reply z) b c k n = abort_receives lane b y.aborts
   tail_receives (action.Ask q) u y (event.Reply z) b c k n =
-      let same : c ≡ b = k.put in
-      (
+      let same : c ≡ b = k.put in (
         told_rests y.seen (step_told q z) (look_told q z) b,
         subst (λ w. recv.Allowed w (receiving_event lane (told_as y.seen (step_told q z) (look_told q z)))) same
             (told_part q z y.seen u b c k n (part u.phase)),
@@ -176,7 +160,8 @@ module _ (l : Halves) (early : Type 0) (lane : ℕ) where
 -- ---- the sending half
 
 module _ (history : List Seen) (lane : ℕ) where
-  abort_sends : (v : x.Turn) (from : ℕ) (e : SendEnd) (y : Bool) → SendKeeps lane v e (With history lane from e (abort_of y))
+  abort_sends : (v : x.Turn) (from : ℕ) (e : SendEnd) (y : Bool)
+      → SendKeeps lane v e (With history lane from e (abort_of y))
   abort_sends v from e true = (tt, tt, tt)
   abort_sends v from e false = tt
 
@@ -230,7 +215,8 @@ module _ (g : EventsGo) (spells : List ℕ → Bool) (history : List Seen) (lane
       abort_sends history lane v behind b y.aborts
   tail_sends (action.Ask q) u y (event.Reply z) b c behind from v k n is tells =
       let same : c ≡ b = k.put in
-      asked_keeps spells history lane allow l size window accepted low early early (λ w. Unit {0}) u behind from y.seen b
+      asked_keeps spells history lane allow l size window accepted low early early (λ w. Unit {0}) u behind from y.seen
+      b
       v (abort_of y.aborts) (λ mid to after yet lo up. abort_sends history lane v to mid y.aborts) q z
       (record {
         fits = k.fits;
@@ -295,7 +281,8 @@ module _ (spells : List ℕ → Bool) (history : List Seen) (lane : ℕ) (allow 
         (ask_answers u.phase u (event.Reply z) k.waits ans) (k.lane_is i) (gens i)
         (subst (λ w. RecvAt early (first l early) u.phase u (action.Ask q) w) same k.at)
 
-    pub tail_finds : (a : Action) (u : State) (y : Lost) (e : Event) (b c : RecvEnd) (pieces : List (List ℕ)) (n from : ℕ)
+    pub tail_finds : (a : Action) (u : State) (y : Lost) (e : Event) (b c : RecvEnd) (pieces : List (List ℕ)) (n from :
+        ℕ)
         → LostRecv l early lane a u b c → (is_last_phase u.phase ≡ false → u.generation ≡ gen) → Answers u e
         → ComesTrue spells history from y.seen u.phase a e
         → (is_last_phase u.phase ≡ false

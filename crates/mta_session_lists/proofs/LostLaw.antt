@@ -1,8 +1,9 @@
 -- The list of a session that ends because memory is wanted is a good one.
-use Rattle.std.proofs.Common.{◌≡◌, inr, ℕ, ◌+◌, ◌<◌, ◌≤◌, not, Bool, true, false, List, [], ◌∷◌, ◌++◌, take, refl, sym, ap, subst}
+use Rattle.std.proofs.Common.{◌≡◌, inr, ℕ, ◌+◌, ◌≤◌, not, Bool, true, false, List, [], ◌∷◌, ◌++◌, take, refl, sym, ap}
+use Rattle.std.proofs.Common.{subst}
 use Rattle.std.proofs.Common.{◌∙◌, arith, append_assoc}
 use Rattle.std.proofs.lemmas.Option.{slice_get_within}
-use Rattle.mta_ends.specs.Lanes.{Halves, SeenStep, Seen, Unopened, LanesAllow, lane_in}
+use Rattle.mta_ends.specs.Lanes.{Halves, Seen, Unopened, LanesAllow, lane_in}
 use Rattle.mta_ends.specs.Receiving as r
 use Rattle.mta_ends.specs.Receiving.{RecvEnd}
 use Rattle.mta_ends.specs.Sending as s
@@ -13,9 +14,8 @@ use Rattle.mta_session.specs.declared.event.Event.{Event}
 use Rattle.mta_session.specs.declared.event.Event.TheVariants as event
 use Rattle.mta_session.specs.declared.phase.Phase.{Phase}
 use Rattle.mta_session.specs.declared.phase.Phase.TheVariants as phase
-use Rattle.mta_session.specs.Groups.{has_turned}
 use Rattle.mta_session.specs.Session.{new_initiator, new_responder}
-use Rattle.mta_session.specs.State.{State, is_initiator}
+use Rattle.mta_session.specs.State.{State}
 use Rattle.mta_session.specs.Follows.{counted}
 use Rattle.mta_session_laws.specs.Turning.{EventsGo, is_last_phase}
 use Rattle.mta_session_laws.specs.Whole.{AreCalls}
@@ -26,9 +26,10 @@ use Rattle.mta_runs.specs.Sessions.{SessionEvent, SessionList, Made, Put, Refuse
 use Rattle.mta_runs.specs.Sessions.{sending_events, receiving_events}
 use Rattle.mta_session_lists.specs.Calls.{Call, StepOn, turns_of, step_told, look_told, list_of, event_of, action_of}
 use Rattle.mta_session_lists.specs.Abandons.{with_abandons}
-use Rattle.mta_session_lists.specs.Laws.{IsPiece, OwnsPieces, ListsMayStop, IsOrdered, KeepsReceiving, KeepsSending}
-use Rattle.mta_session_lists.specs.Lists.{HasAt, step_for, step_by, Initiates, Responds, end_begun, completed, AreValues}
-use Rattle.mta_session_lists.specs.Lost.{Lost, lost_of, abort_of, tail_of, seen_of, IsLost, stopped}
+use Rattle.mta_session_lists.specs.Laws.{OwnsPieces, ListsMayStop}
+use Rattle.mta_session_lists.specs.Lists.{HasAt, step_for, step_by, Initiates, Responds, end_begun, completed}
+use Rattle.mta_session_lists.specs.Lists.{AreValues}
+use Rattle.mta_session_lists.specs.Lost.{Lost, lost_of, abort_of, tail_of, seen_of, IsLost}
 use Rattle.mta_session_lists.specs.Standing.{ComesTrue, AllComeTrue}
 use Rattle.mta_session_lists.proofs.Insertion as insertion
 use Rattle.mta_session_lists.proofs.Waiting.{Ready, ready_next, does_at}
@@ -96,7 +97,8 @@ module _ (spells : List ℕ → Bool) (history : List Seen) (lane at : ℕ) wher
       (come_receives half (from ≡ at + 1) (d.seen ≡ at + 1) lane a d.turn d.seen d.turn.event b c
       (list_of d.turn.action ds ++ tail)
       (record { is = run.1; waits = ready.waits; asked = asks; lane_is = keeps; at = stands }) put refl
-      (all.tells spells history d.turn.before.phase d.turn.event lane at from d.seen d.turn.before a refl asks ready.waits
+      (all.tells spells history d.turn.before.phase d.turn.event lane at from d.seen d.turn.before a refl asks
+      ready.waits
       keeps
       (λ i. next i (early_here d.turn.before.phase d.turn.before a c from i stands)) is.0)
       next
@@ -194,7 +196,8 @@ module _ (g : EventsGo) (spells : List ℕ → Bool) (history : List Seen) (lane
 -- ---- what is found
 
 module _ (spells : List ℕ → Bool) (history : List Seen) (lane : ℕ) (allow : LanesAllow spells history) (gen : ℕ) where
-  behind_then : (cs : List Call) (from : ℕ) (a : Action) (tail : List SessionEvent) → AllComeTrue spells history from a cs
+  behind_then : (cs : List Call) (from : ℕ) (a : Action) (tail : List SessionEvent)
+      → AllComeTrue spells history from a cs
       → Behind spells history lane allow gen (seen_of from cs) tail
       → Behind spells history lane allow gen from (list_of a cs ++ tail)
   behind_then [] from a tail is low = low
@@ -226,65 +229,67 @@ module _ (spells : List ℕ → Bool) (history : List Seen) (lane : ℕ) (allow 
   tail_behind from p (action.Finish z) y e is = abort_behind spells history lane allow gen from y.aborts
 
 module _ (spells : List ℕ → Bool) (history : List Seen) (lane : ℕ) (allow : LanesAllow spells history) (gen at : ℕ)
-    where
-  abbrev half_at : Halves
-  half_at = lane_in lane (take (at + 1) history)
+  where
+    abbrev half_at : Halves
+    half_at = lane_in lane (take (at + 1) history)
 
-  pub lost_finds : (cs : List Call) (a : Action) (t u : State) (b c : RecvEnd) (pieces : List (List ℕ)) (n from : ℕ)
-      (y : Lost) → Ready a t → Asked a t → (is_last_phase t.phase ≡ false → t.lane ≡ lane)
-      → (is_last_phase t.phase ≡ false → t.generation ≡ gen) → r.IsReceivingEnd b (recv.pending a) c
-      → RecvAt (from ≡ at + 1) (first half_at (from ≡ at + 1)) t.phase t a c
-      → (is_last_phase t.phase ≡ false
-      → FoundSo spells history lane allow gen from pieces n (list_of a cs ++ tail_of (action_of a cs) y))
-      → AllComeTrue spells history from a cs → AreCalls t (turns_of cs) u
-      → IsLost spells history (seen_of from cs) (action_of a cs) u y
-      → Behind spells history lane allow gen (seen_of from cs) (tail_of (action_of a cs) y)
-      → FindKeeps spells lane b pieces (list_of a cs ++ tail_of (action_of a cs) y)
-  lost_finds [] a t u b c pieces n from y k asked f d put here found is run lost low =
-      let last = subst (λ z. IsLost spells history from a z y) run lost in
-      tail_finds spells history lane allow gen half_at (from ≡ at + 1) a t y y.event b c pieces n from
-      (record { fits = last.fits; waits = k.waits; asked = asked; lane_is = f; put = put; at = here }) d last.answers
-      last.stands found
-  lost_finds (w ∷ ws) a t u b c pieces n from y k asked f d put here found is run lost low =
-      let tail : List SessionEvent = tail_of (action_of w.turn.action ws) y in
-      let ready : Ready a w.turn.before = subst (Ready a) (sym run.0) k in
-      let asks : Asked a w.turn.before = subst (Asked a) (sym run.0) asked in
-      let keeps : is_last_phase w.turn.before.phase ≡ false → w.turn.before.lane ≡ lane =
-      subst (λ z. is_last_phase z.phase ≡ false → z.lane ≡ lane) (sym run.0) f in
-      let gens : is_last_phase w.turn.before.phase ≡ false → w.turn.before.generation ≡ gen =
-      subst (λ z. is_last_phase z.phase ≡ false → z.generation ≡ gen) (sym run.0) d in
-      let stands : RecvAt (from ≡ at + 1) (first half_at (from ≡ at + 1)) w.turn.before.phase w.turn.before a c =
-      subst (λ z. RecvAt (from ≡ at + 1) (first half_at (from ≡ at + 1)) z.phase z a c) (sym run.0) here in
-      let so : is_last_phase w.turn.before.phase ≡ false → FoundSo spells history lane allow gen from pieces n
-      (event_of a w ++ (list_of w.turn.action ws ++ tail)) =
-      subst (λ z. is_last_phase w.turn.before.phase ≡ false → FoundSo spells history lane allow gen from pieces n z)
-      (append_assoc (event_of a w) (list_of w.turn.action ws) tail)
-      (subst (λ z. is_last_phase z.phase ≡ false
-      → FoundSo spells history lane allow gen from pieces n (list_of a (w ∷ ws) ++ tail)) (sym run.0) found) in
-      let next : is_early w.turn.before.phase ≡ true → from ≡ at + 1 → w.seen ≡ at + 1 =
-      λ i e. all.in_turn spells history w.turn.before.phase a w.turn.event from w.seen is.0 ready.waits i ∙ e in
-      subst (λ z. FindKeeps spells lane b pieces z)
-      (sym (append_assoc (event_of a w) (list_of w.turn.action ws) tail))
-      (come_finds spells history lane allow gen half_at (from ≡ at + 1) (w.seen ≡ at + 1) a w.turn w.seen from
-      w.turn.event b c pieces n (list_of w.turn.action ws ++ tail)
-      (record {
-        here = record { is = run.1; waits = ready.waits; asked = asks; lane_is = keeps; at = stands };
-        gen_is = gens;
-        put = put;
-        next = next;
-      }) refl
-      (all.tells spells history w.turn.before.phase w.turn.event lane at from w.seen w.turn.before a refl asks ready.waits
-      keeps (λ i. next i (early_here spells history lane at w.turn.before.phase w.turn.before a c from i stands)) is.0)
-      is.0 so
-      (λ e many m after left. lost_finds ws w.turn.action w.turn.after u e after.ended many m w.seen y
-      (ready_next w.turn run.1 ready.due)
-      (asked_next w.turn.action w.turn.before w.turn.event w.turn.after run.1.follows)
-      (all.lane_next (from ≡ at + 1) (first half_at (from ≡ at + 1)) c a lane w.turn run.1 stands keeps
-      (part w.turn.before.phase))
-      (gen_next (from ≡ at + 1) (first half_at (from ≡ at + 1)) c a gen w.turn run.1 stands gens
-      (part w.turn.before.phase))
-      after.run after.at left is.1 run.2 lost low)
-      (behind_then spells history lane allow gen ws w.seen w.turn.action tail is.1 low))
+    pub lost_finds : (cs : List Call) (a : Action) (t u : State) (b c : RecvEnd) (pieces : List (List ℕ)) (n from : ℕ)
+        (y : Lost) → Ready a t → Asked a t → (is_last_phase t.phase ≡ false → t.lane ≡ lane)
+        → (is_last_phase t.phase ≡ false → t.generation ≡ gen) → r.IsReceivingEnd b (recv.pending a) c
+        → RecvAt (from ≡ at + 1) (first half_at (from ≡ at + 1)) t.phase t a c
+        → (is_last_phase t.phase ≡ false
+        → FoundSo spells history lane allow gen from pieces n (list_of a cs ++ tail_of (action_of a cs) y))
+        → AllComeTrue spells history from a cs → AreCalls t (turns_of cs) u
+        → IsLost spells history (seen_of from cs) (action_of a cs) u y
+        → Behind spells history lane allow gen (seen_of from cs) (tail_of (action_of a cs) y)
+        → FindKeeps spells lane b pieces (list_of a cs ++ tail_of (action_of a cs) y)
+    lost_finds [] a t u b c pieces n from y k asked f d put here found is run lost low =
+        let last = subst (λ z. IsLost spells history from a z y) run lost in
+        tail_finds spells history lane allow gen half_at (from ≡ at + 1) a t y y.event b c pieces n from
+        (record { fits = last.fits; waits = k.waits; asked = asked; lane_is = f; put = put; at = here }) d last.answers
+        last.stands found
+    lost_finds (w ∷ ws) a t u b c pieces n from y k asked f d put here found is run lost low =
+        let tail : List SessionEvent = tail_of (action_of w.turn.action ws) y in
+        let ready : Ready a w.turn.before = subst (Ready a) (sym run.0) k in
+        let asks : Asked a w.turn.before = subst (Asked a) (sym run.0) asked in
+        let keeps : is_last_phase w.turn.before.phase ≡ false → w.turn.before.lane ≡ lane =
+        subst (λ z. is_last_phase z.phase ≡ false → z.lane ≡ lane) (sym run.0) f in
+        let gens : is_last_phase w.turn.before.phase ≡ false → w.turn.before.generation ≡ gen =
+        subst (λ z. is_last_phase z.phase ≡ false → z.generation ≡ gen) (sym run.0) d in
+        let stands : RecvAt (from ≡ at + 1) (first half_at (from ≡ at + 1)) w.turn.before.phase w.turn.before a c =
+        subst (λ z. RecvAt (from ≡ at + 1) (first half_at (from ≡ at + 1)) z.phase z a c) (sym run.0) here in
+        let so : is_last_phase w.turn.before.phase ≡ false → FoundSo spells history lane allow gen from pieces n
+        (event_of a w ++ (list_of w.turn.action ws ++ tail)) =
+        subst (λ z. is_last_phase w.turn.before.phase ≡ false → FoundSo spells history lane allow gen from pieces n z)
+        (append_assoc (event_of a w) (list_of w.turn.action ws) tail)
+        (subst (λ z. is_last_phase z.phase ≡ false
+        → FoundSo spells history lane allow gen from pieces n (list_of a (w ∷ ws) ++ tail)) (sym run.0) found) in
+        let next : is_early w.turn.before.phase ≡ true → from ≡ at + 1 → w.seen ≡ at + 1 =
+        λ i e. all.in_turn spells history w.turn.before.phase a w.turn.event from w.seen is.0 ready.waits i ∙ e in
+        subst (λ z. FindKeeps spells lane b pieces z)
+        (sym (append_assoc (event_of a w) (list_of w.turn.action ws) tail))
+        (come_finds spells history lane allow gen half_at (from ≡ at + 1) (w.seen ≡ at + 1) a w.turn w.seen from
+        w.turn.event b c pieces n (list_of w.turn.action ws ++ tail)
+        (record {
+          here = record { is = run.1; waits = ready.waits; asked = asks; lane_is = keeps; at = stands };
+          gen_is = gens;
+          put = put;
+          next = next;
+        }) refl
+        (all.tells spells history w.turn.before.phase w.turn.event lane at from w.seen w.turn.before a refl asks
+        ready.waits
+        keeps (λ i. next i (early_here spells history lane at w.turn.before.phase w.turn.before a c from i stands))
+        is.0)
+        is.0 so
+        (λ e many m after left. lost_finds ws w.turn.action w.turn.after u e after.ended many m w.seen y
+        (ready_next w.turn run.1 ready.due)
+        (asked_next w.turn.action w.turn.before w.turn.event w.turn.after run.1.follows)
+        (all.lane_next (from ≡ at + 1) (first half_at (from ≡ at + 1)) c a lane w.turn run.1 stands keeps
+        (part w.turn.before.phase))
+        (gen_next (from ≡ at + 1) (first half_at (from ≡ at + 1)) c a gen w.turn run.1 stands gens
+        (part w.turn.before.phase))
+        after.run after.at left is.1 run.2 lost low)
+        (behind_then spells history lane allow gen ws w.seen w.turn.action tail is.1 low))
 
 -- ---- all of it
 
@@ -357,7 +362,8 @@ good_at g spells history allow lane size window at values initiator a cs t u ste
     }
 
 -- the last action and the last length are those of the calls behind the first ones
-last_action : (before cs : List Call) (c : Call) (a : Action) → action_of a (before ++ c ∷ cs) ≡ action_of c.turn.action cs
+last_action : (before cs : List Call) (c : Call) (a : Action)
+    → action_of a (before ++ c ∷ cs) ≡ action_of c.turn.action cs
 last_action [] cs c a = refl
 last_action (d ∷ ds) cs c a = last_action ds cs c d.turn.action
 
@@ -369,7 +375,8 @@ pub lists_stop : EventsGo → ListsMayStop
 lists_stop g spells history one_ u calls lane size window l y allow (Initiates p units at cs is true_) values opens owns
     run lost =
     let begun = finding.planned_so spells history at allow p is opens in
-    good_at g spells history allow p.lane size window at values true action.Read cs (new_initiator p units) u (step_for p)
+    good_at g spells history allow p.lane size window at values true action.Read cs (new_initiator p units) u (step_for
+    p)
     (one (lane_in p.lane (take (at + 1) history)) size window false)
     (first (lane_in p.lane (take (at + 1) history)) (at + 1 ≡ at + 1)) y [] is begun.0 begun.1 owns
     (record { due = refl; waits = refl }) tt (λ n. refl) refl
@@ -383,7 +390,8 @@ lists_stop g spells history one_ u calls lane size window l y allow
     let begins = begins_done c.turn later.is (is_some (step_by c.turn.before.phase c.turn.event c.turn.after) z by) in
     let lane_ : ℕ = c.turn.after.lane in
     let l_ : Halves = lane_in lane_ (take (at + 1) history) in
-    let waits = received.responds spells history at allow c.turn.before.phase c.turn.before c.turn.event c.turn.after z by
+    let waits = received.responds spells history at allow c.turn.before.phase c.turn.before c.turn.event c.turn.after z
+    by
     is
     (λ i. (reached_without before action.Read (new_responder own units) c.turn.before start
     (received.run_front before cs c (new_responder own units) u run) i).1) in
@@ -398,7 +406,8 @@ lists_stop g spells history one_ u calls lane size window l y allow
     c.turn.action c.turn.after z by is later.is.fits values done) done in
     let begun = finding.responds_so spells history at allow c.turn.before.phase c.turn.before c.turn.event c.turn.action
     c.turn.after z by is later.is.fits done in
-    let acts : action_of action.Read (before ++ c ∷ cs) ≡ action_of c.turn.action cs = last_action before cs c action.Read
+    let acts : action_of action.Read (before ++ c ∷ cs) ≡ action_of c.turn.action cs = last_action before cs c
+    action.Read
     in
     let sees : seen_of (at + 1) (before ++ c ∷ cs) ≡ seen_of (at + 1) cs =
     last_seen before cs c (at + 1) ∙ ap (λ (n : ℕ). seen_of n cs) seen in

@@ -1,15 +1,9 @@
 -- The list of a session that ends because memory is wanted: what is said of the lists of calls, with what comes behind.
-use Rattle.std.proofs.Common.{◌≡◌, ◌⊎◌, inl, inr, ℕ, ◌+◌, ◌-◌, ◌<◌, ◌≤◌, if◌then◌else◌, Bool, true, false, Option, Some, None}
-use Rattle.std.proofs.Common.{List, [], ◌∷◌, ◌++◌, length, take, refl, sym, ap, subst, ◌∙◌, arith, append_assoc}
+use Rattle.std.proofs.Common.{◌≡◌, ℕ, ◌≤◌, Bool, true, false}
+use Rattle.std.proofs.Common.{List, [], ◌∷◌, ◌++◌, refl, sym, ap, subst, ◌∙◌, append_assoc}
 use Rattle.mta_units.specs.declared.unit.Unit.{Unit as AnyUnit}
 use Rattle.mta_units.specs.declared.unit.Unit.TheVariants as unit
-use Rattle.mta_ends.specs.Lanes.{Halves, Seen, LanesAllow, lane_in}
-use Rattle.mta_ends.specs.Receiving as r
-use Rattle.mta_ends.specs.Receiving.{RecvEnd, RecvEvent}
-use Rattle.mta_ends.specs.Sending as s
-use Rattle.mta_ends.specs.Sending.{SendEnd}
-use Rattle.mta_session.specs.declared.ask.Ask.{Ask}
-use Rattle.mta_session.specs.declared.ask.Reply.{Reply}
+use Rattle.mta_ends.specs.Lanes.{Seen}
 use Rattle.mta_session.specs.declared.event.Action.{Action}
 use Rattle.mta_session.specs.declared.event.Action.TheVariants as action
 use Rattle.mta_session.specs.declared.event.Event.{Event}
@@ -24,25 +18,25 @@ use Rattle.mta_session.specs.Groups.{has_turned}
 use Rattle.mta_session.specs.State.{State}
 use Rattle.mta_session.specs.Wanted.{Wanted, Aborts, Rejects, Ends, Puts, Asks, Reads, Goes_on, Excepts, Never}
 use Rattle.mta_session.specs.Follows.{Does, counted}
-use Rattle.mta_session_laws.specs.Runs.{Turn, IsTurn}
+use Rattle.mta_session_laws.specs.Runs.{IsTurn}
 use Rattle.mta_session_laws.specs.Turning.{called_for}
 use Rattle.mta_session_laws.specs.Whole.{AreCalls}
 use Rattle.mta_runs.specs.Sessions as x
 use Rattle.mta_runs.specs.Sessions.{SessionEvent, Got, Refused, Put, Made, Looked, KeepsTurn, TurnAllows, turn_after}
 use Rattle.mta_runs.specs.Sessions.{StepsStand, RefusesLast, EndsSo}
-use Rattle.mta_session_lists.specs.Calls.{Call, StepOn, turns_of, step_told, look_told, told_as, got_as, come_of, list_of}
+use Rattle.mta_session_lists.specs.Calls.{Call, turns_of, step_told, look_told, got_as, come_of, list_of}
 use Rattle.mta_session_lists.specs.Calls.{event_of, action_of}
 use Rattle.mta_session_lists.specs.Laws.{Rises}
-use Rattle.mta_session_lists.specs.Lost.{Lost, lost_of, abort_of, tail_of, seen_of, IsLost}
-use Rattle.mta_session_lists.specs.Standing.{StandsAs, ComesTrue, AllComeTrue}
+use Rattle.mta_session_lists.specs.Lost.{Lost, lost_of, abort_of, tail_of, seen_of}
+use Rattle.mta_session_lists.specs.Standing.{ComesTrue, AllComeTrue}
 use Rattle.mta_session_lists.proofs.Found.{never}
 use Rattle.mta_session_lists.proofs.Waiting.{goes_with, Ready, ready_next, reading_going}
 use Rattle.mta_session_lists.proofs.Standing.{come_rises, told_rises, come_stands, told_stands}
 use Rattle.mta_session_lists.proofs.Refusing.{over_says, last_turn, told_refuses, unit_does}
 use Rattle.mta_session_lists.proofs.Turns.{Holds, Closes, abort_allowed}
 use Rattle.mta_session_lists.proofs.TurnsUnits.{refused_allowed}
-use Rattle.mta_session_lists.proofs.TurnsReplies.{PutAllowed, turned, Done}
-use Rattle.mta_session_lists.proofs.TurnsCalls.{Here, come_turns, told_turns}
+use Rattle.mta_session_lists.proofs.TurnsReplies.{PutAllowed, turned}
+use Rattle.mta_session_lists.proofs.TurnsCalls.{come_turns, told_turns}
 
 -- ---- positions
 

@@ -28,11 +28,9 @@ use Rattle.mta_session.specs.declared.phase.Phase.{Phase}
 use Rattle.mta_session.specs.declared.phase.Phase.TheVariants as phase
 use Rattle.mta_session.specs.Sending.{step_of}
 use Rattle.mta_session.specs.State.{State}
-use Rattle.mta_session.specs.Wanted.{Aborts, ask_of, on_step, on_state, is_given_up, is_cut, wanted_of_reply}
-use Rattle.mta_session.specs.Follows.{Does}
+use Rattle.mta_session.specs.Wanted.{ask_of, on_step, on_state, is_given_up, is_cut, wanted_of_reply}
 use Rattle.mta_session.specs.Fits.{Fits, FitsAt, RepliesTo, AnswersAt, SendFitsAt}
-use Rattle.mta_session_laws.specs.Runs.{Turn, IsTurn}
-use Rattle.mta_session_laws.specs.Turning.{listed, MayFollow, EventsGo, told_by, made_by, is_open, is_last_phase}
+use Rattle.mta_session_laws.specs.Turning.{listed, MayFollow, told_by, made_by, is_open, is_last_phase}
 use Rattle.mta_session_laws.proofs.Turning.{given_up, kept_live, sending_live}
 use Rattle.mta_session_laws.proofs.Whole.{is_ended}
 use Rattle.mta_runs.specs.Sessions as x
@@ -42,19 +40,18 @@ use Rattle.mta_session_lists.specs.Calls.{StepOn, on, step_told, look_told, told
 use Rattle.mta_session_lists.specs.Sent.{without_other}
 use Rattle.mta_session_lists.specs.Standing.{Stands, Looks, StandsAs}
 use Rattle.mta_session_lists.proofs.Found.{never, both}
-use Rattle.mta_session_lists.proofs.Waiting.{goes_with, ask_answers, does_at}
+use Rattle.mta_session_lists.proofs.Waiting.{goes_with, ask_answers}
 use Rattle.mta_session_lists.proofs.ReceivingEnds.{is_opening}
 use Rattle.mta_session_lists.proofs.SendingGoes.{Allowed}
 use Rattle.mta_session_lists.proofs.SendingLeft.{LastAsk, Leaves, OpenSend, StateSend, none_heard}
 use Rattle.mta_session_lists.proofs.SendingOpen.{asks_own, reply_leaves, step_leaves, given_calm}
-use Rattle.mta_session_lists.proofs.SendingPhases.{SendAt, AfterSend, SendWaits, if_waits, waits_after}
+use Rattle.mta_session_lists.proofs.SendingPhases.{SendAt, SendWaits, if_waits}
 use Rattle.mta_session_lists.proofs.SendingPhases.{asks_state}
 use Rattle.mta_session_lists.proofs.SendingOpening.{SendTells, is_soon, opening_wants}
-use Rattle.mta_session_lists.proofs.SendingEnds.{end_after}
 use Rattle.mta_session_lists.proofs.SendingLooks.{SendKeeps, With, silent_keeps, look_keeps, NotYet}
 use Rattle.mta_session_lists.proofs.SendingLooks.{not_yet_seen, not_yet_given, not_yet_started, not_yet_own, own_seen}
 use Rattle.mta_session_lists.proofs.SendingLooks.{own_keeps, denied_keeps, sent_keeps, start_keeps, idle_none}
-use Rattle.mta_session_lists.proofs.SendingCalls.{told_after, left_calm}
+use Rattle.mta_session_lists.proofs.SendingCalls.{left_calm}
 use Rattle.mta_session_lists.proofs.SendingTold.{Told, other_quiet, close_quiet, asks_else, else_quiet}
 use Rattle.mta_session_lists.proofs.SendingTold.{StepReply, makes, refuses, step_reply}
 

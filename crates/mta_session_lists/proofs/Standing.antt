@@ -39,7 +39,8 @@ module _ (spells : List ℕ → Bool) (history : List Seen) (lane : ℕ) where
   abbrev From : (seen : ℕ) → List SessionEvent → Type 0
   From seen rest = (low : ℕ) → low ≤ seen → Rises lane low rest
 
-  pub told_rises : (low from seen : ℕ) (a : Ask) (y : Reply) (o : Option StepOn) (look : Look) (rest : List SessionEvent)
+  pub told_rises : (low from seen : ℕ) (a : Ask) (y : Reply) (o : Option StepOn) (look : Look) (rest : List
+      SessionEvent)
       → low ≤ from → StandsAs spells history from seen a y o → From seen rest
       → Rises lane low (told_as seen o look ∷ rest)
   told_rises low from seen a y (Some step) look rest le is more =

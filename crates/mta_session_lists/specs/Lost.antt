@@ -1,5 +1,5 @@
--- A session that ends because a call of `step` wants memory. It is as it was before that call, and what came of its last
--- action stands in its list all the same.
+-- A session that ends because a call of `step` wants memory. It is as it was before that call, and what came of its
+-- last action stands in its list all the same.
 use Rattle.std.specs.Prelude.{◌≡◌, ℕ, Bool, true, false, List, [], ◌∷◌, ◌++◌}
 use Rattle.mta_units.specs.declared.unit.Unit.TheVariants as unit
 use Rattle.mta_ends.specs.Lanes.{Seen}
