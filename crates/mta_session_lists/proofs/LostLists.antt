@@ -159,12 +159,13 @@ holds_abort (phase.AsksComplete j n) t v i k = abort_allowed t.ours t.please v 0
 holds_abort (phase.AsksDrop j found) t v i k = abort_allowed t.ours t.please v 0 k
 holds_abort p t v i k = absurd k
 
-abort_turns : (v : x.Turn) (b : Bool) → TurnAllows v (Put (unit.Abort 0)) → KeepsTurn v (abort_of b)
-abort_turns v true k = (k, tt)
+abort_turns : (v : x.Turn) (b : Bool) → (b ≡ true → TurnAllows v (Put (unit.Abort 0))) → KeepsTurn v (abort_of b)
+abort_turns v true k = (k refl, tt)
 abort_turns v false k = tt
 
 tail_turns : (a : Action) (y : Lost) (e : Event) (v : x.Turn) → PutAllowed a v
-    → TurnAllows (turned a v) (Put (unit.Abort 0)) → KeepsTurn v (lost_of a y.seen e ++ abort_of y.aborts)
+    → (y.aborts ≡ true → TurnAllows (turned a v) (Put (unit.Abort 0)))
+    → KeepsTurn v (lost_of a y.seen e ++ abort_of y.aborts)
 tail_turns (action.Put u) y e v allowed k = (allowed, abort_turns (turned (action.Put u) v) y.aborts k)
 tail_turns action.Read y (event.Unit u) v allowed k = (refused_allowed v u, abort_turns v y.aborts k)
 tail_turns action.Read y event.Go v allowed k = abort_turns v y.aborts k
@@ -180,11 +181,11 @@ tail_turns (action.Ask q) y (event.Unit u) v allowed k = abort_turns v y.aborts 
 tail_turns (action.Finish z) y e v allowed k = abort_turns v y.aborts k
 
 pub lost_turns : (cs : List Call) (a : Action) (t u : State) (v : x.Turn) (y : Lost) → Ready a t → PutAllowed a v
-    → Holds t.phase t (turned a v) → AreCalls t (turns_of cs) u → has_turned u.phase ≡ false
+    → Holds t.phase t (turned a v) → AreCalls t (turns_of cs) u → (y.aborts ≡ true → has_turned u.phase ≡ false)
     → KeepsTurn v (list_of a cs ++ tail_of (action_of a cs) y)
 lost_turns [] a t u v y k p h run i =
     tail_turns a y y.event v p
-    (holds_abort t.phase t (turned a v) (subst (λ z. has_turned z.phase ≡ false) run i) h)
+    (λ w. holds_abort t.phase t (turned a v) (subst (λ z. has_turned z.phase ≡ false) run (i w)) h)
 lost_turns (c ∷ cs) a t u v y k p h run i =
     let tail : List SessionEvent = tail_of (action_of c.turn.action cs) y in
     let here : Ready a c.turn.before = subst (Ready a) (sym run.0) k in
@@ -214,38 +215,72 @@ last_turned (c ∷ cs) t u y q run =
     let last = last_turn y c.turn here run.1 in
     over_turned cs c.turn.after u last.0 last.2 run.2
 
-got_refuses : (w : Wanted) (u : AnyUnit) (t : State) (a : Action) (new v : State) (cs : List Call)
-    (rest : List SessionEvent) → Does t w a new → AreCalls new (turns_of cs) v → has_turned v.phase ≡ false
-    → RefusesLast rest → RefusesLast (got_as w u ∷ rest)
-got_refuses (Aborts reason) u t a new v cs rest d run i k =
-    absurd (never (sym i ∙ last_turned cs new v (end.Aborted reason) (ap {A = State} (λ z. z.phase) d.1) run))
-got_refuses (Rejects reason) u t a new v cs rest d run i k = k
-got_refuses (Ends e) u t a new v cs rest d run i k = k
-got_refuses (Puts x f) u t a new v cs rest d run i k = k
-got_refuses (Asks q f) u t a new v cs rest d run i k = k
-got_refuses (Reads f) u t a new v cs rest d run i k = k
-got_refuses (Goes_on f) u t a new v cs rest d run i k = k
-got_refuses (Excepts f y) u t a new v cs rest d run i k = k
-got_refuses Never u t a new v cs rest d run i k = k
+-- an end that has turned puts no Abort
+none_aborts : (b : Bool) (u : State) → (b ≡ true → has_turned u.phase ≡ false) → has_turned u.phase ≡ true → b ≡ false
+none_aborts true u i k = absurd (never (sym (i refl) ∙ k))
+none_aborts false u i k = refl
 
-come_refuses : (a : Action) (c : Call) (e : Event) (cs : List Call) (v : State) (rest : List SessionEvent)
+over_tail : (cs : List Call) (t u : State) (e : SessionEnd) (a : Action) (y : Lost) → a ≡ action.Finish e
+    → t.phase ≡ phase.Ended e → AreCalls t (turns_of cs) u → (y.aborts ≡ true → has_turned u.phase ≡ false)
+    → list_of a cs ++ tail_of (action_of a cs) y ≡ []
+over_tail [] t u e a y f q run i =
+    ap {A = Action} (λ b. tail_of b y) f ∙ ap abort_of (none_aborts y.aborts u i (over_turned [] t u e q run))
+over_tail (c ∷ cs) t u e a y f q run i =
+    let here : c.turn.before.phase ≡ phase.Ended e = ap {A = State} (λ z. z.phase) run.0 ∙ q in
+    let says = over_says e c.turn here run.1 in
+    let ended : c.turn.after.phase ≡ phase.Ended e = ap {A = State} (λ z. z.phase) says.1 ∙ here in
+    let rest = over_tail cs c.turn.after u e c.turn.action y says.0 ended run.2 i in
+    ap {A = Action} (λ b. (event_of b c ++ list_of c.turn.action cs) ++ tail_of (action_of c.turn.action cs) y) f ∙ rest
+
+last_ends : (cs : List Call) (t u : State) (e : SessionEnd) (reason : ℕ) (y : Lost) → t.phase ≡ phase.PutsLast e
+    → AreCalls t (turns_of cs) u → (y.aborts ≡ true → has_turned u.phase ≡ false)
+    → EndsSo (list_of (action.Put (unit.Abort reason)) cs ++ tail_of (action_of (action.Put (unit.Abort reason)) cs) y)
+last_ends [] t u e reason y q run i =
+    subst (λ b. EndsSo (Put (unit.Abort reason) ∷ abort_of b))
+    (sym (none_aborts y.aborts u i (last_turned [] t u e q run))) tt
+last_ends (c ∷ cs) t u e reason y q run i =
+    let here : c.turn.before.phase ≡ phase.PutsLast e = ap {A = State} (λ z. z.phase) run.0 ∙ q in
+    let last = last_turn e c.turn here run.1 in
+    let rest = over_tail cs c.turn.after u last.0 c.turn.action y last.1 last.2 run.2 i in
+    subst (λ z. EndsSo (Put (unit.Abort reason) ∷ z)) (sym rest) tt
+
+abbrev Behind_calls : Action → List Call → Lost → List SessionEvent
+Behind_calls a cs y = list_of a cs ++ tail_of (action_of a cs) y
+
+got_refuses : (w : Wanted) (u : AnyUnit) (t : State) (a : Action) (new v : State) (cs : List Call) (y : Lost)
+    → Does t w a new → AreCalls new (turns_of cs) v → (y.aborts ≡ true → has_turned v.phase ≡ false)
+    → RefusesLast (Behind_calls a cs y) → RefusesLast (got_as w u ∷ Behind_calls a cs y)
+got_refuses (Aborts reason) u t a new v cs y d run i k =
+    subst (λ b. EndsSo (Behind_calls b cs y)) (sym d.0)
+    (last_ends cs new v (end.Aborted reason) reason y (ap {A = State} (λ z. z.phase) d.1) run i)
+got_refuses (Rejects reason) u t a new v cs y d run i k = k
+got_refuses (Ends e) u t a new v cs y d run i k = k
+got_refuses (Puts x f) u t a new v cs y d run i k = k
+got_refuses (Asks q f) u t a new v cs y d run i k = k
+got_refuses (Reads f) u t a new v cs y d run i k = k
+got_refuses (Goes_on f) u t a new v cs y d run i k = k
+got_refuses (Excepts f z) u t a new v cs y d run i k = k
+got_refuses Never u t a new v cs y d run i k = k
+
+come_refuses : (a : Action) (c : Call) (e : Event) (cs : List Call) (v : State) (y : Lost)
     → c.turn.event ≡ e → IsTurn c.turn → goes_with a c.turn.before.phase ≡ true → AreCalls c.turn.after (turns_of cs) v
-    → has_turned v.phase ≡ false → RefusesLast rest → RefusesLast (come_of a c.turn c.seen e ++ rest)
-come_refuses (action.Put u) c e cs v rest q is r run i k = k
-come_refuses action.Read c (event.Unit u) cs v rest q is r run i k =
+    → (y.aborts ≡ true → has_turned v.phase ≡ false) → RefusesLast (Behind_calls c.turn.action cs y)
+    → RefusesLast (come_of a c.turn c.seen e ++ Behind_calls c.turn.action cs y)
+come_refuses (action.Put u) c e cs v y q is r run i k = k
+come_refuses action.Read c (event.Unit u) cs v y q is r run i k =
     got_refuses (called_for c.turn.before.phase c.turn.before u) u (counted c.turn.before (event.Unit u)) c.turn.action
-    c.turn.after v cs rest (unit_does c.turn u is q (reading_going c.turn.before.phase r)) run i k
-come_refuses action.Read c event.Go cs v rest q is r run i k = k
-come_refuses action.Read c event.BadUnit cs v rest q is r run i k = k
-come_refuses action.Read c (event.Reply y) cs v rest q is r run i k = k
-come_refuses action.Read c event.Over cs v rest q is r run i k = k
-come_refuses (action.Ask a) c (event.Reply y) cs v rest q is r run i k =
-    told_refuses c.seen (step_told a y) (look_told a y) rest k
-come_refuses (action.Ask a) c event.Go cs v rest q is r run i k = k
-come_refuses (action.Ask a) c (event.Unit u) cs v rest q is r run i k = k
-come_refuses (action.Ask a) c event.BadUnit cs v rest q is r run i k = k
-come_refuses (action.Ask a) c event.Over cs v rest q is r run i k = k
-come_refuses (action.Finish y) c e cs v rest q is r run i k = k
+    c.turn.after v cs y (unit_does c.turn u is q (reading_going c.turn.before.phase r)) run i k
+come_refuses action.Read c event.Go cs v y q is r run i k = k
+come_refuses action.Read c event.BadUnit cs v y q is r run i k = k
+come_refuses action.Read c (event.Reply z) cs v y q is r run i k = k
+come_refuses action.Read c event.Over cs v y q is r run i k = k
+come_refuses (action.Ask a) c (event.Reply z) cs v y q is r run i k =
+    told_refuses c.seen (step_told a z) (look_told a z) (Behind_calls c.turn.action cs y) k
+come_refuses (action.Ask a) c event.Go cs v y q is r run i k = k
+come_refuses (action.Ask a) c (event.Unit u) cs v y q is r run i k = k
+come_refuses (action.Ask a) c event.BadUnit cs v y q is r run i k = k
+come_refuses (action.Ask a) c event.Over cs v y q is r run i k = k
+come_refuses (action.Finish z) c e cs v y q is r run i k = k
 
 abort_refuses : (b : Bool) → RefusesLast (abort_of b)
 abort_refuses true = tt
@@ -271,12 +306,12 @@ tail_refuses (action.Ask q) y (event.Unit u) = abort_refuses y.aborts
 tail_refuses (action.Finish z) y e = abort_refuses y.aborts
 
 pub lost_refuses : (cs : List Call) (a : Action) (t u : State) (y : Lost) → Ready a t → AreCalls t (turns_of cs) u
-    → has_turned u.phase ≡ false → RefusesLast (list_of a cs ++ tail_of (action_of a cs) y)
+    → (y.aborts ≡ true → has_turned u.phase ≡ false) → RefusesLast (list_of a cs ++ tail_of (action_of a cs) y)
 lost_refuses [] a t u y k run i = tail_refuses a y y.event
 lost_refuses (c ∷ cs) a t u y k run i =
     let tail : List SessionEvent = tail_of (action_of c.turn.action cs) y in
     let here : Ready a c.turn.before = subst (Ready a) (sym run.0) k in
     let next = ready_next c.turn run.1 here.due in
     subst (λ z. RefusesLast z) (sym (append_assoc (event_of a c) (list_of c.turn.action cs) tail))
-    (come_refuses a c c.turn.event cs u (list_of c.turn.action cs ++ tail) refl run.1 here.waits run.2 i
+    (come_refuses a c c.turn.event cs u y refl run.1 here.waits run.2 i
     (lost_refuses cs c.turn.action c.turn.after u y next run.2 i))

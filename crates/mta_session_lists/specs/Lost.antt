@@ -40,13 +40,14 @@ abbrev pub seen_of : (from : ℕ) → List Call → ℕ
 seen_of from [] = from
 seen_of from (c ∷ cs) = seen_of c.seen cs
 
--- The event answers the last action, what it tells is so in the history, and the session has not turned to its end.
+-- The event answers the last action, what it tells is so in the history, and an Abort is put only where the session has
+-- not turned to its end.
 pub record IsLost (spells : List ℕ → Bool) (history : List Seen) (from : ℕ) (a : Action) (u : State) (x : Lost)
     : Type 0 where
   pub fits : Fits u
   pub answers : Answers u x.event
   pub stands : ComesTrue spells history from x.seen u.phase a x.event
-  pub going : has_turned u.phase ≡ false
+  pub going : x.aborts ≡ true → has_turned u.phase ≡ false
 
 -- the list of these calls, with what such an end adds
 abbrev pub stopped : List Call → SessionList → Lost → SessionList
