@@ -106,6 +106,8 @@ module _ (lane : ℕ) where
   listener_heard : (t : State) (y : AnyUnit) → is_abort y ≡ false → sending_event lane (got_as (as_listener t y) y) ≡ []
   listener_heard t unit.Give i = nothing_heard (as_listener t unit.Give) unit.Give refl
   listener_heard t unit.Close i = nothing_heard (as_listener t unit.Close) unit.Close refl
+  listener_heard t (unit.Please priority) i =
+      nothing_heard (as_listener t (unit.Please priority)) (unit.Please priority) refl
   listener_heard t (unit.Start k) i = nothing_heard (as_listener t (unit.Start k)) (unit.Start k) refl
   listener_heard t (unit.Piece k) i = nothing_heard (as_listener t (unit.Piece k)) (unit.Piece k) refl
   listener_heard t (unit.Sync k) i = nothing_heard (as_listener t (unit.Sync k)) (unit.Sync k) refl
