@@ -3,11 +3,12 @@ use Rattle.std.proofs.Common.{◌≡◌, ℕ, ◌==◌, ◌-◌, ◌&&◌, ◌||
 use Rattle.std.proofs.Common.{rules, subst, List}
 use Rattle.std.specs.Str.{bytes_eq}
 use Rattle.mta_units.specs.declared.unit.Unit.{Unit as AnyUnit}
+use Rattle.mta_units.specs.declared.unit.Unit.TheVariants as unit
 use Rattle.mta_ends.specs.Sending.{SendEnd}
 use Rattle.mta_ends.specs.Receiving.{RecvEnd}
 use Rattle.mta_session.specs.State.{State}
 use Rattle.mta_session.specs.Sending.{heard}
-use Rattle.mta_session.specs.Wanted.{Wanted, Aborts, on_values, on_accept, on_reject, is_refused_value}
+use Rattle.mta_session.specs.Wanted.{Wanted, Aborts, Goes_on, on_values, on_accept, on_reject, is_refused_value}
 use Rattle.mta_session.specs.Wanted.{is_same_reference, as_holder, as_listener, takes, goes_on_if, makes_or, on_abort}
 use Rattle.mta_session.specs.Wanted.{on_answer_by, on_close_ack, wanted_of_unit, wanted_of_go, wanted_of_over}
 use Rattle.mta_session.specs.Wanted.{wanted_of_reply}
@@ -61,6 +62,7 @@ module _ (xs : List (List ℕ)) where
   holder_knows h t x = search (rules, makes_knows h t)
 
   listener_knows : TakenKeeps → (t : State) (x : AnyUnit) → KnowsAs (known t xs) (as_listener t x)
+  listener_knows h t (unit.Please priority) = if_knows (known t xs) t.twa (Goes_on t) (Aborts 4) refl tt
   listener_knows h t x = search (rules, taken_knows t)
 
   reject_knows : (plan : InitiatorPlan) (t : State) (reason : ℕ) → KnowsAs (known t xs) (on_reject plan t reason)
