@@ -50,7 +50,7 @@ begins_goes (phase.AsksNewLane again) t (event.Reply (reply.LaneOpen (Ok lane)))
 begins_goes phase.AsksBind t (event.Reply (reply.Bind (Ok generation))) new i = (refl, refl)
 begins_goes p t e new i = elim i [ ]
 
-begins_done : (t : Turn) → IsTurn t → IsSome (step_by t.before.phase t.event t.after)
+pub begins_done : (t : Turn) → IsTurn t → IsSome (step_by t.before.phase t.event t.after)
     → Done t.action t.after x.Before_accept
 begins_done t is i =
     let goes = begins_goes t.before.phase t.before t.event t.after i in

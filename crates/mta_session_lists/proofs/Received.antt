@@ -98,7 +98,7 @@ is_receiving (reply.Complete y) = true
 is_receiving (reply.DropActivity y) = true
 is_receiving y = false
 
-abbrev QuietStep : Option StepOn → Type 0
+abbrev pub QuietStep : Option StepOn → Type 0
 QuietStep None = Unit {0}
 QuietStep (Some z) = receiving_step_of z.step ≡ []
 
@@ -124,7 +124,7 @@ look_none a (reply.Complete y) i = absurd (never (sym i))
 look_none a (reply.DropActivity y) i = absurd (never (sym i))
 look_none a y i = finds_none a
 
-quiet_step : (a : Ask) (y : Reply) → is_receiving y ≡ false → QuietStep (step_told a y)
+pub quiet_step : (a : Ask) (y : Reply) → is_receiving y ≡ false → QuietStep (step_told a y)
 quiet_step (ask.LaneOpen role.Initiator peer reference twa c w) (reply.LaneOpen (Ok lane)) i = refl
 quiet_step (ask.LaneOpen role.Responder peer reference twa c w) (reply.LaneOpen (Ok lane)) i = refl
 quiet_step (ask.LaneAgree lane g c w) (reply.LaneAgree (Ok z)) i = refl

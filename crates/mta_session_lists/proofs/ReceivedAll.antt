@@ -55,7 +55,7 @@ early_asks (phase.AsksReceiving s) q from seen w i k = k
 early_asks p q from seen w i k = absurd (never i)
 
 module _ (spells : List ℕ → Bool) (history : List Seen) where
-  in_turn : (p : Phase) (a : Action) (e : Event) (from seen : ℕ) → ComesTrue spells history from seen p a e
+  pub in_turn : (p : Phase) (a : Action) (e : Event) (from seen : ℕ) → ComesTrue spells history from seen p a e
       → goes_with a p ≡ true → is_early p ≡ true → seen ≡ from
   in_turn p (action.Ask q) (event.Reply y) from seen c w i = early_asks p q from seen w i c.0
   in_turn p (action.Ask q) event.Go from seen c w i = c
@@ -93,7 +93,7 @@ module _ (spells : List ℕ → Bool) (history : List Seen) where
   tells_by lane at from seen s z t action.Read p k w f g c = absurd (never w)
   tells_by lane at from seen s z t (action.Finish y) p k w f g c = absurd (never w)
 
-  tells : (p : Phase) (e : Event) (lane at from seen : ℕ) (t : State) (a : Action) → t.phase ≡ p → Asked a t
+  pub tells : (p : Phase) (e : Event) (lane at from seen : ℕ) (t : State) (a : Action) → t.phase ≡ p → Asked a t
       → goes_with a p ≡ true → (is_last_phase p ≡ false → t.lane ≡ lane) → (is_early p ≡ true → seen ≡ at + 1)
       → ComesTrue spells history from seen p a e → Tells (Half lane at) p e
   tells (phase.AsksReceiving s) (event.Reply (reply.Receiving (Some z))) lane at from seen t a q k w f g c =
@@ -102,7 +102,7 @@ module _ (spells : List ℕ → Bool) (history : List Seen) where
 
 -- ---- the lane
 
-opening_not_last : (p : Phase) → is_opening p ≡ true → is_last_phase p ≡ false
+pub opening_not_last : (p : Phase) → is_opening p ≡ true → is_last_phase p ≡ false
 opening_not_last phase.AsksDenied i = absurd (never i)
 opening_not_last phase.AsksClose i = absurd (never i)
 opening_not_last (phase.AsksLast y) i = absurd (never i)
@@ -110,7 +110,7 @@ opening_not_last (phase.PutsLast y) i = absurd (never i)
 opening_not_last (phase.Ended y) i = absurd (never i)
 opening_not_last p i = refl
 
-open_has : (p : Phase) → is_open p ≡ true → has_lane p ≡ true
+pub open_has : (p : Phase) → is_open p ≡ true → has_lane p ≡ true
 open_has phase.Puts i = refl
 open_has phase.Reads i = refl
 open_has phase.AsksDue i = refl
@@ -126,7 +126,7 @@ open_has phase.PutsClose i = refl
 open_has phase.ReadsCloseAck i = refl
 open_has p i = absurd (never i)
 
-opening_has : (p : Phase) → is_opening p ≡ true → (p ≡ phase.Begin) ⊎ (has_lane p ≡ true)
+pub opening_has : (p : Phase) → is_opening p ≡ true → (p ≡ phase.Begin) ⊎ (has_lane p ≡ true)
 opening_has phase.Begin i = inl refl
 opening_has phase.AsksValues i = inr refl
 opening_has phase.AsksRecovery i = inr refl
@@ -157,14 +157,15 @@ begins_kept : (t : State) (s : Side) → LaneKept t (begins s t)
 begins_kept t (side.Initiator p) = if_kept t p.recovering _ _ refl refl
 begins_kept t (side.Responder own) = refl
 
-first_kept : (t : State) (e : Event) → AnswersAt phase.Begin t e → LaneKept t (wanted_in phase.Begin (counted t e) e)
+pub first_kept : (t : State) (e : Event) → AnswersAt phase.Begin t e
+    → LaneKept t (wanted_in phase.Begin (counted t e) e)
 first_kept t event.Go n = begins_kept t t.side
 first_kept t event.Over n = tt
 first_kept t (event.Unit u) n = absurd (never n)
 first_kept t event.BadUnit n = absurd (never n)
 first_kept t (event.Reply y) n = absurd (never n)
 
-does_kept : (t c : State) (w : Wanted) (a : Action) (new : State) → c.lane ≡ t.lane → LaneKept t w → Does c w a new
+pub does_kept : (t c : State) (w : Wanted) (a : Action) (new : State) → c.lane ≡ t.lane → LaneKept t w → Does c w a new
     → new.lane ≡ t.lane
 does_kept t c (Aborts reason) a new e k d = ap {A = State} (λ z. z.lane) d.1 ∙ e
 does_kept t c (Rejects reason) a new e k d = ap {A = State} (λ z. z.lane) d.1 ∙ e
@@ -193,13 +194,13 @@ first_lane t is q =
     (subst (λ p. Does (counted t.before t.event) (wanted_in p (counted t.before t.event) t.event) t.action t.after) q
     does)
 
-opening_lane : (t : Turn) → IsTurn t → (t.before.phase ≡ phase.Begin) ⊎ (has_lane t.before.phase ≡ true)
+pub opening_lane : (t : Turn) → IsTurn t → (t.before.phase ≡ phase.Begin) ⊎ (has_lane t.before.phase ≡ true)
     → t.after.lane ≡ t.before.lane
 opening_lane t is (inl q) = first_lane t is q
 opening_lane t is (inr i) = (lanes_stay t.before t.event t.action t.after i is.follows).0
 
 -- a session that goes on keeps its lane
-lane_next : (early : Type 0) (one b : RecvEnd) (a : Action) (lane : ℕ) (t : Turn) → IsTurn t
+pub lane_next : (early : Type 0) (one b : RecvEnd) (a : Action) (lane : ℕ) (t : Turn) → IsTurn t
     → RecvAt early one t.before.phase t.before a b → (is_last_phase t.before.phase ≡ false → t.before.lane ≡ lane)
     → Part t.before.phase → is_last_phase t.after.phase ≡ false → t.after.lane ≡ lane
 lane_next early one b a lane t is k f (in_open i) n =

@@ -54,7 +54,7 @@ any_silent t is i true e =
 -- ---- one call
 
 module _ (l : Halves) (early later : Type 0) (lane : ℕ) where
-  abbrev Goes : (b : RecvEnd) (events : List RecvEvent) → Turn → Type 0
+  abbrev pub Goes : (b : RecvEnd) (events : List RecvEvent) → Turn → Type 0
   Goes b events t = Allowed b events × After later (first l later) (recv_all b events) t.action t.after
 
   in_part : (a : Action) (t : Turn) (seen : ℕ) (e : Event) (b : RecvEnd) → RecvHere l early lane a t b → t.event ≡ e
@@ -80,7 +80,8 @@ module _ (l : Halves) (early later : Type 0) (lane : ℕ) where
   in_part a t seen e b k q tells next n (at_none i) =
       absurd (none_here early (first l early) t.before.phase t.before a b i k.at)
 
-  event_goes : (a : Action) (t : Turn) (seen : ℕ) (e : Event) (b : RecvEnd) → RecvHere l early lane a t b → t.event ≡ e
+  pub event_goes : (a : Action) (t : Turn) (seen : ℕ) (e : Event) (b : RecvEnd) → RecvHere l early lane a t b
+      → t.event ≡ e
       → Tells l t.before.phase e → (is_early t.before.phase ≡ true → early → later) → Goes b (heard lane a t seen e) t
   event_goes a t seen e b k q tells next =
       in_part a t seen e b k q tells next (subst (λ z. AnswersAt t.before.phase t.before z) q k.is.answers)

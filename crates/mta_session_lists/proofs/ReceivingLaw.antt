@@ -188,17 +188,18 @@ some_is : (y z : StepOn) → Some y ≡ Some z → y ≡ z
 some_is y z e = cc
 
 module _ (spells : List ℕ → Bool) (history : List Seen) (at : ℕ) (allow : LanesAllow spells history) where
-  abbrev now : Type 0
+  abbrev pub now : Type 0
   now = at + 1 ≡ at + 1
 
-  abbrev half : (lane : ℕ) → Halves
+  abbrev pub half : (lane : ℕ) → Halves
   half lane = lane_in lane (take (at + 1) history)
 
   opened_first : (lane : ℕ) (a : Bool) (s w : ℕ) → HasAt history at (record { lane = lane; step = h.LaneOpen a s w })
       → fresh ≡ first (half lane) now
   opened_first lane a s w is = sym (ap end_on_link (opened_half spells history lane allow at a s w is))
 
-  planned : (p : InitiatorPlan) → HasAt history at (step_for p) → p.recovering ≡ false → fresh ≡ first (half p.lane) now
+  pub planned : (p : InitiatorPlan) → HasAt history at (step_for p) → p.recovering ≡ false
+      → fresh ≡ first (half p.lane) now
   planned p is e =
       opened_first p.lane false (1024 * p.checkpoint) p.window
       (subst (λ b. HasAt history at (record {
@@ -206,7 +207,8 @@ module _ (spells : List ℕ → Bool) (history : List Seen) (at : ℕ) (allow : 
         step = if b then h.Bind p.generation else h.LaneOpen false (1024 * p.checkpoint) p.window;
       })) e is)
 
-  responds : (p : Phase) (t : State) (e : Event) (new : State) (y : StepOn) → step_by p e new ≡ Some y → HasAt history
+  pub responds : (p : Phase) (t : State) (e : Event) (new : State) (y : StepOn) → step_by p e new ≡ Some y
+      → HasAt history
       at y
       → (is_unlisted p ≡ true → t.recv ≡ fresh)
       → RecvWaits (half new.lane) now (wanted_in p (counted t e) e) × (is_ended p ≡ false)
@@ -237,7 +239,7 @@ kept history lane size window at initiator a cs opening k =
       owes = keeps_owes lane b ys all;
     }
 
-run_front : (before cs : List Call) (c : Call) (t u : State) → AreCalls t (turns_of (before ++ c ∷ cs)) u
+pub run_front : (before cs : List Call) (c : Call) (t u : State) → AreCalls t (turns_of (before ++ c ∷ cs)) u
     → AreCalls t (turns_of before) c.turn.before
 run_front [] cs c t u run = run.0
 run_front (d ∷ ds) cs c t u run = (run.0, run.1, run_front ds cs c d.turn.after u run.2)

@@ -9,7 +9,7 @@ use Rattle.mta_session_lists.specs.Sent.{without_other, OthersMayBeLeftOut, None
 use Rattle.mta_session_lists.proofs.Lanes.{none_confirms, none_ends, stays_undropped}
 
 -- the same end, where this was heard
-abbrev hearing : SendEnd → Option LaneUnit → SendEnd
+abbrev pub hearing : SendEnd → Option LaneUnit → SendEnd
 hearing e heard = record e { heard = heard }
 
 -- ---- a unit that says nothing changes what was heard alone
@@ -43,7 +43,7 @@ some_is : (x y : LaneUnit) → Some x ≡ Some y → x ≡ y
 some_is x y e = cc
 
 -- what was heard without them is what was heard with them, or one of them was heard last
-abbrev Hears : Option LaneUnit → Option LaneUnit → Type 0
+abbrev pub Hears : Option LaneUnit → Option LaneUnit → Type 0
 Hears h before = (h ≡ before) ⊎ (before ≡ Some u.Other)
 
 answers_same : (e : SendEnd) (h : Option LaneUnit) (step : SendStep) → Hears h e.heard
@@ -53,7 +53,7 @@ answers_same e h step (inl q) m = (m.0, q ∙ m.1, m.2)
 answers_same e h step (inr q) m =
     absurd (none_calls e step (subst (λ z. s.IsCalledBy e step z) (some_is m.0 u.Other (sym m.1 ∙ q)) m.2))
 
-may_same : (e : SendEnd) (h : Option LaneUnit) (step : SendStep) → Hears h e.heard → s.MayMake e step
+pub may_same : (e : SendEnd) (h : Option LaneUnit) (step : SendStep) → Hears h e.heard → s.MayMake e step
     → s.MayMake (hearing e h) step
 may_same e h (s.Start octets) k m = m
 may_same e h s.To_end k m = m
@@ -66,49 +66,71 @@ may_same e h s.Denied k m = answers_same e h s.Denied k m
 
 -- ---- along a list
 
-abbrev Leads : SendEnd → Option LaneUnit → List SendEvent → SendEnd → Type 0
-Leads e h ys f = (k : Option LaneUnit) × s.IsSendingEnd (hearing e h) (without_other ys) (hearing f k)
+abbrev pub Leads : SendEnd → Option LaneUnit → List SendEvent → SendEnd → Type 0
+Leads e h ys f =
+    (k : Option LaneUnit) × Hears k f.heard × s.IsSendingEnd (hearing e h) (without_other ys) (hearing f k)
 
 made_step : (e f : SendEnd) (h : Option LaneUnit) (step : SendStep) (ys : List SendEvent) → Hears h e.heard
     → s.MayMake e step
     → ((g : Option LaneUnit) → Hears g (s.made e step).heard → Leads (s.made e step) g ys f)
     → Leads e h (s.Made step ∷ ys) f
-made_step e f h s.Abandon ys k m more = let rest = more h k in (rest.0, (may_same e h s.Abandon k m, rest.1))
+made_step e f h s.Abandon ys k m more = let rest = more h k in (rest.0, rest.1, (may_same e h s.Abandon k m, rest.2))
 made_step e f h (s.Start octets) ys k m more = let rest = more None (inl refl)
-    in (rest.0, (may_same e h (s.Start octets) k m, rest.1))
+    in (rest.0, rest.1, (may_same e h (s.Start octets) k m, rest.2))
 made_step e f h (s.Confirm n) ys k m more = let rest = more None (inl refl)
-    in (rest.0, (may_same e h (s.Confirm n) k m, rest.1))
-made_step e f h s.To_end ys k m more = let rest = more None (inl refl) in (rest.0, (may_same e h s.To_end k m, rest.1))
-made_step e f h s.Sent ys k m more = let rest = more None (inl refl) in (rest.0, (may_same e h s.Sent k m, rest.1))
+    in (rest.0, rest.1, (may_same e h (s.Confirm n) k m, rest.2))
+made_step e f h s.To_end ys k m more = let rest = more None (inl refl) in (
+  rest.0,
+  rest.1,
+  (
+    may_same e h s.To_end k m,
+    rest.2,
+  ),
+)
+made_step e f h s.Sent ys k m more = let rest = more None (inl refl) in (
+  rest.0,
+  rest.1,
+  (
+    may_same e h s.Sent k m,
+    rest.2,
+  ),
+)
 made_step e f h s.Dropped ys k m more = let rest = more None (inl refl)
-    in (rest.0, (may_same e h s.Dropped k m, rest.1))
+    in (rest.0, rest.1, (may_same e h s.Dropped k m, rest.2))
 made_step e f h s.Refused ys k m more = let rest = more None (inl refl)
-    in (rest.0, (may_same e h s.Refused k m, rest.1))
-made_step e f h s.Denied ys k m more = let rest = more None (inl refl) in (rest.0, (may_same e h s.Denied k m, rest.1))
+    in (rest.0, rest.1, (may_same e h s.Refused k m, rest.2))
+made_step e f h s.Denied ys k m more = let rest = more None (inl refl) in (
+  rest.0,
+  rest.1,
+  (
+    may_same e h s.Denied k m,
+    rest.2,
+  ),
+)
 
 got_unit : (e f : SendEnd) (h : Option LaneUnit) (y : LaneUnit) (ys : List SendEvent)
     → ((g : Option LaneUnit) → Hears g (s.got e y).heard → Leads (s.got e y) g ys f) → Leads e h (s.Got y ∷ ys) f
 got_unit e f h u.Other ys more =
     let rest = more h (inr refl) in
-    (rest.0, subst (λ z. s.IsSendingEnd z (without_other ys) (hearing f rest.0)) (other_is e h) rest.1)
-got_unit e f h y ys more = let rest = more (Some y) (inl refl) in (rest.0, (tt, rest.1))
+    (rest.0, rest.1, subst (λ z. s.IsSendingEnd z (without_other ys) (hearing f rest.0)) (other_is e h) rest.2)
+got_unit e f h y ys more = let rest = more (Some y) (inl refl) in (rest.0, rest.1, (tt, rest.2))
 
-leads : (ys : List SendEvent) (e f : SendEnd) (h : Option LaneUnit) → Hears h e.heard → s.IsSendingEnd e ys f
+pub leads : (ys : List SendEvent) (e f : SendEnd) (h : Option LaneUnit) → Hears h e.heard → s.IsSendingEnd e ys f
     → Leads e h ys f
-leads [] e f h k run = (h, ap (λ (z : SendEnd). hearing z h) run)
+leads [] e f h k run = (h, subst (λ z. Hears h z.heard) (sym run) k, ap (λ (z : SendEnd). hearing z h) run)
 leads (s.New_link b ∷ ys) e f h k run =
     let rest = leads ys (s.on_link e b) f None (inl refl) run.1 in
-    (rest.0, (tt, rest.1))
+    (rest.0, rest.1, (tt, rest.2))
 leads (s.Put y ∷ ys) e f h k run =
     let puts = puts_same e h y run.0 in
     let rest = leads ys (s.put e y) f None (inl refl) run.1 in
-    (rest.0, (puts.0, subst (λ z. s.IsSendingEnd z (without_other ys) (hearing f rest.0)) (sym puts.1) rest.1))
+    (rest.0, rest.1, (puts.0, subst (λ z. s.IsSendingEnd z (without_other ys) (hearing f rest.0)) (sym puts.1) rest.2))
 leads (s.Got y ∷ ys) e f h k run = got_unit e f h y ys (λ g q. leads ys (s.got e y) f g q run.1)
 leads (s.Made step ∷ ys) e f h k run =
     made_step e f h step ys k run.0 (λ g q. leads ys (s.made e step) f g q run.1)
 
 pub others_left_out : OthersMayBeLeftOut
-others_left_out e f ys run = leads ys e f e.heard (inl refl) run
+others_left_out e f ys run = let rest = leads ys e f e.heard (inl refl) run in (rest.0, rest.2)
 
 -- ---- Abandons
 

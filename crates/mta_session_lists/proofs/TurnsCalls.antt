@@ -45,11 +45,11 @@ told_turns x.Acknowledged seen None look rest k = (tt, k)
 told_turns x.Over seen None look rest k = (tt, k)
 
 -- a unit that is counted concerns none
-less_holds : (p : Phase) (t : State) (n : ℕ) (v : x.Turn) → Holds p t v → Holds p (record t { left = n }) v
+pub less_holds : (p : Phase) (t : State) (n : ℕ) (v : x.Turn) → Holds p t v → Holds p (record t { left = n }) v
 less_holds phase.Begin t n v h = h
 less_holds p t n v h = h
 
-reads_here : (p : Phase) (t : State) (e : Event) (v : x.Turn) → goes_with action.Read p ≡ true → AnswersAt p t e
+pub reads_here : (p : Phase) (t : State) (e : Event) (v : x.Turn) → goes_with action.Read p ≡ true → AnswersAt p t e
     → takes_unit e ≡ true → Holds p t v → reads_list p ≡ true
 reads_here phase.Begin t e v i a b h = absurd (none_first e a b)
 reads_here phase.ReadsOpen t e v i a b h = absurd h
@@ -72,13 +72,13 @@ pub record Here (a : Action) (t : Turn) (v : x.Turn) : Type 0 where
   pub allowed : PutAllowed a v
   pub holds : Holds t.before.phase t.before (turned a v)
 
-done_by : (a : Action) (t : Turn) (e : Event) (v z : x.Turn) → Here a t v → is_finish a ≡ false → t.event ≡ e
+pub done_by : (a : Action) (t : Turn) (e : Event) (v z : x.Turn) → Here a t v → is_finish a ≡ false → t.event ≡ e
     → TurnGoes z (wanted_in t.before.phase (counted t.before e) e) → Done t.action t.after z
 done_by a t e v z k n q goes =
     does_done (counted t.before e) (wanted_in t.before.phase (counted t.before e) e) t.action t.after z goes
     (does_at t e q k.is (going a t.before.phase n k.waits))
 
-quiet_done : (a : Action) (t : Turn) (e : Event) (v : x.Turn) → Here a t v → is_finish a ≡ false → t.event ≡ e
+pub quiet_done : (a : Action) (t : Turn) (e : Event) (v : x.Turn) → Here a t v → is_finish a ≡ false → t.event ≡ e
     → takes_unit e ≡ false → Done t.action t.after (turned a v)
 quiet_done a t event.Go v k n q i =
     done_by a t event.Go v (turned a v) k n q (go_goes t.before.phase t.before (turned a v) k.holds k.is.fits)
@@ -90,7 +90,7 @@ quiet_done a t event.Over v k n q i =
 quiet_done a t (event.Unit u) v k n q i = absurd (never (sym i))
 quiet_done a t event.BadUnit v k n q i = absurd (never (sym i))
 
-bad_done : (t : Turn) (v : x.Turn) → Here action.Read t v → t.event ≡ event.BadUnit → Done t.action t.after v
+pub bad_done : (t : Turn) (v : x.Turn) → Here action.Read t v → t.event ≡ event.BadUnit → Done t.action t.after v
 bad_done t v k q =
     let reads : reads_list t.before.phase ≡ true =
     reads_here t.before.phase t.before event.BadUnit v k.waits
@@ -99,7 +99,7 @@ bad_done t v k q =
     (bad_goes t.before.phase (counted t.before event.BadUnit) v reads
     (less_holds t.before.phase t.before (t.before.left - 1) v k.holds))
 
-over_done : (y : SessionEnd) (t : Turn) (v : x.Turn)
+pub over_done : (y : SessionEnd) (t : Turn) (v : x.Turn)
     → Here (action.Finish y) t v → Done t.action t.after v
 over_done y t v k =
     let says = over_says t.before.phase t k.waits k.is.follows in

@@ -1,18 +1,24 @@
 -- Laws of session lists, one for each thing that is asked of them.
-use Rattle.std.specs.Prelude.{◌≡◌, ◌<◌, ◌≤◌, ℕ, ◌+◌, Bool, Option, Some, None, List, [], ◌∷◌, length, take}
+use Rattle.std.specs.Prelude.{◌≡◌, ◌⊎◌, ◌<◌, ◌≤◌, ℕ, ◌+◌, not, Bool, false, Option, Some, None, slice_get}
+use Rattle.std.specs.Prelude.{List, [], ◌∷◌, length, take}
 use Rattle.mta_ends.specs.Sending.{SendEnd}
-use Rattle.mta_ends.specs.Lanes.{Seen, lane_in, LanesAllow}
+use Rattle.mta_ends.specs.Lanes as h
+use Rattle.mta_ends.specs.Lanes.{SeenStep, Seen, On, lane_in, LanesAllow}
 use Rattle.mta_ends.specs.Receiving as r
 use Rattle.mta_ends.specs.Receiving.{RecvEnd}
-use Rattle.mta_runs.specs.Receivings.{end_on_link, ArePlain}
+use Rattle.mta_runs.specs.Receivings.{end_on_link, ArePlain, AreTrue}
 use Rattle.mta_runs.specs.Sessions.{SessionEvent, seen_after, PlacesAbandons, StepsStand, Turn, KeepsTurn, RefusesLast}
-use Rattle.mta_runs.specs.Sessions.{Got, Refused, receiving_event, receiving_events, recv_all}
-use Rattle.mta_runs.specs.Sessions.{SessionList, Before_accept}
+use Rattle.mta_runs.specs.Sessions.{Got, Refused, Made, receiving_event, receiving_events, recv_all, IsGoodSession}
+use Rattle.mta_runs.specs.Sessions.{SessionList, Before_accept, SendOwesNothing, sending_event, sending_list, send_all}
+use Rattle.mta_runs.specs.Sessions.{turn_after}
+use Rattle.mta_runs.specs.Sendings.{IsGoodSending}
+use Rattle.mta_session.specs.declared.event.Side.{Side}
+use Rattle.mta_session.specs.declared.event.Side.TheVariants as side
 use Rattle.mta_session.specs.State.{State, is_initiator}
 use Rattle.mta_session_laws.specs.Whole.{AreCalls}
 use Rattle.mta_session_lists.specs.Calls.{Call, turns_of}
 use Rattle.mta_session_lists.specs.Abandons.{has_before, with_abandons}
-use Rattle.mta_session_lists.specs.Lists.{IsListOf, end_begun, completed}
+use Rattle.mta_session_lists.specs.Lists.{IsListOf, end_begun, completed, AreValues}
 
 -- ---- Abandons that are put in
 
@@ -98,3 +104,79 @@ ListsReceive =
     (l : SessionList) → LanesAllow spells history → IsListOf spells history first calls lane l
     → AreCalls first (turns_of calls) u
     → KeepsReceiving history lane (completed history lane size window (is_initiator first.side) l)
+
+-- ---- the sending half
+
+-- where a unit is got, the unit before it calls for no step, and an end that has the turn has put all that it may
+abbrev pub SendOwesAt : Turn → SendEnd → SessionEvent → Type 0
+SendOwesAt v a (Got x) = SendOwesNothing v a
+SendOwesAt v a (Refused x) = SendOwesNothing v a
+SendOwesAt v a y = Unit {0}
+
+abbrev pub SendOwesNothingAt : (lane : ℕ) → Turn → SendEnd → List SessionEvent → Type 0
+SendOwesNothingAt lane v a [] = Unit {0}
+SendOwesNothingAt lane v a (y ∷ ys) = SendOwesAt v a y
+    × SendOwesNothingAt lane (turn_after v y) (send_all a (sending_event lane y)) ys
+
+-- The list keeps the rules of a sending end, and owes nothing where a unit is got.
+pub record KeepsSending (history : List Seen) (lane size window : ℕ) (initiator : Bool) (l : SessionList) : Type 0 where
+  pub good : IsGoodSending history lane size window (not initiator) (sending_list lane l)
+  pub owes : SendOwesNothingAt lane Before_accept (end_begun history lane size window l.at initiator) l.events
+
+-- So does the list of each session that has a lane, where these are the lane's agreed values.
+abbrev pub ListsSend : Type 0
+ListsSend =
+    (spells : List ℕ → Bool) (history : List Seen) (first u : State) (calls : List Call) (lane size window : ℕ)
+    (l : SessionList) → LanesAllow spells history → IsListOf spells history first calls lane l
+    → AreValues history lane size window → AreCalls first (turns_of calls) u
+    → KeepsSending history lane size window (is_initiator first.side)
+    (completed history lane size window (is_initiator first.side) l)
+
+-- ---- what is found of octets
+
+-- a step of this generation that concerns the pieces of the other end's activity
+abbrev pub IsPiece : (generation : ℕ) → SeenStep → Type 0
+IsPiece g (h.Secure j k n piece) = j ≡ g
+IsPiece g (h.Complete j k n piece) = j ≡ g
+IsPiece g (h.Drop j k) = j ≡ g
+IsPiece g step = ⊥
+
+abbrev pub IsIn : SessionEvent → List SessionEvent → Type 0
+IsIn y [] = ⊥
+IsIn y (z ∷ zs) = (y ≡ z) ⊎ IsIn y zs
+
+-- The list has each such step of the generation in which it has the lane: no other session has the lane in that one.
+abbrev pub OwnsPieces : List Seen → (lane : ℕ) → SessionList → Type 0
+OwnsPieces history lane l =
+    (q : ℕ) (step : SeenStep) → l.at < q → slice_get history q ≡ Some (On lane step)
+    → IsPiece (lane_in lane (take (l.at + 1) history)).generation step → IsIn (Made q lane step) l.events
+
+-- the lane that an initiator opens is in its first generation
+abbrev pub OpensFirst : Side → Type 0
+OpensFirst (side.Initiator p) = p.recovering ≡ false → p.generation ≡ 1
+OpensFirst (side.Responder own) = Unit {0}
+
+-- Octets that a session finds to be none of a message are so, with the pieces that stand.
+abbrev pub ListsFind : Type 0
+ListsFind =
+    (spells : List ℕ → Bool) (history : List Seen) (first u : State) (calls : List Call) (lane size window : ℕ)
+    (l : SessionList) → LanesAllow spells history → IsListOf spells history first calls lane l
+    → OpensFirst first.side
+    → OwnsPieces history lane (completed history lane size window (is_initiator first.side) l)
+    → AreCalls first (turns_of calls) u
+    → AreTrue spells (end_on_link (lane_in lane (take (l.at + 1) history)))
+    (lane_in lane (take (l.at + 1) history)).pieces
+    (receiving_events lane (completed history lane size window (is_initiator first.side) l).events)
+
+-- ---- all of it
+
+-- The list of a session that has a lane, with the Abandons of other passes, is a good one.
+abbrev pub ListsAreGood : Type 0
+ListsAreGood =
+    (spells : List ℕ → Bool) (history : List Seen) (first u : State) (calls : List Call) (lane size window : ℕ)
+    (l : SessionList) → LanesAllow spells history → IsListOf spells history first calls lane l
+    → AreValues history lane size window → OpensFirst first.side
+    → OwnsPieces history lane (completed history lane size window (is_initiator first.side) l)
+    → AreCalls first (turns_of calls) u
+    → IsGoodSession spells history lane size window (is_initiator first.side)
+    (completed history lane size window (is_initiator first.side) l)

@@ -3,7 +3,7 @@
 ghost use Rattle.mta_session_lists.specs.Examples.{TakesOne, GivesUp, Resumes};
 ghost use Rattle.mta_session_lists.specs.Laws.{AbandonsArePlaced, AbandonsStand, AbandonsKeepTurns};
 ghost use Rattle.mta_session_lists.specs.Laws.{AbandonsKeepRefusals, AbandonsKeepReceived, ListsAreOrdered};
-ghost use Rattle.mta_session_lists.specs.Laws.{ListsReceive};
+ghost use Rattle.mta_session_lists.specs.Laws.{ListsReceive, ListsSend, ListsFind, ListsAreGood};
 ghost use Rattle.mta_session_lists.specs.Sent.{OthersMayBeLeftOut, NoneGoesOn, NoneDrops};
 
 /// Each Abandon that is put into a list has its place, and stands in the history. It concerns neither the turn nor the
@@ -42,3 +42,24 @@ pub fn halves_send()
     ensures past { NoneGoesOn }
     ensures undropped { NoneDrops }
 {}
+
+/// The list of a session keeps the rules of its sending half, with the Abandons of other passes, and owes nothing of it
+/// where a unit is got.
+pub fn lists_send()
+    ensures { ListsSend }
+{
+    mta_session_laws::events_lead_on();
+}
+
+/// Octets that a session finds to be none of a message are so, with the pieces that stand: each step of its generation
+/// that concerns them stands in its list.
+pub fn lists_find()
+    ensures { ListsFind }
+{}
+
+/// The list of a session that has a lane, with the Abandons of other passes, is a good one.
+pub fn lists_are_good()
+    ensures { ListsAreGood }
+{
+    lists_send();
+}

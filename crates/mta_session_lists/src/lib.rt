@@ -3,4 +3,7 @@
 
 mod laws;
 
-pub use laws::{abandons_stand, halves_send, lists_are_ordered, lists_receive, worked_rows};
+pub use laws::{
+    abandons_stand, halves_send, lists_are_good, lists_are_ordered, lists_find, lists_receive,
+    lists_send, worked_rows,
+};
