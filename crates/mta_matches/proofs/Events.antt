@@ -8,7 +8,6 @@ use Rattle.mta_ends.specs.Sending.{SendEnd}
 use Rattle.mta_ends.specs.Receiving.{RecvEnd}
 use Rattle.mta_session.specs.State.{State}
 use Rattle.mta_session.specs.Sending.{heard}
-use Rattle.mta_session.specs.Receiving.{taken}
 use Rattle.mta_session.specs.Wanted.{Wanted, Aborts, Goes_on, on_values, on_accept, on_reject, is_refused_value}
 use Rattle.mta_session.specs.Wanted.{is_same_reference, as_holder, as_listener, takes, goes_on_if, makes_or, on_abort}
 use Rattle.mta_session.specs.Wanted.{on_answer_by, on_close_ack, wanted_of_unit, wanted_of_go, wanted_of_over}
@@ -63,10 +62,8 @@ module _ (xs : List (List ℕ)) where
   holder_knows h t x = search (rules, makes_knows h t)
 
   listener_knows : TakenKeeps → (t : State) (x : AnyUnit) → KnowsAs (known t xs) (as_listener t x)
-  listener_knows h t unit.Give = search rules
-  listener_knows h t unit.Close = search rules
   listener_knows h t (unit.Please priority) = if_knows (known t xs) t.twa (Goes_on t) (Aborts 4) refl tt
-  listener_knows h t x = taken_knows t (taken t.checkpoint t.recv x) (h t.checkpoint t.recv x)
+  listener_knows h t x = search (rules, taken_knows t)
 
   reject_knows : (plan : InitiatorPlan) (t : State) (reason : ℕ) → KnowsAs (known t xs) (on_reject plan t reason)
   reject_knows plan t reason = search rules

@@ -2,6 +2,7 @@
 
 ghost use Rattle.std.specs.Prelude.{◌≡◌, ◌≤◌, IfOk, OnErr};
 ghost use Rattle.mta_session.specs.Fits.{Answers};
+ghost use Rattle.mta_session.specs.Rank.{calls_left};
 ghost use Rattle.mta_session_run.specs.Running.{IsCalled, HasTold, HasRun, HasStopped};
 
 use crate::came::Came;
@@ -42,6 +43,7 @@ pub fn carry_on<L: Link>(
     ensures run { IfOk result
         (λ c. HasRun L.model session.old action link.old frames.old c session.new link.new frames.new) }
     ensures lost { OnErr result (HasStopped L.model session.old action link.old session.new link.new) }
+    ensures left { calls_left session.new ≤ calls_left session.old }
     ensures later { L.model.faults link.old ≤ L.model.faults link.new }
 {
     let mut wanted = action;

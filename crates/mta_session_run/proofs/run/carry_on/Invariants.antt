@@ -7,6 +7,7 @@ abbrev pub invariant-loop-came : goal.invariant-loop-came
 invariant-loop-came g l = record {
   run : IsRun g.L.Link.model l.fn.session l.fn.action l.fn.link l.fn.frames l.session l.wanted l.link l.frames;
   called : IsCalled l.session l.wanted;
+  left : calls_left l.session ≤ calls_left l.fn.session;
   later : g.L.Link.model.faults l.fn.link ≤ g.L.Link.model.faults l.link;
 }
 
