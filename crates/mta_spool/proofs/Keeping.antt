@@ -9,12 +9,13 @@ use Rattle.mta_records.specs.declared.step.Step.{Step}
 use Rattle.mta_records.specs.declared.fault.StepFault.{StepFault}
 use Rattle.mta_records.specs.declared.fault.StepFault.TheVariants as Faults
 use Rattle.mta_records.specs.Body.{body_of}
+use Rattle.mta_records.proofs.Records.{body_same}
 use Rattle.mta_histories.specs.Lanes.{State}
-use Rattle.mta_histories.specs.History.{after}
-use Rattle.mta_images.specs.Image.{StandsFor}
+use Rattle.mta_histories.specs.History.{IsHistory, after}
+use Rattle.mta_images.specs.Image.{AreRecords, StandsFor}
 use Rattle.mta_journal.specs.Bodies.{StandsFor as HoldsBodies}
 use Rattle.mta_shared.specs.declared.history.Base.{Base}
-use Rattle.mta_spool.specs.Bases.{HasFound, Keeps, KeepsOn, StaysSafe, base_of, since_of, where_listed}
+use Rattle.mta_spool.specs.Bases.{Keeps, KeepsOn, StaysSafe, base_of, since_of, where_listed}
 use Rattle.mta_spool.specs.Bases.{where_told}
 use Rattle.mta_spool.specs.Crashing.{IsLeftWith, Leaves, Reached}
 use Rattle.mta_spool.specs.Opening.{HasOpened}
@@ -45,7 +46,10 @@ module _ {D C : Type 0} (disks : DiskView D) (clocks : ClockView C) where
     ended = keeps.ended;
     clock = λ moments found m told. keeps.clock moments found m (fewer m told);
     first = keeps.first;
-    bodies = keeps.bodies;
+    found = keeps.found;
+    told = keeps.told;
+    each = keeps.each;
+    history = keeps.history;
     state = keeps.state;
     stands = keeps.stands;
     torn_step = keeps.torn_step;
@@ -67,6 +71,10 @@ module _ {D C : Type 0} (disks : DiskView D) (clocks : ClockView C) where
   -- the clock was not asked
   pub keeps_same : (old new : Shown D C) → IsUnchanged old new → new.clock ≡ old.clock → KeepsOn disks clocks old new
   keeps_same old new same clock = keeps_still old new same (fewer-same old new clock)
+
+  -- the same of a spool that is equal
+  pub keeps_from : (old mid new : Shown D C) → mid ≡ old → KeepsOn disks clocks mid new → KeepsOn disks clocks old new
+  keeps_from old mid new same keeps = subst (λ (v : Shown D C). KeepsOn disks clocks v new) same keeps
 
   -- ---- a step was made
 
@@ -122,7 +130,10 @@ module _ {D C : Type 0} (disks : DiskView D) (clocks : ClockView C) where
           ended = λ e. let on : new.journal.ended ≡ false = a.going refl in absurd cc;
           clock = λ moments found m told. keeps.clock moments found m (fewer-same old new clock m told);
           first = keeps.first;
-          bodies = keeps.bodies;
+          found = keeps.found;
+          told = keeps.told;
+          each = subst AreRecords whole done.each;
+          history = subst IsHistory whole done.history;
           state = done.state_is ∙ ap (λ (x : List Step). after x) whole;
           stands = λ on. subst (Stands disks new) whole done;
           torn_step = [];
@@ -176,7 +187,10 @@ module _ {D C : Type 0} (disks : DiskView D) (clocks : ClockView C) where
           ended = λ e. omega (arith, keeps.count, a.disk refl);
           clock = λ moments found m told. keeps.clock moments found m (fewer-same old new clock m told);
           first = keeps.first;
-          bodies = keeps.bodies;
+          found = keeps.found;
+          told = keeps.told;
+          each = subst (λ (x : List Step). AreRecords (keeps.first ++ x)) (sym a.entries) keeps.each;
+          history = subst (λ (x : List Step). IsHistory (keeps.first ++ x)) (sym a.entries) keeps.history;
           state = a.still (λ e. absurd cc) ∙ keeps.state
               ∙ ap (λ (x : List Step). after (keeps.first ++ x)) (sym a.entries);
           stands = λ on. let ended : new.journal.ended ≡ true = a.marked refl in absurd cc;
@@ -224,7 +238,8 @@ same_stands f g steps (inr short) stands = record {
   none_in bodies (inl holds) = holds.1
   none_in bodies (inr holds) = absurd (omega (arith, short.0, holds.0))
 
-found-is : (told : Option (List ℕ)) (found bodies : List (List ℕ)) → where_told told found ≡ bodies ∷ []
+found-is : (told : Option (List ℕ)) (found bodies : List (List ℕ))
+    → ◌≡◌ {A = List (List (List ℕ))} (found ∷ where_told told found) (found ∷ bodies ∷ [])
     → (f : List ℕ) × (told ≡ Some f) × (found ≡ bodies)
 found-is None found bodies e = absurd cc
 found-is (Some f) found bodies e = (f, refl, cc)
@@ -269,9 +284,11 @@ module _ {D C : Type 0} (disks : DiskView D) (clocks : ClockView C) (laws : Disk
             among-listed (clocks.moments spool.opened.clock) moments m found
             ((clock_laws.listed spool.opened.clock m).0 (subst (λ (c : C). clocks.tells c m) clock told));
         first = o.steps;
-        bodies = λ bodies found.
-            let is = found-is (disks.content spool.opened.disk) spool.opened.bodies bodies found in
-            sym o.bodies ∙ is.2;
+        found = sym o.bodies;
+        told = λ bodies told.
+            let is = found-is (disks.content spool.opened.disk) spool.opened.bodies bodies told in sym o.bodies ∙ is.2;
+        each = subst AreRecords behind o.stands.each;
+        history = subst IsHistory behind o.stands.history;
         state = o.stands.state_is ∙ ap (λ (x : List Step). after x) behind;
         stands = λ on. subst (Stands disks spool) behind o.stands;
         torn_step = [];
@@ -281,3 +298,27 @@ module _ {D C : Type 0} (disks : DiskView D) (clocks : ClockView C) (laws : Disk
             let is = found-is (disks.content spool.opened.disk) spool.opened.bodies bodies found in
             opened-safe is.0 (ap (λ (d : D). disks.content d) (sym o.disk) ∙ is.1);
       }
+
+-- ---- one history is found
+
+front-records : (a b : List Step) → AreRecords (a ++ b) → AreRecords a
+front-records [] b each = tt
+front-records (step ∷ a) b each = (each.0, front-records a b each.1)
+
+same-steps : (a b : List Step) → AreRecords a → AreRecords b → map body_of a ≡ map body_of b → a ≡ b
+same-steps [] [] fits fit e = refl
+same-steps [] (t ∷ b) fits fit e = absurd cc
+same-steps (s ∷ a) [] fits fit e = absurd cc
+same-steps (s ∷ a) (t ∷ b) fits fit e =
+    let here : body_of s ≡ body_of t = cc in
+    let behind : map body_of a ≡ map body_of b = cc in
+    let first : s ≡ t = body_same s t fits.0 fit.0 here in
+    let rest : a ≡ b = same-steps a b fits.1 fit.1 behind in
+    cc
+
+-- spools that keep under one base have one history from opening
+pub one_first : {D C : Type 0} (disks : DiskView D) (clocks : ClockView C) (s t : Shown D C) (base : Base)
+    (k : Keeps disks clocks s base) (l : Keeps disks clocks t base) → k.first ≡ l.first
+one_first disks clocks s t base k l =
+    same-steps k.first l.first (front-records k.first s.entries k.each) (front-records l.first t.entries l.each)
+    (k.found ∙ sym l.found)

@@ -5,7 +5,8 @@ use Rattle.mta_edge.specs.Causes.{Rose}
 use Rattle.mta_edge.specs.Views.{ClockView, DiskView}
 use Rattle.mta_records.specs.declared.step.Step.{Step}
 use Rattle.mta_records.specs.Body.{body_of}
-use Rattle.mta_histories.specs.History.{after}
+use Rattle.mta_histories.specs.History.{IsHistory, after}
+use Rattle.mta_images.specs.Image.{AreRecords}
 use Rattle.mta_shared.specs.declared.history.Base.{Base}
 use Rattle.mta_spool.specs.Crashing.{IsLeftWith, Reached}
 use Rattle.mta_spool.specs.Shown.{Shown}
@@ -29,9 +30,17 @@ count_of base = slice_index base.numbers 0
 abbrev pub since_of : Base → ℕ
 since_of base = slice_index base.numbers 1
 
--- these are the bodies of the history that opening gave
-abbrev pub HasFound : Base → List (List ℕ) → Type 0
-HasFound base bodies = base.octets ≡ bodies ∷ []
+abbrev pub first_of : List (List (List ℕ)) → List (List ℕ)
+first_of [] = []
+first_of (bodies ∷ more) = bodies
+
+-- the bodies of the history that opening gave
+abbrev pub found_of : Base → List (List ℕ)
+found_of base = first_of base.octets
+
+-- the disk that was handed in told what it held, which is these bodies
+abbrev pub HasTold : Base → List (List ℕ) → Type 0
+HasTold base bodies = base.octets ≡ found_of base ∷ bodies ∷ []
 
 -- the clock that was handed in listed these moments
 abbrev pub HasListed : Base → List ℕ → Type 0
@@ -54,7 +63,7 @@ module _ {D C : Type 0} (disks : DiskView D) (clocks : ClockView C) where
   base_of spool = record {
     numbers = disks.faults spool.opened.disk ∷ disks.moment spool.opened.synced ∷ [];
     lists = where_listed (clocks.moments spool.opened.clock);
-    octets = where_told (disks.content spool.opened.disk) spool.opened.bodies;
+    octets = spool.opened.bodies ∷ where_told (disks.content spool.opened.disk) spool.opened.bodies;
   }
 
   -- what a spool keeps under a base
@@ -67,8 +76,11 @@ module _ {D C : Type 0} (disks : DiskView D) (clocks : ClockView C) where
         → Contains moments m
     -- the history that opening gave
     pub first : List Step
-    pub bodies : (bodies : List (List ℕ)) → HasFound base bodies → map body_of first ≡ bodies
+    pub found : map body_of first ≡ found_of base
+    pub told : (bodies : List (List ℕ)) → HasTold base bodies → map body_of first ≡ bodies
     -- behind it stand the entries: in memory, and on the disk while the spool goes on
+    pub each : AreRecords (first ++ spool.entries)
+    pub history : IsHistory (first ++ spool.entries)
     pub state : spool.current ≡ after (first ++ spool.entries)
     pub stands : spool.journal.ended ≡ false → Stands disks spool (first ++ spool.entries)
     -- the step in which the disk failed, if it did
@@ -76,7 +88,7 @@ module _ {D C : Type 0} (disks : DiskView D) (clocks : ClockView C) where
     pub one : length torn_step ≤ 1
     pub calm : spool.journal.ended ≡ false → torn_step ≡ []
     -- where the disk told what it held when it was handed in, a crash leaves this history
-    pub safe : (bodies : List (List ℕ)) → HasFound base bodies
+    pub safe : (bodies : List (List ℕ)) → HasTold base bodies
         → StaysSafe disks spool.journal.disk (since_of base) first spool.entries torn_step
 
   -- it keeps under each base what it kept before

@@ -101,7 +101,6 @@ impl<D: Disk + Drop, C: Clock + Drop> Spool<D, C> {
     ghost use Rattle.mta_spool.specs.Turning.{IsUnchanged, Records, Turns};
 
     // Makes a step that is possible.
-    #[tactic(auto, using(crate::proofs::Keeping::keeps_appends))]
     pub(crate) fn make(&mut self, step: Step) -> Result<(), StepFault>
         requires going { self.old.journal.ended ≡ false }
         requires fields { HasFields step }

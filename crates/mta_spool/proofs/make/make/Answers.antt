@@ -18,9 +18,9 @@ returns-in-Ok-append-clause-made g c =
     (λ (s : State). IsReady text_of s c.args.step c.in-Ok-hold.ready.change c.in-Ok-hold.ready.rules)
     (sym c.hold.ensures.same) c.in-Ok-hold.ensures.ready in
     subst
-    (λ (made : List Step).
+    (λ (entries : List Step).
     Makes g.D.Disk.model c.args.step c.args.journal.now (state_of c.args.replay.now.kept) c.args.entries.now.steps
-    c.append.new.self (state_of c.commit.new.self.kept) made None)
+    c.append.new.self (state_of c.commit.new.self.kept) entries None)
     (sym c.with-longer.ensures)
     (made g.D.Disk.model c.args.step g.met.D.Disk.laws c.args.journal.now c.append.new.self
     (state_of c.args.replay.now.kept) (state_of c.commit.new.self.kept)

@@ -1,4 +1,4 @@
-use Rattle.std.proofs.Common.{List, ℕ, Vec, sym, ap, subst, ◌∙◌}
+use Rattle.std.proofs.Common.{Global, List, ℕ, Vec, sym, ap, subst, ◌∙◌}
 use Rattle.mta_journal.specs.Opening.{synced, same_since}
 use Rattle.mta_replay.specs.Kept.{state_of}
 use Rattle.mta_spool.specs.Replaying.{HasStopped, IsReplay}
@@ -30,7 +30,7 @@ returns-in-Ok-replay-clause-opened g c =
       synced = c.in-Ok.ensures.since;
       none = c.new-entries.ensures;
       disk = c.of-handed.ensures;
-      bodies = ap (λ (v : Vec (List ℕ)). v.items) c.of-found.ensures ∙ sym is.bodies_are;
+      bodies = ap (λ (v : Vec (List ℕ) Global). v.items) c.of-found.ensures ∙ sym is.bodies_are;
     }
 
 pub returns-in-Ok-replay-clause-keeps : goal.returns-in-Ok-replay-clause-keeps
