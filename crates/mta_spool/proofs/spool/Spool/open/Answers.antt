@@ -38,8 +38,8 @@ returns-in-Ok-replay-clause-keeps g c =
     keeps_opened g.D.Disk.model g.C.Clock.model g.met.D.Disk.laws g.met.C.Clock.laws c.args.disk _
     (returns-in-Ok-replay-clause-opened g c) (sym c.of-at_hand.ensures)
 
-pub returns-clause-refused : goal.returns-clause-refused
-returns-clause-refused g c =
+pub returns-in-Err-replay-clause-refused : goal.returns-in-Err-replay-clause-refused
+returns-in-Err-replay-clause-refused g c =
     rw c.end.ensures
     (replay_refused g.D.Disk.model c.args.disk c.in-Ok.opened.journal.disk c.in-Ok.ensures.later c.in-Ok.ensures.kept c.in-Ok.ensures.told c.in-Ok.ensures.images
     (λ f told.
