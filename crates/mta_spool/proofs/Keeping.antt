@@ -1,10 +1,10 @@
 -- What a spool keeps under a base from call to call.
-use Rattle.std.proofs.Common.{inl, inr, ⊎_elim, ◌≡◌, ◌≢◌, ℕ, ◌≤◌, Bool, true, false, List, [], ◌∷◌, ◌++◌, map}
+use Rattle.std.proofs.Common.{inl, inr, ⊎_elim, ◌≡◌, ◌≢◌, ℕ, Bool, true, false, List, [], ◌∷◌, ◌++◌, map}
 use Rattle.std.proofs.Common.{Contains, Option, None, Some, refl, sym, ap, subst, ◌∙◌, append_assoc, arith}
 use Rattle.std.proofs.lemmas.List.{append-nil}
-use Rattle.mta_edge.specs.Views.{ClockLaws, ClockView, DiskLaws, DiskView, IsAmong, StaysTold, WhereTold}
+use Rattle.mta_edge.specs.Views.{ClockLaws, ClockView, DiskLaws, DiskView, IsAmong}
 use Rattle.mta_journal.specs.Shown.{Shown as JournalShown}
-use Rattle.mta_journal.specs.Opening.{IsSame, IsSameFrom}
+use Rattle.mta_journal.specs.Opening.{IsSame}
 use Rattle.mta_records.specs.declared.step.Step.{Step}
 use Rattle.mta_records.specs.declared.fault.StepFault.{StepFault}
 use Rattle.mta_records.specs.declared.fault.StepFault.TheVariants as Faults
@@ -17,12 +17,12 @@ use Rattle.mta_journal.specs.Bodies.{StandsFor as HoldsBodies}
 use Rattle.mta_shared.specs.declared.history.Base.{Base}
 use Rattle.mta_spool.specs.Bases.{Keeps, KeepsOn, StaysSafe, base_of, since_of, where_listed}
 use Rattle.mta_spool.specs.Bases.{where_told}
-use Rattle.mta_spool.specs.Crashing.{IsLeftWith, Leaves, Reached}
+use Rattle.mta_spool.specs.Crashing.{IsLeftWith, Reached}
 use Rattle.mta_spool.specs.Opening.{HasOpened}
 use Rattle.mta_spool.specs.Shown.{AtOpening, Shown}
 use Rattle.mta_spool.specs.Stands.{Appends, IsHeld, Stands, TellsFewer}
 use Rattle.mta_spool.specs.Turning.{IsUnchanged}
-use Rattle.mta_spool.proofs.Crashing.{made, reached_as, reached_first, reached_second, torn, with_none}
+use Rattle.mta_spool.proofs.Crashing.{made, reached_as, reached_first, reached_second, torn}
 
 module _ {D C : Type 0} (disks : DiskView D) (clocks : ClockView C) where
   -- ---- nothing has changed

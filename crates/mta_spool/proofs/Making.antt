@@ -1,12 +1,11 @@
 -- A step is made, or refused.
-use Rattle.std.proofs.Common.{inl, inr, ◌≡◌, ◌≢◌, ℕ, ◌+◌, ◌≤◌, ◌<◌, true, false, List, [], ◌∷◌, ◌++◌, length, map, Option, None, Some, Result, Ok, Err, refl, sym, ap, subst, ◌∙◌, arith}
-use Rattle.std.specs.Prelude.{◌⊎◌}
+use Rattle.std.proofs.Common.{inl, inr, ◌≡◌, ℕ, ◌≤◌, true, false, List, [], ◌∷◌, ◌++◌, length, map, Option, None, Some, Ok, Err, refl, sym, ap, subst, ◌∙◌, arith}
 use Rattle.mta_edge.specs.Views.{DiskView, DiskLaws, StaysTold}
 use Rattle.mta_edge.specs.Crashes.{AtAnyMoment}
 use Rattle.mta_edge.proofs.Moments.{weaken}
 use Rattle.mta_journal.specs.Bodies.{HasBodies, HasOrOneMore}
 use Rattle.mta_journal.specs.Shown.{Shown as JournalShown, Holds}
-use Rattle.mta_journal.specs.Appending.{Appends as JournalAppends, journal_limit}
+use Rattle.mta_journal.specs.Appending.{Appends as JournalAppends}
 use Rattle.mta_journal.specs.declared.journal.AppendFault.{AppendFault}
 use Rattle.mta_journal.specs.declared.journal.AppendFault.TheVariants as AppendFaults
 use Rattle.mta_journal.proofs.Bodies.{stands_for}

@@ -16,7 +16,7 @@ use Rattle.mta_records.specs.declared.fault.CompleteFault.{CompleteFault}
 use Rattle.mta_records.specs.declared.fault.CompleteFault.TheVariants as CompleteFaults
 use Rattle.mta_records.specs.declared.fault.StepFault.{StepFault}
 use Rattle.mta_records.specs.declared.fault.StepFault.TheVariants as Faults
-use Rattle.mta_apdu.specs.Apdus.{ApduValue, apdu_of, SpellsApdu}
+use Rattle.mta_apdu.specs.Apdus.{ApduValue, apdu_of}
 use Rattle.mta_apdu.proofs.ApduLaws.{apdu_full}
 use Rattle.mta_machine.specs.Apdu.{IsApdu}
 use Rattle.mta_lane_recv.specs.Half as recv

@@ -1,5 +1,5 @@
 -- What a turn leaves, seen from before its clock was asked.
-use Rattle.std.proofs.Common.{inl, inr, ◌≡◌, ℕ, List, Some, Result, Ok, Err, sym, subst}
+use Rattle.std.proofs.Common.{inl, inr, ℕ, List, Some, Result, Ok, Err, sym, subst}
 use Rattle.mta_edge.specs.Views.{DiskView}
 use Rattle.mta_journal.specs.Shown.{Shown as JournalShown}
 use Rattle.mta_records.specs.declared.step.Step.{Step}
