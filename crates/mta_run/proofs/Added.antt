@@ -21,7 +21,7 @@ use Rattle.mta_spool.specs.Stands.{Stands, IsOfNoLane, Appends}
 use Rattle.mta_spool.specs.Turning.{IsUnchanged}
 use Rattle.mta_run.specs.Submit.{IsTimed, IsOwnOnLane, IsOwnOf, IsOwn, AreOwn, turn_of_class, turn_of, turn_behind, AreInTurn, turn_after}
 use Rattle.mta_run.specs.Submit.{takes_apdu, is_accept, accepts, Adds}
-use Rattle.mta_run.proofs.CrashStands.{still, made, torn, leaves_then}
+use Rattle.mta_spool.proofs.Crashing.{still, made, torn, leaves_then}
 use Rattle.mta_run.proofs.Same.{some_same}
 
 -- ---- histories
@@ -198,7 +198,8 @@ module _ {D C : Type 0} (disks : DiskView D) where
     told = appends.told;
     history = λ steps s. (appends.done refl steps s).history;
     own = λ steps s. (own steps s, tt);
-    leaves = λ f told steps s. made disks step old new (appends.crash (inl refl)) appends.told f told steps s (appends.done refl steps s);
+    leaves = λ f told steps s.
+        made disks step old new (appends.crash (inl refl)) f told steps s appends.told (appends.done refl steps s);
   }
 
   -- the disk failed in a step
@@ -217,7 +218,9 @@ module _ {D C : Type 0} (disks : DiskView D) where
   }
 
   pub unchanged : (step : Step) (old new : Shown D C) (fault : StepFault) → (fault ≡ StepFaults.Disk → ⊥) → Appends disks step old new (Some fault) → IsUnchanged old new
-  unchanged step old new fault other appends = appends.kept (λ e. absurd cc) (λ e. other (some_same fault StepFaults.Disk e))
+  unchanged step old new fault other appends =
+      let same = appends.kept (λ e. absurd cc) (λ e. other (some_same fault StepFaults.Disk e)) in
+      (same.0, same.1, appends.entries)
 
   pub adds_refused : DiskLaws disks
       → (tells : ℕ → Type 0) (step : Step) (old new : Shown D C) (fault : StepFault) (failed : Type 0)

@@ -14,9 +14,10 @@ use Rattle.mta_images.specs.Image.{StandsFor}
 use Rattle.mta_images.proofs.Unique.{one_history}
 use Rattle.mta_spool.specs.Opening.{HasOpened, HasRefused}
 use Rattle.mta_spool.specs.Shown.{Shown}
-use Rattle.mta_run.specs.Images.{Reached, IsLeftWith, Leaves, Synced, IsSafe}
+use Rattle.mta_run.specs.Images.{Synced, IsSafe}
+use Rattle.mta_spool.specs.Crashing.{Reached, IsLeftWith, Leaves}
 use Rattle.mta_run.specs.DiskLeft.{Opening, uncalled, refused, opened, IsAsItWas, DiskLeft}
-use Rattle.mta_run.proofs.CrashStands.{with_none, still}
+use Rattle.mta_spool.proofs.Crashing.{with_none, still}
 use Rattle.mta_run.proofs.Same.{some_same}
 
 -- a disk that stands for nothing has more than nine octets

@@ -1,6 +1,5 @@
 pub mod Same
 pub mod LongInput
-pub mod CrashStands
 pub mod DiskStands
 pub mod Added
 pub mod Stored

@@ -42,7 +42,8 @@ module _ {D C : Type 0} (disks : DiskView D) (laws : DiskLaws disks) (clocks : C
 
   pub settling_none : (old : Shown D C) → old.journal.ended ≡ false → ((steps : List Step) × Stands disks old steps) → Settling disks clocks old old []
   settling_none old going stands = record {
-    adds = λ conf input. adds_still disks laws (clocks.tells old.clock) conf input old old ⊥ (refl, refl);
+    adds = λ conf input. adds_still disks laws (clocks.tells old.clock) conf input old old ⊥
+        (refl, refl, refl);
     in_turn = tt;
     tables = refl;
     going = going;

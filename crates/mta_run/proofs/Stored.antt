@@ -143,7 +143,11 @@ module _ {D C : Type 0} (disks : DiskView D) (laws : DiskLaws disks) (tells : �
       elim (is_text (last_text old.current) conf) [
         | inl recorded ↦ (
             let is = (records.same recorded).0 in
-            let same : IsUnchanged old mid = (ap (λ (v : Shown D C). v.journal) is, ap (λ (v : Shown D C). v.current) is) in (
+            let same : IsUnchanged old mid = (
+              ap (λ (v : Shown D C). v.journal) is,
+              ap (λ (v : Shown D C). v.current) is,
+              ap (λ (v : Shown D C). v.entries) is,
+            ) in (
               [],
               record {
                 adds = adds_still disks laws tells conf input old mid ⊥ same;

@@ -4,7 +4,8 @@ use Rattle.mta_edge.specs.Views.{DiskView, StaysTold}
 use Rattle.mta_edge.specs.Causes.{Rose}
 use Rattle.mta_records.specs.declared.step.Step.{Step}
 use Rattle.mta_images.specs.Image.{StandsFor}
-use Rattle.mta_run.specs.Images.{IsLeftWith, Synced, IsSafe}
+use Rattle.mta_run.specs.Images.{Synced, IsSafe}
+use Rattle.mta_spool.specs.Crashing.{IsLeftWith}
 
 -- The disk was not called; or opening refused it; or opening answered that it is a spool.
 pub data Opening : Type 0 where

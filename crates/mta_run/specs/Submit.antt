@@ -18,7 +18,7 @@ use Rattle.mta_spool.specs.Stands.{Stands, step_moment, need_of, IsSpent}
 use Rattle.mta_spool.specs.Turning.{IsRecorded}
 use Rattle.mta_run.specs.declared.stop.Stop.{Stop}
 use Rattle.mta_run.specs.declared.stop.Stop.TheVariants as Stops
-use Rattle.mta_run.specs.Images.{Leaves}
+use Rattle.mta_spool.specs.Crashing.{Leaves}
 use Rattle.mta_run.specs.Lines.{accepted_line}
 use Rattle.mta_run.specs.Output.{Output, Prints, PrintsFront, HasPrinted}
 

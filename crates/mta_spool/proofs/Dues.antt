@@ -1,5 +1,5 @@
 -- What is known of a step that is next.
-use Rattle.std.proofs.Common.{◌≡◌, ℕ, ◌+◌, ◌≤◌, ◌<◌, ◌^◌, inl, inr, List, Result, Ok, Option, Some, None, length, refl, sym, ap, subst, ◌∙◌}
+use Rattle.std.proofs.Common.{◌≡◌, ℕ, ◌+◌, ◌≤◌, ◌<◌, ◌^◌, inl, inr, List, Ok, Option, Some, length, refl, sym, ap, subst}
 use Rattle.std.proofs.Common.{arith}
 use Rattle.std.specs.Prelude.{IfSome, is_some}
 use Rattle.mta_ber.specs.Times.{last_moment}
@@ -9,7 +9,7 @@ use Rattle.mta_records.specs.declared.step.Step.{Step}
 use Rattle.mta_records.specs.declared.step.Step.TheVariants as step
 use Rattle.mta_histories.specs.Classes.{class_of, moment_of}
 use Rattle.mta_histories.specs.Lanes.{State}
-use Rattle.mta_histories.specs.History.{IsPossible, after_step}
+use Rattle.mta_histories.specs.History.{IsPossible}
 use Rattle.mta_histories.specs.Kept.{IsKept}
 use Rattle.mta_histories.specs.Due.{IsDue, IsNext, step_of}
 use Rattle.mta_histories.specs.Numbers.{numbers_needed}

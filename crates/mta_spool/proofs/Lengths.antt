@@ -1,5 +1,5 @@
 -- How long the bodies of records are.
-use Rattle.std.proofs.Common.{◌≡◌, ◌≤◌, ◌<◌, ℕ, ◌+◌, true, ltb, inl, inr, List, ◌∷◌, ◌++◌, length, Result, Ok, Err}
+use Rattle.std.proofs.Common.{◌≡◌, ◌≤◌, ℕ, ◌+◌, true, ltb, inl, inr, List, ◌∷◌, ◌++◌, length, Result, Ok, Err}
 use Rattle.std.proofs.Common.{refl}
 use Rattle.std.proofs.Common.{subst, arith, w32, w64}
 use Rattle.std.proofs.lemmas.Bool.{cases_lt, lt-ltb}

@@ -1,4 +1,6 @@
+pub mod Crashing
 pub mod Dues
+pub mod Keeping
 pub mod Lengths
 pub mod Looking
 pub mod Making

@@ -1,12 +1,11 @@
 -- A step is made, or refused.
-use Rattle.std.proofs.Common.{inl, inr, ◌≡◌, ◌≢◌, ℕ, ◌+◌, ◌≤◌, ◌<◌, true, false, List, [], ◌∷◌, ◌++◌, length, map, Option, None, Some, Result, Ok, Err, refl, sym, ap, subst, ◌∙◌, arith}
-use Rattle.std.specs.Prelude.{◌⊎◌}
+use Rattle.std.proofs.Common.{inl, inr, ◌≡◌, ℕ, ◌≤◌, true, false, List, [], ◌∷◌, ◌++◌, length, map, Option, None, Some, Ok, Err, refl, sym, ap, subst, ◌∙◌, arith}
 use Rattle.mta_edge.specs.Views.{DiskView, DiskLaws, StaysTold}
 use Rattle.mta_edge.specs.Crashes.{AtAnyMoment}
 use Rattle.mta_edge.proofs.Moments.{weaken}
 use Rattle.mta_journal.specs.Bodies.{HasBodies, HasOrOneMore}
 use Rattle.mta_journal.specs.Shown.{Shown as JournalShown, Holds}
-use Rattle.mta_journal.specs.Appending.{Appends as JournalAppends, journal_limit}
+use Rattle.mta_journal.specs.Appending.{Appends as JournalAppends}
 use Rattle.mta_journal.specs.declared.journal.AppendFault.{AppendFault}
 use Rattle.mta_journal.specs.declared.journal.AppendFault.TheVariants as AppendFaults
 use Rattle.mta_journal.proofs.Bodies.{stands_for}
@@ -86,8 +85,10 @@ module _ {D : Type 0} (model : DiskView D) (step : Step) where
   -- the body was appended and the change made
   pub made : DiskLaws model → (old new : JournalShown D) (s s' : State) → JournalAppends {T = Unit {0}} model (body_of step) old new (Ok tt)
       → old.ended ≡ false → HasFields step → IsPossible s step → (IsSpent s step → ⊥) → s' ≡ after_step s step
-      → Makes model step old s new s' None
-  made laws old new s s' a going fields possible numbers change = record {
+      → (a : List Step) → Makes model step old s a new s' (a ++ step ∷ []) None
+  made laws old new s s' a going fields possible numbers change entries = record {
+    entries = refl;
+    still = λ some. absurd (some refl);
     row = λ f e of. absurd cc;
     row_where = λ on f is. absurd (not_refused s step f possible is);
     done = λ ok steps held. held_more old new s s' steps held (a.done refl (map body_of steps) held.holds) fields possible change;
@@ -109,8 +110,11 @@ module _ {D : Type 0} (model : DiskView D) (step : Step) where
   -- the journal refused the body, and the state is as it was
   pub refused : DiskLaws model → (fault : AppendFault) (old new : JournalShown D) (s s' : State)
       → JournalAppends {T = Unit {0}} model (body_of step) old new (Err fault) → old.ended ≡ false → HasFields step → IsPossible s step
-      → (IsSpent s step → ⊥) → s' ≡ s → Makes model step old s new s' (Some (step_fault fault))
-  refused laws (AppendFaults.Full size need) old new s s' a going fields possible numbers same = record {
+      → (IsSpent s step → ⊥) → s' ≡ s → (b : List Step)
+      → Makes model step old s b new s' b (Some (step_fault fault))
+  refused laws (AppendFaults.Full size need) old new s s' a going fields possible numbers same made = record {
+    entries = refl;
+    still = λ some. same;
     row = λ f e of. absurd (of-lane (StepFaults.Full size need) f e of);
     row_where = λ on f is. absurd (not_refused s step f possible is);
     done = λ ok. absurd cc;
@@ -134,7 +138,9 @@ module _ {D : Type 0} (model : DiskView D) (step : Step) where
         let f = a.full size need refl in
         let e : AppendFaults.Full size need ≡ AppendFaults.Full old.size (need_of step) = cc in inl (ap (λ (x : AppendFault). Some (step_fault x)) e);
   }
-  refused laws AppendFaults.Disk old new s s' a going fields possible numbers same = record {
+  refused laws AppendFaults.Disk old new s s' a going fields possible numbers same made = record {
+    entries = refl;
+    still = λ some. same;
     row = λ f e of. absurd (of-lane StepFaults.Disk f e of);
     row_where = λ on f is. absurd (not_refused s step f possible is);
     done = λ ok. absurd cc;
@@ -152,8 +158,11 @@ module _ {D : Type 0} (model : DiskView D) (step : Step) where
     full = λ n m e. absurd cc;
     full_where = λ on no left long. let full = a.full_where going long in absurd cc;
   }
-  refused laws AppendFaults.Ended old new s s' a going fields possible numbers same = let is_ended = a.ended.0 refl in absurd cc
-  refused laws AppendFaults.Memory old new s s' a going fields possible numbers same = record {
+  refused laws AppendFaults.Ended old new s s' a going fields possible numbers same made =
+      let is_ended = a.ended.0 refl in absurd cc
+  refused laws AppendFaults.Memory old new s s' a going fields possible numbers same made = record {
+    entries = refl;
+    still = λ some. same;
     row = λ f e of. absurd (of-lane StepFaults.Memory f e of);
     row_where = λ on f is. absurd (not_refused s step f possible is);
     done = λ ok. absurd cc;
@@ -179,10 +188,12 @@ module _ {D : Type 0} (model : DiskView D) (step : Step) where
   no_later old new same = omega (arith, ap (λ (j : JournalShown D). model.faults j.disk) same)
 
   -- there was no memory
-  pub no_memory : (old new : JournalShown D) (s s' : State) → new ≡ old → s' ≡ s → old.ended ≡ false
+  pub no_memory : {made : List Step} (old new : JournalShown D) (s s' : State) → new ≡ old → s' ≡ s → old.ended ≡ false
       → (IsSpent s step → ⊥) → IsOfNoRefusal s step
-      → Makes model step old s new s' (Some StepFaults.Memory)
+      → Makes model step old s made new s' made (Some StepFaults.Memory)
   no_memory old new s s' same kept going numbers lane = record {
+    entries = refl;
+    still = λ some. kept;
     row = λ f e of. absurd (of-lane StepFaults.Memory f e of);
     row_where = λ on f is. absurd (lane f is);
     done = λ ok. absurd cc;
@@ -202,9 +213,11 @@ module _ {D : Type 0} (model : DiskView D) (step : Step) where
   }
 
   -- there was no memory to look whether a refusal for its lane stands
-  pub no_memory_to_look : (old new : JournalShown D) (s s' : State) → new ≡ old → s' ≡ s → old.ended ≡ false
-      → (IsSpent s step → ⊥) → Makes model step old s new s' (Some StepFaults.Memory)
+  pub no_memory_to_look : {made : List Step} (old new : JournalShown D) (s s' : State) → new ≡ old → s' ≡ s
+      → old.ended ≡ false → (IsSpent s step → ⊥) → Makes model step old s made new s' made (Some StepFaults.Memory)
   no_memory_to_look old new s s' same kept going numbers = record {
+    entries = refl;
+    still = λ some. kept;
     row = λ f e of. absurd (of-lane StepFaults.Memory f e of);
     row_where = λ on f is. inr refl;
     done = λ ok. absurd cc;
@@ -224,9 +237,11 @@ module _ {D : Type 0} (model : DiskView D) (step : Step) where
   }
 
   -- an earlier step had answered that the disk failed
-  pub is_ended : (old new : JournalShown D) (s s' : State) → new ≡ old → s' ≡ s → old.ended ≡ true
-      → Makes model step old s new s' (Some StepFaults.Ended)
+  pub is_ended : {made : List Step} (old new : JournalShown D) (s s' : State) → new ≡ old → s' ≡ s → old.ended ≡ true
+      → Makes model step old s made new s' made (Some StepFaults.Ended)
   is_ended old new s s' same kept ended = record {
+    entries = refl;
+    still = λ some. kept;
     row = λ f e of. absurd (of-lane StepFaults.Ended f e of);
     row_where = λ on f is. absurd cc;
     done = λ ok. absurd cc;
@@ -246,10 +261,12 @@ module _ {D : Type 0} (model : DiskView D) (step : Step) where
   }
 
   -- too few numbers were left
-  pub is_spent : (last : ℕ) (old new : JournalShown D) (s s' : State) → new ≡ old → s' ≡ s → old.ended ≡ false
-      → last ≡ length s.machine.items → IsSpent s step → IsOfNoRefusal s step
-      → Makes model step old s new s' (Some (StepFaults.Spent last))
+  pub is_spent : {made : List Step} (last : ℕ) (old new : JournalShown D) (s s' : State) → new ≡ old → s' ≡ s
+      → old.ended ≡ false → last ≡ length s.machine.items → IsSpent s step → IsOfNoRefusal s step
+      → Makes model step old s made new s' made (Some (StepFaults.Spent last))
   is_spent last old new s s' same kept going count spent lane = record {
+    entries = refl;
+    still = λ some. kept;
     row = λ f e of. absurd (of-lane (StepFaults.Spent last) f e of);
     row_where = λ on f is. absurd (lane f is);
     done = λ ok. absurd cc;
@@ -269,11 +286,13 @@ module _ {D : Type 0} (model : DiskView D) (step : Step) where
   }
 
   -- a refusal for its lane stands
-  pub refused_for_lane : (f : StepFault) (old new : JournalShown D) (s s' : State) → new ≡ old → s' ≡ s
-      → old.ended ≡ false → IsRefused s (class_of step) (when s step) f → Makes model step old s new s' (Some f)
+  pub refused_for_lane : {made : List Step} (f : StepFault) (old new : JournalShown D) (s s' : State) → new ≡ old → s' ≡ s
+      → old.ended ≡ false → IsRefused s (class_of step) (when s step) f → Makes model step old s made new s' made (Some f)
   refused_for_lane f old new s s' same kept going refusal =
       let of = refusal_of_lane s (class_of step) (when s step) f refusal in
       record {
+        entries = refl;
+        still = λ some. kept;
         row = λ h e is. subst (λ (x : StepFault). IsRefused s (class_of step) (when s step) x) (some-is f h e) refusal;
         row_where = λ on h other.
             inl (ap (λ (x : StepFault). Some x) (sym (one_refusal s (class_of step) (when s step) f h refusal other)));
@@ -293,9 +312,11 @@ module _ {D : Type 0} (model : DiskView D) (step : Step) where
         full_where = λ on no left long. absurd (no f refusal);
       }
 
--- the same of a journal and a state that are equal to those before
-pub makes_along : {D : Type 0} (model : DiskView D) (step : Step) (mid old new : JournalShown D) (t s s' : State) (fault : Option StepFault)
-    → mid ≡ old → t ≡ s → Makes model step mid t new s' fault → Makes model step old s new s' fault
-makes_along model step mid old new t s s' fault e f m =
-    subst (λ (x : State). Makes model step old x new s' fault) f
-    (subst (λ (j : JournalShown _). Makes model step j t new s' fault) e m)
+-- the same of a journal, a state and steps that are equal to those before
+pub makes_along : {D : Type 0} (model : DiskView D) (step : Step) (mid old new : JournalShown D) (t s s' : State)
+    (b a c : List Step) (fault : Option StepFault) → mid ≡ old → t ≡ s → b ≡ a
+    → Makes model step mid t b new s' c fault → Makes model step old s a new s' c fault
+makes_along model step mid old new t s s' b a c fault e f h m =
+    subst (λ (x : List Step). Makes model step old s x new s' c fault) h
+    (subst (λ (x : State). Makes model step old x b new s' c fault) f
+    (subst (λ (j : JournalShown _). Makes model step j t b new s' c fault) e m))

@@ -1,6 +1,6 @@
 -- Steps on an open lane: where they are possible, and why they are refused.
 use Rattle.std.proofs.Common.{◌≡◌, ℕ, ◌+◌, ◌<◌, ◌≤◌, ◌^◌, Bool, true, false, cond, Option, None, Some, length, refl}
-use Rattle.std.proofs.Common.{sym, ap, subst, arith}
+use Rattle.std.proofs.Common.{List, sym, ap, subst, arith}
 use Rattle.std.specs.Prelude.{nat_lt}
 use Rattle.std.proofs.lemmas.Bool.{ltb-true, ltb-false}
 use Rattle.mta_records.specs.declared.step.Step.{Step}
@@ -214,7 +214,7 @@ module _ (s : State) (n g : ℕ) (few : length s.machine.items < 2 ^ 32) where
 
 -- the same of a generation that is equal
 pub bind_along : {D : Type 0} (model : DiskView D) (n g h : ℕ) (old new : JournalShown D) (s s' : State)
-    (fault : Option StepFault) → g ≡ h → Makes model (steps.Bind n g) old s new s' fault
-    → Makes model (steps.Bind n h) old s new s' fault
-bind_along model n g h old new s s' fault e m =
-    subst (λ (x : ℕ). Makes model (steps.Bind n x) old s new s' fault) e m
+    (a a' : List Step) (fault : Option StepFault) → g ≡ h → Makes model (steps.Bind n g) old s a new s' a' fault
+    → Makes model (steps.Bind n h) old s a new s' a' fault
+bind_along model n g h old new s s' a a' fault e m =
+    subst (λ (x : ℕ). Makes model (steps.Bind n x) old s a new s' a' fault) e m

@@ -1,5 +1,5 @@
 -- What opening a disk leaves.
-use Rattle.std.proofs.Common.{inl, inr, ◌≡◌, ℕ, ◌≤◌, ◌<◌, List, map, Some, sym, subst}
+use Rattle.std.proofs.Common.{inl, inr, ◌≡◌, ℕ, ◌≤◌, List, sym, subst}
 use Rattle.mta_edge.specs.Views.{DiskView, StaysTold, WhereTold}
 use Rattle.mta_journal.specs.Bodies.{StandsFor as HoldsBodies}
 use Rattle.mta_journal.specs.Shown.{Shown as JournalShown, Holds}

@@ -1,5 +1,5 @@
 -- The peers that tables name have words that a record holds.
-use Rattle.std.proofs.Common.{◌≡◌, ℕ, Bool, true, false, List, [], ◌∷◌, ◌++◌, length, get_or, Option, None, Some}
+use Rattle.std.proofs.Common.{◌≡◌, ℕ, Bool, true, false, List, [], ◌∷◌, ◌++◌, get_or, Option, None, Some}
 use Rattle.std.proofs.Common.{Result, Ok, Err, refl, sym, subst}
 use Rattle.std.specs.Prelude.{◌&&◌, is_some, option_and_then}
 use Rattle.std.specs.List.{All, position}

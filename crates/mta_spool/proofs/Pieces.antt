@@ -16,7 +16,7 @@ use Rattle.mta_records.specs.declared.fault.CompleteFault.{CompleteFault}
 use Rattle.mta_records.specs.declared.fault.CompleteFault.TheVariants as CompleteFaults
 use Rattle.mta_records.specs.declared.fault.StepFault.{StepFault}
 use Rattle.mta_records.specs.declared.fault.StepFault.TheVariants as Faults
-use Rattle.mta_apdu.specs.Apdus.{ApduValue, apdu_of, SpellsApdu}
+use Rattle.mta_apdu.specs.Apdus.{ApduValue, apdu_of}
 use Rattle.mta_apdu.proofs.ApduLaws.{apdu_full}
 use Rattle.mta_machine.specs.Apdu.{IsApdu}
 use Rattle.mta_lane_recv.specs.Half as recv
@@ -33,8 +33,8 @@ use Rattle.mta_lanes.proofs.Concats.{length_behind}
 use Rattle.mta_spool.specs.OnLanes.{refusal_on}
 use Rattle.mta_spool.specs.Receiving.{HasFaultOn, IsBad, IsExpected, IsNoApdu, IsTooLong, Receives, step_fault_of}
 use Rattle.mta_spool.specs.Refusals.{ExpectsPiece, IsFenced, IsRefused, LaneExpects}
-use Rattle.mta_spool.specs.Shown.{Shown}
-use Rattle.mta_spool.specs.Stands.{Appends, IsSpent}
+use Rattle.mta_spool.specs.Shown.{AtOpening, Shown}
+use Rattle.mta_spool.specs.Stands.{Appends, IsSpent, Makes}
 use Rattle.mta_spool.specs.Turning.{IsUnchanged}
 use Rattle.mta_spool.proofs.Making.{refused_for_lane}
 use Rattle.mta_spool.proofs.OnLanes.{lane_possible}
@@ -408,21 +408,23 @@ module _ {D C T : Type 0} (model : DiskView D) (step : Step) (Bad : Fault → Ty
       → Receives {T = T} model step Bad old new (Err (CompleteFaults.Step f))
   lane_receives f same going refusal =
       step_receives (Err (CompleteFaults.Step f)) (Some f) refl
-      (refused_for_lane model step f old.journal new.journal old.current new.current same.0 same.1 going refusal)
+      (subst
+      (λ (made : List Step).
+      Makes model step old.journal old.current old.entries new.journal new.current made (Some f)) (sym same.2)
+      (refused_for_lane model step f old.journal new.journal old.current new.current same.0 same.1 going refusal))
 
--- the same of a journal and a state that are equal to those before
+abbrev ReceivesBy : {D C T : Type 0} → DiskView D → Step → (State → Fault → Type 0) → C → AtOpening D C → Shown D C
+    → Result T CompleteFault → JournalShown D → State → List Step → Type 0
+ReceivesBy model step Bad clock opened new result journal state entries =
+    Receives model step (Bad state)
+    (record { journal = journal; clock = clock; current = state; entries = entries; opened = opened }) new result
+
+-- the same of a journal, a state and entries that are equal to those before
 pub receives_along : {D C T : Type 0} (model : DiskView D) (step : Step) (Bad : State → Fault → Type 0)
     (old mid new : Shown D C) (result : Result T CompleteFault) → IsUnchanged old mid
     → Receives model step (Bad mid.current) mid new result → Receives model step (Bad old.current) old new result
-receives_along {D} {C} model step Bad old mid new result same receives =
-    subst
-    (λ (s : State).
-    Receives model step (Bad s) (record { journal = old.journal; clock = old.clock; current = s }) new result) same.1
-    (subst
-    (λ (j : JournalShown D).
-    Receives model step (Bad mid.current) (record { journal = j; clock = old.clock; current = mid.current }) new
-    result) same.0 moved)
-  where
-    moved : Receives model step (Bad mid.current)
-        (record { journal = mid.journal; clock = old.clock; current = mid.current }) new result
-    moved = record { appends = receives.appends; bad = receives.bad; bad_where = receives.bad_where }
+receives_along model step Bad old mid new result same receives =
+    subst (ReceivesBy model step Bad old.clock old.opened new result old.journal old.current) same.2
+    (subst (λ (s : State). ReceivesBy model step Bad old.clock old.opened new result old.journal s mid.entries) same.1
+    (subst (λ (j : JournalShown _). ReceivesBy model step Bad old.clock old.opened new result j mid.current mid.entries)
+    same.0 (record { appends = receives.appends; bad = receives.bad; bad_where = receives.bad_where })))

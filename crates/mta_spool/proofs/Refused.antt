@@ -1,5 +1,5 @@
 -- Where a step is possible none of the refusals for a lane stands.
-use Rattle.std.proofs.Common.{◌≡◌, ℕ, ◌<◌, ◌≤◌, Bool, List, Option, None, Some, refl, sym, ap, subst, ◌∙◌, arith}
+use Rattle.std.proofs.Common.{◌≡◌, ℕ, Bool, List, Option, None, Some, refl, sym, ap, subst, ◌∙◌, arith}
 use Rattle.mta_records.specs.Reference.{Identifier}
 use Rattle.mta_records.specs.declared.lane.LaneRole.{LaneRole}
 use Rattle.mta_records.specs.declared.step.Step.{Step}

@@ -1,5 +1,5 @@
 -- An activity that is started or goes on.
-use Rattle.std.proofs.Common.{◌≡◌, ◌≤◌, ◌<◌, ◌+◌, ◌^◌, ℕ, zero, suc, true, false, List, [], ◌∷◌, length}
+use Rattle.std.proofs.Common.{◌≡◌, ◌≤◌, ◌<◌, ◌^◌, ℕ, zero, suc, true, false, List, [], ◌∷◌, length}
 use Rattle.std.proofs.Common.{Option, None, Some, eqb, refl, sym, ap, subst, ◌∙◌, arith}
 use Rattle.std.specs.List.{All}
 use Rattle.std.proofs.lemmas.Bool.{eq-eqb, or_left}
@@ -119,11 +119,11 @@ starts_as s step t k (Some outgoing) possible carried = (possible, carried)
 
 -- the same of a number that is equal
 pub start_along : {D : Type 0} (model : DiskView D) (n g k h i : ℕ) (rs : List ℕ) (moment : ℕ)
-    (old new : JournalShown D) (s s' : State) (fault : Option StepFault) → k ≡ h
-    → Makes model (steps.Start n g k i rs moment) old s new s' fault
-    → Makes model (steps.Start n g h i rs moment) old s new s' fault
-start_along model n g k h i rs moment old new s s' fault e m =
-    subst (λ (x : ℕ). Makes model (steps.Start n g x i rs moment) old s new s' fault) e m
+    (old new : JournalShown D) (s s' : State) (a a' : List Step) (fault : Option StepFault) → k ≡ h
+    → Makes model (steps.Start n g k i rs moment) old s a new s' a' fault
+    → Makes model (steps.Start n g h i rs moment) old s a new s' a' fault
+start_along model n g k h i rs moment old new s s' a a' fault e m =
+    subst (λ (x : ℕ). Makes model (steps.Start n g x i rs moment) old s a new s' a' fault) e m
 
 none-to-start : (o : Option Lane) (k i : ℕ) (rs : List ℕ) → numbers_on o (start k i rs) ≡ 0
 none-to-start None k i rs = refl

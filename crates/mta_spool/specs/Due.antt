@@ -1,5 +1,4 @@
 -- The steps that may be due.
-use Rattle.std.specs.Prelude.{ℕ}
 use Rattle.mta_records.specs.declared.step.Step.{Step}
 use Rattle.mta_histories.specs.Classes.{LaneStep, abandon, Class, records, accepts, settles, opens, on_lane, class_of}
 

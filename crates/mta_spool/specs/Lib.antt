@@ -1,6 +1,8 @@
 pub mod Due
 pub mod Refusals
 pub mod Shown
+pub mod Crashing
+pub mod Bases
 pub mod Stands
 pub mod Making
 pub mod Replaying

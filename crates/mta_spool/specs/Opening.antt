@@ -1,12 +1,13 @@
 -- What opening finds and leaves.
-use Rattle.std.specs.Prelude.{◌≡◌, ℕ, ◌≤◌, List, Some}
+use Rattle.std.specs.Prelude.{◌≡◌, ℕ, ◌≤◌, List, [], map}
 use Rattle.mta_edge.specs.Causes.{Rose}
 use Rattle.mta_edge.specs.Views.{DiskView, StaysTold, WhereTold}
 use Rattle.mta_edge.specs.Crashes.{AtAnyMoment}
-use Rattle.mta_journal.specs.Opening.{BeforeOrSame, IsLeft, LongStays, SameSince}
+use Rattle.mta_journal.specs.Opening.{BeforeOrSame, IsLeft, IsSameFrom, LongStays, SameSince}
 use Rattle.mta_journal.specs.declared.why.OpenWhy.{OpenWhy}
 use Rattle.mta_journal.specs.declared.why.OpenWhy.TheVariants as Whys
 use Rattle.mta_records.specs.declared.step.Step.{Step}
+use Rattle.mta_records.specs.Body.{body_of}
 use Rattle.mta_images.specs.Image.{StandsFor, NoSpoolAt}
 use Rattle.mta_spool.specs.Shown.{Shown}
 use Rattle.mta_spool.specs.Stands.{Stands}
@@ -25,6 +26,11 @@ pub record HasOpened {D C : Type 0} (model : DiskView D) (old : D) (spool : Show
   pub images : OpensSafely model old spool.journal.disk
   -- since a moment of the call, that of its first sync, a crash leaves the same
   pub since : WhereTold model old (λ f. SameSince model f old spool.journal.disk)
+  pub synced : WhereTold model old (λ f. IsSameFrom model f old spool.journal.disk (model.moment spool.opened.synced))
+  -- no step was made yet, and what it was opened with is known
+  pub none : spool.entries ≡ []
+  pub disk : spool.opened.disk ≡ old
+  pub bodies : spool.opened.bodies ≡ map body_of steps
 
 -- The disk was refused.
 pub record HasRefused {D : Type 0} (model : DiskView D) (old new : D) (why : OpenWhy) : Type 0 where

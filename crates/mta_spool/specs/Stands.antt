@@ -94,9 +94,15 @@ IsOfNoLane (Some StepFaults.Unexpected) = ⊥
 abbrev pub IsOfNoRefusal : State → Step → Type 0
 IsOfNoRefusal s step = (f : StepFault) → IsRefused s (class_of step) (when s step) f → ⊥
 
--- What a call that makes this step, or refuses it by this fault, leaves of the journal and of the state in memory.
-pub record Makes {D : Type 0} (model : DiskView D) (step : Step) (old : JournalShown D) (s : State)
-    (new : JournalShown D) (s' : State) (fault : Option StepFault) : Type 0 where
+-- the steps that were made, behind a call that makes this one, or refuses it by this fault
+abbrev pub entries_after : List Step → Step → Option StepFault → List Step
+entries_after made step None = made ++ step ∷ []
+entries_after made step (Some fault) = made
+
+-- What a call that makes this step, or refuses it by this fault, leaves of the journal, of the state in memory, and of
+-- the steps that were made since the spool was opened.
+pub record Makes {D : Type 0} (model : DiskView D) (step : Step) (old : JournalShown D) (s : State) (made : List Step)
+    (new : JournalShown D) (s' : State) (made' : List Step) (fault : Option StepFault) : Type 0 where
   -- where it is a step of lanes it is refused for the lane exactly where that stands, or there was no memory to look
   pub row : (f : StepFault) → fault ≡ Some f → IsOfLane f → IsRefused s (class_of step) (when s step) f
   pub row_where : old.ended ≡ false → (f : StepFault) → IsRefused s (class_of step) (when s step) f
@@ -106,6 +112,10 @@ pub record Makes {D : Type 0} (model : DiskView D) (step : Step) (old : JournalS
   -- in memory is the state after it, and the spool goes on
   pub changed : fault ≡ None → s' ≡ after_step s step
   pub going : fault ≡ None → new.ended ≡ false
+  -- it stands behind the steps that were made before
+  pub entries : made' ≡ entries_after made step fault
+  -- where it is refused, also for the disk, the state in memory is as it was
+  pub still : fault ≢ None → s' ≡ s
   -- the disk tells what it holds where it told it
   pub told : StaysTold model old.disk new.disk
   -- where it is made or the disk failed a crash leaves the step or does not
@@ -131,4 +141,5 @@ pub record Makes {D : Type 0} (model : DiskView D) (step : Step) (old : JournalS
 
 -- what a call of the spool that makes this step, or refuses it by this fault, leaves of it
 abbrev pub Appends : {D C : Type 0} → DiskView D → Step → Shown D C → Shown D C → Option StepFault → Type 0
-Appends model step old new fault = Makes model step old.journal old.current new.journal new.current fault
+Appends model step old new fault =
+    Makes model step old.journal old.current old.entries new.journal new.current new.entries fault

@@ -26,7 +26,8 @@ IsLastRecorded m (Some tables) = numbered m.tables (last_tables m) ≡ Some tabl
 
 -- nothing but what the clock may answer has changed
 abbrev pub IsUnchanged : {D C : Type 0} → Shown D C → Shown D C → Type 0
-IsUnchanged old new = (new.journal ≡ old.journal) × (new.current ≡ old.current)
+IsUnchanged old new =
+    (new.journal ≡ old.journal) × (new.current ≡ old.current) × (new.entries ≡ old.entries)
 
 -- Tables that are recorded last already make no step. Others are recorded by one, or the step is refused.
 pub record Records {D C : Type 0} (model : DiskView D) (text : List ℕ) (old new : Shown D C)

@@ -9,6 +9,7 @@ use mta_edge::{Clock, Disk};
 use mta_records::{Step, StepFault};
 
 impl<D: Disk + Drop, C: Clock + Drop> Spool<D, C> {
+    ghost use Rattle.mta_spool.specs.Bases.{KeepsOn};
     ghost use Rattle.mta_records.specs.declared.step.Step.TheVariants as Steps;
     ghost use Rattle.mta_spool.specs.OnLanes.{BindsPastLast, IsNext};
     ghost use Rattle.mta_spool.specs.Stands.{Appends, fault_of};
@@ -34,6 +35,8 @@ impl<D: Disk + Drop, C: Clock + Drop> Spool<D, C> {
         requires next { IsNext (lane_at lane self.old.current.lanes.open_lanes) generation }
         ensures made { Appends D.model (Steps.Bind lane generation) self.old self.new (fault_of result) }
         ensures clock { self.new.clock ≡ self.old.clock }
+        ensures opened { self.new.opened ≡ self.old.opened }
+        ensures keeps { KeepsOn D.model C.model self.old self.new }
     {
         self.make(Step::Bind { lane, generation })
     }
@@ -51,6 +54,8 @@ impl<D: Disk + Drop, C: Clock + Drop> Spool<D, C> {
         ensures generation { IfOk result
             (λ g. g ≡ next_generation (lane_at lane self.old.current.lanes.open_lanes)) }
         ensures clock { self.new.clock ≡ self.old.clock }
+        ensures opened { self.new.opened ≡ self.old.opened }
+        ensures keeps { KeepsOn D.model C.model self.old self.new }
     {
         if self.journal.is_ended() {
             return Err(StepFault::Ended);

@@ -42,6 +42,7 @@ pub(crate) fn refusal_on(lanes: &Lanes, lane: u32, generation: u64) -> StepFault
 }
 
 impl<D: Disk + Drop, C: Clock + Drop> Spool<D, C> {
+    ghost use Rattle.mta_spool.specs.Bases.{KeepsOn};
     ghost use Rattle.mta_records.specs.declared.step.Step.TheVariants as Steps;
     ghost use Rattle.mta_histories.specs.Classes.{class_of};
     ghost use Rattle.mta_histories.specs.History.{StepNeeds, when};
@@ -66,6 +67,8 @@ impl<D: Disk + Drop, C: Clock + Drop> Spool<D, C> {
         requires needed { needed ≡ numbers_needed self.old.current (class_of step) }
         ensures made { Appends D.model step self.old self.new (fault_of result) }
         ensures clock { self.new.clock ≡ self.old.clock }
+        ensures opened { self.new.opened ≡ self.old.opened }
+        ensures keeps { KeepsOn D.model C.model self.old self.new }
     {
         if self.journal.is_ended() {
             return Err(StepFault::Ended);
@@ -92,6 +95,8 @@ impl<D: Disk + Drop, C: Clock + Drop> Spool<D, C> {
         requires exact { IsTrue allowed ↔ StepNeeds self.old.current (class_of step) (when self.old.current step) }
         ensures made { Appends D.model step self.old self.new (fault_of result) }
         ensures clock { self.new.clock ≡ self.old.clock }
+        ensures opened { self.new.opened ≡ self.old.opened }
+        ensures keeps { KeepsOn D.model C.model self.old self.new }
     {
         self.make_on_lane(lane, generation, allowed, 0, step)
     }
@@ -108,6 +113,8 @@ impl<D: Disk + Drop, C: Clock + Drop> Spool<D, C> {
         ensures appends { Appends D.model (Steps.LaneAgree lane generation checkpoint window) self.old self.new
             (fault_of result) }
         ensures clock { self.new.clock ≡ self.old.clock }
+        ensures opened { self.new.opened ≡ self.old.opened }
+        ensures keeps { KeepsOn D.model C.model self.old self.new }
     {
         let allowed = self
             .replay
@@ -133,6 +140,8 @@ impl<D: Disk + Drop, C: Clock + Drop> Spool<D, C> {
         ensures appends { Appends D.model (Steps.Confirm lane generation activity number) self.old self.new
             (fault_of result) }
         ensures clock { self.new.clock ≡ self.old.clock }
+        ensures opened { self.new.opened ≡ self.old.opened }
+        ensures keeps { KeepsOn D.model C.model self.old self.new }
     {
         let allowed = self
             .replay
@@ -152,6 +161,8 @@ impl<D: Disk + Drop, C: Clock + Drop> Spool<D, C> {
         ensures appends { Appends D.model (Steps.Ending lane generation activity) self.old self.new
             (fault_of result) }
         ensures clock { self.new.clock ≡ self.old.clock }
+        ensures opened { self.new.opened ≡ self.old.opened }
+        ensures keeps { KeepsOn D.model C.model self.old self.new }
     {
         let allowed = self.replay.kept.may_end(lane, generation, activity);
         let step = Step::Ending {
@@ -167,6 +178,8 @@ impl<D: Disk + Drop, C: Clock + Drop> Spool<D, C> {
         ensures appends { Appends D.model (Steps.Dropped lane generation activity) self.old self.new
             (fault_of result) }
         ensures clock { self.new.clock ≡ self.old.clock }
+        ensures opened { self.new.opened ≡ self.old.opened }
+        ensures keeps { KeepsOn D.model C.model self.old self.new }
     {
         let allowed = self.replay.kept.may_drop(lane, generation, activity);
         let step = Step::Dropped {
@@ -186,6 +199,8 @@ impl<D: Disk + Drop, C: Clock + Drop> Spool<D, C> {
     ) -> Result<(), StepFault>
         ensures appends { Appends D.model (Steps.Drop lane generation activity) self.old self.new (fault_of result) }
         ensures clock { self.new.clock ≡ self.old.clock }
+        ensures opened { self.new.opened ≡ self.old.opened }
+        ensures keeps { KeepsOn D.model C.model self.old self.new }
     {
         let allowed = self.replay.kept.may_give_up(lane, generation, activity);
         let step = Step::Drop {
@@ -200,6 +215,8 @@ impl<D: Disk + Drop, C: Clock + Drop> Spool<D, C> {
     pub fn close_lane(&mut self, lane: u32, generation: u64) -> Result<(), StepFault>
         ensures appends { Appends D.model (Steps.CloseLane lane generation) self.old self.new (fault_of result) }
         ensures clock { self.new.clock ≡ self.old.clock }
+        ensures opened { self.new.opened ≡ self.old.opened }
+        ensures keeps { KeepsOn D.model C.model self.old self.new }
     {
         let allowed = self.replay.kept.may_close(lane, generation);
         let step = Step::CloseLane { lane, generation };

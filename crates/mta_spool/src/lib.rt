@@ -1,8 +1,11 @@
 //! The spool: items and their recipients, over a journal of steps on one disk.
 #![tactic(auto)]
 
+mod at_opening;
 mod binding;
 mod due;
+mod entries;
+mod historied;
 mod lanes;
 mod looks;
 mod make;

@@ -35,16 +35,20 @@ fn first_named(
 }
 
 impl<D: Disk + Drop, C: Clock + Drop> Spool<D, C> {
+    ghost use Rattle.mta_spool.specs.Bases.{KeepsOn};
     ghost use Rattle.mta_histories.specs.Due.{HasQueue};
     ghost use Rattle.mta_dues.specs.Answers.{IsBatchOf};
     ghost use Rattle.mta_spool.specs.Stands.{AtMoment, TellsFewer};
     ghost use Rattle.mta_spool.specs.Turning.{IsUnchanged};
 
     /// The lowest item with recipients to relay to the peer now, and all those recipients; none where there is none.
+    #[tactic(auto, using(crate::proofs::Keeping::keeps_still))]
     pub fn batch_for(&mut self, peer: &Word) -> Result<Option<Batch>, Memory>
         ensures batch { AtMoment C.model self.old.clock self.old.current.moment
             (λ m. IfOk result (IsBatchOf self.old.current peer.now m)) }
         ensures clock { TellsFewer C.model self.old.clock self.new.clock }
+        ensures opened { self.new.opened ≡ self.old.opened }
+        ensures keeps { KeepsOn D.model C.model self.old self.new }
         ensures rest { IsUnchanged self.old self.new }
     {
         let moment = self.step_moment();

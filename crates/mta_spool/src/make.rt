@@ -17,6 +17,7 @@ ghost use Rattle.mta_state.specs.Sound.{IsSound};
 ghost use Rattle.mta_spool.specs.Making.{step_fault};
 ghost use Rattle.mta_spool.specs.Stands.{fault_of, IsSpent, Makes};
 
+use crate::entries::Entries;
 use mta_edge::Disk;
 use mta_journal::{AppendFault, Journal};
 use mta_records::{Step, StepFault, write_record};
@@ -40,6 +41,7 @@ pub fn make<D: Disk + Drop>(
     alloc: Global,
     journal: &mut Journal<D>,
     replay: &mut Replay<TableRules>,
+    entries: &mut Entries,
     step: Step,
 ) -> Result<(), StepFault>
     requires going { journal.old.ended ≡ false }
@@ -48,19 +50,21 @@ pub fn make<D: Disk + Drop>(
     requires sound { IsSound text_of replay.old.kept replay.old.rules }
     requires possible { IsPossible (state_of replay.old.kept) step }
     requires numbers { IsSpent (state_of replay.old.kept) step → ⊥ }
-    ensures made { Makes D.model step journal.old (state_of replay.old.kept) journal.new (state_of replay.new.kept)
-        (fault_of result) }
+    ensures made { Makes D.model step journal.old (state_of replay.old.kept) entries.old.steps journal.new
+        (state_of replay.new.kept) entries.new.steps (fault_of result) }
     ensures sound { IsSound text_of replay.new.kept replay.new.rules }
 {
     let Ok(record) = write_record(alloc, &step) else {
         return Err(StepFault::Memory);
     };
+    let longer = entries.with(&step);
     let Ok(ready) = replay.hold(alloc, step) else {
         return Err(StepFault::Memory);
     };
     match journal.append(record.as_slice()) {
         Ok(()) => {
             replay.commit(ready);
+            *entries = longer;
             Ok(())
         }
         Err(fault) => {

@@ -9,11 +9,14 @@
 
 ghost use Rattle.std.specs.Prelude.{◌≡◌, IfOk, IfErr};
 
+use crate::at_opening::AtOpening;
+use crate::entries::Entries;
 use crate::replay::replay;
 use crate::spool::Spool;
 use mta_edge::{Clock, Disk};
 use mta_journal::{Journal, OpenFault, OpenWhy, Opened};
 use std::alloc::Global;
+use std::snapshot::Snapshot;
 
 /// A refusal, which hands the disk and the clock back.
 #[derive(Drop)]
@@ -24,6 +27,7 @@ pub struct SpoolOpen<D: Disk + Drop, C: Clock + Drop> {
 }
 
 impl<D: Disk + Drop, C: Clock + Drop> Spool<D, C> {
+    ghost use Rattle.mta_spool.specs.Bases.{Keeps, base_of};
     ghost use Rattle.mta_spool.specs.Opening.{HasOpened, HasRefused};
 
     /// Opens the spool on this disk, whatever a crash has left of it. A disk of at most nine octets, whatever it
@@ -36,24 +40,40 @@ impl<D: Disk + Drop, C: Clock + Drop> Spool<D, C> {
     pub fn open(alloc: Global, disk: D, clock: C) -> Result<Spool<D, C>, SpoolOpen<D, C>>
         ensures opened { IfOk result (λ s. HasOpened D.model disk s) }
         ensures clock { IfOk result (λ s. s.clock ≡ clock) }
+        ensures handed_clock { IfOk result (λ s. s.opened.clock ≡ clock) }
+        ensures keeps { IfOk result (λ s. Keeps D.model C.model s (base_of D.model C.model s)) }
         ensures refused { IfErr result (λ e. HasRefused D.model disk e.disk e.why) }
         ensures clock_back { IfErr result (λ e. e.clock ≡ clock) }
     {
+        let handed = Snapshot::of(&disk);
         let Opened {
             journal,
             first: _,
             bodies,
+            synced,
         } = match Journal::open(alloc, disk) {
             Ok(opened) => opened,
             Err(OpenFault { disk, why }) => return Err(SpoolOpen { disk, clock, why }),
         };
         match replay(alloc, bodies.as_slice()) {
-            Ok(replay) => Ok(Spool {
-                alloc,
-                journal,
-                clock,
-                replay,
-            }),
+            Ok(replay) => {
+                let at_hand = Snapshot::of(&clock);
+                let found = Snapshot::of(&bodies);
+                let entries = Entries::new();
+                Ok(Spool {
+                    alloc,
+                    journal,
+                    clock,
+                    replay,
+                    entries,
+                    opened: AtOpening {
+                        disk: handed,
+                        clock: at_hand,
+                        synced,
+                        bodies: found,
+                    },
+                })
+            }
             Err(why) => Err(SpoolOpen {
                 disk: journal.end(),
                 clock,

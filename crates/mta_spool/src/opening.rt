@@ -35,6 +35,7 @@ fn reference_fits(reference: &Reference)
 }
 
 impl<D: Disk + Drop, C: Clock + Drop> Spool<D, C> {
+    ghost use Rattle.mta_spool.specs.Bases.{KeepsOn};
     ghost use Rattle.mta_records.specs.declared.step.Step.TheVariants as Steps;
     ghost use Rattle.mta_spool.specs.Opened.{IsOther};
     ghost use Rattle.mta_histories.specs.History.{NamesPeer};
@@ -115,6 +116,8 @@ impl<D: Disk + Drop, C: Clock + Drop> Spool<D, C> {
             self.new (fault_of result) }
         ensures number { IfOk result (λ n. n ≡ self.old.current.lanes.count + 1) }
         ensures clock { self.new.clock ≡ self.old.clock }
+        ensures opened { self.new.opened ≡ self.old.opened }
+        ensures keeps { KeepsOn D.model C.model self.old self.new }
     {
         if self.journal.is_ended() {
             return Err(StepFault::Ended);
@@ -163,6 +166,8 @@ impl<D: Disk + Drop, C: Clock + Drop> Spool<D, C> {
             (fault_of result)) }
         ensures number { IfOk result (λ n. n ≡ self.old.current.lanes.count + 1) }
         ensures clock { TellsFewer C.model self.old.clock self.new.clock }
+        ensures opened { self.new.opened ≡ self.old.opened }
+        ensures keeps { KeepsOn D.model C.model self.old self.new }
     {
         let moment = self.step_moment();
         self.lane_open_at(moment, role, peer, reference, twa, checkpoint, window)

@@ -91,6 +91,7 @@ fn fault_of_apdu(
 }
 
 impl<D: Disk + Drop, C: Clock + Drop> Spool<D, C> {
+    ghost use Rattle.mta_spool.specs.Bases.{KeepsOn};
     ghost use Rattle.mta_records.specs.declared.step.Step.TheVariants as Steps;
     ghost use Rattle.mta_ber.specs.declared.fault.Fault.{Fault};
     ghost use Rattle.mta_records.specs.declared.fault.CompleteFault.TheVariants as CompleteFaults;
@@ -132,6 +133,8 @@ impl<D: Disk + Drop, C: Clock + Drop> Spool<D, C> {
         ensures made { Appends D.model (Steps.Secure lane generation activity number piece.now) self.old self.new
             (fault_of result) }
         ensures clock { self.new.clock ≡ self.old.clock }
+        ensures opened { self.new.opened ≡ self.old.opened }
+        ensures keeps { KeepsOn D.model C.model self.old self.new }
     {
         let piece = Octets::from_slice(self.alloc, piece)?;
         self.make(Step::Secure {
@@ -164,6 +167,8 @@ impl<D: Disk + Drop, C: Clock + Drop> Spool<D, C> {
             → IsBad self.old.current lane generation (secure activity number piece.now) self.old.current.moment
             (IsTooLong number piece.now f) → result ≡ Err (CompleteFaults.Bad f) }
         ensures clock { self.new.clock ≡ self.old.clock }
+        ensures opened { self.new.opened ≡ self.old.opened }
+        ensures keeps { KeepsOn D.model C.model self.old self.new }
     {
         if self.journal.is_ended() {
             return Err(CompleteFault::Step(StepFault::Ended));
@@ -217,6 +222,8 @@ impl<D: Disk + Drop, C: Clock + Drop> Spool<D, C> {
             self.new (fault_of result) }
         ensures number { IfOk result (λ n. n ≡ length self.old.current.machine.items + 1) }
         ensures clock { self.new.clock ≡ self.old.clock }
+        ensures opened { self.new.opened ≡ self.old.opened }
+        ensures keeps { KeepsOn D.model C.model self.old self.new }
     {
         self.check_numbers(2)?;
         let item = self.items().len() as u32 + 1;
@@ -250,6 +257,8 @@ impl<D: Disk + Drop, C: Clock + Drop> Spool<D, C> {
             self.old self.new result }
         ensures number { IfOk result (λ n. n ≡ length self.old.current.machine.items + 1) }
         ensures clock { self.new.clock ≡ self.old.clock }
+        ensures opened { self.new.opened ≡ self.old.opened }
+        ensures keeps { KeepsOn D.model C.model self.old self.new }
     {
         if self.journal.is_ended() {
             return Err(CompleteFault::Step(StepFault::Ended));
@@ -299,6 +308,8 @@ impl<D: Disk + Drop, C: Clock + Drop> Spool<D, C> {
             self.old self.new result) }
         ensures number { IfOk result (λ n. n ≡ length self.old.current.machine.items + 1) }
         ensures clock { TellsFewer C.model self.old.clock self.new.clock }
+        ensures opened { self.new.opened ≡ self.old.opened }
+        ensures keeps { KeepsOn D.model C.model self.old self.new }
     {
         let moment = self.step_moment();
         self.complete_at(moment, lane, generation, activity, number, piece)

@@ -59,6 +59,7 @@ fn may_fail(kept: &Kept, lane: u32, generation: u64, activity: u32) -> bool
 }
 
 impl<D: Disk + Drop, C: Clock + Drop> Spool<D, C> {
+    ghost use Rattle.mta_spool.specs.Bases.{KeepsOn};
     ghost use Rattle.mta_records.specs.declared.step.Step.TheVariants as Steps;
     ghost use Rattle.mta_spool.specs.Stands.{Appends, AtMoment, fault_of, TellsFewer};
 
@@ -75,6 +76,8 @@ impl<D: Disk + Drop, C: Clock + Drop> Spool<D, C> {
         ensures appends { Appends D.model (Steps.Sent lane generation activity moment) self.old self.new
             (fault_of result) }
         ensures clock { self.new.clock ≡ self.old.clock }
+        ensures opened { self.new.opened ≡ self.old.opened }
+        ensures keeps { KeepsOn D.model C.model self.old self.new }
     {
         let allowed = may_be_sent(&self.replay.kept, lane, generation, activity);
         let step = Step::Sent {
@@ -91,6 +94,8 @@ impl<D: Disk + Drop, C: Clock + Drop> Spool<D, C> {
         ensures appends { AtMoment C.model self.old.clock self.old.current.moment
             (λ m. Appends D.model (Steps.Sent lane generation activity m) self.old self.new (fault_of result)) }
         ensures clock { TellsFewer C.model self.old.clock self.new.clock }
+        ensures opened { self.new.opened ≡ self.old.opened }
+        ensures keeps { KeepsOn D.model C.model self.old self.new }
     {
         let moment = self.step_moment();
         self.sent_at(moment, lane, generation, activity)
@@ -111,6 +116,8 @@ impl<D: Disk + Drop, C: Clock + Drop> Spool<D, C> {
         ensures appends { Appends D.model (Steps.Refused lane generation activity kind moment) self.old self.new
             (fault_of result) }
         ensures clock { self.new.clock ≡ self.old.clock }
+        ensures opened { self.new.opened ≡ self.old.opened }
+        ensures keeps { KeepsOn D.model C.model self.old self.new }
     {
         let allowed = may_fail(&self.replay.kept, lane, generation, activity);
         let needed = needed_to_fail(&self.replay.kept.lanes, lane);
@@ -139,6 +146,8 @@ impl<D: Disk + Drop, C: Clock + Drop> Spool<D, C> {
             (λ m. Appends D.model (Steps.Refused lane generation activity kind m) self.old self.new
             (fault_of result)) }
         ensures clock { TellsFewer C.model self.old.clock self.new.clock }
+        ensures opened { self.new.opened ≡ self.old.opened }
+        ensures keeps { KeepsOn D.model C.model self.old self.new }
     {
         let moment = self.step_moment();
         self.refused_at(moment, lane, generation, activity, kind)
@@ -157,6 +166,8 @@ impl<D: Disk + Drop, C: Clock + Drop> Spool<D, C> {
         ensures appends { Appends D.model (Steps.Denied lane generation activity moment) self.old self.new
             (fault_of result) }
         ensures clock { self.new.clock ≡ self.old.clock }
+        ensures opened { self.new.opened ≡ self.old.opened }
+        ensures keeps { KeepsOn D.model C.model self.old self.new }
     {
         let allowed = may_fail(&self.replay.kept, lane, generation, activity);
         let needed = needed_to_fail(&self.replay.kept.lanes, lane);
@@ -175,6 +186,8 @@ impl<D: Disk + Drop, C: Clock + Drop> Spool<D, C> {
         ensures appends { AtMoment C.model self.old.clock self.old.current.moment
             (λ m. Appends D.model (Steps.Denied lane generation activity m) self.old self.new (fault_of result)) }
         ensures clock { TellsFewer C.model self.old.clock self.new.clock }
+        ensures opened { self.new.opened ≡ self.old.opened }
+        ensures keeps { KeepsOn D.model C.model self.old self.new }
     {
         let moment = self.step_moment();
         self.denied_at(moment, lane, generation, activity)

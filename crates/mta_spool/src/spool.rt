@@ -19,7 +19,9 @@ ghost use Rattle.mta_machine.specs.Machine.{last_tables};
 ghost use Rattle.mta_histories.specs.History.{IsPossible};
 ghost use Rattle.mta_spool.specs.Turning.{IsLastRecorded, IsRecorded};
 
+use crate::at_opening::AtOpening;
 use crate::due::{numbers_needed, same};
+use crate::entries::Entries;
 use crate::make::make;
 use mta_ber::{Memory, Octets};
 use mta_edge::{Clock, Disk};
@@ -58,6 +60,9 @@ pub struct Spool<D: Disk + Drop, C: Clock + Drop> {
     pub(crate) journal: Journal<D>,
     pub(crate) clock: C,
     pub(crate) replay: Replay<TableRules>,
+    // The steps that were made since it was opened, and what it was opened with: for clauses alone.
+    pub(crate) entries: Entries,
+    pub(crate) opened: AtOpening<D, C>,
 }
 
 impl<D: Disk + Drop, C: Clock + Drop> Model for Spool<D, C> {
@@ -68,12 +73,24 @@ impl<D: Disk + Drop, C: Clock + Drop> Model for Spool<D, C> {
 
     ghost Value = { Shown D C };
 
-    ghost view = { λ s. record { journal = s.journal; clock = s.clock; current = state_of s.replay.kept } };
+    ghost view = { λ s. record {
+      journal = s.journal;
+      clock = s.clock;
+      current = state_of s.replay.kept;
+      entries = s.entries.steps;
+      opened = record {
+        disk = s.opened.disk.value;
+        clock = s.opened.clock.value;
+        synced = s.opened.synced.value;
+        bodies = s.opened.bodies.value.items;
+      };
+    } };
 
     ghost invariant = { λ s. IsSound text_of s.replay.kept s.replay.rules };
 }
 
 impl<D: Disk + Drop, C: Clock + Drop> Spool<D, C> {
+    ghost use Rattle.mta_spool.specs.Bases.{KeepsOn};
     ghost use Rattle.mta_records.specs.declared.step.Step.TheVariants as Steps;
     ghost use Rattle.mta_histories.specs.Classes.{class_of};
     ghost use Rattle.mta_histories.specs.Due.{IsNext};
@@ -92,8 +109,16 @@ impl<D: Disk + Drop, C: Clock + Drop> Spool<D, C> {
         requires numbers { IsSpent self.old.current step → ⊥ }
         ensures made { Appends D.model step self.old self.new (fault_of result) }
         ensures clock { self.new.clock ≡ self.old.clock }
+        ensures opened { self.new.opened ≡ self.old.opened }
+        ensures keeps { KeepsOn D.model C.model self.old self.new }
     {
-        make(self.alloc, &mut self.journal, &mut self.replay, step)
+        make(
+            self.alloc,
+            &mut self.journal,
+            &mut self.replay,
+            &mut self.entries,
+            step,
+        )
     }
 
     // Refuses where fewer numbers of items are left than are needed.
@@ -123,6 +148,8 @@ impl<D: Disk + Drop, C: Clock + Drop> Spool<D, C> {
         requires { self.old.journal.ended ≡ false }
         ensures made { Appends D.model (Steps.Tables tables.now.text) self.old self.new (fault_of result) }
         ensures clock { self.new.clock ≡ self.old.clock }
+        ensures opened { self.new.opened ≡ self.old.opened }
+        ensures keeps { KeepsOn D.model C.model self.old self.new }
     {
         let text = Octets::from_slice(self.alloc, tables.text())?;
         self.make(Step::Tables { text })
@@ -133,6 +160,8 @@ impl<D: Disk + Drop, C: Clock + Drop> Spool<D, C> {
         ensures records { Records D.model tables.now.text self.old self.new result }
         ensures no_lane { IsOfNoLane (fault_of result) }
         ensures clock { self.new.clock ≡ self.old.clock }
+        ensures opened { self.new.opened ≡ self.old.opened }
+        ensures keeps { KeepsOn D.model C.model self.old self.new }
     {
         if self.journal.is_ended() {
             return Err(StepFault::Ended);
@@ -144,9 +173,12 @@ impl<D: Disk + Drop, C: Clock + Drop> Spool<D, C> {
     }
 
     // The moment of a step that is made now.
+    #[tactic(auto, using(crate::proofs::Keeping::keeps_still))]
     pub(crate) fn step_moment(&mut self) -> u64
         ensures moment { AtMoment C.model self.old.clock self.old.current.moment (λ m. result ≡ m) }
         ensures clock { TellsFewer C.model self.old.clock self.new.clock }
+        ensures opened { self.new.opened ≡ self.old.opened }
+        ensures keeps { KeepsOn D.model C.model self.old self.new }
         ensures rest { IsUnchanged self.old self.new }
         ensures timely { self.old.current.moment ≤ result }
         ensures machine { self.old.current.machine.moment ≤ result }
@@ -168,6 +200,8 @@ impl<D: Disk + Drop, C: Clock + Drop> Spool<D, C> {
         ensures made { Appends D.model (Steps.Accept moment apdu.now) self.old self.new (fault_of result) }
         ensures number { IfOk result (λ n. n ≡ length self.old.current.machine.items + 1) }
         ensures clock { self.new.clock ≡ self.old.clock }
+        ensures opened { self.new.opened ≡ self.old.opened }
+        ensures keeps { KeepsOn D.model C.model self.old self.new }
     {
         if self.journal.is_ended() {
             return Err(StepFault::Ended);
@@ -188,6 +222,8 @@ impl<D: Disk + Drop, C: Clock + Drop> Spool<D, C> {
         ensures no_lane { IsOfNoLane (fault_of result) }
         ensures number { IfOk result (λ n. n ≡ length self.old.current.machine.items + 1) }
         ensures clock { TellsFewer C.model self.old.clock self.new.clock }
+        ensures opened { self.new.opened ≡ self.old.opened }
+        ensures keeps { KeepsOn D.model C.model self.old self.new }
     {
         let moment = self.step_moment();
         self.accept_at(moment, apdu)
@@ -201,6 +237,8 @@ impl<D: Disk + Drop, C: Clock + Drop> Spool<D, C> {
         requires fits { moment ≤ last_moment }
         ensures turned { Turns D.model moment self.old self.new result }
         ensures clock { self.new.clock ≡ self.old.clock }
+        ensures opened { self.new.opened ≡ self.old.opened }
+        ensures keeps { KeepsOn D.model C.model self.old self.new }
     {
         let needed = numbers_needed(&self.replay.kept, &step);
         self.check_numbers(needed)?;
@@ -210,10 +248,13 @@ impl<D: Disk + Drop, C: Clock + Drop> Spool<D, C> {
     }
 
     // The step that is due for the lowest item and recipient at a moment; none where nothing is due.
+    #[tactic(auto, using(crate::proofs::Keeping::keeps_same))]
     fn find_due(&mut self, moment: u64) -> Result<Option<Step>, Memory>
         ensures next { IfOk result (IsNextOf self.old.current moment) }
         ensures same { IsUnchanged self.old self.new }
         ensures clock { self.new.clock ≡ self.old.clock }
+        ensures opened { self.new.opened ≡ self.old.opened }
+        ensures keeps { KeepsOn D.model C.model self.old self.new }
     {
         self.replay.due_step(self.alloc, moment)
     }
@@ -224,6 +265,8 @@ impl<D: Disk + Drop, C: Clock + Drop> Spool<D, C> {
         requires fits { moment ≤ last_moment }
         ensures turned { Turns D.model moment self.old self.new result }
         ensures clock { self.new.clock ≡ self.old.clock }
+        ensures opened { self.new.opened ≡ self.old.opened }
+        ensures keeps { KeepsOn D.model C.model self.old self.new }
     {
         if self.journal.is_ended() {
             return Err(StepFault::Ended);
@@ -240,6 +283,8 @@ impl<D: Disk + Drop, C: Clock + Drop> Spool<D, C> {
             (λ m. Turns D.model m self.old self.new result) }
         ensures no_lane { IsOfNoLane (fault_of result) }
         ensures clock { TellsFewer C.model self.old.clock self.new.clock }
+        ensures opened { self.new.opened ≡ self.old.opened }
+        ensures keeps { KeepsOn D.model C.model self.old self.new }
     {
         let moment = self.step_moment();
         self.turn_at(moment)

@@ -235,6 +235,7 @@ fn refusal_past_last(lanes: &Lanes, lane: u32, generation: u64) -> StepFault
 }
 
 impl<D: Disk + Drop, C: Clock + Drop> Spool<D, C> {
+    ghost use Rattle.mta_spool.specs.Bases.{KeepsOn};
     ghost use Rattle.mta_spool.specs.Stands.{Appends, AtMoment, fault_of, TellsFewer};
 
     /// The number and the octets of the activity of the lane's sending half; none exactly where the lane is not open,
@@ -279,6 +280,8 @@ impl<D: Disk + Drop, C: Clock + Drop> Spool<D, C> {
         ensures outgoing { IfOk result
             (λ o. IsResumed (lane_at lane self.new.current.lanes.open_lanes) (Some o)) }
         ensures clock { self.new.clock ≡ self.old.clock }
+        ensures opened { self.new.opened ≡ self.old.opened }
+        ensures keeps { KeepsOn D.model C.model self.old self.new }
     {
         let alloc = self.alloc;
         let started = started_at(
@@ -318,6 +321,8 @@ impl<D: Disk + Drop, C: Clock + Drop> Spool<D, C> {
         ensures outgoing { IfOk result
             (λ o. IsResumed (lane_at lane self.new.current.lanes.open_lanes) (Some o)) }
         ensures clock { self.new.clock ≡ self.old.clock }
+        ensures opened { self.new.opened ≡ self.old.opened }
+        ensures keeps { KeepsOn D.model C.model self.old self.new }
     {
         if self.journal.is_ended() {
             return Err(StepFault::Ended);
@@ -352,6 +357,8 @@ impl<D: Disk + Drop, C: Clock + Drop> Spool<D, C> {
         ensures outgoing { IfOk result
             (λ o. IsResumed (lane_at lane self.new.current.lanes.open_lanes) (Some o)) }
         ensures clock { TellsFewer C.model self.old.clock self.new.clock }
+        ensures opened { self.new.opened ≡ self.old.opened }
+        ensures keeps { KeepsOn D.model C.model self.old self.new }
     {
         let moment = self.step_moment();
         self.start_next(moment, lane, generation, batch)

@@ -37,7 +37,7 @@ returns-then-not-expects_piece-clause-receives g c =
     (IsNoApdu c.args.number piece f))
     c.args.self.now c.args.self.now
     (λ f bad. never (bad_complete s c.args.lane c.args.generation c.args.activity c.args.number piece moment f bad))
-    c.refusal_on-fault.result (refl, refl) going
+    c.refusal_on-fault.result (refl, refl, refl) going
     (subst (λ (f : StepFault). IsRefused s (class_of step) (when s step) f) (sym fault)
     (complete_refused s c.args.lane c.args.generation c.args.activity c.args.number piece moment never))
 

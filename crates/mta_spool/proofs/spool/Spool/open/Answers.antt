@@ -1,7 +1,8 @@
-use Rattle.std.proofs.Common.{List, ℕ, subst}
-use Rattle.mta_journal.specs.Opening.{synced}
+use Rattle.std.proofs.Common.{Global, List, ℕ, Vec, sym, ap, subst, ◌∙◌}
+use Rattle.mta_journal.specs.Opening.{synced, same_since}
 use Rattle.mta_replay.specs.Kept.{state_of}
 use Rattle.mta_spool.specs.Replaying.{HasStopped, IsReplay}
+use Rattle.mta_spool.proofs.Keeping.{keeps_opened}
 use Rattle.mta_spool.proofs.Openings.{stands_opened, history_opened, replay_refused, open_refused}
 use Rattle.mta_spool.proofs.spool.Spool.open.Goals as goal
 
@@ -24,13 +25,26 @@ returns-in-Ok-replay-clause-opened g c =
       later = c.in-Ok.ensures.later;
       told = c.in-Ok.ensures.told;
       images = c.in-Ok.ensures.images;
-      since = c.in-Ok.ensures.since;
+      since = λ f told. same_since g.D.Disk.model f c.args.disk c.in-Ok.opened.journal.disk
+          (g.D.Disk.model.moment c.in-Ok.opened.synced.value) (c.in-Ok.ensures.since f told);
+      synced = c.in-Ok.ensures.since;
+      none = c.new-entries.ensures;
+      disk = c.of-handed.ensures;
+      bodies = ap (λ (v : Vec (List ℕ) Global). v.items) c.of-found.ensures ∙ sym is.bodies_are;
     }
 
-pub returns-clause-refused : goal.returns-clause-refused
-returns-clause-refused g c =
+pub returns-in-Ok-replay-clause-keeps : goal.returns-in-Ok-replay-clause-keeps
+returns-in-Ok-replay-clause-keeps g c =
+    keeps_opened g.D.Disk.model g.C.Clock.model g.met.D.Disk.laws g.met.C.Clock.laws c.args.disk _
+    (returns-in-Ok-replay-clause-opened g c) (sym c.of-at_hand.ensures)
+
+pub returns-in-Err-replay-clause-refused : goal.returns-in-Err-replay-clause-refused
+returns-in-Err-replay-clause-refused g c =
     rw c.end.ensures
     (replay_refused g.D.Disk.model c.args.disk c.in-Ok.opened.journal.disk c.in-Ok.ensures.later c.in-Ok.ensures.kept c.in-Ok.ensures.told c.in-Ok.ensures.images
-    (λ f told. synced (c.in-Ok.ensures.since f told)) c.in-Ok.opened.bodies.items c.in-Err-replay.why c.in-Ok.ensures.stands
+    (λ f told.
+    synced (same_since g.D.Disk.model f c.args.disk c.in-Ok.opened.journal.disk
+    (g.D.Disk.model.moment c.in-Ok.opened.synced.value) (c.in-Ok.ensures.since f told)))
+    c.in-Ok.opened.bodies.items c.in-Err-replay.why c.in-Ok.ensures.stands
     (subst (λ (bs : List (List ℕ)). HasStopped bs c.in-Err-replay.why) c.as_slice.ensures.value
     c.in-Err-replay.ensures.stopped))

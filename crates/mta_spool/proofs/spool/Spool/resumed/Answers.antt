@@ -1,4 +1,4 @@
-use Rattle.std.proofs.Common.{Option, None, ap, subst, ◌∙◌}
+use Rattle.std.proofs.Common.{Option, ap, subst, ◌∙◌}
 use Rattle.std.specs.Prelude.{IfOk}
 use Rattle.mta_histories.specs.Lanes.{Lane, lane_at}
 use Rattle.mta_replay.specs.Kept.{state_of}

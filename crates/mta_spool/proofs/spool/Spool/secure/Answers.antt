@@ -1,5 +1,4 @@
 use Rattle.std.proofs.Common.{◌≡◌, true, refl, sym, ap, subst, ◌∙◌}
-use Rattle.mta_ber.specs.declared.fault.Fault.{Fault}
 use Rattle.mta_records.specs.declared.step.Step.TheVariants as steps
 use Rattle.mta_records.specs.declared.fault.StepFault.{StepFault}
 use Rattle.mta_histories.specs.Classes.{class_of, secure}
@@ -33,7 +32,7 @@ returns-then-not-expects_piece-clause-receives g c =
     (IsTooLong c.args.number piece f))
     c.args.self.now c.args.self.now
     (λ f bad. never (bad_secure s c.args.lane c.args.generation c.args.activity c.args.number piece s.moment f bad))
-    c.refusal_on-fault.result (refl, refl) going
+    c.refusal_on-fault.result (refl, refl, refl) going
     (subst (λ (f : StepFault). IsRefused s (class_of step) (when s step) f) (sym fault)
     (secure_refused s c.args.lane c.args.generation c.args.activity c.args.number piece s.moment never))
 

@@ -1,0 +1,324 @@
+-- What a spool keeps under a base from call to call.
+use Rattle.std.proofs.Common.{inl, inr, ⊎_elim, ◌≡◌, ◌≢◌, ℕ, Bool, true, false, List, [], ◌∷◌, ◌++◌, map}
+use Rattle.std.proofs.Common.{Contains, Option, None, Some, refl, sym, ap, subst, ◌∙◌, append_assoc, arith}
+use Rattle.std.proofs.lemmas.List.{append-nil}
+use Rattle.mta_edge.specs.Views.{ClockLaws, ClockView, DiskLaws, DiskView, IsAmong}
+use Rattle.mta_journal.specs.Shown.{Shown as JournalShown}
+use Rattle.mta_journal.specs.Opening.{IsSame}
+use Rattle.mta_records.specs.declared.step.Step.{Step}
+use Rattle.mta_records.specs.declared.fault.StepFault.{StepFault}
+use Rattle.mta_records.specs.declared.fault.StepFault.TheVariants as Faults
+use Rattle.mta_records.specs.Body.{body_of}
+use Rattle.mta_records.proofs.Records.{body_same}
+use Rattle.mta_histories.specs.Lanes.{State}
+use Rattle.mta_histories.specs.History.{IsHistory, after}
+use Rattle.mta_images.specs.Image.{AreRecords, StandsFor}
+use Rattle.mta_journal.specs.Bodies.{StandsFor as HoldsBodies}
+use Rattle.mta_shared.specs.declared.history.Base.{Base}
+use Rattle.mta_spool.specs.Bases.{Keeps, KeepsOn, StaysSafe, base_of, since_of, where_listed}
+use Rattle.mta_spool.specs.Bases.{where_told}
+use Rattle.mta_spool.specs.Crashing.{IsLeftWith, Reached}
+use Rattle.mta_spool.specs.Opening.{HasOpened}
+use Rattle.mta_spool.specs.Shown.{AtOpening, Shown}
+use Rattle.mta_spool.specs.Stands.{Appends, IsHeld, Stands, TellsFewer}
+use Rattle.mta_spool.specs.Turning.{IsUnchanged}
+use Rattle.mta_spool.proofs.Crashing.{made, reached_as, reached_first, reached_second, torn}
+
+module _ {D C : Type 0} (disks : DiskView D) (clocks : ClockView C) where
+  -- ---- nothing has changed
+
+  abbrev KeepsBy : C → AtOpening D C → Base → JournalShown D → State → List Step → Type 0
+  KeepsBy clock opened base journal state entries =
+      Keeps disks clocks
+      (record { journal = journal; clock = clock; current = state; entries = entries; opened = opened }) base
+
+  along : (clock : C) (opened : AtOpening D C) (base : Base) (j k : JournalShown D) (s t : State) (a b : List Step)
+      → k ≡ j → t ≡ s → b ≡ a → KeepsBy clock opened base j s a → KeepsBy clock opened base k t b
+  along clock opened base j k s t a b same_journal same_state same_entries keeps =
+      subst (KeepsBy clock opened base k t) (sym same_entries)
+      (subst (λ (x : State). KeepsBy clock opened base k x a) (sym same_state)
+      (subst (λ (x : JournalShown D). KeepsBy clock opened base x s a) (sym same_journal) keeps))
+
+  moved : (clock other : C) (opened more : AtOpening D C) (base : Base) (j : JournalShown D) (s : State) (a : List Step)
+      → TellsFewer clocks clock other → KeepsBy clock opened base j s a → KeepsBy other more base j s a
+  moved clock other opened more base j s a fewer keeps = record {
+    count = keeps.count;
+    ended = keeps.ended;
+    clock = λ moments found m told. keeps.clock moments found m (fewer m told);
+    first = keeps.first;
+    found = keeps.found;
+    told = keeps.told;
+    each = keeps.each;
+    history = keeps.history;
+    state = keeps.state;
+    stands = keeps.stands;
+    torn_step = keeps.torn_step;
+    one = keeps.one;
+    calm = keeps.calm;
+    safe = keeps.safe;
+  }
+
+  pub keeps_still : (old new : Shown D C) → IsUnchanged old new → TellsFewer clocks old.clock new.clock
+      → KeepsOn disks clocks old new
+  keeps_still old new same fewer base keeps =
+      along new.clock new.opened base old.journal new.journal old.current new.current old.entries new.entries same.0
+      same.1 same.2
+      (moved old.clock new.clock old.opened new.opened base old.journal old.current old.entries fewer keeps)
+
+  fewer-same : (old new : Shown D C) → new.clock ≡ old.clock → TellsFewer clocks old.clock new.clock
+  fewer-same old new same m told = subst (λ (c : C). clocks.tells c m) same told
+
+  -- the clock was not asked
+  pub keeps_same : (old new : Shown D C) → IsUnchanged old new → new.clock ≡ old.clock → KeepsOn disks clocks old new
+  keeps_same old new same clock = keeps_still old new same (fewer-same old new clock)
+
+  -- the same of a spool that is equal
+  pub keeps_from : (old mid new : Shown D C) → mid ≡ old → KeepsOn disks clocks mid new → KeepsOn disks clocks old new
+  keeps_from old mid new same keeps = subst (λ (v : Shown D C). KeepsOn disks clocks v new) same keeps
+
+  -- ---- a step was made
+
+  module _ (laws : DiskLaws disks) (step : Step) (old new : Shown D C) (clock : new.clock ≡ old.clock) where
+    going-on : (fault : Option StepFault) → Appends disks step old new fault → fault ≢ Some Faults.Ended → (b : Bool)
+        → old.journal.ended ≡ b → old.journal.ended ≡ false
+    going-on fault a other true is = absurd (other (a.ended.1 is))
+    going-on fault a other false is = is
+
+    made-safe : (since : ℕ) (first torn_step : List Step) → Appends disks step old new None
+        → IsHeld disks old.journal old.current (first ++ old.entries) → torn_step ≡ []
+        → StaysSafe disks old.journal.disk since first old.entries torn_step
+        → StaysSafe disks new.journal.disk since first (old.entries ++ step ∷ []) []
+    made-safe since first torn_step a held none x =
+        let steps = first ++ old.entries in
+        let more = old.entries ++ step ∷ [] in
+        let there = a.told x.content x.told in
+        let leaves = made disks step old new (a.crash (inl refl)) x.content x.told steps held a.told
+        (a.done refl steps held) in
+        let whole : steps ++ step ∷ [] ≡ first ++ more = append_assoc first old.entries (step ∷ []) in
+        let now : (g : List ℕ) → disks.may_leave new.journal.disk g → IsLeftWith first more [] g = λ g may.
+        ⊎_elim {C = IsLeftWith first more [] g} (λ here. inl (subst (StandsFor g) whole here))
+        (λ here. inl (subst (StandsFor g) whole here)) (leaves.now g may) in
+        let behind : more ≡ more ++ [] = sym (append-nil more) in
+        record {
+          content = there.0;
+          told = there.1;
+          reads = now there.0 (laws.reads_image new.journal.disk there.0 there.1);
+          now = now;
+          synced = omega (arith, x.synced, leaves.during.later);
+          each = λ g left.
+              ⊎_elim {C = Reached first (more ++ []) g}
+              (λ before.
+              reached_as first more (more ++ []) g behind
+              (reached_first first old.entries (step ∷ []) g
+              (reached_as first (old.entries ++ torn_step) (old.entries ++ []) g
+              (ap (λ (t : List Step). old.entries ++ t) none) (x.each g before))))
+              (λ reached.
+              reached_as first more (more ++ []) g behind
+              (reached_second first old.entries (step ∷ []) g reached))
+              (leaves.during.since since g x.synced left);
+        }
+
+    keeps_made : Appends disks step old new None → KeepsOn disks clocks old new
+    keeps_made a base keeps =
+        let going = going-on None a (λ e. absurd cc) old.journal.ended refl in
+        let done = a.done refl (keeps.first ++ old.entries) (keeps.stands going) in
+        let whole : (keeps.first ++ old.entries) ++ step ∷ [] ≡ keeps.first ++ new.entries =
+        append_assoc keeps.first old.entries (step ∷ []) ∙ ap (λ (x : List Step). keeps.first ++ x) (sym a.entries)
+        in
+        record {
+          count = omega (arith, keeps.count, a.later);
+          ended = λ e. let on : new.journal.ended ≡ false = a.going refl in absurd cc;
+          clock = λ moments found m told. keeps.clock moments found m (fewer-same old new clock m told);
+          first = keeps.first;
+          found = keeps.found;
+          told = keeps.told;
+          each = subst AreRecords whole done.each;
+          history = subst IsHistory whole done.history;
+          state = done.state_is ∙ ap (λ (x : List Step). after x) whole;
+          stands = λ on. subst (Stands disks new) whole done;
+          torn_step = [];
+          one = omega arith;
+          calm = λ on. refl;
+          safe = λ bodies found.
+              subst (λ (x : List Step). StaysSafe disks new.journal.disk (since_of base) keeps.first x [])
+              (sym a.entries)
+              (made-safe (since_of base) keeps.first keeps.torn_step a (keeps.stands going) (keeps.calm going)
+              (keeps.safe bodies found));
+        }
+
+    -- ---- the disk failed in a step
+
+    torn-safe : (since : ℕ) (first torn_step : List Step) → Appends disks step old new (Some Faults.Disk)
+        → IsHeld disks old.journal old.current (first ++ old.entries) → torn_step ≡ []
+        → StaysSafe disks old.journal.disk since first old.entries torn_step
+        → StaysSafe disks new.journal.disk since first old.entries (step ∷ [])
+    torn-safe since first torn_step a held none x =
+        let steps = first ++ old.entries in
+        let more = old.entries ++ step ∷ [] in
+        let there = a.told x.content x.told in
+        let leaves = torn disks step old new (a.crash (inr refl)) x.content x.told steps held in
+        let whole : steps ++ step ∷ [] ≡ first ++ more = append_assoc first old.entries (step ∷ []) in
+        let now : (g : List ℕ) → disks.may_leave new.journal.disk g → IsLeftWith first old.entries (step ∷ []) g =
+        λ g may.
+        ⊎_elim {C = IsLeftWith first old.entries (step ∷ []) g}
+        (λ here. inl (subst (StandsFor g) (append-nil steps) here))
+        (λ here. inr (subst (StandsFor g) whole here)) (leaves.now g may) in
+        record {
+          content = there.0;
+          told = there.1;
+          reads = now there.0 (laws.reads_image new.journal.disk there.0 there.1);
+          now = now;
+          synced = omega (arith, x.synced, leaves.during.later);
+          each = λ g left.
+              ⊎_elim {C = Reached first more g}
+              (λ before.
+              reached_first first old.entries (step ∷ []) g
+              (reached_as first (old.entries ++ torn_step) (old.entries ++ []) g
+              (ap (λ (t : List Step). old.entries ++ t) none) (x.each g before)))
+              (λ reached. reached_second first old.entries (step ∷ []) g reached)
+              (leaves.during.since since g x.synced left);
+        }
+
+    keeps_torn : Appends disks step old new (Some Faults.Disk) → KeepsOn disks clocks old new
+    keeps_torn a base keeps =
+        let going = going-on (Some Faults.Disk) a (λ e. absurd cc) old.journal.ended refl in
+        record {
+          count = omega (arith, keeps.count, a.later);
+          ended = λ e. omega (arith, keeps.count, a.disk refl);
+          clock = λ moments found m told. keeps.clock moments found m (fewer-same old new clock m told);
+          first = keeps.first;
+          found = keeps.found;
+          told = keeps.told;
+          each = subst (λ (x : List Step). AreRecords (keeps.first ++ x)) (sym a.entries) keeps.each;
+          history = subst (λ (x : List Step). IsHistory (keeps.first ++ x)) (sym a.entries) keeps.history;
+          state = a.still (λ e. absurd cc) ∙ keeps.state
+              ∙ ap (λ (x : List Step). after (keeps.first ++ x)) (sym a.entries);
+          stands = λ on. let ended : new.journal.ended ≡ true = a.marked refl in absurd cc;
+          torn_step = step ∷ [];
+          one = omega arith;
+          calm = λ on. let ended : new.journal.ended ≡ true = a.marked refl in absurd cc;
+          safe = λ bodies found.
+              subst (λ (x : List Step). StaysSafe disks new.journal.disk (since_of base) keeps.first x (step ∷ []))
+              (sym a.entries)
+              (torn-safe (since_of base) keeps.first keeps.torn_step a (keeps.stands going) (keeps.calm going)
+              (keeps.safe bodies found));
+        }
+
+    -- ---- a step was made or refused
+
+    keeps_refused : (fault : StepFault) → fault ≢ Faults.Disk → Appends disks step old new (Some fault)
+        → KeepsOn disks clocks old new
+    keeps_refused fault other a =
+        let same = a.kept (λ e. absurd cc) (λ e. absurd (other cc)) in
+        keeps_same old new (same.0, same.1, a.entries) clock
+
+    pub keeps_appends : (fault : Option StepFault) → Appends disks step old new fault → KeepsOn disks clocks old new
+    keeps_appends None a = keeps_made a
+    keeps_appends (Some (Faults.Full size need)) a = keeps_refused (Faults.Full size need) (λ e. absurd cc) a
+    keeps_appends (Some Faults.Disk) a = keeps_torn a
+    keeps_appends (Some Faults.Ended) a = keeps_refused Faults.Ended (λ e. absurd cc) a
+    keeps_appends (Some (Faults.Fenced generation)) a =
+        keeps_refused (Faults.Fenced generation) (λ e. absurd cc) a
+    keeps_appends (Some (Faults.NoLane lane)) a = keeps_refused (Faults.NoLane lane) (λ e. absurd cc) a
+    keeps_appends (Some (Faults.BusyLanes count)) a = keeps_refused (Faults.BusyLanes count) (λ e. absurd cc) a
+    keeps_appends (Some Faults.Unexpected) a = keeps_refused Faults.Unexpected (λ e. absurd cc) a
+    keeps_appends (Some (Faults.Spent last)) a = keeps_refused (Faults.Spent last) (λ e. absurd cc) a
+    keeps_appends (Some Faults.Memory) a = keeps_refused Faults.Memory (λ e. absurd cc) a
+
+-- ---- it was opened
+
+same_stands : (f g : List ℕ) (steps : List Step) → IsSame f g → StandsFor f steps → StandsFor g steps
+same_stands f g steps (inl same) stands = subst (λ (x : List ℕ). StandsFor x steps) (sym same) stands
+same_stands f g steps (inr short) stands = record {
+  bodies = inl (short.1, none_in (map body_of steps) stands.bodies);
+  each = stands.each;
+  history = stands.history;
+} where
+  none_in : (bodies : List (List ℕ)) → HoldsBodies f bodies → bodies ≡ []
+  none_in bodies (inl holds) = holds.1
+  none_in bodies (inr holds) = absurd (omega (arith, short.0, holds.0))
+
+found-is : (told : Option (List ℕ)) (found bodies : List (List ℕ))
+    → ◌≡◌ {A = List (List (List ℕ))} (found ∷ where_told told found) (found ∷ bodies ∷ [])
+    → (f : List ℕ) × (told ≡ Some f) × (found ≡ bodies)
+found-is None found bodies e = absurd cc
+found-is (Some f) found bodies e = (f, refl, cc)
+
+among-listed : (listed : Option (List ℕ)) (moments : List ℕ) (m : ℕ) → where_listed listed ≡ moments ∷ []
+    → IsAmong listed m → Contains moments m
+among-listed None moments m e among = absurd cc
+among-listed (Some listed) moments m e among = let same : listed ≡ moments = cc in rw same at among
+
+module _ {D C : Type 0} (disks : DiskView D) (clocks : ClockView C) (laws : DiskLaws disks)
+    (clock_laws : ClockLaws clocks) (old : D) (spool : Shown D C) (o : HasOpened disks old spool)
+    (clock : spool.clock ≡ spool.opened.clock) where
+  opened-safe : (f : List ℕ) → disks.content old ≡ Some f
+      → StaysSafe disks spool.journal.disk (disks.moment spool.opened.synced) o.steps spool.entries []
+  opened-safe f was =
+      let there = o.told f was in
+      let from = o.synced f was in
+      let behind : o.steps ≡ o.steps ++ spool.entries = sym (append-nil o.steps)
+      ∙ ap (λ (x : List Step). o.steps ++ x) (sym o.none) in
+      let same : (g : List ℕ) → disks.left_since spool.journal.disk (disks.moment spool.opened.synced) g
+      → StandsFor g o.steps = λ g left. same_stands f g o.steps (from.same g left) (o.history f was) in
+      let now : (g : List ℕ) → disks.may_leave spool.journal.disk g → IsLeftWith o.steps spool.entries [] g = λ g may.
+      inl (subst (StandsFor g) behind
+      (same g (laws.counts_now spool.journal.disk (disks.moment spool.opened.synced) g from.until may))) in
+      record {
+        content = there.0;
+        told = there.1;
+        reads = now there.0 (laws.reads_image spool.journal.disk there.0 there.1);
+        now = now;
+        synced = from.until;
+        each = λ g left. (0, subst (StandsFor g) (sym (append-nil o.steps)) (same g left));
+      }
+
+  pub keeps_opened : Keeps disks clocks spool (base_of disks clocks spool)
+  keeps_opened =
+      let behind : o.steps ≡ o.steps ++ spool.entries = sym (append-nil o.steps)
+      ∙ ap (λ (x : List Step). o.steps ++ x) (sym o.none) in
+      record {
+        count = omega (arith, o.later, ap (λ (d : D). disks.faults d) o.disk);
+        ended = λ e. let going : spool.journal.ended ≡ false = o.stands.holds.going in absurd cc;
+        clock = λ moments found m told.
+            among-listed (clocks.moments spool.opened.clock) moments m found
+            ((clock_laws.listed spool.opened.clock m).0 (subst (λ (c : C). clocks.tells c m) clock told));
+        first = o.steps;
+        found = sym o.bodies;
+        told = λ bodies told.
+            let is = found-is (disks.content spool.opened.disk) spool.opened.bodies bodies told in sym o.bodies ∙ is.2;
+        each = subst AreRecords behind o.stands.each;
+        history = subst IsHistory behind o.stands.history;
+        state = o.stands.state_is ∙ ap (λ (x : List Step). after x) behind;
+        stands = λ on. subst (Stands disks spool) behind o.stands;
+        torn_step = [];
+        one = omega arith;
+        calm = λ on. refl;
+        safe = λ bodies found.
+            let is = found-is (disks.content spool.opened.disk) spool.opened.bodies bodies found in
+            opened-safe is.0 (ap (λ (d : D). disks.content d) (sym o.disk) ∙ is.1);
+      }
+
+-- ---- one history is found
+
+front-records : (a b : List Step) → AreRecords (a ++ b) → AreRecords a
+front-records [] b each = tt
+front-records (step ∷ a) b each = (each.0, front-records a b each.1)
+
+same-steps : (a b : List Step) → AreRecords a → AreRecords b → map body_of a ≡ map body_of b → a ≡ b
+same-steps [] [] fits fit e = refl
+same-steps [] (t ∷ b) fits fit e = absurd cc
+same-steps (s ∷ a) [] fits fit e = absurd cc
+same-steps (s ∷ a) (t ∷ b) fits fit e =
+    let here : body_of s ≡ body_of t = cc in
+    let behind : map body_of a ≡ map body_of b = cc in
+    let first : s ≡ t = body_same s t fits.0 fit.0 here in
+    let rest : a ≡ b = same-steps a b fits.1 fit.1 behind in
+    cc
+
+-- spools that keep under one base have one history from opening
+pub one_first : {D C : Type 0} (disks : DiskView D) (clocks : ClockView C) (s t : Shown D C) (base : Base)
+    (k : Keeps disks clocks s base) (l : Keeps disks clocks t base) → k.first ≡ l.first
+one_first disks clocks s t base k l =
+    same-steps k.first l.first (front-records k.first s.entries k.each) (front-records l.first t.entries l.each)
+    (k.found ∙ sym l.found)
