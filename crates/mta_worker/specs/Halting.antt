@@ -1,4 +1,4 @@
--- Why a worker ends.
+-- Why a worker ends behind a call of the spool.
 use Rattle.std.specs.Prelude.{Option, None, Some, Err, option_and_then}
 use Rattle.mta_records.specs.declared.fault.CompleteFault.{CompleteFault}
 use Rattle.mta_records.specs.declared.fault.CompleteFault.TheVariants as CompleteFaults
@@ -6,20 +6,8 @@ use Rattle.mta_session.specs.declared.ask.Reply.{Reply}
 use Rattle.mta_session.specs.declared.ask.Reply.TheVariants as reply
 use Rattle.mta_records.specs.declared.fault.StepFault.{StepFault}
 use Rattle.mta_records.specs.declared.fault.StepFault.TheVariants as StepFaults
-use Rattle.mta_worker.specs.declared.end.Halt.{Halt}
-use Rattle.mta_worker.specs.declared.end.Halt.TheVariants as Halts
-
--- where a step is refused so it ends, or it goes on
-abbrev pub halt_of : StepFault → Option Halt
-halt_of (StepFaults.Full size need) = Some (Halts.Full size need)
-halt_of StepFaults.Disk = Some Halts.Disk
-halt_of StepFaults.Ended = Some Halts.Disk
-halt_of (StepFaults.Spent last) = Some (Halts.Spent last)
-halt_of StepFaults.Memory = Some Halts.Memory
-halt_of (StepFaults.Fenced generation) = None
-halt_of (StepFaults.NoLane lane) = None
-halt_of (StepFaults.BusyLanes count) = None
-halt_of StepFaults.Unexpected = None
+use Rattle.mta_stations.specs.declared.end.Halt.{Halt}
+use Rattle.mta_stations.specs.Halting.{halt_of}
 
 abbrev pub fault_of_piece : CompleteFault → Option StepFault
 fault_of_piece (CompleteFaults.Step fault) = Some fault

@@ -3,11 +3,10 @@
 #![tactic(auto)]
 
 mod answering;
-mod end;
 mod line;
 mod telling;
 
 pub use answering::answer;
-pub use end::{Halt, WorkerEnd, halt_of};
 pub use line::line_of;
+pub use mta_stations::{Halt, WorkerEnd, halt_of};
 pub use telling::{Lost, fault_of, halt_after, told};

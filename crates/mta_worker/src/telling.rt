@@ -8,12 +8,12 @@ ghost use Rattle.mta_session_run.specs.Running.{HasTold, IsCalled};
 ghost use Rattle.mta_worker.specs.Halting.{fault_of, fault_of_piece, halt_after};
 ghost use Rattle.mta_worker.specs.Telling.{IsAsked};
 
-use crate::end::{Halt, halt_of};
 use mta_ber::Memory;
 use mta_plans::lines_may_be_told;
 use mta_records::{CompleteFault, StepFault};
 use mta_session::{Action, Event, Reply, Session};
 use mta_session_run::tell;
+use mta_stations::{Halt, halt_of};
 
 /// Why a session is given up by its worker, which puts an Abort for it.
 #[derive(Clone, Copy, Debug, PartialEq, Eq)]

@@ -1,7 +1,7 @@
 //! What a worker came to.
 
 ghost use Rattle.std.specs.Prelude.{◌≡◌};
-ghost use Rattle.mta_worker.specs.Halting.{halt_of};
+ghost use Rattle.mta_stations.specs.Halting.{halt_of};
 
 use mta_records::StepFault;
 

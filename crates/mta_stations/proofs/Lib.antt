@@ -1,0 +1,4 @@
+pub mod Finds
+pub mod DecidingLaws
+pub mod PeerLaws
+pub mod RoleLaws
