@@ -43,6 +43,7 @@ fn carried_on(alloc: Global, opened: Opened<MemDisk>, fields: &mut Fields<'_>) -
         mut journal,
         first,
         bodies,
+        synced: _,
     } = opened;
     let (count, size) = (bodies.len(), journal.size());
     let said = appended(alloc, &mut journal, fields)?;
@@ -105,6 +106,7 @@ fn stopped(alloc: Global, octets: &[u8]) -> Result<MemDisk> {
         mut journal,
         first: _,
         bodies: _,
+        synced: _,
     } = opened(alloc, octets)?;
     if journal.append(&[9]).is_err() {
         bail!("not appended");
