@@ -1,2 +1,5 @@
 pub mod Asking
+pub mod Growing
 pub mod Lines
+pub mod Looking
+pub mod Turned

@@ -2,3 +2,4 @@ pub mod Answers
 pub mod Halting
 pub mod Lines
 pub mod Telling
+pub mod Turns

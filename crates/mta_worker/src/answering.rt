@@ -1,6 +1,8 @@
 //! The call of the spool that a question of a session names.
 
 ghost use Rattle.std.specs.Prelude.{◌≡◌};
+ghost use Rattle.mta_shared.specs.Rule.{Grows};
+ghost use Rattle.mta_spool.specs.Bases.{KeepsOn};
 ghost use Rattle.mta_spool.specs.Stands.{TellsFewer};
 ghost use Rattle.mta_session.specs.declared.event.Event.TheVariants as events;
 ghost use Rattle.mta_plans.specs.Told.{TellsLine};
@@ -22,6 +24,7 @@ fn refused<D: Disk + Drop, C: Clock + Drop>(
     kind: u8,
 ) -> Result<(), StepFault>
     ensures refuses { Refuses D.model C.model lane generation activity kind spool.old result spool.new }
+    ensures keeps { KeepsOn D.model C.model spool.old spool.new }
     ensures clock { TellsFewer C.model spool.old.clock spool.new.clock }
 {
     if kind < 1 || kind > 12 {
@@ -38,6 +41,8 @@ pub fn answer<D: Disk + Drop, C: Clock + Drop>(
 ) -> Reply
     ensures answered { Answered D.model C.model ask spool.old result spool.new }
     ensures line { TellsLine (events.Reply result) }
+    ensures keeps { KeepsOn D.model C.model spool.old spool.new }
+    ensures grows { Grows spool.old.entries spool.new.entries }
     ensures clock { TellsFewer C.model spool.old.clock spool.new.clock }
 {
     match ask {

@@ -5,8 +5,10 @@
 mod answering;
 mod line;
 mod telling;
+mod turn;
 
 pub use answering::answer;
 pub use line::line_of;
 pub use mta_stations::{Halt, WorkerEnd, halt_of};
 pub use telling::{Lost, fault_of, halt_after, told};
+pub use turn::{answer_all, answer_looks};

@@ -6,6 +6,7 @@ use Rattle.mta_spool.specs.Stands.{AtMoment}
 use Rattle.mta_session.specs.declared.ask.Ask.{Ask}
 use Rattle.mta_session.specs.declared.ask.Reply.TheVariants as reply
 use Rattle.mta_worker.specs.Answers.{Answered}
+use Rattle.mta_worker.proofs.Growing.{received}
 use Rattle.mta_worker.proofs.answering.answer.Goals as goal
 
 pub returns-in-Start-clause-answered : goal.returns-in-Start-clause-answered
@@ -43,3 +44,13 @@ returns-in-Complete-clause-answered g c =
           c.as_slice-in-Complete.ensures c.complete.ensures.receives,
       c.complete.ensures.number,
     )
+
+pub returns-in-Secure-clause-grows : goal.returns-in-Secure-clause-grows
+returns-in-Secure-clause-grows g c =
+    received g.D.Disk.model g.C.Clock.model _ _ c.args.spool.now c.secure.new.self c.secure.result
+    c.secure.ensures.receives
+
+pub returns-in-Complete-clause-grows : goal.returns-in-Complete-clause-grows
+returns-in-Complete-clause-grows g c =
+    received g.D.Disk.model g.C.Clock.model _ _ c.args.spool.now c.complete.new.self c.complete.result
+    c.complete.ensures.receives.at
