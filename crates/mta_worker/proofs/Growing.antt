@@ -1,5 +1,5 @@
 -- A question of a session makes at most one step.
-use Rattle.std.proofs.Common.{◌≡◌, ◌⊎◌, ℕ, ◌^◌, ◌<◌, ◌≤◌, Option, None, Some, Result, Ok, Err, inl, inr, ap, arith, List, refl}
+use Rattle.std.proofs.Common.{◌≡◌, ◌⊎◌, ℕ, ◌^◌, Option, None, Some, Result, Ok, Err, inl, inr, ap, arith, List, refl}
 use Rattle.std.proofs.lemmas.Bool.{cases_lt}
 use Rattle.mta_edge.specs.Views.{ClockView, DiskView}
 use Rattle.mta_ber.specs.declared.fault.Fault.{Fault}
@@ -21,7 +21,7 @@ use Rattle.mta_spool.specs.Shown.{Shown}
 use Rattle.mta_spool.specs.Stands.{Appends, fault_of}
 use Rattle.mta_spool.specs.Starting.{next_activity}
 use Rattle.mta_spool.specs.Turning.{IsUnchanged}
-use Rattle.mta_worker.specs.Answers.{Answered, Binds, BeginsNow, MakesNow, Refuses, IsKind, lanes_of}
+use Rattle.mta_worker.specs.Answers.{Answered, Binds, BeginsNow, Refuses, IsKind, lanes_of}
 use Rattle.mta_worker.specs.Turns.{Replied}
 
 is_kind : (kind : ℕ) → IsKind kind ⊎ (IsKind kind → ⊥)

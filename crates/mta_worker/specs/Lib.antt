@@ -1,5 +1,9 @@
 pub mod Answers
+pub mod Begun
 pub mod Halting
 pub mod Lines
+pub mod Nexts
+pub mod Proposals
+pub mod Readying
 pub mod Telling
 pub mod Turns

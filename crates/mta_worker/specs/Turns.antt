@@ -1,5 +1,5 @@
 -- One turn of the lock in a session: one call of the spool, and the looks behind it.
-use Rattle.std.specs.Prelude.{◌≡◌, ◌⊎◌, List, [], ◌∷◌, ◌++◌, Option, None, Some, Err}
+use Rattle.std.specs.Prelude.{◌≡◌, ◌⊎◌, List, [], ◌∷◌, Option, None, Some, Err}
 use Rattle.std.specs.Option.{option_map}
 use Rattle.mta_edge.specs.Views.{ClockView, DiskView}
 use Rattle.mta_records.specs.declared.fault.StepFault.TheVariants as StepFaults

@@ -4,11 +4,15 @@
 
 mod answering;
 mod line;
+mod proposal;
+mod ready;
 mod telling;
 mod turn;
 
 pub use answering::answer;
 pub use line::line_of;
 pub use mta_stations::{Halt, WorkerEnd, halt_of};
+pub use proposal::{Next, next_with};
+pub use ready::{Ready, get_ready};
 pub use telling::{Lost, fault_of, halt_after, told};
 pub use turn::{answer_all, answer_looks};

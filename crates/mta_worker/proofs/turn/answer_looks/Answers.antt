@@ -1,5 +1,5 @@
-use Rattle.std.proofs.Common.{◌≤◌, arith}
-use Rattle.mta_worker.proofs.Looking.{looked_none, looked_more, lost_looking}
+use Rattle.std.proofs.Common.{arith}
+use Rattle.mta_worker.proofs.Looking.{looked_none, looked_more}
 use Rattle.mta_worker.proofs.turn.answer_looks.Goals as goal
 
 pub loop-action-init : goal.loop-action-init
