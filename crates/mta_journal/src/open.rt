@@ -14,8 +14,8 @@ ghost use Rattle.mta_edge.specs.Outside.{ContentGoes};
 ghost use Rattle.mta_edge.specs.Views.{StaysTold, WhereTold};
 ghost use Rattle.mta_journal.specs.Bodies.{AreShort, StandsFor};
 ghost use Rattle.mta_journal.specs.Faults.{IsNoJournalAt};
-ghost use Rattle.mta_journal.specs.Opening.{BeforeOrSame, HasOpenCause, HasRefused, IsLeft, IsRefused, IsSame, IsSameFrom, LongStays};
-ghost use Rattle.mta_journal.specs.Opening.{OnNotSpool, Stored};
+ghost use Rattle.mta_journal.specs.Opening.{BeforeOrSame, HasOpenCause, HasRefused, IsLeft, IsRefused, IsSame};
+ghost use Rattle.mta_journal.specs.Opening.{IsSameFrom, LongStays, OnNotSpool, Stored};
 
 use crate::journal::Journal;
 use crate::read::{Found, check_magic, read_bodies};
@@ -31,8 +31,8 @@ const EMPTY: [u8; 9] = *b"MTASPL01\0";
 // The offset of the first gate.
 const FIRST_GATE: u64 = 8;
 
-/// A journal that was opened: the offset of its first record's gate, the bodies that it holds, and, for clauses alone, the
-/// disk as the first sync left it.
+/// A journal that was opened: the offset of its first record's gate, the bodies that it holds, and, for clauses alone,
+/// the disk as the first sync left it.
 #[derive(Drop)]
 pub struct Opened<D: Disk + Drop> {
     pub journal: Journal<D>,

@@ -126,7 +126,8 @@ listener_leads : (t : State) (x : AnyUnit) → t.phase ≡ phase.Reads → t.our
 listener_leads t unit.Give q o a = if_leads t _ (t.twa && is_free t.recv.stage) _ _ (λ b. inl (inl refl)) (λ b. unallowed t unit.Give false q o b)
 listener_leads t unit.Close q o a = if_leads t _ (not (is_initiator t.side) && is_free t.recv.stage) _ _ (λ b. close_leads t) (λ b. unallowed t unit.Close false q o b)
 listener_leads t (unit.Abort reason) q o a = elim a [ ]
-listener_leads t (unit.Please priority) q o a = if_leads t _ t.twa _ _ (λ b. inl (inl refl)) (λ b. unallowed t (unit.Please priority) false q o b)
+listener_leads t (unit.Please priority) q o a =
+    if_leads t _ t.twa _ _ (λ b. inl (inl refl)) (λ b. unallowed t (unit.Please priority) false q o b)
 listener_leads t x q o a = takes_leads t x (taken t.checkpoint t.recv x) refl (λ n. unallowed t x false q o n)
 
 reads_leads : (t : State) (x : AnyUnit) → t.phase ≡ phase.Reads → Leads t (event.Unit x) (wanted_of_unit phase.Reads (less t) x)

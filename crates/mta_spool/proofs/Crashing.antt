@@ -75,7 +75,8 @@ module _ {D C : Type 0} (disks : DiskView D) where
       })
 
   module _ (step : Step) (old new : Shown D C) (m : MayHave disks step old.journal old.current new.journal)
-      (f : List ℕ) (told : disks.content old.journal.disk ≡ Some f) (steps : List Step) (s : Stands disks old steps) where
+      (f : List ℕ) (told : disks.content old.journal.disk ≡ Some f) (steps : List Step)
+      (s : Stands disks old steps) where
     during-one : AtAnyMoment disks (Reached steps (step ∷ [])) old.journal.disk new.journal.disk
     during-one =
         weaken disks (IsOneOf steps step) (Reached steps (step ∷ [])) old.journal.disk new.journal.disk

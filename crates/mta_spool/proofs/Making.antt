@@ -1,5 +1,6 @@
 -- A step is made, or refused.
-use Rattle.std.proofs.Common.{inl, inr, ◌≡◌, ℕ, ◌≤◌, true, false, List, [], ◌∷◌, ◌++◌, length, map, Option, None, Some, Ok, Err, refl, sym, ap, subst, ◌∙◌, arith}
+use Rattle.std.proofs.Common.{inl, inr, ◌≡◌, ℕ, ◌≤◌, true, false, List, [], ◌∷◌, ◌++◌, length, map}
+use Rattle.std.proofs.Common.{Option, None, Some, Ok, Err, refl, sym, ap, subst, ◌∙◌, arith}
 use Rattle.mta_edge.specs.Views.{DiskView, DiskLaws, StaysTold}
 use Rattle.mta_edge.specs.Crashes.{AtAnyMoment}
 use Rattle.mta_edge.proofs.Moments.{weaken}
@@ -286,8 +287,9 @@ module _ {D : Type 0} (model : DiskView D) (step : Step) where
   }
 
   -- a refusal for its lane stands
-  pub refused_for_lane : {made : List Step} (f : StepFault) (old new : JournalShown D) (s s' : State) → new ≡ old → s' ≡ s
-      → old.ended ≡ false → IsRefused s (class_of step) (when s step) f → Makes model step old s made new s' made (Some f)
+  pub refused_for_lane : {made : List Step} (f : StepFault) (old new : JournalShown D) (s s' : State) → new ≡ old
+      → s' ≡ s → old.ended ≡ false → IsRefused s (class_of step) (when s step) f
+      → Makes model step old s made new s' made (Some f)
   refused_for_lane f old new s s' same kept going refusal =
       let of = refusal_of_lane s (class_of step) (when s step) f refusal in
       record {

@@ -48,8 +48,8 @@ plan_behind _ x = None
 
 module _ {D C : Type 0} (disks : DiskView D) (clocks : ClockView C) where
   -- the session that begins with this plan: its first call, and the looks behind it, or that it is given up
-  pub data Begins (s : Shown D C) (plan : InitiatorPlan) (units : ℕ) (halt : Option Halt) (u : State) (halt' : Option Halt)
-      : Result Action Lost → Type 0 where
+  pub data Begins (s : Shown D C) (plan : InitiatorPlan) (units : ℕ) (halt : Option Halt) (u : State)
+      (halt' : Option Halt) : Result Action Lost → Type 0 where
     Well : (first b : Action) (t : State)
         → IsTurn (record { before = new_initiator plan units; event = event.Go; action = first; after = t })
         → HasLooked disks clocks s t first halt u b halt' → Begins s plan units halt u halt' (Ok b)
@@ -65,7 +65,8 @@ module _ {D C : Type 0} (disks : DiskView D) (clocks : ClockView C) where
     No_room : new ≡ old → halt' ≡ halt → IsStepped x units old halt new halt' (ready.Halts Halts.Memory)
     -- it is refused
     Refused : (q : Ask) (y : Reply) (fault : StepFault) → asks_next x ≡ Some q → Answered disks clocks q old y new
-        → fault_of y ≡ Some fault → halt' ≡ halt → IsStepped x units old halt new halt' (ready.Halts (halt_before fault))
+        → fault_of y ≡ Some fault → halt' ≡ halt
+        → IsStepped x units old halt new halt' (ready.Halts (halt_before fault))
     -- a lane that was never agreed is closed
     Closed : (lane generation : ℕ) → x ≡ next.Close lane generation
         → Answered disks clocks (ask.CloseLane lane generation) old (reply.CloseLane (Ok tt)) new → halt' ≡ halt

@@ -1,7 +1,9 @@
 //! A session that is told what the spool answered.
 
-ghost use Rattle.std.specs.Prelude.{◌≡◌, ◌<◌, IfOk, OnErr};
+ghost use Rattle.std.specs.Prelude.{◌≡◌, ◌<◌, Err, IfOk, OnErr};
+ghost use Rattle.mta_session.specs.Fits.{Answers};
 ghost use Rattle.mta_session.specs.Rank.{calls_left};
+ghost use Rattle.mta_worker.specs.declared.telling.Lost.TheVariants as losts;
 ghost use Rattle.mta_session.specs.declared.event.Event.TheVariants as events;
 ghost use Rattle.mta_plans.specs.Told.{TellsLine};
 ghost use Rattle.mta_session_run.specs.Running.{HasTold, IsCalled};
@@ -88,6 +90,8 @@ pub fn told(session: &mut Session, reply: Reply) -> Result<Action, Lost>
     ensures called { IfOk result (λ a. IsCalled session.new a) }
     ensures falls { IfOk result (λ a. calls_left session.new < calls_left session.old) }
     ensures kept { OnErr result (session.new ≡ session.old) }
+    ensures lane { result ≡ Err losts.Lane → Answers session.old (events.Reply reply) → ⊥ }
+    ensures memory { result ≡ Err losts.Memory → Answers session.old (events.Reply reply) }
 {
     let event = Event::Reply(reply);
     if !session.expects(&event) {

@@ -3,7 +3,12 @@ use Rattle.mta_session_run.proofs.Running.{not_yet, one_more, called_more, done_
 use Rattle.mta_session_run.proofs.run.carry_on.Goals as goal
 
 pub loop-came-init : goal.loop-came-init
-loop-came-init g c = record { run = not_yet g.L.Link.model c.args.session.now c.args.action c.args.link.now c.args.frames.now; called = c.requires.called; left = omega arith; later = omega arith }
+loop-came-init g c = record {
+  run = not_yet g.L.Link.model c.args.session.now c.args.action c.args.link.now c.args.frames.now;
+  called = c.requires.called;
+  left = omega arith;
+  later = omega arith;
+}
 
 pub exchange-requires : goal.exchange-requires
 exchange-requires g c = c.loop-came.invariant.called.writable
@@ -50,7 +55,13 @@ loop-came-preserved g c =
       run = one_more g.L.Link.model c.args.session.now c.args.action c.args.link.now c.args.frames.now c.loop-came.session c.loop-came.wanted c.loop-came.link c.loop-came.frames c.in-Told.event c.in_ok-wanted-in-Told.wanted c.tell.new.session c.exchange.new.link c.exchange.new.frames
           c.loop-came.invariant.run h told.turn c.loop-came.invariant.later c.exchange.ensures.later;
       called = called_more c.loop-came.session c.loop-came.wanted c.in-Told.event c.in_ok-wanted-in-Told.wanted c.tell.new.session c.loop-came.invariant.called tells told;
-      left = omega (arith, c.loop-came.invariant.left, told.falls (done_goes g.L.Link.model c.loop-came.session c.loop-came.wanted c.loop-came.link c.loop-came.frames c.in-Told.event c.exchange.new.link c.exchange.new.frames c.loop-came.invariant.called.awaited h));
+      left = omega (
+        arith,
+        c.loop-came.invariant.left,
+        told.falls (done_goes g.L.Link.model c.loop-came.session
+            c.loop-came.wanted c.loop-came.link c.loop-came.frames c.in-Told.event c.exchange.new.link
+            c.exchange.new.frames c.loop-came.invariant.called.awaited h),
+      );
       later = omega (arith, c.loop-came.invariant.later, c.exchange.ensures.later);
     }
 

@@ -7,7 +7,8 @@ pub answer_looks-requires : goal.answer_looks-requires
 answer_looks-requires g c =
     let n = c.requires.new in
     record {
-      called = initiator_begun n.0 n.1 c.args.session.now c.in-Ok.action c.tell.new.session n.3 n.2 c.in-Ok.ensures.told;
+      called = initiator_begun n.0 n.1 c.args.session.now c.in-Ok.action c.tell.new.session n.3 n.2
+          c.in-Ok.ensures.told;
     }
 
 pub returns-in-Ok-clause-begins : goal.returns-in-Ok-clause-begins

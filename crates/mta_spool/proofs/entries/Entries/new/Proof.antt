@@ -34,5 +34,6 @@ new_spec 𝓤 𝓛 𝓜 𝓡 wired =
     sets ! (agg ! (no_more !)) refl (tt, tt) $
     returns ! (look_at ! 0 refl) $ free_all ! refl $
     suffices ! _ (ends_at 𝓛 f.ended stayed c y bare none tt tt) $ says ! refl $
-    use0 𝓛 (‵ (the_row.own_val none (bare ∷ []))) (makes_shadow 𝓛 (the_row.own_val none (bare ∷ [])) ((λ vss. (tt, tt)), tt) ((tt, (refl, tt)), tt)) $
+    use0 𝓛 (‵ (the_row.own_val none (bare ∷ [])))
+    (makes_shadow 𝓛 (the_row.own_val none (bare ∷ [])) ((λ vss. (tt, tt)), tt) ((tt, (refl, tt)), tt)) $
     nothing ! $ nothing ! $ group ! 3 $ done !))

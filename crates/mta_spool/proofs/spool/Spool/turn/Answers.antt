@@ -11,8 +11,8 @@ returns-clause-turned g c =
       told = m.told;
       tells = m.tells;
       at = subst (λ (n : ℕ). Turns g.D.Disk.model n c.args.self.now c.turn_at.new.self c.turn_at.result) m.at
-          (turns_along g.D.Disk.model c.step_moment-moment.result c.args.self.now c.step_moment-moment.new.self c.turn_at.new.self
-          c.turn_at.result rest c.turn_at.ensures.turned);
+          (turns_along g.D.Disk.model c.step_moment-moment.result c.args.self.now c.step_moment-moment.new.self
+          c.turn_at.new.self c.turn_at.result rest c.turn_at.ensures.turned);
     }
 
 pub returns-clause-no_lane : goal.returns-clause-no_lane
