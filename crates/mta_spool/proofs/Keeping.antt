@@ -16,7 +16,7 @@ use Rattle.mta_histories.proofs.Runs.{possible-more}
 use Rattle.mta_images.specs.Image.{AreRecords, StandsFor}
 use Rattle.mta_journal.specs.Bodies.{StandsFor as HoldsBodies}
 use Rattle.mta_shared.specs.declared.history.Base.{Base}
-use Rattle.mta_spool.specs.Bases.{Keeps, KeepsOn, StaysSafe, base_of, since_of, where_listed}
+use Rattle.mta_spool.specs.Bases.{Keeps, KeepsOn, StaysSafe, base_of, found_of, since_of, where_listed}
 use Rattle.mta_spool.specs.Bases.{where_told}
 use Rattle.mta_spool.specs.Crashing.{IsLeftWith, Reached}
 use Rattle.mta_spool.specs.Opening.{HasOpened}
@@ -341,3 +341,10 @@ pub one_first : {D C : Type 0} (disks : DiskView D) (clocks : ClockView C) (s t 
 one_first disks clocks s t base k l =
     same-steps k.first l.first (front-records k.first s.entries k.each) (front-records l.first t.entries l.each)
     (k.found ∙ sym l.found)
+
+-- it is the one that was found
+pub first_found : {D C : Type 0} (disks : DiskView D) (clocks : ClockView C) (s : Shown D C) (base : Base)
+    (k : Keeps disks clocks s base) (steps : List Step) → AreRecords steps → map body_of steps ≡ found_of base
+    → k.first ≡ steps
+first_found disks clocks s base k steps each found =
+    same-steps k.first steps (front-records k.first s.entries k.each) each (k.found ∙ sym found)
