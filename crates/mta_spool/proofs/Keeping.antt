@@ -10,8 +10,8 @@ use Rattle.mta_records.specs.declared.fault.StepFault.{StepFault}
 use Rattle.mta_records.specs.declared.fault.StepFault.TheVariants as Faults
 use Rattle.mta_records.specs.Body.{body_of}
 use Rattle.mta_records.proofs.Records.{body_same}
-use Rattle.mta_histories.specs.Lanes.{State}
-use Rattle.mta_histories.specs.History.{IsHistory, after, empty}
+use Rattle.mta_histories.specs.Lanes.{State, empty}
+use Rattle.mta_histories.specs.History.{IsHistory, after}
 use Rattle.mta_histories.proofs.Runs.{possible-more}
 use Rattle.mta_images.specs.Image.{AreRecords, StandsFor}
 use Rattle.mta_journal.specs.Bodies.{StandsFor as HoldsBodies}
