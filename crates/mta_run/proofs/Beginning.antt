@@ -1,6 +1,6 @@
 -- What `serve` makes before its workers.
 use Rattle.std.proofs.Common.{◌≡◌, ℕ, ◌+◌, ◌≤◌, List, [], ◌∷◌, ◌++◌, Some, Result, Ok, Err, refl, sym, ap, subst, ◌∙◌}
-use Rattle.std.proofs.Common.{append_assoc, true≢false, arith, inl, inr}
+use Rattle.std.proofs.Common.{append_assoc, false, true≢false, arith, inl, inr}
 use Rattle.std.specs.Prelude.{◌⊎◌}
 use Rattle.std.proofs.lemmas.List.{append-nil}
 use Rattle.mta_edge.specs.Causes.{Rose}
@@ -16,6 +16,7 @@ use Rattle.mta_spool.specs.Stands.{Appends, IsOfNoLane, Stands, TellsFewer}
 use Rattle.mta_spool.specs.Turning.{IsRecorded, Records}
 use Rattle.mta_run.specs.Serving.{HasBegun, IsNextOwn, IsOwnFull, IsOwnRefusal, IsOwnSpent, records, RecordsFirst, settles}
 use Rattle.mta_run.specs.Submit.{Adds, apdu, AreInTurn, due, HasSettled, IsNextStep, IsRefusal, tables, turn_after}
+use Rattle.mta_run.specs.Submit.{turn_behind}
 use Rattle.mta_run.proofs.Added.{adds_more, adds_refused, adds_then, turn_after_append, turn_stays, unchanged}
 use Rattle.mta_run.proofs.Same.{err_same}
 use Rattle.mta_run.proofs.Stored.{not_same, Recording}
@@ -87,7 +88,7 @@ own_more tells other conf s size failed failed_too fault more so r = by_fault fa
 
 pub front_in_turn : (turn : ℕ) (a b : List Step) → AreInTurn turn (a ++ b) → AreInTurn turn a
 front_in_turn turn [] b p = tt
-front_in_turn turn (step ∷ a) b p = (p.0, p.1, front_in_turn _ a b p.2)
+front_in_turn turn (step ∷ a) b p = (p.0, p.1, front_in_turn (turn_behind step) a b p.2)
 
 module _ {D C : Type 0} (disks : DiskView D) where
   -- why what is due was not done, whatever the tables are

@@ -7,6 +7,8 @@ use Rattle.mta_machine.specs.Apdu.{IsApdu}
 use Rattle.mta_histories.specs.Lanes.{empty}
 use Rattle.mta_histories.specs.History.{IsHistory, after}
 use Rattle.mta_histories.proofs.Runs.{histories_are_runs, each_recipient_once}
+use Rattle.mta_stations.specs.declared.end.Halt.{Halt}
+use Rattle.mta_stations.specs.declared.end.Halt.TheVariants as Halts
 use Rattle.mta_stations.specs.declared.end.WorkerEnd.{WorkerEnd}
 use Rattle.mta_run.specs.declared.stop.Stop.{Stop}
 use Rattle.mta_run.specs.declared.stop.Stop.TheVariants as Stops
@@ -17,8 +19,11 @@ use Rattle.mta_run.specs.Handed.{Handed, ForOpened, InputsRead}
 use Rattle.mta_run.specs.Output.{Output, output, HasPrinted, whole, stopped, cut, HasClosed, IsEnded}
 use Rattle.mta_run.specs.DiskLeft.{Opening, uncalled, opened}
 use Rattle.mta_run.specs.Submit.{IsAccepted}
-use Rattle.mta_run.specs.Causes.{mailbox_named, IsText, of_submit, of_queue, of_serve, of_mailbox, of_decode, Cause, memory}
+use Rattle.mta_run.specs.Causes.{mailbox_named, IsText, of_submit, of_queue, of_serve, of_mailbox, of_decode}
+use Rattle.mta_run.specs.Causes.{Cause, usage, not_built, memory, source, tables, apdu, not_spool, not_opened, disk}
+use Rattle.mta_run.specs.Causes.{full, spent, no_mailbox, no_peer, full_serving, spent_serving, of_worker}
 use Rattle.mta_run.specs.Command.{HasEnded, OnStations}
+use Rattle.mta_run.specs.Serving.{stop_of_halt}
 use Rattle.mta_run.specs.Ran.{RecipientsOnce, IsKept, EndedWell, Ran}
 use Rattle.mta_run.proofs.Same.{some_same}
 use Rattle.mta_run.proofs.Added.{possible_front, one_accept}
@@ -35,9 +40,39 @@ history_front steps tried n history =
 once_in : (steps : List Step) → IsHistory steps → RecipientsOnce steps
 once_in steps history = record { run = histories_are_runs steps history; once = each_recipient_once steps history }
 
+halt_not_sink : (halt : Halt) → stop_of_halt halt ≡ Stops.Sink → ⊥
+halt_not_sink Halts.Disk e = cc
+halt_not_sink (Halts.Full size need) e = cc
+halt_not_sink (Halts.Spent last) e = cc
+halt_not_sink Halts.Memory e = cc
+halt_not_sink Halts.Limit e = cc
+halt_not_sink Halts.StationEnded e = cc
+halt_not_sink Halts.StationFailed e = cc
+halt_not_sink Halts.NoPeer e = cc
+
 -- no cause is a fault of the output
-no_sink : {D C I : Type 0} (h : Handed D C I) (ends : List WorkerEnd) (added : List Step) (opening : Opening) → Cause h ends added opening Stops.Sink → ⊥
-no_sink h ends added opening why = elim why [ ]
+no_sink_of : {D C I : Type 0} (h : Handed D C I) (ends : List WorkerEnd) (added : List Step) (opening : Opening)
+    (stop : Stop) → Cause h ends added opening stop → stop ≡ Stops.Sink → ⊥
+no_sink_of h ends added _ _ (usage none) e = cc
+no_sink_of h ends added _ _ (not_built unbuilt) e = cc
+no_sink_of h ends added _ _ (memory opening) e = cc
+no_sink_of h ends added _ _ (source failed) e = cc
+no_sink_of h ends added _ _ (tables line kind reads first same) e = cc
+no_sink_of h ends added _ _ (apdu at kind reads read fault) e = cc
+no_sink_of h ends added _ _ (not_spool at opens inputs none) e = cc
+no_sink_of h ends added _ _ (not_opened opens inputs failed) e = cc
+no_sink_of h ends added _ _ (disk adds inputs failed) e = cc
+no_sink_of h ends added _ _ (full size need submit inputs why) e = cc
+no_sink_of h ends added _ _ (spent last submit inputs why) e = cc
+no_sink_of h ends added _ _ (no_mailbox name word none) e = cc
+no_sink_of h ends added _ _ (no_peer name serves unnamed) e = cc
+no_sink_of h ends added _ _ (full_serving size need serves inputs why) e = cc
+no_sink_of h ends added _ _ (spent_serving last serves inputs why) e = cc
+no_sink_of h ends added _ _ (of_worker halt serves inputs decides) e = halt_not_sink halt e
+
+no_sink : {D C I : Type 0} (h : Handed D C I) (ends : List WorkerEnd) (added : List Step) (opening : Opening)
+    → Cause h ends added opening Stops.Sink → ⊥
+no_sink h ends added opening why = no_sink_of h ends added opening Stops.Sink why refl
 
 -- ---- what a text tells
 

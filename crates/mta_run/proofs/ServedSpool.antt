@@ -62,7 +62,7 @@ among clocks laws c (Some moments) e m contains =
     (laws.listed c m).1 (subst (λ (o : Option (List ℕ)). IsAmong o m) (sym e) (contains moments refl))
 
 -- what the spool's clock tells behind the workers, the clock that was handed in tells
-tells_back : {D C : Type 0} (disks : DiskView D) (clocks : ClockView C) → ClockLaws clocks → (spool joined : Shown D C)
+pub tells_back : {D C : Type 0} (disks : DiskView D) (clocks : ClockView C) → ClockLaws clocks → (spool joined : Shown D C)
     → Keeps disks clocks joined (base_of disks clocks spool) → (m : ℕ) → clocks.tells joined.clock m
     → clocks.tells spool.opened.clock m
 tells_back disks clocks laws spool joined k m tell =

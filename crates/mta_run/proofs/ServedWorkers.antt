@@ -32,7 +32,7 @@ use Rattle.mta_run.specs.Command.{HasEnded, IsSettled, SourcesLeft}
 use Rattle.mta_run.specs.DiskLeft.{DiskLeft, opened}
 use Rattle.mta_run.specs.Handed.{DiskFailed, ForOpened, Handed, InputsRead}
 use Rattle.mta_run.specs.Output.{HasPrinted, Output}
-use Rattle.mta_run.specs.Served.{AreDueBehind, AreOfRun, StationsLeft, Worked}
+use Rattle.mta_run.specs.Served.{AreDueBehind, AreLimits, AreOfRun, StationsLeft, Worked}
 use Rattle.mta_run.specs.Serving.{Decided, Had_ended, HasFinished, IsFinishStop, IsOutcome, IsOwnFull, IsOwnRefusal}
 use Rattle.mta_run.specs.Serving.{IsOwnSpent, Refused, Settled, SettlesBehind, Well}
 use Rattle.mta_run.specs.Submit.{AreInTurn, AreOwn, HasSettled, stop_of_step}
@@ -47,9 +47,10 @@ use Rattle.mta_run.proofs.ServedSpool.{tells_back}
 use Rattle.mta_run.proofs.Statuses.{serves_adds, serves_opens}
 
 -- what the last turns added
-record Behind {D C : Type 0} (joined final : Shown D C) : Type 0 where
+record Behind {D C I : Type 0} (h : Handed D C I) (joined final : Shown D C) : Type 0 where
   back : List Step
   entries : final.entries ≡ joined.entries ++ back
+  due : AreDueBehind h joined.entries back
 
 module _ {D C I : Type 0} (h : Handed D C I) (serves : Serves h.words) (laws : DiskLaws h.disks)
     (clock_laws : ClockLaws h.clocks) (sources : SourcesLeft h) (inputs : InputsRead h) (peers : PeersNamed h)
@@ -78,22 +79,25 @@ module _ {D C I : Type 0} (h : Handed D C I) (serves : Serves h.words) (laws : D
 
   -- ---- what the last turns made
 
-  behind : (settled : Result (Unit {0}) StepFault) → Finishes settled → Behind joined final
-  behind _ (Had_ended ended same) =
-      record { back = []; entries = ap (λ (s : Shown D C). s.entries) same ∙ sym (append-nil joined.entries) }
-  behind _ (Settled result going x) = record { back = x.added; entries = (x.adds [] []).entries }
-
-  due_behind : (settled : Result (Unit {0}) StepFault) (x : Finishes settled)
-      → AreDueBehind h joined.entries (behind settled x).back
-  due_behind _ (Had_ended ended same) = (tt, λ f steps was s. tt)
-  due_behind _ (Settled result going x) = (
-    front_in_turn 2 x.added x.torn_step x.in_turn,
-    λ f steps was s.
-        subst (λ (y : List Step). AreOwn Tells [] [] (after (y ++ joined.entries)) x.added) (firsts_joined f steps was s)
-        (own_front Tells [] [] (after (kj.first ++ joined.entries)) x.added x.torn_step
-        (own_known (h.clocks.tells joined.clock) Tells [] [] (after (kj.first ++ joined.entries))
-        (x.added ++ x.torn_step) from_joined ((x.adds [] []).own (kj.first ++ joined.entries) (kj.stands going)))),
-  )
+  behind : (settled : Result (Unit {0}) StepFault) → Finishes settled → Behind h joined final
+  behind _ (Had_ended ended same) = record {
+    back = [];
+    entries = ap (λ (s : Shown D C). s.entries) same ∙ sym (append-nil joined.entries);
+    due = (tt, λ f steps was s. tt);
+  }
+  behind _ (Settled result going x) = record {
+    back = x.added;
+    entries = (x.adds [] []).entries;
+    due = (
+      front_in_turn 2 x.added x.torn_step x.in_turn,
+      λ f steps was s.
+          subst (λ (y : List Step). AreOwn Tells [] [] (after (y ++ joined.entries)) x.added)
+          (firsts_joined f steps was s)
+          (own_front Tells [] [] (after (kj.first ++ joined.entries)) x.added x.torn_step
+          (own_known (h.clocks.tells joined.clock) Tells [] [] (after (kj.first ++ joined.entries))
+          (x.added ++ x.torn_step) from_joined ((x.adds [] []).own (kj.first ++ joined.entries) (kj.stands going)))),
+    );
+  }
 
   quiet : (settled : Result (Unit {0}) StepFault) → Finishes settled → settled ≡ Ok tt
       → (told : ℕ) × Tells told × IsQuiet final.current (step_moment told final.current.moment)
@@ -183,14 +187,14 @@ module _ {D C I : Type 0} (h : Handed D C I) (serves : Serves h.words) (laws : D
 
   -- ---- all of it
 
-  pub served_ended : {L S : Type 0} (links : LinkView L) (stations : StationView S) (limits : Limits)
-      (before after : List S) (out : Output) (result : Result (Unit {0}) Stop) (front : List Step) → AreOfRun h front
+  pub served_ended : {L S : Type 0} (links : LinkView L) (stations : StationView S) (sessions : ℕ)
+      (limits : Limits) → AreLimits sessions limits → (before after : List S) (out : Output) (result : Result (Unit {0}) Stop) (front : List Step) → AreOfRun h front
       → (grown : IsPrefix front joined.entries)
       → AreWorkers h.disks h.clocks links stations limits before after ends front (base_of h.disks h.clocks spool)
       joined.entries
       → HasFinished h.disks (h.clocks.tells joined.clock) ends out joined final result
-      → HasEnded h (StationsLeft h links stations limits before after) out result
-  served_ended links stations limits before after out result front own grown workers x = record {
+      → HasEnded h (StationsLeft h links stations sessions before after) out result
+  served_ended links stations sessions limits are before after out result front own grown workers x = record {
     opening = opened;
     ends = ends;
     added = final.entries;
@@ -214,12 +218,12 @@ module _ {D C I : Type 0} (h : Handed D C I) (serves : Serves h.words) (laws : D
         (quiet x.settled x.behind (x.well ok).0));
     recorded = λ e. absurd (subst Serves e serves);
     undecided = λ ok. (x.well ok).1;
-    stations_are = Worked front grown.0 b.back (base_of h.disks h.clocks spool) refl whole found own
+    stations_are = Worked limits front grown.0 b.back (base_of h.disks h.clocks spool) are refl whole found own
         (subst (AreWorkers h.disks h.clocks links stations limits before after ends front
         (base_of h.disks h.clocks spool)) (sym grown.1) workers)
-        (subst (λ (y : List Step). AreDueBehind h y b.back) (sym grown.1) (due_behind x.settled x.behind));
+        (subst (λ (y : List Step). AreDueBehind h y b.back) (sym grown.1) b.due);
   } where
-    b : Behind joined final
+    b : Behind h joined final
     b = behind x.settled x.behind
 
     whole : final.entries ≡ front ++ (grown.0 ++ b.back)

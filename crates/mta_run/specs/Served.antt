@@ -34,8 +34,9 @@ use Rattle.mta_run.specs.Words.{Serves}
 abbrev pub most_units : ℕ
 most_units = 1048576
 
-abbrev pub limits_of : ℕ → Limits
-limits_of sessions = record { sessions = sessions; units = most_units }
+-- a worker may do so much
+abbrev pub AreLimits : (sessions : ℕ) → Limits → Type 0
+AreLimits sessions limits = (limits.sessions ≡ sessions) × (limits.units ≡ most_units)
 
 -- ---- the tables
 
@@ -67,38 +68,40 @@ AreDueBehind h before steps =
 -- What is known of the stations. No worker worked, and they are as they were; or each had a worker of its own, over one
 -- history under one lock, which goes on from what the run itself had added before them.
 pub data StationsLeft {D C I L S : Type 0} (h : Handed D C I) (links : LinkView L) (stations : StationView S)
-    (limits : Limits) (before after : List S) (opening : Opening) (ends : List WorkerEnd)
+    (sessions : ℕ) (before after : List S) (opening : Opening) (ends : List WorkerEnd)
     (added torn_step : List Step) : Type 0 where
   Untouched : after ≡ before → ends ≡ []
       → (Serves h.words → opening ≡ opened → AreOfRun h (added ++ torn_step))
-      → StationsLeft h links stations limits before after opening ends added torn_step
-  Worked : (front workers back : List Step) (base : Base) → opening ≡ opened → added ≡ front ++ (workers ++ back)
+      → StationsLeft h links stations sessions before after opening ends added torn_step
+  Worked : (limits : Limits) (front workers back : List Step) (base : Base) → AreLimits sessions limits
+      → opening ≡ opened → added ≡ front ++ (workers ++ back)
       → ForOpened h (λ first. found_of base ≡ map body_of first) → AreOfRun h front
       → AreWorkers h.disks h.clocks links stations limits before after ends front base (front ++ workers)
       → AreDueBehind h (front ++ workers) back
-      → StationsLeft h links stations limits before after opening ends added torn_step
+      → StationsLeft h links stations sessions before after opening ends added torn_step
 
 -- ---- an open spool
 
 -- A step before the workers was refused; or there was no memory for them; or they worked, and the run was finished.
 pub data ServesSpool {D C L S : Type 0} (disks : DiskView D) (clocks : ClockView C) (links : LinkView L)
-    (stations : StationView S) (limits : Limits) (conf : List ℕ) (out : Output) (spool : Shown D C)
+    (stations : StationView S) (sessions : ℕ) (conf : List ℕ) (out : Output) (spool : Shown D C)
     (before after : List S) (disk : D) : Result (Unit {0}) Stop → Type 0 where
   Not_begun : (mid : Shown D C) (fault : StepFault)
       → HasBegun disks (clocks.tells spool.clock) conf spool mid (Err fault) → disk ≡ mid.journal.disk
       → after ≡ before → out.after ≡ out.before
-      → ServesSpool disks clocks links stations limits conf out spool before after disk (Err (stop_of_step fault))
+      → ServesSpool disks clocks links stations sessions conf out spool before after disk (Err (stop_of_step fault))
   No_workers : (mid : Shown D C) → HasBegun disks (clocks.tells spool.clock) conf spool mid (Ok tt)
       → disk ≡ mid.journal.disk → after ≡ before → out.after ≡ out.before
-      → ServesSpool disks clocks links stations limits conf out spool before after disk (Err Stops.Memory)
-  Served : (mid joined final : Shown D C) (ends : List WorkerEnd) (result : Result (Unit {0}) Stop)
+      → ServesSpool disks clocks links stations sessions conf out spool before after disk (Err Stops.Memory)
+  Served : (limits : Limits) (mid joined final : Shown D C) (ends : List WorkerEnd) (result : Result (Unit {0}) Stop)
+      → AreLimits sessions limits
       → HasBegun disks (clocks.tells spool.clock) conf spool mid (Ok tt)
       → IsPrefix mid.entries joined.entries → Keeps disks clocks joined (base_of disks clocks spool)
       → AreWorkers disks clocks links stations limits before after ends mid.entries (base_of disks clocks spool)
       joined.entries
       → HasFinished disks (clocks.tells joined.clock) ends out joined final result
       → Keeps disks clocks final (base_of disks clocks spool) → disk ≡ final.journal.disk
-      → ServesSpool disks clocks links stations limits conf out spool before after disk result
+      → ServesSpool disks clocks links stations sessions conf out spool before after disk result
 
 -- ---- all of it
 
@@ -111,4 +114,4 @@ HasServed {I = I} disks clocks sources links stations sessions roles conf conf_a
     (input : I) (named : List StationWord) → roles ≡ roles_of named →
     let h = handed disks clocks sources (Some (Say.Serve sessions named)) conf conf_after input input disk disk_after
     clock in
-    HasEnded h (StationsLeft h links stations (limits_of sessions) before after) out result
+    HasEnded h (StationsLeft h links stations sessions before after) out result

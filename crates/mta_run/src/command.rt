@@ -13,7 +13,7 @@ ghost use Rattle.mta_stations.specs.Stations.{roles_in};
 ghost use Rattle.mta_run.specs.Handed.{handed};
 ghost use Rattle.mta_run.specs.Output.{output};
 ghost use Rattle.mta_run.specs.Ran.{IsComplete, Tells};
-ghost use Rattle.mta_run.specs.Runs.{EndsAlone, HasCommanded, HasRunWith};
+ghost use Rattle.mta_run.specs.Runs.{HasCommanded, HasRunWith};
 ghost use Rattle.mta_run.specs.Words.{are_stations_for, words_with};
 ghost use Rattle.mta_words.specs.Words.{command_of};
 
@@ -51,33 +51,12 @@ fn are_stations_for<S: Station>(words: &Words, stations: &[S]) -> bool
     }
 }
 
-// Does what the words of a command without stations say.
-fn perform_alone<D: Disk + Drop, C: Clock + Drop, I: Source, O: Sink>(
-    alloc: Global,
-    words: Words,
-    conf: &mut I,
-    input: &mut I,
-    out: &mut O,
-    disk: D,
-    clock: C,
-) -> Ended<D>
-    ensures ended { EndsAlone D.model C.model I.model words conf.old conf.new input.old input.new disk result.disk clock
-        (output O.model out.old out.new) result.outcome }
-    ensures later { O.model.faults out.old ≤ O.model.faults out.new }
+// What a command left that has no stations.
+fn alone<D: Drop, S: Drop>(ended: Ended<D>, stations: Vec<S>) -> ServeEnd<D, S>
+    ensures ended { result.ended ≡ ended }
+    ensures stations { result.stations ≡ stations }
 {
-    match words {
-        Words::Submit => submit(alloc, conf, input, out, disk, clock),
-        Words::Queue => queue(alloc, out, disk, clock),
-        Words::Mailbox(name) => mailbox(alloc, name, out, disk, clock),
-        Words::Decode => Ended {
-            disk,
-            outcome: decode(alloc, input, out),
-        },
-        Words::Serve { .. } | Words::Drill(_) => Ended {
-            disk,
-            outcome: Err(Stop::NotBuilt),
-        },
-    }
+    ServeEnd { ended, stations }
 }
 
 // Does what the words say.
@@ -106,13 +85,20 @@ fn perform<
     ensures later { O.model.faults out.old ≤ O.model.faults out.new }
 {
     match words {
+        Words::Submit => alone(submit(alloc, conf, input, out, disk, clock), stations),
         Words::Serve { sessions, .. } => {
             serve(rt, alloc, sessions, conf, out, disk, stations, clock)
         }
-        words => ServeEnd {
-            ended: perform_alone(alloc, words, conf, input, out, disk, clock),
-            stations,
-        },
+        Words::Queue => alone(queue(alloc, out, disk, clock), stations),
+        Words::Mailbox(name) => alone(mailbox(alloc, name, out, disk, clock), stations),
+        Words::Decode => {
+            let outcome = decode(alloc, input, out);
+            alone(Ended { disk, outcome }, stations)
+        }
+        Words::Drill(_) => {
+            let outcome = Err(Stop::NotBuilt);
+            alone(Ended { disk, outcome }, stations)
+        }
     }
 }
 

@@ -15,7 +15,7 @@ ghost use Rattle.mta_spool.specs.Stands.{fault_of, IsOfNoLane, Stands, TellsFewe
 ghost use Rattle.mta_stations.specs.Stations.{roles_in};
 ghost use Rattle.mta_run.specs.declared.stop.Stop.TheVariants as Stops;
 ghost use Rattle.mta_run.specs.Output.{output};
-ghost use Rattle.mta_run.specs.Served.{HasServed, HasTablesFor, limits_of, ServesSpool};
+ghost use Rattle.mta_run.specs.Served.{HasServed, HasTablesFor, ServesSpool};
 ghost use Rattle.mta_run.specs.Serving.{HasBegun, HasFinished, HasToldStations, IsOutcome, SettlesBehind};
 
 use crate::ended::{Ended, refused};
@@ -163,7 +163,7 @@ fn serve_spool<
     requires going { spool.journal.ended ≡ false }
     requires stands { (steps : List Step) × Stands D.model spool steps }
     requires keeps { Keeps D.model C.model spool (base_of D.model C.model spool) }
-    ensures served { ServesSpool D.model C.model S.Link.model S.model (limits_of sessions) tables.now.text
+    ensures served { ServesSpool D.model C.model S.Link.model S.model sessions tables.now.text
         (output O.model out.old out.new) spool stations.items result.stations.items result.ended.disk
         result.ended.outcome }
     ensures later { O.model.faults out.old ≤ O.model.faults out.new }
