@@ -18,7 +18,8 @@ use Rattle.mta_stations.specs.declared.end.Halt.{Halt}
 use Rattle.mta_worker.specs.declared.session.Served.{Served}
 use Rattle.mta_worker.specs.declared.telling.Lost.{Lost}
 use Rattle.mta_worker.specs.declared.telling.Lost.TheVariants as losts
-use Rattle.mta_worker.specs.Serving.{At, Answers, Carries, Does, GivesUp, Goes, InTurn, IsServed, To_its_end, Stopped, Given_up}
+use Rattle.mta_worker.specs.Serving.{At, Answers, Carries, Does, GivesUp, Goes, InTurn, IsServed}
+use Rattle.mta_worker.specs.Serving.{To_its_end, Stopped, Given_up}
 use Rattle.mta_worker.specs.Turns.{HasAnswered, IsLost}
 
 module _ {D C L : Type 0} (disks : DiskView D) (clocks : ClockView C) (links : LinkView L) where

@@ -64,7 +64,8 @@ module _ {D C : Type 0} (disks : DiskView D) (clocks : ClockView C) where
       (r : Result Action Lost) → IsPrefix p.seen s.entries → Keeps disks clocks s p.base
       → b ≡ record p { seen = s.entries } → q ≡ grown t.entries b → IfOk r (λ a. done a s t)
       → IfOk r (λ a. InTurn disks clocks (done a) p q)
-  in_turn_ok done p b q s t (Ok a) begins keeps taken given did = in_turn (done a) p b q s t begins keeps taken given did
+  in_turn_ok done p b q s t (Ok a) begins keeps taken given did =
+      in_turn (done a) p b q s t begins keeps taken given did
   in_turn_ok done p b q s t (Err e) begins keeps taken given did = tt
 
   -- and where it failed

@@ -94,8 +94,8 @@ module _ {D C L : Type 0} (disks : DiskView D) (clocks : ClockView C) (links : L
   Goes x [] y = y ≡ x
   Goes x (z ∷ zs) y = Does x z × Goes z zs y
 
-  -- How a session is served to its end: it comes to one, or is given up where memory is wanted at its link, or in a turn
-  -- of the lock.
+  -- How a session is served to its end: it comes to one, or is given up where memory is wanted at its link, or in a
+  -- turn of the lock.
   pub data IsServed (x : At L) (link : L) (pass : Held Step) (served : Served) : Type 0 where
     To_its_end : (zs : List (At L)) (y : At L) (e : SessionEnd) → Goes x zs y → y.action ≡ action.Finish e
         → link ≡ y.link → pass ≡ y.pass → served.end ≡ Some e → served.halt ≡ y.halt → IsServed x link pass served
