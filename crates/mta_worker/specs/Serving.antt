@@ -104,5 +104,5 @@ module _ {D C L : Type 0} (disks : DiskView D) (clocks : ClockView C) (links : L
         → GivesUp links losts.Memory (has_turned t.phase) y.halt at link served → IsServed x link pass served
     Given_up : (zs : List (At L)) (y : At L) (q : Ask) (t : State) (halt : Option Halt) (lost : Lost) → Goes x zs y
         → y.action ≡ action.Ask q
-        → InTurn disks clocks (λ s s'. IsLost disks clocks q s y.session y.halt s' t halt) y.pass pass
+        → InTurn disks clocks (λ s s'. IsLost disks clocks q s y.session y.halt s' t halt lost) y.pass pass
         → GivesUp links lost (has_turned t.phase) halt y.link link served → IsServed x link pass served
