@@ -83,7 +83,7 @@ decode_cause disks clocks sources conf input input_after disk clock (Stops.NoPee
 pub decode_ended : {D C I : Type 0} (disks : DiskView D) (laws : DiskLaws disks) (clocks : ClockView C) (sources : SourceView I) (conf input input_after : I) (disk : D) (clock : C) (out : Output) (result : Result (Unit {0}) Stop) → HasDecoded sources input input_after out result
     → HasEnded (handed disks clocks sources (Some Say.Decode) conf conf input input_after disk disk clock) NoneWorked out result
 decode_ended disks laws clocks sources conf input input_after disk clock out result has =
-    ended_alike (handed disks clocks sources (Some Say.Decode) conf conf input input_after disk disk clock) out result uncalled
+    ended_alike (handed disks clocks sources (Some Say.Decode) conf conf input input_after disk disk clock) NoneWorked out result uncalled
     (record { conf_untouched = λ none. refl; input_untouched = λ none. absurd (none tt); conf = undrawn sources longest_tables conf; input = has.drawn })
     (left_alone disks laws disk) (λ f steps was s. before_alone disks laws disk steps) (λ e ok. e) (λ none. refl)
-    (printed_map out result (λ stop e why. decode_cause disks clocks sources conf input input_after disk clock stop why) (λ t x. of_decode t refl x) has.printed)
+    (printed_map out result (λ stop e why. decode_cause disks clocks sources conf input input_after disk clock stop why) (λ t x. of_decode t refl x) has.printed) refl

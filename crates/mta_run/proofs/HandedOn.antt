@@ -17,7 +17,7 @@ use Rattle.mta_run.specs.Inputs.{IsDrawn}
 use Rattle.mta_run.specs.Output.{Output, Prints, PrintsFront, IsFront, HasPrinted, whole, stopped, cut, HasShown}
 use Rattle.mta_run.specs.DiskLeft.{Opening, uncalled, DiskLeft}
 use Rattle.mta_run.specs.Causes.{Cause, IsText}
-use Rattle.mta_run.specs.Command.{SourcesLeft, HasEnded, NoneWorked}
+use Rattle.mta_run.specs.Command.{SourcesLeft, HasEnded, OnStations}
 use Rattle.mta_run.specs.Images.{IsSafeBefore}
 use Rattle.mta_run.proofs.Same.{err_same}
 use Rattle.mta_run.proofs.DiskStands.{before_alone, left_alone}
@@ -66,12 +66,13 @@ pub stands_history : (f : List ℕ) (steps : List Step) → StandsFor f steps �
 stands_history f steps s = subst IsHistory (sym (append-nil steps)) s.history
 
 -- a command that added nothing
-pub ended_alike : {D C I : Type 0} (h : Handed D C I) (out : Output) (result : Result (Unit {0}) Stop)
+pub ended_alike : {D C I : Type 0} (h : Handed D C I) (stations : OnStations) (out : Output) (result : Result (Unit {0}) Stop)
     (opening : Opening) → SourcesLeft h → DiskLeft h.disks h.disk.before h.disk.after opening [] []
     → ForOpened h (λ steps. IsSafeBefore h.disks steps [] h.disk.before h.disk.after)
     → (AddsSteps h.words → result ≡ Ok tt → ⊥) → ((OpensDisk h.words → ⊥) → opening ≡ uncalled)
-    → HasPrinted (Cause h [] [] opening) (IsText h [] [] opening) out result → HasEnded h NoneWorked out result
-ended_alike h out result opening sources disk before other unless printed = record {
+    → HasPrinted (Cause h [] [] opening) (IsText h [] [] opening) out result → stations opening [] [] []
+    → HasEnded h stations out result
+ended_alike h stations out result opening sources disk before other unless printed left = record {
   opening = opening;
   ends = [];
   added = [];
@@ -89,14 +90,17 @@ ended_alike h out result opening sources disk before other unless printed = reco
   settled = λ e ok. absurd (other e ok);
   recorded = λ e ok. absurd (other (subst AddsSteps (sym e) tt) ok);
   undecided = λ e. none_undecided;
-  stations_are = refl;
+  stations_are = left;
 }
 
 -- a command that stopped before it opened the disk
-pub ended_early : {D C I : Type 0} (disks : DiskView D) (laws : DiskLaws disks) (clocks : ClockView C) (sources : SourceView I) (words : Option Words) (conf conf_after input input_after : I) (disk : D) (clock : C) (out : Output) (stop : Stop)
-    → SourcesLeft (handed disks clocks sources words conf conf_after input input_after disk disk clock)
+pub ended_early : {D C I : Type 0} (disks : DiskView D) (laws : DiskLaws disks) (clocks : ClockView C) (sources : SourceView I) (words : Option Words) (conf conf_after input input_after : I) (disk : D) (clock : C)
+    (stations : OnStations) (out : Output) (stop : Stop) → SourcesLeft (handed disks clocks sources words conf conf_after input input_after disk disk clock)
     → out.after ≡ out.before
     → Cause (handed disks clocks sources words conf conf_after input input_after disk disk clock) [] [] uncalled stop
-    → HasEnded (handed disks clocks sources words conf conf_after input input_after disk disk clock) NoneWorked out (Err stop)
-ended_early disks laws clocks sources words conf conf_after input input_after disk clock out stop left same cause =
-    ended_alike (handed disks clocks sources words conf conf_after input input_after disk disk clock) out (Err stop) uncalled left (left_alone disks laws disk) (λ f steps was s. before_alone disks laws disk steps) (λ e ok. absurd cc) (λ none. refl) (stopped stop cause [] (inl refl) (prints_nothing out same))
+    → stations uncalled [] [] []
+    → HasEnded (handed disks clocks sources words conf conf_after input input_after disk disk clock) stations out
+    (Err stop)
+ended_early disks laws clocks sources words conf conf_after input input_after disk clock stations out stop left same
+    cause on =
+    ended_alike (handed disks clocks sources words conf conf_after input input_after disk disk clock) stations out (Err stop) uncalled left (left_alone disks laws disk) (λ f steps was s. before_alone disks laws disk steps) (λ e ok. absurd cc) (λ none. refl) (stopped stop cause [] (inl refl) (prints_nothing out same)) on

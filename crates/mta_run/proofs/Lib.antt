@@ -20,3 +20,4 @@ pub mod Finishing
 pub mod DiskServed
 pub mod ServedSpool
 pub mod ServedWorkers
+pub mod ServedAll

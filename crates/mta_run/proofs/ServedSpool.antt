@@ -70,27 +70,20 @@ tells_back disks clocks laws spool joined k m tell =
     (λ moments e. k.clock moments e m tell)
 
 module _ {D C I : Type 0} (h : Handed D C I) (serves : Serves h.words) (laws : DiskLaws h.disks)
-    (clock_laws : ClockLaws h.clocks) (tables : TablesValue)
+    (tables : TablesValue)
     (read : HasTables h.sources h.conf.before h.conf.after (Ok tables)) (named : All (IsNamed tables) (roles_named h.words))
     (sources : SourcesLeft h) (inputs : InputsRead h) (spool : Shown D C) (o : HasOpened h.disks h.disk.before spool)
-    (clock : spool.clock ≡ h.clock) (handed_clock : spool.opened.clock ≡ h.clock) where
+    (clock : spool.clock ≡ h.clock) where
   abbrev Tells : ℕ → Type 0
   Tells = h.clocks.tells h.clock
-
-  abbrev BaseKept : Shown D C → Type 0
-  BaseKept s = Keeps h.disks h.clocks s (base_of h.disks h.clocks spool)
 
   from_first : (m : ℕ) → h.clocks.tells spool.clock m → Tells m
   from_first m tell = subst (λ (c : C). h.clocks.tells c m) clock tell
 
-  from_joined : (joined : Shown D C) → BaseKept joined → (m : ℕ) → h.clocks.tells joined.clock m → Tells m
-  from_joined joined k m tell =
-      subst (λ (c : C). h.clocks.tells c m) handed_clock (tells_back h.disks h.clocks clock_laws spool joined k m tell)
-
   adds : AddsSteps h.words
   adds = serves_adds h.words serves
 
-  peers : PeersNamed h
+  pub peers : PeersNamed h
   peers c e = (tables, subst (λ (x : List ℕ). tables_of x ≡ Ok tables) (read.read.0 c e) read.read.1, named)
 
   abbrev Begun : Shown D C → Result (Unit {0}) StepFault → Type 0
@@ -119,7 +112,7 @@ module _ {D C I : Type 0} (h : Handed D C I) (serves : Serves h.words) (laws : D
         subst (λ (y : List Step). IsHistory (y ++ (b.added ++ b.torn_step)))
         (same_steps h.disks laws h.disk.before spool o f steps was s) (b.adds.history o.steps o.stands)
 
-    begun_own : AreOfRun h (b.added ++ b.torn_step)
+    pub begun_own : AreOfRun h (b.added ++ b.torn_step)
     begun_own c e = (
       subst (λ (x : List ℕ). RecordsFirst x (b.added ++ b.torn_step)) (read.read.0 c e) b.first,
       λ f steps was s.
@@ -143,7 +136,7 @@ module _ {D C I : Type 0} (h : Handed D C I) (serves : Serves h.words) (laws : D
         (subst (λ (n : ℕ). IsOwnFull Tells c (after (o.steps ++ added)) n size need) large
         (subst (λ (x : State). IsOwnFull Tells c x final.journal.size size need) is (why c e))))
 
-    begun_cause : (fault : StepFault) → result ≡ Err fault → h.disk.after ≡ mid.journal.disk
+    pub begun_cause : (fault : StepFault) → result ≡ Err fault → h.disk.after ≡ mid.journal.disk
         → Cause h [] b.added opened (stop_of_step fault)
     begun_cause fault e is = by_fault fault e (b.refused fault e)
       where

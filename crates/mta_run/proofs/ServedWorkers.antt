@@ -188,7 +188,8 @@ module _ {D C I : Type 0} (h : Handed D C I) (serves : Serves h.words) (laws : D
   -- ---- all of it
 
   pub served_ended : {L S : Type 0} (links : LinkView L) (stations : StationView S) (sessions : ℕ)
-      (limits : Limits) → AreLimits sessions limits → (before after : List S) (out : Output) (result : Result (Unit {0}) Stop) (front : List Step) → AreOfRun h front
+      (limits : Limits) → AreLimits sessions limits → (before after : List S) (out : Output)
+      (result : Result (Unit {0}) Stop) (front : List Step) → AreOfRun h front
       → (grown : IsPrefix front joined.entries)
       → AreWorkers h.disks h.clocks links stations limits before after ends front (base_of h.disks h.clocks spool)
       joined.entries

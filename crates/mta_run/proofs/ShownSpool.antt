@@ -114,8 +114,8 @@ module _ {D C I : Type 0} (h : Handed D C I) (words : Words) (is : h.words ≡ S
   shown_with : (out : Output) (result : Result (Unit {0}) Stop) → SourcesLeft h → (AddsSteps h.words → ⊥)
       → HasShownSpool h.disks words out h.disk.before h.disk.after result → HasEnded h NoneWorked out result
   shown_with out result left other has =
-      ended_alike h out result has.opening left has.disk has.safe_before (λ e ok. other e) (λ none. absurd (none opens))
-      (printed_map out result (λ stop e why. shown_why has.opening stop why) (λ t x. shown_text has.opening t x) has.printed)
+      ended_alike h NoneWorked out result has.opening left has.disk has.safe_before (λ e ok. other e) (λ none. absurd (none opens))
+      (printed_map out result (λ stop e why. shown_why has.opening stop why) (λ t x. shown_text has.opening t x) has.printed) refl
 
 -- what adds steps reads the tables
 adds_reads : (words : Option Words) → AddsSteps words → ReadsTables words

@@ -78,13 +78,13 @@ tables_text conf failed t read c e = (t, subst (λ (x : List ℕ). tables_of x �
 module _ {D C I : Type 0} (disks : DiskView D) (laws : DiskLaws disks) (clocks : ClockView C) (sources : SourceView I) (conf conf_after input input_after : I) (clock : C) (out : Output) where
   pub submit_early : (old : D) (stop : Stop) → out.after ≡ out.before → HasInputs sources conf conf_after input input_after (Err stop) → HasEnded (handed disks clocks sources (Some Say.Submit) conf conf_after input input_after old old clock) NoneWorked out (Err stop)
   submit_early old stop same (no_tables _ read untouched) =
-      ended_early disks laws clocks sources (Some Say.Submit) conf conf_after input input_after old clock out stop
+      ended_early disks laws clocks sources (Some Say.Submit) conf conf_after input input_after old clock NoneWorked out stop
       (record { conf_untouched = λ none. absurd (none tt); input_untouched = λ none. absurd (none tt); conf = read.drawn; input = undrawn_along sources longest_apdu input input_after untouched }) same
-      (tables_cause (handed disks clocks sources (Some Say.Submit) conf conf_after input input_after old old clock) stop tt untouched read.read)
+      (tables_cause (handed disks clocks sources (Some Say.Submit) conf conf_after input input_after old old clock) stop tt untouched read.read) refl
   submit_early old stop same (no_apdu _ t read behind) =
-      ended_early disks laws clocks sources (Some Say.Submit) conf conf_after input input_after old clock out stop
+      ended_early disks laws clocks sources (Some Say.Submit) conf conf_after input input_after old clock NoneWorked out stop
       (record { conf_untouched = λ none. absurd (none tt); input_untouched = λ none. absurd (none tt); conf = read.drawn; input = behind.drawn }) same
-      (apdu_cause (handed disks clocks sources (Some Say.Submit) conf conf_after input input_after old old clock) stop tt (λ r. tables_text (sources.left conf) (Rose (sources.faults conf) (sources.faults conf_after)) t read.read) behind.read)
+      (apdu_cause (handed disks clocks sources (Some Say.Submit) conf conf_after input input_after old old clock) stop tt (λ r. tables_text (sources.left conf) (Rose (sources.faults conf) (sources.faults conf_after)) t read.read) behind.read) refl
 
 -- ---- both were read
 
@@ -115,9 +115,9 @@ module _ {D C I : Type 0} (h : Handed D C I) (is : h.words ≡ Some Say.Submit) 
 
   pub submit_refused : DiskLaws h.disks → (out : Output) (why : OpenWhy) → out.after ≡ out.before → HasRefused h.disks h.disk.before h.disk.after why → HasEnded h NoneWorked out (Err (stop_of_open why))
   submit_refused laws out why same refusal =
-      ended_alike h out (Err (stop_of_open why)) refused sources_left (disk_refused h.disks laws h.disk.before h.disk.after why refusal)
+      ended_alike h NoneWorked out (Err (stop_of_open why)) refused sources_left (disk_refused h.disks laws h.disk.before h.disk.after why refusal)
       (before_refused h.disks laws h.disk.before h.disk.after why refusal) (λ e ok. absurd cc) (λ none. absurd (none (submit_opens h is)))
-      (stopped (stop_of_open why) (refused_cause why refusal) [] (inl refl) (prints_nothing out same))
+      (stopped (stop_of_open why) (refused_cause why refusal) [] (inl refl) (prints_nothing out same)) refl
 
   -- ---- it was opened, and worked on
 

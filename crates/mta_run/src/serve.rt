@@ -9,6 +9,7 @@
 //! the run stops for that; else the end of a worker decides.
 
 ghost use Rattle.std.specs.Prelude.{◌≡◌, ◌⊎◌, ◌≤◌, Err, List, false};
+ghost use Rattle.mta_edge.specs.Views.{ClockLaws, DiskLaws};
 ghost use Rattle.mta_records.specs.declared.step.Step.{Step};
 ghost use Rattle.mta_spool.specs.Bases.{base_of, Keeps, KeepsOn};
 ghost use Rattle.mta_spool.specs.Stands.{fault_of, IsOfNoLane, Stands, TellsFewer};
@@ -226,6 +227,12 @@ fn tables_for<S: Station, I: Source>(
     }
 }
 
+// What holds of each disk and of each clock.
+fn outside_laws<D: Disk, C: Clock>()
+    ensures disks { DiskLaws D.model }
+    ensures clocks { ClockLaws C.model }
+{}
+
 /// Serves up to `sessions` sessions at each station, each by a worker in a thread of its own.
 pub fn serve<
     R: Threads + Wait + Sync,
@@ -249,6 +256,7 @@ pub fn serve<
         result.stations.items (output O.model out.old out.new) result.ended.outcome }
     ensures later { O.model.faults out.old ≤ O.model.faults out.new }
 {
+    outside_laws::<D, C>();
     let tables = match tables_for(alloc, conf, stations.as_slice()) {
         Ok(tables) => tables,
         Err(stop) => {
