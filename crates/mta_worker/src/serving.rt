@@ -8,7 +8,6 @@ ghost use Rattle.mta_worker.specs.Readying.{IsReadied};
 ghost use Rattle.mta_worker.specs.Served.{HasCalled, HasListened, IsLinkServed, IsOwnName, none_begun};
 ghost use Rattle.mta_worker.specs.Serving.{InTurn};
 
-use mta_stations::Halt;
 use crate::ready::{Ready, get_ready};
 use crate::session::{Served, give_up, run_session};
 use crate::telling::Lost;
@@ -21,11 +20,12 @@ use mta_session::{Event, Limits, Session};
 use mta_session_run::tell;
 use mta_shared::{Pass, Shared};
 use mta_spool::Spool;
+use mta_stations::Halt;
 use std::alloc::Global;
 use std::sync::Wait;
 
-// A lane that was never agreed is closed in a turn of its own, before the next is looked for: of a role at most 64 lanes
-// are open with a peer.
+// A lane that was never agreed is closed in a turn of its own, before the next is looked for: of a role at most 64
+// lanes are open with a peer.
 const MOST_TRIES: u32 = 65;
 
 // No session was begun.
@@ -82,7 +82,16 @@ fn call<R: Wait, D: Disk + Drop, C: Clock + Drop, L: Link>(
             Ready::Closed => {}
             Ready::Halts(halt) => return none_begun(halt),
             Ready::Begins(mut session, first) => match first {
-                Ok(action) => return run_session(rt, alloc, shared, pass, link, &mut session, action, halt),
+                Ok(action) => return run_session(
+                    rt,
+                    alloc,
+                    shared,
+                    pass,
+                    link,
+                    &mut session,
+                    action,
+                    halt,
+                ),
                 Err(lost) => return give_up(alloc, link, session.has_turned(), lost, halt),
             },
         }

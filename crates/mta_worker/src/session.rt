@@ -1,6 +1,6 @@
 //! One session over its link: it is carried on, and its questions are answered, each in one turn of the lock.
 
-ghost use Rattle.std.specs.Prelude.{◌≡◌, ◌≤◌, ◌<◌, None, IfOk, OnErr};
+ghost use Rattle.std.specs.Prelude.{◌≡◌, ◌≤◌, ◌<◌, None, IfErr, IfOk};
 ghost use Rattle.mta_session.specs.Rank.{calls_left};
 ghost use Rattle.mta_session.specs.declared.event.Action.TheVariants as actions;
 ghost use Rattle.mta_session_run.specs.Running.{IsCalled};
@@ -9,7 +9,6 @@ ghost use Rattle.mta_units.specs.Feed.{no_feed};
 ghost use Rattle.mta_worker.specs.Serving.{GivesUp, halt_behind, InTurn, IsServed, reason_of};
 ghost use Rattle.mta_worker.specs.Turns.{HasAnswered, IsLost};
 
-use mta_stations::Halt;
 use crate::telling::Lost;
 use crate::turn::answer_all;
 use mta_edge::{Clock, Disk};
@@ -19,6 +18,7 @@ use mta_session::{Action, Ask, Session, SessionEnd};
 use mta_session_run::{Came, carry_on};
 use mta_shared::{Pass, Shared};
 use mta_spool::Spool;
+use mta_stations::Halt;
 use mta_unit_links::put_unit;
 use mta_units::{Frames, Unit};
 use std::alloc::Global;
@@ -26,6 +26,7 @@ use std::sync::Wait;
 
 // The reasons of an Abort (X.228): a temporary problem, and a protocol error.
 const TEMPORARY_PROBLEM: u32 = 0;
+
 const PROTOCOL_ERROR: u32 = 4;
 
 /// What a session came to: how it ended, where one was begun, and why its worker ends, if it does.
@@ -95,8 +96,8 @@ fn one_turn<R: Wait, D: Disk + Drop, C: Clock + Drop>(
         (λ s t. HasAnswered D.model C.model ask s session.old halt.old t session.new a halt.new) pass.old pass.new) }
     ensures called { IfOk result (λ a. IsCalled session.new a) }
     ensures falls { IfOk result (λ a. calls_left session.new < calls_left session.old) }
-    ensures lost { OnErr result (InTurn D.model C.model
-        (λ s t. IsLost D.model C.model ask s session.old halt.old t session.new halt.new) pass.old pass.new) }
+    ensures lost { IfErr result (λ e. InTurn D.model C.model
+        (λ s t. IsLost D.model C.model ask s session.old halt.old t session.new halt.new e) pass.old pass.new) }
 {
     let mut turn = shared.take(rt, pass);
     let answered = answer_all(alloc, &mut turn.value, session, ask, halt);
