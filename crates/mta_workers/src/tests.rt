@@ -1,10 +1,13 @@
-//! Two workers over one spool, one of which waits for its peer until the other has served its own.
-ghost use Rattle.std.specs.Prelude.{◌≡◌};
+//! Two workers over one spool: one waits for its peer until the other has served its own; and something fails.
+ghost use Rattle.std.specs.Prelude.{◌≡◌, IfOk};
+ghost use Rattle.mta_edge.specs.Moments.{memory_clock};
 ghost use Rattle.mta_links.specs.Links.{untold_link, untold_station};
+ghost use Rattle.mta_spool.specs.Bases.{base_of, Keeps};
 
 use crate::side::{Worked, work_side_by_side};
-use mta_edge::{Failed, MemClock, Octets, SafeDisk};
-use mta_links::{Link, MemLink, Role, Station};
+use mta_ber::Word;
+use mta_edge::{Disk, Failed, MemClock, MemDisk, Octets, SafeDisk};
+use mta_links::{Link, MemLink, MemStation, Role, Station};
 use mta_session::Limits;
 use mta_spool::{Spool, Tables};
 use mta_worker::{Halt, WorkerEnd};
@@ -12,6 +15,7 @@ use std::alloc::{AllocError, Global};
 use std::sync::Wait;
 use std::sync::atomic::{AtomicU64, Ordering};
 use std::test::Fail;
+use std::thread::Threads;
 use std::time::Duration;
 
 const TABLES: &[u8] = b"domain C=GB;A=GOLD\nname gold\n\
@@ -35,14 +39,13 @@ const LOOKS: u32 = 10_000;
 
 const PAUSE: u64 = 2;
 
-// A link in memory. It gives nothing before the flag is up, where it waits for it.
+// A link in memory. It gives nothing before the flag is up, for which it waits.
 #[derive(Drop)]
 struct Line<'a, R> {
     link: MemLink,
     runtime: &'a R,
     flag: &'a AtomicU64,
     waits: bool,
-    faults: u64,
 }
 
 impl<R: Wait> Line<'_, R> {
@@ -57,31 +60,20 @@ impl<R: Wait> Line<'_, R> {
         }
         false
     }
-
-    fn fault(&mut self) -> Failed {
-        self.faults = self.faults.saturating_add(1);
-        Failed
-    }
 }
 
 impl<R: Wait> Link for Line<'_, R> {
-    ghost model = { untold_link (λ l. l.faults) };
+    ghost model = { untold_link (λ l. l.link.faults) };
 
     fn get(&mut self, into: &mut [u8]) -> Result<usize, Failed> {
         if self.waits && !self.is_flagged() {
-            return Err(self.fault());
+            return Ok(0);
         }
-        match self.link.get(into) {
-            Ok(count) => Ok(count),
-            Err(_) => Err(self.fault()),
-        }
+        self.link.get(into)
     }
 
     fn put(&mut self, bytes: &[u8]) -> Result<usize, Failed> {
-        match self.link.put(bytes) {
-            Ok(count) => Ok(count),
-            Err(_) => Err(self.fault()),
-        }
+        self.link.put(bytes)
     }
 }
 
@@ -105,6 +97,9 @@ impl<'a, R: Wait> Station for Stop<'a, R> {
     }
 
     fn next(&mut self) -> Result<Option<Line<'a, R>>, Failed> {
+        if self.out > 0 {
+            return Ok(None);
+        }
         match self.line.take() {
             Some(line) => {
                 self.out = 1;
@@ -115,7 +110,7 @@ impl<'a, R: Wait> Station for Stop<'a, R> {
     }
 
     fn back(&mut self, link: Line<'a, R>) {
-        self.out = 0;
+        self.out -= 1;
         self.ended = Some(link);
         self.flag.store(1, Ordering::SeqCst);
         self.flag.wake_all();
@@ -142,7 +137,7 @@ fn given(alloc: Global, name: &[u8]) -> Result<Vec<u8>, AllocError> {
     Ok(octets)
 }
 
-fn stop<'a, R: Wait>(
+fn stop_of<'a, R: Wait>(
     alloc: Global,
     runtime: &'a R,
     flag: &'a AtomicU64,
@@ -155,7 +150,6 @@ fn stop<'a, R: Wait>(
         runtime,
         flag,
         waits,
-        faults: 0,
     };
     Ok(Stop {
         role: Role::In,
@@ -188,41 +182,179 @@ fn records(octets: &[u8]) -> u32 {
     count
 }
 
-// The steps: the tables; of each session LaneOpen, Complete and CloseLane; and a Deliver of each message.
-#[test]
-fn one_waits_while_the_other_is_served(rt: HostRuntime) -> Result<(), Fail> {
-    let alloc: Global = rt.alloc();
-    let flag = AtomicU64::new(0);
+// A spool on the disk, in which the tables are recorded.
+fn begun<D: Disk + Drop>(alloc: Global, disk: D) -> Result<Spool<D, MemClock>, Fail>
+    ensures { IfOk result (λ s. Keeps D.model memory_clock s (base_of D.model memory_clock s)) }
+{
     let clock = MemClock::new(Vec::new(alloc));
-    let spool = Spool::open(alloc, SafeDisk::new(alloc, Octets::new(alloc)), clock);
-    let tables = Tables::read(alloc, TABLES);
-    let (Ok(mut spool), Ok(tables)) = (spool, tables) else {
-        return Err(Fail::new("no spool or no tables"));
+    let Ok(mut spool) = Spool::open(alloc, disk, clock) else {
+        return Err(Fail::new("not opened"));
     };
-    assert!(rt; spool.set_tables(&tables).is_ok());
+    let Ok(tables) = Tables::read(alloc, TABLES) else {
+        return Err(Fail::new("no tables"));
+    };
+    match spool.set_tables(&tables) {
+        Ok(()) => Ok(spool),
+        Err(_) => Err(Fail::new("not recorded")),
+    }
+}
+
+const SERVED: WorkerEnd = WorkerEnd {
+    sessions: 1,
+    closed: 1,
+    halt: Halt::StationEnded,
+};
+
+const LIMITS: Limits = Limits {
+    sessions: 10,
+    units: 100,
+};
+
+// What the workers of two stations come to, of which the first waits for the flag, whether each peer got its answers,
+// and how many records the journal has then.
+fn both_served<'a, R: Threads + Wait + Sync>(
+    rt: &'a R,
+    alloc: Global,
+    flag: &'a AtomicU64,
+) -> Result<(Vec<WorkerEnd>, bool, u32), Fail> {
+    let spool = begun(alloc, SafeDisk::new(alloc, Octets::new(alloc)))?;
     let mut stations = Vec::new(alloc);
-    stations.push(stop(alloc, &rt, &flag, b"silver", true)?)?;
-    stations.push(stop(alloc, &rt, &flag, b"copper", false)?)?;
-    let limits = Limits {
-        sessions: 10,
-        units: 100,
-    };
+    stations.push(stop_of(alloc, rt, flag, b"silver", true)?)?;
+    stations.push(stop_of(alloc, rt, flag, b"copper", false)?)?;
     let Worked {
         spool,
         stations,
         ends,
-        refused,
-    } = work_side_by_side(&rt, alloc, spool, stations, &limits);
-    assert!(rt; !refused);
-    let end = WorkerEnd {
-        sessions: 1,
-        closed: 1,
-        halt: Halt::StationEnded,
+        refused: _,
+    } = work_side_by_side(rt, alloc, spool, stations, &LIMITS);
+    let answered = stations.iter().all(|stop| was_put(stop) == ANSWERS);
+    Ok((ends, answered, records(spool.end().octets())))
+}
+
+// The steps: the tables; of each session LaneOpen, Complete and CloseLane; and a Deliver of each message.
+#[test]
+fn one_waits_while_the_other_is_served(rt: HostRuntime) -> Result<(), Fail> {
+    let flag = AtomicU64::new(0);
+    let (ends, answered, records) = both_served(&rt, rt.alloc(), &flag)?;
+    assert_eq!(rt; ends.as_slice(), [SERVED, SERVED].as_slice());
+    assert!(rt; answered);
+    assert_eq!(rt; records, 9);
+    Ok(())
+}
+
+// Accept and CloseAck of silver, to whom nothing is to be sent.
+const ACCEPTS: &[u8] =
+    b"\x00\x00\x00\x1B\x02\xB1\x19\x80\x01\x04\xA2\x14\xA0\x12\xA1\x10\x80\x06silver\xA1\x06\x16\x04ours\
+    \x00\x00\x00\x00\x13";
+
+// The first call that fails of a station's link and of the station, or 0.
+#[derive(Clone, Copy)]
+struct Fails {
+    link: u64,
+    station: u64,
+}
+
+const NONE: Fails = Fails {
+    link: 0,
+    station: 0,
+};
+
+// A responder's station that copper calls.
+fn called(alloc: Global, fails: Fails) -> Result<MemStation, Fail> {
+    station_of(alloc, Role::In, given(alloc, b"copper")?, fails)
+}
+
+// An initiator's station that calls silver.
+fn calling(alloc: Global, fails: Fails) -> Result<MemStation, Fail> {
+    let Some(peer) = Word::from_octets(Octets::from_vec(b"silver".to_vec(alloc)?)) else {
+        return Err(Fail::new("no name"));
     };
-    assert_eq!(rt; ends.as_slice(), [end, end].as_slice());
-    assert!(rt; stations.iter().all(|stop| was_put(stop) == ANSWERS));
-    assert_eq!(rt; spool.mailboxes().len(), 2);
-    assert!(rt; spool.lanes().is_empty());
-    assert_eq!(rt; records(spool.end().octets()), 9);
+    station_of(alloc, Role::Out(peer), ACCEPTS.to_vec(alloc)?, fails)
+}
+
+// A station with one link, whose peer gives these octets.
+fn station_of(
+    alloc: Global,
+    role: Role,
+    octets: Vec<u8>,
+    fails: Fails,
+) -> Result<MemStation, Fail> {
+    let input = Octets::from_vec(octets);
+    let mut links = Vec::new(alloc);
+    links.push(MemLink::new(alloc, input, [fails.link].to_vec(alloc)?))?;
+    match MemStation::new(alloc, role, links, [fails.station].to_vec(alloc)?) {
+        Ok(station) => Ok(station),
+        Err(_) => Err(Fail::new("no memory")),
+    }
+}
+
+// How many calls of the disk are made until the tables are recorded.
+fn calls_before(alloc: Global) -> Result<u64, Fail> {
+    let disk = MemDisk::new(alloc, Octets::new(alloc), Vec::new(alloc));
+    Ok(begun(alloc, disk)?.end().calls())
+}
+
+// What the workers of both stations come to, and how many messages are delivered then. The call of the disk is counted
+// from 1 behind the tables, or 0.
+fn ends_of<R: Threads + Wait + Sync>(
+    rt: &R,
+    alloc: Global,
+    fails: [Fails; 2],
+    call: u64,
+) -> Result<(Vec<WorkerEnd>, usize), Fail> {
+    let failing = if call == 0 {
+        0
+    } else {
+        calls_before(alloc)?.saturating_add(call)
+    };
+    let disk = MemDisk::new(alloc, Octets::new(alloc), [failing].to_vec(alloc)?);
+    let spool = begun(alloc, disk)?;
+    let mut stations = Vec::new(alloc);
+    stations.push(called(alloc, fails[0])?)?;
+    stations.push(calling(alloc, fails[1])?)?;
+    let Worked {
+        spool,
+        stations: _,
+        ends,
+        refused: _,
+    } = work_side_by_side(rt, alloc, spool, stations, &LIMITS);
+    Ok((ends, spool.mailboxes().len()))
+}
+
+fn end(sessions: u32, halt: Halt) -> WorkerEnd {
+    WorkerEnd {
+        sessions,
+        closed: 0,
+        halt,
+    }
+}
+
+// A responder and an initiator: whatever fails of one station, the other one's worker does all.
+#[test]
+fn each_worker_has_its_own_end(rt: HostRuntime) -> Result<(), Fail> {
+    let alloc: Global = rt.alloc();
+    let link = Fails {
+        link: 1,
+        station: 0,
+    };
+    let station = Fails {
+        link: 0,
+        station: 1,
+    };
+    let broken = end(1, Halt::StationEnded);
+    let failed = end(0, Halt::StationFailed);
+    let disk = end(1, Halt::Disk);
+    for (fails, call, ends, delivered) in [
+        ([NONE, NONE], 0, [SERVED, SERVED], 1),
+        ([link, NONE], 0, [broken, SERVED], 0),
+        ([NONE, link], 0, [SERVED, broken], 1),
+        ([station, NONE], 0, [failed, SERVED], 0),
+        ([NONE, station], 0, [SERVED, failed], 1),
+        ([NONE, NONE], 1, [disk, disk], 0),
+    ] {
+        let (came, count) = ends_of(&rt, alloc, fails, call)?;
+        assert_eq!(rt; came.as_slice(), ends.as_slice());
+        assert_eq!(rt; count, delivered);
+    }
     Ok(())
 }
