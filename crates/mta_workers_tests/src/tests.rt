@@ -4,13 +4,13 @@ ghost use Rattle.mta_edge.specs.Moments.{memory_clock};
 ghost use Rattle.mta_links.specs.Links.{untold_link, untold_station};
 ghost use Rattle.mta_spool.specs.Bases.{base_of, Keeps};
 
-use crate::side::{Worked, work_side_by_side};
 use mta_ber::Word;
 use mta_edge::{Disk, Failed, MemClock, MemDisk, Octets, SafeDisk};
 use mta_links::{Link, MemLink, MemStation, Role, Station};
 use mta_session::Limits;
 use mta_spool::{Spool, Tables};
 use mta_worker::{Halt, WorkerEnd};
+use mta_workers::{Worked, work_side_by_side};
 use std::alloc::{AllocError, Global};
 use std::sync::Wait;
 use std::sync::atomic::{AtomicU64, Ordering};
