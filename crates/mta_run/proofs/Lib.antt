@@ -21,3 +21,4 @@ pub mod DiskServed
 pub mod ServedSpool
 pub mod ServedWorkers
 pub mod ServedAll
+pub mod Commanded

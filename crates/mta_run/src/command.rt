@@ -8,7 +8,7 @@
 //! reads and after a crash at any moment; each recipient once; what was acknowledged; what was printed,
 //! the status and why. A command leaves the same in `HasEnded`, before its last line.
 
-ghost use Rattle.std.specs.Prelude.{◌≡◌, ◌≤◌, Some, map, string_bytes, true};
+ghost use Rattle.std.specs.Prelude.{◌≡◌, ◌≤◌, Err, Some, map, string_bytes, true};
 ghost use Rattle.mta_stations.specs.Stations.{roles_in};
 ghost use Rattle.mta_run.specs.Handed.{handed};
 ghost use Rattle.mta_run.specs.Output.{output};
@@ -22,7 +22,7 @@ use crate::ended::Ended;
 use crate::lines::close;
 use crate::mailbox::mailbox;
 use crate::queue::queue;
-use crate::serve::{ServeEnd, serve};
+use crate::serve::{ServeEnd, outside_laws, serve};
 use crate::stop::Stop;
 use crate::submit::submit;
 use mta_edge::{Clock, Disk, Sink, Source};
@@ -59,6 +59,21 @@ fn alone<D: Drop, S: Drop>(ended: Ended<D>, stations: Vec<S>) -> ServeEnd<D, S>
     ServeEnd { ended, stations }
 }
 
+// A run that stops before it reads or opens anything.
+fn early<D: Drop, S: Drop>(disk: D, stations: Vec<S>, stop: Stop) -> ServeEnd<D, S>
+    ensures disk { result.ended.disk ≡ disk }
+    ensures stations { result.stations ≡ stations }
+    ensures outcome { result.ended.outcome ≡ Err stop }
+{
+    ServeEnd {
+        ended: Ended {
+            disk,
+            outcome: Err(stop),
+        },
+        stations,
+    }
+}
+
 // Does what the words say.
 fn perform<
     R: Threads + Wait + Sync,
@@ -84,6 +99,7 @@ fn perform<
         result.ended.outcome }
     ensures later { O.model.faults out.old ≤ O.model.faults out.new }
 {
+    outside_laws::<D, C>();
     match words {
         Words::Submit => alone(submit(alloc, conf, input, out, disk, clock), stations),
         Words::Serve { sessions, .. } => {
@@ -127,22 +143,17 @@ fn command<
         (output O.model out.old out.new) result.ended.outcome }
     ensures later { O.model.faults out.old ≤ O.model.faults out.new }
 {
-    let stop = match Words::read(alloc, words) {
+    outside_laws::<D, C>();
+    match Words::read(alloc, words) {
         Ok(Some(words)) => {
             if are_stations_for(&words, stations.as_slice()) {
-                return perform(rt, alloc, words, conf, input, out, disk, stations, clock);
+                perform(rt, alloc, words, conf, input, out, disk, stations, clock)
+            } else {
+                early(disk, stations, Stop::Usage)
             }
-            Stop::Usage
         }
-        Ok(None) => Stop::Usage,
-        Err(_) => Stop::Memory,
-    };
-    ServeEnd {
-        ended: Ended {
-            disk,
-            outcome: Err(stop),
-        },
-        stations,
+        Ok(None) => early(disk, stations, Stop::Usage),
+        Err(_) => early(disk, stations, Stop::Memory),
     }
 }
 

@@ -227,8 +227,8 @@ fn tables_for<S: Station, I: Source>(
     }
 }
 
-// What holds of each disk and of each clock.
-fn outside_laws<D: Disk, C: Clock>()
+/// What holds of each disk and of each clock.
+pub fn outside_laws<D: Disk, C: Clock>()
     ensures disks { DiskLaws D.model }
     ensures clocks { ClockLaws C.model }
 {}
