@@ -2,11 +2,12 @@
 """A hub of 16 stations under load, and kills of processes: load.py MTA FOLDER [SECONDS].
 
 Eight agents call the hub, each at a station of its own, and the hub calls eight others. Each has messages for agents on the other side, which go by the
-hub over two-way lanes. While they go, processes are stopped by SIGKILL and started again, the hub more often than the others. In the end each message
-is delivered in exactly one mailbox, once there, and sent everywhere else.
+hub over two-way lanes. While they go, processes are stopped by SIGKILL and started again, the hub more often than the others, and copies of the hub's
+spool are looked at. In the end each message is delivered in exactly one mailbox, once there, and sent everywhere else.
 """
 import os
 import random
+import re
 import sys
 import threading
 import time
@@ -78,6 +79,13 @@ class World:
     def kill(self, which):
         (self.hub if which == "hub" else self.leaves[which]).kill()
 
+    def look(self, before):
+        """Looks at a copy of the hub's spool while the hub serves; the items that it has, no fewer than before."""
+        items = re.findall(r"^item (\d+) ", self.hub.look(), re.M)
+        if items != [str(n) for n in range(1, len(items) + 1)] or len(items) < before:
+            raise Wrong(f"a copy has the items {items} behind one with {before}")
+        return len(items)
+
     def is_through(self):
         """Whether each message is delivered, as copies of the spools of those that serve tell."""
         if "pending" in self.hub.statuses(self.hub.look()):
@@ -120,10 +128,11 @@ def main():
     everybody = ["hub", *world.leaves]
     for it in everybody:
         world.start(it)
-    kills, end = 0, time.monotonic() + seconds
+    kills, items, end = 0, 0, time.monotonic() + seconds
     try:
         while time.monotonic() < end:
-            time.sleep(random.uniform(0.05, 1.2))
+            time.sleep(random.uniform(0.05, 1.0))
+            items = world.look(items)
             which = random.choice(["hub"] * 6 + everybody)
             world.kill(which)
             world.start(which)
@@ -141,6 +150,7 @@ def main():
         Agent.end()
     print(f"{2 * SIDE} stations, {kills} kills: each of {len(world.there)} messages is in one mailbox, once, and sent "
           "everywhere else", flush=True)
+    print(f"{kills} copies of the hub's spool, made while it served: each opens, the last one with {items} items")
     print(f"the hub's spool has {os.path.getsize(world.hub.folder + '/mta.spool')} octets", flush=True)
     return 0
 
