@@ -161,6 +161,8 @@ fn serve_spool<
     mut spool: Spool<D, C>,
     stations: Vec<S>,
 ) -> ServeEnd<D, S>
+where
+    S::Link: Send,
     requires going { spool.journal.ended ≡ false }
     requires stands { (steps : List Step) × Stands D.model spool steps }
     requires keeps { Keeps D.model C.model spool (base_of D.model C.model spool) }
@@ -251,6 +253,8 @@ pub fn serve<
     stations: Vec<S>,
     clock: C,
 ) -> ServeEnd<D, S>
+where
+    S::Link: Send,
     ensures ended { HasServed D.model C.model I.model S.Link.model S.model sessions
         (roles_in S.model stations.items) conf.old conf.new disk result.ended.disk clock stations.items
         result.stations.items (output O.model out.old out.new) result.ended.outcome }
