@@ -41,7 +41,8 @@ module _ {D C : Type 0} (disks : DiskView D) (laws : DiskLaws disks) (clocks : C
   counted = omega (arith, k.count, ap (λ (d : D). disks.faults d) o.disk)
 
   pub risen : final.journal.ended ≡ true → Rose (disks.faults old) (disks.faults final.journal.disk)
-  risen e = subst (λ (n : ℕ). Rose n (disks.faults final.journal.disk)) (ap (λ (d : D). disks.faults d) o.disk) (k.ended e)
+  risen e = subst (λ (n : ℕ). Rose n (disks.faults final.journal.disk)) (ap (λ (d : D). disks.faults d) o.disk)
+      (k.ended e)
 
   synced_served : (f : List ℕ) (steps : List Step) → disks.content old ≡ Some f → StandsFor f steps
       → Synced disks steps final.entries k.torn_step old final.journal.disk

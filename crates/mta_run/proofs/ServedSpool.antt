@@ -1,5 +1,6 @@
 -- What `serve` leaves where its tables were read.
-use Rattle.std.proofs.Common.{◌≡◌, ℕ, ◌+◌, ◌≤◌, Bool, true, false, List, [], ◌∷◌, ◌++◌, All, Contains, map, Option, None, Some}
+use Rattle.std.proofs.Common.{◌≡◌, ℕ, ◌+◌, ◌≤◌, Bool, true, false, List, [], ◌∷◌, ◌++◌, All, Contains, map, Option}
+use Rattle.std.proofs.Common.{None, Some}
 use Rattle.std.proofs.Common.{Result, Ok, Err, refl, sym, ap, subst, ◌∙◌, append_assoc, true≢false, arith, inl, inr}
 use Rattle.std.specs.Prelude.{◌⊎◌}
 use Rattle.std.proofs.lemmas.List.{append-nil}
@@ -30,7 +31,8 @@ use Rattle.mta_stations.specs.Peers.{IsNamed}
 use Rattle.mta_workers.specs.Wholes.{AreWorkers}
 use Rattle.mta_run.specs.declared.stop.Stop.{Stop}
 use Rattle.mta_run.specs.declared.stop.Stop.TheVariants as Stops
-use Rattle.mta_run.specs.Causes.{Cause, disk as cause_disk, full_serving, IsText, memory as cause_memory, of_serve, of_worker}
+use Rattle.mta_run.specs.Causes.{Cause, disk as cause_disk, full_serving, IsText, memory as cause_memory, of_serve}
+use Rattle.mta_run.specs.Causes.{of_worker}
 use Rattle.mta_run.specs.Causes.{PeersNamed, spent_serving}
 use Rattle.mta_run.specs.Command.{HasEnded, IsSettled, OnStations, SourcesLeft}
 use Rattle.mta_run.specs.DiskLeft.{DiskLeft, opened}
@@ -40,7 +42,8 @@ use Rattle.mta_run.specs.Output.{HasPrinted, Output, stopped}
 use Rattle.mta_run.specs.Served.{AreDueBehind, AreOfRun, No_workers, Not_begun, Served, ServesSpool, StationsLeft}
 use Rattle.mta_run.specs.Served.{Untouched, Worked}
 use Rattle.mta_run.specs.Serving.{Decided, Had_ended, HasBegun, HasFinished, IsFinishStop, IsOutcome, IsOwnFull}
-use Rattle.mta_run.specs.Serving.{IsOwnRefusal, IsOwnSpent, RecordsFirst, Refused, Settled, SettlesBehind, stop_of_halt, Well}
+use Rattle.mta_run.specs.Serving.{IsOwnRefusal, IsOwnSpent, RecordsFirst, Refused, Settled, SettlesBehind, stop_of_halt}
+use Rattle.mta_run.specs.Serving.{Well}
 use Rattle.mta_run.specs.Submit.{Adds, AreInTurn, AreOwn, HasSettled, stop_of_step}
 use Rattle.mta_run.specs.Words.{AddsSteps, roles_named, Serves}
 use Rattle.mta_run.proofs.Added.{own_front, own_more as own_known}
@@ -62,7 +65,8 @@ among clocks laws c (Some moments) e m contains =
     (laws.listed c m).1 (subst (λ (o : Option (List ℕ)). IsAmong o m) (sym e) (contains moments refl))
 
 -- what the spool's clock tells behind the workers, the clock that was handed in tells
-pub tells_back : {D C : Type 0} (disks : DiskView D) (clocks : ClockView C) → ClockLaws clocks → (spool joined : Shown D C)
+pub tells_back : {D C : Type 0} (disks : DiskView D) (clocks : ClockView C) → ClockLaws clocks
+    → (spool joined : Shown D C)
     → Keeps disks clocks joined (base_of disks clocks spool) → (m : ℕ) → clocks.tells joined.clock m
     → clocks.tells spool.opened.clock m
 tells_back disks clocks laws spool joined k m tell =
@@ -71,7 +75,8 @@ tells_back disks clocks laws spool joined k m tell =
 
 module _ {D C I : Type 0} (h : Handed D C I) (serves : Serves h.words) (laws : DiskLaws h.disks)
     (tables : TablesValue)
-    (read : HasTables h.sources h.conf.before h.conf.after (Ok tables)) (named : All (IsNamed tables) (roles_named h.words))
+    (read : HasTables h.sources h.conf.before h.conf.after (Ok tables))
+        (named : All (IsNamed tables) (roles_named h.words))
     (sources : SourcesLeft h) (inputs : InputsRead h) (spool : Shown D C) (o : HasOpened h.disks h.disk.before spool)
     (clock : spool.clock ≡ h.clock) where
   abbrev Tells : ℕ → Type 0

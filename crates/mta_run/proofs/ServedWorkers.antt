@@ -122,7 +122,8 @@ module _ {D C I : Type 0} (h : Handed D C I) (serves : Serves h.words) (laws : D
 
   own_why : (fault : StepFault) → (x : HasSettled h.disks (h.clocks.tells joined.clock) joined final (Err fault))
       → Why (stop_of_step fault)
-  own_why fault x = by_fault fault x (λ c. settled_why h.disks (h.clocks.tells joined.clock) c joined final fault (Err fault)
+  own_why fault x = by_fault fault x
+      (λ c. settled_why h.disks (h.clocks.tells joined.clock) c joined final fault (Err fault)
       refl x)
     where
       Wherefore : StepFault → Type 0
@@ -138,7 +139,8 @@ module _ {D C I : Type 0} (h : Handed D C I) (serves : Serves h.words) (laws : D
       by_fault (StepFaults.Full size need) y r =
           let there = k.stands (known (StepFaults.Full size need) y (λ e. absurd cc)) in
           full_serving size need serves inputs (λ c told f steps was s.
-          subst (λ (z : List Step). IsOwnFull Tells c (after (z ++ final.entries)) (size_of (z ++ final.entries)) size need)
+          subst (λ (z : List Step). IsOwnFull Tells c (after (z ++ final.entries)) (size_of (z ++ final.entries)) size
+              need)
           (firsts f steps was s)
           (subst (λ (n : ℕ). IsOwnFull Tells c (after (k.first ++ final.entries)) n size need) there.holds.size
           (subst (λ (z : State). IsOwnFull Tells c z final.journal.size size need) k.state

@@ -40,8 +40,8 @@ AreLimits sessions limits = (limits.sessions ≡ sessions) × (limits.units ≡ 
 
 -- ---- the tables
 
--- The tables were not read; or a station calls a peer whom they do not name, which is told unless there is no memory for
--- its name; or they name each that is called.
+-- The tables were not read; or a station calls a peer whom they do not name, which is told unless there is no memory
+-- for its name; or they name each that is called.
 pub data HasTablesFor {I : Type 0} (sources : SourceView I) (old new : I) (roles : List Role)
     : Result TablesValue Stop → Type 0 where
   Not_read : (stop : Stop) → HasTables sources old new (Err stop) → HasTablesFor sources old new roles (Err stop)
@@ -53,7 +53,7 @@ pub data HasTablesFor {I : Type 0} (sources : SourceView I) (old new : I) (roles
 
 -- ---- the stations
 
--- the steps before the workers are of the tables of this call, and of what was due; their moments are those of the clock
+-- the steps before the workers are of the tables of this call, and of what was due; their moments are the clock's
 abbrev pub AreOfRun : {D C I : Type 0} → Handed D C I → List Step → Type 0
 AreOfRun h steps =
     ForTables h (λ c. RecordsFirst c steps

@@ -24,7 +24,7 @@ use crate::inputs::tables_of;
 use crate::print::print;
 use crate::stop::{Stop, stop_of_halt, stop_of_step};
 use crate::submit::settle;
-use mta_ber::{Octets, Word};
+use mta_ber::Word;
 use mta_edge::{Clock, Disk, Sink, Source};
 use mta_links::Station;
 use mta_session::Limits;
