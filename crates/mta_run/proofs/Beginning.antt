@@ -1,8 +1,7 @@
 -- What `serve` makes before its workers.
-use Rattle.std.proofs.Common.{◌≡◌, ℕ, ◌+◌, ◌≤◌, List, [], ◌∷◌, ◌++◌, Some, Result, Ok, Err, refl, sym, ap, subst, ◌∙◌}
-use Rattle.std.proofs.Common.{append_assoc, false, true≢false, arith, inl, inr}
+use Rattle.std.proofs.Common.{◌≡◌, ℕ, List, [], ◌∷◌, ◌++◌, Some, Result, Ok, Err, refl, sym, ap, subst, ◌∙◌}
+use Rattle.std.proofs.Common.{false, true≢false, arith, inl, inr}
 use Rattle.std.specs.Prelude.{◌⊎◌}
-use Rattle.std.proofs.lemmas.List.{append-nil}
 use Rattle.mta_edge.specs.Causes.{Rose}
 use Rattle.mta_edge.specs.Views.{ClockView, DiskLaws, DiskView}
 use Rattle.mta_journal.specs.Shown.{Shown as JournalShown}
@@ -12,11 +11,11 @@ use Rattle.mta_records.specs.declared.fault.StepFault.{StepFault}
 use Rattle.mta_records.specs.declared.fault.StepFault.TheVariants as StepFaults
 use Rattle.mta_histories.specs.Lanes.{State}
 use Rattle.mta_spool.specs.Shown.{Shown}
-use Rattle.mta_spool.specs.Stands.{Appends, IsOfNoLane, Stands, TellsFewer}
+use Rattle.mta_spool.specs.Stands.{Appends, IsOfNoLane, TellsFewer}
 use Rattle.mta_spool.specs.Turning.{IsRecorded, Records}
 use Rattle.mta_run.specs.Serving.{HasBegun, IsNextOwn, IsOwnFull, IsOwnRefusal, IsOwnSpent, records, RecordsFirst}
 use Rattle.mta_run.specs.Serving.{settles}
-use Rattle.mta_run.specs.Submit.{Adds, apdu, AreInTurn, due, HasSettled, IsNextStep, IsRefusal, tables, turn_after}
+use Rattle.mta_run.specs.Submit.{apdu, AreInTurn, due, HasSettled, IsNextStep, IsRefusal, tables, turn_after}
 use Rattle.mta_run.specs.Submit.{turn_behind}
 use Rattle.mta_run.proofs.Added.{adds_more, adds_refused, adds_then, turn_after_append, turn_stays, unchanged}
 use Rattle.mta_run.proofs.Same.{err_same}

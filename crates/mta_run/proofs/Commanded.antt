@@ -1,12 +1,11 @@
 -- What a command leaves, with what is known of the stations.
-use Rattle.std.proofs.Common.{◌≡◌, ℕ, true, false, Bool, List, [], Option, None, Some, Result, Ok, Err, refl, sym, ap}
+use Rattle.std.proofs.Common.{◌≡◌, ℕ, true, false, Bool, List, [], Option, None, Some, Result, Err, refl, sym, ap}
 use Rattle.std.proofs.Common.{subst}
 use Rattle.std.proofs.Common.{◌∙◌}
 use Rattle.std.specs.Prelude.{if◌then◌else◌}
 use Rattle.mta_edge.specs.Views.{ClockView, DiskLaws, DiskView, SourceView}
 use Rattle.mta_links.specs.Links.{LinkView, StationView}
 use Rattle.mta_links.specs.declared.role.Role.{Role}
-use Rattle.mta_records.specs.declared.step.Step.{Step}
 use Rattle.mta_apdu.specs.Apdus.{longest_apdu}
 use Rattle.mta_stations.specs.Roles.{roles_of}
 use Rattle.mta_stations.specs.Stations.{roles_in}
@@ -25,7 +24,7 @@ use Rattle.mta_run.specs.Inputs.{longest_tables}
 use Rattle.mta_run.specs.Output.{Output}
 use Rattle.mta_run.specs.Runs.{HasCommanded, sessions_in}
 use Rattle.mta_run.specs.Served.{HasServed, StationsLeft, Untouched}
-use Rattle.mta_run.specs.Words.{are_stations_for, ReadsTables, Serves, words_with}
+use Rattle.mta_run.specs.Words.{are_stations_for, Serves, words_with}
 use Rattle.mta_run.proofs.HandedOn.{ended_early, undrawn}
 use Rattle.mta_run.proofs.ServedAll.{ended_with}
 

@@ -1,7 +1,6 @@
 -- What `decode` leaves.
-use Rattle.std.proofs.Common.{◌≡◌, ℕ, List, [], Option, None, Some, Result, Ok, Err, refl, sym, ap, subst, ◌∙◌, inl}
+use Rattle.std.proofs.Common.{◌≡◌, ℕ, List, [], Option, Some, Result, Ok, Err, refl, ap, subst, inl}
 use Rattle.std.proofs.Common.{inr}
-use Rattle.mta_ber.specs.declared.fault.Kind.{Kind}
 use Rattle.mta_edge.specs.Views.{DiskView, DiskLaws, ClockView, SourceView}
 use Rattle.mta_edge.specs.Causes.{Rose}
 use Rattle.mta_apdu.specs.Apdus.{ApduValue, SpellsApdu}
@@ -9,11 +8,11 @@ use Rattle.mta_apdu_text.specs.Apdus.{apdu_text}
 use Rattle.mta_run.specs.declared.stop.Stop.{Stop}
 use Rattle.mta_run.specs.declared.stop.Stop.TheVariants as Stops
 use Rattle.mta_words.specs.declared.words.Words.TheVariants as Say
-use Rattle.mta_run.specs.Handed.{Handed, handed}
+use Rattle.mta_run.specs.Handed.{handed}
 use Rattle.mta_run.specs.Inputs.{longest_tables, IsTold, IsInputStop, HasOctets}
 use Rattle.mta_run.specs.Output.{Output, stopped, HasShown}
 use Rattle.mta_run.specs.DiskLeft.{uncalled}
-use Rattle.mta_run.specs.Causes.{IsText, of_decode, Cause, memory, source, apdu}
+use Rattle.mta_run.specs.Causes.{of_decode, Cause, memory, source, apdu}
 use Rattle.mta_run.specs.Command.{HasEnded, NoneWorked}
 use Rattle.mta_run.specs.Decode.{IsDecodedAs, IsApduText, HasDecoded}
 use Rattle.mta_run.proofs.DiskStands.{before_alone, left_alone}

@@ -1,5 +1,5 @@
 -- What a run leaves of its disk, from what opening and working leave.
-use Rattle.std.proofs.Common.{inl, inr, ⊎_elim, ◌≡◌, ◌≢◌, ℕ, ◌≤◌, ◌<◌, List, [], ◌++◌, length, map, Some, refl, sym, ap}
+use Rattle.std.proofs.Common.{inl, inr, ⊎_elim, ◌≡◌, ℕ, ◌≤◌, ◌<◌, List, [], ◌++◌, length, map, Some, refl, sym}
 use Rattle.std.proofs.Common.{subst, ◌∙◌, arith}
 use Rattle.std.specs.Prelude.{◌⊎◌}
 use Rattle.std.proofs.lemmas.Bool.{cases_lt}
@@ -16,8 +16,8 @@ use Rattle.mta_images.proofs.Unique.{one_history}
 use Rattle.mta_spool.specs.Opening.{HasOpened, HasRefused}
 use Rattle.mta_spool.specs.Shown.{Shown}
 use Rattle.mta_run.specs.Images.{Synced, IsSafe, IsSafeBefore}
-use Rattle.mta_spool.specs.Crashing.{Reached, IsLeftWith, Leaves}
-use Rattle.mta_run.specs.DiskLeft.{Opening, uncalled, refused, opened, IsAsItWas, DiskLeft}
+use Rattle.mta_spool.specs.Crashing.{Reached, Leaves}
+use Rattle.mta_run.specs.DiskLeft.{uncalled, refused, opened, IsAsItWas, DiskLeft}
 use Rattle.mta_spool.proofs.Crashing.{with_none, still}
 use Rattle.mta_run.proofs.Same.{some_same}
 

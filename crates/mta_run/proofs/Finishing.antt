@@ -1,6 +1,5 @@
 -- What `serve` makes behind its workers, and what it prints of them.
 use Rattle.std.proofs.Common.{◌≡◌, ℕ, List, [], None, Some, Result, Ok, Err, refl, sym, subst, ◌∙◌, inl, inr}
-use Rattle.std.specs.Prelude.{◌⊎◌}
 use Rattle.mta_edge.specs.Views.{DiskView}
 use Rattle.mta_histories.specs.Lanes.{State}
 use Rattle.mta_records.specs.declared.fault.StepFault.{StepFault}

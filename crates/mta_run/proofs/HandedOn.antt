@@ -1,26 +1,22 @@
 -- What a command leaves, from what its parts leave.
-use Rattle.std.proofs.Common.{◌≡◌, ℕ, ◌+◌, ◌≤◌, List, [], ◌++◌, drop, Option, Some, Result, Ok, Err, refl, sym, ap}
-use Rattle.std.proofs.Common.{subst, ◌∙◌, arith, inl, inr}
+use Rattle.std.proofs.Common.{◌≡◌, ℕ, List, [], ◌++◌, Option, Result, Ok, Err, refl, sym}
+use Rattle.std.proofs.Common.{subst, arith, inl, inr}
 use Rattle.std.proofs.lemmas.List.{append-nil}
 use Rattle.mta_edge.specs.Views.{DiskView, DiskLaws, ClockView, SourceView}
-use Rattle.mta_streams.specs.Streams.{TakesAtMost}
 use Rattle.mta_records.specs.declared.step.Step.{Step}
 use Rattle.mta_histories.specs.History.{IsHistory}
 use Rattle.mta_images.specs.Image.{StandsFor}
 use Rattle.mta_run.specs.declared.stop.Stop.{Stop}
-use Rattle.mta_run.specs.declared.stop.Stop.TheVariants as Stops
 use Rattle.mta_words.specs.declared.words.Words.{Words}
-use Rattle.mta_words.specs.declared.words.Words.TheVariants as Say
 use Rattle.mta_stations.specs.Deciding.{halts_of, IsUndecided}
 use Rattle.mta_run.specs.Words.{AddsSteps, OpensDisk}
 use Rattle.mta_run.specs.Handed.{ForOpened, Handed, handed}
 use Rattle.mta_run.specs.Inputs.{IsDrawn}
-use Rattle.mta_run.specs.Output.{Output, Prints, PrintsFront, IsFront, HasPrinted, whole, stopped, cut, HasShown}
+use Rattle.mta_run.specs.Output.{Output, IsFront, HasPrinted, whole, stopped, cut, HasShown}
 use Rattle.mta_run.specs.DiskLeft.{Opening, uncalled, DiskLeft}
 use Rattle.mta_run.specs.Causes.{Cause, IsText}
 use Rattle.mta_run.specs.Command.{SourcesLeft, HasEnded, OnStations}
 use Rattle.mta_run.specs.Images.{IsSafeBefore}
-use Rattle.mta_run.proofs.Same.{err_same}
 use Rattle.mta_run.proofs.DiskStands.{before_alone, left_alone}
 use Rattle.mta_run.proofs.Worked.{prints_nothing}
 

@@ -1,5 +1,5 @@
 -- An input that is too long for an APDU.
-use Rattle.std.proofs.Common.{◌≡◌, ℕ, ◌<◌, cond, List, length, Some, Result, Err, ap}
+use Rattle.std.proofs.Common.{◌≡◌, ℕ, ◌<◌, cond, List, length, Result, Err, ap}
 use Rattle.std.proofs.lemmas.Bool.{lt-leb}
 use Rattle.mta_ber.specs.declared.fault.Kind.TheVariants.{TooLong}
 use Rattle.mta_ber.specs.Head.{fault}

@@ -1,16 +1,14 @@
 -- What a run printed, from what its command printed and how its stop was told.
-use Rattle.std.proofs.Common.{◌≡◌, ◌≢◌, ℕ, ◌≤◌, List, ◌++◌, length, Option, Result, Ok, Err, refl, sym, ap, subst, ◌∙◌}
+use Rattle.std.proofs.Common.{◌≡◌, ℕ, ◌≤◌, List, ◌++◌, length, Option, Result, Ok, Err, refl, sym, ap, subst, ◌∙◌}
 use Rattle.std.proofs.Common.{arith, append_assoc, inl, inr}
-use Rattle.std.specs.Prelude.{◌⊎◌}
 use Rattle.std.proofs.lemmas.List.{length-append}
 use Rattle.mta_edge.specs.Views.{SinkView}
-use Rattle.mta_edge.specs.Causes.{Rose}
 use Rattle.mta_edge.specs.Outside.{Goes, Goes-then}
 use Rattle.mta_streams.specs.Streams.{TakesFront}
 use Rattle.mta_run.specs.declared.stop.Stop.{Stop}
 use Rattle.mta_run.specs.declared.stop.Stop.TheVariants as Stops
 use Rattle.mta_run.specs.Lines.{line_of, status_of}
-use Rattle.mta_run.specs.Output.{Output, output, Prints, PrintsFront, IsFront, HasPrinted, whole, stopped, cut, IsEnded}
+use Rattle.mta_run.specs.Output.{Output, output, Prints, IsFront, HasPrinted, whole, stopped, cut, IsEnded}
 use Rattle.mta_run.specs.Output.{done, told, cut_text, cut_line, HasTold, line, short, failed, short_failed, HasClosed}
 
 joined : (t more a b g : List ℕ) → b ≡ a ++ t → g ≡ b ++ more → g ≡ a ++ (t ++ more)

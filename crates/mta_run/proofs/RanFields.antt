@@ -1,10 +1,9 @@
 -- What a run leaves, from what its command leaves and how its stop was told.
-use Rattle.std.proofs.Common.{◌≡◌, ◌≢◌, ℕ, ◌≤◌, List, Option, [], ◌++◌, take, drop, None, Some, Result, Ok, Err, refl}
-use Rattle.std.proofs.Common.{sym, ap, subst, ◌∙◌, append_assoc, arith, inl, inr}
-use Rattle.std.proofs.lemmas.List.{take-append-drop, append-nil}
+use Rattle.std.proofs.Common.{◌≡◌, ◌≢◌, ℕ, ◌≤◌, List, Option, ◌++◌, take, drop, None, Some, Result, Ok, refl}
+use Rattle.std.proofs.Common.{sym, ap, subst, ◌∙◌, append_assoc}
+use Rattle.std.proofs.lemmas.List.{take-append-drop}
 use Rattle.mta_edge.specs.Views.{SinkView}
 use Rattle.mta_records.specs.declared.step.Step.{Step}
-use Rattle.mta_machine.specs.Apdu.{IsApdu}
 use Rattle.mta_histories.specs.Lanes.{empty}
 use Rattle.mta_histories.specs.History.{IsHistory, after}
 use Rattle.mta_histories.proofs.Runs.{histories_are_runs, each_recipient_once}
@@ -18,14 +17,13 @@ use Rattle.mta_words.specs.declared.words.Words.TheVariants as Say
 use Rattle.mta_run.specs.Words.{ReadsTables, ReadsApdu, OpensDisk, Serves}
 use Rattle.mta_run.specs.Handed.{Handed, ForOpened, InputsRead}
 use Rattle.mta_run.specs.Output.{Output, output, HasPrinted, whole, stopped, cut, HasClosed, IsEnded}
-use Rattle.mta_run.specs.DiskLeft.{Opening, uncalled, opened}
-use Rattle.mta_run.specs.Submit.{IsAccepted}
+use Rattle.mta_run.specs.DiskLeft.{Opening, opened}
 use Rattle.mta_run.specs.Causes.{mailbox_named, IsText, of_submit, of_queue, of_serve, of_mailbox, of_decode}
 use Rattle.mta_run.specs.Causes.{Cause, usage, not_built, memory, source, tables, apdu, not_spool, not_opened, disk}
 use Rattle.mta_run.specs.Causes.{full, spent, no_mailbox, no_peer, full_serving, spent_serving, of_worker}
 use Rattle.mta_run.specs.Command.{HasEnded, OnStations}
 use Rattle.mta_run.specs.Serving.{stop_of_halt}
-use Rattle.mta_run.specs.Ran.{RecipientsOnce, IsKept, EndedWell, Ran}
+use Rattle.mta_run.specs.Ran.{RecipientsOnce, Ran}
 use Rattle.mta_run.proofs.Same.{some_same}
 use Rattle.mta_run.proofs.Added.{possible_front, one_accept}
 use Rattle.mta_run.proofs.Printed.{ended, closed_well}

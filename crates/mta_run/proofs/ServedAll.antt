@@ -1,6 +1,5 @@
 -- What `serve` leaves.
 use Rattle.std.proofs.Common.{◌≡◌, ℕ, List, [], ◌++◌, All, Some, Result, Ok, Err, refl, sym, ap, subst, ◌∙◌, inl, inr}
-use Rattle.std.specs.Prelude.{◌⊎◌}
 use Rattle.std.proofs.lemmas.List.{append-nil}
 use Rattle.mta_apdu.specs.Apdus.{longest_apdu}
 use Rattle.mta_edge.specs.Causes.{Rose}
@@ -23,12 +22,12 @@ use Rattle.mta_words.specs.declared.words.Words.TheVariants as Say
 use Rattle.mta_run.specs.declared.stop.Stop.{Stop}
 use Rattle.mta_run.specs.declared.stop.Stop.TheVariants as Stops
 use Rattle.mta_run.specs.Causes.{Cause, memory, no_peer, not_opened, not_spool}
-use Rattle.mta_run.specs.Command.{HasEnded, NoneWorked, OnStations, SourcesLeft}
+use Rattle.mta_run.specs.Command.{HasEnded, OnStations, SourcesLeft}
 use Rattle.mta_run.specs.DiskLeft.{opened, Opening, refused, uncalled}
-use Rattle.mta_run.specs.Handed.{ForTables, Handed, handed, InputsRead}
+use Rattle.mta_run.specs.Handed.{Handed, handed, InputsRead}
 use Rattle.mta_run.specs.Inputs.{HasTables}
 use Rattle.mta_run.specs.Output.{Output, stopped}
-use Rattle.mta_run.specs.Served.{All_named, AreOfRun, HasServed, HasTablesFor, No_workers, Not_begun, Not_named}
+use Rattle.mta_run.specs.Served.{All_named, AreOfRun, HasTablesFor, No_workers, Not_begun, Not_named}
 use Rattle.mta_run.specs.Served.{Not_read}
 use Rattle.mta_run.specs.Served.{Served, ServesSpool, StationsLeft, Untouched}
 use Rattle.mta_run.specs.Shows.{stop_of_open}

@@ -1,7 +1,6 @@
 -- What `serve` leaves behind its workers.
-use Rattle.std.proofs.Common.{◌≡◌, ℕ, ◌+◌, ◌≤◌, true, false, List, [], ◌∷◌, ◌++◌, All, map, Some, Result, Ok, Err, refl}
+use Rattle.std.proofs.Common.{◌≡◌, ℕ, true, false, List, [], ◌++◌, map, Some, Result, Ok, Err, refl}
 use Rattle.std.proofs.Common.{sym, ap, subst, ◌∙◌, append_assoc, arith, inl, inr}
-use Rattle.std.specs.Prelude.{◌⊎◌}
 use Rattle.std.proofs.lemmas.List.{append-nil}
 use mathlib.Core.List.{IsPrefix}
 use Rattle.mta_edge.specs.Causes.{Rose}
@@ -11,7 +10,6 @@ use Rattle.mta_records.specs.Body.{body_of}
 use Rattle.mta_records.specs.declared.step.Step.{Step}
 use Rattle.mta_records.specs.declared.fault.StepFault.{StepFault}
 use Rattle.mta_records.specs.declared.fault.StepFault.TheVariants as StepFaults
-use Rattle.mta_tables.specs.Tables.{TablesValue}
 use Rattle.mta_histories.specs.Lanes.{State}
 use Rattle.mta_histories.specs.Due.{IsQuiet}
 use Rattle.mta_histories.specs.History.{after, IsHistory}
@@ -22,21 +20,19 @@ use Rattle.mta_spool.specs.Opening.{HasOpened}
 use Rattle.mta_spool.specs.Shown.{Shown}
 use Rattle.mta_spool.specs.Stands.{step_moment}
 use Rattle.mta_stations.specs.declared.end.WorkerEnd.{WorkerEnd}
-use Rattle.mta_stations.specs.Lines.{station_lines}
 use Rattle.mta_workers.specs.Wholes.{AreWorkers}
 use Rattle.mta_run.specs.declared.stop.Stop.{Stop}
-use Rattle.mta_run.specs.declared.stop.Stop.TheVariants as Stops
-use Rattle.mta_run.specs.Causes.{Cause, disk as cause_disk, full_serving, IsText, memory as cause_memory, of_serve}
+use Rattle.mta_run.specs.Causes.{Cause, disk as cause_disk, full_serving, memory as cause_memory, of_serve}
 use Rattle.mta_run.specs.Causes.{of_worker, PeersNamed, spent_serving}
 use Rattle.mta_run.specs.Command.{HasEnded, IsSettled, SourcesLeft}
 use Rattle.mta_run.specs.DiskLeft.{DiskLeft, opened}
 use Rattle.mta_run.specs.Handed.{DiskFailed, ForOpened, Handed, InputsRead}
-use Rattle.mta_run.specs.Output.{HasPrinted, Output}
+use Rattle.mta_run.specs.Output.{Output}
 use Rattle.mta_run.specs.Served.{AreDueBehind, AreLimits, AreOfRun, StationsLeft, Worked}
 use Rattle.mta_run.specs.Serving.{Decided, Had_ended, HasFinished, IsFinishStop, IsOutcome, IsOwnFull, IsOwnRefusal}
 use Rattle.mta_run.specs.Serving.{IsOwnSpent, Refused, Settled, SettlesBehind, Well}
-use Rattle.mta_run.specs.Submit.{AreInTurn, AreOwn, HasSettled, stop_of_step}
-use Rattle.mta_run.specs.Words.{AddsSteps, Serves}
+use Rattle.mta_run.specs.Submit.{AreOwn, HasSettled, stop_of_step}
+use Rattle.mta_run.specs.Words.{Serves}
 use Rattle.mta_run.proofs.Added.{own_front, own_more as own_known}
 use Rattle.mta_run.proofs.Beginning.{front_in_turn, own_more, settled_why}
 use Rattle.mta_run.proofs.DiskServed.{disk_served, first_steps, risen}

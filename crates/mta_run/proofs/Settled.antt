@@ -1,7 +1,6 @@
 -- Turns that are made until nothing is due.
-use Rattle.std.proofs.Common.{◌≡◌, ℕ, ◌+◌, ◌-◌, ◌≤◌, ◌<◌, List, [], ◌∷◌, ◌++◌, length, None, Some, Result, Ok, Err}
-use Rattle.std.proofs.Common.{false, true, refl, sym, ap, subst, ◌∙◌, true≢false, append_assoc, arith, inl, inr}
-use Rattle.std.specs.Prelude.{◌⊎◌}
+use Rattle.std.proofs.Common.{◌≡◌, ℕ, ◌-◌, ◌<◌, List, [], ◌∷◌, ◌++◌, None, Some, Result, Ok, Err}
+use Rattle.std.proofs.Common.{false, refl, sym, ap, subst, ◌∙◌, true≢false, arith, inl, inr}
 use Rattle.std.proofs.lemmas.List.{append-nil}
 use Rattle.mta_edge.specs.Views.{DiskView, DiskLaws, ClockView}
 use Rattle.mta_edge.specs.Causes.{Rose}
@@ -18,10 +17,10 @@ use Rattle.mta_spool.specs.Bases.{KeepsOn}
 use Rattle.mta_spool.specs.Shown.{Shown}
 use Rattle.mta_spool.specs.Stands.{Stands, Appends, TellsFewer, step_moment, IsOfNoLane}
 use Rattle.mta_spool.specs.Turning.{IsUnchanged, Turns}
-use Rattle.mta_run.specs.Submit.{IsOwn, AreInTurn, turn_after, Adds, IsNextStep, due as next_due, IsRefusal, HasSettled}
+use Rattle.mta_run.specs.Submit.{IsOwn, AreInTurn, turn_after, Adds, due as next_due, IsRefusal, HasSettled}
 use Rattle.mta_run.proofs.Same.{err_same}
 use Rattle.mta_run.proofs.Dues.{next_turn, next_own, next_tables}
-use Rattle.mta_run.proofs.Added.{turn_append, turn_after_append, turn_stays, turn_refused, Refusing, adds_still}
+use Rattle.mta_run.proofs.Added.{turn_append, turn_after_append, turn_stays, turn_refused, adds_still}
 use Rattle.mta_run.proofs.Added.{adds_one, adds_refused, adds_then, adds_more, unchanged}
 use Rattle.mta_run.proofs.Stored.{made_state, fits, refusal}
 

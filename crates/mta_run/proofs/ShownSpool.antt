@@ -1,5 +1,5 @@
 -- What the commands that show the spool leave.
-use Rattle.std.proofs.Common.{◌≡◌, ◌≢◌, ℕ, List, [], ◌++◌, Option, None, Some, Result, Ok, Err, refl, sym, ap, subst}
+use Rattle.std.proofs.Common.{◌≡◌, ◌≢◌, ℕ, List, [], Option, None, Some, Result, Ok, Err, refl, sym, ap, subst}
 use Rattle.std.proofs.Common.{◌∙◌, inl, inr}
 use Rattle.std.specs.Prelude.{◌⊎◌}
 use Rattle.mta_edge.specs.Views.{DiskView, DiskLaws, ClockView, SourceView}
@@ -25,7 +25,7 @@ use Rattle.mta_run.specs.Causes.{mailbox_named, queue_of, mailbox_of, IsText, of
 use Rattle.mta_run.specs.Causes.{memory as cause_memory, not_spool as cause_not_spool, not_opened as cause_not_opened}
 use Rattle.mta_run.specs.Causes.{no_mailbox as cause_no_mailbox}
 use Rattle.mta_run.specs.Command.{SourcesLeft, HasEnded, NoneWorked}
-use Rattle.mta_run.specs.Shows.{stop_of_open, IsShown, IsMailboxShown, ForHistoryOf, IsShownText, shows_queue}
+use Rattle.mta_run.specs.Shows.{stop_of_open, IsShown, IsMailboxShown, IsShownText, shows_queue}
 use Rattle.mta_run.specs.Shows.{shows_mailbox, IsShownStop, not_spool, not_opened, memory, no_mailbox, HasShownSpool}
 use Rattle.mta_run.proofs.Same.{ok_same, err_same}
 use Rattle.mta_run.proofs.DiskStands.{before_read, before_refused, disk_refused, disk_read, same_steps}

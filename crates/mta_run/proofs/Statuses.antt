@@ -1,5 +1,5 @@
 -- What a status tells, and when it is 0.
-use Rattle.std.proofs.Common.{◌≡◌, ◌≢◌, ℕ, ◌<◌, suc, List, [], ◌∷◌, ◌++◌, All, Option, None, Some, Result, Ok, Err}
+use Rattle.std.proofs.Common.{◌≡◌, ℕ, suc, List, [], ◌∷◌, ◌++◌, All, Option, None, Some, Result, Ok, Err}
 use Rattle.std.proofs.Common.{refl, sym, subst, ◌∙◌, arith, inl, inr}
 use Rattle.std.specs.Prelude.{◌⊎◌}
 use Rattle.mta_ber.specs.declared.fault.Fault.{Fault}
@@ -24,7 +24,7 @@ use Rattle.mta_run.specs.Words.{AddsSteps, ReadsTables, ReadsApdu, OpensDisk, Is
 use Rattle.mta_run.specs.Handed.{Handed, SourceFailed, DiskFailed}
 use Rattle.mta_run.specs.Lines.{status_of}
 use Rattle.mta_run.specs.Output.{Output, OutputFailed, IsEnded, done, told, cut_text, cut_line}
-use Rattle.mta_run.specs.DiskLeft.{Opening, uncalled, refused, opened, DiskLeft}
+use Rattle.mta_run.specs.DiskLeft.{Opening, uncalled, opened}
 use Rattle.mta_run.specs.Causes.{IsText, of_submit, of_queue, of_serve, of_mailbox, of_decode, Cause, usage, not_built}
 use Rattle.mta_run.specs.Causes.{memory, source, tables, apdu}
 use Rattle.mta_run.specs.Causes.{not_spool, not_opened, disk, full, spent, no_mailbox, no_peer, full_serving}

@@ -1,6 +1,6 @@
 -- The tables are recorded, and then an APDU is accepted.
 use Rattle.std.proofs.Common.{◌≡◌, ◌≢◌, ℕ, ◌+◌, ◌≤◌, ◌<◌, ◌^◌, List, [], ◌∷◌, ◌++◌, length, Option, Some, None, Result}
-use Rattle.std.proofs.Common.{Ok, Err, Bool, false, true, refl, sym, ap, subst, ◌∙◌, append_assoc, true≢false, arith}
+use Rattle.std.proofs.Common.{Ok, Err, Bool, false, true, refl, sym, ap, subst, ◌∙◌, true≢false, arith}
 use Rattle.std.proofs.Common.{inl, inr}
 use Rattle.std.specs.Prelude.{◌⊎◌, if◌then◌else◌, IfOk}
 use Rattle.std.proofs.lemmas.Bool.{cases_eq, cases_lt}
@@ -16,16 +16,16 @@ use Rattle.mta_journal.specs.Appending.{journal_limit}
 use Rattle.mta_machine.specs.Items.{numbered}
 use Rattle.mta_machine.specs.Machine.{last_tables}
 use Rattle.mta_histories.specs.Lanes.{State, empty}
-use Rattle.mta_histories.specs.History.{after, after_step}
+use Rattle.mta_histories.specs.History.{after_step}
 use Rattle.mta_spool.specs.Shown.{Shown}
 use Rattle.mta_spool.specs.Stands.{Stands, Appends, AtMoment, step_moment, need_of, fault_of, IsSpent, IsOfNoLane}
 use Rattle.mta_spool.specs.Stands.{IsOfNoRefusal}
 use Rattle.mta_spool.specs.Turning.{IsRecorded, Records, IsUnchanged}
-use Rattle.mta_run.specs.Submit.{IsTimed, IsOwn, AreInTurn, turn_after, Adds, IsNextStep, tables as next_tables}
-use Rattle.mta_run.specs.Submit.{apdu as next_apdu, IsFullFor, IsSpentFor, IsRefusal, IsAccepted, HasStored}
+use Rattle.mta_run.specs.Submit.{AreInTurn, turn_after, Adds, IsNextStep, tables as next_tables}
+use Rattle.mta_run.specs.Submit.{apdu as next_apdu, IsFullFor, IsSpentFor, IsRefusal, HasStored}
 use Rattle.mta_run.proofs.Same.{some_same, ok_same, err_same}
-use Rattle.mta_run.proofs.Added.{after_append, turn_append, turn_after_append, turn_refused, Refusing, adds_still}
-use Rattle.mta_run.proofs.Added.{adds_one, adds_refused, adds_then, adds_unless, unchanged}
+use Rattle.mta_run.proofs.Added.{after_append, turn_append, turn_after_append, turn_refused, adds_still}
+use Rattle.mta_run.proofs.Added.{adds_one, adds_refused, adds_then, unchanged}
 
 module _ {D C : Type 0} (disks : DiskView D) where
   -- ---- a step that was made or refused

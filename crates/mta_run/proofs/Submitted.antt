@@ -1,5 +1,5 @@
 -- What `submit` leaves.
-use Rattle.std.proofs.Common.{◌≡◌, ℕ, ◌≤◌, List, [], ◌++◌, Option, None, Some, Result, Ok, Err, refl, sym, ap, subst}
+use Rattle.std.proofs.Common.{◌≡◌, ℕ, List, [], ◌++◌, Option, Some, Result, Ok, Err, refl, sym, subst}
 use Rattle.std.proofs.Common.{◌∙◌, arith, inl, inr}
 use Rattle.mta_edge.specs.Views.{DiskView, DiskLaws, ClockView, SourceView}
 use Rattle.mta_edge.specs.Causes.{Rose}
@@ -22,8 +22,8 @@ use Rattle.mta_run.specs.declared.stop.Stop.{Stop}
 use Rattle.mta_run.specs.declared.stop.Stop.TheVariants as Stops
 use Rattle.mta_words.specs.declared.words.Words.TheVariants as Say
 use Rattle.mta_run.specs.Words.{AddsSteps, ReadsTables, ReadsApdu, OpensDisk}
-use Rattle.mta_run.specs.Handed.{Handed, handed, ForTables, ForInput, ForOpened, DiskFailed, InputsRead}
-use Rattle.mta_run.specs.Inputs.{longest_tables, IsReadAsTables, IsTold, AreTablesRead, HasTables, IsInputStop}
+use Rattle.mta_run.specs.Handed.{Handed, handed, ForTables, ForOpened, DiskFailed, InputsRead}
+use Rattle.mta_run.specs.Inputs.{IsReadAsTables, AreTablesRead, HasTables, IsInputStop}
 use Rattle.mta_run.specs.Inputs.{HasInput, HasInputs, no_tables, no_apdu, both}
 use Rattle.mta_run.specs.Output.{Output, HasPrinted, whole, stopped, cut}
 use Rattle.mta_run.specs.DiskLeft.{uncalled, refused, opened, DiskLeft}

@@ -1,11 +1,10 @@
 -- What `submit` leaves of an open spool.
-use Rattle.std.proofs.Common.{◌≡◌, ℕ, ◌+◌, ◌≤◌, List, [], ◌∷◌, ◌++◌, length, Result, Ok, Err, Some, refl, sym, ap}
+use Rattle.std.proofs.Common.{◌≡◌, ℕ, List, [], ◌∷◌, ◌++◌, length, Result, Ok, Err, Some, refl, sym, ap}
 use Rattle.std.proofs.Common.{subst, ◌∙◌, append_assoc, arith, inl, inr}
 use Rattle.std.specs.Prelude.{◌⊎◌}
 use Rattle.std.proofs.lemmas.List.{append-nil}
 use Rattle.mta_edge.specs.Views.{DiskView}
 use Rattle.mta_edge.specs.Causes.{Rose}
-use Rattle.mta_edge.specs.Outside.{Goes}
 use Rattle.mta_records.specs.declared.step.Step.{Step}
 use Rattle.mta_records.specs.declared.step.Step.TheVariants.{Accept}
 use Rattle.mta_records.specs.declared.fault.StepFault.{StepFault}
@@ -13,16 +12,16 @@ use Rattle.mta_records.specs.declared.fault.StepFault.TheVariants as StepFaults
 use Rattle.mta_machine.specs.Items.{numbered}
 use Rattle.mta_histories.specs.Lanes.{State}
 use Rattle.mta_spool.specs.Shown.{Shown}
-use Rattle.mta_spool.specs.Stands.{Stands, IsOfNoLane}
+use Rattle.mta_spool.specs.Stands.{IsOfNoLane}
 use Rattle.mta_run.specs.declared.stop.Stop.{Stop}
 use Rattle.mta_run.specs.declared.stop.Stop.TheVariants as Stops
 use Rattle.mta_run.specs.Lines.{accepted_line}
-use Rattle.mta_run.specs.Output.{Output, Prints, PrintsFront, IsFront, whole, stopped, cut, HasPrinted}
-use Rattle.mta_run.specs.Submit.{AreInTurn, turn_after, Adds, IsNextStep, tables, apdu, due, IsFullFor, IsSpentFor}
+use Rattle.mta_run.specs.Output.{Output, Prints, PrintsFront, whole, stopped, cut, HasPrinted}
+use Rattle.mta_run.specs.Submit.{AreInTurn, Adds, IsNextStep, tables, apdu, due}
 use Rattle.mta_run.specs.Submit.{IsRefusal, IsAccepted, HasStored, HasSettled, HasAcknowledged, stop_of_step}
 use Rattle.mta_run.specs.Submit.{IsWorkStop, full, spent, disk, memory, IsAcceptedLine, HasWorked}
 use Rattle.mta_run.proofs.Same.{err_same}
-use Rattle.mta_run.proofs.Added.{timed_more, turn_append, turn_after_append, adds_calm, adds_then, adds_more}
+use Rattle.mta_run.proofs.Added.{timed_more, turn_append, adds_calm, adds_then, adds_more}
 use Rattle.mta_run.proofs.Added.{adds_unless}
 
 -- ---- what is printed

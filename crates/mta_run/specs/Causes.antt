@@ -22,7 +22,6 @@ use Rattle.mta_stations.specs.Lines.{station_lines}
 use Rattle.mta_stations.specs.Peers.{IsNamed, IsUnnamed}
 use Rattle.mta_run.specs.declared.stop.Stop.{Stop}
 use Rattle.mta_run.specs.declared.stop.Stop.TheVariants as Stops
-use Rattle.mta_words.specs.declared.words.Words.{Words}
 use Rattle.mta_words.specs.declared.words.Words.TheVariants as Say
 use Rattle.mta_run.specs.Words.{AddsSteps, ReadsTables, ReadsApdu, OpensDisk, IsUnbuilt, roles_named, Serves}
 use Rattle.mta_run.specs.Handed.{Handed, ForTables, ForInput, ForDisk, ForOpened, SourceFailed, DiskFailed, InputsRead}

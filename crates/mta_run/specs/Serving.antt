@@ -11,7 +11,7 @@ use Rattle.mta_histories.specs.Lanes.{State}
 use Rattle.mta_histories.specs.Due.{IsNext}
 use Rattle.mta_spool.specs.Shown.{Shown}
 use Rattle.mta_spool.specs.Stands.{need_of, IsSpent}
-use Rattle.mta_spool.specs.Turning.{IsRecorded, IsUnchanged}
+use Rattle.mta_spool.specs.Turning.{IsRecorded}
 use Rattle.mta_stations.specs.declared.end.Halt.{Halt}
 use Rattle.mta_stations.specs.declared.end.Halt.TheVariants as Halts
 use Rattle.mta_stations.specs.declared.end.WorkerEnd.{WorkerEnd}

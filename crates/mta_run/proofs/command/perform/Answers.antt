@@ -1,11 +1,8 @@
-use Rattle.std.proofs.Common.{Some, Err, refl, sym, ap, subst}
+use Rattle.std.proofs.Common.{Err, refl, ap}
 use Rattle.mta_stations.specs.Stations.{roles_in}
-use Rattle.mta_words.specs.declared.words.Words.{Words}
 use Rattle.mta_words.specs.declared.words.Words.TheVariants as Say
 use Rattle.mta_run.specs.declared.stop.Stop.TheVariants as Stops
-use Rattle.mta_run.specs.Causes.{not_built}
 use Rattle.mta_run.specs.Output.{output}
-use Rattle.mta_run.specs.Words.{IsUnbuilt}
 use Rattle.mta_run.proofs.Commanded.{commanded_alone, commanded_serving, drill_ended}
 use Rattle.mta_run.proofs.Decoded.{decode_ended}
 use Rattle.mta_run.proofs.ShownSpool.{shown_ended}
