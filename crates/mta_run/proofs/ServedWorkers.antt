@@ -15,7 +15,7 @@ use Rattle.mta_histories.specs.Due.{IsQuiet}
 use Rattle.mta_histories.specs.History.{after, IsHistory}
 use Rattle.mta_images.specs.Image.{size_of, StandsFor}
 use Rattle.mta_session.specs.declared.limits.Limits.{Limits}
-use Rattle.mta_spool.specs.Bases.{base_of, found_of, Keeps}
+use Rattle.mta_spool.specs.Bases.{base_of, Keeps, where_listed}
 use Rattle.mta_spool.specs.Opening.{HasOpened}
 use Rattle.mta_spool.specs.Shown.{Shown}
 use Rattle.mta_spool.specs.Stands.{step_moment}
@@ -26,9 +26,9 @@ use Rattle.mta_run.specs.Causes.{Cause, disk as cause_disk, full_serving, memory
 use Rattle.mta_run.specs.Causes.{of_worker, PeersNamed, spent_serving}
 use Rattle.mta_run.specs.Command.{HasEnded, IsSettled, SourcesLeft}
 use Rattle.mta_run.specs.DiskLeft.{DiskLeft, opened}
-use Rattle.mta_run.specs.Handed.{DiskFailed, ForOpened, Handed, InputsRead}
+use Rattle.mta_run.specs.Handed.{DiskFailed, Handed, InputsRead}
 use Rattle.mta_run.specs.Output.{Output}
-use Rattle.mta_run.specs.Served.{AreDueBehind, AreLimits, AreOfRun, StationsLeft, Worked}
+use Rattle.mta_run.specs.Served.{AreDueBehind, AreLimits, AreOfRun, StationsLeft, Worked, IsBaseOf}
 use Rattle.mta_run.specs.Serving.{Decided, Had_ended, HasFinished, IsFinishStop, IsOutcome, IsOwnFull, IsOwnRefusal}
 use Rattle.mta_run.specs.Serving.{IsOwnSpent, Refused, Settled, SettlesBehind, Well}
 use Rattle.mta_run.specs.Submit.{AreOwn, HasSettled, stop_of_step}
@@ -228,5 +228,10 @@ module _ {D C I : Type 0} (h : Handed D C I) (serves : Serves h.words) (laws : D
     whole : final.entries ≡ front ++ (grown.0 ++ b.back)
     whole = b.entries ∙ (ap (λ (y : List Step). y ++ b.back) (sym grown.1) ∙ append_assoc front grown.0 b.back)
 
-    found : ForOpened h (λ first. found_of (base_of h.disks h.clocks spool) ≡ map body_of first)
-    found f steps was s = o.bodies ∙ ap (map body_of) (same_steps h.disks laws h.disk.before spool o f steps was s)
+    found : IsBaseOf h (base_of h.disks h.clocks spool)
+    found = record {
+      found = λ f steps was s.
+          o.bodies ∙ ap (map body_of) (same_steps h.disks laws h.disk.before spool o f steps was s);
+      count = ap (λ (d : D). h.disks.faults d) o.disk;
+      listed = ap (λ (c : C). where_listed (h.clocks.moments c)) handed_clock;
+    }
