@@ -1,8 +1,7 @@
 -- What `serve` makes before its workers.
-use Rattle.std.proofs.Common.{◌≡◌, ℕ, ◌+◌, ◌≤◌, List, [], ◌∷◌, ◌++◌, Some, Result, Ok, Err, refl, sym, ap, subst, ◌∙◌}
-use Rattle.std.proofs.Common.{append_assoc, false, true≢false, arith, inl, inr}
+use Rattle.std.proofs.Common.{◌≡◌, ℕ, List, [], ◌∷◌, ◌++◌, Some, Result, Ok, Err, refl, sym, ap, subst, ◌∙◌}
+use Rattle.std.proofs.Common.{false, true≢false, arith, inl, inr}
 use Rattle.std.specs.Prelude.{◌⊎◌}
-use Rattle.std.proofs.lemmas.List.{append-nil}
 use Rattle.mta_edge.specs.Causes.{Rose}
 use Rattle.mta_edge.specs.Views.{ClockView, DiskLaws, DiskView}
 use Rattle.mta_journal.specs.Shown.{Shown as JournalShown}
@@ -12,10 +11,11 @@ use Rattle.mta_records.specs.declared.fault.StepFault.{StepFault}
 use Rattle.mta_records.specs.declared.fault.StepFault.TheVariants as StepFaults
 use Rattle.mta_histories.specs.Lanes.{State}
 use Rattle.mta_spool.specs.Shown.{Shown}
-use Rattle.mta_spool.specs.Stands.{Appends, IsOfNoLane, Stands, TellsFewer}
+use Rattle.mta_spool.specs.Stands.{Appends, IsOfNoLane, TellsFewer}
 use Rattle.mta_spool.specs.Turning.{IsRecorded, Records}
-use Rattle.mta_run.specs.Serving.{HasBegun, IsNextOwn, IsOwnFull, IsOwnRefusal, IsOwnSpent, records, RecordsFirst, settles}
-use Rattle.mta_run.specs.Submit.{Adds, apdu, AreInTurn, due, HasSettled, IsNextStep, IsRefusal, tables, turn_after}
+use Rattle.mta_run.specs.Serving.{HasBegun, IsNextOwn, IsOwnFull, IsOwnRefusal, IsOwnSpent, records, RecordsFirst}
+use Rattle.mta_run.specs.Serving.{settles}
+use Rattle.mta_run.specs.Submit.{apdu, AreInTurn, due, HasSettled, IsNextStep, IsRefusal, tables, turn_after}
 use Rattle.mta_run.specs.Submit.{turn_behind}
 use Rattle.mta_run.proofs.Added.{adds_more, adds_refused, adds_then, turn_after_append, turn_stays, unchanged}
 use Rattle.mta_run.proofs.Same.{err_same}
@@ -31,7 +31,8 @@ next_own tells conf input added s _ turn (apdu moment low recorded timed) = absu
 next_own tells conf input added s step turn (due moment _ behind timed next) = settles moment step timed next
 
 own_of : (tells : ℕ → Type 0) (conf input : List ℕ) (added : List Step) (s : State) (size : ℕ) (failed other : Type 0)
-    (fault : StepFault) → turn_after 0 added ≡ 2 → (failed → other) → IsRefusal tells conf input added s size failed fault
+    (fault : StepFault) → turn_after 0 added ≡ 2 → (failed → other) → IsRefusal tells conf input added s size failed
+        fault
     → IsOwnRefusal tells conf s size other fault
 own_of tells conf input added s size failed other (StepFaults.Full used need) turn so r = record {
   step = r.step;
@@ -168,7 +169,8 @@ module _ {D C : Type 0} (disks : DiskView D) (laws : DiskLaws disks) (clocks : C
     first = first_then conf added h.added h.torn_step so.which h.in_turn;
     refused = λ fault e.
         own_more (clocks.tells mid.clock) (clocks.tells old.clock) conf new.current new.journal.size _ _ fault fewer
-        (λ r. omega (arith, r, so.adds.later)) (settled_why disks (clocks.tells mid.clock) conf mid new fault result e h);
+        (λ r. omega (arith, r, so.adds.later))
+            (settled_why disks (clocks.tells mid.clock) conf mid new fault result e h);
     going = λ ok. h.going (λ e. other (sym ok ∙ e));
   } where
     other : ◌≡◌ {A = Result (Unit {0}) StepFault} (Ok tt) (Err StepFaults.Disk) → ⊥

@@ -1,11 +1,11 @@
 -- What a command leaves, with what is known of the stations.
-use Rattle.std.proofs.Common.{◌≡◌, ℕ, true, false, Bool, List, [], Option, None, Some, Result, Ok, Err, refl, sym, ap, subst}
+use Rattle.std.proofs.Common.{◌≡◌, ℕ, true, false, Bool, List, [], Option, None, Some, Result, Err, refl, sym, ap}
+use Rattle.std.proofs.Common.{subst}
 use Rattle.std.proofs.Common.{◌∙◌}
 use Rattle.std.specs.Prelude.{if◌then◌else◌}
 use Rattle.mta_edge.specs.Views.{ClockView, DiskLaws, DiskView, SourceView}
 use Rattle.mta_links.specs.Links.{LinkView, StationView}
 use Rattle.mta_links.specs.declared.role.Role.{Role}
-use Rattle.mta_records.specs.declared.step.Step.{Step}
 use Rattle.mta_apdu.specs.Apdus.{longest_apdu}
 use Rattle.mta_stations.specs.Roles.{roles_of}
 use Rattle.mta_stations.specs.Stations.{roles_in}
@@ -24,7 +24,7 @@ use Rattle.mta_run.specs.Inputs.{longest_tables}
 use Rattle.mta_run.specs.Output.{Output}
 use Rattle.mta_run.specs.Runs.{HasCommanded, sessions_in}
 use Rattle.mta_run.specs.Served.{HasServed, StationsLeft, Untouched}
-use Rattle.mta_run.specs.Words.{are_stations_for, ReadsTables, Serves, words_with}
+use Rattle.mta_run.specs.Words.{are_stations_for, Serves, words_with}
 use Rattle.mta_run.proofs.HandedOn.{ended_early, undrawn}
 use Rattle.mta_run.proofs.ServedAll.{ended_with}
 
@@ -112,7 +112,8 @@ pub early_ended : {D C I L S : Type 0} (disks : DiskView D) (clocks : ClockView 
     (result : Result (Unit {0}) Stop) → disk_after ≡ disk → result ≡ Err stop → after ≡ before
     → out.after ≡ out.before
     → Cause (handed disks clocks sources words conf conf input input disk disk clock) [] [] uncalled stop
-    → HasCommanded disks clocks sources links stations words conf conf input input disk disk_after clock before after out
+    → HasCommanded disks clocks sources links stations words conf conf input input disk disk_after clock before after
+        out
     result
 early_ended disks clocks sources links stations laws words conf input disk clock before after out stop disk_after result
     same is kept silent cause =
@@ -127,7 +128,8 @@ early_ended disks clocks sources links stations laws words conf input disk clock
 pub drill_ended : {D C I : Type 0} (disks : DiskView D) (laws : DiskLaws disks) (clocks : ClockView C)
     (sources : SourceView I) (messages : ℕ) (conf input : I) (disk : D) (clock : C) (out : Output)
     → out.after ≡ out.before
-    → HasEnded (handed disks clocks sources (Some (Say.Drill messages)) conf conf input input disk disk clock) NoneWorked
+    → HasEnded (handed disks clocks sources (Some (Say.Drill messages)) conf conf input input disk disk clock)
+        NoneWorked
     out (Err Stops.NotBuilt)
 drill_ended disks laws clocks sources messages conf input disk clock out silent =
     ended_early disks laws clocks sources (Some (Say.Drill messages)) conf conf input input disk clock NoneWorked out

@@ -1,20 +1,17 @@
 -- What a run leaves of a disk that its workers shared, from what the spool keeps under its base.
-use Rattle.std.proofs.Common.{inl, inr, ◌≡◌, ℕ, ◌+◌, ◌≤◌, Bool, true, false, List, [], ◌∷◌, ◌++◌, length, map}
+use Rattle.std.proofs.Common.{inr, ◌≡◌, ℕ, ◌≤◌, Bool, true, false, List, [], ◌∷◌}
 use Rattle.std.proofs.Common.{Option, Some, refl, sym, ap, subst, ◌∙◌, arith}
 use Rattle.mta_edge.specs.Causes.{Rose}
 use Rattle.mta_edge.specs.Views.{ClockView, DiskLaws, DiskView}
-use Rattle.mta_records.specs.Body.{body_of}
 use Rattle.mta_records.specs.declared.step.Step.{Step}
 use Rattle.mta_images.specs.Image.{StandsFor}
 use Rattle.mta_spool.specs.Bases.{base_of, HasTold, Keeps, StaysSafe, since_of, where_told}
-use Rattle.mta_spool.specs.Crashing.{IsLeftWith}
 use Rattle.mta_spool.specs.Opening.{HasOpened}
 use Rattle.mta_spool.specs.Shown.{Shown}
 use Rattle.mta_spool.proofs.Keeping.{first_found}
 use Rattle.mta_run.specs.DiskLeft.{DiskLeft, opened}
 use Rattle.mta_run.specs.Images.{Synced}
 use Rattle.mta_run.proofs.DiskStands.{same_steps}
-use Rattle.mta_run.proofs.Same.{some_same}
 
 module _ {D C : Type 0} (disks : DiskView D) (laws : DiskLaws disks) (clocks : ClockView C) (old : D)
     (spool : Shown D C) (o : HasOpened disks old spool) (final : Shown D C)
@@ -41,7 +38,8 @@ module _ {D C : Type 0} (disks : DiskView D) (laws : DiskLaws disks) (clocks : C
   counted = omega (arith, k.count, ap (λ (d : D). disks.faults d) o.disk)
 
   pub risen : final.journal.ended ≡ true → Rose (disks.faults old) (disks.faults final.journal.disk)
-  risen e = subst (λ (n : ℕ). Rose n (disks.faults final.journal.disk)) (ap (λ (d : D). disks.faults d) o.disk) (k.ended e)
+  risen e = subst (λ (n : ℕ). Rose n (disks.faults final.journal.disk)) (ap (λ (d : D). disks.faults d) o.disk)
+      (k.ended e)
 
   synced_served : (f : List ℕ) (steps : List Step) → disks.content old ≡ Some f → StandsFor f steps
       → Synced disks steps final.entries k.torn_step old final.journal.disk

@@ -1,6 +1,5 @@
 -- What `serve` makes behind its workers, and what it prints of them.
 use Rattle.std.proofs.Common.{◌≡◌, ℕ, List, [], None, Some, Result, Ok, Err, refl, sym, subst, ◌∙◌, inl, inr}
-use Rattle.std.specs.Prelude.{◌⊎◌}
 use Rattle.mta_edge.specs.Views.{DiskView}
 use Rattle.mta_histories.specs.Lanes.{State}
 use Rattle.mta_records.specs.declared.fault.StepFault.{StepFault}
@@ -65,7 +64,8 @@ told_short ends out (Err stop) shown = inl shown
 -- ---- all of it
 
 module _ {D C : Type 0} (disks : DiskView D) (tells : ℕ → Type 0) (ends : List WorkerEnd) (out : Output)
-    (old new : Shown D C) (settled : Result (Unit {0}) StepFault) (behind : SettlesBehind disks tells old new settled) where
+    (old new : Shown D C) (settled : Result (Unit {0}) StepFault) (behind : SettlesBehind disks tells old new settled)
+        where
   outcome_printed : (result : Result (Unit {0}) Stop) → HasToldStations ends out (Ok tt)
       → IsOutcome settled ends result
       → HasPrinted (IsFinishStop settled ends) (λ text. text ≡ station_lines ends) out result

@@ -1,9 +1,9 @@
 -- What a run leaves, from what its command leaves and how its stop was told.
-use Rattle.std.proofs.Common.{◌≡◌, ◌≢◌, ℕ, ◌≤◌, List, Option, [], ◌++◌, take, drop, None, Some, Result, Ok, Err, refl, sym, ap, subst, ◌∙◌, append_assoc, arith, inl, inr}
-use Rattle.std.proofs.lemmas.List.{take-append-drop, append-nil}
+use Rattle.std.proofs.Common.{◌≡◌, ◌≢◌, ℕ, ◌≤◌, List, Option, ◌++◌, take, drop, None, Some, Result, Ok, refl}
+use Rattle.std.proofs.Common.{sym, ap, subst, ◌∙◌, append_assoc}
+use Rattle.std.proofs.lemmas.List.{take-append-drop}
 use Rattle.mta_edge.specs.Views.{SinkView}
 use Rattle.mta_records.specs.declared.step.Step.{Step}
-use Rattle.mta_machine.specs.Apdu.{IsApdu}
 use Rattle.mta_histories.specs.Lanes.{empty}
 use Rattle.mta_histories.specs.History.{IsHistory, after}
 use Rattle.mta_histories.proofs.Runs.{histories_are_runs, each_recipient_once}
@@ -17,14 +17,13 @@ use Rattle.mta_words.specs.declared.words.Words.TheVariants as Say
 use Rattle.mta_run.specs.Words.{ReadsTables, ReadsApdu, OpensDisk, Serves}
 use Rattle.mta_run.specs.Handed.{Handed, ForOpened, InputsRead}
 use Rattle.mta_run.specs.Output.{Output, output, HasPrinted, whole, stopped, cut, HasClosed, IsEnded}
-use Rattle.mta_run.specs.DiskLeft.{Opening, uncalled, opened}
-use Rattle.mta_run.specs.Submit.{IsAccepted}
+use Rattle.mta_run.specs.DiskLeft.{Opening, opened}
 use Rattle.mta_run.specs.Causes.{mailbox_named, IsText, of_submit, of_queue, of_serve, of_mailbox, of_decode}
 use Rattle.mta_run.specs.Causes.{Cause, usage, not_built, memory, source, tables, apdu, not_spool, not_opened, disk}
 use Rattle.mta_run.specs.Causes.{full, spent, no_mailbox, no_peer, full_serving, spent_serving, of_worker}
 use Rattle.mta_run.specs.Command.{HasEnded, OnStations}
 use Rattle.mta_run.specs.Serving.{stop_of_halt}
-use Rattle.mta_run.specs.Ran.{RecipientsOnce, IsKept, EndedWell, Ran}
+use Rattle.mta_run.specs.Ran.{RecipientsOnce, Ran}
 use Rattle.mta_run.proofs.Same.{some_same}
 use Rattle.mta_run.proofs.Added.{possible_front, one_accept}
 use Rattle.mta_run.proofs.Printed.{ended, closed_well}
@@ -34,7 +33,9 @@ use Rattle.mta_run.proofs.Worked.{accepted_more}
 -- a beginning of a history is one
 history_front : (steps tried : List Step) (n : ℕ) → IsHistory (steps ++ tried) → IsHistory (steps ++ take n tried)
 history_front steps tried n history =
-    possible_front empty (steps ++ take n tried) (drop n tried) (subst IsHistory (ap (λ (x : List Step). steps ++ x) (sym (take-append-drop n tried)) ∙ sym (append_assoc steps (take n tried) (drop n tried))) history)
+    possible_front empty (steps ++ take n tried) (drop n tried)
+        (subst IsHistory (ap (λ (x : List Step). steps ++ x) (sym (take-append-drop n tried)) ∙ sym
+        (append_assoc steps (take n tried) (drop n tried))) history)
 
 -- in a history each recipient is discharged once at most
 once_in : (steps : List Step) → IsHistory steps → RecipientsOnce steps
@@ -81,7 +82,8 @@ record TextTells {D C I : Type 0} (h : Handed D C I) (opening : Opening) : Type 
   known : h.words ≢ None
   read : InputsRead h
   opened_it : OpensDisk h.words → opening ≡ opened
-  named : (name : List ℕ) → h.words ≡ Some (Say.Mailbox name) → ForOpened h (λ steps. mailbox_named (after steps) name ≢ None)
+  named : (name : List ℕ) → h.words ≡ Some (Say.Mailbox name) → ForOpened h
+      (λ steps. mailbox_named (after steps) name ≢ None)
 
 serve_known : (words : Option Words) → Serves words → words ≢ None
 serve_known words serves none = subst Serves none serves
@@ -89,16 +91,20 @@ serve_known words serves none = subst Serves none serves
 some_known : {D C I : Type 0} (h : Handed D C I) (words : Words) → h.words ≡ Some words → h.words ≢ None
 some_known h words some none = cc
 
-mailbox_apart : {D C I : Type 0} (h : Handed D C I) (words : Words) (name : List ℕ) → h.words ≡ Some words → (words ≡ Say.Mailbox name → ⊥) → h.words ≡ Some (Say.Mailbox name) → ⊥
+mailbox_apart : {D C I : Type 0} (h : Handed D C I) (words : Words) (name : List ℕ) → h.words ≡ Some words
+    → (words ≡ Say.Mailbox name → ⊥) → h.words ≡ Some (Say.Mailbox name) → ⊥
 mailbox_apart h words name some other e = other (some_same words (Say.Mailbox name) (sym some ∙ e))
 
 same_name : (a b : List ℕ) → Say.Mailbox a ≡ Say.Mailbox b → a ≡ b
 same_name a b e = cc
 
-reads_nothing : {D C I : Type 0} (h : Handed D C I) (words : Words) → h.words ≡ Some words → (ReadsTables (Some words) → ⊥) → (ReadsApdu (Some words) → ⊥) → InputsRead h
-reads_nothing h words is no_tables no_apdu = record { tables = λ r. absurd (no_tables (subst ReadsTables is r)); apdu = λ r. absurd (no_apdu (subst ReadsApdu is r)) }
+reads_nothing : {D C I : Type 0} (h : Handed D C I) (words : Words) → h.words ≡ Some words
+    → (ReadsTables (Some words) → ⊥) → (ReadsApdu (Some words) → ⊥) → InputsRead h
+reads_nothing h words is no_tables no_apdu = record
+    { tables = λ r. absurd (no_tables (subst ReadsTables is r)); apdu = λ r. absurd (no_apdu (subst ReadsApdu is r)) }
 
-text_tells : {D C I : Type 0} (h : Handed D C I) (ends : List WorkerEnd) (added : List Step) (opening : Opening) (text : List ℕ) → IsText h ends added opening text → TextTells h opening
+text_tells : {D C I : Type 0} (h : Handed D C I) (ends : List WorkerEnd) (added : List Step) (opening : Opening)
+    (text : List ℕ) → IsText h ends added opening text → TextTells h opening
 text_tells h ends added _ _ (of_submit n text word inputs small is acc) = record {
   known = some_known h Say.Submit word;
   read = inputs;
@@ -115,7 +121,8 @@ text_tells h ends added _ _ (of_mailbox name text word named is) = record {
   known = some_known h (Say.Mailbox name) word;
   read = reads_nothing h (Say.Mailbox name) word (λ r. r) (λ r. r);
   opened_it = λ o. refl;
-  named = λ other e. subst (λ (x : List ℕ). ForOpened h (λ steps. mailbox_named (after steps) x ≢ None)) (same_name name other (some_same (Say.Mailbox name) (Say.Mailbox other) (sym word ∙ e))) named;
+  named = λ other e. subst (λ (x : List ℕ). ForOpened h (λ steps. mailbox_named (after steps) x ≢ None))
+      (same_name name other (some_same (Say.Mailbox name) (Say.Mailbox other) (sym word ∙ e))) named;
 }
 text_tells h ends added _ _ (of_serve text serves inputs named is) = record {
   known = serve_known h.words serves;
@@ -131,15 +138,19 @@ text_tells h ends added _ _ (of_decode text word is) = record {
 }
 
 -- the text of a command that did what it does
-printed_tells : {D C I : Type 0} (h : Handed D C I) (ends : List WorkerEnd) (added : List Step) (opening : Opening) (out : Output) (result : Result (Unit {0}) Stop) → HasPrinted (Cause h ends added opening) (IsText h ends added opening) out result → result ≡ Ok tt → TextTells h opening
+printed_tells : {D C I : Type 0} (h : Handed D C I) (ends : List WorkerEnd) (added : List Step) (opening : Opening)
+    (out : Output) (result : Result (Unit {0}) Stop) → HasPrinted (Cause h ends added opening)
+    (IsText h ends added opening) out result → result ≡ Ok tt → TextTells h opening
 printed_tells h ends added opening out _ (whole d text x p) e = text_tells h ends added opening text x
 printed_tells h ends added opening out _ (stopped stop why text f p) e = absurd cc
 printed_tells h ends added opening out _ (cut text x p) e = absurd cc
 
 -- ---- a run
 
-pub ran : {D C I O : Type 0} (h : Handed D C I) (sinks : SinkView O) (a b c : O) (result : Result (Unit {0}) Stop) (status : ℕ) (stations : OnStations)
-    → HasEnded h stations (output sinks a b) result → HasClosed result (output sinks b c) status → sinks.faults a ≤ sinks.faults b → sinks.faults b ≤ sinks.faults c
+pub ran : {D C I O : Type 0} (h : Handed D C I) (sinks : SinkView O) (a b c : O) (result : Result (Unit {0}) Stop)
+    (status : ℕ) (stations : OnStations)
+    → HasEnded h stations (output sinks a b) result → HasClosed result (output sinks b c) status → sinks.faults a ≤
+        sinks.faults b → sinks.faults b ≤ sinks.faults c
     → Ran h stations (output sinks a c) status
 ran h sinks a b c result status stations has closed first then = record {
   opening = has.opening;
@@ -178,5 +189,7 @@ ran h sinks a b c result status stations has closed first then = record {
         recorded = λ e. has.recorded e ok;
       };
 } where
-  printed : IsEnded (Cause h has.ends has.added has.opening) (IsText h has.ends has.added has.opening) (output sinks a c) status
-  printed = ended sinks a b c (Cause h has.ends has.added has.opening) (IsText h has.ends has.added has.opening) first then (memory has.opening) (no_sink h has.ends has.added has.opening) result status has.printed closed
+  printed : IsEnded (Cause h has.ends has.added has.opening) (IsText h has.ends has.added has.opening)
+      (output sinks a c) status
+  printed = ended sinks a b c (Cause h has.ends has.added has.opening) (IsText h has.ends has.added has.opening) first
+      then (memory has.opening) (no_sink h has.ends has.added has.opening) result status has.printed closed

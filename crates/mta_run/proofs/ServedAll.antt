@@ -1,6 +1,5 @@
 -- What `serve` leaves.
 use Rattle.std.proofs.Common.{◌≡◌, ℕ, List, [], ◌++◌, All, Some, Result, Ok, Err, refl, sym, ap, subst, ◌∙◌, inl, inr}
-use Rattle.std.specs.Prelude.{◌⊎◌}
 use Rattle.std.proofs.lemmas.List.{append-nil}
 use Rattle.mta_apdu.specs.Apdus.{longest_apdu}
 use Rattle.mta_edge.specs.Causes.{Rose}
@@ -23,12 +22,13 @@ use Rattle.mta_words.specs.declared.words.Words.TheVariants as Say
 use Rattle.mta_run.specs.declared.stop.Stop.{Stop}
 use Rattle.mta_run.specs.declared.stop.Stop.TheVariants as Stops
 use Rattle.mta_run.specs.Causes.{Cause, memory, no_peer, not_opened, not_spool}
-use Rattle.mta_run.specs.Command.{HasEnded, NoneWorked, OnStations, SourcesLeft}
+use Rattle.mta_run.specs.Command.{HasEnded, OnStations, SourcesLeft}
 use Rattle.mta_run.specs.DiskLeft.{opened, Opening, refused, uncalled}
-use Rattle.mta_run.specs.Handed.{ForTables, Handed, handed, InputsRead}
+use Rattle.mta_run.specs.Handed.{Handed, handed, InputsRead}
 use Rattle.mta_run.specs.Inputs.{HasTables}
 use Rattle.mta_run.specs.Output.{Output, stopped}
-use Rattle.mta_run.specs.Served.{All_named, AreOfRun, HasServed, HasTablesFor, No_workers, Not_begun, Not_named, Not_read}
+use Rattle.mta_run.specs.Served.{All_named, AreOfRun, HasTablesFor, No_workers, Not_begun, Not_named}
+use Rattle.mta_run.specs.Served.{Not_read}
 use Rattle.mta_run.specs.Served.{Served, ServesSpool, StationsLeft, Untouched}
 use Rattle.mta_run.specs.Shows.{stop_of_open}
 use Rattle.mta_run.specs.Submit.{stop_of_step}
@@ -121,7 +121,8 @@ module _ {D C I L S : Type 0} (disks : DiskView D) (laws : DiskLaws disks) (cloc
       (read : HasTables sources conf conf_after (Ok tables)) where
     inputs : (new : D) → InputsRead (Serving old new)
     inputs new = record {
-      tables = λ r. tables_text (sources.left conf) (Rose (sources.faults conf) (sources.faults conf_after)) tables read.read;
+      tables = λ r. tables_text (sources.left conf) (Rose (sources.faults conf) (sources.faults conf_after)) tables
+          read.read;
       apdu = λ r. absurd r;
     }
 
@@ -155,21 +156,25 @@ module _ {D C I L S : Type 0} (disks : DiskView D) (laws : DiskLaws disks) (cloc
           → ServesSpool disks clocks links stations sessions tables.text out spool before after new result
           → HasEnded (Serving old new) (Left old new before after) out result
       served_over new before after _ (Not_begun mid fault b disk_is same silent) =
-          begun_ended (Serving old new) tt laws tables read all_named (sources_left old new (Ok tables) read) (inputs new)
+          begun_ended (Serving old new) tt laws tables read all_named (sources_left old new (Ok tables) read)
+              (inputs new)
           spool o clock_is mid (Err fault) b (Left old new before after) out (stop_of_step fault) disk_is silent
           (begun_cause (Serving old new) tt laws tables read all_named (sources_left old new (Ok tables) read)
           (inputs new) spool o clock_is mid (Err fault) b fault refl disk_is)
           (Untouched same refl (λ s w. begun_own (Serving old new) tt laws tables read all_named
           (sources_left old new (Ok tables) read) (inputs new) spool o clock_is mid (Err fault) b))
       served_over new before after _ (No_workers mid b disk_is same silent) =
-          begun_ended (Serving old new) tt laws tables read all_named (sources_left old new (Ok tables) read) (inputs new)
+          begun_ended (Serving old new) tt laws tables read all_named (sources_left old new (Ok tables) read)
+              (inputs new)
           spool o clock_is mid (Ok tt) b (Left old new before after) out Stops.Memory disk_is silent (memory opened)
           (Untouched same refl (λ s w. begun_own (Serving old new) tt laws tables read all_named
           (sources_left old new (Ok tables) read) (inputs new) spool o clock_is mid (Ok tt) b))
       served_over new before after result (Served limits mid joined final ends _ are b grown kj workers x k disk_is) =
           served_ended (Serving old new) tt laws clock_laws (sources_left old new (Ok tables) read) (inputs new)
-          (peers (Serving old new) tt laws tables read all_named (sources_left old new (Ok tables) read) (inputs new) spool
-          o clock_is) spool o handed_clock joined final kj k disk_is ends links stations sessions limits are before after
+          (peers (Serving old new) tt laws tables read all_named (sources_left old new (Ok tables) read) (inputs new)
+              spool
+          o clock_is) spool o handed_clock joined final kj k disk_is ends links stations sessions limits are before
+              after
           out result mid.entries own grown workers x
         where
           bare : b.added ++ b.torn_step ≡ mid.entries

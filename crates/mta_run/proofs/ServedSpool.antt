@@ -1,56 +1,40 @@
 -- What `serve` leaves where its tables were read.
-use Rattle.std.proofs.Common.{◌≡◌, ℕ, ◌+◌, ◌≤◌, Bool, true, false, List, [], ◌∷◌, ◌++◌, All, Contains, map, Option, None, Some}
-use Rattle.std.proofs.Common.{Result, Ok, Err, refl, sym, ap, subst, ◌∙◌, append_assoc, true≢false, arith, inl, inr}
-use Rattle.std.specs.Prelude.{◌⊎◌}
-use Rattle.std.proofs.lemmas.List.{append-nil}
-use mathlib.Core.List.{IsPrefix}
+use Rattle.std.proofs.Common.{◌≡◌, ℕ, ◌≤◌, List, [], ◌∷◌, ◌++◌, All, Contains, Option}
+use Rattle.std.proofs.Common.{None, Some}
+use Rattle.std.proofs.Common.{Result, Ok, Err, refl, sym, ap, subst, ◌∙◌, arith, inl}
 use Rattle.mta_edge.specs.Causes.{Rose}
 use Rattle.mta_edge.specs.Views.{ClockLaws, ClockView, DiskLaws, DiskView, IsAmong}
-use Rattle.mta_links.specs.Links.{LinkView, StationView}
-use Rattle.mta_journal.specs.declared.why.OpenWhy.{OpenWhy}
-use Rattle.mta_journal.specs.declared.why.OpenWhy.TheVariants as Whys
-use Rattle.mta_records.specs.Body.{body_of}
 use Rattle.mta_records.specs.declared.step.Step.{Step}
 use Rattle.mta_records.specs.declared.fault.StepFault.{StepFault}
 use Rattle.mta_records.specs.declared.fault.StepFault.TheVariants as StepFaults
 use Rattle.mta_tables.specs.Tables.{TablesValue, tables_of}
 use Rattle.mta_histories.specs.Lanes.{State}
-use Rattle.mta_histories.specs.Due.{IsQuiet}
 use Rattle.mta_histories.specs.History.{after, IsHistory}
-use Rattle.mta_images.specs.Image.{size_of, StandsFor}
-use Rattle.mta_session.specs.declared.limits.Limits.{Limits}
-use Rattle.mta_spool.specs.Bases.{base_of, HasListed, Keeps, where_listed}
-use Rattle.mta_spool.specs.Opening.{HasOpened, HasRefused}
+use Rattle.mta_images.specs.Image.{size_of}
+use Rattle.mta_spool.specs.Bases.{base_of, Keeps, where_listed}
+use Rattle.mta_spool.specs.Opening.{HasOpened}
 use Rattle.mta_spool.specs.Shown.{Shown}
-use Rattle.mta_spool.specs.Stands.{Stands, step_moment}
-use Rattle.mta_stations.specs.declared.end.Halt.{Halt}
-use Rattle.mta_stations.specs.declared.end.WorkerEnd.{WorkerEnd}
-use Rattle.mta_stations.specs.Lines.{station_lines}
+use Rattle.mta_spool.specs.Stands.{Stands}
 use Rattle.mta_stations.specs.Peers.{IsNamed}
-use Rattle.mta_workers.specs.Wholes.{AreWorkers}
 use Rattle.mta_run.specs.declared.stop.Stop.{Stop}
 use Rattle.mta_run.specs.declared.stop.Stop.TheVariants as Stops
-use Rattle.mta_run.specs.Causes.{Cause, disk as cause_disk, full_serving, IsText, memory as cause_memory, of_serve, of_worker}
+use Rattle.mta_run.specs.Causes.{Cause, disk as cause_disk, full_serving, memory as cause_memory}
 use Rattle.mta_run.specs.Causes.{PeersNamed, spent_serving}
-use Rattle.mta_run.specs.Command.{HasEnded, IsSettled, OnStations, SourcesLeft}
+use Rattle.mta_run.specs.Command.{HasEnded, OnStations, SourcesLeft}
 use Rattle.mta_run.specs.DiskLeft.{DiskLeft, opened}
-use Rattle.mta_run.specs.Handed.{DiskFailed, ForOpened, ForTables, Handed, InputsRead}
+use Rattle.mta_run.specs.Handed.{DiskFailed, ForOpened, Handed, InputsRead}
 use Rattle.mta_run.specs.Inputs.{HasTables}
-use Rattle.mta_run.specs.Output.{HasPrinted, Output, stopped}
-use Rattle.mta_run.specs.Served.{AreDueBehind, AreOfRun, No_workers, Not_begun, Served, ServesSpool, StationsLeft}
-use Rattle.mta_run.specs.Served.{Untouched, Worked}
-use Rattle.mta_run.specs.Serving.{Decided, Had_ended, HasBegun, HasFinished, IsFinishStop, IsOutcome, IsOwnFull}
-use Rattle.mta_run.specs.Serving.{IsOwnRefusal, IsOwnSpent, RecordsFirst, Refused, Settled, SettlesBehind, stop_of_halt, Well}
-use Rattle.mta_run.specs.Submit.{Adds, AreInTurn, AreOwn, HasSettled, stop_of_step}
+use Rattle.mta_run.specs.Output.{Output, stopped}
+use Rattle.mta_run.specs.Served.{AreOfRun}
+use Rattle.mta_run.specs.Serving.{HasBegun, IsOwnFull}
+use Rattle.mta_run.specs.Serving.{IsOwnRefusal, IsOwnSpent, RecordsFirst}
+use Rattle.mta_run.specs.Submit.{AreOwn, stop_of_step}
 use Rattle.mta_run.specs.Words.{AddsSteps, roles_named, Serves}
-use Rattle.mta_run.proofs.Added.{own_front, own_more as own_known}
-use Rattle.mta_run.proofs.Beginning.{front_in_turn, own_more, settled_why}
-use Rattle.mta_run.proofs.DiskServed.{counted, disk_served, first_steps, risen}
+use Rattle.mta_run.proofs.Added.{own_more as own_known}
+use Rattle.mta_run.proofs.Beginning.{own_more}
 use Rattle.mta_run.proofs.DiskStands.{disk_opened, same_steps}
-use Rattle.mta_run.proofs.HandedOn.{none_undecided, printed_map}
 use Rattle.mta_run.proofs.Same.{err_same}
 use Rattle.mta_run.proofs.Statuses.{serves_adds, serves_opens}
-use Rattle.mta_run.proofs.Submitted.{tables_text}
 use Rattle.mta_run.proofs.Worked.{prints_nothing}
 
 -- the clock tells what it listed, or anything
@@ -62,7 +46,8 @@ among clocks laws c (Some moments) e m contains =
     (laws.listed c m).1 (subst (λ (o : Option (List ℕ)). IsAmong o m) (sym e) (contains moments refl))
 
 -- what the spool's clock tells behind the workers, the clock that was handed in tells
-pub tells_back : {D C : Type 0} (disks : DiskView D) (clocks : ClockView C) → ClockLaws clocks → (spool joined : Shown D C)
+pub tells_back : {D C : Type 0} (disks : DiskView D) (clocks : ClockView C) → ClockLaws clocks
+    → (spool joined : Shown D C)
     → Keeps disks clocks joined (base_of disks clocks spool) → (m : ℕ) → clocks.tells joined.clock m
     → clocks.tells spool.opened.clock m
 tells_back disks clocks laws spool joined k m tell =
@@ -71,7 +56,8 @@ tells_back disks clocks laws spool joined k m tell =
 
 module _ {D C I : Type 0} (h : Handed D C I) (serves : Serves h.words) (laws : DiskLaws h.disks)
     (tables : TablesValue)
-    (read : HasTables h.sources h.conf.before h.conf.after (Ok tables)) (named : All (IsNamed tables) (roles_named h.words))
+    (read : HasTables h.sources h.conf.before h.conf.after (Ok tables))
+        (named : All (IsNamed tables) (roles_named h.words))
     (sources : SourcesLeft h) (inputs : InputsRead h) (spool : Shown D C) (o : HasOpened h.disks h.disk.before spool)
     (clock : spool.clock ≡ h.clock) where
   abbrev Tells : ℕ → Type 0

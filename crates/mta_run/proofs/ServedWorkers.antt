@@ -1,7 +1,6 @@
 -- What `serve` leaves behind its workers.
-use Rattle.std.proofs.Common.{◌≡◌, ℕ, ◌+◌, ◌≤◌, true, false, List, [], ◌∷◌, ◌++◌, All, map, Some, Result, Ok, Err, refl}
+use Rattle.std.proofs.Common.{◌≡◌, ℕ, true, false, List, [], ◌++◌, map, Some, Result, Ok, Err, refl}
 use Rattle.std.proofs.Common.{sym, ap, subst, ◌∙◌, append_assoc, arith, inl, inr}
-use Rattle.std.specs.Prelude.{◌⊎◌}
 use Rattle.std.proofs.lemmas.List.{append-nil}
 use mathlib.Core.List.{IsPrefix}
 use Rattle.mta_edge.specs.Causes.{Rose}
@@ -11,32 +10,29 @@ use Rattle.mta_records.specs.Body.{body_of}
 use Rattle.mta_records.specs.declared.step.Step.{Step}
 use Rattle.mta_records.specs.declared.fault.StepFault.{StepFault}
 use Rattle.mta_records.specs.declared.fault.StepFault.TheVariants as StepFaults
-use Rattle.mta_tables.specs.Tables.{TablesValue}
 use Rattle.mta_histories.specs.Lanes.{State}
 use Rattle.mta_histories.specs.Due.{IsQuiet}
 use Rattle.mta_histories.specs.History.{after, IsHistory}
 use Rattle.mta_images.specs.Image.{size_of, StandsFor}
 use Rattle.mta_session.specs.declared.limits.Limits.{Limits}
-use Rattle.mta_spool.specs.Bases.{base_of, found_of, Keeps}
+use Rattle.mta_spool.specs.Bases.{base_of, Keeps, where_listed}
 use Rattle.mta_spool.specs.Opening.{HasOpened}
 use Rattle.mta_spool.specs.Shown.{Shown}
 use Rattle.mta_spool.specs.Stands.{step_moment}
 use Rattle.mta_stations.specs.declared.end.WorkerEnd.{WorkerEnd}
-use Rattle.mta_stations.specs.Lines.{station_lines}
 use Rattle.mta_workers.specs.Wholes.{AreWorkers}
 use Rattle.mta_run.specs.declared.stop.Stop.{Stop}
-use Rattle.mta_run.specs.declared.stop.Stop.TheVariants as Stops
-use Rattle.mta_run.specs.Causes.{Cause, disk as cause_disk, full_serving, IsText, memory as cause_memory, of_serve}
+use Rattle.mta_run.specs.Causes.{Cause, disk as cause_disk, full_serving, memory as cause_memory, of_serve}
 use Rattle.mta_run.specs.Causes.{of_worker, PeersNamed, spent_serving}
 use Rattle.mta_run.specs.Command.{HasEnded, IsSettled, SourcesLeft}
 use Rattle.mta_run.specs.DiskLeft.{DiskLeft, opened}
-use Rattle.mta_run.specs.Handed.{DiskFailed, ForOpened, Handed, InputsRead}
-use Rattle.mta_run.specs.Output.{HasPrinted, Output}
-use Rattle.mta_run.specs.Served.{AreDueBehind, AreLimits, AreOfRun, StationsLeft, Worked}
+use Rattle.mta_run.specs.Handed.{DiskFailed, Handed, InputsRead}
+use Rattle.mta_run.specs.Output.{Output}
+use Rattle.mta_run.specs.Served.{AreDueBehind, AreLimits, AreOfRun, StationsLeft, Worked, IsBaseOf}
 use Rattle.mta_run.specs.Serving.{Decided, Had_ended, HasFinished, IsFinishStop, IsOutcome, IsOwnFull, IsOwnRefusal}
 use Rattle.mta_run.specs.Serving.{IsOwnSpent, Refused, Settled, SettlesBehind, Well}
-use Rattle.mta_run.specs.Submit.{AreInTurn, AreOwn, HasSettled, stop_of_step}
-use Rattle.mta_run.specs.Words.{AddsSteps, Serves}
+use Rattle.mta_run.specs.Submit.{AreOwn, HasSettled, stop_of_step}
+use Rattle.mta_run.specs.Words.{Serves}
 use Rattle.mta_run.proofs.Added.{own_front, own_more as own_known}
 use Rattle.mta_run.proofs.Beginning.{front_in_turn, own_more, settled_why}
 use Rattle.mta_run.proofs.DiskServed.{disk_served, first_steps, risen}
@@ -122,7 +118,8 @@ module _ {D C I : Type 0} (h : Handed D C I) (serves : Serves h.words) (laws : D
 
   own_why : (fault : StepFault) → (x : HasSettled h.disks (h.clocks.tells joined.clock) joined final (Err fault))
       → Why (stop_of_step fault)
-  own_why fault x = by_fault fault x (λ c. settled_why h.disks (h.clocks.tells joined.clock) c joined final fault (Err fault)
+  own_why fault x = by_fault fault x
+      (λ c. settled_why h.disks (h.clocks.tells joined.clock) c joined final fault (Err fault)
       refl x)
     where
       Wherefore : StepFault → Type 0
@@ -138,7 +135,8 @@ module _ {D C I : Type 0} (h : Handed D C I) (serves : Serves h.words) (laws : D
       by_fault (StepFaults.Full size need) y r =
           let there = k.stands (known (StepFaults.Full size need) y (λ e. absurd cc)) in
           full_serving size need serves inputs (λ c told f steps was s.
-          subst (λ (z : List Step). IsOwnFull Tells c (after (z ++ final.entries)) (size_of (z ++ final.entries)) size need)
+          subst (λ (z : List Step). IsOwnFull Tells c (after (z ++ final.entries)) (size_of (z ++ final.entries)) size
+              need)
           (firsts f steps was s)
           (subst (λ (n : ℕ). IsOwnFull Tells c (after (k.first ++ final.entries)) n size need) there.holds.size
           (subst (λ (z : State). IsOwnFull Tells c z final.journal.size size need) k.state
@@ -230,5 +228,10 @@ module _ {D C I : Type 0} (h : Handed D C I) (serves : Serves h.words) (laws : D
     whole : final.entries ≡ front ++ (grown.0 ++ b.back)
     whole = b.entries ∙ (ap (λ (y : List Step). y ++ b.back) (sym grown.1) ∙ append_assoc front grown.0 b.back)
 
-    found : ForOpened h (λ first. found_of (base_of h.disks h.clocks spool) ≡ map body_of first)
-    found f steps was s = o.bodies ∙ ap (map body_of) (same_steps h.disks laws h.disk.before spool o f steps was s)
+    found : IsBaseOf h (base_of h.disks h.clocks spool)
+    found = record {
+      found = λ f steps was s.
+          o.bodies ∙ ap (map body_of) (same_steps h.disks laws h.disk.before spool o f steps was s);
+      count = ap (λ (d : D). h.disks.faults d) o.disk;
+      listed = ap (λ (c : C). where_listed (h.clocks.moments c)) handed_clock;
+    }

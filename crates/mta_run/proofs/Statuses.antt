@@ -1,5 +1,6 @@
 -- What a status tells, and when it is 0.
-use Rattle.std.proofs.Common.{◌≡◌, ◌≢◌, ℕ, ◌<◌, suc, List, [], ◌∷◌, ◌++◌, All, Option, None, Some, Result, Ok, Err, refl, sym, subst, ◌∙◌, arith, inl, inr}
+use Rattle.std.proofs.Common.{◌≡◌, ℕ, suc, List, [], ◌∷◌, ◌++◌, All, Option, None, Some, Result, Ok, Err}
+use Rattle.std.proofs.Common.{refl, sym, subst, ◌∙◌, arith, inl, inr}
 use Rattle.std.specs.Prelude.{◌⊎◌}
 use Rattle.mta_ber.specs.declared.fault.Fault.{Fault}
 use Rattle.mta_apdu.specs.Apdus.{ApduValue, apdu_of}
@@ -23,8 +24,9 @@ use Rattle.mta_run.specs.Words.{AddsSteps, ReadsTables, ReadsApdu, OpensDisk, Is
 use Rattle.mta_run.specs.Handed.{Handed, SourceFailed, DiskFailed}
 use Rattle.mta_run.specs.Lines.{status_of}
 use Rattle.mta_run.specs.Output.{Output, OutputFailed, IsEnded, done, told, cut_text, cut_line}
-use Rattle.mta_run.specs.DiskLeft.{Opening, uncalled, refused, opened, DiskLeft}
-use Rattle.mta_run.specs.Causes.{IsText, of_submit, of_queue, of_serve, of_mailbox, of_decode, Cause, usage, not_built, memory, source, tables, apdu}
+use Rattle.mta_run.specs.DiskLeft.{Opening, uncalled, opened}
+use Rattle.mta_run.specs.Causes.{IsText, of_submit, of_queue, of_serve, of_mailbox, of_decode, Cause, usage, not_built}
+use Rattle.mta_run.specs.Causes.{memory, source, tables, apdu}
 use Rattle.mta_run.specs.Causes.{not_spool, not_opened, disk, full, spent, no_mailbox, no_peer, full_serving}
 use Rattle.mta_run.specs.Causes.{spent_serving, of_worker}
 use Rattle.mta_run.specs.Serving.{stop_of_halt}
@@ -168,7 +170,8 @@ module _ {D C I : Type 0} (h : Handed D C I) (ends : List WorkerEnd) (added : Li
     disk_only = λ x. (serves_opens h.words serves, inr serves);
     source_only = λ x. absurd (omega (arith, x, e));
     sink_never = λ x. omega (arith, x, e);
-    early = λ x. absurd (late status 4 e (λ w. omega (arith, w)) (λ w. omega (arith, w)) (λ w. omega (arith, w)) (λ w. omega (arith, w)) x);
+    early = λ x. absurd (late status 4 e (λ w. omega (arith, w)) (λ w. omega (arith, w)) (λ w. omega (arith, w))
+        (λ w. omega (arith, w)) x);
   }
   worker_tells (Halts.Full size need) status serves e = record {
     usage_only = λ x. absurd (omega (arith, x, e));
@@ -178,7 +181,8 @@ module _ {D C I : Type 0} (h : Handed D C I) (ends : List WorkerEnd) (added : Li
     disk_only = λ x. absurd (omega (arith, x, e));
     source_only = λ x. absurd (omega (arith, x, e));
     sink_never = λ x. omega (arith, x, e);
-    early = λ x. absurd (late status 5 e (λ w. omega (arith, w)) (λ w. omega (arith, w)) (λ w. omega (arith, w)) (λ w. omega (arith, w)) x);
+    early = λ x. absurd (late status 5 e (λ w. omega (arith, w)) (λ w. omega (arith, w)) (λ w. omega (arith, w))
+        (λ w. omega (arith, w)) x);
   }
   worker_tells (Halts.Spent last) status serves e = record {
     usage_only = λ x. absurd (omega (arith, x, e));
@@ -188,7 +192,8 @@ module _ {D C I : Type 0} (h : Handed D C I) (ends : List WorkerEnd) (added : Li
     disk_only = λ x. absurd (omega (arith, x, e));
     source_only = λ x. absurd (omega (arith, x, e));
     sink_never = λ x. omega (arith, x, e);
-    early = λ x. absurd (late status 5 e (λ w. omega (arith, w)) (λ w. omega (arith, w)) (λ w. omega (arith, w)) (λ w. omega (arith, w)) x);
+    early = λ x. absurd (late status 5 e (λ w. omega (arith, w)) (λ w. omega (arith, w)) (λ w. omega (arith, w))
+        (λ w. omega (arith, w)) x);
   }
   worker_tells Halts.Memory status serves e = record {
     usage_only = λ x. absurd (omega (arith, x, e));
@@ -198,7 +203,8 @@ module _ {D C I : Type 0} (h : Handed D C I) (ends : List WorkerEnd) (added : Li
     disk_only = λ x. absurd (omega (arith, x, e));
     source_only = λ x. absurd (omega (arith, x, e));
     sink_never = λ x. omega (arith, x, e);
-    early = λ x. absurd (late status 7 e (λ w. omega (arith, w)) (λ w. omega (arith, w)) (λ w. omega (arith, w)) (λ w. omega (arith, w)) x);
+    early = λ x. absurd (late status 7 e (λ w. omega (arith, w)) (λ w. omega (arith, w)) (λ w. omega (arith, w))
+        (λ w. omega (arith, w)) x);
   }
   worker_tells Halts.Limit status serves e = record {
     usage_only = λ x. absurd (omega (arith, x, e));
@@ -208,7 +214,8 @@ module _ {D C I : Type 0} (h : Handed D C I) (ends : List WorkerEnd) (added : Li
     disk_only = λ x. absurd (omega (arith, x, e));
     source_only = λ x. absurd (omega (arith, x, e));
     sink_never = λ x. omega (arith, x, e);
-    early = λ x. absurd (late status 7 e (λ w. omega (arith, w)) (λ w. omega (arith, w)) (λ w. omega (arith, w)) (λ w. omega (arith, w)) x);
+    early = λ x. absurd (late status 7 e (λ w. omega (arith, w)) (λ w. omega (arith, w)) (λ w. omega (arith, w))
+        (λ w. omega (arith, w)) x);
   }
   worker_tells Halts.StationEnded status serves e = record {
     usage_only = λ x. absurd (omega (arith, x, e));
@@ -218,7 +225,8 @@ module _ {D C I : Type 0} (h : Handed D C I) (ends : List WorkerEnd) (added : Li
     disk_only = λ x. absurd (omega (arith, x, e));
     source_only = λ x. absurd (omega (arith, x, e));
     sink_never = λ x. omega (arith, x, e);
-    early = λ x. absurd (late status 7 e (λ w. omega (arith, w)) (λ w. omega (arith, w)) (λ w. omega (arith, w)) (λ w. omega (arith, w)) x);
+    early = λ x. absurd (late status 7 e (λ w. omega (arith, w)) (λ w. omega (arith, w)) (λ w. omega (arith, w))
+        (λ w. omega (arith, w)) x);
   }
   worker_tells Halts.StationFailed status serves e = record {
     usage_only = λ x. absurd (omega (arith, x, e));
@@ -228,7 +236,8 @@ module _ {D C I : Type 0} (h : Handed D C I) (ends : List WorkerEnd) (added : Li
     disk_only = λ x. absurd (omega (arith, x, e));
     source_only = λ x. absurd (omega (arith, x, e));
     sink_never = λ x. omega (arith, x, e);
-    early = λ x. absurd (late status 7 e (λ w. omega (arith, w)) (λ w. omega (arith, w)) (λ w. omega (arith, w)) (λ w. omega (arith, w)) x);
+    early = λ x. absurd (late status 7 e (λ w. omega (arith, w)) (λ w. omega (arith, w)) (λ w. omega (arith, w))
+        (λ w. omega (arith, w)) x);
   }
   worker_tells Halts.NoPeer status serves e = record {
     usage_only = λ x. absurd (omega (arith, x, e));
@@ -238,10 +247,12 @@ module _ {D C I : Type 0} (h : Handed D C I) (ends : List WorkerEnd) (added : Li
     disk_only = λ x. absurd (omega (arith, x, e));
     source_only = λ x. absurd (omega (arith, x, e));
     sink_never = λ x. omega (arith, x, e);
-    early = λ x. absurd (late status 7 e (λ w. omega (arith, w)) (λ w. omega (arith, w)) (λ w. omega (arith, w)) (λ w. omega (arith, w)) x);
+    early = λ x. absurd (late status 7 e (λ w. omega (arith, w)) (λ w. omega (arith, w)) (λ w. omega (arith, w))
+        (λ w. omega (arith, w)) x);
   }
 
-  stop_tells : (opening : Opening) (stop : Stop) (status : ℕ) → Cause h ends added opening stop → status ≡ status_of stop → StopTells h opening status
+  stop_tells : (opening : Opening) (stop : Stop) (status : ℕ) → Cause h ends added opening stop → status ≡ status_of
+      stop → StopTells h opening status
   stop_tells _ _ status (usage none) e = record {
     usage_only = λ x. none;
     usage_there = λ x. inl e;
@@ -270,7 +281,8 @@ module _ {D C I : Type 0} (h : Handed D C I) (ends : List WorkerEnd) (added : Li
     disk_only = λ x. absurd (omega (arith, x, e));
     source_only = λ x. absurd (omega (arith, x, e));
     sink_never = λ x. omega (arith, x, e);
-    early = λ x. absurd (late status 7 e (λ w. omega (arith, w)) (λ w. omega (arith, w)) (λ w. omega (arith, w)) (λ w. omega (arith, w)) x);
+    early = λ x. absurd (late status 7 e (λ w. omega (arith, w)) (λ w. omega (arith, w)) (λ w. omega (arith, w))
+        (λ w. omega (arith, w)) x);
   }
   stop_tells _ _ status (source s) e = record {
     usage_only = λ x. absurd (omega (arith, x, e));
@@ -310,7 +322,8 @@ module _ {D C I : Type 0} (h : Handed D C I) (ends : List WorkerEnd) (added : Li
     disk_only = λ x. absurd (omega (arith, x, e));
     source_only = λ x. absurd (omega (arith, x, e));
     sink_never = λ x. omega (arith, x, e);
-    early = λ x. absurd (late status 3 e (λ w. omega (arith, w)) (λ w. omega (arith, w)) (λ w. omega (arith, w)) (λ w. omega (arith, w)) x);
+    early = λ x. absurd (late status 3 e (λ w. omega (arith, w)) (λ w. omega (arith, w)) (λ w. omega (arith, w))
+        (λ w. omega (arith, w)) x);
   }
   stop_tells _ _ status (not_opened o inputs failed) e = record {
     usage_only = λ x. absurd (omega (arith, x, e));
@@ -320,7 +333,8 @@ module _ {D C I : Type 0} (h : Handed D C I) (ends : List WorkerEnd) (added : Li
     disk_only = λ x. (o, inl failed);
     source_only = λ x. absurd (omega (arith, x, e));
     sink_never = λ x. omega (arith, x, e);
-    early = λ x. absurd (late status 4 e (λ w. omega (arith, w)) (λ w. omega (arith, w)) (λ w. omega (arith, w)) (λ w. omega (arith, w)) x);
+    early = λ x. absurd (late status 4 e (λ w. omega (arith, w)) (λ w. omega (arith, w)) (λ w. omega (arith, w))
+        (λ w. omega (arith, w)) x);
   }
   stop_tells _ _ status (disk adds inputs failed) e = record {
     usage_only = λ x. absurd (omega (arith, x, e));
@@ -330,7 +344,8 @@ module _ {D C I : Type 0} (h : Handed D C I) (ends : List WorkerEnd) (added : Li
     disk_only = λ x. (adds_opens h.words adds, inl failed);
     source_only = λ x. absurd (omega (arith, x, e));
     sink_never = λ x. omega (arith, x, e);
-    early = λ x. absurd (late status 4 e (λ w. omega (arith, w)) (λ w. omega (arith, w)) (λ w. omega (arith, w)) (λ w. omega (arith, w)) x);
+    early = λ x. absurd (late status 4 e (λ w. omega (arith, w)) (λ w. omega (arith, w)) (λ w. omega (arith, w))
+        (λ w. omega (arith, w)) x);
   }
   stop_tells _ _ status (full size need submit inputs why) e = record {
     usage_only = λ x. absurd (omega (arith, x, e));
@@ -340,7 +355,8 @@ module _ {D C I : Type 0} (h : Handed D C I) (ends : List WorkerEnd) (added : Li
     disk_only = λ x. absurd (omega (arith, x, e));
     source_only = λ x. absurd (omega (arith, x, e));
     sink_never = λ x. omega (arith, x, e);
-    early = λ x. absurd (late status 5 e (λ w. omega (arith, w)) (λ w. omega (arith, w)) (λ w. omega (arith, w)) (λ w. omega (arith, w)) x);
+    early = λ x. absurd (late status 5 e (λ w. omega (arith, w)) (λ w. omega (arith, w)) (λ w. omega (arith, w))
+        (λ w. omega (arith, w)) x);
   }
   stop_tells _ _ status (spent last submit inputs why) e = record {
     usage_only = λ x. absurd (omega (arith, x, e));
@@ -350,7 +366,8 @@ module _ {D C I : Type 0} (h : Handed D C I) (ends : List WorkerEnd) (added : Li
     disk_only = λ x. absurd (omega (arith, x, e));
     source_only = λ x. absurd (omega (arith, x, e));
     sink_never = λ x. omega (arith, x, e);
-    early = λ x. absurd (late status 5 e (λ w. omega (arith, w)) (λ w. omega (arith, w)) (λ w. omega (arith, w)) (λ w. omega (arith, w)) x);
+    early = λ x. absurd (late status 5 e (λ w. omega (arith, w)) (λ w. omega (arith, w)) (λ w. omega (arith, w))
+        (λ w. omega (arith, w)) x);
   }
   stop_tells _ _ status (no_mailbox name word none) e = record {
     usage_only = λ x. absurd (omega (arith, x, e));
@@ -360,7 +377,8 @@ module _ {D C I : Type 0} (h : Handed D C I) (ends : List WorkerEnd) (added : Li
     disk_only = λ x. absurd (omega (arith, x, e));
     source_only = λ x. absurd (omega (arith, x, e));
     sink_never = λ x. omega (arith, x, e);
-    early = λ x. absurd (late status 10 e (λ w. omega (arith, w)) (λ w. omega (arith, w)) (λ w. omega (arith, w)) (λ w. omega (arith, w)) x);
+    early = λ x. absurd (late status 10 e (λ w. omega (arith, w)) (λ w. omega (arith, w)) (λ w. omega (arith, w))
+        (λ w. omega (arith, w)) x);
   }
   stop_tells _ _ status (no_peer name serves why) e = record {
     usage_only = λ x. absurd (omega (arith, x, e));
@@ -370,7 +388,8 @@ module _ {D C I : Type 0} (h : Handed D C I) (ends : List WorkerEnd) (added : Li
     disk_only = λ x. absurd (omega (arith, x, e));
     source_only = λ x. absurd (omega (arith, x, e));
     sink_never = λ x. omega (arith, x, e);
-    early = λ x. absurd (late status 10 e (λ w. omega (arith, w)) (λ w. omega (arith, w)) (λ w. omega (arith, w)) (λ w. omega (arith, w)) x);
+    early = λ x. absurd (late status 10 e (λ w. omega (arith, w)) (λ w. omega (arith, w)) (λ w. omega (arith, w))
+        (λ w. omega (arith, w)) x);
   }
   stop_tells _ _ status (full_serving size need serves inputs why) e = record {
     usage_only = λ x. absurd (omega (arith, x, e));
@@ -380,7 +399,8 @@ module _ {D C I : Type 0} (h : Handed D C I) (ends : List WorkerEnd) (added : Li
     disk_only = λ x. absurd (omega (arith, x, e));
     source_only = λ x. absurd (omega (arith, x, e));
     sink_never = λ x. omega (arith, x, e);
-    early = λ x. absurd (late status 5 e (λ w. omega (arith, w)) (λ w. omega (arith, w)) (λ w. omega (arith, w)) (λ w. omega (arith, w)) x);
+    early = λ x. absurd (late status 5 e (λ w. omega (arith, w)) (λ w. omega (arith, w)) (λ w. omega (arith, w))
+        (λ w. omega (arith, w)) x);
   }
   stop_tells _ _ status (spent_serving last serves inputs why) e = record {
     usage_only = λ x. absurd (omega (arith, x, e));
@@ -390,7 +410,8 @@ module _ {D C I : Type 0} (h : Handed D C I) (ends : List WorkerEnd) (added : Li
     disk_only = λ x. absurd (omega (arith, x, e));
     source_only = λ x. absurd (omega (arith, x, e));
     sink_never = λ x. omega (arith, x, e);
-    early = λ x. absurd (late status 5 e (λ w. omega (arith, w)) (λ w. omega (arith, w)) (λ w. omega (arith, w)) (λ w. omega (arith, w)) x);
+    early = λ x. absurd (late status 5 e (λ w. omega (arith, w)) (λ w. omega (arith, w)) (λ w. omega (arith, w))
+        (λ w. omega (arith, w)) x);
   }
   stop_tells _ _ status (of_worker halt serves inputs decides) e = worker_tells halt status serves e
 
@@ -409,18 +430,29 @@ module _ {D C I : Type 0} (h : Handed D C I) (ends : List WorkerEnd) (added : Li
   text_built _ _ (of_serve text serves inputs named is) unbuilt = serves_built h.words serves unbuilt
   text_built _ _ (of_decode text word is) unbuilt = subst IsUnbuilt word unbuilt
 
-  ended_early : (opening : Opening) (out : Output) (status : ℕ) → IsEnded (Cause h ends added opening) (IsText h ends added opening) out status → IsEarly status → opening ≡ uncalled
-  ended_early opening out status (done e t x p) early = absurd (late status 0 e (λ w. omega (arith, w)) (λ w. omega (arith, w)) (λ w. omega (arith, w)) (λ w. omega (arith, w)) early)
+  ended_early : (opening : Opening) (out : Output) (status : ℕ) → IsEnded (Cause h ends added opening)
+      (IsText h ends added opening) out status → IsEarly status → opening ≡ uncalled
+  ended_early opening out status (done e t x p) early = absurd
+      (late status 0 e (λ w. omega (arith, w)) (λ w. omega (arith, w)) (λ w. omega (arith, w)) (λ w. omega (arith, w))
+      early)
   ended_early opening out status (told stop why e t f p) early = (stop_tells opening stop status why e).early early
-  ended_early opening out status (cut_text e t x p) early = absurd (late status 9 e (λ w. omega (arith, w)) (λ w. omega (arith, w)) (λ w. omega (arith, w)) (λ w. omega (arith, w)) early)
-  ended_early opening out status (cut_line e stop why t f p) early = absurd (late status 9 e (λ w. omega (arith, w)) (λ w. omega (arith, w)) (λ w. omega (arith, w)) (λ w. omega (arith, w)) early)
+  ended_early opening out status (cut_text e t x p) early = absurd
+      (late status 9 e (λ w. omega (arith, w)) (λ w. omega (arith, w)) (λ w. omega (arith, w)) (λ w. omega (arith, w))
+      early)
+  ended_early opening out status (cut_line e stop why t f p) early = absurd
+      (late status 9 e (λ w. omega (arith, w)) (λ w. omega (arith, w)) (λ w. omega (arith, w)) (λ w. omega (arith, w))
+      early)
 
-  untouched_unless : (opening : Opening) (out : Output) (status : ℕ) → ((OpensDisk h.words → ⊥) → opening ≡ uncalled) → IsEnded (Cause h ends added opening) (IsText h ends added opening) out status → EndsBeforeOpening h status → opening ≡ uncalled
+  untouched_unless : (opening : Opening) (out : Output) (status : ℕ) → ((OpensDisk h.words → ⊥) → opening ≡ uncalled)
+      → IsEnded (Cause h ends added opening) (IsText h ends added opening) out status → EndsBeforeOpening h status
+      → opening ≡ uncalled
   untouched_unless opening out status unless is (inl none) = unless none
   untouched_unless opening out status unless is (inr early) = ended_early opening out status is early
 
   -- the fields of what a status tells, but for what became of the disk
-  pub ended_tells : (opening : Opening) (out : Output) (status : ℕ) → ((OpensDisk h.words → ⊥) → opening ≡ uncalled) → (opening ≡ uncalled → h.disk.after ≡ h.disk.before) → IsEnded (Cause h ends added opening) (IsText h ends added opening) out status → Tells h out status
+  pub ended_tells : (opening : Opening) (out : Output) (status : ℕ) → ((OpensDisk h.words → ⊥) → opening ≡ uncalled)
+      → (opening ≡ uncalled → h.disk.after ≡ h.disk.before) → IsEnded (Cause h ends added opening)
+      (IsText h ends added opening) out status → Tells h out status
   ended_tells opening out status unless same (done e t x p) = record {
     usage = λ w. absurd (omega (arith, w, e));
     usage_where = λ none. absurd (text_known opening t x none);
@@ -444,7 +476,8 @@ module _ {D C I : Type 0} (h : Handed D C I) (ends : List WorkerEnd) (added : Li
         untouched = λ early. same (untouched_unless opening out status unless (told stop why e t f p) early);
       }
     where
-      where_known : (n : ℕ) → (status ≡ n) ⊎ (status ≡ 7) → (status ≡ n) ⊎ (status ≡ 7) ⊎ ((status ≡ 9) × OutputFailed out)
+      where_known : (n : ℕ) → (status ≡ n) ⊎ (status ≡ 7) → (status ≡ n) ⊎ (status ≡ 7) ⊎
+          ((status ≡ 9) × OutputFailed out)
       where_known n (inl w) = inl w
       where_known n (inr w) = inr (inl w)
   ended_tells opening out status unless same (cut_text e t x p) = record {
@@ -481,22 +514,27 @@ module _ {D C I : Type 0} (h : Handed D C I) (ends : List WorkerEnd) (added : Li
   complete_worker Halts.StationFailed status serves e = inr (inl e)
   complete_worker Halts.NoPeer status serves e = inr (inl e)
 
-  complete_stop : (opening : Opening) (stop : Stop) (status : ℕ) (out : Output) → Cause h ends added opening stop → AllInOrder h out → status ≡ status_of stop → Completes h status
+  complete_stop : (opening : Opening) (stop : Stop) (status : ℕ) (out : Output) → Cause h ends added opening stop
+      → AllInOrder h out → status ≡ status_of stop → Completes h status
   complete_stop _ _ status out (usage none) o e = absurd (o.known none)
   complete_stop _ _ status out (not_built unbuilt) o e = absurd (o.built unbuilt)
   complete_stop _ _ status out (memory opening) o e = inr (inl e)
   complete_stop _ _ status out (source s) o e = absurd (o.calm_sources s)
-  complete_stop _ _ status out (tables n kind r first same) o e = let x = o.tables r in absurd (no_bad x.0 x.2.0 n kind x.2.1 (bad_read x.0 n kind (first x.0 x.1)))
+  complete_stop _ _ status out (tables n kind r first same) o e = let x = o.tables r in absurd
+      (no_bad x.0 x.2.0 n kind x.2.1 (bad_read x.0 n kind (first x.0 x.1)))
   complete_stop _ _ status out (apdu at kind r read first) o e =
       let x = o.apdu r in
       let fault : Fault = record { at = at; kind = kind } in
       absurd (no_fault (apdu_of x.0) x.2.0 fault (apdu_full x.0 x.2.0 x.2.1) (first x.0 x.1))
-  complete_stop _ _ status out (not_spool at opens inputs none) o e = let x = o.spool opens in absurd (no_history x.0 at x.1 (none x.0 x.2) x.3)
+  complete_stop _ _ status out (not_spool at opens inputs none) o e = let x = o.spool opens in absurd
+      (no_history x.0 at x.1 (none x.0 x.2) x.3)
   complete_stop _ _ status out (not_opened opens inputs failed) o e = absurd (o.calm_disk failed)
   complete_stop _ _ status out (disk adds inputs failed) o e = absurd (o.calm_disk failed)
-  complete_stop _ _ status out (full size need submit inputs why) o e = inr (inr (inl (e, subst AddsSteps (sym submit) tt)))
+  complete_stop _ _ status out (full size need submit inputs why) o e = inr
+      (inr (inl (e, subst AddsSteps (sym submit) tt)))
   complete_stop _ _ status out (spent last submit inputs why) o e = inr (inr (inl (e, subst AddsSteps (sym submit) tt)))
-  complete_stop _ _ status out (no_mailbox name word none) o e = let x = o.spool (subst OpensDisk (sym word) tt) in absurd (o.named name word x.0 x.1 x.2 x.3 (none x.0 x.1 x.2 x.3))
+  complete_stop _ _ status out (no_mailbox name word none) o e = let x = o.spool (subst OpensDisk (sym word) tt)
+      in absurd (o.named name word x.0 x.1 x.2 x.3 (none x.0 x.1 x.2 x.3))
 
   complete_stop _ _ status out (no_peer name serves unnamed) o e =
       let x = o.tables (serves_reads h.words serves) in
@@ -509,7 +547,8 @@ module _ {D C I : Type 0} (h : Handed D C I) (ends : List WorkerEnd) (added : Li
       inr (inr (inl (e, serves_adds h.words serves)))
   complete_stop _ _ status out (of_worker halt serves inputs decides) o e = complete_worker halt status serves e
 
-  pub ended_complete : (opening : Opening) (out : Output) (status : ℕ) → IsEnded (Cause h ends added opening) (IsText h ends added opening) out status → IsComplete h out status
+  pub ended_complete : (opening : Opening) (out : Output) (status : ℕ) → IsEnded (Cause h ends added opening)
+      (IsText h ends added opening) out status → IsComplete h out status
   ended_complete opening out status (done e t x p) o = inl e
   ended_complete opening out status (told stop why e t f p) o = complete_stop opening stop status out why o e
   ended_complete opening out status (cut_text e t x p) o = absurd (o.calm_output p.0)

@@ -22,7 +22,6 @@ use Rattle.mta_stations.specs.Lines.{station_lines}
 use Rattle.mta_stations.specs.Peers.{IsNamed, IsUnnamed}
 use Rattle.mta_run.specs.declared.stop.Stop.{Stop}
 use Rattle.mta_run.specs.declared.stop.Stop.TheVariants as Stops
-use Rattle.mta_words.specs.declared.words.Words.{Words}
 use Rattle.mta_words.specs.declared.words.Words.TheVariants as Say
 use Rattle.mta_run.specs.Words.{AddsSteps, ReadsTables, ReadsApdu, OpensDisk, IsUnbuilt, roles_named, Serves}
 use Rattle.mta_run.specs.Handed.{Handed, ForTables, ForInput, ForDisk, ForOpened, SourceFailed, DiskFailed, InputsRead}
@@ -54,7 +53,8 @@ PeersNamed h = ForTables h (λ c. (t : TablesValue) × (tables_of c ≡ Ok t) ×
 
 -- What a command prints where it does not stop: `submit` the number of the item, `serve` a line for the end of each
 -- worker, `spool` the queue, `read` the mailbox, and `decode` the APDU. All but `decode` have opened the disk then.
-pub data IsText {D C I : Type 0} (h : Handed D C I) (ends : List WorkerEnd) (added : List Step) : Opening → List ℕ → Type 0 where
+pub data IsText {D C I : Type 0} (h : Handed D C I) (ends : List WorkerEnd) (added : List Step) : Opening → List ℕ
+    → Type 0 where
   of_submit : (number : ℕ) (text : List ℕ) → h.words ≡ Some Say.Submit → InputsRead h → number < 2 ^ 32
       → text ≡ accepted_line number
       → ForInput h (λ i. ForOpened h (λ steps. IsAccepted steps added i number)) → IsText h ends added opened text
@@ -74,7 +74,8 @@ pub data IsText {D C I : Type 0} (h : Handed D C I) (ends : List WorkerEnd) (add
 -- Why a run stopped so, behind these added steps, and how far it had come with the disk. Each cause is met in its
 -- place: the words, the tables, the input, opening, the steps. Want of memory alone needs no cause. A fault of the
 -- output has no line, so it is none of these.
-pub data Cause {D C I : Type 0} (h : Handed D C I) (ends : List WorkerEnd) (added : List Step) : Opening → Stop → Type 0 where
+pub data Cause {D C I : Type 0} (h : Handed D C I) (ends : List WorkerEnd) (added : List Step) : Opening → Stop
+    → Type 0 where
   usage : h.words ≡ None → Cause h ends added uncalled Stops.Usage
   not_built : IsUnbuilt h.words → Cause h ends added uncalled Stops.NotBuilt
   memory : (opening : Opening) → Cause h ends added opening Stops.Memory
@@ -82,7 +83,8 @@ pub data Cause {D C I : Type 0} (h : Handed D C I) (ends : List WorkerEnd) (adde
   tables : (line : ℕ) (kind : LineKind) → ReadsTables h.words → ForTables h (λ c. IsFirstBadLine c line kind)
       → h.input.after ≡ h.input.before → Cause h ends added uncalled (Stops.Tables line kind)
   apdu : (at : ℕ) (kind : Kind) → ReadsApdu h.words → (ReadsTables h.words → ForTables h IsReadAsTables)
-      → ForInput h (λ i. HasFault i (record { at = at; kind = kind })) → Cause h ends added uncalled (Stops.BadApdu at kind)
+      → ForInput h (λ i. HasFault i (record { at = at; kind = kind })) → Cause h ends added uncalled
+          (Stops.BadApdu at kind)
   not_spool : (at : ℕ) → OpensDisk h.words → InputsRead h → ForDisk h (λ f. NoSpoolAt f at)
       → Cause h ends added refused (Stops.NotSpool at)
   not_opened : OpensDisk h.words → InputsRead h → DiskFailed h → Cause h ends added refused Stops.Disk

@@ -1,21 +1,19 @@
 -- What a run leaves of everything that was handed in.
-use Rattle.std.specs.Prelude.{◌≡◌, ◌≢◌, ◌⊎◌, ◌+◌, ◌<◌, ◌≤◌, ◌^◌, ℕ, List, [], ◌∷◌, ◌++◌, length, take, None, Some, Ok}
+use Rattle.std.specs.Prelude.{◌≡◌, ◌≢◌, ◌⊎◌, ◌<◌, ◌≤◌, ◌^◌, ℕ, List, [], ◌++◌, take, None, Some}
 use Rattle.mta_records.specs.declared.step.Step.{Step}
-use Rattle.mta_tables.specs.Tables.{TablesValue, tables_of}
 use Rattle.mta_machine.specs.Apdu.{IsApdu}
 use Rattle.mta_machine.specs.declared.item.Status.{Status}
 use Rattle.mta_machine.specs.Items.{ItemValue, at_start, numbered, status_at}
 use Rattle.mta_machine.specs.Machine.{IsRun, discharges}
 use Rattle.mta_machine.specs.Laws.{IsPendingOrDischarged}
-use Rattle.mta_histories.specs.History.{after, IsHistory, project}
+use Rattle.mta_histories.specs.History.{after, project}
 use Rattle.mta_images.specs.Image.{StandsFor}
 use Rattle.mta_spool.specs.Turning.{IsRecorded}
 use Rattle.mta_stations.specs.declared.end.WorkerEnd.{WorkerEnd}
 use Rattle.mta_stations.specs.Deciding.{halts_of, IsUndecided}
-use Rattle.mta_words.specs.declared.words.Words.{Words}
 use Rattle.mta_words.specs.declared.words.Words.TheVariants as Say
 use Rattle.mta_run.specs.Words.{AddsSteps, ReadsTables, ReadsApdu, OpensDisk, IsUnbuilt, Serves}
-use Rattle.mta_run.specs.Handed.{Handed, ForTables, ForInput, ForDisk, ForOpened, SourceFailed, DiskFailed, InputsRead}
+use Rattle.mta_run.specs.Handed.{Handed, ForTables, ForInput, ForOpened, SourceFailed, DiskFailed, InputsRead}
 use Rattle.mta_run.specs.Inputs.{IsReadAsTables}
 use Rattle.mta_run.specs.Lines.{accepted_line}
 use Rattle.mta_run.specs.Output.{Output, OutputFailed, IsEnded}

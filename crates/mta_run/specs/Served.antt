@@ -11,7 +11,7 @@ use Rattle.mta_tables.specs.Tables.{TablesValue}
 use Rattle.mta_histories.specs.History.{after}
 use Rattle.mta_session.specs.declared.limits.Limits.{Limits}
 use Rattle.mta_shared.specs.declared.history.Base.{Base}
-use Rattle.mta_spool.specs.Bases.{base_of, found_of, Keeps}
+use Rattle.mta_spool.specs.Bases.{base_of, count_of, found_of, Keeps, where_listed}
 use Rattle.mta_spool.specs.Shown.{Shown}
 use Rattle.mta_stations.specs.declared.end.WorkerEnd.{WorkerEnd}
 use Rattle.mta_stations.specs.Peers.{IsNamed, IsUnnamed}
@@ -40,8 +40,8 @@ AreLimits sessions limits = (limits.sessions ≡ sessions) × (limits.units ≡ 
 
 -- ---- the tables
 
--- The tables were not read; or a station calls a peer whom they do not name, which is told unless there is no memory for
--- its name; or they name each that is called.
+-- The tables were not read; or a station calls a peer whom they do not name, which is told unless there is no memory
+-- for its name; or they name each that is called.
 pub data HasTablesFor {I : Type 0} (sources : SourceView I) (old new : I) (roles : List Role)
     : Result TablesValue Stop → Type 0 where
   Not_read : (stop : Stop) → HasTables sources old new (Err stop) → HasTablesFor sources old new roles (Err stop)
@@ -53,11 +53,18 @@ pub data HasTablesFor {I : Type 0} (sources : SourceView I) (old new : I) (roles
 
 -- ---- the stations
 
--- the steps before the workers are of the tables of this call, and of what was due; their moments are those of the clock
+-- the steps before the workers are of the tables of this call, and of what was due; their moments are the clock's
 abbrev pub AreOfRun : {D C I : Type 0} → Handed D C I → List Step → Type 0
 AreOfRun h steps =
     ForTables h (λ c. RecordsFirst c steps
     × ForOpened h (λ first. AreOwn (h.clocks.tells h.clock) c [] (after first) steps))
+
+-- the base that the workers share is of what the run was handed: the bodies that opening found, how often the disk had
+-- failed, and the moments that the clock lists, where it does
+pub record IsBaseOf {D C I : Type 0} (h : Handed D C I) (base : Base) : Type 0 where
+  pub found : ForOpened h (λ first. found_of base ≡ map body_of first)
+  pub count : count_of base ≡ h.disks.faults h.disk.before
+  pub listed : base.lists ≡ where_listed (h.clocks.moments h.clock)
 
 -- the steps behind them are of what had come due
 abbrev pub AreDueBehind : {D C I : Type 0} → Handed D C I → (before steps : List Step) → Type 0
@@ -75,7 +82,7 @@ pub data StationsLeft {D C I L S : Type 0} (h : Handed D C I) (links : LinkView 
       → StationsLeft h links stations sessions before after opening ends added torn_step
   Worked : (limits : Limits) (front workers back : List Step) (base : Base) → AreLimits sessions limits
       → opening ≡ opened → added ≡ front ++ (workers ++ back)
-      → ForOpened h (λ first. found_of base ≡ map body_of first) → AreOfRun h front
+      → IsBaseOf h base → AreOfRun h front
       → AreWorkers h.disks h.clocks links stations limits before after ends front base (front ++ workers)
       → AreDueBehind h (front ++ workers) back
       → StationsLeft h links stations sessions before after opening ends added torn_step

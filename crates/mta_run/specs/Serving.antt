@@ -11,7 +11,7 @@ use Rattle.mta_histories.specs.Lanes.{State}
 use Rattle.mta_histories.specs.Due.{IsNext}
 use Rattle.mta_spool.specs.Shown.{Shown}
 use Rattle.mta_spool.specs.Stands.{need_of, IsSpent}
-use Rattle.mta_spool.specs.Turning.{IsRecorded, IsUnchanged}
+use Rattle.mta_spool.specs.Turning.{IsRecorded}
 use Rattle.mta_stations.specs.declared.end.Halt.{Halt}
 use Rattle.mta_stations.specs.declared.end.Halt.TheVariants as Halts
 use Rattle.mta_stations.specs.declared.end.WorkerEnd.{WorkerEnd}
@@ -103,13 +103,14 @@ stop_of_halt Halts.StationEnded = Stops.Memory
 stop_of_halt Halts.StationFailed = Stops.Memory
 stop_of_halt Halts.NoPeer = Stops.Memory
 
--- Why a run ends whose last turns came to this, and whose workers came to these ends: for its own step that was refused,
--- or for the end of a worker that decides.
+-- Why a run ends whose last turns came to this, and whose workers came to these ends: for its own step that was
+-- refused, or for the end of a worker that decides.
 pub data IsOutcome (settled : Result (Unit {0}) StepFault) (ends : List WorkerEnd) : Result (Unit {0}) Stop
     → Type 0 where
   Well : settled ≡ Ok tt → IsUndecided (halts_of ends) → IsOutcome settled ends (Ok tt)
   Refused : (fault : StepFault) → settled ≡ Err fault → IsOutcome settled ends (Err (stop_of_step fault))
-  Decided : (halt : Halt) → settled ≡ Ok tt → Decides (halts_of ends) halt → IsOutcome settled ends (Err (stop_of_halt halt))
+  Decided : (halt : Halt) → settled ≡ Ok tt → Decides (halts_of ends) halt → IsOutcome settled ends
+      (Err (stop_of_halt halt))
 
 -- why a run stops behind its workers
 abbrev pub IsFinishStop : Result (Unit {0}) StepFault → List WorkerEnd → Stop → Type 0

@@ -93,6 +93,8 @@ fn perform<
     stations: Vec<S>,
     clock: C,
 ) -> ServeEnd<D, S>
+where
+    S::Link: Send,
     requires theirs { are_stations_for words (roles_in S.model stations.items) ≡ true }
     ensures ended { HasCommanded D.model C.model I.model S.Link.model S.model (Some words) conf.old conf.new input.old
         input.new disk result.ended.disk clock stations.items result.stations.items (output O.model out.old out.new)
@@ -137,6 +139,8 @@ fn command<
     stations: Vec<S>,
     clock: C,
 ) -> ServeEnd<D, S>
+where
+    S::Link: Send,
     ensures ended { HasCommanded D.model C.model I.model S.Link.model S.model
         (words_with (roles_in S.model stations.items) (command_of (map string_bytes words.now))) conf.old conf.new
         input.old input.new disk result.ended.disk clock stations.items result.stations.items
@@ -184,6 +188,8 @@ pub fn run<
     stations: Vec<S>,
     clock: C,
 ) -> Finished<D, S>
+where
+    S::Link: Send,
     ensures ran { HasRunWith D.model C.model I.model S.Link.model S.model
         (words_with (roles_in S.model stations.items) (command_of (map string_bytes words.now))) conf.old conf.new
         input.old input.new disk result.disk clock stations.items result.stations.items

@@ -24,7 +24,7 @@ use crate::inputs::tables_of;
 use crate::print::print;
 use crate::stop::{Stop, stop_of_halt, stop_of_step};
 use crate::submit::settle;
-use mta_ber::{Octets, Word};
+use mta_ber::Word;
 use mta_edge::{Clock, Disk, Sink, Source};
 use mta_links::Station;
 use mta_session::Limits;
@@ -161,6 +161,8 @@ fn serve_spool<
     mut spool: Spool<D, C>,
     stations: Vec<S>,
 ) -> ServeEnd<D, S>
+where
+    S::Link: Send,
     requires going { spool.journal.ended ≡ false }
     requires stands { (steps : List Step) × Stands D.model spool steps }
     requires keeps { Keeps D.model C.model spool (base_of D.model C.model spool) }
@@ -251,6 +253,8 @@ pub fn serve<
     stations: Vec<S>,
     clock: C,
 ) -> ServeEnd<D, S>
+where
+    S::Link: Send,
     ensures ended { HasServed D.model C.model I.model S.Link.model S.model sessions
         (roles_in S.model stations.items) conf.old conf.new disk result.ended.disk clock stations.items
         result.stations.items (output O.model out.old out.new) result.ended.outcome }

@@ -17,7 +17,8 @@ use Rattle.mta_worker.specs.declared.ready.Ready.TheVariants as ready
 use Rattle.mta_worker.specs.declared.session.Served.{Served}
 use Rattle.mta_worker.specs.declared.telling.Lost.{Lost}
 use Rattle.mta_worker.specs.Readying.{IsReadied}
-use Rattle.mta_worker.specs.Served.{HasCalled, IsLinkServed, Halting, Calling, Lost_before, Too_often, none_begun}
+use Rattle.mta_worker.specs.Served.{HasCalled, IsLinkServed, most_closings, none_begun}
+use Rattle.mta_worker.specs.Served.{Halting, Calling, Lost_before, Too_often}
 use Rattle.mta_worker.specs.Serving.{GivesUp, InTurn, IsServed}
 use Rattle.mta_worker.proofs.Closing.{HasClosed, readied_as}
 
@@ -29,16 +30,16 @@ module _ {D C L : Type 0} (disks : DiskView D) (clocks : ClockView C) (links : L
   abbrev Readied : Ready → Option Halt → Held Step → Held Step → Type 0
   Readied r noted p q = InTurn disks clocks (λ s t. IsReadied disks clocks peer units s None t noted r) p q
 
-  pub called_halting : (p mid q : Held Step) (noted : Option Halt) (r : Ready) (halt : Halt) (old new : L)
-      (served : Served) → HasClosed disks clocks links peer units p mid → r ≡ ready.Halts halt
+  pub called_halting : (n : ℕ) (p mid q : Held Step) (noted : Option Halt) (r : Ready) (halt : Halt) (old new : L)
+      (served : Served) → HasClosed disks clocks links peer units n p mid → r ≡ ready.Halts halt
       → Readied r noted mid q → new ≡ old → served ≡ none_begun halt
       → HasCalled disks clocks links peer units p old new q served
-  called_halting p mid q noted r halt old new served h e i same is =
+  called_halting n p mid q noted r halt old new served h e i same is =
       Halting h.0 mid halt noted h.1 (readied_as disks clocks peer units noted r (ready.Halts halt) mid q e i) same is
 
-  pub called_well : (p mid at q : Held Step) (noted : Option Halt) (r : Ready) (u : State) (x : Result Action Lost)
-      (first : Action) (old new : L) (served : Served) → HasClosed disks clocks links peer units p mid
-      → r ≡ ready.Begins u x → x ≡ Ok first → Readied r noted mid at
+  pub called_well : (n : ℕ) (p mid at q : Held Step) (noted : Option Halt) (r : Ready) (u : State)
+      (x : Result Action Lost) (first : Action) (old new : L) (served : Served)
+      → HasClosed disks clocks links peer units n p mid → r ≡ ready.Begins u x → x ≡ Ok first → Readied r noted mid at
       → IsServed disks clocks links (record {
         session = u;
         action = first;
@@ -47,23 +48,24 @@ module _ {D C L : Type 0} (disks : DiskView D) (clocks : ClockView C) (links : L
         pass = at;
         halt = noted;
       }) new q served → HasCalled disks clocks links peer units p old new q served
-  called_well p mid at q noted r u x first old new served h e f i s =
+  called_well n p mid at q noted r u x first old new served h e f i s =
       Calling h.0 mid at u first noted h.1
       (readied_as disks clocks peer units noted r (ready.Begins u (Ok first)) mid at
       (begins_as r u x (Ok first) e f) i) s
 
-  pub called_lost : (p mid q : Held Step) (noted : Option Halt) (r : Ready) (u : State) (x : Result Action Lost)
-      (lost : Lost) (turned : Bool) (old new : L) (served : Served) → HasClosed disks clocks links peer units p mid
+  pub called_lost : (n : ℕ) (p mid q : Held Step) (noted : Option Halt) (r : Ready) (u : State) (x : Result Action Lost)
+      (lost : Lost) (turned : Bool) (old new : L) (served : Served) → HasClosed disks clocks links peer units n p mid
       → r ≡ ready.Begins u x → x ≡ Err lost → Readied r noted mid q → turned ≡ has_turned u.phase
       → GivesUp links lost turned noted old new served → HasCalled disks clocks links peer units p old new q served
-  called_lost p mid q noted r u x lost turned old new served h e f i t gives =
+  called_lost n p mid q noted r u x lost turned old new served h e f i t gives =
       Lost_before h.0 mid u lost noted h.1 (readied_as disks clocks peer units noted r (ready.Begins u (Err lost)) mid q
       (begins_as r u x (Err lost) e f) i)
       (subst (λ (b : Bool). GivesUp links lost b noted old new served) t gives)
 
-  pub called_often : (p q : Held Step) (old new : L) (served : Served) → HasClosed disks clocks links peer units p q
-      → new ≡ old → served ≡ none_begun Halts.NoPeer → HasCalled disks clocks links peer units p old new q served
-  called_often p q old new served h same is = Too_often h.0 h.1 same is
+  pub called_often : (n : ℕ) (p q : Held Step) (old new : L) (served : Served)
+      → HasClosed disks clocks links peer units n p q → n ≡ most_closings → new ≡ old
+      → served ≡ none_begun Halts.NoPeer → HasCalled disks clocks links peer units p old new q served
+  called_often n p q old new served h most same is = Too_often h.0 h.1 (h.2 ∙ most) same is
 
   -- it stands as it was called over a link that is the same
   pub called_over : (p q : Held Step) (old old' new : L) (served : Served) → old ≡ old'

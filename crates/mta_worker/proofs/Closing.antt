@@ -1,5 +1,6 @@
 -- Turns of the lock in which lanes that were never agreed are closed.
-use Rattle.std.proofs.Common.{◌≡◌, ℕ, List, [], ◌∷◌, ◌++◌, Option, None, Result, refl, subst}
+use Rattle.std.proofs.Common.{◌≡◌, ℕ, ◌+◌, List, [], ◌∷◌, ◌++◌, length, length-append, Option, None, Result, refl}
+use Rattle.std.proofs.Common.{subst, arith}
 use Rattle.mta_edge.specs.Views.{ClockView, DiskView}
 use Rattle.mta_links.specs.Links.{LinkView}
 use Rattle.mta_records.specs.declared.step.Step.{Step}
@@ -65,21 +66,25 @@ module _ {D C L : Type 0} (disks : DiskView D) (clocks : ClockView C) (links : L
   )
   closings_on peer units p (m ∷ ms) q r c i = (c.0, closings_on peer units m ms q r c.1 i)
 
-  -- whichever turns these were
-  abbrev pub HasClosed : (peer : List ℕ) (units : ℕ) → Held Step → Held Step → Type 0
-  HasClosed peer units p q = (ms : List (Held Step)) × Closings disks clocks links peer units p ms q
+  -- so many, whichever turns these were
+  abbrev pub HasClosed : (peer : List ℕ) (units n : ℕ) → Held Step → Held Step → Type 0
+  HasClosed peer units n p q =
+      (ms : List (Held Step)) × Closings disks clocks links peer units p ms q × (length ms ≡ n)
 
-  pub closed_none : (peer : List ℕ) (units : ℕ) (p : Held Step) → HasClosed peer units p p
-  closed_none peer units p = ([], refl)
+  pub closed_none : (peer : List ℕ) (units : ℕ) (p : Held Step) → HasClosed peer units 0 p p
+  closed_none peer units p = ([], refl, refl)
 
   -- one more is closed
-  pub closed_more : (peer : List ℕ) (units : ℕ) (p q r : Held Step) (noted : Option Halt) (x : Ready)
-      → x ≡ ready.Closed → HasClosed peer units p q
-      → InTurn disks clocks (λ s t. IsReadied disks clocks peer units s None t noted x) q r → HasClosed peer units p r
-  closed_more peer units p q r noted x e h i = (
-    h.0 ++ r ∷ [],
-    closings_on peer units p h.0 q r h.1 (in_turn_as disks clocks
-        (λ s t. IsReadied disks clocks peer units s None t noted x)
-        (λ s t. IsReadied disks clocks peer units s None t None ready.Closed) q r
-        (closed_so disks clocks peer units noted x e) i),
-  )
+  pub closed_more : (peer : List ℕ) (units n : ℕ) (p q r : Held Step) (noted : Option Halt) (x : Ready)
+      → x ≡ ready.Closed → HasClosed peer units n p q
+      → InTurn disks clocks (λ s t. IsReadied disks clocks peer units s None t noted x) q r
+      → HasClosed peer units (n + 1) p r
+  closed_more peer units n p q r noted x e h i =
+      let one : length (h.0 ++ r ∷ []) ≡ length h.0 + 1 = length-append h.0 (r ∷ []) in (
+        h.0 ++ r ∷ [],
+        closings_on peer units p h.0 q r h.1 (in_turn_as disks clocks
+            (λ s t. IsReadied disks clocks peer units s None t noted x)
+            (λ s t. IsReadied disks clocks peer units s None t None ready.Closed) q r
+            (closed_so disks clocks peer units noted x e) i),
+        omega (arith, one, h.2),
+      )

@@ -77,7 +77,8 @@ module _ {D C L S : Type 0} (disks : DiskView D) (clocks : ClockView C) (links :
         mid = mid;
         served = served;
         next = next;
-        session = subst (λ (r : Role). IsLinkServed disks clocks links r units x.pass link left mid served) told session;
+        session = subst (λ (r : Role). IsLinkServed disks clocks links r units x.pass link left mid served) told
+            session;
         back = back;
         out = omega (arith, more, less);
         role = keeps ∙ stays;

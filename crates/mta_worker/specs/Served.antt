@@ -1,5 +1,5 @@
 -- What a worker does with one link of its station.
-use Rattle.std.specs.Prelude.{◌≡◌, ℕ, false, List, [], ◌∷◌, Option, None, Some, Result, Ok, Err}
+use Rattle.std.specs.Prelude.{◌≡◌, ℕ, false, List, [], ◌∷◌, length, Option, None, Some, Result, Ok, Err}
 use Rattle.mta_ber.specs.declared.memory.Memory.{Memory as NoMemory}
 use Rattle.mta_edge.specs.Views.{ClockView, DiskView}
 use Rattle.mta_links.specs.Links.{LinkView}
@@ -29,6 +29,10 @@ use Rattle.mta_worker.specs.Serving.{GivesUp, InTurn, IsServed}
 -- no session was begun
 abbrev pub none_begun : Halt → Served
 none_begun halt = record { end = None; halt = Some halt }
+
+-- how many lanes that were never agreed are closed for one link at most, each in a turn of its own
+abbrev pub most_closings : ℕ
+most_closings = 65
 
 -- the own name in the tables recorded last; none where none are recorded
 abbrev pub IsOwnName : SpoolState → Result (Option (List ℕ)) NoMemory → Type 0
@@ -91,8 +95,8 @@ module _ {D C L : Type 0} (disks : DiskView D) (clocks : ClockView C) (links : L
         (λ s t. IsReadied disks clocks peer units s None t noted (ready.Begins u (Err lost))) mid q
         → GivesUp links lost (has_turned u.phase) noted old new served → HasCalled peer units p old new q served
     -- other associations open lanes with the peer as fast as they are closed
-    Too_often : (ms : List (Held Step)) → Closings peer units p ms q → new ≡ old → served ≡ none_begun Halts.NoPeer
-        → HasCalled peer units p old new q served
+    Too_often : (ms : List (Held Step)) → Closings peer units p ms q → length ms ≡ most_closings → new ≡ old
+        → served ≡ none_begun Halts.NoPeer → HasCalled peer units p old new q served
 
   abbrev pub IsLinkServed : Role → (units : ℕ) → Held Step → L → L → Held Step → Served → Type 0
   IsLinkServed role.In units p old new q served = HasListened units p old new q served

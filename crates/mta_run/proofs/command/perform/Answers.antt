@@ -1,11 +1,8 @@
-use Rattle.std.proofs.Common.{Some, Err, refl, sym, ap, subst}
+use Rattle.std.proofs.Common.{Err, refl, ap}
 use Rattle.mta_stations.specs.Stations.{roles_in}
-use Rattle.mta_words.specs.declared.words.Words.{Words}
 use Rattle.mta_words.specs.declared.words.Words.TheVariants as Say
 use Rattle.mta_run.specs.declared.stop.Stop.TheVariants as Stops
-use Rattle.mta_run.specs.Causes.{not_built}
 use Rattle.mta_run.specs.Output.{output}
-use Rattle.mta_run.specs.Words.{IsUnbuilt}
 use Rattle.mta_run.proofs.Commanded.{commanded_alone, commanded_serving, drill_ended}
 use Rattle.mta_run.proofs.Decoded.{decode_ended}
 use Rattle.mta_run.proofs.ShownSpool.{shown_ended}
@@ -14,7 +11,8 @@ use Rattle.mta_run.proofs.command.perform.Goals as goal
 pub returns-in-Submit-clause-ended : goal.returns-in-Submit-clause-ended
 returns-in-Submit-clause-ended g c =
     commanded_alone g.D.Disk.model g.C.Clock.model g.I.Source.model g.S.Link.Link.model g.S.Station.model
-    c.args.words Say.Submit c.in-Submit.is (λ s. s) c.args.conf.now c.submit.new.conf c.args.input.now c.submit.new.input
+    c.args.words Say.Submit c.in-Submit.is (λ s. s) c.args.conf.now c.submit.new.conf c.args.input.now
+        c.submit.new.input
     c.args.disk c.args.clock c.args.stations.items c.alone.result.stations.items
     (output g.O.Sink.model c.args.out.now c.submit.new.out) c.submit.result
     c.alone.result.ended c.alone.ensures.ended (ap (λ v. v.items) c.alone.ensures.stations) c.submit.ensures.ended
@@ -42,10 +40,12 @@ returns-in-Queue-clause-ended g c =
 pub returns-in-Mailbox-clause-ended : goal.returns-in-Mailbox-clause-ended
 returns-in-Mailbox-clause-ended g c =
     commanded_alone g.D.Disk.model g.C.Clock.model g.I.Source.model g.S.Link.Link.model g.S.Station.model
-    c.args.words (Say.Mailbox c.in-Mailbox.name) c.in-Mailbox.is (λ s. s) c.args.conf.now c.args.conf.now c.args.input.now c.args.input.now
+    c.args.words (Say.Mailbox c.in-Mailbox.name) c.in-Mailbox.is (λ s. s) c.args.conf.now c.args.conf.now
+        c.args.input.now c.args.input.now
     c.args.disk c.args.clock c.args.stations.items c.alone-in-Mailbox.result.stations.items
     (output g.O.Sink.model c.args.out.now c.mailbox.new.out) c.mailbox.result
-    c.alone-in-Mailbox.result.ended c.alone-in-Mailbox.ensures.ended (ap (λ v. v.items) c.alone-in-Mailbox.ensures.stations) 
+    c.alone-in-Mailbox.result.ended c.alone-in-Mailbox.ensures.ended
+        (ap (λ v. v.items) c.alone-in-Mailbox.ensures.stations) 
     (shown_ended g.D.Disk.model g.C.Clock.model g.I.Source.model (Say.Mailbox c.in-Mailbox.name) c.args.conf.now
     c.args.input.now c.args.disk c.mailbox.result.disk c.args.clock
     (output g.O.Sink.model c.args.out.now c.mailbox.new.out) c.mailbox.result.outcome tt (λ r. r) (λ r. r)
@@ -54,10 +54,13 @@ returns-in-Mailbox-clause-ended g c =
 pub returns-in-Decode-clause-ended : goal.returns-in-Decode-clause-ended
 returns-in-Decode-clause-ended g c =
     commanded_alone g.D.Disk.model g.C.Clock.model g.I.Source.model g.S.Link.Link.model g.S.Station.model
-    c.args.words Say.Decode c.in-Decode.is (λ s. s) c.args.conf.now c.args.conf.now c.args.input.now c.decode-outcome.new.input
+    c.args.words Say.Decode c.in-Decode.is (λ s. s) c.args.conf.now c.args.conf.now c.args.input.now
+        c.decode-outcome.new.input
     c.args.disk c.args.clock c.args.stations.items c.alone-in-Decode.result.stations.items
-    (output g.O.Sink.model c.args.out.now c.decode-outcome.new.out) (record { disk = c.args.disk; outcome = c.decode-outcome.result })
-    c.alone-in-Decode.result.ended c.alone-in-Decode.ensures.ended (ap (λ v. v.items) c.alone-in-Decode.ensures.stations) 
+    (output g.O.Sink.model c.args.out.now c.decode-outcome.new.out)
+        (record { disk = c.args.disk; outcome = c.decode-outcome.result })
+    c.alone-in-Decode.result.ended c.alone-in-Decode.ensures.ended
+        (ap (λ v. v.items) c.alone-in-Decode.ensures.stations) 
     (decode_ended g.D.Disk.model c.outside_laws.ensures.disks g.C.Clock.model g.I.Source.model c.args.conf.now
     c.args.input.now c.decode-outcome.new.input c.args.disk c.args.clock
     (output g.O.Sink.model c.args.out.now c.decode-outcome.new.out) c.decode-outcome.result

@@ -1,4 +1,3 @@
-use Rattle.std.proofs.Common.{refl}
 use Rattle.mta_run.specs.Served.{All_named, Not_named, Not_read}
 use Rattle.mta_run.proofs.serve.tables_for.Goals as goal
 

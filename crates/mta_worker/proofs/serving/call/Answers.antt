@@ -19,8 +19,8 @@ loop-preserved g c =
     let turned = c.ready_in_turn.ensures in
     record {
       closed = closed_more g.D.Disk.model g.C.Clock.model g.L.Link.model c.args.peer.now c.args.limits.now.units
-          c.args.pass.now c.loop.pass c.ready_in_turn.new.pass c.ready_in_turn.new.halt c.ready_in_turn.result
-          c.in-Closed.is i.closed turned.readied;
+          c.loop.counter c.args.pass.now c.loop.pass c.ready_in_turn.new.pass c.ready_in_turn.new.halt
+          c.ready_in_turn.result c.in-Closed.is i.closed turned.readied;
       ready = (turned.worked.lock ∙ i.ready.0, turned.worked.rests);
       worked = worked_trans c.args.pass.now c.loop.pass c.ready_in_turn.new.pass i.worked turned.worked;
       same = i.same;
@@ -34,7 +34,7 @@ returns-in-Halts-clause-worked g c =
 pub returns-in-Halts-clause-called : goal.returns-in-Halts-clause-called
 returns-in-Halts-clause-called g c =
     called_halting g.D.Disk.model g.C.Clock.model g.L.Link.model c.args.peer.now c.args.limits.now.units
-    c.args.pass.now c.loop.pass c.ready_in_turn.new.pass c.ready_in_turn.new.halt c.ready_in_turn.result
+    c.loop.counter c.args.pass.now c.loop.pass c.ready_in_turn.new.pass c.ready_in_turn.new.halt c.ready_in_turn.result
     c.in-Halts.halt c.args.link.now c.loop.link c.none_begun.result c.loop.invariant.closed c.in-Halts.is
     c.ready_in_turn.ensures.readied c.loop.invariant.same c.none_begun.ensures
 
@@ -58,7 +58,7 @@ returns-in-Ok-clause-called g c =
     c.args.pass.now c.run_session.new.pass c.loop.link c.args.link.now c.run_session.new.link c.run_session.result
     c.loop.invariant.same
     (called_well g.D.Disk.model g.C.Clock.model g.L.Link.model c.args.peer.now c.args.limits.now.units
-    c.args.pass.now c.loop.pass c.ready_in_turn.new.pass c.run_session.new.pass c.ready_in_turn.new.halt
+    c.loop.counter c.args.pass.now c.loop.pass c.ready_in_turn.new.pass c.run_session.new.pass c.ready_in_turn.new.halt
     c.ready_in_turn.result c.in-Begins.session c.in-Begins.first c.in-Ok.action c.loop.link
     c.run_session.new.link c.run_session.result c.loop.invariant.closed c.in-Begins.is c.in-Ok.is
     c.ready_in_turn.ensures.readied c.run_session.ensures.served)
@@ -78,7 +78,7 @@ returns-in-Err-clause-called g c =
     c.args.pass.now c.ready_in_turn.new.pass c.loop.link c.args.link.now c.give_up.new.link c.give_up.result
     c.loop.invariant.same
     (called_lost g.D.Disk.model g.C.Clock.model g.L.Link.model c.args.peer.now c.args.limits.now.units
-    c.args.pass.now c.loop.pass c.ready_in_turn.new.pass c.ready_in_turn.new.halt c.ready_in_turn.result
+    c.loop.counter c.args.pass.now c.loop.pass c.ready_in_turn.new.pass c.ready_in_turn.new.halt c.ready_in_turn.result
     c.in-Begins.session c.in-Begins.first c.in-Err.lost c.has_turned.result c.loop.link c.give_up.new.link
     c.give_up.result c.loop.invariant.closed c.in-Begins.is c.in-Err.is c.ready_in_turn.ensures.readied
     c.has_turned.ensures c.give_up.ensures.gives)
@@ -93,8 +93,8 @@ returns-clause-worked g c = c.loop.invariant.worked
 pub returns-clause-called : goal.returns-clause-called
 returns-clause-called g c =
     called_often g.D.Disk.model g.C.Clock.model g.L.Link.model c.args.peer.now c.args.limits.now.units
-    c.args.pass.now c.loop.pass c.args.link.now c.loop.link c.none_begun-2.result c.loop.invariant.closed
-    c.loop.invariant.same c.none_begun-2.ensures
+    c.loop.counter c.args.pass.now c.loop.pass c.args.link.now c.loop.link c.none_begun-2.result c.loop.invariant.closed
+    (omega (arith, c.loop-test.false)) c.loop.invariant.same c.none_begun-2.ensures
 
 pub returns-clause-later : goal.returns-clause-later
 returns-clause-later g c = omega (arith, ap (λ l. g.L.Link.model.faults l) c.loop.invariant.same)
