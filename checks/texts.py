@@ -2,7 +2,7 @@
 """Compares the text blocks of README.md and docs/MANUAL.md with what the program prints: checks/texts.py MTA, with MTA the program's path.
 
 A block marked `console` has commands behind `$ ` and what they print; the blocks of a document are run one behind the other, in a folder with the
-samples. A block marked `sh` is run as it stands, but for the line that calls ./demo, beside a folder samples/, and the block marked `text` behind it
+samples and contrib/message.py. A block marked `sh` is run as it stands, but for the line that calls ./demo, beside a folder samples/, and the block marked `text` behind it
 is what it prints. YYMMDDhhmmssZ stands for any moment. A block marked `tables` is a text of tables, which `submit` has to take.
 """
 import os
@@ -46,6 +46,7 @@ def consoles(document, mta, made):
     found = [split(block) for kind, block in blocks(document) if kind == "console"]
     folder = f"{made}/console"
     shutil.copytree(f"{TOP}/samples", folder)
+    shutil.copy(f"{TOP}/contrib/message.py", folder)
     script = "".join(f"{commands}echo '{MARK}'\n" for commands, _ in found)
     got = ran(script, folder, mta).split(f"{MARK}\n")
     return sum(differs(document, wanted, said) for (_, wanted), said in zip(found, got)), len(found)
