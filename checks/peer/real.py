@@ -4,6 +4,7 @@
 The peer calls an agent that serves, and is called by one, monologue and two-way, with a break at every unit of an association, and puts wrong units.
 Behind all of it each message is in the other end exactly once, and known to have been sent.
 """
+import itertools
 import socket
 import sys
 import threading
@@ -145,11 +146,13 @@ def listens(mta, folder, mode):
 
 
 class Calls:
-    def __init__(self, port):
-        self.port = port
+    """Connections to these ports in turn, so that two may be there at once."""
+
+    def __init__(self, *ports):
+        self.ports = itertools.cycle(ports)
 
     def next(self):
-        return connect(self.port)
+        return connect(next(self.ports))
 
 
 class Listens:
@@ -169,14 +172,14 @@ def puts_wrong(mta, folder, command, mode):
     for number in range(len(kinds) if command == "listen" else mode == "twa"):
         agent.submit(message(THEIRS, OURS, f"G{number:05d}", apdu.content_of(5_000)))
     if command == "call":
-        port = free_port()
-        agent.serve("1000000", f"in:{port}")
-        connections = Calls(port)
+        ports = free_port(), free_port()
+        agent.serve("1000000", *(f"in:{it}" for it in ports))
+        connections = Calls(*ports)
     else:
         connections = Listens()
         agent.serve("1000000", f"out:silver:127.0.0.1:{connections.port}")
     lines = []
-    wrong = hostile.run(command, ",".join(kinds), connections, values(mode), lines.append)
+    wrong = hostile.run(command, ",".join(kinds), connections, values(mode), lines.append, stations=2)
     agent.kill()
     agent.run("spool")
     if wrong:
