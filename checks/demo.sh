@@ -1,6 +1,6 @@
 #!/usr/bin/env bash
-# The demo, built without proofs, prints the text of checks/demo.txt and nothing else: each command on the samples, and two
-# agents that serve one another over a connection that breaks.
+# The demo, built without proofs, prints the text of checks/demo.txt and nothing else: each command on the samples, and
+# two agents that serve one another over a connection that breaks.
 cd "$(dirname "$0")/.." || exit 2
 for tool in rt python3; do
   command -v "$tool" >/dev/null || { echo "skipped: $tool is not on the PATH"; exit 0; }

@@ -1,7 +1,7 @@
 #!/usr/bin/env bash
 # Words outside the grammar, among them one that is not UTF-8: the usage line, status 1, and no file is made. A command
-# that is not built: its line, status 11, and no file. Stations without tables, and one that calls a peer whom the tables
-# do not name: status 8, status 10, and no file. Run it at the top of the repository.
+# that is not built: its line, status 11, and no file. Stations without tables, and one that calls a peer whom the
+# tables do not name: status 8, status 10, and no file. Run it at the top of the repository.
 set -u
 cd "$(dirname "$0")/.." || exit 2
 . checks/program.bash
@@ -28,5 +28,5 @@ asks "drill 3" 11 "not built"
 asks "serve 1 out:EAST:localhost:1002" 8 "source fault"
 printf 'domain C=GB;A=GOLD\nname GOLD-1\npeer WEST a b twa 4 3\n' >mta.tables
 asks "serve 1 out:WEST:localhost:1002 out:EAST:localhost:1002" 10 "no such peer EAST"
-echo "words outside the grammar, and words that are not UTF-8, are told the usage line; a command that is not built, and stations that the tables"
-echo "do not allow, are told so"
+echo "words outside the grammar are told the usage line; a command that is not built, and stations that the tables do"
+echo "not allow, are told so"

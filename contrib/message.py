@@ -1,8 +1,9 @@
 #!/usr/bin/env python3
 """Makes a message for `mta submit`: message.py [--report] FROM TO IDENTIFIER < CONTENT > APDU.
 
-FROM and TO are O/R names with the parts C, A, P (or none) and S, as C=GB;A=GOLD;S=BELL, IDENTIFIER is 1 to 32 printable characters, and what is on
-standard input becomes the content, of type 22. With --report the delivery is reported too; a non-delivery always is.
+FROM and TO are O/R names with the parts C, A, P (or none) and S, as C=GB;A=GOLD;S=BELL, IDENTIFIER is 1 to 32 printable
+characters, and what is on standard input becomes the content, of type 22. With --report the delivery is reported too; a
+non-delivery always is.
 """
 import sys
 

@@ -1,8 +1,9 @@
 #!/usr/bin/env python3
 """A connection that breaks where it is told to: relay.py PORT-FILE TO-PORT [LIMIT].
 
-Listens on a port of 127.0.0.1 that is free, and writes its number to PORT-FILE. One connection is carried on to TO-PORT, for which it waits until
-somebody listens there; with LIMIT it is dropped at both ends once so many octets of the caller went through. Then the relay ends.
+Listens on a port of 127.0.0.1 that is free, and writes its number to PORT-FILE. One connection is carried on to
+TO-PORT, for which it waits until somebody listens there; with LIMIT it is dropped at both ends once so many octets of
+the caller went through. Then the relay ends.
 """
 import os
 import socket

@@ -1,9 +1,10 @@
 #!/usr/bin/env python3
 """Two agents of the real program, and a connection that is cut at random octets: cuts.py MTA FOLDER [SECONDS].
 
-Pairs with other checkpoint sizes, windows and modes, side by side. Each has messages for the other, by way of a relay that cuts a session somewhere, in
-either direction, orderly or by a reset; between, one of the two is stopped by SIGKILL and started again. In the end each message is in the other's
-mailbox once, and the reports that were asked for are there too.
+Pairs with other checkpoint sizes, windows and modes, side by side. Each has messages for the other, by way of a relay
+that cuts a session somewhere, in either direction, orderly or by a reset; between, one of the two is stopped by SIGKILL
+and started again. In the end each message is in the other's mailbox once, and the reports that were asked for are there
+too.
 """
 import os
 import random
@@ -64,7 +65,8 @@ class Couple:
         for agent, own, peer in ways:
             for n in range(EACH):
                 content = apdu.content_of((3, 2_000, 9_000, 40_000, 2_500)[n])
-                agent.submit(message(f"C=GB;A={own};S=ALL", f"C=GB;A={peer};S=ALL", f"{own}-{n}", content, own == "ONE"))
+                names = f"C=GB;A={own};S=ALL", f"C=GB;A={peer};S=ALL"
+                agent.submit(message(*names, f"{own}-{n}", content, own == "ONE"))
 
     def start(self, agent):
         agent.serve("1000000", f"in:{self.port}" if agent is self.called else
@@ -127,7 +129,8 @@ def main():
         try:
             couple = Couple(mta, f"{folder}/{number}", *how)
             couple.run(seconds)
-            print(f"{how[0]}, checkpoint sizes {how[1]} and {how[3]}: {couple.sessions} sessions with {couple.kills} kills, each message once", flush=True)
+            print(f"{how[0]}, checkpoint sizes {how[1]} and {how[3]}: {couple.sessions} sessions with {couple.kills} "
+                  "kills, each message once", flush=True)
         except Exception as why:
             wrong.append(f"{how}: {why!r}")
 

@@ -1,9 +1,10 @@
 #!/usr/bin/env python3
 """A hub of 16 stations under load, and kills of processes: load.py MTA FOLDER [SECONDS].
 
-Eight agents call the hub, each at a station of its own, and the hub calls eight others. Each has messages for agents on the other side, which go by the
-hub over two-way lanes. While they go, processes are stopped by SIGKILL and started again, the hub more often than the others, and copies of the hub's
-spool are looked at. In the end each message is delivered in exactly one mailbox, once there, and sent everywhere else.
+Eight agents call the hub, each at a station of its own, and the hub calls eight others. Each has messages for agents on
+the other side, which go by the hub over two-way lanes. While they go, processes are stopped by SIGKILL and started
+again, the hub more often than the others, and copies of the hub's spool are looked at. In the end each message is
+delivered in exactly one mailbox, once there, and sent everywhere else.
 """
 import os
 import random

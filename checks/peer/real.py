@@ -1,8 +1,9 @@
 #!/usr/bin/env python3
 """The real program against the peer: real.py MTA FOLDER.
 
-The peer calls an agent that serves, and is called by one, monologue and two-way, with a break at every unit of an association, and puts wrong units.
-Behind all of it each message is in the other end exactly once, and known to have been sent.
+The peer calls an agent that serves, and is called by one, monologue and two-way, with a break at every unit of an
+association, and puts wrong units. Behind all of it each message is in the other end exactly once, and known to have
+been sent.
 """
 import itertools
 import socket
