@@ -41,6 +41,7 @@ def main():
     file, port = sys.argv[1], int(sys.argv[2])
     limit = int(sys.argv[3]) if len(sys.argv) > 3 else None
     with socket.create_server(("127.0.0.1", 0)) as listener:
+        listener.settimeout(60)  # a caller that never comes keeps nobody waiting
         with open(f"{file}.new", "w") as it:
             it.write(f"{listener.getsockname()[1]}\n")
         os.replace(f"{file}.new", file)
