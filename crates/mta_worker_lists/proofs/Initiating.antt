@@ -1,0 +1,201 @@
+-- Where a session that its worker began has its lane.
+use Rattle.std.proofs.Common.{◌≡◌, ℕ, ◌+◌, ◌-◌, ◌*◌, ◌≤◌, ◌<◌, Bool, true, false, Option, None, Some, Ok, List, [], ◌∷◌}
+use Rattle.std.proofs.Common.{◌++◌, length, cond, refl, sym, ap, subst, ◌∙◌, arith}
+use mathlib.Core.List.{IsPrefix}
+use Rattle.mta_edge.specs.Views.{ClockView, DiskView}
+use Rattle.mta_ends.specs.Lanes.{Seen}
+use Rattle.mta_ends.specs.Lanes as h
+use Rattle.mta_records.specs.declared.step.Step.{Step}
+use Rattle.mta_records.specs.declared.lane.LaneRole.TheVariants.{Initiator}
+use Rattle.mta_histories.specs.Lanes.{State}
+use Rattle.mta_histories.specs.History.{after, IsHistory}
+use Rattle.mta_session.specs.State.{State as Session}
+use Rattle.mta_session.specs.Session.{new_initiator}
+use Rattle.mta_session.specs.declared.ask.Ask.{Ask}
+use Rattle.mta_session.specs.declared.ask.Ask.TheVariants as ask
+use Rattle.mta_session.specs.declared.ask.Reply.{Reply}
+use Rattle.mta_session.specs.declared.ask.Reply.TheVariants as reply
+use Rattle.mta_session.specs.declared.event.Action.{Action}
+use Rattle.mta_session.specs.declared.event.Action.TheVariants as action
+use Rattle.mta_session.specs.declared.event.Event.TheVariants as event
+use Rattle.mta_session.specs.declared.event.InitiatorPlan.{InitiatorPlan}
+use Rattle.mta_session_laws.specs.Runs.{IsTurn}
+use Rattle.mta_session_lists.specs.Calls.{Call, StepOn, step_told}
+use Rattle.mta_session_lists.specs.Lists.{HasAt, step_for}
+use Rattle.mta_session_lists.specs.Standing.{Stands}
+use Rattle.mta_plans.specs.Plans.{on_lane}
+use Rattle.mta_spool.specs.Shown.{Shown}
+use Rattle.mta_stations.specs.declared.end.Halt.{Halt}
+use Rattle.mta_worker.specs.declared.proposal.Next.{Next}
+use Rattle.mta_worker.specs.declared.proposal.Next.TheVariants as next
+use Rattle.mta_worker.specs.declared.ready.Ready.TheVariants as ready
+use Rattle.mta_worker.specs.declared.telling.Lost.{Lost}
+use Rattle.mta_worker.specs.Answers.{Answered}
+use Rattle.mta_worker.specs.Proposals.{Binds, IsNext, Opens}
+use Rattle.mta_worker.specs.Readying.{asks_next, Begins, Begun, IsReadied, IsStepped, plan_behind, Stepped, Well}
+use Rattle.mta_worker_lists.specs.Begun.{Calls, IsNewAt}
+use Rattle.mta_worker_lists.specs.Histories.{TellsApdus, whole}
+use Rattle.mta_worker_lists.specs.Leads.{Leads}
+use Rattle.mta_worker_lists.proofs.Joining.{leads_more}
+use Rattle.mta_worker_lists.proofs.Making.{Makes}
+use Rattle.mta_worker_lists.proofs.Telling.{answer_made}
+use Rattle.mta_worker_lists.proofs.Turns.{calls_at, looks_lead, made_stands, stands_next, was_possible}
+
+-- ---- what is proposed
+
+-- a lane is opened for a session that recovers none
+opens_new : (s : State) (peer : List ℕ) (p : InitiatorPlan) → IsNext s peer (next.Open p) → p.recovering ≡ false
+opens_new s peer p (Opens tables line now none) = refl
+
+binds_old : (s : State) (peer : List ℕ) (n : ℕ) (p : InitiatorPlan) → IsNext s peer (next.Bind n p)
+    → p.recovering ≡ true
+binds_old s peer n p (Binds tables line lane now is agreed) = refl
+
+-- the reply tells of the step that the plan is for, and a lane that is opened is in its first generation
+pub record IsPlanned (q : Ask) (y : Reply) (plan : InitiatorPlan) : Type 0 where
+  pub told : step_told q y ≡ Some (step_for plan)
+  pub opens : plan.recovering ≡ false → plan.generation ≡ 1
+
+new_step : (p : InitiatorPlan) (lane : ℕ) → p.recovering ≡ false
+    → Some (record { lane = lane; step = h.LaneOpen false (1024 * p.checkpoint) p.window })
+    ≡ Some (step_for (on_lane p lane 1))
+new_step p lane e =
+    ap (λ (b : Bool). Some {A = StepOn} (record {
+      lane = lane;
+      step = cond b (h.Bind 1) (h.LaneOpen false (1024 * p.checkpoint) p.window);
+    })) (sym e)
+
+old_step : (p : InitiatorPlan) (lane g : ℕ) → p.recovering ≡ true
+    → Some (record { lane = lane; step = h.Bind g }) ≡ Some (step_for (on_lane p lane g))
+old_step p lane g e =
+    ap (λ (b : Bool). Some {A = StepOn} (record {
+      lane = lane;
+      step = cond b (h.Bind g) (h.LaneOpen false (1024 * p.checkpoint) p.window);
+    })) (sym e)
+
+-- of a lane that is opened, and of one that is bound
+open_planned : (p : InitiatorPlan) (q : Ask) (lane : ℕ) (plan : InitiatorPlan) → p.recovering ≡ false
+    → ask.LaneOpen Initiator p.peer p.reference p.twa p.checkpoint p.window ≡ q → on_lane p lane 1 ≡ plan
+    → IsPlanned q (reply.LaneOpen (Ok lane)) plan
+open_planned p q lane plan new is so =
+    subst (λ (z : Ask). IsPlanned z (reply.LaneOpen (Ok lane)) plan) is
+    (subst (λ (z : InitiatorPlan). IsPlanned (ask.LaneOpen Initiator p.peer p.reference p.twa p.checkpoint p.window)
+    (reply.LaneOpen (Ok lane)) z) so (record { told = new_step p lane new; opens = λ e. refl }))
+
+bind_planned : (n : ℕ) (p : InitiatorPlan) (q : Ask) (g : ℕ) (plan : InitiatorPlan) → p.recovering ≡ true
+    → ask.Bind n ≡ q → on_lane p n g ≡ plan → IsPlanned q (reply.Bind (Ok g)) plan
+bind_planned n p q g plan old is so =
+    subst (λ (z : Ask). IsPlanned z (reply.Bind (Ok g)) plan) is
+    (subst (λ (z : InitiatorPlan). IsPlanned (ask.Bind n) (reply.Bind (Ok g)) z) so
+    (record { told = old_step p n g old; opens = λ e. absurd (let both : true ≡ false = sym old ∙ e in cc) }))
+
+same_some : {A : Type 0} (x y : A) → Some x ≡ Some y → x ≡ y
+same_some x y e = cc
+
+none_some : {A B : Type 0} (x : A) → None ≡ Some x → B
+none_some x e = absurd cc
+
+planned : (s : State) (peer : List ℕ) (x : Next) (q : Ask) (y : Reply) (plan : InitiatorPlan) → IsNext s peer x
+    → asks_next x ≡ Some q → plan_behind x y ≡ Some plan → IsPlanned q y plan
+planned s peer (next.Open p) q (reply.LaneOpen (Ok lane)) plan is asks so =
+    open_planned p q lane plan (opens_new s peer p is) (same_some _ q asks) (same_some _ plan so)
+planned s peer (next.Bind n p) q (reply.Bind (Ok g)) plan is asks so =
+    bind_planned n p q g plan (binds_old s peer n p is) (same_some _ q asks) (same_some _ plan so)
+planned s peer x q y plan is asks so = none_some plan so
+
+-- ---- the turn before the session
+
+-- a session begins with this plan, behind the reply to this question
+pub record BeginsWith {D C : Type 0} (disks : DiskView D) (clocks : ClockView C) (units : ℕ) (old new : Shown D C)
+    (halt : Option Halt) (u : Session) (halt' : Option Halt) (first : Action) : Type 0 where
+  pub question : Ask
+  pub answer : Reply
+  pub plan : InitiatorPlan
+  pub answered : Answered disks clocks question old answer new
+  pub planned : IsPlanned question answer plan
+  pub begins : Begins disks clocks new plan units halt u halt' (Ok first)
+
+module _ {D C : Type 0} (disks : DiskView D) (clocks : ClockView C) where
+  stepped_begins : (peer : List ℕ) (x : Next) (units : ℕ) (old new : Shown D C) (halt halt' : Option Halt) (u : Session)
+      (first : Action) → IsNext old.current peer x
+      → IsStepped disks clocks x units old halt new halt' (ready.Begins u (Ok first))
+      → BeginsWith disks clocks units old new halt u halt' first
+  stepped_begins peer x units old new halt halt' u first is (Begun q y plan v f asks a so begins) = record {
+    question = q;
+    answer = y;
+    plan = plan;
+    answered = a;
+    planned = planned old.current peer x q y plan is asks so;
+    begins = begins;
+  }
+
+  pub readied_begins : (peer : List ℕ) (units : ℕ) (old new : Shown D C) (halt halt' : Option Halt) (u : Session)
+      (first : Action) → IsReadied disks clocks peer units old halt new halt' (ready.Begins u (Ok first))
+      → BeginsWith disks clocks units old new halt u halt' first
+  readied_begins peer units old new halt halt' u first (Stepped x r is s) =
+      stepped_begins peer x units old new halt halt' u first is s
+
+  -- ---- its first calls
+
+  module _ (spells : List ℕ → Bool) (tells : TellsApdus spells) (first entries : List Step)
+      (possible : IsHistory (first ++ entries)) where
+    abbrev history : List Seen
+    history = whole first entries
+
+    abbrev long : Shown D C → ℕ
+    long s = length first + length s.entries
+
+    -- The first call, and the looks behind it, are true of the history, which has the step for the plan.
+    pub record Led (new : Shown D C) (u : Session) (b : Action) : Type 0 where
+      pub plan : InitiatorPlan
+      pub units : ℕ
+      pub calls : List Call
+      pub begun : IsNewAt history (long new) (new_initiator plan units)
+      pub leads : Leads spells history (long new) (new_initiator plan units) action.Read calls (long new) u b
+
+    has_step : (q : Ask) (y : Reply) (plan : InitiatorPlan) (old new : Shown D C)
+        → old.current ≡ after (first ++ old.entries) → IsPrefix new.entries entries → IsPlanned q y plan
+        → Makes (step_told q y) old new → (units : ℕ) → IsNewAt history (long new) (new_initiator plan units)
+    has_step q y plan old new state f p m units =
+        let made : Makes (Some (step_for plan)) old new = subst (λ (o : Option StepOn). Makes o old new) p.told m in
+        let stands : Stands history 0 (long new) (step_for plan) =
+        made_stands disks clocks spells tells first entries possible (step_for plan) 0 old new made state f (omega arith)
+        in
+        subst (λ (n : ℕ). IsNewAt history n (new_initiator plan units)) (back (long new) stands.later)
+        (Calls plan units (long new - 1) stands.entry p.opens)
+      where
+        back : (n : ℕ) → 0 < n → n - 1 + 1 ≡ n
+        back n l = omega (arith, l)
+
+    first_calls : (q : Ask) (y : Reply) (plan : InitiatorPlan) (units : ℕ) (old new : Shown D C) (u : Session)
+        (halt halt' : Option Halt) (b : Action) → old.current ≡ after (first ++ old.entries)
+        → IsPrefix new.entries entries → IsPlanned q y plan → Answered disks clocks q old y new
+        → Begins disks clocks new plan units halt u halt' (Ok b) → Led new u b
+    first_calls q y plan units old new u halt halt' b state f p a (Well one c t turn looked) =
+        let makes : Makes (step_told q y) old new =
+        answer_made disks clocks q old y new (was_possible disks clocks spells tells first entries possible old new state
+        f) a in
+        let call : Call = record {
+          turn = record { before = new_initiator plan units; event = event.Go; action = one; after = t };
+          seen = long new;
+        } in
+        let looks : List Call = calls_at (long new) looked.turns in
+        record {
+          plan = plan;
+          units = units;
+          calls = call ∷ [] ++ looks;
+          begun = has_step q y plan old new state f p makes units;
+          leads =
+              leads_more spells history (call ∷ []) looks (long new) (long new) (long new) (new_initiator plan units) t u
+              action.Read one b
+              (record { calls_are = (refl, turn, refl); come_true = (refl, tt); wanted = refl; seen = refl })
+              (looks_lead disks clocks spells tells first entries possible looked.turns new t one u b
+              (stands_next disks clocks spells tells first entries possible (step_told q y) old new makes state f)
+              looked.looks);
+        }
+
+    pub begins_led : (units : ℕ) (old new : Shown D C) (halt halt' : Option Halt) (u : Session) (b : Action)
+        → old.current ≡ after (first ++ old.entries) → IsPrefix new.entries entries
+        → BeginsWith disks clocks units old new halt u halt' b → Led new u b
+    begins_led units old new halt halt' u b state f w =
+        first_calls w.question w.answer w.plan units old new u halt halt' b state f w.planned w.answered w.begins

@@ -1,0 +1,9 @@
+pub mod Joining
+pub mod Annotating
+pub mod Making
+pub mod Telling
+pub mod Truth
+pub mod Turns
+pub mod Going
+pub mod Responding
+pub mod Initiating

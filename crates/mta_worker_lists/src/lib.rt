@@ -1,0 +1,6 @@
+//! Session lists of what workers do: each session that a worker serves has a list, and which of them are good.
+#![tactic(auto)]
+
+mod laws;
+
+pub use laws::sessions_are_led;
