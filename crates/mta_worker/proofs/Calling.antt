@@ -1,7 +1,9 @@
 -- The session of a link by which this agent called a peer, behind the turns in which other lanes are closed.
-use Rattle.std.proofs.Common.{◌≡◌, ℕ, Bool, List, Option, None, Result, Ok, Err, subst, ap, ◌∙◌}
+use Rattle.std.proofs.Common.{◌≡◌, ℕ, Bool, List, Option, None, Result, Ok, Err, subst, sym, ap, ◌∙◌}
 use Rattle.mta_edge.specs.Views.{ClockView, DiskView}
 use Rattle.mta_links.specs.Links.{LinkView}
+use Rattle.mta_links.specs.declared.role.Role.{Role}
+use Rattle.mta_links.specs.declared.role.Role.TheVariants as role
 use Rattle.mta_records.specs.declared.step.Step.{Step}
 use Rattle.mta_units.specs.Feed.{no_feed}
 use Rattle.mta_session.specs.State.{State}
@@ -15,7 +17,7 @@ use Rattle.mta_worker.specs.declared.ready.Ready.TheVariants as ready
 use Rattle.mta_worker.specs.declared.session.Served.{Served}
 use Rattle.mta_worker.specs.declared.telling.Lost.{Lost}
 use Rattle.mta_worker.specs.Readying.{IsReadied}
-use Rattle.mta_worker.specs.Served.{HasCalled, Halting, Calling, Lost_before, Too_often, none_begun}
+use Rattle.mta_worker.specs.Served.{HasCalled, IsLinkServed, Halting, Calling, Lost_before, Too_often, none_begun}
 use Rattle.mta_worker.specs.Serving.{At, GivesUp, InTurn, IsServed}
 use Rattle.mta_worker.proofs.Closing.{HasClosed, readied_as}
 
@@ -41,7 +43,8 @@ module _ {D C L : Type 0} (disks : DiskView D) (clocks : ClockView C) (links : L
         session = u; action = first; link = old; feed = no_feed; pass = at; halt = noted;
       }) new q served → HasCalled disks clocks links peer units p old new q served
   called_well p mid at q noted r u x first old new served h e f i s =
-      Calling h.0 mid at u first noted h.1 (readied_as disks clocks peer units noted r (ready.Begins u (Ok first)) mid at
+      Calling h.0 mid at u first noted h.1
+          (readied_as disks clocks peer units noted r (ready.Begins u (Ok first)) mid at
           (begins_as r u x (Ok first) e f) i) s
 
   pub called_lost : (p mid q : Held Step) (noted : Option Halt) (r : Ready) (u : State) (x : Result Action Lost)
@@ -63,3 +66,9 @@ module _ {D C L : Type 0} (disks : DiskView D) (clocks : ClockView C) (links : L
       → HasCalled disks clocks links peer units p old' new q served
   called_over p q old old' new served e h =
       subst (λ (l : L). HasCalled disks clocks links peer units p l new q served) e h
+
+  pub link_called : (r : Role) (p q : Held Step) (old new : L) (served : Served) → r ≡ role.Out peer
+      → HasCalled disks clocks links peer units p old new q served
+      → IsLinkServed disks clocks links r units p old new q served
+  link_called r p q old new served e h =
+      subst (λ (z : Role). IsLinkServed disks clocks links z units p old new q served) (sym e) h

@@ -39,7 +39,8 @@ module _ {D C : Type 0} (disks : DiskView D) (clocks : ClockView C) where
   readied_same peer units s halt t halt' r e (Stepped x y a b) = stepped_same x units s halt t halt' y e b
 
   closed_so : (peer : List ℕ) (units : ℕ) (noted : Option Halt) (r : Ready) → r ≡ ready.Closed → (s t : Shown D C)
-      → IsReadied disks clocks peer units s None t noted r → IsReadied disks clocks peer units s None t None ready.Closed
+      → IsReadied disks clocks peer units s None t noted r
+      → IsReadied disks clocks peer units s None t None ready.Closed
   closed_so peer units noted r e s t i =
       subst (λ (h : Option Halt). IsReadied disks clocks peer units s None t h ready.Closed)
           (readied_same peer units s None t noted r e i)

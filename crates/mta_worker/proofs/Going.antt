@@ -18,7 +18,8 @@ use Rattle.mta_stations.specs.declared.end.Halt.{Halt}
 use Rattle.mta_worker.specs.declared.session.Served.{Served}
 use Rattle.mta_worker.specs.declared.telling.Lost.{Lost}
 use Rattle.mta_worker.specs.declared.telling.Lost.TheVariants as losts
-use Rattle.mta_worker.specs.Serving.{At, Answers, Carries, Does, GivesUp, Goes, InTurn, IsServed, To_its_end, Stopped, Given_up}
+use Rattle.mta_worker.specs.Serving.{At, Answers, Carries, Does, GivesUp, Goes, InTurn, IsServed}
+use Rattle.mta_worker.specs.Serving.{To_its_end, Stopped, Given_up}
 use Rattle.mta_worker.specs.Turns.{HasAnswered, IsLost}
 
 module _ {D C L : Type 0} (disks : DiskView D) (clocks : ClockView C) (links : LinkView L) where
@@ -93,7 +94,7 @@ module _ {D C L : Type 0} (disks : DiskView D) (clocks : ClockView C) (links : L
   pub served_lost : (x y : At L) (c : Came) (q : Ask) (t u : State) (at link : L) (feed : Feed) (pass : Held Step)
       (halt : Option Halt) (lost : Lost) (turned : Bool) (served : Served) → Gone x y → c ≡ came.Asks q
       → HasRun links y.session y.action y.link y.feed c t at feed
-      → InTurn disks clocks (λ s s'. IsLost disks clocks q s t y.halt s' u halt) y.pass pass
+      → InTurn disks clocks (λ s s'. IsLost disks clocks q s t y.halt s' u halt lost) y.pass pass
       → turned ≡ has_turned u.phase → GivesUp links lost turned halt at link served
       → IsServed disks clocks links x link pass served
   served_lost x y c q t u at link feed pass halt lost turned served g is h i e gives =

@@ -1,5 +1,6 @@
 -- A question of a session makes at most one step.
-use Rattle.std.proofs.Common.{◌≡◌, ◌⊎◌, ℕ, ◌^◌, ◌<◌, ◌≤◌, Option, None, Some, Result, Ok, Err, inl, inr, ap, arith, List, refl}
+use Rattle.std.proofs.Common.{◌≡◌, ◌⊎◌, ℕ, ◌^◌, ◌<◌, ◌≤◌, List, Option, None, Some, Result, Ok, Err, inl, inr, refl}
+use Rattle.std.proofs.Common.{ap, arith}
 use Rattle.std.proofs.lemmas.Bool.{cases_lt}
 use Rattle.mta_edge.specs.Views.{ClockView, DiskView}
 use Rattle.mta_ber.specs.declared.fault.Fault.{Fault}

@@ -1,8 +1,12 @@
 -- The session of a link by which a peer called, behind the turn in which the own name is looked up.
-use Rattle.std.proofs.Common.{◌≡◌, ℕ, false, List, Option, Some, None, Result, Ok, Err, subst, ap, ◌∙◌}
+use Rattle.std.proofs.Common.{◌≡◌, ℕ, false, List, Option, Some, None, Result, Ok, Err, subst, sym, ap, ◌∙◌}
+use Rattle.std.specs.Prelude.{IfSome}
 use Rattle.mta_ber.specs.declared.memory.Memory.{Memory as NoMemory}
 use Rattle.mta_edge.specs.Views.{ClockView, DiskView}
 use Rattle.mta_links.specs.Links.{LinkView}
+use Rattle.mta_links.specs.declared.role.Role.{Role}
+use Rattle.mta_links.specs.declared.role.Role.TheVariants as role
+use Rattle.mta_plans.specs.Names.{IsName}
 use Rattle.mta_records.specs.declared.step.Step.{Step}
 use Rattle.mta_units.specs.Feed.{no_feed}
 use Rattle.mta_session.specs.State.{State}
@@ -14,12 +18,16 @@ use Rattle.mta_shared.specs.Held.{Held}
 use Rattle.mta_stations.specs.declared.end.Halt.TheVariants as Halts
 use Rattle.mta_worker.specs.declared.session.Served.{Served}
 use Rattle.mta_worker.specs.declared.telling.Lost.TheVariants as losts
-use Rattle.mta_worker.specs.Served.{HasListened, IsOwnName, Listening, Lost_at_once, Wanting, Without, none_begun}
+use Rattle.mta_worker.specs.Served.{HasListened, IsLinkServed, IsOwnName, none_begun}
+use Rattle.mta_worker.specs.Served.{Listening, Lost_at_once, Wanting, Without}
 use Rattle.mta_worker.specs.Serving.{At, GivesUp, InTurn, IsServed}
 use Rattle.mta_worker.proofs.Turning.{in_turn_as}
 
 found_as : (r : Result (Option (List ℕ)) NoMemory) (o o' : Option (List ℕ)) → r ≡ Ok o → o ≡ o' → r ≡ Ok o'
 found_as r o o' e f = e ∙ ap (λ (z : Option (List ℕ)). Ok z) f
+
+pub named : (o : Option (List ℕ)) (own : List ℕ) → o ≡ Some own → IfSome o IsName → IsName own
+named o own e h = subst (λ (z : Option (List ℕ)). IfSome z IsName) e h
 
 module _ {D C L : Type 0} (disks : DiskView D) (clocks : ClockView C) (links : LinkView L) (units : ℕ) where
   -- the own name as the turn found it
@@ -59,3 +67,9 @@ module _ {D C L : Type 0} (disks : DiskView D) (clocks : ClockView C) (links : L
       → HasListened disks clocks links units p old new q served
   heard_lost r o own p q old new served e f i gives =
       Lost_at_once own (found_so r o (Some own) p q e f i) gives
+
+  pub link_heard : (r : Role) (p q : Held Step) (old new : L) (served : Served) → r ≡ role.In
+      → HasListened disks clocks links units p old new q served
+      → IsLinkServed disks clocks links r units p old new q served
+  link_heard r p q old new served e h =
+      subst (λ (z : Role). IsLinkServed disks clocks links z units p old new q served) (sym e) h

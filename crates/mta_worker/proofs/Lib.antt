@@ -5,7 +5,6 @@ pub mod Going
 pub mod Growing
 pub mod Hearing
 pub mod Lines
-pub mod Listening
 pub mod Looking
 pub mod Proposing
 pub mod Readied

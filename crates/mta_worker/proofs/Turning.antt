@@ -1,6 +1,7 @@
 -- One turn of the lock, from what a pass knows when it is taken and when it is given back.
-use Rattle.std.proofs.Common.{◌≡◌, ◌⊎◌, ℕ, List, [], ◌∷◌, ◌++◌, Result, Ok, Err, IfOk, OnErr, inl, inr, true}
+use Rattle.std.proofs.Common.{◌≡◌, ◌⊎◌, ℕ, List, [], ◌∷◌, ◌++◌, Result, Ok, Err, IfOk, inl, inr, true}
 use Rattle.std.proofs.Common.{refl, sym, ap, subst, ◌∙◌, append-nil}
+use Rattle.std.specs.Prelude.{IfErr}
 use mathlib.Core.List.{IsPrefix}
 use Rattle.mta_edge.specs.Views.{ClockView, DiskView}
 use Rattle.mta_records.specs.declared.step.Step.{Step}
@@ -64,16 +65,18 @@ module _ {D C : Type 0} (disks : DiskView D) (clocks : ClockView C) where
       (r : Result Action Lost) → IsPrefix p.seen s.entries → Keeps disks clocks s p.base
       → b ≡ record p { seen = s.entries } → q ≡ grown t.entries b → IfOk r (λ a. done a s t)
       → IfOk r (λ a. InTurn disks clocks (done a) p q)
-  in_turn_ok done p b q s t (Ok a) begins keeps taken given did = in_turn (done a) p b q s t begins keeps taken given did
+  in_turn_ok done p b q s t (Ok a) begins keeps taken given did =
+      in_turn (done a) p b q s t begins keeps taken given did
   in_turn_ok done p b q s t (Err e) begins keeps taken given did = tt
 
   -- and where it failed
-  pub in_turn_err : (done : Shown D C → Shown D C → Type 0) (p b q : Held Step) (s t : Shown D C)
+  pub in_turn_err : (done : Lost → Shown D C → Shown D C → Type 0) (p b q : Held Step) (s t : Shown D C)
       (r : Result Action Lost) → IsPrefix p.seen s.entries → Keeps disks clocks s p.base
-      → b ≡ record p { seen = s.entries } → q ≡ grown t.entries b → OnErr r (done s t)
-      → OnErr r (InTurn disks clocks done p q)
+      → b ≡ record p { seen = s.entries } → q ≡ grown t.entries b → IfErr r (λ e. done e s t)
+      → IfErr r (λ e. InTurn disks clocks (done e) p q)
   in_turn_err done p b q s t (Ok a) begins keeps taken given did = tt
-  in_turn_err done p b q s t (Err e) begins keeps taken given did = in_turn done p b q s t begins keeps taken given did
+  in_turn_err done p b q s t (Err e) begins keeps taken given did =
+      in_turn (done e) p b q s t begins keeps taken given did
 
   -- what a spool has to keep when the turn is given back
   pub gives_fact : (p b : Held Step) (s t : Shown D C) → b ≡ record p { seen = s.entries }

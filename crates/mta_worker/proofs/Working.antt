@@ -23,8 +23,9 @@ module _ {D C : Type 0} (disks : DiskView D) (clocks : ClockView C) where
       → InTurn disks clocks (λ s t. TurnsOnce disks clocks s (Ok (Did step)) t) q r
       → Dues disks clocks p (ms ++ r ∷ []) r
   dues_more p [] q r step d i =
-      ((step, subst (λ (w : Held Step). InTurn disks clocks (λ s t. TurnsOnce disks clocks s (Ok (Did step)) t) w r) d i),
-      refl)
+      let one : InTurn disks clocks (λ s t. TurnsOnce disks clocks s (Ok (Did step)) t) p r =
+          subst (λ (w : Held Step). InTurn disks clocks (λ s t. TurnsOnce disks clocks s (Ok (Did step)) t) w r) d i in
+      ((step, one), refl)
   dues_more p (m ∷ ms) q r step d i = (d.0, dues_more m ms q r step d.1 i)
 
   -- the same for what a turn did

@@ -1,10 +1,9 @@
--- Turns of the lock, one after another: what is worked by them, and how many there can be in which a step is made.
+-- What turns of the lock do of what is due, and how many there can be in which a step is made.
 use Rattle.std.proofs.Common.{◌≡◌, ◌⊎◌, ℕ, ◌+◌, ◌-◌, ◌≤◌, ◌<◌, List, [], ◌∷◌, ◌++◌, length, map, None, Some}
-use Rattle.std.proofs.Common.{Result, Ok, Err, Bool, true, false, inl, inr, refl, sym, ap, ◌∙◌, subst, arith}
+use Rattle.std.proofs.Common.{Result, Ok, Err, Bool, true, false, inl, inr, refl, sym, ap, subst, arith}
 use Rattle.std.proofs.Common.{length-append}
 use Rattle.std.proofs.lemmas.Bool.{cases_lt}
 use Rattle.std.specs.List.{flat_map}
-use mathlib.Core.List.{IsPrefix}
 use Rattle.mta_edge.specs.Views.{ClockView, DiskView}
 use Rattle.mta_journal.specs.Appending.{journal_limit}
 use Rattle.mta_journal.specs.Bodies.{magic, open_record}
@@ -14,12 +13,9 @@ use Rattle.mta_records.specs.declared.step.Step.{Step}
 use Rattle.mta_records.specs.declared.fault.StepFault.{StepFault}
 use Rattle.mta_records.specs.declared.fault.StepFault.TheVariants as StepFaults
 use Rattle.mta_records.specs.Body.{body_of}
-use Rattle.mta_shared.proofs.Fronts.{prefix_length, prefix_self, prefix_trans}
-use Rattle.mta_shared.specs.Counts.{row}
+use Rattle.mta_shared.proofs.Fronts.{prefix_length}
 use Rattle.mta_shared.specs.Held.{Held}
-use Rattle.mta_shared.specs.Passes.{grown, Worked}
 use Rattle.mta_shared.specs.Rule.{Grows}
-use Rattle.mta_spool.specs.Bases.{Keeps, KeepsOn}
 use Rattle.mta_spool.specs.Shown.{Shown}
 use Rattle.mta_spool.specs.Stands.{Appends, IsOfNoRefusal, IsSpent, need_of, Stands}
 use Rattle.mta_spool.specs.Turning.{Turns}
@@ -28,48 +24,6 @@ use Rattle.mta_spool.specs.declared.spool.Turned.TheVariants.{Did, Quiet}
 use Rattle.mta_worker.proofs.Growing.{appended, unchanged}
 use Rattle.mta_worker.specs.Serving.{InTurn}
 use Rattle.mta_worker.specs.Working.{TurnsOnce}
-
-pub worked_self : (p : Held Step) → p.rests ≡ true → Worked p p
-worked_self p rests = record {
-  lock = refl;
-  rests = rests;
-  seen = prefix_self p.seen;
-  own = prefix_self p.own;
-  parts = refl;
-  base = refl;
-  from = refl;
-}
-
-pub worked_trans : (p q r : Held Step) → Worked p q → Worked q r → Worked p r
-worked_trans p q r a b = record {
-  lock = b.lock ∙ a.lock;
-  rests = b.rests;
-  seen = prefix_trans p.seen q.seen r.seen a.seen b.seen;
-  own = prefix_trans p.own q.own r.own a.own b.own;
-  parts = b.parts ∙ a.parts;
-  base = b.base ∙ a.base;
-  from = b.from ∙ a.from;
-}
-
--- a history that grew begins with what it was
-grows_on : (xs ys : List Step) → Grows xs ys → IsPrefix xs ys
-grows_on xs ys g =
-    elim g [
-      inl same ↦ subst (IsPrefix xs) (sym same) (prefix_self xs)
-    | inr more ↦ (more.0 ∷ [], sym more.1)
-    ]
-
-grown_worked : (p : Held Step) (before after : List Step) → p.rests ≡ true → IsPrefix p.seen before
-    → Grows before after → Worked p (grown after (record p { seen = before }))
-grown_worked p before after rests begins grows = record {
-  lock = refl;
-  rests = rests;
-  seen = prefix_trans p.seen before after begins (grows_on before after grows);
-  own = (row (length before) (length after - length before), refl);
-  parts = refl;
-  base = refl;
-  from = refl;
-}
 
 -- what every step needs at least
 count_in_front : (steps : List Step) → length steps ≤ length (flat_map open_record (map body_of steps))
@@ -104,32 +58,6 @@ module _ {D C : Type 0} (disks : DiskView D) (clocks : ClockView C) where
       → Grows old.entries new.entries → Grows b.seen new.entries
   given_grows b p old new e grows =
       subst (λ (xs : List Step). Grows xs new.entries) (sym (ap (λ (h : Held Step). h.seen) e)) grows
-
-  pub given_fact : (b p : Held Step) (old new : Shown D C) → b ≡ record p { seen = old.entries }
-      → Keeps disks clocks old p.base × (0 ≡ p.from) → KeepsOn disks clocks old new
-      → Keeps disks clocks new b.base × (0 ≡ b.from)
-  given_fact b p old new e fact keeps =
-      subst (λ (h : Held Step). Keeps disks clocks new h.base × (0 ≡ h.from)) (sym e)
-      (keeps p.base fact.0, fact.1)
-
-  pub given_worked : (b p q : Held Step) (old new : Shown D C) → b ≡ record p { seen = old.entries }
-      → p.rests ≡ true → IsPrefix p.seen old.entries → Grows old.entries new.entries → q ≡ grown new.entries b
-      → Worked p q
-  given_worked b p q old new e rests begins grows given =
-      subst (Worked p) (sym (given ∙ ap (grown new.entries) e))
-      (grown_worked p old.entries new.entries rests begins grows)
-
-  pub given_turn : (done : Shown D C → Shown D C → Type 0) (b p q : Held Step) (old new : Shown D C)
-      → b ≡ record p { seen = old.entries } → IsPrefix p.seen old.entries → Keeps disks clocks old p.base
-      → done old new → q ≡ grown new.entries b → InTurn disks clocks done p q
-  given_turn done b p q old new e begins keeps did given = record {
-    before = old;
-    after = new;
-    begins = begins;
-    keeps = keeps;
-    did = did;
-    left = given ∙ ap (grown new.entries) e;
-  }
 
   -- ---- how many turns there can be in which a step is made
 

@@ -70,13 +70,15 @@ module _ {D C L : Type 0} (disks : DiskView D) (clocks : ClockView C) (links : L
         → new ≡ old → served ≡ none_begun halt → HasCalled peer units p old new q served
     Calling : (ms : List (Held Step)) (mid at : Held Step) (u : State) (first : Action) (noted : Option Halt)
         → Closings peer units p ms mid
-        → InTurn disks clocks (λ s t. IsReadied disks clocks peer units s None t noted (ready.Begins u (Ok first))) mid at
+        → InTurn disks clocks
+            (λ s t. IsReadied disks clocks peer units s None t noted (ready.Begins u (Ok first))) mid at
         → IsServed disks clocks links (record {
           session = u; action = first; link = old; feed = no_feed; pass = at; halt = noted;
         }) new q served → HasCalled peer units p old new q served
     Lost_before : (ms : List (Held Step)) (mid : Held Step) (u : State) (lost : Lost) (noted : Option Halt)
         → Closings peer units p ms mid
-        → InTurn disks clocks (λ s t. IsReadied disks clocks peer units s None t noted (ready.Begins u (Err lost))) mid q
+        → InTurn disks clocks
+            (λ s t. IsReadied disks clocks peer units s None t noted (ready.Begins u (Err lost))) mid q
         → GivesUp links lost (has_turned u.phase) noted old new served → HasCalled peer units p old new q served
     -- other associations open lanes with the peer as fast as they are closed
     Too_often : (ms : List (Held Step)) → Closings peer units p ms q → new ≡ old → served ≡ none_begun Halts.NoPeer

@@ -94,8 +94,8 @@ module _ {D C L : Type 0} (disks : DiskView D) (clocks : ClockView C) (links : L
   Goes x [] y = y ≡ x
   Goes x (z ∷ zs) y = Does x z × Goes z zs y
 
-  -- How a session is served to its end: it comes to one, or is given up where memory is wanted at its link, or in a turn
-  -- of the lock.
+  -- How a session is served to its end: it comes to one, or is given up where memory is wanted at its link, or in a
+  -- turn of the lock.
   pub data IsServed (x : At L) (link : L) (pass : Held Step) (served : Served) : Type 0 where
     To_its_end : (zs : List (At L)) (y : At L) (e : SessionEnd) → Goes x zs y → y.action ≡ action.Finish e
         → link ≡ y.link → pass ≡ y.pass → served.end ≡ Some e → served.halt ≡ y.halt → IsServed x link pass served
@@ -104,5 +104,5 @@ module _ {D C L : Type 0} (disks : DiskView D) (clocks : ClockView C) (links : L
         → GivesUp links losts.Memory (has_turned t.phase) y.halt at link served → IsServed x link pass served
     Given_up : (zs : List (At L)) (y : At L) (q : Ask) (t : State) (halt : Option Halt) (lost : Lost) → Goes x zs y
         → y.action ≡ action.Ask q
-        → InTurn disks clocks (λ s s'. IsLost disks clocks q s y.session y.halt s' t halt) y.pass pass
+        → InTurn disks clocks (λ s s'. IsLost disks clocks q s y.session y.halt s' t halt lost) y.pass pass
         → GivesUp links lost (has_turned t.phase) halt y.link link served → IsServed x link pass served

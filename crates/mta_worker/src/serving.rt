@@ -24,8 +24,8 @@ use mta_spool::Spool;
 use std::alloc::Global;
 use std::sync::Wait;
 
-// A lane that was never agreed is closed in a turn of its own, before the next is looked for: of a role at most 64 lanes
-// are open with a peer.
+// A lane that was never agreed is closed in a turn of its own, before the next is looked for: of a role at most 64
+// lanes are open with a peer.
 const MOST_TRIES: u32 = 65;
 
 // No session was begun.

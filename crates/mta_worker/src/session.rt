@@ -1,6 +1,6 @@
 //! One session over its link: it is carried on, and its questions are answered, each in one turn of the lock.
 
-ghost use Rattle.std.specs.Prelude.{◌≡◌, ◌≤◌, ◌<◌, None, IfOk, OnErr};
+ghost use Rattle.std.specs.Prelude.{◌≡◌, ◌≤◌, ◌<◌, None, IfErr, IfOk};
 ghost use Rattle.mta_session.specs.Rank.{calls_left};
 ghost use Rattle.mta_session.specs.declared.event.Action.TheVariants as actions;
 ghost use Rattle.mta_session_run.specs.Running.{IsCalled};
@@ -95,8 +95,8 @@ fn one_turn<R: Wait, D: Disk + Drop, C: Clock + Drop>(
         (λ s t. HasAnswered D.model C.model ask s session.old halt.old t session.new a halt.new) pass.old pass.new) }
     ensures called { IfOk result (λ a. IsCalled session.new a) }
     ensures falls { IfOk result (λ a. calls_left session.new < calls_left session.old) }
-    ensures lost { OnErr result (InTurn D.model C.model
-        (λ s t. IsLost D.model C.model ask s session.old halt.old t session.new halt.new) pass.old pass.new) }
+    ensures lost { IfErr result (λ e. InTurn D.model C.model
+        (λ s t. IsLost D.model C.model ask s session.old halt.old t session.new halt.new e) pass.old pass.new) }
 {
     let mut turn = shared.take(rt, pass);
     let answered = answer_all(alloc, &mut turn.value, session, ask, halt);

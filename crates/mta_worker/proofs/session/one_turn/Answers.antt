@@ -28,7 +28,7 @@ returns-clause-lost g c =
     let u = c.answer_all-answered.new.session in
     let halt = c.answer_all-answered.new.halt in
     in_turn_err g.D.Disk.model g.C.Clock.model
-    (λ s t. IsLost g.D.Disk.model g.C.Clock.model c.args.ask s c.args.session.now c.args.halt.now t u halt)
+    (λ e s t. IsLost g.D.Disk.model g.C.Clock.model c.args.ask s c.args.session.now c.args.halt.now t u halt e)
     c.args.pass.now _ c.give.new.pass c.take-turn.result.value c.answer_all-answered.new.spool
     c.answer_all-answered.result c.take-turn.ensures.history c.take-turn.ensures.fact.0 c.take-turn.ensures.turn.0
     c.give.ensures.given c.answer_all-answered.ensures.lost

@@ -54,21 +54,21 @@ loop-came-preserved g c =
     record {
       gone = gone_round g.D.Disk.model g.C.Clock.model g.L.Link.model
           (record {
-      session = c.args.session.now;
-      action = c.args.first;
-      link = c.args.link.now;
-      feed = no_feed;
-      pass = c.args.pass.now;
-      halt = c.args.first_halt;
-    })
+            session = c.args.session.now;
+            action = c.args.first;
+            link = c.args.link.now;
+            feed = no_feed;
+            pass = c.args.pass.now;
+            halt = c.args.first_halt;
+          })
           (record {
-      session = c.loop-came.session;
-      action = c.loop-came.action;
-      link = c.loop-came.link;
-      feed = c.loop-came.frames;
-      pass = c.loop-came.pass;
-      halt = c.loop-came.halt;
-    })
+            session = c.loop-came.session;
+            action = c.loop-came.action;
+            link = c.loop-came.link;
+            feed = c.loop-came.frames;
+            pass = c.loop-came.pass;
+            halt = c.loop-came.halt;
+          })
           c.in-Ok.came c.in-Asks.ask c.carry_on.new.session c.one_turn.new.session c.carry_on.new.link
           c.carry_on.new.frames c.in-Ok-one_turn.next c.one_turn.new.pass c.one_turn.new.halt
           c.loop-came.invariant.gone c.in-Asks.is c.in-Ok.ensures.run c.in-Ok-one_turn.ensures.answered;
@@ -102,7 +102,8 @@ returns-in-Err-one_turn-clause-served g c =
       pass = c.loop-came.pass;
       halt = c.loop-came.halt;
     })
-    c.in-Ok.came c.in-Asks.ask c.carry_on.new.session c.one_turn.new.session c.carry_on.new.link c.give_up-in-Err-one_turn.new.link
-    c.carry_on.new.frames c.one_turn.new.pass c.one_turn.new.halt c.in-Err-one_turn.lost c.has_turned-in-Err-one_turn.result c.give_up-in-Err-one_turn.result
-    c.loop-came.invariant.gone c.in-Asks.is c.in-Ok.ensures.run c.in-Err-one_turn.ensures.lost c.has_turned-in-Err-one_turn.ensures
-    c.give_up-in-Err-one_turn.ensures.gives
+    c.in-Ok.came c.in-Asks.ask c.carry_on.new.session c.one_turn.new.session c.carry_on.new.link
+    c.give_up-in-Err-one_turn.new.link c.carry_on.new.frames c.one_turn.new.pass c.one_turn.new.halt
+    c.in-Err-one_turn.lost c.has_turned-in-Err-one_turn.result c.give_up-in-Err-one_turn.result
+    c.loop-came.invariant.gone c.in-Asks.is c.in-Ok.ensures.run c.in-Err-one_turn.ensures.lost
+    c.has_turned-in-Err-one_turn.ensures c.give_up-in-Err-one_turn.ensures.gives

@@ -1,6 +1,7 @@
 use Rattle.std.proofs.Common.{[], ◌∷◌, ◌++◌, ◌∙◌, refl}
 use Rattle.mta_worker.proofs.Working.{dues_did, quiet, refused}
-use Rattle.mta_worker.proofs.Workings.{did_turned, worked_self, worked_trans}
+use Rattle.mta_worker.proofs.Turning.{worked_self, worked_trans}
+use Rattle.mta_worker.proofs.Workings.{did_turned}
 use Rattle.mta_worker.proofs.worker.settle.Goals as goal
 
 pub loop-fault-init : goal.loop-fault-init

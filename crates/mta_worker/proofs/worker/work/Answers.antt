@@ -4,7 +4,7 @@ use Rattle.mta_stations.specs.declared.end.Halt.{Halt}
 use Rattle.mta_links.specs.Links.{LeadsNext, one_more_out}
 use Rattle.mta_worker.specs.Working.{At_limit, Behind, Halted, No_link, Station_failed}
 use Rattle.mta_worker.proofs.Working.{served_more, serves}
-use Rattle.mta_worker.proofs.Workings.{worked_self, worked_trans}
+use Rattle.mta_worker.proofs.Turning.{worked_self, worked_trans}
 use Rattle.mta_worker.proofs.worker.work.Goals.{then-is_closed, else-is_closed}
 use Rattle.mta_worker.proofs.worker.work.Goals as goal
 

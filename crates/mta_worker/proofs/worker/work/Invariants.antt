@@ -16,4 +16,4 @@ invariant-loop-sessions g l = record {
 }
 
 abbrev pub decreases-loop-sessions : goal.decreases-loop-sessions
-decreases-loop-sessions g l = l.limits.sessions - l.sessions
+decreases-loop-sessions g l = l.most - l.sessions
