@@ -1,11 +1,12 @@
 -- While a session is carried on it does not look at its lane.
 use Rattle.std.proofs.Common.{◌≡◌, ℕ, Bool, true, false, cond, Option, None, Some, List, [], ◌∷◌, ◌++◌, refl, sym, ap}
-use Rattle.std.proofs.Common.{subst, ◌∙◌, true≢false}
+use Rattle.std.proofs.Common.{subst, ◌∙◌, true≢false, not, ◌&&◌, ◌||◌, ◌==◌, bytes_eq}
 use Rattle.mta_rtse.specs.declared.types.Answer.{Answer}
 use Rattle.mta_rtse.specs.declared.types.Answer.TheVariants as answer
 use Rattle.mta_units.specs.declared.unit.Unit.{Unit as AnyUnit}
 use Rattle.mta_units.specs.declared.unit.Unit.TheVariants as unit
 use Rattle.mta_units.specs.declared.unit.OpenUnit.{OpenUnit}
+use Rattle.mta_lane_send.specs.Half.{is_ending, is_idle, last_of}
 use Rattle.mta_ends.specs.Sending.{SendEnd}
 use Rattle.mta_ends.specs.Receiving.{RecvEnd}
 use Rattle.mta_session.specs.declared.ask.Ask.{Ask}
@@ -21,11 +22,16 @@ use Rattle.mta_session.specs.declared.phase.Found.{Found}
 use Rattle.mta_session.specs.declared.phase.OwnStep.{OwnStep}
 use Rattle.mta_session.specs.declared.phase.Phase.{Phase}
 use Rattle.mta_session.specs.declared.phase.Phase.TheVariants as phase
-use Rattle.mta_session.specs.State.{State}
+use Rattle.mta_session.specs.declared.event.SessionEnd.TheVariants as end
+use Rattle.mta_session.specs.Receiving.{is_free, taken}
+use Rattle.mta_session.specs.Sending.{called, heard, is_discard_put}
+use Rattle.mta_session.specs.State.{in_phase, is_initiator, let_go, State, with_values}
 use Rattle.mta_session.specs.Follows.{counted, Does, ExceptsFor, GoesOn, part_of, Part, Of_sender, Of_receiver}
 use Rattle.mta_session.specs.Follows.{Of_neither, phase_behind, PutsFor}
 use Rattle.mta_session.specs.Rank.{is_over}
 use Rattle.mta_session.specs.Wanted.{Wanted, Aborts, Rejects, Ends, Puts, Asks, Reads, Goes_on, Excepts, Never}
+use Rattle.mta_session.specs.Wanted.{asks_due, closes_rejected, gives, is_refused_value, is_same_reference}
+use Rattle.mta_session.specs.Wanted.{puts_please, starts}
 use Rattle.mta_session.specs.Wanted.{as_holder, as_listener, goes_on_if, makes_or, on_abort, on_accept}
 use Rattle.mta_session.specs.Wanted.{on_answer_by, on_close, on_close_ack, on_open, on_reject, on_unit, on_values, takes}
 use Rattle.mta_session.specs.Wanted.{wanted_of_go, wanted_of_over, wanted_of_unit}
@@ -33,7 +39,14 @@ use Rattle.mta_session_laws.specs.Runs.{IsTurn, Turn}
 use Rattle.mta_session_laws.proofs.Opening.{wanted_in}
 use Rattle.mta_session_laws.proofs.Whole.{is_ended}
 use Rattle.mta_session_lists.proofs.Waiting.{does_at, over_says}
-use Rattle.mta_worker_lists.specs.Leads.{is_looking}
+
+-- it looks at its lane right behind the Bind, which is answered in the same turn of the lock
+abbrev pub is_looking : Phase → Bool
+is_looking phase.AsksValues = true
+is_looking phase.AsksRecovery = true
+is_looking (phase.AsksReceiving state) = true
+is_looking (phase.AsksResumed state) = true
+is_looking p = false
 
 -- neither new, nor looking at its lane
 abbrev pub is_calm : Phase → Bool
@@ -120,7 +133,14 @@ does_calm t Never a new i d = absurd d
 -- ---- a unit that is got
 
 aborted_calm : (t : State) (reason : ℕ) → IsCalm (on_abort t reason)
-aborted_calm t reason = either _ _ _ refl (either _ _ _ refl tt)
+aborted_calm t reason =
+    let k : ℕ = last_of t.send.state in
+    let last : State = in_phase (let_go t) (phase.AsksLast (end.PeerAborted reason)) in
+    let ends : Wanted = Ends (end.PeerAborted reason) in
+    let sent : Wanted = Asks (ask.Sent t.lane t.generation k) last in
+    let is_sent : Bool = (reason == 7) && is_ending t.send.state k && is_discard_put t.send.stage k in
+    either ((reason == 2) && not (is_idle t.send.state)) (Asks (ask.Denied t.lane t.generation k) last)
+    (cond is_sent sent ends) refl (either is_sent sent ends refl tt)
 
 opened_calm : (t : State) (x : AnyUnit) → IsCalm (on_open t x)
 opened_calm t (unit.Open o) = refl
@@ -128,14 +148,28 @@ opened_calm t (unit.Abort reason) = tt
 opened_calm t x = tt
 
 values_calm : (t : State) (c w : ℕ) → IsCalm (on_values t c w)
-values_calm t c w = either _ _ _ tt (either _ _ _ tt refl)
+values_calm t c w =
+    let agree : Wanted =
+    Asks (ask.LaneAgree t.lane t.generation c w) (in_phase (with_values t c w) phase.AsksAgree) in
+    either (is_refused_value t c w) (Aborts 1) (cond t.agreed (starts t) agree) tt
+    (either t.agreed (starts t) agree tt refl)
 
 accepted_calm : (p : InitiatorPlan) (t : State) (c w : ℕ) (a : Answer) → IsCalm (on_accept p t c w a)
-accepted_calm p t c w (answer.Bind name password) = either _ _ _ tt (either _ _ _ (values_calm t c w) tt)
-accepted_calm p t c w (answer.Recover reference) = either _ _ _ (values_calm t c w) tt
+accepted_calm p t c w (answer.Bind name password) =
+    let known : Bool = bytes_eq name p.peer && bytes_eq password p.expected_password in
+    either p.recovering (Aborts 4) (cond known (on_values t c w) (Aborts 5)) tt
+    (either known (on_values t c w) (Aborts 5) (values_calm t c w) tt)
+accepted_calm p t c w (answer.Recover reference) =
+    either (p.recovering && is_same_reference reference p.reference) (on_values t c w) (Aborts 4) (values_calm t c w) tt
 
 rejected_calm : (p : InitiatorPlan) (t : State) (reason : ℕ) → IsCalm (on_reject p t reason)
-rejected_calm p t reason = either _ _ _ refl (either _ _ _ refl tt)
+rejected_calm p t reason =
+    let ends : Wanted = Ends (end.Rejected reason) in
+    let denies : Wanted =
+    Asks (ask.Denied t.lane t.generation (last_of t.send.state)) (in_phase (let_go t) phase.AsksDenied) in
+    let closes : Bool = (reason == 1) || not p.recovering in
+    either ((reason == 1) && not (is_idle t.send.state)) denies (cond closes (closes_rejected t reason) ends) refl
+    (either closes (closes_rejected t reason) ends refl tt)
 
 answered_calm : (s : Side) (t : State) (x : AnyUnit) → IsCalm (on_answer_by s t x)
 answered_calm (side.Initiator p) t (unit.Accept c w a) = accepted_calm p t c w a
@@ -149,32 +183,39 @@ goes_if_calm t None = tt
 
 makes_calm : (t : State) (x : AnyUnit) (o : Option OwnStep) → IsCalm (makes_or t x o)
 makes_calm t x (Some step) = refl
-makes_calm t x None = goes_if_calm t _
+makes_calm t x None = goes_if_calm t (heard t.send x)
 
 holder_calm : (t : State) (x : AnyUnit) → IsCalm (as_holder t x)
-holder_calm t (unit.Please priority) = either _ _ _ tt tt
-holder_calm t x = makes_calm t x _
+holder_calm t (unit.Please priority) =
+    either t.twa (Goes_on (record t { please = t.please || is_initiator t.side })) (Aborts 4) tt tt
+holder_calm t x = makes_calm t x (called t.send x)
 
 takes_calm : (t : State) (o : Option RecvEnd) → IsCalm (takes t o)
 takes_calm t (Some e) = tt
 takes_calm t None = tt
 
 close_calm : (t : State) → IsCalm (on_close t)
-close_calm t = either _ _ _ tt (either _ _ _ refl refl)
+close_calm t =
+    let closes : Wanted = Asks (ask.CloseLane t.lane t.generation) (in_phase (let_go t) phase.AsksClose) in
+    let please : Bool = t.twa && not (is_idle t.send.state) in
+    either t.please (Goes_on t) (cond please (puts_please t) closes) tt
+    (either please (puts_please t) closes refl refl)
 
 listener_calm : (t : State) (x : AnyUnit) → IsCalm (as_listener t x)
-listener_calm t unit.Give = either _ _ _ tt tt
-listener_calm t unit.Close = either _ _ _ (close_calm t) tt
-listener_calm t (unit.Please priority) = either _ _ _ tt tt
-listener_calm t x = takes_calm t _
+listener_calm t unit.Give =
+    either (t.twa && is_free t.recv.stage) (Goes_on (record t { ours = true; please = false })) (Aborts 4) tt tt
+listener_calm t unit.Close =
+    either (not (is_initiator t.side) && is_free t.recv.stage) (on_close t) (Aborts 4) (close_calm t) tt
+listener_calm t (unit.Please priority) = either t.twa (Goes_on t) (Aborts 4) tt tt
+listener_calm t x = takes_calm t (taken t.checkpoint t.recv x)
 
 unit_calm : (t : State) (x : AnyUnit) → IsCalm (on_unit t x)
 unit_calm t (unit.Abort reason) = aborted_calm t reason
-unit_calm t x = either _ _ _ (holder_calm t x) (listener_calm t x)
+unit_calm t x = either t.ours (as_holder t x) (as_listener t x) (holder_calm t x) (listener_calm t x)
 
 closing_calm : (t : State) (x : AnyUnit) → IsCalm (on_close_ack t x)
 closing_calm t unit.CloseAck = refl
-closing_calm t (unit.Please priority) = either _ _ _ refl tt
+closing_calm t (unit.Please priority) = either t.twa (gives t) (Aborts 4) refl tt
 closing_calm t (unit.Abort reason) = aborted_calm t reason
 closing_calm t x = tt
 
@@ -190,7 +231,9 @@ got_calm p t x = tt
 put_calm : (p : Phase) (t : State) → is_calm p ≡ true → IsCalm (wanted_of_go p t)
 put_calm phase.Begin t i = not_false i
 put_calm phase.PutsOpen t i = refl
-put_calm phase.PutsAccept t i = either _ _ _ (either _ _ _ refl refl) tt
+put_calm phase.PutsAccept t i =
+    let asks : Wanted = cond (is_idle t.send.state) (asks_due t) (puts_please t) in
+    either t.twa asks (Goes_on t) (either (is_idle t.send.state) (asks_due t) (puts_please t) refl refl) tt
 put_calm phase.Puts t i = tt
 put_calm phase.PutsClose t i = refl
 put_calm (phase.PutsLast e) t i = tt
@@ -207,8 +250,9 @@ IsNoReply e = Unit {0}
 
 wanted_calm : (p : Phase) (t : State) (e : Event) → is_calm p ≡ true → IsNoReply e → IsCalm (wanted_in p t e)
 wanted_calm p t event.Go i n = put_calm p t i
-wanted_calm p t (event.Unit x) i n = either _ _ _ tt (got_calm p t x)
-wanted_calm p t event.BadUnit i n = either _ _ _ tt tt
+wanted_calm p t (event.Unit x) i n =
+    either (t.left == 0) (Aborts 3) (wanted_of_unit p t x) tt (got_calm p t x)
+wanted_calm p t event.BadUnit i n = either (t.left == 0) (Aborts 3) (Aborts 4) tt tt
 wanted_calm p t (event.Reply x) i n = absurd n
 wanted_calm p t event.Over i n = over_calm p
 

@@ -1,6 +1,6 @@
 -- Where a session that its worker began has its lane.
-use Rattle.std.proofs.Common.{◌≡◌, ℕ, ◌+◌, ◌-◌, ◌*◌, ◌≤◌, ◌<◌, Bool, true, false, Option, None, Some, Ok, List, [], ◌∷◌}
-use Rattle.std.proofs.Common.{◌++◌, length, cond, refl, sym, ap, subst, ◌∙◌, arith}
+use Rattle.std.proofs.Common.{◌≡◌, ℕ, ◌+◌, ◌-◌, ◌*◌, ◌≤◌, ◌<◌, Bool, true, false, Option, None, Some, Result, Ok, Err, List}
+use Rattle.std.proofs.Common.{[], ◌∷◌, ◌++◌, length, cond, refl, sym, ap, subst, ◌∙◌, arith}
 use mathlib.Core.List.{IsPrefix}
 use Rattle.mta_edge.specs.Views.{ClockView, DiskView}
 use Rattle.mta_ends.specs.Lanes.{Seen}
@@ -32,14 +32,18 @@ use Rattle.mta_worker.specs.declared.ready.Ready.TheVariants as ready
 use Rattle.mta_worker.specs.declared.telling.Lost.{Lost}
 use Rattle.mta_worker.specs.Answers.{Answered}
 use Rattle.mta_worker.specs.Proposals.{Binds, IsNext, Opens}
-use Rattle.mta_worker.specs.Readying.{asks_next, Begins, Begun, IsReadied, IsStepped, plan_behind, Stepped, Well}
-use Rattle.mta_worker_lists.specs.Begun.{Calls, IsNewAt}
+use Rattle.mta_worker.specs.Readying.{asks_next, Begins, Begun, IsReadied, IsStepped, Lost_looking, plan_behind}
+use Rattle.mta_worker.specs.Readying.{Stepped, Well, Without_memory}
+use Rattle.mta_worker_lists.specs.Begun.{Calls, IsNewAt, Stopped}
 use Rattle.mta_worker_lists.specs.Histories.{TellsApdus, whole}
 use Rattle.mta_worker_lists.specs.Leads.{Leads}
-use Rattle.mta_worker_lists.proofs.Joining.{leads_more}
+use Rattle.mta_worker_lists.proofs.Ending.{Closed, closed_more, looking_closed}
+use Rattle.mta_worker_lists.proofs.Going.{Reaches, reaches_behind, reaches_by}
+use Rattle.mta_worker_lists.proofs.Joining.{no_calls}
 use Rattle.mta_worker_lists.proofs.Making.{Makes}
 use Rattle.mta_worker_lists.proofs.Telling.{answer_made}
 use Rattle.mta_worker_lists.proofs.Turns.{calls_at, looks_lead, made_stands, stands_next, was_possible}
+use Rattle.mta_worker_lists.proofs.Waits.{waits_next}
 
 -- ---- what is proposed
 
@@ -56,22 +60,18 @@ pub record IsPlanned (q : Ask) (y : Reply) (plan : InitiatorPlan) : Type 0 where
   pub told : step_told q y ≡ Some (step_for plan)
   pub opens : plan.recovering ≡ false → plan.generation ≡ 1
 
+abbrev as_planned : (p : InitiatorPlan) (lane g : ℕ) → Bool → Option StepOn
+as_planned p lane g b =
+    Some (record { lane = lane; step = cond b (h.Bind g) (h.LaneOpen false (1024 * p.checkpoint) p.window) })
+
 new_step : (p : InitiatorPlan) (lane : ℕ) → p.recovering ≡ false
     → Some (record { lane = lane; step = h.LaneOpen false (1024 * p.checkpoint) p.window })
     ≡ Some (step_for (on_lane p lane 1))
-new_step p lane e =
-    ap (λ (b : Bool). Some {A = StepOn} (record {
-      lane = lane;
-      step = cond b (h.Bind 1) (h.LaneOpen false (1024 * p.checkpoint) p.window);
-    })) (sym e)
+new_step p lane e = ap (λ (b : Bool). as_planned p lane 1 b) (sym e)
 
 old_step : (p : InitiatorPlan) (lane g : ℕ) → p.recovering ≡ true
     → Some (record { lane = lane; step = h.Bind g }) ≡ Some (step_for (on_lane p lane g))
-old_step p lane g e =
-    ap (λ (b : Bool). Some {A = StepOn} (record {
-      lane = lane;
-      step = cond b (h.Bind g) (h.LaneOpen false (1024 * p.checkpoint) p.window);
-    })) (sym e)
+old_step p lane g e = ap (λ (b : Bool). as_planned p lane g b) (sym e)
 
 -- of a lane that is opened, and of one that is bound
 open_planned : (p : InitiatorPlan) (q : Ask) (lane : ℕ) (plan : InitiatorPlan) → p.recovering ≡ false
@@ -107,18 +107,18 @@ planned s peer x q y plan is asks so = none_some plan so
 
 -- a session begins with this plan, behind the reply to this question
 pub record BeginsWith {D C : Type 0} (disks : DiskView D) (clocks : ClockView C) (units : ℕ) (old new : Shown D C)
-    (halt : Option Halt) (u : Session) (halt' : Option Halt) (first : Action) : Type 0 where
+    (halt : Option Halt) (u : Session) (halt' : Option Halt) (first : Result Action Lost) : Type 0 where
   pub question : Ask
   pub answer : Reply
   pub plan : InitiatorPlan
   pub answered : Answered disks clocks question old answer new
   pub planned : IsPlanned question answer plan
-  pub begins : Begins disks clocks new plan units halt u halt' (Ok first)
+  pub begins : Begins disks clocks new plan units halt u halt' first
 
 module _ {D C : Type 0} (disks : DiskView D) (clocks : ClockView C) where
   stepped_begins : (peer : List ℕ) (x : Next) (units : ℕ) (old new : Shown D C) (halt halt' : Option Halt) (u : Session)
-      (first : Action) → IsNext old.current peer x
-      → IsStepped disks clocks x units old halt new halt' (ready.Begins u (Ok first))
+      (first : Result Action Lost) → IsNext old.current peer x
+      → IsStepped disks clocks x units old halt new halt' (ready.Begins u first)
       → BeginsWith disks clocks units old new halt u halt' first
   stepped_begins peer x units old new halt halt' u first is (Begun q y plan v f asks a so begins) = record {
     question = q;
@@ -130,7 +130,7 @@ module _ {D C : Type 0} (disks : DiskView D) (clocks : ClockView C) where
   }
 
   pub readied_begins : (peer : List ℕ) (units : ℕ) (old new : Shown D C) (halt halt' : Option Halt) (u : Session)
-      (first : Action) → IsReadied disks clocks peer units old halt new halt' (ready.Begins u (Ok first))
+      (first : Result Action Lost) → IsReadied disks clocks peer units old halt new halt' (ready.Begins u first)
       → BeginsWith disks clocks units old new halt u halt' first
   readied_begins peer units old new halt halt' u first (Stepped x r is s) =
       stepped_begins peer x units old new halt halt' u first is s
@@ -145,57 +145,115 @@ module _ {D C : Type 0} (disks : DiskView D) (clocks : ClockView C) where
     abbrev long : Shown D C → ℕ
     long s = length first + length s.entries
 
-    -- The first call, and the looks behind it, are true of the history, which has the step for the plan.
-    pub record Led (new : Shown D C) (u : Session) (b : Action) : Type 0 where
+    -- the session begins there
+    pub record IsBegun (new : Shown D C) : Type 0 where
       pub plan : InitiatorPlan
       pub units : ℕ
-      pub calls : List Call
       pub begun : IsNewAt history (long new) (new_initiator plan units)
-      pub leads : Leads spells history (long new) (new_initiator plan units) action.Read calls (long new) u b
+
+    -- It is carried on from these first calls.
+    pub record Led (new : Shown D C) (u : Session) (b : Action) : Type 0 where
+      pub begins : IsBegun new
+      pub reaches : Reaches spells history (long new) (new_initiator begins.plan begins.units) action.Read (long new) u b
+
+    -- It is given up in the turn of the lock in which it began.
+    pub record Lost_there (new : Shown D C) : Type 0 where
+      pub begins : IsBegun new
+      pub closed : Closed spells history (long new) (new_initiator begins.plan begins.units) action.Read (long new)
+
+    back : (n : ℕ) → 0 < n → n - 1 + 1 ≡ n
+    back n l = omega (arith, l)
 
     has_step : (q : Ask) (y : Reply) (plan : InitiatorPlan) (old new : Shown D C)
         → old.current ≡ after (first ++ old.entries) → IsPrefix new.entries entries → IsPlanned q y plan
         → Makes (step_told q y) old new → (units : ℕ) → IsNewAt history (long new) (new_initiator plan units)
     has_step q y plan old new state f p m units =
-        let made : Makes (Some (step_for plan)) old new = subst (λ (o : Option StepOn). Makes o old new) p.told m in
+        let makes : Makes (Some (step_for plan)) old new = subst (λ (o : Option StepOn). Makes o old new) p.told m in
         let stands : Stands history 0 (long new) (step_for plan) =
-        made_stands disks clocks spells tells first entries possible (step_for plan) 0 old new made state f (omega arith)
+        made_stands disks clocks spells tells first entries possible (step_for plan) 0 old new makes state f (omega arith)
         in
         subst (λ (n : ℕ). IsNewAt history n (new_initiator plan units)) (back (long new) stands.later)
         (Calls plan units (long new - 1) stands.entry p.opens)
-      where
-        back : (n : ℕ) → 0 < n → n - 1 + 1 ≡ n
-        back n l = omega (arith, l)
 
-    first_calls : (q : Ask) (y : Reply) (plan : InitiatorPlan) (units : ℕ) (old new : Shown D C) (u : Session)
-        (halt halt' : Option Halt) (b : Action) → old.current ≡ after (first ++ old.entries)
-        → IsPrefix new.entries entries → IsPlanned q y plan → Answered disks clocks q old y new
-        → Begins disks clocks new plan units halt u halt' (Ok b) → Led new u b
-    first_calls q y plan units old new u halt halt' b state f p a (Well one c t turn looked) =
-        let makes : Makes (step_told q y) old new =
-        answer_made disks clocks q old y new (was_possible disks clocks spells tells first entries possible old new state
-        f) a in
-        let call : Call = record {
-          turn = record { before = new_initiator plan units; event = event.Go; action = one; after = t };
-          seen = long new;
-        } in
-        let looks : List Call = calls_at (long new) looked.turns in
-        record {
-          plan = plan;
-          units = units;
-          calls = call ∷ [] ++ looks;
-          begun = has_step q y plan old new state f p makes units;
-          leads =
-              leads_more spells history (call ∷ []) looks (long new) (long new) (long new) (new_initiator plan units) t u
-              action.Read one b
-              (record { calls_are = (refl, turn, refl); come_true = (refl, tt); wanted = refl; seen = refl })
-              (looks_lead disks clocks spells tells first entries possible looked.turns new t one u b
-              (stands_next disks clocks spells tells first entries possible (step_told q y) old new makes state f)
-              looked.looks);
-        }
+    -- the first call
+    abbrev first_call : (plan : InitiatorPlan) (units : ℕ) (new : Shown D C) → Action → Session → Call
+    first_call plan units new one t = record {
+      turn = record { before = new_initiator plan units; event = event.Go; action = one; after = t };
+      seen = long new;
+    }
+
+    first_leads : (plan : InitiatorPlan) (units : ℕ) (new : Shown D C) (one : Action) (t : Session)
+        → IsTurn (first_call plan units new one t).turn
+        → Leads spells history (long new) (new_initiator plan units) action.Read (first_call plan units new one t ∷ [])
+        (long new) t one
+    first_leads plan units new one t turn =
+        record { calls_are = (refl, turn, refl); come_true = (refl, tt); wanted = refl; seen = refl }
 
     pub begins_led : (units : ℕ) (old new : Shown D C) (halt halt' : Option Halt) (u : Session) (b : Action)
         → old.current ≡ after (first ++ old.entries) → IsPrefix new.entries entries
-        → BeginsWith disks clocks units old new halt u halt' b → Led new u b
-    begins_led units old new halt halt' u b state f w =
-        first_calls w.question w.answer w.plan units old new u halt halt' b state f w.planned w.answered w.begins
+        → BeginsWith disks clocks units old new halt u halt' (Ok b) → Led new u b
+    begins_led units old new halt halt' u b state f w = by_begin w.begins
+      where
+        makes : Makes (step_told w.question w.answer) old new
+        makes =
+            answer_made disks clocks w.question old w.answer new
+            (was_possible disks clocks spells tells first entries possible old new state f) w.answered
+
+        there : IsBegun new
+        there = record {
+          plan = w.plan;
+          units = units;
+          begun = has_step w.question w.answer w.plan old new state f w.planned makes units;
+        }
+
+        by_begin : Begins disks clocks new w.plan units halt u halt' (Ok b) → Led new u b
+        by_begin (Well one c t turn looked none) = record {
+          begins = there;
+          reaches =
+              reaches_behind spells history (long new) (long new) (long new) (new_initiator w.plan units) t u action.Read
+              one b (first_call w.plan units new one t ∷ []) (first_leads w.plan units new one t turn)
+              (reaches_by spells history (long new) (long new) t u one b (calls_at (long new) looked.turns)
+              (waits_next (first_call w.plan units new one t).turn turn refl)
+              (looks_lead disks clocks spells tells first entries possible looked.turns new t one u b
+              (stands_next disks clocks spells tells first entries possible (step_told w.question w.answer) old new makes
+              state f) looked.looks) none);
+        }
+
+    pub begins_lost : (units : ℕ) (old new : Shown D C) (halt halt' : Option Halt) (u : Session) (lost : Lost)
+        → old.current ≡ after (first ++ old.entries) → IsPrefix new.entries entries
+        → BeginsWith disks clocks units old new halt u halt' (Err lost) → Lost_there new
+    begins_lost units old new halt halt' u lost state f w = by_begin lost w.begins
+      where
+        makes : Makes (step_told w.question w.answer) old new
+        makes =
+            answer_made disks clocks w.question old w.answer new
+            (was_possible disks clocks spells tells first entries possible old new state f) w.answered
+
+        there : IsBegun new
+        there = record {
+          plan = w.plan;
+          units = units;
+          begun = has_step w.question w.answer w.plan old new state f w.planned makes units;
+        }
+
+        by_begin : (l : Lost) → Begins disks clocks new w.plan units halt u halt' (Err l) → Lost_there new
+        by_begin l (Without_memory same is) = record {
+          begins = there;
+          closed = record {
+            calls = [];
+            mid = long new;
+            last = new_initiator w.plan units;
+            wanted = action.Read;
+            leads = no_calls spells history (long new) (new_initiator w.plan units) action.Read;
+            over = Stopped refl;
+          };
+        }
+        by_begin l (Lost_looking one t m turn looking) = record {
+          begins = there;
+          closed =
+              closed_more spells history (long new) (long new) (long new) (new_initiator w.plan units) t action.Read one
+              (first_call w.plan units new one t ∷ []) (first_leads w.plan units new one t turn)
+              (looking_closed disks clocks spells tells first entries possible new t one halt halt' u l
+              (stands_next disks clocks spells tells first entries possible (step_told w.question w.answer) old new makes
+              state f) looking);
+        }

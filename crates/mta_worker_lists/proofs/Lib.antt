@@ -4,6 +4,11 @@ pub mod Making
 pub mod Telling
 pub mod Truth
 pub mod Turns
+pub mod Calm
+pub mod Waits
 pub mod Going
+pub mod Ending
 pub mod Responding
 pub mod Initiating
+pub mod Linked
+pub mod Good

@@ -1,5 +1,5 @@
 -- The step that a question asks for, and what the lanes see of it where it was made.
-use Rattle.std.proofs.Common.{◌≡◌, ◌≢◌, ◌⊎◌, ℕ, ◌+◌, ◌*◌, ◌^◌, ◌<◌, ◌≤◌, Bool, true, false, cond, eqb, List, [], ◌∷◌}
+use Rattle.std.proofs.Common.{◌≡◌, ◌≢◌, ◌⊎◌, ℕ, ◌+◌, ◌-◌, ◌*◌, ◌^◌, ◌<◌, ◌≤◌, Bool, true, false, cond, eqb, List, [], ◌∷◌}
 use Rattle.std.proofs.Common.{◌++◌, Option, None, Some, Result, Ok, Err, inl, inr, refl, sym, ap, subst, ◌∙◌, arith}
 use Rattle.std.proofs.lemmas.Bool.{cases_lt}
 use Rattle.mta_ber.specs.declared.fault.Fault.{Fault}
@@ -60,8 +60,8 @@ past_last x false e f is = cc
 pub is_kind : (kind : ℕ) → IsKind kind ⊎ (IsKind kind → ⊥)
 is_kind kind =
     elim (cases_lt kind 1) [
-      inl l ↦ inr (λ i. omega (arith, l, i.0))
-    | inr low ↦ elim (cases_lt 12 kind) [ inl h ↦ inr (λ i. omega (arith, h, i.1)) | inr high ↦ inl (low, high) ]
+      | inl l ↦ inr (λ i. omega (arith, l, i.0))
+      | inr low ↦ elim (cases_lt 12 kind) [ inl h ↦ inr (λ i. omega (arith, h, i.1)) | inr high ↦ inl (low, high) ]
     ]
 
 module _ {D C : Type 0} (disks : DiskView D) (clocks : ClockView C) where
@@ -81,17 +81,17 @@ module _ {D C : Type 0} (disks : DiskView D) (clocks : ClockView C) where
       → On lane (h.Bind g) ≡ On x.lane x.step → Makes (Some x) old new
   bound lane g x old new b is =
       elim (cases_lt (next_generation (lane_at lane (lanes_of old))) (2 ^ 64)) [
-        inl l ↦ made (step.Bind lane (next_generation (lane_at lane (lanes_of old)))) x old new (b.0 l)
+        | inl l ↦ made (step.Bind lane (next_generation (lane_at lane (lanes_of old)))) x old new (b.0 l)
             (ap (λ (n : ℕ). On lane (h.Bind n)) (sym b.2) ∙ is)
-      | inr past ↦ absurd (past_last g old.journal.ended StepFaults.Ended (StepFaults.Spent (2 ^ 64 - 1)) (b.1 past).1)
+        | inr past ↦ absurd (past_last g old.journal.ended StepFaults.Ended (StepFaults.Spent (2 ^ 64 - 1)) (b.1 past).1)
       ]
 
   pub not_bound : (lane : ℕ) (fault : StepFault) (old new : Shown D C) → Binds disks clocks lane old (Err fault) new
       → Makes None old new
   not_bound lane fault old new b =
       elim (cases_lt (next_generation (lane_at lane (lanes_of old))) (2 ^ 64)) [
-        inl l ↦ refused _ fault old new (b.0 l)
-      | inr past ↦ unchanged old new (b.1 past).0
+        | inl l ↦ refused _ fault old new (b.0 l)
+        | inr past ↦ unchanged old new (b.1 past).0
       ]
 
   -- ---- the other end's faults
@@ -101,16 +101,16 @@ module _ {D C : Type 0} (disks : DiskView D) (clocks : ClockView C) where
       → Makes (Some x) old new
   not_refused lane g k kind u x old new r is =
       elim (is_kind kind) [
-        inl i ↦ made _ x old new (r.0 i).at is
-      | inr n ↦ absurd (let e : Ok u ≡ Err StepFaults.Unexpected = (r.1 n).1 in cc)
+        | inl i ↦ made _ x old new (r.0 i).at is
+        | inr n ↦ absurd (let e : Ok u ≡ Err StepFaults.Unexpected = (r.1 n).1 in cc)
       ]
 
   pub refusal_refused : (lane g k kind : ℕ) (fault : StepFault) (old new : Shown D C)
       → Refuses disks clocks lane g k kind old (Err fault) new → Makes None old new
   refusal_refused lane g k kind fault old new r =
       elim (is_kind kind) [
-        inl i ↦ refused _ fault old new (r.0 i).at
-      | inr n ↦ same old new (r.1 n).0
+        | inl i ↦ refused _ fault old new (r.0 i).at
+        | inr n ↦ same old new (r.1 n).0
       ]
 
   -- ---- pieces
@@ -132,8 +132,8 @@ carried : (l : Lane) (n k g i m : ℕ) (rs : List ℕ) (s : State) (o : Carried)
     → IsResumed (Some (lane_after s l (start k i rs) m)) (Some o) → k ≡ last_of l.sending + 1
     → On n (h.Start g k (transfer_of s.machine i rs m).octets) ≡ On n (h.Start g o.activity o.octets)
 carried l n k g i m rs s o is next =
-    ap (λ (j : ℕ). On n (h.Start g j (transfer_of s.machine i rs m).octets)) (next ∙ sym is.1)
-    ∙ ap (λ (os : List ℕ). On n (h.Start g o.activity os)) (sym is.2)
+    ap (λ (j : ℕ). On n (h.Start g j (transfer_of s.machine i rs m).octets)) (next ∙ sym is.1.0)
+    ∙ ap (λ (os : List ℕ). On n (h.Start g o.activity os)) (sym is.1.1)
 
 module _ {D C : Type 0} (disks : DiskView D) (clocks : ClockView C) where
   begun_at : (lane g k i m : ℕ) (rs : List ℕ) (o : Carried) (x : StepOn) (old new : Shown D C)
@@ -162,15 +162,15 @@ module _ {D C : Type 0} (disks : DiskView D) (clocks : ClockView C) where
       → Makes (Some x) old new
   begun lane g i rs o x old new may b is =
       elim (cases_lt (next_activity (lane_at lane (lanes_of old))) (2 ^ 32)) [
-        inl l ↦ begun_at lane g (next_activity (lane_at lane (lanes_of old))) i _ rs o x old new (b.0 l).at
+        | inl l ↦ begun_at lane g (next_activity (lane_at lane (lanes_of old))) i _ rs o x old new (b.0 l).at
             (may _ (b.0 l).at.entries) b.2 is
-      | inr past ↦ absurd (past_last o old.journal.ended _ _ (b.1 past).1)
+        | inr past ↦ absurd (past_last o old.journal.ended _ _ (b.1 past).1)
       ]
 
   pub not_begun : (lane g i : ℕ) (rs : List ℕ) (fault : StepFault) (old new : Shown D C)
       → BeginsNow disks clocks lane g i rs old (Err fault) new → Makes None old new
   not_begun lane g i rs fault old new b =
       elim (cases_lt (next_activity (lane_at lane (lanes_of old))) (2 ^ 32)) [
-        inl l ↦ refused disks clocks _ fault old new (b.0 l).at
-      | inr past ↦ unchanged old new (b.1 past).0
+        | inl l ↦ refused disks clocks _ fault old new (b.0 l).at
+        | inr past ↦ unchanged old new (b.1 past).0
       ]

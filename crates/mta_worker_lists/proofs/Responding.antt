@@ -29,9 +29,9 @@ use Rattle.mta_session_lists.specs.Calls.{Call, StepOn, step_told, turns_of}
 use Rattle.mta_session_lists.specs.Lists.{HasAt, step_by}
 use Rattle.mta_session_lists.specs.Standing.{AllComeTrue, ComesTrue, Stands, StandsAs}
 use Rattle.mta_session_lists.proofs.Found.{never}
-use Rattle.mta_session_lists.proofs.ReceivingLists.{Asked, asked_next}
 use Rattle.mta_session_lists.proofs.Waiting.{does_at, goes_with, Ready, ready_next}
 use Rattle.mta_worker_lists.specs.Begun.{GiveNone}
+use Rattle.mta_worker_lists.proofs.Waits.{Asked, asked_next}
 
 -- ---- what the call leaves
 
@@ -88,27 +88,27 @@ module _ (spells : List ℕ → Bool) (history : List Seen) where
       → AskedAt p a t
       → (is_ended p ≡ false → Does (counted t e) (wanted_in p (counted t e) e) b new)
       → ComesTrue spells history from seen p a e → StandsIf from seen (step_by p e new)
-  begins_stands (phase.AsksNewLane again) t new (event.Reply (reply.LaneOpen (Ok lane))) (action.Ask q) b from seen w as
+  begins_stands (phase.AsksNewLane again) t new (event.Reply (reply.LaneOpen (Ok lane))) (action.Ask q) b from seen w asks
       d is =
-      lane_stands t new b t.opened t.line lane q from seen as (d refl) is.1
-  begins_stands (phase.AsksNewLane again) t new (event.Reply (reply.LaneOpen (Ok lane))) (action.Put u) b from seen w as
+      lane_stands t new b t.opened t.line lane q from seen asks (d refl) is.1
+  begins_stands (phase.AsksNewLane again) t new (event.Reply (reply.LaneOpen (Ok lane))) (action.Put u) b from seen w asks
       d is =
       absurd (never w)
-  begins_stands (phase.AsksNewLane again) t new (event.Reply (reply.LaneOpen (Ok lane))) action.Read b from seen w as d
+  begins_stands (phase.AsksNewLane again) t new (event.Reply (reply.LaneOpen (Ok lane))) action.Read b from seen w asks d
       is =
       absurd (never w)
   begins_stands (phase.AsksNewLane again) t new (event.Reply (reply.LaneOpen (Ok lane))) (action.Finish y) b from seen w
-      as d is =
+      asks d is =
       absurd (never w)
-  begins_stands phase.AsksBind t new (event.Reply (reply.Bind (Ok g))) (action.Ask q) b from seen w as d is =
-      bind_stands t new b g q from seen as (d refl).1 is.1
-  begins_stands phase.AsksBind t new (event.Reply (reply.Bind (Ok g))) (action.Put u) b from seen w as d is =
+  begins_stands phase.AsksBind t new (event.Reply (reply.Bind (Ok g))) (action.Ask q) b from seen w asks d is =
+      bind_stands t new b g q from seen asks (d refl).1 is.1
+  begins_stands phase.AsksBind t new (event.Reply (reply.Bind (Ok g))) (action.Put u) b from seen w asks d is =
       absurd (never w)
-  begins_stands phase.AsksBind t new (event.Reply (reply.Bind (Ok g))) action.Read b from seen w as d is =
+  begins_stands phase.AsksBind t new (event.Reply (reply.Bind (Ok g))) action.Read b from seen w asks d is =
       absurd (never w)
-  begins_stands phase.AsksBind t new (event.Reply (reply.Bind (Ok g))) (action.Finish y) b from seen w as d is =
+  begins_stands phase.AsksBind t new (event.Reply (reply.Bind (Ok g))) (action.Finish y) b from seen w asks d is =
       absurd (never w)
-  begins_stands p t new e a b from seen w as d is = tt
+  begins_stands p t new e a b from seen w asks d is = tt
 
   -- ---- all calls
 

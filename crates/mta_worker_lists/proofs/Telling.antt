@@ -104,7 +104,7 @@ module _ {D C : Type 0} (disks : DiskView D) (clocks : ClockView C) where
       → Replied disks clocks q t old x new → Makes (step_told q x) old new
   reply_made q t old x new may r =
       elim r [
-        inl u ↦ subst (λ (z : Option StepOn). Makes z old new)
+        | inl u ↦ subst (λ (z : Option StepOn). Makes z old new)
             (sym (never_told q StepFaults.Unexpected) ∙ ap (λ (y : Reply). step_told q y) (sym u.1)) (same old new u.2)
-      | inr a ↦ answer_made q old x new may a.1
+        | inr a ↦ answer_made q old x new may a.1
       ]

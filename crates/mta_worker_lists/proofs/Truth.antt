@@ -36,6 +36,7 @@ use Rattle.mta_session_lists.specs.Standing.{HasValues, IsTrue}
 use Rattle.mta_spool.specs.Looking.{values_of}
 use Rattle.mta_spool.specs.Receiving.{IsBad, IsNoApdu, IsTooLong}
 use Rattle.mta_spool.specs.Shown.{Shown}
+use Rattle.mta_spool.specs.Stands.{step_moment}
 use Rattle.mta_spool.specs.Starting.{Carries, IsResumed}
 use Rattle.mta_worker.specs.Answers.{Answered, lanes_of}
 use Rattle.mta_worker.specs.Turns.{Replied}
@@ -103,8 +104,7 @@ module _ (spells : List ℕ → Bool) (tells : TellsApdus spells) where
         → ((there n).high ≡ x.0) × ((there n).last ≡ x.1)
     receiving_true n x None at e = absurd cc
     receiving_true n x (Some l) at e =
-        let same : x ≡ (l.high, l.last) = cc in
-        (
+        let same : x ≡ (l.high, l.last) = cc in (
           ap (λ (y : Halves). y.high) (shown n l at) ∙ ap (λ (y : ℕ × Last). y.0) (sym same),
           ap (λ (y : Halves). y.last) (shown n l at) ∙ ap (λ (y : ℕ × Last). y.1) (sym same),
         )
@@ -119,24 +119,22 @@ module _ (spells : List ℕ → Bool) (tells : TellsApdus spells) where
         → IsBad (after steps) n g (secure k p piece) m (IsTooLong p piece f)
         → IsHeld (there n) g × SpellsNothing spells (octets_with (there n).pieces p piece)
     long_true n g k p piece m f b =
-        let is : there n ≡ halves_of b.lane = shown n b.lane b.lane_is in
-        (
+        let is : there n ≡ halves_of b.lane = shown n b.lane b.lane_is in (
           (ap (λ (y : Halves). y.phase) is, b.current ∙ ap (λ (y : Halves). y.generation) (sym is)),
           subst (λ (y : Halves). SpellsNothing spells (octets_with y.pieces p piece)) (sym is)
-          (subst (λ (os : List ℕ). SpellsNothing spells os) (octets_are b.lane.pieces p piece)
-          (too_long (concat (with_piece b.lane.pieces p piece)) b.wrong.0)),
+              (subst (λ (os : List ℕ). SpellsNothing spells os) (octets_are b.lane.pieces p piece)
+              (too_long (concat (with_piece b.lane.pieces p piece)) b.wrong.0)),
         )
 
     bad_true : (n g k p : ℕ) (piece : List ℕ) (m : ℕ) (f : Fault)
         → IsBad (after steps) n g (complete k p piece) m (IsNoApdu p piece f)
         → IsHeld (there n) g × (spells (octets_with (there n).pieces p piece) ≡ false)
     bad_true n g k p piece m f b =
-        let is : there n ≡ halves_of b.lane = shown n b.lane b.lane_is in
-        (
+        let is : there n ≡ halves_of b.lane = shown n b.lane b.lane_is in (
           (ap (λ (y : Halves). y.phase) is, b.current ∙ ap (λ (y : Halves). y.generation) (sym is)),
           subst (λ (y : Halves). spells (octets_with y.pieces p piece) ≡ false) (sym is)
-          (subst (λ (os : List ℕ). spells os ≡ false) (octets_are b.lane.pieces p piece)
-          (no_apdu (concat (with_piece b.lane.pieces p piece)) f b.wrong)),
+              (subst (λ (os : List ℕ). spells os ≡ false) (octets_are b.lane.pieces p piece)
+              (no_apdu (concat (with_piece b.lane.pieces p piece)) f b.wrong)),
         )
 
     -- ---- a reply
@@ -161,9 +159,9 @@ module _ (spells : List ℕ → Bool) (tells : TellsApdus spells) where
           (subst (λ (s : State). IsBad s n g (secure k p piece) old.current.moment (IsTooLong p piece f)) state
           (a.bad f refl).0)
       answer_true (ask.Complete n g k p piece) (reply.Complete (Err (CompleteFaults.Bad f))) new a =
-          bad_true n g k p piece _ f
-          (subst (λ (s : State). IsBad s n g (complete k p piece) _ (IsNoApdu p piece f)) state
-          (a.0.at.bad f refl).0)
+          bad_true n g k p piece (step_moment a.0.told old.current.moment) f
+          (subst (λ (s : State). IsBad s n g (complete k p piece) (step_moment a.0.told old.current.moment)
+          (IsNoApdu p piece f)) state (a.0.at.bad f refl).0)
       answer_true q x new a = tt
 
       start_true : (q : Ask) (f : StepFault) → IsTrue spells (annotated steps) q (reply.Start (Err f))
@@ -174,7 +172,7 @@ module _ (spells : List ℕ → Bool) (tells : TellsApdus spells) where
           → IsTrue spells (annotated steps) q x
       reply_true q t x new r =
           elim r [
-            inl u ↦ subst (λ (y : Reply). IsTrue spells (annotated steps) q y) (sym u.1)
+            | inl u ↦ subst (λ (y : Reply). IsTrue spells (annotated steps) q y) (sym u.1)
                 (start_true q StepFaults.Unexpected)
-          | inr a ↦ answer_true q x new a.1
+            | inr a ↦ answer_true q x new a.1
           ]

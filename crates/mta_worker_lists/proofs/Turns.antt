@@ -30,7 +30,8 @@ use Rattle.mta_stations.specs.declared.end.Halt.{Halt}
 use Rattle.mta_worker.specs.Answers.{Answered}
 use Rattle.mta_worker.specs.Turns.{HasAnswered, IsLook, IsLooked, Looks, Replied, told_reply}
 use Rattle.mta_worker_lists.specs.Histories.{TellsApdus, whole}
-use Rattle.mta_worker_lists.specs.Leads.{is_looking, Leads}
+use Rattle.mta_worker_lists.specs.Leads.{Leads}
+use Rattle.mta_worker_lists.proofs.Calm.{is_looking}
 use Rattle.mta_worker_lists.proofs.Annotating.{after_more, front_history, length_seen, possible_behind, seen_behind}
 use Rattle.mta_worker_lists.proofs.Annotating.{seen_front}
 use Rattle.mta_worker_lists.proofs.Joining.{leads_more}
@@ -49,11 +50,11 @@ in_same_turn p n = tt
 
 -- no look but one of these is answered in the turn before
 not_looking : (p : Phase) (from seen : ℕ) → is_looking p ≡ false → IsInTurn p from seen
-not_looking phase.AsksValues from seen no = absurd (true≢false no)
-not_looking phase.AsksRecovery from seen no = absurd (true≢false no)
-not_looking (phase.AsksReceiving state) from seen no = absurd (true≢false no)
-not_looking (phase.AsksResumed state) from seen no = absurd (true≢false no)
-not_looking p from seen no = tt
+not_looking phase.AsksValues from seen calm = absurd (true≢false calm)
+not_looking phase.AsksRecovery from seen calm = absurd (true≢false calm)
+not_looking (phase.AsksReceiving state) from seen calm = absurd (true≢false calm)
+not_looking (phase.AsksResumed state) from seen calm = absurd (true≢false calm)
+not_looking p from seen calm = tt
 
 -- the calls of so many turns of the session, at one length of the history
 abbrev pub calls_at : ℕ → List Turn → List Call
@@ -111,8 +112,8 @@ module _ {D C : Type 0} (disks : DiskView D) (clocks : ClockView C) where
     step_between old new step f e = (
       f.0,
       ap (λ (xs : List Step). first ++ xs)
-      (sym f.1 ∙ ap (λ (xs : List Step). xs ++ f.0) e ∙ append_assoc old.entries (step ∷ []) f.0)
-      ∙ sym (append_assoc first old.entries (step ∷ f.0)),
+          (sym f.1 ∙ ap (λ (xs : List Step). xs ++ f.0) e ∙ append_assoc old.entries (step ∷ []) f.0)
+          ∙ sym (append_assoc first old.entries (step ∷ f.0)),
     )
 
     pub was_possible : (old new : Shown D C) → old.current ≡ after (first ++ old.entries) → IsPrefix new.entries entries
@@ -199,7 +200,7 @@ module _ {D C : Type 0} (disks : DiskView D) (clocks : ClockView C) where
         → ComesTrue spells history (upto s) (upto s) x.before.phase a x.event
     looked_true x a s st l =
         let both : IsInTurn x.before.phase (upto s) (upto s)
-            × StandsAs spells history (upto s) (upto s) l.0 l.1 (step_told l.0 l.1) =
+        × StandsAs spells history (upto s) (upto s) l.0 l.1 (step_told l.0 l.1) =
         (in_same_turn x.before.phase (upto s), looks_stand l.0 l.1 s st l.4 l.5) in
         subst (λ (b : Action). ComesTrue spells history (upto s) (upto s) x.before.phase b x.event) (sym l.2)
         (subst (λ (e : Event). ComesTrue spells history (upto s) (upto s) x.before.phase (action.Ask l.0) e) (sym l.3)
@@ -225,14 +226,13 @@ module _ {D C : Type 0} (disks : DiskView D) (clocks : ClockView C) where
         → old.current ≡ after (first ++ old.entries) → IsPrefix new.entries entries → from ≤ upto old
         → is_looking t.phase ≡ false → Replied disks clocks q t old x new
         → ComesTrue spells history from (upto new) t.phase (action.Ask q) (event.Reply x)
-    reply_comes q t x old new from state f le no r =
+    reply_comes q t x old new from state f le calm r =
         let makes : Makes (step_told q x) old new =
         reply_made disks clocks q t old x new (was_possible old new state f) r in
-        let before : IsPrefix old.entries entries = makes_front (step_told q x) old new makes f in
-        (
-          not_looking t.phase from (upto new) no,
+        let before : IsPrefix old.entries entries = makes_front (step_told q x) old new makes f in (
+          not_looking t.phase from (upto new) calm,
           stands_as (step_told q x) q x from old new makes state f le
-          (reply_true spells tells (first ++ old.entries) (history_then old before) disks clocks old state q t x new r),
+              (reply_true spells tells (first ++ old.entries) (history_then old before) disks clocks old state q t x new r),
         )
 
     pub look_comes : (q : Ask) (t : Session) (x : Reply) (s : Shown D C) → Stands s → IsLook q
@@ -246,9 +246,9 @@ module _ {D C : Type 0} (disks : DiskView D) (clocks : ClockView C) where
         → is_looking t.phase ≡ false → Replied disks clocks q t old x new → IsTurn (told_reply t x a u)
         → Leads spells history from t (action.Ask q) (record { turn = told_reply t x a u; seen = upto new } ∷ [])
         (upto new) u a
-    one_call q t u a x old new from state f le no r turn = record {
+    one_call q t u a x old new from state f le calm r turn = record {
       calls_are = (refl, turn, refl);
-      come_true = (reply_comes q t x old new from state f le no r, tt);
+      come_true = (reply_comes q t x old new from state f le calm r, tt);
       wanted = refl;
       seen = refl;
     }
@@ -264,13 +264,12 @@ module _ {D C : Type 0} (disks : DiskView D) (clocks : ClockView C) where
         (halt' : Option Halt) (from : ℕ) → old.current ≡ after (first ++ old.entries) → IsPrefix new.entries entries
         → from ≤ upto old → is_looking t.phase ≡ false → HasAnswered disks clocks q old t halt new u b halt'
         → (calls : List Call) × Leads spells history from t (action.Ask q) calls (upto new) u b
-    turn_leads q t halt old new u b halt' from state f le no h =
+    turn_leads q t halt old new u b halt' from state f le calm h =
         let call : Call = record { turn = told_reply t h.answer h.wanted h.heard; seen = upto new } in
-        let looks : List Call = calls_at (upto new) h.looked.turns in
-        (
+        let looks : List Call = calls_at (upto new) h.looked.turns in (
           call ∷ [] ++ looks,
           leads_more spells history (call ∷ []) looks from (upto new) (upto new) t h.heard u (action.Ask q) h.wanted b
-          (one_call q t h.heard h.wanted h.answer old new from state f le no h.replied h.told)
-          (looks_lead h.looked.turns new h.heard h.wanted u b (reply_stands q t h.answer old new state f h.replied)
-          h.looked.looks),
+              (one_call q t h.heard h.wanted h.answer old new from state f le calm h.replied h.told)
+              (looks_lead h.looked.turns new h.heard h.wanted u b (reply_stands q t h.answer old new state f h.replied)
+              h.looked.looks),
         )

@@ -8,6 +8,7 @@ use Rattle.mta_session.specs.declared.event.Action.TheVariants as action
 use Rattle.mta_session.specs.declared.event.Event.TheVariants as event
 use Rattle.mta_session.specs.declared.event.InitiatorPlan.{InitiatorPlan}
 use Rattle.mta_session.specs.declared.event.SessionEnd.{SessionEnd}
+use Rattle.mta_session.specs.Fits.{Answers}
 use Rattle.mta_session.specs.Session.{new_initiator, new_responder}
 use Rattle.mta_session.specs.State.{State}
 use Rattle.mta_session_lists.specs.Calls.{Call}
@@ -22,25 +23,29 @@ pub data IsNewAt (history : List Seen) : (from : ℕ) → State → Type 0 where
       → IsNewAt history (at + 1) (new_initiator p units)
   Listens : (own : List ℕ) (units from : ℕ) → IsNewAt history from (new_responder own units)
 
--- How it ends behind its last call: with an end, or for want of memory at its link, or with a reply that it is not told
--- and that the history has.
+-- How it ends behind its last call: with an end, or for want of memory at its link, or with a reply that the history has
+-- and that it is not told, for want of memory, or since it is none to its question.
 pub data IsOver (spells : List ℕ → Bool) (history : List Seen) (from upto : ℕ) (u : State) (b : Action) : Type 0 where
   Ended : (e : SessionEnd) → b ≡ action.Finish e → upto ≡ from → IsOver spells history from upto u b
   Stopped : upto ≡ from → IsOver spells history from upto u b
   Untold : (q : Ask) (x : Reply) → b ≡ action.Ask q
-      → ComesTrue spells history from upto u.phase b (event.Reply x) → IsOver spells history from upto u b
+      → ComesTrue spells history from upto u.phase (action.Ask q) (event.Reply x) → Answers u (event.Reply x)
+      → IsOver spells history from upto u b
+  Unanswered : (q : Ask) (x : Reply) → b ≡ action.Ask q
+      → ComesTrue spells history from upto u.phase (action.Ask q) (event.Reply x) → (Answers u (event.Reply x) → ⊥)
+      → IsOver spells history from upto u b
 
 -- All that a session did: it was new at one length of the history, these are its calls, and it was over at another
 -- length.
 pub record HasRun (spells : List ℕ → Bool) (history : List Seen) (new : State) (calls : List Call) (upto : ℕ) : Type 0
-    where
-  pub from : ℕ
-  pub mid : ℕ
-  pub last : State
-  pub wanted : Action
-  pub begins : IsNewAt history from new
-  pub leads : Leads spells history from new action.Read calls mid last wanted
-  pub over : IsOver spells history mid upto last wanted
+  where
+    pub from : ℕ
+    pub mid : ℕ
+    pub last : State
+    pub wanted : Action
+    pub begins : IsNewAt history from new
+    pub leads : Leads spells history from new action.Read calls mid last wanted
+    pub over : IsOver spells history mid upto last wanted
 
 -- none of these calls tells a responder that it has a lane
 abbrev pub GiveNone : List Call → Type 0

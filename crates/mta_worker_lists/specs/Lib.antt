@@ -1,3 +1,5 @@
 pub mod Histories
 pub mod Leads
 pub mod Begun
+pub mod Linked
+pub mod Good

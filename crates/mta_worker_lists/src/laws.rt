@@ -1,12 +1,28 @@
 //! Laws over the definitions.
 
-ghost use Rattle.mta_worker_lists.specs.Leads.{SessionsAreLed};
+ghost use Rattle.mta_worker_lists.specs.Good.{SessionsAreGood, SessionsHaveLists};
+ghost use Rattle.mta_worker_lists.specs.Linked.{LinksAreRun};
 
 use mta_edge::{Clock, Disk};
 use mta_links::Link;
+use mta_session_lists::{lists_are_good, lists_may_stop};
 
-/// What a worker does for a session, one thing after another, are calls of it, and each possible history that goes on
-/// from what its pass has seen has what they tell.
-pub fn sessions_are_led<D: Disk + Drop, C: Clock + Drop, L: Link>()
-    ensures { SessionsAreLed D.model C.model L.model }
+/// What a worker does with a link is all that one session did, call by call, and each possible history that goes on
+/// from what its pass has seen has what the calls tell; or no session began.
+pub fn links_are_run<D: Disk + Drop, C: Clock + Drop, L: Link>()
+    ensures { LinksAreRun D.model C.model L.model }
 {}
+
+/// Such a session has a list, where it has a lane.
+pub fn sessions_have_lists()
+    ensures { SessionsHaveLists }
+{}
+
+/// The list, with what came of the last action and with the Abandons of other passes, is a good one, where each step of
+/// the session's generation that concerns pieces stands in it.
+pub fn sessions_are_good()
+    ensures { SessionsAreGood }
+{
+    lists_are_good();
+    lists_may_stop();
+}

@@ -3,4 +3,4 @@
 
 mod laws;
 
-pub use laws::sessions_are_led;
+pub use laws::{links_are_run, sessions_are_good, sessions_have_lists};
