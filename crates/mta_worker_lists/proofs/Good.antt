@@ -18,7 +18,7 @@ use Rattle.mta_session_lists.specs.Lists.{AreValues, completed, Initiates, IsLis
 use Rattle.mta_session_lists.specs.Lost.{IsLost, Lost, seen_of, stopped}
 use Rattle.mta_session_lists.specs.Standing.{ComesTrue}
 use Rattle.mta_session_lists.proofs.Waiting.{Ready}
-use Rattle.mta_worker_lists.specs.Begun.{Calls, Ended, GiveNone, HasRun, IsNewAt, IsOver, Listens, Stopped, Unanswered}
+use Rattle.mta_worker_lists.specs.Begun.{Calls, Ended, GiveNone, IsNewAt, IsOver, Listens, Stopped, Unanswered}
 use Rattle.mta_worker_lists.specs.Begun.{Untold}
 use Rattle.mta_worker_lists.specs.Good.{IsListOver, SessionsAreGood, SessionsHaveLists}
 use Rattle.mta_worker_lists.specs.Leads.{Leads}
@@ -61,8 +61,7 @@ module _ (spells : List ℕ → Bool) (history : List Seen) where
       ]
 
 pub sessions_have_lists : SessionsHaveLists
-sessions_have_lists spells history t calls upto ran =
-    listed spells history ran.from ran.mid t ran.last ran.wanted calls ran.begins ran.leads
+sessions_have_lists spells history from upto t u b calls new l = listed spells history from upto t u b calls new l
 
 -- ---- that it is good
 
@@ -139,6 +138,7 @@ module _ (whole : ListsAreGood) (may_stop : ListsMayStop) (spells : List ℕ →
   over_good m u b from mid upto led (Unanswered q x is true_ none) so owns = absurd so
 
 pub sessions_good : ListsAreGood → ListsMayStop → SessionsAreGood
-sessions_good whole may_stop spells history t calls upto ran lane l m size window allow is_list over values owns =
+sessions_good whole may_stop spells history from mid upto t u b calls lane l m size window allow new led over is_list so
+    values owns =
     over_good whole may_stop spells history t calls lane l size window allow is_list values
-    (opens_first history ran.from t ran.begins) m ran.last ran.wanted ran.from ran.mid upto ran.leads ran.over over owns
+    (opens_first history from t new) m u b from mid upto led over so owns

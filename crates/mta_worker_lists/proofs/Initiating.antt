@@ -1,6 +1,6 @@
 -- Where a session that its worker began has its lane.
 use Rattle.std.proofs.Common.{◌≡◌, ℕ, ◌+◌, ◌-◌, ◌*◌, ◌≤◌, ◌<◌, Bool, true, false, Option, None, Some, Result, Ok, Err, List}
-use Rattle.std.proofs.Common.{[], ◌∷◌, ◌++◌, length, cond, refl, sym, ap, subst, ◌∙◌, arith}
+use Rattle.std.proofs.Common.{[], ◌∷◌, ◌++◌, length, cond, inl, refl, sym, ap, subst, ◌∙◌, arith, append-nil}
 use mathlib.Core.List.{IsPrefix}
 use Rattle.mta_edge.specs.Views.{ClockView, DiskView}
 use Rattle.mta_ends.specs.Lanes.{Seen}
@@ -24,7 +24,10 @@ use Rattle.mta_session_lists.specs.Calls.{Call, StepOn, step_told}
 use Rattle.mta_session_lists.specs.Lists.{HasAt, step_for}
 use Rattle.mta_session_lists.specs.Standing.{Stands}
 use Rattle.mta_plans.specs.Plans.{on_lane}
+use Rattle.mta_links.specs.Links.{LinkView}
 use Rattle.mta_spool.specs.Shown.{Shown}
+use Rattle.mta_units.specs.Feed.{no_feed}
+use Rattle.mta_worker.specs.Serving.{At}
 use Rattle.mta_stations.specs.declared.end.Halt.{Halt}
 use Rattle.mta_worker.specs.declared.proposal.Next.{Next}
 use Rattle.mta_worker.specs.declared.proposal.Next.TheVariants as next
@@ -34,16 +37,19 @@ use Rattle.mta_worker.specs.Answers.{Answered}
 use Rattle.mta_worker.specs.Proposals.{Binds, IsNext, Opens}
 use Rattle.mta_worker.specs.Readying.{asks_next, Begins, Begun, IsReadied, IsStepped, Lost_looking, plan_behind}
 use Rattle.mta_worker.specs.Readying.{Stepped, Well, Without_memory}
-use Rattle.mta_worker_lists.specs.Begun.{Calls, IsNewAt, Stopped}
-use Rattle.mta_worker_lists.specs.Histories.{TellsApdus, whole}
+use Rattle.mta_shared.specs.Held.{Held}
+use Rattle.mta_worker_lists.specs.Begun.{at_first, Calls, IsNewAt}
+use Rattle.mta_worker_lists.specs.Begun as over
+use Rattle.mta_worker_lists.specs.Histories.{TellsApdus, place, whole}
 use Rattle.mta_worker_lists.specs.Leads.{Leads}
-use Rattle.mta_worker_lists.proofs.Ending.{Closed, closed_more, looking_closed}
-use Rattle.mta_worker_lists.proofs.Going.{Reaches, reaches_behind, reaches_by}
-use Rattle.mta_worker_lists.proofs.Joining.{no_calls}
+use Rattle.mta_worker_lists.proofs.Calm.{is_looking}
+use Rattle.mta_worker_lists.proofs.Ending.{Closed, done_behind, looking_closed}
+use Rattle.mta_worker_lists.proofs.Joining.{leads_more, no_calls, none_carried}
 use Rattle.mta_worker_lists.proofs.Making.{Makes}
 use Rattle.mta_worker_lists.proofs.Telling.{answer_made}
-use Rattle.mta_worker_lists.proofs.Turns.{calls_at, looks_lead, made_stands, stands_next, was_possible}
-use Rattle.mta_worker_lists.proofs.Waits.{waits_next}
+use Rattle.mta_worker_lists.proofs.Turns.{calls_at, IsQuiet, looks_lead, looks_quiet, made_stands, stands_next}
+use Rattle.mta_worker_lists.proofs.Turns.{Stands as StandsNow, was_possible}
+use Rattle.mta_worker_lists.proofs.Waits.{calls_wait, looks_not, Waits, waits_next}
 
 -- ---- what is proposed
 
@@ -154,12 +160,12 @@ module _ {D C : Type 0} (disks : DiskView D) (clocks : ClockView C) where
     -- It is carried on from these first calls.
     pub record Led (new : Shown D C) (u : Session) (b : Action) : Type 0 where
       pub begins : IsBegun new
-      pub reaches : Reaches spells history (long new) (new_initiator begins.plan begins.units) action.Read (long new) u b
-
-    -- It is given up in the turn of the lock in which it began.
-    pub record Lost_there (new : Shown D C) : Type 0 where
-      pub begins : IsBegun new
-      pub closed : Closed spells history (long new) (new_initiator begins.plan begins.units) action.Read (long new)
+      pub calls : List Call
+      pub leads : Leads spells history (long new) (new_initiator begins.plan begins.units) action.Read calls (long new)
+          u b
+      pub quiet : IsQuiet disks clocks spells tells first entries possible action.Read calls []
+      pub waits : Waits b u
+      pub still : is_looking u.phase ≡ false
 
     back : (n : ℕ) → 0 < n → n - 1 + 1 ≡ n
     back n l = omega (arith, l)
@@ -175,85 +181,144 @@ module _ {D C : Type 0} (disks : DiskView D) (clocks : ClockView C) where
         subst (λ (n : ℕ). IsNewAt history n (new_initiator plan units)) (back (long new) stands.later)
         (Calls plan units (long new - 1) stands.entry p.opens)
 
-    -- the first call
-    abbrev first_call : (plan : InitiatorPlan) (units : ℕ) (new : Shown D C) → Action → Session → Call
-    first_call plan units new one t = record {
-      turn = record { before = new_initiator plan units; event = event.Go; action = one; after = t };
-      seen = long new;
+    -- the step for it was made
+    was_made : (units : ℕ) (old new : Shown D C) (halt halt' : Option Halt) (u : Session) (r : Result Action Lost)
+        → old.current ≡ after (first ++ old.entries) → IsPrefix new.entries entries
+        → (w : BeginsWith disks clocks units old new halt u halt' r) → Makes (step_told w.question w.answer) old new
+    was_made units old new halt halt' u r state f w =
+        answer_made disks clocks w.question old w.answer new
+        (was_possible disks clocks spells tells first entries possible old new state f) w.answered
+
+    abbrev there : (units : ℕ) (old new : Shown D C) (halt halt' : Option Halt) (u : Session) (r : Result Action Lost)
+        → old.current ≡ after (first ++ old.entries) → IsPrefix new.entries entries
+        → BeginsWith disks clocks units old new halt u halt' r → IsBegun new
+    there units old new halt halt' u r state f w = record {
+      plan = w.plan;
+      units = units;
+      begun = has_step w.question w.answer w.plan old new state f w.planned
+          (was_made units old new halt halt' u r state f w) units;
     }
 
-    first_leads : (plan : InitiatorPlan) (units : ℕ) (new : Shown D C) (one : Action) (t : Session)
-        → IsTurn (first_call plan units new one t).turn
-        → Leads spells history (long new) (new_initiator plan units) action.Read (first_call plan units new one t ∷ [])
-        (long new) t one
-    first_leads plan units new one t turn =
+    stands_there : (units : ℕ) (old new : Shown D C) (halt halt' : Option Halt) (u : Session) (r : Result Action Lost)
+        → old.current ≡ after (first ++ old.entries) → IsPrefix new.entries entries
+        → BeginsWith disks clocks units old new halt u halt' r
+        → StandsNow disks clocks spells tells first entries possible new
+    stands_there units old new halt halt' u r state f w =
+        stands_next disks clocks spells tells first entries possible (step_told w.question w.answer) old new
+        (was_made units old new halt halt' u r state f w) state f
+
+    -- the first call
+    abbrev first_call : (t : Session) (new : Shown D C) → Action → Session → Call
+    first_call t new one u =
+        record { turn = record { before = t; event = event.Go; action = one; after = u }; seen = long new }
+
+    first_leads : (t : Session) (new : Shown D C) (one : Action) (u : Session) → IsTurn (first_call t new one u).turn
+        → Leads spells history (long new) t action.Read (first_call t new one u ∷ []) (long new) u one
+    first_leads t new one u turn =
         record { calls_are = (refl, turn, refl); come_true = (refl, tt); wanted = refl; seen = refl }
+
+    -- nothing is made in it
+    first_quiet : (t : Session) (new : Shown D C) (one : Action) (u : Session) (looks : List Call)
+        → IsQuiet disks clocks spells tells first entries possible one looks []
+        → IsQuiet disks clocks spells tells first entries possible action.Read (first_call t new one u ∷ looks) []
+    first_quiet t new one u looks quiet =
+        record { got = quiet.got; put = ([], [], refl, quiet.put, refl); made = quiet.made }
 
     pub begins_led : (units : ℕ) (old new : Shown D C) (halt halt' : Option Halt) (u : Session) (b : Action)
         → old.current ≡ after (first ++ old.entries) → IsPrefix new.entries entries
         → BeginsWith disks clocks units old new halt u halt' (Ok b) → Led new u b
     begins_led units old new halt halt' u b state f w = by_begin w.begins
       where
-        makes : Makes (step_told w.question w.answer) old new
-        makes =
-            answer_made disks clocks w.question old w.answer new
-            (was_possible disks clocks spells tells first entries possible old new state f) w.answered
-
-        there : IsBegun new
-        there = record {
-          plan = w.plan;
-          units = units;
-          begun = has_step w.question w.answer w.plan old new state f w.planned makes units;
-        }
+        fresh : Session
+        fresh = new_initiator w.plan units
 
         by_begin : Begins disks clocks new w.plan units halt u halt' (Ok b) → Led new u b
-        by_begin (Well one c t turn looked none) = record {
-          begins = there;
-          reaches =
-              reaches_behind spells history (long new) (long new) (long new) (new_initiator w.plan units) t u action.Read
-              one b (first_call w.plan units new one t ∷ []) (first_leads w.plan units new one t turn)
-              (reaches_by spells history (long new) (long new) t u one b (calls_at (long new) looked.turns)
-              (waits_next (first_call w.plan units new one t).turn turn refl)
-              (looks_lead disks clocks spells tells first entries possible looked.turns new t one u b
-              (stands_next disks clocks spells tells first entries possible (step_told w.question w.answer) old new makes
-              state f) looked.looks) none);
-        }
+        by_begin (Well one c t turn looked none) =
+            let call : Call = first_call fresh new one t in
+            let looks : List Call = calls_at (long new) looked.turns in
+            let look_leads = looks_lead disks clocks spells tells first entries possible looked.turns new t one u b
+            (stands_there units old new halt halt' u (Ok b) state f w) looked.looks in
+            let waits : Waits b u =
+            subst (λ (a : Action). Waits a u) look_leads.wanted
+            (calls_wait looks one t u (waits_next call.turn turn refl) look_leads.calls_are) in
+            record {
+              begins = there units old new halt halt' u (Ok b) state f w;
+              calls = call ∷ [] ++ looks;
+              leads =
+                  leads_more spells history (call ∷ []) looks (long new) (long new) (long new) fresh t u action.Read one b
+                  (first_leads fresh new one t turn) look_leads;
+              quiet =
+                  first_quiet fresh new one t looks
+                  (looks_quiet disks clocks spells tells first entries possible looked.turns new t one u b (long new)
+                  looked.looks);
+              waits = waits;
+              still = looks_not b u waits none;
+            }
 
-    pub begins_lost : (units : ℕ) (old new : Shown D C) (halt halt' : Option Halt) (u : Session) (lost : Lost)
-        → old.current ≡ after (first ++ old.entries) → IsPrefix new.entries entries
-        → BeginsWith disks clocks units old new halt u halt' (Err lost) → Lost_there new
-    begins_lost units old new halt halt' u lost state f w = by_begin lost w.begins
-      where
-        makes : Makes (step_told w.question w.answer) old new
-        makes =
-            answer_made disks clocks w.question old w.answer new
-            (was_possible disks clocks spells tells first entries possible old new state f) w.answered
+    -- It is given up in the turn of the lock in which it began.
+    module _ {L : Type 0} (links : LinkView L) where
+      pub record Lost_there (new : Shown D C) (old : L) (pass : Held Step) : Type 0 where
+        pub begins : IsBegun new
+        pub closed : Closed disks clocks links spells tells first entries
+            (at_first (new_initiator begins.plan begins.units) old pass) pass
 
-        there : IsBegun new
-        there = record {
-          plan = w.plan;
-          units = units;
-          begun = has_step w.question w.answer w.plan old new state f w.planned makes units;
-        }
+      pub begins_lost : (units : ℕ) (old new : Shown D C) (halt halt' : Option Halt) (u : Session) (lost : Lost)
+          (at : L) (pass : Held Step) → old.current ≡ after (first ++ old.entries) → IsPrefix new.entries entries
+          → pass.seen ≡ new.entries → BeginsWith disks clocks units old new halt u halt' (Err lost)
+          → Lost_there new at pass
+      begins_lost units old new halt halt' u lost at pass state f sees w = by_begin lost w.begins
+        where
+          fresh : Session
+          fresh = new_initiator w.plan units
 
-        by_begin : (l : Lost) → Begins disks clocks new w.plan units halt u halt' (Err l) → Lost_there new
-        by_begin l (Without_memory same is) = record {
-          begins = there;
-          closed = record {
-            calls = [];
-            mid = long new;
-            last = new_initiator w.plan units;
-            wanted = action.Read;
-            leads = no_calls spells history (long new) (new_initiator w.plan units) action.Read;
-            over = Stopped refl;
-          };
-        }
-        by_begin l (Lost_looking one t m turn looking) = record {
-          begins = there;
-          closed =
-              closed_more spells history (long new) (long new) (long new) (new_initiator w.plan units) t action.Read one
-              (first_call w.plan units new one t ∷ []) (first_leads w.plan units new one t turn)
-              (looking_closed disks clocks spells tells first entries possible new t one halt halt' u l
-              (stands_next disks clocks spells tells first entries possible (step_told w.question w.answer) old new makes
-              state f) looking);
-        }
+          begin : At L
+          begin = at_first fresh at pass
+
+          by_begin : (l : Lost) → Begins disks clocks new w.plan units halt u halt' (Err l) → Lost_there new at pass
+          by_begin l (Without_memory same is) = record {
+            begins = there units old new halt halt' u (Err lost) state f w;
+            closed = (
+              [],
+              record {
+                mid = pass;
+                last = fresh;
+                wanted = action.Read;
+                leads = no_calls spells history (place first pass) fresh action.Read;
+                owns = sym (append-nil pass.own);
+                over = over.Stopped refl;
+                owns_over = sym (append-nil pass.own);
+                front = [];
+                behind = [];
+                calls_are = refl;
+                all = inl refl;
+                left = at;
+                feed = no_feed;
+                carried = none_carried links [] action.Read at no_feed refl refl;
+              },
+            );
+          }
+          by_begin l (Lost_looking one t m turn looking) =
+              let call : Call = first_call fresh new one t in
+              let x : At L = record {
+                session = t;
+                action = one;
+                link = at;
+                feed = no_feed;
+                pass = pass;
+                halt = halt;
+              } in
+              let quiet = first_quiet fresh new one t [] (record { got = refl; put = refl; made = refl }) in
+              let rest = looking_closed disks clocks links spells tells first entries possible new t one halt halt' u l x
+              refl refl sees (stands_there units old new halt halt' u (Err lost) state f w) looking in
+              let led : Leads spells history (place first pass) fresh action.Read (call ∷ []) (place first pass) t one =
+              subst (λ (xs : List Step). Leads spells history (length first + length xs) fresh action.Read (call ∷ [])
+              (length first + length xs) t one) (sym sees) (first_leads fresh new one t turn) in
+              record {
+                begins = there units old new halt halt' u (Err lost) state f w;
+                closed = (
+                  call ∷ [] ++ rest.0,
+                  done_behind links spells first entries begin x (call ∷ []) rest.0 pass led
+                  (sym (append-nil pass.own) ∙ ap (λ (ns : List ℕ). pass.own ++ ns) (sym quiet.made))
+                  (none_carried links (call ∷ []) action.Read at no_feed quiet.got quiet.put) rest.1,
+                );
+              }

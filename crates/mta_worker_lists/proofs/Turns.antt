@@ -1,6 +1,6 @@
 -- What is done for a session in one turn of the lock are calls of it that the history has.
 use Rattle.std.proofs.Common.{◌≡◌, ℕ, ◌+◌, ◌-◌, ◌≤◌, ◌<◌, Bool, List, [], ◌∷◌, ◌++◌, length, take, Option, None, Some}
-use Rattle.std.proofs.Common.{false, refl, sym, ap, subst, ◌∙◌, append_assoc, arith, true≢false}
+use Rattle.std.proofs.Common.{false, refl, sym, ap, subst, ◌∙◌, append_assoc, append-nil, arith, true≢false}
 use Rattle.std.specs.Prelude.{slice_get}
 use Rattle.std.proofs.lemmas.List.{length-append}
 use mathlib.Core.List.{IsPrefix}
@@ -22,7 +22,9 @@ use Rattle.mta_session.specs.declared.event.Action.TheVariants as action
 use Rattle.mta_session.specs.declared.phase.Phase.{Phase}
 use Rattle.mta_session.specs.declared.phase.Phase.TheVariants as phase
 use Rattle.mta_session_laws.specs.Runs.{IsTurn, Turn}
+use Rattle.mta_session_run.specs.Running.{units_of}
 use Rattle.mta_session_lists.specs.Calls.{Call, StepOn, step_told}
+use Rattle.mta_shared.specs.Counts.{row}
 use Rattle.mta_session_lists.specs.Standing.{ComesTrue, IsInTurn, IsTrue, StandsAs}
 use Rattle.mta_session_lists.specs.Standing.{Stands as StandsThere}
 use Rattle.mta_spool.specs.Shown.{Shown}
@@ -30,7 +32,7 @@ use Rattle.mta_stations.specs.declared.end.Halt.{Halt}
 use Rattle.mta_worker.specs.Answers.{Answered}
 use Rattle.mta_worker.specs.Turns.{HasAnswered, IsLook, IsLooked, Looks, Replied, told_reply}
 use Rattle.mta_worker_lists.specs.Histories.{TellsApdus, whole}
-use Rattle.mta_worker_lists.specs.Leads.{Leads}
+use Rattle.mta_worker_lists.specs.Leads.{entry_at, got_in, Leads, made_by, made_in, PutBy, PutIn}
 use Rattle.mta_worker_lists.proofs.Calm.{is_looking}
 use Rattle.mta_worker_lists.proofs.Annotating.{after_more, front_history, length_seen, possible_behind, seen_behind}
 use Rattle.mta_worker_lists.proofs.Annotating.{seen_front}
@@ -61,6 +63,14 @@ abbrev pub calls_at : ℕ → List Turn → List Call
 calls_at n [] = []
 calls_at n (x ∷ xs) = record { turn = x; seen = n } ∷ calls_at n xs
 
+-- a look tells of no step
+pub look_tells : (q : Ask) (x : Reply) → IsLook q → step_told q x ≡ None
+look_tells (ask.Values n) x i = refl
+look_tells (ask.Recovery n) x i = refl
+look_tells (ask.Receiving n) x i = refl
+look_tells (ask.Resumed n) x i = refl
+look_tells q x i = absurd i
+
 module _ {D C : Type 0} (disks : DiskView D) (clocks : ClockView C) where
   -- ---- the history
 
@@ -68,6 +78,12 @@ module _ {D C : Type 0} (disks : DiskView D) (clocks : ClockView C) where
       (possible : IsHistory (first ++ entries)) where
     abbrev history : List Seen
     history = whole first entries
+
+    -- nothing goes over the link in these calls, and they tell these entries
+    pub record IsQuiet (a : Action) (calls : List Call) (told : List ℕ) : Type 0 where
+      pub got : got_in calls ≡ []
+      pub put : PutIn a calls []
+      pub made : made_in (length first) a calls ≡ told
 
     -- how long the history was
     abbrev pub upto : Shown D C → ℕ
@@ -221,6 +237,51 @@ module _ {D C : Type 0} (disks : DiskView D) (clocks : ClockView C) where
 
     -- ---- a turn of the lock
 
+    -- looks make no entries, and nothing goes over the link
+    pub looks_quiet : (xs : List Turn) (s : Shown D C) (t : Session) (a : Action) (u : Session) (b : Action) (k : ℕ)
+        → Looks disks clocks s t a xs u b → IsQuiet a (calls_at k xs) []
+    looks_quiet [] s t a u b k l = record { got = refl; put = refl; made = refl }
+    looks_quiet (x ∷ xs) s t a u b k l =
+        let rest = looks_quiet xs s x.after x.action u b k l.3 in
+        let look = l.1 in
+        let none : made_by (length first) k a x.event ≡ [] =
+        ap (λ (z : Action). made_by (length first) k z x.event) look.2
+        ∙ ap (λ (e : Event). made_by (length first) k (action.Ask look.0) e) look.3
+        ∙ ap (λ (o : Option StepOn). entry_at (length first) k o) (look_tells look.0 look.1 look.4) in
+        record {
+          got = ap (λ (e : Event). units_of e ++ got_in (calls_at k xs)) look.3 ∙ rest.got;
+          put = (
+            [],
+            [],
+            subst (λ (z : Action). PutBy z x.event []) (sym look.2) refl,
+            rest.put,
+            refl,
+          );
+          made = ap (λ (ns : List ℕ). ns ++ made_in (length first) x.action (calls_at k xs)) none ∙ rest.made;
+        }
+
+    -- the step that was made is the pass's own entry
+    made_entries : (o : Option StepOn) (old new : Shown D C) → Makes o old new
+        → row (length old.entries) (length new.entries - length old.entries) ≡ entry_at (length first) (upto new) o
+    made_entries (Some x) old new m =
+        let long : length (old.entries ++ m.0 ∷ []) ≡ length old.entries + 1 = length-append old.entries (m.0 ∷ []) in
+        let same : length new.entries ≡ length (old.entries ++ m.0 ∷ []) = ap length m.1 in
+        let one : length new.entries - length old.entries ≡ 1 = omega (arith, long, same) in
+        let at : length old.entries ≡ upto new - 1 - length first = omega (arith, long, same) in
+        ap (λ (n : ℕ). row (length old.entries) n) one ∙ ap (λ (n : ℕ). n ∷ []) at
+    made_entries None old new m =
+        let same : length new.entries ≡ length old.entries = ap length m.0 in
+        let none : length new.entries - length old.entries ≡ 0 = omega (arith, same) in
+        ap (λ (n : ℕ). row (length old.entries) n) none
+
+    pub reply_entries : (q : Ask) (t : Session) (x : Reply) (old new : Shown D C)
+        → old.current ≡ after (first ++ old.entries) → IsPrefix new.entries entries
+        → Replied disks clocks q t old x new
+        → row (length old.entries) (length new.entries - length old.entries)
+        ≡ made_by (length first) (upto new) (action.Ask q) (event.Reply x)
+    reply_entries q t x old new state f r =
+        made_entries (step_told q x) old new (reply_made disks clocks q t old x new (was_possible old new state f) r)
+
     -- what is replied is true, whether the session is told it or not
     pub reply_comes : (q : Ask) (t : Session) (x : Reply) (old new : Shown D C) (from : ℕ)
         → old.current ≡ after (first ++ old.entries) → IsPrefix new.entries entries → from ≤ upto old
@@ -260,16 +321,43 @@ module _ {D C : Type 0} (disks : DiskView D) (clocks : ClockView C) where
         stands_next (step_told q x) old new (reply_made disks clocks q t old x new (was_possible old new state f) r)
         state f
 
+    -- the first call of a turn, and looks behind it
+    pub quiet_first : (q : Ask) (t u : Session) (a : Action) (x : Reply) (old new : Shown D C) (looks : List Call)
+        → old.current ≡ after (first ++ old.entries) → IsPrefix new.entries entries
+        → Replied disks clocks q t old x new → IsQuiet a looks []
+        → IsQuiet (action.Ask q) (record { turn = told_reply t x a u; seen = upto new } ∷ looks)
+        (row (length old.entries) (length new.entries - length old.entries))
+    quiet_first q t u a x old new looks state f r quiet = record {
+      got = quiet.got;
+      put = ([], [], refl, quiet.put, refl);
+      made =
+          ap (λ (ns : List ℕ). made_by (length first) (upto new) (action.Ask q) (event.Reply x) ++ ns) quiet.made
+          ∙ append-nil (made_by (length first) (upto new) (action.Ask q) (event.Reply x))
+          ∙ sym (reply_entries q t x old new state f r);
+    }
+
+    -- the calls of one turn of the lock
+    pub record TurnLed (q : Ask) (t : Session) (old new : Shown D C) (from : ℕ) (u : Session) (b : Action) : Type 0 where
+      pub calls : List Call
+      pub leads : Leads spells history from t (action.Ask q) calls (upto new) u b
+      pub quiet : IsQuiet (action.Ask q) calls
+          (row (length old.entries) (length new.entries - length old.entries))
+
     pub turn_leads : (q : Ask) (t : Session) (halt : Option Halt) (old new : Shown D C) (u : Session) (b : Action)
         (halt' : Option Halt) (from : ℕ) → old.current ≡ after (first ++ old.entries) → IsPrefix new.entries entries
         → from ≤ upto old → is_looking t.phase ≡ false → HasAnswered disks clocks q old t halt new u b halt'
-        → (calls : List Call) × Leads spells history from t (action.Ask q) calls (upto new) u b
+        → TurnLed q t old new from u b
     turn_leads q t halt old new u b halt' from state f le calm h =
         let call : Call = record { turn = told_reply t h.answer h.wanted h.heard; seen = upto new } in
-        let looks : List Call = calls_at (upto new) h.looked.turns in (
-          call ∷ [] ++ looks,
-          leads_more spells history (call ∷ []) looks from (upto new) (upto new) t h.heard u (action.Ask q) h.wanted b
+        let looks : List Call = calls_at (upto new) h.looked.turns in
+        record {
+          calls = call ∷ [] ++ looks;
+          leads =
+              leads_more spells history (call ∷ []) looks from (upto new) (upto new) t h.heard u (action.Ask q) h.wanted b
               (one_call q t h.heard h.wanted h.answer old new from state f le calm h.replied h.told)
               (looks_lead h.looked.turns new h.heard h.wanted u b (reply_stands q t h.answer old new state f h.replied)
-              h.looked.looks),
-        )
+              h.looked.looks);
+          quiet =
+              quiet_first q t h.heard h.wanted h.answer old new looks state f h.replied
+              (looks_quiet h.looked.turns new h.heard h.wanted u b (upto new) h.looked.looks);
+        }

@@ -11,7 +11,7 @@ use Rattle.mta_shared.specs.Held.{Held}
 use Rattle.mta_worker.specs.Served.{IsLinkServed}
 use Rattle.mta_worker.specs.declared.session.Served.{Served}
 use Rattle.mta_worker_lists.specs.Begun.{HasRun}
-use Rattle.mta_worker_lists.specs.Histories.{AreEntries, TellsApdus, place, whole}
+use Rattle.mta_worker_lists.specs.Histories.{AreEntries, TellsApdus}
 
 module _ {D C L : Type 0} (disks : DiskView D) (clocks : ClockView C) (links : LinkView L) where
   -- Over each possible history that goes on from what the worker's pass has seen then.
@@ -21,4 +21,5 @@ module _ {D C L : Type 0} (disks : DiskView D) (clocks : ClockView C) (links : L
       (q : Held Step) (served : Served) → TellsApdus spells → AreEntries p.base first entries
       → IsLinkServed disks clocks links role units p old new q served → IsPrefix q.seen entries
       → (served.end ≡ None)
-      ⊎ ((t : State) × (calls : List Call) × HasRun spells (whole first entries) t calls (place first q))
+      ⊎ ((t : State) × (begun : Held Step) × (calls : List Call)
+      × HasRun links spells first entries old t begun calls q)
