@@ -12,3 +12,4 @@ pub mod Responding
 pub mod Initiating
 pub mod Linked
 pub mod Good
+pub mod Segments

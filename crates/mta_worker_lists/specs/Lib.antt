@@ -3,3 +3,4 @@ pub mod Leads
 pub mod Begun
 pub mod Linked
 pub mod Good
+pub mod Segments

@@ -2,6 +2,7 @@
 
 ghost use Rattle.mta_worker_lists.specs.Good.{SessionsAreGood, SessionsHaveLists};
 ghost use Rattle.mta_worker_lists.specs.Linked.{LinksAreRun};
+ghost use Rattle.mta_worker_lists.specs.Segments.{ListsOwnPieces};
 
 use mta_edge::{Clock, Disk};
 use mta_links::Link;
@@ -26,3 +27,9 @@ pub fn sessions_are_good()
     lists_are_good();
     lists_may_stop();
 }
+
+/// Where each entry that concerns pieces was made for one session, and stands in its list, the list of a session has
+/// each such step of its generation: a generation of a lane begins once.
+pub fn lists_own_pieces()
+    ensures { ListsOwnPieces }
+{}
