@@ -91,7 +91,7 @@ behind_calm x = refl
 there : (new t : State) → new ≡ t → is_calm t.phase ≡ true → is_calm new.phase ≡ true
 there new t e i = ap (λ (z : State). is_calm z.phase) e ∙ i
 
-ended_over : (p : Phase) → is_ended p ≡ true → is_over p ≡ true
+pub ended_over : (p : Phase) → is_ended p ≡ true → is_over p ≡ true
 ended_over (phase.Ended y) i = refl
 ended_over p i = not_false i
 

@@ -13,3 +13,7 @@ pub mod Initiating
 pub mod Linked
 pub mod Good
 pub mod Segments
+pub mod Unlisted
+pub mod Pieces
+pub mod Keeping
+pub mod Owned

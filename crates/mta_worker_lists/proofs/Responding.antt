@@ -124,9 +124,11 @@ module _ (spells : List ℕ → Bool) (history : List Seen) where
     pub seen : call.seen ≡ at + 1
     pub has : HasAt history at step
     pub come_true : AllComeTrue spells history (at + 1) call.turn.action calls
+    pub none : GiveNone before
 
-  later : (c : Call) (cs : List Call) → Begins cs → Begins (c ∷ cs)
-  later c cs b = record {
+  later : (c : Call) (cs : List Call) → step_by c.turn.before.phase c.turn.event c.turn.after ≡ None → Begins cs
+      → Begins (c ∷ cs)
+  later c cs e b = record {
     before = c ∷ b.before;
     call = b.call;
     calls = b.calls;
@@ -137,6 +139,7 @@ module _ (spells : List ℕ → Bool) (history : List Seen) where
     seen = b.seen;
     has = b.has;
     come_true = b.come_true;
+    none = (e, b.none);
   }
 
   here : (c : Call) (cs : List Call) (x : StepOn) (from : ℕ)
@@ -155,6 +158,7 @@ module _ (spells : List ℕ → Bool) (history : List Seen) where
         seen = place;
         has = s.entry;
         come_true = subst (λ (n : ℕ). AllComeTrue spells history n c.turn.action cs) place rest;
+        none = tt;
       }
 
   by_step : (c : Call) (cs : List Call) (from : ℕ) (o : Option StepOn)
@@ -162,7 +166,7 @@ module _ (spells : List ℕ → Bool) (history : List Seen) where
       → AllComeTrue spells history c.seen c.turn.action cs → Begins cs ⊎ GiveNone cs
       → Begins (c ∷ cs) ⊎ GiveNone (c ∷ cs)
   by_step c cs from (Some x) e s rest more = inl (here c cs x from e s rest)
-  by_step c cs from None e s rest more = elim more [ inl b ↦ inl (later c cs b) | inr none ↦ inr (e, none) ]
+  by_step c cs from None e s rest more = elim more [ inl b ↦ inl (later c cs e b) | inr none ↦ inr (e, none) ]
 
   pub begins_or_not : (cs : List Call) (a : Action) (t u : State) (from : ℕ) → Ready a t → Asked a t
       → AreCalls t (turns_of cs) u → AllComeTrue spells history from a cs → Begins cs ⊎ GiveNone cs

@@ -14,13 +14,11 @@ use Rattle.mta_session.specs.declared.ask.Reply.TheVariants as reply
 use Rattle.mta_session.specs.declared.event.Action.{Action}
 use Rattle.mta_session.specs.declared.event.Event.{Event}
 use Rattle.mta_session.specs.declared.event.Event.TheVariants as event
-use Rattle.mta_session.specs.declared.event.Side.{Side}
-use Rattle.mta_session.specs.declared.event.Side.TheVariants as side
 use Rattle.mta_session.specs.declared.peer.Peer.{Peer}
 use Rattle.mta_session.specs.declared.phase.Phase.{Phase}
 use Rattle.mta_session.specs.declared.phase.Phase.TheVariants as phase
 use Rattle.mta_session.specs.Follows.{counted, Does}
-use Rattle.mta_session.specs.State.{State, is_initiator}
+use Rattle.mta_session.specs.State.{State}
 use Rattle.mta_session.specs.Wanted.{Wanted, Aborts, Rejects, Ends, Puts, Asks, Reads, Goes_on, Excepts, Never}
 use Rattle.mta_session.specs.Wanted.{asks_lane, asks_spare, on_bind, on_new_lane, on_old_lane, on_open, on_peer}
 use Rattle.mta_session.specs.Wanted.{on_request, on_room, on_spare, on_stands, wanted_of_reply, wanted_of_unit}
@@ -35,7 +33,6 @@ use Rattle.mta_worker_lists.proofs.Calm.{ended_over}
 
 -- a session without a lane, or that comes to its end
 abbrev pub has_none : Phase → Bool
-has_none phase.Begin = true
 has_none phase.ReadsOpen = true
 has_none phase.AsksPeer = true
 has_none phase.AsksStands = true
@@ -139,22 +136,19 @@ bind_so t f = tt
 
 -- ---- one call
 
+none_is : (x : StepOn) → Some x ≡ None → ⊥
+none_is x e = cc
+
 reply_so : (p : Phase) (t : State) (x : Reply) (new : State) → has_none p ≡ true
     → step_by p (event.Reply x) new ≡ None → Unlisted (wanted_of_reply p t x)
 reply_so phase.AsksPeer t (reply.Peer x) new i none = peer_so t t.opened x
 reply_so phase.AsksStands t (reply.LaneOf x) new i none = stands_so t t.opened t.line x
-reply_so (phase.AsksNewLane again) t (reply.LaneOpen (Ok lane)) new i none = absurd (none_is none)
-  where
-    none_is : {A : Type 0} {x : A} → Some x ≡ None → ⊥
-    none_is e = cc
+reply_so (phase.AsksNewLane again) t (reply.LaneOpen (Ok lane)) new i none = absurd (none_is _ none)
 reply_so (phase.AsksNewLane again) t (reply.LaneOpen (Err f)) new i none = refused_so t again f
 reply_so phase.AsksSpare t (reply.SpareLane x) new i none = found_so t x
 reply_so phase.AsksRoom t (reply.CloseLane x) new i none = room_so t x
 reply_so phase.AsksOldLane t (reply.LaneOf x) new i none = old_so t x
-reply_so phase.AsksBind t (reply.Bind (Ok g)) new i none = absurd (none_is none)
-  where
-    none_is : {A : Type 0} {x : A} → Some x ≡ None → ⊥
-    none_is e = cc
+reply_so phase.AsksBind t (reply.Bind (Ok g)) new i none = absurd (none_is _ none)
 reply_so phase.AsksBind t (reply.Bind (Err f)) new i none = bind_so t f
 reply_so phase.AsksValues t x new i none = absurd (never i)
 reply_so phase.AsksRecovery t x new i none = absurd (never i)
@@ -181,3 +175,39 @@ unit_so phase.ReadsAnswer t x i = absurd (never i)
 unit_so phase.ReadsCloseAck t x i = absurd (never i)
 unit_so phase.Reads t x i = absurd (never i)
 unit_so p t x i = tt
+
+put_so : (p : Phase) (t : State) → has_none p ≡ true → Unlisted (wanted_in p t event.Go)
+put_so phase.Begin t i = absurd (never i)
+put_so phase.PutsOpen t i = absurd (never i)
+put_so phase.PutsAccept t i = absurd (never i)
+put_so phase.Puts t i = absurd (never i)
+put_so phase.PutsClose t i = absurd (never i)
+put_so (phase.PutsLast e) t i = tt
+put_so p t i = tt
+
+over_so : (p : Phase) (t : State) → Unlisted (wanted_in p t event.Over)
+over_so (phase.PutsLast e) t = tt
+over_so p t = tt
+
+wanted_so : (p : Phase) (t : State) (e : Event) (new : State) → has_none p ≡ true → step_by p e new ≡ None
+    → Unlisted (wanted_in p t e)
+wanted_so p t event.Go new i none = put_so p t i
+wanted_so p t (event.Unit x) new i none =
+    either (t.left == 0) (Aborts 3) (wanted_of_unit p t x) tt (unit_so p t x i)
+wanted_so p t event.BadUnit new i none = either (t.left == 0) (Aborts 3) (Aborts 4) tt tt
+wanted_so p t (event.Reply x) new i none = reply_so p t x new i none
+wanted_so p t event.Over new i none = over_so p t
+
+-- One call of a responder without its lane that does not give it one.
+pub unlisted_next : (x : Turn) → IsTurn x → has_none x.before.phase ≡ true
+    → step_by x.before.phase x.event x.after ≡ None → has_none x.after.phase ≡ true
+unlisted_next x is i none = by_end (is_ended x.before.phase) refl
+  where
+    by_end : (b : Bool) → is_ended x.before.phase ≡ b → has_none x.after.phase ≡ true
+    by_end false e =
+        does_unlisted (counted x.before x.event) (wanted_in x.before.phase (counted x.before x.event) x.event) x.action
+        x.after (wanted_so x.before.phase (counted x.before x.event) x.event x.after i none)
+        (does_at x x.event refl is e)
+    by_end true e =
+        ap (λ (z : State). has_none z.phase)
+        (over_says x.before.phase x (ended_over x.before.phase e) is.follows).1 ∙ i

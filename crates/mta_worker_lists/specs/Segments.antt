@@ -1,12 +1,20 @@
 -- Whose the steps of a lane's generation are. Each session makes entries of its own, and no two make the same one.
 use Rattle.std.specs.Prelude.{◌≡◌, ◌⊎◌, ◌<◌, ◌≤◌, ℕ, ◌+◌, ◌-◌, Bool, Option, None, Some, List, [], ◌∷◌, ◌++◌}
-use Rattle.std.specs.Prelude.{slice_get}
+use Rattle.std.specs.Prelude.{false, length, slice_get}
 use Rattle.mta_ends.specs.Lanes.{Seen, On, SeenStep}
 use Rattle.mta_ends.specs.Lanes as h
+use Rattle.mta_session.specs.State.{is_initiator, State}
+use Rattle.mta_session.specs.declared.event.Action.{Action}
+use Rattle.mta_session.specs.declared.event.Action.TheVariants as action
 use Rattle.mta_matches.specs.Generations.{BeginsAt}
-use Rattle.mta_runs.specs.Sessions.{Made, SessionEvent}
+use Rattle.mta_runs.specs.Sessions.{Made, SessionEvent, SessionList}
+use Rattle.mta_session_lists.specs.Calls.{Call, look_told, step_told, told_as}
 use Rattle.mta_session_lists.specs.Laws.{IsIn, IsPiece}
+use Rattle.mta_session_lists.specs.Lists.{IsListOf}
 use Rattle.mta_shared.specs.Counts.{times}
+use Rattle.mta_worker_lists.specs.Begun.{Calls, Ended, GiveNone, IsNewAt, IsOver, Listens, made_over, Stopped}
+use Rattle.mta_worker_lists.specs.Begun.{Unanswered, Untold}
+use Rattle.mta_worker_lists.specs.Leads.{Leads, made_in}
 
 -- The list of a session that has a lane in a generation, which began at this position of the history.
 pub record OnLane : Type 0 where
@@ -73,3 +81,40 @@ ListsOwnPieces =
     → h.LanesAllow spells history → AreAll history before low ss → IsOne s ss → s.list ≡ Some l → before + low ≤ l.at
     → (q : ℕ) (step : SeenStep) → l.at < q → slice_get history q ≡ Some (On l.lane step) → IsPiece l.generation step
     → IsIn (Made q l.lane step) l.events
+
+-- ---- sessions
+
+-- the entry by which a session's lane was opened or bound before its first call
+abbrev pub begun_by : {history : List Seen} {from : ℕ} {t : State} → (before : ℕ) → IsNewAt history from t → List ℕ
+begun_by n (Calls p units at has opens) = (at - n) ∷ []
+begun_by n (Listens own units from) = []
+
+-- what stands in the list for a reply that is not told
+abbrev pub told_over : {spells : List ℕ → Bool} {history : List Seen} {from upto : ℕ} {u : State} {b : Action}
+    → IsOver spells history from upto u b → List SessionEvent
+told_over (Ended e is same) = []
+told_over (Stopped same) = []
+told_over {upto = upto} (Untold q x is comes answers) = told_as upto (step_told q x) (look_told q x) ∷ []
+told_over {upto = upto} (Unanswered q x is comes none) = told_as upto (step_told q x) (look_told q x) ∷ []
+
+-- it is the list of these calls, with that reply; none where a responder has no lane
+abbrev pub ListsAs : (spells : List ℕ → Bool) → List Seen → State → List Call → List SessionEvent → Option OnLane
+    → Type 0
+ListsAs spells history t calls over None = (is_initiator t.side ≡ false) × GiveNone calls
+ListsAs spells history t calls over (Some x) =
+    (l : SessionList) × IsListOf spells history t calls x.lane l × (x.at ≡ l.at) × (x.events ≡ l.events ++ over)
+
+-- the entries and the list of a session
+pub record IsOf {spells : List ℕ → Bool} {history : List Seen} {from mid upto : ℕ} {t u : State} {b : Action}
+    (before : ℕ) (new : IsNewAt history from t) (calls : List Call) (over : IsOver spells history mid upto u b)
+    (s : Segment) : Type 0 where
+  pub own : s.own ≡ begun_by before new ++ (made_in before action.Read calls ++ made_over before over)
+  pub list : ListsAs spells history t calls (told_over over) s.list
+
+-- All that a session did is such a segment of the history.
+abbrev pub SessionsAreSegments : Type 0
+SessionsAreSegments =
+    (spells : List ℕ → Bool) (history : List Seen) (before from mid upto : ℕ) (t u : State) (b : Action)
+    (calls : List Call) (new : IsNewAt history from t) (over : IsOver spells history mid upto u b)
+    → before + length (begun_by before new) ≤ from → Leads spells history from t action.Read calls mid u b
+    → (s : Segment) × IsOf before new calls over s × IsSegment history before s

@@ -1,3 +1,4 @@
+use Rattle.mta_worker_lists.proofs.Owned.{pieces_in}
 use Rattle.mta_worker_lists.proofs.Segments.{lists_own_pieces}
 use Rattle.mta_worker_lists.proofs.laws.lists_own_pieces.Goals as goal
 
