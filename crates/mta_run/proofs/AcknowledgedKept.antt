@@ -16,16 +16,18 @@ use Rattle.mta_machine.specs.Machine.{items_after, machine_after, machine_run}
 use Rattle.mta_machine.proofs.Numbered.{set-same, set-other, numbered-front}
 use Rattle.mta_histories.specs.Lanes.{State, empty}
 use Rattle.mta_histories.specs.History.{machine_steps, after, after_step, after_from}
+use Rattle.mta_stations.specs.declared.end.WorkerEnd.{WorkerEnd}
 use Rattle.mta_run.specs.declared.stop.Stop.{Stop}
 use Rattle.mta_run.specs.declared.stop.Stop.TheVariants as Stops
 use Rattle.mta_words.specs.declared.words.Words.{Words}
 use Rattle.mta_words.specs.declared.words.Words.TheVariants as Say
+use Rattle.mta_run.specs.Words.{Serves}
 use Rattle.mta_run.specs.Handed.{Handed, ForInput, ForOpened}
 use Rattle.mta_run.specs.Lines.{accepted_line, line_of}
 use Rattle.mta_run.specs.Output.{Output, IsFront, IsEnded, done, told, cut_text, cut_line}
 use Rattle.mta_run.specs.DiskLeft.{Opening}
 use Rattle.mta_run.specs.Submit.{IsAccepted}
-use Rattle.mta_run.specs.Causes.{IsText, of_submit, of_queue, of_mailbox, of_decode, Cause}
+use Rattle.mta_run.specs.Causes.{IsText, of_submit, of_queue, of_mailbox, of_serve, of_decode, Cause}
 use Rattle.mta_run.specs.Ran.{IsKept}
 use Rattle.mta_run.proofs.Same.{some_same}
 use Rattle.mta_run.proofs.Added.{after_append}
@@ -71,6 +73,7 @@ no_stop Stops.Memory n x e = let h : ◌≡◌ {A = ℕ} 97 111 = ap (λ (l : Li
 no_stop Stops.Source n x e = let h : ◌≡◌ {A = ℕ} 97 115 = ap (λ (l : List ℕ). get_or l 0 0) e in omega (arith, h)
 no_stop Stops.Sink n x e = let h : ◌≡◌ {A = ℕ} 97 0 = ap (λ (l : List ℕ). get_or l 0 0) e in omega (arith, h)
 no_stop (Stops.NoMailbox name) n x e = let h : ◌≡◌ {A = ℕ} 97 110 = ap (λ (l : List ℕ). get_or l 0 0) e in omega (arith, h)
+no_stop (Stops.NoPeer name) n x e = let h : ◌≡◌ {A = ℕ} 97 110 = ap (λ (l : List ℕ). get_or l 0 0) e in omega (arith, h)
 no_stop Stops.NotBuilt n x e = let h : ◌≡◌ {A = ℕ} 97 110 = ap (λ (l : List ℕ). get_or l 0 0) e in omega (arith, h)
 no_stop (Stops.BadApdu at kind) n x e = let h : ◌≡◌ {A = ℕ} 97 98 = ap (λ (l : List ℕ). get_or l 0 0) e in omega (arith, h)
 
@@ -99,22 +102,23 @@ words_apart words other e = other (some_same words Say.Submit e)
 accepted_as : (steps added : List Step) (i : List ℕ) (n k : ℕ) → n ≡ k → IsAccepted steps added i k → IsAccepted steps added i n
 accepted_as steps added i n k same a = subst (λ (x : ℕ). IsAccepted steps added i x) (sym same) a
 
-module _ {D C I : Type 0} (h : Handed D C I) (added : List Step) (submit : h.words ≡ Some Say.Submit) (n : ℕ) (small : n < 2 ^ 32) where
+module _ {D C I : Type 0} (h : Handed D C I) (ends : List WorkerEnd) (added : List Step) (submit : h.words ≡ Some Say.Submit) (n : ℕ) (small : n < 2 ^ 32) where
   -- where the text of `submit` begins with its line
-  text_accepted : (opening : Opening) (t x y : List ℕ) → IsText h added opening t → accepted_line n ++ x ≡ t ++ y → ForInput h (λ i. ForOpened h (λ steps. IsAccepted steps added i n))
+  text_accepted : (opening : Opening) (t x y : List ℕ) → IsText h ends added opening t → accepted_line n ++ x ≡ t ++ y → ForInput h (λ i. ForOpened h (λ steps. IsAccepted steps added i n))
   text_accepted _ _ x y (of_submit number text word inputs few is acc) begun =
       let same : n ≡ number = accepted_number n number x y small few (begun ∙ ap (λ (l : List ℕ). l ++ y) is) in
       λ i w f steps was s. accepted_as steps added i n number same (acc i w f steps was s)
   text_accepted _ _ x y (of_queue text word is) begun = absurd (words_apart Say.Queue (λ e. absurd cc) (sym word ∙ submit))
   text_accepted _ _ x y (of_mailbox name text word named is) begun = absurd (words_apart (Say.Mailbox name) (λ e. absurd cc) (sym word ∙ submit))
+  text_accepted _ _ x y (of_serve text serves inputs named is) begun = absurd (subst Serves submit serves)
   text_accepted _ _ x y (of_decode text word is) begun = absurd (words_apart Say.Decode (λ e. absurd cc) (sym word ∙ submit))
 
   -- the same, where it may be the line of a stop
-  line_accepted : (opening : Opening) (t x : List ℕ) (stop : Stop) → IsFront (IsText h added opening) t → accepted_line n ++ x ≡ t ++ line_of stop → ForInput h (λ i. ForOpened h (λ steps. IsAccepted steps added i n))
+  line_accepted : (opening : Opening) (t x : List ℕ) (stop : Stop) → IsFront (IsText h ends added opening) t → accepted_line n ++ x ≡ t ++ line_of stop → ForInput h (λ i. ForOpened h (λ steps. IsAccepted steps added i n))
   line_accepted opening t x stop (inl none) begun = absurd (no_stop stop n x (begun ∙ ap (λ (l : List ℕ). l ++ line_of stop) none))
   line_accepted opening t x stop (inr text) begun = text_accepted opening t x (line_of stop) text begun
 
-  pub ended_accepted : (opening : Opening) (out : Output) (status : ℕ) (a b rest : List ℕ) → IsEnded (Cause h added opening) (IsText h added opening) out status → out.before ≡ Some a → out.after ≡ Some b → b ≡ a ++ accepted_line n ++ rest
+  pub ended_accepted : (opening : Opening) (out : Output) (status : ℕ) (a b rest : List ℕ) → IsEnded (Cause h ends added opening) (IsText h ends added opening) out status → out.before ≡ Some a → out.after ≡ Some b → b ≡ a ++ accepted_line n ++ rest
       → ForInput h (λ i. ForOpened h (λ steps. IsAccepted steps added i n))
   ended_accepted opening out status a b rest (done s t text goes) was is begun =
       let front = all_front t a b (at_told a b goes was is) in

@@ -49,6 +49,11 @@ pub own_append : (tells : ℕ → Type 0) (conf input : List ℕ) (s : State) (a
 own_append tells conf input s [] b p q = q
 own_append tells conf input s (step ∷ a) b p q = (p.0, own_append tells conf input (after_step s step) a b p.1 q)
 
+pub own_front : (tells : ℕ → Type 0) (conf input : List ℕ) (s : State) (a b : List Step)
+    → AreOwn tells conf input s (a ++ b) → AreOwn tells conf input s a
+own_front tells conf input s [] b p = tt
+own_front tells conf input s (step ∷ a) b p = (p.0, own_front tells conf input (after_step s step) a b p.1)
+
 pub timed_more : (tells other : ℕ → Type 0) (last moment : ℕ) → ((t : ℕ) → tells t → other t) → IsTimed tells last moment → IsTimed other last moment
 timed_more tells other last moment more t = (t.0, more t.0 t.1, t.2)
 
@@ -82,7 +87,7 @@ own_one : (tells other : ℕ → Type 0) (conf input : List ℕ) (s : State) (st
 own_one tells other conf input s step more own =
     class_more tells other conf input s.moment (when s step) (class_of step) more own
 
-own_more : (tells other : ℕ → Type 0) (conf input : List ℕ) (s : State) (a : List Step) → ((t : ℕ) → tells t → other t) → AreOwn tells conf input s a → AreOwn other conf input s a
+pub own_more : (tells other : ℕ → Type 0) (conf input : List ℕ) (s : State) (a : List Step) → ((t : ℕ) → tells t → other t) → AreOwn tells conf input s a → AreOwn other conf input s a
 own_more tells other conf input s [] more own = tt
 own_more tells other conf input s (step ∷ a) more own =
     (own_one tells other conf input s step more own.0, own_more tells other conf input (after_step s step) a more own.1)
@@ -181,6 +186,7 @@ module _ {D C : Type 0} (disks : DiskView D) where
     one = omega arith;
     later = omega (arith, ap (λ (j : JournalShown D). disks.faults j.disk) is.0);
     told = λ f told. (f, ap (λ (j : JournalShown D). disks.content j.disk) is.0 ∙ told);
+    entries = is.2 ∙ sym (append-nil old.entries);
     history = λ steps s. subst IsHistory (sym (append-nil steps)) s.history;
     own = λ steps s. tt;
     leaves = λ f told steps s. still disks laws old new is.0 f told steps s;
@@ -196,6 +202,7 @@ module _ {D C : Type 0} (disks : DiskView D) where
     one = omega arith;
     later = appends.later;
     told = appends.told;
+    entries = appends.entries;
     history = λ steps s. (appends.done refl steps s).history;
     own = λ steps s. (own steps s, tt);
     leaves = λ f told steps s.
@@ -212,6 +219,7 @@ module _ {D C : Type 0} (disks : DiskView D) where
     one = omega arith;
     later = appends.later;
     told = appends.told;
+    entries = appends.entries ∙ sym (append-nil old.entries);
     history = λ steps s. possible-more empty steps step s.history ((appends.crash (inr refl)).possible steps s);
     own = λ steps s. (own steps s, tt);
     leaves = λ f told steps s. torn disks step old new (appends.crash (inr refl)) f told steps s;
@@ -249,7 +257,7 @@ module _ {D C : Type 0} (disks : DiskView D) where
   pub adds_calm : (tells : ℕ → Type 0) (conf input : List ℕ) (old new : Shown D C) (a torn_step : List Step) (failed : Type 0) → (failed → ⊥) → Adds disks tells conf input old new a torn_step failed → Adds disks tells conf input old new a [] ⊥
   adds_calm tells conf input old new a torn_step failed calm p =
       let q = subst (λ (t : List Step). Adds disks tells conf input old new a t failed) (p.calm calm) p in
-      record { stands = λ w. q.stands calm; calm = λ w. refl; one = q.one; later = q.later; told = q.told; history = q.history; own = q.own; leaves = q.leaves }
+      record { stands = λ w. q.stands calm; calm = λ w. refl; one = q.one; later = q.later; told = q.told; entries = q.entries; history = q.history; own = q.own; leaves = q.leaves }
 
   pub adds_then : (tells : ℕ → Type 0) (conf input : List ℕ) (old mid new : Shown D C) (a b torn_step : List Step) (failed : Type 0) → Adds disks tells conf input old mid a [] ⊥ → Adds disks tells conf input mid new b torn_step failed
       → Adds disks tells conf input old new (a ++ b) torn_step failed
@@ -261,6 +269,7 @@ module _ {D C : Type 0} (disks : DiskView D) where
         one = q.one;
         later = omega (arith, p.later, q.later);
         told = λ f told. let x = p.told f told in q.told x.0 x.1;
+        entries = q.entries ∙ (ap (λ (x : List Step). x ++ b) p.entries ∙ append_assoc old.entries a b);
         history = λ steps s. subst IsHistory (append_assoc steps a (b ++ torn_step) ∙ ap (λ (x : List Step). steps ++ x) whole) (q.history (steps ++ a) (p.stands (λ w. w) steps s));
         own = λ steps s.
             let first : AreOwn tells conf input (after steps) a = subst (AreOwn tells conf input (after steps)) (append-nil a) (p.own steps s) in
@@ -273,11 +282,11 @@ module _ {D C : Type 0} (disks : DiskView D) where
 
   pub adds_more : (tells other : ℕ → Type 0) (conf input : List ℕ) (old new : Shown D C) (a torn_step : List Step) (failed : Type 0) → ((t : ℕ) → tells t → other t) → Adds disks tells conf input old new a torn_step failed → Adds disks other conf input old new a torn_step failed
   adds_more tells other conf input old new a torn_step failed more p =
-      record { stands = p.stands; calm = p.calm; one = p.one; later = p.later; told = p.told; history = p.history; own = λ steps s. own_more tells other conf input (after steps) (a ++ torn_step) more (p.own steps s); leaves = p.leaves }
+      record { stands = p.stands; calm = p.calm; one = p.one; later = p.later; told = p.told; entries = p.entries; history = p.history; own = λ steps s. own_more tells other conf input (after steps) (a ++ torn_step) more (p.own steps s); leaves = p.leaves }
 
   pub adds_unless : (tells : ℕ → Type 0) (conf input : List ℕ) (old new : Shown D C) (a torn_step : List Step) (failed other : Type 0) → (failed → other) → Adds disks tells conf input old new a torn_step failed → Adds disks tells conf input old new a torn_step other
   adds_unless tells conf input old new a torn_step failed other from p =
-      record { stands = λ calm. p.stands (λ w. calm (from w)); calm = λ calm. p.calm (λ w. calm (from w)); one = p.one; later = p.later; told = p.told; history = p.history; own = p.own; leaves = p.leaves }
+      record { stands = λ calm. p.stands (λ w. calm (from w)); calm = λ calm. p.calm (λ w. calm (from w)); one = p.one; later = p.later; told = p.told; entries = p.entries; history = p.history; own = p.own; leaves = p.leaves }
 
 -- a step that was refused has its turn
 pub turn_refused : (turn : ℕ) (step : Step) (torn_step : List Step) → turn ≤ turn_of step → turn_of step ≤ max turn 1 → (torn_step ≡ []) ⊎ (torn_step ≡ step ∷ []) → AreInTurn turn torn_step

@@ -13,9 +13,9 @@ use Rattle.mta_run.specs.Inputs.{longest_tables, IsTold, IsInputStop, HasOctets}
 use Rattle.mta_run.specs.Output.{Output, stopped, HasShown}
 use Rattle.mta_run.specs.DiskLeft.{uncalled}
 use Rattle.mta_run.specs.Causes.{IsText, of_decode, Cause, memory, source, apdu}
-use Rattle.mta_run.specs.Command.{HasEnded}
+use Rattle.mta_run.specs.Command.{HasEnded, NoneWorked}
 use Rattle.mta_run.specs.Decode.{IsDecodedAs, IsApduText, HasDecoded}
-use Rattle.mta_run.proofs.DiskStands.{left_alone}
+use Rattle.mta_run.proofs.DiskStands.{before_alone, left_alone}
 use Rattle.mta_run.proofs.Worked.{prints_nothing}
 use Rattle.mta_run.proofs.HandedOn.{printed_map, shown_printed, undrawn, ended_alike}
 
@@ -40,6 +40,7 @@ told_stop input octets failed (Stops.Spent last) told is = absurd is
 told_stop input octets failed Stops.Sink told is = absurd is
 told_stop input octets failed Stops.NotBuilt told is = absurd is
 told_stop input octets failed (Stops.NoMailbox name) told is = absurd is
+told_stop input octets failed (Stops.NoPeer name) told is = absurd is
 
 decoded_stop : (input : Option (List ℕ)) (octets : List ℕ) (failed : Type 0) (text : Result (List ℕ) Stop) → IsTold input octets → IsDecodedAs octets text → (stop : Stop) → text ≡ Err stop → IsInputStop input failed stop
 decoded_stop input octets failed (Ok s) told is stop e = absurd cc
@@ -64,7 +65,7 @@ not_decoded sources old new out stop same read = record { drawn = read.drawn; pr
 
 -- a stop of the input, of a command that reads it and no tables
 decode_cause : {D C I : Type 0} (disks : DiskView D) (clocks : ClockView C) (sources : SourceView I) (conf input input_after : I) (disk : D) (clock : C) (stop : Stop) → IsInputStop (sources.left input) (Rose (sources.faults input) (sources.faults input_after)) stop
-    → Cause (handed disks clocks sources (Some Say.Decode) conf conf input input_after disk disk clock) [] uncalled stop
+    → Cause (handed disks clocks sources (Some Say.Decode) conf conf input input_after disk disk clock) [] [] uncalled stop
 decode_cause disks clocks sources conf input input_after disk clock (Stops.BadApdu at kind) is = apdu at kind tt (λ r. absurd r) is
 decode_cause disks clocks sources conf input input_after disk clock Stops.Source is = source (inr (tt, is))
 decode_cause disks clocks sources conf input input_after disk clock Stops.Memory is = memory uncalled
@@ -77,14 +78,12 @@ decode_cause disks clocks sources conf input input_after disk clock (Stops.Spent
 decode_cause disks clocks sources conf input input_after disk clock Stops.Sink is = absurd is
 decode_cause disks clocks sources conf input input_after disk clock Stops.NotBuilt is = absurd is
 decode_cause disks clocks sources conf input input_after disk clock (Stops.NoMailbox name) is = absurd is
-
-decode_apart : Some Say.Decode ≡ Some Say.Submit → ⊥
-decode_apart e = cc
+decode_cause disks clocks sources conf input input_after disk clock (Stops.NoPeer name) is = absurd is
 
 pub decode_ended : {D C I : Type 0} (disks : DiskView D) (laws : DiskLaws disks) (clocks : ClockView C) (sources : SourceView I) (conf input input_after : I) (disk : D) (clock : C) (out : Output) (result : Result (Unit {0}) Stop) → HasDecoded sources input input_after out result
-    → HasEnded (handed disks clocks sources (Some Say.Decode) conf conf input input_after disk disk clock) out result
+    → HasEnded (handed disks clocks sources (Some Say.Decode) conf conf input input_after disk disk clock) NoneWorked out result
 decode_ended disks laws clocks sources conf input input_after disk clock out result has =
-    ended_alike (handed disks clocks sources (Some Say.Decode) conf conf input input_after disk disk clock) out result uncalled
+    ended_alike (handed disks clocks sources (Some Say.Decode) conf conf input input_after disk disk clock) NoneWorked out result uncalled
     (record { conf_untouched = λ none. refl; input_untouched = λ none. absurd (none tt); conf = undrawn sources longest_tables conf; input = has.drawn })
-    (left_alone disks laws disk) (λ e ok. decode_apart e) (λ none. refl)
-    (printed_map out result (λ stop e why. decode_cause disks clocks sources conf input input_after disk clock stop why) (λ t x. of_decode t refl x) has.printed)
+    (left_alone disks laws disk) (λ f steps was s. before_alone disks laws disk steps) (λ e ok. e) (λ none. refl)
+    (printed_map out result (λ stop e why. decode_cause disks clocks sources conf input input_after disk clock stop why) (λ t x. of_decode t refl x) has.printed) refl

@@ -14,7 +14,7 @@ use Rattle.mta_images.specs.Image.{StandsFor}
 use Rattle.mta_images.proofs.Unique.{one_history}
 use Rattle.mta_spool.specs.Opening.{HasOpened, HasRefused}
 use Rattle.mta_spool.specs.Shown.{Shown}
-use Rattle.mta_run.specs.Images.{Synced, IsSafe}
+use Rattle.mta_run.specs.Images.{Synced, IsSafe, IsSafeBefore}
 use Rattle.mta_spool.specs.Crashing.{Reached, IsLeftWith, Leaves}
 use Rattle.mta_run.specs.DiskLeft.{Opening, uncalled, refused, opened, IsAsItWas, DiskLeft}
 use Rattle.mta_spool.proofs.Crashing.{with_none, still}
@@ -59,7 +59,16 @@ module _ {D : Type 0} (disks : DiskView D) (laws : DiskLaws disks) where
     no_spool = λ f was none. record { reads = was; images = λ g left. inl (laws.only_now disk g left) };
   }
 
+  pub before_alone : (disk : D) (steps : List Step) → IsSafeBefore disks steps [] disk disk
+  before_alone disk steps g left = inl (laws.only_now disk g left)
+
   -- ---- it was not opened
+
+  pub before_refused : (old new : D) (why : OpenWhy) → HasRefused disks old new why → (f : List ℕ) (steps : List Step)
+      → disks.content old ≡ Some f → StandsFor f steps → IsSafeBefore disks steps [] old new
+  before_refused old new why refusal f steps was s g left =
+      ⊎_elim {C = disks.may_leave old g ⊎ Reached steps [] g} (λ before. inl before)
+      (λ same. inr (same_reached f g steps [] same s)) ((refusal.images f was).each g left)
 
   safe_refused : (old new : D) (f : List ℕ) (steps : List Step) → StandsFor f steps → AtAnyMoment disks (BeforeOrSame disks old f) old new → IsLeft disks f old new → IsSafe disks steps [] [] old new
   safe_refused old new f steps s images (unsynced same left) = inl (record { none = refl; reads = same; images = left })
@@ -67,7 +76,6 @@ module _ {D : Type 0} (disks : DiskView D) (laws : DiskLaws disks) where
     since = ss.since;
     from = ss.from;
     until = ss.until;
-    before = λ g left. ⊎_elim {C = disks.may_leave old g ⊎ Reached steps [] g} (λ before. inl before) (λ same. inr (same_reached f g steps [] same s)) (images.each g left);
     images = λ g left. same_reached f g steps [] (ss.same g left) s;
     now = λ g may. inl (with_none g steps (same_stands f g steps (ss.same g (laws.counts_now new ss.since g ss.until may)) s));
   })
@@ -118,9 +126,6 @@ module _ {D C : Type 0} (disks : DiskView D) (laws : DiskLaws disks) (old : D) (
         since = ss.since;
         from = ss.from;
         until = omega (arith, ss.until, l.during.later);
-        before = λ g left. ⊎_elim {C = disks.may_leave old g ⊎ Reached o.steps (added ++ torn_step) g}
-            (λ first. ⊎_elim {C = disks.may_leave old g ⊎ Reached o.steps (added ++ torn_step) g} (λ before. inl before) (λ same. inr (same_reached f g o.steps (added ++ torn_step) same (o.history f was))) (images.each g first)) (λ reached. inr reached)
-            (l.during.since (disks.moment old) g images.later left);
         images = λ g left. ⊎_elim {C = Reached o.steps (added ++ torn_step) g} (λ first. same_reached f g o.steps (added ++ torn_step) (ss.same g first) (o.history f was)) (λ reached. reached) (l.during.since ss.since g ss.until left);
         now = l.now;
       })
@@ -141,6 +146,26 @@ module _ {D C : Type 0} (disks : DiskView D) (laws : DiskLaws disks) (old : D) (
     synced = λ e f steps was s. synced_opened new added torn_step leaves f steps was s;
     no_spool = λ f was none. absurd (none o.steps (o.history f was));
   }
+
+  pub before_opened : (new : Shown D C) (added torn_step : List Step)
+      → ((f : List ℕ) → disks.content spool.journal.disk ≡ Some f
+      → Leaves disks o.steps added torn_step spool.journal.disk new.journal.disk)
+      → (f : List ℕ) (steps : List Step) → disks.content old ≡ Some f → StandsFor f steps
+      → IsSafeBefore disks steps (added ++ torn_step) old new.journal.disk
+  before_opened new added torn_step leaves f steps was s g left =
+      let x = o.told f was in
+      let l = leaves x.0 x.1 in
+      let images = o.images f was in
+      let tried = added ++ torn_step in
+      subst (λ (y : List Step). disks.may_leave old g ⊎ Reached y tried g) (same_steps f steps was s)
+      (⊎_elim {C = disks.may_leave old g ⊎ Reached o.steps tried g}
+      (λ first. ⊎_elim {C = disks.may_leave old g ⊎ Reached o.steps tried g} (λ before. inl before)
+      (λ same. inr (same_reached f g o.steps tried same (o.history f was))) (images.each g first))
+      (λ reached. inr reached) (l.during.since (disks.moment old) g images.later left))
+
+  pub before_read : (f : List ℕ) (steps : List Step) → disks.content old ≡ Some f → StandsFor f steps
+      → IsSafeBefore disks steps [] old spool.journal.disk
+  before_read = before_opened spool [] [] (λ f told. still disks laws spool spool refl f told o.steps o.stands)
 
   -- it was opened and read
   pub disk_read : DiskLeft disks old spool.journal.disk opened [] []

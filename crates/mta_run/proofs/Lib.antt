@@ -15,3 +15,9 @@ pub mod Printed
 pub mod Statuses
 pub mod AcknowledgedKept
 pub mod RanFields
+pub mod Beginning
+pub mod Finishing
+pub mod DiskServed
+pub mod ServedSpool
+pub mod ServedWorkers
+pub mod ServedAll

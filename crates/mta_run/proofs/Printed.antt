@@ -58,6 +58,7 @@ some_status Stops.Source status e z = omega (arith, e, z)
 some_status Stops.Sink status e z = omega (arith, e, z)
 some_status Stops.NotBuilt status e z = omega (arith, e, z)
 some_status (Stops.NoMailbox name) status e z = omega (arith, e, z)
+some_status (Stops.NoPeer name) status e z = omega (arith, e, z)
 some_status (Stops.BadApdu at kind) status e z = omega (arith, e, z)
 
 told_some : (stop : Stop) (out : Output) (status : ℕ) → HasTold stop out status → status ≡ 0 → ⊥

@@ -8,10 +8,12 @@ use Rattle.mta_records.specs.declared.step.Step.{Step}
 use Rattle.mta_records.specs.declared.fault.StepFault.{StepFault}
 use Rattle.mta_records.specs.declared.fault.StepFault.TheVariants as StepFaults
 use Rattle.mta_journal.specs.Appending.{journal_limit}
+use Rattle.mta_journal.specs.Shown.{Shown as JournalShown}
 use Rattle.mta_histories.specs.Lanes.{State}
 use Rattle.mta_histories.specs.Due.{IsQuiet, IsNext}
 use Rattle.mta_histories.specs.History.{after}
 use Rattle.mta_images.proofs.Bodies.{size-more}
+use Rattle.mta_spool.specs.Bases.{KeepsOn}
 use Rattle.mta_spool.specs.Shown.{Shown}
 use Rattle.mta_spool.specs.Stands.{Stands, Appends, TellsFewer, step_moment, IsOfNoLane}
 use Rattle.mta_spool.specs.Turning.{IsUnchanged, Turns}
@@ -28,6 +30,8 @@ pub record Settling {D C : Type 0} (disks : DiskView D) (clocks : ClockView C) (
   pub tables : now.current.machine.tables ≡ old.current.machine.tables
   pub going : now.journal.ended ≡ false
   pub clock : TellsFewer clocks old.clock now.clock
+  pub opened : now.opened ≡ old.opened
+  pub keeps : KeepsOn disks clocks old now
   pub stands : (steps : List Step) × Stands disks now steps
 
 module _ {D C : Type 0} (disks : DiskView D) (laws : DiskLaws disks) (clocks : ClockView C) where
@@ -48,12 +52,15 @@ module _ {D C : Type 0} (disks : DiskView D) (laws : DiskLaws disks) (clocks : C
     tables = refl;
     going = going;
     clock = λ m t. t;
+    opened = refl;
+    keeps = λ base k. k;
     stands = stands;
   }
 
   pub settling_more : (old mid new : Shown D C) (added : List Step) (step : Step) (told : ℕ) → Settling disks clocks old mid added → clocks.tells mid.clock told → IsNext mid.current (step_moment told mid.current.moment) step → Appends disks step mid new None
-      → TellsFewer clocks mid.clock new.clock → Settling disks clocks old new (added ++ step ∷ [])
-  settling_more old mid new added step told so tell next appends clock =
+      → TellsFewer clocks mid.clock new.clock → new.opened ≡ mid.opened → KeepsOn disks clocks mid new
+      → Settling disks clocks old new (added ++ step ∷ [])
+  settling_more old mid new added step told so tell next appends clock opened keeps =
       let turn = next_turn mid.current (step_moment told mid.current.moment) step next in
       let here = so.stands in
       record {
@@ -65,6 +72,8 @@ module _ {D C : Type 0} (disks : DiskView D) (laws : DiskLaws disks) (clocks : C
         tables = ap (λ (s : State). s.machine.tables) (made_state disks step mid new appends here.0 here.1) ∙ next_tables mid.current (step_moment told mid.current.moment) step next ∙ so.tables;
         going = appends.going refl;
         clock = λ m t. so.clock m (clock m t);
+        opened = opened ∙ so.opened;
+        keeps = λ base k. keeps base (so.keeps base k);
         stands = (here.0 ++ step ∷ [], appends.done refl here.0 here.1);
       }
 
@@ -84,6 +93,7 @@ module _ {D C : Type 0} (disks : DiskView D) (laws : DiskLaws disks) (clocks : C
     in_turn = subst (AreInTurn 2) (sym (append-nil (added ++ []) ∙ append-nil added)) so.in_turn;
     tables = λ calm. ap (λ (s : State). s.machine.tables) is.1 ∙ so.tables;
     quiet = λ ok. (told, so.clock told tell, subst (λ (s : State). IsQuiet s (step_moment told s.moment)) (sym is.1) quiet);
+    going = λ other. ap (λ (j : JournalShown D). j.ended) is.0 ∙ so.going;
     refused = λ fault e. absurd cc;
   }
 
@@ -96,6 +106,7 @@ module _ {D C : Type 0} (disks : DiskView D) (laws : DiskLaws disks) (clocks : C
     in_turn = subst (AreInTurn 2) (sym (append-nil (added ++ []) ∙ append-nil added)) so.in_turn;
     tables = λ calm. ap (λ (s : State). s.machine.tables) is.1 ∙ so.tables;
     quiet = λ ok. absurd cc;
+    going = λ other. ap (λ (j : JournalShown D). j.ended) is.0 ∙ so.going;
     refused = λ fault e conf input before turn. subst (IsRefusal (clocks.tells old.clock) conf input (before ++ (added ++ [])) new.current new.journal.size (Rose (disks.faults old.journal.disk) (disks.faults new.journal.disk))) (err_same StepFaults.Memory fault e) tt;
   }
 
@@ -120,6 +131,8 @@ module _ {D C : Type 0} (disks : DiskView D) (laws : DiskLaws disks) (clocks : C
         in_turn = turn_append 2 added r.torn_step so.in_turn (subst (λ (k : ℕ). AreInTurn k r.torn_step) (sym (turn_stays added so.in_turn)) (turn_refused 2 step r.torn_step (omega (arith, turn)) (omega (arith, turn)) r.at_most));
         tables = λ calm. ap (λ (s : State). s.machine.tables) (unchanged disks step mid new fault (λ e. calm (ap Err e)) appends).1 ∙ so.tables;
         quiet = λ ok. absurd cc;
+        going = λ other. ap (λ (j : JournalShown D). j.ended) (unchanged disks step mid new fault (λ e. other (ap Err e)) appends).0
+            ∙ so.going;
         refused = λ f e conf input before behind. subst (IsRefusal (clocks.tells old.clock) conf input (before ++ added) new.current new.journal.size (Rose (disks.faults old.journal.disk) (disks.faults new.journal.disk))) (err_same fault f e)
             (refusal disks (clocks.tells old.clock) conf input (before ++ added) step mid new (disks.faults old.journal.disk) fault (so.adds [] []).later so.going
             (next_due (step_moment told mid.current.moment) step

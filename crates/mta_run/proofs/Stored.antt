@@ -102,6 +102,7 @@ pub record Recording {D C : Type 0} (disks : DiskView D) (tells : ℕ → Type 0
   pub last : IsRecorded mid.current conf
   pub items : length mid.current.machine.items ≡ length old.current.machine.items
   pub going : mid.journal.ended ≡ false
+  pub which : (added ≡ []) ⊎ (added ≡ Tables conf ∷ [])
 
 same_text : (a b : List ℕ) → (a ≡ b) ⊎ (a ≡ b → ⊥)
 same_text [] [] = inl refl
@@ -132,7 +133,7 @@ is_text (Some other) text =
     ]
 
 -- tables that are those recorded last are not refused
-not_same : (ended : Bool) (fault : StepFault) → ended ≡ false → ◌≡◌ {A = Result (Unit {0}) StepFault} (Err fault) (if ended then Err StepFaults.Ended else Ok tt) → ⊥
+pub not_same : (ended : Bool) (fault : StepFault) → ended ≡ false → ◌≡◌ {A = Result (Unit {0}) StepFault} (Err fault) (if ended then Err StepFaults.Ended else Ok tt) → ⊥
 not_same true fault going e = cc
 not_same false fault going e = cc
 
@@ -156,6 +157,7 @@ module _ {D C : Type 0} (disks : DiskView D) (laws : DiskLaws disks) (tells : �
                 last = ap last_text same.1 ∙ recorded;
                 items = ap (λ (s : State). length s.machine.items) same.1;
                 going = ap (λ (j : JournalShown D). j.ended) same.0 ∙ going;
+                which = inl refl;
               },
             ))
         | inr other ↦ (
@@ -168,6 +170,7 @@ module _ {D C : Type 0} (disks : DiskView D) (laws : DiskLaws disks) (tells : �
                 last = records.recorded refl;
                 items = ap (λ (s : State). length s.machine.items) (made_state disks (Tables conf) old mid a here.0 here.1);
                 going = a.going refl;
+                which = inr refl;
               },
             ))
       ]

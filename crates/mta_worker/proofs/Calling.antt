@@ -18,7 +18,7 @@ use Rattle.mta_worker.specs.declared.session.Served.{Served}
 use Rattle.mta_worker.specs.declared.telling.Lost.{Lost}
 use Rattle.mta_worker.specs.Readying.{IsReadied}
 use Rattle.mta_worker.specs.Served.{HasCalled, IsLinkServed, Halting, Calling, Lost_before, Too_often, none_begun}
-use Rattle.mta_worker.specs.Serving.{At, GivesUp, InTurn, IsServed}
+use Rattle.mta_worker.specs.Serving.{GivesUp, InTurn, IsServed}
 use Rattle.mta_worker.proofs.Closing.{HasClosed, readied_as}
 
 begins_as : (r : Ready) (u : State) (x y : Result Action Lost) → r ≡ ready.Begins u x → x ≡ y → r ≡ ready.Begins u y
@@ -40,12 +40,17 @@ module _ {D C L : Type 0} (disks : DiskView D) (clocks : ClockView C) (links : L
       (first : Action) (old new : L) (served : Served) → HasClosed disks clocks links peer units p mid
       → r ≡ ready.Begins u x → x ≡ Ok first → Readied r noted mid at
       → IsServed disks clocks links (record {
-        session = u; action = first; link = old; feed = no_feed; pass = at; halt = noted;
+        session = u;
+        action = first;
+        link = old;
+        feed = no_feed;
+        pass = at;
+        halt = noted;
       }) new q served → HasCalled disks clocks links peer units p old new q served
   called_well p mid at q noted r u x first old new served h e f i s =
       Calling h.0 mid at u first noted h.1
-          (readied_as disks clocks peer units noted r (ready.Begins u (Ok first)) mid at
-          (begins_as r u x (Ok first) e f) i) s
+      (readied_as disks clocks peer units noted r (ready.Begins u (Ok first)) mid at
+      (begins_as r u x (Ok first) e f) i) s
 
   pub called_lost : (p mid q : Held Step) (noted : Option Halt) (r : Ready) (u : State) (x : Result Action Lost)
       (lost : Lost) (turned : Bool) (old new : L) (served : Served) → HasClosed disks clocks links peer units p mid
@@ -53,8 +58,8 @@ module _ {D C L : Type 0} (disks : DiskView D) (clocks : ClockView C) (links : L
       → GivesUp links lost turned noted old new served → HasCalled disks clocks links peer units p old new q served
   called_lost p mid q noted r u x lost turned old new served h e f i t gives =
       Lost_before h.0 mid u lost noted h.1 (readied_as disks clocks peer units noted r (ready.Begins u (Err lost)) mid q
-          (begins_as r u x (Err lost) e f) i)
-          (subst (λ (b : Bool). GivesUp links lost b noted old new served) t gives)
+      (begins_as r u x (Err lost) e f) i)
+      (subst (λ (b : Bool). GivesUp links lost b noted old new served) t gives)
 
   pub called_often : (p q : Held Step) (old new : L) (served : Served) → HasClosed disks clocks links peer units p q
       → new ≡ old → served ≡ none_begun Halts.NoPeer → HasCalled disks clocks links peer units p old new q served

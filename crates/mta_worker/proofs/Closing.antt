@@ -1,5 +1,5 @@
 -- Turns of the lock in which lanes that were never agreed are closed.
-use Rattle.std.proofs.Common.{◌≡◌, ℕ, List, [], ◌∷◌, ◌++◌, Option, None, Result, refl, sym, subst, ◌∙◌}
+use Rattle.std.proofs.Common.{◌≡◌, ℕ, List, [], ◌∷◌, ◌++◌, Option, None, Result, refl, subst}
 use Rattle.mta_edge.specs.Views.{ClockView, DiskView}
 use Rattle.mta_links.specs.Links.{LinkView}
 use Rattle.mta_records.specs.declared.step.Step.{Step}
@@ -43,8 +43,8 @@ module _ {D C : Type 0} (disks : DiskView D) (clocks : ClockView C) where
       → IsReadied disks clocks peer units s None t None ready.Closed
   closed_so peer units noted r e s t i =
       subst (λ (h : Option Halt). IsReadied disks clocks peer units s None t h ready.Closed)
-          (readied_same peer units s None t noted r e i)
-          (subst (λ (z : Ready). IsReadied disks clocks peer units s None t noted z) e i)
+      (readied_same peer units s None t noted r e i)
+      (subst (λ (z : Ready). IsReadied disks clocks peer units s None t noted z) e i)
 
   -- what a turn came to, told by what it is
   pub readied_as : (peer : List ℕ) (units : ℕ) (noted : Option Halt) (r r' : Ready) (p q : Held Step) → r ≡ r'
@@ -58,9 +58,11 @@ module _ {D C L : Type 0} (disks : DiskView D) (clocks : ClockView C) (links : L
       → Closings disks clocks links peer units p ms q
       → InTurn disks clocks (λ s t. IsReadied disks clocks peer units s None t None ready.Closed) q r
       → Closings disks clocks links peer units p (ms ++ r ∷ []) r
-  closings_on peer units p [] q r c i =
-      (subst (λ (w : Held Step). InTurn disks clocks
-          (λ s t. IsReadied disks clocks peer units s None t None ready.Closed) w r) c i, refl)
+  closings_on peer units p [] q r c i = (
+    subst (λ (w : Held Step). InTurn disks clocks
+        (λ s t. IsReadied disks clocks peer units s None t None ready.Closed) w r) c i,
+    refl,
+  )
   closings_on peer units p (m ∷ ms) q r c i = (c.0, closings_on peer units m ms q r c.1 i)
 
   -- whichever turns these were
@@ -74,8 +76,10 @@ module _ {D C L : Type 0} (disks : DiskView D) (clocks : ClockView C) (links : L
   pub closed_more : (peer : List ℕ) (units : ℕ) (p q r : Held Step) (noted : Option Halt) (x : Ready)
       → x ≡ ready.Closed → HasClosed peer units p q
       → InTurn disks clocks (λ s t. IsReadied disks clocks peer units s None t noted x) q r → HasClosed peer units p r
-  closed_more peer units p q r noted x e h i =
-      (h.0 ++ r ∷ [], closings_on peer units p h.0 q r h.1 (in_turn_as disks clocks
-          (λ s t. IsReadied disks clocks peer units s None t noted x)
-          (λ s t. IsReadied disks clocks peer units s None t None ready.Closed) q r
-          (closed_so disks clocks peer units noted x e) i))
+  closed_more peer units p q r noted x e h i = (
+    h.0 ++ r ∷ [],
+    closings_on peer units p h.0 q r h.1 (in_turn_as disks clocks
+        (λ s t. IsReadied disks clocks peer units s None t noted x)
+        (λ s t. IsReadied disks clocks peer units s None t None ready.Closed) q r
+        (closed_so disks clocks peer units noted x e) i),
+  )

@@ -100,4 +100,4 @@ module _ {D C L : Type 0} (disks : DiskView D) (clocks : ClockView C) (links : L
   served_lost x y c q t u at link feed pass halt lost turned served g is h i e gives =
       let r : Gone x (after_run y c t at feed) = gone_run x y c t at feed g h in
       Given_up r.0 (after_run y c t at feed) q u halt lost r.1 (asks_so c q is) i
-          (turned_so lost turned (has_turned u.phase) halt at link served e gives)
+      (turned_so lost turned (has_turned u.phase) halt at link served e gives)

@@ -1,5 +1,5 @@
 -- A question of a session makes at most one step.
-use Rattle.std.proofs.Common.{◌≡◌, ◌⊎◌, ℕ, ◌^◌, ◌<◌, ◌≤◌, List, Option, None, Some, Result, Ok, Err, inl, inr, refl}
+use Rattle.std.proofs.Common.{◌≡◌, ◌⊎◌, ℕ, ◌^◌, List, Option, None, Some, Result, Ok, Err, inl, inr, refl}
 use Rattle.std.proofs.Common.{ap, arith}
 use Rattle.std.proofs.lemmas.Bool.{cases_lt}
 use Rattle.mta_edge.specs.Views.{ClockView, DiskView}
@@ -22,14 +22,14 @@ use Rattle.mta_spool.specs.Shown.{Shown}
 use Rattle.mta_spool.specs.Stands.{Appends, fault_of}
 use Rattle.mta_spool.specs.Starting.{next_activity}
 use Rattle.mta_spool.specs.Turning.{IsUnchanged}
-use Rattle.mta_worker.specs.Answers.{Answered, Binds, BeginsNow, MakesNow, Refuses, IsKind, lanes_of}
+use Rattle.mta_worker.specs.Answers.{Answered, Binds, BeginsNow, Refuses, IsKind, lanes_of}
 use Rattle.mta_worker.specs.Turns.{Replied}
 
 is_kind : (kind : ℕ) → IsKind kind ⊎ (IsKind kind → ⊥)
 is_kind kind =
     elim (cases_lt kind 1) [
-      inl l ↦ inr (λ i. omega (arith, l, i.0))
-    | inr low ↦ elim (cases_lt 12 kind) [ inl h ↦ inr (λ i. omega (arith, h, i.1)) | inr high ↦ inl (low, high) ]
+      | inl l ↦ inr (λ i. omega (arith, l, i.0))
+      | inr low ↦ elim (cases_lt 12 kind) [ inl h ↦ inr (λ i. omega (arith, h, i.1)) | inr high ↦ inl (low, high) ]
     ]
 
 module _ {D C : Type 0} (disks : DiskView D) (clocks : ClockView C) where
@@ -48,7 +48,7 @@ module _ {D C : Type 0} (disks : DiskView D) (clocks : ClockView C) where
       → Grows old.entries new.entries
   binds lane old new x b =
       elim (cases_lt (next_generation (lane_at lane (lanes_of old))) (2 ^ 64))
-          [ inl l ↦ appended _ old new (fault_of x) (b.0 l) | inr g ↦ unchanged old new (b.1 g).0 ]
+      [ inl l ↦ appended _ old new (fault_of x) (b.0 l) | inr g ↦ unchanged old new (b.1 g).0 ]
 
   pub received : {T : Type 0} (step : Step) (Bad : Fault → Type 0) (old new : Shown D C) (x : Result T CompleteFault)
       → Receives disks step Bad old new x → Grows old.entries new.entries
@@ -62,7 +62,7 @@ module _ {D C : Type 0} (disks : DiskView D) (clocks : ClockView C) where
       → BeginsNow disks clocks lane g item rs old x new → Grows old.entries new.entries
   begins lane g item rs old new x b =
       elim (cases_lt (next_activity (lane_at lane (lanes_of old))) (2 ^ 32))
-          [ inl l ↦ appended _ old new (fault_of x) (b.0 l).at | inr h ↦ unchanged old new (b.1 h).0 ]
+      [ inl l ↦ appended _ old new (fault_of x) (b.0 l).at | inr h ↦ unchanged old new (b.1 h).0 ]
 
   refuses : (lane g k kind : ℕ) (old new : Shown D C) (x : Result (Unit {0}) StepFault)
       → Refuses disks clocks lane g k kind old x new → Grows old.entries new.entries

@@ -1,5 +1,5 @@
 -- The session of a link by which a peer called, behind the turn in which the own name is looked up.
-use Rattle.std.proofs.Common.{◌≡◌, ℕ, false, List, Option, Some, None, Result, Ok, Err, subst, sym, ap, ◌∙◌}
+use Rattle.std.proofs.Common.{◌≡◌, ℕ, false, List, Option, Some, None, Result, Ok, subst, sym, ap, ◌∙◌}
 use Rattle.std.specs.Prelude.{IfSome}
 use Rattle.mta_ber.specs.declared.memory.Memory.{Memory as NoMemory}
 use Rattle.mta_edge.specs.Views.{ClockView, DiskView}
@@ -20,7 +20,7 @@ use Rattle.mta_worker.specs.declared.session.Served.{Served}
 use Rattle.mta_worker.specs.declared.telling.Lost.TheVariants as losts
 use Rattle.mta_worker.specs.Served.{HasListened, IsLinkServed, IsOwnName, none_begun}
 use Rattle.mta_worker.specs.Served.{Listening, Lost_at_once, Wanting, Without}
-use Rattle.mta_worker.specs.Serving.{At, GivesUp, InTurn, IsServed}
+use Rattle.mta_worker.specs.Serving.{GivesUp, InTurn, IsServed}
 use Rattle.mta_worker.proofs.Turning.{in_turn_as}
 
 found_as : (r : Result (Option (List ℕ)) NoMemory) (o o' : Option (List ℕ)) → r ≡ Ok o → o ≡ o' → r ≡ Ok o'
@@ -49,17 +49,22 @@ module _ {D C L : Type 0} (disks : DiskView D) (clocks : ClockView C) (links : L
       → HasListened disks clocks links units p old new q served
   heard_wanting r p q old new served i same is =
       Wanting (in_turn_as disks clocks (λ s t. IsOwnName s.current r × (t ≡ s)) (λ s t. t ≡ s) p q (λ s t d. d.1) i)
-          same is
+      same is
 
   pub heard_well : (r : Result (Option (List ℕ)) NoMemory) (o : Option (List ℕ)) (own : List ℕ) (p mid q : Held Step)
       (s t : State) (first : Action) (old new : L) (served : Served) → r ≡ Ok o → o ≡ Some own → Found r p mid
       → s ≡ new_responder own units → HasTold s event.Go first t
       → IsServed disks clocks links (record {
-        session = t; action = first; link = old; feed = no_feed; pass = mid; halt = None;
+        session = t;
+        action = first;
+        link = old;
+        feed = no_feed;
+        pass = mid;
+        halt = None;
       }) new q served → HasListened disks clocks links units p old new q served
   heard_well r o own p mid q s t first old new served e f i new_is told h =
       Listening own mid first t (found_so r o (Some own) p mid e f i)
-          (subst (λ (z : State). HasTold z event.Go first t) new_is told).turn h
+      (subst (λ (z : State). HasTold z event.Go first t) new_is told).turn h
 
   pub heard_lost : (r : Result (Option (List ℕ)) NoMemory) (o : Option (List ℕ)) (own : List ℕ) (p q : Held Step)
       (old new : L) (served : Served) → r ≡ Ok o → o ≡ Some own → Found r p q

@@ -24,7 +24,7 @@ module _ {D C : Type 0} (disks : DiskView D) (clocks : ClockView C) where
       → Dues disks clocks p (ms ++ r ∷ []) r
   dues_more p [] q r step d i =
       let one : InTurn disks clocks (λ s t. TurnsOnce disks clocks s (Ok (Did step)) t) p r =
-          subst (λ (w : Held Step). InTurn disks clocks (λ s t. TurnsOnce disks clocks s (Ok (Did step)) t) w r) d i in
+      subst (λ (w : Held Step). InTurn disks clocks (λ s t. TurnsOnce disks clocks s (Ok (Did step)) t) w r) d i in
       ((step, one), refl)
   dues_more p (m ∷ ms) q r step d i = (d.0, dues_more m ms q r step d.1 i)
 
@@ -71,17 +71,17 @@ module _ {D C L S : Type 0} (disks : DiskView D) (clocks : ClockView C) (links :
       → Serves disks clocks links stations units x y halt
   serves units x y halt given link left mid served role is next more stays told session back less keeps one e closed
       behind = record {
-    given = given;
-    link = link;
-    left = left;
-    mid = mid;
-    served = served;
-    next = next;
-    session = subst (λ (r : Role). IsLinkServed disks clocks links r units x.pass link left mid served) told session;
-    back = back;
-    out = omega (arith, more, less);
-    role = keeps ∙ stays;
-    sessions = one;
-    closed = subst (λ (b : Bool). y.closed ≡ (if b then x.closed + 1 else x.closed)) e closed;
-    behind = behind;
-  }
+        given = given;
+        link = link;
+        left = left;
+        mid = mid;
+        served = served;
+        next = next;
+        session = subst (λ (r : Role). IsLinkServed disks clocks links r units x.pass link left mid served) told session;
+        back = back;
+        out = omega (arith, more, less);
+        role = keeps ∙ stays;
+        sessions = one;
+        closed = subst (λ (b : Bool). y.closed ≡ (if b then x.closed + 1 else x.closed)) e closed;
+        behind = behind;
+      }

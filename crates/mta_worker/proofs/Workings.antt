@@ -31,7 +31,7 @@ count_in_front [] = omega arith
 count_in_front (s ∷ steps) =
     let rest : List ℕ = flat_map open_record (map body_of steps) in
     let e : length (open_record (body_of s) ++ rest) ≡ length (open_record (body_of s)) + length rest =
-        length-append (open_record (body_of s)) rest in
+    length-append (open_record (body_of s)) rest in
     omega (arith, e, count_in_front steps)
 
 count_in_size : (steps : List Step) → length steps ≤ size_of steps
@@ -105,9 +105,9 @@ module _ {D C : Type 0} (disks : DiskView D) (clocks : ClockView C) where
       let more = size-more (first ++ old.entries) step in
       let count = count_in_size ((first ++ old.entries) ++ step ∷ []) in
       let one : length ((first ++ old.entries) ++ step ∷ []) ≡ length (first ++ old.entries) + 1 =
-          length-append (first ++ old.entries) (step ∷ []) in
+      length-append (first ++ old.entries) (step ∷ []) in
       let both : length (first ++ old.entries) ≡ length first + length old.entries =
-          length-append first old.entries in
+      length-append first old.entries in
       omega (arith, fit, more, count, one, both, stands.holds.size)
 
   -- the pass has seen more behind a turn in which a step is made, and never more than the journal's limit
@@ -121,7 +121,7 @@ module _ {D C : Type 0} (disks : DiskView D) (clocks : ClockView C) where
       let low = prefix_length p.seen i.before.entries i.begins in
       let e : length i.after.entries ≡ length (i.before.entries ++ step ∷ []) = ap length appends.entries in
       let one : length (i.before.entries ++ step ∷ []) ≡ length i.before.entries + 1 =
-          length-append i.before.entries (step ∷ []) in
+      length-append i.before.entries (step ∷ []) in
       let seen : length q.seen ≡ length i.after.entries = ap (λ (h : Held Step). length h.seen) i.left in
       omega (arith, most, low, e, one, seen)
 

@@ -1,5 +1,5 @@
 -- What a worker does with one link of its station.
-use Rattle.std.specs.Prelude.{◌≡◌, ◌≢◌, ℕ, true, false, List, [], ◌∷◌, Option, None, Some, Result, Ok, Err}
+use Rattle.std.specs.Prelude.{◌≡◌, ℕ, false, List, [], ◌∷◌, Option, None, Some, Result, Ok, Err}
 use Rattle.mta_ber.specs.declared.memory.Memory.{Memory as NoMemory}
 use Rattle.mta_edge.specs.Views.{ClockView, DiskView}
 use Rattle.mta_links.specs.Links.{LinkView}
@@ -47,7 +47,12 @@ module _ {D C L : Type 0} (disks : DiskView D) (clocks : ClockView C) (links : L
         → InTurn disks clocks (λ s t. IsOwnName s.current (Ok (Some own)) × (t ≡ s)) p mid
         → IsTurn (record { before = new_responder own units; event = event.Go; action = first; after = t })
         → IsServed disks clocks links (record {
-          session = t; action = first; link = old; feed = no_feed; pass = mid; halt = None;
+          session = t;
+          action = first;
+          link = old;
+          feed = no_feed;
+          pass = mid;
+          halt = None;
         }) new q served → HasListened units p old new q served
     Lost_at_once : (own : List ℕ)
         → InTurn disks clocks (λ s t. IsOwnName s.current (Ok (Some own)) × (t ≡ s)) p q
@@ -71,14 +76,19 @@ module _ {D C L : Type 0} (disks : DiskView D) (clocks : ClockView C) (links : L
     Calling : (ms : List (Held Step)) (mid at : Held Step) (u : State) (first : Action) (noted : Option Halt)
         → Closings peer units p ms mid
         → InTurn disks clocks
-            (λ s t. IsReadied disks clocks peer units s None t noted (ready.Begins u (Ok first))) mid at
+        (λ s t. IsReadied disks clocks peer units s None t noted (ready.Begins u (Ok first))) mid at
         → IsServed disks clocks links (record {
-          session = u; action = first; link = old; feed = no_feed; pass = at; halt = noted;
+          session = u;
+          action = first;
+          link = old;
+          feed = no_feed;
+          pass = at;
+          halt = noted;
         }) new q served → HasCalled peer units p old new q served
     Lost_before : (ms : List (Held Step)) (mid : Held Step) (u : State) (lost : Lost) (noted : Option Halt)
         → Closings peer units p ms mid
         → InTurn disks clocks
-            (λ s t. IsReadied disks clocks peer units s None t noted (ready.Begins u (Err lost))) mid q
+        (λ s t. IsReadied disks clocks peer units s None t noted (ready.Begins u (Err lost))) mid q
         → GivesUp links lost (has_turned u.phase) noted old new served → HasCalled peer units p old new q served
     -- other associations open lanes with the peer as fast as they are closed
     Too_often : (ms : List (Held Step)) → Closings peer units p ms q → new ≡ old → served ≡ none_begun Halts.NoPeer

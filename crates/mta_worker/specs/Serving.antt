@@ -1,6 +1,6 @@
 -- What a worker does for one session: it is carried on over its link, and its questions are answered, each in one turn
 -- of the lock.
-use Rattle.std.specs.Prelude.{◌≡◌, ◌≤◌, ℕ, Bool, true, false, List, [], ◌∷◌, Option, None, Some}
+use Rattle.std.specs.Prelude.{◌≡◌, ℕ, Bool, true, false, List, [], ◌∷◌, Option, None, Some}
 use mathlib.Core.List.{IsPrefix}
 use Rattle.mta_edge.specs.Causes.{Rose}
 use Rattle.mta_edge.specs.Views.{ClockView, DiskView}

@@ -8,7 +8,6 @@ ghost use Rattle.mta_worker.specs.Readying.{IsReadied};
 ghost use Rattle.mta_worker.specs.Served.{HasCalled, HasListened, IsLinkServed, IsOwnName, none_begun};
 ghost use Rattle.mta_worker.specs.Serving.{InTurn};
 
-use mta_stations::Halt;
 use crate::ready::{Ready, get_ready};
 use crate::session::{Served, give_up, run_session};
 use crate::telling::Lost;
@@ -21,6 +20,7 @@ use mta_session::{Event, Limits, Session};
 use mta_session_run::tell;
 use mta_shared::{Pass, Shared};
 use mta_spool::Spool;
+use mta_stations::Halt;
 use std::alloc::Global;
 use std::sync::Wait;
 
@@ -82,7 +82,16 @@ fn call<R: Wait, D: Disk + Drop, C: Clock + Drop, L: Link>(
             Ready::Closed => {}
             Ready::Halts(halt) => return none_begun(halt),
             Ready::Begins(mut session, first) => match first {
-                Ok(action) => return run_session(rt, alloc, shared, pass, link, &mut session, action, halt),
+                Ok(action) => return run_session(
+                    rt,
+                    alloc,
+                    shared,
+                    pass,
+                    link,
+                    &mut session,
+                    action,
+                    halt,
+                ),
                 Err(lost) => return give_up(alloc, link, session.has_turned(), lost, halt),
             },
         }

@@ -9,7 +9,6 @@ ghost use Rattle.mta_units.specs.Feed.{no_feed};
 ghost use Rattle.mta_worker.specs.Serving.{GivesUp, halt_behind, InTurn, IsServed, reason_of};
 ghost use Rattle.mta_worker.specs.Turns.{HasAnswered, IsLost};
 
-use mta_stations::Halt;
 use crate::telling::Lost;
 use crate::turn::answer_all;
 use mta_edge::{Clock, Disk};
@@ -19,6 +18,7 @@ use mta_session::{Action, Ask, Session, SessionEnd};
 use mta_session_run::{Came, carry_on};
 use mta_shared::{Pass, Shared};
 use mta_spool::Spool;
+use mta_stations::Halt;
 use mta_unit_links::put_unit;
 use mta_units::{Frames, Unit};
 use std::alloc::Global;
@@ -26,6 +26,7 @@ use std::sync::Wait;
 
 // The reasons of an Abort (X.228): a temporary problem, and a protocol error.
 const TEMPORARY_PROBLEM: u32 = 0;
+
 const PROTOCOL_ERROR: u32 = 4;
 
 /// What a session came to: how it ended, where one was begun, and why its worker ends, if it does.

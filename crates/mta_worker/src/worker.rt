@@ -5,7 +5,6 @@ ghost use Rattle.mta_shared.specs.Passes.{lock_of, IsReady, Worked};
 ghost use Rattle.mta_worker.specs.Serving.{InTurn};
 ghost use Rattle.mta_worker.specs.Working.{Behind, HasSettled, HasWorked, TurnsOnce, is_closed};
 
-use mta_stations::{Halt, WorkerEnd, halt_of};
 use crate::serving::serve_link;
 use crate::session::Served;
 use mta_edge::{Clock, Disk};
@@ -14,6 +13,7 @@ use mta_records::{Step, StepFault};
 use mta_session::{Limits, SessionEnd};
 use mta_shared::{Pass, Shared};
 use mta_spool::{Spool, Turned};
+use mta_stations::{Halt, WorkerEnd, halt_of};
 use std::alloc::Global;
 use std::sync::Wait;
 
@@ -124,7 +124,15 @@ pub fn work<R: Wait, D: Disk + Drop, C: Clock + Drop, S: Station>(
                 };
             }
         };
-        let Served { end, halt } = serve_link(rt, alloc, shared, pass, &mut link, station.role(), limits);
+        let Served { end, halt } = serve_link(
+            rt,
+            alloc,
+            shared,
+            pass,
+            &mut link,
+            station.role(),
+            limits,
+        );
         station.back(link);
         sessions += 1;
         if is_closed(&end) {

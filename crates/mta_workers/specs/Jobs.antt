@@ -1,5 +1,5 @@
 -- The jobs of workers.
-use Rattle.std.specs.Prelude.{◌≡◌, ℕ, List, [], ◌∷◌, ◌++◌, Option, None, Some, map}
+use Rattle.std.specs.Prelude.{◌≡◌, ℕ, List, [], ◌∷◌, ◌++◌, Option, Some, map}
 use mathlib.Core.List.{IsPrefix}
 use Rattle.mta_edge.specs.Views.{ClockView, DiskView}
 use Rattle.mta_links.specs.Links.{LinkView, StationView}
@@ -8,7 +8,7 @@ use Rattle.mta_session.specs.declared.limits.Limits.{Limits}
 use Rattle.mta_shared.specs.Held.{Held, LockId}
 use Rattle.mta_shared.specs.Passes.{IsReady, Worked}
 use Rattle.mta_stations.specs.declared.end.WorkerEnd.{WorkerEnd}
-use Rattle.mta_worker.specs.Working.{AtStation, HasWorked}
+use Rattle.mta_worker.specs.Working.{HasWorked}
 use Rattle.mta_workers.specs.declared.jobs.Job.{Job}
 
 module _ {S : Type 0} where

@@ -3,7 +3,7 @@
 ghost use Rattle.std.specs.Prelude.{◌≡◌, ◌+◌, ◌<◌, ◌≤◌, [], ◌++◌, All, map, reverse, vec_capacity, vec_len};
 ghost use mathlib.Core.List.{IsPrefix};
 ghost use Rattle.mta_shared.specs.Passes.{lock_of, IsReady};
-ghost use Rattle.mta_workers.specs.Jobs.{end_of, ends_as, IsDealt, IsDone, owned_by, SawFront, station_of};
+ghost use Rattle.mta_workers.specs.Jobs.{end_of, ends_as, IsDealt, IsDealtOne, IsDone, owned_by, SawFront, station_of};
 
 use mta_edge::{Clock, Disk};
 use mta_records::Step;
@@ -35,6 +35,7 @@ pub fn deal<D: Disk + Drop, C: Clock + Drop, S: Drop>(
     ensures room { vec_len stations.old ≤ vec_capacity stations.new }
     ensures count { vec_len jobs.new ≡ vec_len stations.old }
     ensures dealt { All (IsDealt (lock_of shared.now) main.old) jobs.new.items }
+    ensures ones { All (IsDealtOne (lock_of shared.now)) jobs.new.items }
 {
     while let Some(station) = stations.pop() {
         let pass = shared.split(main);

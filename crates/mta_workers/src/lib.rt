@@ -6,6 +6,3 @@ mod side;
 
 pub use jobs::Job;
 pub use side::{Worked, work_side_by_side};
-
-#[cfg(test)]
-mod tests;

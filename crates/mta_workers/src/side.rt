@@ -1,6 +1,6 @@
 //! A whole run of workers: the lock is made, each station gets a worker with a pass of its own, and the lock is closed.
 
-ghost use Rattle.std.specs.Prelude.{◌≡◌, ◌<◌, ℕ, false, All, IsTrue, length, slice_index_or, vec_len};
+ghost use Rattle.std.specs.Prelude.{◌≡◌, ◌<◌, ◌^◌, ℕ, false, All, IsTrue, length, slice_index_or, vec_len};
 ghost use mathlib.Core.List.{IsPrefix};
 ghost use Rattle.mta_shared.specs.Passes.{lock_of, IsReady};
 ghost use Rattle.mta_spool.specs.Bases.{base_of, Keeps};
@@ -47,13 +47,14 @@ fn do_job<R: Wait, D: Disk + Drop, C: Clock + Drop, S: Station + Drop>(
 }
 
 // Each job in a thread of its own.
-fn do_jobs<R: Threads + Wait + Sync, D: Disk + Drop + Send, C: Clock + Drop + Send, S: Station + Drop + Send>(
-    rt: &R,
-    alloc: Global,
-    shared: &Shared<Spool<D, C>>,
-    jobs: &mut [Job<S>],
-    limits: &Limits,
-)
+fn do_jobs<
+    R: Threads + Wait + Sync,
+    D: Disk + Drop + Send,
+    C: Clock + Drop + Send,
+    S: Station + Drop + Send,
+>(rt: &R, alloc: Global, shared: &Shared<Spool<D, C>>, jobs: &mut [Job<S>], limits: &Limits)
+where
+    S::Link: Send,
     requires { All (IsDealtOne (lock_of shared.now)) jobs.old }
     ensures { (i : ℕ) (d : _) → i < length jobs.old →
         JobDone D.model C.model S.Link.model S.model limits.now (lock_of shared.now)
@@ -89,6 +90,8 @@ pub fn work_side_by_side<
     mut stations: Vec<S>,
     limits: &Limits,
 ) -> Worked<D, C, S>
+where
+    S::Link: Send,
     requires few { vec_len stations < 2 ^ 32 }
     requires keeps { Keeps D.model C.model spool (base_of D.model C.model spool) }
     ensures keeps { Keeps D.model C.model result.spool (base_of D.model C.model spool) }

@@ -18,6 +18,6 @@ returns-clause-readied g c =
     let halt = c.get_ready-ready.new.halt in
     in_turn g.D.Disk.model g.C.Clock.model
     (λ s t. IsReadied g.D.Disk.model g.C.Clock.model c.args.peer.now c.args.limits.now.units s c.args.halt.now t halt
-        c.get_ready-ready.result)
+    c.get_ready-ready.result)
     c.args.pass.now _ c.give.new.pass c.take-turn.result.value c.get_ready-ready.new.spool c.take-turn.ensures.history
     c.take-turn.ensures.fact.0 c.take-turn.ensures.turn.0 c.give.ensures.given c.get_ready-ready.ensures.readied

@@ -9,6 +9,6 @@ returns-in-In-clause-served g c =
 
 pub returns-in-Out-clause-served : goal.returns-in-Out-clause-served
 returns-in-Out-clause-served g c =
-    link_called g.D.Disk.model g.C.Clock.model g.L.Link.model c.in-Out.peer.now c.args.limits.now.units
+    link_called g.D.Disk.model g.C.Clock.model g.L.Link.model c.in-Out.peer c.args.limits.now.units
     c.args.role.now c.args.pass.now c.call.new.pass c.args.link.now c.call.new.link c.call.result c.in-Out.is
     c.call.ensures.called

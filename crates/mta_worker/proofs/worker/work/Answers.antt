@@ -80,10 +80,10 @@ returns-in-Some-clause-did g c =
     c.in-Ok-Some.field-0-is c.in-Ok-Some.ensures.out in
     let count : c.if-is_closed.closed ≡ (if c.is_closed.result then c.loop-sessions.closed + 1
     else c.loop-sessions.closed) = elim c.if-is_closed.branch [
-      then-is_closed w ↦ subst (λ (b : Bool). c.if-is_closed.closed
-        ≡ (if b then c.loop-sessions.closed + 1 else c.loop-sessions.closed)) (sym w.if-is_closed.true) w.closed-is
-    | else-is_closed w ↦ subst (λ (b : Bool). c.if-is_closed.closed
-        ≡ (if b then c.loop-sessions.closed + 1 else c.loop-sessions.closed)) (sym w.if-is_closed.false) w.closed-is
+      | then-is_closed w ↦ subst (λ (b : Bool). c.if-is_closed.closed
+          ≡ (if b then c.loop-sessions.closed + 1 else c.loop-sessions.closed)) (sym w.if-is_closed.true) w.closed-is
+      | else-is_closed w ↦ subst (λ (b : Bool). c.if-is_closed.closed
+          ≡ (if b then c.loop-sessions.closed + 1 else c.loop-sessions.closed)) (sym w.if-is_closed.false) w.closed-is
     ] in
     Halted i.served.0 (record {
       station = c.loop-sessions.station;
@@ -118,10 +118,10 @@ loop-sessions-preserved g c =
     c.in-Ok-Some.field-0-is c.in-Ok-Some.ensures.out in
     let count : c.if-is_closed.closed ≡ (if c.is_closed.result then c.loop-sessions.closed + 1
     else c.loop-sessions.closed) = elim c.if-is_closed.branch [
-      then-is_closed w ↦ subst (λ (b : Bool). c.if-is_closed.closed
-        ≡ (if b then c.loop-sessions.closed + 1 else c.loop-sessions.closed)) (sym w.if-is_closed.true) w.closed-is
-    | else-is_closed w ↦ subst (λ (b : Bool). c.if-is_closed.closed
-        ≡ (if b then c.loop-sessions.closed + 1 else c.loop-sessions.closed)) (sym w.if-is_closed.false) w.closed-is
+      | then-is_closed w ↦ subst (λ (b : Bool). c.if-is_closed.closed
+          ≡ (if b then c.loop-sessions.closed + 1 else c.loop-sessions.closed)) (sym w.if-is_closed.true) w.closed-is
+      | else-is_closed w ↦ subst (λ (b : Bool). c.if-is_closed.closed
+          ≡ (if b then c.loop-sessions.closed + 1 else c.loop-sessions.closed)) (sym w.if-is_closed.false) w.closed-is
     ] in
     record {
       ready = (settled.lock ∙ served.lock ∙ i.ready.0, settled.rests);
@@ -129,8 +129,8 @@ loop-sessions-preserved g c =
           (worked_trans c.loop-sessions.pass c.serve_link-end.new.pass c.settle_behind.new.pass served settled);
       out = omega (arith, c.back.ensures.out, more, i.out);
       few = elim c.if-is_closed.branch [
-        then-is_closed w ↦ omega (arith, i.few, w.closed-is)
-      | else-is_closed w ↦ omega (arith, i.few, w.closed-is)
+        | then-is_closed w ↦ omega (arith, i.few, w.closed-is)
+        | else-is_closed w ↦ omega (arith, i.few, w.closed-is)
       ];
       served = (
         i.served.0 ++ record {

@@ -1,6 +1,6 @@
 use Rattle.std.proofs.Common.{◌≡◌, ◌+◌, ◌<◌, ◌≤◌, ◌++◌, map, reverse, vec_len, vec_capacity, All}
 use Rattle.mta_shared.specs.Passes.{lock_of, IsReady}
-use Rattle.mta_workers.specs.Jobs.{station_of, IsDealt}
+use Rattle.mta_workers.specs.Jobs.{station_of, IsDealt, IsDealtOne}
 use Rattle.mta_workers.proofs.jobs.deal.Given as goal
 
 abbrev pub invariant-loop-station : goal.invariant-loop-station
@@ -14,6 +14,7 @@ invariant-loop-station g l = record {
   kept : vec_len l.fn.stations ≤ vec_capacity l.stations;
   count : vec_len l.stations + vec_len l.jobs ≡ vec_len l.fn.stations;
   dealt : All (IsDealt (lock_of l.shared) l.fn.main) l.jobs.items;
+  ones : All (IsDealtOne (lock_of l.shared)) l.jobs.items;
 }
 
 abbrev pub decreases-loop-station : goal.decreases-loop-station

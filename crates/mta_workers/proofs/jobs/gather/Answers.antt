@@ -1,8 +1,10 @@
-use Rattle.std.proofs.Common.{[], ◌∷◌, ◌++◌, All, Some, refl, sym, ap, ◌∙◌, subst, arith, append-nil, append_assoc}
+use Rattle.std.proofs.Common.{[], ◌∷◌, ◌++◌, All, Some, map, reverse, length, refl, sym, ap, ◌∙◌, subst, arith}
+use Rattle.std.proofs.Common.{append-nil, append_assoc}
 use Rattle.mta_shared.specs.Passes.{lock_of}
 use Rattle.mta_shared.proofs.Fronts.{prefix_self, prefix_trans}
-use Rattle.mta_workers.specs.Jobs.{end_of, station_of, IsDone, owned_by, SawFront}
-use Rattle.mta_workers.proofs.Gathering.{all_last, all_front, all_none, reverse_map-cons, map_end, saw_more, empty_front}
+use Rattle.mta_workers.specs.Jobs.{end_of, ends_as, station_of, IsDone, owned_by, SawFront}
+use Rattle.mta_workers.proofs.Gathering.{all_last, all_front, all_none, reverse_map-cons, map_end, saw_more}
+use Rattle.mta_workers.proofs.Gathering.{empty_front}
 use Rattle.mta_workers.proofs.jobs.gather.Goals as goal
 
 pub loop-job-init : goal.loop-job-init
@@ -14,9 +16,9 @@ loop-job-init g c = record {
   same = (refl, refl);
   longer = prefix_self (c.args.main.now.seen);
   order = c.requires.room.0;
-  told = ap (λ l. l) refl;
+  told = ap ends_as c.requires.places.0;
   enough = omega (arith, c.requires.room.1);
-  places = (omega (arith, c.requires.places.1), omega arith);
+  places = (omega (arith, c.requires.places.1), c.args.ends.now.ok.0 ∙ ap length c.requires.places.0);
   own_all = sym (append-nil (c.args.main.now.own));
   seen_all = all_none (SawFront c.args.main.now.seen);
   done = c.requires.ready.1;
@@ -35,7 +37,7 @@ loop-job-preserved g c =
     let p = c.in-Some.ensures in
     let j = c.join.ensures in
     let q = c.push_reserved.ensures in
-    let k = c.push_reserved-2.ensures in
+    let k = c.push_reserved-in-Some.ensures in
     let post = c.in-Some.job in
     let run = subst (λ l. All (IsDone (lock_of c.args.shared.now)) l) p.items i.done in
     let r = all_last (IsDone (lock_of c.args.shared.now)) c.pop.new.self.items post run in
@@ -48,8 +50,9 @@ loop-job-preserved g c =
       same = (ap (λ h. h.base) j.joined ∙ i.same.0, ap (λ h. h.from) j.joined ∙ i.same.1);
       longer = prefix_trans _ _ _ i.longer j.seen.0;
       order = q.items ∙ (ap (λ l. l ++ post.station ∷ []) i.order ∙ sym (reverse_map-cons station_of post i.joined));
-      told = ap (map Some) k.items ∙ (map_end Some c.loop-job.ends.items _ ∙ (ap (λ l. l ++ _ ∷ []) i.told
-          ∙ (ap (λ e. reverse (map end_of i.joined) ++ e ∷ []) (sym c.in-Some-2.is)
+      told = ap ends_as k.items ∙ (map_end Some c.loop-job.ends.items c.in-Some-end.end
+          ∙ (ap (λ l. l ++ Some c.in-Some-end.end ∷ []) i.told
+          ∙ (ap (λ e. reverse (map end_of i.joined) ++ e ∷ []) (sym c.in-Some-end.is)
           ∙ sym (reverse_map-cons end_of post i.joined))));
       enough = let a = i.enough in let b = p.len in let d = q.capacity in omega arith;
       places = let a = i.places in let b = p.len in let d = k.capacity in (omega arith, omega arith);

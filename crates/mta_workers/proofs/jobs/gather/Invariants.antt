@@ -8,7 +8,7 @@ use Rattle.mta_workers.proofs.jobs.gather.Given as goal
 abbrev pub invariant-loop-job : goal.invariant-loop-job
 invariant-loop-job g l = record {
   ready : IsReady (lock_of l.shared) l.main;
-  joined : List (Job g.S.Denot);
+  joined : List (Job g.row.S.Denot);
   rest : l.jobs.items ++ joined ≡ l.fn.jobs.items;
   parts_back : l.main.parts ≡ l.fn.main.parts + length joined;
   same : (l.main.base ≡ l.fn.main.base) × (l.main.from ≡ l.fn.main.from);
