@@ -30,9 +30,9 @@ module _ (spells : List ℕ → Bool) (history : List Seen) where
   abbrev HasList : State → List Call → Type 0
   HasList t calls = (lane : ℕ) × (l : SessionList) × IsListOf spells history t calls lane l
 
-  responds : (own : List ℕ) (units : ℕ) (calls : List Call) → Begins spells history calls
-      → HasList (new_responder own units) calls
-  responds own units calls b =
+  responds : (own : List ℕ) (units : ℕ) (calls : List Call) (u : State) (from : ℕ)
+      → Begins spells history calls action.Read u from → HasList (new_responder own units) calls
+  responds own units calls u from b =
       let l : SessionList = record {
         opening = list_of action.Read b.before;
         at = b.at;
@@ -56,7 +56,7 @@ module _ (spells : List ℕ → Bool) (history : List Seen) where
   listed from mid t u b calls (Listens own units n) l =
       elim (begins_or_not spells history calls action.Read (new_responder own units) u n
       (record { due = refl; waits = refl }) tt l.calls_are l.come_true) [
-        | inl begins ↦ inl (responds own units calls begins)
+        | inl begins ↦ inl (responds own units calls u n begins)
         | inr none ↦ inr (refl, none)
       ]
 
@@ -85,7 +85,7 @@ seen_behind : (calls : List Call) (from low : ℕ) (a : Action) (q : Ask) → ac
 seen_behind [] from low a q e none = absurd (none e)
 seen_behind (c ∷ cs) from low a q e none = refl
 
-read_asks : (q : Ask) → action.Read ≡ action.Ask q → ⊥
+pub read_asks : (q : Ask) → action.Read ≡ action.Ask q → ⊥
 read_asks q e = cc
 
 module _ (whole : ListsAreGood) (may_stop : ListsMayStop) (spells : List ℕ → Bool) (history : List Seen) (t : State)

@@ -105,7 +105,7 @@ where_is phase.AsksOldLane t v h = absurd h
 where_is phase.AsksBind t v h = absurd h
 where_is p t v h = has_one refl
 
-not_both : (p : Phase) → has_none p ≡ true → has_lane p ≡ true → ⊥
+pub not_both : (p : Phase) → has_none p ≡ true → has_lane p ≡ true → ⊥
 not_both phase.ReadsOpen i j = never j
 not_both phase.AsksPeer i j = never j
 not_both phase.AsksStands i j = never j
@@ -140,7 +140,7 @@ first_keeps t event.BadUnit a new i d = absurd (never i)
 first_keeps t (event.Reply y) a new i d = absurd (never i)
 first_keeps t event.Over a new i d = absurd (never i)
 
-not_first : (a : Action) → awaits a phase.Begin ≡ true → ⊥
+pub not_first : (a : Action) → awaits a phase.Begin ≡ true → ⊥
 not_first (action.Put u) i = never i
 not_first action.Read i = never i
 not_first (action.Ask q) i = never i

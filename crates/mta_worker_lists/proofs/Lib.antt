@@ -17,3 +17,5 @@ pub mod Unlisted
 pub mod Pieces
 pub mod Keeping
 pub mod Owned
+pub mod Sessions
+pub mod Whole

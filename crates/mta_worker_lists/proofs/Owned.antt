@@ -24,20 +24,21 @@ use Rattle.mta_shared.proofs.Sums.{times-append}
 use Rattle.mta_worker_lists.specs.Leads.{entry_at, made_by, made_in}
 use Rattle.mta_worker_lists.proofs.Keeping.{Listed, listed_next}
 use Rattle.mta_worker_lists.proofs.Pieces.{asked_place, lane_of, Place, place, PieceOf, told_place}
+use Rattle.mta_worker_lists.proofs.Responding.{comes_later}
 use Rattle.mta_worker_lists.proofs.Waits.{Asked}
 
 -- a number that stands in the list of one
-one_hit : (k m : ℕ) → 0 < times k (m ∷ []) → k ≡ m
+pub one_hit : (k m : ℕ) → 0 < times k (m ∷ []) → k ≡ m
 one_hit k m l = by_test (eqb k m) refl l
   where
     by_test : (b : Bool) → eqb k m ≡ b → 0 < cond b 1 0 + 0 → k ≡ m
     by_test true e l = eqb-true k m e
     by_test false e l = absurd (omega (arith, l))
 
-none_hit : {A : Type 0} → (k : ℕ) → 0 < times k [] → A
+pub none_hit : {A : Type 0} → (k : ℕ) → 0 < times k [] → A
 none_hit k l = absurd (omega (arith, l))
 
-abbrev on_lane : ℕ → SeenStep → StepOn
+abbrev pub on_lane : ℕ → SeenStep → StepOn
 on_lane lane step = record { lane = lane; step = step }
 
 same_entry : (z : StepOn) (lane : ℕ) (step : SeenStep) → Some (On z.lane z.step) ≡ Some (On lane step)
@@ -88,7 +89,7 @@ module _ (spells : List ℕ → Bool) (history : List Seen) (n : ℕ) where
             ∙ ap (λ (m : ℕ). Made m lane step) told.1));
       }
 
-  call_piece : (p : Phase) (t : State) (a : Action) (e : Event) (turn : Turn) (from seen k lane g : ℕ)
+  pub call_piece : (p : Phase) (t : State) (a : Action) (e : Event) (turn : Turn) (from seen k lane g : ℕ)
       (step : SeenStep) → ((q : Ask) → a ≡ action.Ask q → IsAskOf p t q) → ComesTrue spells history from seen p a e
       → n ≤ from → 0 < times k (made_by n seen a e) → slice_get history (n + k) ≡ Some (On lane step)
       → IsPiece g step → Found p t lane g (n + k) step (come_of a turn seen e)
@@ -104,30 +105,14 @@ module _ (spells : List ℕ → Bool) (history : List Seen) (n : ℕ) where
 
   -- ---- all calls
 
-  asked_of : (a : Action) (t : State) → Asked a t → (q : Ask) → a ≡ action.Ask q → IsAskOf t.phase t q
+  pub asked_of : (a : Action) (t : State) → Asked a t → (q : Ask) → a ≡ action.Ask q → IsAskOf t.phase t q
   asked_of a t i q e = subst (λ (z : Action). Asked z t) e i
 
-  -- the length of the history does not fall
-  comes_later : (p : Phase) (a : Action) (e : Event) (from seen : ℕ) → ComesTrue spells history from seen p a e
-      → from ≤ seen
-  comes_later p (action.Ask q) (event.Reply y) from seen is = by_step (step_told q y) is.1
-    where
-      by_step : (o : Option StepOn) → StandsAs spells history from seen q y o → from ≤ seen
-      by_step (Some z) s = omega (arith, s.later)
-      by_step None s = s.later
-  comes_later p (action.Ask q) event.Go from seen is = omega (arith, is)
-  comes_later p (action.Ask q) (event.Unit u) from seen is = omega (arith, is)
-  comes_later p (action.Ask q) event.BadUnit from seen is = omega (arith, is)
-  comes_later p (action.Ask q) event.Over from seen is = omega (arith, is)
-  comes_later p (action.Put u) e from seen is = omega (arith, is)
-  comes_later p action.Read e from seen is = omega (arith, is)
-  comes_later p (action.Finish y) e from seen is = omega (arith, is)
-
-  in_front : (y : SessionEvent) (xs ys : List SessionEvent) → IsIn y xs → IsIn y (xs ++ ys)
+  pub in_front : (y : SessionEvent) (xs ys : List SessionEvent) → IsIn y xs → IsIn y (xs ++ ys)
   in_front y [] ys i = absurd i
   in_front y (x ∷ xs) ys i = elim i [ inl e ↦ inl e | inr more ↦ inr (in_front y xs ys more) ]
 
-  in_back : (y : SessionEvent) (xs ys : List SessionEvent) → IsIn y ys → IsIn y (xs ++ ys)
+  pub in_back : (y : SessionEvent) (xs ys : List SessionEvent) → IsIn y ys → IsIn y (xs ++ ys)
   in_back y [] ys i = i
   in_back y (x ∷ xs) ys i = inr (in_back y xs ys i)
 
@@ -170,7 +155,7 @@ module _ (spells : List ℕ → Bool) (history : List Seen) (n : ℕ) where
                   (list_of c.turn.action cs) one.listed;
             })
         | inr none ↦ (
-            let later = comes_later c.turn.before.phase a c.turn.event from c.seen is.0 in
+            let later = comes_later spells history c.turn.before.phase a c.turn.event from c.seen is.0 in
             let rest = pieces_in cs c.turn.action c.turn.after u c.seen k l g step
             (listed_next lane generation c.turn a run.1 here) run.2 is.1 (omega (arith, le, later))
             (omega (arith, hit, sum, none)) get piece in

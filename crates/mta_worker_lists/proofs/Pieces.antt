@@ -1,5 +1,5 @@
 -- Steps that concern pieces are asked for on the session's lane, in its generation.
-use Rattle.std.proofs.Common.{◌≡◌, ℕ, Bool, true, false, Option, None, Some, Ok, List, refl, sym, ap, ◌∙◌}
+use Rattle.std.proofs.Common.{◌≡◌, ℕ, Bool, true, false, Option, None, Some, Ok, Err, List, refl, sym, ap, ◌∙◌}
 use Rattle.mta_units.specs.declared.unit.OpenUnit.{OpenUnit}
 use Rattle.mta_records.specs.declared.lane.LaneRole.TheVariants.{Initiator, Responder}
 use Rattle.mta_session.specs.State.{State}
@@ -126,4 +126,28 @@ told_place (ask.Complete l j k n o) (reply.Complete (Ok u)) g p = ap (λ (z : �
 told_place (ask.DropActivity l j k) (reply.DropActivity (Ok u)) g p = ap (λ (z : ℕ). Some (place l z)) p
 told_place (ask.LaneOpen Initiator peer name twa c w) (reply.LaneOpen (Ok lane)) g p = absurd p
 told_place (ask.LaneOpen Responder peer name twa c w) (reply.LaneOpen (Ok lane)) g p = absurd p
+told_place (ask.LaneAgree l j c w) (reply.LaneAgree (Ok u)) g p = absurd p
+told_place (ask.LaneAgree l j c w) (reply.LaneAgree (Err f)) g p = absurd p
+told_place (ask.Bind l) (reply.Bind (Ok u)) g p = absurd p
+told_place (ask.Bind l) (reply.Bind (Err f)) g p = absurd p
+told_place (ask.Start l j batch) (reply.Start (Ok u)) g p = absurd p
+told_place (ask.Start l j batch) (reply.Start (Err f)) g p = absurd p
+told_place (ask.Confirm l j k n) (reply.Confirm (Ok u)) g p = absurd p
+told_place (ask.Confirm l j k n) (reply.Confirm (Err f)) g p = absurd p
+told_place (ask.Ending l j k) (reply.Ending (Ok u)) g p = absurd p
+told_place (ask.Ending l j k) (reply.Ending (Err f)) g p = absurd p
+told_place (ask.Sent l j k) (reply.Sent (Ok u)) g p = absurd p
+told_place (ask.Sent l j k) (reply.Sent (Err f)) g p = absurd p
+told_place (ask.Dropped l j k) (reply.Dropped (Ok u)) g p = absurd p
+told_place (ask.Dropped l j k) (reply.Dropped (Err f)) g p = absurd p
+told_place (ask.Denied l j k) (reply.Denied (Ok u)) g p = absurd p
+told_place (ask.Denied l j k) (reply.Denied (Err f)) g p = absurd p
+told_place (ask.Refused l j k kind) (reply.Refused (Ok u)) g p = absurd p
+told_place (ask.Refused l j k kind) (reply.Refused (Err f)) g p = absurd p
+told_place (ask.CloseLane l j) (reply.CloseLane (Ok u)) g p = absurd p
+told_place (ask.CloseLane l j) (reply.CloseLane (Err f)) g p = absurd p
+told_place (ask.Secure l j k n o) (reply.Secure (Err f)) g p = absurd p
+told_place (ask.Complete l j k n o) (reply.Complete (Err f)) g p = absurd p
+told_place (ask.DropActivity l j k) (reply.DropActivity (Err f)) g p = absurd p
+told_place (ask.LaneOpen role peer name twa c w) (reply.LaneOpen (Err f)) g p = absurd p
 told_place q y g p = elim p [ ]

@@ -1,5 +1,5 @@
 -- Where a responder's session has its lane.
-use Rattle.std.proofs.Common.{◌≡◌, ◌⊎◌, ℕ, ◌+◌, ◌-◌, ◌*◌, ◌<◌, Bool, true, false, Option, None, Some, Ok, List, [], ◌∷◌}
+use Rattle.std.proofs.Common.{◌≡◌, ◌⊎◌, ℕ, ◌+◌, ◌-◌, ◌*◌, ◌<◌, ◌≤◌, Bool, true, false, Option, None, Some, Ok, List, [], ◌∷◌}
 use Rattle.std.proofs.Common.{◌++◌, inl, inr, refl, sym, ap, subst, ◌∙◌, arith}
 use Rattle.std.specs.Prelude.{slice_get}
 use Rattle.mta_rtse.specs.declared.types.Answer.{Answer}
@@ -25,7 +25,7 @@ use Rattle.mta_session_laws.specs.Whole.{AreCalls}
 use Rattle.mta_session_laws.proofs.Opening.{wanted_in}
 use Rattle.mta_session_laws.proofs.Whole.{is_ended}
 use Rattle.mta_matches.specs.Asks.{IsAskOf, IsForOpen}
-use Rattle.mta_session_lists.specs.Calls.{Call, StepOn, step_told, turns_of}
+use Rattle.mta_session_lists.specs.Calls.{action_of, Call, StepOn, step_told, turns_of}
 use Rattle.mta_session_lists.specs.Lists.{HasAt, step_by}
 use Rattle.mta_session_lists.specs.Standing.{AllComeTrue, ComesTrue, Stands, StandsAs}
 use Rattle.mta_session_lists.proofs.Found.{never}
@@ -110,10 +110,26 @@ module _ (spells : List ℕ → Bool) (history : List Seen) where
       absurd (never w)
   begins_stands p t new e a b from seen w asks d is = tt
 
+  -- the length of the history does not fall
+  pub comes_later : (p : Phase) (a : Action) (e : Event) (from seen : ℕ) → ComesTrue spells history from seen p a e
+      → from ≤ seen
+  comes_later p (action.Ask q) (event.Reply y) from seen is = by_step (step_told q y) is.1
+    where
+      by_step : (o : Option StepOn) → StandsAs spells history from seen q y o → from ≤ seen
+      by_step (Some z) s = omega (arith, s.later)
+      by_step None s = s.later
+  comes_later p (action.Ask q) event.Go from seen is = omega (arith, is)
+  comes_later p (action.Ask q) (event.Unit u) from seen is = omega (arith, is)
+  comes_later p (action.Ask q) event.BadUnit from seen is = omega (arith, is)
+  comes_later p (action.Ask q) event.Over from seen is = omega (arith, is)
+  comes_later p (action.Put u) e from seen is = omega (arith, is)
+  comes_later p action.Read e from seen is = omega (arith, is)
+  comes_later p (action.Finish y) e from seen is = omega (arith, is)
+
   -- ---- all calls
 
   -- one of these calls gave the session its lane
-  pub record Begins (cs : List Call) : Type 0 where
+  pub record Begins (cs : List Call) (a : Action) (u : State) (from : ℕ) : Type 0 where
     pub before : List Call
     pub call : Call
     pub calls : List Call
@@ -125,10 +141,19 @@ module _ (spells : List ℕ → Bool) (history : List Seen) where
     pub has : HasAt history at step
     pub come_true : AllComeTrue spells history (at + 1) call.turn.action calls
     pub none : GiveNone before
+    -- what the call comes of, and the calls behind it
+    pub is : IsTurn call.turn
+    pub pending : Action
+    pub pending_is : pending ≡ action_of a before
+    pub least : from ≤ at
+    pub ready : Ready pending call.turn.before
+    pub asked : Asked pending call.turn.before
+    pub run : AreCalls call.turn.after (turns_of calls) u
 
-  later : (c : Call) (cs : List Call) → step_by c.turn.before.phase c.turn.event c.turn.after ≡ None → Begins cs
-      → Begins (c ∷ cs)
-  later c cs e b = record {
+  later : (c : Call) (cs : List Call) (a : Action) (u : State) (from : ℕ)
+      → step_by c.turn.before.phase c.turn.event c.turn.after ≡ None → from ≤ c.seen
+      → Begins cs c.turn.action u c.seen → Begins (c ∷ cs) a u from
+  later c cs a u from e le b = record {
     before = c ∷ b.before;
     call = b.call;
     calls = b.calls;
@@ -140,12 +165,20 @@ module _ (spells : List ℕ → Bool) (history : List Seen) where
     has = b.has;
     come_true = b.come_true;
     none = (e, b.none);
+    is = b.is;
+    pending = b.pending;
+    pending_is = b.pending_is;
+    least = omega (arith, le, b.least);
+    ready = b.ready;
+    asked = b.asked;
+    run = b.run;
   }
 
-  here : (c : Call) (cs : List Call) (x : StepOn) (from : ℕ)
+  here : (c : Call) (cs : List Call) (u : State) (x : StepOn) (from : ℕ) (a : Action) → IsTurn c.turn
+      → Ready a c.turn.before → Asked a c.turn.before → AreCalls c.turn.after (turns_of cs) u
       → step_by c.turn.before.phase c.turn.event c.turn.after ≡ Some x → Stands history from c.seen x
-      → AllComeTrue spells history c.seen c.turn.action cs → Begins (c ∷ cs)
-  here c cs x from e s rest =
+      → AllComeTrue spells history c.seen c.turn.action cs → Begins (c ∷ cs) a u from
+  here c cs u x from a is ready asked run e s rest =
       let place : c.seen ≡ (c.seen - 1) + 1 = omega (arith, s.later) in
       record {
         before = [];
@@ -159,25 +192,35 @@ module _ (spells : List ℕ → Bool) (history : List Seen) where
         has = s.entry;
         come_true = subst (λ (n : ℕ). AllComeTrue spells history n c.turn.action cs) place rest;
         none = tt;
+        is = is;
+        pending = a;
+        pending_is = refl;
+        least = omega (arith, s.later);
+        ready = ready;
+        asked = asked;
+        run = run;
       }
 
-  by_step : (c : Call) (cs : List Call) (from : ℕ) (o : Option StepOn)
+  by_step : (c : Call) (cs : List Call) (u : State) (from : ℕ) (a : Action) (o : Option StepOn) → IsTurn c.turn
+      → Ready a c.turn.before → Asked a c.turn.before → AreCalls c.turn.after (turns_of cs) u
       → step_by c.turn.before.phase c.turn.event c.turn.after ≡ o → StandsIf from c.seen o
-      → AllComeTrue spells history c.seen c.turn.action cs → Begins cs ⊎ GiveNone cs
-      → Begins (c ∷ cs) ⊎ GiveNone (c ∷ cs)
-  by_step c cs from (Some x) e s rest more = inl (here c cs x from e s rest)
-  by_step c cs from None e s rest more = elim more [ inl b ↦ inl (later c cs e b) | inr none ↦ inr (e, none) ]
+      → AllComeTrue spells history c.seen c.turn.action cs → from ≤ c.seen
+      → Begins cs c.turn.action u c.seen ⊎ GiveNone cs → Begins (c ∷ cs) a u from ⊎ GiveNone (c ∷ cs)
+  by_step c cs u from a (Some x) is ready asked run e s rest le more =
+      inl (here c cs u x from a is ready asked run e s rest)
+  by_step c cs u from a None is ready asked run e s rest le more =
+      elim more [ inl b ↦ inl (later c cs a u from e le b) | inr none ↦ inr (e, none) ]
 
   pub begins_or_not : (cs : List Call) (a : Action) (t u : State) (from : ℕ) → Ready a t → Asked a t
-      → AreCalls t (turns_of cs) u → AllComeTrue spells history from a cs → Begins cs ⊎ GiveNone cs
+      → AreCalls t (turns_of cs) u → AllComeTrue spells history from a cs → Begins cs a u from ⊎ GiveNone cs
   begins_or_not [] a t u from k asked run is = inr tt
   begins_or_not (c ∷ cs) a t u from k asked run is =
       let ready : Ready a c.turn.before = subst (Ready a) (sym run.0) k in
       let asks : Asked a c.turn.before = subst (Asked a) (sym run.0) asked in
-      by_step c cs from (step_by c.turn.before.phase c.turn.event c.turn.after) refl
+      by_step c cs u from a (step_by c.turn.before.phase c.turn.event c.turn.after) run.1 ready asks run.2 refl
       (begins_stands c.turn.before.phase c.turn.before c.turn.after c.turn.event a c.turn.action from c.seen ready.waits
       (asked_at a c.turn.before asks) (λ i. does_at c.turn c.turn.event refl run.1 i) is.0)
-      is.1
+      is.1 (comes_later c.turn.before.phase a c.turn.event from c.seen is.0)
       (begins_or_not cs c.turn.action c.turn.after u c.seen (ready_next c.turn run.1 ready.due)
       (asked_next c.turn.action c.turn.before c.turn.event c.turn.after run.1.follows) run.2 is.1)
     where

@@ -61,7 +61,7 @@ one_alone (x ∷ xs) s t k le i j a b =
       ]
     ]
 
-is_segment : (history : List Seen) (n : ℕ) (ss : List Segment) (s : Segment) → AreSegments history n ss → IsOne s ss
+pub is_segment : (history : List Seen) (n : ℕ) (ss : List Segment) (s : Segment) → AreSegments history n ss → IsOne s ss
     → IsSegment history n s
 is_segment history n [] s are i = absurd i
 is_segment history n (x ∷ xs) s are i =

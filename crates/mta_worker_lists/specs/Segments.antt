@@ -7,13 +7,14 @@ use Rattle.mta_session.specs.State.{is_initiator, State}
 use Rattle.mta_session.specs.declared.event.Action.{Action}
 use Rattle.mta_session.specs.declared.event.Action.TheVariants as action
 use Rattle.mta_matches.specs.Generations.{BeginsAt}
-use Rattle.mta_runs.specs.Sessions.{Made, SessionEvent, SessionList}
+use Rattle.mta_runs.specs.Sessions.{IsGoodSession, Made, SessionEvent, SessionList}
 use Rattle.mta_session_lists.specs.Calls.{Call, look_told, step_told, told_as}
 use Rattle.mta_session_lists.specs.Laws.{IsIn, IsPiece}
-use Rattle.mta_session_lists.specs.Lists.{IsListOf}
+use Rattle.mta_session_lists.specs.Lists.{AreValues, completed, IsListOf}
 use Rattle.mta_shared.specs.Counts.{times}
 use Rattle.mta_worker_lists.specs.Begun.{Calls, Ended, GiveNone, IsNewAt, IsOver, Listens, made_over, Stopped}
 use Rattle.mta_worker_lists.specs.Begun.{Unanswered, Untold}
+use Rattle.mta_worker_lists.specs.Good.{IsListOver}
 use Rattle.mta_worker_lists.specs.Leads.{Leads, made_in}
 
 -- The list of a session that has a lane in a generation, which began at this position of the history.
@@ -118,3 +119,17 @@ SessionsAreSegments =
     (calls : List Call) (new : IsNewAt history from t) (over : IsOver spells history mid upto u b)
     → before + length (begun_by before new) ≤ from → Leads spells history from t action.Read calls mid u b
     → (s : Segment) × IsOf before new calls over s × IsSegment history before s
+
+-- The list of a session whose part of the history is one of these, with what came of its last action and with the
+-- Abandons of other passes, is a good one.
+abbrev pub SegmentsAreGood : Type 0
+SegmentsAreGood =
+    (spells : List ℕ → Bool) (history : List Seen) (before low from mid upto : ℕ) (ss : List Segment) (s : Segment)
+    (t u : State) (b : Action) (calls : List Call) (new : IsNewAt history from t)
+    (over : IsOver spells history mid upto u b) (x : OnLane) (l m : SessionList) (size window : ℕ)
+    → h.LanesAllow spells history → AreAll history before low ss → IsOne s ss → IsOf before new calls over s
+    → s.list ≡ Some x → before + low ≤ x.at → Leads spells history from t action.Read calls mid u b
+    → IsListOf spells history t calls x.lane l → x.at ≡ l.at → x.events ≡ l.events ++ told_over over
+    → IsListOver calls l over m → AreValues history x.lane size window
+    → IsGoodSession spells history x.lane size window (is_initiator t.side)
+    (completed history x.lane size window (is_initiator t.side) m)

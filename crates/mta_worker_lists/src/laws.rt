@@ -2,7 +2,7 @@
 
 ghost use Rattle.mta_worker_lists.specs.Good.{SessionsAreGood, SessionsHaveLists};
 ghost use Rattle.mta_worker_lists.specs.Linked.{LinksAreRun};
-ghost use Rattle.mta_worker_lists.specs.Segments.{ListsOwnPieces};
+ghost use Rattle.mta_worker_lists.specs.Segments.{ListsOwnPieces, SegmentsAreGood, SessionsAreSegments};
 
 use mta_edge::{Clock, Disk};
 use mta_links::Link;
@@ -33,3 +33,18 @@ pub fn sessions_are_good()
 pub fn lists_own_pieces()
     ensures { ListsOwnPieces }
 {}
+
+/// All that a session did is such a part of the history: each of its entries that concerns pieces stands in its list,
+/// whose lane and generation are those of the step.
+pub fn sessions_are_segments()
+    ensures { SessionsAreSegments }
+{}
+
+/// So the list of a session is a good one, where no entry was made twice and each one that concerns pieces was made for
+/// a session.
+pub fn segments_are_good()
+    ensures { SegmentsAreGood }
+{
+    lists_are_good();
+    lists_may_stop();
+}

@@ -3,4 +3,7 @@
 
 mod laws;
 
-pub use laws::{links_are_run, lists_own_pieces, sessions_are_good, sessions_have_lists};
+pub use laws::{
+    links_are_run, lists_own_pieces, segments_are_good, sessions_are_good, sessions_are_segments,
+    sessions_have_lists,
+};

@@ -1,4 +1,3 @@
-use Rattle.mta_worker_lists.proofs.Owned.{pieces_in}
 use Rattle.mta_worker_lists.proofs.Segments.{lists_own_pieces}
 use Rattle.mta_worker_lists.proofs.laws.lists_own_pieces.Goals as goal
 
