@@ -16,7 +16,7 @@ use Rattle.mta_session_lists.specs.Calls.{action_of, Call, list_of, turns_of}
 use Rattle.mta_session_lists.specs.Laws.{ListsAreGood, ListsMayStop, OpensFirst, OwnsPieces}
 use Rattle.mta_session_lists.specs.Lists.{AreValues, completed, Initiates, IsListOf, Responds}
 use Rattle.mta_session_lists.specs.Lost.{IsLost, Lost, seen_of, stopped}
-use Rattle.mta_session_lists.specs.Standing.{ComesTrue}
+use Rattle.mta_session_lists.specs.Standing.{AllComeTrue, ComesTrue}
 use Rattle.mta_session_lists.proofs.Waiting.{Ready}
 use Rattle.mta_worker_lists.specs.Begun.{Calls, Ended, GiveNone, IsNewAt, IsOver, Listens, Stopped, Unanswered}
 use Rattle.mta_worker_lists.specs.Begun.{Untold}
@@ -48,10 +48,11 @@ module _ (spells : List ℕ → Bool) (history : List Seen) where
   listed : (from mid : ℕ) (t u : State) (b : Action) (calls : List Call) → IsNewAt history from t
       → Leads spells history from t action.Read calls mid u b
       → HasList t calls ⊎ ((is_initiator t.side ≡ false) × GiveNone calls)
-  listed from mid t u b calls (Calls p units at has opens) l = inl (
+  listed from mid t u b calls (Calls p units at from' is has opens) l = inl (
     p.lane,
     record { opening = []; at = at; events = list_of action.Read calls },
-    Initiates p units at calls has l.come_true,
+    Initiates p units at calls has
+        (subst (λ (m : ℕ). AllComeTrue spells history m action.Read calls) is l.come_true),
   )
   listed from mid t u b calls (Listens own units n) l =
       elim (begins_or_not spells history calls action.Read (new_responder own units) u n
@@ -66,7 +67,7 @@ sessions_have_lists spells history from upto t u b calls new l = listed spells h
 -- ---- that it is good
 
 opens_first : (history : List Seen) (from : ℕ) (t : State) → IsNewAt history from t → OpensFirst t.side
-opens_first history from t (Calls p units at has opens) = opens
+opens_first history from t (Calls p units at from' is has opens) = opens
 opens_first history from t (Listens own units n) = tt
 
 fits_then : (calls : List Call) (a : Action) (t u : State) (q : Ask) → AreCalls t (turns_of calls) u

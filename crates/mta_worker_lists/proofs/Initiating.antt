@@ -38,7 +38,8 @@ use Rattle.mta_worker.specs.Proposals.{Binds, IsNext, Opens}
 use Rattle.mta_worker.specs.Readying.{asks_next, Begins, Begun, IsReadied, IsStepped, Lost_looking, plan_behind}
 use Rattle.mta_worker.specs.Readying.{Stepped, Well, Without_memory}
 use Rattle.mta_shared.specs.Held.{Held}
-use Rattle.mta_worker_lists.specs.Begun.{at_first, Calls, IsNewAt}
+use Rattle.mta_shared.specs.Counts.{row}
+use Rattle.mta_worker_lists.specs.Begun.{at_first, begun_by, Calls, IsNewAt}
 use Rattle.mta_worker_lists.specs.Begun as over
 use Rattle.mta_worker_lists.specs.Histories.{TellsApdus, place, whole}
 use Rattle.mta_worker_lists.specs.Leads.{Leads}
@@ -47,8 +48,8 @@ use Rattle.mta_worker_lists.proofs.Ending.{Closed, done_behind, looking_closed}
 use Rattle.mta_worker_lists.proofs.Joining.{leads_more, no_calls, none_carried}
 use Rattle.mta_worker_lists.proofs.Making.{Makes}
 use Rattle.mta_worker_lists.proofs.Telling.{answer_made}
-use Rattle.mta_worker_lists.proofs.Turns.{calls_at, IsQuiet, looks_lead, looks_quiet, made_stands, stands_next}
-use Rattle.mta_worker_lists.proofs.Turns.{Stands as StandsNow, was_possible}
+use Rattle.mta_worker_lists.proofs.Turns.{calls_at, IsQuiet, looks_lead, looks_quiet, made_entries, made_stands}
+use Rattle.mta_worker_lists.proofs.Turns.{stands_next, Stands as StandsNow, was_possible}
 use Rattle.mta_worker_lists.proofs.Waits.{calls_wait, looks_not, Waits, waits_next}
 
 -- ---- what is proposed
@@ -152,14 +153,16 @@ module _ {D C : Type 0} (disks : DiskView D) (clocks : ClockView C) where
     long s = length first + length s.entries
 
     -- the session begins there
-    pub record IsBegun (new : Shown D C) : Type 0 where
+    pub record IsBegun (old new : Shown D C) (pass : Held Step) : Type 0 where
       pub plan : InitiatorPlan
       pub units : ℕ
-      pub begun : IsNewAt history (long new) (new_initiator plan units)
+      pub begun : IsNewAt history (place first pass) (new_initiator plan units)
+      pub opened : row (length old.entries) (length new.entries - length old.entries)
+          ≡ begun_by (length first) begun
 
     -- It is carried on from these first calls.
-    pub record Led (new : Shown D C) (u : Session) (b : Action) : Type 0 where
-      pub begins : IsBegun new
+    pub record Led (old new : Shown D C) (pass : Held Step) (u : Session) (b : Action) : Type 0 where
+      pub begins : IsBegun old new pass
       pub calls : List Call
       pub leads : Leads spells history (long new) (new_initiator begins.plan begins.units) action.Read calls (long new)
           u b
@@ -170,16 +173,22 @@ module _ {D C : Type 0} (disks : DiskView D) (clocks : ClockView C) where
     back : (n : ℕ) → 0 < n → n - 1 + 1 ≡ n
     back n l = omega (arith, l)
 
-    has_step : (q : Ask) (y : Reply) (plan : InitiatorPlan) (old new : Shown D C)
-        → old.current ≡ after (first ++ old.entries) → IsPrefix new.entries entries → IsPlanned q y plan
-        → Makes (step_told q y) old new → (units : ℕ) → IsNewAt history (long new) (new_initiator plan units)
-    has_step q y plan old new state f p m units =
+    abbrev has_step : (q : Ask) (y : Reply) (plan : InitiatorPlan) (old new : Shown D C) (pass : Held Step)
+        → pass.seen ≡ new.entries → old.current ≡ after (first ++ old.entries) → IsPrefix new.entries entries
+        → IsPlanned q y plan → Makes (step_told q y) old new → (units : ℕ) → IsBegun old new pass
+    has_step q y plan old new pass sees state f p m units =
         let makes : Makes (Some (step_for plan)) old new = subst (λ (o : Option StepOn). Makes o old new) p.told m in
         let stands : Stands history 0 (long new) (step_for plan) =
         made_stands disks clocks spells tells first entries possible (step_for plan) 0 old new makes state f (omega arith)
         in
-        subst (λ (n : ℕ). IsNewAt history n (new_initiator plan units)) (back (long new) stands.later)
-        (Calls plan units (long new - 1) stands.entry p.opens)
+        let there : place first pass ≡ long new = ap (λ (xs : List Step). length first + length xs) sees in
+        record {
+          plan = plan;
+          units = units;
+          begun = Calls plan units (long new - 1) (place first pass) (there ∙ sym (back (long new) stands.later))
+              stands.entry p.opens;
+          opened = made_entries disks clocks spells tells first entries possible (Some (step_for plan)) old new makes;
+        }
 
     -- the step for it was made
     was_made : (units : ℕ) (old new : Shown D C) (halt halt' : Option Halt) (u : Session) (r : Result Action Lost)
@@ -189,15 +198,12 @@ module _ {D C : Type 0} (disks : DiskView D) (clocks : ClockView C) where
         answer_made disks clocks w.question old w.answer new
         (was_possible disks clocks spells tells first entries possible old new state f) w.answered
 
-    abbrev there : (units : ℕ) (old new : Shown D C) (halt halt' : Option Halt) (u : Session) (r : Result Action Lost)
-        → old.current ≡ after (first ++ old.entries) → IsPrefix new.entries entries
-        → BeginsWith disks clocks units old new halt u halt' r → IsBegun new
-    there units old new halt halt' u r state f w = record {
-      plan = w.plan;
-      units = units;
-      begun = has_step w.question w.answer w.plan old new state f w.planned
-          (was_made units old new halt halt' u r state f w) units;
-    }
+    abbrev there : (units : ℕ) (old new : Shown D C) (pass : Held Step) (halt halt' : Option Halt) (u : Session)
+        (r : Result Action Lost) → pass.seen ≡ new.entries → old.current ≡ after (first ++ old.entries)
+        → IsPrefix new.entries entries → BeginsWith disks clocks units old new halt u halt' r → IsBegun old new pass
+    there units old new pass halt halt' u r sees state f w =
+        has_step w.question w.answer w.plan old new pass sees state f w.planned
+        (was_made units old new halt halt' u r state f w) units
 
     stands_there : (units : ℕ) (old new : Shown D C) (halt halt' : Option Halt) (u : Session) (r : Result Action Lost)
         → old.current ≡ after (first ++ old.entries) → IsPrefix new.entries entries
@@ -224,15 +230,16 @@ module _ {D C : Type 0} (disks : DiskView D) (clocks : ClockView C) where
     first_quiet t new one u looks quiet =
         record { got = quiet.got; put = ([], [], refl, quiet.put, refl); made = quiet.made }
 
-    pub begins_led : (units : ℕ) (old new : Shown D C) (halt halt' : Option Halt) (u : Session) (b : Action)
-        → old.current ≡ after (first ++ old.entries) → IsPrefix new.entries entries
-        → BeginsWith disks clocks units old new halt u halt' (Ok b) → Led new u b
-    begins_led units old new halt halt' u b state f w = by_begin w.begins
+    pub begins_led : (units : ℕ) (old new : Shown D C) (pass : Held Step) (halt halt' : Option Halt) (u : Session)
+        (b : Action) → pass.seen ≡ new.entries → old.current ≡ after (first ++ old.entries)
+        → IsPrefix new.entries entries → BeginsWith disks clocks units old new halt u halt' (Ok b)
+        → Led old new pass u b
+    begins_led units old new pass halt halt' u b sees state f w = by_begin w.begins
       where
         fresh : Session
         fresh = new_initiator w.plan units
 
-        by_begin : Begins disks clocks new w.plan units halt u halt' (Ok b) → Led new u b
+        by_begin : Begins disks clocks new w.plan units halt u halt' (Ok b) → Led old new pass u b
         by_begin (Well one c t turn looked none) =
             let call : Call = first_call fresh new one t in
             let looks : List Call = calls_at (long new) looked.turns in
@@ -242,7 +249,7 @@ module _ {D C : Type 0} (disks : DiskView D) (clocks : ClockView C) where
             subst (λ (a : Action). Waits a u) look_leads.wanted
             (calls_wait looks one t u (waits_next call.turn turn refl) look_leads.calls_are) in
             record {
-              begins = there units old new halt halt' u (Ok b) state f w;
+              begins = there units old new pass halt halt' u (Ok b) sees state f w;
               calls = call ∷ [] ++ looks;
               leads =
                   leads_more spells history (call ∷ []) looks (long new) (long new) (long new) fresh t u action.Read one b
@@ -257,15 +264,15 @@ module _ {D C : Type 0} (disks : DiskView D) (clocks : ClockView C) where
 
     -- It is given up in the turn of the lock in which it began.
     module _ {L : Type 0} (links : LinkView L) where
-      pub record Lost_there (new : Shown D C) (old : L) (pass : Held Step) : Type 0 where
-        pub begins : IsBegun new
+      pub record Lost_there (old new : Shown D C) (at : L) (pass : Held Step) : Type 0 where
+        pub begins : IsBegun old new pass
         pub closed : Closed disks clocks links spells tells first entries
-            (at_first (new_initiator begins.plan begins.units) old pass) pass
+            (at_first (new_initiator begins.plan begins.units) at pass) pass
 
       pub begins_lost : (units : ℕ) (old new : Shown D C) (halt halt' : Option Halt) (u : Session) (lost : Lost)
           (at : L) (pass : Held Step) → old.current ≡ after (first ++ old.entries) → IsPrefix new.entries entries
           → pass.seen ≡ new.entries → BeginsWith disks clocks units old new halt u halt' (Err lost)
-          → Lost_there new at pass
+          → Lost_there old new at pass
       begins_lost units old new halt halt' u lost at pass state f sees w = by_begin lost w.begins
         where
           fresh : Session
@@ -274,9 +281,9 @@ module _ {D C : Type 0} (disks : DiskView D) (clocks : ClockView C) where
           begin : At L
           begin = at_first fresh at pass
 
-          by_begin : (l : Lost) → Begins disks clocks new w.plan units halt u halt' (Err l) → Lost_there new at pass
+          by_begin : (l : Lost) → Begins disks clocks new w.plan units halt u halt' (Err l) → Lost_there old new at pass
           by_begin l (Without_memory same is) = record {
-            begins = there units old new halt halt' u (Err lost) state f w;
+            begins = there units old new pass halt halt' u (Err lost) sees state f w;
             closed = (
               [],
               record {
@@ -314,7 +321,7 @@ module _ {D C : Type 0} (disks : DiskView D) (clocks : ClockView C) where
               subst (λ (xs : List Step). Leads spells history (length first + length xs) fresh action.Read (call ∷ [])
               (length first + length xs) t one) (sym sees) (first_leads fresh new one t turn) in
               record {
-                begins = there units old new halt halt' u (Err lost) state f w;
+                begins = there units old new pass halt halt' u (Err lost) sees state f w;
                 closed = (
                   call ∷ [] ++ rest.0,
                   done_behind links spells first entries begin x (call ∷ []) rest.0 pass led

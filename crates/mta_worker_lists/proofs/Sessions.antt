@@ -42,10 +42,10 @@ use Rattle.mta_session_lists.proofs.Ordering.{begins_done, is_some}
 use Rattle.mta_session_lists.proofs.Waiting.{does_at, goes_with, ready_next}
 use Rattle.mta_shared.specs.Counts.{times}
 use Rattle.mta_shared.proofs.Sums.{times-append, times-self}
-use Rattle.mta_worker_lists.specs.Begun.{Calls, Ended, GiveNone, IsNewAt, IsOver, Listens, made_over, Stopped}
-use Rattle.mta_worker_lists.specs.Begun.{Unanswered, Untold}
+use Rattle.mta_worker_lists.specs.Begun.{begun_by, Calls, Ended, GiveNone, IsNewAt, IsOver, Listens, made_over}
+use Rattle.mta_worker_lists.specs.Begun.{Stopped, Unanswered, Untold}
 use Rattle.mta_worker_lists.specs.Leads.{Leads, made_by, made_in}
-use Rattle.mta_worker_lists.specs.Segments.{begun_by, Begins, BeginsIn, IsListed, IsListedIn, IsOf, IsSegment, OnLane}
+use Rattle.mta_worker_lists.specs.Segments.{IsOf, IsSegment, OnLane}
 use Rattle.mta_worker_lists.specs.Segments.{Segment, SessionsAreSegments, told_over}
 use Rattle.mta_worker_lists.proofs.Good.{read_asks}
 use Rattle.mta_worker_lists.proofs.Joining.{action_more, made_more}
@@ -302,12 +302,12 @@ module _ (spells : List ℕ → Bool) (history : List Seen) (n : ℕ) where
       → On l step ≡ On m other
   same_step l m step other e = cc
 
-  initiates : (p : InitiatorPlan) (units at mid upto : ℕ) (u : State) (b : Action) (calls : List Call)
-      (has : HasAt history at (step_for p)) (opens : p.recovering ≡ false → p.generation ≡ 1)
-      (o : IsOver spells history mid upto u b) → n + 1 ≤ at + 1
-      → Leads spells history (at + 1) (new_initiator p units) action.Read calls mid u b
-      → (s : Segment) × IsOf n (Calls p units at has opens) calls o s × IsSegment history n s
-  initiates p units at mid upto u b calls has opens o le led =
+  initiates : (p : InitiatorPlan) (units at from mid upto : ℕ) (u : State) (b : Action) (calls : List Call)
+      (next : from ≡ at + 1) (has : HasAt history at (step_for p)) (opens : p.recovering ≡ false → p.generation ≡ 1)
+      (o : IsOver spells history mid upto u b) → n + 1 ≤ from
+      → Leads spells history from (new_initiator p units) action.Read calls mid u b
+      → (s : Segment) × IsOf n (Calls p units at from next has opens) calls o s × IsSegment history n s
+  initiates p units at from mid upto u b calls next has opens o le led =
       let rest : List ℕ = made_in n action.Read calls ++ made_over n o in
       let list : OnLane = record {
         lane = p.lane;
@@ -317,14 +317,23 @@ module _ (spells : List ℕ → Bool) (history : List Seen) (n : ℕ) where
       } in
       let l : SessionList = record { opening = []; at = at; events = list_of action.Read calls } in
       let less : n ≤ mid = subst (λ (m : ℕ). n ≤ m) led.seen
-      (omega (arith, le, later_seen calls action.Read (at + 1) led.come_true)) in
+      (omega (arith, le, later_seen calls action.Read from led.come_true)) in
       (
         record { own = (at - n) ∷ rest; list = Some list },
-        record { own = refl; list = (l, Initiates p units at calls has led.come_true, refl, refl) },
+        record {
+          own = refl;
+          list = (
+            l,
+            Initiates p units at calls has
+                (subst (λ (m : ℕ). AllComeTrue spells history m action.Read calls) next led.come_true),
+            refl,
+            refl,
+          );
+        },
         record {
           begins = record {
             begins = (On (step_for p).lane (step_for p).step, has, plan_begins p opens);
-            later = omega (arith, le);
+            later = omega (arith, le, next);
             owned =
                 let sum : times (at - n) ((at - n) ∷ [] ++ rest)
                     ≡ times (at - n) ((at - n) ∷ []) + times (at - n) rest =
@@ -337,14 +346,14 @@ module _ (spells : List ℕ → Bool) (history : List Seen) (n : ℕ) where
               elim (cases_lt 0 (times k ((at - n) ∷ []))) [
                 inl first ↦ absurd (
                   let place : k ≡ at - n = one_hit k (at - n) first in
-                  let there : n + k ≡ at = omega (arith, place, le) in
+                  let there : n + k ≡ at = omega (arith, place, le, next) in
                   let same : On (step_for p).lane (step_for p).step ≡ On lane step =
                   same_step (step_for p).lane lane (step_for p).step step
                   (sym has ∙ ap (λ (m : ℕ). slice_get history m) (sym there) ∙ get) in
                   begins_none p.lane lane p.generation g step
                   (subst (λ (y : Seen). BeginsHere p.lane p.generation y) same (plan_begins p opens)) piece)
               | inr none ↦ (
-                  let found = all_listed p.lane p.generation calls action.Read (new_initiator p units) u b (at + 1) mid
+                  let found = all_listed p.lane p.generation calls action.Read (new_initiator p units) u b from mid
                   upto o k lane g step (new_listed p units) led.calls_are led.come_true led.wanted (omega (arith, le))
                   less (omega (arith, hit, sum, none)) get piece in
                   record { lane_is = found.lane_is; generation_is = found.generation_is; listed = found.listed })
@@ -529,8 +538,8 @@ module _ (spells : List ℕ → Bool) (history : List Seen) (n : ℕ) where
       )
 
 pub sessions_are_segments : SessionsAreSegments
-sessions_are_segments spells history n from mid upto t u b calls (Calls p units at has opens) o le led =
-    initiates spells history n p units at mid upto u b calls has opens o le led
+sessions_are_segments spells history n from mid upto t u b calls (Calls p units at from' is has opens) o le led =
+    initiates spells history n p units at from mid upto u b calls is has opens o le led
 sessions_are_segments spells history n from mid upto t u b calls (Listens own units from') o le led =
     elim (begins_or_not spells history calls action.Read (new_responder own units) u from
         (record { due = refl; waits = refl }) tt led.calls_are led.come_true) [

@@ -261,7 +261,7 @@ module _ {D C : Type 0} (disks : DiskView D) (clocks : ClockView C) where
         }
 
     -- the step that was made is the pass's own entry
-    made_entries : (o : Option StepOn) (old new : Shown D C) → Makes o old new
+    pub made_entries : (o : Option StepOn) (old new : Shown D C) → Makes o old new
         → row (length old.entries) (length new.entries - length old.entries) ≡ entry_at (length first) (upto new) o
     made_entries (Some x) old new m =
         let long : length (old.entries ++ m.0 ∷ []) ≡ length old.entries + 1 = length-append old.entries (m.0 ∷ []) in

@@ -1,5 +1,5 @@
 -- Where a session begins in the history, and where it has its lane.
-use Rattle.std.specs.Prelude.{◌≡◌, ◌⊎◌, ℕ, ◌+◌, Bool, false, None, List, [], ◌∷◌, ◌++◌, length}
+use Rattle.std.specs.Prelude.{◌≡◌, ◌⊎◌, ℕ, ◌+◌, ◌-◌, Bool, false, None, List, [], ◌∷◌, ◌++◌, length}
 use Rattle.mta_links.specs.Links.{LinkView}
 use Rattle.mta_records.specs.declared.step.Step.{Step}
 use Rattle.mta_units.specs.Feed.{Feed, no_feed}
@@ -25,8 +25,8 @@ use Rattle.mta_worker_lists.specs.Leads.{AreCarried, entry_at, Leads, made_in}
 -- A session is new at this length of the history. The lane of one that its worker began was opened or bound in the step
 -- before, and a lane that was opened is in its first generation.
 pub data IsNewAt (history : List Seen) : (from : ℕ) → State → Type 0 where
-  Calls : (p : InitiatorPlan) (units at : ℕ) → HasAt history at (step_for p) → (p.recovering ≡ false → p.generation ≡ 1)
-      → IsNewAt history (at + 1) (new_initiator p units)
+  Calls : (p : InitiatorPlan) (units at from : ℕ) → from ≡ at + 1 → HasAt history at (step_for p)
+      → (p.recovering ≡ false → p.generation ≡ 1) → IsNewAt history from (new_initiator p units)
   Listens : (own : List ℕ) (units from : ℕ) → IsNewAt history from (new_responder own units)
 
 -- How it ends behind its last call: with an end, or for want of memory at its link, or with a reply that the history has
@@ -92,6 +92,11 @@ pub record HasRun {L : Type 0} (links : LinkView L) (spells : List ℕ → Bool)
     (t : State) (p : Held Step) (calls : List Call) (q : Held Step) : Type 0 where
   pub begins : IsNewAt (whole first entries) (place first p) t
   pub done : IsDone links spells first entries (at_first t old p) calls q
+
+-- the entry by which a session's lane was opened or bound before its first call
+abbrev pub begun_by : {history : List Seen} {from : ℕ} {t : State} → (before : ℕ) → IsNewAt history from t → List ℕ
+begun_by n (Calls p units at from is has opens) = (at - n) ∷ []
+begun_by n (Listens own units from) = []
 
 -- none of these calls tells a responder that it has a lane
 abbrev pub GiveNone : List Call → Type 0

@@ -12,7 +12,7 @@ use Rattle.mta_session_lists.specs.Calls.{Call, look_told, step_told, told_as}
 use Rattle.mta_session_lists.specs.Laws.{IsIn, IsPiece}
 use Rattle.mta_session_lists.specs.Lists.{AreValues, completed, IsListOf}
 use Rattle.mta_shared.specs.Counts.{times}
-use Rattle.mta_worker_lists.specs.Begun.{Calls, Ended, GiveNone, IsNewAt, IsOver, Listens, made_over, Stopped}
+use Rattle.mta_worker_lists.specs.Begun.{begun_by, Ended, GiveNone, IsNewAt, IsOver, made_over, Stopped}
 use Rattle.mta_worker_lists.specs.Begun.{Unanswered, Untold}
 use Rattle.mta_worker_lists.specs.Good.{IsListOver}
 use Rattle.mta_worker_lists.specs.Leads.{Leads, made_in}
@@ -84,11 +84,6 @@ ListsOwnPieces =
     → IsIn (Made q l.lane step) l.events
 
 -- ---- sessions
-
--- the entry by which a session's lane was opened or bound before its first call
-abbrev pub begun_by : {history : List Seen} {from : ℕ} {t : State} → (before : ℕ) → IsNewAt history from t → List ℕ
-begun_by n (Calls p units at has opens) = (at - n) ∷ []
-begun_by n (Listens own units from) = []
 
 -- what stands in the list for a reply that is not told
 abbrev pub told_over : {spells : List ℕ → Bool} {history : List Seen} {from upto : ℕ} {u : State} {b : Action}
