@@ -1,5 +1,5 @@
 -- The steps of a history, as their lanes see them, and those of a beginning of it.
-use Rattle.std.proofs.Common.{◌≡◌, ℕ, suc, List, [], ◌∷◌, ◌++◌, length, take, Some, refl, sym, ap, subst, ◌∙◌}
+use Rattle.std.proofs.Common.{◌≡◌, ℕ, suc, List, [], ◌∷◌, ◌++◌, length, take, Some, refl, sym, ap, ◌∙◌}
 use Rattle.std.specs.Prelude.{slice_get}
 use Rattle.mta_ends.specs.Lanes.{Seen}
 use Rattle.mta_records.specs.declared.step.Step.{Step}

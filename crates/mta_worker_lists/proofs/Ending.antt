@@ -282,8 +282,7 @@ module _ {D C L : Type 0} (disks : DiskView D) (clocks : ClockView C) (links : L
       → IsPrefix pass.seen entries → Closed x pass
   served_closed x link pass served are w calm (To_its_end zs y e g fin at same is halt) f =
       let here : IsPrefix y.pass.seen entries = subst (λ (h : Held Step). IsPrefix h.seen entries) same f in
-      let led = goes_led disks clocks links spells tells first entries x zs y are w calm g here in
-      (
+      let led = goes_led disks clocks links spells tells first entries x zs y are w calm g here in (
         led.calls,
         record {
           mid = y.pass;
@@ -307,8 +306,7 @@ module _ {D C L : Type 0} (disks : DiskView D) (clocks : ClockView C) (links : L
       let led = goes_led disks clocks links spells tells first entries x zs y are w calm g here in
       let ran = run_ran spells history (length first) (Rose (links.faults y.link) (links.faults at)) (place first y.pass)
       y.session y.action h.turns h.units h.octets t h.last led.waits led.still h.runs in
-      behind_led x y pass led
-      (
+      behind_led x y pass led (
         ran.calls,
         record {
           mid = y.pass;
@@ -330,7 +328,7 @@ module _ {D C L : Type 0} (disks : DiskView D) (clocks : ClockView C) (links : L
   served_closed x link pass served are w calm (Given_up zs y q t halt lost g asks i gives) f =
       let left : pass.seen ≡ i.after.entries = ap (λ (h : Held Step). h.seen) i.left in
       let owned : pass.own
-          ≡ y.pass.own ++ row (length i.before.entries) (length i.after.entries - length i.before.entries) =
+      ≡ y.pass.own ++ row (length i.before.entries) (length i.after.entries - length i.before.entries) =
       ap (λ (h : Held Step). h.own) i.left in
       let after_front : IsPrefix i.after.entries entries = subst (λ (xs : List Step). IsPrefix xs entries) left f in
       let grown_on : IsPrefix y.pass.seen pass.seen =

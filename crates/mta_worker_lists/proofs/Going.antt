@@ -13,8 +13,7 @@ use Rattle.mta_records.specs.declared.step.Step.{Step}
 use Rattle.mta_records.specs.Body.{body_of}
 use Rattle.mta_records.proofs.Records.{body_same}
 use Rattle.mta_units.specs.declared.unit.Unit.{Unit as AnyUnit}
-use Rattle.mta_histories.specs.Lanes.{State}
-use Rattle.mta_histories.specs.History.{after, IsHistory}
+use Rattle.mta_histories.specs.History.{after}
 use Rattle.mta_images.specs.Image.{AreRecords}
 use Rattle.mta_session.specs.State.{State as Session}
 use Rattle.mta_session.specs.declared.ask.Ask.{Ask}
@@ -173,8 +172,8 @@ module _ {D C L : Type 0} (disks : DiskView D) (clocks : ClockView C) (links : L
       → IsPrefix s.entries s'.entries
   answers_grow q t s s' x r =
       elim (replied_grows disks clocks q t s x s' r) [
-        inl e ↦ subst (λ (xs : List Step). IsPrefix s.entries xs) (sym e) (prefix_self s.entries)
-      | inr more ↦ subst (λ (xs : List Step). IsPrefix s.entries xs) (sym more.1) (more.0 ∷ [], refl)
+        | inl e ↦ subst (λ (xs : List Step). IsPrefix s.entries xs) (sym e) (prefix_self s.entries)
+        | inr more ↦ subst (λ (xs : List Step). IsPrefix s.entries xs) (sym more.1) (more.0 ∷ [], refl)
       ]
 
   pub does_grow : (x z : At L) → Does disks clocks links x z → IsPrefix x.pass.seen z.pass.seen
@@ -275,7 +274,7 @@ module _ {D C L : Type 0} (disks : DiskView D) (clocks : ClockView C) (links : L
         let n : ℕ = place first x.pass in
         let left : z.pass.seen ≡ i.after.entries = ap (λ (h : Held Step). h.seen) i.left in
         let owned : z.pass.own
-            ≡ x.pass.own ++ row (length i.before.entries) (length i.after.entries - length i.before.entries) =
+        ≡ x.pass.own ++ row (length i.before.entries) (length i.after.entries - length i.before.entries) =
         ap (λ (h : Held Step). h.own) i.left in
         let behind : IsPrefix i.after.entries entries = subst (λ (xs : List Step). IsPrefix xs entries) left front in
         let state = state_then disks clocks i.before x.pass.base first entries i.keeps are in

@@ -1,9 +1,9 @@
 -- Lists of sessions that workers served are good ones.
-use Rattle.std.proofs.Common.{◌≡◌, ◌⊎◌, ℕ, ◌+◌, Bool, true, false, List, [], ◌∷◌, ◌++◌, inl, inr, refl, sym, ap, subst, ◌∙◌}
+use Rattle.std.proofs.Common.{◌≡◌, ◌⊎◌, ℕ, ◌+◌, Bool, true, false, List, [], ◌∷◌, inl, inr, refl, sym, subst, ◌∙◌}
 use Rattle.mta_ends.specs.Lanes.{Seen, LanesAllow}
 use Rattle.mta_session.specs.Fits.{Answers, Fits}
 use Rattle.mta_session.specs.Groups.{has_turned}
-use Rattle.mta_session.specs.Session.{new_initiator, new_responder}
+use Rattle.mta_session.specs.Session.{new_responder}
 use Rattle.mta_session.specs.State.{State, is_initiator}
 use Rattle.mta_session.specs.declared.ask.Ask.{Ask}
 use Rattle.mta_session.specs.declared.ask.Reply.{Reply}
@@ -17,7 +17,6 @@ use Rattle.mta_session_lists.specs.Laws.{ListsAreGood, ListsMayStop, OpensFirst,
 use Rattle.mta_session_lists.specs.Lists.{AreValues, completed, Initiates, IsListOf, Responds}
 use Rattle.mta_session_lists.specs.Lost.{IsLost, Lost, seen_of, stopped}
 use Rattle.mta_session_lists.specs.Standing.{AllComeTrue, ComesTrue}
-use Rattle.mta_session_lists.proofs.Waiting.{Ready}
 use Rattle.mta_worker_lists.specs.Begun.{Calls, Ended, GiveNone, IsNewAt, IsOver, Listens, Stopped, Unanswered}
 use Rattle.mta_worker_lists.specs.Begun.{Untold}
 use Rattle.mta_worker_lists.specs.Good.{IsListOver, SessionsAreGood, SessionsHaveLists}

@@ -1,6 +1,7 @@
 -- Where a session that its worker began has its lane.
 use Rattle.std.proofs.Common.{◌≡◌, ℕ, ◌+◌, ◌-◌, ◌*◌, ◌≤◌, ◌<◌, Bool, true, false, Option, None, Some, Result, Ok, Err, List}
 use Rattle.std.proofs.Common.{[], ◌∷◌, ◌++◌, length, cond, inl, refl, sym, ap, subst, ◌∙◌, arith, append-nil}
+use Rattle.std.proofs.lemmas.List.{length-append}
 use mathlib.Core.List.{IsPrefix}
 use Rattle.mta_edge.specs.Views.{ClockView, DiskView}
 use Rattle.mta_ends.specs.Lanes.{Seen}
@@ -21,7 +22,7 @@ use Rattle.mta_session.specs.declared.event.Event.TheVariants as event
 use Rattle.mta_session.specs.declared.event.InitiatorPlan.{InitiatorPlan}
 use Rattle.mta_session_laws.specs.Runs.{IsTurn}
 use Rattle.mta_session_lists.specs.Calls.{Call, StepOn, step_told}
-use Rattle.mta_session_lists.specs.Lists.{HasAt, step_for}
+use Rattle.mta_session_lists.specs.Lists.{step_for}
 use Rattle.mta_session_lists.specs.Standing.{Stands}
 use Rattle.mta_plans.specs.Plans.{on_lane}
 use Rattle.mta_links.specs.Links.{LinkView}
@@ -159,6 +160,7 @@ module _ {D C : Type 0} (disks : DiskView D) (clocks : ClockView C) where
       pub begun : IsNewAt history (place first pass) (new_initiator plan units)
       pub opened : row (length old.entries) (length new.entries - length old.entries)
           ≡ begun_by (length first) begun
+      pub later : length (begun_by (length first) begun) ≤ length pass.seen
 
     -- It is carried on from these first calls.
     pub record Led (old new : Shown D C) (pass : Held Step) (u : Session) (b : Action) : Type 0 where
@@ -187,6 +189,12 @@ module _ {D C : Type 0} (disks : DiskView D) (clocks : ClockView C) where
           units = units;
           begun = Calls plan units (long new - 1) (place first pass) (there ∙ sym (back (long new) stands.later))
               stands.entry p.opens;
+          later =
+              let one : length (old.entries ++ makes.0 ∷ []) ≡ length old.entries + 1 =
+              length-append old.entries (makes.0 ∷ []) in
+              let same : length pass.seen ≡ length (old.entries ++ makes.0 ∷ []) =
+              ap length (sees ∙ makes.1) in
+              omega (arith, one, same);
           opened = made_entries disks clocks spells tells first entries possible (Some (step_for plan)) old new makes;
         }
 
@@ -325,7 +333,7 @@ module _ {D C : Type 0} (disks : DiskView D) (clocks : ClockView C) where
                 closed = (
                   call ∷ [] ++ rest.0,
                   done_behind links spells first entries begin x (call ∷ []) rest.0 pass led
-                  (sym (append-nil pass.own) ∙ ap (λ (ns : List ℕ). pass.own ++ ns) (sym quiet.made))
-                  (none_carried links (call ∷ []) action.Read at no_feed quiet.got quiet.put) rest.1,
+                      (sym (append-nil pass.own) ∙ ap (λ (ns : List ℕ). pass.own ++ ns) (sym quiet.made))
+                      (none_carried links (call ∷ []) action.Read at no_feed quiet.got quiet.put) rest.1,
                 );
               }

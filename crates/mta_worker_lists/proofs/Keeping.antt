@@ -1,6 +1,5 @@
 -- A session that has a lane keeps it, in its generation, and does not go back to the opening.
-use Rattle.std.proofs.Common.{◌≡◌, ℕ, ◌-◌, Bool, true, false, cond, refl, sym, ap, subst, ◌∙◌, None}
-use Rattle.mta_units.specs.declared.unit.Unit.{Unit as AnyUnit}
+use Rattle.std.proofs.Common.{◌≡◌, ℕ, ◌-◌, Bool, true, false, cond, refl, ap, subst, ◌∙◌, None}
 use Rattle.mta_session.specs.Fits.{AnswersAt}
 use Rattle.mta_session.specs.Follows.{counted, Does}
 use Rattle.mta_session.specs.State.{in_phase, State}

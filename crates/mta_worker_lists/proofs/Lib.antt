@@ -19,3 +19,6 @@ pub mod Keeping
 pub mod Owned
 pub mod Sessions
 pub mod Whole
+pub mod Parts
+pub mod Worked
+pub mod Workers

@@ -1,5 +1,5 @@
 -- What a worker does with a link, from the first call of its session to its end.
-use Rattle.std.proofs.Common.{◌≡◌, ◌<◌, ℕ, ◌+◌, ◌-◌, Bool, false, List, [], ◌∷◌, ◌++◌, length, Option, None, Some, Result}
+use Rattle.std.proofs.Common.{◌≡◌, ◌≤◌, ℕ, ◌+◌, ◌-◌, Bool, false, List, [], ◌∷◌, ◌++◌, length, Option, None, Some, Result}
 use Rattle.std.proofs.Common.{Ok, Err, inl, inr, refl, sym, ap, subst, ◌∙◌, append_assoc, append-nil, arith, slice_get}
 use Rattle.std.proofs.lemmas.Bool.{cases_lt}
 use mathlib.Core.List.{IsPrefix}
@@ -77,6 +77,7 @@ module _ {D C L : Type 0} (disks : DiskView D) (clocks : ClockView C) (links : L
     pub calls : List Call
     pub ran : HasRun links spells first entries old new begun calls q
     pub owns : begun.own ≡ own ++ begun_by (length first) ran.begins
+    pub later : length (begun_by (length first) ran.begins) ≤ length begun.seen
 
   abbrev Ran : L → Held Step → Held Step → Served → Type 0
   Ran old p q served = IsRun links spells first entries old p q served
@@ -86,14 +87,14 @@ module _ {D C L : Type 0} (disks : DiskView D) (clocks : ClockView C) (links : L
 
   -- where none was closed
   began : (old : L) (p q : Held Step) (served : Served) → RunOf old p.own [] q → Ran old p q served
-  began old p q served r = Began [] r.new r.begun r.calls r.ran no_closings r.owns
+  began old p q served r = Began [] r.new r.begun r.calls r.ran no_closings r.owns r.later
 
   none_began : (old : L) (p q : Held Step) (served : Served) → served.end ≡ None → q.own ≡ p.own
       → Ran old p q served
   none_began old p q served none owns = None_began [] no_closings none (owns ∙ sym (append-nil p.own))
 
   -- no entry is made in a turn of the lock
-  still_owns : (done : Shown D C → Shown D C → Type 0) (p q : Held Step) (i : InTurn disks clocks done p q)
+  pub still_owns : (done : Shown D C → Shown D C → Type 0) (p q : Held Step) (i : InTurn disks clocks done p q)
       → i.after.entries ≡ i.before.entries → q.own ≡ p.own
   still_owns done p q i same =
       let none : length i.after.entries - length i.before.entries ≡ 0 =
@@ -113,7 +114,12 @@ module _ {D C L : Type 0} (disks : DiskView D) (clocks : ClockView C) (links : L
       (one : Action) (t : Session) → AreEntries mid.base first entries
       → IsTurn (record { before = new_responder own units; event = event.Go; action = one; after = t })
       → IsServed disks clocks links (record {
-        session = t; action = one; link = old; feed = no_feed; pass = mid; halt = None;
+        session = t;
+        action = one;
+        link = old;
+        feed = no_feed;
+        pass = mid;
+        halt = None;
       }) new q served → IsPrefix q.seen entries → RunOf old mid.own [] q
   listens_run own units mid old new q served one t are turn is f =
       let n : ℕ = place first mid in
@@ -145,6 +151,7 @@ module _ {D C L : Type 0} (disks : DiskView D) (clocks : ClockView C) (links : L
               (none_carried links (call ∷ []) action.Read old no_feed refl ([], [], refl, refl, refl)) rest.1;
         };
         owns = sym (append-nil mid.own);
+        later = omega arith;
       }
 
   own_still : (own : Result (Option (List ℕ)) NoMemory) (p q : Held Step)
@@ -169,6 +176,7 @@ module _ {D C L : Type 0} (disks : DiskView D) (clocks : ClockView C) (links : L
         calls = r.calls;
         ran = r.ran;
         owns = r.owns ∙ ap (λ (ns : List ℕ). ns ++ begun_by (length first) r.ran.begins) (own_still (Ok (Some own)) p mid i);
+        later = r.later;
       })
   listened_run units p old new q served are (Lost_at_once own i gives) f =
       let fresh : Session = new_responder own units in
@@ -196,6 +204,7 @@ module _ {D C L : Type 0} (disks : DiskView D) (clocks : ClockView C) (links : L
           };
         };
         owns = own_still (Ok (Some own)) p q i ∙ sym (append-nil p.own);
+        later = omega arith;
       })
 
   -- ---- this agent called
@@ -205,12 +214,17 @@ module _ {D C L : Type 0} (disks : DiskView D) (clocks : ClockView C) (links : L
       (old new : L) (q : Held Step) (served : Served) → AreEntries mid.base first entries
       → InTurn disks clocks (λ s t. IsReadied disks clocks peer units s None t noted (ready.Begins u (Ok one))) mid at
       → IsServed disks clocks links (record {
-        session = u; action = one; link = old; feed = no_feed; pass = at; halt = noted;
+        session = u;
+        action = one;
+        link = old;
+        feed = no_feed;
+        pass = at;
+        halt = noted;
       }) new q served → IsPrefix at.seen entries → IsPrefix q.seen entries → RunOf old mid.own [] q
   begins_run peer units mid at u one noted old new q served are i is front f =
       let left : at.seen ≡ i.after.entries = ap (λ (h : Held Step). h.seen) i.left in
       let owned : at.own
-          ≡ mid.own ++ row (length i.before.entries) (length i.after.entries - length i.before.entries) =
+      ≡ mid.own ++ row (length i.before.entries) (length i.after.entries - length i.before.entries) =
       ap (λ (h : Held Step). h.own) i.left in
       let behind : IsPrefix i.after.entries entries = subst (λ (xs : List Step). IsPrefix xs entries) left front in
       let state = state_then disks clocks i.before mid.base first entries i.keeps are in
@@ -244,6 +258,7 @@ module _ {D C L : Type 0} (disks : DiskView D) (clocks : ClockView C) (links : L
               (none_carried links led.calls action.Read old no_feed led.quiet.got led.quiet.put) rest.1;
         };
         owns = owned ∙ ap (λ (ns : List ℕ). mid.own ++ ns) led.begins.opened;
+        later = led.begins.later;
       }
 
   lost_run : (peer : List ℕ) (units : ℕ) (mid q : Held Step) (u : Session) (lost : Lost) (noted : Option Halt) (old : L)
@@ -253,7 +268,7 @@ module _ {D C L : Type 0} (disks : DiskView D) (clocks : ClockView C) (links : L
   lost_run peer units mid q u lost noted old are i f =
       let left : q.seen ≡ i.after.entries = ap (λ (h : Held Step). h.seen) i.left in
       let owned : q.own
-          ≡ mid.own ++ row (length i.before.entries) (length i.after.entries - length i.before.entries) =
+      ≡ mid.own ++ row (length i.before.entries) (length i.after.entries - length i.before.entries) =
       ap (λ (h : Held Step). h.own) i.left in
       let behind : IsPrefix i.after.entries entries = subst (λ (xs : List Step). IsPrefix xs entries) left f in
       let state = state_then disks clocks i.before mid.base first entries i.keeps are in
@@ -266,6 +281,7 @@ module _ {D C L : Type 0} (disks : DiskView D) (clocks : ClockView C) (links : L
         calls = led.closed.0;
         ran = record { begins = led.begins.begun; done = led.closed.1 };
         owns = owned ∙ ap (λ (ns : List ℕ). mid.own ++ ns) led.begins.opened;
+        later = led.begins.later;
       }
 
   -- ---- the turns before
@@ -316,7 +332,7 @@ module _ {D C L : Type 0} (disks : DiskView D) (clocks : ClockView C) (links : L
   stepped_halts x units old new noted halt (No_room same is) = same_entries old new same
   stepped_halts x units old new noted halt (Refused q y f e a is same) = next_refused x q y f old new e a is
 
-  readied_halts : (peer : List ℕ) (units : ℕ) (old new : Shown D C) (noted : Option Halt) (halt : Halt)
+  pub readied_halts : (peer : List ℕ) (units : ℕ) (old new : Shown D C) (noted : Option Halt) (halt : Halt)
       → IsReadied disks clocks peer units old None new noted (ready.Halts halt) → new.entries ≡ old.entries
   readied_halts peer units old new noted halt (No_peer is same e) = same_entries old new same
   readied_halts peer units old new noted halt (No_number last is same e) = same_entries old new same
@@ -377,8 +393,8 @@ module _ {D C L : Type 0} (disks : DiskView D) (clocks : ClockView C) (links : L
       → IsPrefix s.entries t.entries
   answered_grow q s t y a =
       elim (grows disks clocks q s y t a) [
-        inl e ↦ subst (λ (xs : List Step). IsPrefix s.entries xs) (sym e) (prefix_self s.entries)
-      | inr more ↦ subst (λ (xs : List Step). IsPrefix s.entries xs) (sym more.1) (more.0 ∷ [], refl)
+        | inl e ↦ subst (λ (xs : List Step). IsPrefix s.entries xs) (sym e) (prefix_self s.entries)
+        | inr more ↦ subst (λ (xs : List Step). IsPrefix s.entries xs) (sym more.1) (more.0 ∷ [], refl)
       ]
 
   closing_grows : (peer : List ℕ) (units : ℕ) (p m : Held Step)
@@ -389,7 +405,7 @@ module _ {D C L : Type 0} (disks : DiskView D) (clocks : ClockView C) (links : L
       (λ s t d. let c = readied_closed peer units s t d in
       answered_grow (ask.CloseLane c.lane c.generation) s t (reply.CloseLane (Ok tt)) c.answered) i
 
-  closings_grow : (peer : List ℕ) (units : ℕ) (p : Held Step) (ms : List (Held Step)) (q : Held Step)
+  pub closings_grow : (peer : List ℕ) (units : ℕ) (p : Held Step) (ms : List (Held Step)) (q : Held Step)
       → Closings disks clocks links peer units p ms q → IsPrefix p.seen q.seen
   closings_grow peer units p [] q c = subst (λ (z : Held Step). IsPrefix p.seen z.seen) (sym c) (prefix_self p.seen)
   closings_grow peer units p (m ∷ ms) q c =
@@ -420,15 +436,15 @@ module _ {D C L : Type 0} (disks : DiskView D) (clocks : ClockView C) (links : L
         closings = one.entry ∷ rest.closings;
         are = λ k hit.
             let sum : times k (one.entry ∷ [] ++ rest.closings)
-                ≡ times k (one.entry ∷ []) + times k rest.closings =
+            ≡ times k (one.entry ∷ []) + times k rest.closings =
             times-append k (one.entry ∷ []) rest.closings in
             elim (cases_lt 0 (times k (one.entry ∷ []))) [
-              inl now ↦ (
+              | inl now ↦ (
                 one.lane,
                 one.generation,
                 ap (λ (m : ℕ). slice_get history (length first + m)) (one_hit k one.entry now) ∙ one.stands,
               )
-            | inr none ↦ rest.are k (omega (arith, hit, sum, none))
+              | inr none ↦ rest.are k (omega (arith, hit, sum, none))
             ];
         owns =
             rest.owns ∙ ap (λ (ns : List ℕ). ns ++ rest.closings) one.owns
@@ -436,7 +452,7 @@ module _ {D C L : Type 0} (disks : DiskView D) (clocks : ClockView C) (links : L
         base = rest.base;
       }
 
-  readied_grows : (peer : List ℕ) (units : ℕ) (p m : Held Step) (u : Session) (r : Result Action Lost)
+  pub readied_grows : (peer : List ℕ) (units : ℕ) (p m : Held Step) (u : Session) (r : Result Action Lost)
       (noted : Option Halt)
       → InTurn disks clocks (λ s t. IsReadied disks clocks peer units s None t noted (ready.Begins u r)) p m
       → IsPrefix p.seen m.seen
@@ -450,7 +466,7 @@ module _ {D C L : Type 0} (disks : DiskView D) (clocks : ClockView C) (links : L
   begun_behind old p mid q served c r =
       Began c.closings r.new r.begun r.calls r.ran c.are
       (r.owns ∙ ap (λ (ns : List ℕ). ns ++ begun_by (length first) r.ran.begins) c.owns
-      ∙ append_assoc p.own c.closings (begun_by (length first) r.ran.begins))
+      ∙ append_assoc p.own c.closings (begun_by (length first) r.ran.begins)) r.later
 
   called_run : (peer : List ℕ) (units : ℕ) (p : Held Step) (old new : L) (q : Held Step) (served : Served)
       → AreEntries p.base first entries → HasCalled disks clocks links peer units p old new q served

@@ -1,11 +1,10 @@
 -- The step that a question asks for, and what the lanes see of it where it was made.
-use Rattle.std.proofs.Common.{◌≡◌, ◌≢◌, ◌⊎◌, ℕ, ◌+◌, ◌-◌, ◌*◌, ◌^◌, ◌<◌, ◌≤◌, Bool, true, false, cond, eqb, List, [], ◌∷◌}
-use Rattle.std.proofs.Common.{◌++◌, Option, None, Some, Result, Ok, Err, inl, inr, refl, sym, ap, subst, ◌∙◌, arith}
+use Rattle.std.proofs.Common.{◌≡◌, ◌⊎◌, ℕ, ◌+◌, ◌-◌, ◌^◌, Bool, true, false, cond, List, [], ◌∷◌}
+use Rattle.std.proofs.Common.{◌++◌, Option, None, Some, Ok, Err, inl, inr, refl, sym, ap, subst, ◌∙◌, arith}
 use Rattle.std.proofs.lemmas.Bool.{cases_lt}
 use Rattle.mta_ber.specs.declared.fault.Fault.{Fault}
 use Rattle.mta_edge.specs.Views.{ClockView, DiskView}
 use Rattle.mta_lane_send.specs.Half.{last_of}
-use Rattle.mta_lane_send.specs.Half as send
 use Rattle.mta_ends.specs.Lanes.{Seen, On}
 use Rattle.mta_ends.specs.Lanes as h
 use Rattle.mta_records.specs.declared.step.Step.{Step}
@@ -14,20 +13,18 @@ use Rattle.mta_records.specs.declared.fault.StepFault.{StepFault}
 use Rattle.mta_records.specs.declared.fault.StepFault.TheVariants as StepFaults
 use Rattle.mta_records.specs.declared.fault.CompleteFault.{CompleteFault}
 use Rattle.mta_records.specs.declared.fault.CompleteFault.TheVariants as CompleteFaults
-use Rattle.mta_records.specs.declared.lane.LaneRole.{LaneRole}
-use Rattle.mta_records.specs.declared.lane.LaneRole.TheVariants.{Initiator, Responder}
 use Rattle.mta_records.specs.Outgoing.{Carried}
-use Rattle.mta_histories.specs.Lanes.{Lane, State, Transfer, lane_at, put_lane}
+use Rattle.mta_histories.specs.Lanes.{Lane, State, lane_at, put_lane}
 use Rattle.mta_histories.specs.Classes.{class_of, start}
-use Rattle.mta_histories.specs.History.{after_step, IsPossible, lane_after, transfer_of, when, on_lane_after, sends}
+use Rattle.mta_histories.specs.History.{after_step, IsPossible, lane_after, transfer_of, when, on_lane_after}
 use Rattle.mta_histories.specs.Seen.{seen_of}
 use Rattle.mta_histories.proofs.LaneLists.{number-at}
 use Rattle.mta_histories.proofs.Shown.{put-found}
-use Rattle.mta_session_lists.specs.Calls.{StepOn, opened}
+use Rattle.mta_session_lists.specs.Calls.{StepOn}
 use Rattle.mta_spool.specs.OnLanes.{next_generation}
 use Rattle.mta_spool.specs.Receiving.{Receives}
 use Rattle.mta_spool.specs.Shown.{Shown}
-use Rattle.mta_spool.specs.Stands.{Appends, fault_of}
+use Rattle.mta_spool.specs.Stands.{Appends}
 use Rattle.mta_spool.specs.Starting.{IsResumed, next_activity}
 use Rattle.mta_spool.specs.Turning.{IsUnchanged}
 use Rattle.mta_worker.specs.Answers.{BeginsNow, Binds, IsKind, lanes_of, Refuses}

@@ -13,7 +13,7 @@ use Rattle.mta_session.specs.declared.event.Event.TheVariants as event
 use Rattle.mta_session.specs.declared.phase.Phase.{Phase}
 use Rattle.mta_session_laws.specs.Runs.{Turn}
 use Rattle.mta_session_laws.specs.Whole.{AreCalls}
-use Rattle.mta_runs.specs.Sessions.{Look, Made, SessionEvent}
+use Rattle.mta_runs.specs.Sessions.{Made, SessionEvent}
 use Rattle.mta_matches.specs.Asks.{IsAskOf}
 use Rattle.mta_matches.specs.Calls.{has_lane}
 use Rattle.mta_session_lists.specs.Calls.{Call, come_of, list_of, look_told, step_told, StepOn, told_as, turns_of}
@@ -51,11 +51,11 @@ same_entry z lane step e =
 
 -- the lane and the generation of a step that concerns pieces, and the event
 pub record Found (p : Phase) (t : State) (lane g position : ℕ) (step : SeenStep) (events : List SessionEvent) : Type 0
-    where
-  pub has : has_lane p ≡ true
-  pub lane_is : lane ≡ t.lane
-  pub generation_is : g ≡ t.generation
-  pub listed : IsIn (Made position lane step) events
+  where
+    pub has : has_lane p ≡ true
+    pub lane_is : lane ≡ t.lane
+    pub generation_is : g ≡ t.generation
+    pub listed : IsIn (Made position lane step) events
 
 module _ (spells : List ℕ → Bool) (history : List Seen) (n : ℕ) where
   told_at : (o : Option StepOn) (q : Ask) (y : Reply) (from seen k lane : ℕ) (step : SeenStep)
@@ -140,29 +140,29 @@ module _ (spells : List ℕ → Bool) (history : List Seen) (n : ℕ) where
         let here : Listed lane generation a c.turn.before =
         subst (λ (z : State). Listed lane generation a z) (sym run.0) listed in
         let sum : times k (made_by n c.seen a c.turn.event ++ made_in n c.turn.action cs)
-            ≡ times k (made_by n c.seen a c.turn.event) + times k (made_in n c.turn.action cs) =
+        ≡ times k (made_by n c.seen a c.turn.event) + times k (made_in n c.turn.action cs) =
         times-append k (made_by n c.seen a c.turn.event) (made_in n c.turn.action cs) in
         elim (cases_lt 0 (times k (made_by n c.seen a c.turn.event))) [
-          inl now ↦ (
-            let one = from_call c.turn.before.phase c.turn.before k l g step (come_of a c.turn c.seen c.turn.event)
-            here.is_on
-            (call_piece c.turn.before.phase c.turn.before a c.turn.event c.turn from c.seen k l g step
-            (asked_of a c.turn.before here.asked) is.0 le now get piece) in
-            record {
-              lane_is = one.lane_is;
-              generation_is = one.generation_is;
-              listed = in_front (Made (n + k) l step) (come_of a c.turn c.seen c.turn.event)
-                  (list_of c.turn.action cs) one.listed;
-            })
-        | inr none ↦ (
-            let later = comes_later spells history c.turn.before.phase a c.turn.event from c.seen is.0 in
-            let rest = pieces_in cs c.turn.action c.turn.after u c.seen k l g step
-            (listed_next lane generation c.turn a run.1 here) run.2 is.1 (omega (arith, le, later))
-            (omega (arith, hit, sum, none)) get piece in
-            record {
-              lane_is = rest.lane_is;
-              generation_is = rest.generation_is;
-              listed = in_back (Made (n + k) l step) (come_of a c.turn c.seen c.turn.event)
-                  (list_of c.turn.action cs) rest.listed;
-            })
+          | inl now ↦ (
+              let one = from_call c.turn.before.phase c.turn.before k l g step (come_of a c.turn c.seen c.turn.event)
+              here.is_on
+              (call_piece c.turn.before.phase c.turn.before a c.turn.event c.turn from c.seen k l g step
+              (asked_of a c.turn.before here.asked) is.0 le now get piece) in
+              record {
+                lane_is = one.lane_is;
+                generation_is = one.generation_is;
+                listed = in_front (Made (n + k) l step) (come_of a c.turn c.seen c.turn.event)
+                    (list_of c.turn.action cs) one.listed;
+              })
+          | inr none ↦ (
+              let later = comes_later spells history c.turn.before.phase a c.turn.event from c.seen is.0 in
+              let rest = pieces_in cs c.turn.action c.turn.after u c.seen k l g step
+              (listed_next lane generation c.turn a run.1 here) run.2 is.1 (omega (arith, le, later))
+              (omega (arith, hit, sum, none)) get piece in
+              record {
+                lane_is = rest.lane_is;
+                generation_is = rest.generation_is;
+                listed = in_back (Made (n + k) l step) (come_of a c.turn c.seen c.turn.event)
+                    (list_of c.turn.action cs) rest.listed;
+              })
         ]

@@ -1,5 +1,5 @@
 -- Steps that concern pieces are asked for on the session's lane, in its generation.
-use Rattle.std.proofs.Common.{◌≡◌, ℕ, Bool, true, false, Option, None, Some, Ok, Err, List, refl, sym, ap, ◌∙◌}
+use Rattle.std.proofs.Common.{◌≡◌, ℕ, true, Option, None, Some, Ok, Err, refl, sym, ap, ◌∙◌}
 use Rattle.mta_units.specs.declared.unit.OpenUnit.{OpenUnit}
 use Rattle.mta_records.specs.declared.lane.LaneRole.TheVariants.{Initiator, Responder}
 use Rattle.mta_session.specs.State.{State}

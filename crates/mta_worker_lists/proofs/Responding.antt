@@ -1,14 +1,12 @@
 -- Where a responder's session has its lane.
-use Rattle.std.proofs.Common.{◌≡◌, ◌⊎◌, ℕ, ◌+◌, ◌-◌, ◌*◌, ◌<◌, ◌≤◌, Bool, true, false, Option, None, Some, Ok, List, [], ◌∷◌}
-use Rattle.std.proofs.Common.{◌++◌, inl, inr, refl, sym, ap, subst, ◌∙◌, arith}
-use Rattle.std.specs.Prelude.{slice_get}
+use Rattle.std.proofs.Common.{◌≡◌, ◌⊎◌, ℕ, ◌+◌, ◌-◌, ◌*◌, ◌≤◌, Bool, true, false, Option, None, Some, Ok, List, [], ◌∷◌}
+use Rattle.std.proofs.Common.{◌++◌, inl, inr, refl, sym, ap, subst, arith}
 use Rattle.mta_rtse.specs.declared.types.Answer.{Answer}
 use Rattle.mta_units.specs.declared.unit.OpenUnit.{OpenUnit}
 use Rattle.mta_ends.specs.Lanes.{Seen, On}
 use Rattle.mta_ends.specs.Lanes as h
 use Rattle.mta_session.specs.declared.ask.Ask.{Ask}
 use Rattle.mta_session.specs.declared.ask.Ask.TheVariants as ask
-use Rattle.mta_session.specs.declared.ask.Reply.{Reply}
 use Rattle.mta_session.specs.declared.ask.Reply.TheVariants as reply
 use Rattle.mta_session.specs.declared.event.Event.{Event}
 use Rattle.mta_session.specs.declared.event.Event.TheVariants as event
@@ -19,8 +17,8 @@ use Rattle.mta_session.specs.declared.phase.Phase.{Phase}
 use Rattle.mta_session.specs.declared.phase.Phase.TheVariants as phase
 use Rattle.mta_session.specs.State.{State, in_phase}
 use Rattle.mta_session.specs.Follows.{counted, Does}
-use Rattle.mta_session.specs.Wanted.{accepts, answer_for, new_lane, puts_accept, with_lane}
-use Rattle.mta_session_laws.specs.Runs.{IsTurn, Turn}
+use Rattle.mta_session.specs.Wanted.{accepts, answer_for, puts_accept, with_lane}
+use Rattle.mta_session_laws.specs.Runs.{IsTurn}
 use Rattle.mta_session_laws.specs.Whole.{AreCalls}
 use Rattle.mta_session_laws.proofs.Opening.{wanted_in}
 use Rattle.mta_session_laws.proofs.Whole.{is_ended}

@@ -1,5 +1,5 @@
 -- The list of a session has each step of its generation that concerns pieces.
-use Rattle.std.proofs.Common.{◌≡◌, ◌⊎◌, ◌<◌, ◌≤◌, ℕ, zero, suc, ◌+◌, ◌-◌, Bool, Option, None, Some, List, [], ◌∷◌, ◌++◌}
+use Rattle.std.proofs.Common.{◌≡◌, ◌<◌, ◌≤◌, ℕ, ◌+◌, ◌-◌, Bool, Option, None, Some, List, [], ◌∷◌, ◌++◌}
 use Rattle.std.proofs.Common.{inl, inr, refl, sym, ap, subst, ◌∙◌, arith, slice_get}
 use Rattle.std.proofs.lemmas.Bool.{cases_lt}
 use Rattle.mta_ends.specs.Lanes.{LanesAllow, On, Seen, SeenStep}
@@ -19,8 +19,8 @@ has_in [] s k i l = absurd i
 has_in (x ∷ xs) s k i l =
     let sum : times k (x.own ++ owned xs) ≡ times k x.own + times k (owned xs) = times-append k x.own (owned xs) in
     elim i [
-      inl e ↦ (let here : 0 < times k x.own = subst (λ (z : Segment). 0 < times k z.own) e l in omega (arith, sum, here))
-    | inr more ↦ (let there : 0 < times k (owned xs) = has_in xs s k more l in omega (arith, sum, there))
+      | inl e ↦ (let here : 0 < times k x.own = subst (λ (z : Segment). 0 < times k z.own) e l in omega (arith, sum, here))
+      | inr more ↦ (let there : 0 < times k (owned xs) = has_in xs s k more l in omega (arith, sum, there))
     ]
 
 -- a segment in which the entry was made
@@ -34,10 +34,10 @@ maker [] k l = absurd (omega (arith, l))
 maker (x ∷ xs) k l =
     let sum : times k (x.own ++ owned xs) ≡ times k x.own + times k (owned xs) = times-append k x.own (owned xs) in
     elim (cases_lt 0 (times k x.own)) [
-      inl here ↦ record { segment = x; one = inl refl; has = here }
-    | inr none ↦ (
-        let there = maker xs k (omega (arith, l, sum, none)) in
-        record { segment = there.segment; one = inr there.one; has = there.has })
+      | inl here ↦ record { segment = x; one = inl refl; has = here }
+      | inr none ↦ (
+          let there = maker xs k (omega (arith, l, sum, none)) in
+          record { segment = there.segment; one = inr there.one; has = there.has })
     ]
 
 -- and there is one alone
@@ -47,17 +47,17 @@ one_alone [] s t k le i j a b = absurd i
 one_alone (x ∷ xs) s t k le i j a b =
     let sum : times k (x.own ++ owned xs) ≡ times k x.own + times k (owned xs) = times-append k x.own (owned xs) in
     elim i [
-      inl e ↦ elim j [
-        inl f ↦ e ∙ sym f
-      | inr more ↦ absurd (
-          let here : 0 < times k x.own = subst (λ (z : Segment). 0 < times k z.own) e a in
-          let there : 0 < times k (owned xs) = has_in xs t k more b in omega (arith, le, sum, here, there))
+      | inl e ↦ elim j [
+        | inl f ↦ e ∙ sym f
+        | inr more ↦ absurd (
+            let here : 0 < times k x.own = subst (λ (z : Segment). 0 < times k z.own) e a in
+            let there : 0 < times k (owned xs) = has_in xs t k more b in omega (arith, le, sum, here, there))
       ]
-    | inr rest ↦ elim j [
-        inl f ↦ absurd (
-          let here : 0 < times k x.own = subst (λ (z : Segment). 0 < times k z.own) f b in
-          let there : 0 < times k (owned xs) = has_in xs s k rest a in omega (arith, le, sum, here, there))
-      | inr more ↦ one_alone xs s t k (omega (arith, le, sum)) rest more a b
+      | inr rest ↦ elim j [
+        | inl f ↦ absurd (
+            let here : 0 < times k x.own = subst (λ (z : Segment). 0 < times k z.own) f b in
+            let there : 0 < times k (owned xs) = has_in xs s k rest a in omega (arith, le, sum, here, there))
+        | inr more ↦ one_alone xs s t k (omega (arith, le, sum)) rest more a b
       ]
     ]
 
@@ -66,8 +66,8 @@ pub is_segment : (history : List Seen) (n : ℕ) (ss : List Segment) (s : Segmen
 is_segment history n [] s are i = absurd i
 is_segment history n (x ∷ xs) s are i =
     elim i [
-      inl e ↦ subst (λ (z : Segment). IsSegment history n z) (sym e) are.0
-    | inr more ↦ is_segment history n xs s are.1 more
+      | inl e ↦ subst (λ (z : Segment). IsSegment history n z) (sym e) are.0
+      | inr more ↦ is_segment history n xs s are.1 more
     ]
 
 -- ---- the law

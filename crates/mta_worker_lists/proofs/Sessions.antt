@@ -1,6 +1,6 @@
 -- All that a session did is a segment of the history.
-use Rattle.std.proofs.Common.{◌≡◌, ◌⊎◌, ◌<◌, ◌≤◌, ℕ, ◌+◌, ◌-◌, ◌*◌, Bool, true, false, cond, Option, None, Some, Ok, List, []}
-use Rattle.std.proofs.Common.{◌∷◌, ◌++◌, length, inl, inr, refl, sym, ap, subst, ◌∙◌, arith, slice_get, append_assoc}
+use Rattle.std.proofs.Common.{◌≡◌, ◌<◌, ◌≤◌, ℕ, ◌+◌, ◌-◌, ◌*◌, Bool, true, false, cond, Option, None, Some, Ok, List, []}
+use Rattle.std.proofs.Common.{◌∷◌, ◌++◌, inl, inr, refl, sym, ap, subst, ◌∙◌, arith, slice_get, append_assoc}
 use Rattle.std.proofs.lemmas.Bool.{cases_lt}
 use Rattle.mta_ends.specs.Lanes.{On, Seen, SeenStep}
 use Rattle.mta_ends.specs.Lanes as h
@@ -21,7 +21,7 @@ use Rattle.mta_session.specs.declared.ask.Reply.TheVariants as reply
 use Rattle.mta_session.specs.declared.peer.Peer.{Peer}
 use Rattle.mta_session.specs.declared.phase.Phase.{Phase}
 use Rattle.mta_session.specs.declared.phase.Phase.TheVariants as phase
-use Rattle.mta_session_laws.specs.Runs.{IsTurn, Turn}
+use Rattle.mta_session_laws.specs.Runs.{Turn}
 use Rattle.mta_session_laws.specs.Whole.{AreCalls}
 use Rattle.mta_session_laws.proofs.Opening.{wanted_in}
 use Rattle.mta_session_laws.proofs.Whole.{is_ended}
@@ -30,10 +30,9 @@ use Rattle.mta_session_order.proofs.Calls.{call_after}
 use Rattle.mta_runs.specs.Sessions as x
 use Rattle.mta_runs.specs.Sessions.{Made, SessionEvent, SessionList}
 use Rattle.mta_matches.specs.Asks.{IsAskOf, IsForOpen}
-use Rattle.mta_matches.specs.Calls.{has_lane}
-use Rattle.mta_matches.specs.Generations.{Begins as BeginsHere, BeginsAt}
+use Rattle.mta_matches.specs.Generations.{Begins as BeginsHere}
 use Rattle.mta_session_lists.specs.Calls.{action_of, Call, list_of, StepOn, turns_of}
-use Rattle.mta_session_lists.specs.Laws.{IsIn, IsPiece}
+use Rattle.mta_session_lists.specs.Laws.{IsPiece}
 use Rattle.mta_session_lists.specs.Lists.{HasAt, Initiates, IsListOf, Responds, step_by, step_for}
 use Rattle.mta_session_lists.specs.Lost.{seen_of}
 use Rattle.mta_session_lists.specs.Standing.{AllComeTrue, ComesTrue}
@@ -42,7 +41,7 @@ use Rattle.mta_session_lists.proofs.Ordering.{begins_done, is_some}
 use Rattle.mta_session_lists.proofs.Waiting.{does_at, goes_with, ready_next}
 use Rattle.mta_shared.specs.Counts.{times}
 use Rattle.mta_shared.proofs.Sums.{times-append, times-self}
-use Rattle.mta_worker_lists.specs.Begun.{begun_by, Calls, Ended, GiveNone, IsNewAt, IsOver, Listens, made_over}
+use Rattle.mta_worker_lists.specs.Begun.{Calls, Ended, GiveNone, IsOver, Listens, made_over}
 use Rattle.mta_worker_lists.specs.Begun.{Stopped, Unanswered, Untold}
 use Rattle.mta_worker_lists.specs.Leads.{Leads, made_by, made_in}
 use Rattle.mta_worker_lists.specs.Segments.{IsOf, IsSegment, OnLane}
@@ -173,16 +172,16 @@ module _ (spells : List ℕ → Bool) (history : List Seen) (n : ℕ) where
       let here : Asked a d.turn.before = subst (λ (z : State). Asked a z) (sym run.0) asked in
       let there : has_none d.turn.before.phase ≡ true = ap (λ (z : State). has_none z.phase) run.0 ∙ i in
       let sum : times k (made_by n d.seen a d.turn.event ++ made_in n d.turn.action (ds ++ c ∷ []))
-          ≡ times k (made_by n d.seen a d.turn.event) + times k (made_in n d.turn.action (ds ++ c ∷ [])) =
+      ≡ times k (made_by n d.seen a d.turn.event) + times k (made_in n d.turn.action (ds ++ c ∷ [])) =
       times-append k (made_by n d.seen a d.turn.event) (made_in n d.turn.action (ds ++ c ∷ [])) in
       elim (cases_lt 0 (times k (made_by n d.seen a d.turn.event))) [
-        inl now ↦ not_piece d.turn a from d.seen k l g step here there is.0 le now get piece
-      | inr rest ↦ (
-          let later = comes_later spells history d.turn.before.phase a d.turn.event from d.seen is.0 in
-          none_before ds cs c d.turn.action d.turn.after u d.seen k l g step
-          (asked_next d.turn.action d.turn.before d.turn.event d.turn.after run.1.follows)
-          (unlisted_next d.turn run.1 there none.0) run.2 is.1 none.1 (omega (arith, le, later)) get piece
-          (omega (arith, hit, sum, rest)))
+        | inl now ↦ not_piece d.turn a from d.seen k l g step here there is.0 le now get piece
+        | inr rest ↦ (
+            let later = comes_later spells history d.turn.before.phase a d.turn.event from d.seen is.0 in
+            none_before ds cs c d.turn.action d.turn.after u d.seen k l g step
+            (asked_next d.turn.action d.turn.before d.turn.event d.turn.after run.1.follows)
+            (unlisted_next d.turn run.1 there none.0) run.2 is.1 none.1 (omega (arith, le, later)) get piece
+            (omega (arith, hit, sum, rest)))
       ]
 
   -- and where none gives it one at all: behind the last call too
@@ -204,7 +203,7 @@ module _ (spells : List ℕ → Bool) (history : List Seen) (n : ℕ) where
       let here : Asked a d.turn.before = subst (λ (z : State). Asked a z) (sym run.0) asked in
       let there : has_none d.turn.before.phase ≡ true = ap (λ (z : State). has_none z.phase) run.0 ∙ i in
       let sum : times k (made_by n d.seen a d.turn.event ++ made_in n d.turn.action ds)
-          ≡ times k (made_by n d.seen a d.turn.event) + times k (made_in n d.turn.action ds) =
+      ≡ times k (made_by n d.seen a d.turn.event) + times k (made_in n d.turn.action ds) =
       times-append k (made_by n d.seen a d.turn.event) (made_in n d.turn.action ds) in
       let later = comes_later spells history d.turn.before.phase a d.turn.event from d.seen is.0 in
       let rest = none_all ds d.turn.action d.turn.after u d.seen k l g step
@@ -212,9 +211,9 @@ module _ (spells : List ℕ → Bool) (history : List Seen) (n : ℕ) where
       (unlisted_next d.turn run.1 there none.0) run.2 is.1 none.1 (omega (arith, le, later)) get piece in
       record {
         none = λ hit. elim (cases_lt 0 (times k (made_by n d.seen a d.turn.event))) [
-              inl now ↦ not_piece d.turn a from d.seen k l g step here there is.0 le now get piece
-            | inr zero_of ↦ rest.none (omega (arith, hit, sum, zero_of))
-            ];
+          | inl now ↦ not_piece d.turn a from d.seen k l g step here there is.0 le now get piece
+          | inr zero_of ↦ rest.none (omega (arith, hit, sum, zero_of))
+        ];
         still = rest.still;
         asked = rest.asked;
       }
@@ -264,24 +263,24 @@ module _ (spells : List ℕ → Bool) (history : List Seen) (n : ℕ) where
         let sum : times k (made_in n a cs ++ made_over n o) ≡ times k (made_in n a cs) + times k (made_over n o) =
         times-append k (made_in n a cs) (made_over n o) in
         elim (cases_lt 0 (times k (made_in n a cs))) [
-          inl now ↦ (
-            let one = pieces_in spells history n lane generation cs a t u from k l g step listed run is le now get piece
-            in
-            record {
-              lane_is = one.lane_is;
-              generation_is = one.generation_is;
-              listed =
-                  in_front spells history n (Made (n + k) l step) (list_of a cs) (told_over o) one.listed;
-            })
-        | inr none ↦ (
-            let last = listed_along cs a t u listed run in
-            let found = over_piece mid upto u b o k l g step
-            (subst (λ (z : Action). Asked z u) wanted last.asked) less (omega (arith, hit, sum, none)) get piece in
-            record {
-              lane_is = found.lane_is ∙ (last.is_on found.has).0;
-              generation_is = found.generation_is ∙ (last.is_on found.has).1;
-              listed = in_back spells history n (Made (n + k) l step) (list_of a cs) (told_over o) found.listed;
-            })
+          | inl now ↦ (
+              let one = pieces_in spells history n lane generation cs a t u from k l g step listed run is le now get piece
+              in
+              record {
+                lane_is = one.lane_is;
+                generation_is = one.generation_is;
+                listed =
+                    in_front spells history n (Made (n + k) l step) (list_of a cs) (told_over o) one.listed;
+              })
+          | inr none ↦ (
+              let last = listed_along cs a t u listed run in
+              let found = over_piece mid upto u b o k l g step
+              (subst (λ (z : Action). Asked z u) wanted last.asked) less (omega (arith, hit, sum, none)) get piece in
+              record {
+                lane_is = found.lane_is ∙ (last.is_on found.has).0;
+                generation_is = found.generation_is ∙ (last.is_on found.has).1;
+                listed = in_back spells history n (Made (n + k) l step) (list_of a cs) (told_over o) found.listed;
+              })
         ]
 
   -- ---- a session that its worker began
@@ -317,8 +316,7 @@ module _ (spells : List ℕ → Bool) (history : List Seen) (n : ℕ) where
       } in
       let l : SessionList = record { opening = []; at = at; events = list_of action.Read calls } in
       let less : n ≤ mid = subst (λ (m : ℕ). n ≤ m) led.seen
-      (omega (arith, le, later_seen calls action.Read from led.come_true)) in
-      (
+      (omega (arith, le, later_seen calls action.Read from led.come_true)) in (
         record { own = (at - n) ∷ rest; list = Some list },
         record {
           own = refl;
@@ -336,7 +334,7 @@ module _ (spells : List ℕ → Bool) (history : List Seen) (n : ℕ) where
             later = omega (arith, le, next);
             owned =
                 let sum : times (at - n) ((at - n) ∷ [] ++ rest)
-                    ≡ times (at - n) ((at - n) ∷ []) + times (at - n) rest =
+                ≡ times (at - n) ((at - n) ∷ []) + times (at - n) rest =
                 times-append (at - n) ((at - n) ∷ []) rest in
                 omega (arith, sum, times-self (at - n));
           };
@@ -344,19 +342,19 @@ module _ (spells : List ℕ → Bool) (history : List Seen) (n : ℕ) where
               let sum : times k ((at - n) ∷ [] ++ rest) ≡ times k ((at - n) ∷ []) + times k rest =
               times-append k ((at - n) ∷ []) rest in
               elim (cases_lt 0 (times k ((at - n) ∷ []))) [
-                inl first ↦ absurd (
-                  let place : k ≡ at - n = one_hit k (at - n) first in
-                  let there : n + k ≡ at = omega (arith, place, le, next) in
-                  let same : On (step_for p).lane (step_for p).step ≡ On lane step =
-                  same_step (step_for p).lane lane (step_for p).step step
-                  (sym has ∙ ap (λ (m : ℕ). slice_get history m) (sym there) ∙ get) in
-                  begins_none p.lane lane p.generation g step
-                  (subst (λ (y : Seen). BeginsHere p.lane p.generation y) same (plan_begins p opens)) piece)
-              | inr none ↦ (
-                  let found = all_listed p.lane p.generation calls action.Read (new_initiator p units) u b from mid
-                  upto o k lane g step (new_listed p units) led.calls_are led.come_true led.wanted (omega (arith, le))
-                  less (omega (arith, hit, sum, none)) get piece in
-                  record { lane_is = found.lane_is; generation_is = found.generation_is; listed = found.listed })
+                | inl first ↦ absurd (
+                    let place : k ≡ at - n = one_hit k (at - n) first in
+                    let there : n + k ≡ at = omega (arith, place, le, next) in
+                    let same : On (step_for p).lane (step_for p).step ≡ On lane step =
+                    same_step (step_for p).lane lane (step_for p).step step
+                    (sym has ∙ ap (λ (m : ℕ). slice_get history m) (sym there) ∙ get) in
+                    begins_none p.lane lane p.generation g step
+                    (subst (λ (y : Seen). BeginsHere p.lane p.generation y) same (plan_begins p opens)) piece)
+                | inr none ↦ (
+                    let found = all_listed p.lane p.generation calls action.Read (new_initiator p units) u b from mid
+                    upto o k lane g step (new_listed p units) led.calls_are led.come_true led.wanted (omega (arith, le))
+                    less (omega (arith, hit, sum, none)) get piece in
+                    record { lane_is = found.lane_is; generation_is = found.generation_is; listed = found.listed })
               ];
         },
       )
@@ -414,13 +412,13 @@ module _ (spells : List ℕ → Bool) (history : List Seen) (n : ℕ) where
       subst (λ (m : ℕ). n ≤ m) led.seen
       (omega (arith, le, later, later_seen ds d.turn.action d.seen is.1)) in
       let sum : times k (made_in n d.turn.action ds ++ made_over n o)
-          ≡ times k (made_in n d.turn.action ds) + times k (made_over n o) =
+      ≡ times k (made_in n d.turn.action ds) + times k (made_over n o) =
       times-append k (made_in n d.turn.action ds) (made_over n o) in
       elim (cases_lt 0 (times k (made_in n d.turn.action ds))) [
-        inl now ↦ rest.none now
-      | inr zero_of ↦ not_both u.phase rest.still
-          (over_piece mid upto u b o k l g step (subst (λ (z : Action). Asked z u) led.wanted rest.asked) less
-          (omega (arith, hit, sum, zero_of)) get piece).has
+        | inl now ↦ rest.none now
+        | inr zero_of ↦ not_both u.phase rest.still
+            (over_piece mid upto u b o k l g step (subst (λ (z : Action). Asked z u) led.wanted rest.asked) less
+            (omega (arith, hit, sum, zero_of)) get piece).has
       ]
 
   -- ---- a responder that has its lane
@@ -450,12 +448,12 @@ module _ (spells : List ℕ → Bool) (history : List Seen) (n : ℕ) where
       let last : action_of action.Read (g.before ++ c ∷ []) ≡ c.turn.action =
       action_more g.before (c ∷ []) action.Read in
       let halves : made_in n action.Read calls
-          ≡ made_in n action.Read (g.before ++ c ∷ []) ++ made_in n c.turn.action g.calls =
+      ≡ made_in n action.Read (g.before ++ c ∷ []) ++ made_in n c.turn.action g.calls =
       ap (λ (cs : List Call). made_in n action.Read cs) cut
       ∙ made_more (g.before ++ c ∷ []) g.calls n action.Read
       ∙ ap (λ (z : Action). made_in n action.Read (g.before ++ c ∷ []) ++ made_in n z g.calls) last in
       let all : rest
-          ≡ made_in n action.Read (g.before ++ c ∷ []) ++ (made_in n c.turn.action g.calls ++ made_over n o) =
+      ≡ made_in n action.Read (g.before ++ c ∷ []) ++ (made_in n c.turn.action g.calls ++ made_over n o) =
       ap (λ (ns : List ℕ). ns ++ made_over n o) halves
       ∙ append_assoc (made_in n action.Read (g.before ++ c ∷ [])) (made_in n c.turn.action g.calls) (made_over n o) in
       let asks = asked_of spells history n g.pending c.turn.before g.asked in
@@ -490,15 +488,14 @@ module _ (spells : List ℕ → Bool) (history : List Seen) (n : ℕ) where
       ∙ ap (λ (z : Action). made_in n action.Read g.before ++ (made_by n c.seen z c.turn.event ++ []))
       (sym g.pending_is)
       ∙ ap (λ (ns : List ℕ). made_in n action.Read g.before ++ (ns ++ [])) one in
-      let behind : List ℕ = made_in n c.turn.action g.calls ++ made_over n o in
-      (
+      let behind : List ℕ = made_in n c.turn.action g.calls ++ made_over n o in (
         record { own = rest; list = Some list },
         record {
           own = refl;
           list = (
             l,
             subst (λ (cs : List Call). IsListOf spells history (new_responder own units) cs lane l) (sym g.cut)
-            (Responds own units g.at g.before g.calls c g.step g.by g.seen g.has g.come_true),
+                (Responds own units g.at g.before g.calls c g.step g.by g.seen g.has g.come_true),
             refl,
             refl,
           );
@@ -510,7 +507,7 @@ module _ (spells : List ℕ → Bool) (history : List Seen) (n : ℕ) where
             owned =
                 let place : c.seen - 1 - n ≡ g.at - n = omega (arith, g.seen) in
                 let here : times (g.at - n) first_part
-                    ≡ times (g.at - n) (made_in n action.Read g.before) + times (g.at - n) ((c.seen - 1 - n) ∷ []) =
+                ≡ times (g.at - n) (made_in n action.Read g.before) + times (g.at - n) ((c.seen - 1 - n) ∷ []) =
                 ap (λ (ns : List ℕ). times (g.at - n) ns) made_first
                 ∙ times-append (g.at - n) (made_in n action.Read g.before) ((c.seen - 1 - n) ∷ []) in
                 let self : times (g.at - n) ((c.seen - 1 - n) ∷ []) ≡ 1 =
@@ -523,16 +520,16 @@ module _ (spells : List ℕ → Bool) (history : List Seen) (n : ℕ) where
               let sum : times k rest ≡ times k first_part + times k behind =
               ap (λ (ns : List ℕ). times k ns) all ∙ times-append k first_part behind in
               elim (cases_lt 0 (times k first_part)) [
-                inl early ↦ absurd (
-                  none_first own units g.before g.calls c g.step u from k m j step g.by
-                  (subst (λ (cs : List Call). AreCalls (new_responder own units) (turns_of cs) u) g.cut led.calls_are)
-                  (subst (λ (cs : List Call). AllComeTrue spells history from action.Read cs) g.cut led.come_true) g.none
-                  le get piece early)
-              | inr none ↦ (
-                  let found = all_listed lane generation g.calls c.turn.action c.turn.after u b (g.at + 1) mid upto o k m j
-                  step listed_now g.run g.come_true wanted (omega (arith, le, g.least)) less
-                  (omega (arith, hit, sum, none)) get piece in
-                  record { lane_is = found.lane_is; generation_is = found.generation_is; listed = found.listed })
+                | inl early ↦ absurd (
+                    none_first own units g.before g.calls c g.step u from k m j step g.by
+                    (subst (λ (cs : List Call). AreCalls (new_responder own units) (turns_of cs) u) g.cut led.calls_are)
+                    (subst (λ (cs : List Call). AllComeTrue spells history from action.Read cs) g.cut led.come_true) g.none
+                    le get piece early)
+                | inr none ↦ (
+                    let found = all_listed lane generation g.calls c.turn.action c.turn.after u b (g.at + 1) mid upto o k m j
+                    step listed_now g.run g.come_true wanted (omega (arith, le, g.least)) less
+                    (omega (arith, hit, sum, none)) get piece in
+                    record { lane_is = found.lane_is; generation_is = found.generation_is; listed = found.listed })
               ];
         },
       )
@@ -542,9 +539,9 @@ sessions_are_segments spells history n from mid upto t u b calls (Calls p units 
     initiates spells history n p units at from mid upto u b calls is has opens o le led
 sessions_are_segments spells history n from mid upto t u b calls (Listens own units from') o le led =
     elim (begins_or_not spells history calls action.Read (new_responder own units) u from
-        (record { due = refl; waits = refl }) tt led.calls_are led.come_true) [
-      inl g ↦ begins_list spells history n own units from mid upto u b calls o (omega (arith, le)) led g
-    | inr none ↦ (
+    (record { due = refl; waits = refl }) tt led.calls_are led.come_true) [
+      | inl g ↦ begins_list spells history n own units from mid upto u b calls o (omega (arith, le)) led g
+      | inr none ↦ (
         record { own = made_in n action.Read calls ++ made_over n o; list = None },
         record { own = refl; list = (refl, none) },
         record {

@@ -1,5 +1,5 @@
 -- What a reply of the spool tells of steps is so: the one that it tells was made, and none else.
-use Rattle.std.proofs.Common.{◌≡◌, ℕ, ◌+◌, ◌*◌, true, false, Option, None, Some, Ok, Err, inl, inr, refl, sym, ap}
+use Rattle.std.proofs.Common.{◌≡◌, ℕ, ◌+◌, ◌*◌, true, false, Option, None, Ok, Err, inl, inr, refl, sym, ap}
 use Rattle.std.proofs.Common.{subst, ◌∙◌}
 use Rattle.mta_edge.specs.Views.{ClockView, DiskView}
 use Rattle.mta_ends.specs.Lanes.{On}

@@ -1,5 +1,5 @@
 -- What a reply of the spool tells of a lane is true of the history.
-use Rattle.std.proofs.Common.{◌≡◌, ℕ, ◌+◌, ◌-◌, ◌*◌, ◌<◌, ◌≤◌, Bool, true, false, List, [], ◌∷◌, ◌++◌, length, take}
+use Rattle.std.proofs.Common.{◌≡◌, ℕ, ◌+◌, ◌-◌, ◌*◌, ◌<◌, Bool, false, List, [], ◌∷◌, ◌++◌, length, take}
 use Rattle.std.proofs.Common.{Option, None, Some, Ok, Err, option_map, inl, inr, refl, sym, ap, subst, ◌∙◌}
 use Rattle.std.proofs.Common.{append_assoc, append-nil, arith}
 use Rattle.std.specs.List.{concat}
@@ -18,9 +18,8 @@ use Rattle.mta_records.specs.declared.fault.StepFault.{StepFault}
 use Rattle.mta_records.specs.declared.fault.StepFault.TheVariants as StepFaults
 use Rattle.mta_records.specs.declared.lane.LaneValues.{LaneValues}
 use Rattle.mta_records.specs.Outgoing.{Carried}
-use Rattle.mta_apdu.specs.Apdus.{apdu_of, ApduValue}
+use Rattle.mta_apdu.specs.Apdus.{apdu_of}
 use Rattle.mta_apdu.proofs.ApduLaws.{apdu_full}
-use Rattle.mta_machine.specs.Apdu.{IsApdu}
 use Rattle.mta_histories.specs.Lanes.{Lane, State, Transfer, lane_at}
 use Rattle.mta_histories.specs.Classes.{complete, secure}
 use Rattle.mta_histories.specs.History.{after, IsHistory, longest_activity, with_piece}

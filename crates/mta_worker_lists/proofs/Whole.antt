@@ -1,5 +1,5 @@
 -- The list of a session that is one of the parts of a history is a good one.
-use Rattle.std.proofs.Common.{◌≡◌, ◌⊎◌, ◌<◌, ◌≤◌, ℕ, suc, ◌+◌, Bool, Option, None, Some, List, [], ◌∷◌, ◌++◌, take, inl, inr}
+use Rattle.std.proofs.Common.{◌≡◌, ◌<◌, ℕ, suc, ◌+◌, Bool, Option, Some, List, [], ◌∷◌, ◌++◌, take, inl, inr}
 use Rattle.std.proofs.Common.{refl, sym, ap, subst, ◌∙◌, arith, slice_get, append-nil}
 use Rattle.mta_ends.specs.Sending.{SendEnd}
 use Rattle.mta_ends.specs.Lanes.{Bind, Halves, halves_after, lane_in, LaneOpen, LanesAllow, On, Seen, SeenStep}
@@ -13,12 +13,11 @@ use Rattle.mta_session_lists.specs.Abandons.{abandon_at, abandoned_upto, given_u
 use Rattle.mta_session_lists.specs.Calls.{action_of, Call, look_told, step_told, told_as}
 use Rattle.mta_session_lists.specs.Laws.{IsIn, IsPiece, ListsAreGood, ListsMayStop, OwnsPieces}
 use Rattle.mta_session_lists.specs.Lists.{completed}
-use Rattle.mta_session_lists.specs.Lost.{abort_of, lost_of, tail_of}
+use Rattle.mta_session_lists.specs.Lost.{abort_of, lost_of}
 use Rattle.mta_session_lists.proofs.Lanes.{step_leads}
 use Rattle.mta_worker_lists.specs.Begun.{Ended, IsOver, Stopped, Unanswered, Untold}
 use Rattle.mta_worker_lists.specs.Good.{IsListOver}
-use Rattle.mta_worker_lists.specs.Leads.{Leads}
-use Rattle.mta_worker_lists.specs.Segments.{AreAll, Begins, BeginsIn, IsOne, IsSegment, OnLane, Segment, SegmentsAreGood}
+use Rattle.mta_worker_lists.specs.Segments.{Begins, BeginsIn, OnLane, SegmentsAreGood}
 use Rattle.mta_worker_lists.specs.Segments.{told_over}
 use Rattle.mta_worker_lists.proofs.Good.{sessions_good}
 use Rattle.mta_worker_lists.proofs.Segments.{is_segment, lists_own_pieces}

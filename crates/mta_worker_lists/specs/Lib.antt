@@ -4,3 +4,5 @@ pub mod Begun
 pub mod Linked
 pub mod Good
 pub mod Segments
+pub mod Parts
+pub mod Examples

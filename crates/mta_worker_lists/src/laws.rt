@@ -1,11 +1,13 @@
 //! Laws over the definitions.
 
+ghost use Rattle.mta_worker_lists.specs.Examples.{TakesOne};
 ghost use Rattle.mta_worker_lists.specs.Good.{SessionsAreGood, SessionsHaveLists};
 ghost use Rattle.mta_worker_lists.specs.Linked.{LinksAreRun};
+ghost use Rattle.mta_worker_lists.specs.Parts.{LinksHaveParts, WorkersHaveParts};
 ghost use Rattle.mta_worker_lists.specs.Segments.{ListsOwnPieces, SegmentsAreGood, SessionsAreSegments};
 
 use mta_edge::{Clock, Disk};
-use mta_links::Link;
+use mta_links::{Link, Station};
 use mta_session_lists::{lists_are_good, lists_may_stop};
 
 /// What a worker does with a link is all that one session did, call by call, and each possible history that goes on
@@ -48,3 +50,20 @@ pub fn segments_are_good()
     lists_are_good();
     lists_may_stop();
 }
+
+/// What was done with a link is in parts of the history, one for the session and one for lanes that were closed before
+/// it. They are all entries that the pass made then.
+pub fn links_have_parts<L: Link>()
+    ensures { LinksHaveParts L.model }
+{}
+
+/// A worked row: a responder takes a message.
+pub fn worked_row()
+    ensures { TakesOne }
+{}
+
+/// All entries that a worker made are in such parts of the history, each of a session that ran over a link of its
+/// station, or made for none.
+pub fn workers_have_parts<D: Disk + Drop, C: Clock + Drop, L: Link, S: Station>()
+    ensures { WorkersHaveParts D.model C.model L.model S.model }
+{}
