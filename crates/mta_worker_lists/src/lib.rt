@@ -1,0 +1,9 @@
+//! Session lists of what workers do: each session that a worker serves has a list, and which of them are good.
+#![tactic(auto)]
+
+mod laws;
+
+pub use laws::{
+    links_are_run, links_have_parts, lists_own_pieces, segments_are_good, sessions_are_good,
+    sessions_are_segments, sessions_have_lists, worked_row, workers_have_parts,
+};
