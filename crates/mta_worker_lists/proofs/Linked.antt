@@ -500,7 +500,7 @@ module _ {D C L : Type 0} (disks : DiskView D) (clocks : ClockView C) (links : L
       let before : IsPrefix mid.seen q.seen = readied_grows peer units mid q u (Err lost) noted i in
       let all = closed_all peer units p ms mid are c (prefix_trans mid.seen q.seen entries before f) in
       begun_behind old p mid q served all (lost_run peer units mid q u lost noted old all.base i f)
-  called_run peer units p old new q served are (Too_often ms c same is) f =
+  called_run peer units p old new q served are (Too_often ms c many same is) f =
       let all = closed_all peer units p ms q are c f in
       None_began all.closings all.are (ap (λ (s : Served). s.end) is) all.owns
 

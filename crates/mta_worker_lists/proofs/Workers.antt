@@ -398,7 +398,7 @@ module _ {D C L S : Type 0} (disks : DiskView D) (clocks : ClockView C) (links :
       (grown_more mid at q (readied_grown peer units mid at u (Ok one) noted i) (served_grown _ new q served is))
   called_grown peer units p old new q served (Lost_before ms mid u lost noted c i gives) =
       grown_more p mid q (closings_grown peer units p ms mid c) (readied_grown peer units mid q u (Err lost) noted i)
-  called_grown peer units p old new q served (Too_often ms c same is) = closings_grown peer units p ms q c
+  called_grown peer units p old new q served (Too_often ms c many same is) = closings_grown peer units p ms q c
 
   link_grown : (r : Role) (units : ℕ) (p : Held Step) (old new : L) (q : Held Step) (served : Served)
       → IsLinkServed disks clocks links r units p old new q served → Grown p q
