@@ -2,8 +2,8 @@
 
 use crate::given::disk_of;
 use crate::held::Held;
-use crate::runs::queue;
-use crate::works::{Worked, calls_of_opening, opened, said, worked};
+use crate::spools::queue;
+use crate::works::{Worked, calls_of_opening, opened, said, work_at};
 use anyhow::{Result, anyhow};
 use mta_edge::MemDisk;
 use mta_rows::Fields;
@@ -17,7 +17,7 @@ fn whole<R: Wait>(rt: &R, alloc: Global, held: &Held, role: &str) -> Result<MemD
         disk,
         puts: _,
         end: _,
-    } = worked(rt, alloc, held, spool, role)?;
+    } = work_at(rt, alloc, held, spool, role)?;
     Ok(disk)
 }
 
@@ -30,7 +30,7 @@ fn failing_at<R: Wait>(
     call: u64,
 ) -> Result<String> {
     let spool = opened(alloc, held, disk_of(alloc, held.disk.as_slice(), call)?)?;
-    let Worked { disk, puts: _, end } = worked(rt, alloc, held, spool, role)?;
+    let Worked { disk, puts: _, end } = work_at(rt, alloc, held, spool, role)?;
     let end = said(alloc, &end)?;
     let queue = queue(alloc, held, disk.octets())?;
     let (end, queue) = (end.as_str(), queue.as_str());

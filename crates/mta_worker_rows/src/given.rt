@@ -3,26 +3,13 @@
 use crate::held::{Given, Held};
 use anyhow::{Result, anyhow};
 use mta_ber::Word;
-use mta_edge::{MemClock, MemDisk, MemSource, Octets, SafeDisk};
+use mta_edge::{MemClock, MemDisk, Octets, SafeDisk};
 use mta_links::{MemLink, MemStation, Role};
 use mta_session::Limits;
 use std::alloc::{AllocError, Global};
 
 pub fn octets(alloc: Global, bytes: &[u8]) -> Result<Octets> {
     Octets::from_slice(alloc, bytes).map_err(|_| anyhow!("no memory"))
-}
-
-pub fn words_of(alloc: Global, line: &str) -> Result<Vec<String>, AllocError> {
-    let mut words = Vec::new(alloc);
-    for word in line.split(' ') {
-        words.push(String::from_str(alloc, word)?)?;
-    }
-    Ok(words)
-}
-
-/// A source of which no call fails.
-pub fn source(alloc: Global, bytes: &[u8]) -> Result<MemSource> {
-    Ok(MemSource::new(octets(alloc, bytes)?, Vec::new(alloc)))
 }
 
 /// A disk whose call of this number fails.

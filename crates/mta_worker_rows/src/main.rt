@@ -11,10 +11,10 @@
 //! first call 1, of the disk the first behind its opening.
 //!
 //! In these a field behind the first says what is wanted. `records` records the tables, and is answered how many items
-//! there are. `run` runs the words behind it, over the disk as it is, and is answered the status and what was printed;
-//! a third field has the octets of the input. `works` has a worker serve the links that were given: behind it stands
-//! `in`, or `out PEER`. It is answered how many links came back, how many of them were closed, and why it ended.
-//! `put` is answered what the link of this number was put.
+//! there are. `submit` takes the octets behind it and does what is due, and is answered the number; `queue` is answered
+//! the queue, and `mailbox` what the mailbox behind it got. `works` has a worker serve the links that were given: behind
+//! it stands `in`, or `out PEER`. It is answered how many links came back, how many of them were closed, and why it
+//! ended. `put` is answered what the link of this number was put.
 //!
 //! `overtakes` has two sessions of responders over one spool. The first is carried on up to its question of this name,
 //! and then the second is carried on to its end, and then the first. It is answered what the question was, and how
@@ -34,13 +34,13 @@ mod given;
 mod held;
 mod names;
 mod overtaking;
-mod runs;
+mod spools;
 mod works;
 
 use crate::faults::{failing, stops};
 use crate::held::Held;
 use crate::overtaking::overtakes;
-use crate::runs::{records, run_words};
+use crate::spools::{mailbox, queue, records, submit};
 use crate::works::works;
 use anyhow::{Result, bail};
 use mta_rows::{Fields, tell};
@@ -56,7 +56,9 @@ fn answer_of<R: Wait>(
 ) -> Result<String> {
     match asked {
         "records" => records(alloc, held),
-        "run" => run_words(alloc, held, fields),
+        "submit" => submit(alloc, held, fields.rest),
+        "queue" => queue(alloc, held, held.disk.as_slice()),
+        "mailbox" => mailbox(alloc, held, fields.rest),
         "works" => works(rt, alloc, held, fields.rest),
         "put" => held.put(alloc, fields.rest),
         "overtakes" => overtakes(alloc, held, fields.rest),

@@ -84,7 +84,7 @@ fn begun<D: Disk + Drop>(
     Ok((session, action))
 }
 
-fn line(alloc: Global, held: &held::Held, place: usize) -> Result<Line> {
+fn line_of(alloc: Global, held: &held::Held, place: usize) -> Result<Line> {
     let Some(given) = held.given.get(place) else {
         bail!("no such link");
     };
@@ -95,12 +95,7 @@ fn line(alloc: Global, held: &held::Held, place: usize) -> Result<Line> {
 }
 
 // Carries a session on to its next question, or to its end.
-fn next_of(
-    alloc: Global,
-    session: &mut Session,
-    line: &mut Line,
-    action: Action,
-) -> Result<Came>
+fn next_of(alloc: Global, session: &mut Session, line: &mut Line, action: Action) -> Result<Came>
     requires { IsCalled session.old action }
     ensures { IfOk result (λ c. IsCalled session.new (action_of c)) }
 {
@@ -207,7 +202,7 @@ pub fn overtakes(alloc: Global, held: &mut held::Held, name: &str) -> Result<Str
     let octets = std::mem::replace(&mut held.disk, Vec::new(alloc));
     let disk = SafeDisk::new(alloc, Octets::from_vec(octets));
     let mut spool = opened(alloc, held, disk)?;
-    let mut lines = (line(alloc, held, 0)?, line(alloc, held, 1)?);
+    let mut lines = (line_of(alloc, held, 0)?, line_of(alloc, held, 1)?);
     let said = both(alloc, held, &mut spool, &mut lines, name)?;
     let (one, other) = lines;
     held.disk = spool.end().octets().to_vec(alloc)?;

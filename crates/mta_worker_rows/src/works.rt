@@ -67,7 +67,7 @@ fn puts_of(alloc: Global, links: &[MemLink]) -> Result<Vec<Vec<u8>>, AllocError>
 }
 
 /// What a worker of this role makes of a spool.
-pub fn worked<R: Wait, D: Disk + Drop>(
+pub fn work_at<R: Wait, D: Disk + Drop>(
     rt: &R,
     alloc: Global,
     held: &Held,
@@ -100,7 +100,7 @@ fn spend(alloc: Global, held: &mut Held, puts: Vec<Vec<u8>>) {
 fn works_in_place<R: Wait>(rt: &R, alloc: Global, held: &mut Held, role: &str) -> Result<String> {
     let octets = std::mem::replace(&mut held.disk, Vec::new(alloc));
     let spool = opened(alloc, held, SafeDisk::new(alloc, Octets::from_vec(octets)))?;
-    let Worked { disk, puts, end } = worked(rt, alloc, held, spool, role)?;
+    let Worked { disk, puts, end } = work_at(rt, alloc, held, spool, role)?;
     held.disk = disk.octets().to_vec(alloc)?;
     spend(alloc, held, puts);
     Ok(said(alloc, &end)?)
@@ -116,7 +116,7 @@ fn works_over_failing<R: Wait>(
     let call = calls_of_opening(alloc, held)?.saturating_add(held.disk_fails);
     let disk = disk_of(alloc, held.disk.as_slice(), call)?;
     let spool = opened(alloc, held, disk)?;
-    let Worked { disk, puts, end } = worked(rt, alloc, held, spool, role)?;
+    let Worked { disk, puts, end } = work_at(rt, alloc, held, spool, role)?;
     held.disk = disk.octets().to_vec(alloc)?;
     spend(alloc, held, puts);
     Ok(said(alloc, &end)?)
