@@ -17,7 +17,6 @@ mod settling;
 mod spool;
 mod starting;
 
-pub use entries::Entries;
 pub use mta_journal::{JOURNAL_LIMIT, OpenWhy};
 pub use mta_machine::{Item, MailboxLine, Origin, Status, Statuses};
 pub use mta_records::{CompleteFault, Step, StepFault};
