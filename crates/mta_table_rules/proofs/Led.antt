@@ -82,9 +82,9 @@ routes_are t item v places e h led =
     led_as (peer_at t) (peer_word t.text) item (route_under t v) (route_word t.text item.octets) places
     (λ place. peer_word_is t place e) (λ r. route_is t item.octets v r e h) led
 
-pub no_routes : (t : TablesValue) (item : ItemValue) → tables_value t.text ≡ Some t → value_of item.octets ≡ None
-    → AreRoutes t.text item []
-no_routes t item e h r peer pending is = let none = no_route t item.octets r e h in absurd cc
+pub no_routes : (t : TablesValue) (item : ItemValue) (places : List ℕ) → tables_value t.text ≡ Some t
+    → value_of item.octets ≡ None → AreRoutes t.text item places
+no_routes t item places e h r peer pending is = let none = no_route t item.octets r e h in absurd cc
 
 pub relays_are : (t : TablesValue) (item : ItemValue) (v : ApduValue) (moment : ℕ) (places : List ℕ)
     → tables_value t.text ≡ Some t → value_of item.octets ≡ Some v
@@ -95,9 +95,9 @@ relays_are t item v moment places e h led =
     (λ r. relay_by t.text (verdict_of t.text item.octets item.arrival r moment)) places (λ place. refl)
     (λ r. ap (relay_by t.text) (verdict_is t item.octets v item.arrival r moment e h)) led
 
-pub no_relays : (t : TablesValue) (item : ItemValue) (moment : ℕ) → tables_value t.text ≡ Some t
-    → value_of item.octets ≡ None → AreRelays t.text item moment []
-no_relays t item moment e h r peer pending is =
+pub no_relays : (t : TablesValue) (item : ItemValue) (moment : ℕ) (places : List ℕ) → tables_value t.text ≡ Some t
+    → value_of item.octets ≡ None → AreRelays t.text item moment places
+no_relays t item moment places e h r peer pending is =
     let none : None ≡ Some peer =
     sym (ap (relay_by t.text) (no_verdict t item.octets item.arrival r moment e h)) ∙ is in
     absurd cc

@@ -1,5 +1,5 @@
 -- The peers to which pending recipients of an item go, once its APDU is read.
-use Rattle.std.specs.Prelude.{◌≡◌, ℕ, ◌≤◌, true, List, Option, option_and_then}
+use Rattle.std.specs.Prelude.{◌≡◌, ℕ, ◌≤◌, true, List, Option, Some, option_and_then}
 use Rattle.mta_apdu.specs.Apdus.{ApduValue}
 use Rattle.mta_tables.specs.Tables.{TablesValue}
 use Rattle.mta_machine.specs.Items.{ItemValue, numbered, names, has_status, is_pending}

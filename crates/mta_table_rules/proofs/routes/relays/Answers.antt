@@ -9,7 +9,7 @@ use Rattle.mta_table_rules.proofs.routes.relays.Goals as goal
 
 pub returns-in_default : goal.returns-in_default
 returns-in_default c =
-    no_relays c.args.tables.now c.args.item.now c.args.moment c.text_reads.ensures
+    no_relays c.args.tables.now c.args.item.now c.args.moment c.new.result.items c.text_reads.ensures
     (kept_is c.args.item.now.octets c.octets.result.now c.in_ok-apdu.field-0 None c.octets.ensures
     c.in_ok-apdu.ensures.value c.in_default.is)
 

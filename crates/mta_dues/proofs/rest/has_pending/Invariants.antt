@@ -1,6 +1,6 @@
 use Rattle.std.proofs.Common.{◌≤◌, ◌-◌}
-use Rattle.mta_dues.specs.Idle.{NonePendingUpTo}
-use Rattle.mta_dues.proofs.idle.has_pending.Given as goal
+use Rattle.mta_dues.specs.Index.{NonePendingUpTo}
+use Rattle.mta_dues.proofs.rest.has_pending.Given as goal
 
 abbrev pub invariant-loop-recipient : goal.invariant-loop-recipient
 invariant-loop-recipient l = record {
