@@ -45,7 +45,14 @@ impl<R: Rules + Drop> Replay<R> {
         match &mut self.rules {
             None => Ok(None),
             Some(force) => {
-                batch_for(alloc, &force.rules, &self.kept, &mut force.index, peer, moment)
+                batch_for(
+                    alloc,
+                    &force.rules,
+                    &self.kept,
+                    &mut force.index,
+                    peer,
+                    moment,
+                )
             }
         }
     }
