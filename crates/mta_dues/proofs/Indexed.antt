@@ -15,8 +15,8 @@ use Rattle.mta_agenda.specs.Agendas.{AgendaValue, is_active, IsAside, IsLetGo, I
 use Rattle.mta_agenda.specs.Lines.{KeepsLines, Leaves, stands, StandsAll}
 use Rattle.mta_replay.specs.Asked.{AreRelays, AreRoutes}
 use Rattle.mta_dues.specs.declared.index.Index.{Index}
-use Rattle.mta_dues.specs.Index.{HasPending, IsAtRestIn, IsIndexed, IsLeft, IsListedIn, IsReadyIn, IsRoutedIn, StandsFor}
-use Rattle.mta_dues.specs.Index.{IndexesStay}
+use Rattle.mta_dues.specs.Index.{HasPending, IndexesStay, IsAtRestIn, IsIndexed, IsLeft, IsListedIn, IsReadyIn}
+use Rattle.mta_dues.specs.Index.{IsRoutedIn}
 
 -- an agenda that keeps what rests, and lines with more
 kept_with : (text : List ℕ) (items : List ItemValue) (old new : Index) → KeepsAll old.agenda new.agenda

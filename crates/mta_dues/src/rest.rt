@@ -54,8 +54,8 @@ fn line_up<R: Rules>(
     index.ready.put_all(alloc, relays.as_slice(), number)
 }
 
-/// Whether an active item is idle at a moment. It rests then: until its verdicts may change, or for good where nobody is
-/// pending. Where there is no memory to note it the item stays active.
+/// Whether an active item is idle at a moment. It rests then: until its verdicts may change, or for good where nobody
+/// is pending. Where there is no memory to note it the item stays active.
 pub fn rest<R: Rules>(
     alloc: Global,
     rules: &R,
