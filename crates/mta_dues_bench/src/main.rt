@@ -1,5 +1,5 @@
-//! Opens a spool in memory in which many items wait for one peer and a few for another, and then asks it again and again:
-//! what is due, what goes to the other peer next, or what waits for that one. The words are `due`, `batch` or
+//! Opens a spool in memory in which many items wait for one peer and a few for another, and then asks it again and
+//! again: what is due, what goes to the other peer next, or what waits for that one. The words are `due`, `batch` or
 //! `waiting`, how many items there are, and how often it is asked. A script times it (checks/dues_speed.sh).
 #![tactic(auto)]
 
@@ -54,41 +54,48 @@ fn asked(rt: &HostRuntime) -> Option<Words> {
     })
 }
 
-fn put_record(journal: &mut Vec<u8>, body: &[u8]) -> Result<()> {
-    let length = body.len() as u32;
-    journal.push(1)?;
-    journal.extend_from_slice(&length.to_be_bytes())?;
-    journal.extend_from_slice(body)?;
+/// The octets behind their number, in four octets.
+fn put_counted(out: &mut Vec<u8>, octets: &[u8]) -> Result<()> {
+    let Ok(count) = u32::try_from(octets.len()) else {
+        return Err(anyhow!("too many octets"));
+    };
+    out.extend_from_slice(&count.to_be_bytes())?;
+    out.extend_from_slice(octets)?;
     Ok(())
 }
 
-fn put_item(alloc: Global, journal: &mut Vec<u8>, number: u32, domain: &[u8]) -> Result<()> {
+fn put_record(journal: &mut Vec<u8>, body: &[u8]) -> Result<()> {
+    journal.push(1)?;
+    put_counted(journal, body)
+}
+
+/// The message to a recipient in this domain.
+fn message_to(alloc: Global, domain: &[u8]) -> Result<Vec<u8>> {
+    let mut message = Vec::from_slice(alloc, &MESSAGE[..DOMAIN])?;
+    message.extend_from_slice(domain)?;
+    message.extend_from_slice(&MESSAGE[DOMAIN + 4..])?;
+    Ok(message)
+}
+
+fn put_item(alloc: Global, journal: &mut Vec<u8>, number: u32, message: &[u8]) -> Result<()> {
     let moment = ARRIVED + u64::from(number);
-    let length = MESSAGE.len() as u32;
     let mut body = Vec::from_slice(alloc, &[2])?;
     body.extend_from_slice(&moment.to_be_bytes())?;
-    body.extend_from_slice(&length.to_be_bytes())?;
-    body.extend_from_slice(&MESSAGE[..DOMAIN])?;
-    body.extend_from_slice(domain)?;
-    body.extend_from_slice(&MESSAGE[DOMAIN + 4..])?;
+    put_counted(&mut body, message)?;
     put_record(journal, body.as_slice())
 }
 
 /// A journal: the tables, and so many items, of which the last few wait for the second peer.
 fn journal_of(alloc: Global, items: u32) -> Result<Octets> {
+    let near = message_to(alloc, b"EAST")?;
+    let far = message_to(alloc, b"ACME")?;
     let mut journal = Vec::from_slice(alloc, b"MTASPL01")?;
-    let length = TABLES.len() as u32;
     let mut body = Vec::from_slice(alloc, &[1])?;
-    body.extend_from_slice(&length.to_be_bytes())?;
-    body.extend_from_slice(TABLES)?;
+    put_counted(&mut body, TABLES)?;
     put_record(&mut journal, body.as_slice())?;
     for number in 0..items {
-        let domain: &[u8] = if items - number <= FEW {
-            b"EAST"
-        } else {
-            b"ACME"
-        };
-        put_item(alloc, &mut journal, number, domain)?;
+        let message = if items - number <= FEW { &near } else { &far };
+        put_item(alloc, &mut journal, number, message.as_slice())?;
     }
     journal.push(0)?;
     Ok(Octets::from_vec(journal))
