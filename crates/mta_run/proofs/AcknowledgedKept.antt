@@ -61,9 +61,9 @@ accepted_number : (n k : ℕ) (x y : List ℕ) → n < 2 ^ 32 → k < 2 ^ 32 →
 accepted_number n k x y small low e =
     let tail : (decimal n ++ 10 ∷ []) ++ x ≡ (decimal k ++ 10 ∷ []) ++ y = cc in
     let behind : decimal n ++ 10 ∷ x ≡ decimal k ++ 10 ∷ y = sym (append_assoc (decimal n) (10 ∷ []) x) ∙ tail
-        ∙ append_assoc (decimal k) (10 ∷ []) y in
+    ∙ append_assoc (decimal k) (10 ∷ []) y in
     decimal_injective n k (omega arith) (omega arith)
-        (same_before (decimal n) (decimal k) x y (no_feed n (omega arith)) (no_feed k (omega arith)) behind)
+    (same_before (decimal n) (decimal k) x y (no_feed n (omega arith)) (no_feed k (omega arith)) behind)
 
 -- no stop's line begins as that of an acceptance
 no_stop : (stop : Stop) (n : ℕ) (x : List ℕ) → accepted_line n ++ x ≡ line_of stop → ⊥
@@ -104,9 +104,9 @@ begins : (line a b rest : List ℕ) (n : ℕ) (front : TakesFront line a b) → 
     → accepted_line n ++ (rest ++ front.0) ≡ line
 begins line a b rest n front e =
     let grouped : ((a ++ accepted_line n) ++ rest) ++ front.0 ≡ a ++ (accepted_line n ++ (rest ++ front.0)) =
-        append_assoc (a ++ accepted_line n) rest front.0 ∙ append_assoc a (accepted_line n) (rest ++ front.0) in
+    append_assoc (a ++ accepted_line n) rest front.0 ∙ append_assoc a (accepted_line n) (rest ++ front.0) in
     append_cancel_left a (accepted_line n ++ (rest ++ front.0)) line
-        (sym grouped ∙ ap (λ (x : List ℕ). x ++ front.0) (sym e) ∙ front.1.whole)
+    (sym grouped ∙ ap (λ (x : List ℕ). x ++ front.0) (sym e) ∙ front.1.whole)
 
 -- ---- the Accept whose item's number was printed
 
@@ -227,9 +227,14 @@ accepted_kept steps added input n a =
     let made : HasItem (after_step s step).machine.items n input =
     (new, rw a.number (numbered_last s.machine.items new), refl) in
     let whole : steps ++ added ≡ (steps ++ a.front) ++ step ∷ a.back = ap (λ (x : List Step). steps ++ x) a.accept
-        ∙ sym (append_assoc steps a.front (step ∷ a.back)) in
+    ∙ sym (append_assoc steps a.front (step ∷ a.back)) in
     let item = history_keeps (after_step s step) a.back n input made in
     let there : after (steps ++ added) ≡ after_from (after_step s step) a.back = ap after whole ∙ after_append empty
-        (steps ++ a.front) (step ∷ a.back) in
-    record { accepted = a; item = item.0; item_is = subst (λ (x : State). numbered x.machine.items n ≡ Some item.0)
-        (sym there) item.1; octets_are = item.2 }
+    (steps ++ a.front) (step ∷ a.back) in
+    record {
+      accepted = a;
+      item = item.0;
+      item_is = subst (λ (x : State). numbered x.machine.items n ≡ Some item.0)
+          (sym there) item.1;
+      octets_are = item.2;
+    }

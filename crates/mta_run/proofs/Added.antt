@@ -119,9 +119,13 @@ turn_stays (step ∷ a) p =
 
 pub accepts_append : (a b : List Step) → accepts (a ++ b) ≡ accepts a + accepts b
 accepts_append [] b = omega arith
-accepts_append (step ∷ a) b = omega
-    (arith, sum_by-cons (λ (x : Step). cond (is_accept x) 1 0) step (a ++ b), sum_by-cons
-    (λ (x : Step). cond (is_accept x) 1 0) step a, accepts_append a b)
+accepts_append (step ∷ a) b = omega (
+  arith,
+  sum_by-cons (λ (x : Step). cond (is_accept x) 1 0) step (a ++ b),
+  sum_by-cons
+      (λ (x : Step). cond (is_accept x) 1 0) step a,
+  accepts_append a b,
+)
 
 accepts_cons : (step : Step) (a : List Step) → accepts (step ∷ a) ≡ cond (is_accept step) 1 0 + accepts a
 accepts_cons step a = sum_by-cons (λ (x : Step). cond (is_accept x) 1 0) step a
@@ -257,17 +261,33 @@ module _ {D C : Type 0} (disks : DiskView D) where
         adds = λ conf input own. adds_torn tells conf input step old new failed (so refl) appends own;
       }
   adds_refused laws tells step old new (StepFaults.Full size need) failed so no_lane appends =
-      record { torn_step = []; at_most = inl refl; adds = λ conf input own. adds_still laws tells conf input old new
-          failed (unchanged step old new (StepFaults.Full size need) (λ e. absurd cc) appends) }
+      record {
+        torn_step = [];
+        at_most = inl refl;
+        adds = λ conf input own. adds_still laws tells conf input old new
+            failed (unchanged step old new (StepFaults.Full size need) (λ e. absurd cc) appends);
+      }
   adds_refused laws tells step old new (StepFaults.Spent last) failed so no_lane appends =
-      record { torn_step = []; at_most = inl refl; adds = λ conf input own. adds_still laws tells conf input old new
-          failed (unchanged step old new (StepFaults.Spent last) (λ e. absurd cc) appends) }
+      record {
+        torn_step = [];
+        at_most = inl refl;
+        adds = λ conf input own. adds_still laws tells conf input old new
+            failed (unchanged step old new (StepFaults.Spent last) (λ e. absurd cc) appends);
+      }
   adds_refused laws tells step old new StepFaults.Ended failed so no_lane appends =
-      record { torn_step = []; at_most = inl refl; adds = λ conf input own. adds_still laws tells conf input old new
-          failed (unchanged step old new StepFaults.Ended (λ e. absurd cc) appends) }
+      record {
+        torn_step = [];
+        at_most = inl refl;
+        adds = λ conf input own. adds_still laws tells conf input old new
+            failed (unchanged step old new StepFaults.Ended (λ e. absurd cc) appends);
+      }
   adds_refused laws tells step old new StepFaults.Memory failed so no_lane appends =
-      record { torn_step = []; at_most = inl refl; adds = λ conf input own. adds_still laws tells conf input old new
-          failed (unchanged step old new StepFaults.Memory (λ e. absurd cc) appends) }
+      record {
+        torn_step = [];
+        at_most = inl refl;
+        adds = λ conf input own. adds_still laws tells conf input old new
+            failed (unchanged step old new StepFaults.Memory (λ e. absurd cc) appends);
+      }
   adds_refused laws tells step old new (StepFaults.Fenced generation) failed so no_lane appends = absurd no_lane
   adds_refused laws tells step old new (StepFaults.NoLane lane) failed so no_lane appends = absurd no_lane
   adds_refused laws tells step old new (StepFaults.BusyLanes count) failed so no_lane appends = absurd no_lane
@@ -279,8 +299,18 @@ module _ {D C : Type 0} (disks : DiskView D) where
       conf input old new a [] ⊥
   adds_calm tells conf input old new a torn_step failed calm p =
       let q = subst (λ (t : List Step). Adds disks tells conf input old new a t failed) (p.calm calm) p in
-      record { stands = λ w. q.stands calm; calm = λ w. refl; one = q.one; later = q.later; told = q.told; entries =
-          q.entries; history = q.history; own = q.own; leaves = q.leaves }
+      record {
+        stands = λ w. q.stands calm;
+        calm = λ w. refl;
+        one = q.one;
+        later = q.later;
+        told = q.told;
+        entries =
+            q.entries;
+        history = q.history;
+        own = q.own;
+        leaves = q.leaves;
+      }
 
   pub adds_then : (tells : ℕ → Type 0) (conf input : List ℕ) (old mid new : Shown D C) (a b torn_step : List Step)
       (failed : Type 0) → Adds disks tells conf input old mid a [] ⊥ → Adds disks tells conf input mid new b torn_step
@@ -301,32 +331,51 @@ module _ {D C : Type 0} (disks : DiskView D) where
             (q.history (steps ++ a) (p.stands (λ w. w) steps s));
         own = λ steps s.
             let first : AreOwn tells conf input (after steps) a = subst (AreOwn tells conf input (after steps))
-                (append-nil a) (p.own steps s) in
+            (append-nil a) (p.own steps s) in
             subst (AreOwn tells conf input (after steps)) whole
             (own_append tells conf input (after steps) a (b ++ torn_step) first
-                (subst (λ (x : State). AreOwn tells conf input x (b ++ torn_step)) (after_append empty steps a)
-                (q.own (steps ++ a) (p.stands (λ w. w) steps s))));
+            (subst (λ (x : State). AreOwn tells conf input x (b ++ torn_step)) (after_append empty steps a)
+            (q.own (steps ++ a) (p.stands (λ w. w) steps s))));
         leaves = λ f told steps s.
             let x = p.told f told in
             leaves_then disks steps a b torn_step old.journal.disk mid.journal.disk new.journal.disk
-                (p.leaves f told steps s) (q.leaves x.0 x.1 (steps ++ a) (p.stands (λ w. w) steps s));
+            (p.leaves f told steps s) (q.leaves x.0 x.1 (steps ++ a) (p.stands (λ w. w) steps s));
       }
 
   pub adds_more : (tells other : ℕ → Type 0) (conf input : List ℕ) (old new : Shown D C) (a torn_step : List Step)
       (failed : Type 0) → ((t : ℕ) → tells t → other t) → Adds disks tells conf input old new a torn_step failed
       → Adds disks other conf input old new a torn_step failed
   adds_more tells other conf input old new a torn_step failed more p =
-      record { stands = p.stands; calm = p.calm; one = p.one; later = p.later; told = p.told; entries = p.entries;
-          history = p.history; own = λ steps s. own_more tells other conf input (after steps) (a ++ torn_step) more
-          (p.own steps s); leaves = p.leaves }
+      record {
+        stands = p.stands;
+        calm = p.calm;
+        one = p.one;
+        later = p.later;
+        told = p.told;
+        entries = p.entries;
+        history = p.history;
+        own = λ steps s. own_more tells other conf input (after steps) (a ++ torn_step) more
+            (p.own steps s);
+        leaves = p.leaves;
+      }
 
   pub adds_unless : (tells : ℕ → Type 0) (conf input : List ℕ) (old new : Shown D C) (a torn_step : List Step)
       (failed other : Type 0) → (failed → other) → Adds disks tells conf input old new a torn_step failed → Adds disks
       tells conf input old new a torn_step other
   adds_unless tells conf input old new a torn_step failed other from p =
-      record { stands = λ calm. p.stands (λ w. calm (from w)); calm = λ calm. p.calm (λ w. calm (from w)); one =
-          p.one; later = p.later; told = p.told; entries = p.entries; history = p.history; own = p.own; leaves =
-          p.leaves }
+      record {
+        stands = λ calm. p.stands (λ w. calm (from w));
+        calm = λ calm. p.calm (λ w. calm (from w));
+        one =
+            p.one;
+        later = p.later;
+        told = p.told;
+        entries = p.entries;
+        history = p.history;
+        own = p.own;
+        leaves =
+            p.leaves;
+      }
 
 -- a step that was refused has its turn
 pub turn_refused : (turn : ℕ) (step : Step) (torn_step : List Step) → turn ≤ turn_of step → turn_of step ≤ max turn 1

@@ -32,7 +32,7 @@ next_own tells conf input added s step turn (due moment _ behind timed next) = s
 
 own_of : (tells : ℕ → Type 0) (conf input : List ℕ) (added : List Step) (s : State) (size : ℕ) (failed other : Type 0)
     (fault : StepFault) → turn_after 0 added ≡ 2 → (failed → other) → IsRefusal tells conf input added s size failed
-        fault
+    fault
     → IsOwnRefusal tells conf s size other fault
 own_of tells conf input added s size failed other (StepFaults.Full used need) turn so r = record {
   step = r.step;
@@ -170,7 +170,7 @@ module _ {D C : Type 0} (disks : DiskView D) (laws : DiskLaws disks) (clocks : C
     refused = λ fault e.
         own_more (clocks.tells mid.clock) (clocks.tells old.clock) conf new.current new.journal.size _ _ fault fewer
         (λ r. omega (arith, r, so.adds.later))
-            (settled_why disks (clocks.tells mid.clock) conf mid new fault result e h);
+        (settled_why disks (clocks.tells mid.clock) conf mid new fault result e h);
     going = λ ok. h.going (λ e. other (sym ok ∙ e));
   } where
     other : ◌≡◌ {A = Result (Unit {0}) StepFault} (Ok tt) (Err StepFaults.Disk) → ⊥

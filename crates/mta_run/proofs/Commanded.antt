@@ -57,15 +57,15 @@ module _ {D C I L S : Type 0} (disks : DiskView D) (clocks : ClockView C) (sourc
       clock before after out whole.outcome
   commanded_alone words other is alone conf conf_after input input_after disk clock before after out own whole same kept
       x =
-    subst (λ (w : Words). HasCommanded disks clocks sources links stations (Some w) conf conf_after input input_after
-    disk whole.disk clock before after out whole.outcome) (sym is)
-    (subst (λ (e : Ended D). HasCommanded disks clocks sources links stations (Some other) conf conf_after input
-    input_after disk e.disk clock before after out e.outcome) (sym same)
-    (ended_with (handed disks clocks sources (Some other) conf conf_after input input_after disk own.disk clock)
-    NoneWorked
-    (StationsLeft (handed disks clocks sources (Some other) conf conf_after input input_after disk own.disk clock) links
-    stations (sessions_in (Some other)) before after) out own.outcome
-    (λ o e a t w. Untouched kept w (λ s opens. absurd (alone s))) x))
+      subst (λ (w : Words). HasCommanded disks clocks sources links stations (Some w) conf conf_after input input_after
+      disk whole.disk clock before after out whole.outcome) (sym is)
+      (subst (λ (e : Ended D). HasCommanded disks clocks sources links stations (Some other) conf conf_after input
+      input_after disk e.disk clock before after out e.outcome) (sym same)
+      (ended_with (handed disks clocks sources (Some other) conf conf_after input input_after disk own.disk clock)
+      NoneWorked
+      (StationsLeft (handed disks clocks sources (Some other) conf conf_after input input_after disk own.disk clock) links
+      stations (sessions_in (Some other)) before after) out own.outcome
+      (λ o e a t w. Untouched kept w (λ s opens. absurd (alone s))) x))
 
   -- `serve`
   pub commanded_serving : (words : Words) (sessions : ℕ) (named : List StationWord) → words ≡ Say.Serve sessions named
@@ -77,8 +77,8 @@ module _ {D C I L S : Type 0} (disks : DiskView D) (clocks : ClockView C) (sourc
       before after out result
   commanded_serving words sessions named is roles theirs conf conf_after input disk disk_after clock before after out
       result x =
-    subst (λ (w : Words). HasCommanded disks clocks sources links stations (Some w) conf conf_after input input disk
-    disk_after clock before after out result) (sym is) (x input named (named_so roles words sessions named is theirs))
+      subst (λ (w : Words). HasCommanded disks clocks sources links stations (Some w) conf conf_after input input disk
+      disk_after clock before after out result) (sym is) (x input named (named_so roles words sessions named is theirs))
 
   -- a command that reads and opens nothing
   pub commanded_early : (laws : DiskLaws disks) (words : Option Words) (conf input : I) (disk : D) (clock : C)
@@ -113,7 +113,7 @@ pub early_ended : {D C I L S : Type 0} (disks : DiskView D) (clocks : ClockView 
     → out.after ≡ out.before
     → Cause (handed disks clocks sources words conf conf input input disk disk clock) [] [] uncalled stop
     → HasCommanded disks clocks sources links stations words conf conf input input disk disk_after clock before after
-        out
+    out
     result
 early_ended disks clocks sources links stations laws words conf input disk clock before after out stop disk_after result
     same is kept silent cause =
@@ -129,7 +129,7 @@ pub drill_ended : {D C I : Type 0} (disks : DiskView D) (laws : DiskLaws disks) 
     (sources : SourceView I) (messages : ℕ) (conf input : I) (disk : D) (clock : C) (out : Output)
     → out.after ≡ out.before
     → HasEnded (handed disks clocks sources (Some (Say.Drill messages)) conf conf input input disk disk clock)
-        NoneWorked
+    NoneWorked
     out (Err Stops.NotBuilt)
 drill_ended disks laws clocks sources messages conf input disk clock out silent =
     ended_early disks laws clocks sources (Some (Say.Drill messages)) conf conf input input disk clock NoneWorked out

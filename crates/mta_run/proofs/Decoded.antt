@@ -26,8 +26,8 @@ decoded_text : (input : Option (List ℕ)) (octets : List ℕ) (text : Result (L
 decoded_text input octets (Ok s) told is t e i w = subst
     (λ (y : List ℕ). (v : ApduValue) × SpellsApdu i v × (y ≡ apdu_text v)) s_is
     (subst (λ (x : List ℕ). (v : ApduValue) × SpellsApdu x v × (s ≡ apdu_text v)) (told i w) is) where
-  s_is : s ≡ t
-  s_is = cc
+      s_is : s ≡ t
+      s_is = cc
 decoded_text input octets (Err s) told is t e i w = absurd cc
 
 told_stop : (input : Option (List ℕ)) (octets : List ℕ) (failed : Type 0) (stop : Stop) → IsTold input octets
@@ -51,8 +51,8 @@ decoded_stop : (input : Option (List ℕ)) (octets : List ℕ) (failed : Type 0)
 decoded_stop input octets failed (Ok s) told is stop e = absurd cc
 decoded_stop input octets failed (Err s) told is stop e = subst (IsInputStop input failed) s_is
     (told_stop input octets failed s told is) where
-  s_is : s ≡ stop
-  s_is = cc
+      s_is : s ≡ stop
+      s_is = cc
 
 -- what was read was shown
 pub decoded : {I : Type 0} (sources : SourceView I) (old new : I) (octets : List ℕ) (out : Output)
@@ -64,8 +64,8 @@ decoded sources old new octets out text result read is shown = record {
   printed = shown_printed (IsInputStop (sources.left old) (Rose (sources.faults old) (sources.faults new)))
       (IsApduText (sources.left old)) out text result
       (decoded_text (sources.left old) octets text read.read is)
-          (decoded_stop (sources.left old) octets (Rose (sources.faults old) (sources.faults new)) text read.read is)
-          shown;
+      (decoded_stop (sources.left old) octets (Rose (sources.faults old) (sources.faults new)) text read.read is)
+      shown;
 }
 
 -- an input that was not read
@@ -81,7 +81,7 @@ decode_cause : {D C I : Type 0} (disks : DiskView D) (clocks : ClockView C) (sou
     (conf input input_after : I) (disk : D) (clock : C) (stop : Stop) → IsInputStop (sources.left input)
     (Rose (sources.faults input) (sources.faults input_after)) stop
     → Cause (handed disks clocks sources (Some Say.Decode) conf conf input input_after disk disk clock) [] [] uncalled
-        stop
+    stop
 decode_cause disks clocks sources conf input input_after disk clock (Stops.BadApdu at kind) is = apdu at kind tt
     (λ r. absurd r) is
 decode_cause disks clocks sources conf input input_after disk clock Stops.Source is = source (inr (tt, is))
@@ -101,13 +101,18 @@ pub decode_ended : {D C I : Type 0} (disks : DiskView D) (laws : DiskLaws disks)
     (sources : SourceView I) (conf input input_after : I) (disk : D) (clock : C) (out : Output)
     (result : Result (Unit {0}) Stop) → HasDecoded sources input input_after out result
     → HasEnded (handed disks clocks sources (Some Say.Decode) conf conf input input_after disk disk clock) NoneWorked
-        out result
+    out result
 decode_ended disks laws clocks sources conf input input_after disk clock out result has =
     ended_alike (handed disks clocks sources (Some Say.Decode) conf conf input input_after disk disk clock) NoneWorked
-        out result uncalled
-    (record { conf_untouched = λ none. refl; input_untouched = λ none. absurd (none tt); conf = undrawn sources
-        longest_tables conf; input = has.drawn })
+    out result uncalled
+    (record {
+      conf_untouched = λ none. refl;
+      input_untouched = λ none. absurd (none tt);
+      conf = undrawn sources
+          longest_tables conf;
+      input = has.drawn;
+    })
     (left_alone disks laws disk) (λ f steps was s. before_alone disks laws disk steps) (λ e ok. e) (λ none. refl)
     (printed_map out result
-        (λ stop e why. decode_cause disks clocks sources conf input input_after disk clock stop why)
-        (λ t x. of_decode t refl x) has.printed) refl
+    (λ stop e why. decode_cause disks clocks sources conf input input_after disk clock stop why)
+    (λ t x. of_decode t refl x) has.printed) refl

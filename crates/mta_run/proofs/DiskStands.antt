@@ -133,14 +133,14 @@ module _ {D C : Type 0} (disks : DiskView D) (laws : DiskLaws disks) (old : D) (
       → ((f : List ℕ) → disks.content spool.journal.disk ≡ Some f → Leaves disks o.steps added torn_step
       spool.journal.disk new.journal.disk)
       → (f : List ℕ) (steps : List Step) → disks.content old ≡ Some f → StandsFor f steps → Synced disks steps added
-          torn_step old new.journal.disk
+      torn_step old new.journal.disk
   synced_opened new added torn_step leaves f steps was s =
       let x = o.told f was in
       let l = leaves x.0 x.1 in
       let ss = o.since f was in
       let images = o.images f was in
       subst (λ (x : List Step). Synced disks x added torn_step old new.journal.disk) (same_steps f steps was s)
-          (record {
+      (record {
         since = ss.since;
         from = ss.from;
         until = omega (arith, ss.until, l.during.later);
@@ -153,8 +153,8 @@ module _ {D C : Type 0} (disks : DiskView D) (laws : DiskLaws disks) (old : D) (
   pub disk_opened : (new : Shown D C) (added torn_step : List Step) → disks.faults spool.journal.disk ≤ disks.faults
       new.journal.disk → StaysTold disks spool.journal.disk new.journal.disk → length torn_step ≤ 1
       → ((Rose (disks.faults old) (disks.faults new.journal.disk) → ⊥) → torn_step ≡ [])
-          → ((f : List ℕ) → disks.content spool.journal.disk ≡ Some f → Leaves disks o.steps added torn_step
-          spool.journal.disk new.journal.disk)
+      → ((f : List ℕ) → disks.content spool.journal.disk ≡ Some f → Leaves disks o.steps added torn_step
+      spool.journal.disk new.journal.disk)
       → DiskLeft disks old new.journal.disk opened added torn_step
   disk_opened new added torn_step later told one calm leaves = record {
     untouched = λ e. absurd cc;

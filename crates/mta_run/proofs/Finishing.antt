@@ -65,42 +65,42 @@ told_short ends out (Err stop) shown = inl shown
 
 module _ {D C : Type 0} (disks : DiskView D) (tells : ℕ → Type 0) (ends : List WorkerEnd) (out : Output)
     (old new : Shown D C) (settled : Result (Unit {0}) StepFault) (behind : SettlesBehind disks tells old new settled)
-        where
-  outcome_printed : (result : Result (Unit {0}) Stop) → HasToldStations ends out (Ok tt)
-      → IsOutcome settled ends result
-      → HasPrinted (IsFinishStop settled ends) (λ text. text ≡ station_lines ends) out result
-  outcome_printed (Ok done) told o = whole done (station_lines ends) refl told
-  outcome_printed (Err stop) told o = stopped stop (inr o) (station_lines ends) (inr refl) told
+  where
+    outcome_printed : (result : Result (Unit {0}) Stop) → HasToldStations ends out (Ok tt)
+        → IsOutcome settled ends result
+        → HasPrinted (IsFinishStop settled ends) (λ text. text ≡ station_lines ends) out result
+    outcome_printed (Ok done) told o = whole done (station_lines ends) refl told
+    outcome_printed (Err stop) told o = stopped stop (inr o) (station_lines ends) (inr refl) told
 
-  outcome_well : (result : Result (Unit {0}) Stop) → IsOutcome settled ends result → result ≡ Ok tt
-      → (settled ≡ Ok tt) × IsUndecided (halts_of ends)
-  outcome_well _ (Well e undecided) ok = (e, undecided)
-  outcome_well _ (Refused fault e) ok = absurd cc
-  outcome_well _ (Decided halt e decides) ok = absurd cc
+    outcome_well : (result : Result (Unit {0}) Stop) → IsOutcome settled ends result → result ≡ Ok tt
+        → (settled ≡ Ok tt) × IsUndecided (halts_of ends)
+    outcome_well _ (Well e undecided) ok = (e, undecided)
+    outcome_well _ (Refused fault e) ok = absurd cc
+    outcome_well _ (Decided halt e decides) ok = absurd cc
 
-  -- the lines were printed
-  pub finished : (result : Result (Unit {0}) Stop) → HasToldStations ends out (Ok tt) → IsOutcome settled ends result
-      → HasFinished disks tells ends out old new result
-  finished result told o = record {
-    settled = settled;
-    behind = behind;
-    printed = outcome_printed result told o;
-    well = outcome_well result o;
-  }
+    -- the lines were printed
+    pub finished : (result : Result (Unit {0}) Stop) → HasToldStations ends out (Ok tt) → IsOutcome settled ends result
+        → HasFinished disks tells ends out old new result
+    finished result told o = record {
+      settled = settled;
+      behind = behind;
+      printed = outcome_printed result told o;
+      well = outcome_well result o;
+    }
 
-  untold_printed : (stop : Stop) → HasToldStations ends out (Err stop)
-      → HasPrinted (IsFinishStop settled ends) (λ text. text ≡ station_lines ends) out (Err stop)
-  untold_printed stop (inl short) = stopped stop (inl short.0) [] (inl refl) (prints_nothing out short.1)
-  untold_printed stop (inr failed) =
-      subst (λ (s : Stop). HasPrinted (IsFinishStop settled ends) (λ text. text ≡ station_lines ends) out (Err s))
-      (sym failed.0) (cut (station_lines ends) refl failed.1)
+    untold_printed : (stop : Stop) → HasToldStations ends out (Err stop)
+        → HasPrinted (IsFinishStop settled ends) (λ text. text ≡ station_lines ends) out (Err stop)
+    untold_printed stop (inl short) = stopped stop (inl short.0) [] (inl refl) (prints_nothing out short.1)
+    untold_printed stop (inr failed) =
+        subst (λ (s : Stop). HasPrinted (IsFinishStop settled ends) (λ text. text ≡ station_lines ends) out (Err s))
+        (sym failed.0) (cut (station_lines ends) refl failed.1)
 
-  -- they were not
-  pub unfinished : (stop : Stop) → HasToldStations ends out (Err stop)
-      → HasFinished disks tells ends out old new (Err stop)
-  unfinished stop told = record {
-    settled = settled;
-    behind = behind;
-    printed = untold_printed stop told;
-    well = λ ok. absurd cc;
-  }
+    -- they were not
+    pub unfinished : (stop : Stop) → HasToldStations ends out (Err stop)
+        → HasFinished disks tells ends out old new (Err stop)
+    unfinished stop told = record {
+      settled = settled;
+      behind = behind;
+      printed = untold_printed stop told;
+      well = λ ok. absurd cc;
+    }

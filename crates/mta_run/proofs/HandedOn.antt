@@ -48,7 +48,7 @@ shown_printed Why IsText out (Ok text) (Err stop) texts stops shown = subst
 shown_printed Why IsText out (Err why) (Ok done) texts stops shown = absurd shown
 shown_printed Why IsText out (Err why) (Err stop) texts stops shown =
     subst (λ (s : Stop). HasPrinted Why IsText out (Err s)) (sym shown.0)
-        (stopped why (stops why refl) [] (inl refl) (prints_nothing out shown.1))
+    (stopped why (stops why refl) [] (inl refl) (prints_nothing out shown.1))
 
 -- ---- what was read
 
@@ -105,7 +105,7 @@ ended_alike h stations out result opening sources disk before other unless print
 pub ended_early : {D C I : Type 0} (disks : DiskView D) (laws : DiskLaws disks) (clocks : ClockView C)
     (sources : SourceView I) (words : Option Words) (conf conf_after input input_after : I) (disk : D) (clock : C)
     (stations : OnStations) (out : Output) (stop : Stop) → SourcesLeft
-        (handed disks clocks sources words conf conf_after input input_after disk disk clock)
+    (handed disks clocks sources words conf conf_after input input_after disk disk clock)
     → out.after ≡ out.before
     → Cause (handed disks clocks sources words conf conf_after input input_after disk disk clock) [] [] uncalled stop
     → stations uncalled [] [] []
@@ -114,5 +114,5 @@ pub ended_early : {D C I : Type 0} (disks : DiskView D) (laws : DiskLaws disks) 
 ended_early disks laws clocks sources words conf conf_after input input_after disk clock stations out stop left same
     cause on =
     ended_alike (handed disks clocks sources words conf conf_after input input_after disk disk clock) stations out
-        (Err stop) uncalled left (left_alone disks laws disk) (λ f steps was s. before_alone disks laws disk steps)
-        (λ e ok. absurd cc) (λ none. refl) (stopped stop cause [] (inl refl) (prints_nothing out same)) on
+    (Err stop) uncalled left (left_alone disks laws disk) (λ f steps was s. before_alone disks laws disk steps)
+    (λ e ok. absurd cc) (λ none. refl) (stopped stop cause [] (inl refl) (prints_nothing out same)) on

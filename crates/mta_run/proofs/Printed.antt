@@ -41,12 +41,16 @@ module _ {O : Type 0} (sinks : SinkView O) (a b c : O) (Cause : Stop → Type 0)
       (line_behind text (line_of stop) (sinks.taken a) (sinks.taken b) (sinks.taken c) p goes)
   told_ended stop status text why f p (short is goes) = told Stops.Memory memory is text f
       (line_behind text (line_of Stops.Memory) (sinks.taken a) (sinks.taken b) (sinks.taken c) p goes)
-  told_ended stop status text why f p (failed is goes) = cut_line is stop why text f
-      (omega (arith, goes.0, first), front_behind text (line_of stop) (sinks.taken a) (sinks.taken b) (sinks.taken c)
-      p goes.1)
-  told_ended stop status text why f p (short_failed is goes) = cut_line is Stops.Memory memory text f
-      (omega (arith, goes.0, first), front_behind text (line_of Stops.Memory) (sinks.taken a) (sinks.taken b)
-      (sinks.taken c) p goes.1)
+  told_ended stop status text why f p (failed is goes) = cut_line is stop why text f (
+    omega (arith, goes.0, first),
+    front_behind text (line_of stop) (sinks.taken a) (sinks.taken b) (sinks.taken c)
+        p goes.1,
+  )
+  told_ended stop status text why f p (short_failed is goes) = cut_line is Stops.Memory memory text f (
+    omega (arith, goes.0, first),
+    front_behind text (line_of Stops.Memory) (sinks.taken a) (sinks.taken b)
+        (sinks.taken c) p goes.1,
+  )
 
   -- what was printed, and the status, from what the command printed and what its end added
   pub ended : (result : Result (Unit {0}) Stop) (status : ℕ) → HasPrinted Cause IsText (output sinks a b) result
@@ -55,9 +59,11 @@ module _ {O : Type 0} (sinks : SinkView O) (a b c : O) (Cause : Stop → Type 0)
       (subst (λ (t : Option (List ℕ)). Goes (λ f g. g ≡ f ++ text) (sinks.taken a) t) (sym q.1) p)
   ended _ status (stopped stop why text f p) (inl q) = absurd (no_sink (subst Cause q.0 why))
   ended _ status (stopped stop why text f p) (inr q) = told_ended stop status text why f p q.1
-  ended _ status (cut text x p) (inl q) = cut_text q.1 text x
-      (omega (arith, p.0, then), subst (λ (t : Option (List ℕ)). Goes (TakesFront text) (sinks.taken a) t) (sym q.2)
-      p.1)
+  ended _ status (cut text x p) (inl q) = cut_text q.1 text x (
+    omega (arith, p.0, then),
+    subst (λ (t : Option (List ℕ)). Goes (TakesFront text) (sinks.taken a) t) (sym q.2)
+        p.1,
+  )
   ended _ status (cut text x p) (inr q) = absurd (q.0 refl)
 
 -- no stop has status 0

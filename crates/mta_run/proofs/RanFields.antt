@@ -34,8 +34,8 @@ use Rattle.mta_run.proofs.Worked.{accepted_more}
 history_front : (steps tried : List Step) (n : ℕ) → IsHistory (steps ++ tried) → IsHistory (steps ++ take n tried)
 history_front steps tried n history =
     possible_front empty (steps ++ take n tried) (drop n tried)
-        (subst IsHistory (ap (λ (x : List Step). steps ++ x) (sym (take-append-drop n tried)) ∙ sym
-        (append_assoc steps (take n tried) (drop n tried))) history)
+    (subst IsHistory (ap (λ (x : List Step). steps ++ x) (sym (take-append-drop n tried)) ∙ sym
+    (append_assoc steps (take n tried) (drop n tried))) history)
 
 -- in a history each recipient is discharged once at most
 once_in : (steps : List Step) → IsHistory steps → RecipientsOnce steps
@@ -150,7 +150,7 @@ printed_tells h ends added opening out _ (cut text x p) e = absurd cc
 pub ran : {D C I O : Type 0} (h : Handed D C I) (sinks : SinkView O) (a b c : O) (result : Result (Unit {0}) Stop)
     (status : ℕ) (stations : OnStations)
     → HasEnded h stations (output sinks a b) result → HasClosed result (output sinks b c) status → sinks.faults a ≤
-        sinks.faults b → sinks.faults b ≤ sinks.faults c
+    sinks.faults b → sinks.faults b ≤ sinks.faults c
     → Ran h stations (output sinks a c) status
 ran h sinks a b c result status stations has closed first then = record {
   opening = has.opening;

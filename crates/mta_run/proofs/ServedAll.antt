@@ -110,9 +110,11 @@ module _ {D C I L S : Type 0} (disks : DiskView D) (laws : DiskLaws disks) (cloc
       (tables_cause (Serving disk disk) stop tt refl read.read)
   not_tabled disk before after roles stop e same silent (Not_named tables name read x _ (inl is)) =
       early disk before after (Ok tables) stop read same silent
-      (subst (Cause (Serving disk disk) [] [] uncalled) (sym is) (no_peer name tt (λ c w.
-      (tables, subst (λ (y : List ℕ). tables_of y ≡ Ok tables) (read.read.0 c w) read.read.1,
-      named_roles tables name roles e x))))
+      (subst (Cause (Serving disk disk) [] [] uncalled) (sym is) (no_peer name tt (λ c w. (
+        tables,
+        subst (λ (y : List ℕ). tables_of y ≡ Ok tables) (read.read.0 c w) read.read.1,
+        named_roles tables name roles e x,
+      ))))
   not_tabled disk before after roles stop e same silent (Not_named tables name read x _ (inr is)) =
       early disk before after (Ok tables) stop read same silent
       (subst (Cause (Serving disk disk) [] [] uncalled) (sym is) (memory uncalled))
@@ -157,7 +159,7 @@ module _ {D C I L S : Type 0} (disks : DiskView D) (laws : DiskLaws disks) (cloc
           → HasEnded (Serving old new) (Left old new before after) out result
       served_over new before after _ (Not_begun mid fault b disk_is same silent) =
           begun_ended (Serving old new) tt laws tables read all_named (sources_left old new (Ok tables) read)
-              (inputs new)
+          (inputs new)
           spool o clock_is mid (Err fault) b (Left old new before after) out (stop_of_step fault) disk_is silent
           (begun_cause (Serving old new) tt laws tables read all_named (sources_left old new (Ok tables) read)
           (inputs new) spool o clock_is mid (Err fault) b fault refl disk_is)
@@ -165,16 +167,16 @@ module _ {D C I L S : Type 0} (disks : DiskView D) (laws : DiskLaws disks) (cloc
           (sources_left old new (Ok tables) read) (inputs new) spool o clock_is mid (Err fault) b))
       served_over new before after _ (No_workers mid b disk_is same silent) =
           begun_ended (Serving old new) tt laws tables read all_named (sources_left old new (Ok tables) read)
-              (inputs new)
+          (inputs new)
           spool o clock_is mid (Ok tt) b (Left old new before after) out Stops.Memory disk_is silent (memory opened)
           (Untouched same refl (λ s w. begun_own (Serving old new) tt laws tables read all_named
           (sources_left old new (Ok tables) read) (inputs new) spool o clock_is mid (Ok tt) b))
       served_over new before after result (Served limits mid joined final ends _ are b grown kj workers x k disk_is) =
           served_ended (Serving old new) tt laws clock_laws (sources_left old new (Ok tables) read) (inputs new)
           (peers (Serving old new) tt laws tables read all_named (sources_left old new (Ok tables) read) (inputs new)
-              spool
+          spool
           o clock_is) spool o handed_clock joined final kj k disk_is ends links stations sessions limits are before
-              after
+          after
           out result mid.entries own grown workers x
         where
           bare : b.added ++ b.torn_step ≡ mid.entries

@@ -57,7 +57,7 @@ tells_back disks clocks laws spool joined k m tell =
 module _ {D C I : Type 0} (h : Handed D C I) (serves : Serves h.words) (laws : DiskLaws h.disks)
     (tables : TablesValue)
     (read : HasTables h.sources h.conf.before h.conf.after (Ok tables))
-        (named : All (IsNamed tables) (roles_named h.words))
+    (named : All (IsNamed tables) (roles_named h.words))
     (sources : SourcesLeft h) (inputs : InputsRead h) (spool : Shown D C) (o : HasOpened h.disks h.disk.before spool)
     (clock : spool.clock ≡ h.clock) where
   abbrev Tells : ℕ → Type 0

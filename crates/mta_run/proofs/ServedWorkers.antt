@@ -136,7 +136,7 @@ module _ {D C I : Type 0} (h : Handed D C I) (serves : Serves h.words) (laws : D
           let there = k.stands (known (StepFaults.Full size need) y (λ e. absurd cc)) in
           full_serving size need serves inputs (λ c told f steps was s.
           subst (λ (z : List Step). IsOwnFull Tells c (after (z ++ final.entries)) (size_of (z ++ final.entries)) size
-              need)
+          need)
           (firsts f steps was s)
           (subst (λ (n : ℕ). IsOwnFull Tells c (after (k.first ++ final.entries)) n size need) there.holds.size
           (subst (λ (z : State). IsOwnFull Tells c z final.journal.size size need) k.state
@@ -151,8 +151,12 @@ module _ {D C I : Type 0} (h : Handed D C I) (serves : Serves h.words) (laws : D
       by_fault StepFaults.Disk y r =
           let rose = r [] in
           let low = kj.count in
-          cause_disk (serves_adds h.words serves) inputs (failed_so (omega (arith, rose, low,
-          ap (λ (d : D). h.disks.faults d) o.disk)))
+          cause_disk (serves_adds h.words serves) inputs (failed_so (omega (
+            arith,
+            rose,
+            low,
+            ap (λ (d : D). h.disks.faults d) o.disk,
+          )))
       by_fault StepFaults.Ended y r = absurd (r [])
       by_fault StepFaults.Memory y r = cause_memory opened
       by_fault (StepFaults.Fenced generation) y r = absurd (r [])

@@ -106,8 +106,12 @@ module _ {D C : Type 0} (disks : DiskView D) (laws : DiskLaws disks) (clocks : C
         (so.adds conf input) (adds_still disks laws (clocks.tells old.clock) conf input mid new _ is);
     in_turn = subst (AreInTurn 2) (sym (append-nil (added ++ []) ∙ append-nil added)) so.in_turn;
     tables = λ calm. ap (λ (s : State). s.machine.tables) is.1 ∙ so.tables;
-    quiet = λ ok. (told, so.clock told tell, subst (λ (s : State). IsQuiet s (step_moment told s.moment)) (sym is.1)
-        quiet);
+    quiet = λ ok. (
+      told,
+      so.clock told tell,
+      subst (λ (s : State). IsQuiet s (step_moment told s.moment)) (sym is.1)
+          quiet,
+    );
     going = λ other. ap (λ (j : JournalShown D). j.ended) is.0 ∙ so.going;
     refused = λ fault e. absurd cc;
   }
@@ -147,7 +151,7 @@ module _ {D C : Type 0} (disks : DiskView D) (laws : DiskLaws disks) (clocks : C
             (λ (x : List Step). Adds disks (clocks.tells old.clock) conf input old new x r.torn_step failed)
             (append-nil added)
             (adds_then disks (clocks.tells old.clock) conf input old mid new added [] r.torn_step failed
-                (so.adds conf input)
+            (so.adds conf input)
             (adds_more disks (clocks.tells mid.clock) (clocks.tells old.clock) conf input mid new [] r.torn_step failed
             so.clock (r.adds conf input (due_own mid step told tell next conf input))));
         in_turn = turn_append 2 added r.torn_step so.in_turn
@@ -163,7 +167,7 @@ module _ {D C : Type 0} (disks : DiskView D) (laws : DiskLaws disks) (clocks : C
             (IsRefusal (clocks.tells old.clock) conf input (before ++ added) new.current new.journal.size
             (Rose (disks.faults old.journal.disk) (disks.faults new.journal.disk))) (err_same fault f e)
             (refusal disks (clocks.tells old.clock) conf input (before ++ added) step mid new
-                (disks.faults old.journal.disk) fault (so.adds [] []).later so.going
+            (disks.faults old.journal.disk) fault (so.adds [] []).later so.going
             (next_due (step_moment told mid.current.moment) step
             (turn_after_append 0 before added ∙ ap (λ (k : ℕ). turn_after k added) behind ∙ turn_stays added so.in_turn)
             (told, so.clock told tell, refl) next) no_lane appends);

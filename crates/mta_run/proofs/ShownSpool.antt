@@ -105,7 +105,7 @@ module _ {D C : Type 0} (disks : DiskView D) (laws : DiskLaws disks) (old : D) (
   mailbox_why name stop (inr none) = subst (IsShownStop disks (Say.Mailbox name) old spool.journal.disk opened)
       (sym none.0)
       (no_mailbox name refl
-          (λ f steps was s. ap (λ (x : State). mailbox_named x name) (sym (state_there f steps was s)) ∙ none.1))
+      (λ f steps was s. ap (λ (x : State). mailbox_named x name) (sym (state_there f steps was s)) ∙ none.1))
 
   pub mailbox_left : (name : List ℕ) (text : Result (List ℕ) Stop) (result : Result (Unit {0}) Stop) → IsMailboxShown
       spool.current name text → HasShown text out result → HasShownSpool disks (Say.Mailbox name) out old
@@ -118,7 +118,7 @@ module _ {D C : Type 0} (disks : DiskView D) (laws : DiskLaws disks) (old : D) (
         (IsShownText disks (Say.Mailbox name) old opened) out text result
         (λ t e. let m = mailbox_shown spool.current name text t is e in
         shows_mailbox name t refl
-            (λ f steps was s none. m.1 (ap (λ (x : State). mailbox_named x name) (state_there f steps was s) ∙ none))
+        (λ f steps was s none. m.1 (ap (λ (x : State). mailbox_named x name) (state_there f steps was s) ∙ none))
         (λ f steps was s. m.0 ∙ ap (mailbox_of name) (state_there f steps was s)))
         (λ stop e. mailbox_why name stop (mailbox_stopped spool.current name text stop is e)) shown;
   }
@@ -143,9 +143,9 @@ module _ {D C I : Type 0} (h : Handed D C I) (words : Words) (is : h.words ≡ S
       → HasShownSpool h.disks words out h.disk.before h.disk.after result → HasEnded h NoneWorked out result
   shown_with out result left other has =
       ended_alike h NoneWorked out result has.opening left has.disk has.safe_before (λ e ok. other e)
-          (λ none. absurd (none opens))
+      (λ none. absurd (none opens))
       (printed_map out result (λ stop e why. shown_why has.opening stop why) (λ t x. shown_text has.opening t x)
-          has.printed) refl
+      has.printed) refl
 
 -- what adds steps reads the tables
 adds_reads : (words : Option Words) → AddsSteps words → ReadsTables words
@@ -160,11 +160,16 @@ adds_reads (Some (Say.Drill messages)) adds = adds
 pub shown_ended : {D C I : Type 0} (disks : DiskView D) (clocks : ClockView C) (sources : SourceView I)
     (words : Words) (conf input : I) (old new : D) (clock : C) (out : Output) (result : Result (Unit {0}) Stop)
     → OpensDisk (Some words) → (ReadsTables (Some words) → ⊥) → (ReadsApdu (Some words) → ⊥) → HasShownSpool disks
-        words out old new result → HasEnded
-        (handed disks clocks sources (Some words) conf conf input input old new clock) NoneWorked out result
+    words out old new result → HasEnded
+    (handed disks clocks sources (Some words) conf conf input input old new clock) NoneWorked out result
 shown_ended disks clocks sources words conf input old new clock out result opens no_tables no_apdu has =
     shown_with (handed disks clocks sources (Some words) conf conf input input old new clock) words refl opens
-        (record { tables = λ r. absurd (no_tables r); apdu = λ r. absurd (no_apdu r) }) out result
-    (record { conf_untouched = λ none. refl; input_untouched = λ none. refl; conf = undrawn sources longest_tables
-        conf; input = undrawn sources longest_apdu input })
+    (record { tables = λ r. absurd (no_tables r); apdu = λ r. absurd (no_apdu r) }) out result
+    (record {
+      conf_untouched = λ none. refl;
+      input_untouched = λ none. refl;
+      conf = undrawn sources longest_tables
+          conf;
+      input = undrawn sources longest_apdu input;
+    })
     (λ e. no_tables (adds_reads (Some words) e)) has

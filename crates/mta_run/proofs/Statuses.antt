@@ -535,7 +535,6 @@ module _ {D C I : Type 0} (h : Handed D C I) (ends : List WorkerEnd) (added : Li
   complete_stop _ _ status out (spent last submit inputs why) o e = inr (inr (inl (e, subst AddsSteps (sym submit) tt)))
   complete_stop _ _ status out (no_mailbox name word none) o e = let x = o.spool (subst OpensDisk (sym word) tt)
       in absurd (o.named name word x.0 x.1 x.2 x.3 (none x.0 x.1 x.2 x.3))
-
   complete_stop _ _ status out (no_peer name serves unnamed) o e =
       let x = o.tables (serves_reads h.words serves) in
       let named = o.peers serves x.0 x.1 in

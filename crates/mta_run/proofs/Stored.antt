@@ -76,13 +76,19 @@ module _ {D C : Type 0} (disks : DiskView D) where
       let is = unchanged disks step mid new (StepFaults.Full size need) (λ e. absurd cc) appends in
       let full = appends.full size need refl in
       subst (λ (s : State). IsFullFor tells conf input added s new.journal.size size need) (sym is.1)
-      (record { step = step; next = next; size_is = full.0 ∙ ap (λ (j : JournalShown D). j.size) (sym is.0); need_is =
-          full.1; over = full.2 })
+      (record {
+        step = step;
+        next = next;
+        size_is = full.0 ∙ ap (λ (j : JournalShown D). j.size) (sym is.0);
+        need_is =
+            full.1;
+        over = full.2;
+      })
   refusal tells conf input added step mid new before (StepFaults.Spent last) le going next no_lane appends =
       let is = unchanged disks step mid new (StepFaults.Spent last) (λ e. absurd cc) appends in
       let spent = appends.spent last refl in
       subst (λ (s : State). IsSpentFor tells conf input added s last) (sym is.1)
-          (record { step = step; next = next; last_is = spent.0; over = spent.1 })
+      (record { step = step; next = next; last_is = spent.0; over = spent.1 })
   refusal tells conf input added step mid new before StepFaults.Disk le going next no_lane appends =
       let rose = appends.disk refl in omega (arith, rose, le)
   refusal tells conf input added step mid new before StepFaults.Ended le going next no_lane appends =
@@ -198,7 +204,7 @@ module _ {D C : Type 0} (disks : DiskView D) (laws : DiskLaws disks) (tells : �
       → HasStored disks tells conf input old new (Err fault)
   tables_refused conf input old new fault going no_lane records =
       let other : IsRecorded old.current conf → ⊥ = λ recorded. not_same old.journal.ended fault going
-          (records.same recorded).1 in
+      (records.same recorded).1 in
       let a = records.appends other in
       let r = adds_refused disks laws tells (Tables conf) old new fault
       (◌≡◌ {A = Result ℕ StepFault} (Err fault) (Err StepFaults.Disk)) (λ e. ap Err e) no_lane a in
@@ -226,7 +232,7 @@ module _ {D C : Type 0} (disks : DiskView D) (laws : DiskLaws disks) (tells : �
       → Recording disks tells conf input old mid added → ((steps : List Step) × Stands disks old steps) → now told
       → ((t : ℕ) → now t → tells t)
       → Appends disks (Accept (step_moment told mid.current.moment) input) mid new None → n ≡ length
-          mid.current.machine.items + 1 → HasStored disks tells conf input old new (Ok n)
+      mid.current.machine.items + 1 → HasStored disks tells conf input old new (Ok n)
   accepted now conf input old mid new added told n so here tell more appends number =
       let when : ℕ = step_moment told mid.current.moment in
       let step : Step = Accept when input in
@@ -236,7 +242,7 @@ module _ {D C : Type 0} (disks : DiskView D) (laws : DiskLaws disks) (tells : �
         torn_step = [];
         adds = adds_then disks tells conf input old mid new added (step ∷ []) [] _ so.adds
             (adds_one disks tells conf input step mid new _ appends
-                (λ steps s. (refl, (told, more told tell, ap (λ (x : State). step_moment told x.moment) s.state_is))));
+            (λ steps s. (refl, (told, more told tell, ap (λ (x : State). step_moment told x.moment) s.state_is))));
         in_turn = subst (AreInTurn 0) (sym (append-nil (added ++ step ∷ [])))
             (turn_append 0 added (step ∷ []) so.in_turn (so.turn, omega arith, tt));
         small = λ k e. omega (arith, ok_same n k e, number, left);
@@ -268,7 +274,7 @@ module _ {D C : Type 0} (disks : DiskView D) (laws : DiskLaws disks) (tells : �
       (told : ℕ) (fault : StepFault) → Recording disks tells conf input old mid added → now told
       → ((t : ℕ) → now t → tells t) → IsOfNoLane (Some fault)
       → Appends disks (Accept (step_moment told mid.current.moment) input) mid new (Some fault) → HasStored disks
-          tells conf input old new (Err fault)
+      tells conf input old new (Err fault)
   accept_refused now conf input old mid new added told fault so tell more no_lane appends =
       let when : ℕ = step_moment told mid.current.moment in
       let step : Step = Accept when input in
@@ -281,7 +287,7 @@ module _ {D C : Type 0} (disks : DiskView D) (laws : DiskLaws disks) (tells : �
             (◌≡◌ {A = Result ℕ StepFault} (Err fault) (Err StepFaults.Disk))) (append-nil added)
             (adds_then disks tells conf input old mid new added [] r.torn_step _ so.adds
             (r.adds conf input (λ steps s.
-                (refl, (told, more told tell, ap (λ (x : State). step_moment told x.moment) s.state_is)))));
+            (refl, (told, more told tell, ap (λ (x : State). step_moment told x.moment) s.state_is)))));
         in_turn = turn_append 0 added r.torn_step so.in_turn
             (turn_refused (turn_after 0 added) step r.torn_step so.turn (omega arith) r.at_most);
         small = λ n e. absurd cc;
@@ -302,8 +308,8 @@ module _ {D C : Type 0} (disks : DiskView D) (laws : DiskLaws disks) (tells : �
       → ((steps : List Step) × Stands disks old steps) → ((t : ℕ) → clocks.tells mid.clock t → tells t)
       → IsOfNoLane (fault_of result)
       → AtMoment clocks mid.clock mid.current.moment (λ m. Appends disks (Accept m input) mid new (fault_of result))
-          → IfOk result (λ n. n ≡ length mid.current.machine.items + 1) → HasStored disks tells conf input old new
-          result
+      → IfOk result (λ n. n ≡ length mid.current.machine.items + 1) → HasStored disks tells conf input old new
+      result
   stored clocks conf input old mid new added (Ok n) so here more no_lane made number =
       accepted (clocks.tells mid.clock) conf input old mid new added made.told n so here made.tells more made.at number
   stored clocks conf input old mid new added (Err fault) so here more no_lane made number =

@@ -46,7 +46,7 @@ use Rattle.mta_run.proofs.HandedOn.{printed_map, undrawn_along, ended_alike, end
 pub tables_cause : {D C I : Type 0} (h : Handed D C I) (stop : Stop) → ReadsTables h.words → h.input.after
     ≡ h.input.before
     → AreTablesRead (h.sources.left h.conf.before)
-        (Rose (h.sources.faults h.conf.before) (h.sources.faults h.conf.after)) (Err stop) → Cause h [] [] uncalled stop
+    (Rose (h.sources.faults h.conf.before) (h.sources.faults h.conf.after)) (Err stop) → Cause h [] [] uncalled stop
 tables_cause h (Stops.Tables line kind) reads same is = cause_tables line kind reads is same
 tables_cause h Stops.Source reads same is = cause_source (inl (reads, is))
 tables_cause h Stops.Memory reads same is = cause_memory uncalled
@@ -64,7 +64,7 @@ tables_cause h (Stops.NoPeer name) reads same is = absurd is
 apdu_cause : {D C I : Type 0} (h : Handed D C I) (stop : Stop) → ReadsApdu h.words
     → (ReadsTables h.words → ForTables h IsReadAsTables)
     → IsInputStop (h.sources.left h.input.before)
-        (Rose (h.sources.faults h.input.before) (h.sources.faults h.input.after)) stop → Cause h [] [] uncalled stop
+    (Rose (h.sources.faults h.input.before) (h.sources.faults h.input.after)) stop → Cause h [] [] uncalled stop
 apdu_cause h (Stops.BadApdu at kind) reads read is = cause_apdu at kind reads read is
 apdu_cause h Stops.Source reads read is = cause_source (inr (reads, is))
 apdu_cause h Stops.Memory reads read is = cause_memory uncalled
@@ -92,19 +92,29 @@ module _ {D C I : Type 0} (disks : DiskView D) (laws : DiskLaws disks) (clocks :
       (Err stop)
   submit_early old stop same (no_tables _ read untouched) =
       ended_early disks laws clocks sources (Some Say.Submit) conf conf_after input input_after old clock NoneWorked
-          out stop
-      (record { conf_untouched = λ none. absurd (none tt); input_untouched = λ none. absurd (none tt); conf =
-          read.drawn; input = undrawn_along sources longest_apdu input input_after untouched }) same
+      out stop
+      (record {
+        conf_untouched = λ none. absurd (none tt);
+        input_untouched = λ none. absurd (none tt);
+        conf =
+            read.drawn;
+        input = undrawn_along sources longest_apdu input input_after untouched;
+      }) same
       (tables_cause (handed disks clocks sources (Some Say.Submit) conf conf_after input input_after old old clock)
-          stop tt untouched read.read) refl
+      stop tt untouched read.read) refl
   submit_early old stop same (no_apdu _ t read behind) =
       ended_early disks laws clocks sources (Some Say.Submit) conf conf_after input input_after old clock NoneWorked
-          out stop
-      (record { conf_untouched = λ none. absurd (none tt); input_untouched = λ none. absurd (none tt); conf =
-          read.drawn; input = behind.drawn }) same
+      out stop
+      (record {
+        conf_untouched = λ none. absurd (none tt);
+        input_untouched = λ none. absurd (none tt);
+        conf =
+            read.drawn;
+        input = behind.drawn;
+      }) same
       (apdu_cause (handed disks clocks sources (Some Say.Submit) conf conf_after input input_after old old clock) stop
-          tt (λ r. tables_text (sources.left conf) (Rose (sources.faults conf) (sources.faults conf_after)) t
-          read.read) behind.read) refl
+      tt (λ r. tables_text (sources.left conf) (Rose (sources.faults conf) (sources.faults conf_after)) t
+      read.read) behind.read) refl
 
 -- ---- both were read
 
@@ -142,9 +152,9 @@ module _ {D C I : Type 0} (h : Handed D C I) (is : h.words ≡ Some Say.Submit) 
       h.disk.before h.disk.after why → HasEnded h NoneWorked out (Err (stop_of_open why))
   submit_refused laws out why same refusal =
       ended_alike h NoneWorked out (Err (stop_of_open why)) refused sources_left
-          (disk_refused h.disks laws h.disk.before h.disk.after why refusal)
+      (disk_refused h.disks laws h.disk.before h.disk.after why refusal)
       (before_refused h.disks laws h.disk.before h.disk.after why refusal) (λ e ok. absurd cc)
-          (λ none. absurd (none (submit_opens h is)))
+      (λ none. absurd (none (submit_opens h is)))
       (stopped (stop_of_open why) (refused_cause why refusal) [] (inl refl) (prints_nothing out same)) refl
 
   -- ---- it was opened, and worked on
@@ -152,36 +162,36 @@ module _ {D C I : Type 0} (h : Handed D C I) (is : h.words ≡ Some Say.Submit) 
   full_cause : (new : Shown D C) (base added : List Step) (used need : ℕ) → Stands h.disks new (base ++ added)
       → ((f : List ℕ) (steps : List Step) → h.disks.content h.disk.before ≡ Some f → StandsFor f steps → base ≡ steps)
       → IsFullFor (h.clocks.tells h.clock) x.tables.text x.apdu added new.current new.journal.size used need → Cause h
-          [] added opened (Stops.Full used need)
+      [] added opened (Stops.Full used need)
   full_cause new base added used need there same r = cause_full used need is inputs_read (λ c e i w f steps was s.
       subst (λ (y : List Step). IsFullFor (h.clocks.tells h.clock) c i added (after (y ++ added))
-          (size_of (y ++ added)) used need) (same f steps was s)
+      (size_of (y ++ added)) used need) (same f steps was s)
       (subst (λ (n : ℕ). IsFullFor (h.clocks.tells h.clock) c i added (after (base ++ added)) n used need)
-          there.holds.size
+      there.holds.size
       (subst (λ (y : State). IsFullFor (h.clocks.tells h.clock) c i added y new.journal.size used need) there.state_is
       (subst (λ (y : List ℕ). IsFullFor (h.clocks.tells h.clock) c y added new.current new.journal.size used need)
-          (behind.read.0 i w)
+      (behind.read.0 i w)
       (subst (λ (y : List ℕ). IsFullFor (h.clocks.tells h.clock) y x.apdu added new.current new.journal.size used
-          need) (read.read.0 c e) r)))))
+      need) (read.read.0 c e) r)))))
 
   spent_cause : (new : Shown D C) (base added : List Step) (last : ℕ) → Stands h.disks new (base ++ added)
       → ((f : List ℕ) (steps : List Step) → h.disks.content h.disk.before ≡ Some f → StandsFor f steps → base ≡ steps)
       → IsSpentFor (h.clocks.tells h.clock) x.tables.text x.apdu added new.current last → Cause h [] added opened
-          (Stops.Spent last)
+      (Stops.Spent last)
   spent_cause new base added last there same r = cause_spent last is inputs_read (λ c e i w f steps was s.
       subst (λ (y : List Step). IsSpentFor (h.clocks.tells h.clock) c i added (after (y ++ added)) last)
-          (same f steps was s)
+      (same f steps was s)
       (subst (λ (y : State). IsSpentFor (h.clocks.tells h.clock) c i added y last) there.state_is
       (subst (λ (y : List ℕ). IsSpentFor (h.clocks.tells h.clock) c y added new.current last) (behind.read.0 i w)
       (subst (λ (y : List ℕ). IsSpentFor (h.clocks.tells h.clock) y x.apdu added new.current last) (read.read.0 c e)
-          r))))
+      r))))
 
   work_cause : (new : Shown D C) (base added : List Step) (failed : Type 0) (stop : Stop)
       → ((stop ≡ Stops.Disk → ⊥) → Stands h.disks new (base ++ added))
       → ((f : List ℕ) (steps : List Step) → h.disks.content h.disk.before ≡ Some f → StandsFor f steps → base ≡ steps)
       → (failed → DiskFailed h)
       → IsWorkStop (h.clocks.tells h.clock) x.tables.text x.apdu added new.current new.journal.size failed stop
-          → Cause h [] added opened stop
+      → Cause h [] added opened stop
   work_cause new base added failed _ there same risen (full used need r) = full_cause new base added used need
       (there (λ e. absurd cc)) same r
   work_cause new base added failed _ there same risen (spent last r) = spent_cause new base added last
@@ -196,13 +206,13 @@ module _ {D C I : Type 0} (h : Handed D C I) (is : h.words ≡ Some Say.Submit) 
   work_text spool base added text stands same line = of_submit line.number text is inputs_read line.small line.text_is
       (λ i w f steps was s.
       subst (λ (y : List Step). IsAccepted y added i line.number) (same f steps was s)
-          (subst (λ (y : List ℕ). IsAccepted base added y line.number) (behind.read.0 i w) (line.accepted base stands)))
+      (subst (λ (y : List ℕ). IsAccepted base added y line.number) (behind.read.0 i w) (line.accepted base stands)))
 
   pub submit_worked : (out : Output) (result : Result (Unit {0}) Stop) (spool new : Shown D C) (base : List Step)
       → Stands h.disks spool base
       → ((f : List ℕ) (steps : List Step) → h.disks.content h.disk.before ≡ Some f → StandsFor f steps → base ≡ steps)
       → (Rose (h.disks.faults spool.journal.disk) (h.disks.faults new.journal.disk) → DiskFailed h)
-          → (has : HasWorked h.disks (h.clocks.tells h.clock) x.tables.text x.apdu out spool new result)
+      → (has : HasWorked h.disks (h.clocks.tells h.clock) x.tables.text x.apdu out spool new result)
       → DiskLeft h.disks h.disk.before h.disk.after opened has.added has.torn_step
       → ForOpened h (λ steps. IsSafeBefore h.disks steps (has.added ++ has.torn_step) h.disk.before h.disk.after)
       → HasEnded h NoneWorked out result
@@ -217,8 +227,8 @@ module _ {D C I : Type 0} (h : Handed D C I) (is : h.words ≡ Some Say.Submit) 
     safe_before = λ none. before;
     printed = printed_map out result
         (λ stop e why. work_cause new base has.added
-            (Rose (h.disks.faults spool.journal.disk) (h.disks.faults new.journal.disk)) stop
-            (λ other. has.adds.stands (λ w. other (err_same stop Stops.Disk (sym e ∙ w))) base stands) same risen why)
+        (Rose (h.disks.faults spool.journal.disk) (h.disks.faults new.journal.disk)) stop
+        (λ other. has.adds.stands (λ w. other (err_same stop Stops.Disk (sym e ∙ w))) base stands) same risen why)
         (λ t line. work_text spool base has.added t stands same line) has.printed;
     history = λ f steps was s. subst (λ (y : List Step). IsHistory (y ++ (has.added ++ has.torn_step)))
         (same f steps was s) (has.adds.history base stands);
@@ -226,9 +236,9 @@ module _ {D C I : Type 0} (h : Handed D C I) (is : h.words ≡ Some Say.Submit) 
         (λ (y : List Step). AreOwn (h.clocks.tells h.clock) c i (after y) (has.added ++ has.torn_step))
         (same f steps was s)
         (subst (λ (y : List ℕ). AreOwn (h.clocks.tells h.clock) c y (after base) (has.added ++ has.torn_step))
-            (behind.read.0 i w)
+        (behind.read.0 i w)
         (subst (λ (y : List ℕ). AreOwn (h.clocks.tells h.clock) y x.apdu (after base) (has.added ++ has.torn_step))
-            (read.read.0 c e) (has.adds.own base stands)));
+        (read.read.0 c e) (has.adds.own base stands)));
     in_turn = λ none. has.in_turn;
     only_adding = λ other. absurd (other (subst AddsSteps (sym is) tt));
     calm = λ ok. has.adds.calm (λ e. ok_err (sym ok ∙ e));
@@ -251,7 +261,7 @@ module _ {D C I : Type 0} (h : Handed D C I) (is : h.words ≡ Some Say.Submit) 
     settled_there ok f steps was s =
         subst (λ (y : List Step). IsSettled (h.clocks.tells h.clock) (y ++ has.added)) (same f steps was s)
         (subst (λ (y : State). (told : ℕ) × h.clocks.tells h.clock told × IsQuiet y (step_moment told y.moment))
-            (there ok).state_is (has.quiet ok))
+        (there ok).state_is (has.quiet ok))
 
 -- the disk failed in a step where working on it stopped for that
 pub work_failed : {D C : Type 0} (disks : DiskView D) (tells : ℕ → Type 0) (conf input : List ℕ) (out : Output)
@@ -292,21 +302,21 @@ module _ {D C I : Type 0} (disks : DiskView D) (laws : DiskLaws disks) (clocks :
   submit_unopened new why same refusal =
       let b = both_read sources conf conf_after input input_after x inputs in
       submit_refused (handed disks clocks sources (Some Say.Submit) conf conf_after input input_after old new clock)
-          refl x b.0 b.1 laws out why same refusal
+      refl x b.0 b.1 laws out why same refusal
 
   pub submit_opened : (spool new : Shown D C) (result : Result (Unit {0}) Stop) → HasOpened disks old spool
       → HasWorked disks (clocks.tells clock) x.tables.text x.apdu out spool new result
       → HasEnded (handed disks clocks sources (Some Say.Submit) conf conf_after input input_after old new.journal.disk
-          clock) NoneWorked out result
+      clock) NoneWorked out result
   submit_opened spool new result o has =
       let b = both_read sources conf conf_after input input_after x inputs in
       submit_worked (handed disks clocks sources (Some Say.Submit) conf conf_after input input_after old
-          new.journal.disk clock) refl x b.0 b.1 out result spool new o.steps o.stands
-          (same_steps disks laws old spool o) risen has
+      new.journal.disk clock) refl x b.0 b.1 out result spool new o.steps o.stands
+      (same_steps disks laws old spool o) risen has
       (disk_opened disks laws old spool o new has.added has.torn_step has.adds.later has.adds.told has.adds.one
       (λ calm. has.adds.calm
-          (λ e. calm (risen (work_failed disks (clocks.tells clock) x.tables.text x.apdu out spool new result has
-          e)))) (λ f told. has.adds.leaves f told o.steps o.stands))
+      (λ e. calm (risen (work_failed disks (clocks.tells clock) x.tables.text x.apdu out spool new result has
+      e)))) (λ f told. has.adds.leaves f told o.steps o.stands))
       (before_opened disks laws old spool o new has.added has.torn_step
       (λ f told. has.adds.leaves f told o.steps o.stands))
     where

@@ -77,11 +77,20 @@ refusal_more : (tells other : ℕ → Type 0) (conf input : List ℕ) (added : L
     (failed failed_too : Type 0) (fault : StepFault) → ((t : ℕ) → tells t → other t) → (failed → failed_too)
     → IsRefusal tells conf input added s size failed fault → IsRefusal other conf input added s size failed_too fault
 refusal_more tells other conf input added s size failed failed_too (StepFaults.Full used need) more too r =
-    record { step = r.step; next = next_more tells other conf input added s r.step more r.next; size_is = r.size_is;
-        need_is = r.need_is; over = r.over }
+    record {
+      step = r.step;
+      next = next_more tells other conf input added s r.step more r.next;
+      size_is = r.size_is;
+      need_is = r.need_is;
+      over = r.over;
+    }
 refusal_more tells other conf input added s size failed failed_too (StepFaults.Spent last) more too r =
-    record { step = r.step; next = next_more tells other conf input added s r.step more r.next; last_is = r.last_is;
-        over = r.over }
+    record {
+      step = r.step;
+      next = next_more tells other conf input added s r.step more r.next;
+      last_is = r.last_is;
+      over = r.over;
+    }
 refusal_more tells other conf input added s size failed failed_too StepFaults.Disk more too r = too r
 refusal_more tells other conf input added s size failed failed_too StepFaults.Ended more too r = r
 refusal_more tells other conf input added s size failed failed_too StepFaults.Memory more too r = tt
@@ -124,7 +133,7 @@ module _ {D C : Type 0} (disks : DiskView D) (tells : ℕ → Type 0) (conf inpu
       → IsOfNoLane (Some fault)
   stored_no_lane new fault has =
       refusal_no_lane tells conf input has.added new.current new.journal.size
-          (Rose (disks.faults old.journal.disk) (disks.faults new.journal.disk)) fault (has.refused fault refl)
+      (Rose (disks.faults old.journal.disk) (disks.faults new.journal.disk)) fault (has.refused fault refl)
 
   pub work_refused : (out : Output) (new : Shown D C) (fault : StepFault) → out.after ≡ out.before → HasStored disks
       tells conf input old new (Err fault) → HasWorked disks tells conf input out old new (Err (stop_of_step fault))
@@ -135,8 +144,8 @@ module _ {D C : Type 0} (disks : DiskView D) (tells : ℕ → Type 0) (conf inpu
     in_turn = has.in_turn;
     printed = stopped (stop_of_step fault)
         (work_stop tells conf input has.added new.current new.journal.size
-            (Rose (disks.faults old.journal.disk) (disks.faults new.journal.disk)) fault (has.refused fault refl)) []
-            (inl refl) (prints_nothing out same);
+        (Rose (disks.faults old.journal.disk) (disks.faults new.journal.disk)) fault (has.refused fault refl)) []
+        (inl refl) (prints_nothing out same);
     quiet = λ ok. absurd cc;
     tables = λ ok. absurd cc;
   }
@@ -184,10 +193,10 @@ module _ {D C : Type 0} (disks : DiskView D) (tells : ℕ → Type 0) (conf inpu
       (has : HasStored disks tells conf input old mid (Ok n)) → ((t : ℕ) → later t → tells t)
       → (settled : HasSettled disks later mid new result)
       → Adds disks tells conf input old new (has.added ++ settled.added) settled.torn_step
-          (result ≡ Err StepFaults.Disk)
+      (result ≡ Err StepFaults.Disk)
   settling_adds later mid new n has more settled =
       adds_then disks tells conf input old mid new has.added settled.added settled.torn_step _
-          (adds_calm disks tells conf input old mid has.added has.torn_step _ stored_calm has.adds)
+      (adds_calm disks tells conf input old mid has.added has.torn_step _ stored_calm has.adds)
       (adds_more disks later tells conf input mid new settled.added settled.torn_step _ more (settled.adds conf input))
 
   settling_turn : {result : Result (Unit {0}) StepFault} (later : ℕ → Type 0) (mid new : Shown D C) (n : ℕ)
@@ -196,7 +205,7 @@ module _ {D C : Type 0} (disks : DiskView D) (tells : ℕ → Type 0) (conf inpu
   settling_turn later mid new n has settled =
       subst (AreInTurn 0) (sym (append_assoc has.added settled.added settled.torn_step))
       (turn_append 0 has.added (settled.added ++ settled.torn_step) (stored_turn mid n has)
-          (subst (λ (k : ℕ). AreInTurn k (settled.added ++ settled.torn_step)) (sym (has.turn n refl)) settled.in_turn))
+      (subst (λ (k : ℕ). AreInTurn k (settled.added ++ settled.torn_step)) (sym (has.turn n refl)) settled.in_turn))
 
   -- all that was due is done
   pub work_settled : (later : ℕ → Type 0) (out : Output) (mid new : Shown D C) (n : ℕ) → HasStored disks tells conf
@@ -223,7 +232,7 @@ module _ {D C : Type 0} (disks : DiskView D) (tells : ℕ → Type 0) (conf inpu
       conf input old mid (Ok n) → HasSettled disks later mid new (Err fault) → IsOfNoLane (Some fault)
   settled_no_lane later mid new n fault has settled =
       refusal_no_lane later conf input (has.added ++ settled.added) new.current new.journal.size
-          (Rose (disks.faults mid.journal.disk) (disks.faults new.journal.disk)) fault
+      (Rose (disks.faults mid.journal.disk) (disks.faults new.journal.disk)) fault
       (settled.refused fault refl conf input has.added (has.turn n refl))
 
   pub work_unsettled : (later : ℕ → Type 0) (out : Output) (mid new : Shown D C) (n : ℕ) (fault : StepFault)

@@ -84,7 +84,7 @@ pub data Cause {D C I : Type 0} (h : Handed D C I) (ends : List WorkerEnd) (adde
       → h.input.after ≡ h.input.before → Cause h ends added uncalled (Stops.Tables line kind)
   apdu : (at : ℕ) (kind : Kind) → ReadsApdu h.words → (ReadsTables h.words → ForTables h IsReadAsTables)
       → ForInput h (λ i. HasFault i (record { at = at; kind = kind })) → Cause h ends added uncalled
-          (Stops.BadApdu at kind)
+      (Stops.BadApdu at kind)
   not_spool : (at : ℕ) → OpensDisk h.words → InputsRead h → ForDisk h (λ f. NoSpoolAt f at)
       → Cause h ends added refused (Stops.NotSpool at)
   not_opened : OpensDisk h.words → InputsRead h → DiskFailed h → Cause h ends added refused Stops.Disk

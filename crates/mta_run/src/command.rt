@@ -46,7 +46,10 @@ fn are_stations_for<S: Station>(words: &Words, stations: &[S]) -> bool
     ensures { result ≡ are_stations_for words.now (roles_in S.model stations.now) }
 {
     match words {
-        Words::Serve { stations: named, .. } => have_roles(named.as_slice(), stations),
+        Words::Serve {
+            stations: named,
+            ..
+        } => have_roles(named.as_slice(), stations),
         _ => true,
     }
 }
@@ -201,8 +204,9 @@ where
         (words_with (roles_in S.model stations.items) (command_of (map string_bytes words.now)))
         conf.old conf.new input.old input.new disk result.disk clock) (output O.model out.old out.new) result.status }
 {
-    let ServeEnd { ended, stations } =
-        command(rt, alloc, words, conf, input, out, disk, stations, clock);
+    let ServeEnd { ended, stations } = command(
+        rt, alloc, words, conf, input, out, disk, stations, clock,
+    );
     let Ended { disk, outcome } = ended;
     let status = close(alloc, out, outcome);
     Finished {

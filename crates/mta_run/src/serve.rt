@@ -67,9 +67,7 @@ fn begin<D: Disk + Drop, C: Clock + Drop>(
 }
 
 // Does what has come due behind the workers, where the disk has not failed.
-fn settle_behind<D: Disk + Drop, C: Clock + Drop>(
-    spool: &mut Spool<D, C>,
-) -> Result<(), StepFault>
+fn settle_behind<D: Disk + Drop, C: Clock + Drop>(spool: &mut Spool<D, C>) -> Result<(), StepFault>
     requires stands { spool.old.journal.ended ≡ false → (steps : List Step) × Stands D.model spool.old steps }
     ensures settled { SettlesBehind D.model (C.model.tells spool.old.clock) spool.old spool.new result }
     ensures keeps { KeepsOn D.model C.model spool.old spool.new }

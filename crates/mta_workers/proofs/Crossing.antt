@@ -56,18 +56,26 @@ replay_send = let a = rules_send in search (crosses, sendable) depth 80 fits 100
 
 module _ (D C : RattleType) (d : disk.Ghosts D.Denot) (c : clock.Ghosts C.Denot) where
   inside_send : IsSend D → IsSend C → IsSend (inside.the_field D C d c).row
-  inside_send sd sc = struct_send (shape (inside.the_type D C d c))
-    (search (crosses, sendable) depth 20, (search (crosses, sendable) depth 20, (search sendable depth 20,
-    (replay_send, (search sendable depth 20, (search sendable depth 20, tt))))))
+  inside_send sd sc = struct_send (shape (inside.the_type D C d c)) (
+    search (crosses, sendable) depth 20,
+    (
+      search (crosses, sendable) depth 20,
+      (
+        search sendable depth 20,
+        (replay_send, (search sendable depth 20, (search sendable depth 20, tt))),
+      ),
+    ),
+  )
 
   pub spool_send : IsSend D → IsSend C → IsSend (spool.the_field D C d c).row
   spool_send sd sc = let a = inside_send sd sc in search sendable depth 20
 
 module _ (V E : RattleType) (h : historied.Ghosts V.Denot E.Denot) where
   pub shared_sync : IsSend V → IsSync (shared.the_field V E h).row
-  shared_sync s = struct_sync (shape (shared.the_type V E h))
-    (search (cells.the_sync, lease.the_sync, crosses, sendable) depth 80 fits 100000,
-    (search (crosses, sendable) depth 80 fits 100000, tt))
+  shared_sync s = struct_sync (shape (shared.the_type V E h)) (
+    search (cells.the_sync, lease.the_sync, crosses, sendable) depth 80 fits 100000,
+    (search (crosses, sendable) depth 80 fits 100000, tt),
+  )
 
 -- A closure that captures four things may be shared where each of them may.
 pub captures_sync : (n : List ℕ) (A B C D : RattleType) → IsSync A → IsSync B → IsSync C → IsSync D

@@ -12,7 +12,7 @@ pub returns-in-Submit-clause-ended : goal.returns-in-Submit-clause-ended
 returns-in-Submit-clause-ended g c =
     commanded_alone g.D.Disk.model g.C.Clock.model g.I.Source.model g.S.Link.Link.model g.S.Station.model
     c.args.words Say.Submit c.in-Submit.is (λ s. s) c.args.conf.now c.submit.new.conf c.args.input.now
-        c.submit.new.input
+    c.submit.new.input
     c.args.disk c.args.clock c.args.stations.items c.alone.result.stations.items
     (output g.O.Sink.model c.args.out.now c.submit.new.out) c.submit.result
     c.alone.result.ended c.alone.ensures.ended (ap (λ v. v.items) c.alone.ensures.stations) c.submit.ensures.ended
@@ -32,7 +32,7 @@ returns-in-Queue-clause-ended g c =
     c.args.words Say.Queue c.in-Queue.is (λ s. s) c.args.conf.now c.args.conf.now c.args.input.now c.args.input.now
     c.args.disk c.args.clock c.args.stations.items c.alone-in-Queue.result.stations.items
     (output g.O.Sink.model c.args.out.now c.queue.new.out) c.queue.result
-    c.alone-in-Queue.result.ended c.alone-in-Queue.ensures.ended (ap (λ v. v.items) c.alone-in-Queue.ensures.stations) 
+    c.alone-in-Queue.result.ended c.alone-in-Queue.ensures.ended (ap (λ v. v.items) c.alone-in-Queue.ensures.stations)
     (shown_ended g.D.Disk.model g.C.Clock.model g.I.Source.model Say.Queue c.args.conf.now c.args.input.now
     c.args.disk c.queue.result.disk c.args.clock (output g.O.Sink.model c.args.out.now c.queue.new.out)
     c.queue.result.outcome tt (λ r. r) (λ r. r) c.queue.ensures.done)
@@ -41,11 +41,11 @@ pub returns-in-Mailbox-clause-ended : goal.returns-in-Mailbox-clause-ended
 returns-in-Mailbox-clause-ended g c =
     commanded_alone g.D.Disk.model g.C.Clock.model g.I.Source.model g.S.Link.Link.model g.S.Station.model
     c.args.words (Say.Mailbox c.in-Mailbox.name) c.in-Mailbox.is (λ s. s) c.args.conf.now c.args.conf.now
-        c.args.input.now c.args.input.now
+    c.args.input.now c.args.input.now
     c.args.disk c.args.clock c.args.stations.items c.alone-in-Mailbox.result.stations.items
     (output g.O.Sink.model c.args.out.now c.mailbox.new.out) c.mailbox.result
     c.alone-in-Mailbox.result.ended c.alone-in-Mailbox.ensures.ended
-        (ap (λ v. v.items) c.alone-in-Mailbox.ensures.stations) 
+    (ap (λ v. v.items) c.alone-in-Mailbox.ensures.stations)
     (shown_ended g.D.Disk.model g.C.Clock.model g.I.Source.model (Say.Mailbox c.in-Mailbox.name) c.args.conf.now
     c.args.input.now c.args.disk c.mailbox.result.disk c.args.clock
     (output g.O.Sink.model c.args.out.now c.mailbox.new.out) c.mailbox.result.outcome tt (λ r. r) (λ r. r)
@@ -55,12 +55,12 @@ pub returns-in-Decode-clause-ended : goal.returns-in-Decode-clause-ended
 returns-in-Decode-clause-ended g c =
     commanded_alone g.D.Disk.model g.C.Clock.model g.I.Source.model g.S.Link.Link.model g.S.Station.model
     c.args.words Say.Decode c.in-Decode.is (λ s. s) c.args.conf.now c.args.conf.now c.args.input.now
-        c.decode-outcome.new.input
+    c.decode-outcome.new.input
     c.args.disk c.args.clock c.args.stations.items c.alone-in-Decode.result.stations.items
     (output g.O.Sink.model c.args.out.now c.decode-outcome.new.out)
-        (record { disk = c.args.disk; outcome = c.decode-outcome.result })
+    (record { disk = c.args.disk; outcome = c.decode-outcome.result })
     c.alone-in-Decode.result.ended c.alone-in-Decode.ensures.ended
-        (ap (λ v. v.items) c.alone-in-Decode.ensures.stations) 
+    (ap (λ v. v.items) c.alone-in-Decode.ensures.stations)
     (decode_ended g.D.Disk.model c.outside_laws.ensures.disks g.C.Clock.model g.I.Source.model c.args.conf.now
     c.args.input.now c.decode-outcome.new.input c.args.disk c.args.clock
     (output g.O.Sink.model c.args.out.now c.decode-outcome.new.out) c.decode-outcome.result

@@ -14,14 +14,14 @@ pub returns-clause-ran : goal.returns-clause-ran
 returns-clause-ran g c =
     let h = handed g.D.Disk.model g.C.Clock.model g.I.Source.model
     (words_with (roles_in g.S.Station.model c.args.stations.items)
-        (command_of (map (string_bytes {Z = Global}) c.args.words.now)))
+    (command_of (map (string_bytes {Z = Global}) c.args.words.now)))
     c.args.conf.now c.command-ended.new.conf c.args.input.now c.command-ended.new.input c.args.disk
     c.command-ended.result.ended.disk c.args.clock in
     ran h g.O.Sink.model c.args.out.now c.command-ended.new.out c.close-status.new.out
     c.command-ended.result.ended.outcome c.close-status.result
     (StationsLeft h g.S.Link.Link.model g.S.Station.model
     (sessions_in (words_with (roles_in g.S.Station.model c.args.stations.items)
-        (command_of (map (string_bytes {Z = Global}) c.args.words.now))))
+    (command_of (map (string_bytes {Z = Global}) c.args.words.now))))
     c.args.stations.items c.command-ended.result.stations.items)
     c.command-ended.ensures.ended c.close-status.ensures.closed c.command-ended.ensures.later
     c.close-status.ensures.later
@@ -31,7 +31,7 @@ returns-clause-complete g c =
     let r = returns-clause-ran g c in
     let h = handed g.D.Disk.model g.C.Clock.model g.I.Source.model
     (words_with (roles_in g.S.Station.model c.args.stations.items)
-        (command_of (map (string_bytes {Z = Global}) c.args.words.now)))
+    (command_of (map (string_bytes {Z = Global}) c.args.words.now)))
     c.args.conf.now c.command-ended.new.conf c.args.input.now c.command-ended.new.input c.args.disk
     c.command-ended.result.ended.disk c.args.clock in
     ended_complete h r.ends r.added r.opening (output g.O.Sink.model c.args.out.now c.close-status.new.out)
@@ -42,7 +42,7 @@ returns-clause-tells g c =
     let r = returns-clause-ran g c in
     let h = handed g.D.Disk.model g.C.Clock.model g.I.Source.model
     (words_with (roles_in g.S.Station.model c.args.stations.items)
-        (command_of (map (string_bytes {Z = Global}) c.args.words.now)))
+    (command_of (map (string_bytes {Z = Global}) c.args.words.now)))
     c.args.conf.now c.command-ended.new.conf c.args.input.now c.command-ended.new.input c.args.disk
     c.command-ended.result.ended.disk c.args.clock in
     ended_tells h r.ends r.added r.opening (output g.O.Sink.model c.args.out.now c.close-status.new.out)

@@ -7,7 +7,7 @@ use Rattle.mta_run.proofs.serve.serve.Goals as goal
 pub returns-in-Err-clause-ended : goal.returns-in-Err-clause-ended
 returns-in-Err-clause-ended g c input named e =
     not_tabled g.D.Disk.model c.outside_laws.ensures.disks g.C.Clock.model c.outside_laws.ensures.clocks
-        g.I.Source.model g.S.Link.Link.model
+    g.I.Source.model g.S.Link.Link.model
     g.S.Station.model c.args.sessions named c.args.conf.now c.tables_for.new.conf input c.args.clock
     (output g.O.Sink.model c.args.out.now c.args.out.now) c.args.disk c.args.stations.items c.args.stations.items
     (roles_in g.S.Station.model c.args.stations.items) c.in-Err.stop e refl refl
@@ -22,10 +22,10 @@ returns-in-Err-open-clause-ended g c input named e =
     c.args.stations.items (Ok c.in-Ok.tables) c.as_slice.ensures.value c.in-Ok.ensures) in
     rw (c.refused.ensures.0, c.refused.ensures.1)
     (not_open g.D.Disk.model c.outside_laws.ensures.disks g.C.Clock.model c.outside_laws.ensures.clocks
-        g.I.Source.model g.S.Link.Link.model
+    g.I.Source.model g.S.Link.Link.model
     g.S.Station.model c.args.sessions named c.args.conf.now c.tables_for.new.conf input c.args.clock
     (output g.O.Sink.model c.args.out.now c.args.out.now) c.args.disk
-        (roles_in g.S.Station.model c.args.stations.items) e c.in-Ok.tables t.0 c.in-Err-open.why.disk
+    (roles_in g.S.Station.model c.args.stations.items) e c.in-Ok.tables t.0 c.in-Err-open.why.disk
     c.args.stations.items c.args.stations.items c.in-Err-open.why.why refl refl c.in-Err-open.ensures.refused)
 
 pub returns-clause-ended : goal.returns-clause-ended
@@ -35,10 +35,10 @@ returns-clause-ended g c input named e =
     (lent_roles g.S.Station.model g.I.Source.model c.args.conf.now c.tables_for.new.conf c.as_slice.result.now
     c.args.stations.items (Ok c.in-Ok.tables) c.as_slice.ensures.value c.in-Ok.ensures) in
     served_over g.D.Disk.model c.outside_laws.ensures.disks g.C.Clock.model c.outside_laws.ensures.clocks
-        g.I.Source.model g.S.Link.Link.model
+    g.I.Source.model g.S.Link.Link.model
     g.S.Station.model c.args.sessions named c.args.conf.now c.tables_for.new.conf input c.args.clock
     (output g.O.Sink.model c.args.out.now c.serve_spool.new.out) c.args.disk
-        (roles_in g.S.Station.model c.args.stations.items) e c.in-Ok.tables t.0 t.1
+    (roles_in g.S.Station.model c.args.stations.items) e c.in-Ok.tables t.0 t.1
     c.in-Ok-open.spool c.in-Ok-open.ensures.opened c.in-Ok-open.ensures.clock c.in-Ok-open.ensures.handed_clock
     c.serve_spool.result.ended.disk c.args.stations.items c.serve_spool.result.stations.items
     c.serve_spool.result.ended.outcome c.serve_spool.ensures.served

@@ -28,14 +28,14 @@ returns g c i d h =
 pub for_each_mut-requires-sync-F : goal.for_each_mut-requires-sync-F
 for_each_mut-requires-sync-F g c κs within =
     let r : IsSync (shr_ref_field (record { mir = named 6; lft = κs.1.1.1.1.1.1.0 }) (param 0 g.row.R) tt).row =
-        search sendable depth 20 in
+    search sendable depth 20 in
     let a : IsSync (shr_ref_field (record { mir = named 7; lft = κs.1.1.1.1.1.1.1.0 }) heap.the_row tt).row =
-        search (crosses, sendable) depth 20 in
+    search (crosses, sendable) depth 20 in
     let s : IsSync (shr_ref_field (record { mir = named 8; lft = κs.1.1.1.1.1.1.1.1.0 })
-        (shared.the_row (spool.the_row (param 1 g.row.D) (param 2 g.row.C) g.D.Disk g.C.Clock) step.the_row
-        (ghosts (param 1 g.row.D) (param 2 g.row.C) g.D.Disk no_dict g.C.Clock no_dict no_dict no_dict)) tt).row =
-        search (shared_sync, spool_send, sendable) depth 20 in
+    (shared.the_row (spool.the_row (param 1 g.row.D) (param 2 g.row.C) g.D.Disk g.C.Clock) step.the_row
+    (ghosts (param 1 g.row.D) (param 2 g.row.C) g.D.Disk no_dict g.C.Clock no_dict no_dict no_dict)) tt).row =
+    search (shared_sync, spool_send, sendable) depth 20 in
     let l : IsSync (shr_ref_field (record { mir = named 9; lft = κs.1.1.1.1.1.1.1.1.1.0 }) limits.the_row tt).row =
-        search sendable depth 20 in
+    search sendable depth 20 in
     let all = captures_sync [] _ _ _ _ r a s l in
     record { shared = all.shared }
