@@ -36,10 +36,12 @@ places_send : IsSend places.the_row
 places_send = search (crosses, maps, sendable) depth 80 fits 100000
 
 lists_send : IsSend lists.the_row
-lists_send = let a = name_send in let p = places_send in let b = pattern_send in search (crosses, sendable) depth 80 fits 100000
+lists_send = let a = name_send in let p = places_send in let b = pattern_send in
+    search (crosses, sendable) depth 80 fits 100000
 
 routes_send : IsSend routes.the_row
-routes_send = let a = name_send in let p = places_send in let b = pattern_send in search (crosses, sendable) depth 80 fits 100000
+routes_send = let a = name_send in let p = places_send in let b = pattern_send in
+    search (crosses, sendable) depth 80 fits 100000
 
 mailboxes_send : IsSend mailboxes.the_row
 mailboxes_send = let a = name_send in let p = places_send in search (crosses, sendable) depth 80 fits 100000
