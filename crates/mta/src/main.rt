@@ -67,7 +67,13 @@ fn stations_of<'a>(
     words: &[String],
 ) -> Result<Vec<TcpStation<'a, HostRuntime>>, Memory> {
     let mut stations = Vec::new(rt.alloc());
-    if let Some(Words::Serve { stations: named, .. }) = Words::read(rt.alloc(), words)? {
+    if let Some(
+        Words::Serve {
+            stations: named,
+            ..
+        },
+    ) = Words::read(rt.alloc(), words)?
+    {
         for word in named.as_slice() {
             stations.push(station_of(rt, word)?)?;
         }

@@ -63,7 +63,8 @@ module _ {D C I L S : Type 0} (disks : DiskView D) (clocks : ClockView C) (sourc
       input_after disk e.disk clock before after out e.outcome) (sym same)
       (ended_with (handed disks clocks sources (Some other) conf conf_after input input_after disk own.disk clock)
       NoneWorked
-      (StationsLeft (handed disks clocks sources (Some other) conf conf_after input input_after disk own.disk clock) links
+      (StationsLeft (handed disks clocks sources (Some other) conf conf_after input input_after disk own.disk clock)
+      links
       stations (sessions_in (Some other)) before after) out own.outcome
       (λ o e a t w. Untouched kept w (λ s opens. absurd (alone s))) x))
 

@@ -79,16 +79,7 @@ pub fn finished<R: Threads + Wait + Sync>(
     let conf = source(alloc, held.tables.as_slice(), 0)?;
     let input = source(alloc, held.input.as_slice(), held.input_fails)?;
     let clock = clock(alloc, held)?;
-    Ok(called(
-        rt,
-        alloc,
-        words.as_slice(),
-        conf,
-        input,
-        out,
-        disk,
-        clock,
-    ))
+    Ok(called(rt, alloc, words.as_slice(), conf, input, out, disk, clock))
 }
 
 /// What `spool` prints of these octets.

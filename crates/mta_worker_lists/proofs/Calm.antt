@@ -31,7 +31,8 @@ use Rattle.mta_session.specs.Wanted.{Wanted, Aborts, Rejects, Ends, Puts, Asks, 
 use Rattle.mta_session.specs.Wanted.{asks_due, closes_rejected, gives, is_refused_value, is_same_reference}
 use Rattle.mta_session.specs.Wanted.{puts_please, starts}
 use Rattle.mta_session.specs.Wanted.{as_holder, as_listener, goes_on_if, makes_or, on_abort, on_accept}
-use Rattle.mta_session.specs.Wanted.{on_answer_by, on_close, on_close_ack, on_open, on_reject, on_unit, on_values, takes}
+use Rattle.mta_session.specs.Wanted.{on_answer_by, on_close, on_close_ack, on_open, on_reject, on_unit, on_values}
+use Rattle.mta_session.specs.Wanted.{takes}
 use Rattle.mta_session.specs.Wanted.{wanted_of_go, wanted_of_over, wanted_of_unit}
 use Rattle.mta_session_laws.specs.Runs.{IsTurn, Turn}
 use Rattle.mta_session_laws.proofs.Opening.{wanted_in}

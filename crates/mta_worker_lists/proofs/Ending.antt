@@ -1,5 +1,6 @@
 -- How a session that was served is over, and what its list has behind its last call.
-use Rattle.std.proofs.Common.{◌≡◌, ℕ, ◌+◌, ◌-◌, ◌≤◌, Bool, false, List, [], ◌∷◌, ◌++◌, length, Option, inl, inr, refl, sym}
+use Rattle.std.proofs.Common.{◌≡◌, ℕ, ◌+◌, ◌-◌, ◌≤◌, Bool, false, List, [], ◌∷◌, ◌++◌, length, Option, inl, inr, refl}
+use Rattle.std.proofs.Common.{sym}
 use Rattle.std.proofs.Common.{ap, subst, ◌∙◌, append_assoc, append-nil, arith}
 use mathlib.Core.List.{IsPrefix}
 use Rattle.mta_edge.specs.Causes.{Rose}
@@ -158,7 +159,8 @@ module _ {D C L : Type 0} (disks : DiskView D) (clocks : ClockView C) (links : L
             there
             (untold spells history (length first) (long s) (long s) u (action.Ask l.question) l.question l.answer lost
             refl l.cause
-            (look_comes disks clocks spells tells first entries possible l.question u l.answer s st l.is_look l.answered))
+            (look_comes disks clocks spells tells first entries possible l.question u l.answer s st l.is_look
+            l.answered))
 
         none : made_by (length first) (place first x.pass) (action.Ask l.question) (event.Reply l.answer) ≡ []
         none =
@@ -197,11 +199,13 @@ module _ {D C L : Type 0} (disks : DiskView D) (clocks : ClockView C) (links : L
 
         end : Untold_at spells history (length first) (place first x.pass) (place first pass) x.session x.action q y
         end =
-            untold spells history (length first) (place first x.pass) (place first pass) x.session x.action q y lost asks
+            untold spells history (length first) (place first x.pass) (place first pass) x.session x.action q y lost
+            asks
             why
             (subst (λ (n : ℕ). ComesTrue spells history (place first x.pass) n x.session.phase (action.Ask q)
             (event.Reply y)) there
-            (reply_comes disks clocks spells tells first entries possible q x.session y old new (place first x.pass) state
+            (reply_comes disks clocks spells tells first entries possible q x.session y old new (place first x.pass)
+            state
             f (omega (arith, shorter)) calm r))
 
         entries_are : row (length old.entries) (length new.entries - length old.entries)
@@ -211,8 +215,11 @@ module _ {D C L : Type 0} (disks : DiskView D) (clocks : ClockView C) (links : L
             ∙ ap (λ (n : ℕ). made_by (length first) n (action.Ask q) (event.Reply y)) there
     turn_closed q old new halt u lost x pass asks state f shorter sees owned calm (At_look y v w r turn l) =
         let rest = looking_closed new v w (noted x.halt y) halt u lost behind refl refl sees
-        (reply_stands disks clocks spells tells first entries possible q x.session y old new state f r) l in
-        (call ∷ [] ++ rest.0, done_behind links spells first entries x behind (call ∷ []) rest.0 pass led owns carried rest.1)
+        (reply_stands disks clocks spells tells first entries possible q x.session y old new state f r) l in (
+          call ∷ [] ++ rest.0,
+          done_behind links spells first entries x behind (call ∷ []) rest.0 pass led owns carried
+              rest.1,
+        )
       where
         behind : At L
         behind = record {
@@ -304,7 +311,8 @@ module _ {D C L : Type 0} (disks : DiskView D) (clocks : ClockView C) (links : L
   served_closed x link pass served are w calm (Stopped zs y t at g h same gives) f =
       let here : IsPrefix y.pass.seen entries = subst (λ (z : Held Step). IsPrefix z.seen entries) same f in
       let led = goes_led disks clocks links spells tells first entries x zs y are w calm g here in
-      let ran = run_ran spells history (length first) (Rose (links.faults y.link) (links.faults at)) (place first y.pass)
+      let ran = run_ran spells history (length first) (Rose (links.faults y.link) (links.faults at))
+      (place first y.pass)
       y.session y.action h.turns h.units h.octets t h.last led.waits led.still h.runs in
       behind_led x y pass led (
         ran.calls,
@@ -343,5 +351,6 @@ module _ {D C L : Type 0} (disks : DiskView D) (clocks : ClockView C) (links : L
       let shorter : length y.pass.seen ≤ length i.before.entries =
       prefix_length y.pass.seen i.before.entries i.begins in
       behind_led x y pass led
-      (turn_closed are.possible q i.before i.after halt t lost y pass asks state after_front shorter left owned led.still
+      (turn_closed are.possible q i.before i.after halt t lost y pass asks state after_front shorter left owned
+      led.still
       i.did)

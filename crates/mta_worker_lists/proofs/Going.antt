@@ -314,4 +314,5 @@ module _ {D C L : Type 0} (disks : DiskView D) (clocks : ClockView C) (links : L
         let one = does_led x z are w calm g.0 (prefix_trans z.pass.seen y.pass.seen entries grown_on front) in
         let base : z.pass.base ≡ x.pass.base = does_base x z g.0 in
         reaches_more x z y one
-        (goes_led z zs y (subst (λ (b : Base). AreEntries b first entries) (sym base) are) one.waits one.still g.1 front)
+        (goes_led z zs y (subst (λ (b : Base). AreEntries b first entries) (sym base) are) one.waits one.still g.1
+        front)

@@ -1,5 +1,6 @@
 -- Where a session that its worker began has its lane.
-use Rattle.std.proofs.Common.{◌≡◌, ℕ, ◌+◌, ◌-◌, ◌*◌, ◌≤◌, ◌<◌, Bool, true, false, Option, None, Some, Result, Ok, Err, List}
+use Rattle.std.proofs.Common.{◌≡◌, ℕ, ◌+◌, ◌-◌, ◌*◌, ◌≤◌, ◌<◌, Bool, true, false, Option, None, Some, Result, Ok, Err}
+use Rattle.std.proofs.Common.{List}
 use Rattle.std.proofs.Common.{[], ◌∷◌, ◌++◌, length, cond, inl, refl, sym, ap, subst, ◌∙◌, arith, append-nil}
 use Rattle.std.proofs.lemmas.List.{length-append}
 use mathlib.Core.List.{IsPrefix}
@@ -181,7 +182,8 @@ module _ {D C : Type 0} (disks : DiskView D) (clocks : ClockView C) where
     has_step q y plan old new pass sees state f p m units =
         let makes : Makes (Some (step_for plan)) old new = subst (λ (o : Option StepOn). Makes o old new) p.told m in
         let stands : Stands history 0 (long new) (step_for plan) =
-        made_stands disks clocks spells tells first entries possible (step_for plan) 0 old new makes state f (omega arith)
+        made_stands disks clocks spells tells first entries possible (step_for plan) 0 old new makes state f
+        (omega arith)
         in
         let there : place first pass ≡ long new = ap (λ (xs : List Step). length first + length xs) sees in
         record {
@@ -260,7 +262,8 @@ module _ {D C : Type 0} (disks : DiskView D) (clocks : ClockView C) where
               begins = there units old new pass halt halt' u (Ok b) sees state f w;
               calls = call ∷ [] ++ looks;
               leads =
-                  leads_more spells history (call ∷ []) looks (long new) (long new) (long new) fresh t u action.Read one b
+                  leads_more spells history (call ∷ []) looks (long new) (long new) (long new) fresh t u action.Read
+                  one b
                   (first_leads fresh new one t turn) look_leads;
               quiet =
                   first_quiet fresh new one t looks
@@ -323,7 +326,8 @@ module _ {D C : Type 0} (disks : DiskView D) (clocks : ClockView C) where
                 halt = halt;
               } in
               let quiet = first_quiet fresh new one t [] (record { got = refl; put = refl; made = refl }) in
-              let rest = looking_closed disks clocks links spells tells first entries possible new t one halt halt' u l x
+              let rest = looking_closed disks clocks links spells tells first entries possible new t one halt halt' u
+              l x
               refl refl sees (stands_there units old new halt halt' u (Err lost) state f w) looking in
               let led : Leads spells history (place first pass) fresh action.Read (call ∷ []) (place first pass) t one =
               subst (λ (xs : List Step). Leads spells history (length first + length xs) fresh action.Read (call ∷ [])

@@ -100,7 +100,8 @@ module _ {L : Type 0} (links : LinkView L) where
     octets = x.octets ++ y.octets;
     put = put_more cs ds a x.octets y.octets x.put (subst (λ (z : Action). PutIn z ds y.octets) (sym is) y.put);
     carried = λ since us os l.
-        subst (λ (vs : List AnyUnit). link.Leads (Carried vs (os ++ (x.octets ++ y.octets)) feed) since (links.talk new))
+        subst (λ (vs : List AnyUnit). link.Leads (Carried vs (os ++ (x.octets ++ y.octets)) feed) since
+        (links.talk new))
         (append_assoc us (got_in cs) (got_in ds) ∙ ap (λ (vs : List AnyUnit). us ++ vs) (sym (got_more cs ds)))
         (subst (λ (ps : List ℕ). link.Leads (Carried ((us ++ got_in cs) ++ got_in ds) ps feed) since (links.talk new))
         (append_assoc os x.octets y.octets)

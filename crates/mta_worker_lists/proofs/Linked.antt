@@ -1,5 +1,6 @@
 -- What a worker does with a link, from the first call of its session to its end.
-use Rattle.std.proofs.Common.{◌≡◌, ◌≤◌, ℕ, ◌+◌, ◌-◌, Bool, false, List, [], ◌∷◌, ◌++◌, length, Option, None, Some, Result}
+use Rattle.std.proofs.Common.{◌≡◌, ◌≤◌, ℕ, ◌+◌, ◌-◌, Bool, false, List, [], ◌∷◌, ◌++◌, length, Option, None, Some}
+use Rattle.std.proofs.Common.{Result}
 use Rattle.std.proofs.Common.{Ok, Err, inl, inr, refl, sym, ap, subst, ◌∙◌, append_assoc, append-nil, arith, slice_get}
 use Rattle.std.proofs.lemmas.Bool.{cases_lt}
 use mathlib.Core.List.{IsPrefix}
@@ -36,7 +37,8 @@ use Rattle.mta_worker.specs.Answers.{Answered}
 use Rattle.mta_worker.specs.Halting.{fault_of}
 use Rattle.mta_worker.specs.Readying.{asks_next, Closed, IsReadied, IsStepped, No_memory, No_number, No_peer, No_room}
 use Rattle.mta_worker.specs.Readying.{Refused, Stepped}
-use Rattle.mta_worker.specs.Served.{Calling, Closings, Halting, HasCalled, HasListened, IsOwnName, Listening, Lost_at_once}
+use Rattle.mta_worker.specs.Served.{Calling, Closings, Halting, HasCalled, HasListened, IsOwnName, Listening}
+use Rattle.mta_worker.specs.Served.{Lost_at_once}
 use Rattle.mta_worker.specs.Served.{Lost_before, Too_often, Wanting, Without}
 use Rattle.mta_worker.specs.Serving.{At, InTurn, IsServed}
 use Rattle.mta_worker.specs.declared.proposal.Next.{Next}
@@ -175,7 +177,8 @@ module _ {D C L : Type 0} (disks : DiskView D) (clocks : ClockView C) (links : L
         begun = r.begun;
         calls = r.calls;
         ran = r.ran;
-        owns = r.owns ∙ ap (λ (ns : List ℕ). ns ++ begun_by (length first) r.ran.begins) (own_still (Ok (Some own)) p mid i);
+        owns = r.owns ∙ ap (λ (ns : List ℕ). ns ++ begun_by (length first) r.ran.begins)
+            (own_still (Ok (Some own)) p mid i);
         later = r.later;
       })
   listened_run units p old new q served are (Lost_at_once own i gives) f =
@@ -229,7 +232,8 @@ module _ {D C L : Type 0} (disks : DiskView D) (clocks : ClockView C) (links : L
       let behind : IsPrefix i.after.entries entries = subst (λ (xs : List Step). IsPrefix xs entries) left front in
       let state = state_then disks clocks i.before mid.base first entries i.keeps are in
       let led : Led disks clocks spells tells first entries are.possible i.before i.after at u one =
-      begins_led disks clocks spells tells first entries are.possible units i.before i.after at None noted u one left state
+      begins_led disks clocks spells tells first entries are.possible units i.before i.after at None noted u one left
+      state
       behind (readied_begins disks clocks peer units i.before i.after None noted u (Ok one) i.did) in
       let there : length first + length i.after.entries ≡ place first at =
       ap (λ (xs : List Step). length first + length xs) (sym left) in
@@ -273,7 +277,8 @@ module _ {D C L : Type 0} (disks : DiskView D) (clocks : ClockView C) (links : L
       let behind : IsPrefix i.after.entries entries = subst (λ (xs : List Step). IsPrefix xs entries) left f in
       let state = state_then disks clocks i.before mid.base first entries i.keeps are in
       let led : Lost_there disks clocks spells tells first entries are.possible links i.before i.after old q =
-      begins_lost disks clocks spells tells first entries are.possible links units i.before i.after None noted u lost old q
+      begins_lost disks clocks spells tells first entries are.possible links units i.before i.after None noted u lost
+      old q
       state behind left (readied_begins disks clocks peer units i.before i.after None noted u (Err lost) i.did) in
       record {
         new = new_initiator led.begins.plan led.begins.units;

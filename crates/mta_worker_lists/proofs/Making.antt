@@ -80,7 +80,8 @@ module _ {D C : Type 0} (disks : DiskView D) (clocks : ClockView C) where
       elim (cases_lt (next_generation (lane_at lane (lanes_of old))) (2 ^ 64)) [
         | inl l ↦ made (step.Bind lane (next_generation (lane_at lane (lanes_of old)))) x old new (b.0 l)
             (ap (λ (n : ℕ). On lane (h.Bind n)) (sym b.2) ∙ is)
-        | inr past ↦ absurd (past_last g old.journal.ended StepFaults.Ended (StepFaults.Spent (2 ^ 64 - 1)) (b.1 past).1)
+        | inr past ↦ absurd (past_last g old.journal.ended StepFaults.Ended (StepFaults.Spent (2 ^ 64 - 1))
+            (b.1 past).1)
       ]
 
   pub not_bound : (lane : ℕ) (fault : StepFault) (old new : Shown D C) → Binds disks clocks lane old (Err fault) new

@@ -86,13 +86,16 @@ module _ (spells : List ℕ → Bool) (history : List Seen) where
       → AskedAt p a t
       → (is_ended p ≡ false → Does (counted t e) (wanted_in p (counted t e) e) b new)
       → ComesTrue spells history from seen p a e → StandsIf from seen (step_by p e new)
-  begins_stands (phase.AsksNewLane again) t new (event.Reply (reply.LaneOpen (Ok lane))) (action.Ask q) b from seen w asks
+  begins_stands (phase.AsksNewLane again) t new (event.Reply (reply.LaneOpen (Ok lane))) (action.Ask q) b from seen w
+      asks
       d is =
       lane_stands t new b t.opened t.line lane q from seen asks (d refl) is.1
-  begins_stands (phase.AsksNewLane again) t new (event.Reply (reply.LaneOpen (Ok lane))) (action.Put u) b from seen w asks
+  begins_stands (phase.AsksNewLane again) t new (event.Reply (reply.LaneOpen (Ok lane))) (action.Put u) b from seen w
+      asks
       d is =
       absurd (never w)
-  begins_stands (phase.AsksNewLane again) t new (event.Reply (reply.LaneOpen (Ok lane))) action.Read b from seen w asks d
+  begins_stands (phase.AsksNewLane again) t new (event.Reply (reply.LaneOpen (Ok lane))) action.Read b from seen w
+      asks d
       is =
       absurd (never w)
   begins_stands (phase.AsksNewLane again) t new (event.Reply (reply.LaneOpen (Ok lane))) (action.Finish y) b from seen w

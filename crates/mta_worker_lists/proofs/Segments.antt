@@ -19,7 +19,8 @@ has_in [] s k i l = absurd i
 has_in (x ∷ xs) s k i l =
     let sum : times k (x.own ++ owned xs) ≡ times k x.own + times k (owned xs) = times-append k x.own (owned xs) in
     elim i [
-      | inl e ↦ (let here : 0 < times k x.own = subst (λ (z : Segment). 0 < times k z.own) e l in omega (arith, sum, here))
+      | inl e ↦ (let here : 0 < times k x.own = subst (λ (z : Segment). 0 < times k z.own) e l in omega
+          (arith, sum, here))
       | inr more ↦ (let there : 0 < times k (owned xs) = has_in xs s k more l in omega (arith, sum, there))
     ]
 

@@ -1,5 +1,6 @@
 -- All that a session did is a segment of the history.
-use Rattle.std.proofs.Common.{◌≡◌, ◌<◌, ◌≤◌, ℕ, ◌+◌, ◌-◌, ◌*◌, Bool, true, false, cond, Option, None, Some, Ok, List, []}
+use Rattle.std.proofs.Common.{◌≡◌, ◌<◌, ◌≤◌, ℕ, ◌+◌, ◌-◌, ◌*◌, Bool, true, false, cond, Option, None, Some, Ok, List}
+use Rattle.std.proofs.Common.{[]}
 use Rattle.std.proofs.Common.{◌∷◌, ◌++◌, inl, inr, refl, sym, ap, subst, ◌∙◌, arith, slice_get, append_assoc}
 use Rattle.std.proofs.lemmas.Bool.{cases_lt}
 use Rattle.mta_ends.specs.Lanes.{On, Seen, SeenStep}
@@ -264,7 +265,8 @@ module _ (spells : List ℕ → Bool) (history : List Seen) (n : ℕ) where
         times-append k (made_in n a cs) (made_over n o) in
         elim (cases_lt 0 (times k (made_in n a cs))) [
           | inl now ↦ (
-              let one = pieces_in spells history n lane generation cs a t u from k l g step listed run is le now get piece
+              let one = pieces_in spells history n lane generation cs a t u from k l g step listed run is le now get
+              piece
               in
               record {
                 lane_is = one.lane_is;
@@ -523,10 +525,12 @@ module _ (spells : List ℕ → Bool) (history : List Seen) (n : ℕ) where
                 | inl early ↦ absurd (
                     none_first own units g.before g.calls c g.step u from k m j step g.by
                     (subst (λ (cs : List Call). AreCalls (new_responder own units) (turns_of cs) u) g.cut led.calls_are)
-                    (subst (λ (cs : List Call). AllComeTrue spells history from action.Read cs) g.cut led.come_true) g.none
+                    (subst (λ (cs : List Call). AllComeTrue spells history from action.Read cs) g.cut led.come_true)
+                    g.none
                     le get piece early)
                 | inr none ↦ (
-                    let found = all_listed lane generation g.calls c.turn.action c.turn.after u b (g.at + 1) mid upto o k m j
+                    let found = all_listed lane generation g.calls c.turn.action c.turn.after u b (g.at + 1) mid upto
+                    o k m j
                     step listed_now g.run g.come_true wanted (omega (arith, le, g.least)) less
                     (omega (arith, hit, sum, none)) get piece in
                     record { lane_is = found.lane_is; generation_is = found.generation_is; listed = found.listed })

@@ -78,7 +78,8 @@ module _ {D C : Type 0} (disks : DiskView D) (clocks : ClockView C) where
       refusal_refused disks clocks lane g k kind f old new a
   answer_made (ask.Secure lane g k n piece) old (reply.Secure (Ok x)) new may a =
       taken disks clocks _ _ (at lane (h.Secure g k n piece)) x old new a refl
-  answer_made (ask.Secure lane g k n piece) old (reply.Secure (Err f)) new may a = not_taken disks clocks _ _ f old new a
+  answer_made (ask.Secure lane g k n piece) old (reply.Secure (Err f)) new may a = not_taken disks clocks _ _ f old
+      new a
   answer_made (ask.Complete lane g k n piece) old (reply.Complete (Ok x)) new may a =
       taken disks clocks _ _ (at lane (h.Complete g k n piece)) x old new a.0.at refl
   answer_made (ask.Complete lane g k n piece) old (reply.Complete (Err f)) new may a =

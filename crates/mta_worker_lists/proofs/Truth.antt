@@ -65,7 +65,8 @@ module _ (spells : List ℕ → Bool) (tells : TellsApdus spells) where
       omega (arith, l, len, v.1.short))
 
   no_apdu : (octets : List ℕ) (f : Fault) → apdu_of octets ≡ Err f → spells octets ≡ false
-  no_apdu octets f e = tells.of_others octets (λ v. let both : Ok v.0 ≡ Err f = sym (apdu_full octets v.0 v.1) ∙ e in cc)
+  no_apdu octets f e = tells.of_others octets
+      (λ v. let both : Ok v.0 ≡ Err f = sym (apdu_full octets v.0 v.1) ∙ e in cc)
 
   -- ---- a lane
 

@@ -100,7 +100,8 @@ module _ {D C : Type 0} (disks : DiskView D) (clocks : ClockView C) where
 
     pub history_then : (s : Shown D C) → IsPrefix s.entries entries → IsHistory (first ++ s.entries)
     history_then s f =
-        front_history (first ++ s.entries) f.0 (subst (λ (xs : List Step). IsHistory xs) (sym (in_two s f.0 f.1)) possible)
+        front_history (first ++ s.entries) f.0
+        (subst (λ (xs : List Step). IsHistory xs) (sym (in_two s f.0 f.1)) possible)
 
     pub long_then : (s : Shown D C) → length (first ++ s.entries) ≡ upto s
     long_then s = length-append first s.entries
@@ -293,7 +294,8 @@ module _ {D C : Type 0} (disks : DiskView D) (clocks : ClockView C) where
         let before : IsPrefix old.entries entries = makes_front (step_told q x) old new makes f in (
           not_looking t.phase from (upto new) calm,
           stands_as (step_told q x) q x from old new makes state f le
-              (reply_true spells tells (first ++ old.entries) (history_then old before) disks clocks old state q t x new r),
+              (reply_true spells tells (first ++ old.entries) (history_then old before) disks clocks old state q t x
+              new r),
         )
 
     pub look_comes : (q : Ask) (t : Session) (x : Reply) (s : Shown D C) → Stands s → IsLook q
@@ -337,11 +339,12 @@ module _ {D C : Type 0} (disks : DiskView D) (clocks : ClockView C) where
     }
 
     -- the calls of one turn of the lock
-    pub record TurnLed (q : Ask) (t : Session) (old new : Shown D C) (from : ℕ) (u : Session) (b : Action) : Type 0 where
-      pub calls : List Call
-      pub leads : Leads spells history from t (action.Ask q) calls (upto new) u b
-      pub quiet : IsQuiet (action.Ask q) calls
-          (row (length old.entries) (length new.entries - length old.entries))
+    pub record TurnLed (q : Ask) (t : Session) (old new : Shown D C) (from : ℕ) (u : Session) (b : Action) : Type 0
+      where
+        pub calls : List Call
+        pub leads : Leads spells history from t (action.Ask q) calls (upto new) u b
+        pub quiet : IsQuiet (action.Ask q) calls
+            (row (length old.entries) (length new.entries - length old.entries))
 
     pub turn_leads : (q : Ask) (t : Session) (halt : Option Halt) (old new : Shown D C) (u : Session) (b : Action)
         (halt' : Option Halt) (from : ℕ) → old.current ≡ after (first ++ old.entries) → IsPrefix new.entries entries
@@ -353,7 +356,8 @@ module _ {D C : Type 0} (disks : DiskView D) (clocks : ClockView C) where
         record {
           calls = call ∷ [] ++ looks;
           leads =
-              leads_more spells history (call ∷ []) looks from (upto new) (upto new) t h.heard u (action.Ask q) h.wanted b
+              leads_more spells history (call ∷ []) looks from (upto new) (upto new) t h.heard u (action.Ask q)
+              h.wanted b
               (one_call q t h.heard h.wanted h.answer old new from state f le calm h.replied h.told)
               (looks_lead h.looked.turns new h.heard h.wanted u b (reply_stands q t h.answer old new state f h.replied)
               h.looked.looks);

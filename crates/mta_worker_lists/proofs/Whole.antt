@@ -107,9 +107,11 @@ module _ (spells : List ℕ → Bool) (history : List Seen) (allow : LanesAllow 
       by_step step get b = absurd b
 
 pub segments_are_good : ListsAreGood → ListsMayStop → SegmentsAreGood
-segments_are_good whole may_stop spells history before low from mid upto ss s t u b calls new over x l m size window allow
+segments_are_good whole may_stop spells history before low from mid upto ss s t u b calls new over x l m size window
+    allow
     are one of_it list le led is_list at_is events_are so values =
-    sessions_good whole may_stop spells history from mid upto t u b calls x.lane l m size window allow new led over is_list
+    sessions_good whole may_stop spells history from mid upto t u b calls x.lane l m size window allow new led over
+    is_list
     so values owned
   where
     place : m.at ≡ x.at

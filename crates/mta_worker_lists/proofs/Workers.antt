@@ -31,11 +31,13 @@ use Rattle.mta_spool.specs.declared.spool.Turned.TheVariants.{Did, Quiet}
 use Rattle.mta_stations.specs.declared.end.Halt.{Halt}
 use Rattle.mta_stations.specs.declared.end.WorkerEnd.{WorkerEnd}
 use Rattle.mta_worker.specs.Readying.{IsReadied}
-use Rattle.mta_worker.specs.Served.{Calling, Closings, Halting, HasCalled, HasListened, IsLinkServed, IsOwnName, Listening}
+use Rattle.mta_worker.specs.Served.{Calling, Closings, Halting, HasCalled, HasListened, IsLinkServed, IsOwnName}
+use Rattle.mta_worker.specs.Served.{Listening}
 use Rattle.mta_worker.specs.Served.{Lost_at_once, Lost_before, Too_often, Wanting, Without}
 use Rattle.mta_worker.specs.Serving.{At, Given_up, InTurn, IsServed, Stopped, To_its_end}
 use Rattle.mta_worker.specs.Turns.{IsLost}
-use Rattle.mta_worker.specs.Working.{AllServed, AtStation, At_limit, Behind, Dues, Halted, HasSettled, HasWorked, Is_quiet}
+use Rattle.mta_worker.specs.Working.{AllServed, AtStation, At_limit, Behind, Dues, Halted, HasSettled, HasWorked}
+use Rattle.mta_worker.specs.Working.{Is_quiet}
 use Rattle.mta_worker.specs.Working.{Is_refused, No_link, Serves, Station_failed, TurnsOnce}
 use Rattle.mta_worker.specs.declared.ready.Ready.TheVariants as ready
 use Rattle.mta_worker.specs.declared.session.Served.{Served}
@@ -91,7 +93,8 @@ due_plain : (s now : State) (m at lane g : ℕ) (x : Step) (step : SeenStep) →
 due_plain s now m at lane g x step next get piece =
     elim next.is_due [
       | inl v ↦ verdict_plain s v.verdict next.item next.recipient m at lane x step v.step_is get
-      | inr e ↦ abandon_plain e.number _ lane g step (ap (λ (z : Step). seen_of s (class_of z) at) (sym e.step_is) ∙ get)
+      | inr e ↦ abandon_plain e.number _ lane g step
+          (ap (λ (z : Step). seen_of s (class_of z) at) (sym e.step_is) ∙ get)
           piece
     ]
 
@@ -438,7 +441,8 @@ module _ {D C L S : Type 0} (disks : DiskView D) (clocks : ClockView C) (links :
 
   all_grow : (units : ℕ) (x : AtStation S) (zs : List (AtStation S)) (y : AtStation S)
       → AllServed disks clocks links stations units x zs y → IsPrefix x.pass.seen y.pass.seen
-  all_grow units x [] y a = subst (λ (z : AtStation S). IsPrefix x.pass.seen z.pass.seen) (sym a) (prefix_self x.pass.seen)
+  all_grow units x [] y a = subst (λ (z : AtStation S). IsPrefix x.pass.seen z.pass.seen) (sym a)
+      (prefix_self x.pass.seen)
   all_grow units x (z ∷ zs) y a =
       prefix_trans x.pass.seen z.pass.seen y.pass.seen (serves_grows units x z None a.0) (all_grow units z zs y a.1)
 

@@ -61,7 +61,8 @@ PutIn a (c ∷ cs) octets =
     × (octets ≡ piece ++ rest)
 
 -- The link gave the units that were got, and took the octets that were put, behind what went over it before.
-pub record AreCarried {L : Type 0} (links : LinkView L) (a : Action) (calls : List Call) (old : L) (fed : Feed) (new : L)
+pub record AreCarried {L : Type 0} (links : LinkView L) (a : Action) (calls : List Call) (old : L) (fed : Feed)
+    (new : L)
     (feed : Feed) : Type 0 where
   pub octets : List ℕ
   pub put : PutIn a calls octets

@@ -31,7 +31,8 @@ pub data IsRun {L : Type 0} (links : LinkView L) (spells : List ℕ → Bool) (f
       (ran : HasRun links spells first entries old t begun calls q)
       → AreClosings (whole first entries) (length first) closings
       → begun.own ≡ p.own ++ (closings ++ begun_by (length first) ran.begins)
-      → length (begun_by (length first) ran.begins) ≤ length begun.seen → IsRun links spells first entries old p q served
+      → length (begun_by (length first) ran.begins) ≤ length begun.seen → IsRun links spells first entries old p q
+      served
 
 module _ {D C L : Type 0} (disks : DiskView D) (clocks : ClockView C) (links : LinkView L) where
   -- Over each possible history that goes on from what the worker's pass has seen then.
