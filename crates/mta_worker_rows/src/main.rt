@@ -12,7 +12,8 @@
 //!
 //! In these a field behind the first says what is wanted. `records` records the tables, and is answered how many items
 //! there are. `submit` takes the octets behind it and does what is due, and is answered the number; `queue` is answered
-//! the queue, and `mailbox` what the mailbox behind it got. `works` has a worker serve the links that were given: behind
+//! the queue, and `mailbox` what the mailbox behind it got. `works` has a worker serve the links that were given:
+//! behind
 //! it stands `in`, or `out PEER`. It is answered how many links came back, how many of them were closed, and why it
 //! ended. `put` is answered what the link of this number was put.
 //!
