@@ -206,8 +206,7 @@ module _ {D C L : Type 0} (disks : DiskView D) (clocks : ClockView C) (links : L
     history = whole first entries
 
     -- These calls lead from the one to the other: they tell the entries that were made, and what went over the link;
-    -- and
-    -- the session waits for what comes of its action then, and does not look at its lane.
+    -- and the session waits for what comes of its action then, and does not look at its lane.
     pub record Reaches (x y : At L) : Type 0 where
       pub calls : List Call
       pub leads : Leads spells history (place first x.pass) x.session x.action calls (place first y.pass) y.session

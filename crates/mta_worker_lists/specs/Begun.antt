@@ -30,8 +30,7 @@ pub data IsNewAt (history : List Seen) : (from : ℕ) → State → Type 0 where
   Listens : (own : List ℕ) (units from : ℕ) → IsNewAt history from (new_responder own units)
 
 -- How it ends behind its last call: with an end, or for want of memory at its link, or with a reply that the history
--- has
--- and that it is not told, for want of memory, or since it is none to its question.
+-- has and that it is not told, for want of memory, or since it is none to its question.
 pub data IsOver (spells : List ℕ → Bool) (history : List Seen) (from upto : ℕ) (u : State) (b : Action) : Type 0 where
   Ended : (e : SessionEnd) → b ≡ action.Finish e → upto ≡ from → IsOver spells history from upto u b
   Stopped : upto ≡ from → IsOver spells history from upto u b

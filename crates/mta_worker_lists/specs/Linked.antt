@@ -22,8 +22,7 @@ AreClosings history n ks =
     → (lane : ℕ) × (generation : ℕ) × (slice_get history (n + k) ≡ Some (On lane (CloseLane generation)))
 
 -- What a worker did with a link, of whose pass this is what it was before: it closed lanes, and no session began, or
--- all
--- that one did, behind the entry by which its lane was opened or bound.
+-- all that one did, behind the entry by which its lane was opened or bound.
 pub data IsRun {L : Type 0} (links : LinkView L) (spells : List ℕ → Bool) (first entries : List Step) (old : L)
     (p q : Held Step) (served : Served) : Type 0 where
   None_began : (closings : List ℕ) → AreClosings (whole first entries) (length first) closings → served.end ≡ None

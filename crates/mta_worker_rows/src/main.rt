@@ -10,12 +10,11 @@
 //! these octets and no more; `fails PLACE CALL`, the place being `link` for the last link, `station` or `disk`, and the
 //! first call 1, of the disk the first behind its opening.
 //!
-//! In these a field behind the first says what is wanted. `records` records the tables, and is answered how many items
-//! there are. `submit` takes the octets behind it and does what is due, and is answered the number; `queue` is answered
-//! the queue, and `mailbox` what the mailbox behind it got. `works` has a worker serve the links that were given:
-//! behind
-//! it stands `in`, or `out PEER`. It is answered how many links came back, how many of them were closed, and why it
-//! ended. `put` is answered what the link of this number was put.
+//! In these a field behind the first says what is wanted. `records` records the tables, and is answered how many
+//! items there are. `submit` takes the octets behind it and does what is due, and is answered the number; `queue` is
+//! answered the queue, and `mailbox` what the mailbox behind it got. `works` has a worker serve the links that were
+//! given: behind it stands `in`, or `out PEER`. It is answered how many links came back, how many of them were
+//! closed, and why it ended. `put` is answered what the link of this number was put.
 //!
 //! `overtakes` has two sessions of responders over one spool. The first is carried on up to its question of this name,
 //! and then the second is carried on to its end, and then the first. It is answered what the question was, and how
