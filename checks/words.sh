@@ -1,6 +1,7 @@
 #!/usr/bin/env bash
-# Words outside the grammar, among them one that is not UTF-8: the usage line, status 1, and no file is made. Commands
-# that are not built: their line, status 11, and no file. Run it at the top of the repository.
+# Words outside the grammar, among them one that is not UTF-8: the usage line, status 1, and no file is made. A command
+# that is not built: its line, status 11, and no file. Stations without tables, and one that calls a peer whom the
+# tables do not name: status 8, status 10, and no file. Run it at the top of the repository.
 set -u
 cd "$(dirname "$0")/.." || exit 2
 . checks/program.bash
@@ -14,11 +15,18 @@ for words in "" "serve" "serve 1 in:0" "drill 0" "--help" "read -x" "submit twic
   [ "$status" -eq 1 ] && [ "$got" = "$usage" ] || { echo "status $status: $got"; exit 1; }
   [ ! -e mta.spool ] || { echo "a file was made"; exit 1; }
 done
-for words in "serve 1 in:1001 out:EAST:localhost:1002" "drill 3"; do
+# asks WORDS STATUS LINE: the words end with the status and the line, and no spool is made
+asks() {
+  local got status
   # shellcheck disable=SC2086
-  got=$("$mta" $words </dev/null)
+  got=$("$mta" $1 </dev/null)
   status=$?
-  [ "$status" -eq 11 ] && [ "$got" = "not built" ] || { echo "status $status: $got"; exit 1; }
-  [ ! -e mta.spool ] || { echo "a file was made"; exit 1; }
-done
-echo "words outside the grammar, and words that are not UTF-8, are told the usage line, and commands that are not built are told so"
+  [ "$status" -eq "$2" ] && [ "$got" = "$3" ] || { echo "$1: status $status: $got"; exit 1; }
+  [ ! -e mta.spool ] || { echo "$1: a file was made"; exit 1; }
+}
+asks "drill 3" 11 "not built"
+asks "serve 1 out:EAST:localhost:1002" 8 "source fault"
+printf 'domain C=GB;A=GOLD\nname GOLD-1\npeer WEST a b twa 4 3\n' >mta.tables
+asks "serve 1 out:WEST:localhost:1002 out:EAST:localhost:1002" 10 "no such peer EAST"
+echo "words outside the grammar are told the usage line; a command that is not built, and stations that the tables do"
+echo "not allow, are told so"

@@ -1,16 +1,21 @@
 //! `mta`, a message transfer agent of the X.400 family: the process.
 //!
 //! `main` reads the words, opens `mta.tables` and the standard streams in the folder in which it is
-//! called, names `mta.spool`, and hands all to `run` as objects of `mta_edge`; it ends with the status
-//! that `run` answers. Words that are not UTF-8 are told the usage line.
+//! called, names `mta.spool`, makes the stations that `serve` names, and hands all to `run` as objects of
+//! `mta_edge` and `mta_links`; it ends with the status that `run` answers. Words that are not UTF-8 are
+//! told the usage line.
 //!
 //! Something that cannot be opened is an object all of whose calls fail, so `run` tells it as a fault
 //! of that object. Of the real files nothing is proved: they tell nothing of what they hold
 //! (`mta_host`). A crash leaves what the calls made so far leave; the lock goes with the process.
 #![tactic(auto)]
 
-use mta_host::{FileDisk, Octets, Reading, SystemClock, Writing};
+use mta_ber::{Memory, Word};
+use mta_host::{FileDisk, Octets, Patience, Reading, SystemClock, TcpStation, Writing};
+use mta_links::Role;
 use mta_run::{Stop, run, tell};
+use mta_words::{StationWord, Words};
+use std::alloc::Global;
 use std::fs::File;
 use std::process::ExitCode;
 use std::{env, io};
@@ -32,6 +37,55 @@ fn stop_of_words(error: &io::Error) -> Stop {
     }
 }
 
+// The name of a host. The words are UTF-8, so it is.
+fn host_of(alloc: Global, host: &[u8]) -> Result<String, Memory> {
+    match str::from_utf8(host) {
+        Ok(name) => Ok(name.to_string(alloc)?),
+        Err(_) => Ok(String::new(alloc)),
+    }
+}
+
+// The port of a station's word, none of which has more than 65,535.
+fn port_of(port: u32) -> u16 {
+    u16::try_from(port).unwrap_or(u16::MAX)
+}
+
+// The station of a word.
+fn station_of<'a>(
+    rt: &'a HostRuntime,
+    word: &StationWord,
+) -> Result<TcpStation<'a, HostRuntime>, Memory> {
+    let patience = Patience::usual();
+    match word {
+        StationWord::In { port } => Ok(TcpStation::listening(rt, port_of(*port), patience)),
+        StationWord::Out { peer, host, port } => {
+            let role = Role::Out(peer.copy(rt.alloc())?);
+            let host = host_of(rt.alloc(), host.as_slice())?;
+            Ok(TcpStation::calling(rt, role, host, port_of(*port), patience))
+        }
+    }
+}
+
+// The stations that the words name: those of `serve`, and none of another command.
+fn stations_of<'a>(
+    rt: &'a HostRuntime,
+    words: &[String],
+) -> Result<Vec<TcpStation<'a, HostRuntime>>, Memory> {
+    let mut stations = Vec::new(rt.alloc());
+    if let Some(
+        Words::Serve {
+            stations: named,
+            ..
+        },
+    ) = Words::read(rt.alloc(), words)?
+    {
+        for word in named.as_slice() {
+            stations.push(station_of(rt, word)?)?;
+        }
+    }
+    Ok(stations)
+}
+
 fn main(rt: HostRuntime) -> ExitCode {
     let mut out = Writing::new(io::writer(&rt));
     let words = match arguments(&rt) {
@@ -41,18 +95,27 @@ fn main(rt: HostRuntime) -> ExitCode {
             return ExitCode::from(status);
         }
     };
+    let stations = match stations_of(&rt, words.as_slice()) {
+        Ok(stations) => stations,
+        Err(_) => {
+            let status = tell(rt.alloc(), &mut out, &Stop::Memory);
+            return ExitCode::from(status);
+        }
+    };
     let mut conf = Reading::new(Octets::File(File::open(&rt, "mta.tables").ok()));
     let mut input = Reading::new(Octets::Stream(rt.reader()));
     // The file is opened at the first call, so a command that calls no disk leaves none behind.
     let disk = FileDisk::new(&rt, ".", "mta.spool");
     let clock = SystemClock::new(&rt);
     let finished = run(
+        &rt,
         rt.alloc(),
         &words,
         &mut conf,
         &mut input,
         &mut out,
         disk,
+        stations,
         clock,
     );
     ExitCode::from(finished.status)

@@ -4,6 +4,7 @@ pub mod DiskStands
 pub mod Added
 pub mod Stored
 pub mod Dues
+pub mod SpoolServed
 pub mod Settled
 pub mod Worked
 pub mod HandedOn
@@ -15,3 +16,10 @@ pub mod Printed
 pub mod Statuses
 pub mod AcknowledgedKept
 pub mod RanFields
+pub mod Beginning
+pub mod Finishing
+pub mod DiskServed
+pub mod ServedSpool
+pub mod ServedWorkers
+pub mod ServedAll
+pub mod Commanded

@@ -1,5 +1,5 @@
 -- An input that is too long for an APDU.
-use Rattle.std.proofs.Common.{◌≡◌, ℕ, ◌<◌, cond, List, length, Some, Result, Err, ap}
+use Rattle.std.proofs.Common.{◌≡◌, ℕ, ◌<◌, cond, List, length, Result, Err, ap}
 use Rattle.std.proofs.lemmas.Bool.{lt-leb}
 use Rattle.mta_ber.specs.declared.fault.Kind.TheVariants.{TooLong}
 use Rattle.mta_ber.specs.Head.{fault}
@@ -17,5 +17,7 @@ read_long f long = ap (λ b. cond b (front_in f) (fault longest_apdu TooLong)) (
 abbrev err_of : (T : Type 0) → SourceFault → Result T SourceFault
 err_of T x = Err x
 
-pub long_input : {I T : Type 0} (sources : SourceView I) (old new : I) (why : SourceFault) → why ≡ SourceFaults.TooLong → HasReadCause {T = T} sources longest_apdu old new (Err why) → HasFirstFault (sources.left old) longest_apdu TooLong
+pub long_input : {I T : Type 0} (sources : SourceView I) (old new : I) (why : SourceFault)
+    → why ≡ SourceFaults.TooLong → HasReadCause {T = T} sources longest_apdu old new (Err why) → HasFirstFault
+    (sources.left old) longest_apdu TooLong
 long_input {I} {T} sources old new why is has i e = read_long i (has.long (ap (λ (x : SourceFault). err_of T x) is) i e)

@@ -1,5 +1,5 @@
 -- Which mailbox is named where the tables recorded last are known, and where none were recorded.
-use Rattle.std.proofs.Common.{◌≡◌, ℕ, List, [], length, Option, Some, None, ap}
+use Rattle.std.proofs.Common.{◌≡◌, ℕ, List, [], length, Some, None, ap}
 use Rattle.std.specs.Prelude.{option_and_then}
 use Rattle.mta_machine.specs.Items.{numbered}
 use Rattle.mta_machine.specs.Machine.{last_tables}

@@ -1,24 +1,29 @@
 -- What a run leaves, from what its command leaves and how its stop was told.
-use Rattle.std.proofs.Common.{◌≡◌, ◌≢◌, ℕ, ◌≤◌, List, [], ◌++◌, take, drop, None, Some, Result, Ok, Err, refl, sym, ap, subst, ◌∙◌, append_assoc, arith, inl, inr}
-use Rattle.std.proofs.lemmas.List.{take-append-drop, append-nil}
+use Rattle.std.proofs.Common.{◌≡◌, ◌≢◌, ℕ, ◌≤◌, List, Option, ◌++◌, take, drop, None, Some, Result, Ok, refl}
+use Rattle.std.proofs.Common.{sym, ap, subst, ◌∙◌, append_assoc}
+use Rattle.std.proofs.lemmas.List.{take-append-drop}
 use Rattle.mta_edge.specs.Views.{SinkView}
 use Rattle.mta_records.specs.declared.step.Step.{Step}
-use Rattle.mta_machine.specs.Apdu.{IsApdu}
 use Rattle.mta_histories.specs.Lanes.{empty}
 use Rattle.mta_histories.specs.History.{IsHistory, after}
 use Rattle.mta_histories.proofs.Runs.{histories_are_runs, each_recipient_once}
+use Rattle.mta_stations.specs.declared.end.Halt.{Halt}
+use Rattle.mta_stations.specs.declared.end.Halt.TheVariants as Halts
+use Rattle.mta_stations.specs.declared.end.WorkerEnd.{WorkerEnd}
 use Rattle.mta_run.specs.declared.stop.Stop.{Stop}
 use Rattle.mta_run.specs.declared.stop.Stop.TheVariants as Stops
 use Rattle.mta_words.specs.declared.words.Words.{Words}
 use Rattle.mta_words.specs.declared.words.Words.TheVariants as Say
-use Rattle.mta_run.specs.Words.{ReadsTables, ReadsApdu, OpensDisk}
+use Rattle.mta_run.specs.Words.{ReadsTables, ReadsApdu, OpensDisk, Serves}
 use Rattle.mta_run.specs.Handed.{Handed, ForOpened, InputsRead}
 use Rattle.mta_run.specs.Output.{Output, output, HasPrinted, whole, stopped, cut, HasClosed, IsEnded}
-use Rattle.mta_run.specs.DiskLeft.{Opening, uncalled, opened}
-use Rattle.mta_run.specs.Submit.{IsAccepted}
-use Rattle.mta_run.specs.Causes.{mailbox_named, IsText, of_submit, of_queue, of_mailbox, of_decode, Cause, memory}
-use Rattle.mta_run.specs.Command.{HasEnded}
-use Rattle.mta_run.specs.Ran.{RecipientsOnce, IsKept, EndedWell, Ran}
+use Rattle.mta_run.specs.DiskLeft.{Opening, opened}
+use Rattle.mta_run.specs.Causes.{mailbox_named, IsText, of_submit, of_queue, of_serve, of_mailbox, of_decode}
+use Rattle.mta_run.specs.Causes.{Cause, usage, not_built, memory, source, tables, apdu, not_spool, not_opened, disk}
+use Rattle.mta_run.specs.Causes.{full, spent, no_mailbox, no_peer, full_serving, spent_serving, of_worker}
+use Rattle.mta_run.specs.Command.{HasEnded, OnStations}
+use Rattle.mta_run.specs.Serving.{stop_of_halt}
+use Rattle.mta_run.specs.Ran.{RecipientsOnce, Ran}
 use Rattle.mta_run.proofs.Same.{some_same}
 use Rattle.mta_run.proofs.Added.{possible_front, one_accept}
 use Rattle.mta_run.proofs.Printed.{ended, closed_well}
@@ -28,15 +33,47 @@ use Rattle.mta_run.proofs.Worked.{accepted_more}
 -- a beginning of a history is one
 history_front : (steps tried : List Step) (n : ℕ) → IsHistory (steps ++ tried) → IsHistory (steps ++ take n tried)
 history_front steps tried n history =
-    possible_front empty (steps ++ take n tried) (drop n tried) (subst IsHistory (ap (λ (x : List Step). steps ++ x) (sym (take-append-drop n tried)) ∙ sym (append_assoc steps (take n tried) (drop n tried))) history)
+    possible_front empty (steps ++ take n tried) (drop n tried)
+    (subst IsHistory (ap (λ (x : List Step). steps ++ x) (sym (take-append-drop n tried)) ∙ sym
+    (append_assoc steps (take n tried) (drop n tried))) history)
 
 -- in a history each recipient is discharged once at most
 once_in : (steps : List Step) → IsHistory steps → RecipientsOnce steps
 once_in steps history = record { run = histories_are_runs steps history; once = each_recipient_once steps history }
 
+halt_not_sink : (halt : Halt) → stop_of_halt halt ≡ Stops.Sink → ⊥
+halt_not_sink Halts.Disk e = cc
+halt_not_sink (Halts.Full size need) e = cc
+halt_not_sink (Halts.Spent last) e = cc
+halt_not_sink Halts.Memory e = cc
+halt_not_sink Halts.Limit e = cc
+halt_not_sink Halts.StationEnded e = cc
+halt_not_sink Halts.StationFailed e = cc
+halt_not_sink Halts.NoPeer e = cc
+
 -- no cause is a fault of the output
-no_sink : {D C I : Type 0} (h : Handed D C I) (added : List Step) (opening : Opening) → Cause h added opening Stops.Sink → ⊥
-no_sink h added opening why = elim why [ ]
+no_sink_of : {D C I : Type 0} (h : Handed D C I) (ends : List WorkerEnd) (added : List Step) (opening : Opening)
+    (stop : Stop) → Cause h ends added opening stop → stop ≡ Stops.Sink → ⊥
+no_sink_of h ends added _ _ (usage none) e = cc
+no_sink_of h ends added _ _ (not_built unbuilt) e = cc
+no_sink_of h ends added _ _ (memory opening) e = cc
+no_sink_of h ends added _ _ (source failed) e = cc
+no_sink_of h ends added _ _ (tables line kind reads first same) e = cc
+no_sink_of h ends added _ _ (apdu at kind reads read fault) e = cc
+no_sink_of h ends added _ _ (not_spool at opens inputs none) e = cc
+no_sink_of h ends added _ _ (not_opened opens inputs failed) e = cc
+no_sink_of h ends added _ _ (disk adds inputs failed) e = cc
+no_sink_of h ends added _ _ (full size need submit inputs why) e = cc
+no_sink_of h ends added _ _ (spent last submit inputs why) e = cc
+no_sink_of h ends added _ _ (no_mailbox name word none) e = cc
+no_sink_of h ends added _ _ (no_peer name serves unnamed) e = cc
+no_sink_of h ends added _ _ (full_serving size need serves inputs why) e = cc
+no_sink_of h ends added _ _ (spent_serving last serves inputs why) e = cc
+no_sink_of h ends added _ _ (of_worker halt serves inputs decides) e = halt_not_sink halt e
+
+no_sink : {D C I : Type 0} (h : Handed D C I) (ends : List WorkerEnd) (added : List Step) (opening : Opening)
+    → Cause h ends added opening Stops.Sink → ⊥
+no_sink h ends added opening why = no_sink_of h ends added opening Stops.Sink why refl
 
 -- ---- what a text tells
 
@@ -45,40 +82,55 @@ record TextTells {D C I : Type 0} (h : Handed D C I) (opening : Opening) : Type 
   known : h.words ≢ None
   read : InputsRead h
   opened_it : OpensDisk h.words → opening ≡ opened
-  named : (name : List ℕ) → h.words ≡ Some (Say.Mailbox name) → ForOpened h (λ steps. mailbox_named (after steps) name ≢ None)
+  named : (name : List ℕ) → h.words ≡ Some (Say.Mailbox name) → ForOpened h
+      (λ steps. mailbox_named (after steps) name ≢ None)
+
+serve_known : (words : Option Words) → Serves words → words ≢ None
+serve_known words serves none = subst Serves none serves
 
 some_known : {D C I : Type 0} (h : Handed D C I) (words : Words) → h.words ≡ Some words → h.words ≢ None
 some_known h words some none = cc
 
-mailbox_apart : {D C I : Type 0} (h : Handed D C I) (words : Words) (name : List ℕ) → h.words ≡ Some words → (words ≡ Say.Mailbox name → ⊥) → h.words ≡ Some (Say.Mailbox name) → ⊥
+mailbox_apart : {D C I : Type 0} (h : Handed D C I) (words : Words) (name : List ℕ) → h.words ≡ Some words
+    → (words ≡ Say.Mailbox name → ⊥) → h.words ≡ Some (Say.Mailbox name) → ⊥
 mailbox_apart h words name some other e = other (some_same words (Say.Mailbox name) (sym some ∙ e))
 
 same_name : (a b : List ℕ) → Say.Mailbox a ≡ Say.Mailbox b → a ≡ b
 same_name a b e = cc
 
-reads_nothing : {D C I : Type 0} (h : Handed D C I) (words : Words) → h.words ≡ Some words → (ReadsTables (Some words) → ⊥) → (ReadsApdu (Some words) → ⊥) → InputsRead h
-reads_nothing h words is no_tables no_apdu = record { tables = λ r. absurd (no_tables (subst ReadsTables is r)); apdu = λ r. absurd (no_apdu (subst ReadsApdu is r)) }
+reads_nothing : {D C I : Type 0} (h : Handed D C I) (words : Words) → h.words ≡ Some words
+    → (ReadsTables (Some words) → ⊥) → (ReadsApdu (Some words) → ⊥) → InputsRead h
+reads_nothing h words is no_tables no_apdu = record
+    { tables = λ r. absurd (no_tables (subst ReadsTables is r)); apdu = λ r. absurd (no_apdu (subst ReadsApdu is r)) }
 
-text_tells : {D C I : Type 0} (h : Handed D C I) (added : List Step) (opening : Opening) (text : List ℕ) → IsText h added opening text → TextTells h opening
-text_tells h added _ _ (of_submit n text word inputs small is acc) = record {
+text_tells : {D C I : Type 0} (h : Handed D C I) (ends : List WorkerEnd) (added : List Step) (opening : Opening)
+    (text : List ℕ) → IsText h ends added opening text → TextTells h opening
+text_tells h ends added _ _ (of_submit n text word inputs small is acc) = record {
   known = some_known h Say.Submit word;
   read = inputs;
   opened_it = λ o. refl;
   named = λ name e. absurd (mailbox_apart h Say.Submit name word (λ w. absurd cc) e);
 }
-text_tells h added _ _ (of_queue text word is) = record {
+text_tells h ends added _ _ (of_queue text word is) = record {
   known = some_known h Say.Queue word;
   read = reads_nothing h Say.Queue word (λ r. r) (λ r. r);
   opened_it = λ o. refl;
   named = λ name e. absurd (mailbox_apart h Say.Queue name word (λ w. absurd cc) e);
 }
-text_tells h added _ _ (of_mailbox name text word named is) = record {
+text_tells h ends added _ _ (of_mailbox name text word named is) = record {
   known = some_known h (Say.Mailbox name) word;
   read = reads_nothing h (Say.Mailbox name) word (λ r. r) (λ r. r);
   opened_it = λ o. refl;
-  named = λ other e. subst (λ (x : List ℕ). ForOpened h (λ steps. mailbox_named (after steps) x ≢ None)) (same_name name other (some_same (Say.Mailbox name) (Say.Mailbox other) (sym word ∙ e))) named;
+  named = λ other e. subst (λ (x : List ℕ). ForOpened h (λ steps. mailbox_named (after steps) x ≢ None))
+      (same_name name other (some_same (Say.Mailbox name) (Say.Mailbox other) (sym word ∙ e))) named;
 }
-text_tells h added _ _ (of_decode text word is) = record {
+text_tells h ends added _ _ (of_serve text serves inputs named is) = record {
+  known = serve_known h.words serves;
+  read = inputs;
+  opened_it = λ o. refl;
+  named = λ name e. absurd (subst Serves e serves);
+}
+text_tells h ends added _ _ (of_decode text word is) = record {
   known = some_known h Say.Decode word;
   read = record { tables = λ r. absurd (subst ReadsTables word r); apdu = λ r i e. let x = is i e in (x.0, x.1) };
   opened_it = λ o. absurd (subst OpensDisk word o);
@@ -86,26 +138,33 @@ text_tells h added _ _ (of_decode text word is) = record {
 }
 
 -- the text of a command that did what it does
-printed_tells : {D C I : Type 0} (h : Handed D C I) (added : List Step) (opening : Opening) (out : Output) (result : Result (Unit {0}) Stop) → HasPrinted (Cause h added opening) (IsText h added opening) out result → result ≡ Ok tt → TextTells h opening
-printed_tells h added opening out _ (whole d text x p) e = text_tells h added opening text x
-printed_tells h added opening out _ (stopped stop why text f p) e = absurd cc
-printed_tells h added opening out _ (cut text x p) e = absurd cc
+printed_tells : {D C I : Type 0} (h : Handed D C I) (ends : List WorkerEnd) (added : List Step) (opening : Opening)
+    (out : Output) (result : Result (Unit {0}) Stop) → HasPrinted (Cause h ends added opening)
+    (IsText h ends added opening) out result → result ≡ Ok tt → TextTells h opening
+printed_tells h ends added opening out _ (whole d text x p) e = text_tells h ends added opening text x
+printed_tells h ends added opening out _ (stopped stop why text f p) e = absurd cc
+printed_tells h ends added opening out _ (cut text x p) e = absurd cc
 
 -- ---- a run
 
-pub ran : {D C I O : Type 0} (h : Handed D C I) (sinks : SinkView O) (a b c : O) (result : Result (Unit {0}) Stop) (status : ℕ) → HasEnded h (output sinks a b) result → HasClosed result (output sinks b c) status → sinks.faults a ≤ sinks.faults b → sinks.faults b ≤ sinks.faults c
-    → Ran h (output sinks a c) status
-ran h sinks a b c result status has closed first then = record {
+pub ran : {D C I O : Type 0} (h : Handed D C I) (sinks : SinkView O) (a b c : O) (result : Result (Unit {0}) Stop)
+    (status : ℕ) (stations : OnStations)
+    → HasEnded h stations (output sinks a b) result → HasClosed result (output sinks b c) status → sinks.faults a ≤
+    sinks.faults b → sinks.faults b ≤ sinks.faults c
+    → Ran h stations (output sinks a c) status
+ran h sinks a b c result status stations has closed first then = record {
   opening = has.opening;
+  ends = has.ends;
   added = has.added;
   torn_step = has.torn_step;
   sources = has.sources;
   uncalled_unless = has.uncalled_unless;
   disk_stands = has.disk;
+  safe_before = has.safe_before;
   recipients_once = λ f steps was s n. once_in (steps ++ take n (has.added ++ has.torn_step))
       (history_front steps (has.added ++ has.torn_step) n (has.history f steps was s));
   acknowledged_kept = λ submit x y was is n rest small begun i w f steps there s.
-      let acc = ended_accepted h has.added submit n small has.opening (output sinks a c) status x y rest
+      let acc = ended_accepted h has.ends has.added submit n small has.opening (output sinks a c) status x y rest
       printed was is begun i w f steps there s in (
         accepted_kept steps has.added i n acc,
         accepted_kept steps (has.added ++ has.torn_step) i n (accepted_more steps has.added has.torn_step i n acc),
@@ -113,11 +172,12 @@ ran h sinks a b c result status has closed first then = record {
   printed = printed;
   provenance = has.own;
   in_turn = has.in_turn;
-  at_most_one = one_accept 0 (has.added ++ has.torn_step) has.in_turn;
-  only_submit = has.only_submit;
+  at_most_one = λ none. one_accept 0 (has.added ++ has.torn_step) (has.in_turn none);
+  only_adding = has.only_adding;
+  stations_are = has.stations_are;
   ended_well = λ z.
       let ok = closed_well result (output sinks b c) status closed z in
-      let tells = printed_tells h has.added has.opening (output sinks a b) result has.printed ok in
+      let tells = printed_tells h has.ends has.added has.opening (output sinks a b) result has.printed ok in
       record {
         known = tells.known;
         read = tells.read;
@@ -125,8 +185,11 @@ ran h sinks a b c result status has closed first then = record {
         calm = has.calm ok;
         named = tells.named;
         settled = λ e. has.settled e ok;
+        undecided = has.undecided ok;
         recorded = λ e. has.recorded e ok;
       };
 } where
-  printed : IsEnded (Cause h has.added has.opening) (IsText h has.added has.opening) (output sinks a c) status
-  printed = ended sinks a b c (Cause h has.added has.opening) (IsText h has.added has.opening) first then (memory has.opening) (no_sink h has.added has.opening) result status has.printed closed
+  printed : IsEnded (Cause h has.ends has.added has.opening) (IsText h has.ends has.added has.opening)
+      (output sinks a c) status
+  printed = ended sinks a b c (Cause h has.ends has.added has.opening) (IsText h has.ends has.added has.opening) first
+      then (memory has.opening) (no_sink h has.ends has.added has.opening) result status has.printed closed

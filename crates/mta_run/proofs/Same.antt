@@ -1,5 +1,5 @@
 -- Constructors are injective.
-use Rattle.std.proofs.Common.{◌≡◌, Option, Some, Result, Ok, Err}
+use Rattle.std.proofs.Common.{◌≡◌, Some, Result, Ok, Err}
 
 pub some_same : {A : Type 0} (a b : A) → Some a ≡ Some b → a ≡ b
 some_same a b e = cc

@@ -1,5 +1,7 @@
 -- The tables are recorded, and then an APDU is accepted.
-use Rattle.std.proofs.Common.{◌≡◌, ◌≢◌, ℕ, ◌+◌, ◌≤◌, ◌<◌, ◌^◌, List, [], ◌∷◌, ◌++◌, length, Option, Some, None, Result, Ok, Err, Bool, false, true, refl, sym, ap, subst, ◌∙◌, append_assoc, true≢false, arith, inl, inr}
+use Rattle.std.proofs.Common.{◌≡◌, ◌≢◌, ℕ, ◌+◌, ◌≤◌, ◌<◌, ◌^◌, List, [], ◌∷◌, ◌++◌, length, Option, Some, None, Result}
+use Rattle.std.proofs.Common.{Ok, Err, Bool, false, true, refl, sym, ap, subst, ◌∙◌, true≢false, arith}
+use Rattle.std.proofs.Common.{inl, inr}
 use Rattle.std.specs.Prelude.{◌⊎◌, if◌then◌else◌, IfOk}
 use Rattle.std.proofs.lemmas.Bool.{cases_eq, cases_lt}
 use Rattle.std.proofs.lemmas.List.{append-nil}
@@ -14,20 +16,25 @@ use Rattle.mta_journal.specs.Appending.{journal_limit}
 use Rattle.mta_machine.specs.Items.{numbered}
 use Rattle.mta_machine.specs.Machine.{last_tables}
 use Rattle.mta_histories.specs.Lanes.{State, empty}
-use Rattle.mta_histories.specs.History.{after, after_step}
+use Rattle.mta_histories.specs.History.{after_step}
 use Rattle.mta_spool.specs.Shown.{Shown}
-use Rattle.mta_spool.specs.Stands.{Stands, Appends, AtMoment, step_moment, need_of, fault_of, IsSpent, IsOfNoLane, IsOfNoRefusal}
+use Rattle.mta_spool.specs.Stands.{Stands, Appends, AtMoment, step_moment, need_of, fault_of, IsSpent, IsOfNoLane}
+use Rattle.mta_spool.specs.Stands.{IsOfNoRefusal}
 use Rattle.mta_spool.specs.Turning.{IsRecorded, Records, IsUnchanged}
-use Rattle.mta_run.specs.Submit.{IsTimed, IsOwn, AreInTurn, turn_after, Adds, IsNextStep, tables as next_tables, apdu as next_apdu, IsFullFor, IsSpentFor, IsRefusal, IsAccepted, HasStored}
+use Rattle.mta_run.specs.Submit.{AreInTurn, turn_after, Adds, IsNextStep, tables as next_tables}
+use Rattle.mta_run.specs.Submit.{apdu as next_apdu, IsFullFor, IsSpentFor, IsRefusal, HasStored}
 use Rattle.mta_run.proofs.Same.{some_same, ok_same, err_same}
-use Rattle.mta_run.proofs.Added.{after_append, turn_append, turn_after_append, turn_refused, Refusing, adds_still, adds_one, adds_refused, adds_then, adds_unless, unchanged}
+use Rattle.mta_run.proofs.Added.{after_append, turn_append, turn_after_append, turn_refused, adds_still}
+use Rattle.mta_run.proofs.Added.{adds_one, adds_refused, adds_then, unchanged}
 
 module _ {D C : Type 0} (disks : DiskView D) where
   -- ---- a step that was made or refused
 
   -- the state behind a step that was made
-  pub made_state : (step : Step) (old new : Shown D C) → Appends disks step old new None → (steps : List Step) → Stands disks old steps → new.current ≡ after_step old.current step
-  made_state step old new appends steps s = (appends.done refl steps s).state_is ∙ after_append empty steps (step ∷ []) ∙ ap (λ (x : State). after_step x step) (sym s.state_is)
+  pub made_state : (step : Step) (old new : Shown D C) → Appends disks step old new None → (steps : List Step)
+      → Stands disks old steps → new.current ≡ after_step old.current step
+  made_state step old new appends steps s = (appends.done refl steps s).state_is ∙ after_append empty steps
+      (step ∷ []) ∙ ap (λ (x : State). after_step x step) (sym s.state_is)
 
   -- no refusal for a lane stood for it
   no_refusal : (step : Step) (old new : Shown D C) → Appends disks step old new None → old.journal.ended ≡ false
@@ -39,12 +46,14 @@ module _ {D C : Type 0} (disks : DiskView D) where
       refused (inr e) = cc
 
   -- numbers were left for it
-  pub numbers_left : (step : Step) (old new : Shown D C) → Appends disks step old new None → old.journal.ended ≡ false → IsSpent old.current step → ⊥
+  pub numbers_left : (step : Step) (old new : Shown D C) → Appends disks step old new None → old.journal.ended ≡ false
+      → IsSpent old.current step → ⊥
   numbers_left step old new appends going spent =
       let e = appends.spent_where going (no_refusal step old new appends going) spent in cc
 
   -- and it fits
-  pub fits : (step : Step) (old new : Shown D C) → Appends disks step old new None → old.journal.ended ≡ false → old.journal.size + need_of step ≤ journal_limit
+  pub fits : (step : Step) (old new : Shown D C) → Appends disks step old new None → old.journal.ended ≡ false
+      → old.journal.size + need_of step ≤ journal_limit
   fits step old new appends going =
       elim (cases_lt journal_limit (old.journal.size + need_of step)) [
         | inl over ↦ absurd (refused (appends.full_where going (no_refusal step old new appends going)
@@ -57,7 +66,8 @@ module _ {D C : Type 0} (disks : DiskView D) where
       refused (inr e) = cc
 
   -- why a step that is next was refused
-  pub refusal : (tells : ℕ → Type 0) (conf input : List ℕ) (added : List Step) (step : Step) (mid new : Shown D C) (before : ℕ) (fault : StepFault) → before ≤ disks.faults mid.journal.disk → mid.journal.ended ≡ false
+  pub refusal : (tells : ℕ → Type 0) (conf input : List ℕ) (added : List Step) (step : Step) (mid new : Shown D C)
+      (before : ℕ) (fault : StepFault) → before ≤ disks.faults mid.journal.disk → mid.journal.ended ≡ false
       → IsNextStep tells conf input added mid.current step → IsOfNoLane (Some fault)
       → Appends disks step mid new (Some fault)
       → IsRefusal tells conf input added new.current new.journal.size
@@ -66,11 +76,19 @@ module _ {D C : Type 0} (disks : DiskView D) where
       let is = unchanged disks step mid new (StepFaults.Full size need) (λ e. absurd cc) appends in
       let full = appends.full size need refl in
       subst (λ (s : State). IsFullFor tells conf input added s new.journal.size size need) (sym is.1)
-      (record { step = step; next = next; size_is = full.0 ∙ ap (λ (j : JournalShown D). j.size) (sym is.0); need_is = full.1; over = full.2 })
+      (record {
+        step = step;
+        next = next;
+        size_is = full.0 ∙ ap (λ (j : JournalShown D). j.size) (sym is.0);
+        need_is =
+            full.1;
+        over = full.2;
+      })
   refusal tells conf input added step mid new before (StepFaults.Spent last) le going next no_lane appends =
       let is = unchanged disks step mid new (StepFaults.Spent last) (λ e. absurd cc) appends in
       let spent = appends.spent last refl in
-      subst (λ (s : State). IsSpentFor tells conf input added s last) (sym is.1) (record { step = step; next = next; last_is = spent.0; over = spent.1 })
+      subst (λ (s : State). IsSpentFor tells conf input added s last) (sym is.1)
+      (record { step = step; next = next; last_is = spent.0; over = spent.1 })
   refusal tells conf input added step mid new before StepFaults.Disk le going next no_lane appends =
       let rose = appends.disk refl in omega (arith, rose, le)
   refusal tells conf input added step mid new before StepFaults.Ended le going next no_lane appends =
@@ -95,13 +113,15 @@ tables_there [] text last none = absurd cc
 tables_there (t ∷ ts) text last none = absurd cc
 
 -- what recording the tables leaves
-pub record Recording {D C : Type 0} (disks : DiskView D) (tells : ℕ → Type 0) (conf input : List ℕ) (old mid : Shown D C) (added : List Step) : Type 0 where
+pub record Recording {D C : Type 0} (disks : DiskView D) (tells : ℕ → Type 0) (conf input : List ℕ)
+    (old mid : Shown D C) (added : List Step) : Type 0 where
   pub adds : Adds disks tells conf input old mid added [] ⊥
   pub in_turn : AreInTurn 0 added
   pub turn : turn_after 0 added ≤ 1
   pub last : IsRecorded mid.current conf
   pub items : length mid.current.machine.items ≡ length old.current.machine.items
   pub going : mid.journal.ended ≡ false
+  pub which : (added ≡ []) ⊎ (added ≡ Tables conf ∷ [])
 
 same_text : (a b : List ℕ) → (a ≡ b) ⊎ (a ≡ b → ⊥)
 same_text [] [] = inl refl
@@ -132,13 +152,16 @@ is_text (Some other) text =
     ]
 
 -- tables that are those recorded last are not refused
-not_same : (ended : Bool) (fault : StepFault) → ended ≡ false → ◌≡◌ {A = Result (Unit {0}) StepFault} (Err fault) (if ended then Err StepFaults.Ended else Ok tt) → ⊥
+pub not_same : (ended : Bool) (fault : StepFault) → ended ≡ false → ◌≡◌ {A = Result (Unit {0}) StepFault} (Err fault)
+    (if ended then Err StepFaults.Ended else Ok tt) → ⊥
 not_same true fault going e = cc
 not_same false fault going e = cc
 
 module _ {D C : Type 0} (disks : DiskView D) (laws : DiskLaws disks) (tells : ℕ → Type 0) where
   -- they were recorded, or are those recorded last
-  pub recording : (conf input : List ℕ) (old mid : Shown D C) → ((steps : List Step) × Stands disks old steps) → old.journal.ended ≡ false → Records disks conf old mid (Ok tt) → (added : List Step) × Recording disks tells conf input old mid added
+  pub recording : (conf input : List ℕ) (old mid : Shown D C) → ((steps : List Step) × Stands disks old steps)
+      → old.journal.ended ≡ false → Records disks conf old mid (Ok tt) → (added : List Step) × Recording disks tells
+      conf input old mid added
   recording conf input old mid here going records =
       elim (is_text (last_text old.current) conf) [
         | inl recorded ↦ (
@@ -156,6 +179,7 @@ module _ {D C : Type 0} (disks : DiskView D) (laws : DiskLaws disks) (tells : �
                 last = ap last_text same.1 ∙ recorded;
                 items = ap (λ (s : State). length s.machine.items) same.1;
                 going = ap (λ (j : JournalShown D). j.ended) same.0 ∙ going;
+                which = inl refl;
               },
             ))
         | inr other ↦ (
@@ -166,8 +190,10 @@ module _ {D C : Type 0} (disks : DiskView D) (laws : DiskLaws disks) (tells : �
                 in_turn = (omega arith, omega arith, tt);
                 turn = omega arith;
                 last = records.recorded refl;
-                items = ap (λ (s : State). length s.machine.items) (made_state disks (Tables conf) old mid a here.0 here.1);
+                items = ap (λ (s : State). length s.machine.items)
+                    (made_state disks (Tables conf) old mid a here.0 here.1);
                 going = a.going refl;
+                which = inr refl;
               },
             ))
       ]
@@ -177,7 +203,8 @@ module _ {D C : Type 0} (disks : DiskView D) (laws : DiskLaws disks) (tells : �
       → IsOfNoLane (Some fault) → Records disks conf old new (Err fault)
       → HasStored disks tells conf input old new (Err fault)
   tables_refused conf input old new fault going no_lane records =
-      let other : IsRecorded old.current conf → ⊥ = λ recorded. not_same old.journal.ended fault going (records.same recorded).1 in
+      let other : IsRecorded old.current conf → ⊥ = λ recorded. not_same old.journal.ended fault going
+      (records.same recorded).1 in
       let a = records.appends other in
       let r = adds_refused disks laws tells (Tables conf) old new fault
       (◌≡◌ {A = Result ℕ StepFault} (Err fault) (Err StepFaults.Disk)) (λ e. ap Err e) no_lane a in
@@ -190,7 +217,9 @@ module _ {D C : Type 0} (disks : DiskView D) (laws : DiskLaws disks) (tells : �
         accepted = λ n e. absurd cc;
         turn = λ n e. absurd cc;
         tables = λ n e. absurd cc;
-        refused = λ f e. subst (IsRefusal tells conf input [] new.current new.journal.size (Rose (disks.faults old.journal.disk) (disks.faults new.journal.disk))) (err_same fault f e)
+        refused = λ f e. subst
+            (IsRefusal tells conf input [] new.current new.journal.size
+            (Rose (disks.faults old.journal.disk) (disks.faults new.journal.disk))) (err_same fault f e)
             (refusal disks tells conf input [] (Tables conf) old new (disks.faults old.journal.disk) fault
             (omega arith) going (next_tables refl other) no_lane a);
         going = λ n e. absurd cc;
@@ -199,8 +228,11 @@ module _ {D C : Type 0} (disks : DiskView D) (laws : DiskLaws disks) (tells : �
   -- ---- the APDU
 
   -- it was accepted behind the tables
-  accepted : (now : ℕ → Type 0) (conf input : List ℕ) (old mid new : Shown D C) (added : List Step) (told n : ℕ) → Recording disks tells conf input old mid added → ((steps : List Step) × Stands disks old steps) → now told → ((t : ℕ) → now t → tells t)
-      → Appends disks (Accept (step_moment told mid.current.moment) input) mid new None → n ≡ length mid.current.machine.items + 1 → HasStored disks tells conf input old new (Ok n)
+  accepted : (now : ℕ → Type 0) (conf input : List ℕ) (old mid new : Shown D C) (added : List Step) (told n : ℕ)
+      → Recording disks tells conf input old mid added → ((steps : List Step) × Stands disks old steps) → now told
+      → ((t : ℕ) → now t → tells t)
+      → Appends disks (Accept (step_moment told mid.current.moment) input) mid new None → n ≡ length
+      mid.current.machine.items + 1 → HasStored disks tells conf input old new (Ok n)
   accepted now conf input old mid new added told n so here tell more appends number =
       let when : ℕ = step_moment told mid.current.moment in
       let step : Step = Accept when input in
@@ -209,16 +241,20 @@ module _ {D C : Type 0} (disks : DiskView D) (laws : DiskLaws disks) (tells : �
         added = added ++ step ∷ [];
         torn_step = [];
         adds = adds_then disks tells conf input old mid new added (step ∷ []) [] _ so.adds
-            (adds_one disks tells conf input step mid new _ appends (λ steps s. (refl, (told, more told tell, ap (λ (x : State). step_moment told x.moment) s.state_is))));
-        in_turn = subst (AreInTurn 0) (sym (append-nil (added ++ step ∷ []))) (turn_append 0 added (step ∷ []) so.in_turn (so.turn, omega arith, tt));
+            (adds_one disks tells conf input step mid new _ appends
+            (λ steps s. (refl, (told, more told tell, ap (λ (x : State). step_moment told x.moment) s.state_is))));
+        in_turn = subst (AreInTurn 0) (sym (append-nil (added ++ step ∷ [])))
+            (turn_append 0 added (step ∷ []) so.in_turn (so.turn, omega arith, tt));
         small = λ k e. omega (arith, ok_same n k e, number, left);
         accepted = λ k e steps s. record {
           front = added;
           moment = when;
           back = [];
           accept = refl;
-          number = sym (ok_same n k e) ∙ number ∙ ap (λ (x : State). length x.machine.items + 1) (so.adds.stands (λ w. w) steps s).state_is;
-          next = sym (ok_same n k e) ∙ number ∙ ap (λ (x : ℕ). x + 1) so.items ∙ ap (λ (x : State). length x.machine.items + 1) s.state_is;
+          number = sym (ok_same n k e) ∙ number ∙ ap (λ (x : State). length x.machine.items + 1)
+              (so.adds.stands (λ w. w) steps s).state_is;
+          next = sym (ok_same n k e) ∙ number ∙ ap (λ (x : ℕ). x + 1) so.items ∙ ap
+              (λ (x : State). length x.machine.items + 1) s.state_is;
         };
         turn = λ k e. turn_after_append 0 added (step ∷ []);
         tables = λ k e. ap last_text (made_state disks step mid new appends (here.0 ++ added) there) ∙ so.last;
@@ -229,14 +265,16 @@ module _ {D C : Type 0} (disks : DiskView D) (laws : DiskLaws disks) (tells : �
       left : length mid.current.machine.items + 2 < 2 ^ 32
       left = elim (cases_lt (length mid.current.machine.items + 2) (2 ^ 32)) [
         | inl lt ↦ lt
-        | inr over ↦ absurd (numbers_left disks (Accept (step_moment told mid.current.moment) input) mid new appends so.going over)
+        | inr over ↦ absurd (numbers_left disks (Accept (step_moment told mid.current.moment) input) mid new appends
+            so.going over)
       ]
 
   -- it was refused behind the tables
   accept_refused : (now : ℕ → Type 0) (conf input : List ℕ) (old mid new : Shown D C) (added : List Step)
       (told : ℕ) (fault : StepFault) → Recording disks tells conf input old mid added → now told
       → ((t : ℕ) → now t → tells t) → IsOfNoLane (Some fault)
-      → Appends disks (Accept (step_moment told mid.current.moment) input) mid new (Some fault) → HasStored disks tells conf input old new (Err fault)
+      → Appends disks (Accept (step_moment told mid.current.moment) input) mid new (Some fault) → HasStored disks
+      tells conf input old new (Err fault)
   accept_refused now conf input old mid new added told fault so tell more no_lane appends =
       let when : ℕ = step_moment told mid.current.moment in
       let step : Step = Accept when input in
@@ -245,14 +283,20 @@ module _ {D C : Type 0} (disks : DiskView D) (laws : DiskLaws disks) (tells : �
       record {
         added = added;
         torn_step = r.torn_step;
-        adds = subst (λ (x : List Step). Adds disks tells conf input old new x r.torn_step (◌≡◌ {A = Result ℕ StepFault} (Err fault) (Err StepFaults.Disk))) (append-nil added) (adds_then disks tells conf input old mid new added [] r.torn_step _ so.adds
-            (r.adds conf input (λ steps s. (refl, (told, more told tell, ap (λ (x : State). step_moment told x.moment) s.state_is)))));
-        in_turn = turn_append 0 added r.torn_step so.in_turn (turn_refused (turn_after 0 added) step r.torn_step so.turn (omega arith) r.at_most);
+        adds = subst (λ (x : List Step). Adds disks tells conf input old new x r.torn_step
+            (◌≡◌ {A = Result ℕ StepFault} (Err fault) (Err StepFaults.Disk))) (append-nil added)
+            (adds_then disks tells conf input old mid new added [] r.torn_step _ so.adds
+            (r.adds conf input (λ steps s.
+            (refl, (told, more told tell, ap (λ (x : State). step_moment told x.moment) s.state_is)))));
+        in_turn = turn_append 0 added r.torn_step so.in_turn
+            (turn_refused (turn_after 0 added) step r.torn_step so.turn (omega arith) r.at_most);
         small = λ n e. absurd cc;
         accepted = λ n e. absurd cc;
         turn = λ n e. absurd cc;
         tables = λ n e. absurd cc;
-        refused = λ f e. subst (IsRefusal tells conf input added new.current new.journal.size (Rose (disks.faults old.journal.disk) (disks.faults new.journal.disk))) (err_same fault f e)
+        refused = λ f e. subst
+            (IsRefusal tells conf input added new.current new.journal.size
+            (Rose (disks.faults old.journal.disk) (disks.faults new.journal.disk))) (err_same fault f e)
             (refusal disks tells conf input added step mid new (disks.faults old.journal.disk) fault
             so.adds.later so.going (next_apdu when so.turn so.last (told, more told tell, refl)) no_lane appends);
         going = λ n e. absurd cc;
@@ -263,7 +307,9 @@ module _ {D C : Type 0} (disks : DiskView D) (laws : DiskLaws disks) (tells : �
       (result : Result ℕ StepFault) → Recording disks tells conf input old mid added
       → ((steps : List Step) × Stands disks old steps) → ((t : ℕ) → clocks.tells mid.clock t → tells t)
       → IsOfNoLane (fault_of result)
-      → AtMoment clocks mid.clock mid.current.moment (λ m. Appends disks (Accept m input) mid new (fault_of result)) → IfOk result (λ n. n ≡ length mid.current.machine.items + 1) → HasStored disks tells conf input old new result
+      → AtMoment clocks mid.clock mid.current.moment (λ m. Appends disks (Accept m input) mid new (fault_of result))
+      → IfOk result (λ n. n ≡ length mid.current.machine.items + 1) → HasStored disks tells conf input old new
+      result
   stored clocks conf input old mid new added (Ok n) so here more no_lane made number =
       accepted (clocks.tells mid.clock) conf input old mid new added made.told n so here made.tells more made.at number
   stored clocks conf input old mid new added (Err fault) so here more no_lane made number =

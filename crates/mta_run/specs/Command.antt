@@ -1,4 +1,4 @@
--- What a command leaves before its last line is printed.
+-- What a command leaves.
 use Rattle.std.specs.Prelude.{◌≡◌, ℕ, List, [], ◌++◌, Some, Result, Ok}
 use Rattle.mta_records.specs.declared.step.Step.{Step}
 use Rattle.mta_apdu.specs.Apdus.{longest_apdu}
@@ -6,13 +6,16 @@ use Rattle.mta_histories.specs.Due.{IsQuiet}
 use Rattle.mta_histories.specs.History.{after, IsHistory}
 use Rattle.mta_spool.specs.Stands.{step_moment}
 use Rattle.mta_spool.specs.Turning.{IsRecorded}
+use Rattle.mta_stations.specs.declared.end.WorkerEnd.{WorkerEnd}
+use Rattle.mta_stations.specs.Deciding.{halts_of, IsUndecided}
 use Rattle.mta_run.specs.declared.stop.Stop.{Stop}
 use Rattle.mta_words.specs.declared.words.Words.TheVariants as Say
-use Rattle.mta_run.specs.Words.{ReadsTables, ReadsApdu, OpensDisk}
+use Rattle.mta_run.specs.Words.{AddsSteps, ReadsTables, ReadsApdu, OpensDisk, Serves}
 use Rattle.mta_run.specs.Handed.{Handed, ForTables, ForInput, ForOpened}
 use Rattle.mta_run.specs.Output.{Output, HasPrinted}
 use Rattle.mta_run.specs.Inputs.{longest_tables, IsDrawn}
 use Rattle.mta_run.specs.DiskLeft.{Opening, uncalled, DiskLeft}
+use Rattle.mta_run.specs.Images.{IsSafeBefore}
 use Rattle.mta_run.specs.Submit.{AreOwn, AreInTurn}
 use Rattle.mta_run.specs.Causes.{Cause, IsText}
 
@@ -28,21 +31,37 @@ pub record SourcesLeft {D C I : Type 0} (h : Handed D C I) : Type 0 where
   pub conf : IsDrawn h.sources longest_tables h.conf.before h.conf.after
   pub input : IsDrawn h.sources longest_apdu h.input.before h.input.after
 
-pub record HasEnded {D C I : Type 0} (h : Handed D C I) (out : Output) (result : Result (Unit {0}) Stop) : Type 0 where
+-- what is known of the stations, for the ends of the workers and the steps that were added
+abbrev pub OnStations : Type 1
+OnStations = Opening → (ends : List WorkerEnd) → (added torn_step : List Step) → Type 0
+
+-- no worker worked
+abbrev pub NoneWorked : Opening → (ends : List WorkerEnd) → (added torn_step : List Step) → Type 0
+NoneWorked opening ends added torn_step = ends ≡ []
+
+-- What a command leaves before its last line is printed.
+pub record HasEnded {D C I : Type 0} (h : Handed D C I) (stations : OnStations) (out : Output)
+    (result : Result (Unit {0}) Stop) : Type 0 where
   pub opening : Opening
+  pub ends : List WorkerEnd
   pub added : List Step
   pub torn_step : List Step
   pub sources : SourcesLeft h
   pub disk : DiskLeft h.disks h.disk.before h.disk.after opening added torn_step
   pub uncalled_unless : (OpensDisk h.words → ⊥) → opening ≡ uncalled
-  pub printed : HasPrinted (Cause h added opening) (IsText h added opening) out result
+  -- before the first sync a crash leaves what one before the call might have left: of `serve` this is not told
+  pub safe_before : (Serves h.words → ⊥)
+      → ForOpened h (λ steps. IsSafeBefore h.disks steps (added ++ torn_step) h.disk.before h.disk.after)
+  pub printed : HasPrinted (Cause h ends added opening) (IsText h ends added opening) out result
   pub history : ForOpened h (λ steps. IsHistory (steps ++ (added ++ torn_step)))
-  pub own : ForTables h (λ c. ForInput h (λ i. ForOpened h (λ steps.
+  pub own : (Serves h.words → ⊥) → ForTables h (λ c. ForInput h (λ i. ForOpened h (λ steps.
       AreOwn (h.clocks.tells h.clock) c i (after steps) (added ++ torn_step))))
-  pub in_turn : AreInTurn 0 (added ++ torn_step)
-  pub only_submit : (h.words ≡ Some Say.Submit → ⊥) → added ++ torn_step ≡ []
+  pub in_turn : (Serves h.words → ⊥) → AreInTurn 0 (added ++ torn_step)
+  pub only_adding : (AddsSteps h.words → ⊥) → added ++ torn_step ≡ []
   pub calm : result ≡ Ok tt → torn_step ≡ []
-  pub settled : h.words ≡ Some Say.Submit → result ≡ Ok tt
+  pub settled : AddsSteps h.words → result ≡ Ok tt
       → ForOpened h (λ steps. IsSettled (h.clocks.tells h.clock) (steps ++ added))
   pub recorded : h.words ≡ Some Say.Submit → result ≡ Ok tt
       → ForTables h (λ c. ForOpened h (λ steps. IsRecorded (after (steps ++ added)) c))
+  pub undecided : result ≡ Ok tt → IsUndecided (halts_of ends)
+  pub stations_are : stations opening ends added torn_step

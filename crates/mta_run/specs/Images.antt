@@ -11,15 +11,12 @@ pub record Unsynced {D : Type 0} (disks : DiskView D) (tried : List Step) (old n
   pub reads : disks.content new ≡ disks.content old
   pub images : (g : List ℕ) → disks.left_since new (disks.moment old) g → disks.may_leave old g
 
--- A sync has succeeded, at a moment of the call. A crash before it leaves what one before the call might have left,
--- or the history; since then each leaves the history with a beginning of the steps, and one now with all that were
--- made.
+-- A sync has succeeded, at a moment of the call. Since then a crash leaves the history with a beginning of the steps,
+-- and one now leaves it with all that were made.
 pub record Synced {D : Type 0} (disks : DiskView D) (steps added torn_step : List Step) (old new : D) : Type 0 where
   pub since : ℕ
   pub from : disks.moment old ≤ since
   pub until : since ≤ disks.moment new
-  pub before : (g : List ℕ) → disks.left_since new (disks.moment old) g → disks.may_leave old g
-      ⊎ Reached steps (added ++ torn_step) g
   pub images : (g : List ℕ) → disks.left_since new since g → Reached steps (added ++ torn_step) g
   pub now : (g : List ℕ) → disks.may_leave new g → IsLeftWith steps added torn_step g
 
@@ -27,3 +24,9 @@ pub record Synced {D : Type 0} (disks : DiskView D) (steps added torn_step : Lis
 abbrev pub IsSafe : {D : Type 0} → DiskView D → (steps added torn_step : List Step) → (old new : D) → Type 0
 IsSafe disks steps added torn_step old new = Unsynced disks (added ++ torn_step) old new
     ⊎ Synced disks steps added torn_step old new
+
+-- a crash at any moment of the call leaves what one before it might have left, or the history with a beginning of these
+-- steps
+abbrev pub IsSafeBefore : {D : Type 0} → DiskView D → (steps tried : List Step) → (old new : D) → Type 0
+IsSafeBefore disks steps tried old new =
+    (g : List ℕ) → disks.left_since new (disks.moment old) g → disks.may_leave old g ⊎ Reached steps tried g

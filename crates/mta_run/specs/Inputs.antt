@@ -1,5 +1,5 @@
 -- What is read before the disk is opened: the tables, and an APDU.
-use Rattle.std.specs.Prelude.{◌≡◌, ◌≤◌, ◌+◌, ℕ, List, length, drop, Option, Some, Result, Ok, Err}
+use Rattle.std.specs.Prelude.{◌≡◌, ◌≤◌, ◌+◌, ℕ, List, Option, Some, Result, Ok, Err}
 use Rattle.mta_ber.specs.declared.fault.Fault.{Fault}
 use Rattle.mta_ber.specs.declared.fault.Kind.{Kind}
 use Rattle.mta_ber.specs.declared.fault.ReadFault.{ReadFault}

@@ -6,8 +6,11 @@ pub mod Inputs
 pub mod Images
 pub mod DiskLeft
 pub mod Submit
+pub mod Serving
 pub mod Causes
 pub mod Command
+pub mod Served
 pub mod Decode
 pub mod Shows
 pub mod Ran
+pub mod Runs

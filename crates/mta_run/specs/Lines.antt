@@ -50,6 +50,7 @@ line_of Stops.Memory = codes "out of memory\n"
 line_of Stops.Source = codes "source fault\n"
 line_of Stops.Sink = []
 line_of (Stops.NoMailbox name) = codes "no such mailbox " ++ (name ++ 10 ∷ [])
+line_of (Stops.NoPeer name) = codes "no such peer " ++ (name ++ 10 ∷ [])
 line_of (Stops.BadApdu at kind) = codes "bad APDU at " ++ (decimal at ++ (32 ∷ fault_text kind ++ 10 ∷ []))
 
 -- the status of a stop
@@ -65,4 +66,5 @@ status_of Stops.Memory = 7
 status_of Stops.Source = 8
 status_of Stops.Sink = 9
 status_of (Stops.NoMailbox name) = 10
+status_of (Stops.NoPeer name) = 10
 status_of (Stops.BadApdu at kind) = 6

@@ -1,26 +1,27 @@
 -- What a run leaves of everything that was handed in.
-use Rattle.std.specs.Prelude.{◌≡◌, ◌≢◌, ◌⊎◌, ◌+◌, ◌<◌, ◌≤◌, ◌^◌, ℕ, List, [], ◌∷◌, ◌++◌, length, take, None, Some, Ok}
+use Rattle.std.specs.Prelude.{◌≡◌, ◌≢◌, ◌⊎◌, ◌<◌, ◌≤◌, ◌^◌, ℕ, List, [], ◌++◌, take, None, Some}
 use Rattle.mta_records.specs.declared.step.Step.{Step}
-use Rattle.mta_tables.specs.Tables.{TablesValue, tables_of}
 use Rattle.mta_machine.specs.Apdu.{IsApdu}
 use Rattle.mta_machine.specs.declared.item.Status.{Status}
 use Rattle.mta_machine.specs.Items.{ItemValue, at_start, numbered, status_at}
 use Rattle.mta_machine.specs.Machine.{IsRun, discharges}
 use Rattle.mta_machine.specs.Laws.{IsPendingOrDischarged}
-use Rattle.mta_histories.specs.History.{after, IsHistory, project}
+use Rattle.mta_histories.specs.History.{after, project}
 use Rattle.mta_images.specs.Image.{StandsFor}
 use Rattle.mta_spool.specs.Turning.{IsRecorded}
-use Rattle.mta_words.specs.declared.words.Words.{Words}
+use Rattle.mta_stations.specs.declared.end.WorkerEnd.{WorkerEnd}
+use Rattle.mta_stations.specs.Deciding.{halts_of, IsUndecided}
 use Rattle.mta_words.specs.declared.words.Words.TheVariants as Say
-use Rattle.mta_run.specs.Words.{ReadsTables, ReadsApdu, OpensDisk, IsUnbuilt}
-use Rattle.mta_run.specs.Handed.{Handed, ForTables, ForInput, ForDisk, ForOpened, SourceFailed, DiskFailed, InputsRead}
+use Rattle.mta_run.specs.Words.{AddsSteps, ReadsTables, ReadsApdu, OpensDisk, IsUnbuilt, Serves}
+use Rattle.mta_run.specs.Handed.{Handed, ForTables, ForInput, ForOpened, SourceFailed, DiskFailed, InputsRead}
 use Rattle.mta_run.specs.Inputs.{IsReadAsTables}
 use Rattle.mta_run.specs.Lines.{accepted_line}
 use Rattle.mta_run.specs.Output.{Output, OutputFailed, IsEnded}
 use Rattle.mta_run.specs.DiskLeft.{Opening, uncalled, opened, DiskLeft}
 use Rattle.mta_run.specs.Submit.{AreOwn, AreInTurn, accepts, IsAccepted}
-use Rattle.mta_run.specs.Causes.{Cause, IsText, mailbox_named}
-use Rattle.mta_run.specs.Command.{IsSettled, SourcesLeft}
+use Rattle.mta_run.specs.Causes.{Cause, IsText, mailbox_named, PeersNamed}
+use Rattle.mta_run.specs.Command.{IsSettled, OnStations, SourcesLeft}
+use Rattle.mta_run.specs.Images.{IsSafeBefore}
 
 -- What the steps are for the machine of recipients is a run of it, and each recipient for whom this agent is
 -- responsible is pending with no discharge, or is not pending and has one.
@@ -38,8 +39,8 @@ pub record IsKept (steps added : List Step) (octets : List ℕ) (n : ℕ) : Type
   pub octets_are : item.octets ≡ octets
 
 -- What status 0 means beside the text.
-pub record EndedWell {D C I : Type 0} (h : Handed D C I) (opening : Opening) (added torn_step : List Step)
-    : Type 0 where
+pub record EndedWell {D C I : Type 0} (h : Handed D C I) (opening : Opening) (ends : List WorkerEnd)
+    (added torn_step : List Step) : Type 0 where
   -- the words are in the grammar, and what the command reads is in order
   pub known : h.words ≢ None
   pub read : InputsRead h
@@ -49,16 +50,20 @@ pub record EndedWell {D C I : Type 0} (h : Handed D C I) (opening : Opening) (ad
   -- the mailbox is named
   pub named : (name : List ℕ) → h.words ≡ Some (Say.Mailbox name)
       → ForOpened h (λ steps. mailbox_named (after steps) name ≢ None)
-  -- with `submit` nothing is due, and the tables recorded last are those that were read
-  pub settled : h.words ≡ Some Say.Submit → ForOpened h (λ steps. IsSettled (h.clocks.tells h.clock) (steps ++ added))
+  -- with `submit` and `serve` nothing is due
+  pub settled : AddsSteps h.words → ForOpened h (λ steps. IsSettled (h.clocks.tells h.clock) (steps ++ added))
+  -- with `serve` each worker gave its links back, or its station ended, failed, or calls a peer that is not named
+  pub undecided : IsUndecided (halts_of ends)
+  -- with `submit` the tables recorded last are those that were read
   pub recorded : h.words ≡ Some Say.Submit
       → ForTables h (λ c. ForOpened h (λ steps. IsRecorded (after (steps ++ added)) c))
 
 -- What a run leaves, each part where the objects that it speaks of tell what they hold. `opening` says how far it
 -- came with the disk, `added` are the steps that it added to the history for which the disk stood, and `torn_step`
--- is the step in which the disk failed, if it did.
-pub record Ran {D C I : Type 0} (h : Handed D C I) (out : Output) (status : ℕ) : Type 0 where
+-- is the step in which the disk failed, if it did. `ends` are those of the workers of `serve`.
+pub record Ran {D C I : Type 0} (h : Handed D C I) (stations : OnStations) (out : Output) (status : ℕ) : Type 0 where
   pub opening : Opening
+  pub ends : List WorkerEnd
   pub added : List Step
   pub torn_step : List Step
   -- a source that the command does not read is the same, and of one that it reads it takes an octet more than the
@@ -70,6 +75,9 @@ pub record Ran {D C I : Type 0} (h : Handed D C I) (out : Output) (status : ℕ)
   -- in which it failed; since the first sync a crash left the history with a beginning of these; one that was not
   -- called is the same, and one that is no spool is as it was
   pub disk_stands : DiskLeft h.disks h.disk.before h.disk.after opening added torn_step
+  -- and before that sync what one before the call might have left, but that this is not told of `serve`
+  pub safe_before : (Serves h.words → ⊥)
+      → ForOpened h (λ steps. IsSafeBefore h.disks steps (added ++ torn_step) h.disk.before h.disk.after)
   -- each recipient is pending with no discharge, or is not pending and has one
   pub recipients_once : ForOpened h (λ steps. (n : ℕ) → RecipientsOnce (steps ++ take n (added ++ torn_step)))
   -- where `submit` printed the line `accepted N`, an added Accept of the input makes item N
@@ -77,16 +85,19 @@ pub record Ran {D C I : Type 0} (h : Handed D C I) (out : Output) (status : ℕ)
       → (n : ℕ) (rest : List ℕ) → n < 2 ^ 32 → b ≡ a ++ accepted_line n ++ rest
       → ForInput h (λ i. ForOpened h (λ steps. IsKept steps added i n × IsKept steps (added ++ torn_step) i n))
   -- what was printed, the status, and why
-  pub printed : IsEnded (Cause h added opening) (IsText h added opening) out status
-  -- the steps are of the tables and the input of this call, and their moments are those of the clock
-  pub provenance : ForTables h (λ c. ForInput h (λ i. ForOpened h (λ steps.
+  pub printed : IsEnded (Cause h ends added opening) (IsText h ends added opening) out status
+  -- the steps of `submit` are of the tables and the input of this call, and their moments are those of the clock
+  pub provenance : (Serves h.words → ⊥) → ForTables h (λ c. ForInput h (λ i. ForOpened h (λ steps.
       AreOwn (h.clocks.tells h.clock) c i (after steps) (added ++ torn_step))))
-  -- the tables come first, where they changed, then one Accept, then what is due; and only `submit` adds any
-  pub in_turn : AreInTurn 0 (added ++ torn_step)
-  pub at_most_one : accepts (added ++ torn_step) ≤ 1
-  pub only_submit : (h.words ≡ Some Say.Submit → ⊥) → added ++ torn_step ≡ []
+  -- the tables come first, where they changed, then one Accept, then what is due
+  pub in_turn : (Serves h.words → ⊥) → AreInTurn 0 (added ++ torn_step)
+  pub at_most_one : (Serves h.words → ⊥) → accepts (added ++ torn_step) ≤ 1
+  -- only `submit` and `serve` add any
+  pub only_adding : (AddsSteps h.words → ⊥) → added ++ torn_step ≡ []
+  -- what the workers did at the stations, and what became of these
+  pub stations_are : stations opening ends added torn_step
   -- and with status 0 all is well
-  pub ended_well : status ≡ 0 → EndedWell h opening added torn_step
+  pub ended_well : status ≡ 0 → EndedWell h opening ends added torn_step
 
 -- the run ends before it opens the disk: the command opens none, or the words, the tables, the input or a source
 -- had a fault
@@ -101,7 +112,8 @@ pub record Tells {D C I : Type 0} (h : Handed D C I) (out : Output) (status : �
   -- and 11 exactly where they are those of a command that is not built yet, but for the same
   pub unbuilt : status ≡ 11 → IsUnbuilt h.words
   pub unbuilt_where : IsUnbuilt h.words → (status ≡ 11) ⊎ (status ≡ 7) ⊎ ((status ≡ 9) × OutputFailed out)
-  pub disk : status ≡ 4 → OpensDisk h.words × DiskFailed h
+  -- of `serve` 4 may come of the end of a worker, in a turn of whom it failed
+  pub disk : status ≡ 4 → OpensDisk h.words × (DiskFailed h ⊎ Serves h.words)
   pub source : status ≡ 8 → SourceFailed h
   pub sink : status ≡ 9 → OutputFailed out
   pub untouched : EndsBeforeOpening h status → h.disk.after ≡ h.disk.before
@@ -116,10 +128,14 @@ pub record AllInOrder {D C I : Type 0} (h : Handed D C I) (out : Output) : Type 
       × StandsFor f steps
   pub named : (name : List ℕ) → h.words ≡ Some (Say.Mailbox name)
       → ForOpened h (λ steps. mailbox_named (after steps) name ≢ None)
+  pub peers : Serves h.words → PeersNamed h
   pub calm_sources : SourceFailed h → ⊥
   pub calm_disk : DiskFailed h → ⊥
   pub calm_output : OutputFailed out → ⊥
 
--- Then the status is 0, or 7, or of `submit` 5, where a step was refused for its numbers.
+-- Then the status is 0, or 7, or 5 where a step was refused for its numbers, or of `serve` 4, where a worker's end says
+-- that the disk failed.
 abbrev pub IsComplete : {D C I : Type 0} → Handed D C I → Output → ℕ → Type 0
-IsComplete h out status = AllInOrder h out → (status ≡ 0) ⊎ (status ≡ 7) ⊎ ((status ≡ 5) × (h.words ≡ Some Say.Submit))
+IsComplete h out status =
+    AllInOrder h out → (status ≡ 0) ⊎ (status ≡ 7) ⊎ ((status ≡ 5) × AddsSteps h.words)
+    ⊎ ((status ≡ 4) × Serves h.words)

@@ -14,6 +14,7 @@ use Rattle.mta_words.specs.declared.words.Words.{Words}
 use Rattle.mta_words.specs.declared.words.Words.TheVariants as Say
 use Rattle.mta_run.specs.Output.{Output, HasPrinted}
 use Rattle.mta_run.specs.DiskLeft.{Opening, refused, opened, DiskLeft}
+use Rattle.mta_run.specs.Images.{IsSafeBefore}
 use Rattle.mta_run.specs.Causes.{mailbox_named, queue_of, mailbox_of}
 
 abbrev pub stop_of_open : OpenWhy → Stop
@@ -61,4 +62,5 @@ pub record HasShownSpool {D : Type 0} (disks : DiskView D) (words : Words) (out 
     : Result (Unit {0}) Stop) : Type 0 where
   pub opening : Opening
   pub disk : DiskLeft disks old new opening [] []
+  pub safe_before : ForHistoryOf disks old (λ steps. IsSafeBefore disks steps [] old new)
   pub printed : HasPrinted (IsShownStop disks words old new opening) (IsShownText disks words old opening) out result

@@ -159,6 +159,7 @@ pub record Adds {D C : Type 0} (disks : DiskView D) (tells : ℕ → Type 0) (co
   pub one : length torn_step ≤ 1
   pub later : disks.faults old.journal.disk ≤ disks.faults new.journal.disk
   pub told : StaysTold disks old.journal.disk new.journal.disk
+  pub entries : new.entries ≡ old.entries ++ added
   pub history : (steps : List Step) → Stands disks old steps → IsHistory (steps ++ (added ++ torn_step))
   pub own : (steps : List Step) → Stands disks old steps → AreOwn tells conf input (after steps) (added ++ torn_step)
   pub leaves : (f : List ℕ) → disks.content old.journal.disk ≡ Some f → (steps : List Step) → Stands disks old steps
@@ -189,6 +190,7 @@ pub record HasSettled {D C : Type 0} (disks : DiskView D) (tells : ℕ → Type 
   pub in_turn : AreInTurn 2 (added ++ torn_step)
   pub tables : (result ≡ Err StepFaults.Disk → ⊥) → new.current.machine.tables ≡ old.current.machine.tables
   pub quiet : result ≡ Ok tt → (told : ℕ) × tells told × IsQuiet new.current (step_moment told new.current.moment)
+  pub going : (result ≡ Err StepFaults.Disk → ⊥) → new.journal.ended ≡ false
   pub refused : (fault : StepFault) → result ≡ Err fault → (conf input : List ℕ) (before : List Step)
       → turn_after 0 before ≡ 2
       → IsRefusal tells conf input (before ++ added) new.current new.journal.size (Rose

@@ -8,11 +8,13 @@
 //! reads and after a crash at any moment; each recipient once; what was acknowledged; what was printed,
 //! the status and why. A command leaves the same in `HasEnded`, before its last line.
 
-ghost use Rattle.std.specs.Prelude.{◌≤◌, Some, map, string_bytes};
-ghost use Rattle.mta_run.specs.Command.{HasEnded};
+ghost use Rattle.std.specs.Prelude.{◌≡◌, ◌≤◌, Err, Some, map, string_bytes, true};
+ghost use Rattle.mta_stations.specs.Stations.{roles_in};
 ghost use Rattle.mta_run.specs.Handed.{handed};
 ghost use Rattle.mta_run.specs.Output.{output};
-ghost use Rattle.mta_run.specs.Ran.{IsComplete, Ran, Tells};
+ghost use Rattle.mta_run.specs.Ran.{IsComplete, Tells};
+ghost use Rattle.mta_run.specs.Runs.{HasCommanded, HasRunWith};
+ghost use Rattle.mta_run.specs.Words.{are_stations_for, words_with};
 ghost use Rattle.mta_words.specs.Words.{command_of};
 
 use crate::decode::decode;
@@ -20,104 +22,196 @@ use crate::ended::Ended;
 use crate::lines::close;
 use crate::mailbox::mailbox;
 use crate::queue::queue;
+use crate::serve::{ServeEnd, outside_laws, serve};
 use crate::stop::Stop;
 use crate::submit::submit;
 use mta_edge::{Clock, Disk, Sink, Source};
+use mta_links::Station;
+use mta_stations::have_roles;
 use mta_words::Words;
 use std::alloc::Global;
+use std::sync::Wait;
+use std::thread::Threads;
 
-/// How a run ended: its status, and the disk that was handed in.
+/// How a run ended: its status, and the disk and the stations that were handed in.
 #[derive(Drop)]
-pub struct Finished<D: Drop> {
+pub struct Finished<D: Drop, S: Drop> {
     pub status: u8,
     pub disk: D,
+    pub stations: Vec<S>,
+}
+
+// Whether these are stations for the words: `serve` names one a station, with its role.
+fn are_stations_for<S: Station>(words: &Words, stations: &[S]) -> bool
+    ensures { result ≡ are_stations_for words.now (roles_in S.model stations.now) }
+{
+    match words {
+        Words::Serve {
+            stations: named,
+            ..
+        } => have_roles(named.as_slice(), stations),
+        _ => true,
+    }
+}
+
+// What a command left that has no stations.
+fn alone<D: Drop, S: Drop>(ended: Ended<D>, stations: Vec<S>) -> ServeEnd<D, S>
+    ensures ended { result.ended ≡ ended }
+    ensures stations { result.stations ≡ stations }
+{
+    ServeEnd { ended, stations }
+}
+
+// A run that stops before it reads or opens anything.
+fn early<D: Drop, S: Drop>(disk: D, stations: Vec<S>, stop: Stop) -> ServeEnd<D, S>
+    ensures disk { result.ended.disk ≡ disk }
+    ensures stations { result.stations ≡ stations }
+    ensures outcome { result.ended.outcome ≡ Err stop }
+{
+    ServeEnd {
+        ended: Ended {
+            disk,
+            outcome: Err(stop),
+        },
+        stations,
+    }
 }
 
 // Does what the words say.
-fn perform<D: Disk + Drop, C: Clock + Drop, I: Source, O: Sink>(
+fn perform<
+    R: Threads + Wait + Sync,
+    D: Disk + Drop + Send,
+    C: Clock + Drop + Send,
+    S: Station + Drop + Send,
+    I: Source,
+    O: Sink,
+>(
+    rt: &R,
     alloc: Global,
     words: Words,
     conf: &mut I,
     input: &mut I,
     out: &mut O,
     disk: D,
+    stations: Vec<S>,
     clock: C,
-) -> Ended<D>
-    ensures ended { HasEnded (handed D.model C.model I.model (Some words) conf.old conf.new input.old input.new
-        disk result.disk clock) (output O.model out.old out.new) result.outcome }
+) -> ServeEnd<D, S>
+where
+    S::Link: Send,
+    requires theirs { are_stations_for words (roles_in S.model stations.items) ≡ true }
+    ensures ended { HasCommanded D.model C.model I.model S.Link.model S.model (Some words) conf.old conf.new input.old
+        input.new disk result.ended.disk clock stations.items result.stations.items (output O.model out.old out.new)
+        result.ended.outcome }
     ensures later { O.model.faults out.old ≤ O.model.faults out.new }
 {
+    outside_laws::<D, C>();
     match words {
-        Words::Submit => submit(alloc, conf, input, out, disk, clock),
-        Words::Serve { .. } => Ended {
-            disk,
-            outcome: Err(Stop::NotBuilt),
-        },
-        Words::Queue => queue(alloc, out, disk, clock),
-        Words::Mailbox(name) => mailbox(alloc, name, out, disk, clock),
-        Words::Decode => Ended {
-            disk,
-            outcome: decode(alloc, input, out),
-        },
-        Words::Drill(_) => Ended {
-            disk,
-            outcome: Err(Stop::NotBuilt),
-        },
+        Words::Submit => alone(submit(alloc, conf, input, out, disk, clock), stations),
+        Words::Serve { sessions, .. } => {
+            serve(rt, alloc, sessions, conf, out, disk, stations, clock)
+        }
+        Words::Queue => alone(queue(alloc, out, disk, clock), stations),
+        Words::Mailbox(name) => alone(mailbox(alloc, name, out, disk, clock), stations),
+        Words::Decode => {
+            let outcome = decode(alloc, input, out);
+            alone(Ended { disk, outcome }, stations)
+        }
+        Words::Drill(_) => {
+            let outcome = Err(Stop::NotBuilt);
+            alone(Ended { disk, outcome }, stations)
+        }
     }
 }
 
 // What the words say and what it left, or that they are outside the grammar.
-fn command<D: Disk + Drop, C: Clock + Drop, I: Source, O: Sink>(
+fn command<
+    R: Threads + Wait + Sync,
+    D: Disk + Drop + Send,
+    C: Clock + Drop + Send,
+    S: Station + Drop + Send,
+    I: Source,
+    O: Sink,
+>(
+    rt: &R,
     alloc: Global,
     words: &[String],
     conf: &mut I,
     input: &mut I,
     out: &mut O,
     disk: D,
+    stations: Vec<S>,
     clock: C,
-) -> Ended<D>
-    ensures ended { HasEnded (handed D.model C.model I.model (command_of (map string_bytes words.now))
-        conf.old conf.new input.old input.new disk result.disk clock) (output O.model out.old out.new) result.outcome }
+) -> ServeEnd<D, S>
+where
+    S::Link: Send,
+    ensures ended { HasCommanded D.model C.model I.model S.Link.model S.model
+        (words_with (roles_in S.model stations.items) (command_of (map string_bytes words.now))) conf.old conf.new
+        input.old input.new disk result.ended.disk clock stations.items result.stations.items
+        (output O.model out.old out.new) result.ended.outcome }
     ensures later { O.model.faults out.old ≤ O.model.faults out.new }
 {
+    outside_laws::<D, C>();
     match Words::read(alloc, words) {
-        Ok(Some(words)) => perform(alloc, words, conf, input, out, disk, clock),
-        Ok(None) => Ended {
-            disk,
-            outcome: Err(Stop::Usage),
-        },
-        Err(_) => Ended {
-            disk,
-            outcome: Err(Stop::Memory),
-        },
+        Ok(Some(words)) => {
+            if are_stations_for(&words, stations.as_slice()) {
+                perform(rt, alloc, words, conf, input, out, disk, stations, clock)
+            } else {
+                early(disk, stations, Stop::Usage)
+            }
+        }
+        Ok(None) => early(disk, stations, Stop::Usage),
+        Err(_) => early(disk, stations, Stop::Memory),
     }
 }
 
-/// Does what the words say, over objects that are handed in, prints its text and the last line, and gives the disk
-/// back.
+/// Does what the words say, over objects that are handed in, prints its text and the last line, and gives the disk and
+/// the stations back.
 ///
 /// `submit` reads the tables and the input to their ends, opens the disk, records the tables where they changed, takes
 /// the APDU, prints `accepted N`, and does what is due until nothing is: it delivers, expands lists, affirms probes and
-/// makes reports. `spool` prints the queue and the lanes that are open, `read MAILBOX` what a mailbox got, and `decode`
-/// the APDU that the input is. `serve` and `drill` are read and not built yet: they touch nothing, and are told `not
-/// built`.
-pub fn run<D: Disk + Drop, C: Clock + Drop, I: Source, O: Sink>(
+/// makes reports. `serve` reads the tables, opens the disk, records them, does what is due, has each station served by
+/// a worker of its own at the same time, does what has come due, and prints a line a station. `spool` prints the queue
+/// and the lanes that are open, `read MAILBOX` what a mailbox got, and `decode` the APDU that the input is. `drill` is
+/// read and not built yet: it touches nothing, and is told `not built`.
+pub fn run<
+    R: Threads + Wait + Sync,
+    D: Disk + Drop + Send,
+    C: Clock + Drop + Send,
+    S: Station + Drop + Send,
+    I: Source,
+    O: Sink,
+>(
+    rt: &R,
     alloc: Global,
     words: &[String],
     conf: &mut I,
     input: &mut I,
     out: &mut O,
     disk: D,
+    stations: Vec<S>,
     clock: C,
-) -> Finished<D>
-    ensures ran { Ran (handed D.model C.model I.model (command_of (map string_bytes words.now))
+) -> Finished<D, S>
+where
+    S::Link: Send,
+    ensures ran { HasRunWith D.model C.model I.model S.Link.model S.model
+        (words_with (roles_in S.model stations.items) (command_of (map string_bytes words.now))) conf.old conf.new
+        input.old input.new disk result.disk clock stations.items result.stations.items
+        (output O.model out.old out.new) result.status }
+    ensures complete { IsComplete (handed D.model C.model I.model
+        (words_with (roles_in S.model stations.items) (command_of (map string_bytes words.now)))
         conf.old conf.new input.old input.new disk result.disk clock) (output O.model out.old out.new) result.status }
-    ensures complete { IsComplete (handed D.model C.model I.model (command_of (map string_bytes words.now))
-        conf.old conf.new input.old input.new disk result.disk clock) (output O.model out.old out.new) result.status }
-    ensures tells { Tells (handed D.model C.model I.model (command_of (map string_bytes words.now))
+    ensures tells { Tells (handed D.model C.model I.model
+        (words_with (roles_in S.model stations.items) (command_of (map string_bytes words.now)))
         conf.old conf.new input.old input.new disk result.disk clock) (output O.model out.old out.new) result.status }
 {
-    let Ended { disk, outcome } = command(alloc, words, conf, input, out, disk, clock);
+    let ServeEnd { ended, stations } = command(
+        rt, alloc, words, conf, input, out, disk, stations, clock,
+    );
+    let Ended { disk, outcome } = ended;
     let status = close(alloc, out, outcome);
-    Finished { status, disk }
+    Finished {
+        status,
+        disk,
+        stations,
+    }
 }

@@ -27,8 +27,8 @@ pub struct Inputs {
     pub apdu: Octets,
 }
 
-// Reads the tables to their end.
-fn tables_of<I: Source>(alloc: Global, conf: &mut I) -> Result<Tables, Stop>
+/// Reads the tables to their end.
+pub fn tables_of<I: Source>(alloc: Global, conf: &mut I) -> Result<Tables, Stop>
     ensures { HasTables I.model conf.old conf.new result }
 {
     let text = match read_all(alloc, conf, LONGEST_TABLES) {

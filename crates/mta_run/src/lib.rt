@@ -9,6 +9,7 @@ mod lines;
 mod mailbox;
 mod print;
 mod queue;
+mod serve;
 mod stop;
 mod submit;
 

@@ -109,6 +109,11 @@ fn line_of(alloc: Global, stop: &Stop) -> Result<Octets, Memory>
             line.extend(name.as_slice())?;
             line.extend(b"\n")?;
         }
+        Stop::NoPeer(name) => {
+            line.extend(b"no such peer ")?;
+            line.extend(name.as_slice())?;
+            line.extend(b"\n")?;
+        }
         Stop::BadApdu { at, kind } => {
             line.extend(b"bad APDU at ")?;
             put_number(&mut line, u64::from(*at))?;
@@ -133,7 +138,7 @@ fn status_of(stop: &Stop) -> u8
         Stop::Memory => 7,
         Stop::Source => 8,
         Stop::Sink => 9,
-        Stop::NoMailbox(_) => 10,
+        Stop::NoMailbox(_) | Stop::NoPeer(_) => 10,
     }
 }
 

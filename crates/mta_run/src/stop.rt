@@ -1,13 +1,16 @@
 //! Why a command ended without its result.
 
-ghost use Rattle.std.specs.Prelude.{◌≡◌, Some};
+ghost use Rattle.std.specs.Prelude.{◌≡◌, ◌≢◌, None, Some};
 ghost use Rattle.mta_spool.specs.Stands.{IsOfNoLane};
 ghost use Rattle.mta_run.specs.Inputs.{stop_of_read};
 ghost use Rattle.mta_run.specs.Shows.{stop_of_open};
+ghost use Rattle.mta_run.specs.Serving.{stop_of_halt};
 ghost use Rattle.mta_run.specs.Submit.{stop_of_step};
+ghost use Rattle.mta_stations.specs.Deciding.{status_of};
 
 use mta_ber::{Kind, ReadFault, Word};
 use mta_spool::{OpenWhy, StepFault};
+use mta_stations::Halt;
 use mta_tables::LineKind;
 
 /// Each with its status and its line.
@@ -35,6 +38,8 @@ pub enum Stop {
     Sink,
     /// The tables recorded last do not name this mailbox, or none are recorded.
     NoMailbox(Word),
+    /// The tables do not name this peer, whom a station calls.
+    NoPeer(Word),
     /// The input is no APDU, for this first fault at this offset.
     BadApdu { at: u32, kind: Kind },
 }
@@ -77,5 +82,22 @@ pub fn stop_of_step(fault: StepFault) -> Stop
         StepFault::NoLane { .. } => unreachable!(),
         StepFault::BusyLanes { .. } => unreachable!(),
         StepFault::Unexpected => unreachable!(),
+    }
+}
+
+/// Why a run ends for which a worker's end decides.
+pub fn stop_of_halt(halt: Halt) -> Stop
+    requires { status_of halt ≢ None }
+    ensures { result ≡ stop_of_halt halt }
+{
+    match halt {
+        Halt::Disk => Stop::Disk,
+        Halt::Full { size, need } => Stop::Full { size, need },
+        Halt::Spent { last } => Stop::Spent { last },
+        Halt::Memory => Stop::Memory,
+        Halt::Limit => unreachable!(),
+        Halt::StationEnded => unreachable!(),
+        Halt::StationFailed => unreachable!(),
+        Halt::NoPeer => unreachable!(),
     }
 }

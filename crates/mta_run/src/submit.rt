@@ -12,9 +12,10 @@
 ghost use Rattle.std.specs.Prelude.{◌≡◌, ◌≤◌, List, Some, false};
 ghost use Rattle.mta_machine.specs.Apdu.{IsApdu};
 ghost use Rattle.mta_records.specs.declared.step.Step.{Step};
+ghost use Rattle.mta_spool.specs.Bases.{KeepsOn};
 ghost use Rattle.mta_spool.specs.Stands.{Stands, TellsFewer};
 ghost use Rattle.mta_words.specs.declared.words.Words.TheVariants as Say;
-ghost use Rattle.mta_run.specs.Command.{HasEnded};
+ghost use Rattle.mta_run.specs.Command.{HasEnded, NoneWorked};
 ghost use Rattle.mta_run.specs.Handed.{handed};
 ghost use Rattle.mta_run.specs.Output.{output};
 ghost use Rattle.mta_run.specs.Submit.{HasAcknowledged, HasSettled, HasStored, HasWorked};
@@ -48,11 +49,14 @@ fn store<D: Disk + Drop, C: Clock + Drop>(
     }
 }
 
-// Does what is due until nothing is.
-fn settle<D: Disk + Drop, C: Clock + Drop>(spool: &mut Spool<D, C>) -> Result<(), StepFault>
+/// Does what is due until nothing is.
+pub fn settle<D: Disk + Drop, C: Clock + Drop>(spool: &mut Spool<D, C>) -> Result<(), StepFault>
     requires going { spool.old.journal.ended ≡ false }
     requires stands { (steps : List Step) × Stands D.model spool.old steps }
-    ensures { HasSettled D.model (C.model.tells spool.old.clock) spool.old spool.new result }
+    ensures settled { HasSettled D.model (C.model.tells spool.old.clock) spool.old spool.new result }
+    ensures clock { TellsFewer C.model spool.old.clock spool.new.clock }
+    ensures opened { spool.new.opened ≡ spool.old.opened }
+    ensures keeps { KeepsOn D.model C.model spool.old spool.new }
 {
     loop {
         match spool.turn() {
@@ -116,7 +120,7 @@ pub fn submit<D: Disk + Drop, C: Clock + Drop, I: Source, O: Sink>(
     clock: C,
 ) -> Ended<D>
     ensures ended { HasEnded (handed D.model C.model I.model (Some Say.Submit) conf.old conf.new input.old input.new
-        disk result.disk clock) (output O.model out.old out.new) result.outcome }
+        disk result.disk clock) NoneWorked (output O.model out.old out.new) result.outcome }
     ensures later { O.model.faults out.old ≤ O.model.faults out.new }
 {
     let inputs = match inputs_of(alloc, conf, input) {

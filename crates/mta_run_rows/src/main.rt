@@ -30,26 +30,39 @@ use crate::stops::stops;
 use anyhow::{Result, bail};
 use mta_rows::{Fields, shown, tell};
 use std::alloc::Global;
+use std::sync::Wait;
+use std::thread::Threads;
 
-fn answer_of(alloc: Global, held: &mut Held, asked: &str, fields: Fields<'_>) -> Result<String> {
+fn answer_of<R: Threads + Wait + Sync>(
+    rt: &R,
+    alloc: Global,
+    held: &mut Held,
+    asked: &str,
+    fields: Fields<'_>,
+) -> Result<String> {
     match asked {
-        "run" => run_words(alloc, held, fields.rest),
-        "large" => large(alloc, held, fields.rest),
+        "run" => run_words(rt, alloc, held, fields.rest),
+        "large" => large(rt, alloc, held, fields.rest),
         "holds" => Ok(shown(alloc, held.disk.as_slice())?),
         "records" => records(alloc, held),
-        "stops" => stops(alloc, held, fields),
+        "stops" => stops(rt, alloc, held, fields),
         _ => bail!("nothing is asked"),
     }
 }
 
-fn try_row(rt: &impl Print, alloc: Global, held: &mut Held, row: &str) -> Result<()> {
+fn try_row<R: Print + Threads + Wait + Sync>(
+    rt: &R,
+    alloc: Global,
+    held: &mut Held,
+    row: &str,
+) -> Result<()> {
     let mut fields = Fields { rest: row };
     let asked = fields.take();
     if held.take(alloc, asked, fields)? {
         return Ok(());
     }
     let wanted = fields.take();
-    let answered = answer_of(alloc, held, asked, fields)?;
+    let answered = answer_of(rt, alloc, held, asked, fields)?;
     let about = if asked == "stops" { "" } else { fields.rest };
     let case = held.case.as_str();
     let name = format!(in alloc; "{case}: {asked}")?;

@@ -4,12 +4,16 @@ use crate::given::{clock, disk_of, safe_source, source, words_of};
 use crate::held::Held;
 use anyhow::Result;
 use mta_edge::{MemClock, MemDisk, MemSink, MemSource, Octets, SafeDisk, SafeSource};
+use mta_links::MemStation;
 use mta_rows::shown;
 use mta_run::{Finished, run};
 use std::alloc::{AllocError, Global};
+use std::sync::Wait;
+use std::thread::Threads;
 
-// The run alone, since nothing behind it asks for its clauses.
-fn called(
+// The run alone, without stations, since nothing behind it asks for its clauses.
+fn called<R: Threads + Wait + Sync>(
+    rt: &R,
     alloc: Global,
     words: &[String],
     mut conf: MemSource,
@@ -17,12 +21,23 @@ fn called(
     out: &mut MemSink,
     disk: MemDisk,
     clock: MemClock,
-) -> Finished<MemDisk> {
-    run(alloc, words, &mut conf, &mut input, out, disk, clock)
+) -> Finished<MemDisk, MemStation> {
+    run(
+        rt,
+        alloc,
+        words,
+        &mut conf,
+        &mut input,
+        out,
+        disk,
+        Vec::new(alloc),
+        clock,
+    )
 }
 
 // The run alone, over a disk that is changed in place.
-fn called_in_place(
+fn called_in_place<R: Threads + Wait + Sync>(
+    rt: &R,
     alloc: Global,
     words: &[String],
     mut conf: SafeSource,
@@ -30,8 +45,18 @@ fn called_in_place(
     out: &mut MemSink,
     disk: SafeDisk,
     clock: MemClock,
-) -> Finished<SafeDisk> {
-    run(alloc, words, &mut conf, &mut input, out, disk, clock)
+) -> Finished<SafeDisk, MemStation> {
+    run(
+        rt,
+        alloc,
+        words,
+        &mut conf,
+        &mut input,
+        out,
+        disk,
+        Vec::new(alloc),
+        clock,
+    )
 }
 
 /// The status and what was printed.
@@ -42,39 +67,55 @@ fn said(alloc: Global, status: u8, out: &MemSink) -> Result<String, AllocError> 
 }
 
 /// What words make of a disk, with what they print.
-pub fn finished(
+pub fn finished<R: Threads + Wait + Sync>(
+    rt: &R,
     alloc: Global,
     held: &Held,
     line: &str,
     disk: MemDisk,
     out: &mut MemSink,
-) -> Result<Finished<MemDisk>> {
+) -> Result<Finished<MemDisk, MemStation>> {
     let words = words_of(alloc, line)?;
     let conf = source(alloc, held.tables.as_slice(), 0)?;
     let input = source(alloc, held.input.as_slice(), held.input_fails)?;
     let clock = clock(alloc, held)?;
-    Ok(called(alloc, words.as_slice(), conf, input, out, disk, clock))
+    Ok(called(rt, alloc, words.as_slice(), conf, input, out, disk, clock))
 }
 
 /// What `spool` prints of these octets.
-pub fn queue(alloc: Global, held: &Held, octets: &[u8]) -> Result<String> {
+pub fn queue<R: Threads + Wait + Sync>(
+    rt: &R,
+    alloc: Global,
+    held: &Held,
+    octets: &[u8],
+) -> Result<String> {
     let mut out = MemSink::new(alloc, Vec::new(alloc));
     let disk = disk_of(alloc, octets, 0)?;
-    let Finished { disk: _, status } = finished(alloc, held, "spool", disk, &mut out)?;
+    let Finished { status, .. } = finished(rt, alloc, held, "spool", disk, &mut out)?;
     Ok(said(alloc, status, &out)?)
 }
 
 /// Runs words over the disk, and keeps what it holds then.
-pub fn run_words(alloc: Global, held: &mut Held, line: &str) -> Result<String> {
+pub fn run_words<R: Threads + Wait + Sync>(
+    rt: &R,
+    alloc: Global,
+    held: &mut Held,
+    line: &str,
+) -> Result<String> {
     let mut out = MemSink::new(alloc, [held.output_fails].to_vec(alloc)?);
     let disk = disk_of(alloc, held.disk.as_slice(), held.disk_fails)?;
-    let Finished { disk, status } = finished(alloc, held, line, disk, &mut out)?;
+    let Finished { disk, status, .. } = finished(rt, alloc, held, line, disk, &mut out)?;
     held.disk = disk.octets().to_vec(alloc)?;
     Ok(said(alloc, status, &out)?)
 }
 
 /// Runs words over a disk that is changed in place, and keeps what it holds then.
-pub fn large(alloc: Global, held: &mut Held, line: &str) -> Result<String> {
+pub fn large<R: Threads + Wait + Sync>(
+    rt: &R,
+    alloc: Global,
+    held: &mut Held,
+    line: &str,
+) -> Result<String> {
     let mut out = MemSink::new(alloc, Vec::new(alloc));
     let words = words_of(alloc, line)?;
     let conf = safe_source(alloc, held.tables.as_slice())?;
@@ -82,7 +123,8 @@ pub fn large(alloc: Global, held: &mut Held, line: &str) -> Result<String> {
     let octets = std::mem::replace(&mut held.disk, Vec::new(alloc));
     let disk = SafeDisk::new(alloc, Octets::from_vec(octets));
     let clock = clock(alloc, held)?;
-    let Finished { disk, status } = called_in_place(
+    let Finished { disk, status, .. } = called_in_place(
+        rt,
         alloc,
         words.as_slice(),
         conf,

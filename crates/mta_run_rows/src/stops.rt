@@ -8,12 +8,14 @@ use mta_edge::{MemDisk, MemSink};
 use mta_rows::Fields;
 use mta_run::Finished;
 use std::alloc::Global;
+use std::sync::Wait;
+use std::thread::Threads;
 
 /// The disk behind the run, with the log of its calls.
-fn submitted(alloc: Global, held: &Held) -> Result<MemDisk> {
+fn submitted<R: Threads + Wait + Sync>(rt: &R, alloc: Global, held: &Held) -> Result<MemDisk> {
     let mut out = MemSink::new(alloc, Vec::new(alloc));
     let disk = disk_of(alloc, held.disk.as_slice(), 0)?;
-    let Finished { disk, status: _ } = finished(alloc, held, "submit", disk, &mut out)?;
+    let Finished { disk, .. } = finished(rt, alloc, held, "submit", disk, &mut out)?;
     Ok(disk)
 }
 
@@ -27,7 +29,8 @@ fn is_wanted(said: &str, is_last: bool, fields: Fields<'_>) -> bool {
 }
 
 /// What is answered otherwise where the run is stopped by this choice.
-fn otherwise(
+fn otherwise<R: Threads + Wait + Sync>(
+    rt: &R,
     alloc: Global,
     held: &Held,
     disk: &MemDisk,
@@ -37,7 +40,7 @@ fn otherwise(
     let calls = disk.calls();
     for call in 0..=calls {
         let image = disk.image(call, choice).map_err(|_| anyhow!("no memory"))?;
-        let said = queue(alloc, held, image.as_slice())?;
+        let said = queue(rt, alloc, held, image.as_slice())?;
         if !is_wanted(said.as_str(), call == calls, fields) {
             let said = said.as_str();
             return Ok(Some(format!(in alloc; "call {call}, choice {choice}: {said}")?));
@@ -47,10 +50,15 @@ fn otherwise(
 }
 
 /// Whether each image is answered as the fields say.
-pub fn stops(alloc: Global, held: &Held, fields: Fields<'_>) -> Result<String> {
-    let disk = submitted(alloc, held)?;
+pub fn stops<R: Threads + Wait + Sync>(
+    rt: &R,
+    alloc: Global,
+    held: &Held,
+    fields: Fields<'_>,
+) -> Result<String> {
+    let disk = submitted(rt, alloc, held)?;
     for choice in 0..8 {
-        if let Some(said) = otherwise(alloc, held, &disk, choice, fields)? {
+        if let Some(said) = otherwise(rt, alloc, held, &disk, choice, fields)? {
             return Ok(said);
         }
     }

@@ -1,59 +1,145 @@
 //! Takes turns with a lock in many threads. The words are the number of threads, 1 to 16, and the turns of each.
 #![tactic(auto)]
 
-ghost use Rattle.std.specs.Prelude.{◌≡◌, ◌<◌, ◌≤◌, ◌^◌, ℕ, [], ◌++◌, ◌∷◌, length, OnOk, IfOk, vec_len};
+ghost use Rattle.std.specs.Prelude.{◌≡◌, ◌+◌, ◌<◌, ◌≤◌, ℕ, [], All, length, slice_index_or, vec_capacity, vec_len};
+ghost use Rattle.mta_shared.specs.Passes.{lock_of, IsReady, Worked};
+ghost use Rattle.mta_shared.specs.Rule.{Grows};
+ghost use Rattle.mta_shared_bench.specs.Parts.{IsPart};
 
-use mta_recorder::{Batch, Disk, Failed, Recorder, Run, record_side_by_side};
+use mta_shared::{Historied, Pass, Shared};
 use std::alloc::{AllocError, Global};
 use std::env::Env;
-use std::{env, io};
+use std::sync::Wait;
+use std::thread::Threads;
+use std::{env, io, thread};
 
-/// A disk in memory.
+/// The most threads at a time.
+const THREADS: usize = 16;
+
+/// Numbers in two lists, of which the second are the entries.
 #[derive(Drop)]
-struct Memory {
+struct Numbers {
     numbers: Vec<u64>,
-    faults: u64,
+    entries: Vec<u64>,
 }
 
-impl Disk for Memory {
-    ghost faults = { λ m. m.faults };
+impl Historied for Numbers {
+    type Entry = u64;
 
-    ghost holds = { λ m. m.numbers.items };
+    ghost use Rattle.mta_shared.specs.Rule.{no_base};
 
-    fn append(&mut self, number: u64) -> Result<(), Failed> {
-        if self.numbers.try_reserve(1).is_ok() {
+    ghost first = { λ _. 0 };
+
+    ghost entries = { λ n. n.entries.items };
+
+    ghost base = { λ _. no_base };
+
+    ghost meets = { λ _ _. Unit {0} };
+}
+
+impl Numbers {
+    /// Adds a number to both lists, where there is memory for it.
+    fn add(&mut self, number: u64)
+        ensures { Grows self.old.entries.items self.new.entries.items }
+    {
+        if self.numbers.try_reserve(1).is_ok() && self.entries.try_reserve(1).is_ok() {
             self.numbers.push_reserved(number);
-            Ok(())
-        } else {
-            self.faults = self.faults.saturating_add(1);
-            Err(Failed)
+            self.entries.push_reserved(number);
         }
     }
 }
 
-/// The numbers from 0 on, so many.
-fn numbers(alloc: Global, turns: u32) -> Result<Vec<u64>, AllocError>
-    ensures { IfOk result (λ n. vec_len n ≡ turns) }
+/// Adds one number in one turn.
+fn take_turn<R: Wait>(rt: &R, shared: &Shared<Numbers>, pass: &mut Pass<u64>, number: u64)
+    requires { IsReady (lock_of shared.now) pass.old }
+    ensures { Worked pass.old pass.new }
 {
-    let mut numbers = Vec::new(alloc);
-    for number in 0..turns {
-        numbers.push(u64::from(number))?;
-    }
-    Ok(numbers)
+    let mut turn = shared.take(rt, pass);
+    turn.value.add(number);
+    shared.give(pass, turn);
 }
 
-/// A batch for each thread.
-fn batches(alloc: Global, threads: u8, turns: u32) -> Result<Vec<Batch>, AllocError>
-    ensures { IfOk result (λ b. vec_len b ≡ threads) }
+/// Adds the numbers from 0 on, so many, each in a turn of its own.
+fn take_turns<R: Wait>(rt: &R, shared: &Shared<Numbers>, pass: &mut Pass<u64>, turns: u32)
+    requires { IsPart (lock_of shared.now) pass.old }
+    ensures { IsPart (lock_of shared.now) pass.new }
 {
-    let mut batches = Vec::new(alloc);
-    for _ in 0..threads {
-        batches.push(Batch {
-            numbers: numbers(alloc, turns)?,
-            fault: None,
-        })?;
+    for number in 0..turns {
+        take_turn(rt, shared, pass, u64::from(number));
     }
-    Ok(batches)
+}
+
+/// The turns of each pass in a thread of its own.
+fn take_all<R: Threads + Wait + Sync>(
+    rt: &R,
+    shared: &Shared<Numbers>,
+    passes: &mut [Pass<u64>],
+    turns: u32,
+)
+    requires { All (IsPart (lock_of shared.now)) passes.old }
+    ensures { (i : ℕ) (d : _) → i < length passes.old → IsPart (lock_of shared.now) (slice_index_or passes.new i d) }
+{
+    thread::for_each_mut(
+        rt,
+        passes,
+        THREADS,
+        &|_, pass: &mut Pass<u64>|
+            requires { IsPart (lock_of shared.now) pass.old }
+            ensures { IsPart (lock_of shared.entry.now) pass.new }
+        {
+            take_turns(rt, shared, pass, turns);
+        },
+    );
+}
+
+/// So many passes more, split off the first.
+fn deal(shared: &Shared<Numbers>, main: &mut Pass<u64>, passes: &mut Vec<Pass<u64>>, threads: u8)
+    requires ready { IsReady (lock_of shared.now) main.old × (threads < main.old.parts) }
+    requires room { (passes.old.items ≡ []) × (threads ≤ vec_capacity passes.old) }
+    ensures main { IsReady (lock_of shared.now) main.new × (main.new.parts + vec_len passes.new ≡ main.old.parts) }
+    ensures dealt { All (IsPart (lock_of shared.now)) passes.new.items }
+{
+    for _ in 0..threads {
+        let pass = shared.split(main);
+        passes.push_reserved(pass);
+    }
+}
+
+/// Joins the passes to the first.
+fn gather(shared: &Shared<Numbers>, main: &mut Pass<u64>, mut passes: Vec<Pass<u64>>)
+    requires { IsReady (lock_of shared.now) main.old × All (IsPart (lock_of shared.now)) passes.items }
+    ensures { IsReady (lock_of shared.now) main.new × (main.new.parts ≡ main.old.parts + vec_len passes) }
+{
+    while let Some(pass) = passes.pop() {
+        shared.join(main, pass);
+    }
+    passes.destroy_empty();
+}
+
+/// How many entries there are once each thread has had its turns.
+fn run<R: Threads + Wait + Sync>(
+    rt: &R,
+    alloc: Global,
+    threads: u8,
+    turns: u32,
+) -> Result<usize, AllocError> {
+    let mut passes = Vec::with_capacity(alloc, usize::from(threads))?;
+    let numbers = Numbers {
+        numbers: Vec::new(alloc),
+        entries: Vec::new(alloc),
+    };
+    match Shared::open(alloc, numbers) {
+        Ok((shared, mut main)) => {
+            deal(&shared, &mut main, &mut passes, threads);
+            take_all(rt, &shared, passes.as_mut_slice(), turns);
+            gather(&shared, &mut main, passes);
+            Ok(shared.close(main).entries.len())
+        }
+        Err(_) => {
+            passes.destroy_empty();
+            Err(AllocError)
+        }
+    }
 }
 
 /// The two words, where they are numbers.
@@ -70,17 +156,6 @@ fn main(rt: HostRuntime) -> io::Result<()> {
         println!(rt; "usage: mta_shared_bench THREADS TURNS")?;
         return Ok(());
     };
-    let batches = batches(alloc, threads, turns)?;
-    let memory = Memory {
-        numbers: Vec::new(alloc),
-        faults: 0,
-    };
-    let recorder = Recorder::open(alloc, memory);
-    let Run {
-        recorder,
-        batches: _,
-        refused: _,
-    } = record_side_by_side(&rt, alloc, recorder, batches);
-    let (_, entries) = recorder.end();
-    println!(rt; "{} turns", entries.len())
+    let entries = run(&rt, alloc, threads, turns)?;
+    println!(rt; "{entries} turns")
 }

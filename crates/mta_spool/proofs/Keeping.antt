@@ -10,12 +10,13 @@ use Rattle.mta_records.specs.declared.fault.StepFault.{StepFault}
 use Rattle.mta_records.specs.declared.fault.StepFault.TheVariants as Faults
 use Rattle.mta_records.specs.Body.{body_of}
 use Rattle.mta_records.proofs.Records.{body_same}
-use Rattle.mta_histories.specs.Lanes.{State}
+use Rattle.mta_histories.specs.Lanes.{State, empty}
 use Rattle.mta_histories.specs.History.{IsHistory, after}
+use Rattle.mta_histories.proofs.Runs.{possible-more}
 use Rattle.mta_images.specs.Image.{AreRecords, StandsFor}
 use Rattle.mta_journal.specs.Bodies.{StandsFor as HoldsBodies}
 use Rattle.mta_shared.specs.declared.history.Base.{Base}
-use Rattle.mta_spool.specs.Bases.{Keeps, KeepsOn, StaysSafe, base_of, since_of, where_listed}
+use Rattle.mta_spool.specs.Bases.{Keeps, KeepsOn, StaysSafe, base_of, found_of, since_of, where_listed}
 use Rattle.mta_spool.specs.Bases.{where_told}
 use Rattle.mta_spool.specs.Crashing.{IsLeftWith, Reached}
 use Rattle.mta_spool.specs.Opening.{HasOpened}
@@ -23,6 +24,11 @@ use Rattle.mta_spool.specs.Shown.{AtOpening, Shown}
 use Rattle.mta_spool.specs.Stands.{Appends, IsHeld, Stands, TellsFewer}
 use Rattle.mta_spool.specs.Turning.{IsUnchanged}
 use Rattle.mta_spool.proofs.Crashing.{made, reached_as, reached_first, reached_second, torn}
+
+-- no step was torn
+none-tried : (first entries : List Step) → IsHistory (first ++ entries) → IsHistory (first ++ (entries ++ []))
+none-tried first entries history =
+    subst (λ (x : List Step). IsHistory (first ++ x)) (sym (append-nil entries)) history
 
 module _ {D C : Type 0} (disks : DiskView D) (clocks : ClockView C) where
   -- ---- nothing has changed
@@ -55,6 +61,7 @@ module _ {D C : Type 0} (disks : DiskView D) (clocks : ClockView C) where
     torn_step = keeps.torn_step;
     one = keeps.one;
     calm = keeps.calm;
+    tried = keeps.tried;
     safe = keeps.safe;
   }
 
@@ -139,6 +146,7 @@ module _ {D C : Type 0} (disks : DiskView D) (clocks : ClockView C) where
           torn_step = [];
           one = omega arith;
           calm = λ on. refl;
+          tried = none-tried keeps.first new.entries (subst IsHistory whole done.history);
           safe = λ bodies found.
               subst (λ (x : List Step). StaysSafe disks new.journal.disk (since_of base) keeps.first x [])
               (sym a.entries)
@@ -179,6 +187,14 @@ module _ {D C : Type 0} (disks : DiskView D) (clocks : ClockView C) where
               (leaves.during.since since g x.synced left);
         }
 
+    torn-history : (first : List Step) → Appends disks step old new (Some Faults.Disk)
+        → IsHistory (first ++ old.entries) → IsHeld disks old.journal old.current (first ++ old.entries)
+        → IsHistory (first ++ (old.entries ++ step ∷ []))
+    torn-history first a history held =
+        let steps = first ++ old.entries in
+        subst IsHistory (append_assoc first old.entries (step ∷ []))
+        (possible-more empty steps step history ((a.crash (inr refl)).possible steps held))
+
     keeps_torn : Appends disks step old new (Some Faults.Disk) → KeepsOn disks clocks old new
     keeps_torn a base keeps =
         let going = going-on (Some Faults.Disk) a (λ e. absurd cc) old.journal.ended refl in
@@ -197,6 +213,8 @@ module _ {D C : Type 0} (disks : DiskView D) (clocks : ClockView C) where
           torn_step = step ∷ [];
           one = omega arith;
           calm = λ on. let ended : new.journal.ended ≡ true = a.marked refl in absurd cc;
+          tried = subst (λ (x : List Step). IsHistory (keeps.first ++ (x ++ step ∷ []))) (sym a.entries)
+              (torn-history keeps.first a keeps.history (keeps.stands going));
           safe = λ bodies found.
               subst (λ (x : List Step). StaysSafe disks new.journal.disk (since_of base) keeps.first x (step ∷ []))
               (sym a.entries)
@@ -294,6 +312,7 @@ module _ {D C : Type 0} (disks : DiskView D) (clocks : ClockView C) (laws : Disk
         torn_step = [];
         one = omega arith;
         calm = λ on. refl;
+        tried = none-tried o.steps spool.entries (subst IsHistory behind o.stands.history);
         safe = λ bodies found.
             let is = found-is (disks.content spool.opened.disk) spool.opened.bodies bodies found in
             opened-safe is.0 (ap (λ (d : D). disks.content d) (sym o.disk) ∙ is.1);
@@ -322,3 +341,10 @@ pub one_first : {D C : Type 0} (disks : DiskView D) (clocks : ClockView C) (s t 
 one_first disks clocks s t base k l =
     same-steps k.first l.first (front-records k.first s.entries k.each) (front-records l.first t.entries l.each)
     (k.found ∙ sym l.found)
+
+-- it is the one that was found
+pub first_found : {D C : Type 0} (disks : DiskView D) (clocks : ClockView C) (s : Shown D C) (base : Base)
+    (k : Keeps disks clocks s base) (steps : List Step) → AreRecords steps → map body_of steps ≡ found_of base
+    → k.first ≡ steps
+first_found disks clocks s base k steps each found =
+    same-steps k.first steps (front-records k.first s.entries k.each) each (k.found ∙ sym found)

@@ -87,6 +87,8 @@ module _ {D C : Type 0} (disks : DiskView D) (clocks : ClockView C) where
     pub torn_step : List Step
     pub one : length torn_step ≤ 1
     pub calm : spool.journal.ended ≡ false → torn_step ≡ []
+    -- with it this is a history too
+    pub tried : IsHistory (first ++ (spool.entries ++ torn_step))
     -- where the disk told what it held when it was handed in, a crash leaves this history
     pub safe : (bodies : List (List ℕ)) → HasTold base bodies
         → StaysSafe disks spool.journal.disk (since_of base) first spool.entries torn_step

@@ -17,6 +17,9 @@ impl Model for Entries {
     ghost also_owns = { λ _. ftrue };
 }
 
+// They own nothing.
+unsafe impl Send for Entries {}
+
 impl Entries {
     /// No steps.
     pub fn new() -> Entries

@@ -337,6 +337,13 @@ impl<D: Disk + Drop, C: Clock + Drop> Spool<D, C> {
         self.replay.kept.moment
     }
 
+    /// Whether a step answered that the disk failed: every further one is `Ended`.
+    pub fn is_ended(&self) -> bool
+        ensures { result ≡ self.now.journal.ended }
+    {
+        self.journal.is_ended()
+    }
+
     /// The disk.
     pub fn end(self) -> D
         ensures { result ≡ self.journal.disk }

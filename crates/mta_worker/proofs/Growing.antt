@@ -1,5 +1,6 @@
 -- A question of a session makes at most one step.
-use Rattle.std.proofs.Common.{◌≡◌, ◌⊎◌, ℕ, ◌^◌, Option, None, Some, Result, Ok, Err, inl, inr, ap, arith, List, refl}
+use Rattle.std.proofs.Common.{◌≡◌, ◌⊎◌, ℕ, ◌^◌, List, Option, None, Some, Result, Ok, Err, inl, inr, refl}
+use Rattle.std.proofs.Common.{ap, arith}
 use Rattle.std.proofs.lemmas.Bool.{cases_lt}
 use Rattle.mta_edge.specs.Views.{ClockView, DiskView}
 use Rattle.mta_ber.specs.declared.fault.Fault.{Fault}
@@ -32,7 +33,7 @@ is_kind kind =
     ]
 
 module _ {D C : Type 0} (disks : DiskView D) (clocks : ClockView C) where
-  appended : (step : Step) (old new : Shown D C) (fault : Option StepFault) → Appends disks step old new fault
+  pub appended : (step : Step) (old new : Shown D C) (fault : Option StepFault) → Appends disks step old new fault
       → Grows old.entries new.entries
   appended step old new None a = inr (step, a.entries)
   appended step old new (Some f) a = inl a.entries
@@ -40,7 +41,7 @@ module _ {D C : Type 0} (disks : DiskView D) (clocks : ClockView C) where
   same : (old new : Shown D C) → new ≡ old → Grows old.entries new.entries
   same old new e = inl (ap (λ (s : Shown D C). s.entries) e)
 
-  unchanged : (old new : Shown D C) → IsUnchanged old new → Grows old.entries new.entries
+  pub unchanged : (old new : Shown D C) → IsUnchanged old new → Grows old.entries new.entries
   unchanged old new u = inl u.2
 
   binds : (lane : ℕ) (old new : Shown D C) (x : Result ℕ StepFault) → Binds disks clocks lane old x new

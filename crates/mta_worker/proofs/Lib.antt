@@ -1,7 +1,14 @@
 pub mod Asking
+pub mod Calling
+pub mod Closing
+pub mod Going
 pub mod Growing
+pub mod Hearing
 pub mod Lines
 pub mod Looking
 pub mod Proposing
 pub mod Readied
 pub mod Turned
+pub mod Turning
+pub mod Working
+pub mod Workings

@@ -1,6 +1,7 @@
 -- A session that begins, and the step before it.
-use Rattle.std.proofs.Common.{◌≡◌, ℕ, Option, Result, Ok, Err, IfOk, OnErr, List}
+use Rattle.std.proofs.Common.{◌≡◌, ℕ, Option, Result, Ok, Err, IfOk, List}
 use Rattle.std.proofs.Common.{[], ◌∷◌, refl, sym, subst}
+use Rattle.std.specs.Prelude.{IfErr}
 use Rattle.mta_edge.specs.Views.{ClockView, DiskView}
 use Rattle.mta_spool.specs.Shown.{Shown}
 use Rattle.mta_session.specs.State.{State}
@@ -18,7 +19,7 @@ use Rattle.mta_plans.specs.Names.{IsName}
 use Rattle.mta_plans.specs.Plans.{IsPlan}
 use Rattle.mta_worker.specs.declared.telling.Lost.{Lost}
 use Rattle.mta_worker.specs.Readying.{Begins, Well, Lost_looking}
-use Rattle.mta_worker.specs.Turns.{HasLooked, IsLostLooking}
+use Rattle.mta_worker.specs.Turns.{HasLooked, IsLostLooking, WantsNoLook}
 
 go_reply : (x : Reply) → event.Go ≡ event.Reply x → ⊥
 go_reply x e = cc
@@ -57,11 +58,12 @@ module _ {D C : Type 0} (disks : DiskView D) (clocks : ClockView C) where
   pub begins_so : (s : Shown D C) (plan : InitiatorPlan) (units : ℕ) (halt : Option Halt) (old t u : State)
       (first : Action) (halt' : Option Halt) (r : Result Action Lost) → old ≡ new_initiator plan units
       → IsTurn (record { before = old; event = event.Go; action = first; after = t })
-      → IfOk r (λ a. HasLooked disks clocks s t first halt u a halt')
-      → OnErr r (IsLostLooking disks clocks s t first halt u halt') → Begins disks clocks s plan units halt u halt' r
-  begins_so s plan units halt old t u first halt' (Ok b) e turn looked lost =
+      → IfOk r (λ a. HasLooked disks clocks s t first halt u a halt') → IfOk r WantsNoLook
+      → IfErr r (IsLostLooking disks clocks s t first halt u halt') → Begins disks clocks s plan units halt u halt' r
+  begins_so s plan units halt old t u first halt' (Ok b) e turn looked all lost =
       Well first b t
       (subst (λ (z : State). IsTurn (record { before = z; event = event.Go; action = first; after = t })) e turn) looked
-  begins_so s plan units halt old t u first halt' (Err l) e turn looked lost =
+      all
+  begins_so s plan units halt old t u first halt' (Err l) e turn looked all lost =
       Lost_looking first t l
       (subst (λ (z : State). IsTurn (record { before = z; event = event.Go; action = first; after = t })) e turn) lost

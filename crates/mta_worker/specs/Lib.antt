@@ -5,5 +5,8 @@ pub mod Lines
 pub mod Nexts
 pub mod Proposals
 pub mod Readying
+pub mod Served
+pub mod Serving
 pub mod Telling
 pub mod Turns
+pub mod Working

@@ -27,7 +27,7 @@ use Rattle.mta_worker.specs.Answers.{Answered}
 use Rattle.mta_stations.specs.Halting.{halt_of}
 use Rattle.mta_worker.specs.Halting.{fault_of}
 use Rattle.mta_worker.specs.Proposals.{IsNext}
-use Rattle.mta_worker.specs.Turns.{HasLooked, IsLostLooking}
+use Rattle.mta_worker.specs.Turns.{HasLooked, IsLostLooking, WantsNoLook}
 
 -- why a worker ends whose step before a session was refused
 abbrev pub halt_before : StepFault → Halt
@@ -47,16 +47,16 @@ plan_behind (next.Bind lane p) (reply.Bind (Ok generation)) = Some (on_lane p la
 plan_behind _ x = None
 
 module _ {D C : Type 0} (disks : DiskView D) (clocks : ClockView C) where
-  -- the session that begins with this plan: its first call, and the looks behind it, or that it is given up
+  -- the session that begins with this plan: its first call, and all looks behind it, or that it is given up
   pub data Begins (s : Shown D C) (plan : InitiatorPlan) (units : ℕ) (halt : Option Halt) (u : State)
       (halt' : Option Halt) : Result Action Lost → Type 0 where
     Well : (first b : Action) (t : State)
         → IsTurn (record { before = new_initiator plan units; event = event.Go; action = first; after = t })
-        → HasLooked disks clocks s t first halt u b halt' → Begins s plan units halt u halt' (Ok b)
+        → HasLooked disks clocks s t first halt u b halt' → WantsNoLook b → Begins s plan units halt u halt' (Ok b)
     Without_memory : u ≡ new_initiator plan units → halt' ≡ halt → Begins s plan units halt u halt' (Err losts.Memory)
     Lost_looking : (first : Action) (t : State) (lost : Lost)
         → IsTurn (record { before = new_initiator plan units; event = event.Go; action = first; after = t })
-        → IsLostLooking disks clocks s t first halt u halt' → Begins s plan units halt u halt' (Err lost)
+        → IsLostLooking disks clocks s t first halt u halt' lost → Begins s plan units halt u halt' (Err lost)
 
   -- What comes of the step that is next. At most that one is made.
   pub data IsStepped (x : Next) (units : ℕ) (old : Shown D C) (halt : Option Halt) (new : Shown D C)

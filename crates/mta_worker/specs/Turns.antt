@@ -5,6 +5,7 @@ use Rattle.mta_edge.specs.Views.{ClockView, DiskView}
 use Rattle.mta_records.specs.declared.fault.StepFault.TheVariants as StepFaults
 use Rattle.mta_histories.specs.Lanes.{Lane, lane_at}
 use Rattle.mta_spool.specs.Shown.{Shown}
+use Rattle.mta_session.specs.Fits.{Answers}
 use Rattle.mta_session.specs.State.{State}
 use Rattle.mta_session.specs.declared.ask.Ask.{Ask}
 use Rattle.mta_session.specs.declared.ask.Ask.TheVariants as ask
@@ -16,6 +17,8 @@ use Rattle.mta_session.specs.declared.event.Action.{Action}
 use Rattle.mta_session.specs.declared.event.Action.TheVariants as action
 use Rattle.mta_session_laws.specs.Runs.{Turn, IsTurn}
 use Rattle.mta_stations.specs.declared.end.Halt.{Halt}
+use Rattle.mta_worker.specs.declared.telling.Lost.{Lost}
+use Rattle.mta_worker.specs.declared.telling.Lost.TheVariants as losts
 use Rattle.mta_worker.specs.Answers.{Answered, lanes_of}
 use Rattle.mta_worker.specs.Halting.{halt_after}
 
@@ -37,6 +40,15 @@ IsLook (ask.Recovery lane) = Unit {0}
 IsLook (ask.Receiving lane) = Unit {0}
 IsLook (ask.Resumed lane) = Unit {0}
 IsLook _ = ⊥
+
+-- what is wanted is no look: each look stands in the turn of the step before it
+abbrev pub WantsNoLook : Action → Type 0
+WantsNoLook a = (q : Ask) → a ≡ action.Ask q → IsLook q → ⊥
+
+-- why a session is given up at a reply: it is none to its question, or it is one and there is no memory to tell it
+abbrev pub IsLostAt : State → Reply → Lost → Type 0
+IsLostAt t x losts.Lane = Answers t (event.Reply x) → ⊥
+IsLostAt t x losts.Memory = Answers t (event.Reply x)
 
 -- the first cause for which the worker ends stays
 abbrev pub noted : Option Halt → Reply → Option Halt
@@ -80,16 +92,17 @@ module _ {D C : Type 0} (disks : DiskView D) (clocks : ClockView C) where
 
   -- the session is given up at a look, which is not told
   pub record IsLostLooking (s : Shown D C) (t : State) (a : Action) (halt : Option Halt) (u : State)
-      (halt' : Option Halt) : Type 0 where
+      (halt' : Option Halt) (lost : Lost) : Type 0 where
     pub question : Ask
     pub answer : Reply
     pub before : Option Halt
     pub looked : HasLooked s t a halt u (action.Ask question) before
     pub is_look : IsLook question
     pub answered : Answered disks clocks question s answer s
+    pub cause : IsLostAt u answer lost
     pub noted : halt' ≡ noted before answer
 
-  -- A question was replied, the session told, and the looks behind it.
+  -- A question was replied, the session told, and all looks behind it.
   pub record HasAnswered (q : Ask) (old : Shown D C) (t : State) (halt : Option Halt) (new : Shown D C) (u : State)
       (b : Action) (halt' : Option Halt) : Type 0 where
     pub answer : Reply
@@ -98,11 +111,13 @@ module _ {D C : Type 0} (disks : DiskView D) (clocks : ClockView C) where
     pub replied : Replied q t old answer new
     pub told : IsTurn (told_reply t answer wanted heard)
     pub looked : HasLooked new heard wanted (noted halt answer) u b halt'
+    pub all_looked : WantsNoLook b
 
   -- The session is given up: at the reply to the question, which is not told, or at a look behind it.
   pub data IsLost (q : Ask) (old : Shown D C) (t : State) (halt : Option Halt) (new : Shown D C) (u : State)
-      (halt' : Option Halt) : Type 0 where
-    At_reply : (x : Reply) → Replied q t old x new → u ≡ t → halt' ≡ noted halt x → IsLost q old t halt new u halt'
+      (halt' : Option Halt) (lost : Lost) : Type 0 where
+    At_reply : (x : Reply) → Replied q t old x new → IsLostAt t x lost → u ≡ t → halt' ≡ noted halt x
+        → IsLost q old t halt new u halt' lost
     At_look : (x : Reply) (heard : State) (wanted : Action) → Replied q t old x new
         → IsTurn (told_reply t x wanted heard)
-        → IsLostLooking new heard wanted (noted halt x) u halt' → IsLost q old t halt new u halt'
+        → IsLostLooking new heard wanted (noted halt x) u halt' lost → IsLost q old t halt new u halt' lost

@@ -1,6 +1,6 @@
 //! One turn of the lock in a session: one call of the spool, and the looks behind it.
 
-ghost use Rattle.std.specs.Prelude.{◌≡◌, ◌≤◌, ◌<◌, ◌↔◌, IfOk, IfNone, IfSome, IsTrue, OnErr};
+ghost use Rattle.std.specs.Prelude.{◌≡◌, ◌≤◌, ◌<◌, ◌↔◌, IfErr, IfNone, IfOk, IfSome, IsTrue};
 ghost use Rattle.mta_shared.specs.Rule.{Grows};
 ghost use Rattle.mta_spool.specs.Bases.{KeepsOn};
 ghost use Rattle.mta_spool.specs.Stands.{TellsFewer};
@@ -11,7 +11,7 @@ ghost use Rattle.mta_session.specs.Rank.{calls_left};
 ghost use Rattle.mta_session_run.specs.Running.{IsCalled};
 ghost use Rattle.mta_worker.specs.Answers.{Answered};
 ghost use Rattle.mta_worker.specs.Turns.{HasAnswered, HasLooked, IsLook, IsLost, IsLostLooking, noted, Replied};
-ghost use Rattle.mta_worker.specs.Turns.{StartsElsewhere};
+ghost use Rattle.mta_worker.specs.Turns.{StartsElsewhere, WantsNoLook};
 
 use crate::answering::answer;
 use crate::telling::{Lost, halt_after, told};
@@ -92,8 +92,9 @@ pub fn answer_looks<D: Disk + Drop, C: Clock + Drop>(
     requires called { IsCalled session.old first }
     ensures looked { IfOk result
         (λ a. HasLooked D.model C.model spool.now session.old first halt.old session.new a halt.new) }
+    ensures all { IfOk result WantsNoLook }
     ensures called { IfOk result (λ a. IsCalled session.new a) }
-    ensures lost { OnErr result
+    ensures lost { IfErr result
         (IsLostLooking D.model C.model spool.now session.old first halt.old session.new halt.new) }
     ensures left { calls_left session.new ≤ calls_left session.old }
 {
@@ -106,7 +107,10 @@ pub fn answer_looks<D: Disk + Drop, C: Clock + Drop>(
             return Ok(action);
         };
         *halt = noted(*halt, &reply);
-        action = told(session, reply)?;
+        match told(session, reply) {
+            Ok(next) => action = next,
+            Err(lost) => return Err(lost),
+        }
     }
 }
 
@@ -122,7 +126,7 @@ pub fn answer_all<D: Disk + Drop, C: Clock + Drop>(
     ensures answered { IfOk result
         (λ a. HasAnswered D.model C.model ask spool.old session.old halt.old spool.new session.new a halt.new) }
     ensures called { IfOk result (λ a. IsCalled session.new a) }
-    ensures lost { OnErr result
+    ensures lost { IfErr result
         (IsLost D.model C.model ask spool.old session.old halt.old spool.new session.new halt.new) }
     ensures falls { IfOk result (λ a. calls_left session.new < calls_left session.old) }
     ensures keeps { KeepsOn D.model C.model spool.old spool.new }
@@ -131,6 +135,8 @@ pub fn answer_all<D: Disk + Drop, C: Clock + Drop>(
 {
     let reply = reply_to(alloc, spool, session, ask);
     *halt = noted(*halt, &reply);
-    let action = told(session, reply)?;
-    answer_looks(spool, session, action, halt)
+    match told(session, reply) {
+        Ok(action) => answer_looks(spool, session, action, halt),
+        Err(lost) => Err(lost),
+    }
 }

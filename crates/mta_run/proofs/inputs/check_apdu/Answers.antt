@@ -3,4 +3,8 @@ use Rattle.mta_apdu.specs.Apdus.{apdu_value, SpellsApdu}
 use Rattle.mta_run.proofs.inputs.check_apdu.Goals as goal
 
 pub returns-in-Ok : goal.returns-in-Ok
-returns-in-Ok c = (apdu_value c.in-Ok.apdu, subst (λ (b : List ℕ). SpellsApdu b (apdu_value c.in-Ok.apdu)) c.as_slice.ensures c.in-Ok.ensures.found)
+returns-in-Ok c = (
+  apdu_value c.in-Ok.apdu,
+  subst (λ (b : List ℕ). SpellsApdu b (apdu_value c.in-Ok.apdu))
+      c.as_slice.ensures c.in-Ok.ensures.found,
+)

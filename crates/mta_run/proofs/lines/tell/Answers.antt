@@ -1,6 +1,6 @@
 use Rattle.std.proofs.Common.{refl}
 use Rattle.mta_run.specs.Lines.{line_of}
-use Rattle.mta_run.specs.Output.{line, short, failed, short_failed}
+use Rattle.mta_run.specs.Output.{short, short_failed}
 use Rattle.mta_run.proofs.lines.tell.Goals as goal
 
 pub returns-in-Ok-put_all-2-clause-told : goal.returns-in-Ok-put_all-2-clause-told

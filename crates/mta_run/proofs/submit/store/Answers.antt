@@ -9,7 +9,10 @@ returns-in-Ok-clause-stored g c =
     let tells = g.C.Clock.model.tells c.args.spool.now.clock in
     let r = recording g.D.Disk.model g.met.D.Disk.laws tells c.args.tables.now.text c.args.apdu.now c.args.spool.now
     c.set_tables.new.self c.requires.stands c.requires.going c.in-Ok.ensures.records in
-    let made = subst (λ (x : List ℕ). AtMoment g.C.Clock.model c.set_tables.new.self.clock c.set_tables.new.self.current.moment (λ m. Appends g.D.Disk.model (Accept m x) c.set_tables.new.self c.accept.new.self (fault_of c.accept.result))) c.as_slice.ensures c.accept.ensures.appends in
+    let made = subst (λ (x : List ℕ). AtMoment g.C.Clock.model c.set_tables.new.self.clock
+    c.set_tables.new.self.current.moment
+    (λ m. Appends g.D.Disk.model (Accept m x) c.set_tables.new.self c.accept.new.self (fault_of c.accept.result)))
+    c.as_slice.ensures c.accept.ensures.appends in
     stored g.D.Disk.model g.met.D.Disk.laws tells g.C.Clock.model c.args.tables.now.text c.args.apdu.now
     c.args.spool.now c.set_tables.new.self c.accept.new.self r.0 c.accept.result r.1 c.requires.stands
     (λ t tell. subst (λ k. g.C.Clock.model.tells k t) c.set_tables.ensures.clock tell) c.accept.ensures.no_lane made

@@ -15,7 +15,7 @@ pub returns-in-Ok-clause-begins : goal.returns-in-Ok-clause-begins
 returns-in-Ok-clause-begins g c = λ plan units e.
     begins_so g.D.Disk.model g.C.Clock.model c.args.spool.now plan units c.args.halt.now c.args.session.now
     c.tell.new.session c.answer_looks.new.session c.in-Ok.action c.answer_looks.new.halt c.answer_looks.result e
-    c.in-Ok.ensures.told.turn c.answer_looks.ensures.looked c.answer_looks.ensures.lost
+    c.in-Ok.ensures.told.turn c.answer_looks.ensures.looked c.answer_looks.ensures.all c.answer_looks.ensures.lost
 
 pub returns-in-Err-clause-begins : goal.returns-in-Err-clause-begins
 returns-in-Err-clause-begins g c = λ plan units e. Without_memory (c.in-Err.ensures.err ∙ e) refl

@@ -1,4 +1,0 @@
-pub mod Telling
-pub mod Standing
-pub mod Gathering
-pub mod Along

@@ -1,4 +1,0 @@
-pub mod Disks
-pub mod Recorders
-pub mod Tolds
-pub mod Wholes

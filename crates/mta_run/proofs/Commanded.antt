@@ -1,0 +1,143 @@
+-- What a command leaves, with what is known of the stations.
+use Rattle.std.proofs.Common.{◌≡◌, ℕ, true, false, Bool, List, [], Option, None, Some, Result, Err, refl, sym, ap}
+use Rattle.std.proofs.Common.{subst}
+use Rattle.std.proofs.Common.{◌∙◌}
+use Rattle.std.specs.Prelude.{if◌then◌else◌}
+use Rattle.mta_edge.specs.Views.{ClockView, DiskLaws, DiskView, SourceView}
+use Rattle.mta_links.specs.Links.{LinkView, StationView}
+use Rattle.mta_links.specs.declared.role.Role.{Role}
+use Rattle.mta_apdu.specs.Apdus.{longest_apdu}
+use Rattle.mta_stations.specs.Roles.{roles_of}
+use Rattle.mta_stations.specs.Stations.{roles_in}
+use Rattle.mta_stations.proofs.RoleLaws.{roles_same}
+use Rattle.mta_words.specs.declared.station.StationWord.{StationWord}
+use Rattle.mta_words.specs.declared.words.Words.{Words}
+use Rattle.mta_words.specs.declared.words.Words.TheVariants as Say
+use Rattle.mta_run.specs.declared.ended.Ended.{Ended}
+use Rattle.mta_run.specs.declared.stop.Stop.{Stop}
+use Rattle.mta_run.specs.declared.stop.Stop.TheVariants as Stops
+use Rattle.mta_run.specs.Causes.{Cause, not_built}
+use Rattle.mta_run.specs.Command.{HasEnded, NoneWorked}
+use Rattle.mta_run.specs.DiskLeft.{uncalled}
+use Rattle.mta_run.specs.Handed.{handed}
+use Rattle.mta_run.specs.Inputs.{longest_tables}
+use Rattle.mta_run.specs.Output.{Output}
+use Rattle.mta_run.specs.Runs.{HasCommanded, sessions_in}
+use Rattle.mta_run.specs.Served.{HasServed, StationsLeft, Untouched}
+use Rattle.mta_run.specs.Words.{are_stations_for, Serves, words_with}
+use Rattle.mta_run.proofs.HandedOn.{ended_early, undrawn}
+use Rattle.mta_run.proofs.ServedAll.{ended_with}
+
+-- the roles are those that the words name
+named_so : (roles : List Role) (words : Words) (sessions : ℕ) (named : List StationWord)
+    → words ≡ Say.Serve sessions named → are_stations_for words roles ≡ true → roles ≡ roles_of named
+named_so roles words sessions named e theirs =
+    (roles_same named roles).0 (subst (λ (w : Words). are_stations_for w roles ≡ true) e theirs)
+
+-- the words, where the stations are theirs or not
+pub with_theirs : (roles : List Role) (o : Option Words) (words : Words) → o ≡ Some words
+    → are_stations_for words roles ≡ true → words_with roles o ≡ Some words
+with_theirs roles o words e theirs =
+    ap (words_with roles) e ∙ ap (λ (b : Bool). if b then Some words else None) theirs
+
+pub with_others : (roles : List Role) (o : Option Words) (words : Words) → o ≡ Some words
+    → are_stations_for words roles ≡ false → words_with roles o ≡ None
+with_others roles o words e others =
+    ap (words_with roles) e ∙ ap (λ (b : Bool). if b then Some words else None) others
+
+module _ {D C I L S : Type 0} (disks : DiskView D) (clocks : ClockView C) (sources : SourceView I)
+    (links : LinkView L) (stations : StationView S) where
+  -- a command that has none
+  pub commanded_alone : (words other : Words) → words ≡ other → (Serves (Some other) → ⊥)
+      → (conf conf_after input input_after : I) (disk : D) (clock : C) (before after : List S) (out : Output)
+      (own whole : Ended D) → whole ≡ own → after ≡ before
+      → HasEnded (handed disks clocks sources (Some other) conf conf_after input input_after disk own.disk clock)
+      NoneWorked out own.outcome
+      → HasCommanded disks clocks sources links stations (Some words) conf conf_after input input_after disk whole.disk
+      clock before after out whole.outcome
+  commanded_alone words other is alone conf conf_after input input_after disk clock before after out own whole same kept
+      x =
+      subst (λ (w : Words). HasCommanded disks clocks sources links stations (Some w) conf conf_after input input_after
+      disk whole.disk clock before after out whole.outcome) (sym is)
+      (subst (λ (e : Ended D). HasCommanded disks clocks sources links stations (Some other) conf conf_after input
+      input_after disk e.disk clock before after out e.outcome) (sym same)
+      (ended_with (handed disks clocks sources (Some other) conf conf_after input input_after disk own.disk clock)
+      NoneWorked
+      (StationsLeft (handed disks clocks sources (Some other) conf conf_after input input_after disk own.disk clock)
+      links
+      stations (sessions_in (Some other)) before after) out own.outcome
+      (λ o e a t w. Untouched kept w (λ s opens. absurd (alone s))) x))
+
+  -- `serve`
+  pub commanded_serving : (words : Words) (sessions : ℕ) (named : List StationWord) → words ≡ Say.Serve sessions named
+      → (roles : List Role) → are_stations_for words roles ≡ true → (conf conf_after input : I) (disk disk_after : D)
+      (clock : C) (before after : List S) (out : Output) (result : Result (Unit {0}) Stop)
+      → HasServed disks clocks sources links stations sessions roles conf conf_after disk disk_after clock before after
+      out result
+      → HasCommanded disks clocks sources links stations (Some words) conf conf_after input input disk disk_after clock
+      before after out result
+  commanded_serving words sessions named is roles theirs conf conf_after input disk disk_after clock before after out
+      result x =
+      subst (λ (w : Words). HasCommanded disks clocks sources links stations (Some w) conf conf_after input input disk
+      disk_after clock before after out result) (sym is) (x input named (named_so roles words sessions named is theirs))
+
+  -- a command that reads and opens nothing
+  pub commanded_early : (laws : DiskLaws disks) (words : Option Words) (conf input : I) (disk : D) (clock : C)
+      (before after : List S) (out : Output) (stop : Stop) → after ≡ before → out.after ≡ out.before
+      → Cause (handed disks clocks sources words conf conf input input disk disk clock) [] [] uncalled stop
+      → HasCommanded disks clocks sources links stations words conf conf input input disk disk clock before after out
+      (Err stop)
+  commanded_early laws words conf input disk clock before after out stop kept silent cause =
+      ended_early disks laws clocks sources words conf conf input input disk clock
+      (StationsLeft (handed disks clocks sources words conf conf input input disk disk clock) links stations
+      (sessions_in words) before after) out stop
+      (record {
+        conf_untouched = λ none. refl;
+        input_untouched = λ none. refl;
+        conf = undrawn sources longest_tables conf;
+        input = undrawn sources longest_apdu input;
+      }) silent cause (Untouched kept refl (λ s opens. absurd cc))
+
+-- the stations were lent, and are others
+pub with_others_as : {S : Type 0} (view : StationView S) (all lent : List S) (o : Option Words) (words : Words)
+    → lent ≡ all → o ≡ Some words → are_stations_for words (roles_in view lent) ≡ false
+    → words_with (roles_in view all) o ≡ None
+with_others_as view all lent o words same e others =
+    with_others (roles_in view all) o words e
+    (subst (λ (ss : List _). are_stations_for words (roles_in view ss) ≡ false) same others)
+
+-- the same as what `early` leaves
+pub early_ended : {D C I L S : Type 0} (disks : DiskView D) (clocks : ClockView C) (sources : SourceView I)
+    (links : LinkView L) (stations : StationView S) (laws : DiskLaws disks) (words : Option Words) (conf input : I)
+    (disk : D) (clock : C) (before after : List S) (out : Output) (stop : Stop) (disk_after : D)
+    (result : Result (Unit {0}) Stop) → disk_after ≡ disk → result ≡ Err stop → after ≡ before
+    → out.after ≡ out.before
+    → Cause (handed disks clocks sources words conf conf input input disk disk clock) [] [] uncalled stop
+    → HasCommanded disks clocks sources links stations words conf conf input input disk disk_after clock before after
+    out
+    result
+early_ended disks clocks sources links stations laws words conf input disk clock before after out stop disk_after result
+    same is kept silent cause =
+    subst (λ (r : Result (Unit {0}) Stop). HasCommanded disks clocks sources links stations words conf conf input input
+    disk disk_after clock before after out r) (sym is)
+    (subst (λ (d : _). HasCommanded disks clocks sources links stations words conf conf input input disk d clock before
+    after out (Err stop)) (sym same)
+    (commanded_early disks clocks sources links stations laws words conf input disk clock before after out stop kept
+    silent cause))
+
+-- `drill` is not built yet
+pub drill_ended : {D C I : Type 0} (disks : DiskView D) (laws : DiskLaws disks) (clocks : ClockView C)
+    (sources : SourceView I) (messages : ℕ) (conf input : I) (disk : D) (clock : C) (out : Output)
+    → out.after ≡ out.before
+    → HasEnded (handed disks clocks sources (Some (Say.Drill messages)) conf conf input input disk disk clock)
+    NoneWorked
+    out (Err Stops.NotBuilt)
+drill_ended disks laws clocks sources messages conf input disk clock out silent =
+    ended_early disks laws clocks sources (Some (Say.Drill messages)) conf conf input input disk clock NoneWorked out
+    Stops.NotBuilt
+    (record {
+      conf_untouched = λ none. refl;
+      input_untouched = λ none. refl;
+      conf = undrawn sources longest_tables conf;
+      input = undrawn sources longest_apdu input;
+    }) silent (not_built tt) refl

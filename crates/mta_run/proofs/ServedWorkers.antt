@@ -1,0 +1,241 @@
+-- What `serve` leaves behind its workers.
+use Rattle.std.proofs.Common.{◌≡◌, ℕ, true, false, List, [], ◌++◌, map, Some, Result, Ok, Err, refl}
+use Rattle.std.proofs.Common.{sym, ap, subst, ◌∙◌, append_assoc, arith, inl, inr}
+use Rattle.std.proofs.lemmas.List.{append-nil}
+use mathlib.Core.List.{IsPrefix}
+use Rattle.mta_edge.specs.Causes.{Rose}
+use Rattle.mta_edge.specs.Views.{ClockLaws, DiskLaws}
+use Rattle.mta_links.specs.Links.{LinkView, StationView}
+use Rattle.mta_records.specs.Body.{body_of}
+use Rattle.mta_records.specs.declared.step.Step.{Step}
+use Rattle.mta_records.specs.declared.fault.StepFault.{StepFault}
+use Rattle.mta_records.specs.declared.fault.StepFault.TheVariants as StepFaults
+use Rattle.mta_histories.specs.Lanes.{State}
+use Rattle.mta_histories.specs.Due.{IsQuiet}
+use Rattle.mta_histories.specs.History.{after, IsHistory}
+use Rattle.mta_images.specs.Image.{size_of, StandsFor}
+use Rattle.mta_session.specs.declared.limits.Limits.{Limits}
+use Rattle.mta_spool.specs.Bases.{base_of, Keeps, where_listed}
+use Rattle.mta_spool.specs.Opening.{HasOpened}
+use Rattle.mta_spool.specs.Shown.{Shown}
+use Rattle.mta_spool.specs.Stands.{step_moment}
+use Rattle.mta_stations.specs.declared.end.WorkerEnd.{WorkerEnd}
+use Rattle.mta_workers.specs.Wholes.{AreWorkers}
+use Rattle.mta_run.specs.declared.stop.Stop.{Stop}
+use Rattle.mta_run.specs.Causes.{Cause, disk as cause_disk, full_serving, memory as cause_memory, of_serve}
+use Rattle.mta_run.specs.Causes.{of_worker, PeersNamed, spent_serving}
+use Rattle.mta_run.specs.Command.{HasEnded, IsSettled, SourcesLeft}
+use Rattle.mta_run.specs.DiskLeft.{DiskLeft, opened}
+use Rattle.mta_run.specs.Handed.{DiskFailed, Handed, InputsRead}
+use Rattle.mta_run.specs.Output.{Output}
+use Rattle.mta_run.specs.Served.{AreDueBehind, AreLimits, AreOfRun, StationsLeft, Worked, IsBaseOf}
+use Rattle.mta_run.specs.Serving.{Decided, Had_ended, HasFinished, IsFinishStop, IsOutcome, IsOwnFull, IsOwnRefusal}
+use Rattle.mta_run.specs.Serving.{IsOwnSpent, Refused, Settled, SettlesBehind, Well}
+use Rattle.mta_run.specs.Submit.{AreOwn, HasSettled, stop_of_step}
+use Rattle.mta_run.specs.Words.{Serves}
+use Rattle.mta_run.proofs.Added.{own_front, own_more as own_known}
+use Rattle.mta_run.proofs.Beginning.{front_in_turn, own_more, settled_why}
+use Rattle.mta_run.proofs.DiskServed.{disk_served, first_steps, risen}
+use Rattle.mta_run.proofs.DiskStands.{same_steps}
+use Rattle.mta_run.proofs.HandedOn.{printed_map}
+use Rattle.mta_run.proofs.Same.{err_same}
+use Rattle.mta_run.proofs.ServedSpool.{tells_back}
+use Rattle.mta_run.proofs.Statuses.{serves_adds, serves_opens}
+
+-- what the last turns added
+record Behind {D C I : Type 0} (h : Handed D C I) (joined final : Shown D C) : Type 0 where
+  back : List Step
+  entries : final.entries ≡ joined.entries ++ back
+  due : AreDueBehind h joined.entries back
+
+module _ {D C I : Type 0} (h : Handed D C I) (serves : Serves h.words) (laws : DiskLaws h.disks)
+    (clock_laws : ClockLaws h.clocks) (sources : SourcesLeft h) (inputs : InputsRead h) (peers : PeersNamed h)
+    (spool : Shown D C) (o : HasOpened h.disks h.disk.before spool) (handed_clock : spool.opened.clock ≡ h.clock)
+    (joined final : Shown D C) (kj : Keeps h.disks h.clocks joined (base_of h.disks h.clocks spool))
+    (k : Keeps h.disks h.clocks final (base_of h.disks h.clocks spool)) (after_is : h.disk.after ≡ final.journal.disk)
+    (ends : List WorkerEnd) where
+  abbrev Tells : ℕ → Type 0
+  Tells = h.clocks.tells h.clock
+
+  from_joined : (m : ℕ) → h.clocks.tells joined.clock m → Tells m
+  from_joined m tell =
+      subst (λ (c : C). h.clocks.tells c m) handed_clock (tells_back h.disks h.clocks clock_laws spool joined kj m tell)
+
+  abbrev Finishes : Result (Unit {0}) StepFault → Type 0
+  Finishes settled = SettlesBehind h.disks (h.clocks.tells joined.clock) joined final settled
+
+  -- the same first history in all of them
+  firsts : (f : List ℕ) (steps : List Step) → h.disks.content h.disk.before ≡ Some f → StandsFor f steps
+      → k.first ≡ steps
+  firsts f steps was s = first_steps h.disks laws h.clocks h.disk.before spool o final k f steps was s
+
+  firsts_joined : (f : List ℕ) (steps : List Step) → h.disks.content h.disk.before ≡ Some f → StandsFor f steps
+      → kj.first ≡ steps
+  firsts_joined f steps was s = first_steps h.disks laws h.clocks h.disk.before spool o joined kj f steps was s
+
+  -- ---- what the last turns made
+
+  behind : (settled : Result (Unit {0}) StepFault) → Finishes settled → Behind h joined final
+  behind _ (Had_ended ended same) = record {
+    back = [];
+    entries = ap (λ (s : Shown D C). s.entries) same ∙ sym (append-nil joined.entries);
+    due = (tt, λ f steps was s. tt);
+  }
+  behind _ (Settled result going x) = record {
+    back = x.added;
+    entries = (x.adds [] []).entries;
+    due = (
+      front_in_turn 2 x.added x.torn_step x.in_turn,
+      λ f steps was s.
+          subst (λ (y : List Step). AreOwn Tells [] [] (after (y ++ joined.entries)) x.added)
+          (firsts_joined f steps was s)
+          (own_front Tells [] [] (after (kj.first ++ joined.entries)) x.added x.torn_step
+          (own_known (h.clocks.tells joined.clock) Tells [] [] (after (kj.first ++ joined.entries))
+          (x.added ++ x.torn_step) from_joined ((x.adds [] []).own (kj.first ++ joined.entries) (kj.stands going)))),
+    );
+  }
+
+  quiet : (settled : Result (Unit {0}) StepFault) → Finishes settled → settled ≡ Ok tt
+      → (told : ℕ) × Tells told × IsQuiet final.current (step_moment told final.current.moment)
+  quiet _ (Had_ended ended same) ok = absurd cc
+  quiet _ (Settled result going x) ok = let q = x.quiet ok in (q.0, from_joined q.0 q.1, q.2)
+
+  going_on : (settled : Result (Unit {0}) StepFault) → Finishes settled → settled ≡ Ok tt → final.journal.ended ≡ false
+  going_on _ (Had_ended ended same) ok = absurd cc
+  going_on _ (Settled result going x) ok = x.going (λ e. apart (sym ok ∙ e))
+    where
+      apart : ◌≡◌ {A = Result (Unit {0}) StepFault} (Ok tt) (Err StepFaults.Disk) → ⊥
+      apart e = cc
+
+  -- ---- why it stopped
+
+  abbrev Why : Stop → Type 0
+  Why = Cause h ends final.entries opened
+
+  failed_so : Rose (h.disks.faults h.disk.before) (h.disks.faults final.journal.disk) → DiskFailed h
+  failed_so r =
+      subst (λ (d : D). Rose (h.disks.faults h.disk.before) (h.disks.faults d)) (sym after_is) r
+
+  own_why : (fault : StepFault) → (x : HasSettled h.disks (h.clocks.tells joined.clock) joined final (Err fault))
+      → Why (stop_of_step fault)
+  own_why fault x = by_fault fault x
+      (λ c. settled_why h.disks (h.clocks.tells joined.clock) c joined final fault (Err fault)
+      refl x)
+    where
+      Wherefore : StepFault → Type 0
+      Wherefore f = (c : List ℕ) → IsOwnRefusal (h.clocks.tells joined.clock) c final.current final.journal.size
+          (Rose (h.disks.faults joined.journal.disk) (h.disks.faults final.journal.disk)) f
+
+      known : (f : StepFault) → HasSettled h.disks (h.clocks.tells joined.clock) joined final (Err f)
+          → (f ≡ StepFaults.Disk → ⊥) → final.journal.ended ≡ false
+      known f y other = y.going (λ e. other (err_same f StepFaults.Disk e))
+
+      by_fault : (f : StepFault) → HasSettled h.disks (h.clocks.tells joined.clock) joined final (Err f) → Wherefore f
+          → Why (stop_of_step f)
+      by_fault (StepFaults.Full size need) y r =
+          let there = k.stands (known (StepFaults.Full size need) y (λ e. absurd cc)) in
+          full_serving size need serves inputs (λ c told f steps was s.
+          subst (λ (z : List Step). IsOwnFull Tells c (after (z ++ final.entries)) (size_of (z ++ final.entries)) size
+          need)
+          (firsts f steps was s)
+          (subst (λ (n : ℕ). IsOwnFull Tells c (after (k.first ++ final.entries)) n size need) there.holds.size
+          (subst (λ (z : State). IsOwnFull Tells c z final.journal.size size need) k.state
+          (own_more (h.clocks.tells joined.clock) Tells c final.current final.journal.size (⊥) (⊥)
+          (StepFaults.Full size need) from_joined (λ z. z) (r c)))))
+      by_fault (StepFaults.Spent last) y r =
+          spent_serving last serves inputs (λ c told f steps was s.
+          subst (λ (z : List Step). IsOwnSpent Tells c (after (z ++ final.entries)) last) (firsts f steps was s)
+          (subst (λ (z : State). IsOwnSpent Tells c z last) k.state
+          (own_more (h.clocks.tells joined.clock) Tells c final.current final.journal.size (⊥) (⊥)
+          (StepFaults.Spent last) from_joined (λ z. z) (r c))))
+      by_fault StepFaults.Disk y r =
+          let rose = r [] in
+          let low = kj.count in
+          cause_disk (serves_adds h.words serves) inputs (failed_so (omega (
+            arith,
+            rose,
+            low,
+            ap (λ (d : D). h.disks.faults d) o.disk,
+          )))
+      by_fault StepFaults.Ended y r = absurd (r [])
+      by_fault StepFaults.Memory y r = cause_memory opened
+      by_fault (StepFaults.Fenced generation) y r = absurd (r [])
+      by_fault (StepFaults.NoLane lane) y r = absurd (r [])
+      by_fault (StepFaults.BusyLanes count) y r = absurd (r [])
+      by_fault StepFaults.Unexpected y r = absurd (r [])
+
+  refused_why : (settled : Result (Unit {0}) StepFault) (fault : StepFault) → Finishes settled → settled ≡ Err fault
+      → Why (stop_of_step fault)
+  refused_why _ fault (Had_ended ended same) e =
+      let is : final.journal.ended ≡ true = ap (λ (s : Shown D C). s.journal.ended) same ∙ ended in
+      subst (λ (f : StepFault). Why (stop_of_step f)) (err_same StepFaults.Ended fault e)
+      (cause_disk (serves_adds h.words serves) inputs
+      (failed_so (risen h.disks laws h.clocks h.disk.before spool o final k is)))
+  refused_why settled fault (Settled _ going x) e =
+      own_why fault (subst (HasSettled h.disks (h.clocks.tells joined.clock) joined final) e x)
+
+  outcome_why : (settled : Result (Unit {0}) StepFault) → Finishes settled → (stop : Stop)
+      → (result : Result (Unit {0}) Stop) → result ≡ Err stop → IsOutcome settled ends result → Why stop
+  outcome_why settled x stop _ e (Well ok undecided) = absurd cc
+  outcome_why settled x stop _ e (Refused fault is) =
+      subst Why (err_same (stop_of_step fault) stop e) (refused_why settled fault x is)
+  outcome_why settled x stop _ e (Decided halt ok decides) =
+      subst Why (err_same _ stop e) (of_worker halt serves inputs decides)
+
+  finish_why : (settled : Result (Unit {0}) StepFault) → Finishes settled → (stop : Stop)
+      → IsFinishStop settled ends stop → Why stop
+  finish_why settled x stop (inl short) = subst Why (sym short) (cause_memory opened)
+  finish_why settled x stop (inr o) = outcome_why settled x stop (Err stop) refl o
+
+  -- ---- all of it
+
+  pub served_ended : {L S : Type 0} (links : LinkView L) (stations : StationView S) (sessions : ℕ)
+      (limits : Limits) → AreLimits sessions limits → (before after : List S) (out : Output)
+      (result : Result (Unit {0}) Stop) (front : List Step) → AreOfRun h front
+      → (grown : IsPrefix front joined.entries)
+      → AreWorkers h.disks h.clocks links stations limits before after ends front (base_of h.disks h.clocks spool)
+      joined.entries
+      → HasFinished h.disks (h.clocks.tells joined.clock) ends out joined final result
+      → HasEnded h (StationsLeft h links stations sessions before after) out result
+  served_ended links stations sessions limits are before after out result front own grown workers x = record {
+    opening = opened;
+    ends = ends;
+    added = final.entries;
+    torn_step = k.torn_step;
+    sources = sources;
+    disk = subst (λ (d : D). DiskLeft h.disks h.disk.before d opened final.entries k.torn_step) (sym after_is)
+        (disk_served h.disks laws h.clocks h.disk.before spool o final k);
+    uncalled_unless = λ none. absurd (none (serves_opens h.words serves));
+    safe_before = λ none. absurd (none serves);
+    printed = printed_map out result (λ stop e why. finish_why x.settled x.behind stop why)
+        (λ t is. of_serve t serves inputs peers is) x.printed;
+    history = λ f steps was s.
+        subst (λ (y : List Step). IsHistory (y ++ (final.entries ++ k.torn_step))) (firsts f steps was s) k.tried;
+    own = λ none. absurd (none serves);
+    in_turn = λ none. absurd (none serves);
+    only_adding = λ none. absurd (none (serves_adds h.words serves));
+    calm = λ ok. k.calm (going_on x.settled x.behind (x.well ok).0);
+    settled = λ e ok f steps was s.
+        subst (λ (y : List Step). IsSettled Tells (y ++ final.entries)) (firsts f steps was s)
+        (subst (λ (z : State). (told : ℕ) × Tells told × IsQuiet z (step_moment told z.moment)) k.state
+        (quiet x.settled x.behind (x.well ok).0));
+    recorded = λ e. absurd (subst Serves e serves);
+    undecided = λ ok. (x.well ok).1;
+    stations_are = Worked limits front grown.0 b.back (base_of h.disks h.clocks spool) are refl whole found own
+        (subst (AreWorkers h.disks h.clocks links stations limits before after ends front
+        (base_of h.disks h.clocks spool)) (sym grown.1) workers)
+        (subst (λ (y : List Step). AreDueBehind h y b.back) (sym grown.1) b.due);
+  } where
+    b : Behind h joined final
+    b = behind x.settled x.behind
+
+    whole : final.entries ≡ front ++ (grown.0 ++ b.back)
+    whole = b.entries ∙ (ap (λ (y : List Step). y ++ b.back) (sym grown.1) ∙ append_assoc front grown.0 b.back)
+
+    found : IsBaseOf h (base_of h.disks h.clocks spool)
+    found = record {
+      found = λ f steps was s.
+          o.bodies ∙ ap (map body_of) (same_steps h.disks laws h.disk.before spool o f steps was s);
+      count = ap (λ (d : D). h.disks.faults d) o.disk;
+      listed = ap (λ (c : C). where_listed (h.clocks.moments c)) handed_clock;
+    }

@@ -1,0 +1,124 @@
+-- What `serve` leaves of the stations and of the spool.
+use Rattle.std.specs.Prelude.{◌≡◌, ◌⊎◌, ℕ, List, [], ◌++◌, All, map, Some, Result, Ok, Err}
+use mathlib.Core.List.{IsPrefix}
+use Rattle.mta_edge.specs.Views.{ClockView, DiskView, SourceView}
+use Rattle.mta_links.specs.Links.{LinkView, StationView}
+use Rattle.mta_links.specs.declared.role.Role.{Role}
+use Rattle.mta_records.specs.Body.{body_of}
+use Rattle.mta_records.specs.declared.step.Step.{Step}
+use Rattle.mta_records.specs.declared.fault.StepFault.{StepFault}
+use Rattle.mta_tables.specs.Tables.{TablesValue}
+use Rattle.mta_histories.specs.History.{after}
+use Rattle.mta_session.specs.declared.limits.Limits.{Limits}
+use Rattle.mta_shared.specs.declared.history.Base.{Base}
+use Rattle.mta_spool.specs.Bases.{base_of, count_of, found_of, Keeps, where_listed}
+use Rattle.mta_spool.specs.Shown.{Shown}
+use Rattle.mta_stations.specs.declared.end.WorkerEnd.{WorkerEnd}
+use Rattle.mta_stations.specs.Peers.{IsNamed, IsUnnamed}
+use Rattle.mta_stations.specs.Roles.{roles_of}
+use Rattle.mta_words.specs.declared.station.StationWord.{StationWord}
+use Rattle.mta_words.specs.declared.words.Words.TheVariants as Say
+use Rattle.mta_workers.specs.Wholes.{AreWorkers}
+use Rattle.mta_run.specs.declared.stop.Stop.{Stop}
+use Rattle.mta_run.specs.declared.stop.Stop.TheVariants as Stops
+use Rattle.mta_run.specs.DiskLeft.{Opening, opened}
+use Rattle.mta_run.specs.Command.{HasEnded}
+use Rattle.mta_run.specs.Handed.{ForOpened, ForTables, Handed, handed}
+use Rattle.mta_run.specs.Inputs.{HasTables}
+use Rattle.mta_run.specs.Output.{Output}
+use Rattle.mta_run.specs.Serving.{HasBegun, HasFinished, RecordsFirst}
+use Rattle.mta_run.specs.Submit.{AreInTurn, AreOwn, stop_of_step}
+use Rattle.mta_run.specs.Words.{Serves}
+
+-- the most units of a session
+abbrev pub most_units : ℕ
+most_units = 1048576
+
+-- a worker may do so much
+abbrev pub AreLimits : (sessions : ℕ) → Limits → Type 0
+AreLimits sessions limits = (limits.sessions ≡ sessions) × (limits.units ≡ most_units)
+
+-- ---- the tables
+
+-- The tables were not read; or a station calls a peer whom they do not name, which is told unless there is no memory
+-- for its name; or they name each that is called.
+pub data HasTablesFor {I : Type 0} (sources : SourceView I) (old new : I) (roles : List Role)
+    : Result TablesValue Stop → Type 0 where
+  Not_read : (stop : Stop) → HasTables sources old new (Err stop) → HasTablesFor sources old new roles (Err stop)
+  Not_named : (tables : TablesValue) (name : List ℕ) → HasTables sources old new (Ok tables)
+      → IsUnnamed tables roles name → (stop : Stop) → (stop ≡ Stops.NoPeer name) ⊎ (stop ≡ Stops.Memory)
+      → HasTablesFor sources old new roles (Err stop)
+  All_named : (tables : TablesValue) → HasTables sources old new (Ok tables) → All (IsNamed tables) roles
+      → HasTablesFor sources old new roles (Ok tables)
+
+-- ---- the stations
+
+-- the steps before the workers are of the tables of this call, and of what was due; their moments are the clock's
+abbrev pub AreOfRun : {D C I : Type 0} → Handed D C I → List Step → Type 0
+AreOfRun h steps =
+    ForTables h (λ c. RecordsFirst c steps
+    × ForOpened h (λ first. AreOwn (h.clocks.tells h.clock) c [] (after first) steps))
+
+-- the base that the workers share is of what the run was handed: the bodies that opening found, how often the disk had
+-- failed, and the moments that the clock lists, where it does
+pub record IsBaseOf {D C I : Type 0} (h : Handed D C I) (base : Base) : Type 0 where
+  pub found : ForOpened h (λ first. found_of base ≡ map body_of first)
+  pub count : count_of base ≡ h.disks.faults h.disk.before
+  pub listed : base.lists ≡ where_listed (h.clocks.moments h.clock)
+
+-- the steps behind them are of what had come due
+abbrev pub AreDueBehind : {D C I : Type 0} → Handed D C I → (before steps : List Step) → Type 0
+AreDueBehind h before steps =
+    AreInTurn 2 steps
+    × ForOpened h (λ first. AreOwn (h.clocks.tells h.clock) [] [] (after (first ++ before)) steps)
+
+-- What is known of the stations. No worker worked, and they are as they were; or each had a worker of its own, over one
+-- history under one lock, which goes on from what the run itself had added before them.
+pub data StationsLeft {D C I L S : Type 0} (h : Handed D C I) (links : LinkView L) (stations : StationView S)
+    (sessions : ℕ) (before after : List S) (opening : Opening) (ends : List WorkerEnd)
+    (added torn_step : List Step) : Type 0 where
+  Untouched : after ≡ before → ends ≡ []
+      → (Serves h.words → opening ≡ opened → AreOfRun h (added ++ torn_step))
+      → StationsLeft h links stations sessions before after opening ends added torn_step
+  Worked : (limits : Limits) (front workers back : List Step) (base : Base) → AreLimits sessions limits
+      → opening ≡ opened → added ≡ front ++ (workers ++ back)
+      → IsBaseOf h base → AreOfRun h front
+      → AreWorkers h.disks h.clocks links stations limits before after ends front base (front ++ workers)
+      → AreDueBehind h (front ++ workers) back
+      → StationsLeft h links stations sessions before after opening ends added torn_step
+
+-- ---- an open spool
+
+-- A step before the workers was refused; or there was no memory for them; or they worked, and the run was finished.
+pub data ServesSpool {D C L S : Type 0} (disks : DiskView D) (clocks : ClockView C) (links : LinkView L)
+    (stations : StationView S) (sessions : ℕ) (conf : List ℕ) (out : Output) (spool : Shown D C)
+    (before after : List S) (disk : D) : Result (Unit {0}) Stop → Type 0 where
+  Not_begun : (mid : Shown D C) (fault : StepFault)
+      → HasBegun disks (clocks.tells spool.clock) conf spool mid (Err fault) → disk ≡ mid.journal.disk
+      → after ≡ before → out.after ≡ out.before
+      → ServesSpool disks clocks links stations sessions conf out spool before after disk (Err (stop_of_step fault))
+  No_workers : (mid : Shown D C) → HasBegun disks (clocks.tells spool.clock) conf spool mid (Ok tt)
+      → disk ≡ mid.journal.disk → after ≡ before → out.after ≡ out.before
+      → ServesSpool disks clocks links stations sessions conf out spool before after disk (Err Stops.Memory)
+  Served : (limits : Limits) (mid joined final : Shown D C) (ends : List WorkerEnd) (result : Result (Unit {0}) Stop)
+      → AreLimits sessions limits
+      → HasBegun disks (clocks.tells spool.clock) conf spool mid (Ok tt)
+      → IsPrefix mid.entries joined.entries → Keeps disks clocks joined (base_of disks clocks spool)
+      → AreWorkers disks clocks links stations limits before after ends mid.entries (base_of disks clocks spool)
+      joined.entries
+      → HasFinished disks (clocks.tells joined.clock) ends out joined final result
+      → Keeps disks clocks final (base_of disks clocks spool) → disk ≡ final.journal.disk
+      → ServesSpool disks clocks links stations sessions conf out spool before after disk result
+
+-- ---- all of it
+
+-- what `serve` leaves where its words name the stations that were handed in
+abbrev pub HasServed : {D C I L S : Type 0} → DiskView D → ClockView C → SourceView I → LinkView L → StationView S
+    → (sessions : ℕ) → (roles : List Role) → (conf conf_after : I) → (disk disk_after : D) → (clock : C)
+    → (before after : List S) → Output → Result (Unit {0}) Stop → Type 0
+HasServed {I = I} disks clocks sources links stations sessions roles conf conf_after disk disk_after clock before after
+    out result =
+    (input : I) (named : List StationWord) → roles ≡ roles_of named →
+    let h = handed disks clocks sources (Some (Say.Serve sessions named)) conf conf_after input input disk disk_after
+    clock in
+    HasEnded h (StationsLeft h links stations sessions before after) out result

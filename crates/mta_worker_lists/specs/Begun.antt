@@ -1,0 +1,100 @@
+-- Where a session begins in the history, and where it has its lane.
+use Rattle.std.specs.Prelude.{◌≡◌, ◌⊎◌, ℕ, ◌+◌, ◌-◌, Bool, false, None, List, [], ◌∷◌, ◌++◌, length}
+use Rattle.mta_links.specs.Links.{LinkView}
+use Rattle.mta_records.specs.declared.step.Step.{Step}
+use Rattle.mta_units.specs.Feed.{Feed, no_feed}
+use Rattle.mta_ends.specs.Lanes.{Seen}
+use Rattle.mta_session.specs.declared.ask.Ask.{Ask}
+use Rattle.mta_session.specs.declared.ask.Reply.{Reply}
+use Rattle.mta_session.specs.declared.event.Action.{Action}
+use Rattle.mta_session.specs.declared.event.Action.TheVariants as action
+use Rattle.mta_session.specs.declared.event.Event.TheVariants as event
+use Rattle.mta_session.specs.declared.event.InitiatorPlan.{InitiatorPlan}
+use Rattle.mta_session.specs.declared.event.SessionEnd.{SessionEnd}
+use Rattle.mta_session.specs.Fits.{Answers}
+use Rattle.mta_session.specs.Session.{new_initiator, new_responder}
+use Rattle.mta_session.specs.State.{State}
+use Rattle.mta_session_lists.specs.Calls.{Call, step_told}
+use Rattle.mta_session_lists.specs.Lists.{HasAt, step_by, step_for}
+use Rattle.mta_session_lists.specs.Standing.{ComesTrue}
+use Rattle.mta_shared.specs.Held.{Held}
+use Rattle.mta_worker.specs.Serving.{At}
+use Rattle.mta_worker_lists.specs.Histories.{place, whole}
+use Rattle.mta_worker_lists.specs.Leads.{AreCarried, entry_at, Leads, made_in}
+
+-- A session is new at this length of the history. The lane of one that its worker began was opened or bound in the step
+-- before, and a lane that was opened is in its first generation.
+pub data IsNewAt (history : List Seen) : (from : ℕ) → State → Type 0 where
+  Calls : (p : InitiatorPlan) (units at from : ℕ) → from ≡ at + 1 → HasAt history at (step_for p)
+      → (p.recovering ≡ false → p.generation ≡ 1) → IsNewAt history from (new_initiator p units)
+  Listens : (own : List ℕ) (units from : ℕ) → IsNewAt history from (new_responder own units)
+
+-- How it ends behind its last call: with an end, or for want of memory at its link, or with a reply to its question
+-- that the history has and that it is not told, for want of memory.
+pub data IsOver (spells : List ℕ → Bool) (history : List Seen) (from upto : ℕ) (u : State) (b : Action) : Type 0 where
+  Ended : (e : SessionEnd) → b ≡ action.Finish e → upto ≡ from → IsOver spells history from upto u b
+  Stopped : upto ≡ from → IsOver spells history from upto u b
+  Untold : (q : Ask) (x : Reply) → b ≡ action.Ask q
+      → ComesTrue spells history from upto u.phase (action.Ask q) (event.Reply x) → Answers u (event.Reply x)
+      → IsOver spells history from upto u b
+
+-- the entry that such a reply tells
+abbrev pub made_over : {spells : List ℕ → Bool} {history : List Seen} {from upto : ℕ} {u : State} {b : Action}
+    → (before : ℕ) → IsOver spells history from upto u b → List ℕ
+made_over n (Ended e is same) = []
+made_over n (Stopped same) = []
+made_over {upto = upto} n (Untold q x is comes answers) = entry_at n upto (step_told q x)
+
+-- there was no memory at its link
+abbrev pub WasStopped : {spells : List ℕ → Bool} {history : List Seen} {from upto : ℕ} {u : State} {b : Action}
+    → IsOver spells history from upto u b → Type 0
+WasStopped (Stopped same) = Unit {0}
+WasStopped o = ⊥
+
+-- All that was done for a session from one point on, up to what its pass was when it was over: these calls, which the
+-- history has, and its end. Of its own entries the calls tell all that the pass made then. What went over the link is
+-- that of the calls, but for those in which there was no memory at it.
+pub record IsDone {L : Type 0} (links : LinkView L) (spells : List ℕ → Bool) (first entries : List Step) (x : At L)
+    (calls : List Call) (q : Held Step) : Type 0 where
+  pub mid : Held Step
+  pub last : State
+  pub wanted : Action
+  pub leads : Leads spells (whole first entries) (place first x.pass) x.session x.action calls (place first mid) last
+      wanted
+  pub owns : mid.own ≡ x.pass.own ++ made_in (length first) x.action calls
+  pub over : IsOver spells (whole first entries) (place first mid) (place first q) last wanted
+  pub owns_over : q.own ≡ mid.own ++ made_over (length first) over
+  pub front : List Call
+  pub behind : List Call
+  pub calls_are : calls ≡ front ++ behind
+  pub all : (behind ≡ []) ⊎ WasStopped over
+  pub left : L
+  pub feed : Feed
+  pub carried : AreCarried links x.action front x.link x.feed left feed
+
+-- a session before its first call, which is told Go as if it had been read
+abbrev pub at_first : {L : Type 0} → State → L → Held Step → At L
+at_first t link pass = record {
+  session = t;
+  action = action.Read;
+  link = link;
+  feed = no_feed;
+  pass = pass;
+  halt = None;
+}
+
+-- a new session, over the link that a station gave, and all that it did
+pub record HasRun {L : Type 0} (links : LinkView L) (spells : List ℕ → Bool) (first entries : List Step) (old : L)
+    (t : State) (p : Held Step) (calls : List Call) (q : Held Step) : Type 0 where
+  pub begins : IsNewAt (whole first entries) (place first p) t
+  pub done : IsDone links spells first entries (at_first t old p) calls q
+
+-- the entry by which a session's lane was opened or bound before its first call
+abbrev pub begun_by : {history : List Seen} {from : ℕ} {t : State} → (before : ℕ) → IsNewAt history from t → List ℕ
+begun_by n (Calls p units at from is has opens) = (at - n) ∷ []
+begun_by n (Listens own units from) = []
+
+-- none of these calls tells a responder that it has a lane
+abbrev pub GiveNone : List Call → Type 0
+GiveNone [] = Unit {0}
+GiveNone (c ∷ cs) = (step_by c.turn.before.phase c.turn.event c.turn.after ≡ None) × GiveNone cs

@@ -1,0 +1,80 @@
+-- The parts of the history that a worker made over one link, and all that it made.
+use Rattle.std.specs.Prelude.{◌≡◌, ◌⊎◌, ℕ, Bool, List, [], ◌∷◌, ◌++◌, length, None}
+use mathlib.Core.List.{IsPrefix}
+use Rattle.mta_edge.specs.Views.{ClockView, DiskView}
+use Rattle.mta_links.specs.Links.{LinkView, StationView}
+use Rattle.mta_records.specs.declared.step.Step.{Step}
+use Rattle.mta_session.specs.State.{State}
+use Rattle.mta_session.specs.declared.limits.Limits.{Limits}
+use Rattle.mta_session_lists.specs.Calls.{Call}
+use Rattle.mta_shared.specs.Held.{Held}
+use Rattle.mta_stations.specs.declared.end.WorkerEnd.{WorkerEnd}
+use Rattle.mta_worker.specs.Working.{AtStation, HasWorked}
+use Rattle.mta_worker.specs.declared.session.Served.{Served}
+use Rattle.mta_worker_lists.specs.Begun.{HasRun}
+use Rattle.mta_worker_lists.specs.Histories.{AreEntries, TellsApdus, whole}
+use Rattle.mta_worker_lists.specs.Linked.{Began, IsRun, None_began}
+use Rattle.mta_worker_lists.specs.Segments.{AreSegments, IsOf, owned, Segment}
+
+-- the entries that were made for no session
+abbrev pub plain : List ℕ → Segment
+plain own = record { own = own; list = None }
+
+-- Lanes that were closed before, and the session, where one began.
+abbrev pub ArePartsOf : {L : Type 0} {links : LinkView L} {spells : List ℕ → Bool} {first entries : List Step} {old : L}
+    {p q : Held Step} {served : Served} → IsRun links spells first entries old p q served → List Segment → Type 0
+ArePartsOf (None_began closings are none owns) ss = ss ≡ plain closings ∷ []
+ArePartsOf {first = first} (Began closings t begun calls ran are owns later) ss =
+    (s : Segment) × (ss ≡ plain closings ∷ s ∷ []) × IsOf (length first) ran.begins calls ran.done.over s
+
+-- What was done with a link is in these parts of the history, which are all own entries of the pass then.
+pub record LinkParts {L : Type 0} {links : LinkView L} {spells : List ℕ → Bool} {first entries : List Step} {old : L}
+    {p q : Held Step} {served : Served} (run : IsRun links spells first entries old p q served) : Type 0 where
+  pub parts : List Segment
+  pub are : AreSegments (whole first entries) (length first) parts
+  pub owns : q.own ≡ p.own ++ owned parts
+  pub of_it : ArePartsOf run parts
+
+module _ {L : Type 0} (links : LinkView L) where
+  abbrev pub LinksHaveParts : Type 0
+  LinksHaveParts =
+      (spells : List ℕ → Bool) (first entries : List Step) (old : L) (p q : Held Step) (served : Served)
+      (run : IsRun links spells first entries old p q served) → LinkParts run
+
+-- ---- workers
+
+-- the entries and the list are those of a session that ran over a link
+pub record IsSession {L : Type 0} (links : LinkView L) (spells : List ℕ → Bool) (first entries : List Step)
+    (s : Segment) : Type 0 where
+  pub link : L
+  pub new : State
+  pub begun : Held Step
+  pub calls : List Call
+  pub over : Held Step
+  pub ran : HasRun links spells first entries link new begun calls over
+  pub of_it : IsOf (length first) ran.begins calls ran.done.over s
+
+-- each of these is a session's, or was made for none
+abbrev pub AreSessions : {L : Type 0} → LinkView L → (spells : List ℕ → Bool) → (first entries : List Step)
+    → List Segment → Type 0
+AreSessions links spells first entries [] = Unit {0}
+AreSessions links spells first entries (s ∷ ss) =
+    ((s.list ≡ None) ⊎ IsSession links spells first entries s) × AreSessions links spells first entries ss
+
+-- these parts of the history are all own entries of the pass from one point on to another
+pub record AreParts {L : Type 0} (links : LinkView L) (spells : List ℕ → Bool) (first entries : List Step)
+    (p q : Held Step) : Type 0 where
+  pub parts : List Segment
+  pub are : AreSegments (whole first entries) (length first) parts
+  pub sessions : AreSessions links spells first entries parts
+  pub owns : q.own ≡ p.own ++ owned parts
+
+module _ {D C L S : Type 0} (disks : DiskView D) (clocks : ClockView C) (links : LinkView L)
+    (stations : StationView S) where
+  -- All entries that a worker made are in such parts.
+  abbrev pub WorkersHaveParts : Type 0
+  WorkersHaveParts =
+      (spells : List ℕ → Bool) (first entries : List Step) (limits : Limits) (x : AtStation S) (last : S)
+      (q : Held Step) (end : WorkerEnd) → TellsApdus spells → AreEntries x.pass.base first entries
+      → HasWorked disks clocks links stations limits x last q end → IsPrefix q.seen entries
+      → AreParts links spells first entries x.pass q

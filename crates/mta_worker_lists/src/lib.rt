@@ -1,0 +1,10 @@
+//! Session lists of what workers do: each session that a worker serves has a list, and which of them are good.
+#![tactic(auto)]
+
+mod laws;
+
+pub use laws::{
+    all_are_good, all_have_parts, ends_agree, links_are_run, links_have_parts, lists_own_pieces,
+    reading_tells, segments_are_good, sessions_are_good, sessions_are_segments,
+    sessions_have_lists, worked_row, workers_have_parts,
+};
