@@ -1,0 +1,113 @@
+//! A worker whose disk fails at each call in turn, or that is stopped at each.
+
+use crate::given::disk_of;
+use crate::held::Held;
+use crate::spools::queue;
+use crate::works::{Worked, calls_of_opening, opened, said, work_at};
+use anyhow::{Result, anyhow};
+use mta_edge::MemDisk;
+use mta_rows::Fields;
+use std::alloc::Global;
+use std::sync::Wait;
+
+// The disk behind a worker over which no call fails, with the log of its calls.
+fn whole<R: Wait>(rt: &R, alloc: Global, held: &Held, role: &str) -> Result<MemDisk> {
+    let spool = opened(alloc, held, disk_of(alloc, held.disk.as_slice(), 0)?)?;
+    let Worked {
+        disk,
+        puts: _,
+        end: _,
+    } = work_at(rt, alloc, held, spool, role)?;
+    Ok(disk)
+}
+
+// What the worker comes to where this call fails, and the queue then.
+fn failing_at<R: Wait>(
+    rt: &R,
+    alloc: Global,
+    held: &Held,
+    role: &str,
+    call: u64,
+) -> Result<String> {
+    let spool = opened(alloc, held, disk_of(alloc, held.disk.as_slice(), call)?)?;
+    let Worked { disk, puts: _, end } = work_at(rt, alloc, held, spool, role)?;
+    let end = said(alloc, &end)?;
+    let queue = queue(alloc, held, disk.octets())?;
+    let (end, queue) = (end.as_str(), queue.as_str());
+    Ok(format!(in alloc; "{end} {queue}")?)
+}
+
+/// Whether the calls of the disk that fail, once it is opened, leave what the fields say, one after the other: each
+/// stands for one call or for several in a row.
+pub fn failing<R: Wait>(
+    rt: &R,
+    alloc: Global,
+    held: &Held,
+    mut fields: Fields<'_>,
+) -> Result<String> {
+    let role = fields.take();
+    let first = calls_of_opening(alloc, held)?;
+    let last = whole(rt, alloc, held, role)?.calls();
+    let mut left = fields.rest.split('\t');
+    let mut wanted = left.next();
+    for call in first..last {
+        let call = call.saturating_add(1);
+        let said = failing_at(rt, alloc, held, role, call)?;
+        let said = said.as_str();
+        if wanted != Some(said) {
+            wanted = left.next();
+        }
+        if wanted != Some(said) {
+            return Ok(format!(in alloc; "call {call}: {said}")?);
+        }
+    }
+    match left.next() {
+        None => Ok(format!(in alloc; "ok")?),
+        Some(other) => Ok(format!(in alloc; "never {other}")?),
+    }
+}
+
+/// Whether the text is the first field, or one of the others where no call is left.
+fn is_wanted(said: &str, is_last: bool, fields: Fields<'_>) -> bool {
+    let mut fields = fields.rest.split('\t');
+    match fields.next() {
+        None => false,
+        Some(last) => said == last || !is_last && fields.any(|other| said == other),
+    }
+}
+
+// What is said otherwise of the images that this choice leaves.
+fn otherwise(
+    alloc: Global,
+    held: &Held,
+    disk: &MemDisk,
+    choice: u64,
+    fields: Fields<'_>,
+) -> Result<Option<String>> {
+    let calls = disk.calls();
+    for call in 0..=calls {
+        let image = disk.image(call, choice).map_err(|_| anyhow!("no memory"))?;
+        let said = queue(alloc, held, image.as_slice())?;
+        let said = said.as_str();
+        if !is_wanted(said, call == calls, fields) {
+            return Ok(Some(format!(in alloc; "call {call}, choice {choice}: {said}")?));
+        }
+    }
+    Ok(None)
+}
+
+/// Whether each image of the disk has the queue that one of the fields says.
+pub fn stops<R: Wait>(
+    rt: &R,
+    alloc: Global,
+    held: &Held,
+    mut fields: Fields<'_>,
+) -> Result<String> {
+    let disk = whole(rt, alloc, held, fields.take())?;
+    for choice in 0..8 {
+        if let Some(said) = otherwise(alloc, held, &disk, choice, fields)? {
+            return Ok(said);
+        }
+    }
+    Ok(format!(in alloc; "ok")?)
+}

@@ -1,0 +1,103 @@
+//! Workers over a spool in memory, whose stations give links in memory: what each link was put, what the worker came
+//! to, and the queue and the mailboxes then. Reads rows from its input, each with fields behind tabs. Tells of each row
+//! that wants something whether it was answered so, under the name of its case.
+//!
+//! Octets are words of hexadecimal digits or names, one space between two. `name NAME OCTETS` gives octets a name.
+//!
+//! These rows want nothing. `case NAME` begins a case, with an empty disk, no link and nothing that fails; tables,
+//! clock and names stay until another is said. `tables TEXT`, where each line ends with `|`; `clock MOMENT`; `limits
+//! SESSIONS UNITS`, which are 10 and 5,000 where a case says nothing; `gives OCTETS`, one more link, whose peer gives
+//! these octets and no more; `fails PLACE CALL`, the place being `link` for the last link, `station` or `disk`, and the
+//! first call 1, of the disk the first behind its opening.
+//!
+//! In these a field behind the first says what is wanted. `records` records the tables, and is answered how many
+//! items there are. `submit` takes the octets behind it and does what is due, and is answered the number; `queue` is
+//! answered the queue, and `mailbox` what the mailbox behind it got. `works` has a worker serve the links that were
+//! given: behind it stands `in`, or `out PEER`. It is answered how many links came back, how many of them were
+//! closed, and why it ended. `put` is answered what the link of this number was put.
+//!
+//! `overtakes` has two sessions of responders over one spool. The first is carried on up to its question of this name,
+//! and then the second is carried on to its end, and then the first. It is answered what the question was, and how
+//! both ended.
+//!
+//! `failing` is `works` again and again, with each call of the disk failing in turn once it is opened. The worker's end
+//! and the queue of what the disk holds then have to be what the fields behind say, one field after the other, each for
+//! one call or for several in a row. `stops` is `works` stopped at each call of the disk by each of eight choices of
+//! what a crash leaves: each time the queue has to be as one of the fields behind says, and at the end as the first of
+//! them.
+//!
+//! The rows were worked out by hand from the protocol of a lane, the format of the journal and X.411.
+#![tactic(auto)]
+
+mod faults;
+mod given;
+mod held;
+mod names;
+mod overtaking;
+mod spools;
+mod works;
+
+use crate::faults::{failing, stops};
+use crate::held::Held;
+use crate::overtaking::overtakes;
+use crate::spools::{mailbox, queue, records, submit};
+use crate::works::works;
+use anyhow::{Result, bail};
+use mta_rows::{Fields, tell};
+use std::alloc::Global;
+use std::sync::Wait;
+
+fn answer_of<R: Wait>(
+    rt: &R,
+    alloc: Global,
+    held: &mut Held,
+    asked: &str,
+    fields: Fields<'_>,
+) -> Result<String> {
+    match asked {
+        "records" => records(alloc, held),
+        "submit" => submit(alloc, held, fields.rest),
+        "queue" => queue(alloc, held, held.disk.as_slice()),
+        "mailbox" => mailbox(alloc, held, fields.rest),
+        "works" => works(rt, alloc, held, fields.rest),
+        "put" => held.put(alloc, fields.rest),
+        "overtakes" => overtakes(alloc, held, fields.rest),
+        "failing" => failing(rt, alloc, held, fields),
+        "stops" => stops(rt, alloc, held, fields),
+        _ => bail!("nothing is asked"),
+    }
+}
+
+/// What the row wants, spelled as it is answered.
+fn wanted_of(alloc: Global, held: &Held, asked: &str, wanted: &str) -> Result<String> {
+    if asked == "put" {
+        held.spelled(alloc, wanted)
+    } else {
+        Ok(String::from_str(alloc, wanted)?)
+    }
+}
+
+fn try_row<R: Wait + Print>(rt: &R, alloc: Global, held: &mut Held, row: &str) -> Result<()> {
+    let mut fields = Fields { rest: row };
+    let asked = fields.take();
+    if held.take(alloc, asked, fields)? {
+        return Ok(());
+    }
+    let wanted = wanted_of(alloc, held, asked, fields.take())?;
+    let answered = answer_of(rt, alloc, held, asked, fields)?;
+    let about = fields.take();
+    let case = held.case.as_str();
+    let name = format!(in alloc; "{case}: {asked}")?;
+    tell(rt, name.as_str(), about, answered.as_str(), wanted.as_str())?;
+    Ok(())
+}
+
+fn main(rt: HostRuntime) -> Result<()> {
+    let alloc = rt.alloc();
+    let mut held = Held::new(alloc);
+    for row in rt.lines(alloc) {
+        let row = row?;
+        try_row(&rt, alloc, &mut held, row.as_str())?;
+    }
+    Ok(())
+}

@@ -1,0 +1,253 @@
+//! Two sessions of responders over one spool, by hand: the second overtakes the first.
+
+ghost use Rattle.std.specs.Prelude.{IfOk};
+ghost use Rattle.mta_session.specs.declared.event.Action.TheVariants as actions;
+ghost use Rattle.mta_session_run.specs.Running.{IsCalled, action_of};
+ghost use Rattle.mta_worker_rows.specs.Reached.{IsReached};
+
+use crate::given::{limits, link};
+use crate::held;
+use crate::works::opened;
+use anyhow::{Error, Result, anyhow, bail};
+use mta_edge::{Disk, MemClock, Octets, SafeDisk};
+use mta_links::MemLink;
+use mta_plans::own_name;
+use mta_records::{CompleteFault, StepFault};
+use mta_session::{Action, Ask, Event, Reply, Session, SessionEnd};
+use mta_session_run::{Came, carry_on, tell};
+use mta_spool::Spool;
+use mta_units::Frames;
+use mta_worker::{answer, answer_all, told};
+use std::alloc::Global;
+
+// More questions than a session of a row has.
+const MOST_QUESTIONS: u32 = 1000;
+
+// A link, and what of it was not taken yet.
+#[derive(Drop)]
+struct Line {
+    link: MemLink,
+    frames: Frames,
+}
+
+// What a session comes to that is held at a question.
+#[derive(Drop)]
+enum Reached {
+    Asks(Ask),
+    Ends(SessionEnd),
+}
+
+fn lost() -> Error {
+    anyhow!("no memory, or a session is lost")
+}
+
+fn name_of(ask: &Ask) -> &'static str {
+    match ask {
+        Ask::Secure { .. } => "Secure",
+        Ask::Complete { .. } => "Complete",
+        Ask::CloseLane { .. } => "CloseLane",
+        _ => "another",
+    }
+}
+
+fn fault_in(fault: &CompleteFault) -> Option<StepFault> {
+    match fault {
+        CompleteFault::Step(fault) => Some(*fault),
+        CompleteFault::Bad(_) => None,
+    }
+}
+
+// Why a question of a receiving end was refused.
+fn refusal_in(reply: &Reply) -> Option<StepFault> {
+    match reply {
+        Reply::Complete(Err(fault)) => fault_in(fault),
+        Reply::Secure(Err(fault)) => fault_in(fault),
+        Reply::CloseLane(Err(fault)) => Some(*fault),
+        _ => None,
+    }
+}
+
+// The session of the link that was given at this place, and what it wants first.
+fn begun<D: Disk + Drop>(
+    alloc: Global,
+    held: &held::Held,
+    spool: &Spool<D, MemClock>,
+) -> Result<(Session, Action)>
+    ensures { IfOk result (λ r. IsCalled r.0 r.1) }
+{
+    let Some(tables) = spool.tables() else {
+        bail!("no tables");
+    };
+    let own = match own_name(alloc, tables) {
+        Ok(own) => own,
+        Err(_) => return Err(lost()),
+    };
+    let mut session = Session::responder(alloc, own, limits(held));
+    match tell(&mut session, Event::Go) {
+        Ok(action) => Ok((session, action)),
+        Err(_) => Err(lost()),
+    }
+}
+
+fn line_of(alloc: Global, held: &held::Held, place: usize) -> Result<Line> {
+    let Some(given) = held.given.get(place) else {
+        bail!("no such link");
+    };
+    Ok(Line {
+        link: link(alloc, given)?,
+        frames: Frames::new(alloc),
+    })
+}
+
+// Carries a session on to its next question, or to its end.
+fn next_of(alloc: Global, session: &mut Session, line: &mut Line, action: Action) -> Result<Came>
+    requires { IsCalled session.old action }
+    ensures { IfOk result (λ c. IsCalled session.new (action_of c)) }
+{
+    match carry_on(alloc, &mut line.link, &mut line.frames, session, action) {
+        Ok(came) => Ok(came),
+        Err(_) => Err(lost()),
+    }
+}
+
+// Carries a session on to its first question of this name, which is not answered, or to its end.
+fn up_to<D: Disk + Drop>(
+    alloc: Global,
+    spool: &mut Spool<D, MemClock>,
+    session: &mut Session,
+    line: &mut Line,
+    first: Action,
+    name: &str,
+) -> Result<Reached>
+    requires { IsCalled session.old first }
+    ensures { IfOk result (IsReached session.new) }
+{
+    let mut halt = None;
+    let mut action = first;
+    for _ in 0..MOST_QUESTIONS {
+        match next_of(alloc, session, line, action)? {
+            Came::Ends(end) => return Ok(Reached::Ends(end)),
+            Came::Asks(ask) => {
+                if name_of(&ask) == name {
+                    return Ok(Reached::Asks(ask));
+                }
+                action = answer_all(alloc, spool, session, ask, &mut halt).map_err(|_| lost())?;
+            }
+        }
+    }
+    bail!("too many questions")
+}
+
+// Carries a session on to its end.
+fn to_end<D: Disk + Drop>(
+    alloc: Global,
+    spool: &mut Spool<D, MemClock>,
+    session: &mut Session,
+    line: &mut Line,
+    first: Action,
+) -> Result<SessionEnd>
+    requires { IsCalled session.old first }
+{
+    match up_to(alloc, spool, session, line, first, "")? {
+        Reached::Ends(end) => Ok(end),
+        Reached::Asks(_) => bail!("no question has this name"),
+    }
+}
+
+// The second session from its beginning to its end.
+fn second<D: Disk + Drop>(
+    alloc: Global,
+    held: &held::Held,
+    spool: &mut Spool<D, MemClock>,
+    line: &mut Line,
+) -> Result<SessionEnd> {
+    let (mut session, action) = begun(alloc, held, spool)?;
+    to_end(alloc, spool, &mut session, line, action)
+}
+
+// The question that was held is answered, and the session goes on to its end.
+fn go_on<D: Disk + Drop>(
+    alloc: Global,
+    spool: &mut Spool<D, MemClock>,
+    session: &mut Session,
+    line: &mut Line,
+    ask: Ask,
+) -> Result<(Option<StepFault>, SessionEnd)>
+    requires { IsCalled session.old (actions.Ask ask) }
+{
+    let reply = answer(alloc, spool, ask);
+    let refusal = refusal_in(&reply);
+    let action = told(session, reply).map_err(|_| lost())?;
+    let end = to_end(alloc, spool, session, line, action)?;
+    Ok((refusal, end))
+}
+
+// What is told where the first session comes to its end before it is held.
+fn said_alone(alloc: Global, first: &SessionEnd) -> Result<String> {
+    Ok(format!(in alloc; "first {first:?}")?)
+}
+
+// What is told of both.
+fn said(
+    alloc: Global,
+    refusal: &Option<StepFault>,
+    first: &SessionEnd,
+    second: &SessionEnd,
+) -> Result<String> {
+    Ok(format!(in alloc; "{refusal:?} first {first:?} second {second:?}")?)
+}
+
+// The first session is held at this question while the second is carried on to its end.
+fn held_at<D: Disk + Drop>(
+    alloc: Global,
+    held: &held::Held,
+    spool: &mut Spool<D, MemClock>,
+    session: &mut Session,
+    one: &mut Line,
+    other: &mut Line,
+    ask: Ask,
+) -> Result<String>
+    requires { IsCalled session.old (actions.Ask ask) }
+{
+    let second = second(alloc, held, spool, other)?;
+    let (refusal, first) = go_on(alloc, spool, session, one, ask)?;
+    said(alloc, &refusal, &first, &second)
+}
+
+// Both sessions, the first of which is held at a question of this name.
+fn both<D: Disk + Drop>(
+    alloc: Global,
+    held: &held::Held,
+    spool: &mut Spool<D, MemClock>,
+    one: &mut Line,
+    other: &mut Line,
+    name: &str,
+) -> Result<String> {
+    let (mut session, action) = begun(alloc, held, spool)?;
+    match up_to(alloc, spool, &mut session, one, action, name)? {
+        Reached::Ends(end) => said_alone(alloc, &end),
+        Reached::Asks(ask) => held_at(alloc, held, spool, &mut session, one, other, ask),
+    }
+}
+
+fn puts_of(alloc: Global, one: &Line, other: &Line) -> Result<Vec<Vec<u8>>> {
+    let mut puts = Vec::new(alloc);
+    for line in [one, other] {
+        puts.push(line.link.octets().to_vec(alloc)?)?;
+    }
+    Ok(puts)
+}
+
+/// Carries on two sessions, the first of which is held at its first question of this name until the second ends.
+pub fn overtakes(alloc: Global, held: &mut held::Held, name: &str) -> Result<String> {
+    let octets = std::mem::replace(&mut held.disk, Vec::new(alloc));
+    let disk = SafeDisk::new(alloc, Octets::from_vec(octets));
+    let mut spool = opened(alloc, held, disk)?;
+    let mut one = line_of(alloc, held, 0)?;
+    let mut other = line_of(alloc, held, 1)?;
+    let said = both(alloc, held, &mut spool, &mut one, &mut other, name)?;
+    held.disk = spool.end().octets().to_vec(alloc)?;
+    held.given = Vec::new(alloc);
+    held.puts = puts_of(alloc, &one, &other)?;
+    Ok(said)
+}

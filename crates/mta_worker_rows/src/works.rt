@@ -1,0 +1,132 @@
+//! A worker over the disk as it is.
+
+ghost use Rattle.std.specs.Prelude.{IfOk};
+ghost use Rattle.mta_edge.specs.Moments.{memory_clock};
+ghost use Rattle.mta_spool.specs.Bases.{base_of, Keeps};
+
+use crate::given::{clock, disk_of, limits, station};
+use crate::held::Held;
+use anyhow::{Result, anyhow, bail};
+use mta_edge::{Disk, MemClock, Octets, SafeDisk};
+use mta_links::{MemLink, MemStation};
+use mta_session::Limits;
+use mta_shared::Shared;
+use mta_spool::Spool;
+use mta_worker::{WorkerEnd, work};
+use std::alloc::{AllocError, Global};
+use std::sync::Wait;
+
+/// What a worker leaves: the disk, what each link was put, and what it came to.
+#[derive(Drop)]
+pub struct Worked<D: Drop> {
+    pub disk: D,
+    pub puts: Vec<Vec<u8>>,
+    pub end: WorkerEnd,
+}
+
+/// The spool on a disk.
+pub fn opened<D: Disk + Drop>(alloc: Global, held: &Held, disk: D) -> Result<Spool<D, MemClock>>
+    ensures { IfOk result (λ s. Keeps D.model memory_clock s (base_of D.model memory_clock s)) }
+{
+    let clock = clock(alloc, held)?;
+    match Spool::open(alloc, disk, clock) {
+        Ok(spool) => Ok(spool),
+        Err(_) => Err(anyhow!("not opened")),
+    }
+}
+
+/// How many calls of the disk opening it makes.
+pub fn calls_of_opening(alloc: Global, held: &Held) -> Result<u64> {
+    let spool = opened(alloc, held, disk_of(alloc, held.disk.as_slice(), 0)?)?;
+    Ok(spool.end().calls())
+}
+
+// A worker alone with a spool.
+fn alone<R: Wait, D: Disk + Drop>(
+    rt: &R,
+    alloc: Global,
+    spool: Spool<D, MemClock>,
+    station: &mut MemStation,
+    limits: &Limits,
+) -> Result<(D, WorkerEnd)>
+    requires { Keeps D.model memory_clock spool (base_of D.model memory_clock spool) }
+{
+    let Ok((shared, mut pass)) = Shared::open(alloc, spool) else {
+        bail!("no memory");
+    };
+    let end = work(rt, alloc, &shared, &mut pass, station, limits);
+    Ok((shared.close(pass).end(), end))
+}
+
+fn puts_of(alloc: Global, links: &[MemLink]) -> Result<Vec<Vec<u8>>, AllocError> {
+    let mut puts = Vec::new(alloc);
+    for link in links {
+        puts.push(link.octets().to_vec(alloc)?)?;
+    }
+    Ok(puts)
+}
+
+/// What a worker of this role makes of a spool.
+pub fn work_at<R: Wait, D: Disk + Drop>(
+    rt: &R,
+    alloc: Global,
+    held: &Held,
+    spool: Spool<D, MemClock>,
+    role: &str,
+) -> Result<Worked<D>>
+    requires { Keeps D.model memory_clock spool (base_of D.model memory_clock spool) }
+{
+    let mut station = station(alloc, held, role)?;
+    let (disk, end) = alone(rt, alloc, spool, &mut station, &limits(held))?;
+    let puts = puts_of(alloc, station.ended())?;
+    Ok(Worked { disk, puts, end })
+}
+
+/// What a worker came to.
+pub fn said(alloc: Global, end: &WorkerEnd) -> Result<String, AllocError> {
+    let (sessions, closed, halt) = (end.sessions, end.closed, end.halt);
+    format!(in alloc; "sessions {sessions} closed {closed} {halt:?}")
+}
+
+// Whatever fails, the links are spent.
+fn spend(alloc: Global, held: &mut Held, puts: Vec<Vec<u8>>) {
+    held.puts = puts;
+    held.given = Vec::new(alloc);
+    held.station_fails = 0;
+    held.disk_fails = 0;
+}
+
+// Over a disk that is changed in place, of which no call fails.
+fn works_in_place<R: Wait>(rt: &R, alloc: Global, held: &mut Held, role: &str) -> Result<String> {
+    let octets = std::mem::replace(&mut held.disk, Vec::new(alloc));
+    let spool = opened(alloc, held, SafeDisk::new(alloc, Octets::from_vec(octets)))?;
+    let Worked { disk, puts, end } = work_at(rt, alloc, held, spool, role)?;
+    held.disk = disk.octets().to_vec(alloc)?;
+    spend(alloc, held, puts);
+    Ok(said(alloc, &end)?)
+}
+
+// Over a disk whose call of a number fails, counted from opening on.
+fn works_over_failing<R: Wait>(
+    rt: &R,
+    alloc: Global,
+    held: &mut Held,
+    role: &str,
+) -> Result<String> {
+    let call = calls_of_opening(alloc, held)?.saturating_add(held.disk_fails);
+    let disk = disk_of(alloc, held.disk.as_slice(), call)?;
+    let spool = opened(alloc, held, disk)?;
+    let Worked { disk, puts, end } = work_at(rt, alloc, held, spool, role)?;
+    held.disk = disk.octets().to_vec(alloc)?;
+    spend(alloc, held, puts);
+    Ok(said(alloc, &end)?)
+}
+
+/// Has a worker serve the links that were given, and keeps what the disk holds then and what they were put.
+pub fn works<R: Wait>(rt: &R, alloc: Global, held: &mut Held, role: &str) -> Result<String> {
+    if held.disk_fails == 0 {
+        works_in_place(rt, alloc, held, role)
+    } else {
+        works_over_failing(rt, alloc, held, role)
+    }
+}
