@@ -22,3 +22,4 @@ pub mod Whole
 pub mod Parts
 pub mod Worked
 pub mod Workers
+pub mod All

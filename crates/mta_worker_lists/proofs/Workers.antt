@@ -100,12 +100,12 @@ due_plain s now m at lane g x step next get piece =
 
 -- ---- parts behind parts
 
-owned_more : (xs ys : List Segment) → owned (xs ++ ys) ≡ owned xs ++ owned ys
+pub owned_more : (xs ys : List Segment) → owned (xs ++ ys) ≡ owned xs ++ owned ys
 owned_more [] ys = refl
 owned_more (x ∷ xs) ys =
     ap (λ (ns : List ℕ). x.own ++ ns) (owned_more xs ys) ∙ sym (append_assoc x.own (owned xs) (owned ys))
 
-segments_more : (history : List Seen) (n : ℕ) (xs ys : List Segment) → AreSegments history n xs
+pub segments_more : (history : List Seen) (n : ℕ) (xs ys : List Segment) → AreSegments history n xs
     → AreSegments history n ys → AreSegments history n (xs ++ ys)
 segments_more history n [] ys a b = b
 segments_more history n (x ∷ xs) ys a b = (a.0, segments_more history n xs ys a.1 b)
@@ -118,7 +118,7 @@ module _ {D C L S : Type 0} (disks : DiskView D) (clocks : ClockView C) (links :
   abbrev Parts : Held Step → Held Step → Type 0
   Parts p q = AreParts links spells first entries p q
 
-  sessions_more : (xs ys : List Segment) → AreSessions links spells first entries xs
+  pub sessions_more : (xs ys : List Segment) → AreSessions links spells first entries xs
       → AreSessions links spells first entries ys → AreSessions links spells first entries (xs ++ ys)
   sessions_more [] ys a b = b
   sessions_more (x ∷ xs) ys a b = (a.0, sessions_more xs ys a.1 b)

@@ -6,3 +6,4 @@ pub mod Good
 pub mod Segments
 pub mod Parts
 pub mod Examples
+pub mod All

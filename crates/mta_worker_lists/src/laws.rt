@@ -1,5 +1,6 @@
 //! Laws over the definitions.
 
+ghost use Rattle.mta_worker_lists.specs.All.{AllHaveParts};
 ghost use Rattle.mta_worker_lists.specs.Examples.{TakesOne};
 ghost use Rattle.mta_worker_lists.specs.Good.{SessionsAreGood, SessionsHaveLists};
 ghost use Rattle.mta_worker_lists.specs.Linked.{LinksAreRun};
@@ -66,4 +67,10 @@ pub fn worked_row()
 /// station, or made for none.
 pub fn workers_have_parts<D: Disk + Drop, C: Clock + Drop, L: Link, S: Station>()
     ensures { WorkersHaveParts D.model C.model L.model S.model }
+{}
+
+/// So are all entries that workers made together over one history: no one is in two of these parts, and each that
+/// concerns pieces is in one.
+pub fn all_have_parts<D: Disk + Drop, C: Clock + Drop, L: Link, S: Station>()
+    ensures { AllHaveParts D.model C.model L.model S.model }
 {}

@@ -1,0 +1,126 @@
+-- All entries that workers made are in parts of the history, no one in two.
+use Rattle.std.proofs.Common.{◌≡◌, ◌<◌, ◌≤◌, ℕ, zero, suc, ◌+◌, Bool, List, [], ◌∷◌, ◌++◌, length, Some, slice_index_or, All}
+use Rattle.std.proofs.Common.{sym, ap, subst, refl, ◌∙◌, arith, slice_get}
+use Rattle.std.proofs.lemmas.List.{length-append}
+use Rattle.mta_edge.specs.Views.{ClockView, DiskView}
+use Rattle.mta_links.specs.Links.{LinkView, StationView}
+use Rattle.mta_ends.specs.Lanes.{On, Seen, SeenStep}
+use Rattle.mta_records.specs.declared.step.Step.{Step}
+use Rattle.mta_session.specs.declared.limits.Limits.{Limits}
+use Rattle.mta_session_lists.specs.Laws.{IsPiece}
+use Rattle.mta_shared.specs.Counts.{row, times}
+use Rattle.mta_shared.specs.declared.history.Base.{Base}
+use Rattle.mta_shared.specs.Held.{LockId}
+use Rattle.mta_shared.proofs.Sums.{times-append, times-row-above, times-row-in, times-row-le}
+use Rattle.mta_stations.specs.declared.end.WorkerEnd.{WorkerEnd}
+use Rattle.mta_workers.specs.declared.jobs.Job.{Job}
+use Rattle.mta_workers.specs.Jobs.{JobDone, owned_by, SawFront}
+use Rattle.mta_workers.specs.Wholes.{AreWorkers}
+use Rattle.mta_worker_lists.specs.All.{AllHaveParts, AllParts}
+use Rattle.mta_worker_lists.specs.Histories.{AreEntries, TellsApdus, whole}
+use Rattle.mta_worker_lists.specs.Parts.{AreParts, AreSessions}
+use Rattle.mta_worker_lists.specs.Segments.{AreAll, AreSegments, owned, Segment}
+use Rattle.mta_worker_lists.proofs.Annotating.{length_seen}
+use Rattle.mta_worker_lists.proofs.Workers.{owned_more, segments_more, sessions_more, workers_have_parts}
+
+place_below : {X : Type 0} (xs : List X) (i : ℕ) (x : X) → slice_get xs i ≡ Some x → i < length xs
+place_below [] i x e = absurd cc
+place_below (y ∷ ys) zero x e = omega arith
+place_below (y ∷ ys) (suc i) x e = let below = place_below ys i x e in omega (arith, below)
+
+-- entries that are shared out are each in one part
+shared_all : (first entries : List Step) (low : ℕ) (ss : List Segment)
+    → AreSegments (whole first entries) (length first) ss
+    → ((k : ℕ) → times k (row 0 low ++ owned ss) ≡ times k (row 0 (length entries)))
+    → AreAll (whole first entries) (length first) low ss
+shared_all first entries low ss are shares =
+    let n : ℕ = length entries in
+    let in_two : (k : ℕ) → times k (row 0 low ++ owned ss) ≡ times k (row 0 low) + times k (owned ss) =
+    λ k. times-append k (row 0 low) (owned ss) in
+    record {
+      segments = are;
+      once = λ k.
+          let one : times k (row 0 n) ≤ 1 = times-row-le k 0 n in
+          let two : times k (row 0 low ++ owned ss) ≡ times k (row 0 low) + times k (owned ss) = in_two k in
+          let same : times k (row 0 low ++ owned ss) ≡ times k (row 0 n) = shares k in
+          omega (arith, one, two, same);
+      all = λ k lane g step le get piece.
+          let long : length (whole first entries) ≡ length first + n =
+          length_seen (first ++ entries) ∙ length-append first entries in
+          let below : length first + k < length (whole first entries) =
+          place_below (whole first entries) (length first + k) (On lane step) get in
+          let in_row : times k (row 0 n) ≡ 1 =
+          times-row-in k 0 n (omega arith) (omega (arith, long, below)) in
+          let none : times k (row 0 low) ≡ 0 = times-row-above k 0 low (omega (arith, le)) in
+          let two : times k (row 0 low ++ owned ss) ≡ times k (row 0 low) + times k (owned ss) = in_two k in
+          let same : times k (row 0 low ++ owned ss) ≡ times k (row 0 n) = shares k in
+          omega (arith, in_row, none, two, same);
+    }
+
+module _ {D C L S : Type 0} (disks : DiskView D) (clocks : ClockView C) (links : LinkView L)
+    (stations : StationView S) (spells : List ℕ → Bool) (tells : TellsApdus spells) (first entries : List Step)
+    (limits : Limits) (at : LockId) (front : List Step) (base : Base) (based : AreEntries base first entries) where
+  -- the parts of all jobs, those of the last one first
+  record JobParts (js : List (Job S)) : Type 0 where
+    parts : List Segment
+    are : AreSegments (whole first entries) (length first) parts
+    sessions : AreSessions links spells first entries parts
+    owns : owned_by js ≡ owned parts
+
+  abbrev Begin : Job S → Type 0
+  Begin j = (j.pass.seen ≡ front) × (j.pass.base ≡ base) × (j.pass.own ≡ [])
+
+  abbrev Each : (dealt done : List (Job S)) → Type 0
+  Each dealt done =
+      (i : ℕ) (d : Job S) → i < length dealt
+      → JobDone disks clocks links stations limits at (slice_index_or dealt i d) (slice_index_or done i d)
+
+  job_parts : (j k : Job S) → Begin j → JobDone disks clocks links stations limits at j k → SawFront entries k
+      → AreParts links spells first entries j.pass k.pass
+  job_parts j k b d saw =
+      workers_have_parts disks clocks links stations spells first entries limits
+      (record { station = j.station; pass = j.pass; sessions = 0; closed = 0 }) k.station k.pass d.end tells
+      (subst (λ (z : Base). AreEntries z first entries) (sym b.1) based) d.did saw
+
+  jobs_parts : (dealt done : List (Job S)) → length done ≡ length dealt → All Begin dealt → Each dealt done
+      → All (SawFront entries) done → JobParts done
+  jobs_parts [] [] len begin each saw = record { parts = []; are = tt; sessions = tt; owns = refl }
+  jobs_parts [] (k ∷ ks) len begin each saw = absurd (omega (arith, len))
+  jobs_parts (j ∷ js) [] len begin each saw = absurd (omega (arith, len))
+  jobs_parts (j ∷ js) (k ∷ ks) len begin each saw =
+      let rest : JobParts ks =
+      jobs_parts js ks (omega (arith, len)) (λ i d l. begin (suc i) d (omega (arith, l)))
+      (λ i d l. each (suc i) d (omega (arith, l))) (λ i d l. saw (suc i) d (omega (arith, l))) in
+      let b : Begin j = begin 0 j (omega arith) in
+      let one : AreParts links spells first entries j.pass k.pass =
+      job_parts j k b (each 0 j (omega arith)) (saw 0 k (omega arith)) in
+      let own : k.pass.own ≡ owned one.parts = one.owns ∙ ap (λ (ns : List ℕ). ns ++ owned one.parts) b.2 in
+      record {
+        parts = rest.parts ++ one.parts;
+        are = segments_more (whole first entries) (length first) rest.parts one.parts rest.are one.are;
+        sessions =
+            sessions_more disks clocks links stations spells tells first entries rest.parts one.parts rest.sessions
+            one.sessions;
+        owns =
+            ap (λ (ns : List ℕ). ns ++ k.pass.own) rest.owns
+            ∙ ap (λ (ns : List ℕ). owned rest.parts ++ ns) own
+            ∙ sym (owned_more rest.parts one.parts);
+      }
+
+  all_parts : (dealt done : List (Job S)) → JobParts done
+      → ((p : ℕ) → times p (row 0 (length front) ++ owned_by done) ≡ times p (row 0 (length entries)))
+      → AllParts links spells first entries (length front)
+  all_parts dealt done js shares = record {
+    parts = js.parts;
+    sessions = js.sessions;
+    all =
+        shared_all first entries (length front) js.parts js.are
+        (λ p. ap (λ (ns : List ℕ). times p (row 0 (length front) ++ ns)) (sym js.owns) ∙ shares p);
+  }
+
+pub all_have_parts : {D C L S : Type 0} (disks : DiskView D) (clocks : ClockView C) (links : LinkView L)
+    (stations : StationView S) → AllHaveParts disks clocks links stations
+all_have_parts disks clocks links stations spells first front entries limits before after ends base tells based w =
+    all_parts disks clocks links stations spells tells first entries limits w.lock front base based w.dealt w.done
+    (jobs_parts disks clocks links stations spells tells first entries limits w.lock front base based w.dealt w.done
+    w.as_many w.begin w.each w.seen) w.shares
