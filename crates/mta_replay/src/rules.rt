@@ -160,6 +160,7 @@ pub trait Rules {
         item: &Item,
         moment: u64,
     ) -> Result<Option<Item>, Memory>
+        requires arrived { item.now.arrival ≤ last_moment }
         ensures { IfOk result (λ made. made
             ≡ option_map (own_item moment) (passed_back (text self.now) items.now item.now)) };
 
