@@ -1,5 +1,6 @@
 -- All entries that workers made are in parts of the history, no one in two.
-use Rattle.std.proofs.Common.{◌≡◌, ◌<◌, ◌≤◌, ℕ, zero, suc, ◌+◌, Bool, List, [], ◌∷◌, ◌++◌, length, Some, slice_index_or, All}
+use Rattle.std.proofs.Common.{◌≡◌, ◌<◌, ◌≤◌, ℕ, zero, suc, ◌+◌, Bool, List, [], ◌∷◌, ◌++◌, length, Some}
+use Rattle.std.proofs.Common.{slice_index_or, All}
 use Rattle.std.proofs.Common.{sym, ap, subst, refl, ◌∙◌, arith, slice_get}
 use Rattle.std.proofs.lemmas.List.{length-append}
 use Rattle.mta_edge.specs.Views.{ClockView, DiskView}
