@@ -41,7 +41,8 @@ def differs(document, wanted, got):
 def split(block):
     """The commands of a console block, and what they print."""
     lines = block.splitlines(keepends=True)
-    return "".join(it[2:] for it in lines if it.startswith("$ ")), "".join(it for it in lines if not it.startswith("$ "))
+    commands = [it[2:] for it in lines if it.startswith("$ ")]
+    return "".join(commands), "".join(it for it in lines if not it.startswith("$ "))
 
 
 def consoles(document, mta, made):
