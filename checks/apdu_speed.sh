@@ -1,6 +1,7 @@
 #!/usr/bin/env bash
-# Recipients a second in messages of 1, 40 and 1,000 recipients that mta_apdu reads and writes, 40,000 recipients of each, beside tshark, which
-# dissects and prints the same octets in one run. User time on this machine. Run it at the top of the repository.
+# Recipients a second in messages of 1, 40 and 1,000 recipients that mta_apdu reads and writes, 40,000 recipients of
+# each, beside tshark, which dissects and prints the same octets in one run. User time on this machine. Run it at the
+# top of the repository.
 set -u
 cd "$(dirname "$0")/.." || exit 2
 command -v rt >/dev/null || { echo "skipped: no rt"; exit 0; }

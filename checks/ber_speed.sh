@@ -17,5 +17,6 @@ for word in definite indefinite; do
     worst=$(printf '%s\n%s\n' "$worst" "$seconds" | sort -n | tail -n 1)
   done
   awk -v word="$word" -v best="$best" -v worst="$worst" 'BEGIN {
-    printf "%s: %.1f million elements a second (%.1f in the slowest of seven runs)\n", word, 5.60002 / best, 5.60002 / worst }'
+    printf "%s: %.1f million elements a second (%.1f in the slowest of seven runs)\n", word,
+      5.60002 / best, 5.60002 / worst }'
 done

@@ -1,6 +1,7 @@
 #!/usr/bin/env bash
-# Copies of a spool that are made while processes of `mta submit` append to it: each copy has to open, with the items 1 to some number, no fewer than
-# the copy before it. Run it at the top of the repository; `checks/copies.sh N` makes N copies (40).
+# Copies of a spool that are made while processes of `mta submit` append to it: each copy has to open, with the items
+# 1 to some number, no fewer than the copy before it. Run it at the top of the repository; `checks/copies.sh N` makes
+# N copies (40).
 set -u
 cd "$(dirname "$0")/.." || exit 2
 . checks/program.bash

@@ -1,6 +1,7 @@
 #!/usr/bin/env bash
-# `mta decode` of one message of 2 MiB beside `openssl asn1parse` of the same octets, and of 10,000 small messages, a run each, beside openssl, a run
-# each, and tshark, one run over all of them. User and system time of one run on this machine. Run it at the top of the repository.
+# `mta decode` of one message of 2 MiB beside `openssl asn1parse` of the same octets, and of 10,000 small messages, a
+# run each, beside openssl, a run each, and tshark, one run over all of them. User and system time of one run on this
+# machine. Run it at the top of the repository.
 set -u
 cd "$(dirname "$0")/.." || exit 2
 . checks/program.bash

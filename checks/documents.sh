@@ -1,6 +1,6 @@
 #!/usr/bin/env bash
-# The documents are true where a program can tell: each name that they cite exists, the manual pages are in order, and the text blocks of README.md
-# and docs/MANUAL.md are what the program prints. Run it at the top of the repository.
+# The documents are true where a program can tell: each name that they cite exists, the manual pages are in order, and
+# the text blocks of README.md and docs/MANUAL.md are what the program prints. Run it at the top of the repository.
 set -u
 cd "$(dirname "$0")/.." || exit 2
 wrong=0

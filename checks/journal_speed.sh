@@ -1,6 +1,7 @@
 #!/usr/bin/env bash
-# Appends a second to a journal in a file, beside a plain write and fdatasync of the same octets, in one run on this machine.
-# Run it at the top of the repository: checks/journal_speed.sh [FOLDER], where the files are made (a new one under /var/tmp).
+# Appends a second to a journal in a file, beside a plain write and fdatasync of the same octets, in one run on this
+# machine. Run it at the top of the repository: checks/journal_speed.sh [FOLDER], where the files are made (a new one
+# under /var/tmp).
 set -eu
 command -v rt >/dev/null || { echo "skipped: rt is not on the PATH"; exit 0; }
 cd "$(dirname "$0")/.."
@@ -24,7 +25,8 @@ fastest() {
   echo "$best"
 }
 
-echo "processors: $(nproc), load before: $(cut -d' ' -f1 /proc/loadavg), files on $(df --output=fstype "$made" | tail -n 1)"
+filesystem=$(df --output=fstype "$made" | tail -n 1)
+echo "processors: $(nproc), load before: $(cut -d' ' -f1 /proc/loadavg), files on $filesystem"
 printf '%8s %8s %16s %16s %8s\n' bodies octets 'appends/s' 'plain writes/s' ratio
 for size in 100 1000 10000 100000; do
   count=500

@@ -1,6 +1,6 @@
 #!/usr/bin/env bash
-# Turns a second with the lock, beside the standard library's Mutex in stock Rust, in one run on this machine.
-# Run it at the top of the repository: checks/lock_speed.sh [TURNS], TURNS of all threads together (1,200,000 by default).
+# Turns a second with the lock, beside the standard library's Mutex in stock Rust, in one run on this machine. Run it
+# at the top of the repository: checks/lock_speed.sh [TURNS], TURNS of all threads together (1,200,000 by default).
 # The figures depend on what else runs, so the two programs take turns, and the best of three runs counts.
 set -eu
 command -v rustc >/dev/null || { echo "skipped: rustc is not on the PATH"; exit 0; }

@@ -1,9 +1,10 @@
 #!/usr/bin/env python3
 """Says which names the documents cite that are not there: checks/names.py, at the top of the repository.
 
-In README.md and docs/*.md a name in backticks that looks like a path has to be a file or folder, one that begins with `mta_` a crate, and one with an
-underscore, a `::` or a capital inside a word of the sources or of the other documents' blocks. In docs/DEFINITIONS.md a name of the first column has to
-stand in one of the files that its row names. Links to files, and to headings in them, have to lead somewhere.
+In README.md and docs/*.md a name in backticks that looks like a path has to be a file or folder, one that begins
+with `mta_` a crate, and one with an underscore, a `::` or a capital inside a word of the sources or of the other
+documents' blocks. In docs/DEFINITIONS.md a name of the first column has to stand in one of the files that its row
+names. Links to files, and to headings in them, have to lead somewhere.
 """
 import glob
 import os
@@ -23,7 +24,8 @@ def text_of(path):
 
 
 def sources():
-    return [it for kind in ("rt", "antt") for it in glob.glob(f"crates/*/*/**/*.{kind}", recursive=True) if "/out/" not in it]
+    found = [it for kind in ("rt", "antt") for it in glob.glob(f"crates/*/*/**/*.{kind}", recursive=True)]
+    return [it for it in found if "/out/" not in it]
 
 
 def plain(text):
@@ -32,8 +34,9 @@ def plain(text):
 
 
 def is_there(path, crate):
-    places = ["", "crates/", "samples/", "docs/", "checks/", f"crates/{crate}/", f"crates/{crate}/src/", f"crates/{crate}/specs/"]
-    found = [f"{place}{path}" for place in [*places, "crates/*/", "crates/*/src/", "crates/*/specs/", "crates/*/proofs/"]]
+    own = [f"crates/{crate}/", f"crates/{crate}/src/", f"crates/{crate}/specs/"]
+    each = ["crates/*/", "crates/*/src/", "crates/*/specs/", "crates/*/proofs/"]
+    found = [f"{place}{path}" for place in ["", "crates/", "samples/", "docs/", "checks/", *own, *each]]
     return any(glob.glob(it.rstrip("/")) for it in found)
 
 

@@ -1,5 +1,5 @@
-"""The lines that `mta decode` prints for an APDU, as far as Wireshark's dissector of P1 shows them: identifiers, names, content types and
-outcomes of reports. Reads what `tshark -V` prints, and prints those lines."""
+"""The lines that `mta decode` prints for an APDU, as far as Wireshark's dissector of P1 shows them: identifiers, names,
+content types and outcomes of reports. Reads what `tshark -V` prints, and prints those lines."""
 import sys
 
 KEYS = {
@@ -102,7 +102,8 @@ def message(root, word):
     yield from content_type(root.find("content-type"))
     for node in root.all():
         if node.key in ("PerRecipientMessageTransferFields", "PerRecipientProbeTransferFields"):
-            yield f"recipient {node.find('originally-specified-recipient-number').value} {name(node.find('recipient-name'))}"
+            place = node.find("originally-specified-recipient-number").value
+            yield f"recipient {place} {name(node.find('recipient-name'))}"
 
 
 def report(root):

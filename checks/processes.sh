@@ -1,7 +1,8 @@
 #!/usr/bin/env bash
-# Processes of `mta submit` that are stopped with SIGKILL at random moments, the spool opened again after each stop: each number that was
-# printed has to be in the queue, no stop adds more than one item, and no item goes. Then processes side by side, which have to get different
-# numbers, all of them in the queue. Run it at the top of the repository; `checks/processes.sh N` makes N stops.
+# Processes of `mta submit` that are stopped with SIGKILL at random moments, the spool opened again after each stop:
+# each number that was printed has to be in the queue, no stop adds more than one item, and no item goes. Then
+# processes side by side, which have to get different numbers, all of them in the queue. Run it at the top of the
+# repository; `checks/processes.sh N` makes N stops.
 set -u
 cd "$(dirname "$0")/.." || exit 2
 . checks/program.bash

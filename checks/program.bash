@@ -1,6 +1,7 @@
-# Sourced by the checks that run the program. `program TOOL..` leaves, with a word and status 0, where a tool is missing. Else it sets `mta`, the
-# program's path, and `made`, a folder that goes when the check ends. The program is built where a source is newer than it; without words it
-# prints its usage line and ends with status 1, so that the status of `rt run` says nothing.
+# Sourced by the checks that run the program. `program TOOL..` leaves, with a word and status 0, where a tool is
+# missing. Else it sets `mta`, the program's path, and `made`, a folder that goes when the check ends. The program is
+# built where a source is newer than it; without words it prints its usage line and ends with status 1, so that the
+# status of `rt run` says nothing.
 program() {
   local tool
   for tool in rt "$@"; do

@@ -1,9 +1,11 @@
 #!/usr/bin/env python3
-"""Compares the text blocks of README.md and docs/MANUAL.md with what the program prints: checks/texts.py MTA, with MTA the program's path.
+"""Compares the text blocks of README.md and docs/MANUAL.md with what the program prints: checks/texts.py MTA, with MTA
+the program's path.
 
-A block marked `console` has commands behind `$ ` and what they print; the blocks of a document are run one behind the other, in a folder with the
-samples and contrib/message.py. A block marked `sh` is run as it stands, but for the line that calls ./demo, beside a folder samples/, and the block marked `text` behind it
-is what it prints. YYMMDDhhmmssZ stands for any moment. A block marked `tables` is a text of tables, which `submit` has to take.
+A block marked `console` has commands behind `$ ` and what they print; the blocks of a document are run one behind the
+other, in a folder with the samples and contrib/message.py. A block marked `sh` is run as it stands, but for the line
+that calls ./demo, beside a folder samples/, and the block marked `text` behind it is what it prints. YYMMDDhhmmssZ
+stands for any moment. A block marked `tables` is a text of tables, which `submit` has to take.
 """
 import os
 import re
@@ -39,7 +41,8 @@ def differs(document, wanted, got):
 def split(block):
     """The commands of a console block, and what they print."""
     lines = block.splitlines(keepends=True)
-    return "".join(it[2:] for it in lines if it.startswith("$ ")), "".join(it for it in lines if not it.startswith("$ "))
+    commands = [it[2:] for it in lines if it.startswith("$ ")]
+    return "".join(commands), "".join(it for it in lines if not it.startswith("$ "))
 
 
 def consoles(document, mta, made):

@@ -1,5 +1,5 @@
-/* Copies a stream of 750 units of 4,105 octets 300 times, in cuts of 1,500 octets, into a buffer of two units: what the framing of
-   units cannot do without. */
+/* Copies a stream of 750 units of 4,105 octets 300 times, in cuts of 1,500 octets, into a buffer of two units: what
+   the framing of units cannot do without. */
 #include <stdio.h>
 #include <stdlib.h>
 #include <string.h>

@@ -1,8 +1,9 @@
 #!/usr/bin/env python3
 """Builds `mta` without proofs: checks/unproved.py FILE.
 
-`rt try` compiles a program with run-time checks and no proof, runs it once in a folder of its own, and keeps no file. While it does, this
-script links the program that it runs to FILE. Status 0 where FILE is there and prints the usage line.
+`rt try` compiles a program with run-time checks and no proof, runs it once in a folder of its own, and keeps no
+file. While it does, this script links the program that it runs to FILE. Status 0 where FILE is there and prints the
+usage line.
 """
 import glob
 import os
@@ -16,7 +17,7 @@ TOP = os.path.dirname(os.path.dirname(os.path.abspath(__file__)))
 
 
 def linked(folder, to):
-    """Links each program that appears below the folder while `rt try` decodes a sample, and answers the last one's path."""
+    """Links each program that appears below the folder while `rt try` decodes a sample; the last one's path."""
     last, seen = None, set()
     with open(f"{TOP}/samples/message.ber", "rb") as sample, open(f"{to}.log", "wb") as log:
         words = ["rt", "try", "--", "decode"]

@@ -45,6 +45,11 @@ fn host_of(alloc: Global, host: &[u8]) -> Result<String, Memory> {
     }
 }
 
+// The port of a station's word, none of which has more than 65,535.
+fn port_of(port: u32) -> u16 {
+    u16::try_from(port).unwrap_or(u16::MAX)
+}
+
 // The station of a word.
 fn station_of<'a>(
     rt: &'a HostRuntime,
@@ -52,11 +57,11 @@ fn station_of<'a>(
 ) -> Result<TcpStation<'a, HostRuntime>, Memory> {
     let patience = Patience::usual();
     match word {
-        StationWord::In { port } => Ok(TcpStation::listening(rt, *port as u16, patience)),
+        StationWord::In { port } => Ok(TcpStation::listening(rt, port_of(*port), patience)),
         StationWord::Out { peer, host, port } => {
             let role = Role::Out(peer.copy(rt.alloc())?);
             let host = host_of(rt.alloc(), host.as_slice())?;
-            Ok(TcpStation::calling(rt, role, host, *port as u16, patience))
+            Ok(TcpStation::calling(rt, role, host, port_of(*port), patience))
         }
     }
 }

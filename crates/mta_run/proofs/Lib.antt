@@ -4,6 +4,7 @@ pub mod DiskStands
 pub mod Added
 pub mod Stored
 pub mod Dues
+pub mod SpoolServed
 pub mod Settled
 pub mod Worked
 pub mod HandedOn

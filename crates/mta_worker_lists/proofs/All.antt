@@ -1,6 +1,8 @@
 -- All entries that workers made are in parts of the history, no one in two.
-use Rattle.std.proofs.Common.{◌≡◌, ◌<◌, ◌≤◌, ℕ, zero, suc, ◌+◌, Bool, List, [], ◌∷◌, ◌++◌, length, Some, slice_index_or, All}
+use Rattle.std.proofs.Common.{◌≡◌, ◌<◌, ◌≤◌, ℕ, zero, suc, ◌+◌, Bool, List, [], ◌∷◌, ◌++◌, length, Some}
+use Rattle.std.proofs.Common.{slice_index_or, All, inl, inr}
 use Rattle.std.proofs.Common.{sym, ap, subst, refl, ◌∙◌, arith, slice_get}
+use Rattle.std.proofs.lemmas.Bool.{cases_lt}
 use Rattle.std.proofs.lemmas.List.{length-append}
 use Rattle.mta_edge.specs.Views.{ClockView, DiskView}
 use Rattle.mta_links.specs.Links.{LinkView, StationView}
@@ -57,6 +59,20 @@ shared_all first entries low ss are shares =
           omega (arith, in_row, none, two, same);
     }
 
+-- and none is before the first one that they share
+shared_later : (low n : ℕ) (own : List ℕ) → ((k : ℕ) → times k (row 0 low ++ own) ≡ times k (row 0 n)) → (k : ℕ)
+    → 0 < times k own → low ≤ k
+shared_later low n own shares k hit =
+    elim (cases_lt k low) [
+      | inl below ↦ absurd (
+          let one : times k (row 0 n) ≤ 1 = times-row-le k 0 n in
+          let two : times k (row 0 low ++ own) ≡ times k (row 0 low) + times k own = times-append k (row 0 low) own in
+          let same : times k (row 0 low ++ own) ≡ times k (row 0 n) = shares k in
+          let here : times k (row 0 low) ≡ 1 = times-row-in k 0 low (omega arith) (omega (arith, below)) in
+          omega (arith, one, two, same, here, hit))
+      | inr behind ↦ behind
+    ]
+
 module _ {D C L S : Type 0} (disks : DiskView D) (clocks : ClockView C) (links : LinkView L)
     (stations : StationView S) (spells : List ℕ → Bool) (tells : TellsApdus spells) (first entries : List Step)
     (limits : Limits) (at : LockId) (front : List Step) (base : Base) (based : AreEntries base first entries) where
@@ -110,13 +126,15 @@ module _ {D C L S : Type 0} (disks : DiskView D) (clocks : ClockView C) (links :
   all_parts : (dealt done : List (Job S)) → JobParts done
       → ((p : ℕ) → times p (row 0 (length front) ++ owned_by done) ≡ times p (row 0 (length entries)))
       → AllParts links spells first entries (length front)
-  all_parts dealt done js shares = record {
-    parts = js.parts;
-    sessions = js.sessions;
-    all =
-        shared_all first entries (length front) js.parts js.are
-        (λ p. ap (λ (ns : List ℕ). times p (row 0 (length front) ++ ns)) (sym js.owns) ∙ shares p);
-  }
+  all_parts dealt done js shares =
+      let theirs : (p : ℕ) → times p (row 0 (length front) ++ owned js.parts) ≡ times p (row 0 (length entries)) =
+      λ p. ap (λ (ns : List ℕ). times p (row 0 (length front) ++ ns)) (sym js.owns) ∙ shares p in
+      record {
+        parts = js.parts;
+        sessions = js.sessions;
+        all = shared_all first entries (length front) js.parts js.are theirs;
+        later = shared_later (length front) (length entries) (owned js.parts) theirs;
+      }
 
 pub all_have_parts : {D C L S : Type 0} (disks : DiskView D) (clocks : ClockView C) (links : LinkView L)
     (stations : StationView S) → AllHaveParts disks clocks links stations

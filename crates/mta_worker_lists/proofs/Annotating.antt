@@ -32,6 +32,10 @@ state_more : (s : State) (xs : List Step) (x : Step) → after_from s (xs ++ x �
 state_more s [] x = refl
 state_more s (y ∷ ys) x = state_more (after_step s y) ys x
 
+all_more : (s : State) (xs ys : List Step) → after_from s (xs ++ ys) ≡ after_from (after_from s xs) ys
+all_more s [] ys = refl
+all_more s (x ∷ xs) ys = all_more (after_step s x) xs ys
+
 -- ---- lists
 
 take_front : {A : Type 0} (xs ys : List A) → take (length xs) (xs ++ ys) ≡ xs
@@ -56,6 +60,13 @@ possible_behind xs y ys h = (rest_possible empty xs (y ∷ ys) h).0
 
 pub after_more : (xs : List Step) (x : Step) → after (xs ++ x ∷ []) ≡ after_step (after xs) x
 after_more xs x = state_more empty xs x
+
+-- what is behind a beginning was possible from there on, and leads from its state to the last one
+pub rest_history : (xs ys : List Step) → IsHistory (xs ++ ys) → ArePossible (after xs) ys
+rest_history xs ys h = rest_possible empty xs ys h
+
+pub after_all : (xs ys : List Step) → after (xs ++ ys) ≡ after_from (after xs) ys
+after_all xs ys = all_more empty xs ys
 
 -- a beginning is seen as it was seen when it was all
 pub seen_front : (xs ys : List Step) → take (length xs) (annotated (xs ++ ys)) ≡ annotated xs

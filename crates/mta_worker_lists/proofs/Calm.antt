@@ -47,9 +47,10 @@ is_looking (phase.AsksReceiving state) = true
 is_looking (phase.AsksResumed state) = true
 is_looking p = false
 
--- neither new, nor looking at its lane
+-- neither new, nor about to bind a lane, nor looking at it
 abbrev pub is_calm : Phase → Bool
 is_calm phase.Begin = false
+is_calm phase.AsksBind = false
 is_calm phase.AsksValues = false
 is_calm phase.AsksRecovery = false
 is_calm (phase.AsksReceiving state) = false
@@ -68,7 +69,7 @@ calm_looks p i = refl
 
 -- ---- what is wanted
 
-abbrev IsCalm : Wanted → Type 0
+abbrev pub IsCalm : Wanted → Type 0
 IsCalm (Asks a u) = is_calm u.phase ≡ true
 IsCalm (Puts x u) = is_calm u.phase ≡ true
 IsCalm (Reads u) = is_calm u.phase ≡ true
@@ -79,7 +80,7 @@ IsCalm (Rejects reason) = Unit {0}
 IsCalm (Ends e) = Unit {0}
 IsCalm Never = Unit {0}
 
-either : (b : Bool) (x y : Wanted) → IsCalm x → IsCalm y → IsCalm (cond b x y)
+pub either : (b : Bool) (x y : Wanted) → IsCalm x → IsCalm y → IsCalm (cond b x y)
 either true x y i j = i
 either false x y i j = j
 
@@ -117,7 +118,7 @@ excepts_calm t found (action.Ask (ask.DropActivity lane g k)) new x = there new 
 excepts_calm t found (action.Put (unit.Exception kind at)) new x = there new _ x.3 refl
 excepts_calm t found a new x = elim x [ ]
 
-does_calm : (t : State) (w : Wanted) (a : Action) (new : State) → IsCalm w → Does t w a new
+pub does_calm : (t : State) (w : Wanted) (a : Action) (new : State) → IsCalm w → Does t w a new
     → is_calm new.phase ≡ true
 does_calm t (Aborts reason) a new i d = there new _ d.1 refl
 does_calm t (Rejects reason) a new i d = there new _ d.1 refl

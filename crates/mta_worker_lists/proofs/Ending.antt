@@ -9,6 +9,7 @@ use Rattle.mta_links.specs.Links.{LinkView}
 use Rattle.mta_ends.specs.Lanes.{Seen}
 use Rattle.mta_records.specs.declared.step.Step.{Step}
 use Rattle.mta_histories.specs.History.{after, IsHistory}
+use Rattle.mta_session.specs.Fits.{Answers as SessionAnswers}
 use Rattle.mta_session.specs.State.{State as Session}
 use Rattle.mta_session.specs.declared.ask.Ask.{Ask}
 use Rattle.mta_session.specs.declared.ask.Reply.{Reply}
@@ -24,10 +25,9 @@ use Rattle.mta_shared.proofs.Fronts.{prefix_length, prefix_trans}
 use Rattle.mta_spool.specs.Shown.{Shown}
 use Rattle.mta_stations.specs.declared.end.Halt.{Halt}
 use Rattle.mta_worker.specs.Serving.{At, Given_up, IsServed, Stopped, To_its_end}
-use Rattle.mta_worker.specs.Turns.{At_look, At_reply, IsLost, IsLostAt, IsLostLooking, noted, told_reply}
+use Rattle.mta_worker.specs.Turns.{At_look, At_reply, IsLost, IsLostLooking, noted, told_reply}
 use Rattle.mta_worker.specs.declared.session.Served.{Served}
 use Rattle.mta_worker.specs.declared.telling.Lost.{Lost}
-use Rattle.mta_worker.specs.declared.telling.Lost.TheVariants as losts
 use Rattle.mta_worker_lists.specs.Begun.{IsDone, IsOver, made_over}
 use Rattle.mta_worker_lists.specs.Begun as over
 use Rattle.mta_worker_lists.specs.Histories.{AreEntries, TellsApdus, place, whole}
@@ -35,9 +35,11 @@ use Rattle.mta_worker_lists.specs.Leads.{AreCarried, entry_at, Leads, made_by, m
 use Rattle.mta_worker_lists.proofs.Calm.{is_looking}
 use Rattle.mta_worker_lists.proofs.Joining.{carried_more, leads_more, no_calls, none_carried, owns_more}
 use Rattle.mta_worker_lists.proofs.Going.{answers_grow, goes_base, goes_grow, goes_led, Reaches, run_ran, state_then}
-use Rattle.mta_worker_lists.proofs.Going.{turn_grows}
+use Rattle.mta_worker_lists.proofs.Going.{since_knows, turn_grows}
+use Rattle.mta_worker_lists.proofs.Heard.{look_answered, looks_mind, Minds, reply_answers, reply_minds}
+use Rattle.mta_worker_lists.proofs.Known.{Knows}
 use Rattle.mta_worker_lists.proofs.Turns.{calls_at, IsQuiet, look_comes, look_tells, looks_lead, looks_quiet, one_call}
-use Rattle.mta_worker_lists.proofs.Turns.{quiet_first, reply_comes, reply_entries, reply_stands, Stands}
+use Rattle.mta_worker_lists.proofs.Turns.{history_then, quiet_first, reply_comes, reply_entries, reply_stands, Stands}
 use Rattle.mta_worker_lists.proofs.Waits.{Waits}
 
 -- behind other calls
@@ -77,13 +79,11 @@ pub record Untold_at (spells : List ℕ → Bool) (history : List Seen) (n from 
   pub made : made_over n over ≡ made_by n upto (action.Ask q) (event.Reply x)
 
 untold : (spells : List ℕ → Bool) (history : List Seen) (n from upto : ℕ) (u : Session) (b : Action) (q : Ask)
-    (x : Reply) (lost : Lost) → b ≡ action.Ask q → IsLostAt u x lost
+    (x : Reply) → b ≡ action.Ask q → SessionAnswers u (event.Reply x)
     → ComesTrue spells history from upto u.phase (action.Ask q) (event.Reply x)
     → Untold_at spells history n from upto u b q x
-untold spells history n from upto u b q x losts.Memory asks why so =
-    record { over = over.Untold q x asks so why; made = refl }
-untold spells history n from upto u b q x losts.Lane asks why so =
-    record { over = over.Unanswered q x asks so why; made = refl }
+untold spells history n from upto u b q x asks answers so =
+    record { over = over.Untold q x asks so answers; made = refl }
 
 module _ {D C L : Type 0} (disks : DiskView D) (clocks : ClockView C) (links : LinkView L) (spells : List ℕ → Bool)
     (tells : TellsApdus spells) (first entries : List Step) where
@@ -104,9 +104,9 @@ module _ {D C L : Type 0} (disks : DiskView D) (clocks : ClockView C) (links : L
     -- The session is given up at a look, which it is not told. No entry is made then.
     pub looking_closed : (s : Shown D C) (t : Session) (a : Action) (halt halt' : Option Halt) (u : Session)
         (lost : Lost) (x : At L) → x.session ≡ t → x.action ≡ a → x.pass.seen ≡ s.entries
-        → Stands disks clocks spells tells first entries possible s
+        → Stands disks clocks spells tells first entries possible s → Minds disks clocks a t s.current
         → IsLostLooking disks clocks s t a halt u halt' lost → Closed x x.pass
-    looking_closed s t a halt halt' u lost x here wants sees st l = (
+    looking_closed s t a halt halt' u lost x here wants sees st m l = (
       calls,
       record {
         mid = x.pass;
@@ -157,8 +157,10 @@ module _ {D C L : Type 0} (disks : DiskView D) (clocks : ClockView C) (links : L
         end =
             subst (λ (n : ℕ). Untold_at spells history (length first) n n u (action.Ask l.question) l.question l.answer)
             there
-            (untold spells history (length first) (long s) (long s) u (action.Ask l.question) l.question l.answer lost
-            refl l.cause
+            (untold spells history (length first) (long s) (long s) u (action.Ask l.question) l.question l.answer refl
+            (look_answered disks clocks spells tells first entries possible l.question u l.answer s st
+            (looks_mind disks clocks spells tells first entries possible l.looked.turns s t a u (action.Ask l.question)
+            st m l.looked.looks) l.is_look l.answered)
             (look_comes disks clocks spells tells first entries possible l.question u l.answer s st l.is_look
             l.answered))
 
@@ -172,9 +174,9 @@ module _ {D C L : Type 0} (disks : DiskView D) (clocks : ClockView C) (links : L
         (pass : Held Step) → x.action ≡ action.Ask q → old.current ≡ after (first ++ old.entries)
         → IsPrefix new.entries entries → length x.pass.seen ≤ length old.entries → pass.seen ≡ new.entries
         → pass.own ≡ x.pass.own ++ row (length old.entries) (length new.entries - length old.entries)
-        → is_looking x.session.phase ≡ false → IsLost disks clocks q old x.session x.halt new u halt lost
-        → Closed x pass
-    turn_closed q old new halt u lost x pass asks state f shorter sees owned calm (At_reply y r why same is) = (
+        → is_looking x.session.phase ≡ false → Minds disks clocks (action.Ask q) x.session old.current
+        → IsLost disks clocks q old x.session x.halt new u halt lost → Closed x pass
+    turn_closed q old new halt u lost x pass asks state f shorter sees owned calm m (At_reply y r why same is) = (
       [],
       record {
         mid = x.pass;
@@ -199,9 +201,8 @@ module _ {D C L : Type 0} (disks : DiskView D) (clocks : ClockView C) (links : L
 
         end : Untold_at spells history (length first) (place first x.pass) (place first pass) x.session x.action q y
         end =
-            untold spells history (length first) (place first x.pass) (place first pass) x.session x.action q y lost
-            asks
-            why
+            untold spells history (length first) (place first x.pass) (place first pass) x.session x.action q y asks
+            (reply_answers disks clocks spells tells first entries possible q x.session y old new state f m r)
             (subst (λ (n : ℕ). ComesTrue spells history (place first x.pass) n x.session.phase (action.Ask q)
             (event.Reply y)) there
             (reply_comes disks clocks spells tells first entries possible q x.session y old new (place first x.pass)
@@ -213,9 +214,10 @@ module _ {D C L : Type 0} (disks : DiskView D) (clocks : ClockView C) (links : L
         entries_are =
             reply_entries disks clocks spells tells first entries possible q x.session y old new state f r
             ∙ ap (λ (n : ℕ). made_by (length first) n (action.Ask q) (event.Reply y)) there
-    turn_closed q old new halt u lost x pass asks state f shorter sees owned calm (At_look y v w r turn l) =
+    turn_closed q old new halt u lost x pass asks state f shorter sees owned calm m (At_look y v w r turn l) =
         let rest = looking_closed new v w (noted x.halt y) halt u lost behind refl refl sees
-        (reply_stands disks clocks spells tells first entries possible q x.session y old new state f r) l in (
+        (reply_stands disks clocks spells tells first entries possible q x.session y old new state f r)
+        (reply_minds disks clocks spells tells first entries possible q x.session y w v old new state f m r turn) l in (
           call ∷ [] ++ rest.0,
           done_behind links spells first entries x behind (call ∷ []) rest.0 pass led owns carried
               rest.1,
@@ -285,11 +287,12 @@ module _ {D C L : Type 0} (disks : DiskView D) (clocks : ClockView C) (links : L
 
   -- A session that is served is done with from there on.
   pub served_closed : (x : At L) (link : L) (pass : Held Step) (served : Served) → AreEntries x.pass.base first entries
-      → Waits x.action x.session → is_looking x.session.phase ≡ false → IsServed disks clocks links x link pass served
+      → Waits x.action x.session → is_looking x.session.phase ≡ false
+      → Knows x.session (after (first ++ x.pass.seen)) → IsServed disks clocks links x link pass served
       → IsPrefix pass.seen entries → Closed x pass
-  served_closed x link pass served are w calm (To_its_end zs y e g fin at same is halt) f =
+  served_closed x link pass served are w calm k (To_its_end zs y e g fin at same is halt) f =
       let here : IsPrefix y.pass.seen entries = subst (λ (h : Held Step). IsPrefix h.seen entries) same f in
-      let led = goes_led disks clocks links spells tells first entries x zs y are w calm g here in (
+      let led = goes_led disks clocks links spells tells first entries x zs y are w calm k g here in (
         led.calls,
         record {
           mid = y.pass;
@@ -308,9 +311,9 @@ module _ {D C L : Type 0} (disks : DiskView D) (clocks : ClockView C) (links : L
           carried = led.carried;
         },
       )
-  served_closed x link pass served are w calm (Stopped zs y t at g h same gives) f =
+  served_closed x link pass served are w calm k (Stopped zs y t at g h same gives) f =
       let here : IsPrefix y.pass.seen entries = subst (λ (z : Held Step). IsPrefix z.seen entries) same f in
-      let led = goes_led disks clocks links spells tells first entries x zs y are w calm g here in
+      let led = goes_led disks clocks links spells tells first entries x zs y are w calm k g here in
       let ran = run_ran spells history (length first) (Rose (links.faults y.link) (links.faults at))
       (place first y.pass)
       y.session y.action h.turns h.units h.octets t h.last led.waits led.still h.runs in
@@ -333,7 +336,7 @@ module _ {D C L : Type 0} (disks : DiskView D) (clocks : ClockView C) (links : L
           carried = none_carried links [] y.action y.link y.feed refl refl;
         },
       )
-  served_closed x link pass served are w calm (Given_up zs y q t halt lost g asks i gives) f =
+  served_closed x link pass served are w calm k (Given_up zs y q t halt lost g asks i gives) f =
       let left : pass.seen ≡ i.after.entries = ap (λ (h : Held Step). h.seen) i.left in
       let owned : pass.own
       ≡ y.pass.own ++ row (length i.before.entries) (length i.after.entries - length i.before.entries) =
@@ -343,14 +346,23 @@ module _ {D C L : Type 0} (disks : DiskView D) (clocks : ClockView C) (links : L
       turn_grows disks clocks (λ s s'. IsLost disks clocks q s y.session y.halt s' t halt lost) y.pass pass
       (λ s s'. lost_grows q y.session y.halt halt t lost s s') i in
       let here : IsPrefix y.pass.seen entries = prefix_trans y.pass.seen pass.seen entries grown_on f in
-      let led = goes_led disks clocks links spells tells first entries x zs y are w calm g here in
+      let led = goes_led disks clocks links spells tells first entries x zs y are w calm k g here in
       let base : y.pass.base ≡ x.pass.base = goes_base disks clocks links x zs y g in
       let are_then : AreEntries y.pass.base first entries =
       subst (λ (b : Base). AreEntries b first entries) (sym base) are in
       let state = state_then disks clocks i.before y.pass.base first entries i.keeps are_then in
       let shorter : length y.pass.seen ≤ length i.before.entries =
       prefix_length y.pass.seen i.before.entries i.begins in
+      let before : IsPrefix i.before.entries entries =
+      prefix_trans i.before.entries i.after.entries entries
+      (lost_grows q y.session y.halt halt t lost i.before i.after i.did) after_front in
+      let minds : Minds disks clocks (action.Ask q) y.session i.before.current = record {
+        waits = subst (λ (b : Action). Waits b y.session) asks led.waits;
+        knows =
+            since_knows y.session first y.pass.seen i.before i.begins
+            (history_then disks clocks spells tells first entries are.possible i.before before) state led.still
+            led.knows;
+      } in
       behind_led x y pass led
       (turn_closed are.possible q i.before i.after halt t lost y pass asks state after_front shorter left owned
-      led.still
-      i.did)
+      led.still minds i.did)

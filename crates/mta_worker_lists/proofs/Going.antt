@@ -1,6 +1,6 @@
 -- All that is done for a session, one thing after another, are calls of it that the history has.
 use Rattle.std.proofs.Common.{◌≡◌, ℕ, ◌+◌, ◌≤◌, Bool, List, [], ◌∷◌, ◌++◌, length, map, false, refl, sym, ap, subst}
-use Rattle.std.proofs.Common.{◌∙◌, ◌-◌, append-nil, inl, inr, arith}
+use Rattle.std.proofs.Common.{◌∙◌, ◌⊎◌, ◌-◌, append-nil, append_assoc, inl, inr, arith, true}
 use mathlib.Core.List.{IsPrefix}
 use Rattle.mta_edge.specs.Causes.{Rose}
 use Rattle.mta_edge.specs.Views.{ClockView, DiskView}
@@ -13,7 +13,8 @@ use Rattle.mta_records.specs.declared.step.Step.{Step}
 use Rattle.mta_records.specs.Body.{body_of}
 use Rattle.mta_records.proofs.Records.{body_same}
 use Rattle.mta_units.specs.declared.unit.Unit.{Unit as AnyUnit}
-use Rattle.mta_histories.specs.History.{after}
+use Rattle.mta_histories.specs.History.{after, IsHistory}
+use Rattle.mta_histories.specs.Lanes.{State}
 use Rattle.mta_images.specs.Image.{AreRecords}
 use Rattle.mta_session.specs.State.{State as Session}
 use Rattle.mta_session.specs.declared.ask.Ask.{Ask}
@@ -37,11 +38,13 @@ use Rattle.mta_worker.specs.Turns.{HasAnswered, Replied}
 use Rattle.mta_worker.proofs.Growing.{replied_grows}
 use Rattle.mta_worker_lists.specs.Histories.{AreEntries, TellsApdus, place, whole}
 use Rattle.mta_worker_lists.specs.Leads.{AreCarried, got_in, Leads, made_by, made_in, PutBy, PutIn}
-use Rattle.mta_worker_lists.proofs.Calm.{is_looking}
+use Rattle.mta_worker_lists.proofs.Calm.{is_calm, is_looking}
+use Rattle.mta_worker_lists.proofs.Heard.{Minds, turn_minds}
 use Rattle.mta_worker_lists.proofs.Joining.{carried_more, got_more, leads_more, made_more, no_calls, none_carried}
 use Rattle.mta_worker_lists.proofs.Joining.{owns_more, put_more}
-use Rattle.mta_worker_lists.proofs.Turns.{turn_leads}
-use Rattle.mta_worker_lists.proofs.Waits.{calls_wait, looks_not, run_still, Waits, waits_next}
+use Rattle.mta_worker_lists.proofs.Known.{between_knows, calm_knows, Knows}
+use Rattle.mta_worker_lists.proofs.Turns.{history_then, reply_stands, turn_leads}
+use Rattle.mta_worker_lists.proofs.Waits.{calls_wait, looks_not, run_calm, run_still, Waits, waits_next}
 
 -- ---- the history that opening gave
 
@@ -83,6 +86,17 @@ module _ {D C : Type 0} (disks : DiskView D) (clocks : ClockView C) where
       → q.base ≡ p.base
   turn_base done p q i = ap (λ (h : Held Step). h.base) i.left
 
+-- what a session knows of its lane it knows in a later state too
+pub since_knows : {D C : Type 0} (t : Session) (first seen : List Step) (s : Shown D C) → IsPrefix seen s.entries
+    → IsHistory (first ++ s.entries) → s.current ≡ after (first ++ s.entries) → is_looking t.phase ≡ false
+    → Knows t (after (first ++ seen)) → Knows t s.current
+since_knows t first seen s front history state calm k =
+    let parts : (first ++ seen) ++ front.0 ≡ first ++ s.entries =
+    append_assoc first seen front.0 ∙ ap (λ (xs : List Step). first ++ xs) front.1 in
+    subst (λ (z : State). Knows t z) (sym state)
+    (subst (λ (xs : List Step). Knows t (after xs)) parts
+    (between_knows t (first ++ seen) front.0 (subst (λ (xs : List Step). IsHistory xs) (sym parts) history) calm k))
+
 -- ---- a session that is carried on
 
 -- what was put for an action, and what comes of it
@@ -116,6 +130,8 @@ module _ (spells : List ℕ → Bool) (history : List Seen) (n : ℕ) where
     pub made : made_in n a calls ≡ []
     pub waits : Waits b u
     pub still : is_looking u.phase ≡ false
+    -- where it was told anything, it is not about to bind a lane
+    pub left : (u ≡ t) ⊎ (is_calm u.phase ≡ true)
 
   -- one call more
   ran_more : (k : ℕ) (t v w : Session) (a c d : Action) (e : Event) (us : List AnyUnit) (octets piece : List ℕ)
@@ -148,6 +164,7 @@ module _ (spells : List ℕ → Bool) (history : List Seen) (n : ℕ) where
             ∙ ap (λ (z : Action). made_by n k z e) last ∙ none_made n k c e piece put;
         waits = waits_next call.turn turn x.waits.due;
         still = run_still call.turn c piece turn x.waits x.still put;
+        left = inr (run_calm call.turn c piece turn x.waits x.still put);
       }
 
   pub run_ran : (failed : Type 0) (k : ℕ) (t : Session) (a : Action) (xs : List Turn) (us : List AnyUnit)
@@ -161,6 +178,7 @@ module _ (spells : List ℕ → Bool) (history : List Seen) (n : ℕ) where
     made = refl;
     waits = w;
     still = i;
+    left = inl refl;
   }
   run_ran failed k t a xs us octets u b w i (Goes_on ys vs os v c e d x piece r turn put cut) =
       ran_more k t v x a c d e vs os piece (run_ran failed k t a ys vs os v c w i r) turn put
@@ -215,15 +233,18 @@ module _ {D C L : Type 0} (disks : DiskView D) (clocks : ClockView C) (links : L
       pub carried : AreCarried links x.action calls x.link x.feed y.link y.feed
       pub waits : Waits y.action y.session
       pub still : is_looking y.session.phase ≡ false
+      pub knows : Knows y.session (after (first ++ y.pass.seen))
 
-    pub reaches_self : (x : At L) → Waits x.action x.session → is_looking x.session.phase ≡ false → Reaches x x
-    reaches_self x w i = record {
+    pub reaches_self : (x : At L) → Waits x.action x.session → is_looking x.session.phase ≡ false
+        → Knows x.session (after (first ++ x.pass.seen)) → Reaches x x
+    reaches_self x w i k = record {
       calls = [];
       leads = no_calls spells history (place first x.pass) x.session x.action;
       owns = sym (append-nil x.pass.own);
       carried = none_carried links [] x.action x.link x.feed refl refl;
       waits = w;
       still = i;
+      knows = k;
     }
 
     pub reaches_more : (x y z : At L) → Reaches x y → Reaches y z → Reaches x z
@@ -240,12 +261,13 @@ module _ {D C L : Type 0} (disks : DiskView D) (clocks : ClockView C) (links : L
           a.carried b.carried;
       waits = b.waits;
       still = b.still;
+      knows = b.knows;
     }
 
     does_led : (x z : At L) → AreEntries x.pass.base first entries → Waits x.action x.session
-        → is_looking x.session.phase ≡ false → Does disks clocks links x z → IsPrefix z.pass.seen entries
-        → Reaches x z
-    does_led x z are w calm (Carries came carried_on wanted pass halt) front =
+        → is_looking x.session.phase ≡ false → Knows x.session (after (first ++ x.pass.seen))
+        → Does disks clocks links x z → IsPrefix z.pass.seen entries → Reaches x z
+    does_led x z are w calm k (Carries came carried_on wanted pass halt) front =
         let n : ℕ = place first x.pass in
         let run = carried_on.run in
         let ran = run_ran spells history (length first) (Rose (links.faults x.link) (links.faults z.link)) n x.session
@@ -269,8 +291,14 @@ module _ {D C L : Type 0} (disks : DiskView D) (clocks : ClockView C) (links : L
           };
           waits = subst (λ (b : Action). Waits b z.session) (sym wanted) ran.waits;
           still = ran.still;
+          knows =
+              elim ran.left [
+                | inl same ↦ subst (λ (h : Held Step). Knows z.session (after (first ++ h.seen))) (sym pass)
+                    (subst (λ (t : Session). Knows t (after (first ++ x.pass.seen))) (sym same) k)
+                | inr still ↦ calm_knows z.session.phase z.session (after (first ++ z.pass.seen)) still
+              ];
         }
-    does_led x z are w calm (Answers q asks i same_link same_feed) front =
+    does_led x z are w calm k (Answers q asks i same_link same_feed) front =
         let n : ℕ = place first x.pass in
         let left : z.pass.seen ≡ i.after.entries = ap (λ (h : Held Step). h.seen) i.left in
         let owned : z.pass.own
@@ -286,6 +314,16 @@ module _ {D C L : Type 0} (disks : DiskView D) (clocks : ClockView C) (links : L
         let waits_then : Waits z.action z.session =
         subst (λ (b : Action). Waits b z.session) led.leads.wanted
         (calls_wait led.calls (action.Ask q) x.session z.session waits led.leads.calls_are) in
+        let before : IsPrefix i.before.entries entries =
+        prefix_trans i.before.entries i.after.entries entries
+        (answers_grow q x.session i.before i.after i.did.answer i.did.replied) behind in
+        let knew : Knows x.session i.before.current =
+        since_knows x.session first x.pass.seen i.before i.begins
+        (history_then disks clocks spells tells first entries are.possible i.before before) state calm k in
+        let minds = turn_minds disks clocks spells tells first entries are.possible q x.session x.halt i.before i.after
+        z.session z.action z.halt state behind (record { waits = waits; knows = knew }) i.did in
+        let stands = reply_stands disks clocks spells tells first entries are.possible q x.session i.did.answer i.before
+        i.after state behind i.did.replied in
         record {
           calls = led.calls;
           leads =
@@ -303,16 +341,20 @@ module _ {D C L : Type 0} (disks : DiskView D) (clocks : ClockView C) (links : L
               (none_carried links led.calls (action.Ask q) x.link x.feed led.quiet.got led.quiet.put)));
           waits = waits_then;
           still = looks_not z.action z.session waits_then i.did.all_looked;
+          knows =
+              subst (λ (xs : List Step). Knows z.session (after (first ++ xs))) (sym left)
+              (subst (λ (s : State). Knows z.session s) stands.state minds.knows);
         }
 
     pub goes_led : (x : At L) (zs : List (At L)) (y : At L) → AreEntries x.pass.base first entries
-        → Waits x.action x.session → is_looking x.session.phase ≡ false → Goes disks clocks links x zs y
+        → Waits x.action x.session → is_looking x.session.phase ≡ false
+        → Knows x.session (after (first ++ x.pass.seen)) → Goes disks clocks links x zs y
         → IsPrefix y.pass.seen entries → Reaches x y
-    goes_led x [] y are w calm g front = subst (λ (z : At L). Reaches x z) (sym g) (reaches_self x w calm)
-    goes_led x (z ∷ zs) y are w calm g front =
+    goes_led x [] y are w calm k g front = subst (λ (z : At L). Reaches x z) (sym g) (reaches_self x w calm k)
+    goes_led x (z ∷ zs) y are w calm k g front =
         let grown_on = goes_grow z zs y g.1 in
-        let one = does_led x z are w calm g.0 (prefix_trans z.pass.seen y.pass.seen entries grown_on front) in
+        let one = does_led x z are w calm k g.0 (prefix_trans z.pass.seen y.pass.seen entries grown_on front) in
         let base : z.pass.base ≡ x.pass.base = does_base x z g.0 in
         reaches_more x z y one
-        (goes_led z zs y (subst (λ (b : Base). AreEntries b first entries) (sym base) are) one.waits one.still g.1
-        front)
+        (goes_led z zs y (subst (λ (b : Base). AreEntries b first entries) (sym base) are) one.waits one.still
+        one.knows g.1 front)

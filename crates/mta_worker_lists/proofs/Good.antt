@@ -17,7 +17,7 @@ use Rattle.mta_session_lists.specs.Laws.{ListsAreGood, ListsMayStop, OpensFirst,
 use Rattle.mta_session_lists.specs.Lists.{AreValues, completed, Initiates, IsListOf, Responds}
 use Rattle.mta_session_lists.specs.Lost.{IsLost, Lost, seen_of, stopped}
 use Rattle.mta_session_lists.specs.Standing.{AllComeTrue, ComesTrue}
-use Rattle.mta_worker_lists.specs.Begun.{Calls, Ended, GiveNone, IsNewAt, IsOver, Listens, Stopped, Unanswered}
+use Rattle.mta_worker_lists.specs.Begun.{Calls, Ended, GiveNone, IsNewAt, IsOver, Listens, Stopped}
 use Rattle.mta_worker_lists.specs.Begun.{Untold}
 use Rattle.mta_worker_lists.specs.Good.{IsListOver, SessionsAreGood, SessionsHaveLists}
 use Rattle.mta_worker_lists.specs.Leads.{Leads}
@@ -135,7 +135,6 @@ module _ (whole : ListsAreGood) (may_stop : ListsMayStop) (spells : List ℕ →
   over_good m u b from mid upto led (Stopped same) so owns = told_good m u so led.calls_are owns
   over_good m u b from mid upto led (Untold q x is true_ answers) so owns =
       untold_good m u b from mid upto q x so.0 so.2 led is true_ answers so.1 owns
-  over_good m u b from mid upto led (Unanswered q x is true_ none) so owns = absurd so
 
 pub sessions_good : ListsAreGood → ListsMayStop → SessionsAreGood
 sessions_good whole may_stop spells history from mid upto t u b calls lane l m size window allow new led over is_list so

@@ -11,8 +11,10 @@ use Rattle.mta_records.specs.declared.step.Step.{Step}
 use Rattle.mta_records.specs.declared.lane.LaneRole.TheVariants.{Initiator}
 use Rattle.mta_histories.specs.Lanes.{State}
 use Rattle.mta_histories.specs.History.{after, IsHistory}
-use Rattle.mta_session.specs.State.{State as Session}
+use Rattle.mta_session.specs.Follows.{Does, Follows}
+use Rattle.mta_session.specs.State.{in_phase, State as Session}
 use Rattle.mta_session.specs.Session.{new_initiator}
+use Rattle.mta_session.specs.Wanted.{Asks, opens}
 use Rattle.mta_session.specs.declared.ask.Ask.{Ask}
 use Rattle.mta_session.specs.declared.ask.Ask.TheVariants as ask
 use Rattle.mta_session.specs.declared.ask.Reply.{Reply}
@@ -21,6 +23,7 @@ use Rattle.mta_session.specs.declared.event.Action.{Action}
 use Rattle.mta_session.specs.declared.event.Action.TheVariants as action
 use Rattle.mta_session.specs.declared.event.Event.TheVariants as event
 use Rattle.mta_session.specs.declared.event.InitiatorPlan.{InitiatorPlan}
+use Rattle.mta_session.specs.declared.phase.Phase.TheVariants as phase
 use Rattle.mta_session_laws.specs.Runs.{IsTurn}
 use Rattle.mta_session_lists.specs.Calls.{Call, StepOn, step_told}
 use Rattle.mta_session_lists.specs.Lists.{step_for}
@@ -48,7 +51,10 @@ use Rattle.mta_worker_lists.specs.Leads.{Leads}
 use Rattle.mta_worker_lists.proofs.Calm.{is_looking}
 use Rattle.mta_worker_lists.proofs.Ending.{Closed, done_behind, looking_closed}
 use Rattle.mta_worker_lists.proofs.Joining.{leads_more, no_calls, none_carried}
-use Rattle.mta_worker_lists.proofs.Making.{Makes}
+use Rattle.mta_worker_lists.proofs.Heard.{looks_mind, Minds}
+use Rattle.mta_worker_lists.proofs.Known.{Knows}
+use Rattle.mta_worker_lists.proofs.Knowing.{IsBound, lane_bound}
+use Rattle.mta_worker_lists.proofs.Making.{Makes, WasPossible}
 use Rattle.mta_worker_lists.proofs.Telling.{answer_made}
 use Rattle.mta_worker_lists.proofs.Turns.{calls_at, IsQuiet, looks_lead, looks_quiet, made_entries, made_stands}
 use Rattle.mta_worker_lists.proofs.Turns.{stands_next, Stands as StandsNow, was_possible}
@@ -68,6 +74,7 @@ binds_old s peer n p (Binds tables line lane now is agreed) = refl
 pub record IsPlanned (q : Ask) (y : Reply) (plan : InitiatorPlan) : Type 0 where
   pub told : step_told q y ≡ Some (step_for plan)
   pub opens : plan.recovering ≡ false → plan.generation ≡ 1
+  pub binds : plan.recovering ≡ true → (q ≡ ask.Bind plan.lane) × (y ≡ reply.Bind (Ok plan.generation))
 
 abbrev as_planned : (p : InitiatorPlan) (lane g : ℕ) → Bool → Option StepOn
 as_planned p lane g b =
@@ -89,14 +96,23 @@ open_planned : (p : InitiatorPlan) (q : Ask) (lane : ℕ) (plan : InitiatorPlan)
 open_planned p q lane plan new is so =
     subst (λ (z : Ask). IsPlanned z (reply.LaneOpen (Ok lane)) plan) is
     (subst (λ (z : InitiatorPlan). IsPlanned (ask.LaneOpen Initiator p.peer p.reference p.twa p.checkpoint p.window)
-    (reply.LaneOpen (Ok lane)) z) so (record { told = new_step p lane new; opens = λ e. refl }))
+    (reply.LaneOpen (Ok lane)) z) so
+    (record {
+      told = new_step p lane new;
+      opens = λ e. refl;
+      binds = λ e. absurd (let both : false ≡ true = sym new ∙ e in cc);
+    }))
 
 bind_planned : (n : ℕ) (p : InitiatorPlan) (q : Ask) (g : ℕ) (plan : InitiatorPlan) → p.recovering ≡ true
     → ask.Bind n ≡ q → on_lane p n g ≡ plan → IsPlanned q (reply.Bind (Ok g)) plan
 bind_planned n p q g plan old is so =
     subst (λ (z : Ask). IsPlanned z (reply.Bind (Ok g)) plan) is
     (subst (λ (z : InitiatorPlan). IsPlanned (ask.Bind n) (reply.Bind (Ok g)) z) so
-    (record { told = old_step p n g old; opens = λ e. absurd (let both : true ≡ false = sym old ∙ e in cc) }))
+    (record {
+      told = old_step p n g old;
+      opens = λ e. absurd (let both : true ≡ false = sym old ∙ e in cc);
+      binds = λ e. (refl, refl);
+    }))
 
 same_some : {A : Type 0} (x y : A) → Some x ≡ Some y → x ≡ y
 same_some x y e = cc
@@ -146,6 +162,37 @@ module _ {D C : Type 0} (disks : DiskView D) (clocks : ClockView C) where
 
   -- ---- its first calls
 
+  -- a lane that was bound is open, in the plan's generation
+  bound_lane : (plan : InitiatorPlan) (q : Ask) (y : Reply) (old new : Shown D C) → Answered disks clocks q old y new
+      → WasPossible old new → (q ≡ ask.Bind plan.lane) × (y ≡ reply.Bind (Ok plan.generation))
+      → IsBound plan.lane plan.generation old.current new.current
+  bound_lane plan q y old new a may is =
+      let asked : Answered disks clocks (ask.Bind plan.lane) old y new =
+      subst (λ (z : Ask). Answered disks clocks z old y new) is.0 a in
+      lane_bound disks clocks plan.lane plan.generation old new
+      (subst (λ (z : Reply). Answered disks clocks (ask.Bind plan.lane) old z new) is.1 asked) may
+
+  first_knows : (plan : InitiatorPlan) (units : ℕ) (one : Action) (t : Session) (old new : State)
+      → Follows (new_initiator plan units) event.Go one t
+      → (plan.recovering ≡ true → IsBound plan.lane plan.generation old new) → Knows t new
+  first_knows plan units one t old new follows bound = by_plan plan.recovering refl follows
+    where
+      fresh : Session
+      fresh = new_initiator plan units
+
+      by_plan : (b : Bool) → plan.recovering ≡ b
+          → Does fresh (cond b (Asks (ask.Values fresh.lane) (in_phase fresh phase.AsksValues)) (opens plan fresh)) one t
+          → Knows t new
+      by_plan true e d =
+          let is = bound e in
+          subst (λ (z : Session). Knows z new) (sym d.1) (record {
+            lane = is.lane;
+            lane_is = is.lane_is;
+            looked = is.generation_is;
+            role = tt;
+          })
+      by_plan false e d = subst (λ (z : Session). Knows z new) (sym d.1) tt
+
   module _ (spells : List ℕ → Bool) (tells : TellsApdus spells) (first entries : List Step)
       (possible : IsHistory (first ++ entries)) where
     abbrev history : List Seen
@@ -172,6 +219,8 @@ module _ {D C : Type 0} (disks : DiskView D) (clocks : ClockView C) where
       pub quiet : IsQuiet disks clocks spells tells first entries possible action.Read calls []
       pub waits : Waits b u
       pub still : is_looking u.phase ≡ false
+      pub knows : Knows u new.current
+      pub stands : new.current ≡ after (first ++ new.entries)
 
     back : (n : ℕ) → 0 < n → n - 1 + 1 ≡ n
     back n l = omega (arith, l)
@@ -240,6 +289,19 @@ module _ {D C : Type 0} (disks : DiskView D) (clocks : ClockView C) where
     first_quiet t new one u looks quiet =
         record { got = quiet.got; put = ([], [], refl, quiet.put, refl); made = quiet.made }
 
+    -- the session knows its lane behind that call
+    first_minds : (units : ℕ) (old new : Shown D C) (halt halt' : Option Halt) (u : Session) (r : Result Action Lost)
+        (one : Action) (t : Session) → old.current ≡ after (first ++ old.entries) → IsPrefix new.entries entries
+        → (w : BeginsWith disks clocks units old new halt u halt' r)
+        → IsTurn (first_call (new_initiator w.plan units) new one t).turn → Minds disks clocks one t new.current
+    first_minds units old new halt halt' u r one t state f w turn = record {
+      waits = waits_next (first_call (new_initiator w.plan units) new one t).turn turn refl;
+      knows =
+          first_knows w.plan units one t old.current new.current turn.follows
+          (λ e. bound_lane w.plan w.question w.answer old new w.answered
+          (was_possible disks clocks spells tells first entries possible old new state f) (w.planned.binds e));
+    }
+
     pub begins_led : (units : ℕ) (old new : Shown D C) (pass : Held Step) (halt halt' : Option Halt) (u : Session)
         (b : Action) → pass.seen ≡ new.entries → old.current ≡ after (first ++ old.entries)
         → IsPrefix new.entries entries → BeginsWith disks clocks units old new halt u halt' (Ok b)
@@ -271,6 +333,11 @@ module _ {D C : Type 0} (disks : DiskView D) (clocks : ClockView C) where
                   looked.looks);
               waits = waits;
               still = looks_not b u waits none;
+              knows =
+                  (looks_mind disks clocks spells tells first entries possible looked.turns new t one u b
+                  (stands_there units old new halt halt' u (Ok b) state f w)
+                  (first_minds units old new halt halt' u (Ok b) one t state f w turn) looked.looks).knows;
+              stands = (stands_there units old new halt halt' u (Ok b) state f w).state;
             }
 
     -- It is given up in the turn of the lock in which it began.
@@ -328,7 +395,8 @@ module _ {D C : Type 0} (disks : DiskView D) (clocks : ClockView C) where
               let quiet = first_quiet fresh new one t [] (record { got = refl; put = refl; made = refl }) in
               let rest = looking_closed disks clocks links spells tells first entries possible new t one halt halt' u
               l x
-              refl refl sees (stands_there units old new halt halt' u (Err lost) state f w) looking in
+              refl refl sees (stands_there units old new halt halt' u (Err lost) state f w)
+              (first_minds units old new halt halt' u (Err lost) one t state f w turn) looking in
               let led : Leads spells history (place first pass) fresh action.Read (call ∷ []) (place first pass) t one =
               subst (λ (xs : List Step). Leads spells history (length first + length xs) fresh action.Read (call ∷ [])
               (length first + length xs) t one) (sym sees) (first_leads fresh new one t turn) in

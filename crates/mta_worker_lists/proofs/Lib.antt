@@ -6,6 +6,11 @@ pub mod Truth
 pub mod Turns
 pub mod Calm
 pub mod Waits
+pub mod Known
+pub mod Replying
+pub mod Suiting
+pub mod Knowing
+pub mod Heard
 pub mod Going
 pub mod Ending
 pub mod Responding
@@ -23,3 +28,4 @@ pub mod Parts
 pub mod Worked
 pub mod Workers
 pub mod All
+pub mod AllGood

@@ -13,6 +13,8 @@ use Rattle.mta_records.specs.Reference.{Identifier}
 use Rattle.mta_records.specs.declared.fault.StepFault.{StepFault}
 use Rattle.mta_records.specs.declared.lane.LaneRole.TheVariants.{Initiator}
 use Rattle.mta_records.specs.declared.step.Step.{Step}
+use Rattle.mta_histories.specs.History.{after}
+use Rattle.mta_histories.specs.Lanes.{State}
 use Rattle.mta_units.specs.Feed.{no_feed}
 use Rattle.mta_session.specs.State.{State as Session}
 use Rattle.mta_session.specs.Follows.{Follows}
@@ -57,6 +59,7 @@ use Rattle.mta_worker_lists.proofs.Ending.{done_behind, served_closed, served_gr
 use Rattle.mta_worker_lists.proofs.Going.{state_then, turn_base, turn_grows}
 use Rattle.mta_worker_lists.proofs.Initiating.{begins_led, begins_lost, Led, Lost_there, readied_begins}
 use Rattle.mta_worker_lists.proofs.Joining.{no_calls, none_carried}
+use Rattle.mta_worker_lists.proofs.Known.{Knows}
 use Rattle.mta_worker_lists.proofs.Making.{Makes, not_bound, refused}
 use Rattle.mta_worker_lists.proofs.Owned.{none_hit, one_hit}
 use Rattle.mta_worker_lists.proofs.Telling.{answer_made}
@@ -66,6 +69,10 @@ use Rattle.mta_worker_lists.proofs.Waits.{waits_next}
 listens_first : (own : List ℕ) (units : ℕ) (first : Action) (t : Session)
     → Follows (new_responder own units) event.Go first t → is_looking t.phase ≡ false
 listens_first own units first t f = ap (λ (z : Session). is_looking z.phase) f.1
+
+listens_knows : (own : List ℕ) (units : ℕ) (first : Action) (t : Session) (s : State)
+    → Follows (new_responder own units) event.Go first t → Knows t s
+listens_knows own units first t s f = subst (λ (z : Session). Knows z s) (sym f.1) tt
 
 module _ {D C L : Type 0} (disks : DiskView D) (clocks : ClockView C) (links : LinkView L) (spells : List ℕ → Bool)
     (tells : TellsApdus spells) (first entries : List Step) where
@@ -139,7 +146,8 @@ module _ {D C L : Type 0} (disks : DiskView D) (clocks : ClockView C) (links : L
         halt = None;
       } in
       let rest = served_closed disks clocks links spells tells first entries x new q served are
-      (waits_next call.turn turn refl) (listens_first own units one t turn.follows) is f in
+      (waits_next call.turn turn refl) (listens_first own units one t turn.follows)
+      (listens_knows own units one t (after (first ++ mid.seen)) turn.follows) is f in
       record {
         new = fresh;
         begun = mid;
@@ -248,7 +256,9 @@ module _ {D C L : Type 0} (disks : DiskView D) (clocks : ClockView C) (links : L
       } in
       let rest = served_closed disks clocks links spells tells first entries x new q served
       (turn_then (λ s t. IsReadied disks clocks peer units s None t noted (ready.Begins u (Ok one))) mid at are i)
-      led.waits led.still is f in
+      led.waits led.still
+      (subst (λ (xs : List Step). Knows u (after (first ++ xs))) (sym left)
+      (subst (λ (s : State). Knows u s) led.stands led.knows)) is f in
       record {
         new = fresh;
         begun = at;

@@ -50,7 +50,7 @@ module _ {D C : Type 0} where
   pub unchanged : (old new : Shown D C) → IsUnchanged old new → Makes None old new
   unchanged old new u = (u.2, u.1)
 
-past_last : {T : Type 0} (x : T) (b : Bool) (e f : StepFault) → Ok x ≡ cond b (Err e) (Err f) → ⊥
+pub past_last : {T : Type 0} (x : T) (b : Bool) (e f : StepFault) → Ok x ≡ cond b (Err e) (Err f) → ⊥
 past_last x true e f is = cc
 past_last x false e f is = cc
 

@@ -14,7 +14,7 @@ use Rattle.mta_worker_lists.specs.Segments.{ListsOwnPieces, OnLane, owned, Segme
 
 -- ---- which one made an entry
 
-has_in : (ss : List Segment) (s : Segment) (k : ℕ) → IsOne s ss → 0 < times k s.own → 0 < times k (owned ss)
+pub has_in : (ss : List Segment) (s : Segment) (k : ℕ) → IsOne s ss → 0 < times k s.own → 0 < times k (owned ss)
 has_in [] s k i l = absurd i
 has_in (x ∷ xs) s k i l =
     let sum : times k (x.own ++ owned xs) ≡ times k x.own + times k (owned xs) = times-append k x.own (owned xs) in

@@ -43,7 +43,7 @@ use Rattle.mta_session_lists.proofs.Waiting.{does_at, goes_with, ready_next}
 use Rattle.mta_shared.specs.Counts.{times}
 use Rattle.mta_shared.proofs.Sums.{times-append, times-self}
 use Rattle.mta_worker_lists.specs.Begun.{Calls, Ended, GiveNone, IsOver, Listens, made_over}
-use Rattle.mta_worker_lists.specs.Begun.{Stopped, Unanswered, Untold}
+use Rattle.mta_worker_lists.specs.Begun.{Stopped, Untold}
 use Rattle.mta_worker_lists.specs.Leads.{Leads, made_by, made_in}
 use Rattle.mta_worker_lists.specs.Segments.{IsOf, IsSegment, OnLane}
 use Rattle.mta_worker_lists.specs.Segments.{Segment, SessionsAreSegments, told_over}
@@ -239,10 +239,6 @@ module _ (spells : List ℕ → Bool) (history : List Seen) (n : ℕ) where
       call_piece spells history n u.phase u (action.Ask q) (event.Reply y)
       (record { before = u; event = event.Reply y; action = action.Ask q; after = u }) mid upto k l g step
       (λ z e. asked_of spells history n b u asked z (is ∙ e)) comes le hit get piece
-  over_piece mid upto u b (Unanswered q y is comes none) k l g step asked le hit get piece =
-      call_piece spells history n u.phase u (action.Ask q) (event.Reply y)
-      (record { before = u; event = event.Reply y; action = action.Ask q; after = u }) mid upto k l g step
-      (λ z e. asked_of spells history n b u asked z (is ∙ e)) comes le hit get piece
 
   -- ---- calls of a session that has its lane, and what is behind them
 
@@ -398,7 +394,6 @@ module _ (spells : List ℕ → Bool) (history : List Seen) (n : ℕ) where
       none_over (Ended e is same) w hit = none_hit k hit
       none_over (Stopped same) w hit = none_hit k hit
       none_over (Untold q y is comes answers) w hit = read_asks q (w ∙ is)
-      none_over (Unanswered q y is comes other) w hit = read_asks q (w ∙ is)
   gives_none own units mid upto u b (d ∷ ds) from o k l g step led none le get piece hit =
       let run = led.calls_are in
       let is = led.come_true in

@@ -158,6 +158,11 @@ module _ {D C : Type 0} (disks : DiskView D) (clocks : ClockView C) where
     makes_state None old new m state =
         m.1 ∙ state ∙ ap (λ (xs : List Step). after (first ++ xs)) (sym m.0)
 
+    -- the same of the spool before
+    pub stands_before : (o : Option StepOn) (old new : Shown D C) → Makes o old new
+        → old.current ≡ after (first ++ old.entries) → IsPrefix new.entries entries → Stands old
+    stands_before o old new m state f = record { state = state; front = makes_front o old new m f }
+
     pub stands_next : (o : Option StepOn) (old new : Shown D C) → Makes o old new
         → old.current ≡ after (first ++ old.entries) → IsPrefix new.entries entries → Stands new
     stands_next o old new m state f = record { state = makes_state o old new m state; front = f }

@@ -119,21 +119,27 @@ no_reply action.Read e piece t f w a = tt
 no_reply (action.Ask q) e piece t f w a = absurd f
 no_reply (action.Finish y) e piece t f w a = absurd f
 
-is_calm_now : (a : Action) (p : Phase) → awaits a p ≡ true → is_looking p ≡ false → is_calm p ≡ true
-is_calm_now action.Read phase.Begin w i = absurd (never w)
-is_calm_now (action.Put u) phase.Begin w i = absurd (never w)
-is_calm_now (action.Ask q) phase.Begin w i = absurd (never w)
-is_calm_now (action.Finish y) phase.Begin w i = absurd (never w)
-is_calm_now a phase.AsksValues w i = absurd (never (sym i))
-is_calm_now a phase.AsksRecovery w i = absurd (never (sym i))
-is_calm_now a (phase.AsksReceiving state) w i = absurd (never (sym i))
-is_calm_now a (phase.AsksResumed state) w i = absurd (never (sym i))
-is_calm_now a p w i = refl
+is_calm_now : (a : Action) (e : Event) (piece : List ℕ) (p : Phase) → PutFor a e piece → awaits a p ≡ true
+    → is_looking p ≡ false → is_calm p ≡ true
+is_calm_now (action.Ask q) e piece p f w i = absurd f
+is_calm_now (action.Finish y) e piece p f w i = absurd f
+is_calm_now action.Read e piece phase.Begin f w i = absurd (never w)
+is_calm_now (action.Put u) e piece phase.Begin f w i = absurd (never w)
+is_calm_now action.Read e piece phase.AsksBind f w i = absurd (never w)
+is_calm_now (action.Put u) e piece phase.AsksBind f w i = absurd (never w)
+is_calm_now a e piece phase.AsksValues f w i = absurd (never (sym i))
+is_calm_now a e piece phase.AsksRecovery f w i = absurd (never (sym i))
+is_calm_now a e piece (phase.AsksReceiving state) f w i = absurd (never (sym i))
+is_calm_now a e piece (phase.AsksResumed state) f w i = absurd (never (sym i))
+is_calm_now a e piece p f w i = refl
 
 -- One call of a session that is carried on.
+pub run_calm : (x : Turn) (b : Action) (piece : List ℕ) → IsTurn x → Waits b x.before
+    → is_looking x.before.phase ≡ false → PutFor b x.event piece → is_calm x.after.phase ≡ true
+run_calm x b piece is w i f =
+    calm_next x is (is_calm_now b x.event piece x.before.phase f w.waits i)
+    (no_reply b x.event piece x.before f w.waits is.answers)
+
 pub run_still : (x : Turn) (b : Action) (piece : List ℕ) → IsTurn x → Waits b x.before
     → is_looking x.before.phase ≡ false → PutFor b x.event piece → is_looking x.after.phase ≡ false
-run_still x b piece is w i f =
-    calm_looks x.after.phase
-    (calm_next x is (is_calm_now b x.before.phase w.waits i)
-    (no_reply b x.event piece x.before f w.waits is.answers))
+run_still x b piece is w i f = calm_looks x.after.phase (run_calm x b piece is w i f)

@@ -15,7 +15,7 @@ use Rattle.mta_session_lists.specs.Laws.{IsIn, IsPiece, ListsAreGood, ListsMaySt
 use Rattle.mta_session_lists.specs.Lists.{completed}
 use Rattle.mta_session_lists.specs.Lost.{abort_of, lost_of}
 use Rattle.mta_session_lists.proofs.Lanes.{step_leads}
-use Rattle.mta_worker_lists.specs.Begun.{Ended, IsOver, Stopped, Unanswered, Untold}
+use Rattle.mta_worker_lists.specs.Begun.{Ended, IsOver, Stopped, Untold}
 use Rattle.mta_worker_lists.specs.Good.{IsListOver}
 use Rattle.mta_worker_lists.specs.Segments.{Begins, BeginsIn, OnLane, SegmentsAreGood}
 use Rattle.mta_worker_lists.specs.Segments.{told_over}
@@ -65,14 +65,12 @@ over_in spells history mid upto u b calls l m (Untold q x is comes answers) y w 
     in_either y l.events told (told ++ abort_of so.0) (before_in y told (abort_of so.0)) i in
     subst (λ (z : SessionList). IsIn y z.events) (sym so.2)
     (subst (λ (a : Action). IsIn y (l.events ++ (lost_of a upto (event.Reply x) ++ abort_of so.0))) (sym asks) tail)
-over_in spells history mid upto u b calls l m (Unanswered q x is comes none) y w so i = absurd so
 
 over_at : (spells : List ℕ → Bool) (history : List Seen) (mid upto : ℕ) (u : State) (b : Action) (calls : List Call)
     (l m : SessionList) (o : IsOver spells history mid upto u b) → IsListOver calls l o m → m.at ≡ l.at
 over_at spells history mid upto u b calls l m (Ended e is same) so = ap (λ (z : SessionList). z.at) so
 over_at spells history mid upto u b calls l m (Stopped same) so = ap (λ (z : SessionList). z.at) so
 over_at spells history mid upto u b calls l m (Untold q x is comes answers) so = ap (λ (z : SessionList). z.at) so.2
-over_at spells history mid upto u b calls l m (Unanswered q x is comes none) so = absurd so
 
 -- ---- its generation
 

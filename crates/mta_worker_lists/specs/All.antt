@@ -1,23 +1,60 @@
--- The parts of the history that all workers made.
-use Rattle.std.specs.Prelude.{ℕ, Bool, List, length}
+-- The parts of the history that all workers made, and the lists of all their sessions.
+use Rattle.std.specs.Prelude.{◌≡◌, ◌⊎◌, ◌<◌, ◌≤◌, ℕ, Bool, false, List, [], ◌∷◌, length, Option, None, Some}
+use mathlib.Core.Logic.{inl, inr}
 use Rattle.mta_edge.specs.Views.{ClockView, DiskView}
 use Rattle.mta_links.specs.Links.{LinkView, StationView}
 use Rattle.mta_records.specs.declared.step.Step.{Step}
+use Rattle.mta_runs.specs.Sessions.{IsGoodSession, SessionList}
+use Rattle.mta_session.specs.State.{is_initiator}
 use Rattle.mta_session.specs.declared.limits.Limits.{Limits}
+use Rattle.mta_session_lists.specs.Lists.{AreValues, completed, IsListOf}
+use Rattle.mta_shared.specs.Counts.{times}
 use Rattle.mta_shared.specs.declared.history.Base.{Base}
 use Rattle.mta_stations.specs.declared.end.WorkerEnd.{WorkerEnd}
 use Rattle.mta_workers.specs.Wholes.{AreWorkers}
+use Rattle.mta_worker_lists.specs.Begun.{GiveNone}
+use Rattle.mta_worker_lists.specs.Good.{IsListOver}
 use Rattle.mta_worker_lists.specs.Histories.{AreEntries, TellsApdus, whole}
-use Rattle.mta_worker_lists.specs.Parts.{AreSessions}
-use Rattle.mta_worker_lists.specs.Segments.{AreAll, Segment}
+use Rattle.mta_worker_lists.specs.Parts.{AreSessions, IsSession}
+use Rattle.mta_worker_lists.specs.Segments.{AreAll, OnLane, owned, Segment}
 
--- Each of these parts is of a session that ran over a link, or was made for none; no entry was made twice, and each
--- from some on that concerns pieces is in one of them.
+-- Each of these parts is of a session that ran over a link, or was made for none; no entry was made twice, all are from
+-- some on, and each of these that concerns pieces is in one of them.
 pub record AllParts {L : Type 0} (links : LinkView L) (spells : List ℕ → Bool) (first entries : List Step)
     (low : ℕ) : Type 0 where
   pub parts : List Segment
   pub sessions : AreSessions links spells first entries parts
   pub all : AreAll (whole first entries) (length first) low parts
+  pub later : (k : ℕ) → 0 < times k (owned parts) → low ≤ k
+
+-- A session that has this lane has a list, and one with what came of its last action. With the Abandons of other passes
+-- that is a good one, for the lane's agreed values.
+pub record HasGoodList {L : Type 0} {links : LinkView L} {spells : List ℕ → Bool} {first entries : List Step}
+    {s : Segment} (x : IsSession links spells first entries s) (lane : ℕ) : Type 0 where
+  pub list : SessionList
+  pub is_list : IsListOf spells (whole first entries) x.new x.calls lane list
+  pub behind : (m : SessionList) × IsListOver x.calls list x.ran.done.over m
+  pub good : (m : SessionList) (size window : ℕ) → IsListOver x.calls list x.ran.done.over m
+      → AreValues (whole first entries) lane size window
+      → IsGoodSession spells (whole first entries) lane size window (is_initiator x.new.side)
+      (completed (whole first entries) lane size window (is_initiator x.new.side) m)
+
+-- where it has a lane; a responder may have none
+abbrev pub IsGoodWhere : {L : Type 0} {links : LinkView L} {spells : List ℕ → Bool} {first entries : List Step}
+    {s : Segment} → IsSession links spells first entries s → Option OnLane → Type 0
+IsGoodWhere x None = (is_initiator x.new.side ≡ false) × GiveNone x.calls
+IsGoodWhere x (Some on) = HasGoodList x on.lane
+
+abbrev pub IsGoodPart : {L : Type 0} {links : LinkView L} {spells : List ℕ → Bool} {first entries : List Step}
+    {s : Segment} → (s.list ≡ None) ⊎ IsSession links spells first entries s → Type 0
+IsGoodPart (inl none) = Unit {0}
+IsGoodPart {s = s} (inr x) = IsGoodWhere x s.list
+
+-- so it is of each session
+abbrev pub AreGood : {L : Type 0} (links : LinkView L) (spells : List ℕ → Bool) (first entries : List Step)
+    (ss : List Segment) → AreSessions links spells first entries ss → Type 0
+AreGood links spells first entries [] are = Unit {0}
+AreGood links spells first entries (s ∷ ss) are = IsGoodPart are.0 × AreGood links spells first entries ss are.1
 
 module _ {D C L S : Type 0} (disks : DiskView D) (clocks : ClockView C) (links : LinkView L)
     (stations : StationView S) where
@@ -28,3 +65,12 @@ module _ {D C L S : Type 0} (disks : DiskView D) (clocks : ClockView C) (links :
       (ends : List WorkerEnd) (base : Base) → TellsApdus spells → AreEntries base first entries
       → AreWorkers disks clocks links stations limits before after ends front base entries
       → AllParts links spells first entries (length front)
+
+  -- And the session lists of all that they served are good.
+  abbrev pub AllAreGood : Type 0
+  AllAreGood =
+      (spells : List ℕ → Bool) (first front entries : List Step) (limits : Limits) (before after : List S)
+      (ends : List WorkerEnd) (base : Base) → TellsApdus spells → AreEntries base first entries
+      → AreWorkers disks clocks links stations limits before after ends front base entries
+      → (all : AllParts links spells first entries (length front))
+      × AreGood links spells first entries all.parts all.sessions

@@ -29,16 +29,13 @@ pub data IsNewAt (history : List Seen) : (from : ℕ) → State → Type 0 where
       → (p.recovering ≡ false → p.generation ≡ 1) → IsNewAt history from (new_initiator p units)
   Listens : (own : List ℕ) (units from : ℕ) → IsNewAt history from (new_responder own units)
 
--- How it ends behind its last call: with an end, or for want of memory at its link, or with a reply that the history
--- has and that it is not told, for want of memory, or since it is none to its question.
+-- How it ends behind its last call: with an end, or for want of memory at its link, or with a reply to its question
+-- that the history has and that it is not told, for want of memory.
 pub data IsOver (spells : List ℕ → Bool) (history : List Seen) (from upto : ℕ) (u : State) (b : Action) : Type 0 where
   Ended : (e : SessionEnd) → b ≡ action.Finish e → upto ≡ from → IsOver spells history from upto u b
   Stopped : upto ≡ from → IsOver spells history from upto u b
   Untold : (q : Ask) (x : Reply) → b ≡ action.Ask q
       → ComesTrue spells history from upto u.phase (action.Ask q) (event.Reply x) → Answers u (event.Reply x)
-      → IsOver spells history from upto u b
-  Unanswered : (q : Ask) (x : Reply) → b ≡ action.Ask q
-      → ComesTrue spells history from upto u.phase (action.Ask q) (event.Reply x) → (Answers u (event.Reply x) → ⊥)
       → IsOver spells history from upto u b
 
 -- the entry that such a reply tells
@@ -47,7 +44,6 @@ abbrev pub made_over : {spells : List ℕ → Bool} {history : List Seen} {from 
 made_over n (Ended e is same) = []
 made_over n (Stopped same) = []
 made_over {upto = upto} n (Untold q x is comes answers) = entry_at n upto (step_told q x)
-made_over {upto = upto} n (Unanswered q x is comes none) = entry_at n upto (step_told q x)
 
 -- there was no memory at its link
 abbrev pub WasStopped : {spells : List ℕ → Bool} {history : List Seen} {from upto : ℕ} {u : State} {b : Action}

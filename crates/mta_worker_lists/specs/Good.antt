@@ -11,7 +11,7 @@ use Rattle.mta_session_lists.specs.Calls.{Call}
 use Rattle.mta_session_lists.specs.Laws.{OwnsPieces}
 use Rattle.mta_session_lists.specs.Lists.{AreValues, completed, IsListOf}
 use Rattle.mta_session_lists.specs.Lost.{stopped}
-use Rattle.mta_worker_lists.specs.Begun.{Ended, GiveNone, IsNewAt, IsOver, Stopped, Unanswered, Untold}
+use Rattle.mta_worker_lists.specs.Begun.{Ended, GiveNone, IsNewAt, IsOver, Stopped, Untold}
 use Rattle.mta_worker_lists.specs.Leads.{Leads}
 
 -- What the list of these calls is with what came of the last action, and of the Abort that is put where the session has
@@ -23,7 +23,6 @@ IsListOver calls l (Stopped same) m = m ≡ l
 IsListOver {upto = upto} {u = u} calls l (Untold q x is true_ answers) m =
     (aborts : Bool) × (aborts ≡ true → has_turned u.phase ≡ false)
     × (m ≡ stopped calls l (record { event = event.Reply x; seen = upto; aborts = aborts }))
-IsListOver calls l (Unanswered q x is true_ none) m = ⊥
 
 -- A new session has a list, where it has a lane. A responder has none before a call tells it so.
 abbrev pub SessionsHaveLists : Type 0

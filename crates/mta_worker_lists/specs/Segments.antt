@@ -13,7 +13,7 @@ use Rattle.mta_session_lists.specs.Laws.{IsIn, IsPiece}
 use Rattle.mta_session_lists.specs.Lists.{AreValues, completed, IsListOf}
 use Rattle.mta_shared.specs.Counts.{times}
 use Rattle.mta_worker_lists.specs.Begun.{begun_by, Ended, GiveNone, IsNewAt, IsOver, made_over, Stopped}
-use Rattle.mta_worker_lists.specs.Begun.{Unanswered, Untold}
+use Rattle.mta_worker_lists.specs.Begun.{Untold}
 use Rattle.mta_worker_lists.specs.Good.{IsListOver}
 use Rattle.mta_worker_lists.specs.Leads.{Leads, made_in}
 
@@ -91,7 +91,6 @@ abbrev pub told_over : {spells : List ℕ → Bool} {history : List Seen} {from 
 told_over (Ended e is same) = []
 told_over (Stopped same) = []
 told_over {upto = upto} (Untold q x is comes answers) = told_as upto (step_told q x) (look_told q x) ∷ []
-told_over {upto = upto} (Unanswered q x is comes none) = told_as upto (step_told q x) (look_told q x) ∷ []
 
 -- it is the list of these calls, with that reply; none where a responder has no lane
 abbrev pub ListsAs : (spells : List ℕ → Bool) → List Seen → State → List Call → List SessionEvent → Option OnLane

@@ -1,6 +1,6 @@
 //! Laws over the definitions.
 
-ghost use Rattle.mta_worker_lists.specs.All.{AllHaveParts};
+ghost use Rattle.mta_worker_lists.specs.All.{AllAreGood, AllHaveParts};
 ghost use Rattle.mta_worker_lists.specs.Examples.{TakesOne};
 ghost use Rattle.mta_worker_lists.specs.Good.{SessionsAreGood, SessionsHaveLists};
 ghost use Rattle.mta_worker_lists.specs.Linked.{LinksAreRun};
@@ -74,3 +74,12 @@ pub fn workers_have_parts<D: Disk + Drop, C: Clock + Drop, L: Link, S: Station>(
 pub fn all_have_parts<D: Disk + Drop, C: Clock + Drop, L: Link, S: Station>()
     ensures { AllHaveParts D.model C.model L.model S.model }
 {}
+
+/// So each session that they served and that had a lane has a good session list: with what came of its last action, and
+/// with the Abandons of other passes.
+pub fn all_are_good<D: Disk + Drop, C: Clock + Drop, L: Link, S: Station>()
+    ensures { AllAreGood D.model C.model L.model S.model }
+{
+    lists_are_good();
+    lists_may_stop();
+}

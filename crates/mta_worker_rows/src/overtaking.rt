@@ -78,10 +78,15 @@ fn begun<D: Disk + Drop>(
     let Some(tables) = spool.tables() else {
         bail!("no tables");
     };
-    let own = own_name(alloc, tables).map_err(|_| lost())?;
+    let own = match own_name(alloc, tables) {
+        Ok(own) => own,
+        Err(_) => return Err(lost()),
+    };
     let mut session = Session::responder(alloc, own, limits(held));
-    let action = tell(&mut session, Event::Go).map_err(|_| lost())?;
-    Ok((session, action))
+    match tell(&mut session, Event::Go) {
+        Ok(action) => Ok((session, action)),
+        Err(_) => Err(lost()),
+    }
 }
 
 fn line_of(alloc: Global, held: &held::Held, place: usize) -> Result<Line> {
