@@ -16,7 +16,7 @@ use Rattle.mta_session_lists.specs.Lost.{stopped}
 use Rattle.mta_session_lists.proofs.Found.{never}
 use Rattle.mta_worker_lists.specs.All.{AllAreGood, AllParts, AreGood, IsGoodPart, IsGoodWhere}
 use Rattle.mta_worker_lists.specs.Begun.{Ended, IsOver, Stopped, Untold}
-use Rattle.mta_worker_lists.specs.Good.{IsListOver}
+use Rattle.mta_worker_lists.specs.Good.{As_told, IsListOver}
 use Rattle.mta_worker_lists.specs.Histories.{AreEntries, place, TellsApdus, whole}
 use Rattle.mta_worker_lists.specs.Parts.{AreSessions, IsSession}
 use Rattle.mta_worker_lists.specs.Segments.{Begins, BeginsIn, IsOne, ListsAs, OnLane, Segment, told_over}
@@ -29,7 +29,7 @@ list_behind : (spells : List ℕ → Bool) (history : List Seen) (mid upto : ℕ
     (calls : List Call) (l : SessionList) (o : IsOver spells history mid upto u b)
     → (m : SessionList) × IsListOver calls l o m
 list_behind spells history mid upto u b calls l (Ended e is same) = (l, refl)
-list_behind spells history mid upto u b calls l (Stopped same) = (l, refl)
+list_behind spells history mid upto u b calls l (Stopped same) = (l, As_told refl)
 list_behind spells history mid upto u b calls l (Untold q x is comes answers) = (
   stopped calls l (record { event = event.Reply x; seen = upto; aborts = false }),
   (false, λ e. absurd (never e), refl),
