@@ -1,9 +1,9 @@
 -- An Abort may be put behind a list wherever another unit might be.
-use Rattle.std.proofs.Common.{◌≡◌, ◌⊎◌, ◌<◌, ℕ, ◌+◌, not, Bool, true, false, List, [], ◌∷◌, ◌++◌, length, Option, take}
-use Rattle.std.proofs.Common.{inl, inr, refl, sym, ap, subst, ◌∙◌, append_assoc, append-nil, slice_get}
+use Rattle.std.proofs.Common.{◌≡◌, ℕ, ◌+◌, not, Bool, List, [], ◌∷◌, ◌++◌, Option, take}
+use Rattle.std.proofs.Common.{inl, inr, refl, sym, ap, subst, ◌∙◌, append_assoc}
 use Rattle.mta_units.specs.declared.unit.Unit.{Unit as AnyUnit}
 use Rattle.mta_units.specs.declared.unit.Unit.TheVariants as unit
-use Rattle.mta_ends.specs.Lanes.{lane_in, On, Seen, SeenStep}
+use Rattle.mta_ends.specs.Lanes.{lane_in, Seen}
 use Rattle.mta_ends.specs.Receiving.{RecvEnd, RecvEvent}
 use Rattle.mta_ends.specs.Sending.{SendEnd, SendEvent}
 use Rattle.mta_runs.specs.Receivings as receivings
@@ -12,11 +12,12 @@ use Rattle.mta_runs.specs.Sendings as sendings
 use Rattle.mta_runs.specs.Sendings.{IsGoodSending}
 use Rattle.mta_runs.specs.Sessions as x
 use Rattle.mta_runs.specs.Sessions.{EndsSo, Got, IsGoodSession, KeepsTurn, Looked, Made, PlacesAbandons, Put, recv_all}
-use Rattle.mta_runs.specs.Sessions.{receiving_event, receiving_events, Refused, RefusesLast, Rests, seen_after, send_all}
-use Rattle.mta_runs.specs.Sessions.{sending_event, sending_events, SessionEvent, SessionList, StepsStand, turn_after}
+use Rattle.mta_runs.specs.Sessions.{receiving_event, receiving_events, Refused, RefusesLast, Rests, seen_after}
+use Rattle.mta_runs.specs.Sessions.{send_all, sending_event, sending_events}
+use Rattle.mta_runs.specs.Sessions.{SessionEvent, SessionList, StepsStand, turn_after}
 use Rattle.mta_runs.specs.Sessions.{TurnAllows}
 use Rattle.mta_session_lists.specs.Abandons.{abandon_at, abandoned_upto, given_up, has_before, with_abandons}
-use Rattle.mta_session_lists.specs.Laws.{IsIn, IsPiece, OwnsPieces}
+use Rattle.mta_session_lists.specs.Laws.{IsIn, OwnsPieces}
 use Rattle.mta_session_lists.specs.Lists.{completed, end_begun}
 
 -- localSystemProblem
@@ -74,11 +75,10 @@ received_more lane (y ∷ ys) = ap (λ (zs : List RecvEvent). receiving_event la
 rests_more : (lane : ℕ) (t : x.Turn) (a : SendEnd) (b : RecvEnd) (ys : List SessionEvent) → Rests lane t a b ys
     → Rests lane t a b (ys ++ abort ∷ [])
 rests_more lane t a b [] k = (tt, tt)
-rests_more lane t a b (y ∷ ys) k =
-    (
-      k.0,
-      rests_more lane (turn_after t y) (send_all a (sending_event lane y)) (recv_all b (receiving_event lane y)) ys k.1,
-    )
+rests_more lane t a b (y ∷ ys) k = (
+  k.0,
+  rests_more lane (turn_after t y) (send_all a (sending_event lane y)) (recv_all b (receiving_event lane y)) ys k.1,
+)
 
 placed_more : (history : List Seen) (lane from : ℕ) (e : SendEnd) (ys : List SessionEvent)
     → PlacesAbandons history lane from e ys → PlacesAbandons history lane from e (ys ++ abort ∷ [])
@@ -178,7 +178,8 @@ module _ (spells : List ℕ → Bool) (history : List Seen) (lane size window : 
   abort_instead l a g more =
       let es : List SessionEvent = (whole_list l).events in
       let one = completed_last history lane size window initiator l a in
-      let both : whole_list (with_last (with_last l (Put a)) abort) ≡ with_last (with_last (whole_list l) (Put a)) abort =
+      let both : whole_list (with_last (with_last l (Put a)) abort)
+      ≡ with_last (with_last (whole_list l) (Put a)) abort =
       completed_last history lane size window initiator (with_last l (Put a)) (unit.Abort 0)
       ∙ ap (λ (z : SessionList). with_last z abort) one in
       let there : IsGood (with_last (with_last (whole_list l) (Put a)) abort) = subst IsGood both more in

@@ -31,3 +31,4 @@ pub mod Worked
 pub mod Workers
 pub mod All
 pub mod AllGood
+pub mod Agreeing

@@ -1,5 +1,6 @@
--- The list of a session that was given up for want of memory at its link is a good one, whatever came of its last action.
-use Rattle.std.proofs.Common.{◌≡◌, ◌⊎◌, ℕ, ◌+◌, Bool, true, false, List, [], ◌∷◌, ◌++◌, refl, sym, ap, subst, ◌∙◌}
+-- The list of a session that was given up for want of memory at its link is a good one, whatever came of its last
+-- action.
+use Rattle.std.proofs.Common.{◌≡◌, ℕ, ◌+◌, Bool, true, false, List, [], ◌∷◌, ◌++◌, refl, sym, ap, subst, ◌∙◌}
 use Rattle.std.proofs.Common.{append_assoc, append-nil}
 use Rattle.mta_units.specs.declared.unit.Unit.{Unit as AnyUnit}
 use Rattle.mta_units.specs.declared.unit.Unit.TheVariants as unit
@@ -14,13 +15,13 @@ use Rattle.mta_session.specs.declared.event.Event.TheVariants as event
 use Rattle.mta_session.specs.declared.phase.Phase.{Phase}
 use Rattle.mta_session.specs.declared.phase.Phase.TheVariants as phase
 use Rattle.mta_session_laws.specs.Whole.{AreCalls}
-use Rattle.mta_session_order.specs.Order.{awaits, is_putting, is_reading}
+use Rattle.mta_session_order.specs.Order.{is_putting, is_reading}
 use Rattle.mta_session_order.proofs.Wants.{Due}
 use Rattle.mta_runs.specs.Sessions.{IsGoodSession, Put, SessionEvent, SessionList}
 use Rattle.mta_session_lists.specs.Calls.{action_of, Call, list_of, turns_of}
 use Rattle.mta_session_lists.specs.Laws.{ListsAreGood, ListsMayStop, OpensFirst, OwnsPieces}
 use Rattle.mta_session_lists.specs.Lists.{AreValues, completed, Initiates, IsListOf, Responds}
-use Rattle.mta_session_lists.specs.Lost.{abort_of, IsLost, lost_of, Lost, seen_of, stopped, tail_of}
+use Rattle.mta_session_lists.specs.Lost.{abort_of, IsLost, lost_of, Lost, seen_of, stopped}
 use Rattle.mta_session_lists.specs.Standing.{ComesTrue}
 use Rattle.mta_session_lists.proofs.Found.{never}
 use Rattle.mta_worker_lists.specs.Begun.{Calls, IsNewAt, Listens}
@@ -142,8 +143,12 @@ module _ (whole : ListsAreGood) (may_stop : ListsMayStop) (spells : List ℕ →
       → stopped calls l (record { event = e; seen = upto; aborts = aborts })
       ≡ record { opening = l.opening; at = l.at; events = l.events ++ (lost_of b upto e ++ abort_of aborts) }
   stopped_as calls b e upto aborts is =
-      ap (λ (a : Action). record { opening = l.opening; at = l.at; events = l.events ++ (lost_of a upto e ++ abort_of
-      aborts) }) is
+      ap (λ (a : Action). record {
+        opening = l.opening;
+        at = l.at;
+        events = l.events ++ (lost_of a upto e ++ abort_of
+            aborts);
+      }) is
 
   two_last : (x : AnyUnit)
       → record { opening = l.opening; at = l.at; events = l.events ++ (Put x ∷ abort ∷ []) }
@@ -171,7 +176,8 @@ module _ (whole : ListsAreGood) (may_stop : ListsMayStop) (spells : List ℕ →
       (came_good c cs u (action.Put x) from mid upto event.Go true is_list led same at
       (put_goes u.phase u w.waits) (λ e. going) (subst Owns (sym list_is) own_both)))
   given_up_good c cs u action.Read from mid upto new is_list led same at going w owns =
-      let list_is : stopped (c ∷ cs) l (record { event = event.BadUnit; seen = upto; aborts = true }) ≡ with_last l abort =
+      let list_is : stopped (c ∷ cs) l (record { event = event.BadUnit; seen = upto; aborts = true })
+      ≡ with_last l abort =
       stopped_as (c ∷ cs) action.Read event.BadUnit upto true led.wanted in
       subst IsGood list_is
       (came_good c cs u action.Read from mid upto event.BadUnit true is_list led same at (read_bad u.phase u w.waits)

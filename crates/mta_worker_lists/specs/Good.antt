@@ -27,12 +27,12 @@ IsAtLink b = ⊥
 -- What is known of a worker does not tell which of these it was.
 pub data IsStopped (calls : List Call) (l : SessionList) (upto : ℕ) (u : State) (b : Action) (m : SessionList) : Type 0
   where
-  As_told : m ≡ l → IsStopped calls l upto u b m
-  Given_up : IsAtLink b → has_turned u.phase ≡ false
-      → m ≡ record { opening = l.opening; at = l.at; events = l.events ++ abort_of true }
-      → IsStopped calls l upto u b m
-  Came : (e : Event) (aborts : Bool) → IsAtLink b → Answers u e → (aborts ≡ true → has_turned u.phase ≡ false)
-      → m ≡ stopped calls l (record { event = e; seen = upto; aborts = aborts }) → IsStopped calls l upto u b m
+    As_told : m ≡ l → IsStopped calls l upto u b m
+    Given_up : IsAtLink b → has_turned u.phase ≡ false
+        → m ≡ record { opening = l.opening; at = l.at; events = l.events ++ abort_of true }
+        → IsStopped calls l upto u b m
+    Came : (e : Event) (aborts : Bool) → IsAtLink b → Answers u e → (aborts ≡ true → has_turned u.phase ≡ false)
+        → m ≡ stopped calls l (record { event = e; seen = upto; aborts = aborts }) → IsStopped calls l upto u b m
 
 -- What the list of these calls is with what came of the last action, and of the Abort that is put where the session has
 -- not turned to its end.
