@@ -6,18 +6,15 @@ use Rattle.std.proofs.lemmas.Bool.{cases_lt}
 use Rattle.std.proofs.lemmas.List.{length-append}
 use Rattle.mta_edge.specs.Views.{ClockView, DiskView}
 use Rattle.mta_links.specs.Links.{LinkView, StationView}
-use Rattle.mta_ends.specs.Lanes.{On, Seen, SeenStep}
+use Rattle.mta_ends.specs.Lanes.{On}
 use Rattle.mta_records.specs.declared.step.Step.{Step}
 use Rattle.mta_session.specs.declared.limits.Limits.{Limits}
-use Rattle.mta_session_lists.specs.Laws.{IsPiece}
 use Rattle.mta_shared.specs.Counts.{row, times}
 use Rattle.mta_shared.specs.declared.history.Base.{Base}
 use Rattle.mta_shared.specs.Held.{LockId}
 use Rattle.mta_shared.proofs.Sums.{times-append, times-row-above, times-row-in, times-row-le}
-use Rattle.mta_stations.specs.declared.end.WorkerEnd.{WorkerEnd}
 use Rattle.mta_workers.specs.declared.jobs.Job.{Job}
 use Rattle.mta_workers.specs.Jobs.{JobDone, owned_by, SawFront}
-use Rattle.mta_workers.specs.Wholes.{AreWorkers}
 use Rattle.mta_worker_lists.specs.All.{AllHaveParts, AllParts}
 use Rattle.mta_worker_lists.specs.Histories.{AreEntries, TellsApdus, whole}
 use Rattle.mta_worker_lists.specs.Parts.{AreParts, AreSessions}

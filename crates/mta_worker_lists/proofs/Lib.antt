@@ -16,6 +16,8 @@ pub mod Ending
 pub mod Responding
 pub mod Initiating
 pub mod Linked
+pub mod Aborting
+pub mod Stopped
 pub mod Good
 pub mod Segments
 pub mod Unlisted
@@ -29,3 +31,4 @@ pub mod Worked
 pub mod Workers
 pub mod All
 pub mod AllGood
+pub mod Agreeing
