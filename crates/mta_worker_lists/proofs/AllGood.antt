@@ -20,7 +20,7 @@ use Rattle.mta_worker_lists.specs.All.{AllAreGood, AllParts, AreGood, IsGoodPart
 use Rattle.mta_worker_lists.specs.Begun.{Ended, IsOver, Stopped, Untold}
 use Rattle.mta_worker_lists.specs.Good.{As_told, IsListOver}
 use Rattle.mta_worker_lists.specs.Histories.{place, whole}
-use Rattle.mta_worker_lists.specs.Parts.{AreSessions, IsSession}
+use Rattle.mta_worker_lists.specs.Parts.{AreForNone, AreSessions, IsSession}
 use Rattle.mta_worker_lists.specs.Segments.{Begins, BeginsIn, IsOne, ListsAs, OnLane, Segment, told_over}
 use Rattle.mta_worker_lists.proofs.All.{all_have_parts}
 use Rattle.mta_worker_lists.proofs.Segments.{has_in, is_segment}
@@ -77,8 +77,8 @@ module _ {L : Type 0} (links : LinkView L) (good : ListsAreGood) (may_stop : Lis
     good = one_is_good s x on i e listed;
   }
 
-  part_good : (s : Segment) (o : (s.list ≡ None) ⊎ IsSession links spells first entries s) → IsOne s all.parts
-      → IsGoodPart o
+  part_good : (s : Segment) (o : AreForNone history (length first) s ⊎ IsSession links spells first entries s)
+      → IsOne s all.parts → IsGoodPart o
   part_good s (inl none) i = tt
   part_good s (inr x) i = list_good s x s.list i refl x.of_it.list
 

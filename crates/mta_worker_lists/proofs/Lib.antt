@@ -30,5 +30,6 @@ pub mod Parts
 pub mod Worked
 pub mod Workers
 pub mod All
+pub mod Made
 pub mod AllGood
 pub mod Agreeing

@@ -1,7 +1,7 @@
 //! Laws over the definitions.
 
 ghost use Rattle.mta_worker_lists.specs.Agreeing.{EndsAgree};
-ghost use Rattle.mta_worker_lists.specs.All.{AllAreGood, AllHaveParts};
+ghost use Rattle.mta_worker_lists.specs.All.{AllAreGood, AllHaveParts, StepsHaveSessions};
 ghost use Rattle.mta_worker_lists.specs.Examples.{TakesOne};
 ghost use Rattle.mta_worker_lists.specs.Good.{SessionsAreGood, SessionsHaveLists};
 ghost use Rattle.mta_worker_lists.specs.Histories.{is_apdu, TellsApdus};
@@ -81,6 +81,12 @@ pub fn workers_have_parts<D: Disk + Drop, C: Clock + Drop, L: Link, S: Station>(
 /// concerns pieces is in one.
 pub fn all_have_parts<D: Disk + Drop, C: Clock + Drop, L: Link, S: Station>()
     ensures { AllHaveParts D.model C.model L.model S.model }
+{}
+
+/// So each step of a lane that they made was made for one of their sessions, but those that close a lane or give an
+/// activity up.
+pub fn steps_have_sessions<L: Link>()
+    ensures { StepsHaveSessions L.model }
 {}
 
 /// So each session that they served and that had a lane has a good session list: with what came of its last action, and
