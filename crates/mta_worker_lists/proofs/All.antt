@@ -6,18 +6,15 @@ use Rattle.std.proofs.lemmas.Bool.{cases_lt}
 use Rattle.std.proofs.lemmas.List.{length-append}
 use Rattle.mta_edge.specs.Views.{ClockView, DiskView}
 use Rattle.mta_links.specs.Links.{LinkView, StationView}
-use Rattle.mta_ends.specs.Lanes.{On, Seen, SeenStep}
+use Rattle.mta_ends.specs.Lanes.{On}
 use Rattle.mta_records.specs.declared.step.Step.{Step}
 use Rattle.mta_session.specs.declared.limits.Limits.{Limits}
-use Rattle.mta_session_lists.specs.Laws.{IsPiece}
 use Rattle.mta_shared.specs.Counts.{row, times}
 use Rattle.mta_shared.specs.declared.history.Base.{Base}
 use Rattle.mta_shared.specs.Held.{LockId}
 use Rattle.mta_shared.proofs.Sums.{times-append, times-row-above, times-row-in, times-row-le}
-use Rattle.mta_stations.specs.declared.end.WorkerEnd.{WorkerEnd}
 use Rattle.mta_workers.specs.declared.jobs.Job.{Job}
 use Rattle.mta_workers.specs.Jobs.{JobDone, owned_by, SawFront}
-use Rattle.mta_workers.specs.Wholes.{AreWorkers}
 use Rattle.mta_worker_lists.specs.All.{AllHaveParts, AllParts}
 use Rattle.mta_worker_lists.specs.Histories.{AreEntries, TellsApdus, whole}
 use Rattle.mta_worker_lists.specs.Parts.{AreParts, AreSessions}
@@ -25,7 +22,7 @@ use Rattle.mta_worker_lists.specs.Segments.{AreAll, AreSegments, owned, Segment}
 use Rattle.mta_worker_lists.proofs.Annotating.{length_seen}
 use Rattle.mta_worker_lists.proofs.Workers.{owned_more, segments_more, sessions_more, workers_have_parts}
 
-place_below : {X : Type 0} (xs : List X) (i : ℕ) (x : X) → slice_get xs i ≡ Some x → i < length xs
+pub place_below : {X : Type 0} (xs : List X) (i : ℕ) (x : X) → slice_get xs i ≡ Some x → i < length xs
 place_below [] i x e = absurd cc
 place_below (y ∷ ys) zero x e = omega arith
 place_below (y ∷ ys) (suc i) x e = let below = place_below ys i x e in omega (arith, below)
@@ -72,6 +69,16 @@ shared_later low n own shares k hit =
           omega (arith, one, two, same, here, hit))
       | inr behind ↦ behind
     ]
+
+-- and each from there on is in one
+shared_each : (low n : ℕ) (own : List ℕ) → ((k : ℕ) → times k (row 0 low ++ own) ≡ times k (row 0 n)) → (k : ℕ)
+    → low ≤ k → k < n → 0 < times k own
+shared_each low n own shares k le below =
+    let in_row : times k (row 0 n) ≡ 1 = times-row-in k 0 n (omega arith) (omega (arith, below)) in
+    let none : times k (row 0 low) ≡ 0 = times-row-above k 0 low (omega (arith, le)) in
+    let two : times k (row 0 low ++ own) ≡ times k (row 0 low) + times k own = times-append k (row 0 low) own in
+    let same : times k (row 0 low ++ own) ≡ times k (row 0 n) = shares k in
+    omega (arith, in_row, none, two, same)
 
 module _ {D C L S : Type 0} (disks : DiskView D) (clocks : ClockView C) (links : LinkView L)
     (stations : StationView S) (spells : List ℕ → Bool) (tells : TellsApdus spells) (first entries : List Step)
@@ -134,6 +141,7 @@ module _ {D C L S : Type 0} (disks : DiskView D) (clocks : ClockView C) (links :
         sessions = js.sessions;
         all = shared_all first entries (length front) js.parts js.are theirs;
         later = shared_later (length front) (length entries) (owned js.parts) theirs;
+        each = shared_each (length front) (length entries) (owned js.parts) theirs;
       }
 
 pub all_have_parts : {D C L S : Type 0} (disks : DiskView D) (clocks : ClockView C) (links : LinkView L)

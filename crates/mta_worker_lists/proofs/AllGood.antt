@@ -1,24 +1,26 @@
 -- The session lists of all workers are good.
-use Rattle.std.proofs.Common.{◌≡◌, ◌⊎◌, ◌<◌, ◌≤◌, ℕ, ◌+◌, ◌-◌, Bool, false, List, [], ◌∷◌, length, Option, None, Some, inl, inr}
+use Rattle.std.proofs.Common.{◌≡◌, ◌⊎◌, ◌≤◌, ℕ, ◌+◌, ◌-◌, Bool, false, List, [], ◌∷◌, length, Option, None, Some}
+use Rattle.std.proofs.Common.{inl, inr}
 use Rattle.std.proofs.Common.{refl, subst, arith}
 use Rattle.mta_edge.specs.Views.{ClockView, DiskView}
 use Rattle.mta_links.specs.Links.{LinkView, StationView}
 use Rattle.mta_ends.specs.Lanes.{LanesAllow, Seen}
 use Rattle.mta_histories.proofs.Seeing.{lanes_see_histories}
 use Rattle.mta_records.specs.declared.step.Step.{Step}
-use Rattle.mta_session.specs.State.{State}
+use Rattle.mta_session.specs.State.{is_initiator, State}
 use Rattle.mta_session.specs.declared.event.Action.{Action}
 use Rattle.mta_session.specs.declared.event.Event.TheVariants as event
-use Rattle.mta_runs.specs.Sessions.{SessionList}
+use Rattle.mta_runs.specs.Sessions.{IsGoodSession, SessionList}
 use Rattle.mta_session_lists.specs.Calls.{Call}
 use Rattle.mta_session_lists.specs.Laws.{ListsAreGood, ListsMayStop}
+use Rattle.mta_session_lists.specs.Lists.{AreValues, completed}
 use Rattle.mta_session_lists.specs.Lost.{stopped}
 use Rattle.mta_session_lists.proofs.Found.{never}
 use Rattle.mta_worker_lists.specs.All.{AllAreGood, AllParts, AreGood, IsGoodPart, IsGoodWhere}
 use Rattle.mta_worker_lists.specs.Begun.{Ended, IsOver, Stopped, Untold}
-use Rattle.mta_worker_lists.specs.Good.{IsListOver}
-use Rattle.mta_worker_lists.specs.Histories.{AreEntries, place, TellsApdus, whole}
-use Rattle.mta_worker_lists.specs.Parts.{AreSessions, IsSession}
+use Rattle.mta_worker_lists.specs.Good.{As_told, IsListOver}
+use Rattle.mta_worker_lists.specs.Histories.{place, whole}
+use Rattle.mta_worker_lists.specs.Parts.{AreForNone, AreSessions, IsSession}
 use Rattle.mta_worker_lists.specs.Segments.{Begins, BeginsIn, IsOne, ListsAs, OnLane, Segment, told_over}
 use Rattle.mta_worker_lists.proofs.All.{all_have_parts}
 use Rattle.mta_worker_lists.proofs.Segments.{has_in, is_segment}
@@ -29,7 +31,7 @@ list_behind : (spells : List ℕ → Bool) (history : List Seen) (mid upto : ℕ
     (calls : List Call) (l : SessionList) (o : IsOver spells history mid upto u b)
     → (m : SessionList) × IsListOver calls l o m
 list_behind spells history mid upto u b calls l (Ended e is same) = (l, refl)
-list_behind spells history mid upto u b calls l (Stopped same) = (l, refl)
+list_behind spells history mid upto u b calls l (Stopped same) = (l, As_told refl)
 list_behind spells history mid upto u b calls l (Untold q x is comes answers) = (
   stopped calls l (record { event = event.Reply x; seen = upto; aborts = false }),
   (false, λ e. absurd (never e), refl),
@@ -51,23 +53,32 @@ module _ {L : Type 0} (links : LinkView L) (good : ListsAreGood) (may_stop : Lis
       all.later (on.at - length first) (has_in all.parts s (on.at - length first) i begun.owned) in
       omega (arith, begun.later, behind)
 
+  -- the list of such a session, with what came of its last action
+  pub one_is_good : (s : Segment) (x : IsSession links spells first entries s) (on : OnLane) → IsOne s all.parts
+      → s.list ≡ Some on → (listed : ListsAs spells history x.new x.calls (told_over x.ran.done.over) (Some on))
+      → (m : SessionList) (size window : ℕ) → IsListOver x.calls listed.0 x.ran.done.over m
+      → AreValues history on.lane size window
+      → IsGoodSession spells history on.lane size window (is_initiator x.new.side)
+      (completed history on.lane size window (is_initiator x.new.side) m)
+  one_is_good s x on i e listed m size window over values =
+      segments_are_good good may_stop spells history (length first) low (place first x.begun)
+      (place first x.ran.done.mid) (place first x.over) all.parts s x.new x.ran.done.last x.ran.done.wanted x.calls
+      x.ran.begins x.ran.done.over on listed.0 m size window allow all.all i x.of_it e (begins_later s on i e)
+      x.ran.done.leads listed.1 listed.2 listed.3 over values
+
   list_good : (s : Segment) (x : IsSession links spells first entries s) (o : Option OnLane) → IsOne s all.parts
       → s.list ≡ o → ListsAs spells history x.new x.calls (told_over x.ran.done.over) o → IsGoodWhere x o
-  list_good s x None i e of_it = of_it
-  list_good s x (Some on) i e of_it = record {
-    list = of_it.0;
-    is_list = of_it.1;
+  list_good s x None i e listed = listed
+  list_good s x (Some on) i e listed = record {
+    list = listed.0;
+    is_list = listed.1;
     behind = list_behind spells history (place first x.ran.done.mid) (place first x.over) x.ran.done.last
-        x.ran.done.wanted x.calls of_it.0 x.ran.done.over;
-    good = λ m size window over values.
-        segments_are_good good may_stop spells history (length first) low (place first x.begun)
-        (place first x.ran.done.mid) (place first x.over) all.parts s x.new x.ran.done.last x.ran.done.wanted x.calls
-        x.ran.begins x.ran.done.over on of_it.0 m size window allow all.all i x.of_it e (begins_later s on i e)
-        x.ran.done.leads of_it.1 of_it.2 of_it.3 over values;
+        x.ran.done.wanted x.calls listed.0 x.ran.done.over;
+    good = one_is_good s x on i e listed;
   }
 
-  part_good : (s : Segment) (o : (s.list ≡ None) ⊎ IsSession links spells first entries s) → IsOne s all.parts
-      → IsGoodPart o
+  part_good : (s : Segment) (o : AreForNone history (length first) s ⊎ IsSession links spells first entries s)
+      → IsOne s all.parts → IsGoodPart o
   part_good s (inl none) i = tt
   part_good s (inr x) i = list_good s x s.list i refl x.of_it.list
 
@@ -85,8 +96,8 @@ pub all_are_good : ListsAreGood → ListsMayStop → {D C L S : Type 0} (disks :
 all_are_good good may_stop disks clocks links stations spells first front entries limits before after ends base tells
     based w =
     let all : AllParts links spells first entries (length front) =
-    all_have_parts disks clocks links stations spells first front entries limits before after ends base tells based w in
-    (
+    all_have_parts disks clocks links stations spells first front entries limits before after ends base tells based w
+    in (
       all,
       parts_are_good links good may_stop spells first entries (length front)
           ((lanes_see_histories _ based.possible).allowed spells tells.of_apdus) all,

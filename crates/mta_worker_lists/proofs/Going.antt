@@ -39,7 +39,7 @@ use Rattle.mta_worker.proofs.Growing.{replied_grows}
 use Rattle.mta_worker_lists.specs.Histories.{AreEntries, TellsApdus, place, whole}
 use Rattle.mta_worker_lists.specs.Leads.{AreCarried, got_in, Leads, made_by, made_in, PutBy, PutIn}
 use Rattle.mta_worker_lists.proofs.Calm.{is_calm, is_looking}
-use Rattle.mta_worker_lists.proofs.Heard.{Minds, turn_minds}
+use Rattle.mta_worker_lists.proofs.Heard.{turn_minds}
 use Rattle.mta_worker_lists.proofs.Joining.{carried_more, got_more, leads_more, made_more, no_calls, none_carried}
 use Rattle.mta_worker_lists.proofs.Joining.{owns_more, put_more}
 use Rattle.mta_worker_lists.proofs.Known.{between_knows, calm_knows, Knows}

@@ -22,6 +22,7 @@ use Rattle.mta_worker_lists.specs.Begun.{Untold}
 use Rattle.mta_worker_lists.specs.Good.{IsListOver, SessionsAreGood, SessionsHaveLists}
 use Rattle.mta_worker_lists.specs.Leads.{Leads}
 use Rattle.mta_worker_lists.proofs.Responding.{Begins, begins_or_not}
+use Rattle.mta_worker_lists.proofs.Stopped.{stopped_good}
 
 -- ---- which list
 
@@ -128,16 +129,18 @@ module _ (whole : ListsAreGood) (may_stop : ListsMayStop) (spells : List ℕ →
       (may_stop spells history t u calls lane size window l y allow is_list values opens (subst Owns same owns)
       led.calls_are lost)
 
-  over_good : (m : SessionList) (u : State) (b : Action) (from mid upto : ℕ)
+  over_good : (m : SessionList) (u : State) (b : Action) (from mid upto : ℕ) → IsNewAt history from t
       → Leads spells history from t action.Read calls mid u b → (o : IsOver spells history mid upto u b)
       → IsListOver calls l o m → Owns m → IsGood m
-  over_good m u b from mid upto led (Ended e is same) so owns = told_good m u so led.calls_are owns
-  over_good m u b from mid upto led (Stopped same) so owns = told_good m u so led.calls_are owns
-  over_good m u b from mid upto led (Untold q x is true_ answers) so owns =
+  over_good m u b from mid upto new led (Ended e is same) so owns = told_good m u so led.calls_are owns
+  over_good m u b from mid upto new led (Stopped same) so owns =
+      stopped_good whole may_stop spells history t lane l size window allow values opens calls m u b from mid upto new
+      is_list led same so owns
+  over_good m u b from mid upto new led (Untold q x is true_ answers) so owns =
       untold_good m u b from mid upto q x so.0 so.2 led is true_ answers so.1 owns
 
 pub sessions_good : ListsAreGood → ListsMayStop → SessionsAreGood
 sessions_good whole may_stop spells history from mid upto t u b calls lane l m size window allow new led over is_list so
     values owns =
     over_good whole may_stop spells history t calls lane l size window allow is_list values
-    (opens_first history from t new) m u b from mid upto led over so owns
+    (opens_first history from t new) m u b from mid upto new led over so owns

@@ -181,8 +181,8 @@ module _ {D C : Type 0} (disks : DiskView D) (clocks : ClockView C) where
       fresh = new_initiator plan units
 
       by_plan : (b : Bool) → plan.recovering ≡ b
-          → Does fresh (cond b (Asks (ask.Values fresh.lane) (in_phase fresh phase.AsksValues)) (opens plan fresh)) one t
-          → Knows t new
+          → Does fresh (cond b (Asks (ask.Values fresh.lane) (in_phase fresh phase.AsksValues)) (opens plan fresh)) one
+          t → Knows t new
       by_plan true e d =
           let is = bound e in
           subst (λ (z : Session). Knows z new) (sym d.1) (record {

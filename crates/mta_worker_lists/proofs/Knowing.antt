@@ -1,29 +1,25 @@
 -- A reply is one to its question: what a worker is told by the spool, the session may be told.
-use Rattle.std.proofs.Common.{◌≡◌, ◌⊎◌, ℕ, ◌+◌, ◌*◌, ◌<◌, ◌≤◌, ◌^◌, Bool, true, false, cond, List, [], ◌∷◌, ◌++◌, length}
-use Rattle.std.proofs.Common.{Option, None, Some, Ok, Err, inl, inr, refl, sym, ap, subst, ◌∙◌, arith, option_map}
+use Rattle.std.proofs.Common.{◌≡◌, ℕ, ◌+◌, ◌*◌, ◌≤◌, ◌^◌, Bool, true, false, cond, [], length}
+use Rattle.std.proofs.Common.{Option, None, Some, Ok, Err, inl, inr, refl, sym, ap, subst, ◌∙◌, option_map}
 use Rattle.std.proofs.lemmas.Bool.{cases_lt}
-use mathlib.Core.List.{IsPrefix}
 use Rattle.mta_edge.specs.Views.{ClockView, DiskView}
-use Rattle.mta_lane_recv.specs.Half.{IsOfHigh}
 use Rattle.mta_lane_recv.specs.declared.state.Last.{Last}
 use Rattle.mta_lane_send.specs.Half.{FitsState, is_idle, last_of}
 use Rattle.mta_lane_send.specs.declared.state.SendState.{SendState}
 use Rattle.mta_records.specs.Outgoing.{Carried}
-use Rattle.mta_records.specs.declared.fault.StepFault.{StepFault}
 use Rattle.mta_records.specs.declared.lane.LaneRole.{LaneRole}
 use Rattle.mta_records.specs.declared.lane.LaneRole.TheVariants.{Responder}
 use Rattle.mta_records.specs.declared.lane.LaneValues.{LaneValues}
-use Rattle.mta_records.specs.declared.step.Step.{Step}
 use Rattle.mta_records.specs.declared.step.Step.TheVariants as step
 use Rattle.mta_histories.specs.Classes.{bind}
-use Rattle.mta_histories.specs.History.{IsPossible, lane_after, on_lane_after}
+use Rattle.mta_histories.specs.History.{IsPossible, on_lane_after}
 use Rattle.mta_histories.specs.Kept.{IsFilled, IsKept, IsWhole}
-use Rattle.mta_histories.specs.Lanes.{Lane, lane_at, State, total_of}
+use Rattle.mta_histories.specs.Lanes.{Lane, lane_at, State}
 use Rattle.mta_histories.proofs.LaneLists.{each-at}
 use Rattle.mta_matches.specs.Asks.{IsAskOf, IsLaneOf}
-use Rattle.mta_matches.specs.Looks.{HasRole, HasValues, IsLookedAt}
+use Rattle.mta_matches.specs.Looks.{HasRole, HasValues}
 use Rattle.mta_matches.specs.Matches.{WhereOpen}
-use Rattle.mta_session.specs.Fits.{Answers, AnswersAt, CarriesOn, HalfFits, IsTold, LaneFits, ResumedFits}
+use Rattle.mta_session.specs.Fits.{AnswersAt, CarriesOn, HalfFits, IsTold, LaneFits, ResumedFits}
 use Rattle.mta_session.specs.Follows.{Does}
 use Rattle.mta_session.specs.State.{in_phase, State as Session, with_values}
 use Rattle.mta_session.specs.Wanted.{Aborts, answers_link, Asks, on_bind, Rejects, restored, Wanted, wanted_of_reply}
@@ -33,9 +29,7 @@ use Rattle.mta_session.specs.declared.ask.Ask.TheVariants as ask
 use Rattle.mta_session.specs.declared.ask.Reply.{Reply}
 use Rattle.mta_session.specs.declared.ask.Reply.TheVariants as reply
 use Rattle.mta_session.specs.declared.event.Action.{Action}
-use Rattle.mta_session.specs.declared.event.Action.TheVariants as action
 use Rattle.mta_session.specs.declared.event.Event.TheVariants as event
-use Rattle.mta_session.specs.declared.event.Side.{Side}
 use Rattle.mta_session.specs.declared.phase.Phase.{Phase}
 use Rattle.mta_session.specs.declared.phase.Phase.TheVariants as phase
 use Rattle.mta_session_lists.proofs.Found.{never}
@@ -44,9 +38,8 @@ use Rattle.mta_spool.specs.OnLanes.{next_generation}
 use Rattle.mta_spool.specs.Shown.{Shown}
 use Rattle.mta_spool.specs.Stands.{Appends}
 use Rattle.mta_spool.specs.Starting.{IsResumed}
-use Rattle.mta_stations.specs.declared.end.Halt.{Halt}
 use Rattle.mta_worker.specs.Answers.{Answered, Binds, lanes_of}
-use Rattle.mta_worker.specs.Turns.{IsLook, Replied, StartsElsewhere}
+use Rattle.mta_worker.specs.Turns.{Replied}
 use Rattle.mta_worker_lists.proofs.Calm.{does_calm, is_looking, IsCalm}
 use Rattle.mta_worker_lists.proofs.Known.{agreed_for, calm_knows, carried_total, carries_on, first_answered, has_role}
 use Rattle.mta_worker_lists.proofs.Known.{IsAnswered, IsSeen, Knows, KnowsAt, put_then}
@@ -171,17 +164,17 @@ module _ (t : Session) (a : Action) (u : Session) (s : State) where
       then_knows (answers_link v t.side) (link_calm v t.side) d
   received_knows state k false e d =
       as_knows (in_phase (with_received t (k.lane.high, k.lane.last)) (phase.AsksResumed state)) d.1 (record {
-    lane = k.lane;
-    lane_is = k.lane_is;
-    looked = (
-      received_values t (k.lane.high, k.lane.last) (phase.AsksResumed state) k.lane k.looked.0,
-      k.looked.1,
-      e,
-      refl,
-      refl,
-    );
-    role = k.role;
-  })
+        lane = k.lane;
+        lane_is = k.lane_is;
+        looked = (
+          received_values t (k.lane.high, k.lane.last) (phase.AsksResumed state) k.lane k.looked.0,
+          k.looked.1,
+          e,
+          refl,
+          refl,
+        );
+        role = k.role;
+      })
 
 module _ {D C : Type 0} (disks : DiskView D) (clocks : ClockView C) where
   -- ---- the question for an old lane
@@ -307,7 +300,8 @@ module _ {D C : Type 0} (disks : DiskView D) (clocks : ClockView C) where
       values_next x k e d =
           let v : LaneValues = values_of k.lane in
           let told : Session =
-          in_phase (with_values (record t { twa = v.twa; agreed = v.agreed }) v.checkpoint v.window) phase.AsksRecovery in
+          in_phase (with_values (record t { twa = v.twa; agreed = v.agreed }) v.checkpoint v.window) phase.AsksRecovery
+          in
           let does : Does t (Asks (ask.Recovery t.lane) told) a u =
           subst (λ (z : Option LaneValues). Does t (wanted_of_reply phase.AsksValues t (reply.Values z)) a u) e d in
           as_knows t a u old.current told does.1 (record {
@@ -330,8 +324,8 @@ module _ {D C : Type 0} (disks : DiskView D) (clocks : ClockView C) where
             role = k.role;
           })
 
-      receiving_next : (state : SendState) (x : Option (ℕ × Last)) (k : IsSeen (phase.AsksReceiving state) t old.current)
-          → x ≡ Some (k.lane.high, k.lane.last)
+      receiving_next : (state : SendState) (x : Option (ℕ × Last))
+          (k : IsSeen (phase.AsksReceiving state) t old.current) → x ≡ Some (k.lane.high, k.lane.last)
           → Does t (wanted_of_reply (phase.AsksReceiving state) t (reply.Receiving x)) a u → Knows u old.current
       receiving_next state x k e d =
           received_knows t a u old.current state k (is_idle state) refl

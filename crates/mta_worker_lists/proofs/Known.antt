@@ -1,9 +1,8 @@
 -- What a session knows of a lane that it is about to bind, or that it looks at in the turn of its Bind.
-use Rattle.std.proofs.Common.{◌≡◌, ◌⊎◌, ℕ, ◌+◌, ◌*◌, ◌<◌, ◌≤◌, ◌==◌, Bool, true, false, cond, eqb, nat_lt, List, [], ◌∷◌}
+use Rattle.std.proofs.Common.{◌≡◌, ℕ, ◌*◌, ◌<◌, ◌≤◌, ◌==◌, Bool, true, false, cond, eqb, nat_lt, List, [], ◌∷◌}
 use Rattle.std.proofs.Common.{◌++◌, length, Option, None, Some, inl, inr, refl, sym, ap, subst, ◌∙◌, arith}
 use Rattle.std.proofs.lemmas.Bool.{and_parts, cond-false, cond-true, eq-eqb, eqb-true, ltb-true, ne_eqb}
-use mathlib.Core.List.{IsPrefix}
-use Rattle.mta_lane_send.specs.Half.{FitsState, is_idle}
+use Rattle.mta_lane_send.specs.Half.{FitsState}
 use Rattle.mta_lane_send.specs.Pieces.{has_piece_after}
 use Rattle.mta_lane_send.specs.declared.state.SendState.{SendState}
 use Rattle.mta_lane_send.specs.declared.state.SendState.TheVariants.{Dropping, Ending, Idle, Sending}
@@ -13,14 +12,14 @@ use Rattle.mta_records.specs.declared.lane.LaneRole.{LaneRole}
 use Rattle.mta_records.specs.declared.lane.LaneRole.TheVariants.{Initiator, Responder}
 use Rattle.mta_records.specs.declared.step.Step.{Step}
 use Rattle.mta_histories.specs.History.{after, after_from, after_step, ArePossible, is_role, IsHistory}
-use Rattle.mta_histories.specs.Kept.{AreNumbered, IsFilled, IsKept, IsWhole}
+use Rattle.mta_histories.specs.Kept.{AreNumbered, IsFilled, IsKept}
 use Rattle.mta_histories.specs.Lanes.{Lane, State, Transfer, lane_at, put_lane, total_of}
 use Rattle.mta_histories.proofs.Falls.{numbers_never_fall}
 use Rattle.mta_histories.proofs.Keeps.{histories_keep, steps_keep}
 use Rattle.mta_histories.proofs.LaneLists.{number-above, number-at, number-within}
 use Rattle.mta_histories.proofs.Shown.{put-found}
 use Rattle.mta_lanes.specs.Finds.{IsNamed}
-use Rattle.mta_matches.specs.Looks.{HasRole, HasValues, IsLookedAt}
+use Rattle.mta_matches.specs.Looks.{HasRole, IsLookedAt}
 use Rattle.mta_matches.specs.Matches.{WhereOpen}
 use Rattle.mta_matches.proofs.Staying.{lanes_keep_roles}
 use Rattle.mta_session.specs.Fits.{AgreedFor, CarriesOn, LeavesPieces}

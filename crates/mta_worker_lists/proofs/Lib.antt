@@ -16,6 +16,8 @@ pub mod Ending
 pub mod Responding
 pub mod Initiating
 pub mod Linked
+pub mod Aborting
+pub mod Stopped
 pub mod Good
 pub mod Segments
 pub mod Unlisted
@@ -28,4 +30,6 @@ pub mod Parts
 pub mod Worked
 pub mod Workers
 pub mod All
+pub mod Made
 pub mod AllGood
+pub mod Agreeing

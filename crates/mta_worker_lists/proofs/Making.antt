@@ -5,7 +5,7 @@ use Rattle.std.proofs.lemmas.Bool.{cases_lt}
 use Rattle.mta_ber.specs.declared.fault.Fault.{Fault}
 use Rattle.mta_edge.specs.Views.{ClockView, DiskView}
 use Rattle.mta_lane_send.specs.Half.{last_of}
-use Rattle.mta_ends.specs.Lanes.{Seen, On}
+use Rattle.mta_ends.specs.Lanes.{On}
 use Rattle.mta_ends.specs.Lanes as h
 use Rattle.mta_records.specs.declared.step.Step.{Step}
 use Rattle.mta_records.specs.declared.step.Step.TheVariants as step

@@ -9,7 +9,7 @@ use Rattle.mta_worker_lists.specs.Begun.{begun_by, made_over}
 use Rattle.mta_worker_lists.specs.Histories.{place, whole}
 use Rattle.mta_worker_lists.specs.Leads.{made_in}
 use Rattle.mta_worker_lists.specs.Linked.{AreClosings, Began, None_began}
-use Rattle.mta_worker_lists.specs.Parts.{LinksHaveParts, plain}
+use Rattle.mta_worker_lists.specs.Parts.{AreForNone, IsForNone, LinksHaveParts, plain}
 use Rattle.mta_worker_lists.specs.Segments.{IsSegment}
 use Rattle.mta_worker_lists.proofs.Sessions.{sessions_are_segments}
 
@@ -26,6 +26,18 @@ closings_plain history n ks are = record {
   lists = λ k lane g step hit get piece.
       let closed = are k hit in
       closes_none closed.0 lane closed.1 g step (sym closed.2 ∙ get) piece;
+}
+
+seen_same : (x y : Seen) → Some x ≡ Some y → x ≡ y
+seen_same x y e = cc
+
+pub closings_for_none : (history : List Seen) (n : ℕ) (ks : List ℕ) → AreClosings history n ks
+    → AreForNone history n (plain ks)
+closings_for_none history n ks are = record {
+  none = refl;
+  entries = λ k x hit get.
+      let closed = are k hit in
+      subst IsForNone (seen_same (On closed.0 (CloseLane closed.1)) x (sym closed.2 ∙ get)) tt;
 }
 
 module _ {L : Type 0} (links : LinkView L) where

@@ -1,7 +1,7 @@
--- A reply to any question but that for an old lane, its Bind and the looks behind it leads to no Bind and to no such
--- look.
-use Rattle.std.proofs.Common.{◌≡◌, ℕ, ◌-◌, ◌&&◌, ◌||◌, ◌==◌, nat_lt, not, Bool, true, false, cond, Option, None, Some}
-use Rattle.std.proofs.Common.{List, Result, Ok, Err, bytes_eq, refl}
+-- A reply to any question but that for an old lane, its Bind and the looks behind it leads neither to a Bind nor to
+-- such a look.
+use Rattle.std.proofs.Common.{◌≡◌, ℕ, ◌-◌, ◌&&◌, nat_lt, not, Bool, true, false, cond, Option, None, Some}
+use Rattle.std.proofs.Common.{Result, Ok, Err, bytes_eq, refl}
 use Rattle.mta_ber.specs.declared.memory.Memory.{Memory as NoMemory}
 use Rattle.mta_ends.specs.Receiving as r
 use Rattle.mta_lane_send.specs.declared.state.SendState.{SendState}
@@ -25,10 +25,9 @@ use Rattle.mta_session.specs.declared.phase.OwnStep.{OwnStep}
 use Rattle.mta_session.specs.declared.phase.OwnStep.TheVariants as own
 use Rattle.mta_session.specs.declared.phase.Phase.{Phase}
 use Rattle.mta_session.specs.declared.phase.Phase.TheVariants as phase
-use Rattle.mta_session.specs.State.{in_phase, is_initiator, State}
-use Rattle.mta_session.specs.Wanted.{Wanted, Aborts, Asks, Goes_on, Puts, Rejects}
-use Rattle.mta_session.specs.Wanted.{accepts, answer_for, answers_link, asks_batch, asks_lane, asks_spare, closed}
-use Rattle.mta_session.specs.Wanted.{gives}
+use Rattle.mta_session.specs.State.{is_initiator, State}
+use Rattle.mta_session.specs.Wanted.{Wanted, Aborts, Rejects}
+use Rattle.mta_session.specs.Wanted.{answer_for, answers_link, asks_batch, asks_lane, asks_spare, closed, gives}
 use Rattle.mta_session.specs.Wanted.{goes_on_with, is_given_up, is_still, on_agreed, on_batch, on_bind, on_closed}
 use Rattle.mta_session.specs.Wanted.{on_completed, on_denied, on_dropped, on_due, on_new_lane, on_peer, on_request}
 use Rattle.mta_session.specs.Wanted.{on_room, on_secured, on_spare, on_stands, on_start, on_state, on_step}

@@ -3,7 +3,7 @@ use Rattle.std.proofs.Common.{◌≡◌, ◌⊎◌, ℕ, ◌+◌, ◌-◌, ◌*�
 use Rattle.std.proofs.Common.{◌++◌, inl, inr, refl, sym, ap, subst, arith}
 use Rattle.mta_rtse.specs.declared.types.Answer.{Answer}
 use Rattle.mta_units.specs.declared.unit.OpenUnit.{OpenUnit}
-use Rattle.mta_ends.specs.Lanes.{Seen, On}
+use Rattle.mta_ends.specs.Lanes.{Seen}
 use Rattle.mta_ends.specs.Lanes as h
 use Rattle.mta_session.specs.declared.ask.Ask.{Ask}
 use Rattle.mta_session.specs.declared.ask.Ask.TheVariants as ask

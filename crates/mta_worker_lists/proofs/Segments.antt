@@ -30,7 +30,7 @@ pub record Maker (ss : List Segment) (k : ℕ) : Type 0 where
   pub one : IsOne segment ss
   pub has : 0 < times k segment.own
 
-maker : (ss : List Segment) (k : ℕ) → 0 < times k (owned ss) → Maker ss k
+pub maker : (ss : List Segment) (k : ℕ) → 0 < times k (owned ss) → Maker ss k
 maker [] k l = absurd (omega (arith, l))
 maker (x ∷ xs) k l =
     let sum : times k (x.own ++ owned xs) ≡ times k x.own + times k (owned xs) = times-append k x.own (owned xs) in

@@ -1,7 +1,6 @@
 -- What the spool answers is of the kind that was asked for, and fits the session that asked.
-use Rattle.std.proofs.Common.{◌≡◌, ◌≢◌, ◌⊎◌, ℕ, ◌+◌, ◌^◌, ◌<◌, ◌≤◌, Bool, true, false, List, Option, None, Some}
-use Rattle.std.proofs.Common.{Result, Ok, Err, inl, inr, refl, sym, ap, subst, ◌∙◌, arith, length, option_map}
-use Rattle.std.proofs.Common.{option_and_then, IfSome}
+use Rattle.std.proofs.Common.{◌≡◌, ℕ, ◌+◌, ◌^◌, ◌≤◌, Bool, true, false, List, Option, None, Some}
+use Rattle.std.proofs.Common.{Result, Ok, Err, inl, inr, refl, sym, ap, subst, ◌∙◌, option_map, option_and_then, IfSome}
 use Rattle.std.proofs.lemmas.Bool.{cases_lt}
 use mathlib.Core.Logic.{dite}
 use native.Mathlib.Decide.{ℕ_discrete}
@@ -16,12 +15,12 @@ use Rattle.mta_records.specs.declared.step.Step.TheVariants as step
 use Rattle.mta_tables.specs.Tables.{tables_of, TablesValue}
 use Rattle.mta_tables.proofs.Grammars.{tables_found}
 use Rattle.mta_machine.specs.Apdu.{value_read}
-use Rattle.mta_machine.specs.Items.{Machine, numbered}
+use Rattle.mta_machine.specs.Items.{numbered}
 use Rattle.mta_machine.specs.Machine.{last_tables}
 use Rattle.mta_machine.specs.Rules.{tables_value}
 use Rattle.mta_units.specs.declared.unit.OpenUnit.{OpenUnit}
 use Rattle.mta_histories.specs.Classes.{start}
-use Rattle.mta_histories.specs.History.{IsPossible, lane_after, on_lane_after, transfer_of}
+use Rattle.mta_histories.specs.History.{IsPossible, lane_after, on_lane_after}
 use Rattle.mta_histories.specs.Kept.{IsFilled, IsKept}
 use Rattle.mta_histories.specs.Lanes.{Lane, lane_at, State}
 use Rattle.mta_histories.proofs.LaneLists.{each-at}
@@ -206,9 +205,9 @@ still_state : (o : Option Lane) (lane : Lane) (x : SendState) → o ≡ Some lan
 still_state o lane x e n =
     same_state lane.sending x
     (λ other. n (λ f. other (
-      let here : option_map (λ (l : Lane). l.sending) o ≡ Some lane.sending =
-      ap (λ (z : Option Lane). option_map (λ (l : Lane). l.sending) z) e in
-      let both : Some lane.sending ≡ Some x = sym here ∙ f in cc)))
+    let here : option_map (λ (l : Lane). l.sending) o ≡ Some lane.sending =
+    ap (λ (z : Option Lane). option_map (λ (l : Lane). l.sending) z) e in
+    let both : Some lane.sending ≡ Some x = sym here ∙ f in cc)))
 
 module _ {D C : Type 0} (disks : DiskView D) (clocks : ClockView C) where
   line_fits : (old : Shown D C) (name : List ℕ) (p : Peer) → Some p ≡ line_now old.current.machine name

@@ -1,6 +1,7 @@
 -- What a reply of the spool tells of a lane is true of the history.
-use Rattle.std.proofs.Common.{◌≡◌, ℕ, ◌+◌, ◌-◌, ◌*◌, ◌<◌, Bool, false, List, [], ◌∷◌, ◌++◌, length, take}
-use Rattle.std.proofs.Common.{Option, None, Some, Ok, Err, option_map, inl, inr, refl, sym, ap, subst, ◌∙◌}
+use Rattle.std.proofs.Common.{◌≡◌, ℕ, ◌+◌, ◌-◌, ◌*◌, ◌<◌, ◌≤◌, Bool, false, List, [], ◌∷◌, ◌++◌, length, take}
+use Rattle.std.proofs.Common.{Option, None, Some, Result, Ok, Err, is_ok, option_map, inl, inr, refl, sym, ap, subst}
+use Rattle.std.proofs.Common.{◌∙◌}
 use Rattle.std.proofs.Common.{append_assoc, append-nil, arith}
 use Rattle.std.specs.List.{concat}
 use Rattle.std.proofs.lemmas.List.{length-append}
@@ -18,8 +19,8 @@ use Rattle.mta_records.specs.declared.fault.StepFault.{StepFault}
 use Rattle.mta_records.specs.declared.fault.StepFault.TheVariants as StepFaults
 use Rattle.mta_records.specs.declared.lane.LaneValues.{LaneValues}
 use Rattle.mta_records.specs.Outgoing.{Carried}
-use Rattle.mta_apdu.specs.Apdus.{apdu_of}
-use Rattle.mta_apdu.proofs.ApduLaws.{apdu_full}
+use Rattle.mta_apdu.specs.Apdus.{apdu_of, ApduValue, longest_apdu}
+use Rattle.mta_apdu.proofs.ApduLaws.{apdu_full, read_short}
 use Rattle.mta_histories.specs.Lanes.{Lane, State, Transfer, lane_at}
 use Rattle.mta_histories.specs.Classes.{complete, secure}
 use Rattle.mta_histories.specs.History.{after, IsHistory, longest_activity, with_piece}
@@ -39,7 +40,7 @@ use Rattle.mta_spool.specs.Stands.{step_moment}
 use Rattle.mta_spool.specs.Starting.{Carries, IsResumed}
 use Rattle.mta_worker.specs.Answers.{Answered, lanes_of}
 use Rattle.mta_worker.specs.Turns.{Replied}
-use Rattle.mta_worker_lists.specs.Histories.{TellsApdus}
+use Rattle.mta_worker_lists.specs.Histories.{is_apdu, TellsApdus}
 
 joined_concat : (xs : List (List ℕ)) (x : List ℕ) → concat (xs ++ x ∷ []) ≡ joined xs ++ x
 joined_concat [] x = append-nil x
@@ -55,18 +56,31 @@ carried_octets : (t : Option Transfer) (k : ℕ) (x : Carried) → Carries t k x
 carried_octets None k x c = absurd c
 carried_octets (Some t) k x c = sym c.1
 
+-- ---- octets that are read
+
+pub reading_tells : TellsApdus is_apdu
+reading_tells = record {
+  of_apdus = λ octets i. ap (λ (r : Result ApduValue Fault). is_ok r) (apdu_full octets i.0 i.1);
+  of_others = λ octets f e. ap (λ (r : Result ApduValue Fault). is_ok r) e;
+}
+
 -- ---- octets that are none of a message
 
 module _ (spells : List ℕ → Bool) (tells : TellsApdus spells) where
+  -- too many octets are not read
+  long_fault : (octets : List ℕ) → longest_activity < length octets → (r : Result ApduValue Fault) → apdu_of octets ≡ r
+      → spells octets ≡ false
+  long_fault octets l (Ok v) e =
+      let short : length octets ≤ longest_apdu = read_short octets v e in absurd (omega (arith, l, short))
+  long_fault octets l (Err f) e = tells.of_others octets f e
+
   too_long : (octets : List ℕ) → longest_activity < length octets → SpellsNothing spells octets
   too_long octets l more =
-      tells.of_others (octets ++ more)
-      (λ v. let len : length (octets ++ more) ≡ length octets + length more = length-append octets more in
-      omega (arith, l, len, v.1.short))
+      let len : length (octets ++ more) ≡ length octets + length more = length-append octets more in
+      long_fault (octets ++ more) (omega (arith, l, len)) (apdu_of (octets ++ more)) refl
 
   no_apdu : (octets : List ℕ) (f : Fault) → apdu_of octets ≡ Err f → spells octets ≡ false
-  no_apdu octets f e = tells.of_others octets
-      (λ v. let both : Ok v.0 ≡ Err f = sym (apdu_full octets v.0 v.1) ∙ e in cc)
+  no_apdu octets f e = tells.of_others octets f e
 
   -- ---- a lane
 

@@ -44,14 +44,14 @@ use Rattle.mta_worker.specs.declared.session.Served.{Served}
 use Rattle.mta_worker.specs.declared.telling.Lost.{Lost}
 use Rattle.mta_worker_lists.specs.Histories.{AreEntries, TellsApdus, whole}
 use Rattle.mta_worker_lists.specs.Linked.{Began, IsRun, None_began}
-use Rattle.mta_worker_lists.specs.Parts.{AreParts, AreSessions, plain, WorkersHaveParts}
+use Rattle.mta_worker_lists.specs.Parts.{AreParts, AreSessions, IsForNone, plain, WorkersHaveParts}
 use Rattle.mta_worker_lists.specs.Segments.{AreSegments, owned, Segment}
 use Rattle.mta_worker_lists.proofs.Annotating.{seen_behind}
 use Rattle.mta_worker_lists.proofs.Going.{goes_base, state_then, turn_base, turn_grows}
 use Rattle.mta_worker_lists.proofs.Ending.{served_grows}
 use Rattle.mta_worker_lists.proofs.Linked.{closings_grow, links_are_run, readied_grows, readied_halts, still_owns}
 use Rattle.mta_worker_lists.proofs.Owned.{one_hit}
-use Rattle.mta_worker_lists.proofs.Parts.{closings_plain, links_have_parts}
+use Rattle.mta_worker_lists.proofs.Parts.{closings_for_none, closings_plain, links_have_parts}
 
 -- ---- what is due concerns no pieces
 
@@ -98,6 +98,30 @@ due_plain s now m at lane g x step next get piece =
           piece
     ]
 
+verdict_for_none : (s : State) (v : Verdict) (i r m at : ℕ) (x : Step) → step_of v i r m ≡ Some x
+    → IsForNone (seen_of s (class_of x) at)
+verdict_for_none s (Verdicts.Deliver place) i r m at x e =
+    subst (λ (z : Step). IsForNone (seen_of s (class_of z) at)) (same_due (steps.Deliver i r m) x e) tt
+verdict_for_none s (Verdicts.Expand place) i r m at x e =
+    subst (λ (z : Step). IsForNone (seen_of s (class_of z) at)) (same_due (steps.Expand i r m) x e) tt
+verdict_for_none s (Verdicts.Relay place) i r m at x e = none_some x e
+verdict_for_none s Verdicts.Affirm i r m at x e =
+    subst (λ (z : Step). IsForNone (seen_of s (class_of z) at)) (same_due (steps.Affirm i r m) x e) tt
+verdict_for_none s (Verdicts.NonDeliver reason diagnostic) i r m at x e =
+    subst (λ (z : Step). IsForNone (seen_of s (class_of z) at)) (same_due (steps.Report i r m) x e) tt
+verdict_for_none s (Verdicts.Hold until) i r m at x e = none_some x e
+verdict_for_none s Verdicts.Back i r m at x e =
+    subst (λ (z : Step). IsForNone (seen_of s (class_of z) at)) (same_due (steps.Back i r m) x e) tt
+verdict_for_none s Verdicts.Discard i r m at x e =
+    subst (λ (z : Step). IsForNone (seen_of s (class_of z) at)) (same_due (steps.Discard i r m) x e) tt
+
+due_for_none : (s now : State) (m at : ℕ) (x : Step) → IsNext now m x → IsForNone (seen_of s (class_of x) at)
+due_for_none s now m at x next =
+    elim next.is_due [
+      | inl v ↦ verdict_for_none s v.verdict next.item next.recipient m at x v.step_is
+      | inr e ↦ subst (λ (z : Step). IsForNone (seen_of s (class_of z) at)) (sym e.step_is) tt
+    ]
+
 -- ---- parts behind parts
 
 pub owned_more : (xs ys : List Segment) → owned (xs ++ ys) ≡ owned xs ++ owned ys
@@ -142,7 +166,7 @@ module _ {D C L S : Type 0} (disks : DiskView D) (clocks : ClockView C) (links :
   link_parts old p q served (None_began closings are none owns) = record {
     parts = plain closings ∷ [];
     are = (closings_plain history (length first) closings are, tt);
-    sessions = (inl refl, tt);
+    sessions = (inl (closings_for_none history (length first) closings are), tt);
     owns = owns ∙ ap (λ (ns : List ℕ). p.own ++ ns) (sym (append-nil closings));
   }
   link_parts old p q served (Began closings t begun calls ran are owns later) =
@@ -154,7 +178,7 @@ module _ {D C L S : Type 0} (disks : DiskView D) (clocks : ClockView C) (links :
         are = given.are;
         sessions =
             subst (λ (ss : List Segment). AreSessions links spells first entries ss) (sym given.of_it.1) (
-              inl refl,
+              inl (closings_for_none history (length first) closings are),
               (
                 inr (record {
                   link = old;
@@ -222,7 +246,19 @@ module _ {D C L S : Type 0} (disks : DiskView D) (clocks : ClockView C) (links :
           },
           tt,
         );
-        sessions = (inl refl, tt);
+        sessions = (
+          inl (record {
+            none = refl;
+            entries = λ k x hit get.
+                let place : k ≡ length old.entries = one_hit k (length old.entries) hit in
+                let same = some_same _ _ (sym there ∙ ap (λ (n : ℕ). slice_get history (length first + n)) (sym place)
+                ∙ get) in
+                subst IsForNone same
+                (due_for_none (after (first ++ old.entries)) old.current _
+                (when (after (first ++ old.entries)) step) step i.did.at.0);
+          }),
+          tt,
+        );
         owns = owned_now ∙ ap (λ (n : ℕ). p.own ++ row (length old.entries) n) one;
       }
 

@@ -1,8 +1,10 @@
 -- The parts of the history that all workers made, and the lists of all their sessions.
-use Rattle.std.specs.Prelude.{◌≡◌, ◌⊎◌, ◌<◌, ◌≤◌, ℕ, Bool, false, List, [], ◌∷◌, length, Option, None, Some}
+use Rattle.std.specs.Prelude.{◌≡◌, ◌⊎◌, ◌<◌, ◌≤◌, ℕ, ◌+◌, Bool, false, List, [], ◌∷◌, length, slice_get}
+use Rattle.std.specs.Prelude.{Option, None, Some}
 use mathlib.Core.Logic.{inl, inr}
 use Rattle.mta_edge.specs.Views.{ClockView, DiskView}
 use Rattle.mta_links.specs.Links.{LinkView, StationView}
+use Rattle.mta_ends.specs.Lanes.{On, SeenStep}
 use Rattle.mta_records.specs.declared.step.Step.{Step}
 use Rattle.mta_runs.specs.Sessions.{IsGoodSession, SessionList}
 use Rattle.mta_session.specs.State.{is_initiator}
@@ -15,17 +17,26 @@ use Rattle.mta_workers.specs.Wholes.{AreWorkers}
 use Rattle.mta_worker_lists.specs.Begun.{GiveNone}
 use Rattle.mta_worker_lists.specs.Good.{IsListOver}
 use Rattle.mta_worker_lists.specs.Histories.{AreEntries, TellsApdus, whole}
-use Rattle.mta_worker_lists.specs.Parts.{AreSessions, IsSession}
-use Rattle.mta_worker_lists.specs.Segments.{AreAll, OnLane, owned, Segment}
+use Rattle.mta_worker_lists.specs.Parts.{AreForNone, AreSessions, IsForNone, IsSession}
+use Rattle.mta_worker_lists.specs.Segments.{AreAll, IsOne, OnLane, owned, Segment}
 
--- Each of these parts is of a session that ran over a link, or was made for none; no entry was made twice, all are from
--- some on, and each of these that concerns pieces is in one of them.
+-- Each of these parts is of a session that ran over a link, or was made for none; no entry was made twice, and all are
+-- from some on, each of which is in one of them.
 pub record AllParts {L : Type 0} (links : LinkView L) (spells : List ℕ → Bool) (first entries : List Step)
     (low : ℕ) : Type 0 where
   pub parts : List Segment
   pub sessions : AreSessions links spells first entries parts
   pub all : AreAll (whole first entries) (length first) low parts
   pub later : (k : ℕ) → 0 < times k (owned parts) → low ≤ k
+  pub each : (k : ℕ) → low ≤ k → k < length entries → 0 < times k (owned parts)
+
+-- So each step of a lane that is none of these that are made for no session was made for one.
+abbrev pub StepsHaveSessions : {L : Type 0} → LinkView L → Type 0
+StepsHaveSessions links =
+    (spells : List ℕ → Bool) (first entries : List Step) (low : ℕ) (all : AllParts links spells first entries low)
+    (k lane : ℕ) (step : SeenStep) → low ≤ k
+    → slice_get (whole first entries) (length first + k) ≡ Some (On lane step) → (IsForNone (On lane step) → ⊥)
+    → (s : Segment) × IsOne s all.parts × IsSession links spells first entries s × (0 < times k s.own)
 
 -- A session that has this lane has a list, and one with what came of its last action. With the Abandons of other passes
 -- that is a good one, for the lane's agreed values.
@@ -46,7 +57,8 @@ IsGoodWhere x None = (is_initiator x.new.side ≡ false) × GiveNone x.calls
 IsGoodWhere x (Some on) = HasGoodList x on.lane
 
 abbrev pub IsGoodPart : {L : Type 0} {links : LinkView L} {spells : List ℕ → Bool} {first entries : List Step}
-    {s : Segment} → (s.list ≡ None) ⊎ IsSession links spells first entries s → Type 0
+    {s : Segment} → AreForNone (whole first entries) (length first) s ⊎ IsSession links spells first entries s
+    → Type 0
 IsGoodPart (inl none) = Unit {0}
 IsGoodPart {s = s} (inr x) = IsGoodWhere x s.list
 

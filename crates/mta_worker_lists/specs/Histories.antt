@@ -1,5 +1,7 @@
 -- The history that workers share, and how much of it a pass has seen.
-use Rattle.std.specs.Prelude.{◌≡◌, ℕ, ◌+◌, Bool, true, false, List, ◌++◌, length, map}
+use Rattle.std.specs.Prelude.{◌≡◌, ℕ, ◌+◌, Bool, true, false, List, ◌++◌, length, map, Err, is_ok}
+use Rattle.mta_ber.specs.declared.fault.Fault.{Fault}
+use Rattle.mta_apdu.specs.Apdus.{apdu_of}
 use Rattle.mta_ends.specs.Lanes.{Seen}
 use Rattle.mta_records.specs.declared.step.Step.{Step}
 use Rattle.mta_records.specs.Body.{body_of}
@@ -25,7 +27,11 @@ whole first entries = annotated (first ++ entries)
 abbrev pub place : (first : List Step) → Held Step → ℕ
 place first p = length first + length p.seen
 
--- the test is true of octets that spell an APDU which may be received, and of no others
+-- the test is true of octets that spell an APDU which may be received, and of none in which reading finds a fault
 pub record TellsApdus (spells : List ℕ → Bool) : Type 0 where
   pub of_apdus : (octets : List ℕ) → IsApdu octets → spells octets ≡ true
-  pub of_others : (octets : List ℕ) → (IsApdu octets → ⊥) → spells octets ≡ false
+  pub of_others : (octets : List ℕ) (f : Fault) → apdu_of octets ≡ Err f → spells octets ≡ false
+
+-- such a test: the octets are read
+abbrev pub is_apdu : List ℕ → Bool
+is_apdu octets = is_ok (apdu_of octets)

@@ -7,3 +7,4 @@ pub mod Segments
 pub mod Parts
 pub mod Examples
 pub mod All
+pub mod Agreeing

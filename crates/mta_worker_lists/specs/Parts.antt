@@ -1,12 +1,14 @@
 -- The parts of the history that a worker made over one link, and all that it made.
-use Rattle.std.specs.Prelude.{◌≡◌, ◌⊎◌, ℕ, Bool, List, [], ◌∷◌, ◌++◌, length, None}
+use Rattle.std.specs.Prelude.{◌≡◌, ◌⊎◌, ◌<◌, ℕ, ◌+◌, Bool, List, [], ◌∷◌, ◌++◌, length, slice_get, None, Some}
 use mathlib.Core.List.{IsPrefix}
 use Rattle.mta_edge.specs.Views.{ClockView, DiskView}
 use Rattle.mta_links.specs.Links.{LinkView, StationView}
+use Rattle.mta_ends.specs.Lanes.{Abandon, CloseLane, Elsewhere, On, Seen}
 use Rattle.mta_records.specs.declared.step.Step.{Step}
 use Rattle.mta_session.specs.State.{State}
 use Rattle.mta_session.specs.declared.limits.Limits.{Limits}
 use Rattle.mta_session_lists.specs.Calls.{Call}
+use Rattle.mta_shared.specs.Counts.{times}
 use Rattle.mta_shared.specs.Held.{Held}
 use Rattle.mta_stations.specs.declared.end.WorkerEnd.{WorkerEnd}
 use Rattle.mta_worker.specs.Working.{AtStation, HasWorked}
@@ -43,6 +45,18 @@ module _ {L : Type 0} (links : LinkView L) where
 
 -- ---- workers
 
+-- a step that a worker makes for no session: it is none of a lane, or closes one, or gives an activity up
+abbrev pub IsForNone : Seen → Type 0
+IsForNone Elsewhere = Unit {0}
+IsForNone (On lane (CloseLane generation)) = Unit {0}
+IsForNone (On lane (Abandon k)) = Unit {0}
+IsForNone (On lane step) = ⊥
+
+-- the entries were made for no session
+pub record AreForNone (history : List Seen) (before : ℕ) (s : Segment) : Type 0 where
+  pub none : s.list ≡ None
+  pub entries : (k : ℕ) (x : Seen) → 0 < times k s.own → slice_get history (before + k) ≡ Some x → IsForNone x
+
 -- the entries and the list are those of a session that ran over a link
 pub record IsSession {L : Type 0} (links : LinkView L) (spells : List ℕ → Bool) (first entries : List Step)
     (s : Segment) : Type 0 where
@@ -59,7 +73,8 @@ abbrev pub AreSessions : {L : Type 0} → LinkView L → (spells : List ℕ → 
     → List Segment → Type 0
 AreSessions links spells first entries [] = Unit {0}
 AreSessions links spells first entries (s ∷ ss) =
-    ((s.list ≡ None) ⊎ IsSession links spells first entries s) × AreSessions links spells first entries ss
+    (AreForNone (whole first entries) (length first) s ⊎ IsSession links spells first entries s)
+    × AreSessions links spells first entries ss
 
 -- these parts of the history are all own entries of the pass from one point on to another
 pub record AreParts {L : Type 0} (links : LinkView L) (spells : List ℕ → Bool) (first entries : List Step)

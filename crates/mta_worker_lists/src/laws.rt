@@ -1,15 +1,23 @@
 //! Laws over the definitions.
 
-ghost use Rattle.mta_worker_lists.specs.All.{AllAreGood, AllHaveParts};
+ghost use Rattle.mta_worker_lists.specs.Agreeing.{EndsAgree};
+ghost use Rattle.mta_worker_lists.specs.All.{AllAreGood, AllHaveParts, StepsHaveSessions};
 ghost use Rattle.mta_worker_lists.specs.Examples.{TakesOne};
 ghost use Rattle.mta_worker_lists.specs.Good.{SessionsAreGood, SessionsHaveLists};
+ghost use Rattle.mta_worker_lists.specs.Histories.{is_apdu, TellsApdus};
 ghost use Rattle.mta_worker_lists.specs.Linked.{LinksAreRun};
 ghost use Rattle.mta_worker_lists.specs.Parts.{LinksHaveParts, WorkersHaveParts};
 ghost use Rattle.mta_worker_lists.specs.Segments.{ListsOwnPieces, SegmentsAreGood, SessionsAreSegments};
 
 use mta_edge::{Clock, Disk};
 use mta_links::{Link, Station};
+use mta_runs::sessions_agree;
 use mta_session_lists::{lists_are_good, lists_may_stop};
+
+/// Reading tells which octets spell an APDU that may be received: a test for these laws.
+pub fn reading_tells()
+    ensures { TellsApdus is_apdu }
+{}
 
 /// What a worker does with a link is all that one session did, call by call, and each possible history that goes on
 /// from what its pass has seen has what the calls tell; or no session began.
@@ -75,6 +83,12 @@ pub fn all_have_parts<D: Disk + Drop, C: Clock + Drop, L: Link, S: Station>()
     ensures { AllHaveParts D.model C.model L.model S.model }
 {}
 
+/// So each step of a lane that they made was made for one of their sessions, but those that close a lane or give an
+/// activity up.
+pub fn steps_have_sessions<L: Link>()
+    ensures { StepsHaveSessions L.model }
+{}
+
 /// So each session that they served and that had a lane has a good session list: with what came of its last action, and
 /// with the Abandons of other passes.
 pub fn all_are_good<D: Disk + Drop, C: Clock + Drop, L: Link, S: Station>()
@@ -82,4 +96,14 @@ pub fn all_are_good<D: Disk + Drop, C: Clock + Drop, L: Link, S: Station>()
 {
     lists_are_good();
     lists_may_stop();
+}
+
+/// Two ends of a lane agree, whatever the other end and the links did, where workers served the sessions of this
+/// agent's end: in each world whose events of that end are their lists, in the order of the history's steps.
+pub fn ends_agree<D: Disk + Drop, C: Clock + Drop, L: Link, S: Station>()
+    ensures { EndsAgree D.model C.model L.model S.model }
+{
+    lists_are_good();
+    lists_may_stop();
+    sessions_agree();
 }

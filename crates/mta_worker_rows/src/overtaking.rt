@@ -182,24 +182,60 @@ fn go_on<D: Disk + Drop>(
     Ok((refusal, end))
 }
 
+// What is told where the first session comes to its end before it is held.
+fn said_alone(alloc: Global, first: &SessionEnd) -> Result<String> {
+    Ok(format!(in alloc; "first {first:?}")?)
+}
+
+// What is told of both.
+fn said(
+    alloc: Global,
+    refusal: &Option<StepFault>,
+    first: &SessionEnd,
+    second: &SessionEnd,
+) -> Result<String> {
+    Ok(format!(in alloc; "{refusal:?} first {first:?} second {second:?}")?)
+}
+
+// The first session is held at this question while the second is carried on to its end.
+fn held_at<D: Disk + Drop>(
+    alloc: Global,
+    held: &held::Held,
+    spool: &mut Spool<D, MemClock>,
+    session: &mut Session,
+    one: &mut Line,
+    other: &mut Line,
+    ask: Ask,
+) -> Result<String>
+    requires { IsCalled session.old (actions.Ask ask) }
+{
+    let second = second(alloc, held, spool, other)?;
+    let (refusal, first) = go_on(alloc, spool, session, one, ask)?;
+    said(alloc, &refusal, &first, &second)
+}
+
 // Both sessions, the first of which is held at a question of this name.
 fn both<D: Disk + Drop>(
     alloc: Global,
     held: &held::Held,
     spool: &mut Spool<D, MemClock>,
-    lines: &mut (Line, Line),
+    one: &mut Line,
+    other: &mut Line,
     name: &str,
 ) -> Result<String> {
-    let (one, other) = lines;
     let (mut session, action) = begun(alloc, held, spool)?;
     match up_to(alloc, spool, &mut session, one, action, name)? {
-        Reached::Ends(end) => Ok(format!(in alloc; "first {end:?}")?),
-        Reached::Asks(ask) => {
-            let second = second(alloc, held, spool, other)?;
-            let (refusal, first) = go_on(alloc, spool, &mut session, one, ask)?;
-            Ok(format!(in alloc; "{refusal:?} first {first:?} second {second:?}")?)
-        }
+        Reached::Ends(end) => said_alone(alloc, &end),
+        Reached::Asks(ask) => held_at(alloc, held, spool, &mut session, one, other, ask),
     }
+}
+
+fn puts_of(alloc: Global, one: &Line, other: &Line) -> Result<Vec<Vec<u8>>> {
+    let mut puts = Vec::new(alloc);
+    for line in [one, other] {
+        puts.push(line.link.octets().to_vec(alloc)?)?;
+    }
+    Ok(puts)
 }
 
 /// Carries on two sessions, the first of which is held at its first question of this name until the second ends.
@@ -207,14 +243,11 @@ pub fn overtakes(alloc: Global, held: &mut held::Held, name: &str) -> Result<Str
     let octets = std::mem::replace(&mut held.disk, Vec::new(alloc));
     let disk = SafeDisk::new(alloc, Octets::from_vec(octets));
     let mut spool = opened(alloc, held, disk)?;
-    let mut lines = (line_of(alloc, held, 0)?, line_of(alloc, held, 1)?);
-    let said = both(alloc, held, &mut spool, &mut lines, name)?;
-    let (one, other) = lines;
+    let mut one = line_of(alloc, held, 0)?;
+    let mut other = line_of(alloc, held, 1)?;
+    let said = both(alloc, held, &mut spool, &mut one, &mut other, name)?;
     held.disk = spool.end().octets().to_vec(alloc)?;
     held.given = Vec::new(alloc);
-    held.puts = Vec::new(alloc);
-    for line in [one, other] {
-        held.puts.push(line.link.octets().to_vec(alloc)?)?;
-    }
+    held.puts = puts_of(alloc, &one, &other)?;
     Ok(said)
 }
