@@ -186,7 +186,25 @@ fn connect<R: Net<Listener = TcpListener, Stream = TcpStream>>(
     Err(last)
 }
 
-// The link of a peer that is called, again after a pause where it refuses.
+// Whether a peer may well answer after a pause: its process is not there yet, or went away while it was called.
+fn is_passing(kind: ErrorKind) -> bool {
+    kind == ErrorKind::ConnectionRefused
+        || kind == ErrorKind::ConnectionReset
+        || kind == ErrorKind::ConnectionAborted
+}
+
+// A link to the peer at the host's port.
+fn reached<R: Net<Listener = TcpListener, Stream = TcpStream>>(
+    net: &R,
+    host: &str,
+    port: u16,
+    patience: Patience,
+) -> io::Result<TcpLink> {
+    let stream = connect(net, host, port, patience)?;
+    TcpLink::new(stream, patience)
+}
+
+// The link of a peer that is called, again after a pause where it refuses, or goes away while it is called.
 fn call<R: Net<Listener = TcpListener, Stream = TcpStream> + rt::Clock>(
     runtime: &R,
     host: &str,
@@ -194,16 +212,15 @@ fn call<R: Net<Listener = TcpListener, Stream = TcpStream> + rt::Clock>(
     patience: Patience,
 ) -> Option<TcpLink> {
     for _ in 1..patience.calls {
-        match connect(runtime, host, port, patience) {
-            Ok(stream) => return TcpLink::new(stream, patience).ok(),
-            Err(error) if error.kind() == ErrorKind::ConnectionRefused => {
+        match reached(runtime, host, port, patience) {
+            Ok(link) => return Some(link),
+            Err(error) if is_passing(error.kind()) => {
                 thread::sleep(runtime, patience.pause);
             }
             Err(_) => return None,
         }
     }
-    let stream = connect(runtime, host, port, patience).ok()?;
-    TcpLink::new(stream, patience).ok()
+    reached(runtime, host, port, patience).ok()
 }
 
 impl<R: Net<Listener = TcpListener, Stream = TcpStream> + rt::Clock> Station for TcpStation<'_, R> {
