@@ -11,7 +11,7 @@ pub const SILENCE_SECONDS: u64 = 600;
 /// An address that does not answer a call within so many seconds is not reached.
 pub const ANSWER_SECONDS: u64 = 30;
 
-/// So many seconds lie between two calls of a peer that refuses.
+/// So many seconds lie between two calls of a peer that refuses, and behind a session in which nothing was sent.
 pub const PAUSE_SECONDS: u64 = 1;
 
 /// So many times a peer that refuses is called for one link.
@@ -24,7 +24,7 @@ pub struct Patience {
     pub silence: Duration,
     /// An address that does not answer a call within this time is not reached.
     pub answer: Duration,
-    /// So long is waited between two calls of a peer that refuses.
+    /// So long is waited between two calls of a peer that refuses, and behind a session in which nothing was sent.
     pub pause: Duration,
     /// So many times a peer that refuses is called for one link, and once at least.
     pub calls: u32,

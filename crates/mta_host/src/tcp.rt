@@ -17,12 +17,18 @@ use std::marker::Model;
 use std::net::{Ipv4Addr, Net, SocketAddr, SocketAddrV4, TcpListener, TcpStream, ToSocketAddrs};
 use std::{rt, thread};
 
+// An association in which nothing is sent takes fewer octets, both ways together.
+const IDLE_OCTETS: u64 = 1024;
+
 /// A link over a connection, which is closed where the link is dropped. A call fails where the connection is broken,
 /// and where the peer gives or takes nothing for as long as the station's patience says.
 #[derive(Drop)]
 pub struct TcpLink {
     stream: TcpStream,
     faults: u64,
+    // The octets that went either way, and whether the peer gave its last one.
+    moved: u64,
+    ended: bool,
 }
 
 impl TcpLink {
@@ -30,7 +36,17 @@ impl TcpLink {
         stream.set_nodelay(true)?;
         stream.set_read_timeout(Some(patience.silence))?;
         stream.set_write_timeout(Some(patience.silence))?;
-        Ok(TcpLink { stream, faults: 0 })
+        Ok(TcpLink {
+            stream,
+            faults: 0,
+            moved: 0,
+            ended: false,
+        })
+    }
+
+    // Whether neither end had anything to send: few octets went, and nothing broke.
+    fn is_idle(&self) -> bool {
+        self.faults == 0 && !self.ended && self.moved < IDLE_OCTETS
     }
 }
 
@@ -39,7 +55,11 @@ impl Link for TcpLink {
 
     fn get(&mut self, into: &mut [u8]) -> Result<usize, Failed> {
         match read_some(&mut self.stream, into) {
-            Some(count) => Ok(count),
+            Some(count) => {
+                self.moved = self.moved.saturating_add(count as u64);
+                self.ended = self.ended || count == 0 && !into.is_empty();
+                Ok(count)
+            }
             None => {
                 self.faults = self.faults.saturating_add(1);
                 Err(Failed)
@@ -49,7 +69,10 @@ impl Link for TcpLink {
 
     fn put(&mut self, bytes: &[u8]) -> Result<usize, Failed> {
         match write_some(&mut self.stream, bytes) {
-            Some(count) => Ok(count),
+            Some(count) => {
+                self.moved = self.moved.saturating_add(count as u64);
+                Ok(count)
+            }
             None => {
                 self.faults = self.faults.saturating_add(1);
                 Err(Failed)
@@ -79,6 +102,8 @@ pub struct TcpStation<'a, R> {
     patience: Patience,
     out: u64,
     faults: u64,
+    // Whether neither end had anything to send over the link that came back last.
+    idle: bool,
 }
 
 impl<'a, R> Model for TcpStation<'a, R> {
@@ -104,6 +129,7 @@ impl<'a, R: Net<Listener = TcpListener, Stream = TcpStream> + rt::Clock> TcpStat
             patience,
             out: 0,
             faults: 0,
+            idle: false,
         }
     }
 
@@ -129,6 +155,7 @@ impl<'a, R: Net<Listener = TcpListener, Stream = TcpStream> + rt::Clock> TcpStat
             patience,
             out: 0,
             faults: 0,
+            idle: false,
         }
     }
 
@@ -140,7 +167,17 @@ impl<'a, R: Net<Listener = TcpListener, Stream = TcpStream> + rt::Clock> TcpStat
         }
     }
 
+    // Where neither end had anything to send, the peer is called again after a pause, and not at once.
+    fn rest(&self) {
+        if let Origin::Host { runtime, .. } = &self.origin {
+            if self.idle {
+                thread::sleep(*runtime, self.patience.pause);
+            }
+        }
+    }
+
     fn link(&self) -> Option<TcpLink> {
+        self.rest();
         match &self.origin {
             Origin::Port(None) => None,
             Origin::Port(Some(listener)) => accept(listener, self.patience),
@@ -244,6 +281,7 @@ impl<R: Net<Listener = TcpListener, Stream = TcpStream> + rt::Clock> Station for
     }
 
     fn back(&mut self, link: TcpLink) {
+        self.idle = link.is_idle();
         drop(link);
         self.out -= 1;
     }
