@@ -21,6 +21,7 @@ from pairs import Wrong
 EACH = 5  # messages of an agent
 BEHIND = 12  # sessions without a cut
 PAIRS = (("twa", 1, 1, 64, 8), ("twa", 4, 8, 1, 3), ("twa", 0, 3, 1, 3), ("monologue", 1, 3, 2, 2))
+ALIKE = 12  # pairs of each of these, since they wait a second behind a session in which nothing was sent
 TABLES = """domain C=GB;A={own}
 name {own}
 peer {peer} to-{peer} to-{own} {mode} {size} {window}
@@ -123,23 +124,27 @@ class Couple:
 def main():
     mta, folder = sys.argv[1:3]
     seconds = float(sys.argv[3]) if len(sys.argv) > 3 else 30
-    wrong = []
+    done, wrong = [], []
 
-    def ran(number, how):
+    def ran(number):
+        how = PAIRS[number % len(PAIRS)]
         try:
             couple = Couple(mta, f"{folder}/{number}", *how)
             couple.run(seconds)
-            print(f"{how[0]}, checkpoint sizes {how[1]} and {how[3]}: {couple.sessions} sessions with {couple.kills} "
-                  "kills, each message once", flush=True)
+            done.append((how, couple))
         except Exception as why:
             wrong.append(f"{how}: {why!r}")
 
-    running = [threading.Thread(target=ran, args=it) for it in enumerate(PAIRS)]
+    running = [threading.Thread(target=ran, args=(number,)) for number in range(ALIKE * len(PAIRS))]
     for it in running:
         it.start()
     for it in running:
         it.join()
     Agent.end()
+    for how in PAIRS:
+        those = [couple for its, couple in done if its == how]
+        print(f"{how[0]}, checkpoint sizes {how[1]} and {how[3]}: {sum(it.sessions for it in those)} sessions with "
+              f"{sum(it.kills for it in those)} kills, each message once", flush=True)
     print(*wrong, sep="\n" if wrong else "", end="\n" if wrong else "")
     return 1 if wrong else 0
 
