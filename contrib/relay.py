@@ -20,15 +20,19 @@ def reached(port):
             time.sleep(0.02)
 
 
-def carry(source, to, limit=None):
-    """Carries octets one way, up to the limit; behind it both connections go."""
+def shut(connection):
+    connection.shutdown(socket.SHUT_RDWR)
+
+
+def carry(source, to, limit=None, end=shut):
+    """Carries octets one way, up to the limit; behind it both connections are ended."""
     went = 0
     try:
         while octets := source.recv(65536):
             if limit is not None and went + len(octets) >= limit:
                 to.sendall(octets[:limit - went])
-                source.shutdown(socket.SHUT_RDWR)
-                to.shutdown(socket.SHUT_RDWR)
+                end(source)
+                end(to)
                 return
             to.sendall(octets)
             went += len(octets)
@@ -55,4 +59,5 @@ def main():
     called.close()
 
 
-main()
+if __name__ == "__main__":
+    main()

@@ -17,6 +17,7 @@ import time
 import apdu
 from agent import Agent, connect, free_port, message
 from pairs import Wrong
+from relay import carry  # of contrib, where agent.py has Python look too
 
 EACH = 5  # messages of an agent
 BEHIND = 12  # sessions without a cut
@@ -30,23 +31,10 @@ route C=GB;A={peer} peer {peer}
 """
 
 
-def carry(source, to, limit):
-    """Carries octets one way; behind the limit both connections go, some by a reset."""
-    went = 0
-    try:
-        while octets := source.recv(65536):
-            if limit is not None and went + len(octets) >= limit:
-                to.sendall(octets[:limit - went])
-                for it in (source, to):
-                    if random.random() < 0.5:
-                        it.setsockopt(socket.SOL_SOCKET, socket.SO_LINGER, struct.pack("ii", 1, 0))
-                    it.shutdown(socket.SHUT_RDWR)
-                return
-            to.sendall(octets)
-            went += len(octets)
-        to.shutdown(socket.SHUT_WR)
-    except OSError:
-        pass  # the other way has dropped them
+def shut_or_reset(connection):
+    if random.random() < 0.5:
+        connection.setsockopt(socket.SOL_SOCKET, socket.SO_LINGER, struct.pack("ii", 1, 0))
+    connection.shutdown(socket.SHUT_RDWR)
 
 
 class Couple:
@@ -76,9 +64,9 @@ class Couple:
     def session(self, there=None, back=None):
         caller = self.listener.accept()[0]
         called = connect(self.port)
-        other = threading.Thread(target=carry, args=(called, caller, back))
+        other = threading.Thread(target=carry, args=(called, caller, back, shut_or_reset))
         other.start()
-        carry(caller, called, there)
+        carry(caller, called, there, shut_or_reset)
         other.join()
         caller.close()
         called.close()

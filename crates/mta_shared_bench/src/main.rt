@@ -1,7 +1,8 @@
 //! Takes turns with a lock in many threads. The words are the number of threads, 1 to 16, and the turns of each.
 #![tactic(auto)]
 
-ghost use Rattle.std.specs.Prelude.{◌≡◌, ◌+◌, ◌<◌, ◌≤◌, ℕ, [], All, length, slice_index_or, vec_capacity, vec_len};
+ghost use Rattle.std.specs.Prelude.{◌≡◌, ◌+◌, ◌<◌, ◌≤◌, ℕ, [], All, length, slice_index_or};
+ghost use Rattle.std.specs.Prelude.{vec_capacity, vec_len};
 ghost use Rattle.mta_shared.specs.Passes.{lock_of, IsReady, Worked};
 ghost use Rattle.mta_shared.specs.Rule.{Grows};
 ghost use Rattle.mta_shared_bench.specs.Parts.{IsPart};
@@ -77,7 +78,8 @@ fn take_all<R: Threads + Wait + Sync>(
     turns: u32,
 )
     requires { All (IsPart (lock_of shared.now)) passes.old }
-    ensures { (i : ℕ) (d : _) → i < length passes.old → IsPart (lock_of shared.now) (slice_index_or passes.new i d) }
+    ensures { (i : ℕ) (d : _) → i < length passes.old
+        → IsPart (lock_of shared.now) (slice_index_or passes.new i d) }
 {
     thread::for_each_mut(
         rt,

@@ -1,6 +1,6 @@
 -- The parts of the history that all workers made, and the lists of all their sessions.
-use Rattle.std.specs.Prelude.{◌≡◌, ◌⊎◌, ◌<◌, ◌≤◌, ℕ, ◌+◌, Bool, false, List, [], ◌∷◌, length, slice_get}
-use Rattle.std.specs.Prelude.{Option, None, Some}
+use Rattle.std.specs.Prelude.{◌≡◌, ◌⊎◌, ◌<◌, ◌≤◌, ℕ, ◌+◌, Bool, false, List, [], ◌∷◌}
+use Rattle.std.specs.Prelude.{length, slice_get, Option, None, Some}
 use mathlib.Core.Logic.{inl, inr}
 use Rattle.mta_edge.specs.Views.{ClockView, DiskView}
 use Rattle.mta_links.specs.Links.{LinkView, StationView}
@@ -35,7 +35,8 @@ abbrev pub StepsHaveSessions : {L : Type 0} → LinkView L → Type 0
 StepsHaveSessions links =
     (spells : List ℕ → Bool) (first entries : List Step) (low : ℕ) (all : AllParts links spells first entries low)
     (k lane : ℕ) (step : SeenStep) → low ≤ k
-    → slice_get (whole first entries) (length first + k) ≡ Some (On lane step) → (IsForNone (On lane step) → ⊥)
+    → slice_get (whole first entries) (length first + k) ≡ Some (On lane step)
+    → (IsForNone (On lane step) → ⊥)
     → (s : Segment) × IsOne s all.parts × IsSession links spells first entries s × (0 < times k s.own)
 
 -- A session that has this lane has a list, and one with what came of its last action. With the Abandons of other passes

@@ -1,5 +1,6 @@
 -- Where a session begins in the history, and where it has its lane.
-use Rattle.std.specs.Prelude.{◌≡◌, ◌⊎◌, ℕ, ◌+◌, ◌-◌, Bool, false, None, List, [], ◌∷◌, ◌++◌, length}
+use Rattle.std.specs.Prelude.{◌≡◌, ◌⊎◌, ℕ, ◌+◌, ◌-◌, Bool, false, None, List, [], ◌∷◌}
+use Rattle.std.specs.Prelude.{◌++◌, length}
 use Rattle.mta_links.specs.Links.{LinkView}
 use Rattle.mta_records.specs.declared.step.Step.{Step}
 use Rattle.mta_units.specs.Feed.{Feed, no_feed}
@@ -31,7 +32,8 @@ pub data IsNewAt (history : List Seen) : (from : ℕ) → State → Type 0 where
 
 -- How it ends behind its last call: with an end, or for want of memory at its link, or with a reply to its question
 -- that the history has and that it is not told, for want of memory.
-pub data IsOver (spells : List ℕ → Bool) (history : List Seen) (from upto : ℕ) (u : State) (b : Action) : Type 0 where
+pub data IsOver (spells : List ℕ → Bool) (history : List Seen) (from upto : ℕ) (u : State) (b : Action)
+    : Type 0 where
   Ended : (e : SessionEnd) → b ≡ action.Finish e → upto ≡ from → IsOver spells history from upto u b
   Stopped : upto ≡ from → IsOver spells history from upto u b
   Untold : (q : Ask) (x : Reply) → b ≡ action.Ask q
@@ -90,7 +92,8 @@ pub record HasRun {L : Type 0} (links : LinkView L) (spells : List ℕ → Bool)
   pub done : IsDone links spells first entries (at_first t old p) calls q
 
 -- the entry by which a session's lane was opened or bound before its first call
-abbrev pub begun_by : {history : List Seen} {from : ℕ} {t : State} → (before : ℕ) → IsNewAt history from t → List ℕ
+abbrev pub begun_by : {history : List Seen} {from : ℕ} {t : State} → (before : ℕ) → IsNewAt history from t
+    → List ℕ
 begun_by n (Calls p units at from is has opens) = (at - n) ∷ []
 begun_by n (Listens own units from) = []
 

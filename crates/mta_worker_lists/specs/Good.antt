@@ -25,14 +25,16 @@ IsAtLink b = ⊥
 -- What the list of these calls may be where memory was wanted at the link: nothing came of the last action, or an event
 -- that the session was not told, and its worker put an Abort, where the session has not turned to its end, or none.
 -- What is known of a worker does not tell which of these it was.
-pub data IsStopped (calls : List Call) (l : SessionList) (upto : ℕ) (u : State) (b : Action) (m : SessionList) : Type 0
-  where
-    As_told : m ≡ l → IsStopped calls l upto u b m
-    Given_up : IsAtLink b → has_turned u.phase ≡ false
-        → m ≡ record { opening = l.opening; at = l.at; events = l.events ++ abort_of true }
-        → IsStopped calls l upto u b m
-    Came : (e : Event) (aborts : Bool) → IsAtLink b → Answers u e → (aborts ≡ true → has_turned u.phase ≡ false)
-        → m ≡ stopped calls l (record { event = e; seen = upto; aborts = aborts }) → IsStopped calls l upto u b m
+pub data IsStopped (calls : List Call) (l : SessionList) (upto : ℕ) (u : State) (b : Action)
+    (m : SessionList) : Type 0 where
+  As_told : m ≡ l → IsStopped calls l upto u b m
+  Given_up : IsAtLink b → has_turned u.phase ≡ false
+      → m ≡ record { opening = l.opening; at = l.at; events = l.events ++ abort_of true }
+      → IsStopped calls l upto u b m
+  Came : (e : Event) (aborts : Bool) → IsAtLink b → Answers u e
+      → (aborts ≡ true → has_turned u.phase ≡ false)
+      → m ≡ stopped calls l (record { event = e; seen = upto; aborts = aborts })
+      → IsStopped calls l upto u b m
 
 -- What the list of these calls is with what came of the last action, and of the Abort that is put where the session has
 -- not turned to its end.
@@ -56,8 +58,9 @@ SessionsHaveLists =
 -- stands in it.
 abbrev pub SessionsAreGood : Type 0
 SessionsAreGood =
-    (spells : List ℕ → Bool) (history : List Seen) (from mid upto : ℕ) (t u : State) (b : Action) (calls : List Call)
-    (lane : ℕ) (l m : SessionList) (size window : ℕ) → LanesAllow spells history → IsNewAt history from t
+    (spells : List ℕ → Bool) (history : List Seen) (from mid upto : ℕ) (t u : State) (b : Action)
+    (calls : List Call) (lane : ℕ) (l m : SessionList) (size window : ℕ) → LanesAllow spells history
+    → IsNewAt history from t
     → Leads spells history from t action.Read calls mid u b → (over : IsOver spells history mid upto u b)
     → IsListOf spells history t calls lane l → IsListOver calls l over m → AreValues history lane size window
     → OwnsPieces history lane (completed history lane size window (is_initiator t.side) m)

@@ -1,5 +1,6 @@
 -- What a worker does with a link is all that one session did, or none began.
-use Rattle.std.specs.Prelude.{◌≡◌, ◌<◌, ◌≤◌, ℕ, ◌+◌, Bool, List, ◌++◌, length, slice_get, None, Some}
+use Rattle.std.specs.Prelude.{◌≡◌, ◌<◌, ◌≤◌, ℕ, ◌+◌, Bool, List, ◌++◌, length, slice_get}
+use Rattle.std.specs.Prelude.{None, Some}
 use mathlib.Core.List.{IsPrefix}
 use Rattle.mta_edge.specs.Views.{ClockView, DiskView}
 use Rattle.mta_links.specs.Links.{LinkView}
@@ -25,8 +26,8 @@ AreClosings history n ks =
 -- all that one did, behind the entry by which its lane was opened or bound.
 pub data IsRun {L : Type 0} (links : LinkView L) (spells : List ℕ → Bool) (first entries : List Step) (old : L)
     (p q : Held Step) (served : Served) : Type 0 where
-  None_began : (closings : List ℕ) → AreClosings (whole first entries) (length first) closings → served.end ≡ None
-      → q.own ≡ p.own ++ closings → IsRun links spells first entries old p q served
+  None_began : (closings : List ℕ) → AreClosings (whole first entries) (length first) closings
+      → served.end ≡ None → q.own ≡ p.own ++ closings → IsRun links spells first entries old p q served
   Began : (closings : List ℕ) (t : State) (begun : Held Step) (calls : List Call)
       (ran : HasRun links spells first entries old t begun calls q)
       → AreClosings (whole first entries) (length first) closings

@@ -1,5 +1,6 @@
 -- The parts of the history that a worker made over one link, and all that it made.
-use Rattle.std.specs.Prelude.{◌≡◌, ◌⊎◌, ◌<◌, ℕ, ◌+◌, Bool, List, [], ◌∷◌, ◌++◌, length, slice_get, None, Some}
+use Rattle.std.specs.Prelude.{◌≡◌, ◌⊎◌, ◌<◌, ℕ, ◌+◌, Bool, List, [], ◌∷◌, ◌++◌}
+use Rattle.std.specs.Prelude.{length, slice_get, None, Some}
 use mathlib.Core.List.{IsPrefix}
 use Rattle.mta_edge.specs.Views.{ClockView, DiskView}
 use Rattle.mta_links.specs.Links.{LinkView, StationView}
@@ -23,15 +24,16 @@ abbrev pub plain : List ℕ → Segment
 plain own = record { own = own; list = None }
 
 -- Lanes that were closed before, and the session, where one began.
-abbrev pub ArePartsOf : {L : Type 0} {links : LinkView L} {spells : List ℕ → Bool} {first entries : List Step} {old : L}
-    {p q : Held Step} {served : Served} → IsRun links spells first entries old p q served → List Segment → Type 0
+abbrev pub ArePartsOf : {L : Type 0} {links : LinkView L} {spells : List ℕ → Bool} {first entries : List Step}
+    {old : L} {p q : Held Step} {served : Served} → IsRun links spells first entries old p q served → List Segment
+    → Type 0
 ArePartsOf (None_began closings are none owns) ss = ss ≡ plain closings ∷ []
 ArePartsOf {first = first} (Began closings t begun calls ran are owns later) ss =
     (s : Segment) × (ss ≡ plain closings ∷ s ∷ []) × IsOf (length first) ran.begins calls ran.done.over s
 
 -- What was done with a link is in these parts of the history, which are all own entries of the pass then.
-pub record LinkParts {L : Type 0} {links : LinkView L} {spells : List ℕ → Bool} {first entries : List Step} {old : L}
-    {p q : Held Step} {served : Served} (run : IsRun links spells first entries old p q served) : Type 0 where
+pub record LinkParts {L : Type 0} {links : LinkView L} {spells : List ℕ → Bool} {first entries : List Step}
+    {old : L} {p q : Held Step} {served : Served} (run : IsRun links spells first entries old p q served) : Type 0 where
   pub parts : List Segment
   pub are : AreSegments (whole first entries) (length first) parts
   pub owns : q.own ≡ p.own ++ owned parts

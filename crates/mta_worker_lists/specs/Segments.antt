@@ -1,6 +1,6 @@
 -- Whose the steps of a lane's generation are. Each session makes entries of its own, and no two make the same one.
-use Rattle.std.specs.Prelude.{◌≡◌, ◌⊎◌, ◌<◌, ◌≤◌, ℕ, ◌+◌, ◌-◌, Bool, Option, None, Some, List, [], ◌∷◌, ◌++◌}
-use Rattle.std.specs.Prelude.{false, length, slice_get}
+use Rattle.std.specs.Prelude.{◌≡◌, ◌⊎◌, ◌<◌, ◌≤◌, ℕ, ◌+◌, ◌-◌, Bool, Option, None, Some}
+use Rattle.std.specs.Prelude.{List, [], ◌∷◌, ◌++◌, false, length, slice_get}
 use Rattle.mta_ends.specs.Lanes.{Seen, On, SeenStep}
 use Rattle.mta_ends.specs.Lanes as h
 use Rattle.mta_session.specs.State.{is_initiator, State}
@@ -79,8 +79,9 @@ pub record AreAll (history : List Seen) (before low : ℕ) (ss : List Segment) :
 abbrev pub ListsOwnPieces : Type 0
 ListsOwnPieces =
     (spells : List ℕ → Bool) (history : List Seen) (before low : ℕ) (ss : List Segment) (s : Segment) (l : OnLane)
-    → h.LanesAllow spells history → AreAll history before low ss → IsOne s ss → s.list ≡ Some l → before + low ≤ l.at
-    → (q : ℕ) (step : SeenStep) → l.at < q → slice_get history q ≡ Some (On l.lane step) → IsPiece l.generation step
+    → h.LanesAllow spells history → AreAll history before low ss → IsOne s ss → s.list ≡ Some l
+    → before + low ≤ l.at → (q : ℕ) (step : SeenStep) → l.at < q
+    → slice_get history q ≡ Some (On l.lane step) → IsPiece l.generation step
     → IsIn (Made q l.lane step) l.events
 
 -- ---- sessions
@@ -93,8 +94,8 @@ told_over (Stopped same) = []
 told_over {upto = upto} (Untold q x is comes answers) = told_as upto (step_told q x) (look_told q x) ∷ []
 
 -- it is the list of these calls, with that reply; none where a responder has no lane
-abbrev pub ListsAs : (spells : List ℕ → Bool) → List Seen → State → List Call → List SessionEvent → Option OnLane
-    → Type 0
+abbrev pub ListsAs : (spells : List ℕ → Bool) → List Seen → State → List Call → List SessionEvent
+    → Option OnLane → Type 0
 ListsAs spells history t calls over None = (is_initiator t.side ≡ false) × GiveNone calls
 ListsAs spells history t calls over (Some x) =
     (l : SessionList) × IsListOf spells history t calls x.lane l × (x.at ≡ l.at) × (x.events ≡ l.events ++ over)
@@ -118,8 +119,8 @@ SessionsAreSegments =
 -- Abandons of other passes, is a good one.
 abbrev pub SegmentsAreGood : Type 0
 SegmentsAreGood =
-    (spells : List ℕ → Bool) (history : List Seen) (before low from mid upto : ℕ) (ss : List Segment) (s : Segment)
-    (t u : State) (b : Action) (calls : List Call) (new : IsNewAt history from t)
+    (spells : List ℕ → Bool) (history : List Seen) (before low from mid upto : ℕ) (ss : List Segment)
+    (s : Segment) (t u : State) (b : Action) (calls : List Call) (new : IsNewAt history from t)
     (over : IsOver spells history mid upto u b) (x : OnLane) (l m : SessionList) (size window : ℕ)
     → h.LanesAllow spells history → AreAll history before low ss → IsOne s ss → IsOf before new calls over s
     → s.list ≡ Some x → before + low ≤ x.at → Leads spells history from t action.Read calls mid u b
