@@ -174,6 +174,7 @@ fn passing_back<R: Rules>(
 ) -> Result<Option<Change>, Memory>
     requires text { IsTextOf kept.now (R.text rules.now) }
     requires item { numbered kept.now.parts.items.items number ≡ Some item.now }
+    requires arrived { item.now.arrival ≤ last_moment }
     requires ready { IsReady (state_of kept.now) number recipient moment Verdicts.Back }
     ensures { IfOk result (Prepares (state_of kept.now) (Steps.Back number recipient moment)) }
 {

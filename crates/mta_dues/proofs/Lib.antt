@@ -1,5 +1,9 @@
 pub mod Ascending
-pub mod IdleItems
+pub mod Idle
+pub mod Indexed
+pub mod Nexts
+pub mod Passed
+pub mod Pending
 pub mod Queues
 pub mod Recipients
 pub mod Relays

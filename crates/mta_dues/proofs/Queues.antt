@@ -3,19 +3,21 @@ use Rattle.std.proofs.Common.{inl, inr, ◌≡◌, ◌≢◌, ◌≤◌, ◌<◌
 use Rattle.std.proofs.Common.{List, [], ◌∷◌, ◌++◌, Option, Some, None, length, refl, sym, ap, subst}
 use Rattle.std.proofs.Common.{◌∙◌, arith}
 use Rattle.std.specs.Prelude.{◌⊎◌, ◌↔◌}
+use Rattle.std.proofs.lemmas.Bool.{cases_lt}
 use Rattle.std.proofs.lemmas.Option.{same_Some}
 use Rattle.mta_machine.specs.Items.{ItemValue, Machine, names, numbered, is_pending_at}
 use Rattle.mta_machine.specs.Rules.{names_peer, route_word}
 use Rattle.mta_machine.specs.Machine.{last_tables}
 use Rattle.mta_histories.specs.Lanes.{State, activities_of}
 use Rattle.mta_histories.specs.Due.{IsAscending, IsRoutedTo, IsQueue, HasQueue, routed}
+use Rattle.mta_agenda.specs.Next.{IsBefore}
 use Rattle.mta_dues.specs.Answers.{HasRouted, NoneRoutedUpTo, AreQueuedUpTo}
 use Rattle.mta_dues.proofs.Ascending.{named_before, named_last, named_more, ascends}
 use Rattle.mta_dues.proofs.Scans.{cases_le, past, not_there, no_such}
 
 -- ---- one recipient
 
-route_is : (m : Machine) (i r : ℕ) (text : List ℕ) (item : ItemValue)
+pub route_is : (m : Machine) (i r : ℕ) (text : List ℕ) (item : ItemValue)
     → numbered m.tables (last_tables m) ≡ Some text → numbered m.items i ≡ Some item
     → routed (numbered m.tables (last_tables m)) (numbered m.items i) r ≡ route_word text item.octets r
 route_is m i r text item text_is item_is =
@@ -91,65 +93,84 @@ queue_at_first s peer = record {
       (λ e. absurd cc, λ has. absurd (none_of_none s peer i has.0 (not_there s.machine i has.0 none) has.1));
 }
 
-pub queue_further : (s : State) (peer : List ℕ) (most : ℕ) (items : List ℕ) (b : Bool)
-    → AreQueuedUpTo s peer most items
-    → b ≡ false → (b ≡ true) ↔ HasRouted s peer (most + 1) → AreQueuedUpTo s peer (most + 1) items
-queue_further s peer most items b are isnt same = record {
+-- none of the items between two has a recipient who waits for the peer
+abbrev pub NoneQueuedBetween : State → List ℕ → (after : ℕ) → Option ℕ → Type 0
+NoneQueuedBetween s peer after found = (i : ℕ) → after < i → IsBefore i found → HasRouted s peer i → ⊥
+
+pub queue_further : (s : State) (peer : List ℕ) (after number : ℕ) (items : List ℕ) (b : Bool) → after < number
+    → AreQueuedUpTo s peer after items → NoneQueuedBetween s peer after (Some number)
+    → b ≡ false → (b ≡ true) ↔ HasRouted s peer number → AreQueuedUpTo s peer number items
+queue_further s peer after number items b up are between isnt same = record {
   ascending = are.ascending;
-  below = λ i e. let low = are.below i e in omega (arith, low);
-  each = λ i low. at i low (cases_le i most);
+  below = λ i e. let low = are.below i e in omega (arith, low, up);
+  each = λ i low. at i low (cases_le i after) (cases_lt i number);
 } where
-  at : (i : ℕ) → i ≤ most + 1 → (i ≤ most) ⊎ (most < i) → (names items i ≡ true) ↔ HasRouted s peer i
-  at i low (inl below) = are.each i below
-  at i low (inr above) =
-      let is : i ≡ most + 1 = omega (arith, low, above) in (
+  at : (i : ℕ) → i ≤ number → (i ≤ after) ⊎ (after < i) → (i < number) ⊎ (number ≤ i)
+      → (names items i ≡ true) ↔ HasRouted s peer i
+  at i low (inl below) place = are.each i below
+  at i low (inr above) (inl lower) = (
+    λ e. let under = are.below i e in absurd (omega (arith, under, above)),
+    λ has. absurd (between i above lower has),
+  )
+  at i low (inr above) (inr high) =
+      let is : i ≡ number = omega (arith, low, high) in (
         λ e. let under = are.below i e in absurd (omega (arith, under, above)),
         λ has. let does = same.1 (subst (λ (j : ℕ). HasRouted s peer j) is has) in absurd cc,
       )
 
-pub queue_one_more : (s : State) (peer : List ℕ) (most : ℕ) (items : List ℕ) (b : Bool)
-    → AreQueuedUpTo s peer most items
-    → b ≡ true → (b ≡ true) ↔ HasRouted s peer (most + 1)
-    → AreQueuedUpTo s peer (most + 1) (items ++ (most + 1) ∷ [])
-queue_one_more s peer most items b are does same = record {
-  ascending = ascends items (most + 1) are.ascending (λ i e. let low = are.below i e in omega (arith, low));
-  below = λ i e. under i (named_more items (most + 1) i e);
-  each = λ i low. at i low (cases_le i most);
+pub queue_one_more : (s : State) (peer : List ℕ) (after number : ℕ) (items : List ℕ) (b : Bool) → after < number
+    → AreQueuedUpTo s peer after items → NoneQueuedBetween s peer after (Some number)
+    → b ≡ true → (b ≡ true) ↔ HasRouted s peer number
+    → AreQueuedUpTo s peer number (items ++ number ∷ [])
+queue_one_more s peer after number items b up are between does same = record {
+  ascending = ascends items number are.ascending (λ i e. let low = are.below i e in omega (arith, low, up));
+  below = λ i e. under i (named_more items number i e);
+  each = λ i low. at i low (cases_le i after) (cases_lt i number);
 } where
-  under : (i : ℕ) → (names items i ≡ true) ⊎ (i ≡ most + 1) → i ≤ most + 1
-  under i (inl e) = let low = are.below i e in omega (arith, low)
+  under : (i : ℕ) → (names items i ≡ true) ⊎ (i ≡ number) → i ≤ number
+  under i (inl e) = let low = are.below i e in omega (arith, low, up)
   under i (inr is) = omega (arith, is)
 
-  at : (i : ℕ) → i ≤ most + 1 → (i ≤ most) ⊎ (most < i)
-      → (names (items ++ (most + 1) ∷ []) i ≡ true) ↔ HasRouted s peer i
-  at i low (inl below) = (
-    λ e. elim (named_more items (most + 1) i e) [
+  at : (i : ℕ) → i ≤ number → (i ≤ after) ⊎ (after < i) → (i < number) ⊎ (number ≤ i)
+      → (names (items ++ number ∷ []) i ≡ true) ↔ HasRouted s peer i
+  at i low (inl below) place = (
+    λ e. elim (named_more items number i e) [
       | inl before ↦ (are.each i below).0 before
-      | inr is ↦ absurd (omega (arith, is, below))
+      | inr is ↦ absurd (omega (arith, is, below, up))
     ],
-    λ has. named_before items (most + 1) i ((are.each i below).1 has),
+    λ has. named_before items number i ((are.each i below).1 has),
   )
-  at i low (inr above) =
-      let is : most + 1 ≡ i = omega (arith, low, above) in (
+  at i low (inr above) (inl lower) = (
+    λ e. elim (named_more items number i e) [
+      | inl before ↦ (let below = are.below i before in absurd (omega (arith, below, above)))
+      | inr is ↦ absurd (omega (arith, is, lower))
+    ],
+    λ has. absurd (between i above lower has),
+  )
+  at i low (inr above) (inr high) =
+      let is : number ≡ i = omega (arith, low, high) in (
         λ e. subst (λ (j : ℕ). HasRouted s peer j) is (same.0 does),
-        λ has. subst (λ (j : ℕ). names (items ++ (most + 1) ∷ []) j ≡ true) is (named_last items (most + 1)),
+        λ has. subst (λ (j : ℕ). names (items ++ number ∷ []) j ≡ true) is (named_last items number),
       )
 
-pub whole_queue : (s : State) (peer : List ℕ) (most : ℕ) (items : List ℕ) → length s.machine.items ≤ most
-    → AreQueuedUpTo s peer most items → IsQueue s peer items
-whole_queue s peer most items few are = record {
+pub whole_queue : (s : State) (peer : List ℕ) (after : ℕ) (items : List ℕ) → AreQueuedUpTo s peer after items
+    → NoneQueuedBetween s peer after None → IsQueue s peer items
+whole_queue s peer after items are between = record {
   ascending = are.ascending;
-  each = λ i. at i (cases_le i most);
+  each = λ i. at i (cases_le i after);
 } where
-  at : (i : ℕ) → (i ≤ most) ⊎ (most < i) → (names items i ≡ true) ↔ ((r : ℕ) × IsRoutedTo s peer i r)
+  at : (i : ℕ) → (i ≤ after) ⊎ (after < i) → (names items i ≡ true) ↔ ((r : ℕ) × IsRoutedTo s peer i r)
   at i (inl below) = are.each i below
   at i (inr above) = (
     λ e. let under = are.below i e in absurd (omega (arith, under, above)),
-    λ has.
-        absurd
-        (none_of_none s peer i has.0
-        (not_there s.machine i has.0 (past s.machine.items i (omega (arith, few, above)))) has.1),
+    λ has. absurd (between i above tt has),
   )
+
+-- no recipient of an item that is not there waits
+pub none_routed : (s : State) (peer : List ℕ) (i : ℕ) → numbered s.machine.items i ≡ None
+    → (false ≡ true) ↔ HasRouted s peer i
+none_routed s peer i none =
+    (λ e. absurd cc, λ has. absurd (none_of_none s peer i has.0 (not_there s.machine i has.0 none) has.1))
 
 pub has_queue : (s : State) (peer text items : List ℕ)
     → numbered s.machine.tables (last_tables s.machine) ≡ Some text
@@ -163,5 +184,3 @@ no_queue s peer text is unnamed other other_is =
     subst (λ (t : List ℕ). names_peer t peer ≡ false) same unnamed
 
 pub ruleset routed_laws = (unrouted_at_first, unrouted_further, all_unrouted, some_routed)
-
-pub ruleset queue_laws = (queue_at_first, queue_further, queue_one_more, whole_queue)

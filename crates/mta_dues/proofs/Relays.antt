@@ -10,13 +10,14 @@ use Rattle.mta_machine.specs.Rules.{verdict_of}
 use Rattle.mta_machine.specs.Machine.{last_tables, relay_by, relay_on, relay_at}
 use Rattle.mta_histories.specs.Lanes.{State, activities_of}
 use Rattle.mta_histories.specs.Due.{IsAscending, IsToRelay, IsBatch, IsNoBatch}
+use Rattle.mta_agenda.specs.Next.{IsBefore}
 use Rattle.mta_dues.specs.Answers.{AreRelayedUpTo, AreRelayed, NoneRelayedUpTo, IsBatchOf}
 use Rattle.mta_dues.proofs.Ascending.{named_before, named_last, named_more, ascends}
 use Rattle.mta_dues.proofs.Scans.{cases_le, past, not_there, no_such}
 
 -- ---- one recipient
 
-relay_is : (m : Machine) (i r moment : ℕ) (text : List ℕ) (item : ItemValue)
+pub relay_is : (m : Machine) (i r moment : ℕ) (text : List ℕ) (item : ItemValue)
     → numbered m.tables (last_tables m) ≡ Some text → numbered m.items i ≡ Some item
     → relay_at m (last_tables m) i r moment ≡ relay_by text (verdict_of text item.octets item.arrival r moment)
 relay_is m i r moment text item text_is item_is =
@@ -129,38 +130,55 @@ none_at_start s peer moment i r low to =
     let none : numbered s.machine.items i ≡ None = rw zero_is refl in
     none_of_none s peer moment i r (not_there s.machine i r none) to
 
-pub none_of_item : (s : State) (peer : List ℕ) (moment i : ℕ) (rs : List ℕ) → NoneRelayedUpTo s peer moment i
-    → AreRelayed s peer moment (i + 1) rs → rs ≡ [] → NoneRelayedUpTo s peer moment (i + 1)
-none_of_item s peer moment i rs before are none j r low to = elim (cases_le j i) [
+-- none of the items between two is relayed to the peer
+abbrev pub NoneRelayedBetween : State → List ℕ → (moment after : ℕ) → Option ℕ → Type 0
+NoneRelayedBetween s peer moment after found =
+    (i r : ℕ) → after < i → IsBefore i found → IsToRelay s peer moment i r → ⊥
+
+pub none_of_item : (s : State) (peer : List ℕ) (moment after number : ℕ) (rs : List ℕ)
+    → NoneRelayedUpTo s peer moment after → NoneRelayedBetween s peer moment after (Some number)
+    → AreRelayed s peer moment number rs → rs ≡ [] → NoneRelayedUpTo s peer moment number
+none_of_item s peer moment after number rs before between are none j r low to = elim (cases_le j after) [
   | inl below ↦ before j r below to
-  | inr above ↦ (let is : j ≡ i + 1 = omega (arith, low, above) in
-      let named : names rs r ≡ true =
-      (are.each r).1 (subst (λ (k : ℕ). IsToRelay s peer moment k r) is to) in
-      let nobody : names rs r ≡ false = rw none refl in absurd cc)
+  | inr above ↦ elim (cases_lt j number) [
+    | inl lower ↦ between j r above lower to
+    | inr high ↦ (let is : j ≡ number = omega (arith, low, high) in
+        let named : names rs r ≡ true =
+        (are.each r).1 (subst (λ (k : ℕ). IsToRelay s peer moment k r) is to) in
+        let nobody : names rs r ≡ false = rw none refl in absurd cc)
+  ]
 ]
 
-pub no_batch : (s : State) (peer : List ℕ) (moment most : ℕ) → length s.machine.items ≤ most
-    → NoneRelayedUpTo s peer moment most → IsBatchOf s peer moment None
-no_batch s peer moment most few none i r to = elim (cases_le i most) [
-  | inl below ↦ none i r below to
-  | inr above ↦
-      none_of_none s peer moment i r
-      (not_there s.machine i r (past s.machine.items i (omega (arith, few, above)))) to
+pub no_batch : (s : State) (peer : List ℕ) (moment after : ℕ) → NoneRelayedUpTo s peer moment after
+    → NoneRelayedBetween s peer moment after None → IsBatchOf s peer moment None
+no_batch s peer moment after before between i r to = elim (cases_le i after) [
+  | inl below ↦ before i r below to
+  | inr above ↦ between i r above tt to
 ]
 
-pub a_batch : (s : State) (peer : List ℕ) (moment i : ℕ) (rs : List ℕ) → NoneRelayedUpTo s peer moment i
-    → AreRelayed s peer moment (i + 1) rs → rs ≢ []
-    → IsBatchOf s peer moment (Some (record { item = i + 1; recipients = rs }))
-a_batch s peer moment i rs before are some = record {
+pub a_batch : (s : State) (peer : List ℕ) (moment after number : ℕ) (rs : List ℕ)
+    → NoneRelayedUpTo s peer moment after → NoneRelayedBetween s peer moment after (Some number)
+    → AreRelayed s peer moment number rs → rs ≢ []
+    → IsBatchOf s peer moment (Some (record { item = number; recipients = rs }))
+a_batch s peer moment after number rs before between are some = record {
   some_recipients = some;
   ascending = are.ascending;
   each = are.each;
-  lowest = λ j r to. at j r to (cases_lt i j);
+  lowest = λ j r to. at j r to (cases_lt j number) (cases_le j after);
 } where
-  at : (j r : ℕ) → IsToRelay s peer moment j r → (i < j) ⊎ (j ≤ i) → i + 1 ≤ j
-  at j r to (inl above) = omega (arith, above)
-  at j r to (inr below) = absurd (before j r below to)
+  at : (j r : ℕ) → IsToRelay s peer moment j r → (j < number) ⊎ (number ≤ j) → (j ≤ after) ⊎ (after < j)
+      → number ≤ j
+  at j r to (inr high) place = high
+  at j r to (inl lower) (inl below) = absurd (before j r below to)
+  at j r to (inl lower) (inr above) = absurd (between j r above lower to)
+
+-- no recipient of an item that is not there is relayed
+pub none_relayed : (s : State) (peer : List ℕ) (moment i : ℕ) → numbered s.machine.items i ≡ None
+    → AreRelayed s peer moment i []
+none_relayed s peer moment i none = record {
+  ascending = tt;
+  each = λ r.
+      (λ e. absurd cc, λ to. absurd (none_of_none s peer moment i r (not_there s.machine i r none) to));
+}
 
 pub ruleset relay_laws = (relays_at_first, relays_further, relays_one_more, all_relays)
-
-pub ruleset batch_laws = (none_at_start, none_of_item, no_batch, a_batch)

@@ -9,6 +9,7 @@ use Rattle.mta_histories.specs.Lanes.{State}
 use Rattle.mta_histories.specs.Kept.{IsKept}
 use Rattle.mta_histories.specs.Due.{IsDue, IsNext, IsQuiet, IsLowest}
 use Rattle.mta_records.specs.declared.step.Step.{Step}
+use Rattle.mta_agenda.specs.Next.{IsBefore}
 use Rattle.mta_dues.specs.Answers.{IsDueOf, IsFirstIn, IsFirstOf, IsNextOf, NoneDueUpTo, NothingDueUpTo}
 use Rattle.mta_dues.proofs.Recipients.{not_pending}
 
@@ -71,22 +72,35 @@ nothing_at_first s moment kept i r due low d =
     let none : numbered s.machine.items i ≡ None = rw zero_is refl in
     not_pending s i r moment kept (not_there s.machine i r none) due d
 
-pub nothing_further : (s : State) (i moment : ℕ) → NothingDueUpTo s i moment → IsFirstOf s (i + 1) moment None
-    → NothingDueUpTo s (i + 1) moment
-nothing_further s i moment before none j r due low d = elim (cases_le j i) [
+-- nothing is due of the items between two
+abbrev pub NothingDueBetween : State → (after moment : ℕ) → Option ℕ → Type 0
+NothingDueBetween s after moment found =
+    (i r : ℕ) (due : Step) → after < i → IsBefore i found → IsDue s i r moment due → ⊥
+
+pub nothing_further : (s : State) (after number moment : ℕ) → NothingDueUpTo s after moment
+    → NothingDueBetween s after moment (Some number) → IsFirstOf s number moment None
+    → NothingDueUpTo s number moment
+nothing_further s after number moment before between none j r due low d = elim (cases_le j after) [
   | inl below ↦ before j r due below d
-  | inr above ↦ (let is : j ≡ i + 1 = omega (arith, low, above) in
-      none r due (subst (λ (k : ℕ). IsDue s k r moment due) is d))
+  | inr above ↦ elim (cases_lt j number) [
+    | inl lower ↦ between j r due above lower d
+    | inr high ↦ (let is : j ≡ number = omega (arith, low, high) in
+        none r due (subst (λ (k : ℕ). IsDue s k r moment due) is d))
+  ]
 ]
 
-pub no_item : (s : State) (most moment : ℕ) → IsKept s → length s.machine.items ≤ most
-    → NothingDueUpTo s most moment → IsNextOf s moment None
-no_item s most moment kept few none i r due d = elim (cases_le i most) [
-  | inl below ↦ none i r due below d
-  | inr above ↦
-      not_pending s i r moment kept
-      (not_there s.machine i r (past s.machine.items i (omega (arith, few, above)))) due d
+pub no_item : (s : State) (after moment : ℕ) → NothingDueUpTo s after moment
+    → NothingDueBetween s after moment None → IsNextOf s moment None
+no_item s after moment before between i r due d = elim (cases_le i after) [
+  | inl below ↦ before i r due below d
+  | inr above ↦ between i r due above tt d
 ]
+
+-- nothing is due of an item that is not there
+pub none_there : (s : State) (i moment : ℕ) → IsKept s → numbered s.machine.items i ≡ None
+    → IsFirstOf s i moment None
+none_there s i moment kept none r due d =
+    not_pending s i r moment kept (not_there s.machine i r none) due d
 
 at_same : (s : State) (i j q moment : ℕ) (due other : Step) (first : IsFirstIn s i moment due)
     → IsDue s j q moment other
@@ -95,25 +109,27 @@ at_same s i j q moment due other first d same (inl below) =
     absurd (first.lowest q other below (subst (λ (k : ℕ). IsDue s k q moment other) same d))
 at_same s i j q moment due other first d same (inr above) = above
 
-by_place : (s : State) (i j q moment : ℕ) (due other : Step) (first : IsFirstIn s (i + 1) moment due)
-    → NothingDueUpTo s i moment → IsDue s j q moment other → (j ≤ i) ⊎ (i < j)
-    → (i + 1 < j) ⊎ ((i + 1 ≡ j) × (first.recipient ≤ q))
-by_place s i j q moment due other first before d (inl below) = absurd (before j q other below d)
-by_place s i j q moment due other first before d (inr above) = elim (cases_eq j (i + 1)) [
-  | inl same ↦
-      inr (sym same, at_same s (i + 1) j q moment due other first d same (cases_lt q first.recipient))
-  | inr apart ↦ inl (omega (arith, above, apart))
+by_place : (s : State) (after number j q moment : ℕ) (due other : Step) (first : IsFirstIn s number moment due)
+    → NothingDueUpTo s after moment → NothingDueBetween s after moment (Some number) → IsDue s j q moment other
+    → (j ≤ after) ⊎ (after < j) → (number < j) ⊎ ((number ≡ j) × (first.recipient ≤ q))
+by_place s after number j q moment due other first before between d (inl below) = absurd (before j q other below d)
+by_place s after number j q moment due other first before between d (inr above) = elim (cases_lt number j) [
+  | inl higher ↦ inl higher
+  | inr low ↦ elim (cases_eq j number) [
+    | inl same ↦
+        inr (sym same, at_same s number j q moment due other first d same (cases_lt q first.recipient))
+    | inr apart ↦ absurd (between j q other above (omega (arith, low, apart)) d)
+  ]
 ]
 
-pub first_item : (s : State) (i moment : ℕ) (due : Step) → NothingDueUpTo s i moment
-    → IsFirstOf s (i + 1) moment (Some due) → IsNextOf s moment (Some due)
-first_item s i moment due before first = record {
-  item = i + 1;
+pub first_item : (s : State) (after number moment : ℕ) (due : Step) → NothingDueUpTo s after moment
+    → NothingDueBetween s after moment (Some number) → IsFirstOf s number moment (Some due)
+    → IsNextOf s moment (Some due)
+first_item s after number moment due before between first = record {
+  item = number;
   recipient = first.recipient;
   is_due = first.is_due;
-  lowest = λ j q other d. by_place s i j q moment due other first before d (cases_le j i);
+  lowest = λ j q other d. by_place s after number j q moment due other first before between d (cases_le j after);
 }
 
 pub ruleset recipient_laws = (none_at_first, none_further, no_recipient, first_recipient)
-
-pub ruleset item_laws = (nothing_at_first, nothing_further, no_item, first_item)

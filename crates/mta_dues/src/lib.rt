@@ -1,14 +1,17 @@
-//! What is due in the state of a spool, and what goes to a peer next, found by looking at each item in turn. What is
-//! due is looked for only in items that are not known to be idle.
+//! What is due in the state of a spool, and what goes to a peer next. Only items are looked at that may have something
+//! due, and those that stand in a line of the peer.
 #![tactic(auto)]
 
 mod due;
-mod idle;
+mod index;
+mod lined;
 mod queue;
 mod relay;
+mod rest;
 mod scan;
 
 pub use due::due_of;
+pub use index::Index;
 pub use queue::waiting;
 pub use relay::{batch_for, is_to_relay};
 pub use scan::due_step;

@@ -1,4 +1,4 @@
-//! What waits for a peer, found by looking at each recipient of each item in turn.
+//! What waits for a peer, found by looking in turn at each recipient of each item that may wait for it.
 
 ghost use Rattle.std.specs.Prelude.{◌≡◌, ◌≤◌, ◌<◌, ◌^◌, ◌↔◌, IfOk, IsTrue, Some, length};
 ghost use Rattle.std.specs.List.{All};
@@ -7,7 +7,11 @@ ghost use Rattle.mta_histories.specs.Due.{HasQueue, IsQueue, IsRoutedTo};
 ghost use Rattle.mta_replay.specs.Kept.{state_of};
 ghost use Rattle.mta_replay.specs.Asked.{IsStored, IsTextOf};
 ghost use Rattle.mta_dues.specs.Answers.{HasRouted};
+ghost use Rattle.mta_dues.specs.Index.{IsIndexed, IsNextWaiting};
 
+use crate::index::Index;
+use crate::lined::next_for;
+use mta_agenda::lowest;
 use mta_ber::{Memory, Word};
 use mta_machine::Item;
 use mta_records::Recipients;
@@ -61,24 +65,63 @@ fn has_routed<R: Rules>(
     Ok(false)
 }
 
+// Whether some recipient of the item of a number waits for the peer.
+#[tactic(auto, using(crate::proofs::Passed::listed_laws))]
+fn is_queued<R: Rules>(
+    alloc: Global,
+    rules: &R,
+    kept: &Kept,
+    number: u32,
+    peer: &[u8],
+) -> Result<bool, Memory>
+    requires text { IsTextOf kept.now (R.text rules.now) }
+    requires stored { All IsStored kept.now.parts.items.items }
+    ensures { IfOk result (λ b. IsTrue b ↔ HasRouted (state_of kept.now) peer.now number) }
+{
+    match kept.parts.item(number) {
+        None => Ok(false),
+        Some(item) => has_routed(alloc, rules, kept, number, item, peer),
+    }
+}
+
+// The lowest item above this number that may have a recipient who waits for the peer.
+#[tactic(auto, using(crate::proofs::Nexts::next_waiting))]
+fn next_waiting<R: Rules>(
+    rules: &R,
+    index: &Index,
+    peer: &[u8],
+    after: u32,
+    count: u32,
+) -> Option<u32>
+    ensures { IsNextWaiting (R.text rules.now) index.now peer.now count after result }
+{
+    let listed = next_for(rules, &index.agenda, &index.routed, peer, after);
+    lowest(listed, index.agenda.next_unknown(after, count))
+}
+
 // The items of which a recipient waits for the peer.
-#[tactic(auto, using(crate::proofs::Queues::queue_laws))]
-fn queued<R: Rules>(alloc: Global, rules: &R, kept: &Kept, peer: &[u8]) -> Result<Vec<u32>, Memory>
+#[tactic(auto, using(crate::proofs::Passed::queue_laws))]
+fn queued<R: Rules>(
+    alloc: Global,
+    rules: &R,
+    kept: &Kept,
+    index: &Index,
+    peer: &[u8],
+) -> Result<Vec<u32>, Memory>
     requires text { IsTextOf kept.now (R.text rules.now) }
     requires stored { All IsStored kept.now.parts.items.items }
     requires numbers { length kept.now.parts.items.items < 2 ^ 32 }
+    requires indexed { IsIndexed (R.text rules.now) kept.now.parts.items.items index.now }
     ensures { IfOk result (λ items. IsQueue (state_of kept.now) peer.now items.items) }
 {
-    let items = kept.parts.items.as_slice();
-    let count = items.len() as u32;
+    let count = kept.parts.items.len() as u32;
     let mut numbers: Vec<u32> = Vec::new(alloc);
-    let mut number: u32 = 0;
-    while number < count {
-        let item = &items[number as usize];
-        number += 1;
-        if has_routed(alloc, rules, kept, number, item, peer)? {
+    let mut after: u32 = 0;
+    while let Some(number) = next_waiting(rules, index, peer, after, count) {
+        if is_queued(alloc, rules, kept, number, peer)? {
             numbers.push(number)?;
         }
+        after = number;
     }
     Ok(numbers)
 }
@@ -89,16 +132,18 @@ pub fn waiting<R: Rules>(
     alloc: Global,
     rules: &R,
     kept: &Kept,
+    index: &Index,
     peer: &Word,
 ) -> Result<Option<Recipients>, Memory>
     requires text { IsTextOf kept.now (R.text rules.now) }
     requires stored { All IsStored kept.now.parts.items.items }
     requires numbers { length kept.now.parts.items.items < 2 ^ 32 }
+    requires indexed { IsIndexed (R.text rules.now) kept.now.parts.items.items index.now }
     ensures { IfOk result (HasQueue (state_of kept.now) peer.now) }
 {
     if !rules.names_peer(peer.as_slice()) {
         return Ok(None);
     }
-    let numbers = queued(alloc, rules, kept, peer.as_slice())?;
+    let numbers = queued(alloc, rules, kept, index, peer.as_slice())?;
     Ok(Some(Recipients::from_vec(numbers)))
 }

@@ -1,4 +1,4 @@
-//! What goes to a peer next, found by looking at each recipient of each item in turn.
+//! What goes to a peer next, found by looking in turn at each recipient of each item that may go to it.
 
 ghost use Rattle.std.specs.Prelude.{◌≡◌, ◌≢◌, ◌≤◌, ◌<◌, ◌^◌, ◌↔◌, [], true, false};
 ghost use Rattle.std.specs.Prelude.{IfOk, IsTrue, Some, length};
@@ -10,8 +10,12 @@ ghost use Rattle.mta_machine.specs.Machine.{relay_by};
 ghost use Rattle.mta_histories.specs.Due.{IsToRelay};
 ghost use Rattle.mta_replay.specs.Kept.{state_of};
 ghost use Rattle.mta_replay.specs.Asked.{IsStored, IsTextOf};
+ghost use Rattle.mta_agenda.specs.Agendas.{IsAllCalled};
 ghost use Rattle.mta_dues.specs.Answers.{AreRelayed, IsBatchOf};
+ghost use Rattle.mta_dues.specs.Index.{IsIndexed};
 
+use crate::index::Index;
+use crate::lined::next_for;
 use mta_ber::{Memory, Word};
 use mta_machine::Item;
 use mta_procedures::Verdict;
@@ -94,28 +98,45 @@ fn has_some(recipients: &Vec<u32>) -> bool
     }
 }
 
-/// The lowest item with recipients to relay to the peer, and all those; none where there is no such item.
-#[tactic(auto, using(crate::proofs::Relays::batch_laws))]
-pub fn batch_for<R: Rules>(
+// The recipients of the item of a number that are to be relayed to the peer.
+#[tactic(auto, using(crate::proofs::Passed::relayed_laws))]
+fn relayed<R: Rules>(
     alloc: Global,
     rules: &R,
     kept: &Kept,
-    peer: &Word,
+    number: u32,
+    peer: &[u8],
+    moment: u64,
+) -> Result<Vec<u32>, Memory>
+    requires text { IsTextOf kept.now (R.text rules.now) }
+    requires stored { All IsStored kept.now.parts.items.items }
+    ensures { IfOk result (λ rs. AreRelayed (state_of kept.now) peer.now moment number rs.items) }
+{
+    match kept.parts.item(number) {
+        None => Ok(Vec::new(alloc)),
+        Some(item) => recipients_for(alloc, rules, kept, number, item, peer, moment),
+    }
+}
+
+// The lowest item with recipients to relay to the peer, found among those in its lines.
+#[tactic(auto, using(crate::proofs::Passed::batch_laws))]
+fn first_batch<R: Rules>(
+    alloc: Global,
+    rules: &R,
+    kept: &Kept,
+    index: &Index,
+    peer: &[u8],
     moment: u64,
 ) -> Result<Option<Batch>, Memory>
     requires text { IsTextOf kept.now (R.text rules.now) }
     requires stored { All IsStored kept.now.parts.items.items }
-    requires numbers { length kept.now.parts.items.items < 2 ^ 32 }
+    requires called { IsAllCalled index.now.agenda (length kept.now.parts.items.items) moment }
+    requires indexed { IsIndexed (R.text rules.now) kept.now.parts.items.items index.now }
     ensures { IfOk result (IsBatchOf (state_of kept.now) peer.now moment) }
 {
-    let word = peer.as_slice();
-    let items = kept.parts.items.as_slice();
-    let count = items.len() as u32;
-    let mut number: u32 = 0;
-    while number < count {
-        let item = &items[number as usize];
-        number += 1;
-        let recipients = recipients_for(alloc, rules, kept, number, item, word, moment)?;
+    let mut after: u32 = 0;
+    while let Some(number) = next_for(rules, &index.agenda, &index.ready, peer, after) {
+        let recipients = relayed(alloc, rules, kept, number, peer, moment)?;
         let found = has_some(&recipients);
         if found {
             return Ok(Some(Batch {
@@ -123,6 +144,30 @@ pub fn batch_for<R: Rules>(
                 recipients: Recipients::from_vec(recipients),
             }));
         }
+        after = number;
     }
     Ok(None)
+}
+
+/// The lowest item with recipients to relay to the peer, and all those; none where there is no such item. Items are
+/// looked at only that are active, or stand in a line of the peer.
+#[tactic(auto, using(crate::proofs::Indexed::kept))]
+pub fn batch_for<R: Rules>(
+    alloc: Global,
+    rules: &R,
+    kept: &Kept,
+    index: &mut Index,
+    peer: &Word,
+    moment: u64,
+) -> Result<Option<Batch>, Memory>
+    requires text { IsTextOf kept.now (R.text rules.now) }
+    requires stored { All IsStored kept.now.parts.items.items }
+    requires numbers { length kept.now.parts.items.items < 2 ^ 32 }
+    requires indexed { IsIndexed (R.text rules.now) kept.now.parts.items.items index.old }
+    ensures batch { IfOk result (IsBatchOf (state_of kept.now) peer.now moment) }
+    ensures indexed { IsIndexed (R.text rules.now) kept.now.parts.items.items index.new }
+{
+    let count = kept.parts.items.len() as u32;
+    index.agenda.call(count, moment)?;
+    first_batch(alloc, rules, kept, index, peer.as_slice(), moment)
 }

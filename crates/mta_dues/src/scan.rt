@@ -1,18 +1,19 @@
-//! The next step that is due, found by looking in turn at each recipient of each item that is not known to be idle.
+//! The next step that is due, found by looking in turn at each recipient of each item that may have something due.
 
-ghost use Rattle.std.specs.Prelude.{◌≡◌, ◌+◌, ◌≤◌, ◌<◌, ◌^◌, IfOk, Some, length};
+ghost use Rattle.std.specs.Prelude.{◌≡◌, ◌<◌, ◌^◌, ℕ, IfOk, Some, length, true};
 ghost use Rattle.std.specs.List.{All};
 ghost use Rattle.mta_machine.specs.Items.{numbered};
 ghost use Rattle.mta_histories.specs.Kept.{IsKept};
-ghost use Rattle.mta_idle.specs.Spans.{AreIdle};
+ghost use Rattle.mta_agenda.specs.Agendas.{is_active, IsAllCalled};
 ghost use Rattle.mta_replay.specs.Kept.{state_of};
 ghost use Rattle.mta_replay.specs.Asked.{IsStored, IsTextOf};
 ghost use Rattle.mta_dues.specs.Answers.{IsFirstOf, IsNextOf};
+ghost use Rattle.mta_dues.specs.Index.{IsIndexed};
 
 use crate::due::due_of;
-use crate::idle::{idle_span, is_in_span, note};
+use crate::index::Index;
+use crate::rest::rest;
 use mta_ber::Memory;
-use mta_idle::Span;
 use mta_machine::Item;
 use mta_records::Step;
 use mta_replay::{Kept, Rules};
@@ -46,64 +47,81 @@ fn first_of<R: Rules>(
     Ok(None)
 }
 
-// What is due of the lowest recipient of an item, which is passed over where it is known to be idle. Where it is looked
-// at, the span in which it is idle is noted.
-#[tactic(auto, using(crate::proofs::IdleItems::idle_laws))]
+// What is due of the lowest recipient of an active item, which rests where it is idle.
+#[tactic(auto, using(crate::proofs::Passed::look_laws))]
 fn look<R: Rules>(
     alloc: Global,
     rules: &R,
     kept: &Kept,
-    spans: &mut Vec<Span>,
-    place: usize,
-    item: &Item,
+    index: &mut Index,
+    number: u32,
     moment: u64,
 ) -> Result<Option<Step>, Memory>
     requires text { IsTextOf kept.now (R.text rules.now) }
     requires kept { IsKept (state_of kept.now) }
-    requires place { place + 1 < 2 ^ 32 }
-    requires item { numbered kept.now.parts.items.items (place + 1) ≡ Some item.now }
-    requires stored { IsStored item.now }
-    requires idle { AreIdle (R.text rules.now) kept.now.parts.items.items spans.old.items }
-    ensures first { IfOk result (IsFirstOf (state_of kept.now) (place + 1) moment) }
-    ensures idle { AreIdle (R.text rules.now) kept.now.parts.items.items spans.new.items }
+    requires stored { All IsStored kept.now.parts.items.items }
+    requires active { is_active index.old.agenda number ≡ true }
+    requires indexed { IsIndexed (R.text rules.now) kept.now.parts.items.items index.old }
+    ensures first { IfOk result (IsFirstOf (state_of kept.now) number moment) }
+    ensures indexed { IsIndexed (R.text rules.now) kept.now.parts.items.items index.new }
+    ensures called { (count : ℕ) → IsAllCalled index.old.agenda count moment
+        → IsAllCalled index.new.agenda count moment }
 {
-    if is_in_span(spans.as_slice(), place, moment) {
+    let Some(item) = kept.parts.item(number) else {
+        return Ok(None);
+    };
+    if rest(alloc, rules, index, number, item, moment)? {
         return Ok(None);
     }
-    let span = idle_span(alloc, rules, item, moment)?;
-    note(spans, place, span);
-    if span.holds(moment) {
-        return Ok(None);
-    }
-    first_of(alloc, rules, kept, place as u32 + 1, item, moment)
+    first_of(alloc, rules, kept, number, item, moment)
 }
 
-/// The due step of the lowest item and recipient at a moment: none where nothing is due. An item is passed over in the
-/// span beside it, in which it is idle; where it is looked at, such a span is found.
-#[tactic(auto, using(crate::proofs::Scans::item_laws))]
+// The due step of the lowest active item and recipient at a moment: none where nothing is due.
+#[tactic(auto, using(crate::proofs::Passed::item_laws))]
+fn first_due<R: Rules>(
+    alloc: Global,
+    rules: &R,
+    kept: &Kept,
+    index: &mut Index,
+    moment: u64,
+) -> Result<Option<Step>, Memory>
+    requires text { IsTextOf kept.now (R.text rules.now) }
+    requires kept { IsKept (state_of kept.now) }
+    requires stored { All IsStored kept.now.parts.items.items }
+    requires called { IsAllCalled index.old.agenda (length kept.now.parts.items.items) moment }
+    requires indexed { IsIndexed (R.text rules.now) kept.now.parts.items.items index.old }
+    ensures next { IfOk result (IsNextOf (state_of kept.now) moment) }
+    ensures indexed { IsIndexed (R.text rules.now) kept.now.parts.items.items index.new }
+{
+    let mut after: u32 = 0;
+    while let Some(number) = index.agenda.next(after) {
+        match look(alloc, rules, kept, index, number, moment)? {
+            None => after = number,
+            Some(due) => return Ok(Some(due)),
+        }
+    }
+    Ok(None)
+}
+
+/// The due step of the lowest item and recipient at a moment: none where nothing is due. Items are looked at only that
+/// are active, and rest where they are idle.
+#[tactic(auto, using(crate::proofs::Indexed::kept))]
 pub fn due_step<R: Rules>(
     alloc: Global,
     rules: &R,
     kept: &Kept,
-    spans: &mut Vec<Span>,
+    index: &mut Index,
     moment: u64,
 ) -> Result<Option<Step>, Memory>
     requires text { IsTextOf kept.now (R.text rules.now) }
     requires kept { IsKept (state_of kept.now) }
     requires stored { All IsStored kept.now.parts.items.items }
     requires numbers { length kept.now.parts.items.items < 2 ^ 32 }
-    requires idle { AreIdle (R.text rules.now) kept.now.parts.items.items spans.old.items }
+    requires indexed { IsIndexed (R.text rules.now) kept.now.parts.items.items index.old }
     ensures next { IfOk result (IsNextOf (state_of kept.now) moment) }
-    ensures idle { AreIdle (R.text rules.now) kept.now.parts.items.items spans.new.items }
+    ensures indexed { IsIndexed (R.text rules.now) kept.now.parts.items.items index.new }
 {
-    let items = kept.parts.items.as_slice();
-    let mut place: usize = 0;
-    while place < items.len() {
-        let item = &items[place];
-        match look(alloc, rules, kept, spans, place, item, moment)? {
-            None => place += 1,
-            Some(due) => return Ok(Some(due)),
-        }
-    }
-    Ok(None)
+    let count = kept.parts.items.len() as u32;
+    index.agenda.call(count, moment)?;
+    first_due(alloc, rules, kept, index, moment)
 }

@@ -1,4 +1,4 @@
--- An item stays idle whatever steps are made: no recipient becomes pending again.
+-- Items go on whatever steps are made: no recipient becomes pending again.
 use Rattle.std.proofs.Common.{◌≡◌, ℕ, Bool, true, false, cond, eqb, List, [], ◌∷◌, ◌++◌, Option, Some, None}
 use Rattle.std.proofs.Common.{refl, sym, ap, subst, ◌∙◌, inl, inr}
 use Rattle.std.proofs.lemmas.Bool.{cases_Bool, eqb-true}
@@ -6,17 +6,16 @@ use Rattle.std.proofs.lemmas.Option.{same_Some}
 use Rattle.mta_machine.specs.declared.item.Status.{Status}
 use Rattle.mta_machine.specs.Apdu.{value_of, is_report}
 use Rattle.mta_machine.specs.Items.{ItemValue, Machine, numbered, set_numbered, names, has_status, is_pending}
-use Rattle.mta_machine.specs.Rules.{Failure}
+use Rattle.mta_machine.specs.Rules.{Failure, is_expired, verdict_of}
 use Rattle.mta_machine.specs.Machine.{Discharge, delivered, expanded, affirmed, not_delivered, failed, discarded}
 use Rattle.mta_machine.specs.Machine.{passed}
 use Rattle.mta_machine.specs.Machine.{sent, MachineStep, set_tables, accept, discharge, machine_after, machine_run}
 use Rattle.mta_machine.specs.Machine.{items_after, discharged_item, status_after, with_statuses}
 use Rattle.mta_machine.proofs.Numbered.{set-same, set-other, numbered-front}
 use Rattle.mta_machine.proofs.Steps.{with-other, with-none, with-named}
-use Rattle.mta_idle.specs.declared.span.Span.{Span}
-use Rattle.mta_idle.specs.Idle.{IsIdle}
-use Rattle.mta_idle.specs.Spans.{IsIdleAt, AreIdle}
-use Rattle.mta_idle.specs.Laws.{IdleItemsStay}
+use Rattle.mta_idle.specs.Idle.{calls_at_once, IsIdle}
+use Rattle.mta_idle.specs.Later.{GoesOn, IsLater}
+use Rattle.mta_idle.specs.Laws.{ItemsGoOn}
 
 -- ---- who is pending behind a discharge was so before it
 
@@ -52,55 +51,99 @@ was_pending ss rs s r settled pending = by_status (numbered ss r) refl
         absurd cc
     by_status (Some x) is = by_name x (names rs r) is refl
 
-still_idle : (text : List ℕ) (item : ItemValue) (rs : List ℕ) (how : Discharge) (when moment : ℕ)
-    → IsIdle text item moment → IsIdle text (discharged_item item rs how when) moment
-still_idle text item rs how when moment idle r pending =
-    let b : Bool = is_report (value_of item.octets) in
-    let before = idle r (was_pending item.statuses rs (status_after b how when) r (not_pending b how when) pending) in
-    record { waits = before.waits; unexpired = before.unexpired }
+discharged_later : (item : ItemValue) (rs : List ℕ) (how : Discharge) (when : ℕ)
+    → IsLater item (discharged_item item rs how when)
+discharged_later item rs how when = record {
+  octets = refl;
+  arrival = refl;
+  pending = λ r.
+      let b : Bool = is_report (value_of item.octets) in
+      was_pending item.statuses rs (status_after b how when) r (not_pending b how when);
+}
+
+later_self : (item : ItemValue) → IsLater item item
+later_self item = record { octets = refl; arrival = refl; pending = λ r is. is }
+
+later_trans : (a b c : ItemValue) → IsLater a b → IsLater b c → IsLater a c
+later_trans a b c one two = record {
+  octets = two.octets ∙ one.octets;
+  arrival = two.arrival ∙ one.arrival;
+  pending = λ r is. one.pending r (two.pending r is);
+}
+
+-- ---- what is idle stays so
+
+-- the verdict on a recipient of an item is the one later
+pub verdict_later : (text : List ℕ) (old new : ItemValue) (r moment : ℕ) → IsLater old new
+    → verdict_of text new.octets new.arrival r moment ≡ verdict_of text old.octets old.arrival r moment
+verdict_later text old new r moment later =
+    ap (λ (o : List ℕ). verdict_of text o new.arrival r moment) later.octets
+    ∙ ap (λ (a : ℕ). verdict_of text old.octets a r moment) later.arrival
+
+expired_later : (text : List ℕ) (old new : ItemValue) (moment : ℕ) → IsLater old new
+    → is_expired text new.octets new.arrival moment ≡ is_expired text old.octets old.arrival moment
+expired_later text old new moment later =
+    ap (λ (o : List ℕ). is_expired text o new.arrival moment) later.octets
+    ∙ ap (λ (a : ℕ). is_expired text old.octets a moment) later.arrival
+
+pub idle_later : (text : List ℕ) (old new : ItemValue) (moment : ℕ) → IsLater old new → IsIdle text old moment
+    → IsIdle text new moment
+idle_later text old new moment later idle r pending =
+    let before = idle r (later.pending r pending) in
+    record {
+      waits = ap calls_at_once (verdict_later text old new r moment later) ∙ before.waits;
+      unexpired = expired_later text old new moment later ∙ before.unexpired;
+    }
 
 -- ---- items
 
-in_front : (text : List ℕ) (items more : List ItemValue) (i moment : ℕ) → IsIdleAt text items i moment
-    → IsIdleAt text (items ++ more) i moment
-in_front text items more i moment at = (at.0, numbered-front items more i at.0 at.1, at.2)
+in_front : (items more : List ItemValue) (i : ℕ) (item : ItemValue) → GoesOn items i item
+    → GoesOn (items ++ more) i item
+in_front items more i item on = record {
+  item = on.item;
+  item_is = numbered-front items more i on.item on.item_is;
+  later = on.later;
+}
 
-put_back : (text : List ℕ) (items : List ItemValue) (item new : ItemValue) (j i moment : ℕ)
-    → numbered items j ≡ Some item → (IsIdle text item moment → IsIdle text new moment)
-    → IsIdleAt text items i moment → IsIdleAt text (set_numbered items j new) i moment
-put_back text items item new j i moment there stays at = elim (cases_Bool (eqb i j)) [
+put_back : (items : List ItemValue) (was new : ItemValue) (j i : ℕ) (item : ItemValue)
+    → numbered items j ≡ Some was → IsLater was new → GoesOn items i item
+    → GoesOn (set_numbered items j new) i item
+put_back items was new j i item there later on = elim (cases_Bool (eqb i j)) [
   | inl here ↦ (
       let same : i ≡ j = eqb-true i j here in
-      let is : at.0 ≡ item = same_Some at.0 item (sym at.1 ∙ (ap (numbered items) same ∙ there)) in (
-        new,
-        ap (numbered (set_numbered items j new)) same ∙ set-same items j new item there,
-        stays (subst (λ (x : ItemValue). IsIdle text x moment) is at.2),
-      ))
-  | inr apart ↦ (at.0, set-other items j i new apart ∙ at.1, at.2)
+      let is : on.item ≡ was = same_Some on.item was (sym on.item_is ∙ (ap (numbered items) same ∙ there)) in
+      record {
+        item = new;
+        item_is = ap (numbered (set_numbered items j new)) same ∙ set-same items j new was there;
+        later = later_trans item was new (subst (λ (x : ItemValue). IsLater item x) is on.later) later;
+      })
+  | inr apart ↦ record {
+    item = on.item;
+    item_is = set-other items j i new apart ∙ on.item_is;
+    later = on.later;
+  }
 ]
 
 -- ---- steps of the machine
 
-kept_one : (text : List ℕ) (m : Machine) (step : MachineStep) (i moment : ℕ) → IsIdleAt text m.items i moment
-    → IsIdleAt text (machine_after m step).items i moment
-kept_one text m (set_tables other) i moment at = at
-kept_one text m (accept octets origin when) i moment at = in_front text m.items _ i moment at
-kept_one text m (discharge j rs how when) i moment at = by_item (numbered m.items j) refl
+goes_on_one : (m : Machine) (step : MachineStep) (i : ℕ) (item : ItemValue) → GoesOn m.items i item
+    → GoesOn (machine_after m step).items i item
+goes_on_one m (set_tables other) i item on = on
+goes_on_one m (accept octets origin when) i item on = in_front m.items _ i item on
+goes_on_one m (discharge j rs how when) i item on = by_item (numbered m.items j) refl
   where
-    by_item : (o : Option ItemValue) → numbered m.items j ≡ o
-        → IsIdleAt text (items_after m o j rs how when) i moment
-    by_item None is = at
-    by_item (Some item) is =
-        in_front text (set_numbered m.items j (discharged_item item rs how when)) _ i moment
-        (put_back text m.items item (discharged_item item rs how when) j i moment is
-        (still_idle text item rs how when moment) at)
+    by_item : (o : Option ItemValue) → numbered m.items j ≡ o → GoesOn (items_after m o j rs how when) i item
+    by_item None is = on
+    by_item (Some was) is =
+        in_front (set_numbered m.items j (discharged_item was rs how when)) _ i item
+        (put_back m.items was (discharged_item was rs how when) j i item is (discharged_later was rs how when) on)
 
-kept_run : (text : List ℕ) (m : Machine) (steps : List MachineStep) (i moment : ℕ)
-    → IsIdleAt text m.items i moment → IsIdleAt text (machine_run m steps).items i moment
-kept_run text m [] i moment at = at
-kept_run text m (step ∷ steps) i moment at =
-    kept_run text (machine_after m step) steps i moment (kept_one text m step i moment at)
+goes_on_run : (m : Machine) (steps : List MachineStep) (i : ℕ) (item : ItemValue) → GoesOn m.items i item
+    → GoesOn (machine_run m steps).items i item
+goes_on_run m [] i item on = on
+goes_on_run m (step ∷ steps) i item on =
+    goes_on_run (machine_after m step) steps i item (goes_on_one m step i item on)
 
-pub idle_items_stay : IdleItemsStay
-idle_items_stay text m steps spans idle i span is moment within =
-    kept_run text m steps i moment (idle i span is moment within)
+pub items_go_on : ItemsGoOn
+items_go_on m steps i item is =
+    goes_on_run m steps i item (record { item = item; item_is = is; later = later_self item })

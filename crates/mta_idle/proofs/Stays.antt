@@ -326,9 +326,9 @@ verdicts_are_last text octets arrival moment n e from =
     (read_is_last (tables_value text) (value_of octets) arrival moment n e from)
 
 pub idle_until_next : IdleUntilNext
-idle_until_next text item moment until is = λ n within r pending.
+idle_until_next text item moment until n is from below r pending =
     let stay = verdicts_stay text item.octets item.arrival moment until is.1 in
-    let same = stay.same n within.0 within.1 in
+    let same = stay.same n from below in
     record {
       waits = ap calls_at_once (same.verdicts r) ∙ is.0 r pending;
       unexpired = same.expired ∙ stay.unexpired;

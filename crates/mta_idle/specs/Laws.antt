@@ -1,12 +1,11 @@
 -- What is proved of verdicts and idle items as time goes on, and as steps are made.
 use Rattle.std.specs.Prelude.{◌≡◌, ℕ, ◌≤◌, ◌<◌, false, List, Some, None}
-use Rattle.mta_machine.specs.Items.{ItemValue, Machine}
+use Rattle.mta_machine.specs.Items.{ItemValue, Machine, numbered}
 use Rattle.mta_machine.specs.Rules.{verdict_of, is_expired}
 use Rattle.mta_machine.specs.Machine.{MachineStep, machine_run}
-use Rattle.mta_idle.specs.declared.span.Span.{Span}
-use Rattle.mta_idle.specs.Idle.{IsIdleUntil}
+use Rattle.mta_idle.specs.Idle.{IsIdle, IsIdleUntil}
+use Rattle.mta_idle.specs.Later.{GoesOn}
 use Rattle.mta_idle.specs.Next.{next_change}
-use Rattle.mta_idle.specs.Spans.{IsIdleFor, AreIdle}
 
 -- the verdicts on an APDU's recipients and whether it has expired are the same at two moments
 pub record AreSame (text octets : List ℕ) (arrival m n : ℕ) : Type 0 where
@@ -33,11 +32,11 @@ VerdictsAreLast =
 -- an item is idle from a moment on until the next change, where nothing is called for at that moment
 abbrev pub IdleUntilNext : Type 0
 IdleUntilNext =
-    (text : List ℕ) (item : ItemValue) (moment until : ℕ) → IsIdleUntil text item moment (Some until)
-    → IsIdleFor text item (record { from = moment; until = until })
+    (text : List ℕ) (item : ItemValue) (moment until n : ℕ) → IsIdleUntil text item moment (Some until)
+    → moment ≤ n → n < until → IsIdle text item n
 
--- whatever steps are made, each item stays idle in its span under the same tables
-abbrev pub IdleItemsStay : Type 0
-IdleItemsStay =
-    (text : List ℕ) (m : Machine) (steps : List MachineStep) (spans : List Span)
-    → AreIdle text m.items spans → AreIdle text (machine_run m steps).items spans
+-- whatever steps are made, an item goes on
+abbrev pub ItemsGoOn : Type 0
+ItemsGoOn =
+    (m : Machine) (steps : List MachineStep) (i : ℕ) (item : ItemValue) → numbered m.items i ≡ Some item
+    → GoesOn (machine_run m steps).items i item

@@ -1,4 +1,4 @@
 pub mod Next
 pub mod Idle
-pub mod Spans
+pub mod Later
 pub mod Laws

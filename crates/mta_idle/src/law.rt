@@ -1,6 +1,6 @@
 //! Laws of verdicts and idle items, each the contract of a function that does nothing.
 
-ghost use Rattle.mta_idle.specs.Laws.{IdleItemsStay, IdleUntilNext, VerdictsAreLast, VerdictsStay};
+ghost use Rattle.mta_idle.specs.Laws.{IdleUntilNext, ItemsGoOn, VerdictsAreLast, VerdictsStay};
 
 /// Before the next change every verdict on an item's recipients stays as it is; where there is none, for good.
 pub fn verdicts_stay()
@@ -13,7 +13,7 @@ pub fn idle_until_next()
     ensures { IdleUntilNext }
 {}
 
-/// Whatever steps are made, an item stays idle as long as it was, under the same tables.
-pub fn idle_items_stay()
-    ensures { IdleItemsStay }
+/// Whatever steps are made, an item stays under its number, and no recipient of it becomes pending.
+pub fn items_go_on()
+    ensures { ItemsGoOn }
 {}

@@ -3,7 +3,5 @@
 #![tactic(auto)]
 
 mod law;
-mod span;
 
-pub use law::{idle_items_stay, idle_until_next, verdicts_stay};
-pub use span::Span;
+pub use law::{idle_until_next, items_go_on, verdicts_stay};

@@ -27,8 +27,9 @@ use mta_tables::{MailList, Tables};
 use mta_verdicts::is_in_history;
 use std::alloc::Global;
 
-/// A trace with the own element of an expansion behind it.
-fn expanded_trace(
+/// A trace with an own element behind it that has dl-operation, as where a list is expanded (X.411, clause 12: other
+/// actions): the item arrived at this moment, in seconds since 1950-01-01 00:00:00 UTC.
+pub fn expanded_trace(
     alloc: Global,
     tables: &Tables,
     arrival: u64,

@@ -6,4 +6,4 @@ mod expansion;
 mod history;
 mod members;
 
-pub use expansion::expand;
+pub use expansion::{expand, expanded_trace};

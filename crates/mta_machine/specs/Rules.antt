@@ -248,15 +248,18 @@ is_own Origins.Submitted = false
 is_own Origins.Lane = false
 is_own Origins.Own = true
 
-abbrev pub passed_under : List ItemValue → Origin → TablesValue → ApduValue → Option ApduValue
-passed_under items origin t (message v) = None
-passed_under items origin t (probe v) = None
-passed_under items origin t (report v) =
-    option_map (λ (n : Attributes). report (walks.passed_back v n)) (passed_to t (is_own origin) v (accepted_in items))
+-- at no moment of its own: what is made is the same at each
+abbrev pub passed_under : List ItemValue → Origin → (arrival : ℕ) → TablesValue → ApduValue → Option ApduValue
+passed_under items origin arrival t (message v) = None
+passed_under items origin arrival t (probe v) = None
+passed_under items origin arrival t (report v) =
+    option_map (λ (n : Attributes). report (walks.passed_back (situation t arrival 0) v n))
+    (passed_to t (is_own origin) v (accepted_in items))
 
 -- the report passed back to the poster of a list, where the walk of an expanded item gives a name
 unfoldable pub passed_back : (text : List ℕ) (items : List ItemValue) (item : ItemValue) → Option ApduValue
-passed_back text items item = read_both (tables_value text) (value_of item.octets) (passed_under items item.origin)
+passed_back text items item =
+    read_both (tables_value text) (value_of item.octets) (passed_under items item.origin item.arrival)
 
 abbrev pub copy_under : TablesValue → ApduValue → (arrival : ℕ) (rs : List ℕ) (moment : ℕ) → List ℕ
 copy_under t (message v) arrival rs moment = outgoing_message (situation t arrival moment) v rs

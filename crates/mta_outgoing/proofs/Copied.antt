@@ -7,7 +7,9 @@ use Rattle.mta_fields.specs.declared.extension.ExtFields.{ExtFields}
 use Rattle.mta_fields.specs.declared.trace.TraceFields.{TraceFields}
 use Rattle.mta_recipient.specs.declared.recipient.RecipientFields.{RecipientFields}
 use Rattle.mta_envelope.specs.declared.envelope.EnvelopeFields.{EnvelopeFields}
-use Rattle.mta_envelope.specs.Envelopes.{IsEnvelope}
+use Rattle.mta_ber.specs.Canon.{constructed, element}
+use Rattle.mta_envelope.specs.Envelopes.{IsEnvelope, envelope_content}
+use Rattle.mta_envelope.specs.Messages.{canonical_probe}
 use Rattle.mta_report.specs.declared.fields.ReportFields.{ReportFields}
 use Rattle.mta_report.specs.ReportValues.{IsReport}
 use Rattle.mta_procedures.specs.Copies.{chosen_from, deferred_time, outgoing_envelope, outgoing_fields}
@@ -85,3 +87,8 @@ outgoing_so s v w chosen d rs t deferred recipients trace whole =
 pub report_so : (s : Situation) (v w : ReportFields) (t : List TraceFields)
     → t ≡ v.trace ++ own_trace s None false ∷ [] → w ≡ record v { trace = t } → w ≡ outgoing_fields s v
 report_so s v w t trace whole = whole ∙ ap (λ a. record v { trace = a }) trace
+
+-- the octets of a probe are those of its envelope under their tag
+pub probe_is : (e : EnvelopeFields) → element (constructed 2 2) (envelope_content e) ≡ canonical_probe e
+unfolding canonical_probe
+probe_is e = refl

@@ -156,7 +156,7 @@ pub fn outgoing_message(
 }
 
 /// The canonical octets of a probe of an envelope.
-#[tactic(auto, unfolding(mta_envelope::specs::Messages::canonical_probe))]
+#[tactic(auto, using(crate::proofs::Copied::probe_is))]
 fn probe_octets(alloc: Global, envelope: &Envelope) -> Result<Octets, Memory>
     ensures { IfOk result (λ o. o ≡ canonical_probe envelope.now) }
 {

@@ -8,7 +8,7 @@ use Rattle.mta_names.specs.Values.{Each, IsName}
 use Rattle.mta_names.proofs.Kept.{name_above}
 use Rattle.mta_names.proofs.Rows.{each_both}
 use Rattle.mta_fields.specs.declared.expansion.ExpansionFields.{ExpansionFields}
-use Rattle.mta_fields.specs.Laws.{IsWholeExpansion, KeepsExpansion}
+use Rattle.mta_fields.specs.Laws.{IsWholeExpansion, IsWholeTrace, KeepsExpansion, KeepsTrace}
 use Rattle.mta_extensions.specs.declared.value.Topic.TheVariants.{ExpansionHistory}
 use Rattle.mta_extensions.specs.Told.{values_of}
 use Rattle.mta_recipient.specs.declared.recipient.RecipientFields.{RecipientFields}
@@ -32,10 +32,11 @@ use Rattle.mta_procedures.specs.Laws.{IsWritable, IsReportable}
 use Rattle.mta_procedures.specs.Members.{members_copy, members_envelope, has_no_copy, message_octets}
 use Rattle.mta_procedures.specs.Readings.{WasRead, KeptEnvelopesWereRead, MessageCopiesAreRead, ProbeCopiesAreRead, ReportCopiesAreRead, IsReported, MadeReportsAreRead, PassedReportsAreRead, MembersCopiesAreRead}
 use Rattle.mta_procedures.specs.Reports.{report_to, report_of}
+use Rattle.mta_procedures.specs.Traces.{own_trace}
 use Rattle.mta_procedures.specs.Walks.{walk, walked_to, report_walk, passed_back}
 use Rattle.mta_procedures.proofs.ExpandedLaws.{AreKept, kept_before, members_whole}
 use Rattle.mta_procedures.proofs.ReportLaws.{each_reversed, made_report}
-use Rattle.mta_procedures.proofs.WholeLaws.{copies_whole, report_copies_whole}
+use Rattle.mta_procedures.proofs.WholeLaws.{copies_whole, each_behind, one_more, own_whole, report_copies_whole}
 
 -- ---- items that were read
 
@@ -153,21 +154,22 @@ made_reports_read t number arrival e r outcome p h made few =
     stored_again (report p) k.whole k.kept few
 
 pub passed_reports_read : PassedReportsAreRead
-passed_reports_read t bytes p e n h read walked few =
+passed_reports_read s bytes p e n writable h short read walked few =
     let k = stored_kept bytes (report p) h in
-    let name = this_one IsKeptName (report_walk t e) n (destination_kept t e read) walked in
+    let name = this_one IsKeptName (report_walk s.tables e) n (destination_kept s.tables e read) walked in
     let w = k.1 in
-    stored_again (report (passed_back p n))
+    let x = own_trace s None true in
+    stored_again (report (passed_back s p n))
     (record {
       id = w.id;
       destination = name.name;
-      trace = w.trace;
+      trace = each_behind IsWholeTrace p.trace x w.trace (own_whole s None true writable tt);
       extensions = w.extensions;
       subject = w.subject;
       content_extensions = w.content_extensions;
       recipients = w.recipients;
       report = record {
-        trace = w.report.trace;
+        trace = one_more p.trace x short;
         subject_trace = w.report.subject_trace;
         eits = w.report.eits;
         content_kind = w.report.content_kind;
@@ -179,7 +181,7 @@ passed_reports_read t bytes p e n h read walked few =
     })
     (record {
       destination = name.kept;
-      trace = k.0.trace;
+      trace = each_behind (KeepsTrace 4) p.trace x k.0.trace tt;
       extensions = k.0.extensions;
       subject_trace = k.0.subject_trace;
       eits = k.0.eits;

@@ -111,10 +111,11 @@ MadeReportsAreRead =
 -- so is a report that was read and is passed back as the walk of a message that was read tells
 abbrev pub PassedReportsAreRead : Type 0
 PassedReportsAreRead =
-    (t : TablesValue) (bytes : List ℕ) (p : ReportFields) (e : EnvelopeFields) (n : Attributes)
-    → SpellsStored bytes (report p) → WasRead e → report_walk t e ≡ Some n
-    → length (canonical_report (passed_back p n)) ≤ longest_stored
-    → stored_of (canonical_report (passed_back p n)) ≡ Ok (report (passed_back p n))
+    (s : Situation) (bytes : List ℕ) (p : ReportFields) (e : EnvelopeFields) (n : Attributes)
+    → IsWritable s → SpellsStored bytes (report p) → length p.trace < longest_trace
+    → WasRead e → report_walk s.tables e ≡ Some n
+    → length (canonical_report (passed_back s p n)) ≤ longest_stored
+    → stored_of (canonical_report (passed_back s p n)) ≡ Ok (report (passed_back s p n))
 
 -- and the members' copy of a message that was read, with the content in one piece
 abbrev pub MembersCopiesAreRead : Type 0

@@ -1,7 +1,7 @@
 -- To whom a report goes (X.411, clause 14: reports, distribution lists): back along the lists that were expanded, as
 -- the policy of each says, and to the originator at last.
-use Rattle.std.specs.Prelude.{Bool, List, [], ◌∷◌, Option, Some, None, option_and_then, if◌then◌else◌}
-use Rattle.std.specs.Prelude.{◌&&◌}
+use Rattle.std.specs.Prelude.{Bool, true, List, [], ◌∷◌, ◌++◌, Option, Some, None, option_and_then}
+use Rattle.std.specs.Prelude.{◌&&◌, if◌then◌else◌}
 use Rattle.std.specs.List.{find, list_any, zip}
 use Rattle.mta_names.specs.declared.attributes.Attributes.{Attributes}
 use Rattle.mta_names.specs.Normal.{is_same_name}
@@ -13,6 +13,8 @@ use Rattle.mta_tables.specs.declared.entry.MailList.{MailList}
 use Rattle.mta_tables.specs.Tables.{TablesValue}
 use Rattle.mta_tables.specs.Hops.{list_named}
 use Rattle.mta_procedures.specs.Histories.{lists_behind}
+use Rattle.mta_procedures.specs.Situations.{Situation}
+use Rattle.mta_procedures.specs.Traces.{own_trace}
 
 -- the name itself where it is no list here; a list that keeps reports ends the walk, and one that sends them back is
 -- passed over
@@ -57,6 +59,8 @@ unfoldable pub passed_to : TablesValue → Bool → ReportFields → List Accept
 passed_to t own p accepted =
     if own then None else option_and_then (behind_list t p accepted) (list_named t p.destination)
 
--- the report that is passed back: all but its destination is as it was
-abbrev pub passed_back : ReportFields → Attributes → ReportFields
-passed_back p n = record p { destination = n }
+-- The report that is passed back: its destination is another, and its trace has an own element more, with
+-- dl-operation. So the agents which had it before find no loop where it comes by them again, on its way back along the
+-- lists.
+abbrev pub passed_back : Situation → ReportFields → Attributes → ReportFields
+passed_back s p n = record p { destination = n; trace = p.trace ++ own_trace s None true ∷ [] }

@@ -5,9 +5,9 @@ use Rattle.mta_ber.specs.Times.{last_moment}
 use Rattle.mta_names.specs.Bounded.{IsCode}
 use Rattle.mta_procedures.specs.declared.verdict.Verdict.{Verdict}
 use Rattle.mta_procedures.specs.declared.verdict.Verdict.TheVariants as Verdicts
-use Rattle.mta_machine.specs.Items.{ItemValue, numbered}
-use Rattle.mta_machine.specs.Rules.{is_tables_text}
-use Rattle.mta_machine.specs.Machine.{last_tables}
+use Rattle.mta_machine.specs.Items.{ItemValue, numbered, names, has_status, is_pending}
+use Rattle.mta_machine.specs.Rules.{is_tables_text, peer_word, route_word, verdict_of}
+use Rattle.mta_machine.specs.Machine.{last_tables, relay_by}
 use Rattle.mta_items.specs.Parts.{machine_of}
 use Rattle.mta_replay.specs.declared.kept.Kept.{Kept}
 
@@ -21,6 +21,22 @@ CodesAreCodes verdict =
 abbrev pub AreUnder : {R : Type 0} → (R → List ℕ) → List ℕ → Option R → Type 0
 AreUnder text octets None = is_tables_text octets ≡ false
 AreUnder text octets (Some rules) = (text rules ≡ octets) × (is_tables_text octets ≡ true)
+
+-- Where each pending recipient of an item goes to who goes to a peer: a place of that peer is among these. `at` gives
+-- the word of the peer at a place, and `to` that of the peer to whom a recipient goes.
+abbrev pub AreLed : (ℕ → Option (List ℕ)) → ItemValue → (ℕ → Option (List ℕ)) → List ℕ → Type 0
+AreLed at item to places =
+    (r : ℕ) (peer : List ℕ) → has_status is_pending (numbered item.statuses r) ≡ true → to r ≡ Some peer
+    → (place : ℕ) × (names places place ≡ true) × (at place ≡ Some peer)
+
+-- who goes by the best route of a name
+abbrev pub AreRoutes : List ℕ → ItemValue → List ℕ → Type 0
+AreRoutes text item = AreLed (peer_word text) item (route_word text item.octets)
+
+-- who is relayed at a moment
+abbrev pub AreRelays : List ℕ → ItemValue → ℕ → List ℕ → Type 0
+AreRelays text item moment =
+    AreLed (peer_word text) item (λ r. relay_by text (verdict_of text item.octets item.arrival r moment))
 
 -- a list is expanded
 abbrev pub Expands : Option Verdict → Type 0

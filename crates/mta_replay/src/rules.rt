@@ -11,7 +11,7 @@ ghost use Rattle.mta_machine.specs.Rules.{delivery_report, expansion, is_expired
 ghost use Rattle.mta_machine.specs.Rules.{non_delivery_report, outgoing_copy, passed_back, peer_word, route_word};
 ghost use Rattle.mta_machine.specs.Rules.{verdict_of};
 ghost use Rattle.mta_items.specs.Parts.{made_items};
-ghost use Rattle.mta_replay.specs.Asked.{AreUnder, CodesAreCodes, Expands, Relays};
+ghost use Rattle.mta_replay.specs.Asked.{AreRelays, AreRoutes, AreUnder, CodesAreCodes, Expands, Relays};
 
 use mta_ber::{Memory, Word};
 use mta_items::Made;
@@ -62,6 +62,18 @@ pub trait Rules {
         requires arrived { item.now.arrival ≤ last_moment }
         requires few { length item.now.statuses < 2 ^ 32 }
         ensures { IfOk result (IsIdleUntil (text self.now) item.now moment) };
+
+    /// Places of peers, from 0: of each peer to which the best route of a name leads, among the names of those
+    /// recipients of an item who are pending.
+    fn routes(&self, alloc: Global, item: &Item) -> Result<Vec<u32>, Memory>
+        requires { length item.now.statuses < 2 ^ 32 }
+        ensures { IfOk result (λ places. AreRoutes (text self.now) item.now places.items) };
+
+    /// Places of peers, from 0: of each peer to which a recipient of an item who is pending is relayed at a moment.
+    fn relays(&self, alloc: Global, item: &Item, moment: u64) -> Result<Vec<u32>, Memory>
+        requires arrived { item.now.arrival ≤ last_moment }
+        requires few { length item.now.statuses < 2 ^ 32 }
+        ensures { IfOk result (λ places. AreRelays (text self.now) item.now moment places.items) };
 
     /// Whether a report that comes to a list can be passed back, among these items.
     fn passes_back(&self, alloc: Global, items: &[Item], item: &Item) -> Result<bool, Memory>
@@ -148,6 +160,7 @@ pub trait Rules {
         item: &Item,
         moment: u64,
     ) -> Result<Option<Item>, Memory>
+        requires arrived { item.now.arrival ≤ last_moment }
         ensures { IfOk result (λ made. made
             ≡ option_map (own_item moment) (passed_back (text self.now) items.now item.now)) };
 

@@ -1,8 +1,8 @@
 -- Steps that are taken up one after the other.
-use Rattle.std.proofs.Common.{◌≡◌, ℕ, zero, suc, ◌+◌, ◌≤◌, ◌<◌, List, [], ◌∷◌, ◌++◌, length, map, take, drop, get_or, Result, Err, IsErrOf, refl, sym, ap, subst, ◌∙◌, append_assoc, arith}
+use Rattle.std.proofs.Common.{◌≡◌, ℕ, zero, suc, ◌+◌, ◌≤◌, ◌<◌, List, [], ◌∷◌, ◌++◌, length, map, take, Result, Err, IsErrOf, refl, sym, ap, subst, ◌∙◌, append_assoc, arith}
 use Rattle.std.specs.Prelude.{IsOk}
 use Rattle.std.specs.List.{flat_map}
-use Rattle.std.proofs.lemmas.List.{length-append, take-append-drop}
+use Rattle.std.proofs.lemmas.List.{append-nil, length-append}
 use Rattle.mta_records.specs.declared.step.Step.{Step}
 use Rattle.mta_records.specs.Body.{body_of}
 use Rattle.mta_histories.specs.Lanes.{State, empty}
@@ -13,7 +13,7 @@ use Rattle.mta_histories.proofs.Runs.{after_from-more, possible-more}
 use Rattle.mta_images.proofs.Bodies.{map-more, are-records-more, size-more}
 use Rattle.mta_state.specs.declared.replay.NotMade.{NotMade}
 use Rattle.mta_state.specs.declared.replay.NotMade.TheVariants as NotMades
-use Rattle.mta_spool.specs.Replaying.{IsReplay, HasStopped, HasTaken, open_why}
+use Rattle.mta_spool.specs.Replaying.{HasReplayed, HasStopped, HasTaken, IsReplay, open_why}
 
 -- ---- a row of bodies
 
@@ -57,14 +57,6 @@ replay_stopped bodies body more all old new NotMades.Memory steps at is whole ta
 
 -- ---- how far a row of bodies reaches
 
-short_at : (bodies : List (List ℕ)) (i : ℕ) (d : List ℕ) → AreShort bodies → i < length bodies → length (get_or bodies i d) ≤ longest_body
-short_at [] i d short inside = absurd (omega arith)
-short_at (b ∷ bodies) zero d short inside = short.0
-short_at (b ∷ bodies) (suc i) d short inside = short_at bodies i d short.1 (omega (arith, inside))
-
-pub body_short : (bodies : List (List ℕ)) (i : ℕ) (body : List ℕ) → AreShort bodies → i < length bodies → body ≡ get_or bodies i body → length body ≤ longest_body
-body_short bodies i body short inside is = subst (λ (b : List ℕ). length b ≤ longest_body) (sym is) (short_at bodies i body short inside)
-
 flat_take : (bodies : List (List ℕ)) (i : ℕ) → length (flat_map open_record (take i bodies)) ≤ length (flat_map open_record bodies)
 flat_take [] zero = omega arith
 flat_take [] (suc i) = omega arith
@@ -84,12 +76,75 @@ size-none = refl
 pub empty_replay : (state : State) → state ≡ empty → IsReplay [] state []
 empty_replay state is = record { bodies_are = refl; each = tt; history = tt; state_is = is }
 
--- one body more of a row
-pub take_more : (bodies : List (List ℕ)) (i : ℕ) (body : List ℕ) → i < length bodies → body ≡ get_or bodies i body → take (i + 1) bodies ≡ take i bodies ++ body ∷ []
-take_more [] i body inside is = absurd (omega arith)
-take_more (b ∷ bodies) zero body inside is = ap (λ (x : List ℕ). x ∷ []) (sym is)
-take_more (b ∷ bodies) (suc i) body inside is = let next : suc i + 1 ≡ suc (i + 1) = omega arith in ap (λ (n : ℕ). take n (b ∷ bodies)) next ∙ ap (λ (t : List (List ℕ)). b ∷ t) (take_more bodies i body (omega (arith, inside)) is)
+-- ---- a row of bodies of which the first are taken up
 
-pub row_at : (bodies : List (List ℕ)) (i : ℕ) (body : List ℕ) → i < length bodies → body ≡ get_or bodies i body → bodies ≡ take i bodies ++ body ∷ drop (i + 1) bodies
-row_at bodies i body inside is =
-    sym (take-append-drop (i + 1) bodies) ∙ ap (λ (t : List (List ℕ)). t ++ drop (i + 1) bodies) (take_more bodies i body inside is) ∙ append_assoc (take i bodies) (body ∷ []) (drop (i + 1) bodies)
+-- what is taken up of a row, and what is left of it
+pub record IsUnderWay (bodies rest : List (List ℕ)) (state : State) (at : ℕ) : Type 0 where
+  pub done : List (List ℕ)
+  pub steps : List Step
+  pub are : bodies ≡ done ++ rest
+  pub replayed : IsReplay done state steps
+  pub place : at + 1 ≡ size_of steps
+
+pub under_way_at_first : (bodies rest : List (List ℕ)) (state : State) → rest ≡ bodies → state ≡ empty
+    → IsUnderWay bodies rest state 8
+under_way_at_first bodies rest state same first = record {
+  done = [];
+  steps = [];
+  are = sym same;
+  replayed = empty_replay state first;
+  place = sym size-none;
+}
+
+first_short : (done : List (List ℕ)) (body : List ℕ) (rest : List (List ℕ)) → AreShort (done ++ body ∷ rest)
+    → length body ≤ longest_body
+first_short [] body rest short = short.0
+first_short (b ∷ done) body rest short = first_short done body rest short.1
+
+pub next_short : (bodies was rest : List (List ℕ)) (body : List ℕ) (state : State) (at : ℕ) → AreShort bodies
+    → IsUnderWay bodies was state at → was ≡ body ∷ rest → length body ≤ longest_body
+next_short bodies was rest body state at short way is =
+    first_short way.done body rest
+    (subst AreShort (way.are ∙ ap (λ (xs : List (List ℕ)). way.done ++ xs) is) short)
+
+pub under_way_further : (bodies was rest : List (List ℕ)) (body : List ℕ) (old new : State)
+    (result : Result (Unit {0}) NotMade) (at more : ℕ) → IsUnderWay bodies was old at → was ≡ body ∷ rest
+    → HasTaken body old new result → IsOk result → more ≡ at + (length body + 5) → IsUnderWay bodies rest new more
+under_way_further bodies was rest body old new result at more way is taken ok same =
+    let next = replay_more way.done body old new result way.steps way.replayed taken ok in
+    record {
+      done = way.done ++ body ∷ [];
+      steps = next.0;
+      are = way.are ∙ ap (λ (xs : List (List ℕ)). way.done ++ xs) is ∙ sym (append_assoc way.done (body ∷ []) rest);
+      replayed = next.1;
+      place = (let size = next.2 in let place = way.place in omega (arith, same, size, place));
+    }
+
+pub way_fits : (bodies rest : List (List ℕ)) (state : State) (at : ℕ) → IsUnderWay bodies rest state at
+    → at ≤ length (front bodies)
+way_fits bodies rest state at way =
+    let place = way.place in
+    let fits = front_fits bodies (length way.done) way.steps (way.replayed.bodies_are ∙ sym taken) in
+    omega (arith, place, fits)
+  where
+    take-front : (xs ys : List (List ℕ)) → take (length xs) (xs ++ ys) ≡ xs
+    take-front [] ys = refl
+    take-front (x ∷ xs) ys = ap (λ (t : List (List ℕ)). x ∷ t) (take-front xs ys)
+
+    taken : take (length way.done) bodies ≡ way.done
+    taken = ap (take (length way.done)) way.are ∙ take-front way.done rest
+
+pub way_stopped : (bodies was rest : List (List ℕ)) (body : List ℕ) (old new : State) (why : NotMade) (at : ℕ)
+    → IsUnderWay bodies was old at → was ≡ body ∷ rest → HasTaken {T = Unit {0}} body old new (Err why)
+    → HasStopped bodies (open_why why at)
+way_stopped bodies was rest body old new why at way is taken =
+    replay_stopped way.done body rest bodies old new why way.steps at way.replayed
+    (way.are ∙ ap (λ (xs : List (List ℕ)). way.done ++ xs) is) taken way.place
+
+pub way_ended : (bodies rest : List (List ℕ)) (state : State) (at : ℕ) → IsUnderWay bodies rest state at
+    → rest ≡ [] → HasReplayed bodies state
+way_ended bodies rest state at way none =
+    (way.steps, subst (λ (bs : List (List ℕ)). IsReplay bs state way.steps) (sym whole) way.replayed)
+  where
+    whole : bodies ≡ way.done
+    whole = way.are ∙ ap (λ (xs : List (List ℕ)). way.done ++ xs) none ∙ append-nil way.done

@@ -41,6 +41,18 @@ impl<D: Disk + Drop, C: Clock + Drop> Spool<D, C> {
     ghost use Rattle.mta_spool.specs.Stands.{AtMoment, TellsFewer};
     ghost use Rattle.mta_spool.specs.Turning.{IsUnchanged};
 
+    // The lowest item with recipients to relay to the peer at a moment, and all those recipients.
+    #[tactic(auto, using(crate::proofs::Keeping::keeps_same))]
+    fn find_batch(&mut self, peer: &Word, moment: u64) -> Result<Option<Batch>, Memory>
+        ensures batch { IfOk result (IsBatchOf self.old.current peer.now moment) }
+        ensures same { IsUnchanged self.old self.new }
+        ensures clock { self.new.clock ≡ self.old.clock }
+        ensures opened { self.new.opened ≡ self.old.opened }
+        ensures keeps { KeepsOn D.model C.model self.old self.new }
+    {
+        self.replay.batch_for(self.alloc, peer, moment)
+    }
+
     /// The lowest item with recipients to relay to the peer now, and all those recipients; none where there is none.
     #[tactic(auto, using(crate::proofs::Keeping::keeps_still))]
     pub fn batch_for(&mut self, peer: &Word) -> Result<Option<Batch>, Memory>
@@ -52,7 +64,7 @@ impl<D: Disk + Drop, C: Clock + Drop> Spool<D, C> {
         ensures rest { IsUnchanged self.old self.new }
     {
         let moment = self.step_moment();
-        self.replay.batch_for(self.alloc, peer, moment)
+        self.find_batch(peer, moment)
     }
 
     /// The items of which a recipient waits for the peer, by ascending numbers; none where no tables name the peer.

@@ -55,10 +55,10 @@ impl<D: Disk + Drop, C: Clock + Drop> Spool<D, C> {
             Ok(opened) => opened,
             Err(OpenFault { disk, why }) => return Err(SpoolOpen { disk, clock, why }),
         };
-        match replay(alloc, bodies.as_slice()) {
+        let found = Snapshot::of(&bodies);
+        match replay(alloc, bodies) {
             Ok(replay) => {
                 let at_hand = Snapshot::of(&clock);
-                let found = Snapshot::of(&bodies);
                 let entries = Entries::new();
                 Ok(Spool {
                     alloc,

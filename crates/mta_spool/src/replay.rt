@@ -1,8 +1,8 @@
 //! Replaying the bodies of a journal: the state in memory after them.
 //!
 //! Each body is read as a step (`read_record`), which is taken up where it is possible after those before it, as a
-//! step that is made is, without the journal. Out goes the state, or the place of the first body that is no such step,
-//! or want of memory. The disk is not called.
+//! step that is made is, without the journal, and is freed then. Out goes the state, or the place of the first body that
+//! is no such step, or want of memory. The disk is not called.
 
 ghost use Rattle.std.specs.Prelude.{◌≡◌, ◌<◌, ◌+◌, ◌^◌, length, IfErr, IfOk};
 ghost use Rattle.mta_journal.specs.Bodies.{AreShort, front};
@@ -43,17 +43,18 @@ fn open_why(why: NotMade, at: u64) -> OpenWhy
 }
 
 /// The state after the steps of these bodies, or the offset of the gate of the first body that is that of no possible
-/// step.
-pub fn replay(alloc: Global, bodies: &[Octets]) -> Result<Replay<TableRules>, OpenWhy>
-    requires short { AreShort bodies.now }
-    requires fits { length (front bodies.now) + 1 < 2 ^ 64 }
-    ensures replayed { IfOk result (λ r. HasReplayed bodies.now (state_of r.kept)) }
-    ensures stopped { IfErr result (HasStopped bodies.now) }
+/// step. Each body is freed once its step is taken up.
+pub fn replay(alloc: Global, bodies: Vec<Octets>) -> Result<Replay<TableRules>, OpenWhy>
+    requires short { AreShort bodies.items }
+    requires fits { length (front bodies.items) + 1 < 2 ^ 64 }
+    ensures replayed { IfOk result (λ r. HasReplayed bodies.items (state_of r.kept)) }
+    ensures stopped { IfErr result (HasStopped bodies.items) }
     ensures sound { IfOk result (λ r. IsSound text_of r.kept r.rules) }
 {
     let mut replay = Replay::new(alloc);
     let mut at = 8;
-    for body in bodies {
+    let mut rest = bodies.into_iter();
+    while let Some(body) = rest.next() {
         match take_up(&mut replay, alloc, body.as_slice()) {
             Ok(()) => at += body.len() as u64 + 5,
             Err(why) => {

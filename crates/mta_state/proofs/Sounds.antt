@@ -14,9 +14,8 @@ use Rattle.mta_records.specs.declared.step.Step.TheVariants.{Back, LaneOpen, Lan
 use Rattle.mta_records.specs.declared.step.Step.TheVariants.{Sent, Refused, Denied, Dropped, Abandon, Secure, Complete}
 use Rattle.mta_records.specs.declared.step.Step.TheVariants.{Drop, CloseLane}
 use Rattle.mta_records.specs.Body.{HasFields}
-use Rattle.mta_idle.specs.declared.span.Span.{Span}
-use Rattle.mta_idle.specs.Spans.{AreIdle}
-use Rattle.mta_idle.proofs.Kept.{idle_items_stay}
+use Rattle.mta_dues.specs.Index.{IsIndexed}
+use Rattle.mta_dues.proofs.Indexed.{fresh, indexes_stay}
 use Rattle.mta_machine.specs.Items.{ItemValue, Machine, numbered}
 use Rattle.mta_machine.specs.Rules.{Failure, denied, expired}
 use Rattle.mta_machine.specs.Machine.{MachineStep, discharge, failed, last_tables, machine_run}
@@ -36,7 +35,7 @@ use Rattle.mta_replay.specs.Asked.{IsStored}
 use Rattle.mta_replay.specs.Kept.{state_of, changed_state}
 use Rattle.mta_state.specs.declared.replay.InForce.{InForce}
 use Rattle.mta_state.specs.Ready.{recorded_by, AreFresh, IsReady}
-use Rattle.mta_state.specs.Sound.{AreIdleUnder, AreLast, IsSound}
+use Rattle.mta_state.specs.Sound.{AreLast, IsIndexedUnder, IsSound}
 use Rattle.mta_state.proofs.Stored.{EachFits, stored-run, tables-stay}
 
 -- ---- moments
@@ -176,14 +175,6 @@ abbrev pub rules_after : {R : Type 0} → Option R → Option R → Option R
 rules_after old None = old
 rules_after old (Some new) = Some new
 
--- what is known of no item is true
-idle-fresh : (text : List ℕ) (items : List ItemValue) (spans : List Span) → spans ≡ [] → AreIdle text items spans
-idle-fresh text items spans fresh = subst (AreIdle text items) (sym fresh) none
-  where
-    none : AreIdle text items []
-    none zero span there moment within = absurd cc
-    none (suc k) span there moment within = absurd cc
-
 module _ {R : Type 0} (text : R → List ℕ) where
   stays-last : (m n : Machine) (rules : Option (InForce R)) → n.tables ≡ m.tables → AreLast text m rules
       → AreLast text n rules
@@ -204,16 +195,16 @@ module _ {R : Type 0} (text : R → List ℕ) where
       (sym (records-of (class_of step) (text r.rules) (sym under)))
       (numbered-last s.machine.tables (text r.rules))
 
-  -- items stay idle under the same rules, and of other rules nothing is known yet
-  idle-after : (s : State) (step : Step) (old new : Option (InForce R)) → AreFresh new
-      → AreIdleUnder text s.machine old → AreIdleUnder text (after_step s step).machine (rules_after old new)
-  idle-after s step None None fresh idle = tt
-  idle-after s step (Some f) None fresh idle =
-      idle_items_stay (text f.rules) s.machine (class_steps s (class_of step) (when s step)) f.idle.items idle
-  idle-after s step None (Some f) fresh idle =
-      idle-fresh (text f.rules) (after_step s step).machine.items f.idle.items fresh
-  idle-after s step (Some other) (Some f) fresh idle =
-      idle-fresh (text f.rules) (after_step s step).machine.items f.idle.items fresh
+  -- what is known of items stays true under the same rules, and of other rules nothing is known yet
+  indexed-after : (s : State) (step : Step) (old new : Option (InForce R)) → AreFresh new
+      → IsIndexedUnder text s.machine old → IsIndexedUnder text (after_step s step).machine (rules_after old new)
+  indexed-after s step None None unknown indexed = tt
+  indexed-after s step (Some f) None unknown indexed =
+      indexes_stay (text f.rules) s.machine (class_steps s (class_of step) (when s step)) f.index indexed
+  indexed-after s step None (Some f) unknown indexed =
+      fresh (text f.rules) (after_step s step).machine.items f.index unknown
+  indexed-after s step (Some other) (Some f) unknown indexed =
+      fresh (text f.rules) (after_step s step).machine.items f.index unknown
 
   pub sound_after : (kept new : Kept) (old ready : Option (InForce R)) (step : Step) (change : Change)
       → IsSound text kept old → HasFields step → IsReady text (state_of kept) step change ready
@@ -227,8 +218,8 @@ module _ {R : Type 0} (text : R → List ℕ) where
         (when-fits (state_of kept) step fields sound.timely);
     last = subst (λ (t : State). AreLast text t.machine (rules_after old ready)) (sym same)
         (last-after (state_of kept) step old ready fields sound.timely possible is.under sound.last);
-    idle = subst (λ (t : State). AreIdleUnder text t.machine (rules_after old ready)) (sym same)
-        (idle-after (state_of kept) step old ready is.fresh sound.idle);
+    indexed = subst (λ (t : State). IsIndexedUnder text t.machine (rules_after old ready)) (sym same)
+        (indexed-after (state_of kept) step old ready is.fresh sound.indexed);
   } where
     possible : IsPossible (state_of kept) step
     possible = is.is_change.possible
@@ -260,20 +251,20 @@ module _ {R : Type 0} (text : R → List ℕ) where
     numbers = subst (λ (t : State). length t.machine.items < 2 ^ 32) (sym same) sound.numbers;
     timely = subst (λ (t : State). t.moment ≤ last_moment) (sym same) sound.timely;
     last = subst (λ (t : State). AreLast text t.machine rules) (sym same) sound.last;
-    idle = subst (λ (t : State). AreIdleUnder text t.machine rules) (sym same) sound.idle;
+    indexed = subst (λ (t : State). IsIndexedUnder text t.machine rules) (sym same) sound.indexed;
   }
 
-  -- and so it is with other spans, as long as they are true
+  -- and so it is with another index, as long as that is true
   pub sound_with : (kept : Kept) (force new : InForce R) → new.rules ≡ force.rules
-      → AreIdle (text force.rules) kept.parts.items.items new.idle.items → IsSound text kept (Some force)
+      → IsIndexed (text force.rules) kept.parts.items.items new.index → IsSound text kept (Some force)
       → IsSound text kept (Some new)
-  sound_with kept force new same idle sound = record {
+  sound_with kept force new same indexed sound = record {
     of_history = sound.of_history;
     stored = sound.stored;
     numbers = sound.numbers;
     timely = sound.timely;
     last = sound.last ∙ ap (λ (r : R). Some (text r)) (sym same);
-    idle = subst (λ (r : R). AreIdle (text r) kept.parts.items.items new.idle.items) (sym same) idle;
+    indexed = subst (λ (r : R). IsIndexed (text r) kept.parts.items.items new.index) (sym same) indexed;
   }
 
   -- and so is the state after no step
@@ -284,5 +275,5 @@ module _ {R : Type 0} (text : R → List ℕ) where
     numbers = subst (λ (t : State). length t.machine.items < 2 ^ 32) (sym same) (omega arith);
     timely = subst (λ (t : State). t.moment ≤ last_moment) (sym same) (omega arith);
     last = ap (λ (t : State). t.machine.tables) same;
-    idle = tt;
+    indexed = tt;
   }

@@ -126,22 +126,23 @@ few-non-delivery text number item r reason diagnostic =
     (λ t v. report_on (λ e x. reports.non_delivery_report t number item.arrival e x reason diagnostic) r v)
     (λ t v. few-on (λ e x. reports.non_delivery_report t number item.arrival e x reason diagnostic) r v)
 
-few-renamed : (p : ReportFields) (o : Option Attributes)
-    → IfSome (option_map (λ (n : Attributes). report (walks.passed_back p n)) o) IsFew
-few-renamed p None = tt
-few-renamed p (Some n) = few-report (walks.passed_back p n)
+few-renamed : (s : Situation) (p : ReportFields) (o : Option Attributes)
+    → IfSome (option_map (λ (n : Attributes). report (walks.passed_back s p n)) o) IsFew
+few-renamed s p None = tt
+few-renamed s p (Some n) = few-report (walks.passed_back s p n)
 
-few-passed-under : (items : List ItemValue) (origin : Origin) (t : TablesValue) (v : ApduValue)
-    → IfSome (passed_under items origin t v) IsFew
-few-passed-under items origin t (message v) = tt
-few-passed-under items origin t (probe e) = tt
-few-passed-under items origin t (report p) = few-renamed p (passed_to t (is_own origin) p (accepted_in items))
+few-passed-under : (items : List ItemValue) (origin : Origin) (arrival : ℕ) (t : TablesValue) (v : ApduValue)
+    → IfSome (passed_under items origin arrival t v) IsFew
+few-passed-under items origin arrival t (message v) = tt
+few-passed-under items origin arrival t (probe e) = tt
+few-passed-under items origin arrival t (report p) =
+    few-renamed (situation t arrival 0) p (passed_to t (is_own origin) p (accepted_in items))
 
 few-passed : (text : List ℕ) (items : List ItemValue) (item : ItemValue) → IfSome (passed_back text items item) IsFew
 unfolding passed_back
 few-passed text items item =
-    few-both (tables_value text) (value_of item.octets) (passed_under items item.origin)
-    (few-passed-under items item.origin)
+    few-both (tables_value text) (value_of item.octets) (passed_under items item.origin item.arrival)
+    (few-passed-under items item.origin item.arrival)
 
 -- ---- expansions: a list has few members
 

@@ -1,5 +1,5 @@
 -- What a step changes, with the rules under the tables that it records.
-use Rattle.std.specs.Prelude.{◌≡◌, List, [], ℕ, Option, Some, None, Result, Ok, Err, IsOk, IsErrOf}
+use Rattle.std.specs.Prelude.{◌≡◌, List, ℕ, Option, Some, None, Result, Ok, Err, IsOk, IsErrOf}
 use Rattle.std.specs.Option.{option_map}
 use Rattle.mta_records.specs.declared.step.Step.{Step}
 use Rattle.mta_histories.specs.Classes.{Class, records, accepts, settles, opens, on_lane, class_of}
@@ -19,10 +19,10 @@ recorded_by (settles how i r) = None
 recorded_by (opens role peer reference twa checkpoint window) = None
 recorded_by (on_lane n generation step) = None
 
--- of no item it is known that it is idle
+-- nothing is known of any item
 abbrev pub AreFresh : {R : Type 0} → Option (InForce R) → Type 0
 AreFresh None = Unit {0}
-AreFresh (Some force) = force.idle.items ≡ []
+AreFresh (Some force) = force.index.agenda.known ≡ 0
 
 -- the step is possible, and this is what it changes, with the rules under the tables that it records
 pub record IsReady {R : Type 0} (text : R → List ℕ) (s : State) (step : Step) (change : Change)

@@ -15,7 +15,7 @@ use std::alloc::Global;
 
 impl<R: Rules + Drop> Replay<R> {
     /// The due step of the lowest item and recipient at a moment, in seconds since 1950-01-01 00:00:00 UTC: none where
-    /// nothing is due. What is found out of idle items is kept for the next call.
+    /// nothing is due. What is found out of items is kept for the next call.
     #[tactic(auto, using(crate::proofs::Nothing::nothing_is_due, crate::proofs::Sounds::sound_with))]
     pub fn due_step(&mut self, alloc: Global, moment: u64) -> Result<Option<Step>, Memory>
         requires sound { IsSound R.text self.old.kept self.old.rules }
@@ -25,24 +25,35 @@ impl<R: Rules + Drop> Replay<R> {
     {
         match &mut self.rules {
             None => Ok(None),
-            Some(force) => due_step(alloc, &force.rules, &self.kept, &mut force.idle, moment),
+            Some(force) => due_step(alloc, &force.rules, &self.kept, &mut force.index, moment),
         }
     }
 
     /// The lowest item with recipients to relay to the peer, and all those; none where there is no such item.
-    #[tactic(auto, using(crate::proofs::Nothing::nothing_is_relayed))]
+    #[tactic(auto, using(crate::proofs::Nothing::nothing_is_relayed, crate::proofs::Sounds::sound_with))]
     pub fn batch_for(
-        &self,
+        &mut self,
         alloc: Global,
         peer: &Word,
         moment: u64,
     ) -> Result<Option<Batch>, Memory>
-        requires sound { IsSound R.text self.now.kept self.now.rules }
-        ensures { IfOk result (IsBatchOf (state_of self.now.kept) peer.now moment) }
+        requires sound { IsSound R.text self.old.kept self.old.rules }
+        ensures batch { IfOk result (IsBatchOf (state_of self.old.kept) peer.now moment) }
+        ensures same { state_of self.new.kept ≡ state_of self.old.kept }
+        ensures sound { IsSound R.text self.new.kept self.new.rules }
     {
-        match &self.rules {
+        match &mut self.rules {
             None => Ok(None),
-            Some(force) => batch_for(alloc, &force.rules, &self.kept, peer, moment),
+            Some(force) => {
+                batch_for(
+                    alloc,
+                    &force.rules,
+                    &self.kept,
+                    &mut force.index,
+                    peer,
+                    moment,
+                )
+            }
         }
     }
 
@@ -54,7 +65,7 @@ impl<R: Rules + Drop> Replay<R> {
     {
         match &self.rules {
             None => Ok(None),
-            Some(force) => waiting(alloc, &force.rules, &self.kept, peer),
+            Some(force) => waiting(alloc, &force.rules, &self.kept, &force.index, peer),
         }
     }
 }

@@ -4,17 +4,19 @@
 //! memory is refused; `commit` makes the change and cannot fail. Between the last two the spool writes the step's
 //! record down; replaying a history does not.
 
-ghost use Rattle.std.specs.Prelude.{◌≡◌, [], IfOk, IfSome, IfNone, OnErr, OnOk};
+ghost use Rattle.std.specs.Prelude.{◌≡◌, ℕ, List, IfOk, IfSome, IfNone, OnErr, OnOk};
+ghost use Rattle.mta_machine.specs.Items.{ItemValue};
 ghost use Rattle.mta_records.specs.declared.step.Step.{Step};
 ghost use Rattle.mta_records.specs.Body.{HasFields};
 ghost use Rattle.mta_histories.specs.Lanes.{empty};
 ghost use Rattle.mta_histories.specs.History.{after_step};
 ghost use Rattle.mta_replay.specs.Kept.{state_of, CanChange, HasRoomFor};
+ghost use Rattle.mta_dues.specs.Index.{IsIndexed};
 ghost use Rattle.mta_state.specs.Ready.{IsReady, TakesUp};
 ghost use Rattle.mta_state.specs.Sound.{IsSound};
 
 use mta_ber::Memory;
-use mta_idle::Span;
+use mta_dues::Index;
 use mta_records::Step;
 use mta_replay::{Change, Kept, Rules};
 use std::alloc::Global;
@@ -43,20 +45,37 @@ impl From<Memory> for NotMade {
 #[derive(Drop)]
 pub struct InForce<R: Rules + Drop> {
     pub rules: R,
-    /// Beside each item a span of moments in which nothing is due of it. An item behind the last has none.
-    pub idle: Vec<Span>,
+    /// Which items need not be looked at, and which wait for which peer.
+    pub index: Index,
 }
 
 impl<R: Rules + Drop> InForce<R> {
     /// Rules under which nothing is known of any item yet. It takes no memory.
     pub fn new(alloc: Global, rules: R) -> InForce<R>
         ensures rules { result.rules ≡ rules }
-        ensures fresh { result.idle.items ≡ [] }
+        ensures fresh { result.index.agenda.known ≡ 0 }
     {
         InForce {
             rules,
-            idle: Vec::new(alloc),
+            index: Index::new(alloc),
         }
+    }
+}
+
+// The item of which a change discharges recipients is to be looked at again.
+fn recall_changed(index: &mut Index, change: &Change) -> Result<(), Memory>
+    ensures { (text : List ℕ) (items : List ItemValue) → IsIndexed text items index.old
+        → IsIndexed text items index.new }
+{
+    match change {
+        Change::Tables { .. } => Ok(()),
+        Change::Accept { .. } => Ok(()),
+        Change::Settle { item, .. } => index.recall(*item),
+        Change::Open { .. } => Ok(()),
+        Change::OnLane { .. } => Ok(()),
+        Change::Complete { .. } => Ok(()),
+        Change::Discharge { item, .. } => index.recall(*item),
+        Change::Close { .. } => Ok(()),
     }
 }
 
@@ -96,6 +115,19 @@ impl<R: Rules + Drop> Replay<R> {
         }
     }
 
+    // The item of which a change discharges recipients is to be looked at again.
+    #[tactic(auto, using(crate::proofs::Sounds::sound_with))]
+    fn recall(&mut self, change: &Change) -> Result<(), Memory>
+        requires sound { IsSound R.text self.old.kept self.old.rules }
+        ensures same { self.new.kept ≡ self.old.kept }
+        ensures sound { IsSound R.text self.new.kept self.new.rules }
+    {
+        match &mut self.rules {
+            None => Ok(()),
+            Some(force) => recall_changed(&mut force.index, change),
+        }
+    }
+
     /// Finds room for a change.
     #[tactic(auto, using(crate::proofs::Sounds::sound_still))]
     pub fn reserve(&mut self, ready: &Ready<R>) -> Result<(), Memory>
@@ -104,6 +136,7 @@ impl<R: Rules + Drop> Replay<R> {
         ensures sound { IsSound R.text self.new.kept self.new.rules }
         ensures room { OnOk result (HasRoomFor self.new.kept ready.now.change) }
     {
+        self.recall(&ready.change)?;
         self.kept.reserve(&ready.change)
     }
 

@@ -3,6 +3,7 @@ pub mod Copied
 pub mod Counts
 pub mod Expanded
 pub mod IdleItems
+pub mod Led
 pub mod Numbered
 pub mod Read
 pub mod Reported

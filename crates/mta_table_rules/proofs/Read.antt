@@ -142,16 +142,16 @@ expansion_is t number item v r moment e h =
 
 pub passed_is : (t : TablesValue) (items : List ItemValue) (item : ItemValue) (v : ApduValue)
     → tables_value t.text ≡ Some t → value_of item.octets ≡ Some v
-    → passed_back t.text items item ≡ passed_under items item.origin t v
+    → passed_back t.text items item ≡ passed_under items item.origin item.arrival t v
 unfolding passed_back
 passed_is t items item v e h =
-    both_read (tables_value t.text) (value_of item.octets) t v (passed_under items item.origin) e h
+    both_read (tables_value t.text) (value_of item.octets) t v (passed_under items item.origin item.arrival) e h
 
 pub none_passed : (t : TablesValue) (items : List ItemValue) (item : ItemValue)
     → tables_value t.text ≡ Some t → value_of item.octets ≡ None → passed_back t.text items item ≡ None
 unfolding passed_back
 none_passed t items item e h =
-    none_read (tables_value t.text) (value_of item.octets) t (passed_under items item.origin) e h
+    none_read (tables_value t.text) (value_of item.octets) t (passed_under items item.origin item.arrival) e h
 
 -- ---- copies
 

@@ -8,6 +8,7 @@ mod names;
 mod passing;
 mod reading;
 mod reports;
+mod routes;
 mod table_rules;
 mod verdicts;
 

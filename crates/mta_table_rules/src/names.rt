@@ -23,7 +23,8 @@ fn name_among(recipients: &[Recipient], number: u32) -> Option<&OrName>
     Some(&found.fields().name)
 }
 
-fn name_in<'a>(apdu: &'a Apdu<'_>, recipient: u32) -> Option<&'a OrName>
+/// The name of a recipient.
+pub fn name_in<'a>(apdu: &'a Apdu<'_>, recipient: u32) -> Option<&'a OrName>
     ensures { option_copied result ≡ numbered (names_in (apdu_value apdu.now)) recipient }
 {
     match apdu {

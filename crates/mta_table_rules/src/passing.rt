@@ -1,13 +1,15 @@
 //! Reports that come to a list and are passed back (X.411, clause 14: distribution lists, reports).
 
-ghost use Rattle.std.specs.Prelude.{◌≡◌, IfOk, Some, is_some, map};
+ghost use Rattle.std.specs.Prelude.{◌≡◌, ◌≤◌, IfOk, Some, is_some, map};
 ghost use Rattle.std.specs.List.{find, list_any, zip};
 ghost use Rattle.std.specs.Option.{option_and_then, option_copied, option_map};
+ghost use Rattle.mta_ber.specs.Times.{last_moment};
 ghost use Rattle.mta_apdu.specs.Apdus.{apdu_value};
 ghost use Rattle.mta_apdu.specs.Apdus as apdus;
 ghost use Rattle.mta_names.specs.Normal.{is_same_name};
 ghost use Rattle.mta_fields.specs.Identifiers.{is_same_id};
 ghost use Rattle.mta_tables.specs.Hops.{list_named};
+ghost use Rattle.mta_procedures.specs.Situations.{situation};
 ghost use Rattle.mta_procedures.specs.Walks.{behind_list, is_expanded_as, is_subject_of, passed_to, report_walk};
 ghost use Rattle.mta_procedures.specs.Walks.{walk_of};
 ghost use Rattle.mta_procedures.specs.Walks as walks;
@@ -20,9 +22,9 @@ use crate::reading::{read_kept, text_reads};
 use crate::reports::report_item;
 use mta_apdu::Apdu;
 use mta_ber::Memory;
-use mta_copies::copied_trace;
 use mta_envelope::Message;
 use mta_fields::MtsId;
+use mta_lists::expanded_trace;
 use mta_machine::{Item, Origin, Status};
 use mta_names::OrName;
 use mta_outgoing::report_with;
@@ -208,11 +210,12 @@ fn passes_under(
     alloc: Global,
     tables: &Tables,
     origin: Origin,
+    arrival: u64,
     apdu: &Apdu<'_>,
     items: &[Item],
 ) -> Result<bool, Memory>
     ensures { IfOk result (λ b. b
-        ≡ is_some (passed_under items.now origin tables.now (apdu_value apdu.now))) }
+        ≡ is_some (passed_under items.now origin arrival tables.now (apdu_value apdu.now))) }
 {
     match apdu {
         Apdu::Report(report) => {
@@ -236,17 +239,24 @@ pub fn passes_back(
     let Some(apdu) = read_kept(alloc, item.octets())? else {
         return Ok(false);
     };
-    let passes = passes_under(alloc, tables, item.origin(), &apdu, items);
+    let passes = passes_under(alloc, tables, item.origin(), item.arrival(), &apdu, items);
     apdu.discard();
     passes
 }
 
-/// The report with another destination.
-fn redirected(alloc: Global, report: &Report, name: OrName) -> Result<Report, Memory>
-    ensures { IfOk result (λ r. r ≡ walks.passed_back report.now name) }
+/// The report with another destination, and an own element more in its trace.
+fn redirected(
+    alloc: Global,
+    tables: &Tables,
+    arrival: u64,
+    report: &Report,
+    name: OrName,
+) -> Result<Report, Memory>
+    requires { arrival ≤ last_moment }
+    ensures { IfOk result (λ r. r ≡ walks.passed_back (situation tables.now arrival 0) report.now name) }
 {
     let fields = report.fields();
-    let trace = copied_trace(alloc, fields.trace.as_slice())?;
+    let trace = expanded_trace(alloc, tables, arrival, fields.trace.as_slice())?;
     let mut parts = report_with(alloc, fields, trace)?;
     parts.destination = name;
     Ok(Report::from_fields(parts))
@@ -256,14 +266,16 @@ fn report_passed(
     alloc: Global,
     tables: &Tables,
     origin: Origin,
+    arrival: u64,
     report: &Report,
     items: &[Item],
 ) -> Result<Option<Report>, Memory>
+    requires { arrival ≤ last_moment }
     ensures { IfOk result (λ r. option_map apdus.report r
-        ≡ passed_under items.now origin tables.now (apdus.report report.now)) }
+        ≡ passed_under items.now origin arrival tables.now (apdus.report report.now)) }
 {
     match passed_to(alloc, tables, origin, report, items)? {
-        Some(name) => Ok(Some(redirected(alloc, report, name)?)),
+        Some(name) => Ok(Some(redirected(alloc, tables, arrival, report, name)?)),
         None => Ok(None),
     }
 }
@@ -272,14 +284,16 @@ fn passed_under(
     alloc: Global,
     tables: &Tables,
     origin: Origin,
+    arrival: u64,
     apdu: &Apdu<'_>,
     items: &[Item],
 ) -> Result<Option<Report>, Memory>
+    requires { arrival ≤ last_moment }
     ensures { IfOk result (λ r. option_map apdus.report r
-        ≡ passed_under items.now origin tables.now (apdu_value apdu.now)) }
+        ≡ passed_under items.now origin arrival tables.now (apdu_value apdu.now)) }
 {
     match apdu {
-        Apdu::Report(report) => report_passed(alloc, tables, origin, report, items),
+        Apdu::Report(report) => report_passed(alloc, tables, origin, arrival, report, items),
         Apdu::Message(_) | Apdu::Probe(_) => Ok(None),
     }
 }
@@ -292,6 +306,7 @@ pub fn passed_item(
     item: &Item,
     moment: u64,
 ) -> Result<Option<Item>, Memory>
+    requires { item.now.arrival ≤ last_moment }
     ensures { IfOk result (λ made. made
         ≡ option_map (own_item moment) (rules.passed_back tables.now.text items.now item.now)) }
 {
@@ -299,7 +314,7 @@ pub fn passed_item(
     let Some(apdu) = read_kept(alloc, item.octets())? else {
         return Ok(None);
     };
-    let made = passed_under(alloc, tables, item.origin(), &apdu, items);
+    let made = passed_under(alloc, tables, item.origin(), item.arrival(), &apdu, items);
     apdu.discard();
     report_item(alloc, made?, moment)
 }

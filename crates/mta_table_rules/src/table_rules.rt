@@ -7,6 +7,7 @@ use crate::names::{mailbox_at, names_peer, peer_at, routes_to};
 use crate::passing::{passed_item, passes_back};
 use crate::reading::text_reads;
 use crate::reports::{delivery_item, non_delivery_item};
+use crate::routes::{relays, routes};
 use crate::verdicts::{has_expired, verdict};
 use mta_ber::{Memory, Word};
 use mta_items::Made;
@@ -86,6 +87,14 @@ impl Rules for TableRules {
 
     fn idle_until(&self, alloc: Global, item: &Item, moment: u64) -> Result<Option<u64>, Memory> {
         idle_until(alloc, &self.tables, item, moment)
+    }
+
+    fn routes(&self, alloc: Global, item: &Item) -> Result<Vec<u32>, Memory> {
+        routes(alloc, &self.tables, item)
+    }
+
+    fn relays(&self, alloc: Global, item: &Item, moment: u64) -> Result<Vec<u32>, Memory> {
+        relays(alloc, &self.tables, item, moment)
     }
 
     fn passes_back(&self, alloc: Global, items: &[Item], item: &Item) -> Result<bool, Memory> {

@@ -1,4 +1,4 @@
-use Rattle.std.proofs.Common.{◌≡◌, Option, Some, None, sym, ap, ◌∙◌}
+use Rattle.std.proofs.Common.{◌≡◌, ℕ, Option, Some, None, sym, ap, ◌∙◌}
 use Rattle.std.specs.Option.{option_map}
 use Rattle.mta_apdu.specs.Apdus.{ApduValue, apdu_value, report}
 use Rattle.mta_machine.specs.declared.item.Origin.{Origin}
@@ -27,5 +27,6 @@ returns c =
     (λ i. i ≡ option_map (own_item c.args.moment) (option_map report c.in_ok-made.field-0))
     (λ i. i ≡ option_map (own_item c.args.moment) (passed_back t.text items item))
     (λ i e. e ∙ ap (λ (o : Option ApduValue). option_map (own_item c.args.moment) o)
-    (c.in_ok-made.ensures ∙ ap (λ (o : Origin). passed_under items o t v) c.origin.ensures ∙ sym same))
+    (c.in_ok-made.ensures ∙ ap (λ (o : Origin). passed_under items o c.arrival.result t v) c.origin.ensures
+    ∙ ap (λ (n : ℕ). passed_under items item.origin n t v) c.arrival.ensures ∙ sym same))
     c.report_item.ensures

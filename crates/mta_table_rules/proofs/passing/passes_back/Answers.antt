@@ -1,4 +1,4 @@
-use Rattle.std.proofs.Common.{◌≡◌, Option, Some, None, sym, ap, ◌∙◌}
+use Rattle.std.proofs.Common.{◌≡◌, ℕ, Option, Some, None, sym, ap, ◌∙◌}
 use Rattle.std.specs.Prelude.{is_some}
 use Rattle.mta_apdu.specs.Apdus.{ApduValue, apdu_value}
 use Rattle.mta_machine.specs.declared.item.Origin.{Origin}
@@ -23,8 +23,9 @@ returns c =
     (kept_is item.octets c.octets.result.now c.in_ok-apdu.field-0 (Some c.in-Some.apdu) c.octets.ensures
     c.in_ok-apdu.ensures.value c.in-Some.is) in
     if_ok_so c.passes_under-passes.result
-    (λ b. b ≡ is_some (passed_under items c.origin.result t v))
+    (λ b. b ≡ is_some (passed_under items c.origin.result c.arrival.result t v))
     (λ b. b ≡ is_some (passed_back t.text items item))
-    (λ b e. e ∙ ap (λ (o : Origin). is_some (passed_under items o t v)) c.origin.ensures
+    (λ b e. e ∙ ap (λ (o : Origin). is_some (passed_under items o c.arrival.result t v)) c.origin.ensures
+    ∙ ap (λ (n : ℕ). is_some (passed_under items item.origin n t v)) c.arrival.ensures
     ∙ ap (λ (o : Option ApduValue). is_some o) (sym same))
     c.passes_under-passes.ensures

@@ -1,7 +1,6 @@
-use Rattle.std.proofs.Common.{Global, List, ℕ, Vec, sym, ap, subst, ◌∙◌}
+use Rattle.std.proofs.Common.{Global, List, ℕ, Vec, sym, ap, ◌∙◌}
 use Rattle.mta_journal.specs.Opening.{synced, same_since}
 use Rattle.mta_replay.specs.Kept.{state_of}
-use Rattle.mta_spool.specs.Replaying.{HasStopped, IsReplay}
 use Rattle.mta_spool.proofs.Keeping.{keeps_opened}
 use Rattle.mta_spool.proofs.Openings.{stands_opened, history_opened, replay_refused, open_refused}
 use Rattle.mta_spool.proofs.spool.Spool.open.Goals as goal
@@ -14,8 +13,7 @@ returns-in-Err-clause-refused g c =
 pub returns-in-Ok-replay-clause-opened : goal.returns-in-Ok-replay-clause-opened
 returns-in-Ok-replay-clause-opened g c =
     let r = c.in-Ok-replay.ensures.replayed in
-    let is = subst (λ (bs : List (List ℕ)). IsReplay bs (state_of c.in-Ok-replay.replay.kept) r.0)
-    c.as_slice.ensures.value r.1 in
+    let is = r.1 in
     record {
       steps = r.0;
       stands = stands_opened g.D.Disk.model c.in-Ok.opened.journal c.in-Ok.opened.bodies.items
@@ -46,5 +44,4 @@ returns-in-Err-replay-clause-refused g c =
     synced (same_since g.D.Disk.model f c.args.disk c.in-Ok.opened.journal.disk
     (g.D.Disk.model.moment c.in-Ok.opened.synced.value) (c.in-Ok.ensures.since f told)))
     c.in-Ok.opened.bodies.items c.in-Err-replay.why c.in-Ok.ensures.stands
-    (subst (λ (bs : List (List ℕ)). HasStopped bs c.in-Err-replay.why) c.as_slice.ensures.value
-    c.in-Err-replay.ensures.stopped))
+    c.in-Err-replay.ensures.stopped)

@@ -1,0 +1,261 @@
+-- What is known of items that rest, as the index changes, and as steps are made.
+use Rattle.std.proofs.Common.{inl, inr, ◌≡◌, ◌≢◌, ◌≤◌, ◌<◌, ◌+◌, ℕ, true, false, List, Option, Some, None}
+use Rattle.std.proofs.Common.{Result, Ok, Err, refl, sym, ap, subst, ◌∙◌, arith}
+use Rattle.std.specs.Prelude.{OnOk}
+use Rattle.std.proofs.lemmas.Bool.{cases_eq}
+use Rattle.std.specs.BTreeSet.{BTreeSet}
+use Rattle.mta_machine.specs.Items.{ItemValue, Machine, numbered, has_status, is_pending}
+use Rattle.mta_machine.specs.Rules.{peer_word, route_word, verdict_of}
+use Rattle.mta_machine.specs.Machine.{MachineStep, machine_run, relay_by}
+use Rattle.mta_idle.specs.Idle.{IsIdle, IsIdleUntil}
+use Rattle.mta_idle.specs.Later.{GoesOn, IsLater}
+use Rattle.mta_idle.proofs.Kept.{idle_later, items_go_on, verdict_later}
+use Rattle.mta_idle.proofs.Stays.{idle_until_next, verdicts_stay}
+use Rattle.mta_agenda.specs.Agendas.{AgendaValue, is_active, IsAside, IsLetGo, IsPutOff, KeepsAll, Rests}
+use Rattle.mta_agenda.specs.Lines.{KeepsLines, Leaves, stands, StandsAll}
+use Rattle.mta_replay.specs.Asked.{AreRelays, AreRoutes}
+use Rattle.mta_dues.specs.declared.index.Index.{Index}
+use Rattle.mta_dues.specs.Index.{HasPending, IndexesStay, IsAtRestIn, IsIndexed, IsLeft, IsListedIn, IsReadyIn}
+use Rattle.mta_dues.specs.Index.{IsRoutedIn}
+
+-- an agenda that keeps what rests, and lines with more
+kept_with : (text : List ℕ) (items : List ItemValue) (old new : Index) → KeepsAll old.agenda new.agenda
+    → KeepsLines old.ready new.ready → KeepsLines old.routed new.routed → IsIndexed text items old
+    → IsIndexed text items new
+kept_with text items old new agenda ready routed indexed = record {
+  rests = λ i moment r.
+      let was = indexed.rests i moment (agenda.rests i moment r) in
+      record {
+        item = was.item;
+        item_is = was.item_is;
+        idle = was.idle;
+        ready = λ q peer pending is.
+            let found = was.ready q peer pending is in
+            (found.0, found.1, ready found.0 i found.2);
+      };
+  listed = λ i a.
+      let was = indexed.listed i (agenda.aside i a) in
+      record {
+        item = was.item;
+        item_is = was.item_is;
+        routed = λ q peer pending is.
+            let found = was.routed q peer pending is in
+            (found.0, found.1, routed found.0 i found.2);
+      };
+}
+
+keeps_same : (old new : AgendaValue) → new ≡ old → KeepsAll old new
+keeps_same old new same = record {
+  aside = λ i a. subst (λ (x : AgendaValue). IsAside x i) same a;
+  rests = λ i moment r. subst (λ (x : AgendaValue). Rests x i moment) same r;
+}
+
+-- an agenda that keeps what rests
+pub kept : (text : List ℕ) (items : List ItemValue) (old new : Index) → KeepsAll old.agenda new.agenda
+    → new.ready ≡ old.ready → new.routed ≡ old.routed → IsIndexed text items old → IsIndexed text items new
+kept text items old new agenda ready routed indexed =
+    kept_with text items old new agenda
+    (λ place i is. ap (λ (lines : List (BTreeSet ℕ)). stands lines place i) ready ∙ is)
+    (λ place i is. ap (λ (lines : List (BTreeSet ℕ)). stands lines place i) routed ∙ is) indexed
+
+-- lines with more
+pub lined : (text : List ℕ) (items : List ItemValue) (old new : Index) → new.agenda ≡ old.agenda
+    → KeepsLines old.ready new.ready → KeepsLines old.routed new.routed → IsIndexed text items old
+    → IsIndexed text items new
+lined text items old new agenda ready routed indexed =
+    kept_with text items old new (keeps_same old.agenda new.agenda agenda) ready routed indexed
+
+-- an active item stands in no line
+pub left : (text : List ℕ) (items : List ItemValue) (old new : Index) (number : ℕ)
+    → is_active old.agenda number ≡ true → IsLeft old new number → IsIndexed text items old
+    → IsIndexed text items new
+left text items old new number active gone indexed = record {
+  rests = λ i moment r.
+      let before = subst (λ (x : AgendaValue). Rests x i moment) gone.agenda r in
+      let was = indexed.rests i moment before in
+      record {
+        item = was.item;
+        item_is = was.item_is;
+        idle = was.idle;
+        ready = λ q peer pending is.
+            let found = was.ready q peer pending is in
+            (found.0, found.1, gone.ready found.0 i (apart i before.aside) found.2);
+      };
+  listed = λ i a.
+      let before = subst (λ (x : AgendaValue). IsAside x i) gone.agenda a in
+      let was = indexed.listed i before in
+      record {
+        item = was.item;
+        item_is = was.item_is;
+        routed = λ q peer pending is.
+            let found = was.routed q peer pending is in
+            (found.0, found.1, gone.routed found.0 i (apart i before) found.2);
+      };
+} where
+  apart : (i : ℕ) → IsAside old.agenda i → i ≢ number
+  apart i a same =
+      let none : is_active old.agenda number ≡ false =
+      subst (λ (j : ℕ). is_active old.agenda j ≡ false) same a.inactive in
+      absurd cc
+
+-- what is known of one number, and of the others as before
+with_one : (text : List ℕ) (items : List ItemValue) (old new : Index) (number : ℕ)
+    → ((i : ℕ) → i ≢ number → IsAside new.agenda i → IsAside old.agenda i)
+    → ((i moment : ℕ) → i ≢ number → Rests new.agenda i moment → Rests old.agenda i moment)
+    → new.ready ≡ old.ready → new.routed ≡ old.routed
+    → ((moment : ℕ) → Rests new.agenda number moment → IsAtRestIn text items new number moment)
+    → (IsAside new.agenda number → IsListedIn text items new number)
+    → IsIndexed text items old → IsIndexed text items new
+with_one text items old new number aside rests ready routed one listed indexed = record {
+  rests = λ i moment r. elim (cases_eq i number) [
+    | inl same ↦
+        subst (λ (j : ℕ). IsAtRestIn text items new j moment) (sym same)
+        (one moment (subst (λ (j : ℕ). Rests new.agenda j moment) same r))
+    | inr apart ↦ at_rest i moment (indexed.rests i moment (rests i moment apart r))
+  ];
+  listed = λ i a. elim (cases_eq i number) [
+    | inl same ↦
+        subst (λ (j : ℕ). IsListedIn text items new j) (sym same)
+        (listed (subst (λ (j : ℕ). IsAside new.agenda j) same a))
+    | inr apart ↦ in_lines i (indexed.listed i (aside i apart a))
+  ];
+} where
+  at_rest : (i moment : ℕ) → IsAtRestIn text items old i moment → IsAtRestIn text items new i moment
+  at_rest i moment was = record {
+    item = was.item;
+    item_is = was.item_is;
+    idle = was.idle;
+    ready = λ q peer pending is.
+        let found = was.ready q peer pending is in (
+          found.0,
+          found.1,
+          ap (λ (lines : List (BTreeSet ℕ)). stands lines found.0 i) ready ∙ found.2,
+        );
+  }
+
+  in_lines : (i : ℕ) → IsListedIn text items old i → IsListedIn text items new i
+  in_lines i was = record {
+    item = was.item;
+    item_is = was.item_is;
+    routed = λ q peer pending is.
+        let found = was.routed q peer pending is in (
+          found.0,
+          found.1,
+          ap (λ (lines : List (BTreeSet ℕ)). stands lines found.0 i) routed ∙ found.2,
+        );
+  }
+
+-- an item of which nobody is pending rests for good
+pub let_go : (text : List ℕ) (items : List ItemValue) (old new : Index) (number : ℕ) (item : ItemValue)
+    → (HasPending item → ⊥) → numbered items number ≡ Some item → IsLetGo old.agenda new.agenda number
+    → new.ready ≡ old.ready → new.routed ≡ old.routed → IsIndexed text items old → IsIndexed text items new
+let_go text items old new number item none item_is go ready routed indexed =
+    with_one text items old new number go.others.aside go.others.rests ready routed
+    (λ moment r. record {
+      item = item;
+      item_is = item_is;
+      idle = λ q pending. absurd (none (q, pending));
+      ready = λ q peer pending is. absurd (none (q, pending));
+    })
+    (λ a. record {
+      item = item;
+      item_is = item_is;
+      routed = λ q peer pending is. absurd (none (q, pending));
+    })
+    indexed
+
+-- an item that is idle until the next change rests until then, in the lines of its peers
+pub put_off : (text : List ℕ) (items : List ItemValue) (old new : Index) (number : ℕ) (item : ItemValue)
+    (moment until : ℕ) → IsIdleUntil text item moment (Some until) → numbered items number ≡ Some item
+    → IsReadyIn text item old.ready number moment → IsRoutedIn text item old.routed number
+    → IsPutOff old.agenda new.agenda number moment until → new.ready ≡ old.ready → new.routed ≡ old.routed
+    → IsIndexed text items old → IsIndexed text items new
+put_off text items old new number item moment until idle item_is is_ready is_routed off ready routed indexed =
+    with_one text items old new number off.others.aside off.others.rests ready routed
+    (λ n r.
+    let within = off.within n r in
+    record {
+      item = item;
+      item_is = item_is;
+      idle = idle_until_next text item moment until n idle within.0 within.1;
+      ready = λ q peer pending is.
+          let stay = verdicts_stay text item.octets item.arrival moment until idle.1 in
+          let same = (stay.same n within.0 within.1).verdicts q in
+          let found = is_ready q peer pending (sym (ap (relay_by text) same) ∙ is) in (
+            found.0,
+            found.1,
+            ap (λ (lines : List (BTreeSet ℕ)). stands lines found.0 number) ready ∙ found.2,
+          );
+    })
+    (λ a. record {
+      item = item;
+      item_is = item_is;
+      routed = λ q peer pending is.
+          let found = is_routed q peer pending is in (
+            found.0,
+            found.1,
+            ap (λ (lines : List (BTreeSet ℕ)). stands lines found.0 number) routed ∙ found.2,
+          );
+    })
+    indexed
+
+-- the next change is to come
+pub change_later : (text : List ℕ) (item : ItemValue) (moment until : ℕ)
+    → IsIdleUntil text item moment (Some until) → moment < until
+change_later text item moment until idle =
+    (verdicts_stay text item.octets item.arrival moment until idle.1).later
+
+-- nothing is known of any item
+pub fresh : (text : List ℕ) (items : List ItemValue) (index : Index) → index.agenda.known ≡ 0
+    → IsIndexed text items index
+fresh text items index none = record {
+  rests = λ i moment r. absurd (never i r.aside);
+  listed = λ i a. absurd (never i a);
+} where
+  never : (i : ℕ) → IsAside index.agenda i → ⊥
+  never i a = let from = a.from in let known = a.known in omega (arith, from, known, none)
+
+-- ---- lines of peers
+
+pub on_ok_so : {A E : Type 0} (made : Result A E) (P Q : Type 0) → (P → Q) → OnOk made P → OnOk made Q
+on_ok_so (Ok a) P Q f h = f h
+on_ok_so (Err e) P Q f h = h
+
+pub ready_in : (text : List ℕ) (item : ItemValue) (places : List ℕ) (lines : List (BTreeSet ℕ)) (i moment : ℕ)
+    → AreRelays text item moment places → StandsAll lines places i → IsReadyIn text item lines i moment
+ready_in text item places lines i moment relays all r peer pending is =
+    let found = relays r peer pending is in
+    (found.0, found.2, all found.0 found.1)
+
+pub routed_in : (text : List ℕ) (item : ItemValue) (places : List ℕ) (lines : List (BTreeSet ℕ)) (i : ℕ)
+    → AreRoutes text item places → StandsAll lines places i → IsRoutedIn text item lines i
+routed_in text item places lines i routes all r peer pending is =
+    let found = routes r peer pending is in
+    (found.0, found.2, all found.0 found.1)
+
+-- ---- steps
+
+pub indexes_stay : IndexesStay
+indexes_stay text m steps index indexed = record {
+  rests = λ i moment r.
+      let was = indexed.rests i moment r in
+      let on = items_go_on m steps i was.item was.item_is in
+      record {
+        item = on.item;
+        item_is = on.item_is;
+        idle = idle_later text was.item on.item moment on.later was.idle;
+        ready = λ q peer pending is.
+            was.ready q peer (on.later.pending q pending)
+            (sym (ap (relay_by text) (verdict_later text was.item on.item q moment on.later)) ∙ is);
+      };
+  listed = λ i a.
+      let was = indexed.listed i a in
+      let on = items_go_on m steps i was.item was.item_is in
+      record {
+        item = on.item;
+        item_is = on.item_is;
+        routed = λ q peer pending is.
+            was.routed q peer (on.later.pending q pending)
+            (sym (ap (λ (o : List ℕ). route_word text o q) on.later.octets) ∙ is);
+      };
+}

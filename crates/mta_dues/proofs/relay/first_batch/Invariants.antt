@@ -1,0 +1,10 @@
+use Rattle.std.proofs.Common.{◌-◌, ◌^◌}
+use Rattle.mta_replay.specs.Kept.{state_of}
+use Rattle.mta_dues.specs.Answers.{NoneRelayedUpTo}
+use Rattle.mta_dues.proofs.relay.first_batch.Given as goal
+
+abbrev pub invariant-loop-number : goal.invariant-loop-number
+invariant-loop-number g l = record { none : NoneRelayedUpTo (state_of l.kept) l.peer l.moment l.after }
+
+abbrev pub decreases-loop-number : goal.decreases-loop-number
+decreases-loop-number g l = 2 ^ 32 - l.after

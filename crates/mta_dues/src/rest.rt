@@ -1,0 +1,89 @@
+//! Items that rest, since nothing is due of them for a while.
+
+ghost use Rattle.std.specs.Prelude.{◌≡◌, ◌↔◌, ℕ, IfOk, IsTrue, List, OnOk, Some, true};
+ghost use Rattle.mta_machine.specs.Items.{ItemValue, numbered};
+ghost use Rattle.mta_idle.specs.Idle.{IsIdle};
+ghost use Rattle.mta_agenda.specs.Agendas.{is_active, IsAllCalled};
+ghost use Rattle.mta_agenda.specs.Lines.{KeepsLines};
+ghost use Rattle.mta_replay.specs.Asked.{IsStored};
+ghost use Rattle.mta_dues.specs.Index.{HasPending, IsIndexed, IsReadyIn, IsRoutedIn};
+
+use crate::index::Index;
+use mta_ber::Memory;
+use mta_items::is_pending;
+use mta_machine::Item;
+use mta_replay::Rules;
+use std::alloc::Global;
+
+// Whether some recipient of an item is pending.
+#[tactic(auto, using(crate::proofs::Pending::pending_laws))]
+fn has_pending(item: &Item) -> bool
+    requires stored { IsStored item.now }
+    ensures { IsTrue result ↔ HasPending item.now }
+{
+    let count = item.statuses().len() as u32;
+    let mut recipient: u32 = 0;
+    while recipient < count {
+        recipient += 1;
+        if is_pending(item, recipient) {
+            return true;
+        }
+    }
+    false
+}
+
+// The item stands in the lines of the peers to which pending recipients go.
+fn line_up<R: Rules>(
+    alloc: Global,
+    rules: &R,
+    index: &mut Index,
+    number: u32,
+    item: &Item,
+    moment: u64,
+) -> Result<(), Memory>
+    requires stored { IsStored item.now }
+    ensures agenda { index.new.agenda ≡ index.old.agenda }
+    ensures ready { KeepsLines index.old.ready index.new.ready }
+    ensures routed { KeepsLines index.old.routed index.new.routed }
+    ensures is_ready { OnOk result (IsReadyIn (R.text rules.now) item.now index.new.ready number moment) }
+    ensures is_routed { OnOk result (IsRoutedIn (R.text rules.now) item.now index.new.routed number) }
+{
+    let routes = rules.routes(alloc, item)?;
+    index.routed.put_all(alloc, routes.as_slice(), number)?;
+    let relays = rules.relays(alloc, item, moment)?;
+    index.ready.put_all(alloc, relays.as_slice(), number)
+}
+
+/// Whether an active item is idle at a moment. It rests then: until its verdicts may change, or for good where nobody
+/// is pending. Where there is no memory to note it the item stays active.
+pub fn rest<R: Rules>(
+    alloc: Global,
+    rules: &R,
+    index: &mut Index,
+    number: u32,
+    item: &Item,
+    moment: u64,
+) -> Result<bool, Memory>
+    requires stored { IsStored item.now }
+    requires active { is_active index.old.agenda number ≡ true }
+    ensures idle { IfOk result (λ b. b ≡ true → IsIdle (R.text rules.now) item.now moment) }
+    ensures indexed { (items : List ItemValue) → numbered items number ≡ Some item.now
+        → IsIndexed (R.text rules.now) items index.old → IsIndexed (R.text rules.now) items index.new }
+    ensures called { (count : ℕ) → IsAllCalled index.old.agenda count moment
+        → IsAllCalled index.new.agenda count moment }
+{
+    index.leave(number);
+    let pending = has_pending(item);
+    if !pending {
+        index.agenda.let_go(number);
+        return Ok(true);
+    }
+    match rules.idle_until(alloc, item, moment)? {
+        None => Ok(false),
+        Some(until) => {
+            line_up(alloc, rules, index, number, item, moment)?;
+            index.agenda.put_off(number, moment, until);
+            Ok(true)
+        }
+    }
+}

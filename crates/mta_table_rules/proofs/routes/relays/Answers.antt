@@ -1,0 +1,27 @@
+use Rattle.std.proofs.Common.{Some, None}
+use Rattle.mta_apdu.specs.Apdus.{ApduValue, apdu_value}
+use Rattle.mta_machine.specs.Rules.{peer_word}
+use Rattle.mta_replay.specs.Asked.{AreLed, AreRelays}
+use Rattle.mta_table_rules.specs.Led.{relay_under}
+use Rattle.mta_table_rules.proofs.Led.{no_relays, relays_are}
+use Rattle.mta_table_rules.proofs.Read.{if_ok_so, kept_is}
+use Rattle.mta_table_rules.proofs.routes.relays.Goals as goal
+
+pub returns-in_default : goal.returns-in_default
+returns-in_default c =
+    no_relays c.args.tables.now c.args.item.now c.args.moment c.new.result.items c.text_reads.ensures
+    (kept_is c.args.item.now.octets c.octets.result.now c.in_ok-apdu.field-0 None c.octets.ensures
+    c.in_ok-apdu.ensures.value c.in_default.is)
+
+pub returns : goal.returns
+returns c =
+    let t = c.args.tables.now in
+    let v : ApduValue = apdu_value c.in-Some.apdu in
+    if_ok_so c.relays_under-places.result
+    (λ places.
+    AreLed (peer_word t.text) c.args.item.now (relay_under t v c.args.item.now.arrival c.args.moment) places.items)
+    (λ places. AreRelays t.text c.args.item.now c.args.moment places.items)
+    (λ places led. relays_are t c.args.item.now v c.args.moment places.items c.text_reads.ensures
+    (kept_is c.args.item.now.octets c.octets.result.now c.in_ok-apdu.field-0 (Some c.in-Some.apdu) c.octets.ensures
+    c.in_ok-apdu.ensures.value c.in-Some.is) led)
+    c.relays_under-places.ensures
