@@ -67,7 +67,10 @@ lines_send = search (crosses, sets, sendable) depth 80 fits 100000
 
 index_send : IsSend index.the_field.row
 index_send = let a = agenda_send in let b = lines_send in
-    struct_send (shape index.the_type) (search sendable depth 20, (search sendable depth 20, (search sendable depth 20, tt)))
+    struct_send (shape index.the_type) (
+      search sendable depth 20,
+      (search sendable depth 20, (search sendable depth 20, tt)),
+    )
 
 kept_send : IsSend kept.the_field.row
 kept_send = search (crosses, sendable) depth 80 fits 100000
