@@ -7,7 +7,8 @@ command -v rt >/dev/null || { echo "skipped: rt is not on the PATH"; exit 0; }
 cd "$(dirname "$0")/.."
 made=$(mktemp -d "${1:-/var/tmp}/journal.XXXXXX")
 trap 'rm -rf "$made"' EXIT
-(cd crates/mta_journal_bench && rt run) >"$made/log" 2>&1 || { cat "$made/log"; exit 1; }
+. checks/program.bash
+built mta_journal_bench
 program=crates/mta_journal_bench/out/mta_journal_bench
 
 # the microseconds of the fastest of three runs that write $2 bodies of $3 octets in the way $1
