@@ -5,7 +5,8 @@
 set -u
 cd "$(dirname "$0")/.." || exit 2
 command -v rt >/dev/null || { echo "skipped: no rt"; exit 0; }
-(cd crates/mta_apdu_bench && rt run >/dev/null 2>&1) || { echo "the program was not built"; exit 1; }
+. checks/program.bash
+built mta_apdu_bench
 program=crates/mta_apdu_bench/out/mta_apdu_bench
 TIMEFORMAT=%U
 told() { awk -v word="$1" -v best="$2" 'BEGIN { printf "%s: %.2f million recipients a second\n", word, 0.12 / best }'; }

@@ -4,7 +4,8 @@ set -u
 cd "$(dirname "$0")/.." || exit 2
 command -v rt >/dev/null || { echo "skipped: no rt"; exit 0; }
 [ -e /proc/self/stat ] || { echo "skipped: no processor times"; exit 0; }
-(cd crates/mta_ber_bench && rt run >/dev/null 2>&1) || { echo "the program was not built"; exit 1; }
+. checks/program.bash
+built mta_ber_bench
 program=crates/mta_ber_bench/out/mta_ber_bench
 TIMEFORMAT=%U
 for word in definite indefinite; do

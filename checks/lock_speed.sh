@@ -10,7 +10,8 @@ turns=${1:-1200000}
 made=$(mktemp -d)
 trap 'rm -rf "$made"' EXIT
 rustc -O --edition 2021 -o "$made/stock" checks/lock_speed.rs
-(cd crates/mta_shared_bench && rt run -- 1 1) >"$made/log" 2>&1 || { cat "$made/log"; exit 1; }
+. checks/program.bash
+built mta_shared_bench
 ours=crates/mta_shared_bench/out/mta_shared_bench
 [ -x "$ours" ] || { echo "no program at $ours"; exit 1; }
 

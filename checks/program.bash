@@ -1,7 +1,20 @@
-# Sourced by the checks that run the program. `program TOOL..` leaves, with a word and status 0, where a tool is
-# missing. Else it sets `mta`, the program's path, and `made`, a folder that goes when the check ends. The program is
-# built where a source is newer than it; without words it prints its usage line and ends with status 1, so that the
-# status of `rt run` says nothing.
+# Sourced by the checks that run programs of the repository.
+
+# `built NAME` leaves the program of a crate at crates/NAME/out/NAME: the one that the gate left there, or a new one
+# where a source is newer. Some of them want words and end with another status without, so the status says nothing.
+built() {
+  local program=crates/$1/out/$1 log
+  if [ ! -x "$program" ] || [ -n "$(find crates -path '*/out' -prune -o -name '*.rt' -newer "$program" -print -quit)" ]; then
+    rm -f "$program"
+    log=$(mktemp)
+    (cd "crates/$1" && python3 ../../.ci/rt.py run </dev/null) >"$log" 2>&1 || true
+    [ -x "$program" ] || { cat "$log"; rm -f "$log"; exit 1; }
+    rm -f "$log"
+  fi
+}
+
+# `program TOOL..` leaves, with a word and status 0, where a tool is missing. Else it sets `mta`, the program's path,
+# and `made`, a folder that goes when the check ends.
 program() {
   local tool
   for tool in rt "$@"; do
@@ -10,9 +23,5 @@ program() {
   made=$(mktemp -d)
   trap 'rm -rf "$made"' EXIT
   mta=$PWD/crates/mta/out/mta
-  if [ ! -x "$mta" ] || [ -n "$(find crates -path '*/out' -prune -o -name '*.rt' -newer "$mta" -print -quit)" ]; then
-    rm -f "$mta"
-    (cd crates/mta && rt run) >"$made/log" 2>&1
-    [ -x "$mta" ] || { cat "$made/log"; exit 1; }
-  fi
+  built mta
 }

@@ -7,7 +7,8 @@ cd "$(dirname "$0")/.."
 command -v rt >/dev/null || { echo "skipped: rt is not on the PATH"; exit 0; }
 made=$(mktemp -d)
 trap 'rm -rf "$made"' EXIT
-(cd crates/mta_rules_bench && rt run -- none) >"$made/log" 2>&1 || { cat "$made/log"; exit 1; }
+. checks/program.bash
+built mta_rules_bench
 program=crates/mta_rules_bench/out/mta_rules_bench
 [ "$("$program" copy)" = "copy: 4194304000 octets" ] || { echo "other copies were made"; exit 1; }
 

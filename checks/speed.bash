@@ -1,20 +1,22 @@
-# Sourced by the scripts that take times, behind checks/program.bash where they run the program.
+# Sourced by the scripts that take times.
 #
 # `bench NAME` sets `program` to the program of a crate that is timed, and builds it where PROGRAMS names no folder that
 # has it. `the_program TOOL..` is `program` of checks/program.bash, or the program in MTA. `decoder` sets `asn1c` to the
 # decoder that asn1c makes of checks/asn1c_speed.asn1, or to nothing where a tool is missing, and says so.
+. checks/program.bash
+export PYTHONDONTWRITEBYTECODE=1
+
 bench() {
   program=${PROGRAMS:-}/$1
   [ -x "$program" ] && return
   command -v rt >/dev/null || { echo "skipped: rt is not on the PATH"; exit 0; }
   program=$PWD/crates/$1/out/$1
-  (cd "crates/$1" && rt run) >"$made/log" 2>&1 </dev/null
-  [ -x "$program" ] || { cat "$made/log"; exit 1; }
+  built "$1"
 }
 
 the_program() {
   local tool
-  if [ -z "${MTA:-}" ]; then . checks/program.bash; program "$@"; return; fi
+  if [ -z "${MTA:-}" ]; then program "$@"; return; fi
   for tool in "$@"; do
     command -v "$tool" >/dev/null || { echo "skipped: $tool is not on the PATH"; exit 0; }
   done
@@ -38,4 +40,3 @@ decoder() {
   ) >"$made/log" 2>&1 || { echo "without asn1c's decoder, which was not built:"; tail -n 3 "$made/log"; return; }
   asn1c=$made/decoder/decoder
 }
-export PYTHONDONTWRITEBYTECODE=1

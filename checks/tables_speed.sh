@@ -7,7 +7,8 @@ cd "$(dirname "$0")/.."
 command -v rt >/dev/null || { echo "skipped: rt is not on the PATH"; exit 0; }
 made=$(mktemp -d)
 trap 'rm -rf "$made"' EXIT
-(cd crates/mta_tables_bench && rt run -- read 16) >"$made/log" 2>&1 || { cat "$made/log"; exit 1; }
+. checks/program.bash
+built mta_tables_bench
 program=crates/mta_tables_bench/out/mta_tables_bench
 
 # the seconds of user time of the fastest of seven runs of the program with these words

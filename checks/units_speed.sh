@@ -8,7 +8,8 @@ command -v gcc >/dev/null || { echo "skipped: gcc is not on the PATH"; exit 0; }
 made=$(mktemp -d)
 trap 'rm -rf "$made"' EXIT
 gcc -O2 -o "$made/copy" checks/units_speed.c
-(cd crates/mta_units_bench && rt run) >"$made/log" 2>&1 || { cat "$made/log"; exit 1; }
+. checks/program.bash
+built mta_units_bench
 ours=crates/mta_units_bench/out/mta_units_bench
 [ "$("$ours")" = "$(cat crates/mta_units_bench/stdout)" ] || { echo "$ours printed something else"; exit 1; }
 
