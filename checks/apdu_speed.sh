@@ -4,10 +4,8 @@
 # top of the repository.
 set -u
 cd "$(dirname "$0")/.." || exit 2
-command -v rt >/dev/null || { echo "skipped: no rt"; exit 0; }
-. checks/program.bash
-built mta_apdu_bench
-program=crates/mta_apdu_bench/out/mta_apdu_bench
+. checks/speed.bash
+bench mta_apdu_bench
 TIMEFORMAT=%U
 told() { awk -v word="$1" -v best="$2" 'BEGIN { printf "%s: %.2f million recipients a second\n", word, 0.12 / best }'; }
 for word in read write; do

@@ -2,11 +2,9 @@
 # How many elements a second mta_ber reads, in definite and in indefinite lengths. Run it at the top of the repository.
 set -u
 cd "$(dirname "$0")/.." || exit 2
-command -v rt >/dev/null || { echo "skipped: no rt"; exit 0; }
 [ -e /proc/self/stat ] || { echo "skipped: no processor times"; exit 0; }
-. checks/program.bash
-built mta_ber_bench
-program=crates/mta_ber_bench/out/mta_ber_bench
+. checks/speed.bash
+bench mta_ber_bench
 TIMEFORMAT=%U
 for word in definite indefinite; do
   best=""

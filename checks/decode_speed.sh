@@ -1,13 +1,13 @@
 #!/usr/bin/env bash
-# `mta decode` of one message of 2 MiB beside `openssl asn1parse` of the same octets, and of 10,000 small messages, a
+# `mta decode` of one message of 2 MiB beside `openssl asn1parse` of the same octets, and of 3,000 small messages, a
 # run each, beside openssl, a run each, and tshark, one run over all of them. User and system time of one run on this
 # machine. Run it at the top of the repository.
 set -u
 cd "$(dirname "$0")/.." || exit 2
-. checks/program.bash
-program openssl python3
+. checks/speed.bash
+the_program openssl python3
 small=samples/message.ber
-count=${1:-10000}
+count=${1:-3000}
 python3 - "$small" "$made" "$count" <<'PYTHON'
 import struct, sys
 small = open(sys.argv[1], "rb").read()

@@ -4,15 +4,14 @@
 # The figures depend on what else runs, so the two programs take turns, and the best of three runs counts.
 set -eu
 command -v rustc >/dev/null || { echo "skipped: rustc is not on the PATH"; exit 0; }
-command -v rt >/dev/null || { echo "skipped: rt is not on the PATH"; exit 0; }
 cd "$(dirname "$0")/.."
 turns=${1:-1200000}
 made=$(mktemp -d)
 trap 'rm -rf "$made"' EXIT
 rustc -O --edition 2021 -o "$made/stock" checks/lock_speed.rs
-. checks/program.bash
-built mta_shared_bench
-ours=crates/mta_shared_bench/out/mta_shared_bench
+. checks/speed.bash
+bench mta_shared_bench
+ours=$program
 [ -x "$ours" ] || { echo "no program at $ours"; exit 1; }
 
 # the milliseconds of the fastest of three runs of the program $1 with $2 threads, $3 turns each; its answer is checked

@@ -4,12 +4,10 @@
 # head. User and system time, all in one run on this machine. Run it at the top of the repository.
 set -eu
 cd "$(dirname "$0")/.."
-command -v rt >/dev/null || { echo "skipped: rt is not on the PATH"; exit 0; }
 made=$(mktemp -d)
 trap 'rm -rf "$made"' EXIT
-. checks/program.bash
-built mta_rules_bench
-program=crates/mta_rules_bench/out/mta_rules_bench
+. checks/speed.bash
+bench mta_rules_bench
 [ "$("$program" copy)" = "copy: 4194304000 octets" ] || { echo "other copies were made"; exit 1; }
 
 # the seconds of the fastest of seven runs of the program with this word

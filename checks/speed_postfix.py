@@ -93,6 +93,13 @@ class Queue:
         """How many messages stand in these parts of the queue."""
         return sum(len(it[2]) for place in places for it in os.walk(f"{self.folder}/queue/{place}"))
 
+    def empty(self):
+        """It has no message any more."""
+        for place in ("maildrop", "hold", "incoming", "active", "deferred", "defer"):
+            for folder, _, files in os.walk(f"{self.folder}/queue/{place}"):
+                for file in files:
+                    os.remove(f"{folder}/{file}")
+
     def sends(self, size, many):
         """The seconds that each of so many calls of sendmail takes, which puts a message of this size into the queue."""
         with open(f"{self.folder}/text", "wb") as file:
@@ -104,7 +111,7 @@ class Queue:
         took = (time.monotonic() - start) / many
         if self.counted("maildrop") != many:
             sys.exit("Postfix's queue has another number of messages")
-        self.call("postsuper", "-d", "ALL")
+        self.empty()
         return took
 
     def start(self, many):
@@ -115,7 +122,7 @@ class Queue:
 
     def stop(self):
         self.call("postfix", "stop")
-        self.call("postsuper", "-d", "ALL")
+        self.empty()
 
     def is_handed(self, size, many, connections):
         """The seconds in which a client that has no queue, smtp-source, hands so many messages over to smtpd."""

@@ -6,6 +6,7 @@ SPEED_OUT names a folder, each script leaves there what it found of everything t
 """
 import os
 import shutil
+import signal
 import socket
 import subprocess
 import sys
@@ -14,6 +15,8 @@ import time
 TOP = os.path.dirname(os.path.dirname(os.path.abspath(__file__)))
 # seconds from 1950, from which moments of a spool count, to 1970
 EPOCH = 631_152_000
+# what was begun is ended also where the script is stopped
+signal.signal(signal.SIGTERM, lambda *_: sys.exit(143))
 
 
 def number(value, octets):

@@ -56,7 +56,7 @@ def beside_held(mta, folder, apdu, counts, octets):
             best, spread = tools.of_several([tools.run([mta, "submit"], cwd=place, given=apdu)[0] for _ in range(5)])
             print(f"beside {held} {name}: {best * 1000:.1f} ms (spread {spread:.2f})", flush=True)
             ways.append(best)
-        found.append((held, *ways))
+        found.append((held, *(it * 1000 for it in ways)))
     tools.rows("submit", found)
 
 
@@ -77,7 +77,7 @@ def main():
     if theirs:
         said("Postfix's sendmail", theirs[0], ours[0])
         print(f"messages a second, as a multiple of Postfix's: {theirs[0][0] / ours[0]:.2f} (wished: 2 and more)")
-    beside_held(mta, folder, f"{folder}/apdu", [int(it) for it in counts or ("0", "1000", "10000")], octets)
+    beside_held(mta, folder, f"{folder}/apdu", [int(it) for it in counts or (0, 1000, 2000, 5000, 10_000)], octets)
 
 
 main()

@@ -4,12 +4,10 @@
 # run on this machine. Run it at the top of the repository.
 set -eu
 cd "$(dirname "$0")/.."
-command -v rt >/dev/null || { echo "skipped: rt is not on the PATH"; exit 0; }
 made=$(mktemp -d)
 trap 'rm -rf "$made"' EXIT
-. checks/program.bash
-built mta_tables_bench
-program=crates/mta_tables_bench/out/mta_tables_bench
+. checks/speed.bash
+bench mta_tables_bench
 
 # the seconds of user time of the fastest of seven runs of the program with these words
 TIMEFORMAT=%U

@@ -3,14 +3,13 @@
 # of the same cuts in C, in one run on this machine. Run it at the top of the repository.
 set -eu
 cd "$(dirname "$0")/.."
-command -v rt >/dev/null || { echo "skipped: rt is not on the PATH"; exit 0; }
 command -v gcc >/dev/null || { echo "skipped: gcc is not on the PATH"; exit 0; }
 made=$(mktemp -d)
 trap 'rm -rf "$made"' EXIT
 gcc -O2 -o "$made/copy" checks/units_speed.c
-. checks/program.bash
-built mta_units_bench
-ours=crates/mta_units_bench/out/mta_units_bench
+. checks/speed.bash
+bench mta_units_bench
+ours=$program
 [ "$("$ours")" = "$(cat crates/mta_units_bench/stdout)" ] || { echo "$ours printed something else"; exit 1; }
 
 # the seconds of user time of the fastest of seven runs of the program $1
