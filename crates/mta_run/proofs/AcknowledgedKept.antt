@@ -1,5 +1,6 @@
 -- An item whose number was printed is kept.
-use Rattle.std.proofs.Common.{◌≡◌, ℕ, ◌+◌, ◌%◌, ◌<◌, ◌^◌, suc, eqb, List, [], ◌∷◌, ◌++◌, length, get_or, Option}
+use Rattle.std.proofs.Common.{◌≡◌, ℕ, ◌+◌, ◌%◌, ◌<◌, ◌^◌, suc, eqb, List, [], ◌∷◌}
+use Rattle.std.proofs.Common.{◌++◌, length, get_or, Option}
 use Rattle.std.proofs.Common.{Some, None, refl, sym, ap, subst, ◌∙◌, append_assoc, arith, inl, inr}
 use Rattle.std.specs.Prelude.{slice_get}
 use Rattle.std.specs.Fmt.{decimal}
@@ -56,8 +57,8 @@ same_before (c ∷ p) (d ∷ q) x y f g e =
     let rest = same_before p q x y f.1 g.1 tail in
     cc
 
-accepted_number : (n k : ℕ) (x y : List ℕ) → n < 2 ^ 32 → k < 2 ^ 32 → accepted_line n ++ x ≡ accepted_line k ++ y
-    → n ≡ k
+accepted_number : (n k : ℕ) (x y : List ℕ) → n < 2 ^ 32 → k < 2 ^ 32
+    → accepted_line n ++ x ≡ accepted_line k ++ y → n ≡ k
 accepted_number n k x y small low e =
     let tail : (decimal n ++ 10 ∷ []) ++ x ≡ (decimal k ++ 10 ∷ []) ++ y = cc in
     let behind : decimal n ++ 10 ∷ x ≡ decimal k ++ 10 ∷ y = sym (append_assoc (decimal n) (10 ∷ []) x) ∙ tail
@@ -68,27 +69,35 @@ accepted_number n k x y small low e =
 -- no stop's line begins as that of an acceptance
 no_stop : (stop : Stop) (n : ℕ) (x : List ℕ) → accepted_line n ++ x ≡ line_of stop → ⊥
 unfolding line_of
-no_stop Stops.Usage n x e = let h : ◌≡◌ {A = ℕ} 97 117 = ap (λ (l : List ℕ). get_or l 0 0) e in omega (arith, h)
-no_stop (Stops.Tables line kind) n x e = let h : ◌≡◌ {A = ℕ} 97 116 = ap (λ (l : List ℕ). get_or l 0 0) e in omega
-    (arith, h)
-no_stop (Stops.NotSpool at) n x e = let h : ◌≡◌ {A = ℕ} 97 110 = ap (λ (l : List ℕ). get_or l 0 0) e in omega (arith, h)
-no_stop Stops.Disk n x e = let h : ◌≡◌ {A = ℕ} 97 100 = ap (λ (l : List ℕ). get_or l 0 0) e in omega (arith, h)
-no_stop (Stops.Full size need) n x e = let h : ◌≡◌ {A = ℕ} 97 115 = ap (λ (l : List ℕ). get_or l 0 0) e in omega
-    (arith, h)
-no_stop (Stops.Spent last) n x e = let h : ◌≡◌ {A = ℕ} 97 110 = ap (λ (l : List ℕ). get_or l 0 0) e in omega (arith, h)
-no_stop Stops.Memory n x e = let h : ◌≡◌ {A = ℕ} 97 111 = ap (λ (l : List ℕ). get_or l 0 0) e in omega (arith, h)
-no_stop Stops.Source n x e = let h : ◌≡◌ {A = ℕ} 97 115 = ap (λ (l : List ℕ). get_or l 0 0) e in omega (arith, h)
+no_stop Stops.Usage n x e =
+    let h : ◌≡◌ {A = ℕ} 97 117 = ap (λ (l : List ℕ). get_or l 0 0) e in omega (arith, h)
+no_stop (Stops.Tables line kind) n x e =
+    let h : ◌≡◌ {A = ℕ} 97 116 = ap (λ (l : List ℕ). get_or l 0 0) e in omega (arith, h)
+no_stop (Stops.NotSpool at) n x e =
+    let h : ◌≡◌ {A = ℕ} 97 110 = ap (λ (l : List ℕ). get_or l 0 0) e in omega (arith, h)
+no_stop Stops.Disk n x e =
+    let h : ◌≡◌ {A = ℕ} 97 100 = ap (λ (l : List ℕ). get_or l 0 0) e in omega (arith, h)
+no_stop (Stops.Full size need) n x e =
+    let h : ◌≡◌ {A = ℕ} 97 115 = ap (λ (l : List ℕ). get_or l 0 0) e in omega (arith, h)
+no_stop (Stops.Spent last) n x e =
+    let h : ◌≡◌ {A = ℕ} 97 110 = ap (λ (l : List ℕ). get_or l 0 0) e in omega (arith, h)
+no_stop Stops.Memory n x e =
+    let h : ◌≡◌ {A = ℕ} 97 111 = ap (λ (l : List ℕ). get_or l 0 0) e in omega (arith, h)
+no_stop Stops.Source n x e =
+    let h : ◌≡◌ {A = ℕ} 97 115 = ap (λ (l : List ℕ). get_or l 0 0) e in omega (arith, h)
 no_stop Stops.Sink n x e = let h : ◌≡◌ {A = ℕ} 97 0 = ap (λ (l : List ℕ). get_or l 0 0) e in omega (arith, h)
-no_stop (Stops.NoMailbox name) n x e = let h : ◌≡◌ {A = ℕ} 97 110 = ap (λ (l : List ℕ). get_or l 0 0) e in omega
-    (arith, h)
-no_stop (Stops.NoPeer name) n x e = let h : ◌≡◌ {A = ℕ} 97 110 = ap (λ (l : List ℕ). get_or l 0 0) e in omega (arith, h)
-no_stop Stops.NotBuilt n x e = let h : ◌≡◌ {A = ℕ} 97 110 = ap (λ (l : List ℕ). get_or l 0 0) e in omega (arith, h)
-no_stop (Stops.BadApdu at kind) n x e = let h : ◌≡◌ {A = ℕ} 97 98 = ap (λ (l : List ℕ). get_or l 0 0) e in omega
-    (arith, h)
+no_stop (Stops.NoMailbox name) n x e =
+    let h : ◌≡◌ {A = ℕ} 97 110 = ap (λ (l : List ℕ). get_or l 0 0) e in omega (arith, h)
+no_stop (Stops.NoPeer name) n x e =
+    let h : ◌≡◌ {A = ℕ} 97 110 = ap (λ (l : List ℕ). get_or l 0 0) e in omega (arith, h)
+no_stop Stops.NotBuilt n x e =
+    let h : ◌≡◌ {A = ℕ} 97 110 = ap (λ (l : List ℕ). get_or l 0 0) e in omega (arith, h)
+no_stop (Stops.BadApdu at kind) n x e =
+    let h : ◌≡◌ {A = ℕ} 97 98 = ap (λ (l : List ℕ). get_or l 0 0) e in omega (arith, h)
 
 -- what was taken, where both contents are told
-at_told : {step : List ℕ → List ℕ → Type 0} {old new : Option (List ℕ)} (a b : List ℕ) → Goes step old new → old
-    ≡ Some a → new ≡ Some b → step a b
+at_told : {step : List ℕ → List ℕ → Type 0} {old new : Option (List ℕ)} (a b : List ℕ) → Goes step old new
+    → old ≡ Some a → new ≡ Some b → step a b
 at_told {step} a b goes was now =
     let x = goes.each a was in
     let same : x.0 ≡ b = cc (x.1) in
@@ -113,15 +122,15 @@ begins line a b rest n front e =
 words_apart : (words : Words) → (words ≡ Say.Submit → ⊥) → Some words ≡ Some Say.Submit → ⊥
 words_apart words other e = other (some_same words Say.Submit e)
 
-accepted_as : (steps added : List Step) (i : List ℕ) (n k : ℕ) → n ≡ k → IsAccepted steps added i k → IsAccepted steps
-    added i n
+accepted_as : (steps added : List Step) (i : List ℕ) (n k : ℕ) → n ≡ k → IsAccepted steps added i k
+    → IsAccepted steps added i n
 accepted_as steps added i n k same a = subst (λ (x : ℕ). IsAccepted steps added i x) (sym same) a
 
 module _ {D C I : Type 0} (h : Handed D C I) (ends : List WorkerEnd) (added : List Step)
     (submit : h.words ≡ Some Say.Submit) (n : ℕ) (small : n < 2 ^ 32) where
   -- where the text of `submit` begins with its line
-  text_accepted : (opening : Opening) (t x y : List ℕ) → IsText h ends added opening t → accepted_line n ++ x ≡ t ++ y
-      → ForInput h (λ i. ForOpened h (λ steps. IsAccepted steps added i n))
+  text_accepted : (opening : Opening) (t x y : List ℕ) → IsText h ends added opening t
+      → accepted_line n ++ x ≡ t ++ y → ForInput h (λ i. ForOpened h (λ steps. IsAccepted steps added i n))
   text_accepted _ _ x y (of_submit number text word inputs few is acc) begun =
       let same : n ≡ number = accepted_number n number x y small few (begun ∙ ap (λ (l : List ℕ). l ++ y) is) in
       λ i w f steps was s. accepted_as steps added i n number same (acc i w f steps was s)
@@ -135,14 +144,15 @@ module _ {D C I : Type 0} (h : Handed D C I) (ends : List WorkerEnd) (added : Li
 
   -- the same, where it may be the line of a stop
   line_accepted : (opening : Opening) (t x : List ℕ) (stop : Stop) → IsFront (IsText h ends added opening) t
-      → accepted_line n ++ x ≡ t ++ line_of stop → ForInput h (λ i. ForOpened h (λ steps. IsAccepted steps added i n))
+      → accepted_line n ++ x ≡ t ++ line_of stop
+      → ForInput h (λ i. ForOpened h (λ steps. IsAccepted steps added i n))
   line_accepted opening t x stop (inl none) begun = absurd
       (no_stop stop n x (begun ∙ ap (λ (l : List ℕ). l ++ line_of stop) none))
   line_accepted opening t x stop (inr text) begun = text_accepted opening t x (line_of stop) text begun
 
-  pub ended_accepted : (opening : Opening) (out : Output) (status : ℕ) (a b rest : List ℕ) → IsEnded
-      (Cause h ends added opening) (IsText h ends added opening) out status → out.before ≡ Some a → out.after ≡ Some b
-      → b ≡ a ++ accepted_line n ++ rest
+  pub ended_accepted : (opening : Opening) (out : Output) (status : ℕ) (a b rest : List ℕ)
+      → IsEnded (Cause h ends added opening) (IsText h ends added opening) out status → out.before ≡ Some a
+      → out.after ≡ Some b → b ≡ a ++ accepted_line n ++ rest
       → ForInput h (λ i. ForOpened h (λ steps. IsAccepted steps added i n))
   ended_accepted opening out status a b rest (done s t text goes) was is begun =
       let front = all_front t a b (at_told a b goes was is) in
@@ -173,8 +183,9 @@ abbrev HasItem : List ItemValue → ℕ → List ℕ → Type 0
 HasItem items n octets = (item : ItemValue) × (numbered items n ≡ Some item) × (item.octets ≡ octets)
 
 -- another item with the same octets in its place
-put_keeps : (items : List ItemValue) (i n : ℕ) (old new : ItemValue) (octets : List ℕ) → numbered items i ≡ Some old
-    → new.octets ≡ old.octets → HasItem items n octets → HasItem (set_numbered items i new) n octets
+put_keeps : (items : List ItemValue) (i n : ℕ) (old new : ItemValue) (octets : List ℕ)
+    → numbered items i ≡ Some old → new.octets ≡ old.octets → HasItem items n octets
+    → HasItem (set_numbered items i new) n octets
 put_keeps items i n old new octets there same x =
     elim (cases_Bool (eqb n i)) [
       | inl here ↦ (
@@ -209,7 +220,8 @@ item_kept m (discharge i rs how moment) n octets x = by_item (numbered m.items i
 items_kept : (m : Machine) (steps : List MachineStep) (n : ℕ) (octets : List ℕ) → HasItem m.items n octets
     → HasItem (machine_run m steps).items n octets
 items_kept m [] n octets x = x
-items_kept m (step ∷ steps) n octets x = items_kept (machine_after m step) steps n octets (item_kept m step n octets x)
+items_kept m (step ∷ steps) n octets x =
+    items_kept (machine_after m step) steps n octets (item_kept m step n octets x)
 
 history_keeps : (s : State) (steps : List Step) (n : ℕ) (octets : List ℕ) → HasItem s.machine.items n octets
     → HasItem (after_from s steps).machine.items n octets

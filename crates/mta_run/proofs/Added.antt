@@ -1,5 +1,6 @@
 -- Steps that are added to a spool.
-use Rattle.std.proofs.Common.{◌≡◌, ℕ, ◌+◌, ◌≤◌, List, [], ◌∷◌, ◌++◌, map, max, None, Some, Bool, true, false}
+use Rattle.std.proofs.Common.{◌≡◌, ℕ, ◌+◌, ◌≤◌, List, [], ◌∷◌, ◌++◌, map, max, None, Some}
+use Rattle.std.proofs.Common.{Bool, true, false}
 use Rattle.std.proofs.Common.{cond, refl, sym, ap, subst, ◌∙◌, append_assoc, arith, inl, inr}
 use Rattle.std.proofs.lemmas.Bool.{cases_Bool}
 use Rattle.std.proofs.lemmas.List.{append-nil}
@@ -34,8 +35,8 @@ after_append s [] b = refl
 after_append s (step ∷ a) b = after_append (after_step s step) a b
 
 -- the last step of a history is possible behind the others
-pub last_possible : (s : State) (steps : List Step) (step : Step) → ArePossible s (steps ++ step ∷ []) → IsPossible
-    (after_from s steps) step
+pub last_possible : (s : State) (steps : List Step) (step : Step) → ArePossible s (steps ++ step ∷ [])
+    → IsPossible (after_from s steps) step
 last_possible s [] step p = p.0
 last_possible s (x ∷ steps) step p = last_possible (after_step s x) steps step p.1
 
@@ -49,22 +50,19 @@ possible_back s (step ∷ a) b p = possible_back (after_step s step) a b p.1
 
 -- ---- whose the steps are
 
-pub own_append : (tells : ℕ → Type 0) (conf input : List ℕ) (s : State) (a b : List Step) → AreOwn tells conf input s
-    a → AreOwn tells conf input (after_from s a) b → AreOwn tells conf input s (a ++ b)
+pub own_append : (tells : ℕ → Type 0) (conf input : List ℕ) (s : State) (a b : List Step)
+    → AreOwn tells conf input s a → AreOwn tells conf input (after_from s a) b
+    → AreOwn tells conf input s (a ++ b)
 own_append tells conf input s [] b p q = q
 own_append tells conf input s (step ∷ a) b p q = (p.0, own_append tells conf input (after_step s step) a b p.1 q)
 
-pub own_front : (tells : ℕ → Type 0) (conf input : List ℕ) (s : State) (a b : List Step)
-    → AreOwn tells conf input s (a ++ b) → AreOwn tells conf input s a
-own_front tells conf input s [] b p = tt
-own_front tells conf input s (step ∷ a) b p = (p.0, own_front tells conf input (after_step s step) a b p.1)
-
-pub timed_more : (tells other : ℕ → Type 0) (last moment : ℕ) → ((t : ℕ) → tells t → other t) → IsTimed tells last
-    moment → IsTimed other last moment
+pub timed_more : (tells other : ℕ → Type 0) (last moment : ℕ) → ((t : ℕ) → tells t → other t)
+    → IsTimed tells last moment → IsTimed other last moment
 timed_more tells other last moment more t = (t.0, more t.0 t.1, t.2)
 
-on_lane_more : (tells other : ℕ → Type 0) (last moment : ℕ) (step : LaneStep) → ((t : ℕ) → tells t → other t)
-    → IsOwnOnLane tells last step moment → IsOwnOnLane other last step moment
+on_lane_more : (tells other : ℕ → Type 0) (last moment : ℕ) (step : LaneStep)
+    → ((t : ℕ) → tells t → other t) → IsOwnOnLane tells last step moment
+    → IsOwnOnLane other last step moment
 on_lane_more tells other last moment (agree checkpoint window) more own = own
 on_lane_more tells other last moment bind more own = own
 on_lane_more tells other last moment (start k i rs) more own = own
@@ -78,7 +76,8 @@ on_lane_more tells other last moment (drop_pieces k) more own = own
 on_lane_more tells other last moment close more own = own
 
 class_more : (tells other : ℕ → Type 0) (conf input : List ℕ) (last moment : ℕ) (c : Class)
-    → ((t : ℕ) → tells t → other t) → IsOwnOf tells conf input last c moment → IsOwnOf other conf input last c moment
+    → ((t : ℕ) → tells t → other t) → IsOwnOf tells conf input last c moment
+    → IsOwnOf other conf input last c moment
 class_more tells other conf input last moment (classes.records text) more own = own
 class_more tells other conf input last moment (classes.accepts octets) more own =
     (own.0, timed_more tells other last moment more own.1)
@@ -88,8 +87,8 @@ class_more tells other conf input last moment (classes.opens role peer reference
 class_more tells other conf input last moment (classes.on_lane n generation step) more own =
     on_lane_more tells other last moment step more own
 
-own_one : (tells other : ℕ → Type 0) (conf input : List ℕ) (s : State) (step : Step) → ((t : ℕ) → tells t → other t)
-    → IsOwn tells conf input s step → IsOwn other conf input s step
+own_one : (tells other : ℕ → Type 0) (conf input : List ℕ) (s : State) (step : Step)
+    → ((t : ℕ) → tells t → other t) → IsOwn tells conf input s step → IsOwn other conf input s step
 own_one tells other conf input s step more own =
     class_more tells other conf input s.moment (when s step) (class_of step) more own
 
@@ -101,8 +100,8 @@ own_more tells other conf input s (step ∷ a) more own =
 
 -- ---- their order
 
-pub turn_append : (turn : ℕ) (a b : List Step) → AreInTurn turn a → AreInTurn (turn_after turn a) b → AreInTurn turn
-    (a ++ b)
+pub turn_append : (turn : ℕ) (a b : List Step) → AreInTurn turn a → AreInTurn (turn_after turn a) b
+    → AreInTurn turn (a ++ b)
 turn_append turn [] b p q = q
 turn_append turn (step ∷ a) b p q = (p.0, p.1, turn_append (turn_behind step) a b p.2 q)
 
@@ -145,7 +144,8 @@ late_takes_none (classes.settles how i r) late = refl
 late_takes_none (classes.opens role peer reference twa checkpoint window) late = refl
 late_takes_none (classes.on_lane n generation step) late = refl
 
-taken_count : (step : Step) (b : Bool) → is_accept step ≡ b → ◌≡◌ {A = ℕ} (cond (is_accept step) 1 0) (cond b 1 0)
+taken_count : (step : Step) (b : Bool) → is_accept step ≡ b
+    → ◌≡◌ {A = ℕ} (cond (is_accept step) 1 0) (cond b 1 0)
 taken_count step b e = ap (λ (x : Bool). cond x 1 0) e
 
 -- what is due takes no APDU
@@ -195,7 +195,8 @@ module _ {D C : Type 0} (disks : DiskView D) where
   }
 
   -- nothing was done
-  pub adds_still : DiskLaws disks → (tells : ℕ → Type 0) (conf input : List ℕ) (old new : Shown D C) (failed : Type 0)
+  pub adds_still : DiskLaws disks
+      → (tells : ℕ → Type 0) (conf input : List ℕ) (old new : Shown D C) (failed : Type 0)
       → IsUnchanged old new → Adds disks tells conf input old new [] [] failed
   adds_still laws tells conf input old new failed is = record {
     stands = λ calm steps s. subst (Stands disks new) (sym (append-nil steps)) (stands_along old new steps is s);
@@ -244,8 +245,8 @@ module _ {D C : Type 0} (disks : DiskView D) where
     leaves = λ f told steps s. torn disks step old new (appends.crash (inr refl)) f told steps s;
   }
 
-  pub unchanged : (step : Step) (old new : Shown D C) (fault : StepFault) → (fault ≡ StepFaults.Disk → ⊥) → Appends
-      disks step old new (Some fault) → IsUnchanged old new
+  pub unchanged : (step : Step) (old new : Shown D C) (fault : StepFault) → (fault ≡ StepFaults.Disk → ⊥)
+      → Appends disks step old new (Some fault) → IsUnchanged old new
   unchanged step old new fault other appends =
       let same = appends.kept (λ e. absurd cc) (λ e. other (some_same fault StepFaults.Disk e)) in
       (same.0, same.1, appends.entries)
@@ -295,8 +296,8 @@ module _ {D C : Type 0} (disks : DiskView D) where
 
   -- a row in which the disk did not fail
   pub adds_calm : (tells : ℕ → Type 0) (conf input : List ℕ) (old new : Shown D C) (a torn_step : List Step)
-      (failed : Type 0) → (failed → ⊥) → Adds disks tells conf input old new a torn_step failed → Adds disks tells
-      conf input old new a [] ⊥
+      (failed : Type 0) → (failed → ⊥) → Adds disks tells conf input old new a torn_step failed
+      → Adds disks tells conf input old new a [] ⊥
   adds_calm tells conf input old new a torn_step failed calm p =
       let q = subst (λ (t : List Step). Adds disks tells conf input old new a t failed) (p.calm calm) p in
       record {
@@ -313,8 +314,8 @@ module _ {D C : Type 0} (disks : DiskView D) where
       }
 
   pub adds_then : (tells : ℕ → Type 0) (conf input : List ℕ) (old mid new : Shown D C) (a b torn_step : List Step)
-      (failed : Type 0) → Adds disks tells conf input old mid a [] ⊥ → Adds disks tells conf input mid new b torn_step
-      failed
+      (failed : Type 0) → Adds disks tells conf input old mid a [] ⊥
+      → Adds disks tells conf input mid new b torn_step failed
       → Adds disks tells conf input old new (a ++ b) torn_step failed
   adds_then tells conf input old mid new a b torn_step failed p q =
       let whole : a ++ (b ++ torn_step) ≡ (a ++ b) ++ torn_step = sym (append_assoc a b torn_step) in
@@ -343,7 +344,8 @@ module _ {D C : Type 0} (disks : DiskView D) where
       }
 
   pub adds_more : (tells other : ℕ → Type 0) (conf input : List ℕ) (old new : Shown D C) (a torn_step : List Step)
-      (failed : Type 0) → ((t : ℕ) → tells t → other t) → Adds disks tells conf input old new a torn_step failed
+      (failed : Type 0) → ((t : ℕ) → tells t → other t)
+      → Adds disks tells conf input old new a torn_step failed
       → Adds disks other conf input old new a torn_step failed
   adds_more tells other conf input old new a torn_step failed more p =
       record {
@@ -360,8 +362,8 @@ module _ {D C : Type 0} (disks : DiskView D) where
       }
 
   pub adds_unless : (tells : ℕ → Type 0) (conf input : List ℕ) (old new : Shown D C) (a torn_step : List Step)
-      (failed other : Type 0) → (failed → other) → Adds disks tells conf input old new a torn_step failed → Adds disks
-      tells conf input old new a torn_step other
+      (failed other : Type 0) → (failed → other) → Adds disks tells conf input old new a torn_step failed
+      → Adds disks tells conf input old new a torn_step other
   adds_unless tells conf input old new a torn_step failed other from p =
       record {
         stands = λ calm. p.stands (λ w. calm (from w));
@@ -378,7 +380,7 @@ module _ {D C : Type 0} (disks : DiskView D) where
       }
 
 -- a step that was refused has its turn
-pub turn_refused : (turn : ℕ) (step : Step) (torn_step : List Step) → turn ≤ turn_of step → turn_of step ≤ max turn 1
-    → (torn_step ≡ []) ⊎ (torn_step ≡ step ∷ []) → AreInTurn turn torn_step
+pub turn_refused : (turn : ℕ) (step : Step) (torn_step : List Step) → turn ≤ turn_of step
+    → turn_of step ≤ max turn 1 → (torn_step ≡ []) ⊎ (torn_step ≡ step ∷ []) → AreInTurn turn torn_step
 turn_refused turn step torn_step low high (inl e) = subst (AreInTurn turn) (sym e) tt
 turn_refused turn step torn_step low high (inr e) = subst (AreInTurn turn) (sym e) (low, high, tt)

@@ -1,5 +1,6 @@
 -- What `serve` makes before its workers.
-use Rattle.std.proofs.Common.{◌≡◌, ℕ, List, [], ◌∷◌, ◌++◌, Some, Result, Ok, Err, refl, sym, ap, subst, ◌∙◌}
+use Rattle.std.proofs.Common.{◌≡◌, ℕ, List, [], ◌∷◌, ◌++◌, Some, Result, Ok, Err, refl, sym, ap}
+use Rattle.std.proofs.Common.{subst, ◌∙◌}
 use Rattle.std.proofs.Common.{false, true≢false, arith, inl, inr}
 use Rattle.std.specs.Prelude.{◌⊎◌}
 use Rattle.mta_edge.specs.Causes.{Rose}
@@ -30,10 +31,9 @@ next_own tells conf input added s _ turn (tables first changed) = records change
 next_own tells conf input added s _ turn (apdu moment low recorded timed) = absurd (omega (arith, turn, low))
 next_own tells conf input added s step turn (due moment _ behind timed next) = settles moment step timed next
 
-own_of : (tells : ℕ → Type 0) (conf input : List ℕ) (added : List Step) (s : State) (size : ℕ) (failed other : Type 0)
-    (fault : StepFault) → turn_after 0 added ≡ 2 → (failed → other) → IsRefusal tells conf input added s size failed
-    fault
-    → IsOwnRefusal tells conf s size other fault
+own_of : (tells : ℕ → Type 0) (conf input : List ℕ) (added : List Step) (s : State) (size : ℕ)
+    (failed other : Type 0) (fault : StepFault) → turn_after 0 added ≡ 2 → (failed → other)
+    → IsRefusal tells conf input added s size failed fault → IsOwnRefusal tells conf s size other fault
 own_of tells conf input added s size failed other (StepFaults.Full used need) turn so r = record {
   step = r.step;
   next = next_own tells conf input added s r.step turn r.next;
@@ -65,7 +65,8 @@ own_more tells other conf s size failed failed_too fault more so r = by_fault fa
     next_more _ (records changed) = records changed
     next_more step (settles moment _ timed next) = settles moment step (timed.0, more timed.0 timed.1, timed.2) next
 
-    by_fault : (f : StepFault) → IsOwnRefusal tells conf s size failed f → IsOwnRefusal other conf s size failed_too f
+    by_fault : (f : StepFault) → IsOwnRefusal tells conf s size failed f
+        → IsOwnRefusal other conf s size failed_too f
     by_fault (StepFaults.Full used need) r = record {
       step = r.step;
       next = next_more r.step r.next;

@@ -1,5 +1,6 @@
 -- What a command leaves, with what is known of the stations.
-use Rattle.std.proofs.Common.{◌≡◌, ℕ, true, false, Bool, List, [], Option, None, Some, Result, Err, refl, sym, ap}
+use Rattle.std.proofs.Common.{◌≡◌, ℕ, true, false, Bool, List, [], Option, None, Some, Result, Err, refl, sym}
+use Rattle.std.proofs.Common.{ap}
 use Rattle.std.proofs.Common.{subst}
 use Rattle.std.proofs.Common.{◌∙◌}
 use Rattle.std.specs.Prelude.{if◌then◌else◌}
@@ -53,8 +54,8 @@ module _ {D C I L S : Type 0} (disks : DiskView D) (clocks : ClockView C) (sourc
       (own whole : Ended D) → whole ≡ own → after ≡ before
       → HasEnded (handed disks clocks sources (Some other) conf conf_after input input_after disk own.disk clock)
       NoneWorked out own.outcome
-      → HasCommanded disks clocks sources links stations (Some words) conf conf_after input input_after disk whole.disk
-      clock before after out whole.outcome
+      → HasCommanded disks clocks sources links stations (Some words) conf conf_after input input_after disk
+      whole.disk clock before after out whole.outcome
   commanded_alone words other is alone conf conf_after input input_after disk clock before after out own whole same kept
       x =
       subst (λ (w : Words). HasCommanded disks clocks sources links stations (Some w) conf conf_after input input_after
@@ -69,13 +70,14 @@ module _ {D C I L S : Type 0} (disks : DiskView D) (clocks : ClockView C) (sourc
       (λ o e a t w. Untouched kept w (λ s opens. absurd (alone s))) x))
 
   -- `serve`
-  pub commanded_serving : (words : Words) (sessions : ℕ) (named : List StationWord) → words ≡ Say.Serve sessions named
-      → (roles : List Role) → are_stations_for words roles ≡ true → (conf conf_after input : I) (disk disk_after : D)
-      (clock : C) (before after : List S) (out : Output) (result : Result (Unit {0}) Stop)
-      → HasServed disks clocks sources links stations sessions roles conf conf_after disk disk_after clock before after
-      out result
-      → HasCommanded disks clocks sources links stations (Some words) conf conf_after input input disk disk_after clock
-      before after out result
+  pub commanded_serving : (words : Words) (sessions : ℕ) (named : List StationWord)
+      → words ≡ Say.Serve sessions named → (roles : List Role) → are_stations_for words roles ≡ true
+      → (conf conf_after input : I) (disk disk_after : D) (clock : C) (before after : List S) (out : Output)
+      (result : Result (Unit {0}) Stop)
+      → HasServed disks clocks sources links stations sessions roles conf conf_after disk disk_after clock before
+      after out result
+      → HasCommanded disks clocks sources links stations (Some words) conf conf_after input input disk disk_after
+      clock before after out result
   commanded_serving words sessions named is roles theirs conf conf_after input disk disk_after clock before after out
       result x =
       subst (λ (w : Words). HasCommanded disks clocks sources links stations (Some w) conf conf_after input input disk

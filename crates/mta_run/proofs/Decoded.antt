@@ -46,8 +46,9 @@ told_stop input octets failed Stops.NotBuilt told is = absurd is
 told_stop input octets failed (Stops.NoMailbox name) told is = absurd is
 told_stop input octets failed (Stops.NoPeer name) told is = absurd is
 
-decoded_stop : (input : Option (List ℕ)) (octets : List ℕ) (failed : Type 0) (text : Result (List ℕ) Stop) → IsTold
-    input octets → IsDecodedAs octets text → (stop : Stop) → text ≡ Err stop → IsInputStop input failed stop
+decoded_stop : (input : Option (List ℕ)) (octets : List ℕ) (failed : Type 0) (text : Result (List ℕ) Stop)
+    → IsTold input octets → IsDecodedAs octets text → (stop : Stop) → text ≡ Err stop
+    → IsInputStop input failed stop
 decoded_stop input octets failed (Ok s) told is stop e = absurd cc
 decoded_stop input octets failed (Err s) told is stop e = subst (IsInputStop input failed) s_is
     (told_stop input octets failed s told is) where

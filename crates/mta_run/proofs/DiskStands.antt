@@ -1,5 +1,6 @@
 -- What a run leaves of its disk, from what opening and working leave.
-use Rattle.std.proofs.Common.{inl, inr, ⊎_elim, ◌≡◌, ℕ, ◌≤◌, ◌<◌, List, [], ◌++◌, length, map, Some, refl, sym}
+use Rattle.std.proofs.Common.{inl, inr, ⊎_elim, ◌≡◌, ℕ, ◌≤◌, ◌<◌, List, [], ◌++◌, length, map}
+use Rattle.std.proofs.Common.{Some, refl, sym}
 use Rattle.std.proofs.Common.{subst, ◌∙◌, arith}
 use Rattle.std.specs.Prelude.{◌⊎◌}
 use Rattle.std.proofs.lemmas.Bool.{cases_lt}
@@ -23,8 +24,11 @@ use Rattle.mta_run.proofs.Same.{some_same}
 
 -- a disk that stands for nothing has more than nine octets
 no_history_long : (f : List ℕ) → ((steps : List Step) → StandsFor f steps → ⊥) → 9 < length f
-no_history_long f none = elim (cases_lt 9 (length f))
-    [ inl long ↦ long | inr short ↦ absurd (none [] (record { bodies = inl (short, refl); each = tt; history = tt })) ]
+no_history_long f none =
+    elim (cases_lt 9 (length f)) [
+      | inl long ↦ long
+      | inr short ↦ absurd (none [] (record { bodies = inl (short, refl); each = tt; history = tt }))
+    ]
 
 same_bodies : (f g : List ℕ) (bodies : List (List ℕ)) → length f ≤ 9 → length g ≤ 9 → HoldsBodies f bodies
     → HoldsBodies g bodies
@@ -69,8 +73,9 @@ module _ {D : Type 0} (disks : DiskView D) (laws : DiskLaws disks) where
 
   -- ---- it was not opened
 
-  pub before_refused : (old new : D) (why : OpenWhy) → HasRefused disks old new why → (f : List ℕ) (steps : List Step)
-      → disks.content old ≡ Some f → StandsFor f steps → IsSafeBefore disks steps [] old new
+  pub before_refused : (old new : D) (why : OpenWhy) → HasRefused disks old new why
+      → (f : List ℕ) (steps : List Step) → disks.content old ≡ Some f → StandsFor f steps
+      → IsSafeBefore disks steps [] old new
   before_refused old new why refusal f steps was s g left =
       ⊎_elim {C = disks.may_leave old g ⊎ Reached steps [] g} (λ before. inl before)
       (λ same. inr (same_reached f g steps [] same s)) ((refusal.images f was).each g left)
@@ -87,16 +92,17 @@ module _ {D : Type 0} (disks : DiskView D) (laws : DiskLaws disks) where
         (same_stands f g steps (ss.same g (laws.counts_now new ss.since g ss.until may)) s));
   })
 
-  reads_refused : (old new : D) (f g : List ℕ) (steps : List Step) → StandsFor f steps → disks.content old ≡ Some f
-      → disks.content new ≡ Some g → IsLeft disks f old new → StandsFor g steps
+  reads_refused : (old new : D) (f g : List ℕ) (steps : List Step) → StandsFor f steps
+      → disks.content old ≡ Some f → disks.content new ≡ Some g → IsLeft disks f old new → StandsFor g steps
   reads_refused old new f g steps s was now (unsynced same left) = subst (λ (x : List ℕ). StandsFor x steps)
       (some_same f g (sym was ∙ sym same ∙ now)) s
   reads_refused old new f g steps s was now (synced ss) = same_stands f g steps
       (ss.same g (laws.counts_now new ss.since g ss.until (laws.reads_image new g now))) s
 
   -- what is no spool is as it was
-  as_it_was : (old new : D) (why : OpenWhy) → HasRefused disks old new why → (f : List ℕ) → disks.content old ≡ Some f
-      → ((steps : List Step) → StandsFor f steps → ⊥) → IsAsItWas disks f old new
+  as_it_was : (old new : D) (why : OpenWhy) → HasRefused disks old new why → (f : List ℕ)
+      → disks.content old ≡ Some f → ((steps : List Step) → StandsFor f steps → ⊥)
+      → IsAsItWas disks f old new
   as_it_was old new why refusal f was none =
       let long = no_history_long f none in
       record {
@@ -105,7 +111,8 @@ module _ {D : Type 0} (disks : DiskView D) (laws : DiskLaws disks) where
             (λ same. inr (same_long f g long same)) ((refusal.images f was).each g left);
       }
 
-  pub disk_refused : (old new : D) (why : OpenWhy) → HasRefused disks old new why → DiskLeft disks old new refused [] []
+  pub disk_refused : (old new : D) (why : OpenWhy) → HasRefused disks old new why
+      → DiskLeft disks old new refused [] []
   disk_refused old new why refusal = record {
     untouched = λ e. absurd cc;
     unopened = λ e. refl;
@@ -126,14 +133,14 @@ module _ {D : Type 0} (disks : DiskView D) (laws : DiskLaws disks) where
 module _ {D C : Type 0} (disks : DiskView D) (laws : DiskLaws disks) (old : D) (spool : Shown D C)
     (o : HasOpened disks old spool) where
   -- the steps for which the disk stood are those of the spool
-  pub same_steps : (f : List ℕ) (steps : List Step) → disks.content old ≡ Some f → StandsFor f steps → o.steps ≡ steps
+  pub same_steps : (f : List ℕ) (steps : List Step) → disks.content old ≡ Some f → StandsFor f steps
+      → o.steps ≡ steps
   same_steps f steps was stands = one_history f o.steps steps (o.history f was) stands
 
   synced_opened : (new : Shown D C) (added torn_step : List Step)
       → ((f : List ℕ) → disks.content spool.journal.disk ≡ Some f → Leaves disks o.steps added torn_step
-      spool.journal.disk new.journal.disk)
-      → (f : List ℕ) (steps : List Step) → disks.content old ≡ Some f → StandsFor f steps → Synced disks steps added
-      torn_step old new.journal.disk
+      spool.journal.disk new.journal.disk) → (f : List ℕ) (steps : List Step) → disks.content old ≡ Some f
+      → StandsFor f steps → Synced disks steps added torn_step old new.journal.disk
   synced_opened new added torn_step leaves f steps was s =
       let x = o.told f was in
       let l = leaves x.0 x.1 in

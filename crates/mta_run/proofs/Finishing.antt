@@ -1,5 +1,6 @@
 -- What `serve` makes behind its workers, and what it prints of them.
-use Rattle.std.proofs.Common.{◌≡◌, ℕ, List, [], None, Some, Result, Ok, Err, refl, sym, subst, ◌∙◌, inl, inr}
+use Rattle.std.proofs.Common.{◌≡◌, ℕ, List, [], None, Some, Result, Ok, Err, refl, sym, subst, ◌∙◌, inl}
+use Rattle.std.proofs.Common.{inr}
 use Rattle.mta_edge.specs.Views.{DiskView}
 use Rattle.mta_histories.specs.Lanes.{State}
 use Rattle.mta_records.specs.declared.fault.StepFault.{StepFault}
@@ -33,8 +34,8 @@ own_no_lane tells conf s size failed (StepFaults.BusyLanes count) r = r
 own_no_lane tells conf s size failed StepFaults.Unexpected r = r
 
 -- none of its own steps is refused for a lane
-pub begun_no_lane : (tells : ℕ → Type 0) (conf : List ℕ) (s : State) (size : ℕ) (failed : Type 0) (fault : StepFault)
-    → IsOwnRefusal tells conf s size failed fault → IsOfNoLane (Some fault)
+pub begun_no_lane : (tells : ℕ → Type 0) (conf : List ℕ) (s : State) (size : ℕ) (failed : Type 0)
+    (fault : StepFault) → IsOwnRefusal tells conf s size failed fault → IsOfNoLane (Some fault)
 begun_no_lane = own_no_lane
 
 pub settles_no_lane : {D C : Type 0} (disks : DiskView D) (tells : ℕ → Type 0) (old new : Shown D C)
@@ -46,7 +47,8 @@ settles_no_lane disks tells old new _ (Settled (Err fault) going h) =
     (settled_why disks tells [] old new fault (Err fault) refl h)
 
 -- the end that decides has a status
-pub decides_some : (ends : List WorkerEnd) (halt : Halt) → Decides (halts_of ends) halt → status_of halt ≡ None → ⊥
+pub decides_some : (ends : List WorkerEnd) (halt : Halt) → Decides (halts_of ends) halt → status_of halt ≡ None
+    → ⊥
 decides_some ends halt d none = let e : None ≡ Some d.status = sym none ∙ d.is_its in cc
 
 -- ---- the lines
@@ -79,8 +81,8 @@ module _ {D C : Type 0} (disks : DiskView D) (tells : ℕ → Type 0) (ends : Li
     outcome_well _ (Decided halt e decides) ok = absurd cc
 
     -- the lines were printed
-    pub finished : (result : Result (Unit {0}) Stop) → HasToldStations ends out (Ok tt) → IsOutcome settled ends result
-        → HasFinished disks tells ends out old new result
+    pub finished : (result : Result (Unit {0}) Stop) → HasToldStations ends out (Ok tt)
+        → IsOutcome settled ends result → HasFinished disks tells ends out old new result
     finished result told o = record {
       settled = settled;
       behind = behind;

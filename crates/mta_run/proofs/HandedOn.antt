@@ -22,8 +22,8 @@ use Rattle.mta_run.proofs.Worked.{prints_nothing}
 
 -- ---- what was printed
 
-front_map : {IsText Other : List ℕ → Type 0} (text : List ℕ) → ((t : List ℕ) → IsText t → Other t) → IsFront IsText
-    text → IsFront Other text
+front_map : {IsText Other : List ℕ → Type 0} (text : List ℕ) → ((t : List ℕ) → IsText t → Other t)
+    → IsFront IsText text → IsFront Other text
 front_map text more (inl e) = inl e
 front_map text more (inr x) = inr (more text x)
 
@@ -38,9 +38,9 @@ printed_map out _ causes texts (stopped stop c text f p) = stopped stop (causes 
 printed_map out _ causes texts (cut text x p) = cut text (texts text x) p
 
 -- a text was printed, or there was none
-pub shown_printed : (Why : Stop → Type 0) (IsText : List ℕ → Type 0) (out : Output) (text : Result (List ℕ) Stop)
-    (result : Result (Unit {0}) Stop) → ((t : List ℕ) → text ≡ Ok t → IsText t)
-    → ((stop : Stop) → text ≡ Err stop → Why stop)
+pub shown_printed : (Why : Stop → Type 0) (IsText : List ℕ → Type 0) (out : Output)
+    (text : Result (List ℕ) Stop) (result : Result (Unit {0}) Stop)
+    → ((t : List ℕ) → text ≡ Ok t → IsText t) → ((stop : Stop) → text ≡ Err stop → Why stop)
     → HasShown text out result → HasPrinted Why IsText out result
 shown_printed Why IsText out (Ok text) (Ok done) texts stops shown = whole done text (texts text refl) shown
 shown_printed Why IsText out (Ok text) (Err stop) texts stops shown = subst
@@ -56,11 +56,14 @@ shown_printed Why IsText out (Err why) (Err stop) texts stops shown =
 pub undrawn : {I : Type 0} (sources : SourceView I) (longest : ℕ) (old : I) → IsDrawn sources longest old old
 undrawn sources longest old = record {
   later = omega arith;
-  most = record { each = λ f was. (f, was, (0, omega arith, refl)); back = λ g now. (g, now, (0, omega arith, refl)) };
+  most = record {
+    each = λ f was. (f, was, (0, omega arith, refl));
+    back = λ g now. (g, now, (0, omega arith, refl));
+  };
 }
 
-pub undrawn_along : {I : Type 0} (sources : SourceView I) (longest : ℕ) (old new : I) → new ≡ old → IsDrawn sources
-    longest old new
+pub undrawn_along : {I : Type 0} (sources : SourceView I) (longest : ℕ) (old new : I) → new ≡ old
+    → IsDrawn sources longest old new
 undrawn_along sources longest old new same = subst (λ (x : _). IsDrawn sources longest old x) (sym same)
     (undrawn sources longest old)
 

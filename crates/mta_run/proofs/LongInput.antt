@@ -10,7 +10,8 @@ use Rattle.mta_streams.specs.declared.read.SourceFault.TheVariants as SourceFaul
 use Rattle.mta_streams.specs.Streams.{HasReadCause}
 use Rattle.mta_run.specs.Inputs.{HasFirstFault}
 
-read_long : (f : List ℕ) → longest_apdu < length f → apdu_of f ≡ Err (record { at = longest_apdu; kind = TooLong })
+read_long : (f : List ℕ) → longest_apdu < length f
+    → apdu_of f ≡ Err (record { at = longest_apdu; kind = TooLong })
 unfolding apdu_of
 read_long f long = ap (λ b. cond b (front_in f) (fault longest_apdu TooLong)) (lt-leb (length f) longest_apdu long)
 
@@ -20,4 +21,5 @@ err_of T x = Err x
 pub long_input : {I T : Type 0} (sources : SourceView I) (old new : I) (why : SourceFault)
     → why ≡ SourceFaults.TooLong → HasReadCause {T = T} sources longest_apdu old new (Err why) → HasFirstFault
     (sources.left old) longest_apdu TooLong
-long_input {I} {T} sources old new why is has i e = read_long i (has.long (ap (λ (x : SourceFault). err_of T x) is) i e)
+long_input {I} {T} sources old new why is has i e =
+    read_long i (has.long (ap (λ (x : SourceFault). err_of T x) is) i e)

@@ -6,8 +6,8 @@ use Rattle.mta_machine.specs.Machine.{last_tables}
 use Rattle.mta_histories.specs.Lanes.{State}
 use Rattle.mta_run.specs.Causes.{mailbox_in, mailbox_named}
 
-pub named_under : (s : State) (name text : List ℕ)
-    → numbered s.machine.tables (last_tables s.machine) ≡ Some text → mailbox_named s name ≡ mailbox_in name text
+pub named_under : (s : State) (name text : List ℕ) → numbered s.machine.tables (last_tables s.machine) ≡ Some text
+    → mailbox_named s name ≡ mailbox_in name text
 named_under s name text e = ap (option_and_then (mailbox_in name)) e
 
 pub none_named : (s : State) (name : List ℕ) → s.machine.tables ≡ [] → mailbox_named s name ≡ None

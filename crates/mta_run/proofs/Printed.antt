@@ -1,5 +1,6 @@
 -- What a run printed, from what its command printed and how its stop was told.
-use Rattle.std.proofs.Common.{◌≡◌, ℕ, ◌≤◌, List, ◌++◌, length, Option, Result, Ok, Err, refl, sym, ap, subst, ◌∙◌}
+use Rattle.std.proofs.Common.{◌≡◌, ℕ, ◌≤◌, List, ◌++◌, length, Option, Result, Ok, Err, refl, sym, ap}
+use Rattle.std.proofs.Common.{subst, ◌∙◌}
 use Rattle.std.proofs.Common.{arith, append_assoc, inl, inr}
 use Rattle.std.proofs.lemmas.List.{length-append}
 use Rattle.mta_edge.specs.Views.{SinkView}
@@ -14,8 +15,8 @@ use Rattle.mta_run.specs.Output.{done, told, cut_text, cut_line, HasTold, line, 
 joined : (t more a b g : List ℕ) → b ≡ a ++ t → g ≡ b ++ more → g ≡ a ++ (t ++ more)
 joined t more a b g first then = then ∙ ap (λ (x : List ℕ). x ++ more) first ∙ append_assoc a t more
 
-line_behind : (t more : List ℕ) (before mid now : Option (List ℕ)) → Goes (λ a b. b ≡ a ++ t) before mid → Goes
-    (λ a b. b ≡ a ++ more) mid now → Goes (λ a b. b ≡ a ++ (t ++ more)) before now
+line_behind : (t more : List ℕ) (before mid now : Option (List ℕ)) → Goes (λ a b. b ≡ a ++ t) before mid
+    → Goes (λ a b. b ≡ a ++ more) mid now → Goes (λ a b. b ≡ a ++ (t ++ more)) before now
 line_behind t more before mid now p q = Goes-then (λ a b g was first then. joined t more a b g first then) p q
 
 front_joined : (t more a b g : List ℕ) → b ≡ a ++ t → TakesFront more b g → TakesFront (t ++ more) a g
@@ -27,16 +28,17 @@ front_joined t more a b g first front = (
   },
 )
 
-front_behind : (t more : List ℕ) (before mid now : Option (List ℕ)) → Goes (λ a b. b ≡ a ++ t) before mid → Goes
-    (TakesFront more) mid now → Goes (TakesFront (t ++ more)) before now
+front_behind : (t more : List ℕ) (before mid now : Option (List ℕ)) → Goes (λ a b. b ≡ a ++ t) before mid
+    → Goes (TakesFront more) mid now → Goes (TakesFront (t ++ more)) before now
 front_behind t more before mid now p q = Goes-then (λ a b g was first then. front_joined t more a b g first then) p q
 
 module _ {O : Type 0} (sinks : SinkView O) (a b c : O) (Cause : Stop → Type 0) (IsText : List ℕ → Type 0)
     (first : sinks.faults a ≤ sinks.faults b) (then : sinks.faults b ≤ sinks.faults c) (memory : Cause Stops.Memory)
     (no_sink : Cause Stops.Sink → ⊥) where
   -- a stop was told
-  told_ended : (stop : Stop) (status : ℕ) (text : List ℕ) → Cause stop → IsFront IsText text → Prints
-      (output sinks a b) text → HasTold stop (output sinks b c) status → IsEnded Cause IsText (output sinks a c) status
+  told_ended : (stop : Stop) (status : ℕ) (text : List ℕ) → Cause stop → IsFront IsText text
+      → Prints (output sinks a b) text → HasTold stop (output sinks b c) status
+      → IsEnded Cause IsText (output sinks a c) status
   told_ended stop status text why f p (line is goes) = told stop why is text f
       (line_behind text (line_of stop) (sinks.taken a) (sinks.taken b) (sinks.taken c) p goes)
   told_ended stop status text why f p (short is goes) = told Stops.Memory memory is text f

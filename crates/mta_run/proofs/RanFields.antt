@@ -1,5 +1,6 @@
 -- What a run leaves, from what its command leaves and how its stop was told.
-use Rattle.std.proofs.Common.{◌≡◌, ◌≢◌, ℕ, ◌≤◌, List, Option, ◌++◌, take, drop, None, Some, Result, Ok, refl}
+use Rattle.std.proofs.Common.{◌≡◌, ◌≢◌, ℕ, ◌≤◌, List, Option, ◌++◌, take, drop, None, Some}
+use Rattle.std.proofs.Common.{Result, Ok, refl}
 use Rattle.std.proofs.Common.{sym, ap, subst, ◌∙◌, append_assoc}
 use Rattle.std.proofs.lemmas.List.{take-append-drop}
 use Rattle.mta_edge.specs.Views.{SinkView}
@@ -148,10 +149,9 @@ printed_tells h ends added opening out _ (cut text x p) e = absurd cc
 -- ---- a run
 
 pub ran : {D C I O : Type 0} (h : Handed D C I) (sinks : SinkView O) (a b c : O) (result : Result (Unit {0}) Stop)
-    (status : ℕ) (stations : OnStations)
-    → HasEnded h stations (output sinks a b) result → HasClosed result (output sinks b c) status → sinks.faults a ≤
-    sinks.faults b → sinks.faults b ≤ sinks.faults c
-    → Ran h stations (output sinks a c) status
+    (status : ℕ) (stations : OnStations) → HasEnded h stations (output sinks a b) result
+    → HasClosed result (output sinks b c) status → sinks.faults a ≤ sinks.faults b
+    → sinks.faults b ≤ sinks.faults c → Ran h stations (output sinks a c) status
 ran h sinks a b c result status stations has closed first then = record {
   opening = has.opening;
   ends = has.ends;

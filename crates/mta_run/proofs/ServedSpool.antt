@@ -110,11 +110,10 @@ module _ {D C I : Type 0} (h : Handed D C I) (serves : Serves h.words) (laws : D
     )
 
     -- a step of them was refused
-    full_cause : (added : List Step) (size need : ℕ) (final : Shown D C) → final.current ≡ after (o.steps ++ added)
-        → final.journal.size ≡ size_of (o.steps ++ added)
-        → ((c : List ℕ) → h.sources.left h.conf.before ≡ Some c
-        → IsOwnFull Tells c final.current final.journal.size size need)
-        → Cause h [] added opened (Stops.Full size need)
+    full_cause : (added : List Step) (size need : ℕ) (final : Shown D C)
+        → final.current ≡ after (o.steps ++ added) → final.journal.size ≡ size_of (o.steps ++ added)
+        → ((c : List ℕ) → h.sources.left h.conf.before ≡ Some c → IsOwnFull Tells c final.current
+        final.journal.size size need) → Cause h [] added opened (Stops.Full size need)
     full_cause added size need final is large why =
         full_serving size need serves inputs (λ c e f steps was s.
         subst (λ (y : List Step). IsOwnFull Tells c (after (y ++ added)) (size_of (y ++ added)) size need)
@@ -126,7 +125,8 @@ module _ {D C I : Type 0} (h : Handed D C I) (serves : Serves h.words) (laws : D
         → Cause h [] b.added opened (stop_of_step fault)
     begun_cause fault e is = by_fault fault e (b.refused fault e)
       where
-        stands : (f : StepFault) → result ≡ Err f → (f ≡ StepFaults.Disk → ⊥) → Stands h.disks mid (o.steps ++ b.added)
+        stands : (f : StepFault) → result ≡ Err f → (f ≡ StepFaults.Disk → ⊥)
+            → Stands h.disks mid (o.steps ++ b.added)
         stands f w other = b.adds.stands (λ x. other (err_same f StepFaults.Disk (sym w ∙ x))) o.steps o.stands
 
         by_fault : (f : StepFault) → result ≡ Err f

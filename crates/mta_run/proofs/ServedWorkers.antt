@@ -1,5 +1,5 @@
 -- What `serve` leaves behind its workers.
-use Rattle.std.proofs.Common.{◌≡◌, ℕ, true, false, List, [], ◌++◌, map, Some, Result, Ok, Err, refl}
+use Rattle.std.proofs.Common.{◌≡◌, ℕ, true, false, List, [], ◌++◌, length, map, Some, Result, Ok, Err, refl}
 use Rattle.std.proofs.Common.{sym, ap, subst, ◌∙◌, append_assoc, arith, inl, inr}
 use Rattle.std.proofs.lemmas.List.{append-nil}
 use mathlib.Core.List.{IsPrefix}
@@ -13,40 +13,38 @@ use Rattle.mta_records.specs.declared.fault.StepFault.TheVariants as StepFaults
 use Rattle.mta_histories.specs.Lanes.{State}
 use Rattle.mta_histories.specs.Due.{IsQuiet}
 use Rattle.mta_histories.specs.History.{after, IsHistory}
-use Rattle.mta_images.specs.Image.{size_of, StandsFor}
+use Rattle.mta_images.specs.Image.{AreRecords, size_of, StandsFor}
 use Rattle.mta_session.specs.declared.limits.Limits.{Limits}
 use Rattle.mta_spool.specs.Bases.{base_of, Keeps, where_listed}
 use Rattle.mta_spool.specs.Opening.{HasOpened}
 use Rattle.mta_spool.specs.Shown.{Shown}
 use Rattle.mta_spool.specs.Stands.{step_moment}
 use Rattle.mta_stations.specs.declared.end.WorkerEnd.{WorkerEnd}
+use Rattle.mta_worker_lists.specs.Agreeing.{EndsAgree}
+use Rattle.mta_worker_lists.specs.Histories.{AreEntries, is_apdu, TellsApdus}
 use Rattle.mta_workers.specs.Wholes.{AreWorkers}
 use Rattle.mta_run.specs.declared.stop.Stop.{Stop}
 use Rattle.mta_run.specs.Causes.{Cause, disk as cause_disk, full_serving, memory as cause_memory, of_serve}
 use Rattle.mta_run.specs.Causes.{of_worker, PeersNamed, spent_serving}
 use Rattle.mta_run.specs.Command.{HasEnded, IsSettled, SourcesLeft}
 use Rattle.mta_run.specs.DiskLeft.{DiskLeft, opened}
-use Rattle.mta_run.specs.Handed.{DiskFailed, Handed, InputsRead}
+use Rattle.mta_run.specs.Handed.{DiskFailed, ForOpened, Handed, InputsRead}
 use Rattle.mta_run.specs.Output.{Output}
-use Rattle.mta_run.specs.Served.{AreDueBehind, AreLimits, AreOfRun, StationsLeft, Worked, IsBaseOf}
+use Rattle.mta_run.specs.Served.{AreLimits, AreOfRun, ComesBehind, Had_failed, IsBaseOf, StationsLeft, Went_on}
+use Rattle.mta_run.specs.Served.{Worked}
 use Rattle.mta_run.specs.Serving.{Decided, Had_ended, HasFinished, IsFinishStop, IsOutcome, IsOwnFull, IsOwnRefusal}
 use Rattle.mta_run.specs.Serving.{IsOwnSpent, Refused, Settled, SettlesBehind, Well}
+use Rattle.mta_run.specs.Sessions.{SessionsServed}
 use Rattle.mta_run.specs.Submit.{AreOwn, HasSettled, stop_of_step}
 use Rattle.mta_run.specs.Words.{Serves}
-use Rattle.mta_run.proofs.Added.{own_front, own_more as own_known}
-use Rattle.mta_run.proofs.Beginning.{front_in_turn, own_more, settled_why}
-use Rattle.mta_run.proofs.DiskServed.{disk_served, first_steps, risen}
+use Rattle.mta_run.proofs.Added.{own_more as own_known}
+use Rattle.mta_run.proofs.Beginning.{own_more, settled_why}
+use Rattle.mta_run.proofs.DiskServed.{disk_served, fails_behind, fails_kept, FailsIn, first_steps, risen}
 use Rattle.mta_run.proofs.DiskStands.{same_steps}
 use Rattle.mta_run.proofs.HandedOn.{printed_map}
 use Rattle.mta_run.proofs.Same.{err_same}
 use Rattle.mta_run.proofs.ServedSpool.{tells_back}
 use Rattle.mta_run.proofs.Statuses.{serves_adds, serves_opens}
-
--- what the last turns added
-record Behind {D C I : Type 0} (h : Handed D C I) (joined final : Shown D C) : Type 0 where
-  back : List Step
-  entries : final.entries ≡ joined.entries ++ back
-  due : AreDueBehind h joined.entries back
 
 module _ {D C I : Type 0} (h : Handed D C I) (serves : Serves h.words) (laws : DiskLaws h.disks)
     (clock_laws : ClockLaws h.clocks) (sources : SourcesLeft h) (inputs : InputsRead h) (peers : PeersNamed h)
@@ -59,7 +57,12 @@ module _ {D C I : Type 0} (h : Handed D C I) (serves : Serves h.words) (laws : D
 
   from_joined : (m : ℕ) → h.clocks.tells joined.clock m → Tells m
   from_joined m tell =
-      subst (λ (c : C). h.clocks.tells c m) handed_clock (tells_back h.disks h.clocks clock_laws spool joined kj m tell)
+      subst (λ (c : C). h.clocks.tells c m) handed_clock
+      (tells_back h.disks h.clocks clock_laws spool joined kj m tell)
+
+  failed_so : Rose (h.disks.faults h.disk.before) (h.disks.faults final.journal.disk) → DiskFailed h
+  failed_so r =
+      subst (λ (d : D). Rose (h.disks.faults h.disk.before) (h.disks.faults d)) (sym after_is) r
 
   abbrev Finishes : Result (Unit {0}) StepFault → Type 0
   Finishes settled = SettlesBehind h.disks (h.clocks.tells joined.clock) joined final settled
@@ -75,24 +78,44 @@ module _ {D C I : Type 0} (h : Handed D C I) (serves : Serves h.words) (laws : D
 
   -- ---- what the last turns made
 
-  behind : (settled : Result (Unit {0}) StepFault) → Finishes settled → Behind h joined final
+  record Behind (settled : Result (Unit {0}) StepFault) : Type 0 where
+    back : List Step
+    entries : final.entries ≡ joined.entries ++ back
+    torn_step : List Step
+    fails : FailsIn h.disks laws h.clocks h.disk.before spool o final k torn_step
+    last : ComesBehind h joined.entries back torn_step
+    calm : settled ≡ Ok tt → torn_step ≡ []
+
+  has_ended : (s : Shown D C) → final ≡ s → s.journal.ended ≡ true → final.journal.ended ≡ true
+  has_ended s same ended = ap (λ (x : Shown D C). x.journal.ended) same ∙ ended
+
+  ok_err : (fault : StepFault) → ◌≡◌ {A = Result (Unit {0}) StepFault} (Ok tt) (Err fault) → ⊥
+  ok_err fault e = cc
+
+  behind : (settled : Result (Unit {0}) StepFault) → Finishes settled → Behind settled
   behind _ (Had_ended ended same) = record {
     back = [];
     entries = ap (λ (s : Shown D C). s.entries) same ∙ sym (append-nil joined.entries);
-    due = (tt, λ f steps was s. tt);
+    torn_step = k.torn_step;
+    fails = fails_kept h.disks laws h.clocks h.disk.before spool o final k;
+    last = Had_failed
+        (failed_so (risen h.disks laws h.clocks h.disk.before spool o final k (has_ended joined same ended))) refl;
+    calm = λ ok. absurd (ok_err StepFaults.Ended (sym ok));
   }
   behind _ (Settled result going x) = record {
     back = x.added;
     entries = (x.adds [] []).entries;
-    due = (
-      front_in_turn 2 x.added x.torn_step x.in_turn,
+    torn_step = x.torn_step;
+    fails = fails_behind h.disks laws h.clocks h.disk.before spool o final k joined kj going result x;
+    last = Went_on (
+      x.in_turn,
       λ f steps was s.
-          subst (λ (y : List Step). AreOwn Tells [] [] (after (y ++ joined.entries)) x.added)
+          subst (λ (y : List Step). AreOwn Tells [] [] (after (y ++ joined.entries)) (x.added ++ x.torn_step))
           (firsts_joined f steps was s)
-          (own_front Tells [] [] (after (kj.first ++ joined.entries)) x.added x.torn_step
           (own_known (h.clocks.tells joined.clock) Tells [] [] (after (kj.first ++ joined.entries))
-          (x.added ++ x.torn_step) from_joined ((x.adds [] []).own (kj.first ++ joined.entries) (kj.stands going)))),
+          (x.added ++ x.torn_step) from_joined ((x.adds [] []).own (kj.first ++ joined.entries) (kj.stands going))),
     );
+    calm = λ ok. (x.adds [] []).calm (λ e. ok_err StepFaults.Disk (sym ok ∙ e));
   }
 
   quiet : (settled : Result (Unit {0}) StepFault) → Finishes settled → settled ≡ Ok tt
@@ -100,21 +123,10 @@ module _ {D C I : Type 0} (h : Handed D C I) (serves : Serves h.words) (laws : D
   quiet _ (Had_ended ended same) ok = absurd cc
   quiet _ (Settled result going x) ok = let q = x.quiet ok in (q.0, from_joined q.0 q.1, q.2)
 
-  going_on : (settled : Result (Unit {0}) StepFault) → Finishes settled → settled ≡ Ok tt → final.journal.ended ≡ false
-  going_on _ (Had_ended ended same) ok = absurd cc
-  going_on _ (Settled result going x) ok = x.going (λ e. apart (sym ok ∙ e))
-    where
-      apart : ◌≡◌ {A = Result (Unit {0}) StepFault} (Ok tt) (Err StepFaults.Disk) → ⊥
-      apart e = cc
-
   -- ---- why it stopped
 
   abbrev Why : Stop → Type 0
   Why = Cause h ends final.entries opened
-
-  failed_so : Rose (h.disks.faults h.disk.before) (h.disks.faults final.journal.disk) → DiskFailed h
-  failed_so r =
-      subst (λ (d : D). Rose (h.disks.faults h.disk.before) (h.disks.faults d)) (sym after_is) r
 
   own_why : (fault : StepFault) → (x : HasSettled h.disks (h.clocks.tells joined.clock) joined final (Err fault))
       → Why (stop_of_step fault)
@@ -130,8 +142,8 @@ module _ {D C I : Type 0} (h : Handed D C I) (serves : Serves h.words) (laws : D
           → (f ≡ StepFaults.Disk → ⊥) → final.journal.ended ≡ false
       known f y other = y.going (λ e. other (err_same f StepFaults.Disk e))
 
-      by_fault : (f : StepFault) → HasSettled h.disks (h.clocks.tells joined.clock) joined final (Err f) → Wherefore f
-          → Why (stop_of_step f)
+      by_fault : (f : StepFault) → HasSettled h.disks (h.clocks.tells joined.clock) joined final (Err f)
+          → Wherefore f → Why (stop_of_step f)
       by_fault (StepFaults.Full size need) y r =
           let there = k.stands (known (StepFaults.Full size need) y (λ e. absurd cc)) in
           full_serving size need serves inputs (λ c told f steps was s.
@@ -164,10 +176,10 @@ module _ {D C I : Type 0} (h : Handed D C I) (serves : Serves h.words) (laws : D
       by_fault (StepFaults.BusyLanes count) y r = absurd (r [])
       by_fault StepFaults.Unexpected y r = absurd (r [])
 
-  refused_why : (settled : Result (Unit {0}) StepFault) (fault : StepFault) → Finishes settled → settled ≡ Err fault
-      → Why (stop_of_step fault)
+  refused_why : (settled : Result (Unit {0}) StepFault) (fault : StepFault) → Finishes settled
+      → settled ≡ Err fault → Why (stop_of_step fault)
   refused_why _ fault (Had_ended ended same) e =
-      let is : final.journal.ended ≡ true = ap (λ (s : Shown D C). s.journal.ended) same ∙ ended in
+      let is = has_ended joined same ended in
       subst (λ (f : StepFault). Why (stop_of_step f)) (err_same StepFaults.Ended fault e)
       (cause_disk (serves_adds h.words serves) inputs
       (failed_so (risen h.disks laws h.clocks h.disk.before spool o final k is)))
@@ -189,32 +201,32 @@ module _ {D C I : Type 0} (h : Handed D C I) (serves : Serves h.words) (laws : D
 
   -- ---- all of it
 
-  pub served_ended : {L S : Type 0} (links : LinkView L) (stations : StationView S) (sessions : ℕ)
-      (limits : Limits) → AreLimits sessions limits → (before after : List S) (out : Output)
-      (result : Result (Unit {0}) Stop) (front : List Step) → AreOfRun h front
-      → (grown : IsPrefix front joined.entries)
+  pub served_ended : {L S : Type 0} (links : LinkView L) (stations : StationView S) → TellsApdus is_apdu
+      → EndsAgree h.disks h.clocks links stations → (sessions : ℕ) (limits : Limits) → AreLimits sessions limits
+      → (before after : List S) (out : Output) (result : Result (Unit {0}) Stop) (front : List Step)
+      → AreOfRun h front → (grown : IsPrefix front joined.entries)
       → AreWorkers h.disks h.clocks links stations limits before after ends front (base_of h.disks h.clocks spool)
-      joined.entries
-      → HasFinished h.disks (h.clocks.tells joined.clock) ends out joined final result
+      joined.entries → HasFinished h.disks (h.clocks.tells joined.clock) ends out joined final result
       → HasEnded h (StationsLeft h links stations sessions before after) out result
-  served_ended links stations sessions limits are before after out result front own grown workers x = record {
+  served_ended links stations tells agree sessions limits are before after out result front own grown did x = record {
     opening = opened;
     ends = ends;
     added = final.entries;
-    torn_step = k.torn_step;
+    torn_step = b.torn_step;
     sources = sources;
-    disk = subst (λ (d : D). DiskLeft h.disks h.disk.before d opened final.entries k.torn_step) (sym after_is)
-        (disk_served h.disks laws h.clocks h.disk.before spool o final k);
+    disk = subst (λ (d : D). DiskLeft h.disks h.disk.before d opened final.entries b.torn_step) (sym after_is)
+        (disk_served h.disks laws h.clocks h.disk.before spool o final k b.torn_step b.fails);
     uncalled_unless = λ none. absurd (none (serves_opens h.words serves));
     safe_before = λ none. absurd (none serves);
     printed = printed_map out result (λ stop e why. finish_why x.settled x.behind stop why)
         (λ t is. of_serve t serves inputs peers is) x.printed;
     history = λ f steps was s.
-        subst (λ (y : List Step). IsHistory (y ++ (final.entries ++ k.torn_step))) (firsts f steps was s) k.tried;
+        subst (λ (y : List Step). IsHistory (y ++ (final.entries ++ b.torn_step))) (firsts f steps was s)
+        b.fails.tried;
     own = λ none. absurd (none serves);
     in_turn = λ none. absurd (none serves);
     only_adding = λ none. absurd (none (serves_adds h.words serves));
-    calm = λ ok. k.calm (going_on x.settled x.behind (x.well ok).0);
+    calm = λ ok. b.calm (x.well ok).0;
     settled = λ e ok f steps was s.
         subst (λ (y : List Step). IsSettled Tells (y ++ final.entries)) (firsts f steps was s)
         (subst (λ (z : State). (told : ℕ) × Tells told × IsQuiet z (step_moment told z.moment)) k.state
@@ -223,10 +235,11 @@ module _ {D C I : Type 0} (h : Handed D C I) (serves : Serves h.words) (laws : D
     undecided = λ ok. (x.well ok).1;
     stations_are = Worked limits front grown.0 b.back (base_of h.disks h.clocks spool) are refl whole found own
         (subst (AreWorkers h.disks h.clocks links stations limits before after ends front
-        (base_of h.disks h.clocks spool)) (sym grown.1) workers)
-        (subst (λ (y : List Step). AreDueBehind h y b.back) (sym grown.1) b.due);
+        (base_of h.disks h.clocks spool)) (sym grown.1) did)
+        sessions_are
+        (subst (λ (y : List Step). ComesBehind h y b.back b.torn_step) (sym grown.1) b.last);
   } where
-    b : Behind h joined final
+    b : Behind x.settled
     b = behind x.settled x.behind
 
     whole : final.entries ≡ front ++ (grown.0 ++ b.back)
@@ -239,3 +252,21 @@ module _ {D C I : Type 0} (h : Handed D C I) (serves : Serves h.words) (laws : D
       count = ap (λ (d : D). h.disks.faults d) o.disk;
       listed = ap (λ (c : C). where_listed (h.clocks.moments c)) handed_clock;
     }
+
+    entries_are : ForOpened h (λ first. AreEntries (base_of h.disks h.clocks spool) first joined.entries)
+    entries_are f steps was s = record {
+      found = sym (found.found f steps was s);
+      each = subst (λ (y : List Step). AreRecords (y ++ joined.entries)) (firsts_joined f steps was s) kj.each;
+      possible = subst (λ (y : List Step). IsHistory (y ++ joined.entries)) (firsts_joined f steps was s) kj.history;
+    }
+
+    sessions_joined : ForOpened h (λ first. SessionsServed links first joined.entries (length front))
+    sessions_joined f steps was s =
+        let x = agree is_apdu steps front joined.entries limits before after ends (base_of h.disks h.clocks spool) tells
+        (entries_are f steps was s) did in
+        record { parts = x.0; good = x.1; agree = x.2 }
+
+    sessions_are : ForOpened h (λ first. SessionsServed links first (front ++ grown.0) (length front))
+    sessions_are f steps was s =
+        subst (λ (y : List Step). SessionsServed links steps y (length front)) (sym grown.1)
+        (sessions_joined f steps was s)

@@ -1,5 +1,6 @@
 -- Turns that are made until nothing is due.
-use Rattle.std.proofs.Common.{◌≡◌, ℕ, ◌-◌, ◌<◌, List, [], ◌∷◌, ◌++◌, None, Some, Result, Ok, Err}
+use Rattle.std.proofs.Common.{◌≡◌, ℕ, ◌-◌, ◌<◌, List, [], ◌∷◌, ◌++◌, None, Some, Result, Ok}
+use Rattle.std.proofs.Common.{Err}
 use Rattle.std.proofs.Common.{false, refl, sym, ap, subst, ◌∙◌, true≢false, arith, inl, inr}
 use Rattle.std.proofs.lemmas.List.{append-nil}
 use Rattle.mta_edge.specs.Views.{DiskView, DiskLaws, ClockView}
@@ -46,8 +47,8 @@ module _ {D C : Type 0} (disks : DiskView D) (laws : DiskLaws disks) (clocks : C
       (next_own (clocks.tells mid.clock) conf input mid.current (step_moment told mid.current.moment) step
       (told, tell, refl) next)
 
-  pub settling_none : (old : Shown D C) → old.journal.ended ≡ false → ((steps : List Step) × Stands disks old steps)
-      → Settling disks clocks old old []
+  pub settling_none : (old : Shown D C) → old.journal.ended ≡ false
+      → ((steps : List Step) × Stands disks old steps) → Settling disks clocks old old []
   settling_none old going stands = record {
     adds = λ conf input. adds_still disks laws (clocks.tells old.clock) conf input old old ⊥
         (refl, refl, refl);
@@ -97,8 +98,8 @@ module _ {D C : Type 0} (disks : DiskView D) (laws : DiskLaws disks) (clocks : C
 
   -- nothing is due any more
   pub settled : (old mid new : Shown D C) (added : List Step) (told : ℕ) → Settling disks clocks old mid added
-      → clocks.tells mid.clock told → IsQuiet mid.current (step_moment told mid.current.moment) → IsUnchanged mid new
-      → HasSettled disks (clocks.tells old.clock) old new (Ok tt)
+      → clocks.tells mid.clock told → IsQuiet mid.current (step_moment told mid.current.moment)
+      → IsUnchanged mid new → HasSettled disks (clocks.tells old.clock) old new (Ok tt)
   settled old mid new added told so tell quiet is = record {
     added = added ++ [];
     torn_step = [];
@@ -169,7 +170,8 @@ module _ {D C : Type 0} (disks : DiskView D) (laws : DiskLaws disks) (clocks : C
             (refusal disks (clocks.tells old.clock) conf input (before ++ added) step mid new
             (disks.faults old.journal.disk) fault (so.adds [] []).later so.going
             (next_due (step_moment told mid.current.moment) step
-            (turn_after_append 0 before added ∙ ap (λ (k : ℕ). turn_after k added) behind ∙ turn_stays added so.in_turn)
+            (turn_after_append 0 before added ∙ ap (λ (k : ℕ). turn_after k added) behind
+            ∙ turn_stays added so.in_turn)
             (told, so.clock told tell, refl) next) no_lane appends);
       }
 

@@ -1,5 +1,6 @@
 -- What the commands that show the spool leave.
-use Rattle.std.proofs.Common.{◌≡◌, ◌≢◌, ℕ, List, [], Option, None, Some, Result, Ok, Err, refl, sym, ap, subst}
+use Rattle.std.proofs.Common.{◌≡◌, ◌≢◌, ℕ, List, [], Option, None, Some, Result, Ok, Err, refl, sym, ap}
+use Rattle.std.proofs.Common.{subst}
 use Rattle.std.proofs.Common.{◌∙◌, inl, inr}
 use Rattle.std.specs.Prelude.{◌⊎◌}
 use Rattle.mta_edge.specs.Views.{DiskView, DiskLaws, ClockView, SourceView}
@@ -41,8 +42,8 @@ shown_refused disks words old new Whys.Disk refusal = not_opened (refusal.disk r
 shown_refused disks words old new Whys.Memory refusal = memory refused
 
 pub shown_not_opened : {D : Type 0} (disks : DiskView D) (laws : DiskLaws disks) (words : Words) (out : Output)
-    (old new : D) (why : OpenWhy) → out.after ≡ out.before → HasRefused disks old new why → HasShownSpool disks words
-    out old new (Err (stop_of_open why))
+    (old new : D) (why : OpenWhy) → out.after ≡ out.before → HasRefused disks old new why
+    → HasShownSpool disks words out old new (Err (stop_of_open why))
 shown_not_opened disks laws words out old new why same refusal = record {
   opening = refused;
   disk = disk_refused disks laws old new why refusal;
@@ -53,23 +54,25 @@ shown_not_opened disks laws words out old new why same refusal = record {
 
 -- ---- it was opened
 
-queue_shown : (text : List ℕ) (result : Result (List ℕ) Stop) (t : List ℕ) → IsShown text result → result ≡ Ok t
-    → t ≡ text
+queue_shown : (text : List ℕ) (result : Result (List ℕ) Stop) (t : List ℕ) → IsShown text result
+    → result ≡ Ok t → t ≡ text
 queue_shown text (Ok s) t is e = sym (ok_same s t e) ∙ is
 queue_shown text (Err s) t is e = absurd cc
 
-queue_stopped : (text : List ℕ) (result : Result (List ℕ) Stop) (stop : Stop) → IsShown text result → result ≡ Err
-    stop → stop ≡ Stops.Memory
+queue_stopped : (text : List ℕ) (result : Result (List ℕ) Stop) (stop : Stop) → IsShown text result
+    → result ≡ Err stop → stop ≡ Stops.Memory
 queue_stopped text (Ok s) stop is e = absurd cc
 queue_stopped text (Err s) stop is e = sym (err_same s stop e) ∙ is
 
-mailbox_shown : (s : State) (name : List ℕ) (result : Result (List ℕ) Stop) (t : List ℕ) → IsMailboxShown s name result
-    → result ≡ Ok t → (t ≡ mailbox_of name s) × (mailbox_named s name ≢ None)
+mailbox_shown : (s : State) (name : List ℕ) (result : Result (List ℕ) Stop) (t : List ℕ)
+    → IsMailboxShown s name result → result ≡ Ok t
+    → (t ≡ mailbox_of name s) × (mailbox_named s name ≢ None)
 mailbox_shown s name (Ok x) t is e = (sym (ok_same x t e) ∙ is.0, is.1)
 mailbox_shown s name (Err x) t is e = absurd cc
 
-mailbox_stopped : (s : State) (name : List ℕ) (result : Result (List ℕ) Stop) (stop : Stop) → IsMailboxShown s name
-    result → result ≡ Err stop → (stop ≡ Stops.Memory) ⊎ ((stop ≡ Stops.NoMailbox name) × (mailbox_named s name ≡ None))
+mailbox_stopped : (s : State) (name : List ℕ) (result : Result (List ℕ) Stop) (stop : Stop)
+    → IsMailboxShown s name result → result ≡ Err stop
+    → (stop ≡ Stops.Memory) ⊎ ((stop ≡ Stops.NoMailbox name) × (mailbox_named s name ≡ None))
 mailbox_stopped s name (Ok x) stop is e = absurd cc
 mailbox_stopped s name (Err x) stop is e = subst
     (λ (y : Stop). (y ≡ Stops.Memory) ⊎ ((y ≡ Stops.NoMailbox name) × (mailbox_named s name ≡ None)))
@@ -78,8 +81,8 @@ mailbox_stopped s name (Err x) stop is e = subst
 module _ {D C : Type 0} (disks : DiskView D) (laws : DiskLaws disks) (old : D) (spool : Shown D C)
     (o : HasOpened disks old spool) (out : Output) where
   -- the state is the one behind the history for which the disk stood
-  state_there : (f : List ℕ) (steps : List Step) → disks.content old ≡ Some f → StandsFor f steps → spool.current
-      ≡ after steps
+  state_there : (f : List ℕ) (steps : List Step) → disks.content old ≡ Some f → StandsFor f steps
+      → spool.current ≡ after steps
   state_there f steps was s = o.stands.state_is ∙ ap after (same_steps disks laws old spool o f steps was s)
 
   pub queue_left : (text : Result (List ℕ) Stop) (result : Result (Unit {0}) Stop)
@@ -107,9 +110,9 @@ module _ {D C : Type 0} (disks : DiskView D) (laws : DiskLaws disks) (old : D) (
       (no_mailbox name refl
       (λ f steps was s. ap (λ (x : State). mailbox_named x name) (sym (state_there f steps was s)) ∙ none.1))
 
-  pub mailbox_left : (name : List ℕ) (text : Result (List ℕ) Stop) (result : Result (Unit {0}) Stop) → IsMailboxShown
-      spool.current name text → HasShown text out result → HasShownSpool disks (Say.Mailbox name) out old
-      spool.journal.disk result
+  pub mailbox_left : (name : List ℕ) (text : Result (List ℕ) Stop) (result : Result (Unit {0}) Stop)
+      → IsMailboxShown spool.current name text → HasShown text out result
+      → HasShownSpool disks (Say.Mailbox name) out old spool.journal.disk result
   mailbox_left name text result is shown = record {
     opening = opened;
     disk = disk_read disks laws old spool o;
@@ -134,10 +137,11 @@ module _ {D C I : Type 0} (h : Handed D C I) (words : Words) (is : h.words ≡ S
   shown_why _ _ (memory opening) = cause_memory opening
   shown_why _ _ (no_mailbox name w none) = cause_no_mailbox name (is ∙ ap (λ (x : Words). Some x) w) none
 
-  shown_text : (opening : Opening) (text : List ℕ) → IsShownText h.disks words h.disk.before opening text → IsText h
-      [] [] opening text
+  shown_text : (opening : Opening) (text : List ℕ) → IsShownText h.disks words h.disk.before opening text
+      → IsText h [] [] opening text
   shown_text _ _ (shows_queue text w t) = of_queue text (is ∙ ap (λ (x : Words). Some x) w) t
-  shown_text _ _ (shows_mailbox name text w named t) = of_mailbox name text (is ∙ ap (λ (x : Words). Some x) w) named t
+  shown_text _ _ (shows_mailbox name text w named t) =
+      of_mailbox name text (is ∙ ap (λ (x : Words). Some x) w) named t
 
   shown_with : (out : Output) (result : Result (Unit {0}) Stop) → SourcesLeft h → (AddsSteps h.words → ⊥)
       → HasShownSpool h.disks words out h.disk.before h.disk.after result → HasEnded h NoneWorked out result
@@ -157,11 +161,11 @@ adds_reads (Some (Say.Mailbox name)) adds = adds
 adds_reads (Some Say.Decode) adds = adds
 adds_reads (Some (Say.Drill messages)) adds = adds
 
-pub shown_ended : {D C I : Type 0} (disks : DiskView D) (clocks : ClockView C) (sources : SourceView I)
-    (words : Words) (conf input : I) (old new : D) (clock : C) (out : Output) (result : Result (Unit {0}) Stop)
-    → OpensDisk (Some words) → (ReadsTables (Some words) → ⊥) → (ReadsApdu (Some words) → ⊥) → HasShownSpool disks
-    words out old new result → HasEnded
-    (handed disks clocks sources (Some words) conf conf input input old new clock) NoneWorked out result
+pub shown_ended : {D C I : Type 0} (disks : DiskView D) (clocks : ClockView C) (sources : SourceView I) (words : Words)
+    (conf input : I) (old new : D) (clock : C) (out : Output) (result : Result (Unit {0}) Stop)
+    → OpensDisk (Some words) → (ReadsTables (Some words) → ⊥) → (ReadsApdu (Some words) → ⊥)
+    → HasShownSpool disks words out old new result
+    → HasEnded (handed disks clocks sources (Some words) conf conf input input old new clock) NoneWorked out result
 shown_ended disks clocks sources words conf input old new clock out result opens no_tables no_apdu has =
     shown_with (handed disks clocks sources (Some words) conf conf input input old new clock) words refl opens
     (record { tables = λ r. absurd (no_tables r); apdu = λ r. absurd (no_apdu r) }) out result

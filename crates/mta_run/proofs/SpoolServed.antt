@@ -42,7 +42,8 @@ module _ {D C L S : Type 0} (disks : DiskView D) (clocks : ClockView C) (links :
 
   pub not_begun : (fault : StepFault) (stop : Stop)
       → HasBegun disks (clocks.tells spool.clock) conf spool mid (Err fault) → disk ≡ mid.journal.disk
-      → after ≡ before → out.after ≡ out.before → stop ≡ stop_of_step fault → outcome ≡ Err stop → Serves outcome
+      → after ≡ before → out.after ≡ out.before → stop ≡ stop_of_step fault → outcome ≡ Err stop
+      → Serves outcome
   not_begun fault stop b disk_is same silent is e =
       subst Serves (sym (e ∙ ap (λ (s : Stop). Err s) is)) (Not_begun mid fault b disk_is same silent)
 
@@ -66,6 +67,6 @@ module _ {D C L S : Type 0} (disks : DiskView D) (clocks : ClockView C) (links :
       (Served limits mid joined final ends result are b grown k
       (subst (λ (base : Base). AreWorkers disks clocks links stations limits before after ends mid.entries base
       joined.entries) same workers)
-      (subst (λ (es : List WorkerEnd). HasFinished disks (clocks.tells joined.clock) es out joined final result) lent_is
-      finished)
+      (subst (λ (es : List WorkerEnd). HasFinished disks (clocks.tells joined.clock) es out joined final result)
+      lent_is finished)
       (on (base_of disks clocks spool) k) disk_is)

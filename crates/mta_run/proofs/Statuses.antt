@@ -1,5 +1,6 @@
 -- What a status tells, and when it is 0.
-use Rattle.std.proofs.Common.{◌≡◌, ℕ, suc, List, [], ◌∷◌, ◌++◌, All, Option, None, Some, Result, Ok, Err}
+use Rattle.std.proofs.Common.{◌≡◌, ℕ, suc, List, [], ◌∷◌, ◌++◌, All, Option, None, Some, Result, Ok}
+use Rattle.std.proofs.Common.{Err}
 use Rattle.std.proofs.Common.{refl, sym, subst, ◌∙◌, arith, inl, inr}
 use Rattle.std.specs.Prelude.{◌⊎◌}
 use Rattle.mta_ber.specs.declared.fault.Fault.{Fault}
@@ -39,7 +40,8 @@ use Rattle.mta_run.specs.Ran.{EndsBeforeOpening, Tells, AllInOrder, IsComplete}
 abbrev IsEarly : ℕ → Type 0
 IsEarly status = (status ≡ 1) ⊎ (status ≡ 2) ⊎ (status ≡ 6) ⊎ (status ≡ 8)
 
-late : (status n : ℕ) → status ≡ n → (n ≡ 1 → ⊥) → (n ≡ 2 → ⊥) → (n ≡ 6 → ⊥) → (n ≡ 8 → ⊥) → IsEarly status → ⊥
+late : (status n : ℕ) → status ≡ n → (n ≡ 1 → ⊥) → (n ≡ 2 → ⊥) → (n ≡ 6 → ⊥)
+    → (n ≡ 8 → ⊥) → IsEarly status → ⊥
 late status n e a b c d (inl x) = a (sym e ∙ x)
 late status n e a b c d (inr (inl x)) = b (sym e ∙ x)
 late status n e a b c d (inr (inr (inl x))) = c (sym e ∙ x)
@@ -47,7 +49,8 @@ late status n e a b c d (inr (inr (inr x))) = d (sym e ∙ x)
 
 -- what the status is where all is in order
 abbrev Completes : {D C I : Type 0} → Handed D C I → ℕ → Type 0
-Completes h status = (status ≡ 0) ⊎ (status ≡ 7) ⊎ ((status ≡ 5) × AddsSteps h.words) ⊎ ((status ≡ 4) × Serves h.words)
+Completes h status =
+    (status ≡ 0) ⊎ (status ≡ 7) ⊎ ((status ≡ 5) × AddsSteps h.words) ⊎ ((status ≡ 4) × Serves h.words)
 
 -- what a stop's status tells
 record StopTells {D C I : Type 0} (h : Handed D C I) (opening : Opening) (status : ℕ) : Type 0 where
@@ -152,7 +155,8 @@ not_unnamed c roles name t u one other named x =
     let found = all_at (IsNamed u) x.before (Roles.Out name) x.behind all in
     x.unnamed found.0 found.1
 
-no_bad : (c : List ℕ) (t : TablesValue) (n : ℕ) (kind : LineKind) → tables_of c ≡ Ok t → tables_of c ≡ bad n kind → ⊥
+no_bad : (c : List ℕ) (t : TablesValue) (n : ℕ) (kind : LineKind) → tables_of c ≡ Ok t
+    → tables_of c ≡ bad n kind → ⊥
 no_bad c t n kind good wrong = cc
 
 no_fault : (r : Result ApduValue Fault) (v : ApduValue) (f : Fault) → r ≡ Ok v → r ≡ Err f → ⊥
@@ -251,8 +255,8 @@ module _ {D C I : Type 0} (h : Handed D C I) (ends : List WorkerEnd) (added : Li
         (λ w. omega (arith, w)) x);
   }
 
-  stop_tells : (opening : Opening) (stop : Stop) (status : ℕ) → Cause h ends added opening stop → status ≡ status_of
-      stop → StopTells h opening status
+  stop_tells : (opening : Opening) (stop : Stop) (status : ℕ) → Cause h ends added opening stop
+      → status ≡ status_of stop → StopTells h opening status
   stop_tells _ _ status (usage none) e = record {
     usage_only = λ x. none;
     usage_there = λ x. inl e;
@@ -433,26 +437,28 @@ module _ {D C I : Type 0} (h : Handed D C I) (ends : List WorkerEnd) (added : Li
   ended_early : (opening : Opening) (out : Output) (status : ℕ) → IsEnded (Cause h ends added opening)
       (IsText h ends added opening) out status → IsEarly status → opening ≡ uncalled
   ended_early opening out status (done e t x p) early = absurd
-      (late status 0 e (λ w. omega (arith, w)) (λ w. omega (arith, w)) (λ w. omega (arith, w)) (λ w. omega (arith, w))
-      early)
+      (late status 0 e (λ w. omega (arith, w)) (λ w. omega (arith, w)) (λ w. omega (arith, w))
+      (λ w. omega (arith, w)) early)
   ended_early opening out status (told stop why e t f p) early = (stop_tells opening stop status why e).early early
   ended_early opening out status (cut_text e t x p) early = absurd
-      (late status 9 e (λ w. omega (arith, w)) (λ w. omega (arith, w)) (λ w. omega (arith, w)) (λ w. omega (arith, w))
-      early)
+      (late status 9 e (λ w. omega (arith, w)) (λ w. omega (arith, w)) (λ w. omega (arith, w))
+      (λ w. omega (arith, w)) early)
   ended_early opening out status (cut_line e stop why t f p) early = absurd
-      (late status 9 e (λ w. omega (arith, w)) (λ w. omega (arith, w)) (λ w. omega (arith, w)) (λ w. omega (arith, w))
-      early)
+      (late status 9 e (λ w. omega (arith, w)) (λ w. omega (arith, w)) (λ w. omega (arith, w))
+      (λ w. omega (arith, w)) early)
 
-  untouched_unless : (opening : Opening) (out : Output) (status : ℕ) → ((OpensDisk h.words → ⊥) → opening ≡ uncalled)
+  untouched_unless : (opening : Opening) (out : Output) (status : ℕ)
+      → ((OpensDisk h.words → ⊥) → opening ≡ uncalled)
       → IsEnded (Cause h ends added opening) (IsText h ends added opening) out status → EndsBeforeOpening h status
       → opening ≡ uncalled
   untouched_unless opening out status unless is (inl none) = unless none
   untouched_unless opening out status unless is (inr early) = ended_early opening out status is early
 
   -- the fields of what a status tells, but for what became of the disk
-  pub ended_tells : (opening : Opening) (out : Output) (status : ℕ) → ((OpensDisk h.words → ⊥) → opening ≡ uncalled)
-      → (opening ≡ uncalled → h.disk.after ≡ h.disk.before) → IsEnded (Cause h ends added opening)
-      (IsText h ends added opening) out status → Tells h out status
+  pub ended_tells : (opening : Opening) (out : Output) (status : ℕ)
+      → ((OpensDisk h.words → ⊥) → opening ≡ uncalled)
+      → (opening ≡ uncalled → h.disk.after ≡ h.disk.before)
+      → IsEnded (Cause h ends added opening) (IsText h ends added opening) out status → Tells h out status
   ended_tells opening out status unless same (done e t x p) = record {
     usage = λ w. absurd (omega (arith, w, e));
     usage_where = λ none. absurd (text_known opening t x none);

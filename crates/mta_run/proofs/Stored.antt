@@ -1,5 +1,6 @@
 -- The tables are recorded, and then an APDU is accepted.
-use Rattle.std.proofs.Common.{◌≡◌, ◌≢◌, ℕ, ◌+◌, ◌≤◌, ◌<◌, ◌^◌, List, [], ◌∷◌, ◌++◌, length, Option, Some, None, Result}
+use Rattle.std.proofs.Common.{◌≡◌, ◌≢◌, ℕ, ◌+◌, ◌≤◌, ◌<◌, ◌^◌, List, [], ◌∷◌}
+use Rattle.std.proofs.Common.{◌++◌, length, Option, Some, None, Result}
 use Rattle.std.proofs.Common.{Ok, Err, Bool, false, true, refl, sym, ap, subst, ◌∙◌, true≢false, arith}
 use Rattle.std.proofs.Common.{inl, inr}
 use Rattle.std.specs.Prelude.{◌⊎◌, if◌then◌else◌, IfOk}
@@ -46,8 +47,8 @@ module _ {D C : Type 0} (disks : DiskView D) where
       refused (inr e) = cc
 
   -- numbers were left for it
-  pub numbers_left : (step : Step) (old new : Shown D C) → Appends disks step old new None → old.journal.ended ≡ false
-      → IsSpent old.current step → ⊥
+  pub numbers_left : (step : Step) (old new : Shown D C) → Appends disks step old new None
+      → old.journal.ended ≡ false → IsSpent old.current step → ⊥
   numbers_left step old new appends going spent =
       let e = appends.spent_where going (no_refusal step old new appends going) spent in cc
 
@@ -61,7 +62,8 @@ module _ {D C : Type 0} (disks : DiskView D) where
         | inr fit ↦ fit
       ]
     where
-      refused : (None ≡ Some (StepFaults.Full old.journal.size (need_of step))) ⊎ (None ≡ Some StepFaults.Memory) → ⊥
+      refused : (None ≡ Some (StepFaults.Full old.journal.size (need_of step))) ⊎ (None ≡ Some StepFaults.Memory)
+          → ⊥
       refused (inl e) = cc
       refused (inr e) = cc
 
@@ -152,16 +154,16 @@ is_text (Some other) text =
     ]
 
 -- tables that are those recorded last are not refused
-pub not_same : (ended : Bool) (fault : StepFault) → ended ≡ false → ◌≡◌ {A = Result (Unit {0}) StepFault} (Err fault)
-    (if ended then Err StepFaults.Ended else Ok tt) → ⊥
+pub not_same : (ended : Bool) (fault : StepFault) → ended ≡ false
+    → ◌≡◌ {A = Result (Unit {0}) StepFault} (Err fault) (if ended then Err StepFaults.Ended else Ok tt) → ⊥
 not_same true fault going e = cc
 not_same false fault going e = cc
 
 module _ {D C : Type 0} (disks : DiskView D) (laws : DiskLaws disks) (tells : ℕ → Type 0) where
   -- they were recorded, or are those recorded last
   pub recording : (conf input : List ℕ) (old mid : Shown D C) → ((steps : List Step) × Stands disks old steps)
-      → old.journal.ended ≡ false → Records disks conf old mid (Ok tt) → (added : List Step) × Recording disks tells
-      conf input old mid added
+      → old.journal.ended ≡ false → Records disks conf old mid (Ok tt)
+      → (added : List Step) × Recording disks tells conf input old mid added
   recording conf input old mid here going records =
       elim (is_text (last_text old.current) conf) [
         | inl recorded ↦ (
@@ -229,10 +231,10 @@ module _ {D C : Type 0} (disks : DiskView D) (laws : DiskLaws disks) (tells : �
 
   -- it was accepted behind the tables
   accepted : (now : ℕ → Type 0) (conf input : List ℕ) (old mid new : Shown D C) (added : List Step) (told n : ℕ)
-      → Recording disks tells conf input old mid added → ((steps : List Step) × Stands disks old steps) → now told
-      → ((t : ℕ) → now t → tells t)
-      → Appends disks (Accept (step_moment told mid.current.moment) input) mid new None → n ≡ length
-      mid.current.machine.items + 1 → HasStored disks tells conf input old new (Ok n)
+      → Recording disks tells conf input old mid added → ((steps : List Step) × Stands disks old steps)
+      → now told → ((t : ℕ) → now t → tells t)
+      → Appends disks (Accept (step_moment told mid.current.moment) input) mid new None
+      → n ≡ length mid.current.machine.items + 1 → HasStored disks tells conf input old new (Ok n)
   accepted now conf input old mid new added told n so here tell more appends number =
       let when : ℕ = step_moment told mid.current.moment in
       let step : Step = Accept when input in

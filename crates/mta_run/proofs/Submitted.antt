@@ -148,8 +148,8 @@ module _ {D C I : Type 0} (h : Handed D C I) (is : h.words ≡ Some Say.Submit) 
   refused_cause Whys.Disk refusal = cause_not_opened (submit_opens h is) inputs_read (refusal.disk refl)
   refused_cause Whys.Memory refusal = cause_memory refused
 
-  pub submit_refused : DiskLaws h.disks → (out : Output) (why : OpenWhy) → out.after ≡ out.before → HasRefused h.disks
-      h.disk.before h.disk.after why → HasEnded h NoneWorked out (Err (stop_of_open why))
+  pub submit_refused : DiskLaws h.disks → (out : Output) (why : OpenWhy) → out.after ≡ out.before
+      → HasRefused h.disks h.disk.before h.disk.after why → HasEnded h NoneWorked out (Err (stop_of_open why))
   submit_refused laws out why same refusal =
       ended_alike h NoneWorked out (Err (stop_of_open why)) refused sources_left
       (disk_refused h.disks laws h.disk.before h.disk.after why refusal)
@@ -160,9 +160,10 @@ module _ {D C I : Type 0} (h : Handed D C I) (is : h.words ≡ Some Say.Submit) 
   -- ---- it was opened, and worked on
 
   full_cause : (new : Shown D C) (base added : List Step) (used need : ℕ) → Stands h.disks new (base ++ added)
-      → ((f : List ℕ) (steps : List Step) → h.disks.content h.disk.before ≡ Some f → StandsFor f steps → base ≡ steps)
-      → IsFullFor (h.clocks.tells h.clock) x.tables.text x.apdu added new.current new.journal.size used need → Cause h
-      [] added opened (Stops.Full used need)
+      → ((f : List ℕ) (steps : List Step) → h.disks.content h.disk.before ≡ Some f → StandsFor f steps
+      → base ≡ steps)
+      → IsFullFor (h.clocks.tells h.clock) x.tables.text x.apdu added new.current new.journal.size used need
+      → Cause h [] added opened (Stops.Full used need)
   full_cause new base added used need there same r = cause_full used need is inputs_read (λ c e i w f steps was s.
       subst (λ (y : List Step). IsFullFor (h.clocks.tells h.clock) c i added (after (y ++ added))
       (size_of (y ++ added)) used need) (same f steps was s)
@@ -175,9 +176,9 @@ module _ {D C I : Type 0} (h : Handed D C I) (is : h.words ≡ Some Say.Submit) 
       need) (read.read.0 c e) r)))))
 
   spent_cause : (new : Shown D C) (base added : List Step) (last : ℕ) → Stands h.disks new (base ++ added)
-      → ((f : List ℕ) (steps : List Step) → h.disks.content h.disk.before ≡ Some f → StandsFor f steps → base ≡ steps)
-      → IsSpentFor (h.clocks.tells h.clock) x.tables.text x.apdu added new.current last → Cause h [] added opened
-      (Stops.Spent last)
+      → ((f : List ℕ) (steps : List Step) → h.disks.content h.disk.before ≡ Some f → StandsFor f steps
+      → base ≡ steps) → IsSpentFor (h.clocks.tells h.clock) x.tables.text x.apdu added new.current last
+      → Cause h [] added opened (Stops.Spent last)
   spent_cause new base added last there same r = cause_spent last is inputs_read (λ c e i w f steps was s.
       subst (λ (y : List Step). IsSpentFor (h.clocks.tells h.clock) c i added (after (y ++ added)) last)
       (same f steps was s)
@@ -188,8 +189,8 @@ module _ {D C I : Type 0} (h : Handed D C I) (is : h.words ≡ Some Say.Submit) 
 
   work_cause : (new : Shown D C) (base added : List Step) (failed : Type 0) (stop : Stop)
       → ((stop ≡ Stops.Disk → ⊥) → Stands h.disks new (base ++ added))
-      → ((f : List ℕ) (steps : List Step) → h.disks.content h.disk.before ≡ Some f → StandsFor f steps → base ≡ steps)
-      → (failed → DiskFailed h)
+      → ((f : List ℕ) (steps : List Step) → h.disks.content h.disk.before ≡ Some f → StandsFor f steps
+      → base ≡ steps) → (failed → DiskFailed h)
       → IsWorkStop (h.clocks.tells h.clock) x.tables.text x.apdu added new.current new.journal.size failed stop
       → Cause h [] added opened stop
   work_cause new base added failed _ there same risen (full used need r) = full_cause new base added used need
@@ -201,8 +202,8 @@ module _ {D C I : Type 0} (h : Handed D C I) (is : h.words ≡ Some Say.Submit) 
   work_cause new base added failed _ there same risen memory = cause_memory opened
 
   work_text : (spool : Shown D C) (base added : List Step) (text : List ℕ) → Stands h.disks spool base
-      → ((f : List ℕ) (steps : List Step) → h.disks.content h.disk.before ≡ Some f → StandsFor f steps → base ≡ steps)
-      → IsAcceptedLine h.disks spool added x.apdu text → IsText h [] added opened text
+      → ((f : List ℕ) (steps : List Step) → h.disks.content h.disk.before ≡ Some f → StandsFor f steps
+      → base ≡ steps) → IsAcceptedLine h.disks spool added x.apdu text → IsText h [] added opened text
   work_text spool base added text stands same line = of_submit line.number text is inputs_read line.small line.text_is
       (λ i w f steps was s.
       subst (λ (y : List Step). IsAccepted y added i line.number) (same f steps was s)
@@ -210,7 +211,8 @@ module _ {D C I : Type 0} (h : Handed D C I) (is : h.words ≡ Some Say.Submit) 
 
   pub submit_worked : (out : Output) (result : Result (Unit {0}) Stop) (spool new : Shown D C) (base : List Step)
       → Stands h.disks spool base
-      → ((f : List ℕ) (steps : List Step) → h.disks.content h.disk.before ≡ Some f → StandsFor f steps → base ≡ steps)
+      → ((f : List ℕ) (steps : List Step) → h.disks.content h.disk.before ≡ Some f → StandsFor f steps
+      → base ≡ steps)
       → (Rose (h.disks.faults spool.journal.disk) (h.disks.faults new.journal.disk) → DiskFailed h)
       → (has : HasWorked h.disks (h.clocks.tells h.clock) x.tables.text x.apdu out spool new result)
       → DiskLeft h.disks h.disk.before h.disk.after opened has.added has.torn_step
@@ -280,8 +282,8 @@ work_failed disks tells conf input out old new result has e = failed_in result h
   disk_only _ w (disk r) = r
   disk_only _ w memory = absurd cc
 
-  failed_in : (r : Result (Unit {0}) Stop) → HasPrinted Why (IsAcceptedLine disks old has.added input) out r → r ≡ Err
-      Stops.Disk → Rose (disks.faults old.journal.disk) (disks.faults new.journal.disk)
+  failed_in : (r : Result (Unit {0}) Stop) → HasPrinted Why (IsAcceptedLine disks old has.added input) out r
+      → r ≡ Err Stops.Disk → Rose (disks.faults old.journal.disk) (disks.faults new.journal.disk)
   failed_in _ (whole d t y p) w = absurd cc
   failed_in _ (stopped stop why t f p) w = disk_only stop (err_same stop Stops.Disk w) why
   failed_in _ (cut t y p) w = absurd cc
@@ -296,9 +298,9 @@ both_read sources conf conf_after input input_after x (both _ read behind) = (re
 module _ {D C I : Type 0} (disks : DiskView D) (laws : DiskLaws disks) (clocks : ClockView C) (sources : SourceView I)
     (conf conf_after input input_after : I) (clock : C) (out : Output) (old : D) (x : Inputs)
     (inputs : HasInputs sources conf conf_after input input_after (Ok x)) where
-  pub submit_unopened : (new : D) (why : OpenWhy) → out.after ≡ out.before → HasRefused disks old new why → HasEnded
-      (handed disks clocks sources (Some Say.Submit) conf conf_after input input_after old new clock) NoneWorked out
-      (Err (stop_of_open why))
+  pub submit_unopened : (new : D) (why : OpenWhy) → out.after ≡ out.before → HasRefused disks old new why
+      → HasEnded (handed disks clocks sources (Some Say.Submit) conf conf_after input input_after old new clock)
+      NoneWorked out (Err (stop_of_open why))
   submit_unopened new why same refusal =
       let b = both_read sources conf conf_after input input_after x inputs in
       submit_refused (handed disks clocks sources (Some Say.Submit) conf conf_after input input_after old new clock)

@@ -1,5 +1,6 @@
 -- What `submit` leaves of an open spool.
-use Rattle.std.proofs.Common.{◌≡◌, ℕ, List, [], ◌∷◌, ◌++◌, length, Result, Ok, Err, Some, refl, sym, ap}
+use Rattle.std.proofs.Common.{◌≡◌, ℕ, List, [], ◌∷◌, ◌++◌, length, Result, Ok, Err, Some, refl, sym}
+use Rattle.std.proofs.Common.{ap}
 use Rattle.std.proofs.Common.{subst, ◌∙◌, append_assoc, arith, inl, inr}
 use Rattle.std.specs.Prelude.{◌⊎◌}
 use Rattle.std.proofs.lemmas.List.{append-nil}
@@ -36,9 +37,9 @@ prints_nothing out same = record {
 -- ---- stops
 
 -- a refused step is that stop
-work_stop : (tells : ℕ → Type 0) (conf input : List ℕ) (added : List Step) (s : State) (size : ℕ) (failed : Type 0)
-    (fault : StepFault) → IsRefusal tells conf input added s size failed fault → IsWorkStop tells conf input added s
-    size failed (stop_of_step fault)
+work_stop : (tells : ℕ → Type 0) (conf input : List ℕ) (added : List Step) (s : State) (size : ℕ)
+    (failed : Type 0) (fault : StepFault) → IsRefusal tells conf input added s size failed fault
+    → IsWorkStop tells conf input added s size failed (stop_of_step fault)
 work_stop tells conf input added s size failed (StepFaults.Full used need) r = full used need r
 work_stop tells conf input added s size failed (StepFaults.Spent last) r = spent last r
 work_stop tells conf input added s size failed StepFaults.Disk r = disk r
@@ -64,8 +65,8 @@ refusal_no_lane tells conf input added s size failed (StepFaults.BusyLanes count
 refusal_no_lane tells conf input added s size failed StepFaults.Unexpected r = r
 
 next_more : (tells other : ℕ → Type 0) (conf input : List ℕ) (added : List Step) (s : State) (step : Step)
-    → ((t : ℕ) → tells t → other t) → IsNextStep tells conf input added s step → IsNextStep other conf input added s
-    step
+    → ((t : ℕ) → tells t → other t) → IsNextStep tells conf input added s step
+    → IsNextStep other conf input added s step
 next_more tells other conf input added s step more (tables turn changed) = tables turn changed
 next_more tells other conf input added s step more (apdu moment turn last timed) = apdu moment turn last
     (timed_more tells other s.moment moment more timed)
@@ -75,7 +76,8 @@ next_more tells other conf input added s step more (due moment st turn timed nex
 -- the same refusal for one who knew more moments, and saw an earlier count
 refusal_more : (tells other : ℕ → Type 0) (conf input : List ℕ) (added : List Step) (s : State) (size : ℕ)
     (failed failed_too : Type 0) (fault : StepFault) → ((t : ℕ) → tells t → other t) → (failed → failed_too)
-    → IsRefusal tells conf input added s size failed fault → IsRefusal other conf input added s size failed_too fault
+    → IsRefusal tells conf input added s size failed fault
+    → IsRefusal other conf input added s size failed_too fault
 refusal_more tells other conf input added s size failed failed_too (StepFaults.Full used need) more too r =
     record {
       step = r.step;
@@ -135,8 +137,9 @@ module _ {D C : Type 0} (disks : DiskView D) (tells : ℕ → Type 0) (conf inpu
       refusal_no_lane tells conf input has.added new.current new.journal.size
       (Rose (disks.faults old.journal.disk) (disks.faults new.journal.disk)) fault (has.refused fault refl)
 
-  pub work_refused : (out : Output) (new : Shown D C) (fault : StepFault) → out.after ≡ out.before → HasStored disks
-      tells conf input old new (Err fault) → HasWorked disks tells conf input out old new (Err (stop_of_step fault))
+  pub work_refused : (out : Output) (new : Shown D C) (fault : StepFault) → out.after ≡ out.before
+      → HasStored disks tells conf input old new (Err fault)
+      → HasWorked disks tells conf input out old new (Err (stop_of_step fault))
   work_refused out new fault same has = record {
     added = has.added;
     torn_step = has.torn_step;
@@ -161,8 +164,9 @@ module _ {D C : Type 0} (disks : DiskView D) (tells : ℕ → Type 0) (conf inpu
       (ap (λ (t : List Step). has.added ++ t) (has.adds.calm stored_calm) ∙ append-nil has.added) has.in_turn
 
   -- its number was not printed whole
-  pub work_unsaid : (out : Output) (new : Shown D C) (n : ℕ) (stop : Stop) → HasStored disks tells conf input old new
-      (Ok n) → HasAcknowledged out n (Err stop) → HasWorked disks tells conf input out old new (Err stop)
+  pub work_unsaid : (out : Output) (new : Shown D C) (n : ℕ) (stop : Stop)
+      → HasStored disks tells conf input old new (Ok n) → HasAcknowledged out n (Err stop)
+      → HasWorked disks tells conf input out old new (Err stop)
   work_unsaid out new n stop has said = record {
     added = has.added;
     torn_step = has.torn_step;
@@ -208,9 +212,9 @@ module _ {D C : Type 0} (disks : DiskView D) (tells : ℕ → Type 0) (conf inpu
       (subst (λ (k : ℕ). AreInTurn k (settled.added ++ settled.torn_step)) (sym (has.turn n refl)) settled.in_turn))
 
   -- all that was due is done
-  pub work_settled : (later : ℕ → Type 0) (out : Output) (mid new : Shown D C) (n : ℕ) → HasStored disks tells conf
-      input old mid (Ok n) → ((t : ℕ) → later t → tells t) → Prints out (accepted_line n) → HasSettled disks later mid
-      new (Ok tt)
+  pub work_settled : (later : ℕ → Type 0) (out : Output) (mid new : Shown D C) (n : ℕ)
+      → HasStored disks tells conf input old mid (Ok n) → ((t : ℕ) → later t → tells t)
+      → Prints out (accepted_line n) → HasSettled disks later mid new (Ok tt)
       → HasWorked disks tells conf input out old new (Ok tt)
   work_settled later out mid new n has more printed settled = record {
     added = has.added ++ settled.added;
@@ -228,16 +232,17 @@ module _ {D C : Type 0} (disks : DiskView D) (tells : ℕ → Type 0) (conf inpu
 
   -- a step of it was refused
   -- what settling was refused for is no refusal of a lane's step
-  pub settled_no_lane : (later : ℕ → Type 0) (mid new : Shown D C) (n : ℕ) (fault : StepFault) → HasStored disks tells
-      conf input old mid (Ok n) → HasSettled disks later mid new (Err fault) → IsOfNoLane (Some fault)
+  pub settled_no_lane : (later : ℕ → Type 0) (mid new : Shown D C) (n : ℕ) (fault : StepFault)
+      → HasStored disks tells conf input old mid (Ok n) → HasSettled disks later mid new (Err fault)
+      → IsOfNoLane (Some fault)
   settled_no_lane later mid new n fault has settled =
       refusal_no_lane later conf input (has.added ++ settled.added) new.current new.journal.size
       (Rose (disks.faults mid.journal.disk) (disks.faults new.journal.disk)) fault
       (settled.refused fault refl conf input has.added (has.turn n refl))
 
   pub work_unsettled : (later : ℕ → Type 0) (out : Output) (mid new : Shown D C) (n : ℕ) (fault : StepFault)
-      → HasStored disks tells conf input old mid (Ok n) → ((t : ℕ) → later t → tells t) → Prints out (accepted_line n)
-      → HasSettled disks later mid new (Err fault)
+      → HasStored disks tells conf input old mid (Ok n) → ((t : ℕ) → later t → tells t)
+      → Prints out (accepted_line n) → HasSettled disks later mid new (Err fault)
       → HasWorked disks tells conf input out old new (Err (stop_of_step fault))
   work_unsettled later out mid new n fault has more printed settled = record {
     added = has.added ++ settled.added;

@@ -1,5 +1,6 @@
 -- What a command prints, and why a run stops without it.
-use Rattle.std.specs.Prelude.{◌≡◌, ◌≢◌, ◌^◌, ℕ, ◌<◌, List, ◌++◌, All, Option, None, Some, Ok, option_and_then}
+use Rattle.std.specs.Prelude.{◌≡◌, ◌≢◌, ◌^◌, ℕ, ◌<◌, List, ◌++◌, All, Option, None, Some, Ok}
+use Rattle.std.specs.Prelude.{option_and_then}
 use Rattle.mta_ber.specs.declared.fault.Kind.{Kind}
 use Rattle.mta_records.specs.declared.step.Step.{Step}
 use Rattle.mta_tables.specs.declared.fault.LineKind.{LineKind}
@@ -107,7 +108,8 @@ pub data Cause {D C I : Type 0} (h : Handed D C I) (ends : List WorkerEnd) (adde
       IsOwnFull (h.clocks.tells h.clock) c (after (steps ++ added)) (size_of (steps ++ added)) size need))
       → Cause h ends added opened (Stops.Full size need)
   spent_serving : (last : ℕ) → Serves h.words → InputsRead h
-      → ForTables h (λ c. ForOpened h (λ steps. IsOwnSpent (h.clocks.tells h.clock) c (after (steps ++ added)) last))
+      → ForTables h
+      (λ c. ForOpened h (λ steps. IsOwnSpent (h.clocks.tells h.clock) c (after (steps ++ added)) last))
       → Cause h ends added opened (Stops.Spent last)
   of_worker : (halt : Halt) → Serves h.words → InputsRead h → Decides (halts_of ends) halt
       → Cause h ends added opened (stop_of_halt halt)

@@ -15,7 +15,8 @@ IsDecodedAs octets (Err stop) = IsInputStop (Some octets) ⊥ stop
 
 -- the text of the APDU that the input spells
 abbrev pub IsApduText : Option (List ℕ) → List ℕ → Type 0
-IsApduText input text = (i : List ℕ) → input ≡ Some i → (v : ApduValue) × SpellsApdu i v × (text ≡ apdu_text v)
+IsApduText input text =
+    (i : List ℕ) → input ≡ Some i → (v : ApduValue) × SpellsApdu i v × (text ≡ apdu_text v)
 
 -- what it leaves before its last line is printed
 pub record HasDecoded {I : Type 0} (sources : SourceView I) (old new : I) (out : Output) (result

@@ -39,9 +39,10 @@ pub record DiskLeft {D : Type 0} (disks : DiskView D) (old new : D) (opening : O
   pub safe : (f : List ℕ) (steps : List Step) → disks.content old ≡ Some f → StandsFor f steps
       → IsSafe disks steps added torn_step old new
   -- one that was opened stood for a history, and opening synced it
-  pub stood : opening ≡ opened → (f : List ℕ) → disks.content old ≡ Some f → (steps : List Step) × StandsFor f steps
-  pub synced : opening ≡ opened → (f : List ℕ) (steps : List Step) → disks.content old ≡ Some f → StandsFor f steps
-      → Synced disks steps added torn_step old new
+  pub stood : opening ≡ opened → (f : List ℕ) → disks.content old ≡ Some f
+      → (steps : List Step) × StandsFor f steps
+  pub synced : opening ≡ opened → (f : List ℕ) (steps : List Step) → disks.content old ≡ Some f
+      → StandsFor f steps → Synced disks steps added torn_step old new
   -- one that is no spool is as it was, also after a crash
   pub no_spool : (f : List ℕ) → disks.content old ≡ Some f → ((steps : List Step) → StandsFor f steps → ⊥)
       → IsAsItWas disks f old new

@@ -26,8 +26,8 @@ pub record Handed (D C I : Type 0) : Type 1 where
   pub disk : Used D
   pub clock : C
 
-abbrev pub handed : {D C I : Type 0} → DiskView D → ClockView C → SourceView I → Option Words → I → I → I → I → D
-    → D → C → Handed D C I
+abbrev pub handed : {D C I : Type 0} → DiskView D → ClockView C → SourceView I → Option Words → I → I → I
+    → I → D → D → C → Handed D C I
 handed disks clocks sources words conf conf_after input input_after disk disk_after clock = record {
   disks = disks;
   clocks = clocks;
@@ -56,7 +56,8 @@ module _ {D C I : Type 0} (h : Handed D C I) where
 
   -- what holds of the history for which the disk stood, where it tells its octets and they stand for one
   abbrev pub ForOpened : (List Step → Type 0) → Type 0
-  ForOpened P = (f : List ℕ) (steps : List Step) → h.disks.content h.disk.before ≡ Some f → StandsFor f steps → P steps
+  ForOpened P =
+      (f : List ℕ) (steps : List Step) → h.disks.content h.disk.before ≡ Some f → StandsFor f steps → P steps
 
   -- ---- faults
 

@@ -38,7 +38,8 @@ IsReadAsTables text = (t : TablesValue) × (tables_of text ≡ Ok t)
 -- the tables of the text, or why there are none
 abbrev pub AreTablesRead : Option (List ℕ) → (failed : Type 0) → Result TablesValue Stop → Type 0
 AreTablesRead conf failed (Ok t) = IsTold conf t.text × (tables_of t.text ≡ Ok t)
-AreTablesRead conf failed (Err (Stops.Tables line kind)) = (c : List ℕ) → conf ≡ Some c → IsFirstBadLine c line kind
+AreTablesRead conf failed (Err (Stops.Tables line kind)) =
+    (c : List ℕ) → conf ≡ Some c → IsFirstBadLine c line kind
 AreTablesRead conf failed (Err Stops.Source) = failed
 AreTablesRead conf failed (Err Stops.Memory) = Unit {0}
 AreTablesRead conf failed (Err other) = ⊥
@@ -70,7 +71,8 @@ abbrev pub AreOctetsRead : Option (List ℕ) → (failed : Type 0) → Result (L
 AreOctetsRead input failed (Ok octets) = IsTold input octets
 AreOctetsRead input failed (Err stop) = IsInputStop input failed stop
 
-pub record HasOctets {I : Type 0} (sources : SourceView I) (old new : I) (result : Result (List ℕ) Stop) : Type 0 where
+pub record HasOctets {I : Type 0} (sources : SourceView I) (old new : I) (result : Result (List ℕ) Stop)
+    : Type 0 where
   pub drawn : IsDrawn sources longest_apdu old new
   pub read : AreOctetsRead (sources.left old) (Rose (sources.faults old) (sources.faults new)) result
 
@@ -100,6 +102,7 @@ pub data HasInputs {I : Type 0} (sources : SourceView I) (conf conf_after input 
   no_tables : (stop : Stop) → HasTables sources conf conf_after (Err stop) → input_after ≡ input
       → HasInputs sources conf conf_after input input_after (Err stop)
   no_apdu : (stop : Stop) (tables : TablesValue) → HasTables sources conf conf_after (Ok tables)
-      → HasInput sources input input_after (Err stop) → HasInputs sources conf conf_after input input_after (Err stop)
-  both : (x : Inputs) → HasTables sources conf conf_after (Ok x.tables) → HasInput sources input input_after (Ok x.apdu)
-      → HasInputs sources conf conf_after input input_after (Ok x)
+      → HasInput sources input input_after (Err stop)
+      → HasInputs sources conf conf_after input input_after (Err stop)
+  both : (x : Inputs) → HasTables sources conf conf_after (Ok x.tables)
+      → HasInput sources input input_after (Ok x.apdu) → HasInputs sources conf conf_after input input_after (Ok x)

@@ -42,7 +42,8 @@ IsFront IsText text = (text ≡ []) ⊎ IsText text
 -- or a front of its text, where the output failed.
 pub data HasPrinted (Cause : Stop → Type 0) (IsText : List ℕ → Type 0) (out : Output) : Result (Unit {0}) Stop
     → Type 0 where
-  whole : (done : Unit {0}) (text : List ℕ) → IsText text → Prints out text → HasPrinted Cause IsText out (Ok done)
+  whole : (done : Unit {0}) (text : List ℕ) → IsText text → Prints out text
+      → HasPrinted Cause IsText out (Ok done)
   stopped : (stop : Stop) → Cause stop → (text : List ℕ) → IsFront IsText text → Prints out text
       → HasPrinted Cause IsText out (Err stop)
   cut : (text : List ℕ) → IsText text → PrintsFront out text → HasPrinted Cause IsText out (Err Stops.Sink)
@@ -55,7 +56,8 @@ pub data IsEnded (Cause : Stop → Type 0) (IsText : List ℕ → Type 0) (out :
   told : (stop : Stop) → Cause stop → status ≡ status_of stop → (text : List ℕ) → IsFront IsText text
       → Prints out (text ++ line_of stop)
       → IsEnded Cause IsText out status
-  cut_text : status ≡ 9 → (text : List ℕ) → IsText text → PrintsFront out text → IsEnded Cause IsText out status
+  cut_text : status ≡ 9 → (text : List ℕ) → IsText text → PrintsFront out text
+      → IsEnded Cause IsText out status
   cut_line : status ≡ 9 → (stop : Stop) → Cause stop → (text : List ℕ) → IsFront IsText text
       → PrintsFront out (text ++ line_of stop)
       → IsEnded Cause IsText out status
@@ -72,7 +74,8 @@ pub data HasTold (stop : Stop) (out : Output) (status : ℕ) : Type 0 where
 abbrev pub HasClosed : Result (Unit {0}) Stop → Output → ℕ → Type 0
 HasClosed (Ok nothing) out status = (status ≡ 0) × (out.after ≡ out.before)
 HasClosed (Err stop) out status =
-    ((stop ≡ Stops.Sink) × (status ≡ 9) × (out.after ≡ out.before)) ⊎ ((stop ≢ Stops.Sink) × HasTold stop out status)
+    ((stop ≡ Stops.Sink) × (status ≡ 9) × (out.after ≡ out.before))
+    ⊎ ((stop ≢ Stops.Sink) × HasTold stop out status)
 
 -- a text was printed, or the output took a front of it; a stop was handed on
 abbrev pub HasShown : Result (List ℕ) Stop → Output → Result (Unit {0}) Stop → Type 0

@@ -1,5 +1,6 @@
 -- What a run leaves of everything that was handed in.
-use Rattle.std.specs.Prelude.{◌≡◌, ◌≢◌, ◌⊎◌, ◌<◌, ◌≤◌, ◌^◌, ℕ, List, [], ◌++◌, take, None, Some}
+use Rattle.std.specs.Prelude.{◌≡◌, ◌≢◌, ◌⊎◌, ◌<◌, ◌≤◌, ◌^◌, ℕ, List, [], ◌++◌}
+use Rattle.std.specs.Prelude.{take, None, Some}
 use Rattle.mta_records.specs.declared.step.Step.{Step}
 use Rattle.mta_machine.specs.Apdu.{IsApdu}
 use Rattle.mta_machine.specs.declared.item.Status.{Status}
@@ -81,8 +82,8 @@ pub record Ran {D C I : Type 0} (h : Handed D C I) (stations : OnStations) (out 
   -- each recipient is pending with no discharge, or is not pending and has one
   pub recipients_once : ForOpened h (λ steps. (n : ℕ) → RecipientsOnce (steps ++ take n (added ++ torn_step)))
   -- where `submit` printed the line `accepted N`, an added Accept of the input makes item N
-  pub acknowledged_kept : h.words ≡ Some Say.Submit → (a b : List ℕ) → out.before ≡ Some a → out.after ≡ Some b
-      → (n : ℕ) (rest : List ℕ) → n < 2 ^ 32 → b ≡ a ++ accepted_line n ++ rest
+  pub acknowledged_kept : h.words ≡ Some Say.Submit → (a b : List ℕ) → out.before ≡ Some a
+      → out.after ≡ Some b → (n : ℕ) (rest : List ℕ) → n < 2 ^ 32 → b ≡ a ++ accepted_line n ++ rest
       → ForInput h (λ i. ForOpened h (λ steps. IsKept steps added i n × IsKept steps (added ++ torn_step) i n))
   -- what was printed, the status, and why
   pub printed : IsEnded (Cause h ends added opening) (IsText h ends added opening) out status
@@ -102,7 +103,8 @@ pub record Ran {D C I : Type 0} (h : Handed D C I) (stations : OnStations) (out 
 -- the run ends before it opens the disk: the command opens none, or the words, the tables, the input or a source
 -- had a fault
 abbrev pub EndsBeforeOpening : {D C I : Type 0} → Handed D C I → ℕ → Type 0
-EndsBeforeOpening h status = (OpensDisk h.words → ⊥) ⊎ (status ≡ 1) ⊎ (status ≡ 2) ⊎ (status ≡ 6) ⊎ (status ≡ 8)
+EndsBeforeOpening h status =
+    (OpensDisk h.words → ⊥) ⊎ (status ≡ 1) ⊎ (status ≡ 2) ⊎ (status ≡ 6) ⊎ (status ≡ 8)
 
 -- What a status tells by itself. Want of memory, 7, is free.
 pub record Tells {D C I : Type 0} (h : Handed D C I) (out : Output) (status : ℕ) : Type 0 where

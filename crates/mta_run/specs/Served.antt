@@ -1,5 +1,5 @@
 -- What `serve` leaves of the stations and of the spool.
-use Rattle.std.specs.Prelude.{◌≡◌, ◌⊎◌, ℕ, List, [], ◌++◌, All, map, Some, Result, Ok, Err}
+use Rattle.std.specs.Prelude.{◌≡◌, ◌⊎◌, ℕ, List, [], ◌++◌, All, length, map, Some, Result, Ok, Err}
 use mathlib.Core.List.{IsPrefix}
 use Rattle.mta_edge.specs.Views.{ClockView, DiskView, SourceView}
 use Rattle.mta_links.specs.Links.{LinkView, StationView}
@@ -23,9 +23,10 @@ use Rattle.mta_run.specs.declared.stop.Stop.{Stop}
 use Rattle.mta_run.specs.declared.stop.Stop.TheVariants as Stops
 use Rattle.mta_run.specs.DiskLeft.{Opening, opened}
 use Rattle.mta_run.specs.Command.{HasEnded}
-use Rattle.mta_run.specs.Handed.{ForOpened, ForTables, Handed, handed}
+use Rattle.mta_run.specs.Handed.{DiskFailed, ForOpened, ForTables, Handed, handed}
 use Rattle.mta_run.specs.Inputs.{HasTables}
 use Rattle.mta_run.specs.Output.{Output}
+use Rattle.mta_run.specs.Sessions.{SessionsServed}
 use Rattle.mta_run.specs.Serving.{HasBegun, HasFinished, RecordsFirst}
 use Rattle.mta_run.specs.Submit.{AreInTurn, AreOwn, stop_of_step}
 use Rattle.mta_run.specs.Words.{Serves}
@@ -72,8 +73,15 @@ AreDueBehind h before steps =
     AreInTurn 2 steps
     × ForOpened h (λ first. AreOwn (h.clocks.tells h.clock) [] [] (after (first ++ before)) steps)
 
+-- What came behind them was due, and so was the step in which the disk failed, if it did. Or the disk had failed while
+-- they worked, and nothing came behind them.
+pub data ComesBehind {D C I : Type 0} (h : Handed D C I) (before back torn_step : List Step) : Type 0 where
+  Went_on : AreDueBehind h before (back ++ torn_step) → ComesBehind h before back torn_step
+  Had_failed : DiskFailed h → back ≡ [] → ComesBehind h before back torn_step
+
 -- What is known of the stations. No worker worked, and they are as they were; or each had a worker of its own, over one
--- history under one lock, which goes on from what the run itself had added before them.
+-- history under one lock, which goes on from what the run itself had added before them, and the sessions that they
+-- served have good lists.
 pub data StationsLeft {D C I L S : Type 0} (h : Handed D C I) (links : LinkView L) (stations : StationView S)
     (sessions : ℕ) (before after : List S) (opening : Opening) (ends : List WorkerEnd)
     (added torn_step : List Step) : Type 0 where
@@ -84,7 +92,8 @@ pub data StationsLeft {D C I L S : Type 0} (h : Handed D C I) (links : LinkView 
       → opening ≡ opened → added ≡ front ++ (workers ++ back)
       → IsBaseOf h base → AreOfRun h front
       → AreWorkers h.disks h.clocks links stations limits before after ends front base (front ++ workers)
-      → AreDueBehind h (front ++ workers) back
+      → ForOpened h (λ first. SessionsServed links first (front ++ workers) (length front))
+      → ComesBehind h (front ++ workers) back torn_step
       → StationsLeft h links stations sessions before after opening ends added torn_step
 
 -- ---- an open spool
@@ -113,9 +122,9 @@ pub data ServesSpool {D C L S : Type 0} (disks : DiskView D) (clocks : ClockView
 -- ---- all of it
 
 -- what `serve` leaves where its words name the stations that were handed in
-abbrev pub HasServed : {D C I L S : Type 0} → DiskView D → ClockView C → SourceView I → LinkView L → StationView S
-    → (sessions : ℕ) → (roles : List Role) → (conf conf_after : I) → (disk disk_after : D) → (clock : C)
-    → (before after : List S) → Output → Result (Unit {0}) Stop → Type 0
+abbrev pub HasServed : {D C I L S : Type 0} → DiskView D → ClockView C → SourceView I → LinkView L
+    → StationView S → (sessions : ℕ) → (roles : List Role) → (conf conf_after : I) → (disk disk_after : D)
+    → (clock : C) → (before after : List S) → Output → Result (Unit {0}) Stop → Type 0
 HasServed {I = I} disks clocks sources links stations sessions roles conf conf_after disk disk_after clock before after
     out result =
     (input : I) (named : List StationWord) → roles ≡ roles_of named →

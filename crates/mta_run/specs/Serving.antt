@@ -1,5 +1,6 @@
 -- What `serve` makes of its own over an open spool, before the workers and behind them.
-use Rattle.std.specs.Prelude.{◌≡◌, ◌⊎◌, ℕ, ◌+◌, ◌<◌, List, [], ◌∷◌, ◌++◌, length, true, false, Result, Ok, Err}
+use Rattle.std.specs.Prelude.{◌≡◌, ◌⊎◌, ℕ, ◌+◌, ◌<◌, List, [], ◌∷◌, ◌++◌, length, true}
+use Rattle.std.specs.Prelude.{false, Result, Ok, Err}
 use Rattle.mta_edge.specs.Causes.{Rose}
 use Rattle.mta_edge.specs.Views.{DiskView}
 use Rattle.mta_journal.specs.Appending.{journal_limit}
@@ -32,7 +33,8 @@ pub data IsNextOwn (tells : ℕ → Type 0) (conf : List ℕ) (s : State) : Step
       → IsNextOwn tells conf s step
 
 -- That step was refused: in a journal of this size its record would pass the limit.
-pub record IsOwnFull (tells : ℕ → Type 0) (conf : List ℕ) (s : State) (journal_size size need : ℕ) : Type 0 where
+pub record IsOwnFull (tells : ℕ → Type 0) (conf : List ℕ) (s : State) (journal_size size need : ℕ)
+    : Type 0 where
   pub step : Step
   pub next : IsNextOwn tells conf s step
   pub size_is : size ≡ journal_size
@@ -47,7 +49,8 @@ pub record IsOwnSpent (tells : ℕ → Type 0) (conf : List ℕ) (s : State) (la
   pub over : IsSpent s step
 
 -- why it was refused, as the state and the size of the journal show it
-abbrev pub IsOwnRefusal : (ℕ → Type 0) → (conf : List ℕ) → State → (size : ℕ) → (failed : Type 0) → StepFault → Type 0
+abbrev pub IsOwnRefusal : (ℕ → Type 0) → (conf : List ℕ) → State → (size : ℕ) → (failed : Type 0)
+    → StepFault → Type 0
 IsOwnRefusal tells conf s size failed (StepFaults.Full used need) = IsOwnFull tells conf s size used need
 IsOwnRefusal tells conf s size failed (StepFaults.Spent last) = IsOwnSpent tells conf s last
 IsOwnRefusal tells conf s size failed StepFaults.Disk = failed
@@ -83,8 +86,8 @@ pub record HasBegun {D C : Type 0} (disks : DiskView D) (tells : ℕ → Type 0)
 pub data SettlesBehind {D C : Type 0} (disks : DiskView D) (tells : ℕ → Type 0) (old new : Shown D C)
     : Result (Unit {0}) StepFault → Type 0 where
   Had_ended : old.journal.ended ≡ true → new ≡ old → SettlesBehind disks tells old new (Err StepFaults.Ended)
-  Settled : (result : Result (Unit {0}) StepFault) → old.journal.ended ≡ false → HasSettled disks tells old new result
-      → SettlesBehind disks tells old new result
+  Settled : (result : Result (Unit {0}) StepFault) → old.journal.ended ≡ false
+      → HasSettled disks tells old new result → SettlesBehind disks tells old new result
 
 -- a line a station was printed, or there was no memory for them, or the output took a front of them
 abbrev pub HasToldStations : List WorkerEnd → Output → Result (Unit {0}) Stop → Type 0
@@ -117,8 +120,8 @@ abbrev pub IsFinishStop : Result (Unit {0}) StepFault → List WorkerEnd → Sto
 IsFinishStop settled ends stop = (stop ≡ Stops.Memory) ⊎ IsOutcome settled ends (Err stop)
 
 -- what is left behind the workers: what had come due was done, and the lines were printed
-pub record HasFinished {D C : Type 0} (disks : DiskView D) (tells : ℕ → Type 0) (ends : List WorkerEnd) (out : Output)
-    (old new : Shown D C) (result : Result (Unit {0}) Stop) : Type 0 where
+pub record HasFinished {D C : Type 0} (disks : DiskView D) (tells : ℕ → Type 0) (ends : List WorkerEnd)
+    (out : Output) (old new : Shown D C) (result : Result (Unit {0}) Stop) : Type 0 where
   pub settled : Result (Unit {0}) StepFault
   pub behind : SettlesBehind disks tells old new settled
   pub printed : HasPrinted (IsFinishStop settled ends) (λ text. text ≡ station_lines ends) out result

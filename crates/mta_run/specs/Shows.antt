@@ -35,10 +35,12 @@ IsMailboxShown s name (Err stop) = (stop ≡ Stops.Memory)
 
 -- what holds of the history for which the disk stood, where it tells its octets and they stand for one
 abbrev pub ForHistoryOf : {D : Type 0} → DiskView D → D → (List Step → Type 0) → Type 0
-ForHistoryOf disks disk P = (f : List ℕ) (steps : List Step) → disks.content disk ≡ Some f → StandsFor f steps → P steps
+ForHistoryOf disks disk P =
+    (f : List ℕ) (steps : List Step) → disks.content disk ≡ Some f → StandsFor f steps → P steps
 
 -- what is shown of a spool
-pub data IsShownText {D : Type 0} (disks : DiskView D) (words : Words) (disk : D) : Opening → List ℕ → Type 0 where
+pub data IsShownText {D : Type 0} (disks : DiskView D) (words : Words) (disk : D)
+    : Opening → List ℕ → Type 0 where
   shows_queue : (text : List ℕ) → words ≡ Say.Queue
       → ForHistoryOf disks disk (λ steps. text ≡ queue_of (after steps))
       → IsShownText disks words disk opened text

@@ -1,5 +1,6 @@
 -- What `submit` adds to a spool.
-use Rattle.std.specs.Prelude.{◌≡◌, ◌⊎◌, ◌^◌, ℕ, ◌+◌, ◌≤◌, ◌<◌, List, [], ◌∷◌, ◌++◌, length, Bool, true, false}
+use Rattle.std.specs.Prelude.{◌≡◌, ◌⊎◌, ◌^◌, ℕ, ◌+◌, ◌≤◌, ◌<◌, List, [], ◌∷◌}
+use Rattle.std.specs.Prelude.{◌++◌, length, Bool, true, false}
 use Rattle.std.specs.Prelude.{count_by, min, max, Some, Result, Ok, Err}
 use Rattle.mta_edge.specs.Causes.{Rose}
 use Rattle.mta_edge.specs.Views.{DiskView, StaysTold}
@@ -33,7 +34,8 @@ abbrev pub IsOwnOnLane : (ℕ → Type 0) → (last : ℕ) → LaneStep → (mom
 IsOwnOnLane tells last (abandon k) moment = IsTimed tells last moment
 IsOwnOnLane tells last step moment = ⊥
 
-abbrev pub IsOwnOf : (ℕ → Type 0) → (conf input : List ℕ) → (last : ℕ) → Class → (moment : ℕ) → Type 0
+abbrev pub IsOwnOf : (ℕ → Type 0) → (conf input : List ℕ) → (last : ℕ) → Class → (moment : ℕ)
+    → Type 0
 IsOwnOf tells conf input last (classes.records text) moment = text ≡ conf
 IsOwnOf tells conf input last (classes.accepts octets) moment = (octets ≡ input) × IsTimed tells last moment
 IsOwnOf tells conf input last (classes.settles how i r) moment = IsTimed tells last moment
@@ -71,7 +73,8 @@ turn_behind step = min (turn_of step + 1) 2
 -- last.
 abbrev pub AreInTurn : ℕ → List Step → Type 0
 AreInTurn turn [] = Unit {0}
-AreInTurn turn (step ∷ steps) = (turn ≤ turn_of step) × (turn_of step ≤ max turn 1) × AreInTurn (turn_behind step) steps
+AreInTurn turn (step ∷ steps) =
+    (turn ≤ turn_of step) × (turn_of step ≤ max turn 1) × AreInTurn (turn_behind step) steps
 
 -- the turn behind steps
 abbrev pub turn_after : ℕ → List Step → ℕ
@@ -97,13 +100,14 @@ accepts steps = count_by is_accept steps
 -- Behind the added steps, in this state, this is the step that `submit` makes next: the tables, where they are not
 -- those recorded last; else the APDU, where it was not accepted; else what is due for the lowest item and
 -- recipient, at a moment that the clock tells.
-pub data IsNextStep (tells : ℕ → Type 0) (conf input : List ℕ) (added : List Step) (s : State) : Step → Type 0 where
+pub data IsNextStep (tells : ℕ → Type 0) (conf input : List ℕ) (added : List Step) (s : State)
+    : Step → Type 0 where
   tables : turn_after 0 added ≡ 0 → (IsRecorded s conf → ⊥)
       → IsNextStep tells conf input added s (Tables conf)
   apdu : (moment : ℕ) → turn_after 0 added ≤ 1 → IsRecorded s conf → IsTimed tells s.moment moment
       → IsNextStep tells conf input added s (Accept moment input)
-  due : (moment : ℕ) (step : Step) → turn_after 0 added ≡ 2 → IsTimed tells s.moment moment → IsNext s moment step
-      → IsNextStep tells conf input added s step
+  due : (moment : ℕ) (step : Step) → turn_after 0 added ≡ 2 → IsTimed tells s.moment moment
+      → IsNext s moment step → IsNextStep tells conf input added s step
 
 -- The step that is next was refused: in a journal of this size its record would pass the limit.
 pub record IsFullFor (tells : ℕ → Type 0) (conf input : List ℕ) (added : List Step) (s : State)
@@ -123,8 +127,8 @@ pub record IsSpentFor (tells : ℕ → Type 0) (conf input : List ℕ) (added : 
   pub over : IsSpent s step
 
 -- why a step of `submit` was refused, as the state and the size of the journal show it
-abbrev pub IsRefusal : (ℕ → Type 0) → (conf input : List ℕ) → (added : List Step) → State → (size : ℕ) → (failed
-    : Type 0) → StepFault → Type 0
+abbrev pub IsRefusal : (ℕ → Type 0) → (conf input : List ℕ) → (added : List Step) → State → (size : ℕ)
+    → (failed : Type 0) → StepFault → Type 0
 IsRefusal tells conf input added s size failed (StepFaults.Full used need) =
     IsFullFor tells conf input added s size used need
 IsRefusal tells conf input added s size failed (StepFaults.Spent last) = IsSpentFor tells conf input added s last
@@ -152,8 +156,8 @@ pub record IsAccepted (steps added : List Step) (input : List ℕ) (n : ℕ) : T
 
 -- The steps were added to a spool, behind every history that it stood for. `torn_step` is the step in which its
 -- disk failed, if it did.
-pub record Adds {D C : Type 0} (disks : DiskView D) (tells : ℕ → Type 0) (conf input : List ℕ) (old new : Shown D C)
-    (added torn_step : List Step) (failed : Type 0) : Type 0 where
+pub record Adds {D C : Type 0} (disks : DiskView D) (tells : ℕ → Type 0) (conf input : List ℕ)
+    (old new : Shown D C) (added torn_step : List Step) (failed : Type 0) : Type 0 where
   pub stands : (failed → ⊥) → (steps : List Step) → Stands disks old steps → Stands disks new (steps ++ added)
   pub calm : (failed → ⊥) → torn_step ≡ []
   pub one : length torn_step ≤ 1
@@ -161,9 +165,10 @@ pub record Adds {D C : Type 0} (disks : DiskView D) (tells : ℕ → Type 0) (co
   pub told : StaysTold disks old.journal.disk new.journal.disk
   pub entries : new.entries ≡ old.entries ++ added
   pub history : (steps : List Step) → Stands disks old steps → IsHistory (steps ++ (added ++ torn_step))
-  pub own : (steps : List Step) → Stands disks old steps → AreOwn tells conf input (after steps) (added ++ torn_step)
-  pub leaves : (f : List ℕ) → disks.content old.journal.disk ≡ Some f → (steps : List Step) → Stands disks old steps
-      → Leaves disks steps added torn_step old.journal.disk new.journal.disk
+  pub own : (steps : List Step) → Stands disks old steps
+      → AreOwn tells conf input (after steps) (added ++ torn_step)
+  pub leaves : (f : List ℕ) → disks.content old.journal.disk ≡ Some f → (steps : List Step)
+      → Stands disks old steps → Leaves disks steps added torn_step old.journal.disk new.journal.disk
 
 -- the tables were recorded where they changed, and the input accepted; or one of these was refused
 pub record HasStored {D C : Type 0} (disks : DiskView D) (tells : ℕ → Type 0) (conf input : List ℕ) (old new
@@ -173,7 +178,8 @@ pub record HasStored {D C : Type 0} (disks : DiskView D) (tells : ℕ → Type 0
   pub adds : Adds disks tells conf input old new added torn_step (result ≡ Err StepFaults.Disk)
   pub in_turn : AreInTurn 0 (added ++ torn_step)
   pub small : (n : ℕ) → result ≡ Ok n → n < 2 ^ 32
-  pub accepted : (n : ℕ) → result ≡ Ok n → (steps : List Step) → Stands disks old steps → IsAccepted steps added input n
+  pub accepted : (n : ℕ) → result ≡ Ok n → (steps : List Step) → Stands disks old steps
+      → IsAccepted steps added input n
   pub turn : (n : ℕ) → result ≡ Ok n → turn_after 0 added ≡ 2
   pub tables : (n : ℕ) → result ≡ Ok n → IsRecorded new.current conf
   pub refused : (fault : StepFault) → result ≡ Err fault
@@ -186,10 +192,12 @@ pub record HasSettled {D C : Type 0} (disks : DiskView D) (tells : ℕ → Type 
     : Result (Unit {0}) StepFault) : Type 0 where
   pub added : List Step
   pub torn_step : List Step
-  pub adds : (conf input : List ℕ) → Adds disks tells conf input old new added torn_step (result ≡ Err StepFaults.Disk)
+  pub adds : (conf input : List ℕ)
+      → Adds disks tells conf input old new added torn_step (result ≡ Err StepFaults.Disk)
   pub in_turn : AreInTurn 2 (added ++ torn_step)
   pub tables : (result ≡ Err StepFaults.Disk → ⊥) → new.current.machine.tables ≡ old.current.machine.tables
-  pub quiet : result ≡ Ok tt → (told : ℕ) × tells told × IsQuiet new.current (step_moment told new.current.moment)
+  pub quiet : result ≡ Ok tt
+      → (told : ℕ) × tells told × IsQuiet new.current (step_moment told new.current.moment)
   pub going : (result ≡ Err StepFaults.Disk → ⊥) → new.journal.ended ≡ false
   pub refused : (fault : StepFault) → result ≡ Err fault → (conf input : List ℕ) (before : List Step)
       → turn_after 0 before ≡ 2
@@ -215,8 +223,8 @@ stop_of_step (StepFaults.BusyLanes count) = Stops.Disk
 stop_of_step StepFaults.Unexpected = Stops.Disk
 
 -- why working on an open spool stopped
-pub data IsWorkStop (tells : ℕ → Type 0) (conf input : List ℕ) (added : List Step) (s : State) (size : ℕ) (failed
-    : Type 0) : Stop → Type 0 where
+pub data IsWorkStop (tells : ℕ → Type 0) (conf input : List ℕ) (added : List Step) (s : State) (size : ℕ)
+    (failed : Type 0) : Stop → Type 0 where
   full : (used need : ℕ) → IsFullFor tells conf input added s size used need
       → IsWorkStop tells conf input added s size failed (Stops.Full used need)
   spent : (last : ℕ) → IsSpentFor tells conf input added s last
@@ -242,5 +250,6 @@ pub record HasWorked {D C : Type 0} (disks : DiskView D) (tells : ℕ → Type 0
   pub printed : HasPrinted (IsWorkStop tells conf input added new.current new.journal.size (Rose
       (disks.faults old.journal.disk) (disks.faults new.journal.disk)))
       (IsAcceptedLine disks old added input) out result
-  pub quiet : result ≡ Ok tt → (told : ℕ) × tells told × IsQuiet new.current (step_moment told new.current.moment)
+  pub quiet : result ≡ Ok tt
+      → (told : ℕ) × tells told × IsQuiet new.current (step_moment told new.current.moment)
   pub tables : result ≡ Ok tt → IsRecorded new.current conf

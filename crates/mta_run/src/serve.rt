@@ -30,6 +30,7 @@ use mta_links::Station;
 use mta_session::Limits;
 use mta_spool::{Spool, StepFault, Tables};
 use mta_stations::{WorkerEnd, deciding, station_lines, unnamed_peer};
+use mta_worker_lists::{ends_agree, reading_tells};
 use mta_workers::{Worked, work_side_by_side};
 use std::alloc::Global;
 use std::sync::Wait;
@@ -259,6 +260,8 @@ where
     ensures later { O.model.faults out.old ≤ O.model.faults out.new }
 {
     outside_laws::<D, C>();
+    reading_tells();
+    ends_agree::<D, C, S::Link, S>();
     let tables = match tables_for(alloc, conf, stations.as_slice()) {
         Ok(tables) => tables,
         Err(stop) => {

@@ -49,6 +49,6 @@ returns-clause-served g c =
           c.args.tables.now.text (output g.O.Sink.model c.args.out.now f.new.out) c.args.spool c.begin.new.spool
           c.args.stations.items w.result.stations.items f.new.spool.journal.disk c.if-refused.outcome w.result.spool
           f.new.spool w.result.ends.items b.as_slice.result.now f.result c.in_default.ensures.begun
-          c.in_default.ensures.opened w.ensures.grows w.ensures.keeps (w.ensures.workers b.if-refused.false) (refl, refl)
-          b.as_slice.ensures.value f.ensures.finished f.ensures.keeps refl b.outcome-is)
+          c.in_default.ensures.opened w.ensures.grows w.ensures.keeps (w.ensures.workers b.if-refused.false)
+          (refl, refl) b.as_slice.ensures.value f.ensures.finished f.ensures.keeps refl b.outcome-is)
     ]

@@ -1,0 +1,15 @@
+-- What the sessions were that the workers of `serve` served.
+use Rattle.std.specs.Prelude.{ℕ, List}
+use Rattle.mta_links.specs.Links.{LinkView}
+use Rattle.mta_records.specs.declared.step.Step.{Step}
+use Rattle.mta_worker_lists.specs.Agreeing.{PartsAgree}
+use Rattle.mta_worker_lists.specs.All.{AllParts, AreGood}
+use Rattle.mta_worker_lists.specs.Histories.{is_apdu}
+
+-- The entries behind so many of these, which the workers made, are in parts of the history, one for each session or for
+-- none, and no entry is in two. The list of each session that had a lane is a good one. In each world that has such
+-- lists of a lane, in the order of the history's steps, the two ends of that lane agree.
+pub record SessionsServed {L : Type 0} (links : LinkView L) (first entries : List Step) (low : ℕ) : Type 0 where
+  pub parts : AllParts links is_apdu first entries low
+  pub good : AreGood links is_apdu first entries parts.parts parts.sessions
+  pub agree : PartsAgree links is_apdu first entries parts.parts
