@@ -19,7 +19,7 @@ use Rattle.mta_items.specs.Parts.{machine_of, made_items}
 use Rattle.mta_histories.specs.Classes.{deliver, expand, report, affirm, discard, back}
 use Rattle.mta_replay.specs.declared.kept.Kept.{Kept}
 use Rattle.mta_replay.specs.declared.change.Change.{Change}
-use Rattle.mta_replay.specs.Asked.{IsTextOf, Expands}
+use Rattle.mta_replay.specs.Asked.{IsTextOf, Expands, Passes}
 use Rattle.mta_replay.specs.Kept.{state_of}
 use Rattle.mta_replay.specs.Prepared.{Prepares}
 use Rattle.mta_replay.specs.Settling.{IsDischarge}
@@ -169,6 +169,14 @@ unsettled None (Some Verdicts.Back) place e = absurd cc
 unsettled (Some v) (Some Verdicts.Back) place e = absurd cc
 unsettled made (Some Verdicts.Discard) place e = absurd cc
 
+settled-is : (m : Machine) (i r moment : ℕ) (text : List ℕ) (item : ItemValue)
+    → numbered m.tables (last_tables m) ≡ Some text → numbered m.items i ≡ Some item
+    → verdict_at m i r moment
+    ≡ option_map (settled (passed_back text m.items item)) (verdict_of text item.octets item.arrival r moment)
+settled-is m i r moment text item text_is item_is =
+    ap (λ (t : Option (List ℕ)). verdict_on m.items t (numbered m.items i) r moment) text_is
+    ∙ ap (λ (x : Option ItemValue). verdict_on m.items (Some text) x r moment) item_is
+
 pub is_expanded : (m : Machine) (i r moment place : ℕ) (text : List ℕ) (item : ItemValue)
     → numbered m.tables (last_tables m) ≡ Some text → numbered m.items i ≡ Some item
     → verdict_at m i r moment ≡ Some (Verdicts.Expand place)
@@ -176,8 +184,27 @@ pub is_expanded : (m : Machine) (i r moment place : ℕ) (text : List ℕ) (item
 is_expanded m i r moment place text item text_is item_is verdict_is = (
   place,
   unsettled (passed_back text m.items item) (verdict_of text item.octets item.arrival r moment) place
-      (sym
-      (ap (λ (t : Option (List ℕ)). verdict_on m.items t (numbered m.items i) r moment) text_is
-      ∙ ap (λ (x : Option ItemValue). verdict_on m.items (Some text) x r moment) item_is)
-      ∙ verdict_is),
+      (sym (settled-is m i r moment text item text_is item_is) ∙ verdict_is),
 )
+
+-- ---- a report that is passed back
+
+unpassed : (made : Option ApduValue) (o : Option Verdict) → option_map (settled made) o ≡ Some Verdicts.Back
+    → o ≡ Some Verdicts.Back
+unpassed made None e = absurd cc
+unpassed made (Some (Verdicts.Deliver p)) e = absurd cc
+unpassed made (Some (Verdicts.Expand p)) e = absurd cc
+unpassed made (Some (Verdicts.Relay p)) e = absurd cc
+unpassed made (Some Verdicts.Affirm) e = absurd cc
+unpassed made (Some (Verdicts.NonDeliver a b)) e = absurd cc
+unpassed made (Some (Verdicts.Hold until)) e = absurd cc
+unpassed made (Some Verdicts.Back) e = refl
+unpassed made (Some Verdicts.Discard) e = absurd cc
+
+pub is_passed : (m : Machine) (i r moment : ℕ) (text : List ℕ) (item : ItemValue)
+    → numbered m.tables (last_tables m) ≡ Some text → numbered m.items i ≡ Some item
+    → verdict_at m i r moment ≡ Some Verdicts.Back
+    → Passes (verdict_of text item.octets item.arrival r moment)
+is_passed m i r moment text item text_is item_is verdict_is =
+    unpassed (passed_back text m.items item) (verdict_of text item.octets item.arrival r moment)
+    (sym (settled-is m i r moment text item text_is item_is) ∙ verdict_is)

@@ -179,7 +179,7 @@ fn passing_back<R: Rules>(
     ensures { IfOk result (Prepares (state_of kept.now) (Steps.Back number recipient moment)) }
 {
     let items = kept.parts.items.as_slice();
-    let first = rules.passed_back(alloc, items, item, moment)?;
+    let first = rules.passed_back(alloc, items, item, recipient, moment)?;
     let made = Made {
         first,
         second: None,

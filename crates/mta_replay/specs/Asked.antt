@@ -46,6 +46,10 @@ Expands verdict = (place : ℕ) × (verdict ≡ Some (Verdicts.Expand place))
 abbrev pub Relays : Option Verdict → Type 0
 Relays verdict = (place : ℕ) × (verdict ≡ Some (Verdicts.Relay place))
 
+-- a report has come to a list, from which it is passed back where it can be
+abbrev pub Passes : Option Verdict → Type 0
+Passes verdict = verdict ≡ Some Verdicts.Back
+
 -- this is the text of the tables recorded last
 abbrev pub IsTextOf : Kept → List ℕ → Type 0
 IsTextOf kept text = let m = machine_of kept.parts in numbered m.tables (last_tables m) ≡ Some text

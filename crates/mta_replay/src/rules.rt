@@ -11,7 +11,7 @@ ghost use Rattle.mta_machine.specs.Rules.{delivery_report, expansion, is_expired
 ghost use Rattle.mta_machine.specs.Rules.{non_delivery_report, outgoing_copy, passed_back, peer_word, route_word};
 ghost use Rattle.mta_machine.specs.Rules.{verdict_of};
 ghost use Rattle.mta_items.specs.Parts.{made_items};
-ghost use Rattle.mta_replay.specs.Asked.{AreRelays, AreRoutes, AreUnder, CodesAreCodes, Expands, Relays};
+ghost use Rattle.mta_replay.specs.Asked.{AreRelays, AreRoutes, AreUnder, CodesAreCodes, Expands, Passes, Relays};
 
 use mta_ber::{Memory, Word};
 use mta_items::Made;
@@ -152,15 +152,18 @@ pub trait Rules {
         ensures { IfOk result (λ made. made_items made
             ≡ map (own_item moment) (expansion (text self.now) number item.now recipient moment)) };
 
-    /// The item that is a report which is passed back at a moment, among these items; none where it cannot be.
+    /// The item that is a report which is passed back at a moment from a recipient who is a list, among these items;
+    /// none where it cannot be.
     fn passed_back(
         &self,
         alloc: Global,
         items: &[Item],
         item: &Item,
+        recipient: u32,
         moment: u64,
     ) -> Result<Option<Item>, Memory>
         requires arrived { item.now.arrival ≤ last_moment }
+        requires passed { Passes (verdict_of (text self.now) item.now.octets item.now.arrival recipient moment) }
         ensures { IfOk result (λ made. made
             ≡ option_map (own_item moment) (passed_back (text self.now) items.now item.now)) };
 

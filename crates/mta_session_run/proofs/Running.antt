@@ -1,5 +1,5 @@
 -- A session that is carried on, call after call.
-use Rattle.std.proofs.Common.{◌≡◌, ◌⊎◌, inl, inr, ℕ, ◌+◌, ◌^◌, ◌≤◌, min, Bool, true, false, Option, Some, None, Result, Ok, Err, OnErr, List, [], ◌∷◌, ◌++◌, take, refl, sym, ap, subst, ◌∙◌, arith, append_assoc, append-nil}
+use Rattle.std.proofs.Common.{◌≡◌, ℕ, ◌≤◌, true, false, Option, None, Result, Ok, Err, OnErr, List, [], ◌∷◌, ◌++◌, take, refl, sym, ap, subst, ◌∙◌, arith, append_assoc, append-nil}
 use Rattle.mta_edge.specs.Causes.{Rose}
 use Rattle.mta_links.specs.Links.{LinkView, Talk, Leads}
 use Rattle.mta_units.specs.declared.unit.Unit.{Unit as AnyUnit}
@@ -16,12 +16,12 @@ use Rattle.mta_session.specs.declared.phase.Phase.TheVariants as phase
 use Rattle.mta_session.specs.State.{State}
 use Rattle.mta_session.specs.Session.{StepsTo}
 use Rattle.mta_session.specs.Fits.{Fits, Answers, AnswersAt, answers_put, answers_read}
-use Rattle.mta_session.specs.Rank.{is_over, calls_left}
+use Rattle.mta_session.specs.Rank.{is_over}
 use Rattle.mta_session_laws.specs.Runs.{Turn, IsTurn}
-use Rattle.mta_session_laws.specs.Whole.{IsNew, AreCalls}
-use Rattle.mta_session_laws.specs.Writing.{CanWrite, TellsWritable, PutsWritable, PutsMayBeWritten}
+use Rattle.mta_session_laws.specs.Whole.{AreCalls}
+use Rattle.mta_session_laws.specs.Writing.{TellsWritable, PutsMayBeWritten}
 use Rattle.mta_session_order.specs.Order.{awaits, is_putting, is_reading, ActionsAreAwaited}
-use Rattle.mta_session_run.specs.Running.{HasPut, HasGot, HasDone, IsRead, units_of, IsCalled, HasTold, PutFor, is_cut, Runs, Not_yet, Goes_on, IsRun, HasRun, HasStopped, Exchanged, action_of, RunsAreCalls}
+use Rattle.mta_session_run.specs.Running.{HasPut, HasGot, HasDone, IsRead, units_of, IsCalled, HasTold, PutFor, is_cut, Runs, Not_yet, Goes_on, IsRun, HasRun, HasStopped, IsShort, IsUndone, Not_done, Not_told, Not_put, Exchanged, action_of, RunsAreCalls}
 use Rattle.mta_session_run.specs.declared.came.Came.{Came}
 use Rattle.mta_session_run.specs.declared.link.Done.{Done}
 use Rattle.mta_session_run.specs.declared.link.Done.TheVariants as done
@@ -161,6 +161,12 @@ done_carries model action.Read old fed e new feed h = got_carries model old fed 
 done_carries model (action.Ask x) old fed e new feed h = elim h [ ]
 done_carries model (action.Finish x) old fed e new feed h = elim h [ ]
 
+-- Where there was no memory for it ---------------------------------------------------------
+
+-- nothing was put
+pub put_undone : {L : Type 0} → (model : LinkView L) (a : Action) (u : AnyUnit) (old : L) (fed : Feed) (new : L) → a ≡ action.Put u → model.talk new ≡ model.talk old → IsUndone model a old fed new
+put_undone model a u old fed new i same = Not_put u i same
+
 -- Calls ------------------------------------------------------------------------------------
 
 runs_later : (failed gone : Type 0) (t : State) (a : Action) (xs : List Turn) (us : List AnyUnit) (os : List ℕ) (u : State) (b : Action) → (failed → gone) → Runs failed t a xs us os u b → Runs gone t a xs us os u b
@@ -224,14 +230,23 @@ called_more t b e a u k w h =
       awaited = h.awaited k.first k.turns k.new calls;
     }
 
-pub stopped : {L : Type 0} → (model : LinkView L) (t : State) (a : Action) (old : L) (fed : Feed) (u : State) (b : Action) (mid : L) (half : Feed) (new : L) → IsRun model t a old fed u b mid half → model.faults mid ≤ model.faults new → HasStopped model t a old u new
-stopped model t a old fed u b mid half new r m = record {
+pub stopped : {L : Type 0} → (model : LinkView L) (t : State) (a : Action) (old : L) (fed : Feed) (u : State) (b : Action) (mid : L) (half : Feed) (new : L) → IsRun model t a old fed u b mid half → model.faults mid ≤ model.faults new → IsShort model u b mid half new → HasStopped model t a old fed u new
+stopped model t a old fed u b mid half new r m why = record {
   turns = r.turns;
   units = r.units;
   octets = r.octets;
   last = b;
   runs = runs_later _ _ t a r.turns r.units r.octets u b (λ y. rose_after (model.faults old) (model.faults mid) (model.faults new) m y) r.runs;
+  mid = mid;
+  mid_fed = half;
+  carried = r.carried;
+  short = why;
 }
+
+-- there was no memory at the link for its action
+pub stopped_there : {L : Type 0} → (model : LinkView L) (t : State) (a : Action) (old : L) (fed : Feed) (u : State) (b : Action) (mid : L) (half : Feed) (new : L) → IsRun model t a old fed u b mid half → model.faults mid ≤ model.faults new → IsUndone model b mid half new → HasStopped model t a old fed u new
+stopped_there model t a old fed u b mid half new r m undone =
+    stopped model t a old fed u b mid half new r m (Not_done undone)
 
 runs_calls : (failed : Type 0) (t : State) (a : Action) (xs : List Turn) (us : List AnyUnit) (os : List ℕ) (u : State) (b : Action) → Runs failed t a xs us os u b → AreCalls t xs u
 runs_calls failed t a xs us os u b Not_yet = refl
@@ -265,8 +280,12 @@ came_so {L} model t a old fed u b mid half d x new feed i h r k =
       called = subst (λ (z : Action). IsCalled u z) at.0 k;
     }
 
-pub stopped_still : {L : Type 0} → (model : LinkView L) (t : State) (a : Action) (old : L) (u v : State) (new : L) → v ≡ u → HasStopped model t a old u new → HasStopped model t a old v new
-stopped_still model t a old u v new e h = subst (λ (z : State). HasStopped model t a old z new) (sym e) h
+-- the session was not told what came of its action
+pub stopped_still : {L : Type 0} → (model : LinkView L) (t : State) (a : Action) (old : L) (fed : Feed) (u : State) (b : Action) (mid : L) (half : Feed) (e : Event) (v : State) (new : L) (feed : Feed) →
+    v ≡ u → IsRun model t a old fed u b mid half → model.faults mid ≤ model.faults new → HasDone model b mid half e new feed → Answers u e → HasStopped model t a old fed v new
+stopped_still model t a old fed u b mid half e v new feed same r m h k =
+    subst (λ (z : State). HasStopped model t a old fed z new) (sym same)
+    (stopped model t a old fed u b mid half new r m (Not_told e feed h k))
 
 -- whatever was answered
 pub on_err : {A E : Type 0} (X : Type 0) (r : Result A E) → X → OnErr r X

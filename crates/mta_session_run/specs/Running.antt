@@ -1,16 +1,17 @@
 -- A session that is run over a link: its calls, the units that it got, and the octets that were put for it.
-use Rattle.std.specs.Prelude.{◌≡◌, ◌⊎◌, ◌<◌, ◌≤◌, ℕ, Bool, true, false, Option, List, []}
+use Rattle.std.specs.Prelude.{◌≡◌, ◌<◌, ℕ, Bool, true, false, Option, List, []}
 use Rattle.std.specs.Prelude.{◌∷◌, ◌++◌, take}
 use Rattle.mta_edge.specs.Causes.{Rose}
 use Rattle.mta_links.specs.Links.{LinkView, Talk, Leads}
 use Rattle.mta_units.specs.declared.unit.Unit.{Unit as AnyUnit}
 use Rattle.mta_units.specs.Feed.{Feed}
 use Rattle.mta_units.specs.Canon.{unit_octets}
-use Rattle.mta_unit_links.specs.Carried.{Carried, IsOver, PutsAll, PutsFront}
+use Rattle.mta_unit_links.specs.Carried.{Carried, Fronted, IsOver, PutsAll, PutsFront}
 use Rattle.mta_session.specs.declared.event.Event.{Event}
 use Rattle.mta_session.specs.declared.event.Event.TheVariants as event
 use Rattle.mta_session.specs.declared.event.Action.{Action}
 use Rattle.mta_session.specs.declared.event.Action.TheVariants as action
+use Rattle.mta_session.specs.Fits.{Answers}
 use Rattle.mta_session.specs.State.{State}
 use Rattle.mta_session.specs.Rank.{calls_left, is_over}
 use Rattle.mta_session_laws.specs.Runs.{Turn, IsTurn}
@@ -53,6 +54,15 @@ abbrev pub HasDone : {L : Type 0} → LinkView L → Action → L → Feed → E
 HasDone model (action.Put u) old fed e new feed = HasPut model u old e new × (feed ≡ fed)
 HasDone model action.Read old fed e new feed = HasGot model old fed e new feed
 HasDone model _ old fed e new feed = ⊥
+
+-- No memory for what an action does at the link: none for the octets of a unit, of which nothing was put; or none to
+-- read one, and what was read before stands at the front of what the link gave.
+pub data IsUndone {L : Type 0} (model : LinkView L) (a : Action) (old : L) (fed : Feed) (new : L) : Type 0 where
+  Not_put : (u : AnyUnit) → a ≡ action.Put u → model.talk new ≡ model.talk old → IsUndone model a old fed new
+  Not_read : a ≡ action.Read
+      → ((since : Option Talk) (us : List AnyUnit) (octets : List ℕ)
+      → Leads (Carried us octets fed) since (model.talk old) → Leads (Fronted us octets) since (model.talk new))
+      → IsUndone model a old fed new
 
 abbrev pub action_of : Came → Action
 action_of (came.Asks x) = action.Ask x
@@ -126,14 +136,28 @@ pub record HasRun {L : Type 0} (model : LinkView L) (t : State) (a : Action) (ol
   pub run : IsRun model t a old fed u (action_of c) new feed
   pub called : IsCalled u (action_of c)
 
--- After want of memory the calls so far stand.
-pub record HasStopped {L : Type 0} (model : LinkView L) (t : State) (a : Action) (old : L) (u : State)
+-- Why it was stopped behind its last call: there was no memory for what its action does at the link, or none for the
+-- call that was to be told what came of it.
+pub data IsShort {L : Type 0} (model : LinkView L) (u : State) (b : Action) (old : L) (fed : Feed) (new : L)
+    : Type 0 where
+  Not_done : IsUndone model b old fed new → IsShort model u b old fed new
+  Not_told : (e : Event) (feed : Feed) → HasDone model b old fed e new feed → Answers u e
+      → IsShort model u b old fed new
+
+-- After want of memory the calls so far stand, and what they did at the link.
+pub record HasStopped {L : Type 0} (model : LinkView L) (t : State) (a : Action) (old : L) (fed : Feed) (u : State)
     (new : L) : Type 0 where
   pub turns : List Turn
   pub units : List AnyUnit
   pub octets : List ℕ
   pub last : Action
   pub runs : Runs (Rose (model.faults old) (model.faults new)) t a turns units octets u last
+  pub mid : L
+  pub mid_fed : Feed
+  pub carried : (since : Option Talk) (us : List AnyUnit) (os : List ℕ)
+      → Leads (Carried us os fed) since (model.talk old) →
+      Leads (Carried (us ++ units) (os ++ octets) mid_fed) since (model.talk mid)
+  pub short : IsShort model u last mid mid_fed new
 
 -- What was carried on are calls of the session, one after the other.
 abbrev pub RunsAreCalls : Type 0

@@ -1,9 +1,12 @@
 //! What a session wants done at its link.
 
-ghost use Rattle.std.specs.Prelude.{◌≤◌, IfOk};
+ghost use Rattle.std.specs.Prelude.{◌≡◌, ◌≤◌, List, ℕ, Option, IfOk, OnErr};
+ghost use Rattle.mta_links.specs.Links.{Leads, Talk};
 ghost use Rattle.mta_session_laws.specs.Writing.{PutsWritable};
+ghost use Rattle.mta_unit_links.specs.Carried.{Carried, Fronted};
 ghost use Rattle.mta_units.specs.Canon.{IsWritable};
-ghost use Rattle.mta_session_run.specs.Running.{HasPut, HasGot, Exchanged};
+ghost use Rattle.mta_units.specs.declared.unit.Unit.{Unit as AnyUnit};
+ghost use Rattle.mta_session_run.specs.Running.{HasPut, HasGot, Exchanged, IsUndone};
 
 use crate::came::Came;
 use mta_ber::Memory;
@@ -20,10 +23,11 @@ pub enum Done {
     Came(Came),
 }
 
-/// Puts a unit, and tells whether it is wholly put.
+/// Puts a unit, and tells whether it is wholly put. After want of memory nothing was put.
 fn put<L: Link>(alloc: Global, link: &mut L, unit: &Unit) -> Result<Event, Memory>
     requires { IsWritable unit.now }
     ensures put { IfOk result (λ e. HasPut L.model unit.now link.old e link.new) }
+    ensures none { OnErr result (L.model.talk link.new ≡ L.model.talk link.old) }
     ensures later { L.model.faults link.old ≤ L.model.faults link.new }
 {
     if put_unit(alloc, link, unit)? {
@@ -33,9 +37,12 @@ fn put<L: Link>(alloc: Global, link: &mut L, unit: &Unit) -> Result<Event, Memor
     }
 }
 
-/// Reads the next unit.
+/// Reads the next unit. After want of memory what was read before stands at the front of what the link gave.
 fn get<L: Link>(link: &mut L, frames: &mut Frames) -> Result<Event, Memory>
     ensures got { IfOk result (λ e. HasGot L.model link.old frames.old e link.new frames.new) }
+    ensures lost { (since : Option Talk) (us : List AnyUnit) (octets : List ℕ) →
+        Leads (Carried us octets frames.old) since (L.model.talk link.old) →
+        OnErr result (Leads (Fronted us octets) since (L.model.talk link.new)) }
     ensures later { L.model.faults link.old ≤ L.model.faults link.new }
 {
     match get_unit(link, frames)? {
@@ -54,6 +61,7 @@ pub fn exchange<L: Link>(
 ) -> Result<Done, Memory>
     requires { PutsWritable action }
     ensures done { IfOk result (λ d. Exchanged L.model action link.old frames.old d link.new frames.new) }
+    ensures short { OnErr result (IsUndone L.model action link.old frames.old link.new) }
     ensures later { L.model.faults link.old ≤ L.model.faults link.new }
 {
     match action {

@@ -31,7 +31,8 @@ pub fn tell(session: &mut Session, event: Event) -> Result<Action, Memory>
 
 /// Carries a session on over its link, from an action of it, until it asks the spool something or is over. While it
 /// does so no step is made. What is asked is handed to the caller, who tells the session the answer (`tell`) and
-/// carries it on from the action that it has then.
+/// carries it on from the action that it has then. After want of memory the calls so far stand; of the last action
+/// nothing came, or an event that the session was not told.
 pub fn carry_on<L: Link>(
     alloc: Global,
     link: &mut L,
@@ -42,7 +43,8 @@ pub fn carry_on<L: Link>(
     requires called { IsCalled session.old action }
     ensures run { IfOk result
         (λ c. HasRun L.model session.old action link.old frames.old c session.new link.new frames.new) }
-    ensures lost { OnErr result (HasStopped L.model session.old action link.old session.new link.new) }
+    ensures lost { OnErr result
+        (HasStopped L.model session.old action link.old frames.old session.new link.new) }
     ensures left { calls_left session.new ≤ calls_left session.old }
     ensures later { L.model.faults link.old ≤ L.model.faults link.new }
 {

@@ -5,6 +5,7 @@ pub mod Expanded
 pub mod IdleItems
 pub mod Led
 pub mod Numbered
+pub mod Passed
 pub mod Read
 pub mod Reported
 pub mod Sames

@@ -1,6 +1,6 @@
 //! Reports that come to a list and are passed back (X.411, clause 14: distribution lists, reports).
 
-ghost use Rattle.std.specs.Prelude.{◌≡◌, ◌≤◌, IfOk, Some, is_some, map};
+ghost use Rattle.std.specs.Prelude.{◌≡◌, ◌≤◌, ◌<◌, IfOk, Some, is_some, length, map};
 ghost use Rattle.std.specs.List.{find, list_any, zip};
 ghost use Rattle.std.specs.Option.{option_and_then, option_copied, option_map};
 ghost use Rattle.mta_ber.specs.Times.{last_moment};
@@ -10,13 +10,16 @@ ghost use Rattle.mta_names.specs.Normal.{is_same_name};
 ghost use Rattle.mta_fields.specs.Identifiers.{is_same_id};
 ghost use Rattle.mta_tables.specs.Hops.{list_named};
 ghost use Rattle.mta_procedures.specs.Situations.{situation};
+ghost use Rattle.mta_procedures.specs.Traces.{longest_trace};
 ghost use Rattle.mta_procedures.specs.Walks.{behind_list, is_expanded_as, is_subject_of, passed_to, report_walk};
 ghost use Rattle.mta_procedures.specs.Walks.{walk_of};
 ghost use Rattle.mta_procedures.specs.Walks as walks;
 ghost use Rattle.mta_machine.specs.Machine.{own_item};
 ghost use Rattle.mta_machine.specs.Rules.{accepted_as, accepted_in, accepted_of, is_expanded, is_own};
-ghost use Rattle.mta_machine.specs.Rules.{passed_under};
+ghost use Rattle.mta_machine.specs.Rules.{passed_under, verdict_of};
 ghost use Rattle.mta_machine.specs.Rules as rules;
+ghost use Rattle.mta_replay.specs.Asked.{Passes};
+ghost use Rattle.mta_table_rules.specs.Copied.{trace_in};
 
 use crate::reading::{read_kept, text_reads};
 use crate::reports::report_item;
@@ -252,7 +255,8 @@ fn redirected(
     report: &Report,
     name: OrName,
 ) -> Result<Report, Memory>
-    requires { arrival ≤ last_moment }
+    requires arrived { arrival ≤ last_moment }
+    requires room { length report.now.trace < longest_trace }
     ensures { IfOk result (λ r. r ≡ walks.passed_back (situation tables.now arrival 0) report.now name) }
 {
     let fields = report.fields();
@@ -270,7 +274,8 @@ fn report_passed(
     report: &Report,
     items: &[Item],
 ) -> Result<Option<Report>, Memory>
-    requires { arrival ≤ last_moment }
+    requires arrived { arrival ≤ last_moment }
+    requires room { length report.now.trace < longest_trace }
     ensures { IfOk result (λ r. option_map apdus.report r
         ≡ passed_under items.now origin arrival tables.now (apdus.report report.now)) }
 {
@@ -288,7 +293,8 @@ fn passed_under(
     apdu: &Apdu<'_>,
     items: &[Item],
 ) -> Result<Option<Report>, Memory>
-    requires { arrival ≤ last_moment }
+    requires arrived { arrival ≤ last_moment }
+    requires room { length (trace_in (apdu_value apdu.now)) < longest_trace }
     ensures { IfOk result (λ r. option_map apdus.report r
         ≡ passed_under items.now origin arrival tables.now (apdu_value apdu.now)) }
 {
@@ -298,15 +304,18 @@ fn passed_under(
     }
 }
 
-/// The item that is a report which is passed back at a moment, among these items; none where it cannot be.
+/// The item that is a report which is passed back at a moment from a recipient who is a list, among these items; none
+/// where it cannot be.
 pub fn passed_item(
     alloc: Global,
     tables: &Tables,
     items: &[Item],
     item: &Item,
+    recipient: u32,
     moment: u64,
 ) -> Result<Option<Item>, Memory>
-    requires { item.now.arrival ≤ last_moment }
+    requires arrived { item.now.arrival ≤ last_moment }
+    requires passed { Passes (verdict_of tables.now.text item.now.octets item.now.arrival recipient moment) }
     ensures { IfOk result (λ made. made
         ≡ option_map (own_item moment) (rules.passed_back tables.now.text items.now item.now)) }
 {

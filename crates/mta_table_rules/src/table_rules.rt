@@ -172,9 +172,10 @@ impl Rules for TableRules {
         alloc: Global,
         items: &[Item],
         item: &Item,
+        recipient: u32,
         moment: u64,
     ) -> Result<Option<Item>, Memory> {
-        passed_item(alloc, &self.tables, items, item, moment)
+        passed_item(alloc, &self.tables, items, item, recipient, moment)
     }
 
     fn outgoing_copy(

@@ -22,7 +22,8 @@ use Rattle.mta_worker.specs.Served.{Halting, Calling, Lost_before, Too_often}
 use Rattle.mta_worker.specs.Serving.{GivesUp, InTurn, IsServed}
 use Rattle.mta_worker.proofs.Closing.{HasClosed, readied_as}
 
-begins_as : (r : Ready) (u : State) (x y : Result Action Lost) → r ≡ ready.Begins u x → x ≡ y → r ≡ ready.Begins u y
+begins_as : (r : Ready) (u : State) (x y : Result Action Lost) → r ≡ ready.Begins u x → x ≡ y
+    → r ≡ ready.Begins u y
 begins_as r u x y e i = e ∙ ap (λ (z : Result Action Lost). ready.Begins u z) i
 
 module _ {D C L : Type 0} (disks : DiskView D) (clocks : ClockView C) (links : LinkView L) (peer : List ℕ)
@@ -39,7 +40,8 @@ module _ {D C L : Type 0} (disks : DiskView D) (clocks : ClockView C) (links : L
 
   pub called_well : (n : ℕ) (p mid at q : Held Step) (noted : Option Halt) (r : Ready) (u : State)
       (x : Result Action Lost) (first : Action) (old new : L) (served : Served)
-      → HasClosed disks clocks links peer units n p mid → r ≡ ready.Begins u x → x ≡ Ok first → Readied r noted mid at
+      → HasClosed disks clocks links peer units n p mid → r ≡ ready.Begins u x → x ≡ Ok first
+      → Readied r noted mid at
       → IsServed disks clocks links (record {
         session = u;
         action = first;
@@ -53,9 +55,10 @@ module _ {D C L : Type 0} (disks : DiskView D) (clocks : ClockView C) (links : L
       (readied_as disks clocks peer units noted r (ready.Begins u (Ok first)) mid at
       (begins_as r u x (Ok first) e f) i) s
 
-  pub called_lost : (n : ℕ) (p mid q : Held Step) (noted : Option Halt) (r : Ready) (u : State) (x : Result Action Lost)
-      (lost : Lost) (turned : Bool) (old new : L) (served : Served) → HasClosed disks clocks links peer units n p mid
-      → r ≡ ready.Begins u x → x ≡ Err lost → Readied r noted mid q → turned ≡ has_turned u.phase
+  pub called_lost : (n : ℕ) (p mid q : Held Step) (noted : Option Halt) (r : Ready) (u : State)
+      (x : Result Action Lost) (lost : Lost) (turned : Bool) (old new : L) (served : Served)
+      → HasClosed disks clocks links peer units n p mid → r ≡ ready.Begins u x → x ≡ Err lost
+      → Readied r noted mid q → turned ≡ has_turned u.phase
       → GivesUp links lost turned noted old new served → HasCalled disks clocks links peer units p old new q served
   called_lost n p mid q noted r u x lost turned old new served h e f i t gives =
       Lost_before h.0 mid u lost noted h.1 (readied_as disks clocks peer units noted r (ready.Begins u (Err lost)) mid q

@@ -1,5 +1,6 @@
 -- Turns of the lock in which lanes that were never agreed are closed.
-use Rattle.std.proofs.Common.{◌≡◌, ℕ, ◌+◌, List, [], ◌∷◌, ◌++◌, length, length-append, Option, None, Result, refl}
+use Rattle.std.proofs.Common.{◌≡◌, ℕ, ◌+◌, List, [], ◌∷◌, ◌++◌, length, length-append, Option}
+use Rattle.std.proofs.Common.{None, Result, refl}
 use Rattle.std.proofs.Common.{subst, arith}
 use Rattle.mta_edge.specs.Views.{ClockView, DiskView}
 use Rattle.mta_links.specs.Links.{LinkView}
@@ -39,7 +40,8 @@ module _ {D C : Type 0} (disks : DiskView D) (clocks : ClockView C) where
   readied_same peer units s halt t halt' r e (No_memory a h) = h
   readied_same peer units s halt t halt' r e (Stepped x y a b) = stepped_same x units s halt t halt' y e b
 
-  closed_so : (peer : List ℕ) (units : ℕ) (noted : Option Halt) (r : Ready) → r ≡ ready.Closed → (s t : Shown D C)
+  closed_so : (peer : List ℕ) (units : ℕ) (noted : Option Halt) (r : Ready) → r ≡ ready.Closed
+      → (s t : Shown D C)
       → IsReadied disks clocks peer units s None t noted r
       → IsReadied disks clocks peer units s None t None ready.Closed
   closed_so peer units noted r e s t i =

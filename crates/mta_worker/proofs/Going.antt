@@ -85,7 +85,7 @@ module _ {D C L : Type 0} (disks : DiskView D) (clocks : ClockView C) (links : L
 
   -- There was no memory to carry it on.
   pub served_stopped : (x y : At L) (t : State) (at link : L) (turned : Bool) (served : Served) → Gone x y
-      → HasStopped links y.session y.action y.link t at → turned ≡ has_turned t.phase
+      → HasStopped links y.session y.action y.link y.feed t at → turned ≡ has_turned t.phase
       → GivesUp links losts.Memory turned y.halt at link served → IsServed disks clocks links x link y.pass served
   served_stopped x y t at link turned served g h e gives =
       Stopped g.0 y t at g.1 h refl (turned_so losts.Memory turned (has_turned t.phase) y.halt at link served e gives)

@@ -1,6 +1,6 @@
 -- A question of a session makes at most one step.
-use Rattle.std.proofs.Common.{◌≡◌, ◌⊎◌, ℕ, ◌^◌, List, Option, None, Some, Result, Ok, Err, inl, inr, refl}
-use Rattle.std.proofs.Common.{ap, arith}
+use Rattle.std.proofs.Common.{◌≡◌, ◌⊎◌, ℕ, ◌^◌, List, Option, None, Some, Result, Ok, Err, inl, inr}
+use Rattle.std.proofs.Common.{refl, ap, arith}
 use Rattle.std.proofs.lemmas.Bool.{cases_lt}
 use Rattle.mta_edge.specs.Views.{ClockView, DiskView}
 use Rattle.mta_ber.specs.declared.fault.Fault.{Fault}
@@ -29,7 +29,10 @@ is_kind : (kind : ℕ) → IsKind kind ⊎ (IsKind kind → ⊥)
 is_kind kind =
     elim (cases_lt kind 1) [
       | inl l ↦ inr (λ i. omega (arith, l, i.0))
-      | inr low ↦ elim (cases_lt 12 kind) [ inl h ↦ inr (λ i. omega (arith, h, i.1)) | inr high ↦ inl (low, high) ]
+      | inr low ↦ elim (cases_lt 12 kind) [
+        | inl h ↦ inr (λ i. omega (arith, h, i.1))
+        | inr high ↦ inl (low, high)
+      ]
     ]
 
 module _ {D C : Type 0} (disks : DiskView D) (clocks : ClockView C) where

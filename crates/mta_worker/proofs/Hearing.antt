@@ -23,7 +23,8 @@ use Rattle.mta_worker.specs.Served.{Listening, Lost_at_once, Wanting, Without}
 use Rattle.mta_worker.specs.Serving.{GivesUp, InTurn, IsServed}
 use Rattle.mta_worker.proofs.Turning.{in_turn_as}
 
-found_as : (r : Result (Option (List ℕ)) NoMemory) (o o' : Option (List ℕ)) → r ≡ Ok o → o ≡ o' → r ≡ Ok o'
+found_as : (r : Result (Option (List ℕ)) NoMemory) (o o' : Option (List ℕ)) → r ≡ Ok o → o ≡ o'
+    → r ≡ Ok o'
 found_as r o o' e f = e ∙ ap (λ (z : Option (List ℕ)). Ok z) f
 
 pub named : (o : Option (List ℕ)) (own : List ℕ) → o ≡ Some own → IfSome o IsName → IsName own
@@ -34,26 +35,26 @@ module _ {D C L : Type 0} (disks : DiskView D) (clocks : ClockView C) (links : L
   abbrev Found : Result (Option (List ℕ)) NoMemory → Held Step → Held Step → Type 0
   Found r p q = InTurn disks clocks (λ s t. IsOwnName s.current r × (t ≡ s)) p q
 
-  found_so : (r : Result (Option (List ℕ)) NoMemory) (o o' : Option (List ℕ)) (p q : Held Step) → r ≡ Ok o → o ≡ o'
-      → Found r p q → Found (Ok o') p q
+  found_so : (r : Result (Option (List ℕ)) NoMemory) (o o' : Option (List ℕ)) (p q : Held Step) → r ≡ Ok o
+      → o ≡ o' → Found r p q → Found (Ok o') p q
   found_so r o o' p q e f i =
       subst (λ (z : Result (Option (List ℕ)) NoMemory). Found z p q) (found_as r o o' e f) i
 
   pub heard_without : (r : Result (Option (List ℕ)) NoMemory) (o : Option (List ℕ)) (p q : Held Step) (old new : L)
-      (served : Served) → r ≡ Ok o → o ≡ None → Found r p q → new ≡ old → served ≡ none_begun Halts.NoPeer
-      → HasListened disks clocks links units p old new q served
+      (served : Served) → r ≡ Ok o → o ≡ None → Found r p q → new ≡ old
+      → served ≡ none_begun Halts.NoPeer → HasListened disks clocks links units p old new q served
   heard_without r o p q old new served e f i same is = Without (found_so r o None p q e f i) same is
 
   pub heard_wanting : (r : Result (Option (List ℕ)) NoMemory) (p q : Held Step) (old new : L) (served : Served)
       → Found r p q → new ≡ old → served ≡ none_begun Halts.Memory
       → HasListened disks clocks links units p old new q served
   heard_wanting r p q old new served i same is =
-      Wanting (in_turn_as disks clocks (λ s t. IsOwnName s.current r × (t ≡ s)) (λ s t. t ≡ s) p q (λ s t d. d.1) i)
-      same is
+      Wanting (in_turn_as disks clocks (λ s t. IsOwnName s.current r × (t ≡ s)) (λ s t. t ≡ s) p q
+      (λ s t d. d.1) i) same is
 
-  pub heard_well : (r : Result (Option (List ℕ)) NoMemory) (o : Option (List ℕ)) (own : List ℕ) (p mid q : Held Step)
-      (s t : State) (first : Action) (old new : L) (served : Served) → r ≡ Ok o → o ≡ Some own → Found r p mid
-      → s ≡ new_responder own units → HasTold s event.Go first t
+  pub heard_well : (r : Result (Option (List ℕ)) NoMemory) (o : Option (List ℕ)) (own : List ℕ)
+      (p mid q : Held Step) (s t : State) (first : Action) (old new : L) (served : Served) → r ≡ Ok o
+      → o ≡ Some own → Found r p mid → s ≡ new_responder own units → HasTold s event.Go first t
       → IsServed disks clocks links (record {
         session = t;
         action = first;

@@ -11,5 +11,6 @@ use Rattle.mta_worker.specs.Lines.{line_now}
 pub line_at : (m : Machine) (name : List ℕ) (t : TablesValue) → numbered m.tables (last_tables m) ≡ Some t.text
     → tables_value t.text ≡ Some t → line_now m name ≡ line_in t name
 line_at m name t at reads =
-    ap (λ (o : Option (List ℕ)). option_and_then (λ (u : TablesValue). line_in u name) (option_and_then tables_value o))
-    at ∙ ap (λ (o : Option TablesValue). option_and_then (λ (u : TablesValue). line_in u name) o) reads
+    ap (λ (o : Option (List ℕ)). option_and_then (λ (u : TablesValue). line_in u name)
+    (option_and_then tables_value o)) at
+    ∙ ap (λ (o : Option TablesValue). option_and_then (λ (u : TablesValue). line_in u name) o) reads

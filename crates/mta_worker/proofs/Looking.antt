@@ -1,5 +1,6 @@
 -- Looks that are told one after the other.
-use Rattle.std.proofs.Common.{◌≡◌, List, [], ◌∷◌, ◌++◌, Option, Result, Err, refl, sym, ap, subst, ◌∙◌}
+use Rattle.std.proofs.Common.{◌≡◌, List, [], ◌∷◌, ◌++◌, Option, Result, Err, refl, sym, ap, subst}
+use Rattle.std.proofs.Common.{◌∙◌}
 use Rattle.mta_edge.specs.Views.{ClockView, DiskView}
 use Rattle.mta_spool.specs.Shown.{Shown}
 use Rattle.mta_session.specs.Fits.{Answers}
@@ -53,7 +54,8 @@ module _ {D C : Type 0} (disks : DiskView D) (clocks : ClockView C) where
 
   pub looked_more : (s : Shown D C) (t : State) (a : Action) (halt : Option Halt) (u : State) (c : Action) (q : Ask)
       (mid : Option Halt) (y : Reply) (b : Action) (v : State) (now : Option Halt)
-      → HasLooked disks clocks s t a halt u c mid → c ≡ action.Ask q → IsLook q → Answered disks clocks q s y s
+      → HasLooked disks clocks s t a halt u c mid → c ≡ action.Ask q → IsLook q
+      → Answered disks clocks q s y s
       → IsTurn (told_reply u y b v) → now ≡ noted mid y → HasLooked disks clocks s t a halt v b now
   looked_more s t a halt u c q mid y b v now l e i w turn is = record {
     turns = l.turns ++ told_reply u y b v ∷ [];
@@ -64,7 +66,8 @@ module _ {D C : Type 0} (disks : DiskView D) (clocks : ClockView C) where
 
   pub lost_looking : (s : Shown D C) (t : State) (a : Action) (halt : Option Halt) (u v : State) (c : Action) (q : Ask)
       (mid : Option Halt) (y : Reply) (now : Option Halt) (lost : Lost) → HasLooked disks clocks s t a halt u c mid
-      → v ≡ u → c ≡ action.Ask q → IsLook q → Answered disks clocks q s y s → IsLostAt u y lost → now ≡ noted mid y
+      → v ≡ u → c ≡ action.Ask q → IsLook q → Answered disks clocks q s y s → IsLostAt u y lost
+      → now ≡ noted mid y
       → IsLostLooking disks clocks s t a halt v now lost
   lost_looking s t a halt u v c q mid y now lost l same e i w why is = record {
     question = q;

@@ -1,6 +1,8 @@
 -- What comes next with a peer that this agent calls.
-use Rattle.std.proofs.Common.{◌≡◌, ℕ, ◌+◌, ◌-◌, ◌^◌, ◌==◌, Bool, true, false, if◌then◌else◌, nat_lt, inl, inr}
-use Rattle.std.proofs.Common.{List, [], ◌∷◌, Option, None, Some, Result, Ok, Err, IfOk, refl, sym, subst, ap, ◌∙◌}
+use Rattle.std.proofs.Common.{◌≡◌, ℕ, ◌+◌, ◌-◌, ◌^◌, ◌==◌, Bool, true, false}
+use Rattle.std.proofs.Common.{if◌then◌else◌, nat_lt, inl, inr}
+use Rattle.std.proofs.Common.{List, [], ◌∷◌, Option, None, Some, Result, Ok, Err, IfOk, refl, sym, subst, ap}
+use Rattle.std.proofs.Common.{◌∙◌}
 use Rattle.std.proofs.Common.{arith}
 use Rattle.std.proofs.lemmas.Bool.Decides.{nat_tests}
 use Rattle.std.proofs.lemmas.Bool.{ltb-false}
@@ -41,7 +43,8 @@ found_is_open role peer reference (l ∷ ls) n f e =
     by_test false other e again = behind other e again
 
 pub next_is_of_none : (s : State) (peer : List ℕ) (tables : TablesValue) (line : Peer) (r : Result Next NoMemory)
-    (moment last : ℕ) → IsLineNow s peer tables line → HasNone s peer → moment ≡ s.moment → last ≡ s.lanes.count
+    (moment last : ℕ) → IsLineNow s peer tables line → HasNone s peer → moment ≡ s.moment
+    → last ≡ s.lanes.count
     → IfOk r (λ n. n ≡ next_of_none tables line moment last) → IfOk r (IsNext s peer)
 next_is_of_none s peer tables line (Err m) moment last l h at count is = tt
 next_is_of_none s peer tables line (Ok x) moment last l h at count is =

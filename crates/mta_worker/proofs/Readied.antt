@@ -59,10 +59,12 @@ module _ {D C : Type 0} (disks : DiskView D) (clocks : ClockView C) where
       (first : Action) (halt' : Option Halt) (r : Result Action Lost) → old ≡ new_initiator plan units
       → IsTurn (record { before = old; event = event.Go; action = first; after = t })
       → IfOk r (λ a. HasLooked disks clocks s t first halt u a halt') → IfOk r WantsNoLook
-      → IfErr r (IsLostLooking disks clocks s t first halt u halt') → Begins disks clocks s plan units halt u halt' r
+      → IfErr r (IsLostLooking disks clocks s t first halt u halt')
+      → Begins disks clocks s plan units halt u halt' r
   begins_so s plan units halt old t u first halt' (Ok b) e turn looked all lost =
       Well first b t
-      (subst (λ (z : State). IsTurn (record { before = z; event = event.Go; action = first; after = t })) e turn) looked
+      (subst (λ (z : State). IsTurn (record { before = z; event = event.Go; action = first; after = t })) e turn)
+      looked
       all
   begins_so s plan units halt old t u first halt' (Err l) e turn looked all lost =
       Lost_looking first t l

@@ -40,6 +40,7 @@ module _ {D C : Type 0} (disks : DiskView D) (clocks : ClockView C) where
       At_look x u w replied turn (subst (λ (h : Option Halt). IsLostLooking disks clocks new u w h v halt' l) is lost)
 
   pub lost_there : (q : Ask) (old : Shown D C) (t : State) (halt : Option Halt) (new : Shown D C) (x : Reply)
-      (u : State) (halt' : Option Halt) (lost : Lost) → Replied disks clocks q t old x new → IsLostAt t x lost → u ≡ t
+      (u : State) (halt' : Option Halt) (lost : Lost) → Replied disks clocks q t old x new → IsLostAt t x lost
+      → u ≡ t
       → halt' ≡ noted halt x → IsLost disks clocks q old t halt new u halt' lost
   lost_there q old t halt new x u halt' lost replied why same is = At_reply x replied why same is

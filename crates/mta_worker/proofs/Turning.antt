@@ -87,7 +87,8 @@ module _ {D C : Type 0} (disks : DiskView D) (clocks : ClockView C) where
 
   -- with what was done told in other words
   pub in_turn_as : (done done' : Shown D C → Shown D C → Type 0) (p q : Held Step)
-      → ((s t : Shown D C) → done s t → done' s t) → InTurn disks clocks done p q → InTurn disks clocks done' p q
+      → ((s t : Shown D C) → done s t → done' s t) → InTurn disks clocks done p q
+      → InTurn disks clocks done' p q
   in_turn_as done done' p q f i = record {
     before = i.before;
     after = i.after;

@@ -1,5 +1,6 @@
 -- What a question of a session leaves of the spool, and what it is answered: the one call that it names.
-use Rattle.std.specs.Prelude.{◌≡◌, ℕ, ◌+◌, ◌<◌, ◌≤◌, ◌^◌, length, List, Option, Some, Result, Err, IfOk}
+use Rattle.std.specs.Prelude.{◌≡◌, ℕ, ◌+◌, ◌<◌, ◌≤◌, ◌^◌, length, List, Option, Some}
+use Rattle.std.specs.Prelude.{Result, Err, IfOk}
 use Rattle.std.specs.List.{find}
 use Rattle.std.specs.Option.{option_map}
 use Rattle.mta_edge.specs.Views.{ClockView, DiskView}
@@ -47,7 +48,8 @@ module _ {D C : Type 0} (disks : DiskView D) (clocks : ClockView C) where
       × IfOk x (λ g. g ≡ next)
 
   -- an activity that is started has the next number, where one is left
-  abbrev pub BeginsNow : (lane generation item : ℕ) → List ℕ → Shown D C → Result Carried StepFault → Shown D C
+  abbrev pub BeginsNow : (lane generation item : ℕ) → List ℕ → Shown D C → Result Carried StepFault
+      → Shown D C
       → Type 0
   BeginsNow lane generation item rs old x new =
       let next = next_activity (lane_at lane (lanes_of old)) in

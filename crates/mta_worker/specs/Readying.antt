@@ -52,8 +52,10 @@ module _ {D C : Type 0} (disks : DiskView D) (clocks : ClockView C) where
       (halt' : Option Halt) : Result Action Lost → Type 0 where
     Well : (first b : Action) (t : State)
         → IsTurn (record { before = new_initiator plan units; event = event.Go; action = first; after = t })
-        → HasLooked disks clocks s t first halt u b halt' → WantsNoLook b → Begins s plan units halt u halt' (Ok b)
-    Without_memory : u ≡ new_initiator plan units → halt' ≡ halt → Begins s plan units halt u halt' (Err losts.Memory)
+        → HasLooked disks clocks s t first halt u b halt' → WantsNoLook b
+        → Begins s plan units halt u halt' (Ok b)
+    Without_memory : u ≡ new_initiator plan units → halt' ≡ halt
+        → Begins s plan units halt u halt' (Err losts.Memory)
     Lost_looking : (first : Action) (t : State) (lost : Lost)
         → IsTurn (record { before = new_initiator plan units; event = event.Go; action = first; after = t })
         → IsLostLooking disks clocks s t first halt u halt' lost → Begins s plan units halt u halt' (Err lost)

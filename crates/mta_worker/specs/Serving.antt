@@ -98,9 +98,10 @@ module _ {D C L : Type 0} (disks : DiskView D) (clocks : ClockView C) (links : L
   -- turn of the lock.
   pub data IsServed (x : At L) (link : L) (pass : Held Step) (served : Served) : Type 0 where
     To_its_end : (zs : List (At L)) (y : At L) (e : SessionEnd) → Goes x zs y → y.action ≡ action.Finish e
-        → link ≡ y.link → pass ≡ y.pass → served.end ≡ Some e → served.halt ≡ y.halt → IsServed x link pass served
+        → link ≡ y.link → pass ≡ y.pass → served.end ≡ Some e → served.halt ≡ y.halt
+        → IsServed x link pass served
     Stopped : (zs : List (At L)) (y : At L) (t : State) (at : L) → Goes x zs y
-        → HasStopped links y.session y.action y.link t at → pass ≡ y.pass
+        → HasStopped links y.session y.action y.link y.feed t at → pass ≡ y.pass
         → GivesUp links losts.Memory (has_turned t.phase) y.halt at link served → IsServed x link pass served
     Given_up : (zs : List (At L)) (y : At L) (q : Ask) (t : State) (halt : Option Halt) (lost : Lost) → Goes x zs y
         → y.action ≡ action.Ask q

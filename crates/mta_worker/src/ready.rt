@@ -51,7 +51,8 @@ fn first_of<D: Disk + Drop, C: Clock + Drop>(
     session: &mut Session,
     halt: &mut Option<Halt>,
 ) -> Result<Action, Lost>
-    requires new { (plan : InitiatorPlanValue) × (units : ℕ) × (session.old ≡ new_initiator plan units) × IsPlan plan }
+    requires new { (plan : InitiatorPlanValue) × (units : ℕ) × (session.old ≡ new_initiator plan units)
+        × IsPlan plan }
     ensures begins { (plan : InitiatorPlanValue) (units : ℕ) → session.old ≡ new_initiator plan units →
         Begins D.model C.model spool.now plan units halt.old session.new halt.new result }
     ensures called { IfOk result (λ a. IsCalled session.new a) }

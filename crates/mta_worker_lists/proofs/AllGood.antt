@@ -1,7 +1,7 @@
 -- The session lists of all workers are good.
 use Rattle.std.proofs.Common.{◌≡◌, ◌⊎◌, ◌≤◌, ℕ, ◌+◌, ◌-◌, Bool, false, List, [], ◌∷◌, length, Option, None, Some}
 use Rattle.std.proofs.Common.{inl, inr}
-use Rattle.std.proofs.Common.{refl, subst, arith}
+use Rattle.std.proofs.Common.{◌++◌, true, refl, subst, arith}
 use Rattle.mta_edge.specs.Views.{ClockView, DiskView}
 use Rattle.mta_links.specs.Links.{LinkView, StationView}
 use Rattle.mta_ends.specs.Lanes.{LanesAllow, Seen}
@@ -9,16 +9,16 @@ use Rattle.mta_histories.proofs.Seeing.{lanes_see_histories}
 use Rattle.mta_records.specs.declared.step.Step.{Step}
 use Rattle.mta_session.specs.State.{is_initiator, State}
 use Rattle.mta_session.specs.declared.event.Action.{Action}
+use Rattle.mta_session.specs.declared.event.Event.{Event}
 use Rattle.mta_session.specs.declared.event.Event.TheVariants as event
 use Rattle.mta_runs.specs.Sessions.{IsGoodSession, SessionList}
 use Rattle.mta_session_lists.specs.Calls.{Call}
 use Rattle.mta_session_lists.specs.Laws.{ListsAreGood, ListsMayStop}
 use Rattle.mta_session_lists.specs.Lists.{AreValues, completed}
-use Rattle.mta_session_lists.specs.Lost.{stopped}
-use Rattle.mta_session_lists.proofs.Found.{never}
+use Rattle.mta_session_lists.specs.Lost.{abort_of, stopped}
 use Rattle.mta_worker_lists.specs.All.{AllAreGood, AllParts, AreGood, IsGoodPart, IsGoodWhere}
 use Rattle.mta_worker_lists.specs.Begun.{Ended, IsOver, Stopped, Untold}
-use Rattle.mta_worker_lists.specs.Good.{As_told, IsListOver}
+use Rattle.mta_worker_lists.specs.Good.{IsListOver, IsStopped}
 use Rattle.mta_worker_lists.specs.Histories.{place, whole}
 use Rattle.mta_worker_lists.specs.Parts.{AreForNone, AreSessions, IsSession}
 use Rattle.mta_worker_lists.specs.Segments.{Begins, BeginsIn, IsOne, ListsAs, OnLane, Segment, told_over}
@@ -26,16 +26,23 @@ use Rattle.mta_worker_lists.proofs.All.{all_have_parts}
 use Rattle.mta_worker_lists.proofs.Segments.{has_in, is_segment}
 use Rattle.mta_worker_lists.proofs.Whole.{segments_are_good}
 
--- the list with what came of the last action, where no Abort is put
+-- the list with what came of the last action, and with the Abort that was put
+list_stopped : (calls : List Call) (l : SessionList) (upto : ℕ) (came : Option Event) (aborts : Bool)
+    → (m : SessionList) × IsStopped calls l upto came aborts m
+list_stopped calls l upto None false = (l, refl)
+list_stopped calls l upto None true =
+    (record { opening = l.opening; at = l.at; events = l.events ++ abort_of true }, refl)
+list_stopped calls l upto (Some e) aborts =
+    (stopped calls l (record { event = e; seen = upto; aborts = aborts }), refl)
+
 list_behind : (spells : List ℕ → Bool) (history : List Seen) (mid upto : ℕ) (u : State) (b : Action)
     (calls : List Call) (l : SessionList) (o : IsOver spells history mid upto u b)
     → (m : SessionList) × IsListOver calls l o m
 list_behind spells history mid upto u b calls l (Ended e is same) = (l, refl)
-list_behind spells history mid upto u b calls l (Stopped same) = (l, As_told refl)
-list_behind spells history mid upto u b calls l (Untold q x is comes answers) = (
-  stopped calls l (record { event = event.Reply x; seen = upto; aborts = false }),
-  (false, λ e. absurd (never e), refl),
-)
+list_behind spells history mid upto u b calls l (Stopped came aborts at may going same) =
+    list_stopped calls l upto came aborts
+list_behind spells history mid upto u b calls l (Untold q x aborts is comes answers going) =
+    (stopped calls l (record { event = event.Reply x; seen = upto; aborts = aborts }), refl)
 
 module _ {L : Type 0} (links : LinkView L) (good : ListsAreGood) (may_stop : ListsMayStop) (spells : List ℕ → Bool)
     (first entries : List Step) (low : ℕ) (allow : LanesAllow spells (whole first entries))

@@ -1,34 +1,45 @@
 -- How a session that was served is over, and what its list has behind its last call.
-use Rattle.std.proofs.Common.{◌≡◌, ℕ, ◌+◌, ◌-◌, ◌≤◌, Bool, false, List, [], ◌∷◌, ◌++◌, length, Option, inl, inr, refl}
-use Rattle.std.proofs.Common.{sym}
-use Rattle.std.proofs.Common.{ap, subst, ◌∙◌, append_assoc, append-nil, arith}
+use Rattle.std.proofs.Common.{◌≡◌, ℕ, ◌+◌, ◌-◌, ◌≤◌, Bool, true, false, List, [], ◌∷◌, ◌++◌, length, Option, None, Some}
+use Rattle.std.proofs.Common.{inl, inr, refl, sym, ap, subst, ◌∙◌, append-nil, arith}
 use mathlib.Core.List.{IsPrefix}
 use Rattle.mta_edge.specs.Causes.{Rose}
 use Rattle.mta_edge.specs.Views.{ClockView, DiskView}
 use Rattle.mta_links.specs.Links.{LinkView}
+use Rattle.mta_links.specs.Links as talks
+use Rattle.mta_units.specs.Feed.{Feed, no_feed}
+use Rattle.mta_units.specs.declared.unit.Unit.{Unit as AnyUnit}
+use Rattle.mta_units.specs.declared.unit.Unit.TheVariants as unit
+use Rattle.mta_unit_links.specs.Carried.{Carried}
+use Rattle.mta_unit_links.proofs.Talks.{carried_front, leads_map}
 use Rattle.mta_ends.specs.Lanes.{Seen}
 use Rattle.mta_records.specs.declared.step.Step.{Step}
 use Rattle.mta_histories.specs.History.{after, IsHistory}
 use Rattle.mta_session.specs.Fits.{Answers as SessionAnswers}
+use Rattle.mta_session.specs.Groups.{has_turned}
 use Rattle.mta_session.specs.State.{State as Session}
 use Rattle.mta_session.specs.declared.ask.Ask.{Ask}
 use Rattle.mta_session.specs.declared.ask.Reply.{Reply}
+use Rattle.mta_session.specs.declared.event.Event.{Event}
 use Rattle.mta_session.specs.declared.event.Event.TheVariants as event
 use Rattle.mta_session.specs.declared.event.Action.{Action}
 use Rattle.mta_session.specs.declared.event.Action.TheVariants as action
+use Rattle.mta_session_run.specs.Running.{HasDone, IsShort, IsUndone, Not_done, Not_put, Not_read, Not_told}
 use Rattle.mta_session_lists.specs.Calls.{Call, StepOn}
 use Rattle.mta_session_lists.specs.Standing.{ComesTrue}
+use Rattle.mta_session_lists.proofs.Found.{never}
 use Rattle.mta_shared.specs.Counts.{row}
 use Rattle.mta_shared.specs.Held.{Held}
 use Rattle.mta_shared.specs.declared.history.Base.{Base}
 use Rattle.mta_shared.proofs.Fronts.{prefix_length, prefix_trans}
 use Rattle.mta_spool.specs.Shown.{Shown}
 use Rattle.mta_stations.specs.declared.end.Halt.{Halt}
-use Rattle.mta_worker.specs.Serving.{At, Given_up, IsServed, Stopped, To_its_end}
-use Rattle.mta_worker.specs.Turns.{At_look, At_reply, IsLost, IsLostLooking, noted, told_reply}
+use Rattle.mta_worker.specs.Serving.{At, Cut, Given_up, GivesUp, IsServed, PutsAbort, Stopped, To_its_end, Unput}
+use Rattle.mta_worker.specs.Serving.{Whole}
+use Rattle.mta_worker.specs.Turns.{At_look, At_reply, IsLost, IsLostAt, IsLostLooking, noted, told_reply}
 use Rattle.mta_worker.specs.declared.session.Served.{Served}
 use Rattle.mta_worker.specs.declared.telling.Lost.{Lost}
-use Rattle.mta_worker_lists.specs.Begun.{IsDone, IsOver, made_over}
+use Rattle.mta_worker.specs.declared.telling.Lost.TheVariants as losts
+use Rattle.mta_worker_lists.specs.Begun.{at_first, HasAborted, IsAtLink, IsDone, IsOver, LeavesLink, made_over}
 use Rattle.mta_worker_lists.specs.Begun as over
 use Rattle.mta_worker_lists.specs.Histories.{AreEntries, TellsApdus, place, whole}
 use Rattle.mta_worker_lists.specs.Leads.{AreCarried, entry_at, Leads, made_by, made_in}
@@ -44,13 +55,13 @@ use Rattle.mta_worker_lists.proofs.Waits.{Waits}
 
 -- behind other calls
 pub done_behind : {L : Type 0} (links : LinkView L) (spells : List ℕ → Bool) (first entries : List Step) (x y : At L)
-    (calls cs : List Call) (q : Held Step)
+    (calls cs : List Call) (q : Held Step) (new : L)
     → Leads spells (whole first entries) (place first x.pass) x.session x.action calls (place first y.pass) y.session
     y.action
     → y.pass.own ≡ x.pass.own ++ made_in (length first) x.action calls
-    → AreCarried links x.action calls x.link x.feed y.link y.feed → IsDone links spells first entries y cs q
-    → IsDone links spells first entries x (calls ++ cs) q
-done_behind links spells first entries x y calls cs q leads owns carried d = record {
+    → AreCarried links x.action calls x.link x.feed y.link y.feed → IsDone links spells first entries y cs q new
+    → IsDone links spells first entries x (calls ++ cs) q new
+done_behind links spells first entries x y calls cs q new leads owns carried d = record {
   mid = d.mid;
   last = d.last;
   wanted = d.wanted;
@@ -61,29 +72,134 @@ done_behind links spells first entries x y calls cs q leads owns carried d = rec
       owns_more calls cs (length first) x.action y.action x.pass.own y.pass.own d.mid.own leads.wanted owns d.owns;
   over = d.over;
   owns_over = d.owns_over;
-  front = calls ++ d.front;
-  behind = d.behind;
-  calls_are = ap (λ (zs : List Call). calls ++ zs) d.calls_are ∙ sym (append_assoc calls d.front d.behind);
-  all = d.all;
   left = d.left;
   feed = d.feed;
   carried =
-      carried_more links calls d.front x.action y.action x.link y.link d.left x.feed y.feed d.feed leads.wanted carried
+      carried_more links calls cs x.action y.action x.link y.link d.left x.feed y.feed d.feed leads.wanted carried
       d.carried;
+  leaves = d.leaves;
 }
 
+-- ---- a session that is given up
+
+-- the Abort of its worker, or none
+pub record Gave_up {L : Type 0} (links : LinkView L) (turned : Bool) (old new : L) : Type 0 where
+  pub aborts : Bool
+  pub going : aborts ≡ true → turned ≡ false
+  pub aborted : HasAborted links aborts old new
+
+none_put : {L : Type 0} (links : LinkView L) (turned : Bool) (old new : L) → links.talk new ≡ links.talk old
+    → Gave_up links turned old new
+none_put links turned old new same = record { aborts = false; going = λ e. absurd (never e); aborted = same }
+
+abort_put : {L : Type 0} (links : LinkView L) (old new : L) → PutsAbort links (unit.Abort 0) old new
+    → Gave_up links false old new
+abort_put links old new (Whole all) = record { aborts = true; going = λ e. refl; aborted = inl all }
+abort_put links old new (Cut front rose) =
+    record { aborts = true; going = λ e. refl; aborted = inr (front, rose) }
+abort_put links old new (Unput same) = none_put links false old new same
+
+gave_by : {L : Type 0} (links : LinkView L) (turned : Bool) (halt : Option Halt) (old new : L) (served : Served)
+    → GivesUp links losts.Memory turned halt old new served → Gave_up links turned old new
+gave_by {L} links true halt old new served g =
+    none_put links true old new (ap (λ (z : L). links.talk z) (g.silent refl))
+gave_by links false halt old new served g = abort_put links old new (g.says refl)
+
+-- where memory was wanted
+pub gave_up : {L : Type 0} (links : LinkView L) (lost : Lost) (turned : Bool) (halt : Option Halt) (old new : L)
+    (served : Served) → GivesUp links lost turned halt old new served → lost ≡ losts.Memory
+    → Gave_up links turned old new
+gave_up links lost turned halt old new served g e =
+    gave_by links turned halt old new served
+    (subst (λ (z : Lost). GivesUp links z turned halt old new served) e g)
+
+-- a reply to the question is not told for want of memory alone
+memory_lost : (t : Session) (x : Reply) (lost : Lost) → SessionAnswers t (event.Reply x) → IsLostAt t x lost
+    → lost ≡ losts.Memory
+memory_lost t x losts.Memory answers why = refl
+memory_lost t x losts.Lane answers why = absurd (why answers)
+
 -- a reply that is not told, and the entry that it tells
-pub record Untold_at (spells : List ℕ → Bool) (history : List Seen) (n from upto : ℕ) (u : Session) (b : Action)
-    (q : Ask) (x : Reply) : Type 0 where
+pub record Untold_at {L : Type 0} (links : LinkView L) (spells : List ℕ → Bool) (history : List Seen)
+    (n from upto : ℕ) (u : Session) (b : Action) (q : Ask) (x : Reply) (old : L) (fed : Feed) (new : L)
+    : Type 0 where
   pub over : IsOver spells history from upto u b
   pub made : made_over n over ≡ made_by n upto (action.Ask q) (event.Reply x)
+  pub leaves : LeavesLink links over old fed new
 
-untold : (spells : List ℕ → Bool) (history : List Seen) (n from upto : ℕ) (u : Session) (b : Action) (q : Ask)
-    (x : Reply) → b ≡ action.Ask q → SessionAnswers u (event.Reply x)
+untold : {L : Type 0} (links : LinkView L) (spells : List ℕ → Bool) (history : List Seen) (n from upto : ℕ)
+    (u : Session) (b : Action) (q : Ask) (x : Reply) (old : L) (fed : Feed) (new : L) → b ≡ action.Ask q
+    → SessionAnswers u (event.Reply x)
     → ComesTrue spells history from upto u.phase (action.Ask q) (event.Reply x)
-    → Untold_at spells history n from upto u b q x
-untold spells history n from upto u b q x asks answers so =
-    record { over = over.Untold q x asks so answers; made = refl }
+    → Gave_up links (has_turned u.phase) old new → Untold_at links spells history n from upto u b q x old fed new
+untold links spells history n from upto u b q x old fed new asks answers so gave = record {
+  over = over.Untold q x gave.aborts asks so answers gave.going;
+  made = refl;
+  leaves = gave.aborted;
+}
+
+-- ---- a session that was stopped at its link
+
+undone_at : {L : Type 0} (links : LinkView L) (b : Action) (old : L) (fed : Feed) (new : L)
+    → IsUndone links b old fed new → IsAtLink b
+undone_at links b old fed new (Not_put x is same) = subst (λ (z : Action). IsAtLink z) (sym is) tt
+undone_at links b old fed new (Not_read is front) = subst (λ (z : Action). IsAtLink z) (sym is) tt
+
+done_at : {L : Type 0} (links : LinkView L) (b : Action) (old : L) (fed : Feed) (e : Event) (new : L) (feed : Feed)
+    → HasDone links b old fed e new feed → IsAtLink b
+done_at links (action.Put x) old fed e new feed h = tt
+done_at links action.Read old fed e new feed h = tt
+done_at links (action.Ask q) old fed e new feed h = absurd h
+done_at links (action.Finish y) old fed e new feed h = absurd h
+
+-- what came of its last action, and that no entry is made then
+pub record Stopped_at {L : Type 0} (links : LinkView L) (spells : List ℕ → Bool) (history : List Seen)
+    (n from upto : ℕ) (u : Session) (b : Action) (old : L) (fed : Feed) (new : L) : Type 0 where
+  pub over : IsOver spells history from upto u b
+  pub made : made_over n over ≡ []
+  pub leaves : LeavesLink links over old fed new
+
+pub stopped_at : {L : Type 0} (links : LinkView L) (spells : List ℕ → Bool) (history : List Seen) (n from upto : ℕ)
+    (u : Session) (b : Action) (old : L) (fed : Feed) (mid new : L) → upto ≡ from
+    → IsShort links u b old fed mid → Gave_up links (has_turned u.phase) mid new
+    → Stopped_at links spells history n from upto u b old fed new
+stopped_at links spells history n from upto u b old fed mid new same (Not_done undone) gave = record {
+  over = over.Stopped None gave.aborts (undone_at links b old fed mid undone) tt gave.going same;
+  made = refl;
+  leaves = (mid, undone, gave.aborted);
+}
+stopped_at links spells history n from upto u b old fed mid new same (Not_told e feed done answers) gave = record {
+  over = over.Stopped (Some e) gave.aborts (done_at links b old fed e mid feed done) answers gave.going same;
+  made = refl;
+  leaves = (mid, (feed, done), gave.aborted);
+}
+
+-- nothing was read yet
+pub none_read : {L : Type 0} (links : LinkView L) (u : Session) (old : L) (fed : Feed)
+    → IsShort links u action.Read old fed old
+none_read links u old fed =
+    Not_done (Not_read refl (λ since us octets l. leads_map (λ f g c. carried_front us octets fed f g c) l))
+
+-- a new session that was told nothing, since there was no memory for its first call
+pub done_at_once : {L : Type 0} (links : LinkView L) (spells : List ℕ → Bool) (first entries : List Step) (t : Session)
+    (old : L) (p : Held Step) (new : L) → Gave_up links (has_turned t.phase) old new
+    → IsDone links spells first entries (at_first t old p) [] p new
+done_at_once links spells first entries t old p new gave =
+    let end = stopped_at links spells (whole first entries) (length first) (place first p) (place first p) t action.Read
+    old no_feed old new refl (none_read links t old no_feed) gave in
+    record {
+      mid = p;
+      last = t;
+      wanted = action.Read;
+      leads = no_calls spells (whole first entries) (place first p) t action.Read;
+      owns = sym (append-nil p.own);
+      over = end.over;
+      owns_over = sym (append-nil p.own) ∙ ap (λ (ns : List ℕ). p.own ++ ns) (sym end.made);
+      left = old;
+      feed = no_feed;
+      carried = none_carried links [] action.Read old no_feed refl refl;
+      leaves = end.leaves;
+    }
 
 module _ {D C L : Type 0} (disks : DiskView D) (clocks : ClockView C) (links : LinkView L) (spells : List ℕ → Bool)
     (tells : TellsApdus spells) (first entries : List Step) where
@@ -93,20 +209,21 @@ module _ {D C L : Type 0} (disks : DiskView D) (clocks : ClockView C) (links : L
   abbrev long : Shown D C → ℕ
   long s = length first + length s.entries
 
-  abbrev Done : At L → List Call → Held Step → Type 0
-  Done x calls q = IsDone links spells first entries x calls q
+  abbrev Done : At L → List Call → Held Step → L → Type 0
+  Done x calls q new = IsDone links spells first entries x calls q new
 
   -- all that is done from one point on
-  abbrev pub Closed : At L → Held Step → Type 0
-  Closed x q = (calls : List Call) × Done x calls q
+  abbrev pub Closed : At L → Held Step → L → Type 0
+  Closed x q new = (calls : List Call) × Done x calls q new
 
   module _ (possible : IsHistory (first ++ entries)) where
     -- The session is given up at a look, which it is not told. No entry is made then.
     pub looking_closed : (s : Shown D C) (t : Session) (a : Action) (halt halt' : Option Halt) (u : Session)
-        (lost : Lost) (x : At L) → x.session ≡ t → x.action ≡ a → x.pass.seen ≡ s.entries
+        (lost : Lost) (x : At L) (new : L) → x.session ≡ t → x.action ≡ a → x.pass.seen ≡ s.entries
         → Stands disks clocks spells tells first entries possible s → Minds disks clocks a t s.current
-        → IsLostLooking disks clocks s t a halt u halt' lost → Closed x x.pass
-    looking_closed s t a halt halt' u lost x here wants sees st m l = (
+        → IsLostLooking disks clocks s t a halt u halt' lost
+        → (lost ≡ losts.Memory → Gave_up links (has_turned u.phase) x.link new) → Closed x x.pass new
+    looking_closed s t a halt halt' u lost x new here wants sees st m l gives = (
       calls,
       record {
         mid = x.pass;
@@ -124,15 +241,12 @@ module _ {D C L : Type 0} (disks : DiskView D) (clocks : ClockView C) (links : L
         over = end.over;
         owns_over =
             sym (append-nil x.pass.own) ∙ ap (λ (ns : List ℕ). x.pass.own ++ ns) (sym (end.made ∙ none));
-        front = calls;
-        behind = [];
-        calls_are = sym (append-nil calls);
-        all = inl refl;
         left = x.link;
         feed = x.feed;
         carried =
             subst (λ (b : Action). AreCarried links b calls x.link x.feed x.link x.feed) (sym wants)
             (none_carried links calls a x.link x.feed quiet.got quiet.put);
+        leaves = end.leaves;
       },
     )
       where
@@ -152,17 +266,22 @@ module _ {D C L : Type 0} (disks : DiskView D) (clocks : ClockView C) (links : L
             (looks_lead disks clocks spells tells first entries possible l.looked.turns s t a u (action.Ask l.question)
             st l.looked.looks)
 
-        end : Untold_at spells history (length first) (place first x.pass) (place first x.pass) u
-            (action.Ask l.question) l.question l.answer
-        end =
-            subst (λ (n : ℕ). Untold_at spells history (length first) n n u (action.Ask l.question) l.question l.answer)
-            there
-            (untold spells history (length first) (long s) (long s) u (action.Ask l.question) l.question l.answer refl
-            (look_answered disks clocks spells tells first entries possible l.question u l.answer s st
+        answers : SessionAnswers u (event.Reply l.answer)
+        answers =
+            look_answered disks clocks spells tells first entries possible l.question u l.answer s st
             (looks_mind disks clocks spells tells first entries possible l.looked.turns s t a u (action.Ask l.question)
-            st m l.looked.looks) l.is_look l.answered)
+            st m l.looked.looks) l.is_look l.answered
+
+        end : Untold_at links spells history (length first) (place first x.pass) (place first x.pass) u
+            (action.Ask l.question) l.question l.answer x.link x.feed new
+        end =
+            subst (λ (n : ℕ). Untold_at links spells history (length first) n n u (action.Ask l.question) l.question
+            l.answer x.link x.feed new)
+            there
+            (untold links spells history (length first) (long s) (long s) u (action.Ask l.question) l.question l.answer
+            x.link x.feed new refl answers
             (look_comes disks clocks spells tells first entries possible l.question u l.answer s st l.is_look
-            l.answered))
+            l.answered) (gives (memory_lost u l.answer lost answers l.cause)))
 
         none : made_by (length first) (place first x.pass) (action.Ask l.question) (event.Reply l.answer) ≡ []
         none =
@@ -171,55 +290,65 @@ module _ {D C L : Type 0} (disks : DiskView D) (clocks : ClockView C) (links : L
 
     -- it is given up in the turn for its question
     pub turn_closed : (q : Ask) (old new : Shown D C) (halt : Option Halt) (u : Session) (lost : Lost) (x : At L)
-        (pass : Held Step) → x.action ≡ action.Ask q → old.current ≡ after (first ++ old.entries)
+        (pass : Held Step) (link : L) → x.action ≡ action.Ask q → old.current ≡ after (first ++ old.entries)
         → IsPrefix new.entries entries → length x.pass.seen ≤ length old.entries → pass.seen ≡ new.entries
         → pass.own ≡ x.pass.own ++ row (length old.entries) (length new.entries - length old.entries)
         → is_looking x.session.phase ≡ false → Minds disks clocks (action.Ask q) x.session old.current
-        → IsLost disks clocks q old x.session x.halt new u halt lost → Closed x pass
-    turn_closed q old new halt u lost x pass asks state f shorter sees owned calm m (At_reply y r why same is) = (
-      [],
-      record {
-        mid = x.pass;
-        last = x.session;
-        wanted = x.action;
-        leads = no_calls spells history (place first x.pass) x.session x.action;
-        owns = sym (append-nil x.pass.own);
-        over = end.over;
-        owns_over = owned ∙ ap (λ (ns : List ℕ). x.pass.own ++ ns) (entries_are ∙ sym end.made);
-        front = [];
-        behind = [];
-        calls_are = refl;
-        all = inl refl;
-        left = x.link;
-        feed = x.feed;
-        carried = none_carried links [] x.action x.link x.feed refl refl;
-      },
-    )
+        → IsLost disks clocks q old x.session x.halt new u halt lost
+        → (lost ≡ losts.Memory → Gave_up links (has_turned u.phase) x.link link) → Closed x pass link
+    turn_closed q old new halt u lost x pass link asks state f shorter sees owned calm m (At_reply y r why same is)
+        gives = (
+          [],
+          record {
+            mid = x.pass;
+            last = x.session;
+            wanted = x.action;
+            leads = no_calls spells history (place first x.pass) x.session x.action;
+            owns = sym (append-nil x.pass.own);
+            over = end.over;
+            owns_over = owned ∙ ap (λ (ns : List ℕ). x.pass.own ++ ns) (entries_are ∙ sym end.made);
+            left = x.link;
+            feed = x.feed;
+            carried = none_carried links [] x.action x.link x.feed refl refl;
+            leaves = end.leaves;
+          },
+        )
       where
         there : long new ≡ place first pass
         there = ap (λ (xs : List Step). length first + length xs) (sym sees)
 
-        end : Untold_at spells history (length first) (place first x.pass) (place first pass) x.session x.action q y
+        answers : SessionAnswers x.session (event.Reply y)
+        answers = reply_answers disks clocks spells tells first entries possible q x.session y old new state f m r
+
+        gave : Gave_up links (has_turned x.session.phase) x.link link
+        gave =
+            subst (λ (z : Session). Gave_up links (has_turned z.phase) x.link link) same
+            (gives (memory_lost x.session y lost answers why))
+
+        end : Untold_at links spells history (length first) (place first x.pass) (place first pass) x.session x.action
+            q y x.link x.feed link
         end =
-            untold spells history (length first) (place first x.pass) (place first pass) x.session x.action q y asks
-            (reply_answers disks clocks spells tells first entries possible q x.session y old new state f m r)
+            untold links spells history (length first) (place first x.pass) (place first pass) x.session x.action q y
+            x.link x.feed link asks answers
             (subst (λ (n : ℕ). ComesTrue spells history (place first x.pass) n x.session.phase (action.Ask q)
             (event.Reply y)) there
             (reply_comes disks clocks spells tells first entries possible q x.session y old new (place first x.pass)
             state
-            f (omega (arith, shorter)) calm r))
+            f (omega (arith, shorter)) calm r)) gave
 
         entries_are : row (length old.entries) (length new.entries - length old.entries)
             ≡ made_by (length first) (place first pass) (action.Ask q) (event.Reply y)
         entries_are =
             reply_entries disks clocks spells tells first entries possible q x.session y old new state f r
             ∙ ap (λ (n : ℕ). made_by (length first) n (action.Ask q) (event.Reply y)) there
-    turn_closed q old new halt u lost x pass asks state f shorter sees owned calm m (At_look y v w r turn l) =
-        let rest = looking_closed new v w (noted x.halt y) halt u lost behind refl refl sees
+    turn_closed q old new halt u lost x pass link asks state f shorter sees owned calm m (At_look y v w r turn l)
+        gives =
+        let rest = looking_closed new v w (noted x.halt y) halt u lost behind link refl refl sees
         (reply_stands disks clocks spells tells first entries possible q x.session y old new state f r)
-        (reply_minds disks clocks spells tells first entries possible q x.session y w v old new state f m r turn) l in (
+        (reply_minds disks clocks spells tells first entries possible q x.session y w v old new state f m r turn) l
+        gives in (
           call ∷ [] ++ rest.0,
-          done_behind links spells first entries x behind (call ∷ []) rest.0 pass led owns carried
+          done_behind links spells first entries x behind (call ∷ []) rest.0 pass link led owns carried
               rest.1,
         )
       where
@@ -278,18 +407,18 @@ module _ {D C L : Type 0} (disks : DiskView D) (clocks : ClockView C) (links : L
       (λ s s'. lost_grows q y.session y.halt halt t lost s s') i)
 
   -- behind what was done, where that is known
-  behind_led : (x y : At L) (pass : Held Step) → Reaches disks clocks links spells tells first entries x y
-      → Closed y pass → Closed x pass
-  behind_led x y pass led c = (
+  behind_led : (x y : At L) (pass : Held Step) (link : L)
+      → Reaches disks clocks links spells tells first entries x y → Closed y pass link → Closed x pass link
+  behind_led x y pass link led c = (
     led.calls ++ c.0,
-    done_behind links spells first entries x y led.calls c.0 pass led.leads led.owns led.carried c.1,
+    done_behind links spells first entries x y led.calls c.0 pass link led.leads led.owns led.carried c.1,
   )
 
   -- A session that is served is done with from there on.
   pub served_closed : (x : At L) (link : L) (pass : Held Step) (served : Served) → AreEntries x.pass.base first entries
       → Waits x.action x.session → is_looking x.session.phase ≡ false
       → Knows x.session (after (first ++ x.pass.seen)) → IsServed disks clocks links x link pass served
-      → IsPrefix pass.seen entries → Closed x pass
+      → IsPrefix pass.seen entries → Closed x pass link
   served_closed x link pass served are w calm k (To_its_end zs y e g fin at same is halt) f =
       let here : IsPrefix y.pass.seen entries = subst (λ (h : Held Step). IsPrefix h.seen entries) same f in
       let led = goes_led disks clocks links spells tells first entries x zs y are w calm k g here in (
@@ -302,13 +431,10 @@ module _ {D C L : Type 0} (disks : DiskView D) (clocks : ClockView C) (links : L
           owns = led.owns;
           over = over.Ended e fin (ap (λ (h : Held Step). place first h) same);
           owns_over = ap (λ (h : Held Step). h.own) same ∙ sym (append-nil y.pass.own);
-          front = led.calls;
-          behind = [];
-          calls_are = sym (append-nil led.calls);
-          all = inl refl;
           left = y.link;
           feed = y.feed;
           carried = led.carried;
+          leaves = at;
         },
       )
   served_closed x link pass served are w calm k (Stopped zs y t at g h same gives) f =
@@ -317,7 +443,10 @@ module _ {D C L : Type 0} (disks : DiskView D) (clocks : ClockView C) (links : L
       let ran = run_ran spells history (length first) (Rose (links.faults y.link) (links.faults at))
       (place first y.pass)
       y.session y.action h.turns h.units h.octets t h.last led.waits led.still h.runs in
-      behind_led x y pass led (
+      let end = stopped_at links spells history (length first) (place first y.pass) (place first pass) t h.last h.mid
+      h.mid_fed at link (ap (λ (z : Held Step). place first z) same) h.short
+      (gave_up links losts.Memory (has_turned t.phase) y.halt at link served gives refl) in
+      behind_led x y pass link led (
         ran.calls,
         record {
           mid = y.pass;
@@ -325,15 +454,20 @@ module _ {D C L : Type 0} (disks : DiskView D) (clocks : ClockView C) (links : L
           wanted = h.last;
           leads = ran.leads;
           owns = sym (append-nil y.pass.own) ∙ ap (λ (ns : List ℕ). y.pass.own ++ ns) (sym ran.made);
-          over = over.Stopped (ap (λ (z : Held Step). place first z) same);
-          owns_over = ap (λ (z : Held Step). z.own) same ∙ sym (append-nil y.pass.own);
-          front = [];
-          behind = ran.calls;
-          calls_are = refl;
-          all = inr tt;
-          left = y.link;
-          feed = y.feed;
-          carried = none_carried links [] y.action y.link y.feed refl refl;
+          over = end.over;
+          owns_over =
+              ap (λ (z : Held Step). z.own) same ∙ sym (append-nil y.pass.own)
+              ∙ ap (λ (ns : List ℕ). y.pass.own ++ ns) (sym end.made);
+          left = h.mid;
+          feed = h.mid_fed;
+          carried = record {
+            octets = h.octets;
+            put = ran.put;
+            carried = λ since us os l.
+                subst (λ (vs : List AnyUnit). talks.Leads (Carried (us ++ vs) (os ++ h.octets) h.mid_fed) since
+                (links.talk h.mid)) (sym ran.got) (h.carried since us os l);
+          };
+          leaves = end.leaves;
         },
       )
   served_closed x link pass served are w calm k (Given_up zs y q t halt lost g asks i gives) f =
@@ -363,6 +497,6 @@ module _ {D C L : Type 0} (disks : DiskView D) (clocks : ClockView C) (links : L
             (history_then disks clocks spells tells first entries are.possible i.before before) state led.still
             led.knows;
       } in
-      behind_led x y pass led
-      (turn_closed are.possible q i.before i.after halt t lost y pass asks state after_front shorter left owned
-      led.still minds i.did)
+      behind_led x y pass link led
+      (turn_closed are.possible q i.before i.after halt t lost y pass link asks state after_front shorter left owned
+      led.still minds i.did (gave_up links lost (has_turned t.phase) halt y.link link served gives))

@@ -133,11 +133,11 @@ module _ (whole : ListsAreGood) (may_stop : ListsMayStop) (spells : List ℕ →
       → Leads spells history from t action.Read calls mid u b → (o : IsOver spells history mid upto u b)
       → IsListOver calls l o m → Owns m → IsGood m
   over_good m u b from mid upto new led (Ended e is same) so owns = told_good m u so led.calls_are owns
-  over_good m u b from mid upto new led (Stopped same) so owns =
-      stopped_good whole may_stop spells history t lane l size window allow values opens calls m u b from mid upto new
-      is_list led same so owns
-  over_good m u b from mid upto new led (Untold q x is true_ answers) so owns =
-      untold_good m u b from mid upto q x so.0 so.2 led is true_ answers so.1 owns
+  over_good m u b from mid upto new led (Stopped came aborts at may going same) so owns =
+      stopped_good whole may_stop spells history t lane l size window allow values opens calls m u b from mid upto came
+      aborts new is_list led same at may going so owns
+  over_good m u b from mid upto new led (Untold q x aborts is true_ answers going) so owns =
+      untold_good m u b from mid upto q x aborts so led is true_ answers going owns
 
 pub sessions_good : ListsAreGood → ListsMayStop → SessionsAreGood
 sessions_good whole may_stop spells history from mid upto t u b calls lane l m size window allow new led over is_list so

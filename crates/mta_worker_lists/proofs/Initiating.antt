@@ -1,7 +1,7 @@
 -- Where a session that its worker began has its lane.
 use Rattle.std.proofs.Common.{◌≡◌, ℕ, ◌+◌, ◌-◌, ◌*◌, ◌≤◌, ◌<◌, Bool, true, false, Option, None, Some, Result, Ok, Err}
 use Rattle.std.proofs.Common.{List}
-use Rattle.std.proofs.Common.{[], ◌∷◌, ◌++◌, length, cond, inl, refl, sym, ap, subst, ◌∙◌, arith, append-nil}
+use Rattle.std.proofs.Common.{[], ◌∷◌, ◌++◌, length, cond, refl, sym, ap, subst, ◌∙◌, arith, append-nil}
 use Rattle.std.proofs.lemmas.List.{length-append}
 use mathlib.Core.List.{IsPrefix}
 use Rattle.mta_edge.specs.Views.{ClockView, DiskView}
@@ -12,6 +12,7 @@ use Rattle.mta_records.specs.declared.lane.LaneRole.TheVariants.{Initiator}
 use Rattle.mta_histories.specs.Lanes.{State}
 use Rattle.mta_histories.specs.History.{after, IsHistory}
 use Rattle.mta_session.specs.Follows.{Does, Follows}
+use Rattle.mta_session.specs.Groups.{has_turned}
 use Rattle.mta_session.specs.State.{in_phase, State as Session}
 use Rattle.mta_session.specs.Session.{new_initiator}
 use Rattle.mta_session.specs.Wanted.{Asks, opens}
@@ -38,6 +39,7 @@ use Rattle.mta_worker.specs.declared.proposal.Next.{Next}
 use Rattle.mta_worker.specs.declared.proposal.Next.TheVariants as next
 use Rattle.mta_worker.specs.declared.ready.Ready.TheVariants as ready
 use Rattle.mta_worker.specs.declared.telling.Lost.{Lost}
+use Rattle.mta_worker.specs.declared.telling.Lost.TheVariants as losts
 use Rattle.mta_worker.specs.Answers.{Answered}
 use Rattle.mta_worker.specs.Proposals.{Binds, IsNext, Opens}
 use Rattle.mta_worker.specs.Readying.{asks_next, Begins, Begun, IsReadied, IsStepped, Lost_looking, plan_behind}
@@ -45,12 +47,11 @@ use Rattle.mta_worker.specs.Readying.{Stepped, Well, Without_memory}
 use Rattle.mta_shared.specs.Held.{Held}
 use Rattle.mta_shared.specs.Counts.{row}
 use Rattle.mta_worker_lists.specs.Begun.{at_first, begun_by, Calls, IsNewAt}
-use Rattle.mta_worker_lists.specs.Begun as over
 use Rattle.mta_worker_lists.specs.Histories.{TellsApdus, place, whole}
 use Rattle.mta_worker_lists.specs.Leads.{Leads}
 use Rattle.mta_worker_lists.proofs.Calm.{is_looking}
-use Rattle.mta_worker_lists.proofs.Ending.{Closed, done_behind, looking_closed}
-use Rattle.mta_worker_lists.proofs.Joining.{leads_more, no_calls, none_carried}
+use Rattle.mta_worker_lists.proofs.Ending.{Closed, done_at_once, done_behind, Gave_up, looking_closed}
+use Rattle.mta_worker_lists.proofs.Joining.{leads_more, none_carried}
 use Rattle.mta_worker_lists.proofs.Heard.{looks_mind, Minds}
 use Rattle.mta_worker_lists.proofs.Known.{Knows}
 use Rattle.mta_worker_lists.proofs.Knowing.{IsBound, lane_bound}
@@ -342,16 +343,17 @@ module _ {D C : Type 0} (disks : DiskView D) (clocks : ClockView C) where
 
     -- It is given up in the turn of the lock in which it began.
     module _ {L : Type 0} (links : LinkView L) where
-      pub record Lost_there (old new : Shown D C) (at : L) (pass : Held Step) : Type 0 where
+      pub record Lost_there (old new : Shown D C) (at : L) (pass : Held Step) (link : L) : Type 0 where
         pub begins : IsBegun old new pass
         pub closed : Closed disks clocks links spells tells first entries
-            (at_first (new_initiator begins.plan begins.units) at pass) pass
+            (at_first (new_initiator begins.plan begins.units) at pass) pass link
 
       pub begins_lost : (units : ℕ) (old new : Shown D C) (halt halt' : Option Halt) (u : Session) (lost : Lost)
-          (at : L) (pass : Held Step) → old.current ≡ after (first ++ old.entries) → IsPrefix new.entries entries
-          → pass.seen ≡ new.entries → BeginsWith disks clocks units old new halt u halt' (Err lost)
-          → Lost_there old new at pass
-      begins_lost units old new halt halt' u lost at pass state f sees w = by_begin lost w.begins
+          (at : L) (pass : Held Step) (link : L) → old.current ≡ after (first ++ old.entries)
+          → IsPrefix new.entries entries → pass.seen ≡ new.entries
+          → BeginsWith disks clocks units old new halt u halt' (Err lost)
+          → (lost ≡ losts.Memory → Gave_up links (has_turned u.phase) at link) → Lost_there old new at pass link
+      begins_lost units old new halt halt' u lost at pass link state f sees w gives = by_begin lost gives w.begins
         where
           fresh : Session
           fresh = new_initiator w.plan units
@@ -359,30 +361,17 @@ module _ {D C : Type 0} (disks : DiskView D) (clocks : ClockView C) where
           begin : At L
           begin = at_first fresh at pass
 
-          by_begin : (l : Lost) → Begins disks clocks new w.plan units halt u halt' (Err l) → Lost_there old new at pass
-          by_begin l (Without_memory same is) = record {
+          by_begin : (l : Lost) → (l ≡ losts.Memory → Gave_up links (has_turned u.phase) at link)
+              → Begins disks clocks new w.plan units halt u halt' (Err l) → Lost_there old new at pass link
+          by_begin l gave (Without_memory same is) = record {
             begins = there units old new pass halt halt' u (Err lost) sees state f w;
             closed = (
               [],
-              record {
-                mid = pass;
-                last = fresh;
-                wanted = action.Read;
-                leads = no_calls spells history (place first pass) fresh action.Read;
-                owns = sym (append-nil pass.own);
-                over = over.Stopped refl;
-                owns_over = sym (append-nil pass.own);
-                front = [];
-                behind = [];
-                calls_are = refl;
-                all = inl refl;
-                left = at;
-                feed = no_feed;
-                carried = none_carried links [] action.Read at no_feed refl refl;
-              },
+              done_at_once links spells first entries fresh at pass link
+                  (subst (λ (z : Session). Gave_up links (has_turned z.phase) at link) same (gave refl)),
             );
           }
-          by_begin l (Lost_looking one t m turn looking) =
+          by_begin l gave (Lost_looking one t m turn looking) =
               let call : Call = first_call fresh new one t in
               let x : At L = record {
                 session = t;
@@ -394,9 +383,9 @@ module _ {D C : Type 0} (disks : DiskView D) (clocks : ClockView C) where
               } in
               let quiet = first_quiet fresh new one t [] (record { got = refl; put = refl; made = refl }) in
               let rest = looking_closed disks clocks links spells tells first entries possible new t one halt halt' u
-              l x
+              l x link
               refl refl sees (stands_there units old new halt halt' u (Err lost) state f w)
-              (first_minds units old new halt halt' u (Err lost) one t state f w turn) looking in
+              (first_minds units old new halt halt' u (Err lost) one t state f w turn) looking gave in
               let led : Leads spells history (place first pass) fresh action.Read (call ∷ []) (place first pass) t one =
               subst (λ (xs : List Step). Leads spells history (length first + length xs) fresh action.Read (call ∷ [])
               (length first + length xs) t one) (sym sees) (first_leads fresh new one t turn) in
@@ -404,7 +393,7 @@ module _ {D C : Type 0} (disks : DiskView D) (clocks : ClockView C) where
                 begins = there units old new pass halt halt' u (Err lost) sees state f w;
                 closed = (
                   call ∷ [] ++ rest.0,
-                  done_behind links spells first entries begin x (call ∷ []) rest.0 pass led
+                  done_behind links spells first entries begin x (call ∷ []) rest.0 pass link led
                       (sym (append-nil pass.own) ∙ ap (λ (ns : List ℕ). pass.own ++ ns) (sym quiet.made))
                       (none_carried links (call ∷ []) action.Read at no_feed quiet.got quiet.put) rest.1,
                 );

@@ -18,6 +18,7 @@ use Rattle.mta_histories.specs.Lanes.{State}
 use Rattle.mta_units.specs.Feed.{no_feed}
 use Rattle.mta_session.specs.State.{State as Session}
 use Rattle.mta_session.specs.Follows.{Follows}
+use Rattle.mta_session.specs.Groups.{has_turned}
 use Rattle.mta_session.specs.Session.{new_initiator, new_responder}
 use Rattle.mta_session.specs.declared.ask.Ask.{Ask}
 use Rattle.mta_session.specs.declared.ask.Ask.TheVariants as ask
@@ -42,23 +43,23 @@ use Rattle.mta_worker.specs.Readying.{Refused, Stepped}
 use Rattle.mta_worker.specs.Served.{Calling, Closings, Halting, HasCalled, HasListened, IsOwnName, Listening}
 use Rattle.mta_worker.specs.Served.{Lost_at_once}
 use Rattle.mta_worker.specs.Served.{Lost_before, Too_often, Wanting, Without}
-use Rattle.mta_worker.specs.Serving.{At, InTurn, IsServed}
+use Rattle.mta_worker.specs.Serving.{At, GivesUp, InTurn, IsServed}
 use Rattle.mta_worker.specs.declared.proposal.Next.{Next}
 use Rattle.mta_worker.specs.declared.proposal.Next.TheVariants as next
 use Rattle.mta_worker.specs.declared.ready.Ready.TheVariants as ready
 use Rattle.mta_worker.specs.declared.telling.Lost.{Lost}
+use Rattle.mta_worker.specs.declared.telling.Lost.TheVariants as losts
 use Rattle.mta_worker.specs.declared.session.Served.{Served}
 use Rattle.mta_worker.proofs.Growing.{grows}
 use Rattle.mta_worker_lists.specs.Begun.{at_first, begun_by, HasRun, Listens}
-use Rattle.mta_worker_lists.specs.Begun as over
 use Rattle.mta_worker_lists.specs.Histories.{AreEntries, TellsApdus, place, whole}
 use Rattle.mta_worker_lists.specs.Leads.{Leads}
 use Rattle.mta_worker_lists.specs.Linked.{AreClosings, Began, IsRun, LinksAreRun, None_began}
 use Rattle.mta_worker_lists.proofs.Calm.{is_looking}
-use Rattle.mta_worker_lists.proofs.Ending.{done_behind, served_closed, served_grows}
+use Rattle.mta_worker_lists.proofs.Ending.{done_at_once, done_behind, gave_up, served_closed, served_grows}
 use Rattle.mta_worker_lists.proofs.Going.{state_then, turn_base, turn_grows}
 use Rattle.mta_worker_lists.proofs.Initiating.{begins_led, begins_lost, Led, Lost_there, readied_begins}
-use Rattle.mta_worker_lists.proofs.Joining.{no_calls, none_carried}
+use Rattle.mta_worker_lists.proofs.Joining.{none_carried}
 use Rattle.mta_worker_lists.proofs.Known.{Knows}
 use Rattle.mta_worker_lists.proofs.Making.{Makes, not_bound, refused}
 use Rattle.mta_worker_lists.proofs.Owned.{none_hit, one_hit}
@@ -80,27 +81,28 @@ module _ {D C L : Type 0} (disks : DiskView D) (clocks : ClockView C) (links : L
   history = whole first entries
 
   -- A session that began over this link, behind these entries of its pass.
-  pub record RunOf (old : L) (own opened : List ℕ) (q : Held Step) : Type 0 where
+  pub record RunOf (old new_link : L) (own opened : List ℕ) (q : Held Step) : Type 0 where
     pub new : Session
     pub begun : Held Step
     pub calls : List Call
-    pub ran : HasRun links spells first entries old new begun calls q
+    pub ran : HasRun links spells first entries old new begun calls q new_link
     pub owns : begun.own ≡ own ++ begun_by (length first) ran.begins
     pub later : length (begun_by (length first) ran.begins) ≤ length begun.seen
 
-  abbrev Ran : L → Held Step → Held Step → Served → Type 0
-  Ran old p q served = IsRun links spells first entries old p q served
+  abbrev Ran : L → L → Held Step → Held Step → Served → Type 0
+  Ran old new p q served = IsRun links spells first entries old new p q served
 
   no_closings : AreClosings history (length first) []
   no_closings k hit = none_hit k hit
 
   -- where none was closed
-  began : (old : L) (p q : Held Step) (served : Served) → RunOf old p.own [] q → Ran old p q served
-  began old p q served r = Began [] r.new r.begun r.calls r.ran no_closings r.owns r.later
+  began : (old new : L) (p q : Held Step) (served : Served) → RunOf old new p.own [] q → Ran old new p q served
+  began old new p q served r = Began [] r.new r.begun r.calls r.ran no_closings r.owns r.later
 
-  none_began : (old : L) (p q : Held Step) (served : Served) → served.end ≡ None → q.own ≡ p.own
-      → Ran old p q served
-  none_began old p q served none owns = None_began [] no_closings none (owns ∙ sym (append-nil p.own))
+  none_began : (old new : L) (p q : Held Step) (served : Served) → served.end ≡ None → q.own ≡ p.own → new ≡ old
+      → Ran old new p q served
+  none_began old new p q served none owns same =
+      None_began [] no_closings none (owns ∙ sym (append-nil p.own)) same
 
   -- no entry is made in a turn of the lock
   pub still_owns : (done : Shown D C → Shown D C → Type 0) (p q : Held Step) (i : InTurn disks clocks done p q)
@@ -129,7 +131,7 @@ module _ {D C L : Type 0} (disks : DiskView D) (clocks : ClockView C) (links : L
         feed = no_feed;
         pass = mid;
         halt = None;
-      }) new q served → IsPrefix q.seen entries → RunOf old mid.own [] q
+      }) new q served → IsPrefix q.seen entries → RunOf old new mid.own [] q
   listens_run own units mid old new q served one t are turn is f =
       let n : ℕ = place first mid in
       let fresh : Session = new_responder own units in
@@ -155,7 +157,7 @@ module _ {D C L : Type 0} (disks : DiskView D) (clocks : ClockView C) (links : L
         ran = record {
           begins = Listens own units n;
           done =
-              done_behind links spells first entries (at_first fresh old mid) x (call ∷ []) rest.0 q
+              done_behind links spells first entries (at_first fresh old mid) x (call ∷ []) rest.0 q new
               (record { calls_are = (refl, turn, refl); come_true = (refl, tt); wanted = refl; seen = refl })
               (sym (append-nil mid.own))
               (none_carried links (call ∷ []) action.Read old no_feed refl ([], [], refl, refl, refl)) rest.1;
@@ -171,16 +173,16 @@ module _ {D C L : Type 0} (disks : DiskView D) (clocks : ClockView C) (links : L
 
   listened_run : (units : ℕ) (p : Held Step) (old new : L) (q : Held Step) (served : Served)
       → AreEntries p.base first entries → HasListened disks clocks links units p old new q served
-      → IsPrefix q.seen entries → Ran old p q served
+      → IsPrefix q.seen entries → Ran old new p q served
   listened_run units p old new q served are (Without i same is) f =
-      none_began old p q served (ap (λ (s : Served). s.end) is) (own_still (Ok None) p q i)
+      none_began old new p q served (ap (λ (s : Served). s.end) is) (own_still (Ok None) p q i) same
   listened_run units p old new q served are (Wanting i same is) f =
-      none_began old p q served (ap (λ (s : Served). s.end) is)
-      (still_owns (λ s t. t ≡ s) p q i (ap (λ (s : Shown D C). s.entries) i.did))
+      none_began old new p q served (ap (λ (s : Served). s.end) is)
+      (still_owns (λ s t. t ≡ s) p q i (ap (λ (s : Shown D C). s.entries) i.did)) same
   listened_run units p old new q served are (Listening own mid one t i turn is) f =
       let r = listens_run own units mid old new q served one t
       (turn_then (λ s t. IsOwnName s.current (Ok (Some own)) × (t ≡ s)) p mid are i) turn is f in
-      began old p q served (record {
+      began old new p q served (record {
         new = r.new;
         begun = r.begun;
         calls = r.calls;
@@ -191,28 +193,14 @@ module _ {D C L : Type 0} (disks : DiskView D) (clocks : ClockView C) (links : L
       })
   listened_run units p old new q served are (Lost_at_once own i gives) f =
       let fresh : Session = new_responder own units in
-      began old p q served (record {
+      began old new p q served (record {
         new = fresh;
         begun = q;
         calls = [];
         ran = record {
           begins = Listens own units (place first q);
-          done = record {
-            mid = q;
-            last = fresh;
-            wanted = action.Read;
-            leads = no_calls spells history (place first q) fresh action.Read;
-            owns = sym (append-nil q.own);
-            over = over.Stopped refl;
-            owns_over = sym (append-nil q.own);
-            front = [];
-            behind = [];
-            calls_are = refl;
-            all = inl refl;
-            left = old;
-            feed = no_feed;
-            carried = none_carried links [] action.Read old no_feed refl refl;
-          };
+          done = done_at_once links spells first entries fresh old q new
+              (gave_up links losts.Memory false None old new served gives refl);
         };
         owns = own_still (Ok (Some own)) p q i ∙ sym (append-nil p.own);
         later = omega arith;
@@ -231,7 +219,7 @@ module _ {D C L : Type 0} (disks : DiskView D) (clocks : ClockView C) (links : L
         feed = no_feed;
         pass = at;
         halt = noted;
-      }) new q served → IsPrefix at.seen entries → IsPrefix q.seen entries → RunOf old mid.own [] q
+      }) new q served → IsPrefix at.seen entries → IsPrefix q.seen entries → RunOf old new mid.own [] q
   begins_run peer units mid at u one noted old new q served are i is front f =
       let left : at.seen ≡ i.after.entries = ap (λ (h : Held Step). h.seen) i.left in
       let owned : at.own
@@ -266,7 +254,7 @@ module _ {D C L : Type 0} (disks : DiskView D) (clocks : ClockView C) (links : L
         ran = record {
           begins = led.begins.begun;
           done =
-              done_behind links spells first entries (at_first fresh old at) x led.calls rest.0 q
+              done_behind links spells first entries (at_first fresh old at) x led.calls rest.0 q new
               (subst (λ (k : ℕ). Leads spells history k fresh action.Read led.calls k u one) there led.leads)
               (sym (append-nil at.own) ∙ ap (λ (ns : List ℕ). at.own ++ ns) (sym led.quiet.made))
               (none_carried links led.calls action.Read old no_feed led.quiet.got led.quiet.put) rest.1;
@@ -275,21 +263,23 @@ module _ {D C L : Type 0} (disks : DiskView D) (clocks : ClockView C) (links : L
         later = led.begins.later;
       }
 
-  lost_run : (peer : List ℕ) (units : ℕ) (mid q : Held Step) (u : Session) (lost : Lost) (noted : Option Halt) (old : L)
-      → AreEntries mid.base first entries
+  lost_run : (peer : List ℕ) (units : ℕ) (mid q : Held Step) (u : Session) (lost : Lost) (noted : Option Halt)
+      (old new : L) (served : Served) → AreEntries mid.base first entries
       → InTurn disks clocks (λ s t. IsReadied disks clocks peer units s None t noted (ready.Begins u (Err lost))) mid q
-      → IsPrefix q.seen entries → RunOf old mid.own [] q
-  lost_run peer units mid q u lost noted old are i f =
+      → GivesUp links lost (has_turned u.phase) noted old new served → IsPrefix q.seen entries
+      → RunOf old new mid.own [] q
+  lost_run peer units mid q u lost noted old new served are i gives f =
       let left : q.seen ≡ i.after.entries = ap (λ (h : Held Step). h.seen) i.left in
       let owned : q.own
       ≡ mid.own ++ row (length i.before.entries) (length i.after.entries - length i.before.entries) =
       ap (λ (h : Held Step). h.own) i.left in
       let behind : IsPrefix i.after.entries entries = subst (λ (xs : List Step). IsPrefix xs entries) left f in
       let state = state_then disks clocks i.before mid.base first entries i.keeps are in
-      let led : Lost_there disks clocks spells tells first entries are.possible links i.before i.after old q =
+      let led : Lost_there disks clocks spells tells first entries are.possible links i.before i.after old q new =
       begins_lost disks clocks spells tells first entries are.possible links units i.before i.after None noted u lost
-      old q
-      state behind left (readied_begins disks clocks peer units i.before i.after None noted u (Err lost) i.did) in
+      old q new
+      state behind left (readied_begins disks clocks peer units i.before i.after None noted u (Err lost) i.did)
+      (gave_up links lost (has_turned u.phase) noted old new served gives) in
       record {
         new = new_initiator led.begins.plan led.begins.units;
         begun = q;
@@ -476,16 +466,16 @@ module _ {D C L : Type 0} (disks : DiskView D) (clocks : ClockView C) (links : L
       (λ s t d. let w = readied_begins disks clocks peer units s t None noted u r d in
       answered_grow w.question s t w.answer w.answered) i
 
-  begun_behind : (old : L) (p mid q : Held Step) (served : Served) → ClosedAll p mid → RunOf old mid.own [] q
-      → Ran old p q served
-  begun_behind old p mid q served c r =
+  begun_behind : (old new : L) (p mid q : Held Step) (served : Served) → ClosedAll p mid
+      → RunOf old new mid.own [] q → Ran old new p q served
+  begun_behind old new p mid q served c r =
       Began c.closings r.new r.begun r.calls r.ran c.are
       (r.owns ∙ ap (λ (ns : List ℕ). ns ++ begun_by (length first) r.ran.begins) c.owns
       ∙ append_assoc p.own c.closings (begun_by (length first) r.ran.begins)) r.later
 
   called_run : (peer : List ℕ) (units : ℕ) (p : Held Step) (old new : L) (q : Held Step) (served : Served)
       → AreEntries p.base first entries → HasCalled disks clocks links peer units p old new q served
-      → IsPrefix q.seen entries → Ran old p q served
+      → IsPrefix q.seen entries → Ran old new p q served
   called_run peer units p old new q served are (Halting ms mid halt noted c i same is) f =
       let entries_are : i.after.entries ≡ i.before.entries =
       readied_halts peer units i.before i.after noted halt i.did in
@@ -495,7 +485,7 @@ module _ {D C L : Type 0} (disks : DiskView D) (clocks : ClockView C) (links : L
       subst (λ (xs : List Step). IsPrefix mid.seen xs)
       (sym (ap (λ (h : Held Step). h.seen) i.left ∙ entries_are)) i.begins in
       let all = closed_all peer units p ms mid are c (prefix_trans mid.seen q.seen entries grown_on f) in
-      None_began all.closings all.are (ap (λ (s : Served). s.end) is) (still ∙ all.owns)
+      None_began all.closings all.are (ap (λ (s : Served). s.end) is) (still ∙ all.owns) same
   called_run peer units p old new q served are (Calling ms mid at u one noted c i is) f =
       let grown_on : IsPrefix at.seen q.seen =
       served_grows disks clocks links spells tells first entries (record {
@@ -509,15 +499,16 @@ module _ {D C L : Type 0} (disks : DiskView D) (clocks : ClockView C) (links : L
       let front : IsPrefix at.seen entries = prefix_trans at.seen q.seen entries grown_on f in
       let before : IsPrefix mid.seen at.seen = readied_grows peer units mid at u (Ok one) noted i in
       let all = closed_all peer units p ms mid are c (prefix_trans mid.seen at.seen entries before front) in
-      begun_behind old p mid q served all
+      begun_behind old new p mid q served all
       (begins_run peer units mid at u one noted old new q served all.base i is front f)
   called_run peer units p old new q served are (Lost_before ms mid u lost noted c i gives) f =
       let before : IsPrefix mid.seen q.seen = readied_grows peer units mid q u (Err lost) noted i in
       let all = closed_all peer units p ms mid are c (prefix_trans mid.seen q.seen entries before f) in
-      begun_behind old p mid q served all (lost_run peer units mid q u lost noted old all.base i f)
+      begun_behind old new p mid q served all
+      (lost_run peer units mid q u lost noted old new served all.base i gives f)
   called_run peer units p old new q served are (Too_often ms c many same is) f =
       let all = closed_all peer units p ms q are c f in
-      None_began all.closings all.are (ap (λ (s : Served). s.end) is) all.owns
+      None_began all.closings all.are (ap (λ (s : Served). s.end) is) all.owns same
 
 pub links_are_run : {D C L : Type 0} (disks : DiskView D) (clocks : ClockView C) (links : LinkView L)
     → LinksAreRun disks clocks links

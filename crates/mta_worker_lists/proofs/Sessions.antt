@@ -234,8 +234,8 @@ module _ (spells : List ℕ → Bool) (history : List Seen) (n : ℕ) where
       (step : SeenStep) → Asked b u → n ≤ mid → 0 < times k (made_over n o)
       → slice_get history (n + k) ≡ Some (On l step) → IsPiece g step → Found u.phase u l g (n + k) step (told_over o)
   over_piece mid upto u b (Ended e is same) k l g step asked le hit get piece = none_hit k hit
-  over_piece mid upto u b (Stopped same) k l g step asked le hit get piece = none_hit k hit
-  over_piece mid upto u b (Untold q y is comes answers) k l g step asked le hit get piece =
+  over_piece mid upto u b (Stopped came aborts at may going same) k l g step asked le hit get piece = none_hit k hit
+  over_piece mid upto u b (Untold q y aborts is comes answers going) k l g step asked le hit get piece =
       call_piece spells history n u.phase u (action.Ask q) (event.Reply y)
       (record { before = u; event = event.Reply y; action = action.Ask q; after = u }) mid upto k l g step
       (λ z e. asked_of spells history n b u asked z (is ∙ e)) comes le hit get piece
@@ -392,8 +392,8 @@ module _ (spells : List ℕ → Bool) (history : List Seen) (n : ℕ) where
     where
       none_over : (o : IsOver spells history mid upto u b) → action.Read ≡ b → 0 < times k (made_over n o) → ⊥
       none_over (Ended e is same) w hit = none_hit k hit
-      none_over (Stopped same) w hit = none_hit k hit
-      none_over (Untold q y is comes answers) w hit = read_asks q (w ∙ is)
+      none_over (Stopped came aborts at may going same) w hit = none_hit k hit
+      none_over (Untold q y aborts is comes answers going) w hit = read_asks q (w ∙ is)
   gives_none own units mid upto u b (d ∷ ds) from o k l g step led none le get piece hit =
       let run = led.calls_are in
       let is = led.come_true in

@@ -1,7 +1,7 @@
 -- The list of a session that was given up for want of memory at its link is a good one, whatever came of its last
--- action.
+-- action, with its Abort or none.
 use Rattle.std.proofs.Common.{◌≡◌, ℕ, ◌+◌, Bool, true, false, List, [], ◌∷◌, ◌++◌, refl, sym, ap, subst, ◌∙◌}
-use Rattle.std.proofs.Common.{append_assoc, append-nil}
+use Rattle.std.proofs.Common.{append_assoc, append-nil, Option, None, Some}
 use Rattle.mta_units.specs.declared.unit.Unit.{Unit as AnyUnit}
 use Rattle.mta_units.specs.declared.unit.Unit.TheVariants as unit
 use Rattle.mta_ends.specs.Lanes.{LanesAllow, Seen}
@@ -24,8 +24,8 @@ use Rattle.mta_session_lists.specs.Lists.{AreValues, completed, Initiates, IsLis
 use Rattle.mta_session_lists.specs.Lost.{abort_of, IsLost, lost_of, Lost, seen_of, stopped}
 use Rattle.mta_session_lists.specs.Standing.{ComesTrue}
 use Rattle.mta_session_lists.proofs.Found.{never}
-use Rattle.mta_worker_lists.specs.Begun.{Calls, IsNewAt, Listens}
-use Rattle.mta_worker_lists.specs.Good.{As_told, Came, Given_up, IsAtLink, IsStopped}
+use Rattle.mta_worker_lists.specs.Begun.{Calls, IsAtLink, IsNewAt, Listens, MayCome}
+use Rattle.mta_worker_lists.specs.Good.{IsStopped}
 use Rattle.mta_worker_lists.specs.Leads.{Leads}
 use Rattle.mta_worker_lists.proofs.Aborting.{abort, abort_first, abort_instead, owns_front, owns_more, with_last}
 use Rattle.mta_worker_lists.proofs.Waits.{calls_wait, Waits, waits_next}
@@ -215,21 +215,22 @@ module _ (whole : ListsAreGood) (may_stop : ListsMayStop) (spells : List ℕ →
           subst IsGood (sym none) (good_told [] u is_list same (subst Owns none owns))
 
   pub stopped_good : (calls : List Call) (m : SessionList) (u : State) (b : Action) (from mid upto : ℕ)
-      → IsNewAt history from t → IsListOf spells history t calls lane l
-      → Leads spells history from t action.Read calls mid u b → upto ≡ mid → IsStopped calls l upto u b m → Owns m
-      → IsGood m
-  stopped_good calls m u b from mid upto new is_list led same (As_told is) owns =
+      (came : Option Event) (aborts : Bool) → IsNewAt history from t → IsListOf spells history t calls lane l
+      → Leads spells history from t action.Read calls mid u b → upto ≡ mid → IsAtLink b → MayCome u came
+      → (aborts ≡ true → has_turned u.phase ≡ false) → IsStopped calls l upto came aborts m → Owns m → IsGood m
+  stopped_good calls m u b from mid upto None false new is_list led same at may going is owns =
       subst IsGood (sym is) (good_told calls u is_list led.calls_are (subst Owns is owns))
-  stopped_good [] m u b from mid upto new is_list led same (Given_up at going is) owns =
+  stopped_good [] m u b from mid upto None true new is_list led same at may going is owns =
       subst IsGood (sym is) (first_good u is_list led.calls_are (subst Owns is owns))
-  stopped_good (c ∷ cs) m u b from mid upto new is_list led same (Given_up at going is) owns =
+  stopped_good (c ∷ cs) m u b from mid upto None true new is_list led same at may going is owns =
       let w : Waits b u =
       subst (λ (a : Action). Waits a u) led.wanted (last_waits history from t u c cs new led.calls_are) in
-      subst IsGood (sym is) (given_up_good c cs u b from mid upto new is_list led same at going w (subst Owns is owns))
-  stopped_good [] m u b from mid upto new is_list led same (Came e aborts at answers going is) owns =
       subst IsGood (sym is)
-      (first_came u b upto e aborts is_list led.calls_are (begin_first history from t new) answers
+      (given_up_good c cs u b from mid upto new is_list led same at (going refl) w (subst Owns is owns))
+  stopped_good [] m u b from mid upto (Some e) aborts new is_list led same at may going is owns =
+      subst IsGood (sym is)
+      (first_came u b upto e aborts is_list led.calls_are (begin_first history from t new) may
       (subst Owns is owns))
-  stopped_good (c ∷ cs) m u b from mid upto new is_list led same (Came e aborts at answers going is) owns =
+  stopped_good (c ∷ cs) m u b from mid upto (Some e) aborts new is_list led same at may going is owns =
       subst IsGood (sym is)
-      (came_good c cs u b from mid upto e aborts is_list led same at answers going (subst Owns is owns))
+      (came_good c cs u b from mid upto e aborts is_list led same at may going (subst Owns is owns))

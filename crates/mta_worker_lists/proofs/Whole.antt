@@ -1,11 +1,13 @@
 -- The list of a session that is one of the parts of a history is a good one.
-use Rattle.std.proofs.Common.{◌≡◌, ◌<◌, ℕ, suc, ◌+◌, Bool, true, Option, Some, List, [], ◌∷◌, ◌++◌, take, inl, inr}
+use Rattle.std.proofs.Common.{◌≡◌, ◌<◌, ℕ, suc, ◌+◌, Bool, true, false, Option, None, Some, List, [], ◌∷◌, ◌++◌, take}
+use Rattle.std.proofs.Common.{inl, inr}
 use Rattle.std.proofs.Common.{refl, sym, ap, subst, ◌∙◌, arith, slice_get, append-nil}
 use Rattle.mta_ends.specs.Sending.{SendEnd}
 use Rattle.mta_ends.specs.Lanes.{Bind, Halves, halves_after, lane_in, LaneOpen, LanesAllow, On, Seen, SeenStep}
 use Rattle.mta_session.specs.State.{is_initiator, State}
 use Rattle.mta_session.specs.declared.event.Action.{Action}
 use Rattle.mta_session.specs.declared.event.Action.TheVariants as action
+use Rattle.mta_session.specs.declared.event.Event.{Event}
 use Rattle.mta_session.specs.declared.event.Event.TheVariants as event
 use Rattle.mta_runs.specs.Sessions.{Made, seen_after, send_all, sending_event, SessionEvent, SessionList}
 use Rattle.mta_matches.specs.Generations.{Begins as BeginsHere, BeginsAt}
@@ -16,7 +18,7 @@ use Rattle.mta_session_lists.specs.Lists.{completed}
 use Rattle.mta_session_lists.specs.Lost.{abort_of, lost_of, tail_of}
 use Rattle.mta_session_lists.proofs.Lanes.{step_leads}
 use Rattle.mta_worker_lists.specs.Begun.{Ended, IsOver, Stopped, Untold}
-use Rattle.mta_worker_lists.specs.Good.{As_told, Came, Given_up, IsListOver, IsStopped}
+use Rattle.mta_worker_lists.specs.Good.{IsListOver, IsStopped}
 use Rattle.mta_worker_lists.specs.Segments.{Begins, BeginsIn, OnLane, SegmentsAreGood}
 use Rattle.mta_worker_lists.specs.Segments.{told_over}
 use Rattle.mta_worker_lists.proofs.Good.{sessions_good}
@@ -49,21 +51,21 @@ with_in history lane y (x ∷ xs) from e i =
     (elim i [ inl same ↦ inl same | inr more ↦ inr (with_in history lane y xs then after more) ])
 
 -- whatever came of an action at the link
-stopped_in : (calls : List Call) (l m : SessionList) (upto : ℕ) (u : State) (b : Action) (y : SessionEvent)
-    → IsStopped calls l upto u b m → IsIn y l.events → IsIn y m.events
-stopped_in calls l m upto u b y (As_told is) i = subst (λ (z : SessionList). IsIn y z.events) (sym is) i
-stopped_in calls l m upto u b y (Given_up at going is) i =
+stopped_in : (calls : List Call) (l m : SessionList) (upto : ℕ) (came : Option Event) (aborts : Bool)
+    (y : SessionEvent) → IsStopped calls l upto came aborts m → IsIn y l.events → IsIn y m.events
+stopped_in calls l m upto None false y is i = subst (λ (z : SessionList). IsIn y z.events) (sym is) i
+stopped_in calls l m upto None true y is i =
     subst (λ (z : SessionList). IsIn y z.events) (sym is) (before_in y l.events (abort_of true) i)
-stopped_in calls l m upto u b y (Came e aborts at answers going is) i =
+stopped_in calls l m upto (Some e) aborts y is i =
     subst (λ (z : SessionList). IsIn y z.events) (sym is)
     (before_in y l.events
     (tail_of (action_of action.Read calls) (record { event = e; seen = upto; aborts = aborts })) i)
 
-stopped_at : (calls : List Call) (l m : SessionList) (upto : ℕ) (u : State) (b : Action)
-    → IsStopped calls l upto u b m → m.at ≡ l.at
-stopped_at calls l m upto u b (As_told is) = ap (λ (z : SessionList). z.at) is
-stopped_at calls l m upto u b (Given_up at going is) = ap (λ (z : SessionList). z.at) is
-stopped_at calls l m upto u b (Came e aborts at answers going is) = ap (λ (z : SessionList). z.at) is
+stopped_at : (calls : List Call) (l m : SessionList) (upto : ℕ) (came : Option Event) (aborts : Bool)
+    → IsStopped calls l upto came aborts m → m.at ≡ l.at
+stopped_at calls l m upto None false is = ap (λ (z : SessionList). z.at) is
+stopped_at calls l m upto None true is = ap (λ (z : SessionList). z.at) is
+stopped_at calls l m upto (Some e) aborts is = ap (λ (z : SessionList). z.at) is
 
 -- what came of the last action
 over_in : (spells : List ℕ → Bool) (history : List Seen) (mid upto : ℕ) (u : State) (b : Action) (calls : List Call)
@@ -72,21 +74,24 @@ over_in : (spells : List ℕ → Bool) (history : List Seen) (mid upto : ℕ) (u
 over_in spells history mid upto u b calls l m (Ended e is same) y w so i =
     subst (λ (z : SessionList). IsIn y z.events) (sym so)
     (subst (λ (zs : List SessionEvent). IsIn y zs) (append-nil l.events) i)
-over_in spells history mid upto u b calls l m (Stopped same) y w so i =
-    stopped_in calls l m upto u b y so (subst (λ (zs : List SessionEvent). IsIn y zs) (append-nil l.events) i)
-over_in spells history mid upto u b calls l m (Untold q x is comes answers) y w so i =
+over_in spells history mid upto u b calls l m (Stopped came aborts at may going same) y w so i =
+    stopped_in calls l m upto came aborts y so
+    (subst (λ (zs : List SessionEvent). IsIn y zs) (append-nil l.events) i)
+over_in spells history mid upto u b calls l m (Untold q x aborts is comes answers going) y w so i =
     let told : List SessionEvent = told_as upto (step_told q x) (look_told q x) ∷ [] in
     let asks : action_of action.Read calls ≡ action.Ask q = w ∙ is in
-    let tail : IsIn y (l.events ++ (told ++ abort_of so.0)) =
-    in_either y l.events told (told ++ abort_of so.0) (before_in y told (abort_of so.0)) i in
-    subst (λ (z : SessionList). IsIn y z.events) (sym so.2)
-    (subst (λ (a : Action). IsIn y (l.events ++ (lost_of a upto (event.Reply x) ++ abort_of so.0))) (sym asks) tail)
+    let tail : IsIn y (l.events ++ (told ++ abort_of aborts)) =
+    in_either y l.events told (told ++ abort_of aborts) (before_in y told (abort_of aborts)) i in
+    subst (λ (z : SessionList). IsIn y z.events) (sym so)
+    (subst (λ (a : Action). IsIn y (l.events ++ (lost_of a upto (event.Reply x) ++ abort_of aborts))) (sym asks) tail)
 
 over_at : (spells : List ℕ → Bool) (history : List Seen) (mid upto : ℕ) (u : State) (b : Action) (calls : List Call)
     (l m : SessionList) (o : IsOver spells history mid upto u b) → IsListOver calls l o m → m.at ≡ l.at
 over_at spells history mid upto u b calls l m (Ended e is same) so = ap (λ (z : SessionList). z.at) so
-over_at spells history mid upto u b calls l m (Stopped same) so = stopped_at calls l m upto u b so
-over_at spells history mid upto u b calls l m (Untold q x is comes answers) so = ap (λ (z : SessionList). z.at) so.2
+over_at spells history mid upto u b calls l m (Stopped came aborts at may going same) so =
+    stopped_at calls l m upto came aborts so
+over_at spells history mid upto u b calls l m (Untold q x aborts is comes answers going) so =
+    ap (λ (z : SessionList). z.at) so
 
 -- ---- its generation
 

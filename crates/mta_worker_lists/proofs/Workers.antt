@@ -161,16 +161,16 @@ module _ {D C L S : Type 0} (disks : DiskView D) (clocks : ClockView C) (links :
         ∙ ap (λ (ns : List ℕ). p.own ++ ns) (sym (owned_more a.parts b.parts));
   }
 
-  link_parts : (old : L) (p q : Held Step) (served : Served) → IsRun links spells first entries old p q served
-      → Parts p q
-  link_parts old p q served (None_began closings are none owns) = record {
+  link_parts : (old new : L) (p q : Held Step) (served : Served)
+      → IsRun links spells first entries old new p q served → Parts p q
+  link_parts old new p q served (None_began closings are none owns same) = record {
     parts = plain closings ∷ [];
     are = (closings_plain history (length first) closings are, tt);
     sessions = (inl (closings_for_none history (length first) closings are), tt);
     owns = owns ∙ ap (λ (ns : List ℕ). p.own ++ ns) (sym (append-nil closings));
   }
-  link_parts old p q served (Began closings t begun calls ran are owns later) =
-      let given = links_have_parts links spells first entries old p q served
+  link_parts old new p q served (Began closings t begun calls ran are owns later) =
+      let given = links_have_parts links spells first entries old new p q served
       (Began closings t begun calls ran are owns later) in
       let s : Segment = given.of_it.0 in
       record {
@@ -186,6 +186,7 @@ module _ {D C L S : Type 0} (disks : DiskView D) (clocks : ClockView C) (links :
                   begun = begun;
                   calls = calls;
                   over = q;
+                  link_over = new;
                   ran = ran;
                   of_it = given.of_it.2;
                 }),
@@ -456,7 +457,7 @@ module _ {D C L S : Type 0} (disks : DiskView D) (clocks : ClockView C) (links :
       let front : IsPrefix s.mid.seen entries =
       prefix_trans s.mid.seen y.pass.seen entries (behind_grows s.mid s.served.halt y.pass halt s.behind) f in
       parts_more x.pass s.mid y.pass
-      (link_parts s.link x.pass s.mid s.served
+      (link_parts s.link s.left x.pass s.mid s.served
       (links_are_run disks clocks links spells first entries (stations.role s.given) units x.pass s.link s.left s.mid
       s.served tells are s.session front))
       (behind_parts s.mid s.served.halt y.pass halt (base_of x.pass s.mid are g.base) s.behind f)

@@ -1,20 +1,25 @@
 -- Where a session begins in the history, and where it has its lane.
-use Rattle.std.specs.Prelude.{◌≡◌, ◌⊎◌, ℕ, ◌+◌, ◌-◌, Bool, false, None, List, [], ◌∷◌}
+use Rattle.std.specs.Prelude.{◌≡◌, ◌⊎◌, ℕ, ◌+◌, ◌-◌, Bool, true, false, Option, None, Some}
+use Rattle.std.specs.Prelude.{List, [], ◌∷◌}
 use Rattle.std.specs.Prelude.{◌++◌, length}
 use Rattle.mta_links.specs.Links.{LinkView}
 use Rattle.mta_records.specs.declared.step.Step.{Step}
 use Rattle.mta_units.specs.Feed.{Feed, no_feed}
+use Rattle.mta_units.specs.declared.unit.Unit.TheVariants as unit
 use Rattle.mta_ends.specs.Lanes.{Seen}
 use Rattle.mta_session.specs.declared.ask.Ask.{Ask}
 use Rattle.mta_session.specs.declared.ask.Reply.{Reply}
 use Rattle.mta_session.specs.declared.event.Action.{Action}
 use Rattle.mta_session.specs.declared.event.Action.TheVariants as action
+use Rattle.mta_session.specs.declared.event.Event.{Event}
 use Rattle.mta_session.specs.declared.event.Event.TheVariants as event
 use Rattle.mta_session.specs.declared.event.InitiatorPlan.{InitiatorPlan}
 use Rattle.mta_session.specs.declared.event.SessionEnd.{SessionEnd}
 use Rattle.mta_session.specs.Fits.{Answers}
+use Rattle.mta_session.specs.Groups.{has_turned}
 use Rattle.mta_session.specs.Session.{new_initiator, new_responder}
 use Rattle.mta_session.specs.State.{State}
+use Rattle.mta_session_run.specs.Running.{HasDone, HasPut, IsUndone}
 use Rattle.mta_session_lists.specs.Calls.{Call, step_told}
 use Rattle.mta_session_lists.specs.Lists.{HasAt, step_by, step_for}
 use Rattle.mta_session_lists.specs.Standing.{ComesTrue}
@@ -30,34 +35,64 @@ pub data IsNewAt (history : List Seen) : (from : ℕ) → State → Type 0 where
       → (p.recovering ≡ false → p.generation ≡ 1) → IsNewAt history from (new_initiator p units)
   Listens : (own : List ℕ) (units from : ℕ) → IsNewAt history from (new_responder own units)
 
--- How it ends behind its last call: with an end, or for want of memory at its link, or with a reply to its question
--- that the history has and that it is not told, for want of memory.
+-- it is something that is done at the link
+abbrev pub IsAtLink : Action → Type 0
+IsAtLink (action.Put x) = Unit {0}
+IsAtLink action.Read = Unit {0}
+IsAtLink b = ⊥
+
+-- an event that answers the session's last action, or none
+abbrev pub MayCome : State → Option Event → Type 0
+MayCome u None = Unit {0}
+MayCome u (Some e) = Answers u e
+
+-- How it ends behind its last call: with an end; or for want of memory at its link, where this event came of its last
+-- action and was not told, or nothing came of it; or with a reply to its question that the history has and that it is
+-- not told, for want of memory. Where it is given up its worker puts an Abort, or none: always none where the session
+-- has turned to its end.
 pub data IsOver (spells : List ℕ → Bool) (history : List Seen) (from upto : ℕ) (u : State) (b : Action)
     : Type 0 where
   Ended : (e : SessionEnd) → b ≡ action.Finish e → upto ≡ from → IsOver spells history from upto u b
-  Stopped : upto ≡ from → IsOver spells history from upto u b
-  Untold : (q : Ask) (x : Reply) → b ≡ action.Ask q
+  Stopped : (came : Option Event) (aborts : Bool) → IsAtLink b → MayCome u came
+      → (aborts ≡ true → has_turned u.phase ≡ false) → upto ≡ from → IsOver spells history from upto u b
+  Untold : (q : Ask) (x : Reply) (aborts : Bool) → b ≡ action.Ask q
       → ComesTrue spells history from upto u.phase (action.Ask q) (event.Reply x) → Answers u (event.Reply x)
-      → IsOver spells history from upto u b
+      → (aborts ≡ true → has_turned u.phase ≡ false) → IsOver spells history from upto u b
 
 -- the entry that such a reply tells
 abbrev pub made_over : {spells : List ℕ → Bool} {history : List Seen} {from upto : ℕ} {u : State} {b : Action}
     → (before : ℕ) → IsOver spells history from upto u b → List ℕ
 made_over n (Ended e is same) = []
-made_over n (Stopped same) = []
-made_over {upto = upto} n (Untold q x is comes answers) = entry_at n upto (step_told q x)
+made_over n (Stopped came aborts at may going same) = []
+made_over {upto = upto} n (Untold q x aborts is comes answers going) = entry_at n upto (step_told q x)
 
--- there was no memory at its link
-abbrev pub WasStopped : {spells : List ℕ → Bool} {history : List Seen} {from upto : ℕ} {u : State} {b : Action}
-    → IsOver spells history from upto u b → Type 0
-WasStopped (Stopped same) = Unit {0}
-WasStopped o = ⊥
+-- ---- at its link
 
--- All that was done for a session from one point on, up to what its pass was when it was over: these calls, which the
--- history has, and its end. Of its own entries the calls tell all that the pass made then. What went over the link is
--- that of the calls, but for those in which there was no memory at it.
+-- this came of the last action, or there was no memory for what it does at the link
+abbrev pub HasCome : {L : Type 0} → LinkView L → Action → Option Event → L → Feed → L → Type 0
+HasCome links b None old fed new = IsUndone links b old fed new
+HasCome links b (Some e) old fed new = (feed : Feed) × HasDone links b old fed e new feed
+
+-- An Abort was put (localSystemProblem), wholly, or a front of it where the link failed; or nothing was.
+abbrev pub HasAborted : {L : Type 0} → LinkView L → Bool → L → L → Type 0
+HasAborted links true old new =
+    HasPut links (unit.Abort 0) old event.Go new ⊎ HasPut links (unit.Abort 0) old event.Over new
+HasAborted links false old new = links.talk new ≡ links.talk old
+
+-- How the link is left behind the last call: as it was behind an end; with what came of the last action where memory
+-- was wanted for it; and with the Abort of a session that is given up.
+abbrev pub LeavesLink : {spells : List ℕ → Bool} {history : List Seen} {from upto : ℕ} {u : State} {b : Action}
+    {L : Type 0} → LinkView L → IsOver spells history from upto u b → L → Feed → L → Type 0
+LeavesLink links (Ended e is same) old fed new = new ≡ old
+LeavesLink {b = b} {L = L} links (Stopped came aborts at may going same) old fed new =
+    (mid : L) × HasCome links b came old fed mid × HasAborted links aborts mid new
+LeavesLink links (Untold q x aborts is comes answers going) old fed new = HasAborted links aborts old new
+
+-- All that was done for a session from one point on, up to what its pass and its link were when it was over: these
+-- calls, which the history has, and its end. Of its own entries the calls tell all that the pass made then. What went
+-- over the link is that of the calls, and behind them that of the end.
 pub record IsDone {L : Type 0} (links : LinkView L) (spells : List ℕ → Bool) (first entries : List Step) (x : At L)
-    (calls : List Call) (q : Held Step) : Type 0 where
+    (calls : List Call) (q : Held Step) (new : L) : Type 0 where
   pub mid : Held Step
   pub last : State
   pub wanted : Action
@@ -66,13 +101,10 @@ pub record IsDone {L : Type 0} (links : LinkView L) (spells : List ℕ → Bool)
   pub owns : mid.own ≡ x.pass.own ++ made_in (length first) x.action calls
   pub over : IsOver spells (whole first entries) (place first mid) (place first q) last wanted
   pub owns_over : q.own ≡ mid.own ++ made_over (length first) over
-  pub front : List Call
-  pub behind : List Call
-  pub calls_are : calls ≡ front ++ behind
-  pub all : (behind ≡ []) ⊎ WasStopped over
   pub left : L
   pub feed : Feed
-  pub carried : AreCarried links x.action front x.link x.feed left feed
+  pub carried : AreCarried links x.action calls x.link x.feed left feed
+  pub leaves : LeavesLink links over left feed new
 
 -- a session before its first call, which is told Go as if it had been read
 abbrev pub at_first : {L : Type 0} → State → L → Held Step → At L
@@ -87,9 +119,9 @@ at_first t link pass = record {
 
 -- a new session, over the link that a station gave, and all that it did
 pub record HasRun {L : Type 0} (links : LinkView L) (spells : List ℕ → Bool) (first entries : List Step) (old : L)
-    (t : State) (p : Held Step) (calls : List Call) (q : Held Step) : Type 0 where
+    (t : State) (p : Held Step) (calls : List Call) (q : Held Step) (new : L) : Type 0 where
   pub begins : IsNewAt (whole first entries) (place first p) t
-  pub done : IsDone links spells first entries (at_first t old p) calls q
+  pub done : IsDone links spells first entries (at_first t old p) calls q new
 
 -- the entry by which a session's lane was opened or bound before its first call
 abbrev pub begun_by : {history : List Seen} {from : ℕ} {t : State} → (before : ℕ) → IsNewAt history from t

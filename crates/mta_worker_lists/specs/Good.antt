@@ -1,8 +1,6 @@
 -- The list of a session that a worker served, and when it is a good one.
-use Rattle.std.specs.Prelude.{◌≡◌, ◌⊎◌, ℕ, Bool, true, false, List, ◌++◌}
+use Rattle.std.specs.Prelude.{◌≡◌, ◌⊎◌, ℕ, Bool, true, false, Option, None, Some, List, ◌++◌}
 use Rattle.mta_ends.specs.Lanes.{Seen, LanesAllow}
-use Rattle.mta_session.specs.Fits.{Answers}
-use Rattle.mta_session.specs.Groups.{has_turned}
 use Rattle.mta_session.specs.State.{State, is_initiator}
 use Rattle.mta_session.specs.declared.event.Action.{Action}
 use Rattle.mta_session.specs.declared.event.Action.TheVariants as action
@@ -16,35 +14,23 @@ use Rattle.mta_session_lists.specs.Lost.{abort_of, stopped}
 use Rattle.mta_worker_lists.specs.Begun.{Ended, GiveNone, IsNewAt, IsOver, Stopped, Untold}
 use Rattle.mta_worker_lists.specs.Leads.{Leads}
 
--- it is something that is done at the link
-abbrev pub IsAtLink : Action → Type 0
-IsAtLink (action.Put x) = Unit {0}
-IsAtLink action.Read = Unit {0}
-IsAtLink b = ⊥
+-- The list of these calls where memory was wanted at the link: this event came of the last action and was not told, or
+-- nothing came of it; and the worker put an Abort, or none.
+abbrev pub IsStopped : List Call → SessionList → (upto : ℕ) → Option Event → (aborts : Bool) → SessionList
+    → Type 0
+IsStopped calls l upto None false m = m ≡ l
+IsStopped calls l upto None true m =
+    m ≡ record { opening = l.opening; at = l.at; events = l.events ++ abort_of true }
+IsStopped calls l upto (Some e) aborts m =
+    m ≡ stopped calls l (record { event = e; seen = upto; aborts = aborts })
 
--- What the list of these calls may be where memory was wanted at the link: nothing came of the last action, or an event
--- that the session was not told, and its worker put an Abort, where the session has not turned to its end, or none.
--- What is known of a worker does not tell which of these it was.
-pub data IsStopped (calls : List Call) (l : SessionList) (upto : ℕ) (u : State) (b : Action)
-    (m : SessionList) : Type 0 where
-  As_told : m ≡ l → IsStopped calls l upto u b m
-  Given_up : IsAtLink b → has_turned u.phase ≡ false
-      → m ≡ record { opening = l.opening; at = l.at; events = l.events ++ abort_of true }
-      → IsStopped calls l upto u b m
-  Came : (e : Event) (aborts : Bool) → IsAtLink b → Answers u e
-      → (aborts ≡ true → has_turned u.phase ≡ false)
-      → m ≡ stopped calls l (record { event = e; seen = upto; aborts = aborts })
-      → IsStopped calls l upto u b m
-
--- What the list of these calls is with what came of the last action, and of the Abort that is put where the session has
--- not turned to its end.
+-- The list of these calls with what came of the last action, and with the Abort that was put.
 abbrev pub IsListOver : {spells : List ℕ → Bool} {history : List Seen} {from upto : ℕ} {u : State} {b : Action}
     → List Call → SessionList → IsOver spells history from upto u b → SessionList → Type 0
 IsListOver calls l (Ended e is same) m = m ≡ l
-IsListOver {upto = upto} {u = u} {b = b} calls l (Stopped same) m = IsStopped calls l upto u b m
-IsListOver {upto = upto} {u = u} calls l (Untold q x is true_ answers) m =
-    (aborts : Bool) × (aborts ≡ true → has_turned u.phase ≡ false)
-    × (m ≡ stopped calls l (record { event = event.Reply x; seen = upto; aborts = aborts }))
+IsListOver {upto = upto} calls l (Stopped came aborts at may going same) m = IsStopped calls l upto came aborts m
+IsListOver {upto = upto} calls l (Untold q x aborts is comes answers going) m =
+    m ≡ stopped calls l (record { event = event.Reply x; seen = upto; aborts = aborts })
 
 -- A new session has a list, where it has a lane. A responder has none before a call tells it so.
 abbrev pub SessionsHaveLists : Type 0

@@ -25,15 +25,16 @@ plain own = record { own = own; list = None }
 
 -- Lanes that were closed before, and the session, where one began.
 abbrev pub ArePartsOf : {L : Type 0} {links : LinkView L} {spells : List ℕ → Bool} {first entries : List Step}
-    {old : L} {p q : Held Step} {served : Served} → IsRun links spells first entries old p q served → List Segment
-    → Type 0
-ArePartsOf (None_began closings are none owns) ss = ss ≡ plain closings ∷ []
+    {old new : L} {p q : Held Step} {served : Served} → IsRun links spells first entries old new p q served
+    → List Segment → Type 0
+ArePartsOf (None_began closings are none owns same) ss = ss ≡ plain closings ∷ []
 ArePartsOf {first = first} (Began closings t begun calls ran are owns later) ss =
     (s : Segment) × (ss ≡ plain closings ∷ s ∷ []) × IsOf (length first) ran.begins calls ran.done.over s
 
 -- What was done with a link is in these parts of the history, which are all own entries of the pass then.
 pub record LinkParts {L : Type 0} {links : LinkView L} {spells : List ℕ → Bool} {first entries : List Step}
-    {old : L} {p q : Held Step} {served : Served} (run : IsRun links spells first entries old p q served) : Type 0 where
+    {old new : L} {p q : Held Step} {served : Served} (run : IsRun links spells first entries old new p q served)
+    : Type 0 where
   pub parts : List Segment
   pub are : AreSegments (whole first entries) (length first) parts
   pub owns : q.own ≡ p.own ++ owned parts
@@ -42,8 +43,8 @@ pub record LinkParts {L : Type 0} {links : LinkView L} {spells : List ℕ → Bo
 module _ {L : Type 0} (links : LinkView L) where
   abbrev pub LinksHaveParts : Type 0
   LinksHaveParts =
-      (spells : List ℕ → Bool) (first entries : List Step) (old : L) (p q : Held Step) (served : Served)
-      (run : IsRun links spells first entries old p q served) → LinkParts run
+      (spells : List ℕ → Bool) (first entries : List Step) (old new : L) (p q : Held Step) (served : Served)
+      (run : IsRun links spells first entries old new p q served) → LinkParts run
 
 -- ---- workers
 
@@ -67,7 +68,8 @@ pub record IsSession {L : Type 0} (links : LinkView L) (spells : List ℕ → Bo
   pub begun : Held Step
   pub calls : List Call
   pub over : Held Step
-  pub ran : HasRun links spells first entries link new begun calls over
+  pub link_over : L
+  pub ran : HasRun links spells first entries link new begun calls over link_over
   pub of_it : IsOf (length first) ran.begins calls ran.done.over s
 
 -- each of these is a session's, or was made for none

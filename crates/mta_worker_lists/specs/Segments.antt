@@ -90,8 +90,9 @@ ListsOwnPieces =
 abbrev pub told_over : {spells : List ℕ → Bool} {history : List Seen} {from upto : ℕ} {u : State} {b : Action}
     → IsOver spells history from upto u b → List SessionEvent
 told_over (Ended e is same) = []
-told_over (Stopped same) = []
-told_over {upto = upto} (Untold q x is comes answers) = told_as upto (step_told q x) (look_told q x) ∷ []
+told_over (Stopped came aborts at may going same) = []
+told_over {upto = upto} (Untold q x aborts is comes answers going) =
+    told_as upto (step_told q x) (look_told q x) ∷ []
 
 -- it is the list of these calls, with that reply; none where a responder has no lane
 abbrev pub ListsAs : (spells : List ℕ → Bool) → List Seen → State → List Call → List SessionEvent

@@ -1,5 +1,5 @@
 use Rattle.std.proofs.Common.{arith}
-use Rattle.mta_session_run.proofs.Running.{not_yet, one_more, called_more, done_answers, done_tells, done_goes, told_done, came_so, stopped, stopped_still, on_err}
+use Rattle.mta_session_run.proofs.Running.{not_yet, one_more, called_more, done_answers, done_tells, done_goes, told_done, came_so, stopped_there, stopped_still, on_err}
 use Rattle.mta_session_run.proofs.run.carry_on.Goals as goal
 
 pub loop-came-init : goal.loop-came-init
@@ -15,7 +15,7 @@ exchange-requires g c = c.loop-came.invariant.called.writable
 
 pub returns-in_err-came-clause-lost : goal.returns-in_err-came-clause-lost
 returns-in_err-came-clause-lost g c =
-    on_err _ _ (stopped g.L.Link.model c.args.session.now c.args.action c.args.link.now c.args.frames.now c.loop-came.session c.loop-came.wanted c.loop-came.link c.loop-came.frames c.exchange.new.link c.loop-came.invariant.run c.exchange.ensures.later)
+    on_err _ _ (stopped_there g.L.Link.model c.args.session.now c.args.action c.args.link.now c.args.frames.now c.loop-came.session c.loop-came.wanted c.loop-came.link c.loop-came.frames c.exchange.new.link c.loop-came.invariant.run c.exchange.ensures.later c.in_err-came.ensures.short)
 
 pub returns-in_err-came-clause-later : goal.returns-in_err-came-clause-later
 returns-in_err-came-clause-later g c = omega (arith, c.loop-came.invariant.later, c.exchange.ensures.later)
@@ -35,8 +35,10 @@ tell-requires g c =
 
 pub returns-in_err-wanted-in-Told-clause-lost : goal.returns-in_err-wanted-in-Told-clause-lost
 returns-in_err-wanted-in-Told-clause-lost g c =
-    on_err _ _ (stopped_still g.L.Link.model c.args.session.now c.args.action c.args.link.now c.loop-came.session c.tell.new.session c.exchange.new.link c.in_err-wanted-in-Told.ensures.err
-    (stopped g.L.Link.model c.args.session.now c.args.action c.args.link.now c.args.frames.now c.loop-came.session c.loop-came.wanted c.loop-came.link c.loop-came.frames c.exchange.new.link c.loop-came.invariant.run c.exchange.ensures.later))
+    let h = told_done g.L.Link.model c.loop-came.wanted c.loop-came.link c.loop-came.frames c.in_ok-came.field-0 c.in-Told.event c.exchange.new.link c.exchange.new.frames c.in-Told.is c.in_ok-came.ensures.done in
+    on_err _ _ (stopped_still g.L.Link.model c.args.session.now c.args.action c.args.link.now c.args.frames.now c.loop-came.session c.loop-came.wanted c.loop-came.link c.loop-came.frames c.in-Told.event c.tell.new.session c.exchange.new.link c.exchange.new.frames
+    c.in_err-wanted-in-Told.ensures.err c.loop-came.invariant.run c.exchange.ensures.later h
+    (done_answers g.L.Link.model c.loop-came.session c.loop-came.wanted c.loop-came.link c.loop-came.frames c.in-Told.event c.exchange.new.link c.exchange.new.frames c.loop-came.invariant.called.awaited h))
 
 pub returns-in_err-wanted-in-Told-clause-later : goal.returns-in_err-wanted-in-Told-clause-later
 returns-in_err-wanted-in-Told-clause-later g c = omega (arith, c.loop-came.invariant.later, c.exchange.ensures.later)

@@ -1,10 +1,12 @@
-use Rattle.std.proofs.Common.{◌≡◌, ℕ, Option, Some, None, sym, ap, ◌∙◌}
+use Rattle.std.proofs.Common.{◌≡◌, ℕ, Option, Some, None, sym, ap, subst, ◌∙◌}
 use Rattle.std.specs.Option.{option_map}
 use Rattle.mta_apdu.specs.Apdus.{ApduValue, apdu_value, report}
 use Rattle.mta_machine.specs.declared.item.Origin.{Origin}
 use Rattle.mta_machine.specs.Machine.{own_item}
 use Rattle.mta_machine.specs.Rules.{passed_back, passed_under}
-use Rattle.mta_table_rules.proofs.Read.{if_ok_so, kept_is, none_passed, passed_is}
+use Rattle.mta_replay.specs.Asked.{Passes}
+use Rattle.mta_table_rules.proofs.Passed.{has_room}
+use Rattle.mta_table_rules.proofs.Read.{if_ok_so, kept_is, none_passed, passed_is, verdict_is}
 use Rattle.mta_table_rules.proofs.passing.passed_item.Goals as goal
 
 pub returns-in_default : goal.returns-in_default
@@ -13,6 +15,16 @@ returns-in_default c =
     (sym (none_passed c.args.tables.now c.args.items.now c.args.item.now c.text_reads.ensures
     (kept_is c.args.item.now.octets c.octets.result.now c.in_ok-apdu.field-0 None c.octets.ensures
     c.in_ok-apdu.ensures.value c.in_default.is)))
+
+pub passed_under-made-requires-clause-room : goal.passed_under-made-requires-clause-room
+passed_under-made-requires-clause-room c =
+    let t = c.args.tables.now in
+    let item = c.args.item.now in
+    let v : ApduValue = apdu_value c.in-Some.apdu in
+    let same = verdict_is t item.octets v item.arrival c.args.recipient c.args.moment c.text_reads.ensures
+    (kept_is item.octets c.octets.result.now c.in_ok-apdu.field-0 (Some c.in-Some.apdu) c.octets.ensures
+    c.in_ok-apdu.ensures.value c.in-Some.is) in
+    has_room t v item.arrival c.args.recipient c.args.moment (subst Passes same c.requires.passed)
 
 pub returns : goal.returns
 returns c =
