@@ -40,7 +40,7 @@ use Rattle.mta_lane_lists.specs.Turns.{ReceivesBetween, SendsBetween, StandsBetw
 
 -- ---- steps and looks, one behind the other
 
-abbrev StandUpto : (from upto : ℕ) → List SessionEvent → Type 0
+abbrev pub StandUpto : (from upto : ℕ) → List SessionEvent → Type 0
 StandUpto from upto [] = from ≤ upto
 StandUpto from upto (Made p j step ∷ ys) = (from ≤ p) × StandUpto (p + 1) upto ys
 StandUpto from upto (Looked n look ∷ ys) = (from ≤ n) × StandUpto n upto ys
@@ -49,11 +49,11 @@ StandUpto from upto (Refused u ∷ ys) = StandUpto from upto ys
 StandUpto from upto (Put u ∷ ys) = StandUpto from upto ys
 
 -- what is so for each beginning that is no later
-abbrev From : (seen upto : ℕ) → List SessionEvent → Type 0
+abbrev pub From : (seen upto : ℕ) → List SessionEvent → Type 0
 From seen upto rest = (low : ℕ) → low ≤ seen → StandUpto low upto rest
 
 module _ (spells : List ℕ → Bool) (history : List Seen) where
-  told_stand : (low from seen upto : ℕ) (a : Ask) (y : Reply) (o : Option StepOn) (look : Look)
+  pub told_stand : (low from seen upto : ℕ) (a : Ask) (y : Reply) (o : Option StepOn) (look : Look)
       (rest : List SessionEvent) → low ≤ from → StandsAs spells history from seen a y o → From seen upto rest
       → StandUpto low upto (told_as seen o look ∷ rest)
   told_stand low from seen upto a y (Some step) look rest le is more =
@@ -91,7 +91,7 @@ module _ (spells : List ℕ → Bool) (history : List Seen) where
   come_stand low from seen upto p (action.Ask a) t event.Over rest le is more = more low (omega (arith, le, is))
   come_stand low from seen upto p (action.Finish y) t e rest le is more = more low (omega (arith, le, is))
 
-  calls_then : (cs : List Call) (tail : List SessionEvent) (low from upto : ℕ) (a : Action) → low ≤ from
+  pub calls_then : (cs : List Call) (tail : List SessionEvent) (low from upto : ℕ) (a : Action) → low ≤ from
       → AllComeTrue spells history from a cs → From (seen_of from cs) upto tail
       → StandUpto low upto (list_of a cs ++ tail)
   calls_then [] tail low from upto a le is base = base low le
@@ -102,11 +102,11 @@ module _ (spells : List ℕ → Bool) (history : List Seen) where
       (list_of c.turn.action cs ++ tail) le is.0
       (λ to more. calls_then cs tail to c.seen upto c.turn.action more is.1 base))
 
-  abort_stand : (low upto : ℕ) (b : Bool) → low ≤ upto → StandUpto low upto (abort_of b)
+  pub abort_stand : (low upto : ℕ) (b : Bool) → low ≤ upto → StandUpto low upto (abort_of b)
   abort_stand low upto true le = le
   abort_stand low upto false le = le
 
-  tail_stand : (low from : ℕ) (p : Phase) (a : Action) (y : Lost) → low ≤ from
+  pub tail_stand : (low from : ℕ) (p : Phase) (a : Action) (y : Lost) → low ≤ from
       → ComesTrue spells history from y.seen p a y.event → StandUpto low y.seen (tail_of a y)
   tail_stand low from p a y le is = by_event a y.event le is
     where
@@ -270,7 +270,7 @@ module _ (history : List Seen) (lane : ℕ) where
 
 -- ---- a list
 
-stand_between : (history : List Seen) (lane size window upto : ℕ) (initiator : Bool) (l : SessionList)
+pub stand_between : (history : List Seen) (lane size window upto : ℕ) (initiator : Bool) (l : SessionList)
     → StandUpto (l.at + 1) upto l.events → StandsBetween lane l.at upto (completed history lane size window initiator l)
 stand_between history lane size window upto initiator l r =
     let e : SendEnd = end_begun history lane size window l.at initiator in
@@ -282,11 +282,11 @@ stand_between history lane size window upto initiator l r =
     }
 
 -- behind calls that end with others
-seen_more : (from low : ℕ) (before cs : List Call) (c : Call) → seen_of from (before ++ c ∷ cs) ≡ seen_of c.seen cs
+pub seen_more : (from low : ℕ) (before cs : List Call) (c : Call) → seen_of from (before ++ c ∷ cs) ≡ seen_of c.seen cs
 seen_more from low [] cs c = refl
 seen_more from low (d ∷ ds) cs c = seen_more d.seen low ds cs c
 
-action_more : (a : Action) (before cs : List Call) (c : Call)
+pub action_more : (a : Action) (before cs : List Call) (c : Call)
     → action_of a (before ++ c ∷ cs) ≡ action_of c.turn.action cs
 action_more a [] cs c = refl
 action_more a (d ∷ ds) cs c = action_more d.turn.action ds cs c

@@ -57,6 +57,6 @@ LanesAgree links =
     → LanesAllow spells (whole first entries) → before ++ added ≡ whole first entries
     → length before ≡ length first + low → AreValues (whole first entries) lane size window
     → ((s : Segment) → IsOne s ss → IsOne s all.parts) → HaveLane ss all.parts lane
-    → EachBegan (whole first entries) (length before) lane ss → AreOnSide lane initiator ss one.are
+    → EachBegan (whole first entries) (length before) lane ss → AreOnSide lane initiator ss one.sessions
     → (ls : List SessionList) × AreListsIn links spells first entries all.parts lane size window initiator ls
     × LaneAgrees spells before added lane size window initiator ls

@@ -5,5 +5,6 @@
 mod laws;
 
 pub use laws::{
-    lists_in_turn_agree, lists_in_turn_rise, lists_stand_between, stopped_lists_stand_between,
+    lanes_agree, lists_in_turn_agree, lists_in_turn_rise, lists_stand_between,
+    stopped_lists_stand_between,
 };

@@ -15,7 +15,7 @@ use Rattle.mta_shared.specs.Held.{LockId}
 use Rattle.mta_shared.proofs.Sums.{times-append, times-row-above, times-row-in, times-row-le}
 use Rattle.mta_workers.specs.declared.jobs.Job.{Job}
 use Rattle.mta_workers.specs.Jobs.{JobDone, owned_by, SawFront}
-use Rattle.mta_worker_lists.specs.All.{all_of, AllHaveParts, AllParts, EachInTurn}
+use Rattle.mta_worker_lists.specs.All.{all_of, AllHaveParts, AllParts, EachInTurn, StationParts}
 use Rattle.mta_worker_lists.specs.Histories.{AreEntries, place, TellsApdus, whole}
 use Rattle.mta_worker_lists.specs.Parts.{AreParts, AreSessions, StandInTurn}
 use Rattle.mta_worker_lists.specs.Segments.{AreAll, AreSegments, owned, Segment}
@@ -63,8 +63,7 @@ all_of_more (x ∷ xs) ss = ap (λ (zs : List Segment). x ++ zs) (all_of_more xs
 
 turns_with : {L : Type 0} (links : LinkView L) (spells : List ℕ → Bool) (first entries : List Step) (from : ℕ)
     (more : List (List Segment)) (ss : List Segment) → EachInTurn links spells first entries from more
-    → (are : AreSessions links spells first entries ss) × (upto : ℕ) × StandInTurn from upto ss are
-    → EachInTurn links spells first entries from (more ++ ss ∷ [])
+    → StationParts links spells first entries from ss → EachInTurn links spells first entries from (more ++ ss ∷ [])
 turns_with links spells first entries from [] ss t one = (one, tt)
 turns_with links spells first entries from (x ∷ xs) ss t one =
     (t.0, turns_with links spells first entries from xs ss t.1 one)
@@ -150,12 +149,13 @@ module _ {D C L S : Type 0} (disks : DiskView D) (clocks : ClockView C) (links :
             ap (λ (ss : List Segment). ss ++ one.parts) rest.of_stations
             ∙ sym (all_of_more rest.stations one.parts);
         turns =
-            turns_with links spells first entries (length first + length front) rest.stations one.parts rest.turns (
-              one.sessions,
-              place first k.pass,
-              subst (λ (n : ℕ). StandInTurn n (place first k.pass) one.parts one.sessions)
-                  (ap (λ (xs : List Step). length first + length xs) b.0) one.turns,
-            );
+            turns_with links spells first entries (length first + length front) rest.stations one.parts rest.turns
+            (record {
+              sessions = one.sessions;
+              upto = place first k.pass;
+              turns = subst (λ (n : ℕ). StandInTurn n (place first k.pass) one.parts one.sessions)
+                  (ap (λ (xs : List Step). length first + length xs) b.0) one.turns;
+            });
       }
 
   all_parts : (dealt done : List (Job S)) → JobParts done

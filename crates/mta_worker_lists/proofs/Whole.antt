@@ -41,7 +41,7 @@ in_either y [] ys zs f i = f i
 in_either y (x ∷ xs) ys zs f i = elim i [ inl e ↦ inl e | inr more ↦ inr (in_either y xs ys zs f more) ]
 
 -- with the Abandons of other passes too
-with_in : (history : List Seen) (lane : ℕ) (y : SessionEvent) (ys : List SessionEvent) (from : ℕ) (e : SendEnd)
+pub with_in : (history : List Seen) (lane : ℕ) (y : SessionEvent) (ys : List SessionEvent) (from : ℕ) (e : SendEnd)
     → IsIn y ys → IsIn y (with_abandons history lane from e ys)
 with_in history lane y [] from e i = absurd i
 with_in history lane y (x ∷ xs) from e i =
@@ -69,7 +69,7 @@ stopped_at calls l m upto None true is = ap (λ (z : SessionList). z.at) is
 stopped_at calls l m upto (Some e) aborts is = ap (λ (z : SessionList). z.at) is
 
 -- what came of the last action
-over_in : (spells : List ℕ → Bool) (history : List Seen) (mid upto : ℕ) (u : State) (b : Action) (calls : List Call)
+pub over_in : (spells : List ℕ → Bool) (history : List Seen) (mid upto : ℕ) (u : State) (b : Action) (calls : List Call)
     (l m : SessionList) (o : IsOver spells history mid upto u b) (y : SessionEvent) → action_of action.Read calls ≡ b
     → IsListOver calls l o m → IsIn y (l.events ++ told_over o) → IsIn y m.events
 over_in spells history mid upto u b calls l m (Ended e is same) y w so i =
@@ -86,7 +86,7 @@ over_in spells history mid upto u b calls l m (Untold q x aborts is comes answer
     subst (λ (z : SessionList). IsIn y z.events) (sym so)
     (subst (λ (a : Action). IsIn y (l.events ++ (lost_of a upto (event.Reply x) ++ abort_of aborts))) (sym asks) tail)
 
-over_at : (spells : List ℕ → Bool) (history : List Seen) (mid upto : ℕ) (u : State) (b : Action) (calls : List Call)
+pub over_at : (spells : List ℕ → Bool) (history : List Seen) (mid upto : ℕ) (u : State) (b : Action) (calls : List Call)
     (l m : SessionList) (o : IsOver spells history mid upto u b) → IsListOver calls l o m → m.at ≡ l.at
 over_at spells history mid upto u b calls l m (Ended e is same) so = ap (λ (z : SessionList). z.at) so
 over_at spells history mid upto u b calls l m (Stopped came aborts at may going same) so =

@@ -44,7 +44,7 @@ use Rattle.mta_worker.specs.declared.telling.Lost.{Lost}
 use Rattle.mta_worker_lists.specs.Begun.{IsBehind}
 use Rattle.mta_worker_lists.specs.Histories.{AreEntries, place, TellsApdus, whole}
 use Rattle.mta_worker_lists.specs.Linked.{Began, IsRun, None_began}
-use Rattle.mta_worker_lists.specs.Parts.{AreForNone, AreParts, AreSessions, BeginsFrom, IsForNone, IsSession, plain}
+use Rattle.mta_worker_lists.specs.Parts.{AreForNone, AreParts, AreSessions, BeginsBetween, IsForNone, IsSession, plain}
 use Rattle.mta_worker_lists.specs.Parts.{StandInTurn, StandsFrom, WorkersHaveParts}
 use Rattle.mta_worker_lists.specs.Segments.{AreSegments, Begins, IsOwnStep, IsSegment, OnLane, owned, Segment}
 use Rattle.mta_worker_lists.proofs.Annotating.{seen_behind}
@@ -161,9 +161,10 @@ module _ {D C L S : Type 0} (disks : DiskView D) (clocks : ClockView C) (links :
   stands_sooner low from upto s (inr x) le b =
       let here = b.1 in (sooner s.list b.0, omega (arith, le, here), b.2)
     where
-      sooner : (o : Option OnLane) → BeginsFrom from o → BeginsFrom low o
+      sooner : (o : Option OnLane) → BeginsBetween from (place first x.over) o
+          → BeginsBetween low (place first x.over) o
       sooner None i = tt
-      sooner (Some on) i = omega (arith, le, i)
+      sooner (Some on) i = let there = i.0 in (omega (arith, le, there), i.1)
 
   turns_sooner : (low from upto : ℕ) (ss : List Segment) (are : AreSessions links spells first entries ss)
       → low ≤ from → StandInTurn from upto ss are → StandInTurn low upto ss are
@@ -203,18 +204,21 @@ module _ {D C L S : Type 0} (disks : DiskView D) (clocks : ClockView C) (links :
   -- each entry of a session stands where it began or behind
   begins_later : (p : Held Step) (s : Segment) (x : IsSession links spells first entries s)
       → IsBehind (place first p) x.ran.begins → IsSegment history (length first) s
-      → BeginsFrom (place first p) s.list
+      → BeginsBetween (place first p) (place first x.over) s.list
   begins_later p s x after is = by_list s.list is.begins
     where
-      by_list : (o : Option OnLane) → Begins history (length first) s.own o → BeginsFrom (place first p) o
+      by_list : (o : Option OnLane) → Begins history (length first) s.own o
+          → BeginsBetween (place first p) (place first x.over) o
       by_list None b = tt
       by_list (Some on) b =
           let k : ℕ = on.at - length first in
-          let there : place first p ≤ length first + k =
+          let there : (place first p ≤ length first + k) × (length first + k < place first x.over) =
           own_later spells history (length first) (place first p) x.ran.begins x.calls x.ran.done.over k after
           (omega arith) x.ran.done.leads
           (subst (λ (ns : List ℕ). 0 < times k ns) x.of_it.own b.owned) in
-          omega (arith, there, b.later)
+          let low = there.0 in
+          let high = there.1 in
+          (omega (arith, low, b.later), omega (arith, high, b.later))
 
   link_parts : (old new : L) (p q : Held Step) (served : Served) → IsPrefix p.seen q.seen
       → IsRun links spells first entries old new p q served → Parts p q

@@ -24,13 +24,18 @@ abbrev pub all_of : List (List Segment) → List Segment
 all_of [] = []
 all_of (ss ∷ more) = ss ++ all_of more
 
--- the sessions of each station are one behind the other, from this length of the history on
+-- The parts of the sessions of one station: they are one behind the other, from this length of the history on.
+pub record StationParts {L : Type 0} (links : LinkView L) (spells : List ℕ → Bool) (first entries : List Step)
+    (from : ℕ) (ss : List Segment) : Type 0 where
+  pub sessions : AreSessions links spells first entries ss
+  pub upto : ℕ
+  pub turns : StandInTurn from upto ss sessions
+
 abbrev pub EachInTurn : {L : Type 0} (links : LinkView L) (spells : List ℕ → Bool) (first entries : List Step)
     (from : ℕ) → List (List Segment) → Type 0
 EachInTurn links spells first entries from [] = Unit {0}
 EachInTurn links spells first entries from (ss ∷ more) =
-    ((are : AreSessions links spells first entries ss) × (upto : ℕ) × StandInTurn from upto ss are)
-    × EachInTurn links spells first entries from more
+    StationParts links spells first entries from ss × EachInTurn links spells first entries from more
 
 -- Each of these parts is of a session that ran over a link, or was made for none; no entry was made twice, and all are
 -- from some on, each of which is in one of them.

@@ -83,10 +83,10 @@ AreSessions links spells first entries (s ∷ ss) =
 
 -- ---- one behind the other
 
--- the list, where there is one, begins at this length of the history or behind it
-abbrev pub BeginsFrom : (from : ℕ) → Option OnLane → Type 0
-BeginsFrom from None = Unit {0}
-BeginsFrom from (Some on) = from ≤ on.at
+-- the list, where there is one, begins between these lengths of the history
+abbrev pub BeginsBetween : (from upto : ℕ) → Option OnLane → Type 0
+BeginsBetween from upto None = Unit {0}
+BeginsBetween from upto (Some on) = (from ≤ on.at) × (on.at < upto)
 
 -- A session has its lane no sooner than this, and its pass had seen no more than that when it was over.
 abbrev pub StandsFrom : {L : Type 0} {links : LinkView L} {spells : List ℕ → Bool} {first entries : List Step}
@@ -94,7 +94,7 @@ abbrev pub StandsFrom : {L : Type 0} {links : LinkView L} {spells : List ℕ →
     → AreForNone (whole first entries) (length first) s ⊎ IsSession links spells first entries s → Type 0
 StandsFrom from upto (inl none) = from ≤ upto
 StandsFrom {first = first} {s = s} from upto (inr x) =
-    BeginsFrom from s.list × (from ≤ place first x.over) × (place first x.over ≤ upto)
+    BeginsBetween from (place first x.over) s.list × (from ≤ place first x.over) × (place first x.over ≤ upto)
 
 -- each is over before the next one has its lane
 abbrev pub StandInTurn : {L : Type 0} {links : LinkView L} {spells : List ℕ → Bool} {first entries : List Step}
