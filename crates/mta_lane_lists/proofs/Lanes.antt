@@ -28,7 +28,7 @@ use Rattle.mta_worker_lists.specs.Agreeing.{AreListsIn}
 use Rattle.mta_worker_lists.specs.All.{AllParts, StationParts}
 use Rattle.mta_worker_lists.specs.Histories.{place, whole}
 use Rattle.mta_worker_lists.specs.Parts.{AreForNone, AreSessions, BeginsBetween, IsSession, StandInTurn, StandsFrom}
-use Rattle.mta_worker_lists.specs.Segments.{Begins, IsListedIn, IsOne, IsOwnStep, OnLane, owned, Segment}
+use Rattle.mta_worker_lists.specs.Segments.{Begins, IsListedIn, IsOne, IsOwnStep, IsSegment, OnLane, owned, Segment}
 use Rattle.mta_worker_lists.proofs.Agreeing.{each_good}
 use Rattle.mta_worker_lists.proofs.All.{place_below}
 use Rattle.mta_worker_lists.proofs.Annotating.{length_seen}
@@ -196,8 +196,8 @@ same_half : (x y : sending.HalfStep) → x ∷ [] ≡ y ∷ [] → x ≡ y
 same_half x y e = cc
 
 kind_of : (p : ℕ) (step : SeenStep) (y : sending.HalfStep) → sending.sending_step p step ≡ y ∷ [] → Kind 0 p step y
-kind_of p (h.LaneOpen agreed size window) y e = begins_it (λ lane. (1, refl, refl))
-kind_of p (h.Bind g) y e = begins_it (λ lane. (g, refl, refl))
+kind_of p (h.LaneOpen agreed size window) y e = begins_it (λ lane. (1, (refl, refl)))
+kind_of p (h.Bind g) y e = begins_it (λ lane. (g, (refl, refl)))
 kind_of p (h.Start g k octets) y e = makes_it g (s.Start octets) refl refl
 kind_of p (h.Confirm g k n) y e = makes_it g (s.Confirm n) refl refl
 kind_of p (h.To_end g k) y e = makes_it g s.To_end refl refl
@@ -219,8 +219,8 @@ data ReceivedKind (p : ℕ) (step : SeenStep) : Type 0 where
 
 received_kind : (p : ℕ) (step : SeenStep) (y : receiving.HalfStep) → receiving.receiving_step p step ≡ y ∷ []
     → ReceivedKind p step
-received_kind p (h.LaneOpen agreed size window) y e = begins_there (λ lane. (1, refl, refl))
-received_kind p (h.Bind g) y e = begins_there (λ lane. (g, refl, refl))
+received_kind p (h.LaneOpen agreed size window) y e = begins_there (λ lane. (1, (refl, refl)))
+received_kind p (h.Bind g) y e = begins_there (λ lane. (g, (refl, refl)))
 received_kind p (h.Secure g k n piece) y e = makes_there g (r.Secure k n piece) refl refl
 received_kind p (h.Complete g k n piece) y e = makes_there g (r.Complete k n piece) refl refl
 received_kind p (h.Drop g k) y e = makes_there g (r.Drop k) refl refl
@@ -369,11 +369,12 @@ module _ {L : Type 0} (links : LinkView L) (spells : List ℕ → Bool) (first e
         ∙ received_binds lane on.at on.generation begun.0 on_this
         ∙ ap (λ (n : ℕ). receiving.Binds n ∷ []) (sym l.at_is)
 
-  Within : List Segment → Type 0
+  abbrev Within : List Segment → Type 0
   Within ss = (s : Segment) → IsOne s ss → IsOne s all.parts
 
   build : (from upto : ℕ) (ss : List Segment) (are : AreSessions links spells first entries ss)
-      → StandInTurn from upto ss are → Within ss → AreOnSide lane initiator ss are → Built from ss
+      → StandInTurn links spells first entries from upto ss are → Within ss
+      → AreOnSide links spells first entries lane initiator ss are → Built from ss
   build from upto [] are turns within side = record {
     lists = [];
     are = tt;
@@ -439,6 +440,8 @@ module _ {L : Type 0} (links : LinkView L) (spells : List ℕ → Bool) (first e
 
         m : Maker all.parts k
         m = maker all.parts k (all.each k (omega (arith, le, from_is)) below)
+
+        is : IsSegment history (length first) m.segment
         is = is_segment history (length first) all.parts m.segment all.all.segments m.one
 
         by_list : (o : Option OnLane) → m.segment.list ≡ o → IsListedIn o (length first + k) lane step j

@@ -42,7 +42,7 @@ seen_most (c ∷ cs) at from mid upto e le less = omega (arith, e, le)
 -- and as much as before its last question
 seen_asked : (calls : List Call) (at from mid : ℕ) (q : Ask) → action_of action.Read calls ≡ action.Ask q
     → seen_of from calls ≡ mid → seen_of (at + 1) calls ≡ mid
-seen_asked [] at from mid q w e = read_asks q w
+seen_asked [] at from mid q w e = absurd (read_asks q w)
 seen_asked (c ∷ cs) at from mid q w e = e
 
 -- ---- its list

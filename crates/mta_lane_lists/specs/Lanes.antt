@@ -42,10 +42,11 @@ IsOnSide lane initiator (inl none) = Unit {0}
 IsOnSide {s = s} lane initiator (inr x) =
     (on : OnLane) → s.list ≡ Some on → on.lane ≡ lane → is_initiator x.new.side ≡ initiator
 
-abbrev pub AreOnSide : {L : Type 0} {links : LinkView L} {spells : List ℕ → Bool} {first entries : List Step}
+abbrev pub AreOnSide : {L : Type 0} (links : LinkView L) (spells : List ℕ → Bool) (first entries : List Step)
     → (lane : ℕ) (initiator : Bool) (ss : List Segment) → AreSessions links spells first entries ss → Type 0
-AreOnSide lane initiator [] are = Unit {0}
-AreOnSide lane initiator (s ∷ ss) are = IsOnSide lane initiator are.0 × AreOnSide lane initiator ss are.1
+AreOnSide links spells first entries lane initiator [] are = Unit {0}
+AreOnSide links spells first entries lane initiator (s ∷ ss) are =
+    IsOnSide lane initiator are.0 × AreOnSide links spells first entries lane initiator ss are.1
 
 -- Then their lists, in the order in which they were served, have the steps of both halves in the history's order, and
 -- the two ends agree.
@@ -57,6 +58,6 @@ LanesAgree links =
     → LanesAllow spells (whole first entries) → before ++ added ≡ whole first entries
     → length before ≡ length first + low → AreValues (whole first entries) lane size window
     → ((s : Segment) → IsOne s ss → IsOne s all.parts) → HaveLane ss all.parts lane
-    → EachBegan (whole first entries) (length before) lane ss → AreOnSide lane initiator ss one.sessions
+    → EachBegan (whole first entries) (length before) lane ss → AreOnSide links spells first entries lane initiator ss one.sessions
     → (ls : List SessionList) × AreListsIn links spells first entries all.parts lane size window initiator ls
     × LaneAgrees spells before added lane size window initiator ls

@@ -101,9 +101,9 @@ module _ {D C L S : Type 0} (disks : DiskView D) (clocks : ClockView C) (links :
     are : AreSegments (whole first entries) (length first) parts
     sessions : AreSessions links spells first entries parts
     owns : owned_by js ≡ owned parts
-    stations : List (List Segment)
-    of_stations : parts ≡ all_of stations
-    turns : EachInTurn links spells first entries (length first + length front) stations
+    by_station : List (List Segment)
+    of_stations : parts ≡ all_of by_station
+    turns : EachInTurn links spells first entries (length first + length front) by_station
 
   abbrev Begin : Job S → Type 0
   Begin j = (j.pass.seen ≡ front) × (j.pass.base ≡ base) × (j.pass.own ≡ [])
@@ -123,7 +123,7 @@ module _ {D C L S : Type 0} (disks : DiskView D) (clocks : ClockView C) (links :
   jobs_parts : (dealt done : List (Job S)) → length done ≡ length dealt → All Begin dealt → Each dealt done
       → All (SawFront entries) done → JobParts done
   jobs_parts [] [] len begin each saw =
-      record { parts = []; are = tt; sessions = tt; owns = refl; stations = []; of_stations = refl; turns = tt }
+      record { parts = []; are = tt; sessions = tt; owns = refl; by_station = []; of_stations = refl; turns = tt }
   jobs_parts [] (k ∷ ks) len begin each saw = absurd (omega (arith, len))
   jobs_parts (j ∷ js) [] len begin each saw = absurd (omega (arith, len))
   jobs_parts (j ∷ js) (k ∷ ks) len begin each saw =
@@ -144,16 +144,16 @@ module _ {D C L S : Type 0} (disks : DiskView D) (clocks : ClockView C) (links :
             ap (λ (ns : List ℕ). ns ++ k.pass.own) rest.owns
             ∙ ap (λ (ns : List ℕ). owned rest.parts ++ ns) own
             ∙ sym (owned_more rest.parts one.parts);
-        stations = rest.stations ++ one.parts ∷ [];
+        by_station = rest.by_station ++ one.parts ∷ [];
         of_stations =
             ap (λ (ss : List Segment). ss ++ one.parts) rest.of_stations
-            ∙ sym (all_of_more rest.stations one.parts);
+            ∙ sym (all_of_more rest.by_station one.parts);
         turns =
-            turns_with links spells first entries (length first + length front) rest.stations one.parts rest.turns
+            turns_with links spells first entries (length first + length front) rest.by_station one.parts rest.turns
             (record {
               sessions = one.sessions;
               upto = place first k.pass;
-              turns = subst (λ (n : ℕ). StandInTurn n (place first k.pass) one.parts one.sessions)
+              turns = subst (λ (n : ℕ). StandInTurn links spells first entries n (place first k.pass) one.parts one.sessions)
                   (ap (λ (xs : List Step). length first + length xs) b.0) one.turns;
             });
       }
@@ -170,7 +170,7 @@ module _ {D C L S : Type 0} (disks : DiskView D) (clocks : ClockView C) (links :
         all = shared_all first entries (length front) js.parts js.are theirs;
         later = shared_later (length front) (length entries) (owned js.parts) theirs;
         each = shared_each (length front) (length entries) (owned js.parts) theirs;
-        stations = js.stations;
+        by_station = js.by_station;
         of_stations = js.of_stations;
         turns = js.turns;
       }

@@ -166,15 +166,19 @@ module _ {D C L S : Type 0} (disks : DiskView D) (clocks : ClockView C) (links :
       sooner None i = tt
       sooner (Some on) i = let there = i.0 in (omega (arith, le, there), i.1)
 
+  abbrev Turns : (from upto : ℕ) (ss : List Segment) → AreSessions links spells first entries ss → Type 0
+  Turns from upto ss are = StandInTurn links spells first entries from upto ss are
+
   turns_sooner : (low from upto : ℕ) (ss : List Segment) (are : AreSessions links spells first entries ss)
-      → low ≤ from → StandInTurn from upto ss are → StandInTurn low upto ss are
+      → low ≤ from → Turns from upto ss are → Turns low upto ss are
   turns_sooner low from upto [] are le t = omega (arith, le, t)
   turns_sooner low from upto (s ∷ ss) are le t =
       (t.0, stands_sooner low from t.0 s are.0 le t.1, t.2)
 
   turns_more : (from mid upto : ℕ) (xs ys : List Segment) (a : AreSessions links spells first entries xs)
-      (b : AreSessions links spells first entries ys) → StandInTurn from mid xs a → StandInTurn mid upto ys b
-      → StandInTurn from upto (xs ++ ys) (sessions_more xs ys a b)
+      (b : AreSessions links spells first entries ys) → Turns from mid xs a → Turns mid upto ys b
+      → Turns from upto (xs ++ ys) (sessions_more xs ys a b)
+  unfolding sessions_more
   turns_more from mid upto [] ys a b t u = turns_sooner from mid upto ys b t u
   turns_more from mid upto (x ∷ xs) ys a b t u =
       (t.0, t.1, turns_more t.0 mid upto xs ys a.1 b t.2 u)

@@ -29,7 +29,7 @@ pub record StationParts {L : Type 0} (links : LinkView L) (spells : List ℕ →
     (from : ℕ) (ss : List Segment) : Type 0 where
   pub sessions : AreSessions links spells first entries ss
   pub upto : ℕ
-  pub turns : StandInTurn from upto ss sessions
+  pub turns : StandInTurn links spells first entries from upto ss sessions
 
 abbrev pub EachInTurn : {L : Type 0} (links : LinkView L) (spells : List ℕ → Bool) (first entries : List Step)
     (from : ℕ) → List (List Segment) → Type 0
@@ -47,9 +47,9 @@ pub record AllParts {L : Type 0} (links : LinkView L) (spells : List ℕ → Boo
   pub later : (k : ℕ) → 0 < times k (owned parts) → low ≤ k
   pub each : (k : ℕ) → low ≤ k → k < length entries → 0 < times k (owned parts)
   -- those of one station stand one behind the other
-  pub stations : List (List Segment)
-  pub of_stations : parts ≡ all_of stations
-  pub turns : EachInTurn links spells first entries (length first + low) stations
+  pub by_station : List (List Segment)
+  pub of_stations : parts ≡ all_of by_station
+  pub turns : EachInTurn links spells first entries (length first + low) by_station
 
 -- So each step of a lane that is none of these that are made for no session was made for one.
 abbrev pub StepsHaveSessions : {L : Type 0} → LinkView L → Type 0

@@ -97,10 +97,11 @@ StandsFrom {first = first} {s = s} from upto (inr x) =
     BeginsBetween from (place first x.over) s.list × (from ≤ place first x.over) × (place first x.over ≤ upto)
 
 -- each is over before the next one has its lane
-abbrev pub StandInTurn : {L : Type 0} {links : LinkView L} {spells : List ℕ → Bool} {first entries : List Step}
+abbrev pub StandInTurn : {L : Type 0} (links : LinkView L) (spells : List ℕ → Bool) (first entries : List Step)
     → (from upto : ℕ) (ss : List Segment) → AreSessions links spells first entries ss → Type 0
-StandInTurn from upto [] are = from ≤ upto
-StandInTurn from upto (s ∷ ss) are = (mid : ℕ) × StandsFrom from mid are.0 × StandInTurn mid upto ss are.1
+StandInTurn links spells first entries from upto [] are = from ≤ upto
+StandInTurn links spells first entries from upto (s ∷ ss) are =
+    (mid : ℕ) × StandsFrom from mid are.0 × StandInTurn links spells first entries mid upto ss are.1
 
 -- these parts of the history are all own entries of the pass from one point on to another, in their order
 pub record AreParts {L : Type 0} (links : LinkView L) (spells : List ℕ → Bool) (first entries : List Step)
@@ -109,7 +110,7 @@ pub record AreParts {L : Type 0} (links : LinkView L) (spells : List ℕ → Boo
   pub are : AreSegments (whole first entries) (length first) parts
   pub sessions : AreSessions links spells first entries parts
   pub owns : q.own ≡ p.own ++ owned parts
-  pub turns : StandInTurn (place first p) (place first q) parts sessions
+  pub turns : StandInTurn links spells first entries (place first p) (place first q) parts sessions
 
 module _ {D C L S : Type 0} (disks : DiskView D) (clocks : ClockView C) (links : LinkView L)
     (stations : StationView S) where
