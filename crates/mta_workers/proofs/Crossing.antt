@@ -10,6 +10,7 @@ use Rattle.mta_edge.specs.declared.outside.Disk as disk
 use Rattle.mta_edge.specs.declared.outside.Clock as clock
 use Rattle.std.proofs.Crossing.{crosses}
 use Rattle.std.proofs.MapsCrossing.{crosses as maps}
+use Rattle.std.proofs.MapsCrossingOver.{crosses as sets}
 use Rattle.mta_name_digest.specs.contracts.places.Places as places
 use Rattle.mta_names.specs.contracts.name.OrName as or_name
 use Rattle.mta_name_text.specs.contracts.pattern.Pattern as pattern
@@ -21,6 +22,11 @@ use Rattle.mta_shared.specs.contracts.lock.Shared as shared
 use Rattle.mta_shared.specs.declared.history.Historied as historied
 use Rattle.atomic_table.proofs.shared.Shared.TheSendSync as cells
 use Rattle.atomic_table.proofs.send_lease.SendLease.TheSendSync as lease
+use Rattle.mta_agenda.specs.contracts.agenda.Agenda as agenda
+use Rattle.mta_agenda.specs.contracts.lines.Lines as lines
+use Rattle.mta_dues.specs.contracts.index.Index as index
+use Rattle.mta_replay.specs.contracts.kept.Kept as kept
+use Rattle.mta_state.specs.contracts.replay.InForce as in_force
 use Rattle.mta_state.specs.contracts.replay.Replay as replay
 use Rattle.mta_table_rules.specs.contracts.table_rules.TableRules as rules
 use Rattle.mta_spool.specs.contracts.spool.Spool as spool
@@ -53,8 +59,28 @@ tables_send = let a = lists_send in let b = routes_send in let c = mailboxes_sen
 rules_send : IsSend rules.the_row
 rules_send = let a = tables_send in search (crosses, sendable) depth 80 fits 100000
 
+agenda_send : IsSend agenda.the_row
+agenda_send = search (crosses, sets, sendable) depth 80 fits 100000
+
+lines_send : IsSend lines.the_row
+lines_send = search (crosses, sets, sendable) depth 80 fits 100000
+
+index_send : IsSend index.the_field.row
+index_send = let a = agenda_send in let b = lines_send in
+    struct_send (shape index.the_type) (
+      search sendable depth 20,
+      (search sendable depth 20, (search sendable depth 20, tt)),
+    )
+
+kept_send : IsSend kept.the_field.row
+kept_send = search (crosses, sendable) depth 80 fits 100000
+
+in_force_send : IsSend (in_force.the_field rules.the_row).row
+in_force_send = struct_send (shape (in_force.the_type rules.the_row)) (rules_send, (index_send, tt))
+
 replay_send : IsSend (replay.the_field rules.the_row).row
-replay_send = let a = rules_send in search (crosses, sendable) depth 80 fits 100000
+replay_send = let a = in_force_send in
+    struct_send (shape (replay.the_type rules.the_row)) (kept_send, (search sendable depth 20, tt))
 
 module _ (D C : RattleType) (d : disk.Ghosts D.Denot) (c : clock.Ghosts C.Denot) where
   inside_send : IsSend D → IsSend C → IsSend (inside.the_field D C d c).row
