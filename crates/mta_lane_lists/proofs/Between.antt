@@ -311,8 +311,8 @@ lists_stand_between spells history _ _ _ size window initiator _
     } in
     let last : seen_of (at + 1) calls ≡ seen_of (at + 1) (before ++ c ∷ calls) =
     ap (λ (n : ℕ). seen_of n calls) (sym seen) ∙ sym (seen_more (at + 1) 0 before calls c) in
-    subst (λ (n : ℕ). StandsBetween c.turn.after.lane at n (completed history c.turn.after.lane size window initiator l))
-    last
+    subst
+    (λ (n : ℕ). StandsBetween c.turn.after.lane at n (completed history c.turn.after.lane size window initiator l)) last
     (stand_between history c.turn.after.lane size window (seen_of (at + 1) calls) initiator l
     (list_stands spells history calls (at + 1) c.turn.action is))
 

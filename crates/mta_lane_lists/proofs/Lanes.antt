@@ -12,6 +12,7 @@ use Rattle.mta_ends.specs.Receiving.{RecvEvent}
 use Rattle.mta_ends.specs.Sending as s
 use Rattle.mta_ends.specs.Sending.{SendEvent}
 use Rattle.mta_records.specs.declared.step.Step.{Step}
+use Rattle.mta_histories.proofs.Seeing.{lanes_see_histories}
 use Rattle.mta_matches.specs.Generations.{Begins as BeginsHere, BeginsAt}
 use Rattle.mta_runs.specs.Clause.{LaneAgrees, OneStationAgrees}
 use Rattle.mta_runs.specs.Covering as sent
@@ -25,7 +26,7 @@ use Rattle.mta_session_lists.specs.Laws.{IsIn, ListsAreGood, ListsMayStop}
 use Rattle.mta_session_lists.specs.Lists.{AreValues}
 use Rattle.mta_shared.specs.Counts.{times}
 use Rattle.mta_worker_lists.specs.Agreeing.{AreListsIn}
-use Rattle.mta_worker_lists.specs.All.{AllParts, StationParts}
+use Rattle.mta_worker_lists.specs.All.{all_of, AllParts}
 use Rattle.mta_worker_lists.specs.Histories.{place, whole}
 use Rattle.mta_worker_lists.specs.Parts.{AreForNone, AreSessions, BeginsBetween, IsSession, StandInTurn, StandsFrom}
 use Rattle.mta_worker_lists.specs.Segments.{Begins, IsListedIn, IsOne, IsOwnStep, IsSegment, OnLane, owned, Segment}
@@ -33,7 +34,8 @@ use Rattle.mta_worker_lists.proofs.Agreeing.{each_good}
 use Rattle.mta_worker_lists.proofs.All.{place_below}
 use Rattle.mta_worker_lists.proofs.Annotating.{length_seen}
 use Rattle.mta_worker_lists.proofs.Segments.{is_segment, maker, Maker}
-use Rattle.mta_lane_lists.specs.Lanes.{AreOnSide, BeganAt, EachBegan, HaveLane, IsOnSide, LanesAgree}
+use Rattle.mta_lane_lists.specs.Lanes.{AreOnSide, EachBegan, HaveLane, IsOnSide, IsStation}
+use Rattle.mta_lane_lists.specs.Lanes.{LanesOfStationsAgree}
 use Rattle.mta_lane_lists.specs.Turns.{AreInTurn, None_more, StandsBetween, Then}
 use Rattle.mta_lane_lists.proofs.Ones.{one_list, OneList}
 use Rattle.mta_lane_lists.proofs.Turns.{lists_in_turn_rise}
@@ -499,10 +501,30 @@ module _ {L : Type 0} (links : LinkView L) (spells : List ℕ → Bool) (first e
                 let found = listed_own p j x.step le x.there own in
                 received_listed lane p x.step v found.0 built.lists is found.2 found.1
 
+-- ---- all of it
+
+one_front : (s : Segment) (xs ys : List Segment) → IsOne s xs → IsOne s (xs ++ ys)
+one_front s [] ys i = absurd i
+one_front s (x ∷ xs) ys i = elim i [ inl e ↦ inl e | inr more ↦ inr (one_front s xs ys more) ]
+
+one_back : (s : Segment) (xs ys : List Segment) → IsOne s ys → IsOne s (xs ++ ys)
+one_back s [] ys i = i
+one_back s (x ∷ xs) ys i = inr (one_back s xs ys i)
+
+-- a station's parts are among all
+of_all : (ss : List Segment) (all : List (List Segment)) (s : Segment) → IsStation ss all → IsOne s ss
+    → IsOne s (all_of all)
+of_all ss [] s i one = absurd i
+of_all ss (x ∷ xs) s i one =
+    elim i [
+      | inl e ↦ one_front s x (all_of xs) (subst (λ (zs : List Segment). IsOne s zs) e one)
+      | inr more ↦ one_back s x (all_of xs) (of_all ss xs s more one)
+    ]
+
 pub lanes_agree : ListsAreGood → ListsMayStop → SessionsAgree → OneStationAgrees → {L : Type 0} (links : LinkView L)
-    → LanesAgree links
-lanes_agree good may_stop whole_agree agree links spells first entries low all before added lane size window initiator
-    ss one allow cut from_is values within have began side = (
+    → LanesOfStationsAgree links
+lanes_agree good may_stop whole_agree agree links spells first entries low all tells possible lane size window
+    initiator ss one station have began side values before added cut from_is = (
       built.lists,
       built.are,
       agree spells before added lane size window initiator built.lists
@@ -520,6 +542,12 @@ lanes_agree good may_stop whole_agree agree links spells first entries low all b
     n : ℕ
     n = length first + low
 
+    allow : LanesAllow spells (whole first entries)
+    allow = (lanes_see_histories (first ++ entries) possible).allowed spells tells.of_apdus
+
+    within : (s : Segment) → IsOne s ss → IsOne s all.parts
+    within s i = subst (λ (zs : List Segment). IsOne s zs) (sym all.of_stations) (of_all ss all.by_station s station i)
+
     built : Built links spells first entries low all lane size window initiator n ss
     built = build links spells first entries low all lane size window initiator n one.upto ss one.sessions one.turns
         within side
@@ -528,22 +556,20 @@ lanes_agree good may_stop whole_agree agree links spells first entries low all b
     goods = each_good links good may_stop whole_agree spells first entries low allow all lane size window initiator
         built.lists values built.are
 
-    rises : sent.Rises n (sent.placed_lists lane built.lists) × received.Rises n (received.placed_lists lane built.lists)
+    rises : sent.Rises n (sent.placed_lists lane built.lists)
+        × received.Rises n (received.placed_lists lane built.lists)
     rises = lists_in_turn_rise lane n built.lists built.turns
-
-    began_there : EachBegan history n lane ss
-    began_there = subst (λ (k : ℕ). EachBegan history k lane ss) from_is began
 
     sent_owns : sent.Owns history n lane built.lists
     sent_owns = record {
       binds = built.sent_begin;
       rise = rises.0;
-      owned = sends links spells first entries low all lane size window initiator n refl ss built have began_there;
+      owned = sends links spells first entries low all lane size window initiator n refl ss built have began;
     }
 
     received_owns : received.Owns history n lane built.lists
     received_owns = record {
       binds = built.received_begin goods;
       rise = rises.1;
-      owned = receives links spells first entries low all lane size window initiator n refl ss built have began_there;
+      owned = receives links spells first entries low all lane size window initiator n refl ss built have began;
     }

@@ -1,7 +1,7 @@
 //! Laws over the definitions.
 
 ghost use Rattle.mta_lane_lists.specs.Between.{ListsStandBetween, StoppedListsStandBetween};
-ghost use Rattle.mta_lane_lists.specs.Lanes.{LanesAgree};
+ghost use Rattle.mta_lane_lists.specs.Lanes.{LanesOfStationsAgree};
 ghost use Rattle.mta_lane_lists.specs.Turns.{ListsInTurnAgree, ListsInTurnRise};
 
 use mta_links::Link;
@@ -35,7 +35,7 @@ pub fn lists_in_turn_agree()
 /// Where one station had all sessions of a lane, their lists, in the order in which they were served, have the steps of
 /// both halves in the history's order, and the two ends of the lane agree.
 pub fn lanes_agree<L: Link>()
-    ensures { LanesAgree L.model }
+    ensures { LanesOfStationsAgree L.model }
 {
     lists_are_good();
     lists_may_stop();

@@ -1,5 +1,5 @@
-//! Session lists of one lane, one behind the other: they have the steps of the history in its order, and the two ends of
-//! the lane agree.
+//! Session lists of one lane, one behind the other: they have the steps of the history in its order, and the two ends
+//! of the lane agree.
 #![tactic(auto)]
 
 mod laws;

@@ -153,7 +153,8 @@ module _ {D C L S : Type 0} (disks : DiskView D) (clocks : ClockView C) (links :
             (record {
               sessions = one.sessions;
               upto = place first k.pass;
-              turns = subst (λ (n : ℕ). StandInTurn links spells first entries n (place first k.pass) one.parts one.sessions)
+              turns = subst
+                  (λ (n : ℕ). StandInTurn links spells first entries n (place first k.pass) one.parts one.sessions)
                   (ap (λ (xs : List Step). length first + length xs) b.0) one.turns;
             });
       }

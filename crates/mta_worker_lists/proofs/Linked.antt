@@ -102,7 +102,8 @@ module _ {D C L : Type 0} (disks : DiskView D) (clocks : ClockView C) (links : L
   no_closings k hit = none_hit k hit
 
   -- where none was closed
-  began : (old new : L) (p q : Held Step) (served : Served) → RunOf old new (place first p) p.own [] q → Ran old new p q served
+  began : (old new : L) (p q : Held Step) (served : Served) → RunOf old new (place first p) p.own [] q
+      → Ran old new p q served
   began old new p q served r = Began [] r.new r.begun r.calls r.ran no_closings r.owns r.later r.behind
 
   none_began : (old new : L) (p q : Held Step) (served : Served) → served.end ≡ None → q.own ≡ p.own → new ≡ old
@@ -241,7 +242,8 @@ module _ {D C L : Type 0} (disks : DiskView D) (clocks : ClockView C) (links : L
         feed = no_feed;
         pass = at;
         halt = noted;
-      }) new q served → IsPrefix at.seen entries → IsPrefix q.seen entries → RunOf old new (place first mid) mid.own [] q
+      }) new q served → IsPrefix at.seen entries → IsPrefix q.seen entries
+      → RunOf old new (place first mid) mid.own [] q
   begins_run peer units mid at u one noted old new q served are i is front f =
       let left : at.seen ≡ i.after.entries = ap (λ (h : Held Step). h.seen) i.left in
       let owned : at.own

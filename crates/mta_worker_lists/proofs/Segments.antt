@@ -9,8 +9,8 @@ use Rattle.mta_runs.specs.Sessions.{Made}
 use Rattle.mta_session_lists.specs.Laws.{IsIn}
 use Rattle.mta_shared.specs.Counts.{times}
 use Rattle.mta_shared.proofs.Sums.{times-append}
-use Rattle.mta_worker_lists.specs.Segments.{AreAll, AreSegments, Begins, BeginsIn, IsListedIn, IsOne, IsOwnStep, IsSegment}
-use Rattle.mta_worker_lists.specs.Segments.{ListsOwnSteps, OnLane, owned, Segment}
+use Rattle.mta_worker_lists.specs.Segments.{AreAll, AreSegments, Begins, BeginsIn, IsListedIn, IsOne, IsOwnStep}
+use Rattle.mta_worker_lists.specs.Segments.{IsSegment, ListsOwnSteps, OnLane, owned, Segment}
 
 -- ---- which one made an entry
 

@@ -220,7 +220,8 @@ module _ (spells : List ℕ → Bool) (history : List Seen) (n : ℕ) where
 
   -- ---- the length of the history
 
-  pub later_seen : (cs : List Call) (a : Action) (from : ℕ) → AllComeTrue spells history from a cs → from ≤ seen_of from cs
+  pub later_seen : (cs : List Call) (a : Action) (from : ℕ) → AllComeTrue spells history from a cs
+      → from ≤ seen_of from cs
   later_seen [] a from is = omega arith
   later_seen (c ∷ cs) a from is =
       let here = comes_later spells history c.turn.before.phase a c.turn.event from c.seen is.0 in

@@ -1,5 +1,6 @@
 -- All entries that a worker made are in parts of the history.
-use Rattle.std.proofs.Common.{◌≡◌, ◌⊎◌, ◌<◌, ◌≤◌, ℕ, ◌+◌, ◌-◌, Bool, List, [], ◌∷◌, ◌++◌, length, Option, None, Some, Result}
+use Rattle.std.proofs.Common.{◌≡◌, ◌⊎◌, ◌<◌, ◌≤◌, ℕ, ◌+◌, ◌-◌, Bool, List, [], ◌∷◌, ◌++◌, length, Option}
+use Rattle.std.proofs.Common.{None, Some, Result}
 use Rattle.std.proofs.lemmas.List.{length-append}
 use Rattle.std.proofs.Common.{Ok, Err, inl, inr, refl, sym, ap, subst, ◌∙◌, append_assoc, append-nil, arith, slice_get}
 use mathlib.Core.List.{IsPrefix}
@@ -387,13 +388,15 @@ module _ {D C L S : Type 0} (disks : DiskView D) (clocks : ClockView C) (links :
       let e : i.after.entries ≡ i.before.entries = quiet_same moment i.before i.after i.did in
       let front : IsPrefix mid.seen entries =
       prefix_trans mid.seen q.seen entries (still_grows done mid q i e) f in
-      parts_more p mid q (all_dues p ms mid are d front) (no_parts mid q (quiet_owns done mid q i e) (still_grows done mid q i e))
+      parts_more p mid q (all_dues p ms mid are d front)
+      (no_parts mid q (quiet_owns done mid q i e) (still_grows done mid q i e))
   settled_parts p q halt are (Is_refused ms mid fault d i) f =
       let done = λ (s t : Shown D C). TurnsOnce disks clocks s (Err fault) t in
       let e : i.after.entries ≡ i.before.entries = refused_same fault i.before i.after i.did in
       let front : IsPrefix mid.seen entries =
       prefix_trans mid.seen q.seen entries (still_grows done mid q i e) f in
-      parts_more p mid q (all_dues p ms mid are d front) (no_parts mid q (quiet_owns done mid q i e) (still_grows done mid q i e))
+      parts_more p mid q (all_dues p ms mid are d front)
+      (no_parts mid q (quiet_owns done mid q i e) (still_grows done mid q i e))
 
   settled_grows : (p q : Held Step) (halt : Option Halt) → HasSettled disks clocks p q halt → IsPrefix p.seen q.seen
   settled_grows p q halt (Is_quiet ms mid moment d i) =
