@@ -14,7 +14,6 @@ use Rattle.mta_runs.specs.Sendings as sendings
 use Rattle.mta_runs.specs.Sessions as x
 use Rattle.mta_runs.specs.Sessions.{Got, Look, Looked, Made, Put, receiving_step_of, Refused, seen_after}
 use Rattle.mta_runs.specs.Sessions.{send_all, sending_event, sending_step_of, SessionEvent, SessionList, step_seen}
-use Rattle.mta_session.specs.State.{State}
 use Rattle.mta_session.specs.Wanted.{Wanted, Aborts, Rejects, Ends, Puts, Asks, Reads, Goes_on, Excepts, Never}
 use Rattle.mta_session.specs.declared.ask.Ask.{Ask}
 use Rattle.mta_session.specs.declared.ask.Reply.{Reply}
@@ -29,8 +28,7 @@ use Rattle.mta_session_lists.specs.Abandons.{abandon_at, abandoned_upto, given_u
 use Rattle.mta_session_lists.specs.Abandons.{with_abandons}
 use Rattle.mta_session_lists.specs.Calls.{action_of, Call, come_of, event_of, got_as, list_of, look_told, step_told}
 use Rattle.mta_session_lists.specs.Calls.{StepOn, told_as}
-use Rattle.mta_session_lists.specs.Laws.{RisesBehind}
-use Rattle.mta_session_lists.specs.Lists.{completed, end_begun, Initiates, IsListOf, Responds}
+use Rattle.mta_session_lists.specs.Lists.{completed, end_begun, Initiates, Responds}
 use Rattle.mta_session_lists.specs.Lost.{abort_of, Lost, lost_of, seen_of, stopped, tail_of}
 use Rattle.mta_session_lists.specs.Standing.{AllComeTrue, ComesTrue, StandsAs}
 use Rattle.mta_session_lists.proofs.Found.{kept, Placed, placed, placed_upto}

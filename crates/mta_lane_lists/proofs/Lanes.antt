@@ -2,7 +2,7 @@
 use Rattle.std.proofs.Common.{◌≡◌, ◌⊎◌, ◌<◌, ◌≤◌, ℕ, ◌+◌, ◌-◌, ◌==◌, if◌then◌else◌, Bool, true, false, Option, Some}
 use Rattle.std.proofs.Common.{None, List, [], ◌∷◌, ◌++◌, length, slice_get, inl, inr, refl, sym, ap, subst, ◌∙◌}
 use Rattle.std.proofs.Common.{arith}
-use Rattle.std.proofs.lemmas.Bool.{cases_lt, eq-eqb, eqb-false, eqb-true}
+use Rattle.std.proofs.lemmas.Bool.{eq-eqb, eqb-false, eqb-true}
 use Rattle.std.proofs.lemmas.List.{length-append}
 use Rattle.mta_links.specs.Links.{LinkView}
 use Rattle.mta_ends.specs.Lanes as h
@@ -14,29 +14,27 @@ use Rattle.mta_ends.specs.Sending.{SendEvent}
 use Rattle.mta_records.specs.declared.step.Step.{Step}
 use Rattle.mta_histories.proofs.Seeing.{lanes_see_histories}
 use Rattle.mta_matches.specs.Generations.{Begins as BeginsHere, BeginsAt}
-use Rattle.mta_runs.specs.Clause.{LaneAgrees, OneStationAgrees}
+use Rattle.mta_runs.specs.Clause.{OneStationAgrees}
 use Rattle.mta_runs.specs.Covering as sent
 use Rattle.mta_runs.specs.ReceivingOrder as received
 use Rattle.mta_runs.specs.Receivings as receiving
 use Rattle.mta_runs.specs.Run.{EachGood, SessionsAgree}
 use Rattle.mta_runs.specs.Sendings as sending
-use Rattle.mta_runs.specs.Sessions.{IsGoodSession, Made, receiving_step_of, sending_step_of, SessionEvent, SessionList}
+use Rattle.mta_runs.specs.Sessions.{Made, receiving_step_of, sending_step_of, SessionEvent, SessionList}
 use Rattle.mta_session.specs.State.{is_initiator}
 use Rattle.mta_session_lists.specs.Laws.{IsIn, ListsAreGood, ListsMayStop}
-use Rattle.mta_session_lists.specs.Lists.{AreValues}
-use Rattle.mta_shared.specs.Counts.{times}
 use Rattle.mta_worker_lists.specs.Agreeing.{AreListsIn}
 use Rattle.mta_worker_lists.specs.All.{all_of, AllParts}
 use Rattle.mta_worker_lists.specs.Histories.{place, whole}
 use Rattle.mta_worker_lists.specs.Parts.{AreForNone, AreSessions, BeginsBetween, IsSession, StandInTurn, StandsFrom}
-use Rattle.mta_worker_lists.specs.Segments.{Begins, IsListedIn, IsOne, IsOwnStep, IsSegment, OnLane, owned, Segment}
+use Rattle.mta_worker_lists.specs.Segments.{Begins, IsListedIn, IsOne, IsOwnStep, IsSegment, OnLane, Segment}
 use Rattle.mta_worker_lists.proofs.Agreeing.{each_good}
 use Rattle.mta_worker_lists.proofs.All.{place_below}
 use Rattle.mta_worker_lists.proofs.Annotating.{length_seen}
 use Rattle.mta_worker_lists.proofs.Segments.{is_segment, maker, Maker}
 use Rattle.mta_lane_lists.specs.Lanes.{AreOnSide, EachBegan, HaveLane, IsOnSide, IsStation}
 use Rattle.mta_lane_lists.specs.Lanes.{LanesOfStationsAgree}
-use Rattle.mta_lane_lists.specs.Turns.{AreInTurn, None_more, StandsBetween, Then}
+use Rattle.mta_lane_lists.specs.Turns.{AreInTurn, None_more, Then}
 use Rattle.mta_lane_lists.proofs.Ones.{one_list, OneList}
 use Rattle.mta_lane_lists.proofs.Turns.{lists_in_turn_rise}
 

@@ -11,10 +11,10 @@ use Rattle.mta_session.specs.declared.event.Action.{Action}
 use Rattle.mta_session.specs.declared.event.Action.TheVariants as action
 use Rattle.mta_session.specs.declared.event.Event.{Event}
 use Rattle.mta_session.specs.declared.event.Event.TheVariants as event
-use Rattle.mta_session_lists.specs.Calls.{action_of, Call, list_of}
+use Rattle.mta_session_lists.specs.Calls.{action_of, Call}
 use Rattle.mta_session_lists.specs.Laws.{IsIn}
 use Rattle.mta_session_lists.specs.Lists.{completed, Initiates, IsListOf, Responds}
-use Rattle.mta_session_lists.specs.Lost.{abort_of, Lost, lost_of, seen_of, stopped, tail_of}
+use Rattle.mta_session_lists.specs.Lost.{abort_of, Lost, lost_of, seen_of, tail_of}
 use Rattle.mta_session_lists.specs.Standing.{ComesTrue}
 use Rattle.mta_worker_lists.specs.Agreeing.{IsListIn}
 use Rattle.mta_worker_lists.specs.All.{AllParts}
@@ -25,7 +25,6 @@ use Rattle.mta_worker_lists.specs.Parts.{IsSession}
 use Rattle.mta_worker_lists.specs.Segments.{IsOne, ListsAs, OnLane, Segment, told_over}
 use Rattle.mta_worker_lists.proofs.AllGood.{list_behind}
 use Rattle.mta_worker_lists.proofs.Good.{read_asks}
-use Rattle.mta_worker_lists.proofs.Later.{over_grows}
 use Rattle.mta_worker_lists.proofs.Whole.{over_at, over_in, with_in}
 use Rattle.mta_lane_lists.specs.Turns.{StandsBetween}
 use Rattle.mta_lane_lists.proofs.Between.{abort_stand, calls_then, From, seen_more, stand_between, StandUpto}

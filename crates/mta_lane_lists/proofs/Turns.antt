@@ -2,8 +2,7 @@
 use Rattle.std.proofs.Common.{◌≤◌, ℕ, ◌+◌, List, [], ◌∷◌, ◌++◌, arith}
 use Rattle.mta_runs.specs.Covering as sent
 use Rattle.mta_runs.specs.ReceivingOrder as received
-use Rattle.mta_runs.specs.Sessions.{SessionList}
-use Rattle.mta_lane_lists.specs.Turns.{AreInTurn, ListsInTurnRise, None_more, ReceivesBetween, SendsBetween, Then}
+use Rattle.mta_lane_lists.specs.Turns.{ListsInTurnRise, None_more, ReceivesBetween, SendsBetween, Then}
 
 -- what rises from one length on does so from an earlier one
 sent_from : (low from : ℕ) (xs : List sent.Placed) → low ≤ from → sent.Rises from xs → sent.Rises low xs
