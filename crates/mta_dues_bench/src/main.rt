@@ -30,6 +30,9 @@ const FEW: u32 = 10;
 /// When the first item arrived, late in 2026.
 const ARRIVED: u64 = 2_427_000_000;
 
+/// How many items arrive in a second. So none of a million has waited for its hold time when the last one comes.
+const IN_A_SECOND: u32 = 100;
+
 const TABLES: &[u8] =
     b"domain C=GB;A=GOLD\nname GOLD-1\npeer HUB a b twa 4 3\npeer EAST a b twa 4 3\n\
     route C=GB;A=ACME peer HUB\nroute C=GB;A=EAST peer EAST\n";
@@ -77,8 +80,13 @@ fn message_to(alloc: Global, domain: &[u8]) -> Result<Vec<u8>> {
     Ok(message)
 }
 
+/// When the item of a number arrived.
+fn moment_of(number: u32) -> u64 {
+    ARRIVED + u64::from(number / IN_A_SECOND)
+}
+
 fn put_item(alloc: Global, journal: &mut Vec<u8>, number: u32, message: &[u8]) -> Result<()> {
-    let moment = ARRIVED + u64::from(number);
+    let moment = moment_of(number);
     let mut body = Vec::from_slice(alloc, &[2])?;
     body.extend_from_slice(&moment.to_be_bytes())?;
     put_counted(&mut body, message)?;
@@ -104,8 +112,7 @@ fn journal_of(alloc: Global, items: u32) -> Result<Octets> {
 fn open(alloc: Global, items: u32) -> Result<Spool<SafeDisk, MemClock>> {
     let journal = journal_of(alloc, items)?;
     let disk = SafeDisk::new(alloc, journal);
-    let now = ARRIVED + u64::from(items);
-    let clock = MemClock::new([now].to_vec(alloc)?);
+    let clock = MemClock::new([moment_of(items)].to_vec(alloc)?);
     Spool::open(alloc, disk, clock).map_err(|_| anyhow!("no spool"))
 }
 

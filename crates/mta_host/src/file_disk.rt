@@ -83,6 +83,9 @@ fn read_fully(file: &File, at: u64, into: &mut [u8]) -> io::Result<usize>
 {
     let mut count = 0;
     for _ in 0..u64::MAX {
+        if count == into.len() {
+            return Ok(count);
+        }
         match file.read_at(&mut into[count..], at.saturating_add(count as u64)) {
             Ok(0) => return Ok(count),
             Ok(more) => count += more,
