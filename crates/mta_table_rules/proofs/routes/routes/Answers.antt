@@ -1,4 +1,4 @@
-use Rattle.std.proofs.Common.{Some, None}
+use Rattle.std.proofs.Common.{List, ℕ, Some, None}
 use Rattle.mta_apdu.specs.Apdus.{ApduValue, apdu_value}
 use Rattle.mta_machine.specs.Rules.{peer_at, route_under}
 use Rattle.mta_replay.specs.Asked.{AreLed, AreRoutes}
