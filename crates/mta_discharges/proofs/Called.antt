@@ -52,7 +52,7 @@ named-alone r P p = p (first (eqb r r) (eq-eqb r r refl))
     first true e = refl
     first false e = absurd cc
 
-the-verdict : (m : Machine) (i r moment : ℕ) (v : Verdict) → HasVerdict m i (r ∷ []) moment v
+pub the-verdict : (m : Machine) (i r moment : ℕ) (v : Verdict) → HasVerdict m i (r ∷ []) moment v
     → verdict_at m i r moment ≡ Some v
 the-verdict m i r moment v has =
     let same : r ≡ has.0 = cc in

@@ -169,7 +169,7 @@ unsettled None (Some Verdicts.Back) place e = absurd cc
 unsettled (Some v) (Some Verdicts.Back) place e = absurd cc
 unsettled made (Some Verdicts.Discard) place e = absurd cc
 
-settled-is : (m : Machine) (i r moment : ℕ) (text : List ℕ) (item : ItemValue)
+pub settled-is : (m : Machine) (i r moment : ℕ) (text : List ℕ) (item : ItemValue)
     → numbered m.tables (last_tables m) ≡ Some text → numbered m.items i ≡ Some item
     → verdict_at m i r moment
     ≡ option_map (settled (passed_back text m.items item)) (verdict_of text item.octets item.arrival r moment)

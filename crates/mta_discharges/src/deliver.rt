@@ -1,6 +1,6 @@
 //! Recipients who are delivered to, affirmed or expanded.
 
-ghost use Rattle.std.specs.Prelude.{◌≡◌, ◌≤◌, ◌<◌, ◌^◌, IfOk, Some, length, map, option_to_list};
+ghost use Rattle.std.specs.Prelude.{◌≡◌, ◌≤◌, ◌<◌, ◌^◌, ◌+◌, IfOk, Some, length, map, option_to_list};
 ghost use Rattle.std.specs.List.{All};
 ghost use Rattle.mta_ber.specs.Times.{last_moment};
 ghost use Rattle.mta_procedures.specs.declared.verdict.Verdict.TheVariants as Verdicts;
@@ -9,18 +9,18 @@ ghost use Rattle.mta_machine.specs.Machine.{delivered, line_at, made_by, own_ite
 ghost use Rattle.mta_machine.specs.Rules.{mailbox_word};
 ghost use Rattle.mta_items.specs.Parts.{machine_of, made_items};
 ghost use Rattle.mta_records.specs.declared.step.Step.TheVariants as Steps;
-ghost use Rattle.mta_replay.specs.Asked.{IsStored, IsTextOf};
+ghost use Rattle.mta_replay.specs.Asked.{IsDeliveryOf, IsStored, IsTextOf};
 ghost use Rattle.mta_replay.specs.Kept.{state_of};
 ghost use Rattle.mta_replay.specs.Prepared.{Prepares};
-ghost use Rattle.mta_discharges.specs.Ready.{IsReady, IsReadyToExpand};
+ghost use Rattle.mta_discharges.specs.Ready.{IsReady, IsReadyToExpand, MaySettle};
 
-use crate::ready::ready_verdict;
+use crate::ready::{may_settle, ready_verdict};
 use crate::settling::{next_number, settling_change};
 use mta_ber::Memory;
 use mta_items::Made;
 use mta_machine::{Item, MailboxLine, Status};
 use mta_procedures::Verdict;
-use mta_replay::{Change, Kept, Rules};
+use mta_replay::{Change, Delivery, Kept, Rules};
 use std::alloc::Global;
 
 // The delivery of an item to the mailbox at a place of the tables.
@@ -47,8 +47,8 @@ fn line_to<R: Rules>(
     }
 }
 
-// The delivery report on a recipient who is delivered to or affirmed, where there is one.
-fn made_of_delivery<R: Rules>(
+// The delivery report on a recipient who is affirmed, where there is one.
+fn made_of_affirmation<R: Rules>(
     alloc: Global,
     rules: &R,
     kept: &Kept,
@@ -69,7 +69,7 @@ fn made_of_delivery<R: Rules>(
     })
 }
 
-// What the delivery of an item to the mailbox at a place of the tables changes.
+// What the delivery of an item changes, with the delivery report as the next item.
 fn delivery<R: Rules>(
     alloc: Global,
     rules: &R,
@@ -77,25 +77,28 @@ fn delivery<R: Rules>(
     number: u32,
     item: &Item,
     recipient: u32,
-    place: u32,
+    told: Delivery,
     moment: u64,
 ) -> Result<Option<Change>, Memory>
     requires text { IsTextOf kept.now (R.text rules.now) }
     requires item { numbered kept.now.parts.items.items number ≡ Some item.now }
-    requires arrived { item.now.arrival ≤ last_moment }
-    requires fits { moment ≤ last_moment }
-    requires ready { IsReady (state_of kept.now) number recipient moment (Verdicts.Deliver place) }
+    requires may { MaySettle (state_of kept.now) number recipient moment }
+    requires told { let next = length kept.now.parts.items.items + 1 in
+        IsDeliveryOf (R.text rules.now) next item.now recipient moment (Some told) }
     ensures { IfOk result (Prepares (state_of kept.now) (Steps.Deliver number recipient moment)) }
 {
-    let line = line_to(alloc, rules, place, number, moment)?;
-    let made = made_of_delivery(alloc, rules, kept, item, recipient, moment)?;
+    let line = line_to(alloc, rules, told.place, number, moment)?;
+    let made = Made {
+        first: told.report,
+        second: None,
+    };
     let status = Status::Delivered(moment);
     Ok(settling_change(kept, number, recipient, status, made, line, moment))
 }
 
 /// What a Deliver changes, at a moment in seconds since 1950-01-01 00:00:00 UTC (X.411, clause 14: delivery); none
 /// exactly where it is not possible.
-#[tactic(auto, using(crate::proofs::Called::no_deliver_laws, crate::proofs::Called::arrived))]
+#[tactic(auto, using(crate::proofs::Delivers::no_delivery_laws, crate::proofs::Called::arrived))]
 pub fn prepare_deliver<R: Rules>(
     alloc: Global,
     rules: &R,
@@ -112,11 +115,12 @@ pub fn prepare_deliver<R: Rules>(
     let Some(found) = kept.parts.item(item) else {
         return Ok(None);
     };
-    match ready_verdict(alloc, rules, kept, item, found, recipient, moment)? {
-        Some(Verdict::Deliver(place)) => {
-            delivery(alloc, rules, kept, item, found, recipient, place, moment)
-        }
-        _ => Ok(None),
+    if !may_settle(kept, item, recipient, moment) {
+        return Ok(None);
+    }
+    match rules.delivery(alloc, next_number(kept), found, recipient, moment)? {
+        Some(told) => delivery(alloc, rules, kept, item, found, recipient, told, moment),
+        None => Ok(None),
     }
 }
 
@@ -137,7 +141,7 @@ fn affirmation<R: Rules>(
     requires ready { IsReady (state_of kept.now) number recipient moment Verdicts.Affirm }
     ensures { IfOk result (Prepares (state_of kept.now) (Steps.Affirm number recipient moment)) }
 {
-    let made = made_of_delivery(alloc, rules, kept, item, recipient, moment)?;
+    let made = made_of_affirmation(alloc, rules, kept, item, recipient, moment)?;
     let status = Status::Affirmed(moment);
     Ok(settling_change(kept, number, recipient, status, made, None, moment))
 }

@@ -1,4 +1,4 @@
-//! The verdict on a recipient who may be settled.
+//! Whether a recipient may be settled, and the verdict on one who may.
 
 ghost use Rattle.std.specs.Prelude.{◌≡◌, ◌≤◌, ◌↔◌, IfOk, IsTrue, Some};
 ghost use Rattle.mta_ber.specs.Times.{last_moment};
@@ -13,8 +13,8 @@ use mta_procedures::Verdict;
 use mta_replay::{Kept, Rules, verdict_on};
 use std::alloc::Global;
 
-// Whether a recipient is pending and in no activity, and the moment is not before the last one.
-fn may_settle(kept: &Kept, number: u32, recipient: u32, moment: u64) -> bool
+/// Whether a recipient is pending and in no activity, and the moment is not before the last one.
+pub fn may_settle(kept: &Kept, number: u32, recipient: u32, moment: u64) -> bool
     ensures { IsTrue result ↔ MaySettle (state_of kept.now) number recipient moment }
 {
     kept.moment <= moment

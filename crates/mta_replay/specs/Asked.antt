@@ -1,14 +1,15 @@
 -- What is asked of the rules, and of what they are asked.
 use Rattle.std.specs.Prelude.{◌≡◌, ◌≤◌, ◌<◌, ◌^◌, ℕ, true, false, List, length}
-use Rattle.std.specs.Prelude.{Option, Some, None}
+use Rattle.std.specs.Prelude.{Option, Some, None, option_map}
 use Rattle.mta_ber.specs.Times.{last_moment}
 use Rattle.mta_names.specs.Bounded.{IsCode}
 use Rattle.mta_procedures.specs.declared.verdict.Verdict.{Verdict}
 use Rattle.mta_procedures.specs.declared.verdict.Verdict.TheVariants as Verdicts
 use Rattle.mta_machine.specs.Items.{ItemValue, numbered, names, has_status, is_pending}
-use Rattle.mta_machine.specs.Rules.{is_tables_text, peer_word, route_word, verdict_of}
-use Rattle.mta_machine.specs.Machine.{last_tables, relay_by}
+use Rattle.mta_machine.specs.Rules.{delivery_report, is_tables_text, peer_word, route_word, verdict_of}
+use Rattle.mta_machine.specs.Machine.{last_tables, own_item, relay_by}
 use Rattle.mta_items.specs.Parts.{machine_of}
+use Rattle.mta_replay.specs.declared.delivery.Delivery.{Delivery}
 use Rattle.mta_replay.specs.declared.kept.Kept.{Kept}
 
 -- a reason and a diagnostic that a verdict tells may be written
@@ -49,6 +50,17 @@ Relays verdict = (place : ℕ) × (verdict ≡ Some (Verdicts.Relay place))
 -- a report has come to a list, from which it is passed back where it can be
 abbrev pub Passes : Option Verdict → Type 0
 Passes verdict = verdict ≡ Some Verdicts.Back
+
+-- the mailbox to which a verdict delivers, with this report; none exactly where the verdict is another
+abbrev pub Delivers : Option Verdict → Option ItemValue → Option Delivery → Type 0
+Delivers verdict report None = (place : ℕ) → verdict ≡ Some (Verdicts.Deliver place) → ⊥
+Delivers verdict report (Some d) = (verdict ≡ Some (Verdicts.Deliver d.place)) × (d.report ≡ report)
+
+-- the delivery of an item to a recipient at a moment, with the delivery report as the item of a number
+abbrev pub IsDeliveryOf : List ℕ → ℕ → ItemValue → (r moment : ℕ) → Option Delivery → Type 0
+IsDeliveryOf text number item r moment =
+    Delivers (verdict_of text item.octets item.arrival r moment)
+    (option_map (own_item moment) (delivery_report text number item r moment))
 
 -- this is the text of the tables recorded last
 abbrev pub IsTextOf : Kept → List ℕ → Type 0

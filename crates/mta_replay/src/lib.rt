@@ -2,6 +2,7 @@
 #![tactic(auto)]
 
 mod change;
+mod delivery;
 mod kept;
 mod on_lane;
 mod rules;
@@ -9,6 +10,7 @@ mod secure;
 mod verdict;
 
 pub use change::{Change, Settlement};
+pub use delivery::Delivery;
 pub use kept::Kept;
 pub use rules::Rules;
 pub use verdict::verdict_on;

@@ -11,8 +11,10 @@ ghost use Rattle.mta_machine.specs.Rules.{delivery_report, expansion, is_expired
 ghost use Rattle.mta_machine.specs.Rules.{non_delivery_report, outgoing_copy, passed_back, peer_word, route_word};
 ghost use Rattle.mta_machine.specs.Rules.{verdict_of};
 ghost use Rattle.mta_items.specs.Parts.{made_items};
-ghost use Rattle.mta_replay.specs.Asked.{AreRelays, AreRoutes, AreUnder, CodesAreCodes, Expands, Passes, Relays};
+ghost use Rattle.mta_replay.specs.Asked.{AreRelays, AreRoutes, AreUnder, CodesAreCodes, Expands, IsDeliveryOf, Passes};
+ghost use Rattle.mta_replay.specs.Asked.{Relays};
 
+use crate::delivery::Delivery;
 use mta_ber::{Memory, Word};
 use mta_items::Made;
 use mta_machine::Item;
@@ -101,6 +103,20 @@ pub trait Rules {
     /// The word of the mailbox at a place of the tables, from 0.
     fn mailbox_at(&self, place: u32) -> Option<&Word>
         ensures { option_copied result ≡ mailbox_word (text self.now) place };
+
+    /// Where a recipient of an item is delivered to at a moment, with the item that is the delivery report, made at
+    /// that moment as the item of a number; none where the verdict is another.
+    fn delivery(
+        &self,
+        alloc: Global,
+        number: u64,
+        item: &Item,
+        recipient: u32,
+        moment: u64,
+    ) -> Result<Option<Delivery>, Memory>
+        requires arrived { item.now.arrival ≤ last_moment }
+        requires fits { moment ≤ last_moment }
+        ensures { IfOk result (IsDeliveryOf (text self.now) number item.now recipient moment) };
 
     /// The item that is the delivery report on a recipient, made at a moment as the item of a number; none where no
     /// report is asked for, or where the walk ends.

@@ -20,8 +20,6 @@ use Rattle.mta_stations.specs.Stations.{roles_in}
 use Rattle.mta_tables.specs.Tables.{TablesValue, tables_of}
 use Rattle.mta_words.specs.declared.station.StationWord.{StationWord}
 use Rattle.mta_words.specs.declared.words.Words.TheVariants as Say
-use Rattle.mta_worker_lists.specs.Agreeing.{EndsAgree}
-use Rattle.mta_worker_lists.specs.Histories.{is_apdu, TellsApdus}
 use Rattle.mta_run.specs.declared.stop.Stop.{Stop}
 use Rattle.mta_run.specs.declared.stop.Stop.TheVariants as Stops
 use Rattle.mta_run.specs.Causes.{Cause, memory, no_peer, not_opened, not_spool}
@@ -38,7 +36,7 @@ use Rattle.mta_run.specs.Submit.{stop_of_step}
 use Rattle.mta_run.proofs.DiskStands.{before_refused, disk_refused}
 use Rattle.mta_run.proofs.HandedOn.{ended_alike, ended_early, undrawn}
 use Rattle.mta_run.proofs.ServedSpool.{begun_cause, begun_ended, begun_own, peers}
-use Rattle.mta_run.proofs.ServedWorkers.{served_ended}
+use Rattle.mta_run.proofs.ServedWorkers.{served_ended, SessionLaws}
 use Rattle.mta_run.proofs.Submitted.{tables_cause, tables_text}
 use Rattle.mta_run.proofs.Worked.{prints_nothing}
 
@@ -157,11 +155,11 @@ module _ {D C I L S : Type 0} (disks : DiskView D) (laws : DiskLaws disks) (cloc
       ok_err w = cc
 
       -- it was, and served over
-      pub served_over : TellsApdus is_apdu → EndsAgree disks clocks links stations
+      pub served_over : SessionLaws disks clocks links stations
           → (new : D) (before after : List S) (result : Result (Unit {0}) Stop)
           → ServesSpool disks clocks links stations sessions tables.text out spool before after new result
           → HasEnded (Serving old new) (Left old new before after) out result
-      served_over tells agree new before after _ (Not_begun mid fault b disk_is same silent) =
+      served_over known new before after _ (Not_begun mid fault b disk_is same silent) =
           begun_ended (Serving old new) tt laws tables read all_named (sources_left old new (Ok tables) read)
           (inputs new)
           spool o clock_is mid (Err fault) b (Left old new before after) out (stop_of_step fault) disk_is silent
@@ -169,18 +167,18 @@ module _ {D C I L S : Type 0} (disks : DiskView D) (laws : DiskLaws disks) (cloc
           (inputs new) spool o clock_is mid (Err fault) b fault refl disk_is)
           (Untouched same refl (λ s w. begun_own (Serving old new) tt laws tables read all_named
           (sources_left old new (Ok tables) read) (inputs new) spool o clock_is mid (Err fault) b))
-      served_over tells agree new before after _ (No_workers mid b disk_is same silent) =
+      served_over known new before after _ (No_workers mid b disk_is same silent) =
           begun_ended (Serving old new) tt laws tables read all_named (sources_left old new (Ok tables) read)
           (inputs new)
           spool o clock_is mid (Ok tt) b (Left old new before after) out Stops.Memory disk_is silent (memory opened)
           (Untouched same refl (λ s w. begun_own (Serving old new) tt laws tables read all_named
           (sources_left old new (Ok tables) read) (inputs new) spool o clock_is mid (Ok tt) b))
-      served_over tells agree new before after result
+      served_over known new before after result
           (Served limits mid joined final ends _ are b grown kj workers x k disk_is) =
           served_ended (Serving old new) tt laws clock_laws (sources_left old new (Ok tables) read) (inputs new)
           (peers (Serving old new) tt laws tables read all_named (sources_left old new (Ok tables) read) (inputs new)
           spool
-          o clock_is) spool o handed_clock joined final kj k disk_is ends links stations tells agree sessions limits are
+          o clock_is) spool o handed_clock joined final kj k disk_is ends links stations known sessions limits are
           before after out result mid.entries own grown workers x
         where
           bare : b.added ++ b.torn_step ≡ mid.entries

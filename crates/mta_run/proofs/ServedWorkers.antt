@@ -4,7 +4,7 @@ use Rattle.std.proofs.Common.{sym, ap, subst, ◌∙◌, append_assoc, arith, in
 use Rattle.std.proofs.lemmas.List.{append-nil}
 use mathlib.Core.List.{IsPrefix}
 use Rattle.mta_edge.specs.Causes.{Rose}
-use Rattle.mta_edge.specs.Views.{ClockLaws, DiskLaws}
+use Rattle.mta_edge.specs.Views.{ClockLaws, ClockView, DiskLaws, DiskView}
 use Rattle.mta_links.specs.Links.{LinkView, StationView}
 use Rattle.mta_records.specs.Body.{body_of}
 use Rattle.mta_records.specs.declared.step.Step.{Step}
@@ -22,6 +22,7 @@ use Rattle.mta_spool.specs.Stands.{step_moment}
 use Rattle.mta_stations.specs.declared.end.WorkerEnd.{WorkerEnd}
 use Rattle.mta_worker_lists.specs.Agreeing.{EndsAgree}
 use Rattle.mta_worker_lists.specs.Histories.{AreEntries, is_apdu, TellsApdus}
+use Rattle.mta_lane_lists.specs.Lanes.{LanesOfStationsAgree}
 use Rattle.mta_workers.specs.Wholes.{AreWorkers}
 use Rattle.mta_run.specs.declared.stop.Stop.{Stop}
 use Rattle.mta_run.specs.Causes.{Cause, disk as cause_disk, full_serving, memory as cause_memory, of_serve}
@@ -45,6 +46,13 @@ use Rattle.mta_run.proofs.HandedOn.{printed_map}
 use Rattle.mta_run.proofs.Same.{err_same}
 use Rattle.mta_run.proofs.ServedSpool.{tells_back}
 use Rattle.mta_run.proofs.Statuses.{serves_adds, serves_opens}
+
+-- what holds of the sessions that workers serve
+pub record SessionLaws {D C L S : Type 0} (disks : DiskView D) (clocks : ClockView C) (links : LinkView L)
+    (stations : StationView S) : Type 0 where
+  pub tells : TellsApdus is_apdu
+  pub agree : EndsAgree disks clocks links stations
+  pub lanes : LanesOfStationsAgree links
 
 module _ {D C I : Type 0} (h : Handed D C I) (serves : Serves h.words) (laws : DiskLaws h.disks)
     (clock_laws : ClockLaws h.clocks) (sources : SourcesLeft h) (inputs : InputsRead h) (peers : PeersNamed h)
@@ -201,14 +209,14 @@ module _ {D C I : Type 0} (h : Handed D C I) (serves : Serves h.words) (laws : D
 
   -- ---- all of it
 
-  pub served_ended : {L S : Type 0} (links : LinkView L) (stations : StationView S) → TellsApdus is_apdu
-      → EndsAgree h.disks h.clocks links stations → (sessions : ℕ) (limits : Limits) → AreLimits sessions limits
+  pub served_ended : {L S : Type 0} (links : LinkView L) (stations : StationView S)
+      → SessionLaws h.disks h.clocks links stations → (sessions : ℕ) (limits : Limits) → AreLimits sessions limits
       → (before after : List S) (out : Output) (result : Result (Unit {0}) Stop) (front : List Step)
       → AreOfRun h front → (grown : IsPrefix front joined.entries)
       → AreWorkers h.disks h.clocks links stations limits before after ends front (base_of h.disks h.clocks spool)
       joined.entries → HasFinished h.disks (h.clocks.tells joined.clock) ends out joined final result
       → HasEnded h (StationsLeft h links stations sessions before after) out result
-  served_ended links stations tells agree sessions limits are before after out result front own grown did x = record {
+  served_ended links stations known sessions limits are before after out result front own grown did x = record {
     opening = opened;
     ends = ends;
     added = final.entries;
@@ -262,9 +270,15 @@ module _ {D C I : Type 0} (h : Handed D C I) (serves : Serves h.words) (laws : D
 
     sessions_joined : ForOpened h (λ first. SessionsServed links first joined.entries (length front))
     sessions_joined f steps was s =
-        let x = agree is_apdu steps front joined.entries limits before after ends (base_of h.disks h.clocks spool) tells
-        (entries_are f steps was s) did in
-        record { parts = x.0; good = x.1; agree = x.2 }
+        let e = entries_are f steps was s in
+        let x = known.agree is_apdu steps front joined.entries limits before after ends
+        (base_of h.disks h.clocks spool) known.tells e did in
+        record {
+          parts = x.0;
+          good = x.1;
+          agree = x.2;
+          lanes = known.lanes is_apdu steps joined.entries (length front) x.0 known.tells e.possible;
+        }
 
     sessions_are : ForOpened h (λ first. SessionsServed links first (front ++ grown.0) (length front))
     sessions_are f steps was s =

@@ -1,6 +1,7 @@
 pub mod Codes
 pub mod Copied
 pub mod Counts
+pub mod Delivered
 pub mod Expanded
 pub mod IdleItems
 pub mod Led

@@ -2,6 +2,7 @@
 #![tactic(auto)]
 
 mod copies;
+mod deliveries;
 mod expansion;
 mod idle;
 mod names;

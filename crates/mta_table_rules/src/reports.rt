@@ -114,7 +114,8 @@ fn non_delivery_report(
     report_on(alloc, tables, number, arrival, envelope, recipient, outcome)
 }
 
-fn delivery_report_in(
+/// The delivery report on a recipient of an APDU that was read; none where none is asked for, or where the walk ends.
+pub fn delivery_report_in(
     alloc: Global,
     tables: &Tables,
     number: u64,

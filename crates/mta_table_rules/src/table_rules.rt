@@ -1,6 +1,7 @@
 //! The rules under tables.
 
 use crate::copies::outgoing_copy;
+use crate::deliveries::delivery;
 use crate::expansion::expansion_items;
 use crate::idle::idle_until;
 use crate::names::{mailbox_at, names_peer, peer_at, routes_to};
@@ -14,7 +15,7 @@ use mta_items::Made;
 use mta_machine::Item;
 use mta_procedures::Verdict;
 use mta_records::Outgoing;
-use mta_replay::Rules;
+use mta_replay::{Delivery, Rules};
 use mta_tables::{Tables, TablesFault};
 use std::alloc::Global;
 use std::marker::Model;
@@ -121,6 +122,17 @@ impl Rules for TableRules {
 
     fn mailbox_at(&self, place: u32) -> Option<&Word> {
         mailbox_at(&self.tables, place)
+    }
+
+    fn delivery(
+        &self,
+        alloc: Global,
+        number: u64,
+        item: &Item,
+        recipient: u32,
+        moment: u64,
+    ) -> Result<Option<Delivery>, Memory> {
+        delivery(alloc, &self.tables, number, item, recipient, moment)
     }
 
     fn delivery_report(

@@ -35,7 +35,7 @@ module _ {L : Type 0} (links : LinkView L) (good : ListsAreGood) (may_stop : Lis
       subst (λ (n : ℕ). IsGoodSession spells history n size window initiator l) x.lane_is
       (subst (λ (b : Bool). IsGoodSession spells history x.on.lane size window b l) x.side there)
 
-  each_good : (lane size window : ℕ) (initiator : Bool) (ls : List SessionList) → AreValues history lane size window
+  pub each_good : (lane size window : ℕ) (initiator : Bool) (ls : List SessionList) → AreValues history lane size window
       → AreListsIn links spells first entries all.parts lane size window initiator ls
       → EachGood spells history lane size window initiator ls
   each_good lane size window initiator [] values are = tt

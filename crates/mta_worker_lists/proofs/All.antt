@@ -1,7 +1,7 @@
 -- All entries that workers made are in parts of the history, no one in two.
 use Rattle.std.proofs.Common.{◌≡◌, ◌<◌, ◌≤◌, ℕ, zero, suc, ◌+◌, Bool, List, [], ◌∷◌, ◌++◌, length, Some}
 use Rattle.std.proofs.Common.{slice_index_or, All, inl, inr}
-use Rattle.std.proofs.Common.{sym, ap, subst, refl, ◌∙◌, arith, slice_get}
+use Rattle.std.proofs.Common.{sym, ap, subst, refl, ◌∙◌, append_assoc, append-nil, arith, slice_get}
 use Rattle.std.proofs.lemmas.Bool.{cases_lt}
 use Rattle.std.proofs.lemmas.List.{length-append}
 use Rattle.mta_edge.specs.Views.{ClockView, DiskView}
@@ -15,9 +15,9 @@ use Rattle.mta_shared.specs.Held.{LockId}
 use Rattle.mta_shared.proofs.Sums.{times-append, times-row-above, times-row-in, times-row-le}
 use Rattle.mta_workers.specs.declared.jobs.Job.{Job}
 use Rattle.mta_workers.specs.Jobs.{JobDone, owned_by, SawFront}
-use Rattle.mta_worker_lists.specs.All.{AllHaveParts, AllParts}
-use Rattle.mta_worker_lists.specs.Histories.{AreEntries, TellsApdus, whole}
-use Rattle.mta_worker_lists.specs.Parts.{AreParts, AreSessions}
+use Rattle.mta_worker_lists.specs.All.{all_of, AllHaveParts, AllParts, EachInTurn, StationParts}
+use Rattle.mta_worker_lists.specs.Histories.{AreEntries, place, TellsApdus, whole}
+use Rattle.mta_worker_lists.specs.Parts.{AreParts, AreSessions, StandInTurn}
 use Rattle.mta_worker_lists.specs.Segments.{AreAll, AreSegments, owned, Segment}
 use Rattle.mta_worker_lists.proofs.Annotating.{length_seen}
 use Rattle.mta_worker_lists.proofs.Workers.{owned_more, segments_more, sessions_more, workers_have_parts}
@@ -56,6 +56,18 @@ shared_all first entries low ss are shares =
           omega (arith, in_row, none, two, same);
     }
 
+-- one more station
+all_of_more : (more : List (List Segment)) (ss : List Segment) → all_of (more ++ ss ∷ []) ≡ all_of more ++ ss
+all_of_more [] ss = append-nil ss
+all_of_more (x ∷ xs) ss = ap (λ (zs : List Segment). x ++ zs) (all_of_more xs ss) ∙ sym (append_assoc x (all_of xs) ss)
+
+turns_with : {L : Type 0} (links : LinkView L) (spells : List ℕ → Bool) (first entries : List Step) (from : ℕ)
+    (more : List (List Segment)) (ss : List Segment) → EachInTurn links spells first entries from more
+    → StationParts links spells first entries from ss → EachInTurn links spells first entries from (more ++ ss ∷ [])
+turns_with links spells first entries from [] ss t one = (one, tt)
+turns_with links spells first entries from (x ∷ xs) ss t one =
+    (t.0, turns_with links spells first entries from xs ss t.1 one)
+
 -- and none is before the first one that they share
 shared_later : (low n : ℕ) (own : List ℕ) → ((k : ℕ) → times k (row 0 low ++ own) ≡ times k (row 0 n)) → (k : ℕ)
     → 0 < times k own → low ≤ k
@@ -89,6 +101,9 @@ module _ {D C L S : Type 0} (disks : DiskView D) (clocks : ClockView C) (links :
     are : AreSegments (whole first entries) (length first) parts
     sessions : AreSessions links spells first entries parts
     owns : owned_by js ≡ owned parts
+    by_station : List (List Segment)
+    of_stations : parts ≡ all_of by_station
+    turns : EachInTurn links spells first entries (length first + length front) by_station
 
   abbrev Begin : Job S → Type 0
   Begin j = (j.pass.seen ≡ front) × (j.pass.base ≡ base) × (j.pass.own ≡ [])
@@ -107,7 +122,8 @@ module _ {D C L S : Type 0} (disks : DiskView D) (clocks : ClockView C) (links :
 
   jobs_parts : (dealt done : List (Job S)) → length done ≡ length dealt → All Begin dealt → Each dealt done
       → All (SawFront entries) done → JobParts done
-  jobs_parts [] [] len begin each saw = record { parts = []; are = tt; sessions = tt; owns = refl }
+  jobs_parts [] [] len begin each saw =
+      record { parts = []; are = tt; sessions = tt; owns = refl; by_station = []; of_stations = refl; turns = tt }
   jobs_parts [] (k ∷ ks) len begin each saw = absurd (omega (arith, len))
   jobs_parts (j ∷ js) [] len begin each saw = absurd (omega (arith, len))
   jobs_parts (j ∷ js) (k ∷ ks) len begin each saw =
@@ -128,6 +144,19 @@ module _ {D C L S : Type 0} (disks : DiskView D) (clocks : ClockView C) (links :
             ap (λ (ns : List ℕ). ns ++ k.pass.own) rest.owns
             ∙ ap (λ (ns : List ℕ). owned rest.parts ++ ns) own
             ∙ sym (owned_more rest.parts one.parts);
+        by_station = rest.by_station ++ one.parts ∷ [];
+        of_stations =
+            ap (λ (ss : List Segment). ss ++ one.parts) rest.of_stations
+            ∙ sym (all_of_more rest.by_station one.parts);
+        turns =
+            turns_with links spells first entries (length first + length front) rest.by_station one.parts rest.turns
+            (record {
+              sessions = one.sessions;
+              upto = place first k.pass;
+              turns = subst
+                  (λ (n : ℕ). StandInTurn links spells first entries n (place first k.pass) one.parts one.sessions)
+                  (ap (λ (xs : List Step). length first + length xs) b.0) one.turns;
+            });
       }
 
   all_parts : (dealt done : List (Job S)) → JobParts done
@@ -142,6 +171,9 @@ module _ {D C L S : Type 0} (disks : DiskView D) (clocks : ClockView C) (links :
         all = shared_all first entries (length front) js.parts js.are theirs;
         later = shared_later (length front) (length entries) (owned js.parts) theirs;
         each = shared_each (length front) (length entries) (owned js.parts) theirs;
+        by_station = js.by_station;
+        of_stations = js.of_stations;
+        turns = js.turns;
       }
 
 pub all_have_parts : {D C L S : Type 0} (disks : DiskView D) (clocks : ClockView C) (links : LinkView L)

@@ -35,7 +35,7 @@ list_stopped calls l upto None true =
 list_stopped calls l upto (Some e) aborts =
     (stopped calls l (record { event = e; seen = upto; aborts = aborts }), refl)
 
-list_behind : (spells : List ℕ → Bool) (history : List Seen) (mid upto : ℕ) (u : State) (b : Action)
+pub list_behind : (spells : List ℕ → Bool) (history : List Seen) (mid upto : ℕ) (u : State) (b : Action)
     (calls : List Call) (l : SessionList) (o : IsOver spells history mid upto u b)
     → (m : SessionList) × IsListOver calls l o m
 list_behind spells history mid upto u b calls l (Ended e is same) = (l, refl)

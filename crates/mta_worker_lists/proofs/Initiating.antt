@@ -46,7 +46,7 @@ use Rattle.mta_worker.specs.Readying.{asks_next, Begins, Begun, IsReadied, IsSte
 use Rattle.mta_worker.specs.Readying.{Stepped, Well, Without_memory}
 use Rattle.mta_shared.specs.Held.{Held}
 use Rattle.mta_shared.specs.Counts.{row}
-use Rattle.mta_worker_lists.specs.Begun.{at_first, begun_by, Calls, IsNewAt}
+use Rattle.mta_worker_lists.specs.Begun.{at_first, begun_by, Calls, IsBehind, IsNewAt}
 use Rattle.mta_worker_lists.specs.Histories.{TellsApdus, place, whole}
 use Rattle.mta_worker_lists.specs.Leads.{Leads}
 use Rattle.mta_worker_lists.proofs.Calm.{is_looking}
@@ -210,6 +210,7 @@ module _ {D C : Type 0} (disks : DiskView D) (clocks : ClockView C) where
       pub opened : row (length old.entries) (length new.entries - length old.entries)
           ≡ begun_by (length first) begun
       pub later : length (begun_by (length first) begun) ≤ length pass.seen
+      pub behind : IsBehind (length first + length old.entries) begun
 
     -- It is carried on from these first calls.
     pub record Led (old new : Shown D C) (pass : Held Step) (u : Session) (b : Action) : Type 0 where
@@ -248,6 +249,11 @@ module _ {D C : Type 0} (disks : DiskView D) (clocks : ClockView C) where
               ap length (sees ∙ makes.1) in
               omega (arith, one, same);
           opened = made_entries disks clocks spells tells first entries possible (Some (step_for plan)) old new makes;
+          behind =
+              let one : length (old.entries ++ makes.0 ∷ []) ≡ length old.entries + 1 =
+              length-append old.entries (makes.0 ∷ []) in
+              let same : length new.entries ≡ length (old.entries ++ makes.0 ∷ []) = ap length makes.1 in
+              omega (arith, one, same);
         }
 
     -- the step for it was made

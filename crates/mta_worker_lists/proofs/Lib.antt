@@ -21,10 +21,11 @@ pub mod Stopped
 pub mod Good
 pub mod Segments
 pub mod Unlisted
-pub mod Pieces
+pub mod OwnSteps
 pub mod Keeping
 pub mod Owned
 pub mod Sessions
+pub mod Later
 pub mod Whole
 pub mod Parts
 pub mod Worked

@@ -32,7 +32,7 @@ use Rattle.mta_session_lists.specs.Calls.{Call, StepOn}
 use Rattle.mta_shared.specs.Counts.{row, times}
 use Rattle.mta_shared.specs.declared.history.Base.{Base}
 use Rattle.mta_shared.specs.Held.{Held}
-use Rattle.mta_shared.proofs.Fronts.{prefix_self, prefix_trans}
+use Rattle.mta_shared.proofs.Fronts.{prefix_length, prefix_self, prefix_trans}
 use Rattle.mta_shared.proofs.Sums.{times-append}
 use Rattle.mta_spool.specs.Shown.{Shown}
 use Rattle.mta_stations.specs.declared.end.Halt.{Halt}
@@ -51,7 +51,7 @@ use Rattle.mta_worker.specs.declared.telling.Lost.{Lost}
 use Rattle.mta_worker.specs.declared.telling.Lost.TheVariants as losts
 use Rattle.mta_worker.specs.declared.session.Served.{Served}
 use Rattle.mta_worker.proofs.Growing.{grows}
-use Rattle.mta_worker_lists.specs.Begun.{at_first, begun_by, HasRun, Listens}
+use Rattle.mta_worker_lists.specs.Begun.{at_first, begun_by, Calls, HasRun, IsBehind, IsNewAt, Listens}
 use Rattle.mta_worker_lists.specs.Histories.{AreEntries, TellsApdus, place, whole}
 use Rattle.mta_worker_lists.specs.Leads.{Leads}
 use Rattle.mta_worker_lists.specs.Linked.{AreClosings, Began, IsRun, LinksAreRun, None_began}
@@ -75,19 +75,25 @@ listens_knows : (own : List ℕ) (units : ℕ) (first : Action) (t : Session) (s
     → Follows (new_responder own units) event.Go first t → Knows t s
 listens_knows own units first t s f = subst (λ (z : Session). Knows z s) (sym f.1) tt
 
+behind_less : {history : List Seen} {from : ℕ} {t : Session} (low high : ℕ) → low ≤ high
+    → (new : IsNewAt history from t) → IsBehind high new → IsBehind low new
+behind_less low high le (Calls p units at from is has opens) b = omega (arith, le, b)
+behind_less low high le (Listens own units from) b = omega (arith, le, b)
+
 module _ {D C L : Type 0} (disks : DiskView D) (clocks : ClockView C) (links : LinkView L) (spells : List ℕ → Bool)
     (tells : TellsApdus spells) (first entries : List Step) where
   abbrev history : List Seen
   history = whole first entries
 
   -- A session that began over this link, behind these entries of its pass.
-  pub record RunOf (old new_link : L) (own opened : List ℕ) (q : Held Step) : Type 0 where
+  pub record RunOf (old new_link : L) (low : ℕ) (own opened : List ℕ) (q : Held Step) : Type 0 where
     pub new : Session
     pub begun : Held Step
     pub calls : List Call
     pub ran : HasRun links spells first entries old new begun calls q new_link
     pub owns : begun.own ≡ own ++ begun_by (length first) ran.begins
     pub later : length (begun_by (length first) ran.begins) ≤ length begun.seen
+    pub behind : IsBehind low ran.begins
 
   abbrev Ran : L → L → Held Step → Held Step → Served → Type 0
   Ran old new p q served = IsRun links spells first entries old new p q served
@@ -96,8 +102,9 @@ module _ {D C L : Type 0} (disks : DiskView D) (clocks : ClockView C) (links : L
   no_closings k hit = none_hit k hit
 
   -- where none was closed
-  began : (old new : L) (p q : Held Step) (served : Served) → RunOf old new p.own [] q → Ran old new p q served
-  began old new p q served r = Began [] r.new r.begun r.calls r.ran no_closings r.owns r.later
+  began : (old new : L) (p q : Held Step) (served : Served) → RunOf old new (place first p) p.own [] q
+      → Ran old new p q served
+  began old new p q served r = Began [] r.new r.begun r.calls r.ran no_closings r.owns r.later r.behind
 
   none_began : (old new : L) (p q : Held Step) (served : Served) → served.end ≡ None → q.own ≡ p.own → new ≡ old
       → Ran old new p q served
@@ -131,7 +138,7 @@ module _ {D C L : Type 0} (disks : DiskView D) (clocks : ClockView C) (links : L
         feed = no_feed;
         pass = mid;
         halt = None;
-      }) new q served → IsPrefix q.seen entries → RunOf old new mid.own [] q
+      }) new q served → IsPrefix q.seen entries → RunOf old new (place first mid) mid.own [] q
   listens_run own units mid old new q served one t are turn is f =
       let n : ℕ = place first mid in
       let fresh : Session = new_responder own units in
@@ -164,7 +171,16 @@ module _ {D C L : Type 0} (disks : DiskView D) (clocks : ClockView C) (links : L
         };
         owns = sym (append-nil mid.own);
         later = omega arith;
+        behind = omega arith;
       }
+
+  -- a pass that saw no entry made has seen as much as before
+  seen_still : (done : Shown D C → Shown D C → Type 0) (p q : Held Step) (i : InTurn disks clocks done p q)
+      → i.after.entries ≡ i.before.entries → place first p ≤ place first q
+  seen_still done p q i same =
+      let front : length p.seen ≤ length i.before.entries = prefix_length p.seen i.before.entries i.begins in
+      let seen : length q.seen ≡ length i.before.entries = ap length (ap (λ (h : Held Step). h.seen) i.left ∙ same) in
+      omega (arith, front, seen)
 
   own_still : (own : Result (Option (List ℕ)) NoMemory) (p q : Held Step)
       → InTurn disks clocks (λ s t. IsOwnName s.current own × (t ≡ s)) p q → q.own ≡ p.own
@@ -190,6 +206,10 @@ module _ {D C L : Type 0} (disks : DiskView D) (clocks : ClockView C) (links : L
         owns = r.owns ∙ ap (λ (ns : List ℕ). ns ++ begun_by (length first) r.ran.begins)
             (own_still (Ok (Some own)) p mid i);
         later = r.later;
+        behind =
+            behind_less (place first p) (place first mid)
+            (seen_still (λ s t. IsOwnName s.current (Ok (Some own)) × (t ≡ s)) p mid i
+            (ap (λ (s : Shown D C). s.entries) i.did.1)) r.ran.begins r.behind;
       })
   listened_run units p old new q served are (Lost_at_once own i gives) f =
       let fresh : Session = new_responder own units in
@@ -204,6 +224,9 @@ module _ {D C L : Type 0} (disks : DiskView D) (clocks : ClockView C) (links : L
         };
         owns = own_still (Ok (Some own)) p q i ∙ sym (append-nil p.own);
         later = omega arith;
+        behind =
+            seen_still (λ s t. IsOwnName s.current (Ok (Some own)) × (t ≡ s)) p q i
+            (ap (λ (s : Shown D C). s.entries) i.did.1);
       })
 
   -- ---- this agent called
@@ -219,7 +242,8 @@ module _ {D C L : Type 0} (disks : DiskView D) (clocks : ClockView C) (links : L
         feed = no_feed;
         pass = at;
         halt = noted;
-      }) new q served → IsPrefix at.seen entries → IsPrefix q.seen entries → RunOf old new mid.own [] q
+      }) new q served → IsPrefix at.seen entries → IsPrefix q.seen entries
+      → RunOf old new (place first mid) mid.own [] q
   begins_run peer units mid at u one noted old new q served are i is front f =
       let left : at.seen ≡ i.after.entries = ap (λ (h : Held Step). h.seen) i.left in
       let owned : at.own
@@ -261,13 +285,17 @@ module _ {D C L : Type 0} (disks : DiskView D) (clocks : ClockView C) (links : L
         };
         owns = owned ∙ ap (λ (ns : List ℕ). mid.own ++ ns) led.begins.opened;
         later = led.begins.later;
+        behind =
+            let seen : length mid.seen ≤ length i.before.entries = prefix_length mid.seen i.before.entries i.begins in
+            behind_less (place first mid) (length first + length i.before.entries) (omega (arith, seen))
+            led.begins.begun led.begins.behind;
       }
 
   lost_run : (peer : List ℕ) (units : ℕ) (mid q : Held Step) (u : Session) (lost : Lost) (noted : Option Halt)
       (old new : L) (served : Served) → AreEntries mid.base first entries
       → InTurn disks clocks (λ s t. IsReadied disks clocks peer units s None t noted (ready.Begins u (Err lost))) mid q
       → GivesUp links lost (has_turned u.phase) noted old new served → IsPrefix q.seen entries
-      → RunOf old new mid.own [] q
+      → RunOf old new (place first mid) mid.own [] q
   lost_run peer units mid q u lost noted old new served are i gives f =
       let left : q.seen ≡ i.after.entries = ap (λ (h : Held Step). h.seen) i.left in
       let owned : q.own
@@ -287,6 +315,10 @@ module _ {D C L : Type 0} (disks : DiskView D) (clocks : ClockView C) (links : L
         ran = record { begins = led.begins.begun; done = led.closed.1 };
         owns = owned ∙ ap (λ (ns : List ℕ). mid.own ++ ns) led.begins.opened;
         later = led.begins.later;
+        behind =
+            let seen : length mid.seen ≤ length i.before.entries = prefix_length mid.seen i.before.entries i.begins in
+            behind_less (place first mid) (length first + length i.before.entries) (omega (arith, seen))
+            led.begins.begun led.begins.behind;
       }
 
   -- ---- the turns before
@@ -466,12 +498,14 @@ module _ {D C L : Type 0} (disks : DiskView D) (clocks : ClockView C) (links : L
       (λ s t d. let w = readied_begins disks clocks peer units s t None noted u r d in
       answered_grow w.question s t w.answer w.answered) i
 
-  begun_behind : (old new : L) (p mid q : Held Step) (served : Served) → ClosedAll p mid
-      → RunOf old new mid.own [] q → Ran old new p q served
-  begun_behind old new p mid q served c r =
+  begun_behind : (old new : L) (p mid q : Held Step) (served : Served) → ClosedAll p mid → IsPrefix p.seen mid.seen
+      → RunOf old new (place first mid) mid.own [] q → Ran old new p q served
+  begun_behind old new p mid q served c front r =
       Began c.closings r.new r.begun r.calls r.ran c.are
       (r.owns ∙ ap (λ (ns : List ℕ). ns ++ begun_by (length first) r.ran.begins) c.owns
       ∙ append_assoc p.own c.closings (begun_by (length first) r.ran.begins)) r.later
+      (let seen : length p.seen ≤ length mid.seen = prefix_length p.seen mid.seen front in
+      behind_less (place first p) (place first mid) (omega (arith, seen)) r.ran.begins r.behind)
 
   called_run : (peer : List ℕ) (units : ℕ) (p : Held Step) (old new : L) (q : Held Step) (served : Served)
       → AreEntries p.base first entries → HasCalled disks clocks links peer units p old new q served
@@ -499,12 +533,12 @@ module _ {D C L : Type 0} (disks : DiskView D) (clocks : ClockView C) (links : L
       let front : IsPrefix at.seen entries = prefix_trans at.seen q.seen entries grown_on f in
       let before : IsPrefix mid.seen at.seen = readied_grows peer units mid at u (Ok one) noted i in
       let all = closed_all peer units p ms mid are c (prefix_trans mid.seen at.seen entries before front) in
-      begun_behind old new p mid q served all
+      begun_behind old new p mid q served all (closings_grow peer units p ms mid c)
       (begins_run peer units mid at u one noted old new q served all.base i is front f)
   called_run peer units p old new q served are (Lost_before ms mid u lost noted c i gives) f =
       let before : IsPrefix mid.seen q.seen = readied_grows peer units mid q u (Err lost) noted i in
       let all = closed_all peer units p ms mid are c (prefix_trans mid.seen q.seen entries before f) in
-      begun_behind old new p mid q served all
+      begun_behind old new p mid q served all (closings_grow peer units p ms mid c)
       (lost_run peer units mid q u lost noted old new served all.base i gives f)
   called_run peer units p old new q served are (Too_often ms c many same is) f =
       let all = closed_all peer units p ms q are c f in

@@ -1,4 +1,4 @@
--- The entries of a session that concern pieces stand in its list.
+-- The steps that a session made on its lane stand in its list.
 use Rattle.std.proofs.Common.{◌≡◌, ◌<◌, ◌≤◌, ℕ, ◌+◌, ◌-◌, Bool, true, false, cond, eqb, Option, None, Some, List, []}
 use Rattle.std.proofs.Common.{◌∷◌, ◌++◌}
 use Rattle.std.proofs.Common.{inl, inr, refl, sym, ap, subst, ◌∙◌, arith, slice_get}
@@ -18,13 +18,14 @@ use Rattle.mta_runs.specs.Sessions.{Made, SessionEvent}
 use Rattle.mta_matches.specs.Asks.{IsAskOf}
 use Rattle.mta_matches.specs.Calls.{has_lane}
 use Rattle.mta_session_lists.specs.Calls.{Call, come_of, list_of, look_told, step_told, StepOn, told_as, turns_of}
-use Rattle.mta_session_lists.specs.Laws.{IsIn, IsPiece}
+use Rattle.mta_session_lists.specs.Laws.{IsIn}
 use Rattle.mta_session_lists.specs.Standing.{AllComeTrue, ComesTrue, StandsAs}
 use Rattle.mta_shared.specs.Counts.{times}
 use Rattle.mta_shared.proofs.Sums.{times-append}
 use Rattle.mta_worker_lists.specs.Leads.{entry_at, made_by, made_in}
+use Rattle.mta_worker_lists.specs.Segments.{IsOwnStep}
 use Rattle.mta_worker_lists.proofs.Keeping.{Listed, listed_next}
-use Rattle.mta_worker_lists.proofs.Pieces.{asked_place, lane_of, Place, place, PieceOf, told_place}
+use Rattle.mta_worker_lists.proofs.OwnSteps.{asked_place, lane_of, Place, place, StepOf, told_place}
 use Rattle.mta_worker_lists.proofs.Responding.{comes_later}
 use Rattle.mta_worker_lists.proofs.Waits.{Asked}
 
@@ -50,7 +51,7 @@ same_entry z lane step e =
 
 -- ---- one call
 
--- the lane and the generation of a step that concerns pieces, and the event
+-- the lane and the generation of such a step, and the event
 pub record Found (p : Phase) (t : State) (lane g position : ℕ) (step : SeenStep) (events : List SessionEvent) : Type 0
   where
     pub has : has_lane p ≡ true
@@ -74,11 +75,11 @@ module _ (spells : List ℕ → Bool) (history : List Seen) (n : ℕ) where
   ask_piece : (p : Phase) (t : State) (q : Ask) (y : Reply) (turn : Turn) (from seen k lane g : ℕ) (step : SeenStep)
       → IsAskOf p t q → ComesTrue spells history from seen p (action.Ask q) (event.Reply y) → n ≤ from
       → 0 < times k (made_by n seen (action.Ask q) (event.Reply y)) → slice_get history (n + k) ≡ Some (On lane step)
-      → IsPiece g step → Found p t lane g (n + k) step (come_of (action.Ask q) turn seen (event.Reply y))
+      → IsOwnStep g step → Found p t lane g (n + k) step (come_of (action.Ask q) turn seen (event.Reply y))
   ask_piece p t q y turn from seen k lane g step asked is le l get piece =
       let told = told_at (step_told q y) q y from seen k lane step is.1 le l get in
-      let of_piece : PieceOf g (step_told q y) = subst (λ (o : Option StepOn). PieceOf g o) (sym told.0) piece in
-      let at = told_place q y g of_piece ∙ ap (λ (o : Option StepOn). Some (place (lane_of o) g)) told.0 in
+      let of_step : StepOf g (step_told q y) = subst (λ (o : Option StepOn). StepOf g o) (sym told.0) piece in
+      let at = told_place q y g of_step ∙ ap (λ (o : Option StepOn). Some (place (lane_of o) g)) told.0 in
       let found = asked_place p t q (place lane g) asked at in
       record {
         has = found.0;
@@ -93,7 +94,7 @@ module _ (spells : List ℕ → Bool) (history : List Seen) (n : ℕ) where
   pub call_piece : (p : Phase) (t : State) (a : Action) (e : Event) (turn : Turn) (from seen k lane g : ℕ)
       (step : SeenStep) → ((q : Ask) → a ≡ action.Ask q → IsAskOf p t q) → ComesTrue spells history from seen p a e
       → n ≤ from → 0 < times k (made_by n seen a e) → slice_get history (n + k) ≡ Some (On lane step)
-      → IsPiece g step → Found p t lane g (n + k) step (come_of a turn seen e)
+      → IsOwnStep g step → Found p t lane g (n + k) step (come_of a turn seen e)
   call_piece p t (action.Ask q) (event.Reply y) turn from seen k lane g step asked is le l get piece =
       ask_piece p t q y turn from seen k lane g step (asked q refl) is le l get piece
   call_piece p t (action.Ask q) event.Go turn from seen k lane g step asked is le l get piece = none_hit k l
@@ -134,7 +135,7 @@ module _ (spells : List ℕ → Bool) (history : List Seen) (n : ℕ) where
 
     pub pieces_in : (cs : List Call) (a : Action) (t u : State) (from k l g : ℕ) (step : SeenStep)
         → Listed lane generation a t → AreCalls t (turns_of cs) u → AllComeTrue spells history from a cs → n ≤ from
-        → 0 < times k (made_in n a cs) → slice_get history (n + k) ≡ Some (On l step) → IsPiece g step
+        → 0 < times k (made_in n a cs) → slice_get history (n + k) ≡ Some (On l step) → IsOwnStep g step
         → Owned_by k l g step (list_of a cs)
     pieces_in [] a t u from k l g step listed run is le hit get piece = none_hit k hit
     pieces_in (c ∷ cs) a t u from k l g step listed run is le hit get piece =

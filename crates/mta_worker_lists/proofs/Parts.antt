@@ -4,20 +4,19 @@ use Rattle.std.proofs.Common.{append_assoc, append-nil, arith}
 use Rattle.mta_links.specs.Links.{LinkView}
 use Rattle.mta_ends.specs.Lanes.{CloseLane, On, Seen, SeenStep}
 use Rattle.mta_session.specs.declared.event.Action.TheVariants as action
-use Rattle.mta_session_lists.specs.Laws.{IsPiece}
 use Rattle.mta_worker_lists.specs.Begun.{begun_by, made_over}
 use Rattle.mta_worker_lists.specs.Histories.{place, whole}
 use Rattle.mta_worker_lists.specs.Leads.{made_in}
 use Rattle.mta_worker_lists.specs.Linked.{AreClosings, Began, None_began}
 use Rattle.mta_worker_lists.specs.Parts.{AreForNone, IsForNone, LinksHaveParts, plain}
-use Rattle.mta_worker_lists.specs.Segments.{IsSegment}
+use Rattle.mta_worker_lists.specs.Segments.{IsOwnStep, IsSegment}
 use Rattle.mta_worker_lists.proofs.Sessions.{sessions_are_segments}
 
 -- a lane that is closed concerns no pieces
-closes_none : (l m g h : ℕ) (step : SeenStep) → Some (On l (CloseLane g)) ≡ Some (On m step) → IsPiece h step → ⊥
+closes_none : (l m g h : ℕ) (step : SeenStep) → Some (On l (CloseLane g)) ≡ Some (On m step) → IsOwnStep h step → ⊥
 closes_none l m g h step e piece =
     let same : CloseLane g ≡ step = cc in
-    subst (λ (z : SeenStep). IsPiece h z) (sym same) piece
+    subst (λ (z : SeenStep). IsOwnStep h z) (sym same) piece
 
 pub closings_plain : (history : List Seen) (n : ℕ) (ks : List ℕ) → AreClosings history n ks
     → IsSegment history n (plain ks)
@@ -48,7 +47,7 @@ module _ {L : Type 0} (links : LinkView L) where
     owns = owns ∙ ap (λ (ns : List ℕ). p.own ++ ns) (sym (append-nil closings));
     of_it = refl;
   }
-  links_have_parts spells first entries old new p q served (Began closings t begun calls ran are owns later) =
+  links_have_parts spells first entries old new p q served (Began closings t begun calls ran are owns later after) =
       let n : ℕ = length first in
       let s = sessions_are_segments spells (whole first entries) n (place first begun) (place first ran.done.mid)
       (place first q) t ran.done.last ran.done.wanted calls ran.begins ran.done.over (omega (arith, later))

@@ -6,11 +6,11 @@ use Rattle.mta_ends.specs.Lanes.{LanesAllow, On, Seen, SeenStep}
 use Rattle.mta_matches.specs.Generations.{BeginsAt}
 use Rattle.mta_matches.proofs.Generations.{generations_begin_once}
 use Rattle.mta_runs.specs.Sessions.{Made}
-use Rattle.mta_session_lists.specs.Laws.{IsIn, IsPiece}
+use Rattle.mta_session_lists.specs.Laws.{IsIn}
 use Rattle.mta_shared.specs.Counts.{times}
 use Rattle.mta_shared.proofs.Sums.{times-append}
-use Rattle.mta_worker_lists.specs.Segments.{AreAll, AreSegments, Begins, BeginsIn, IsListedIn, IsOne, IsSegment}
-use Rattle.mta_worker_lists.specs.Segments.{ListsOwnPieces, OnLane, owned, Segment}
+use Rattle.mta_worker_lists.specs.Segments.{AreAll, AreSegments, Begins, BeginsIn, IsListedIn, IsOne, IsOwnStep}
+use Rattle.mta_worker_lists.specs.Segments.{IsSegment, ListsOwnSteps, OnLane, owned, Segment}
 
 -- ---- which one made an entry
 
@@ -96,7 +96,7 @@ module _ (spells : List ℕ → Bool) (history : List Seen) (before low : ℕ) (
       subst (λ (z : OnLane). IsIn (Made (before + k) l.lane step) z.events) (sym list) listed.listed
 
   pub owns : (s : Segment) (l : OnLane) → IsOne s ss → s.list ≡ Some l → before + low ≤ l.at → (q : ℕ)
-      (step : SeenStep) → l.at < q → slice_get history q ≡ Some (On l.lane step) → IsPiece l.generation step
+      (step : SeenStep) → l.at < q → slice_get history q ≡ Some (On l.lane step) → IsOwnStep l.generation step
       → IsIn (Made q l.lane step) l.events
   owns s l i e le q step later get piece =
       let place : q ≡ before + (q - before) = omega (arith, le, later) in
@@ -112,6 +112,6 @@ module _ (spells : List ℕ → Bool) (history : List Seen) (before low : ℕ) (
       (by_list s made.segment l made.segment.list (q - before) step i made.one e refl begun theirs.begins
       (theirs.lists (q - before) l.lane l.generation step made.has there piece))
 
-pub lists_own_pieces : ListsOwnPieces
-lists_own_pieces spells history before low ss s l allow are i e le q step later get piece =
+pub lists_own_steps : ListsOwnSteps
+lists_own_steps spells history before low ss s l allow are i e le q step later get piece =
     owns spells history before low ss allow are s l i e le q step later get piece

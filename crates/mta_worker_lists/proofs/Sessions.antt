@@ -33,7 +33,6 @@ use Rattle.mta_runs.specs.Sessions.{Made, SessionEvent, SessionList}
 use Rattle.mta_matches.specs.Asks.{IsAskOf, IsForOpen}
 use Rattle.mta_matches.specs.Generations.{Begins as BeginsHere}
 use Rattle.mta_session_lists.specs.Calls.{action_of, Call, list_of, StepOn, turns_of}
-use Rattle.mta_session_lists.specs.Laws.{IsPiece}
 use Rattle.mta_session_lists.specs.Lists.{HasAt, Initiates, IsListOf, Responds, step_by, step_for}
 use Rattle.mta_session_lists.specs.Lost.{seen_of}
 use Rattle.mta_session_lists.specs.Standing.{AllComeTrue, ComesTrue}
@@ -45,7 +44,7 @@ use Rattle.mta_shared.proofs.Sums.{times-append, times-self}
 use Rattle.mta_worker_lists.specs.Begun.{Calls, Ended, GiveNone, IsOver, Listens, made_over}
 use Rattle.mta_worker_lists.specs.Begun.{Stopped, Untold}
 use Rattle.mta_worker_lists.specs.Leads.{Leads, made_by, made_in}
-use Rattle.mta_worker_lists.specs.Segments.{IsOf, IsSegment, OnLane}
+use Rattle.mta_worker_lists.specs.Segments.{IsOf, IsOwnStep, IsSegment, OnLane}
 use Rattle.mta_worker_lists.specs.Segments.{Segment, SessionsAreSegments, told_over}
 use Rattle.mta_worker_lists.proofs.Good.{read_asks}
 use Rattle.mta_worker_lists.proofs.Joining.{action_more, made_more}
@@ -133,7 +132,7 @@ plan_begins p opens = by_plan p.recovering opens
     by_plan false opens = (refl, opens refl)
 
 -- such a step concerns no pieces
-begins_none : (n m g j : ℕ) (step : SeenStep) → BeginsHere n g (On m step) → IsPiece j step → ⊥
+begins_none : (n m g j : ℕ) (step : SeenStep) → BeginsHere n g (On m step) → IsOwnStep j step → ⊥
 begins_none n m g j (h.LaneOpen agreed size window) b piece = piece
 begins_none n m g j (h.Bind k) b piece = piece
 begins_none n m g j step b piece = b
@@ -151,7 +150,7 @@ first_none own units event.Over a new i f = absurd (never i)
 module _ (spells : List ℕ → Bool) (history : List Seen) (n : ℕ) where
   not_piece : (x : Turn) (a : Action) (from seen k l g : ℕ) (step : SeenStep) → Asked a x.before
       → has_none x.before.phase ≡ true → ComesTrue spells history from seen x.before.phase a x.event → n ≤ from
-      → 0 < times k (made_by n seen a x.event) → slice_get history (n + k) ≡ Some (On l step) → IsPiece g step → ⊥
+      → 0 < times k (made_by n seen a x.event) → slice_get history (n + k) ≡ Some (On l step) → IsOwnStep g step → ⊥
   not_piece x a from seen k l g step asked i is le hit get piece =
       not_both x.before.phase i
       (call_piece spells history n x.before.phase x.before a x.event x from seen k l g step
@@ -161,7 +160,7 @@ module _ (spells : List ℕ → Bool) (history : List Seen) (n : ℕ) where
   none_before : (before cs : List Call) (c : Call) (a : Action) (t u : State) (from k l g : ℕ) (step : SeenStep)
       → Asked a t → has_none t.phase ≡ true → AreCalls t (turns_of (before ++ c ∷ cs)) u
       → AllComeTrue spells history from a (before ++ c ∷ cs) → GiveNone before → n ≤ from
-      → slice_get history (n + k) ≡ Some (On l step) → IsPiece g step
+      → slice_get history (n + k) ≡ Some (On l step) → IsOwnStep g step
       → 0 < times k (made_in n a (before ++ c ∷ [])) → ⊥
   none_before [] cs c a t u from k l g step asked i run is none le get piece hit =
       let here : Asked a c.turn.before = subst (λ (z : State). Asked a z) (sym run.0) asked in
@@ -194,7 +193,7 @@ module _ (spells : List ℕ → Bool) (history : List Seen) (n : ℕ) where
   pub none_all : (cs : List Call) (a : Action) (t u : State) (from k l g : ℕ) (step : SeenStep)
       → Asked a t → has_none t.phase ≡ true → AreCalls t (turns_of cs) u
       → AllComeTrue spells history from a cs → GiveNone cs → n ≤ from
-      → slice_get history (n + k) ≡ Some (On l step) → IsPiece g step → NoneGiven cs a t u k l g step
+      → slice_get history (n + k) ≡ Some (On l step) → IsOwnStep g step → NoneGiven cs a t u k l g step
   none_all [] a t u from k l g step asked i run is none le get piece = record {
     none = λ hit. none_hit k hit;
     still = ap (λ (z : State). has_none z.phase) run ∙ i;
@@ -221,7 +220,8 @@ module _ (spells : List ℕ → Bool) (history : List Seen) (n : ℕ) where
 
   -- ---- the length of the history
 
-  later_seen : (cs : List Call) (a : Action) (from : ℕ) → AllComeTrue spells history from a cs → from ≤ seen_of from cs
+  pub later_seen : (cs : List Call) (a : Action) (from : ℕ) → AllComeTrue spells history from a cs
+      → from ≤ seen_of from cs
   later_seen [] a from is = omega arith
   later_seen (c ∷ cs) a from is =
       let here = comes_later spells history c.turn.before.phase a c.turn.event from c.seen is.0 in
@@ -232,7 +232,7 @@ module _ (spells : List ℕ → Bool) (history : List Seen) (n : ℕ) where
 
   over_piece : (mid upto : ℕ) (u : State) (b : Action) (o : IsOver spells history mid upto u b) (k l g : ℕ)
       (step : SeenStep) → Asked b u → n ≤ mid → 0 < times k (made_over n o)
-      → slice_get history (n + k) ≡ Some (On l step) → IsPiece g step → Found u.phase u l g (n + k) step (told_over o)
+      → slice_get history (n + k) ≡ Some (On l step) → IsOwnStep g step → Found u.phase u l g (n + k) step (told_over o)
   over_piece mid upto u b (Ended e is same) k l g step asked le hit get piece = none_hit k hit
   over_piece mid upto u b (Stopped came aborts at may going same) k l g step asked le hit get piece = none_hit k hit
   over_piece mid upto u b (Untold q y aborts is comes answers going) k l g step asked le hit get piece =
@@ -255,7 +255,7 @@ module _ (spells : List ℕ → Bool) (history : List Seen) (n : ℕ) where
         (o : IsOver spells history mid upto u b) (k l g : ℕ) (step : SeenStep) → Listed lane generation a t
         → AreCalls t (turns_of cs) u → AllComeTrue spells history from a cs → action_of a cs ≡ b → n ≤ from → n ≤ mid
         → 0 < times k (made_in n a cs ++ made_over n o) → slice_get history (n + k) ≡ Some (On l step)
-        → IsPiece g step → Owned_by spells history n lane generation k l g step (list_of a cs ++ told_over o)
+        → IsOwnStep g step → Owned_by spells history n lane generation k l g step (list_of a cs ++ told_over o)
     all_listed cs a t u b from mid upto o k l g step listed run is wanted le less hit get piece =
         let sum : times k (made_in n a cs ++ made_over n o) ≡ times k (made_in n a cs) + times k (made_over n o) =
         times-append k (made_in n a cs) (made_over n o) in
@@ -365,7 +365,7 @@ module _ (spells : List ℕ → Bool) (history : List Seen) (n : ℕ) where
       → step_by c.turn.before.phase c.turn.event c.turn.after ≡ Some step_is
       → AreCalls (new_responder own units) (turns_of (before ++ c ∷ cs)) u
       → AllComeTrue spells history from action.Read (before ++ c ∷ cs) → GiveNone before → n ≤ from
-      → slice_get history (n + k) ≡ Some (On l step) → IsPiece g step
+      → slice_get history (n + k) ≡ Some (On l step) → IsOwnStep g step
       → 0 < times k (made_in n action.Read (before ++ c ∷ [])) → ⊥
   none_first own units [] cs c step_is u from k l g step by run is none le get piece hit =
       let begin : step_by phase.Begin c.turn.event c.turn.after ≡ Some step_is =
@@ -385,7 +385,7 @@ module _ (spells : List ℕ → Bool) (history : List Seen) (n : ℕ) where
   gives_none : (own : List ℕ) (units mid upto : ℕ) (u : State) (b : Action) (calls : List Call) (from : ℕ)
       (o : IsOver spells history mid upto u b) (k l g : ℕ) (step : SeenStep)
       → Leads spells history from (new_responder own units) action.Read calls mid u b → GiveNone calls → n ≤ from
-      → slice_get history (n + k) ≡ Some (On l step) → IsPiece g step
+      → slice_get history (n + k) ≡ Some (On l step) → IsOwnStep g step
       → 0 < times k (made_in n action.Read calls ++ made_over n o) → ⊥
   gives_none own units mid upto u b [] from o k l g step led none le get piece hit =
       none_over o led.wanted hit

@@ -3,7 +3,8 @@ use Rattle.std.proofs.Common.{◌≡◌, ◌<◌, ℕ, suc, ◌+◌, Bool, true,
 use Rattle.std.proofs.Common.{inl, inr}
 use Rattle.std.proofs.Common.{refl, sym, ap, subst, ◌∙◌, arith, slice_get, append-nil}
 use Rattle.mta_ends.specs.Sending.{SendEnd}
-use Rattle.mta_ends.specs.Lanes.{Bind, Halves, halves_after, lane_in, LaneOpen, LanesAllow, On, Seen, SeenStep}
+use Rattle.mta_ends.specs.Lanes.{Bind, Complete, Drop, Halves, halves_after, lane_in, LaneOpen, LanesAllow, On}
+use Rattle.mta_ends.specs.Lanes.{Secure, Seen, SeenStep}
 use Rattle.mta_session.specs.State.{is_initiator, State}
 use Rattle.mta_session.specs.declared.event.Action.{Action}
 use Rattle.mta_session.specs.declared.event.Action.TheVariants as action
@@ -19,10 +20,10 @@ use Rattle.mta_session_lists.specs.Lost.{abort_of, lost_of, tail_of}
 use Rattle.mta_session_lists.proofs.Lanes.{step_leads}
 use Rattle.mta_worker_lists.specs.Begun.{Ended, IsOver, Stopped, Untold}
 use Rattle.mta_worker_lists.specs.Good.{IsListOver, IsStopped}
-use Rattle.mta_worker_lists.specs.Segments.{Begins, BeginsIn, OnLane, SegmentsAreGood}
+use Rattle.mta_worker_lists.specs.Segments.{Begins, BeginsIn, IsOwnStep, OnLane, SegmentsAreGood}
 use Rattle.mta_worker_lists.specs.Segments.{told_over}
 use Rattle.mta_worker_lists.proofs.Good.{sessions_good}
-use Rattle.mta_worker_lists.proofs.Segments.{is_segment, lists_own_pieces}
+use Rattle.mta_worker_lists.proofs.Segments.{is_segment, lists_own_steps}
 
 -- ---- in the list
 
@@ -40,7 +41,7 @@ in_either y [] ys zs f i = f i
 in_either y (x ∷ xs) ys zs f i = elim i [ inl e ↦ inl e | inr more ↦ inr (in_either y xs ys zs f more) ]
 
 -- with the Abandons of other passes too
-with_in : (history : List Seen) (lane : ℕ) (y : SessionEvent) (ys : List SessionEvent) (from : ℕ) (e : SendEnd)
+pub with_in : (history : List Seen) (lane : ℕ) (y : SessionEvent) (ys : List SessionEvent) (from : ℕ) (e : SendEnd)
     → IsIn y ys → IsIn y (with_abandons history lane from e ys)
 with_in history lane y [] from e i = absurd i
 with_in history lane y (x ∷ xs) from e i =
@@ -68,7 +69,7 @@ stopped_at calls l m upto None true is = ap (λ (z : SessionList). z.at) is
 stopped_at calls l m upto (Some e) aborts is = ap (λ (z : SessionList). z.at) is
 
 -- what came of the last action
-over_in : (spells : List ℕ → Bool) (history : List Seen) (mid upto : ℕ) (u : State) (b : Action) (calls : List Call)
+pub over_in : (spells : List ℕ → Bool) (history : List Seen) (mid upto : ℕ) (u : State) (b : Action) (calls : List Call)
     (l m : SessionList) (o : IsOver spells history mid upto u b) (y : SessionEvent) → action_of action.Read calls ≡ b
     → IsListOver calls l o m → IsIn y (l.events ++ told_over o) → IsIn y m.events
 over_in spells history mid upto u b calls l m (Ended e is same) y w so i =
@@ -85,7 +86,7 @@ over_in spells history mid upto u b calls l m (Untold q x aborts is comes answer
     subst (λ (z : SessionList). IsIn y z.events) (sym so)
     (subst (λ (a : Action). IsIn y (l.events ++ (lost_of a upto (event.Reply x) ++ abort_of aborts))) (sym asks) tail)
 
-over_at : (spells : List ℕ → Bool) (history : List Seen) (mid upto : ℕ) (u : State) (b : Action) (calls : List Call)
+pub over_at : (spells : List ℕ → Bool) (history : List Seen) (mid upto : ℕ) (u : State) (b : Action) (calls : List Call)
     (l m : SessionList) (o : IsOver spells history mid upto u b) → IsListOver calls l o m → m.at ≡ l.at
 over_at spells history mid upto u b calls l m (Ended e is same) so = ap (λ (z : SessionList). z.at) so
 over_at spells history mid upto u b calls l m (Stopped came aborts at may going same) so =
@@ -125,6 +126,13 @@ module _ (spells : List ℕ → Bool) (history : List Seen) (allow : LanesAllow 
           mine m on b = absurd b
       by_step step get b = absurd b
 
+-- a step that concerns pieces is one that a session makes
+piece_is : (g : ℕ) (step : SeenStep) → IsPiece g step → IsOwnStep g step
+piece_is g (Secure j k n piece) i = i
+piece_is g (Complete j k n piece) i = i
+piece_is g (Drop j k) i = i
+piece_is g step i = absurd i
+
 pub segments_are_good : ListsAreGood → ListsMayStop → SegmentsAreGood
 segments_are_good whole may_stop spells history before low from mid upto ss s t u b calls new over x l m size window
     allow
@@ -151,6 +159,6 @@ segments_are_good whole may_stop spells history before low from mid upto ss s t 
         with_in history x.lane (Made q x.lane step) m.events _ _
         (over_in spells history mid upto u b calls l m over (Made q x.lane step) led.wanted so
         (subst (λ (zs : List SessionEvent). IsIn (Made q x.lane step) zs) events_are
-        (lists_own_pieces spells history before low ss s x allow are one list le q step
+        (lists_own_steps spells history before low ss s x allow are one list le q step
         (subst (λ (n : ℕ). n < q) place later) get
-        (subst (λ (g : ℕ). IsPiece g step) generation_is piece))))
+        (piece_is x.generation step (subst (λ (g : ℕ). IsPiece g step) generation_is piece)))))

@@ -1,5 +1,6 @@
 -- All entries that a worker made are in parts of the history.
-use Rattle.std.proofs.Common.{◌≡◌, ℕ, ◌+◌, ◌-◌, Bool, List, [], ◌∷◌, ◌++◌, length, Option, None, Some, Result}
+use Rattle.std.proofs.Common.{◌≡◌, ◌⊎◌, ◌<◌, ◌≤◌, ℕ, ◌+◌, ◌-◌, Bool, List, [], ◌∷◌, ◌++◌, length, Option}
+use Rattle.std.proofs.Common.{None, Some, Result}
 use Rattle.std.proofs.lemmas.List.{length-append}
 use Rattle.std.proofs.Common.{Ok, Err, inl, inr, refl, sym, ap, subst, ◌∙◌, append_assoc, append-nil, arith, slice_get}
 use mathlib.Core.List.{IsPrefix}
@@ -21,11 +22,10 @@ use Rattle.mta_histories.specs.Seen.{annotated, seen_of}
 use Rattle.mta_session.specs.State.{State as Session}
 use Rattle.mta_session.specs.declared.event.Action.{Action}
 use Rattle.mta_session.specs.declared.limits.Limits.{Limits}
-use Rattle.mta_session_lists.specs.Laws.{IsPiece}
-use Rattle.mta_shared.specs.Counts.{row}
+use Rattle.mta_shared.specs.Counts.{row, times}
 use Rattle.mta_shared.specs.declared.history.Base.{Base}
 use Rattle.mta_shared.specs.Held.{Held}
-use Rattle.mta_shared.proofs.Fronts.{prefix_self, prefix_trans}
+use Rattle.mta_shared.proofs.Fronts.{prefix_length, prefix_self, prefix_trans}
 use Rattle.mta_spool.specs.Shown.{Shown}
 use Rattle.mta_spool.specs.declared.spool.Turned.TheVariants.{Did, Quiet}
 use Rattle.mta_stations.specs.declared.end.Halt.{Halt}
@@ -42,13 +42,16 @@ use Rattle.mta_worker.specs.Working.{Is_refused, No_link, Serves, Station_failed
 use Rattle.mta_worker.specs.declared.ready.Ready.TheVariants as ready
 use Rattle.mta_worker.specs.declared.session.Served.{Served}
 use Rattle.mta_worker.specs.declared.telling.Lost.{Lost}
-use Rattle.mta_worker_lists.specs.Histories.{AreEntries, TellsApdus, whole}
+use Rattle.mta_worker_lists.specs.Begun.{IsBehind}
+use Rattle.mta_worker_lists.specs.Histories.{AreEntries, place, TellsApdus, whole}
 use Rattle.mta_worker_lists.specs.Linked.{Began, IsRun, None_began}
-use Rattle.mta_worker_lists.specs.Parts.{AreParts, AreSessions, IsForNone, plain, WorkersHaveParts}
-use Rattle.mta_worker_lists.specs.Segments.{AreSegments, owned, Segment}
+use Rattle.mta_worker_lists.specs.Parts.{AreForNone, AreParts, AreSessions, BeginsBetween, IsForNone, IsSession, plain}
+use Rattle.mta_worker_lists.specs.Parts.{StandInTurn, StandsFrom, WorkersHaveParts}
+use Rattle.mta_worker_lists.specs.Segments.{AreSegments, Begins, IsOwnStep, IsSegment, OnLane, owned, Segment}
 use Rattle.mta_worker_lists.proofs.Annotating.{seen_behind}
 use Rattle.mta_worker_lists.proofs.Going.{goes_base, state_then, turn_base, turn_grows}
 use Rattle.mta_worker_lists.proofs.Ending.{served_grows}
+use Rattle.mta_worker_lists.proofs.Later.{own_later}
 use Rattle.mta_worker_lists.proofs.Linked.{closings_grow, links_are_run, readied_grows, readied_halts, still_owns}
 use Rattle.mta_worker_lists.proofs.Owned.{one_hit}
 use Rattle.mta_worker_lists.proofs.Parts.{closings_for_none, closings_plain, links_have_parts}
@@ -84,12 +87,12 @@ verdict_plain s Verdicts.Back i r m at lane x step e get =
 verdict_plain s Verdicts.Discard i r m at lane x step e get =
     else_on lane step (ap (λ (z : Step). seen_of s (class_of z) at) (same_due (steps.Discard i r m) x e) ∙ get)
 
-abandon_plain : (n k lane g : ℕ) (step : SeenStep) → On n (Abandon k) ≡ On lane step → IsPiece g step → ⊥
+abandon_plain : (n k lane g : ℕ) (step : SeenStep) → On n (Abandon k) ≡ On lane step → IsOwnStep g step → ⊥
 abandon_plain n k lane g step e piece =
-    let same : Abandon k ≡ step = cc in subst (λ (z : SeenStep). IsPiece g z) (sym same) piece
+    let same : Abandon k ≡ step = cc in subst (λ (z : SeenStep). IsOwnStep g z) (sym same) piece
 
 due_plain : (s now : State) (m at lane g : ℕ) (x : Step) (step : SeenStep) → IsNext now m x
-    → seen_of s (class_of x) at ≡ On lane step → IsPiece g step → ⊥
+    → seen_of s (class_of x) at ≡ On lane step → IsOwnStep g step → ⊥
 due_plain s now m at lane g x step next get piece =
     elim next.is_due [
       | inl v ↦ verdict_plain s v.verdict next.item next.recipient m at lane x step v.step_is get
@@ -142,13 +145,53 @@ module _ {D C L S : Type 0} (disks : DiskView D) (clocks : ClockView C) (links :
   abbrev Parts : Held Step → Held Step → Type 0
   Parts p q = AreParts links spells first entries p q
 
+  -- how long the history is that a pass has seen
+  seen_more : (p q : Held Step) → IsPrefix p.seen q.seen → place first p ≤ place first q
+  seen_more p q f = let le : length p.seen ≤ length q.seen = prefix_length p.seen q.seen f in omega (arith, le)
+
   pub sessions_more : (xs ys : List Segment) → AreSessions links spells first entries xs
       → AreSessions links spells first entries ys → AreSessions links spells first entries (xs ++ ys)
   sessions_more [] ys a b = b
   sessions_more (x ∷ xs) ys a b = (a.0, sessions_more xs ys a.1 b)
 
-  no_parts : (p q : Held Step) → q.own ≡ p.own → Parts p q
-  no_parts p q e = record { parts = []; are = tt; sessions = tt; owns = e ∙ sym (append-nil p.own) }
+  -- from an earlier length on too
+  stands_sooner : (low from upto : ℕ) (s : Segment)
+      (x : AreForNone history (length first) s ⊎ IsSession links spells first entries s) → low ≤ from
+      → StandsFrom from upto x → StandsFrom low upto x
+  stands_sooner low from upto s (inl none) le b = omega (arith, le, b)
+  stands_sooner low from upto s (inr x) le b =
+      let here = b.1 in (sooner s.list b.0, omega (arith, le, here), b.2)
+    where
+      sooner : (o : Option OnLane) → BeginsBetween from (place first x.over) o
+          → BeginsBetween low (place first x.over) o
+      sooner None i = tt
+      sooner (Some on) i = let there = i.0 in (omega (arith, le, there), i.1)
+
+  abbrev Turns : (from upto : ℕ) (ss : List Segment) → AreSessions links spells first entries ss → Type 0
+  Turns from upto ss are = StandInTurn links spells first entries from upto ss are
+
+  turns_sooner : (low from upto : ℕ) (ss : List Segment) (are : AreSessions links spells first entries ss)
+      → low ≤ from → Turns from upto ss are → Turns low upto ss are
+  turns_sooner low from upto [] are le t = omega (arith, le, t)
+  turns_sooner low from upto (s ∷ ss) are le t =
+      (t.0, stands_sooner low from t.0 s are.0 le t.1, t.2)
+
+  turns_more : (from mid upto : ℕ) (xs ys : List Segment) (a : AreSessions links spells first entries xs)
+      (b : AreSessions links spells first entries ys) → Turns from mid xs a → Turns mid upto ys b
+      → Turns from upto (xs ++ ys) (sessions_more xs ys a b)
+  unfolding sessions_more
+  turns_more from mid upto [] ys a b t u = turns_sooner from mid upto ys b t u
+  turns_more from mid upto (x ∷ xs) ys a b t u =
+      (t.0, t.1, turns_more t.0 mid upto xs ys a.1 b t.2 u)
+
+  no_parts : (p q : Held Step) → q.own ≡ p.own → IsPrefix p.seen q.seen → Parts p q
+  no_parts p q e f = record {
+    parts = [];
+    are = tt;
+    sessions = tt;
+    owns = e ∙ sym (append-nil p.own);
+    turns = seen_more p q f;
+  }
 
   parts_more : (p m q : Held Step) → Parts p m → Parts m q → Parts p q
   parts_more p m q a b = record {
@@ -159,41 +202,70 @@ module _ {D C L S : Type 0} (disks : DiskView D) (clocks : ClockView C) (links :
         b.owns ∙ ap (λ (ns : List ℕ). ns ++ owned b.parts) a.owns
         ∙ append_assoc p.own (owned a.parts) (owned b.parts)
         ∙ ap (λ (ns : List ℕ). p.own ++ ns) (sym (owned_more a.parts b.parts));
+    turns = turns_more (place first p) (place first m) (place first q) a.parts b.parts a.sessions b.sessions a.turns
+        b.turns;
   }
 
-  link_parts : (old new : L) (p q : Held Step) (served : Served)
+  -- each entry of a session stands where it began or behind
+  begins_later : (p : Held Step) (s : Segment) (x : IsSession links spells first entries s)
+      → IsBehind (place first p) x.ran.begins → IsSegment history (length first) s
+      → BeginsBetween (place first p) (place first x.over) s.list
+  begins_later p s x after is = by_list s.list is.begins
+    where
+      by_list : (o : Option OnLane) → Begins history (length first) s.own o
+          → BeginsBetween (place first p) (place first x.over) o
+      by_list None b = tt
+      by_list (Some on) b =
+          let k : ℕ = on.at - length first in
+          let there : (place first p ≤ length first + k) × (length first + k < place first x.over) =
+          own_later spells history (length first) (place first p) x.ran.begins x.calls x.ran.done.over k after
+          (omega arith) x.ran.done.leads
+          (subst (λ (ns : List ℕ). 0 < times k ns) x.of_it.own b.owned) in
+          let low = there.0 in
+          let high = there.1 in
+          (omega (arith, low, b.later), omega (arith, high, b.later))
+
+  link_parts : (old new : L) (p q : Held Step) (served : Served) → IsPrefix p.seen q.seen
       → IsRun links spells first entries old new p q served → Parts p q
-  link_parts old new p q served (None_began closings are none owns same) = record {
+  link_parts old new p q served f (None_began closings are none owns same) = record {
     parts = plain closings ∷ [];
     are = (closings_plain history (length first) closings are, tt);
     sessions = (inl (closings_for_none history (length first) closings are), tt);
     owns = owns ∙ ap (λ (ns : List ℕ). p.own ++ ns) (sym (append-nil closings));
+    turns = (place first q, seen_more p q f, omega arith);
   }
-  link_parts old new p q served (Began closings t begun calls ran are owns later) =
+  link_parts old new p q served f (Began closings t begun calls ran are owns later after) =
       let given = links_have_parts links spells first entries old new p q served
-      (Began closings t begun calls ran are owns later) in
+      (Began closings t begun calls ran are owns later after) in
       let s : Segment = given.of_it.0 in
+      let none : AreForNone history (length first) (plain closings) =
+      closings_for_none history (length first) closings are in
+      let x : IsSession links spells first entries s = record {
+        link = old;
+        new = t;
+        begun = begun;
+        calls = calls;
+        over = q;
+        link_over = new;
+        ran = ran;
+        of_it = given.of_it.2;
+      } in
+      let segments : AreSegments history (length first) (plain closings ∷ s ∷ []) =
+      subst (λ (ss : List Segment). AreSegments history (length first) ss) given.of_it.1 given.are in
       record {
-        parts = given.parts;
-        are = given.are;
-        sessions =
-            subst (λ (ss : List Segment). AreSessions links spells first entries ss) (sym given.of_it.1) (
-              inl (closings_for_none history (length first) closings are),
-              (
-                inr (record {
-                  link = old;
-                  new = t;
-                  begun = begun;
-                  calls = calls;
-                  over = q;
-                  link_over = new;
-                  ran = ran;
-                  of_it = given.of_it.2;
-                }),
-                tt,
-              ),
-            );
-        owns = given.owns;
+        parts = plain closings ∷ s ∷ [];
+        are = segments;
+        sessions = (inl none, (inr x, tt));
+        owns = given.owns ∙ ap (λ (ss : List Segment). p.own ++ owned ss) given.of_it.1;
+        turns = (
+          place first p,
+          omega arith,
+          (
+            place first q,
+            (begins_later p s x after segments.1.0, seen_more p q f, omega arith),
+            omega arith,
+          ),
+        );
       }
 
   -- ---- what is due
@@ -206,6 +278,11 @@ module _ {D C L S : Type 0} (disks : DiskView D) (clocks : ClockView C) (links :
   due_front : (step : Step) (s t : Shown D C) → TurnsOnce disks clocks s (Ok (Did step)) t
       → IsPrefix s.entries t.entries
   due_front step s t d = (step ∷ [], sym d.at.1.entries)
+
+  due_grows : (step : Step) (p m : Held Step)
+      → InTurn disks clocks (λ s t. TurnsOnce disks clocks s (Ok (Did step)) t) p m → IsPrefix p.seen m.seen
+  due_grows step p m i =
+      turn_grows disks clocks (λ s t. TurnsOnce disks clocks s (Ok (Did step)) t) p m (due_front step) i
 
   one_due : (step : Step) (p m : Held Step) → AreEntries p.base first entries
       → InTurn disks clocks (λ s t. TurnsOnce disks clocks s (Ok (Did step)) t) p m → IsPrefix m.seen entries
@@ -261,12 +338,8 @@ module _ {D C L S : Type 0} (disks : DiskView D) (clocks : ClockView C) (links :
           tt,
         );
         owns = owned_now ∙ ap (λ (n : ℕ). p.own ++ row (length old.entries) n) one;
+        turns = (place first m, seen_more p m (due_grows step p m i), omega arith);
       }
-
-  due_grows : (step : Step) (p m : Held Step)
-      → InTurn disks clocks (λ s t. TurnsOnce disks clocks s (Ok (Did step)) t) p m → IsPrefix p.seen m.seen
-  due_grows step p m i =
-      turn_grows disks clocks (λ s t. TurnsOnce disks clocks s (Ok (Did step)) t) p m (due_front step) i
 
   dues_grow : (p : Held Step) (ms : List (Held Step)) (q : Held Step) → Dues disks clocks p ms q
       → IsPrefix p.seen q.seen
@@ -282,7 +355,7 @@ module _ {D C L S : Type 0} (disks : DiskView D) (clocks : ClockView C) (links :
 
   all_dues : (p : Held Step) (ms : List (Held Step)) (q : Held Step) → AreEntries p.base first entries
       → Dues disks clocks p ms q → IsPrefix q.seen entries → Parts p q
-  all_dues p [] q are d f = no_parts p q (ap (λ (h : Held Step). h.own) d)
+  all_dues p [] q are d f = no_parts p q (ap (λ (h : Held Step). h.own) d) (dues_grow p [] q d)
   all_dues p (m ∷ ms) q are d f =
       let here : IsPrefix m.seen entries = prefix_trans m.seen q.seen entries (dues_grow m ms q d.1) f in
       parts_more p m q (one_due d.0.0 p m are d.0.1 here)
@@ -315,13 +388,15 @@ module _ {D C L S : Type 0} (disks : DiskView D) (clocks : ClockView C) (links :
       let e : i.after.entries ≡ i.before.entries = quiet_same moment i.before i.after i.did in
       let front : IsPrefix mid.seen entries =
       prefix_trans mid.seen q.seen entries (still_grows done mid q i e) f in
-      parts_more p mid q (all_dues p ms mid are d front) (no_parts mid q (quiet_owns done mid q i e))
+      parts_more p mid q (all_dues p ms mid are d front)
+      (no_parts mid q (quiet_owns done mid q i e) (still_grows done mid q i e))
   settled_parts p q halt are (Is_refused ms mid fault d i) f =
       let done = λ (s t : Shown D C). TurnsOnce disks clocks s (Err fault) t in
       let e : i.after.entries ≡ i.before.entries = refused_same fault i.before i.after i.did in
       let front : IsPrefix mid.seen entries =
       prefix_trans mid.seen q.seen entries (still_grows done mid q i e) f in
-      parts_more p mid q (all_dues p ms mid are d front) (no_parts mid q (quiet_owns done mid q i e))
+      parts_more p mid q (all_dues p ms mid are d front)
+      (no_parts mid q (quiet_owns done mid q i e) (still_grows done mid q i e))
 
   settled_grows : (p q : Held Step) (halt : Option Halt) → HasSettled disks clocks p q halt → IsPrefix p.seen q.seen
   settled_grows p q halt (Is_quiet ms mid moment d i) =
@@ -340,16 +415,17 @@ module _ {D C L S : Type 0} (disks : DiskView D) (clocks : ClockView C) (links :
   settled_base p q halt are (Is_refused ms mid fault d i) =
       base_on (λ s t. TurnsOnce disks clocks s (Err fault) t) mid q (dues_base p ms mid are d) i
 
-  behind_parts : (p : Held Step) (why : Option Halt) (q : Held Step) (halt : Option Halt)
-      → AreEntries p.base first entries → Behind disks clocks p why q halt → IsPrefix q.seen entries → Parts p q
-  behind_parts p None q halt are b f = settled_parts p q halt are b f
-  behind_parts p (Some why) q halt are b f = no_parts p q (ap (λ (h : Held Step). h.own) b.0)
-
   behind_grows : (p : Held Step) (why : Option Halt) (q : Held Step) (halt : Option Halt)
       → Behind disks clocks p why q halt → IsPrefix p.seen q.seen
   behind_grows p None q halt b = settled_grows p q halt b
   behind_grows p (Some why) q halt b =
       subst (λ (z : Held Step). IsPrefix p.seen z.seen) (sym b.0) (prefix_self p.seen)
+
+  behind_parts : (p : Held Step) (why : Option Halt) (q : Held Step) (halt : Option Halt)
+      → AreEntries p.base first entries → Behind disks clocks p why q halt → IsPrefix q.seen entries → Parts p q
+  behind_parts p None q halt are b f = settled_parts p q halt are b f
+  behind_parts p (Some why) q halt are b f =
+      no_parts p q (ap (λ (h : Held Step). h.own) b.0) (behind_grows p (Some why) q halt b)
 
   behind_base : (p : Held Step) (why : Option Halt) (q : Held Step) (halt : Option Halt)
       → AreEntries p.base first entries → Behind disks clocks p why q halt → AreEntries q.base first entries
@@ -457,7 +533,7 @@ module _ {D C L S : Type 0} (disks : DiskView D) (clocks : ClockView C) (links :
       let front : IsPrefix s.mid.seen entries =
       prefix_trans s.mid.seen y.pass.seen entries (behind_grows s.mid s.served.halt y.pass halt s.behind) f in
       parts_more x.pass s.mid y.pass
-      (link_parts s.link s.left x.pass s.mid s.served
+      (link_parts s.link s.left x.pass s.mid s.served g.seen
       (links_are_run disks clocks links spells first entries (stations.role s.given) units x.pass s.link s.left s.mid
       s.served tells are s.session front))
       (behind_parts s.mid s.served.halt y.pass halt (base_of x.pass s.mid are g.base) s.behind f)
@@ -492,7 +568,8 @@ module _ {D C L S : Type 0} (disks : DiskView D) (clocks : ClockView C) (links :
   all_parts : (units : ℕ) (x : AtStation S) (zs : List (AtStation S)) (y : AtStation S)
       → AreEntries x.pass.base first entries → AllServed disks clocks links stations units x zs y
       → IsPrefix y.pass.seen entries → Parts x.pass y.pass
-  all_parts units x [] y are a f = no_parts x.pass y.pass (ap (λ (z : AtStation S). z.pass.own) a)
+  all_parts units x [] y are a f =
+      no_parts x.pass y.pass (ap (λ (z : AtStation S). z.pass.own) a) (all_grow units x [] y a)
   all_parts units x (z ∷ zs) y are a f =
       let front : IsPrefix z.pass.seen entries =
       prefix_trans z.pass.seen y.pass.seen entries (all_grow units z zs y a.1) f in

@@ -1,6 +1,6 @@
 -- The parts of the history that all workers made, and the lists of all their sessions.
 use Rattle.std.specs.Prelude.{◌≡◌, ◌⊎◌, ◌<◌, ◌≤◌, ℕ, ◌+◌, Bool, false, List, [], ◌∷◌}
-use Rattle.std.specs.Prelude.{length, slice_get, Option, None, Some}
+use Rattle.std.specs.Prelude.{◌++◌, length, slice_get, Option, None, Some}
 use mathlib.Core.Logic.{inl, inr}
 use Rattle.mta_edge.specs.Views.{ClockView, DiskView}
 use Rattle.mta_links.specs.Links.{LinkView, StationView}
@@ -17,8 +17,25 @@ use Rattle.mta_workers.specs.Wholes.{AreWorkers}
 use Rattle.mta_worker_lists.specs.Begun.{GiveNone}
 use Rattle.mta_worker_lists.specs.Good.{IsListOver}
 use Rattle.mta_worker_lists.specs.Histories.{AreEntries, TellsApdus, whole}
-use Rattle.mta_worker_lists.specs.Parts.{AreForNone, AreSessions, IsForNone, IsSession}
+use Rattle.mta_worker_lists.specs.Parts.{AreForNone, AreSessions, IsForNone, IsSession, StandInTurn}
 use Rattle.mta_worker_lists.specs.Segments.{AreAll, IsOne, OnLane, owned, Segment}
+
+abbrev pub all_of : List (List Segment) → List Segment
+all_of [] = []
+all_of (ss ∷ more) = ss ++ all_of more
+
+-- The parts of the sessions of one station: they are one behind the other, from this length of the history on.
+pub record StationParts {L : Type 0} (links : LinkView L) (spells : List ℕ → Bool) (first entries : List Step)
+    (from : ℕ) (ss : List Segment) : Type 0 where
+  pub sessions : AreSessions links spells first entries ss
+  pub upto : ℕ
+  pub turns : StandInTurn links spells first entries from upto ss sessions
+
+abbrev pub EachInTurn : {L : Type 0} (links : LinkView L) (spells : List ℕ → Bool) (first entries : List Step)
+    (from : ℕ) → List (List Segment) → Type 0
+EachInTurn links spells first entries from [] = Unit {0}
+EachInTurn links spells first entries from (ss ∷ more) =
+    StationParts links spells first entries from ss × EachInTurn links spells first entries from more
 
 -- Each of these parts is of a session that ran over a link, or was made for none; no entry was made twice, and all are
 -- from some on, each of which is in one of them.
@@ -29,6 +46,10 @@ pub record AllParts {L : Type 0} (links : LinkView L) (spells : List ℕ → Boo
   pub all : AreAll (whole first entries) (length first) low parts
   pub later : (k : ℕ) → 0 < times k (owned parts) → low ≤ k
   pub each : (k : ℕ) → low ≤ k → k < length entries → 0 < times k (owned parts)
+  -- those of one station stand one behind the other
+  pub by_station : List (List Segment)
+  pub of_stations : parts ≡ all_of by_station
+  pub turns : EachInTurn links spells first entries (length first + low) by_station
 
 -- So each step of a lane that is none of these that are made for no session was made for one.
 abbrev pub StepsHaveSessions : {L : Type 0} → LinkView L → Type 0

@@ -1,5 +1,5 @@
 -- Where a session begins in the history, and where it has its lane.
-use Rattle.std.specs.Prelude.{◌≡◌, ◌⊎◌, ℕ, ◌+◌, ◌-◌, Bool, true, false, Option, None, Some}
+use Rattle.std.specs.Prelude.{◌≡◌, ◌⊎◌, ◌≤◌, ℕ, ◌+◌, ◌-◌, Bool, true, false, Option, None, Some}
 use Rattle.std.specs.Prelude.{List, [], ◌∷◌}
 use Rattle.std.specs.Prelude.{◌++◌, length}
 use Rattle.mta_links.specs.Links.{LinkView}
@@ -128,6 +128,11 @@ abbrev pub begun_by : {history : List Seen} {from : ℕ} {t : State} → (before
     → List ℕ
 begun_by n (Calls p units at from is has opens) = (at - n) ∷ []
 begun_by n (Listens own units from) = []
+
+-- it was opened or bound there or behind, or has to be
+abbrev pub IsBehind : {history : List Seen} {from : ℕ} {t : State} → (low : ℕ) → IsNewAt history from t → Type 0
+IsBehind low (Calls p units at from is has opens) = low ≤ at
+IsBehind low (Listens own units from) = low ≤ from
 
 -- none of these calls tells a responder that it has a lane
 abbrev pub GiveNone : List Call → Type 0

@@ -13,8 +13,8 @@ use Rattle.mta_shared.specs.Counts.{times}
 use Rattle.mta_shared.specs.Held.{Held}
 use Rattle.mta_worker.specs.Served.{IsLinkServed}
 use Rattle.mta_worker.specs.declared.session.Served.{Served}
-use Rattle.mta_worker_lists.specs.Begun.{begun_by, HasRun}
-use Rattle.mta_worker_lists.specs.Histories.{AreEntries, TellsApdus, whole}
+use Rattle.mta_worker_lists.specs.Begun.{begun_by, HasRun, IsBehind}
+use Rattle.mta_worker_lists.specs.Histories.{AreEntries, place, TellsApdus, whole}
 
 -- entries by which lanes were closed that were never agreed
 abbrev pub AreClosings : List Seen → (before : ℕ) → List ℕ → Type 0
@@ -33,7 +33,7 @@ pub data IsRun {L : Type 0} (links : LinkView L) (spells : List ℕ → Bool) (f
       (ran : HasRun links spells first entries old t begun calls q new)
       → AreClosings (whole first entries) (length first) closings
       → begun.own ≡ p.own ++ (closings ++ begun_by (length first) ran.begins)
-      → length (begun_by (length first) ran.begins) ≤ length begun.seen
+      → length (begun_by (length first) ran.begins) ≤ length begun.seen → IsBehind (place first p) ran.begins
       → IsRun links spells first entries old new p q served
 
 module _ {D C L : Type 0} (disks : DiskView D) (clocks : ClockView C) (links : LinkView L) where

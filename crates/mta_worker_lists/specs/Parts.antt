@@ -1,6 +1,7 @@
 -- The parts of the history that a worker made over one link, and all that it made.
-use Rattle.std.specs.Prelude.{◌≡◌, ◌⊎◌, ◌<◌, ℕ, ◌+◌, Bool, List, [], ◌∷◌, ◌++◌}
-use Rattle.std.specs.Prelude.{length, slice_get, None, Some}
+use Rattle.std.specs.Prelude.{◌≡◌, ◌⊎◌, ◌<◌, ◌≤◌, ℕ, ◌+◌, Bool, List, [], ◌∷◌, ◌++◌}
+use Rattle.std.specs.Prelude.{length, slice_get, Option, None, Some}
+use mathlib.Core.Logic.{inl, inr}
 use mathlib.Core.List.{IsPrefix}
 use Rattle.mta_edge.specs.Views.{ClockView, DiskView}
 use Rattle.mta_links.specs.Links.{LinkView, StationView}
@@ -15,9 +16,9 @@ use Rattle.mta_stations.specs.declared.end.WorkerEnd.{WorkerEnd}
 use Rattle.mta_worker.specs.Working.{AtStation, HasWorked}
 use Rattle.mta_worker.specs.declared.session.Served.{Served}
 use Rattle.mta_worker_lists.specs.Begun.{HasRun}
-use Rattle.mta_worker_lists.specs.Histories.{AreEntries, TellsApdus, whole}
+use Rattle.mta_worker_lists.specs.Histories.{AreEntries, place, TellsApdus, whole}
 use Rattle.mta_worker_lists.specs.Linked.{Began, IsRun, None_began}
-use Rattle.mta_worker_lists.specs.Segments.{AreSegments, IsOf, owned, Segment}
+use Rattle.mta_worker_lists.specs.Segments.{AreSegments, IsOf, OnLane, owned, Segment}
 
 -- the entries that were made for no session
 abbrev pub plain : List ℕ → Segment
@@ -28,7 +29,7 @@ abbrev pub ArePartsOf : {L : Type 0} {links : LinkView L} {spells : List ℕ →
     {old new : L} {p q : Held Step} {served : Served} → IsRun links spells first entries old new p q served
     → List Segment → Type 0
 ArePartsOf (None_began closings are none owns same) ss = ss ≡ plain closings ∷ []
-ArePartsOf {first = first} (Began closings t begun calls ran are owns later) ss =
+ArePartsOf {first = first} (Began closings t begun calls ran are owns later behind) ss =
     (s : Segment) × (ss ≡ plain closings ∷ s ∷ []) × IsOf (length first) ran.begins calls ran.done.over s
 
 -- What was done with a link is in these parts of the history, which are all own entries of the pass then.
@@ -80,13 +81,36 @@ AreSessions links spells first entries (s ∷ ss) =
     (AreForNone (whole first entries) (length first) s ⊎ IsSession links spells first entries s)
     × AreSessions links spells first entries ss
 
--- these parts of the history are all own entries of the pass from one point on to another
+-- ---- one behind the other
+
+-- the list, where there is one, begins between these lengths of the history
+abbrev pub BeginsBetween : (from upto : ℕ) → Option OnLane → Type 0
+BeginsBetween from upto None = Unit {0}
+BeginsBetween from upto (Some on) = (from ≤ on.at) × (on.at < upto)
+
+-- A session has its lane no sooner than this, and its pass had seen no more than that when it was over.
+abbrev pub StandsFrom : {L : Type 0} {links : LinkView L} {spells : List ℕ → Bool} {first entries : List Step}
+    {s : Segment} → (from upto : ℕ)
+    → AreForNone (whole first entries) (length first) s ⊎ IsSession links spells first entries s → Type 0
+StandsFrom from upto (inl none) = from ≤ upto
+StandsFrom {first = first} {s = s} from upto (inr x) =
+    BeginsBetween from (place first x.over) s.list × (from ≤ place first x.over) × (place first x.over ≤ upto)
+
+-- each is over before the next one has its lane
+abbrev pub StandInTurn : {L : Type 0} (links : LinkView L) (spells : List ℕ → Bool) (first entries : List Step)
+    → (from upto : ℕ) (ss : List Segment) → AreSessions links spells first entries ss → Type 0
+StandInTurn links spells first entries from upto [] are = from ≤ upto
+StandInTurn links spells first entries from upto (s ∷ ss) are =
+    (mid : ℕ) × StandsFrom from mid are.0 × StandInTurn links spells first entries mid upto ss are.1
+
+-- these parts of the history are all own entries of the pass from one point on to another, in their order
 pub record AreParts {L : Type 0} (links : LinkView L) (spells : List ℕ → Bool) (first entries : List Step)
     (p q : Held Step) : Type 0 where
   pub parts : List Segment
   pub are : AreSegments (whole first entries) (length first) parts
   pub sessions : AreSessions links spells first entries parts
   pub owns : q.own ≡ p.own ++ owned parts
+  pub turns : StandInTurn links spells first entries (place first p) (place first q) parts sessions
 
 module _ {D C L S : Type 0} (disks : DiskView D) (clocks : ClockView C) (links : LinkView L)
     (stations : StationView S) where

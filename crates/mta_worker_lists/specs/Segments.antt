@@ -9,7 +9,7 @@ use Rattle.mta_session.specs.declared.event.Action.TheVariants as action
 use Rattle.mta_matches.specs.Generations.{BeginsAt}
 use Rattle.mta_runs.specs.Sessions.{IsGoodSession, Made, SessionEvent, SessionList}
 use Rattle.mta_session_lists.specs.Calls.{Call, look_told, step_told, told_as}
-use Rattle.mta_session_lists.specs.Laws.{IsIn, IsPiece}
+use Rattle.mta_session_lists.specs.Laws.{IsIn}
 use Rattle.mta_session_lists.specs.Lists.{AreValues, completed, IsListOf}
 use Rattle.mta_shared.specs.Counts.{times}
 use Rattle.mta_worker_lists.specs.Begun.{begun_by, Ended, GiveNone, IsNewAt, IsOver, made_over, Stopped}
@@ -57,31 +57,45 @@ abbrev pub Begins : List Seen → (before : ℕ) → List ℕ → Option OnLane 
 Begins history n own None = Unit {0}
 Begins history n own (Some l) = BeginsIn history n own l
 
--- Each of its entries that concerns pieces stands in its list.
+-- A step that a session makes on its lane, in this generation.
+abbrev pub IsOwnStep : (generation : ℕ) → SeenStep → Type 0
+IsOwnStep g (h.Start j k octets) = j ≡ g
+IsOwnStep g (h.Confirm j k n) = j ≡ g
+IsOwnStep g (h.To_end j k) = j ≡ g
+IsOwnStep g (h.Sent j k) = j ≡ g
+IsOwnStep g (h.Refused j k) = j ≡ g
+IsOwnStep g (h.Denied j k) = j ≡ g
+IsOwnStep g (h.Dropped j k) = j ≡ g
+IsOwnStep g (h.Secure j k n piece) = j ≡ g
+IsOwnStep g (h.Complete j k n piece) = j ≡ g
+IsOwnStep g (h.Drop j k) = j ≡ g
+IsOwnStep g step = ⊥
+
+-- Each of its entries that is such a step stands in its list.
 pub record IsSegment (history : List Seen) (before : ℕ) (s : Segment) : Type 0 where
   pub begins : Begins history before s.own s.list
   pub lists : (k lane g : ℕ) (step : SeenStep) → 0 < times k s.own
-      → slice_get history (before + k) ≡ Some (On lane step) → IsPiece g step
+      → slice_get history (before + k) ≡ Some (On lane step) → IsOwnStep g step
       → IsListedIn s.list (before + k) lane step g
 
 abbrev pub AreSegments : List Seen → (before : ℕ) → List Segment → Type 0
 AreSegments history n [] = Unit {0}
 AreSegments history n (s ∷ ss) = IsSegment history n s × AreSegments history n ss
 
--- No entry was made twice, and each one from some on was made for a session, or concerns no pieces.
+-- No entry was made twice, and each one from some on was made for a session, or is no such step.
 pub record AreAll (history : List Seen) (before low : ℕ) (ss : List Segment) : Type 0 where
   pub segments : AreSegments history before ss
   pub once : (k : ℕ) → times k (owned ss) ≤ 1
   pub all : (k lane g : ℕ) (step : SeenStep) → low ≤ k → slice_get history (before + k) ≡ Some (On lane step)
-      → IsPiece g step → 0 < times k (owned ss)
+      → IsOwnStep g step → 0 < times k (owned ss)
 
--- So the list of a session has each step of its generation that concerns pieces.
-abbrev pub ListsOwnPieces : Type 0
-ListsOwnPieces =
+-- So the list of a session has each such step of its generation.
+abbrev pub ListsOwnSteps : Type 0
+ListsOwnSteps =
     (spells : List ℕ → Bool) (history : List Seen) (before low : ℕ) (ss : List Segment) (s : Segment) (l : OnLane)
     → h.LanesAllow spells history → AreAll history before low ss → IsOne s ss → s.list ≡ Some l
     → before + low ≤ l.at → (q : ℕ) (step : SeenStep) → l.at < q
-    → slice_get history q ≡ Some (On l.lane step) → IsPiece l.generation step
+    → slice_get history q ≡ Some (On l.lane step) → IsOwnStep l.generation step
     → IsIn (Made q l.lane step) l.events
 
 -- ---- sessions

@@ -7,7 +7,7 @@ ghost use Rattle.mta_worker_lists.specs.Good.{SessionsAreGood, SessionsHaveLists
 ghost use Rattle.mta_worker_lists.specs.Histories.{is_apdu, TellsApdus};
 ghost use Rattle.mta_worker_lists.specs.Linked.{LinksAreRun};
 ghost use Rattle.mta_worker_lists.specs.Parts.{LinksHaveParts, WorkersHaveParts};
-ghost use Rattle.mta_worker_lists.specs.Segments.{ListsOwnPieces, SegmentsAreGood, SessionsAreSegments};
+ghost use Rattle.mta_worker_lists.specs.Segments.{ListsOwnSteps, SegmentsAreGood, SessionsAreSegments};
 
 use mta_edge::{Clock, Disk};
 use mta_links::{Link, Station};
@@ -39,20 +39,19 @@ pub fn sessions_are_good()
     lists_may_stop();
 }
 
-/// Where each entry that concerns pieces was made for one session, and stands in its list, the list of a session has
-/// each such step of its generation: a generation of a lane begins once.
-pub fn lists_own_pieces()
-    ensures { ListsOwnPieces }
+/// Where each step that sessions make on a lane was made for one session, and stands in its list, the list of a session
+/// has each such step of its generation: a generation of a lane begins once.
+pub fn lists_own_steps()
+    ensures { ListsOwnSteps }
 {}
 
-/// All that a session did is such a part of the history: each of its entries that concerns pieces stands in its list,
-/// whose lane and generation are those of the step.
+/// All that a session did is such a part of the history: each step that it made on its lane stands in its list, whose
+/// lane and generation are those of the step.
 pub fn sessions_are_segments()
     ensures { SessionsAreSegments }
 {}
 
-/// So the list of a session is a good one, where no entry was made twice and each one that concerns pieces was made for
-/// a session.
+/// So the list of a session is a good one, where no entry was made twice and each such step was made for a session.
 pub fn segments_are_good()
     ensures { SegmentsAreGood }
 {
@@ -77,8 +76,7 @@ pub fn workers_have_parts<D: Disk + Drop, C: Clock + Drop, L: Link, S: Station>(
     ensures { WorkersHaveParts D.model C.model L.model S.model }
 {}
 
-/// So are all entries that workers made together over one history: no one is in two of these parts, and each that
-/// concerns pieces is in one.
+/// So are all entries that workers made together over one history: no one is in two of these parts, and each is in one.
 pub fn all_have_parts<D: Disk + Drop, C: Clock + Drop, L: Link, S: Station>()
     ensures { AllHaveParts D.model C.model L.model S.model }
 {}

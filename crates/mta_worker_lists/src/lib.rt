@@ -4,7 +4,7 @@
 mod laws;
 
 pub use laws::{
-    all_are_good, all_have_parts, ends_agree, links_are_run, links_have_parts, lists_own_pieces,
+    all_are_good, all_have_parts, ends_agree, links_are_run, links_have_parts, lists_own_steps,
     reading_tells, segments_are_good, sessions_are_good, sessions_are_segments,
     sessions_have_lists, steps_have_sessions, worked_row, workers_have_parts,
 };

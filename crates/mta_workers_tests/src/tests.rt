@@ -1,5 +1,5 @@
 //! Two workers over one spool: one waits for its peer until the other has served its own; and something fails.
-ghost use Rattle.std.specs.Prelude.{◌≡◌, IfOk};
+ghost use Rattle.std.specs.Prelude.{◌≡◌, ◌<◌, ◌^◌, IfOk, vec_len};
 ghost use Rattle.mta_edge.specs.Moments.{memory_clock};
 ghost use Rattle.mta_links.specs.Links.{untold_link, untold_station};
 ghost use Rattle.mta_spool.specs.Bases.{base_of, Keeps};
@@ -182,21 +182,42 @@ fn records(octets: &[u8]) -> u32 {
     count
 }
 
+// A spool on the disk.
+fn opened<D: Disk + Drop>(alloc: Global, disk: D) -> Result<Spool<D, MemClock>, Fail>
+    ensures { IfOk result (λ s. Keeps D.model memory_clock s (base_of D.model memory_clock s)) }
+{
+    match Spool::open(alloc, disk, MemClock::new(Vec::new(alloc))) {
+        Ok(spool) => Ok(spool),
+        Err(_) => Err(Fail::new("not opened")),
+    }
+}
+
+// The spool with these tables recorded. Where they are not, it is ended: to drop it here takes a proof of each part.
+fn recorded<D: Disk + Drop>(
+    mut spool: Spool<D, MemClock>,
+    tables: &Tables,
+) -> Result<Spool<D, MemClock>, Fail>
+    requires { Keeps D.model memory_clock spool (base_of D.model memory_clock spool) }
+    ensures { IfOk result (λ s. Keeps D.model memory_clock s (base_of D.model memory_clock s)) }
+{
+    match spool.set_tables(tables) {
+        Ok(()) => Ok(spool),
+        Err(_) => {
+            spool.end();
+            Err(Fail::new("not recorded"))
+        }
+    }
+}
+
 // A spool on the disk, in which the tables are recorded.
 fn begun<D: Disk + Drop>(alloc: Global, disk: D) -> Result<Spool<D, MemClock>, Fail>
     ensures { IfOk result (λ s. Keeps D.model memory_clock s (base_of D.model memory_clock s)) }
 {
-    let clock = MemClock::new(Vec::new(alloc));
-    let Ok(mut spool) = Spool::open(alloc, disk, clock) else {
-        return Err(Fail::new("not opened"));
-    };
     let Ok(tables) = Tables::read(alloc, TABLES) else {
         return Err(Fail::new("no tables"));
     };
-    match spool.set_tables(&tables) {
-        Ok(()) => Ok(spool),
-        Err(_) => Err(Fail::new("not recorded")),
-    }
+    let spool = opened(alloc, disk)?;
+    recorded(spool, &tables)
 }
 
 const SERVED: WorkerEnd = WorkerEnd {
@@ -210,25 +231,56 @@ const LIMITS: Limits = Limits {
     units: 100,
 };
 
-// What the workers of two stations come to, of which the first waits for the flag, whether each peer got its answers,
-// and how many records the journal has then.
-fn both_served<'a, R: Threads + Wait + Sync>(
-    rt: &'a R,
+// The run alone, since nothing behind it asks for its clauses.
+fn worked<R: Threads + Wait + Sync, D: Disk + Drop + Send, S: Station + Drop + Send>(
+    rt: &R,
     alloc: Global,
+    spool: Spool<D, MemClock>,
+    stations: Vec<S>,
+) -> Worked<D, MemClock, S>
+where
+    S::Link: Send,
+    requires few { vec_len stations < 2 ^ 32 }
+    requires keeps { Keeps D.model memory_clock spool (base_of D.model memory_clock spool) }
+{
+    work_side_by_side(rt, alloc, spool, stations, &LIMITS)
+}
+
+// Two stations, of which the first waits for the flag.
+fn stops_of<'a, R: Wait>(
+    alloc: Global,
+    rt: &'a R,
     flag: &'a AtomicU64,
-) -> Result<(Vec<WorkerEnd>, bool, u32), Fail> {
-    let spool = begun(alloc, SafeDisk::new(alloc, Octets::new(alloc)))?;
+) -> Result<Vec<Stop<'a, R>>, AllocError>
+    ensures { IfOk result (λ s. vec_len s ≡ 2) }
+{
     let mut stations = Vec::new(alloc);
     stations.push(stop_of(alloc, rt, flag, b"silver", true)?)?;
     stations.push(stop_of(alloc, rt, flag, b"copper", false)?)?;
+    Ok(stations)
+}
+
+// What both workers come to, whether each peer got its answers, and how many records the journal has then.
+fn served<R>(worked: Worked<SafeDisk, MemClock, Stop<'_, R>>) -> (Vec<WorkerEnd>, bool, u32) {
     let Worked {
         spool,
         stations,
         ends,
         refused: _,
-    } = work_side_by_side(rt, alloc, spool, stations, &LIMITS);
+    } = worked;
     let answered = stations.iter().all(|stop| was_put(stop) == ANSWERS);
-    Ok((ends, answered, records(spool.end().octets())))
+    (ends, answered, records(spool.end().octets()))
+}
+
+// What the workers of two stations come to, of which the first waits for the flag.
+fn both_served<'a, R: Threads + Wait + Sync>(
+    rt: &'a R,
+    alloc: Global,
+    flag: &'a AtomicU64,
+) -> Result<(Vec<WorkerEnd>, bool, u32), Fail> {
+    let stations = stops_of(alloc, rt, flag)?;
+    let spool = begun(alloc, SafeDisk::new(alloc, Octets::new(alloc)))?;
+    Ok(served(worked(rt, alloc, spool, stations)))
 }
 
 // The steps: the tables; of each session LaneOpen, Complete and CloseLane; and a Deliver of each message.
@@ -294,31 +346,49 @@ fn calls_before(alloc: Global) -> Result<u64, Fail> {
     Ok(begun(alloc, disk)?.end().calls())
 }
 
-// What the workers of both stations come to, and how many messages are delivered then. The call of the disk is counted
-// from 1 behind the tables, or 0.
+// The disk whose call of this number fails, counted from 1 behind the tables, or 0.
+fn failing_disk(alloc: Global, call: u64) -> Result<MemDisk, Fail> {
+    let failing = if call == 0 {
+        0
+    } else {
+        calls_before(alloc)?.saturating_add(call)
+    };
+    Ok(MemDisk::new(alloc, Octets::new(alloc), [failing].to_vec(alloc)?))
+}
+
+// A responder's station and an initiator's.
+fn both_of(alloc: Global, fails: [Fails; 2]) -> Result<Vec<MemStation>, Fail>
+    ensures { IfOk result (λ s. vec_len s ≡ 2) }
+{
+    let mut stations = Vec::new(alloc);
+    stations.push(called(alloc, fails[0])?)?;
+    stations.push(calling(alloc, fails[1])?)?;
+    Ok(stations)
+}
+
+// What the workers come to, and how many messages are delivered then.
+fn delivered(worked: Worked<MemDisk, MemClock, MemStation>) -> (Vec<WorkerEnd>, usize) {
+    let Worked {
+        spool,
+        stations: _,
+        ends,
+        refused: _,
+    } = worked;
+    let count = spool.mailboxes().len();
+    spool.end();
+    (ends, count)
+}
+
+// What the workers of both stations come to, and how many messages are delivered then.
 fn ends_of<R: Threads + Wait + Sync>(
     rt: &R,
     alloc: Global,
     fails: [Fails; 2],
     call: u64,
 ) -> Result<(Vec<WorkerEnd>, usize), Fail> {
-    let failing = if call == 0 {
-        0
-    } else {
-        calls_before(alloc)?.saturating_add(call)
-    };
-    let disk = MemDisk::new(alloc, Octets::new(alloc), [failing].to_vec(alloc)?);
-    let spool = begun(alloc, disk)?;
-    let mut stations = Vec::new(alloc);
-    stations.push(called(alloc, fails[0])?)?;
-    stations.push(calling(alloc, fails[1])?)?;
-    let Worked {
-        spool,
-        stations: _,
-        ends,
-        refused: _,
-    } = work_side_by_side(rt, alloc, spool, stations, &LIMITS);
-    Ok((ends, spool.mailboxes().len()))
+    let stations = both_of(alloc, fails)?;
+    let spool = begun(alloc, failing_disk(alloc, call)?)?;
+    Ok(delivered(worked(rt, alloc, spool, stations)))
 }
 
 fn end(sessions: u32, halt: Halt) -> WorkerEnd {

@@ -40,6 +40,6 @@ returns-clause-ended g c input named e =
     (output g.O.Sink.model c.args.out.now c.serve_spool.new.out) c.args.disk
     (roles_in g.S.Station.model c.args.stations.items) e c.in-Ok.tables t.0 t.1
     c.in-Ok-open.spool c.in-Ok-open.ensures.opened c.in-Ok-open.ensures.clock c.in-Ok-open.ensures.handed_clock
-    c.reading_tells.ensures c.ends_agree.ensures
+    (record { tells = c.reading_tells.ensures; agree = c.ends_agree.ensures; lanes = c.lanes_agree.ensures })
     c.serve_spool.result.ended.disk c.args.stations.items c.serve_spool.result.stations.items
     c.serve_spool.result.ended.outcome c.serve_spool.ensures.served

@@ -1,6 +1,6 @@
 use Rattle.mta_items.specs.Parts.{machine_of}
 use Rattle.mta_discharges.proofs.Made.{delivery_is}
-use Rattle.mta_discharges.proofs.deliver.made_of_delivery.Goals as goal
+use Rattle.mta_discharges.proofs.deliver.made_of_affirmation.Goals as goal
 
 pub returns : goal.returns
 returns g c =

@@ -1,0 +1,4 @@
+pub mod Turns
+pub mod Between
+pub mod Ones
+pub mod Lanes

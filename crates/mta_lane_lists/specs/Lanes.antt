@@ -1,0 +1,74 @@
+-- What two ends of a lane agree on, where one station had all sessions of the lane.
+use Rattle.std.specs.Prelude.{◌≡◌, ◌⊎◌, ◌≤◌, ℕ, ◌+◌, Bool, List, [], ◌∷◌, ◌++◌, length, Some}
+use mathlib.Core.Logic.{inl, inr}
+use Rattle.mta_links.specs.Links.{LinkView}
+use Rattle.mta_ends.specs.Lanes.{Seen}
+use Rattle.mta_records.specs.declared.step.Step.{Step}
+use Rattle.mta_histories.specs.History.{IsHistory}
+use Rattle.mta_matches.specs.Generations.{BeginsAt}
+use Rattle.mta_runs.specs.Clause.{LaneAgrees}
+use Rattle.mta_runs.specs.Sessions.{SessionList}
+use Rattle.mta_session.specs.State.{is_initiator}
+use Rattle.mta_session_lists.specs.Lists.{AreValues}
+use Rattle.mta_worker_lists.specs.Agreeing.{AreListsIn}
+use Rattle.mta_worker_lists.specs.All.{AllParts, StationParts}
+use Rattle.mta_worker_lists.specs.Histories.{TellsApdus, whole}
+use Rattle.mta_worker_lists.specs.Parts.{AreForNone, AreSessions, IsSession}
+use Rattle.mta_worker_lists.specs.Segments.{IsOne, OnLane, Segment}
+
+-- these have each of those that had the lane
+abbrev pub HaveLane : (ss parts : List Segment) (lane : ℕ) → Type 0
+HaveLane ss parts lane =
+    (s : Segment) (on : OnLane) → IsOne s parts → s.list ≡ Some on → on.lane ≡ lane → IsOne s ss
+
+-- it had the lane, and began there
+pub record BeganAt (s : Segment) (lane at : ℕ) : Type 0 where
+  pub on : OnLane
+  pub has : s.list ≡ Some on
+  pub lane_is : on.lane ≡ lane
+  pub at_is : on.at ≡ at
+
+-- Each generation of the lane that began there or behind began with one of these. It is so wherever a session was told
+-- of the LaneOpen or Bind step that it had asked for; for want of memory one may not be.
+abbrev pub EachBegan : List Seen → (from lane : ℕ) → List Segment → Type 0
+EachBegan history from lane ss =
+    (p g : ℕ) → from ≤ p → BeginsAt history p lane g → (s : Segment) × IsOne s ss × BeganAt s lane p
+
+-- this agent opened the lane, or its peer did: whoever had it, had it so
+abbrev pub IsOnSide : {L : Type 0} {links : LinkView L} {spells : List ℕ → Bool} {first entries : List Step}
+    {s : Segment} → (lane : ℕ) (initiator : Bool)
+    → AreForNone (whole first entries) (length first) s ⊎ IsSession links spells first entries s → Type 0
+IsOnSide lane initiator (inl none) = Unit {0}
+IsOnSide {s = s} lane initiator (inr x) =
+    (on : OnLane) → s.list ≡ Some on → on.lane ≡ lane → is_initiator x.new.side ≡ initiator
+
+abbrev pub AreOnSide : {L : Type 0} (links : LinkView L) (spells : List ℕ → Bool) (first entries : List Step)
+    → (lane : ℕ) (initiator : Bool) (ss : List Segment) → AreSessions links spells first entries ss → Type 0
+AreOnSide links spells first entries lane initiator [] are = Unit {0}
+AreOnSide links spells first entries lane initiator (s ∷ ss) are =
+    IsOnSide lane initiator are.0 × AreOnSide links spells first entries lane initiator ss are.1
+
+-- these are the parts of one station's sessions
+abbrev pub IsStation : List Segment → List (List Segment) → Type 0
+IsStation ss [] = ⊥
+IsStation ss (x ∷ xs) = (ss ≡ x) ⊎ IsStation ss xs
+
+-- Where one station had all sessions of a lane, and had each of its generations from some length of the history on,
+-- their lists, in the order in which they were served, have the steps of both halves that the history has from there
+-- on, in its order, and the two ends agree.
+abbrev pub LanesAgree : {L : Type 0} (links : LinkView L) (spells : List ℕ → Bool) (first entries : List Step)
+    (low : ℕ) → AllParts links spells first entries low → Type 0
+LanesAgree links spells first entries low all =
+    (lane size window : ℕ) (initiator : Bool) (ss : List Segment)
+    (one : StationParts links spells first entries (length first + low) ss) → IsStation ss all.by_station
+    → HaveLane ss all.parts lane → EachBegan (whole first entries) (length first + low) lane ss
+    → AreOnSide links spells first entries lane initiator ss one.sessions
+    → AreValues (whole first entries) lane size window → (before added : List Seen)
+    → before ++ added ≡ whole first entries → length before ≡ length first + low
+    → (ls : List SessionList) × AreListsIn links spells first entries all.parts lane size window initiator ls
+    × LaneAgrees spells before added lane size window initiator ls
+
+abbrev pub LanesOfStationsAgree : {L : Type 0} → LinkView L → Type 0
+LanesOfStationsAgree links =
+    (spells : List ℕ → Bool) (first entries : List Step) (low : ℕ) (all : AllParts links spells first entries low)
+    → TellsApdus spells → IsHistory (first ++ entries) → LanesAgree links spells first entries low all

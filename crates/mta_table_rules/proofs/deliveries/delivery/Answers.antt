@@ -1,0 +1,35 @@
+use Rattle.std.proofs.Common.{None, Option, Some}
+use Rattle.std.specs.Option.{option_map}
+use Rattle.mta_apdu.specs.Apdus.{ApduValue, apdu_value}
+use Rattle.mta_procedures.specs.Reports as reports
+use Rattle.mta_machine.specs.Machine.{own_item}
+use Rattle.mta_machine.specs.Rules.{report_on, verdict_under}
+use Rattle.mta_replay.specs.declared.delivery.Delivery.{Delivery}
+use Rattle.mta_replay.specs.Asked.{Delivers, IsDeliveryOf}
+use Rattle.mta_table_rules.proofs.Delivered.{none_told, told_of}
+use Rattle.mta_table_rules.proofs.Read.{if_ok_so, kept_is}
+use Rattle.mta_table_rules.proofs.deliveries.delivery.Goals as goal
+
+pub returns-in_default : goal.returns-in_default
+returns-in_default c =
+    none_told c.args.tables.now c.args.number c.args.item.now c.args.recipient c.args.moment c.text_reads.ensures
+    (kept_is c.args.item.now.octets c.octets.result.now c.in_ok-apdu.field-0 None c.octets.ensures
+    c.in_ok-apdu.ensures.value c.in_default.is)
+
+pub returns : goal.returns
+returns c =
+    let t = c.args.tables.now in
+    let item = c.args.item.now in
+    let arrival = c.arrival-arrival.result in
+    let r = c.args.recipient in
+    let moment = c.args.moment in
+    let v : ApduValue = apdu_value c.in-Some.apdu in
+    let read = kept_is item.octets c.octets.result.now c.in_ok-apdu.field-0 (Some c.in-Some.apdu) c.octets.ensures
+    c.in_ok-apdu.ensures.value c.in-Some.is in
+    let made = report_on (λ e x. reports.delivery_report t c.args.number arrival e x moment) r v in
+    if_ok_so c.delivery_under-told.result
+    (Delivers (verdict_under t v arrival r moment) (option_map (own_item moment) made))
+    (IsDeliveryOf t.text c.args.number item r moment)
+    (λ (d : Option Delivery) is.
+    told_of t c.args.number arrival item v r moment d c.arrival-arrival.ensures c.text_reads.ensures read is)
+    c.delivery_under-told.ensures
