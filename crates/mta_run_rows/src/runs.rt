@@ -3,7 +3,7 @@
 use crate::given::{clock, disk_of, safe_source, source, words_of};
 use crate::held::Held;
 use anyhow::Result;
-use mta_edge::{MemClock, MemDisk, MemSink, MemSource, Octets, SafeDisk, SafeSource};
+use mta_edge::{Disk, MemClock, MemDisk, MemSink, Octets, SafeDisk, Source};
 use mta_links::MemStation;
 use mta_rows::shown;
 use mta_run::{Finished, run};
@@ -12,40 +12,16 @@ use std::sync::Wait;
 use std::thread::Threads;
 
 // The run alone, without stations, since nothing behind it asks for its clauses.
-fn called<R: Threads + Wait + Sync>(
+fn called<R: Threads + Wait + Sync, D: Disk + Drop + Send, I: Source + Drop>(
     rt: &R,
     alloc: Global,
     words: &[String],
-    mut conf: MemSource,
-    mut input: MemSource,
+    mut conf: I,
+    mut input: I,
     out: &mut MemSink,
-    disk: MemDisk,
+    disk: D,
     clock: MemClock,
-) -> Finished<MemDisk, MemStation> {
-    run(
-        rt,
-        alloc,
-        words,
-        &mut conf,
-        &mut input,
-        out,
-        disk,
-        Vec::new(alloc),
-        clock,
-    )
-}
-
-// The run alone, over a disk that is changed in place.
-fn called_in_place<R: Threads + Wait + Sync>(
-    rt: &R,
-    alloc: Global,
-    words: &[String],
-    mut conf: SafeSource,
-    mut input: SafeSource,
-    out: &mut MemSink,
-    disk: SafeDisk,
-    clock: MemClock,
-) -> Finished<SafeDisk, MemStation> {
+) -> Finished<D, MemStation> {
     run(
         rt,
         alloc,
@@ -123,7 +99,7 @@ pub fn large<R: Threads + Wait + Sync>(
     let octets = std::mem::replace(&mut held.disk, Vec::new(alloc));
     let disk = SafeDisk::new(alloc, Octets::from_vec(octets));
     let clock = clock(alloc, held)?;
-    let Finished { disk, status, .. } = called_in_place(
+    let Finished { disk, status, .. } = called(
         rt,
         alloc,
         words.as_slice(),
