@@ -147,22 +147,46 @@ fn list_again(spool: &Spool<SafeDisk, MemClock>, peer: &Word, rounds: u32) -> Re
     Ok(found)
 }
 
+/// How often nothing was due at first, and how much was found then.
+fn found_in(
+    spool: &mut Spool<SafeDisk, MemClock>,
+    words: &Words,
+    peer: &Word,
+) -> Result<(usize, usize)> {
+    let first = look_again(spool, 1)?;
+    let found = match words.kind.as_str() {
+        "due" => look_again(spool, words.rounds)?,
+        "batch" => take_again(spool, peer, words.rounds)?,
+        _ => list_again(spool, peer, words.rounds)?,
+    };
+    Ok((first, found))
+}
+
+/// The same, and the spool is ended.
+fn spent(
+    mut spool: Spool<SafeDisk, MemClock>,
+    words: &Words,
+    peer: &Word,
+) -> Result<(usize, usize)> {
+    let found = found_in(&mut spool, words, peer);
+    spool.end();
+    found
+}
+
+fn answer_to(alloc: Global, words: &Words) -> Result<(usize, usize)> {
+    let Some(peer) = Word::from_octets(Octets::from_slice(alloc, b"EAST")?) else {
+        return Err(anyhow!("no word"));
+    };
+    let spool = open(alloc, words.items)?;
+    spent(spool, words, &peer)
+}
+
 fn main(rt: HostRuntime) -> Result<()> {
-    let alloc = rt.alloc();
     let Some(words) = asked(&rt) else {
         println!(rt; "usage: mta_dues_bench due|batch|waiting ITEMS ROUNDS")?;
         return Ok(());
     };
-    let mut spool = open(alloc, words.items)?;
-    let Some(peer) = Word::from_octets(Octets::from_slice(alloc, b"EAST")?) else {
-        return Err(anyhow!("no word"));
-    };
-    let first = look_again(&mut spool, 1)?;
-    let found = match words.kind.as_str() {
-        "due" => look_again(&mut spool, words.rounds)?,
-        "batch" => take_again(&mut spool, &peer, words.rounds)?,
-        _ => list_again(&spool, &peer, words.rounds)?,
-    };
+    let (first, found) = answer_to(rt.alloc(), &words)?;
     rt.println(format_args!("{first} look, then {found} found"))?;
     Ok(())
 }

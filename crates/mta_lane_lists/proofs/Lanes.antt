@@ -12,6 +12,7 @@ use Rattle.mta_ends.specs.Receiving.{RecvEvent}
 use Rattle.mta_ends.specs.Sending as s
 use Rattle.mta_ends.specs.Sending.{SendEvent}
 use Rattle.mta_records.specs.declared.step.Step.{Step}
+use Rattle.mta_histories.specs.History.{IsHistory}
 use Rattle.mta_histories.proofs.Seeing.{lanes_see_histories}
 use Rattle.mta_matches.specs.Generations.{Begins as BeginsHere, BeginsAt}
 use Rattle.mta_runs.specs.Clause.{OneStationAgrees}
@@ -23,16 +24,18 @@ use Rattle.mta_runs.specs.Sendings as sending
 use Rattle.mta_runs.specs.Sessions.{Made, receiving_step_of, sending_step_of, SessionEvent, SessionList}
 use Rattle.mta_session.specs.State.{is_initiator}
 use Rattle.mta_session_lists.specs.Laws.{IsIn, ListsAreGood, ListsMayStop}
+use Rattle.mta_session_lists.specs.Lists.{AreValues}
 use Rattle.mta_worker_lists.specs.Agreeing.{AreListsIn}
-use Rattle.mta_worker_lists.specs.All.{all_of, AllParts}
-use Rattle.mta_worker_lists.specs.Histories.{place, whole}
+use Rattle.mta_worker_lists.specs.All.{all_of, AllParts, StationParts}
+use Rattle.mta_worker_lists.specs.Histories.{place, TellsApdus, whole}
 use Rattle.mta_worker_lists.specs.Parts.{AreForNone, AreSessions, BeginsBetween, IsSession, StandInTurn, StandsFrom}
 use Rattle.mta_worker_lists.specs.Segments.{Begins, IsListedIn, IsOne, IsOwnStep, IsSegment, OnLane, Segment}
 use Rattle.mta_worker_lists.proofs.Agreeing.{each_good}
 use Rattle.mta_worker_lists.proofs.All.{place_below}
 use Rattle.mta_worker_lists.proofs.Annotating.{length_seen}
 use Rattle.mta_worker_lists.proofs.Segments.{is_segment, maker, Maker}
-use Rattle.mta_lane_lists.specs.Lanes.{AreOnSide, EachBegan, HaveLane, IsOnSide, IsStation}
+use Rattle.mta_lane_lists.specs.Lanes.{AreOnSide, EachBegan, HaveLane, HaveSteps, IsOnSide, IsStation}
+use Rattle.mta_lane_lists.proofs.Sides.{side_of}
 use Rattle.mta_lane_lists.specs.Lanes.{LanesOfStationsAgree}
 use Rattle.mta_lane_lists.specs.Turns.{AreInTurn, None_more, Then}
 use Rattle.mta_lane_lists.proofs.Ones.{one_list, OneList}
@@ -519,10 +522,17 @@ of_all ss (x ∷ xs) s i one =
       | inr more ↦ one_back s x (all_of xs) (of_all ss xs s more one)
     ]
 
-pub lanes_agree : ListsAreGood → ListsMayStop → SessionsAgree → OneStationAgrees → {L : Type 0} (links : LinkView L)
-    → LanesOfStationsAgree links
-lanes_agree good may_stop whole_agree agree links spells first entries low all tells possible lane size window
-    initiator ss one station have began side values before added cut from_is = (
+on_side : ListsAreGood → ListsMayStop → SessionsAgree → OneStationAgrees → {L : Type 0} (links : LinkView L)
+    (spells : List ℕ → Bool) (first entries : List Step) (low : ℕ) (all : AllParts links spells first entries low)
+    → TellsApdus spells → IsHistory (first ++ entries) → (lane size window : ℕ) (ss : List Segment)
+    (one : StationParts links spells first entries (length first + low) ss) → IsStation ss all.by_station
+    → HaveLane ss all.parts lane → EachBegan (whole first entries) (length first + low) lane ss
+    → AreValues (whole first entries) lane size window → (before added : List Seen)
+    → before ++ added ≡ whole first entries → length before ≡ length first + low → (initiator : Bool)
+    → AreOnSide links spells first entries lane initiator ss one.sessions
+    → HaveSteps links spells first entries all.parts before added lane size window initiator
+on_side good may_stop whole_agree agree links spells first entries low all tells possible lane size window
+    ss one station have began values before added cut from_is initiator side = (
       built.lists,
       built.are,
       agree spells before added lane size window initiator built.lists
@@ -571,3 +581,13 @@ lanes_agree good may_stop whole_agree agree links spells first entries low all t
       rise = rises.1;
       owned = receives links spells first entries low all lane size window initiator n refl ss built have began;
     }
+
+pub lanes_agree : ListsAreGood → ListsMayStop → SessionsAgree → OneStationAgrees → {L : Type 0} (links : LinkView L)
+    → LanesOfStationsAgree links
+lanes_agree good may_stop whole_agree agree links spells first entries low all tells possible lane size window ss one
+    station have began values before added cut from_is = (
+      side_of links spells first entries possible lane ss one.sessions,
+      λ initiator side.
+          on_side good may_stop whole_agree agree links spells first entries low all tells possible lane size window ss
+          one station have began values before added cut from_is initiator side,
+    )

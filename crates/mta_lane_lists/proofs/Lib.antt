@@ -2,3 +2,4 @@ pub mod Turns
 pub mod Between
 pub mod Ones
 pub mod Lanes
+pub mod Sides

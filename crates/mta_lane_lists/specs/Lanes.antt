@@ -53,20 +53,28 @@ abbrev pub IsStation : List Segment → List (List Segment) → Type 0
 IsStation ss [] = ⊥
 IsStation ss (x ∷ xs) = (ss ≡ x) ⊎ IsStation ss xs
 
+-- The lists of sessions of this lane, each on this side, have the steps of both halves that the history has from one
+-- length on, in its order, and the two ends agree.
+abbrev pub HaveSteps : {L : Type 0} (links : LinkView L) (spells : List ℕ → Bool) (first entries : List Step)
+    (parts : List Segment) (before added : List Seen) (lane size window : ℕ) (initiator : Bool) → Type 0
+HaveSteps links spells first entries parts before added lane size window initiator =
+    (ls : List SessionList) × AreListsIn links spells first entries parts lane size window initiator ls
+    × LaneAgrees spells before added lane size window initiator ls
+
 -- Where one station had all sessions of a lane, and had each of its generations from some length of the history on,
--- their lists, in the order in which they were served, have the steps of both halves that the history has from there
--- on, in its order, and the two ends agree.
+-- all are on one side, and their lists, in the order in which they were served, have the steps of both halves that the
+-- history has from there on, in its order, and the two ends agree. (Where it had none, so it is on either side.)
 abbrev pub LanesAgree : {L : Type 0} (links : LinkView L) (spells : List ℕ → Bool) (first entries : List Step)
     (low : ℕ) → AllParts links spells first entries low → Type 0
 LanesAgree links spells first entries low all =
-    (lane size window : ℕ) (initiator : Bool) (ss : List Segment)
+    (lane size window : ℕ) (ss : List Segment)
     (one : StationParts links spells first entries (length first + low) ss) → IsStation ss all.by_station
     → HaveLane ss all.parts lane → EachBegan (whole first entries) (length first + low) lane ss
-    → AreOnSide links spells first entries lane initiator ss one.sessions
     → AreValues (whole first entries) lane size window → (before added : List Seen)
     → before ++ added ≡ whole first entries → length before ≡ length first + low
-    → (ls : List SessionList) × AreListsIn links spells first entries all.parts lane size window initiator ls
-    × LaneAgrees spells before added lane size window initiator ls
+    → ((initiator : Bool) × AreOnSide links spells first entries lane initiator ss one.sessions)
+    × ((initiator : Bool) → AreOnSide links spells first entries lane initiator ss one.sessions
+    → HaveSteps links spells first entries all.parts before added lane size window initiator)
 
 abbrev pub LanesOfStationsAgree : {L : Type 0} → LinkView L → Type 0
 LanesOfStationsAgree links =

@@ -47,6 +47,8 @@ use Rattle.mta_worker_lists.proofs.Calm.{is_looking}
 use Rattle.mta_worker_lists.proofs.Joining.{carried_more, leads_more, no_calls, none_carried, owns_more}
 use Rattle.mta_worker_lists.proofs.Going.{answers_grow, goes_base, goes_grow, goes_led, Reaches, run_ran, state_then}
 use Rattle.mta_worker_lists.proofs.Going.{since_knows, turn_grows}
+use Rattle.mta_worker_lists.specs.Roles.{AreGiven}
+use Rattle.mta_worker_lists.proofs.Given.{given_more, looks_given, reply_given}
 use Rattle.mta_worker_lists.proofs.Heard.{look_answered, looks_mind, Minds, reply_answers, reply_minds}
 use Rattle.mta_worker_lists.proofs.Known.{Knows}
 use Rattle.mta_worker_lists.proofs.Turns.{calls_at, IsQuiet, look_comes, look_tells, looks_lead, looks_quiet, one_call}
@@ -59,9 +61,9 @@ pub done_behind : {L : Type 0} (links : LinkView L) (spells : List ℕ → Bool)
     → Leads spells (whole first entries) (place first x.pass) x.session x.action calls (place first y.pass) y.session
     y.action
     → y.pass.own ≡ x.pass.own ++ made_in (length first) x.action calls
-    → AreCarried links x.action calls x.link x.feed y.link y.feed → IsDone links spells first entries y cs q new
-    → IsDone links spells first entries x (calls ++ cs) q new
-done_behind links spells first entries x y calls cs q new leads owns carried d = record {
+    → AreCarried links x.action calls x.link x.feed y.link y.feed → AreGiven (first ++ entries) calls
+    → IsDone links spells first entries y cs q new → IsDone links spells first entries x (calls ++ cs) q new
+done_behind links spells first entries x y calls cs q new leads owns carried given d = record {
   mid = d.mid;
   last = d.last;
   wanted = d.wanted;
@@ -78,6 +80,7 @@ done_behind links spells first entries x y calls cs q new leads owns carried d =
       carried_more links calls cs x.action y.action x.link y.link d.left x.feed y.feed d.feed leads.wanted carried
       d.carried;
   leaves = d.leaves;
+  given = given_more (first ++ entries) calls cs given d.given;
 }
 
 -- ---- a session that is given up
@@ -199,6 +202,7 @@ done_at_once links spells first entries t old p new gave =
       feed = no_feed;
       carried = none_carried links [] action.Read old no_feed refl refl;
       leaves = end.leaves;
+      given = tt;
     }
 
 module _ {D C L : Type 0} (disks : DiskView D) (clocks : ClockView C) (links : LinkView L) (spells : List ℕ → Bool)
@@ -247,6 +251,8 @@ module _ {D C L : Type 0} (disks : DiskView D) (clocks : ClockView C) (links : L
             subst (λ (b : Action). AreCarried links b calls x.link x.feed x.link x.feed) (sym wants)
             (none_carried links calls a x.link x.feed quiet.got quiet.put);
         leaves = end.leaves;
+        given = looks_given disks clocks (first ++ entries) l.looked.turns s t a u (action.Ask l.question) (long s)
+            l.looked.looks;
       },
     )
       where
@@ -311,6 +317,7 @@ module _ {D C L : Type 0} (disks : DiskView D) (clocks : ClockView C) (links : L
             feed = x.feed;
             carried = none_carried links [] x.action x.link x.feed refl refl;
             leaves = end.leaves;
+            given = tt;
           },
         )
       where
@@ -349,7 +356,8 @@ module _ {D C L : Type 0} (disks : DiskView D) (clocks : ClockView C) (links : L
         gives in (
           call ∷ [] ++ rest.0,
           done_behind links spells first entries x behind (call ∷ []) rest.0 pass link led owns carried
-              rest.1,
+              (reply_given disks clocks spells tells first entries possible q x.session y w v old new (long new) state f
+              m r turn) rest.1,
         )
       where
         behind : At L
@@ -411,7 +419,7 @@ module _ {D C L : Type 0} (disks : DiskView D) (clocks : ClockView C) (links : L
       → Reaches disks clocks links spells tells first entries x y → Closed y pass link → Closed x pass link
   behind_led x y pass link led c = (
     led.calls ++ c.0,
-    done_behind links spells first entries x y led.calls c.0 pass link led.leads led.owns led.carried c.1,
+    done_behind links spells first entries x y led.calls c.0 pass link led.leads led.owns led.carried led.given c.1,
   )
 
   -- A session that is served is done with from there on.
@@ -435,6 +443,7 @@ module _ {D C L : Type 0} (disks : DiskView D) (clocks : ClockView C) (links : L
           feed = y.feed;
           carried = led.carried;
           leaves = at;
+          given = led.given;
         },
       )
   served_closed x link pass served are w calm k (Stopped zs y t at g h same gives) f =
@@ -468,6 +477,7 @@ module _ {D C L : Type 0} (disks : DiskView D) (clocks : ClockView C) (links : L
                 (links.talk h.mid)) (sym ran.got) (h.carried since us os l);
           };
           leaves = end.leaves;
+          given = ran.given (first ++ entries);
         },
       )
   served_closed x link pass served are w calm k (Given_up zs y q t halt lost g asks i gives) f =

@@ -34,17 +34,19 @@ use Rattle.mta_shared.proofs.Fronts.{prefix_length, prefix_self, prefix_trans}
 use Rattle.mta_spool.specs.Bases.{Keeps}
 use Rattle.mta_spool.specs.Shown.{Shown}
 use Rattle.mta_worker.specs.Serving.{Answers, At, Carries, Does, Goes, InTurn}
-use Rattle.mta_worker.specs.Turns.{HasAnswered, Replied}
+use Rattle.mta_worker.specs.Turns.{HasAnswered, Replied, told_reply}
 use Rattle.mta_worker.proofs.Growing.{replied_grows}
 use Rattle.mta_worker_lists.specs.Histories.{AreEntries, TellsApdus, place, whole}
 use Rattle.mta_worker_lists.specs.Leads.{AreCarried, got_in, Leads, made_by, made_in, PutBy, PutIn}
 use Rattle.mta_worker_lists.proofs.Calm.{is_calm, is_looking}
+use Rattle.mta_worker_lists.specs.Roles.{AreGiven}
+use Rattle.mta_worker_lists.proofs.Given.{given_more, looks_given, reply_given, unheard}
 use Rattle.mta_worker_lists.proofs.Heard.{turn_minds}
 use Rattle.mta_worker_lists.proofs.Joining.{carried_more, got_more, leads_more, made_more, no_calls, none_carried}
 use Rattle.mta_worker_lists.proofs.Joining.{owns_more, put_more}
 use Rattle.mta_worker_lists.proofs.Known.{between_knows, calm_knows, Knows}
-use Rattle.mta_worker_lists.proofs.Turns.{history_then, reply_stands, turn_leads}
-use Rattle.mta_worker_lists.proofs.Waits.{calls_wait, looks_not, run_calm, run_still, Waits, waits_next}
+use Rattle.mta_worker_lists.proofs.Turns.{calls_at, history_then, reply_stands, turn_leads}
+use Rattle.mta_worker_lists.proofs.Waits.{calls_wait, looks_not, no_reply, run_calm, run_still, Waits, waits_next}
 
 -- ---- the history that opening gave
 
@@ -120,7 +122,7 @@ none_made n seen (action.Ask q) e piece f = absurd f
 none_made n seen (action.Finish x) e piece f = refl
 
 module _ (spells : List ℕ → Bool) (history : List Seen) (n : ℕ) where
-  -- the calls of a session that was carried on: no entry is made in them
+  -- the calls of a session that was carried on: no entry is made in them, and no lane is given
   pub record Ran (k : ℕ) (t : Session) (a : Action) (us : List AnyUnit) (octets : List ℕ) (u : Session) (b : Action)
       : Type 0 where
     pub calls : List Call
@@ -128,6 +130,7 @@ module _ (spells : List ℕ → Bool) (history : List Seen) (n : ℕ) where
     pub got : got_in calls ≡ us
     pub put : PutIn a calls octets
     pub made : made_in n a calls ≡ []
+    pub given : (steps : List Step) → AreGiven steps calls
     pub waits : Waits b u
     pub still : is_looking u.phase ≡ false
     -- where it was told anything, it is not about to bind a lane
@@ -162,6 +165,9 @@ module _ (spells : List ℕ → Bool) (history : List Seen) (n : ℕ) where
             ∙ ap (λ (ns : List ℕ). ns ++ (made_by n k (action_of a x.calls) e ++ [])) x.made
             ∙ append-nil (made_by n k (action_of a x.calls) e)
             ∙ ap (λ (z : Action). made_by n k z e) last ∙ none_made n k c e piece put;
+        given = λ steps.
+            given_more steps x.calls (call ∷ []) (x.given steps)
+            (unheard steps call.turn k (no_reply c e piece v put x.waits.waits turn.answers));
         waits = waits_next call.turn turn x.waits.due;
         still = run_still call.turn c piece turn x.waits x.still put;
         left = inr (run_calm call.turn c piece turn x.waits x.still put);
@@ -176,6 +182,7 @@ module _ (spells : List ℕ → Bool) (history : List Seen) (n : ℕ) where
     got = refl;
     put = refl;
     made = refl;
+    given = λ steps. tt;
     waits = w;
     still = i;
     left = inl refl;
@@ -230,6 +237,7 @@ module _ {D C L : Type 0} (disks : DiskView D) (clocks : ClockView C) (links : L
       pub leads : Leads spells history (place first x.pass) x.session x.action calls (place first y.pass) y.session
           y.action
       pub owns : y.pass.own ≡ x.pass.own ++ made_in (length first) x.action calls
+      pub given : AreGiven (first ++ entries) calls
       pub carried : AreCarried links x.action calls x.link x.feed y.link y.feed
       pub waits : Waits y.action y.session
       pub still : is_looking y.session.phase ≡ false
@@ -241,6 +249,7 @@ module _ {D C L : Type 0} (disks : DiskView D) (clocks : ClockView C) (links : L
       calls = [];
       leads = no_calls spells history (place first x.pass) x.session x.action;
       owns = sym (append-nil x.pass.own);
+      given = tt;
       carried = none_carried links [] x.action x.link x.feed refl refl;
       waits = w;
       still = i;
@@ -256,6 +265,7 @@ module _ {D C L : Type 0} (disks : DiskView D) (clocks : ClockView C) (links : L
       owns =
           owns_more a.calls b.calls (length first) x.action y.action x.pass.own y.pass.own z.pass.own a.leads.wanted
           a.owns b.owns;
+      given = given_more (first ++ entries) a.calls b.calls a.given b.given;
       carried =
           carried_more links a.calls b.calls x.action y.action x.link y.link z.link x.feed y.feed z.feed a.leads.wanted
           a.carried b.carried;
@@ -282,6 +292,7 @@ module _ {D C L : Type 0} (disks : DiskView D) (clocks : ClockView C) (links : L
               (subst (λ (b : Action). Leads spells history n x.session x.action ran.calls n z.session b) (sym wanted)
               ran.leads);
           owns = ap (λ (h : Held Step). h.own) pass ∙ sym made;
+          given = ran.given (first ++ entries);
           carried = record {
             octets = run.octets;
             put = ran.put;
@@ -310,6 +321,7 @@ module _ {D C L : Type 0} (disks : DiskView D) (clocks : ClockView C) (links : L
         prefix_length x.pass.seen i.before.entries i.begins in
         let led = turn_leads disks clocks spells tells first entries are.possible q x.session x.halt i.before i.after
         z.session z.action z.halt n state behind (omega (arith, long)) calm i.did in
+        let there : ℕ = length first + length i.after.entries in
         let waits : Waits (action.Ask q) x.session = subst (λ (b : Action). Waits b x.session) asks w in
         let waits_then : Waits z.action z.session =
         subst (λ (b : Action). Waits b z.session) led.leads.wanted
@@ -334,6 +346,16 @@ module _ {D C L : Type 0} (disks : DiskView D) (clocks : ClockView C) (links : L
           owns =
               owned ∙ ap (λ (ns : List ℕ). x.pass.own ++ ns) (sym led.quiet.made)
               ∙ ap (λ (b : Action). x.pass.own ++ made_in (length first) b led.calls) (sym asks);
+          given =
+              given_more (first ++ entries) (record {
+                turn = told_reply x.session i.did.answer i.did.wanted i.did.heard;
+                seen = there;
+              } ∷ []) (calls_at there i.did.looked.turns)
+              (reply_given disks clocks spells tells first entries are.possible q x.session i.did.answer i.did.wanted
+              i.did.heard i.before i.after there state behind (record { waits = waits; knows = knew }) i.did.replied
+              i.did.told)
+              (looks_given disks clocks (first ++ entries) i.did.looked.turns i.after i.did.heard i.did.wanted z.session
+              z.action there i.did.looked.looks);
           carried =
               subst (λ (b : Action). AreCarried links b led.calls x.link x.feed z.link z.feed) (sym asks)
               (subst (λ (l : L). AreCarried links (action.Ask q) led.calls x.link x.feed l z.feed) (sym same_link)

@@ -46,19 +46,24 @@ use Rattle.mta_worker.specs.Readying.{asks_next, Begins, Begun, IsReadied, IsSte
 use Rattle.mta_worker.specs.Readying.{Stepped, Well, Without_memory}
 use Rattle.mta_shared.specs.Held.{Held}
 use Rattle.mta_shared.specs.Counts.{row}
-use Rattle.mta_worker_lists.specs.Begun.{at_first, begun_by, Calls, IsBehind, IsNewAt}
+use Rattle.mta_histories.specs.Kept.{IsKept}
+use Rattle.mta_histories.specs.Lanes.{Lane}
+use Rattle.mta_histories.proofs.LaneLists.{number-at}
+use Rattle.mta_worker_lists.specs.Begun.{at_first, begun_by, Calls, IsBehind, IsCalledOn, IsNewAt}
+use Rattle.mta_worker_lists.specs.Roles.{AreGiven, IsOpenAs, WasOpenAs}
 use Rattle.mta_worker_lists.specs.Histories.{TellsApdus, place, whole}
 use Rattle.mta_worker_lists.specs.Leads.{Leads}
 use Rattle.mta_worker_lists.proofs.Calm.{is_looking}
 use Rattle.mta_worker_lists.proofs.Ending.{Closed, done_at_once, done_behind, Gave_up, looking_closed}
 use Rattle.mta_worker_lists.proofs.Joining.{leads_more, none_carried}
+use Rattle.mta_worker_lists.proofs.Given.{given_more, kept_stood, looks_given, opened_as, unheard, was_open}
 use Rattle.mta_worker_lists.proofs.Heard.{looks_mind, Minds}
-use Rattle.mta_worker_lists.proofs.Known.{Knows}
+use Rattle.mta_worker_lists.proofs.Known.{first_peers, IsPeers, Knows}
 use Rattle.mta_worker_lists.proofs.Knowing.{IsBound, lane_bound}
 use Rattle.mta_worker_lists.proofs.Making.{Makes, WasPossible}
 use Rattle.mta_worker_lists.proofs.Telling.{answer_made}
 use Rattle.mta_worker_lists.proofs.Turns.{calls_at, IsQuiet, looks_lead, looks_quiet, made_entries, made_stands}
-use Rattle.mta_worker_lists.proofs.Turns.{stands_next, Stands as StandsNow, was_possible}
+use Rattle.mta_worker_lists.proofs.Turns.{stands_before, stands_next, Stands as StandsNow, was_possible}
 use Rattle.mta_worker_lists.proofs.Waits.{calls_wait, looks_not, Waits, waits_next}
 
 -- ---- what is proposed
@@ -129,6 +134,13 @@ planned s peer (next.Bind n p) q (reply.Bind (Ok g)) plan is asks so =
     bind_planned n p q g plan (binds_old s peer n p is) (same_some _ q asks) (same_some _ plan so)
 planned s peer x q y plan is asks so = none_some plan so
 
+-- the lane that is bound is one that this agent opened
+binds_own : (s : State) (peer : List ℕ) (n : ℕ) (p : InitiatorPlan) → IsNext s peer (next.Bind n p) → IsKept s
+    → IsPeers Initiator n s.lanes.open_lanes
+binds_own s peer n p (Binds tables line lane now is agreed) kept =
+    subst (λ (k : ℕ). IsPeers Initiator k s.lanes.open_lanes) (number-at s.lanes.open_lanes is.number lane is.lane_is)
+    (first_peers Initiator peer None 0 s.lanes.open_lanes s.lanes.count is.number kept.numbered_lanes is.first)
+
 -- ---- the turn before the session
 
 -- a session begins with this plan, behind the reply to this question
@@ -140,8 +152,35 @@ pub record BeginsWith {D C : Type 0} (disks : DiskView D) (clocks : ClockView C)
   pub answered : Answered disks clocks question old answer new
   pub planned : IsPlanned question answer plan
   pub begins : Begins disks clocks new plan units halt u halt' first
+  pub role : IsKept old.current → WasPossible old new → IsOpenAs Initiator plan.lane new.current
 
 module _ {D C : Type 0} (disks : DiskView D) (clocks : ClockView C) where
+  bound_own : (n g : ℕ) (old new : Shown D C) → IsPeers Initiator n old.current.lanes.open_lanes
+      → IsBound n g old.current new.current → IsOpenAs Initiator n new.current
+  bound_own n g old new p b =
+      let same : p.lane ≡ b.was = same_some p.lane b.was (sym p.lane_is ∙ b.was_is) in
+      record {
+        now = b.lane;
+        now_is = b.lane_is;
+        role_is = b.role_is ∙ ap (λ (l : Lane). l.role) (sym same) ∙ p.role_is;
+      }
+
+  -- the lane of the session is open then, as one that this agent opened
+  begins_as : (peer : List ℕ) (x : Next) (q : Ask) (y : Reply) (plan : InitiatorPlan) (old new : Shown D C)
+      → IsNext old.current peer x → asks_next x ≡ Some q → plan_behind x y ≡ Some plan
+      → Answered disks clocks q old y new → IsKept old.current → WasPossible old new
+      → IsOpenAs Initiator plan.lane new.current
+  begins_as peer (next.Open p) q (reply.LaneOpen (Ok n)) plan old new is asks so a kept may =
+      subst (λ (z : InitiatorPlan). IsOpenAs Initiator z.lane new.current) (same_some _ plan so)
+      (opened_as disks clocks Initiator p.peer p.reference p.twa p.checkpoint p.window n old new
+      (subst (λ (z : Ask). Answered disks clocks z old (reply.LaneOpen (Ok n)) new) (sym (same_some _ q asks)) a) kept)
+  begins_as peer (next.Bind n p) q (reply.Bind (Ok g)) plan old new is asks so a kept may =
+      subst (λ (z : InitiatorPlan). IsOpenAs Initiator z.lane new.current) (same_some _ plan so)
+      (bound_own n g old new (binds_own old.current peer n p is kept)
+      (lane_bound disks clocks n g old new
+      (subst (λ (z : Ask). Answered disks clocks z old (reply.Bind (Ok g)) new) (sym (same_some _ q asks)) a) may))
+  begins_as peer x q y plan old new is asks so a kept may = none_some plan so
+
   stepped_begins : (peer : List ℕ) (x : Next) (units : ℕ) (old new : Shown D C) (halt halt' : Option Halt) (u : Session)
       (first : Result Action Lost) → IsNext old.current peer x
       → IsStepped disks clocks x units old halt new halt' (ready.Begins u first)
@@ -153,6 +192,7 @@ module _ {D C : Type 0} (disks : DiskView D) (clocks : ClockView C) where
     answered = a;
     planned = planned old.current peer x q y plan is asks so;
     begins = begins;
+    role = begins_as peer x q y plan old new is asks so a;
   }
 
   pub readied_begins : (peer : List ℕ) (units : ℕ) (old new : Shown D C) (halt halt' : Option Halt) (u : Session)
@@ -211,6 +251,7 @@ module _ {D C : Type 0} (disks : DiskView D) (clocks : ClockView C) where
           ≡ begun_by (length first) begun
       pub later : length (begun_by (length first) begun) ≤ length pass.seen
       pub behind : IsBehind (length first + length old.entries) begun
+      pub called : IsCalledOn (first ++ entries) begun
 
     -- It is carried on from these first calls.
     pub record Led (old new : Shown D C) (pass : Held Step) (u : Session) (b : Action) : Type 0 where
@@ -219,6 +260,7 @@ module _ {D C : Type 0} (disks : DiskView D) (clocks : ClockView C) where
       pub leads : Leads spells history (long new) (new_initiator begins.plan begins.units) action.Read calls (long new)
           u b
       pub quiet : IsQuiet disks clocks spells tells first entries possible action.Read calls []
+      pub given : AreGiven (first ++ entries) calls
       pub waits : Waits b u
       pub still : is_looking u.phase ≡ false
       pub knows : Knows u new.current
@@ -229,8 +271,9 @@ module _ {D C : Type 0} (disks : DiskView D) (clocks : ClockView C) where
 
     abbrev has_step : (q : Ask) (y : Reply) (plan : InitiatorPlan) (old new : Shown D C) (pass : Held Step)
         → pass.seen ≡ new.entries → old.current ≡ after (first ++ old.entries) → IsPrefix new.entries entries
-        → IsPlanned q y plan → Makes (step_told q y) old new → (units : ℕ) → IsBegun old new pass
-    has_step q y plan old new pass sees state f p m units =
+        → IsPlanned q y plan → Makes (step_told q y) old new → WasOpenAs Initiator plan.lane (first ++ entries)
+        → (units : ℕ) → IsBegun old new pass
+    has_step q y plan old new pass sees state f p m role units =
         let makes : Makes (Some (step_for plan)) old new = subst (λ (o : Option StepOn). Makes o old new) p.told m in
         let stands : Stands history 0 (long new) (step_for plan) =
         made_stands disks clocks spells tells first entries possible (step_for plan) 0 old new makes state f
@@ -254,6 +297,7 @@ module _ {D C : Type 0} (disks : DiskView D) (clocks : ClockView C) where
               length-append old.entries (makes.0 ∷ []) in
               let same : length new.entries ≡ length (old.entries ++ makes.0 ∷ []) = ap length makes.1 in
               omega (arith, one, same);
+          called = role;
         }
 
     -- the step for it was made
@@ -264,12 +308,29 @@ module _ {D C : Type 0} (disks : DiskView D) (clocks : ClockView C) where
         answer_made disks clocks w.question old w.answer new
         (was_possible disks clocks spells tells first entries possible old new state f) w.answered
 
+    -- its lane is open then, as one that this agent opened
+    was_called : (units : ℕ) (old new : Shown D C) (halt halt' : Option Halt) (u : Session) (r : Result Action Lost)
+        → old.current ≡ after (first ++ old.entries) → IsPrefix new.entries entries
+        → (w : BeginsWith disks clocks units old new halt u halt' r)
+        → WasOpenAs Initiator w.plan.lane (first ++ entries)
+    was_called units old new halt halt' u r state f w =
+        let makes : Makes (step_told w.question w.answer) old new =
+        was_made units old new halt halt' u r state f w in
+        was_open disks clocks spells tells first entries possible Initiator w.plan.lane new
+        (stands_next disks clocks spells tells first entries possible (step_told w.question w.answer) old new makes
+        state f)
+        (w.role
+        (kept_stood disks clocks spells tells first entries possible old
+        (stands_before disks clocks spells tells first entries possible (step_told w.question w.answer) old new makes
+        state f)) (was_possible disks clocks spells tells first entries possible old new state f))
+
     abbrev there : (units : ℕ) (old new : Shown D C) (pass : Held Step) (halt halt' : Option Halt) (u : Session)
         (r : Result Action Lost) → pass.seen ≡ new.entries → old.current ≡ after (first ++ old.entries)
         → IsPrefix new.entries entries → BeginsWith disks clocks units old new halt u halt' r → IsBegun old new pass
     there units old new pass halt halt' u r sees state f w =
         has_step w.question w.answer w.plan old new pass sees state f w.planned
-        (was_made units old new halt halt' u r state f w) units
+        (was_made units old new halt halt' u r state f w)
+        (was_called units old new halt halt' u r state f w) units
 
     stands_there : (units : ℕ) (old new : Shown D C) (halt halt' : Option Halt) (u : Session) (r : Result Action Lost)
         → old.current ≡ after (first ++ old.entries) → IsPrefix new.entries entries
@@ -338,6 +399,9 @@ module _ {D C : Type 0} (disks : DiskView D) (clocks : ClockView C) where
                   first_quiet fresh new one t looks
                   (looks_quiet disks clocks spells tells first entries possible looked.turns new t one u b (long new)
                   looked.looks);
+              given =
+                  given_more (first ++ entries) (call ∷ []) looks (unheard (first ++ entries) call.turn (long new) tt)
+                  (looks_given disks clocks (first ++ entries) looked.turns new t one u b (long new) looked.looks);
               waits = waits;
               still = looks_not b u waits none;
               knows =
@@ -401,6 +465,7 @@ module _ {D C : Type 0} (disks : DiskView D) (clocks : ClockView C) where
                   call ∷ [] ++ rest.0,
                   done_behind links spells first entries begin x (call ∷ []) rest.0 pass link led
                       (sym (append-nil pass.own) ∙ ap (λ (ns : List ℕ). pass.own ++ ns) (sym quiet.made))
-                      (none_carried links (call ∷ []) action.Read at no_feed quiet.got quiet.put) rest.1,
+                      (none_carried links (call ∷ []) action.Read at no_feed quiet.got quiet.put)
+                      (unheard (first ++ entries) call.turn (long new) tt) rest.1,
                 );
               }

@@ -102,35 +102,37 @@ between_knows t before more history calm k =
 
 -- ---- the lane of a name
 
-role_is : (r : LaneRole) → is_role Responder r ≡ true → r ≡ Responder
-role_is Initiator i = absurd (never i)
-role_is Responder i = refl
+role_is : (q r : LaneRole) → is_role q r ≡ true → r ≡ q
+role_is Responder Initiator i = absurd (never i)
+role_is Responder Responder i = refl
+role_is Initiator Initiator i = refl
+role_is Initiator Responder i = absurd (never i)
 
-pub record IsPeers (n : ℕ) (lanes : List Lane) : Type 0 where
+pub record IsPeers (role : LaneRole) (n : ℕ) (lanes : List Lane) : Type 0 where
   pub lane : Lane
   pub lane_is : lane_at n lanes ≡ Some lane
-  pub role : lane.role ≡ Responder
+  pub role_is : lane.role ≡ role
 
-first_peers : (peer : List ℕ) (name : Option Identifier) (above : ℕ) (lanes : List Lane) (most n : ℕ)
-    → AreNumbered above lanes most → IsFirstNamed Responder peer name lanes (Some n) → IsPeers n lanes
-first_peers peer name above [] most n a f = absurd cc
-first_peers peer name above (l ∷ lanes) most n a f =
+pub first_peers : (q : LaneRole) (peer : List ℕ) (name : Option Identifier) (above : ℕ) (lanes : List Lane)
+    (most n : ℕ) → AreNumbered above lanes most → IsFirstNamed q peer name lanes (Some n) → IsPeers q n lanes
+first_peers q peer name above [] most n a f = absurd cc
+first_peers q peer name above (l ∷ lanes) most n a f =
     elim f [
       | inl here ↦ found here.0 here.1
-      | inr later ↦ behind (first_peers peer name l.number lanes most n a.1 later.1)
+      | inr later ↦ behind (first_peers q peer name l.number lanes most n a.1 later.1)
     ]
   where
     same_number : Some n ≡ Some l.number → n ≡ l.number
     same_number e = cc
 
-    found : IsNamed Responder peer name l → Some n ≡ Some l.number → IsPeers n (l ∷ lanes)
+    found : IsNamed q peer name l → Some n ≡ Some l.number → IsPeers q n (l ∷ lanes)
     found named e = record {
       lane = l;
       lane_is = cond-true (eqb n l.number) (Some l) (lane_at n lanes) (eq-eqb n l.number (same_number e));
-      role = role_is l.role (and_parts _ _ named.0).0;
+      role_is = role_is q l.role (and_parts _ _ named.0).0;
     }
 
-    behind : IsPeers n lanes → IsPeers n (l ∷ lanes)
+    behind : IsPeers q n lanes → IsPeers q n (l ∷ lanes)
     behind p =
         let over : l.number < p.lane.number = number-above l.number lanes most n p.lane a.1 p.lane_is in
         let at : n ≡ p.lane.number = number-at lanes n p.lane p.lane_is in
@@ -140,20 +142,20 @@ first_peers peer name above (l ∷ lanes) most n a f =
               cond-false (eqb n l.number) (Some l) (lane_at n lanes)
               (ne_eqb n l.number (λ e. omega (arith, e, over, at)))
               ∙ p.lane_is;
-          role = p.role;
+          role_is = p.role_is;
         }
 
 -- the first lane of a name that the peer opened
 pub first_answered : (peer : List ℕ) (name : Option Identifier) (s : State) (n : ℕ) → IsKept s
     → IsFirstNamed Responder peer name s.lanes.open_lanes (Some n) → IsAnswered n s
 first_answered peer name s n kept f =
-    let p = first_peers peer name 0 s.lanes.open_lanes s.lanes.count n kept.numbered_lanes f in
+    let p = first_peers Responder peer name 0 s.lanes.open_lanes s.lanes.count n kept.numbered_lanes f in
     let at : n ≡ p.lane.number = number-at s.lanes.open_lanes n p.lane p.lane_is in
     let below : p.lane.number ≤ s.lanes.count =
     number-within 0 s.lanes.open_lanes s.lanes.count n p.lane kept.numbered_lanes p.lane_is in
     record {
       within = omega (arith, at, below);
-      role = subst (λ (o : Option Lane). WhereOpen (λ lane. lane.role ≡ Responder) o) (sym p.lane_is) p.role;
+      role = subst (λ (o : Option Lane). WhereOpen (λ lane. lane.role ≡ Responder) o) (sym p.lane_is) p.role_is;
     }
 
 -- ---- a lane that is put in its place

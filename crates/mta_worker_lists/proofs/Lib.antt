@@ -11,6 +11,7 @@ pub mod Replying
 pub mod Suiting
 pub mod Knowing
 pub mod Heard
+pub mod Given
 pub mod Going
 pub mod Ending
 pub mod Responding
@@ -34,3 +35,4 @@ pub mod All
 pub mod Made
 pub mod AllGood
 pub mod Agreeing
+pub mod Sides

@@ -58,6 +58,7 @@ use Rattle.mta_worker_lists.specs.Linked.{AreClosings, Began, IsRun, LinksAreRun
 use Rattle.mta_worker_lists.proofs.Calm.{is_looking}
 use Rattle.mta_worker_lists.proofs.Ending.{done_at_once, done_behind, gave_up, served_closed, served_grows}
 use Rattle.mta_worker_lists.proofs.Going.{state_then, turn_base, turn_grows}
+use Rattle.mta_worker_lists.proofs.Given.{unheard}
 use Rattle.mta_worker_lists.proofs.Initiating.{begins_led, begins_lost, Led, Lost_there, readied_begins}
 use Rattle.mta_worker_lists.proofs.Joining.{none_carried}
 use Rattle.mta_worker_lists.proofs.Known.{Knows}
@@ -163,11 +164,13 @@ module _ {D C L : Type 0} (disks : DiskView D) (clocks : ClockView C) (links : L
         calls = call ∷ [] ++ rest.0;
         ran = record {
           begins = Listens own units n;
+          called = tt;
           done =
               done_behind links spells first entries (at_first fresh old mid) x (call ∷ []) rest.0 q new
               (record { calls_are = (refl, turn, refl); come_true = (refl, tt); wanted = refl; seen = refl })
               (sym (append-nil mid.own))
-              (none_carried links (call ∷ []) action.Read old no_feed refl ([], [], refl, refl, refl)) rest.1;
+              (none_carried links (call ∷ []) action.Read old no_feed refl ([], [], refl, refl, refl))
+              (unheard (first ++ entries) call.turn n tt) rest.1;
         };
         owns = sym (append-nil mid.own);
         later = omega arith;
@@ -219,6 +222,7 @@ module _ {D C L : Type 0} (disks : DiskView D) (clocks : ClockView C) (links : L
         calls = [];
         ran = record {
           begins = Listens own units (place first q);
+          called = tt;
           done = done_at_once links spells first entries fresh old q new
               (gave_up links losts.Memory false None old new served gives refl);
         };
@@ -277,11 +281,12 @@ module _ {D C L : Type 0} (disks : DiskView D) (clocks : ClockView C) (links : L
         calls = led.calls ++ rest.0;
         ran = record {
           begins = led.begins.begun;
+          called = led.begins.called;
           done =
               done_behind links spells first entries (at_first fresh old at) x led.calls rest.0 q new
               (subst (λ (k : ℕ). Leads spells history k fresh action.Read led.calls k u one) there led.leads)
               (sym (append-nil at.own) ∙ ap (λ (ns : List ℕ). at.own ++ ns) (sym led.quiet.made))
-              (none_carried links led.calls action.Read old no_feed led.quiet.got led.quiet.put) rest.1;
+              (none_carried links led.calls action.Read old no_feed led.quiet.got led.quiet.put) led.given rest.1;
         };
         owns = owned ∙ ap (λ (ns : List ℕ). mid.own ++ ns) led.begins.opened;
         later = led.begins.later;
@@ -312,7 +317,7 @@ module _ {D C L : Type 0} (disks : DiskView D) (clocks : ClockView C) (links : L
         new = new_initiator led.begins.plan led.begins.units;
         begun = q;
         calls = led.closed.0;
-        ran = record { begins = led.begins.begun; done = led.closed.1 };
+        ran = record { begins = led.begins.begun; called = led.begins.called; done = led.closed.1 };
         owns = owned ∙ ap (λ (ns : List ℕ). mid.own ++ ns) led.begins.opened;
         later = led.begins.later;
         behind =

@@ -33,7 +33,7 @@ use Rattle.mta_worker_lists.proofs.Waits.{Asked, asked_next}
 
 -- ---- what the call leaves
 
-accept_leaves : (t v new : State) (b : Action) (a : Option Answer) → Does t (puts_accept v a) b new
+pub accept_leaves : (t v new : State) (b : Action) (a : Option Answer) → Does t (puts_accept v a) b new
     → new ≡ in_phase v phase.PutsAccept
 accept_leaves t v new b (Some a) d = d.1
 accept_leaves t v new b None d = absurd d

@@ -107,7 +107,7 @@ reads_no_reply phase.ReadsCloseAck t x i a = never a
 reads_no_reply p t x i a = never i
 
 -- what comes of a unit that is put, or read, is no reply
-no_reply : (b : Action) (e : Event) (piece : List ℕ) (t : State) → PutFor b e piece → awaits b t.phase ≡ true
+pub no_reply : (b : Action) (e : Event) (piece : List ℕ) (t : State) → PutFor b e piece → awaits b t.phase ≡ true
     → AnswersAt t.phase t e → IsNoReply e
 no_reply (action.Put u) event.Go piece t f w a = tt
 no_reply (action.Put u) event.Over piece t f w a = tt

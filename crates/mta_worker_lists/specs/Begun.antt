@@ -3,6 +3,7 @@ use Rattle.std.specs.Prelude.{◌≡◌, ◌⊎◌, ◌≤◌, ℕ, ◌+◌, ◌
 use Rattle.std.specs.Prelude.{List, [], ◌∷◌}
 use Rattle.std.specs.Prelude.{◌++◌, length}
 use Rattle.mta_links.specs.Links.{LinkView}
+use Rattle.mta_records.specs.declared.lane.LaneRole.TheVariants.{Initiator}
 use Rattle.mta_records.specs.declared.step.Step.{Step}
 use Rattle.mta_units.specs.Feed.{Feed, no_feed}
 use Rattle.mta_units.specs.declared.unit.Unit.TheVariants as unit
@@ -27,6 +28,7 @@ use Rattle.mta_shared.specs.Held.{Held}
 use Rattle.mta_worker.specs.Serving.{At}
 use Rattle.mta_worker_lists.specs.Histories.{place, whole}
 use Rattle.mta_worker_lists.specs.Leads.{AreCarried, entry_at, Leads, made_in}
+use Rattle.mta_worker_lists.specs.Roles.{AreGiven, WasOpenAs}
 
 -- A session is new at this length of the history. The lane of one that its worker began was opened or bound in the step
 -- before, and a lane that was opened is in its first generation.
@@ -90,7 +92,7 @@ LeavesLink links (Untold q x aborts is comes answers going) old fed new = HasAbo
 
 -- All that was done for a session from one point on, up to what its pass and its link were when it was over: these
 -- calls, which the history has, and its end. Of its own entries the calls tell all that the pass made then. What went
--- over the link is that of the calls, and behind them that of the end.
+-- over the link is that of the calls, and behind them that of the end. A lane that a responder has was its peer's.
 pub record IsDone {L : Type 0} (links : LinkView L) (spells : List ℕ → Bool) (first entries : List Step) (x : At L)
     (calls : List Call) (q : Held Step) (new : L) : Type 0 where
   pub mid : Held Step
@@ -105,6 +107,7 @@ pub record IsDone {L : Type 0} (links : LinkView L) (spells : List ℕ → Bool)
   pub feed : Feed
   pub carried : AreCarried links x.action calls x.link x.feed left feed
   pub leaves : LeavesLink links over left feed new
+  pub given : AreGiven (first ++ entries) calls
 
 -- a session before its first call, which is told Go as if it had been read
 abbrev pub at_first : {L : Type 0} → State → L → Held Step → At L
@@ -117,10 +120,17 @@ at_first t link pass = record {
   halt = None;
 }
 
+-- a lane that its worker opened or bound for it was opened by this agent
+abbrev pub IsCalledOn : {history : List Seen} {from : ℕ} {t : State} → (steps : List Step) → IsNewAt history from t
+    → Type 0
+IsCalledOn steps (Calls p units at from is has opens) = WasOpenAs Initiator p.lane steps
+IsCalledOn steps (Listens own units from) = Unit {0}
+
 -- a new session, over the link that a station gave, and all that it did
 pub record HasRun {L : Type 0} (links : LinkView L) (spells : List ℕ → Bool) (first entries : List Step) (old : L)
     (t : State) (p : Held Step) (calls : List Call) (q : Held Step) (new : L) : Type 0 where
   pub begins : IsNewAt (whole first entries) (place first p) t
+  pub called : IsCalledOn (first ++ entries) begins
   pub done : IsDone links spells first entries (at_first t old p) calls q new
 
 -- the entry by which a session's lane was opened or bound before its first call

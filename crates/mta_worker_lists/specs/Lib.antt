@@ -1,5 +1,6 @@
 pub mod Histories
 pub mod Leads
+pub mod Roles
 pub mod Begun
 pub mod Linked
 pub mod Good
@@ -8,3 +9,4 @@ pub mod Parts
 pub mod Examples
 pub mod All
 pub mod Agreeing
+pub mod Sides

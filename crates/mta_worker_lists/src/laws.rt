@@ -8,6 +8,7 @@ ghost use Rattle.mta_worker_lists.specs.Histories.{is_apdu, TellsApdus};
 ghost use Rattle.mta_worker_lists.specs.Linked.{LinksAreRun};
 ghost use Rattle.mta_worker_lists.specs.Parts.{LinksHaveParts, WorkersHaveParts};
 ghost use Rattle.mta_worker_lists.specs.Segments.{ListsOwnSteps, SegmentsAreGood, SessionsAreSegments};
+ghost use Rattle.mta_worker_lists.specs.Sides.{SidesAgree};
 
 use mta_edge::{Clock, Disk};
 use mta_links::{Link, Station};
@@ -85,6 +86,11 @@ pub fn all_have_parts<D: Disk + Drop, C: Clock + Drop, L: Link, S: Station>()
 /// activity up.
 pub fn steps_have_sessions<L: Link>()
     ensures { StepsHaveSessions L.model }
+{}
+
+/// Two sessions of one lane have it in one role: it is open in the role that its LaneOpen gave, as long as it is open.
+pub fn sides_agree<L: Link>()
+    ensures { SidesAgree L.model }
 {}
 
 /// So each session that they served and that had a lane has a good session list: with what came of its last action, and

@@ -1,9 +1,9 @@
 //! Two sessions of responders over one spool, by hand: the second overtakes the first.
 
-ghost use Rattle.std.specs.Prelude.{IfOk};
+ghost use Rattle.std.specs.Prelude.{◌≤◌, IfOk};
+ghost use Rattle.mta_session.specs.Rank.{calls_left};
 ghost use Rattle.mta_session.specs.declared.event.Action.TheVariants as actions;
 ghost use Rattle.mta_session_run.specs.Running.{IsCalled, action_of};
-ghost use Rattle.mta_worker_rows.specs.Reached.{IsReached};
 
 use crate::given::{limits, link};
 use crate::held;
@@ -20,21 +20,11 @@ use mta_units::Frames;
 use mta_worker::{answer, answer_all, told};
 use std::alloc::Global;
 
-// More questions than a session of a row has.
-const MOST_QUESTIONS: u32 = 1000;
-
 // A link, and what of it was not taken yet.
 #[derive(Drop)]
 struct Line {
     link: MemLink,
     frames: Frames,
-}
-
-// What a session comes to that is held at a question.
-#[derive(Drop)]
-enum Reached {
-    Asks(Ask),
-    Ends(SessionEnd),
 }
 
 fn lost() -> Error {
@@ -67,6 +57,11 @@ fn refusal_in(reply: &Reply) -> Option<StepFault> {
     }
 }
 
+// A session and a question are let go in calls of their own, so that no other proof goes through their parts.
+fn discard(_session: Session) {}
+
+fn discard_ask(_ask: Ask) {}
+
 // The session of the link that was given at this place, and what it wants first.
 fn begun<D: Disk + Drop>(
     alloc: Global,
@@ -85,7 +80,10 @@ fn begun<D: Disk + Drop>(
     let mut session = Session::responder(alloc, own, limits(held));
     match tell(&mut session, Event::Go) {
         Ok(action) => Ok((session, action)),
-        Err(_) => Err(lost()),
+        Err(_) => {
+            discard(session);
+            Err(lost())
+        }
     }
 }
 
@@ -102,7 +100,8 @@ fn line_of(alloc: Global, held: &held::Held, place: usize) -> Result<Line> {
 // Carries a session on to its next question, or to its end.
 fn next_of(alloc: Global, session: &mut Session, line: &mut Line, action: Action) -> Result<Came>
     requires { IsCalled session.old action }
-    ensures { IfOk result (λ c. IsCalled session.new (action_of c)) }
+    ensures called { IfOk result (λ c. IsCalled session.new (action_of c)) }
+    ensures left { calls_left session.new ≤ calls_left session.old }
 {
     match carry_on(alloc, &mut line.link, &mut line.frames, session, action) {
         Ok(came) => Ok(came),
@@ -118,24 +117,25 @@ fn up_to<D: Disk + Drop>(
     line: &mut Line,
     first: Action,
     name: &str,
-) -> Result<Reached>
+) -> Result<Came>
     requires { IsCalled session.old first }
-    ensures { IfOk result (IsReached session.new) }
+    ensures { IfOk result (λ c. IsCalled session.new (action_of c)) }
 {
     let mut halt = None;
     let mut action = first;
-    for _ in 0..MOST_QUESTIONS {
-        match next_of(alloc, session, line, action)? {
-            Came::Ends(end) => return Ok(Reached::Ends(end)),
-            Came::Asks(ask) => {
-                if name_of(&ask) == name {
-                    return Ok(Reached::Asks(ask));
-                }
-                action = answer_all(alloc, spool, session, ask, &mut halt).map_err(|_| lost())?;
-            }
+    loop {
+        let ask = match next_of(alloc, session, line, action)? {
+            Came::Ends(end) => return Ok(Came::Ends(end)),
+            Came::Asks(ask) => ask,
+        };
+        if name_of(&ask) == name {
+            return Ok(Came::Asks(ask));
+        }
+        match answer_all(alloc, spool, session, ask, &mut halt) {
+            Ok(next) => action = next,
+            Err(_) => return Err(lost()),
         }
     }
-    bail!("too many questions")
 }
 
 // Carries a session on to its end.
@@ -149,9 +149,27 @@ fn to_end<D: Disk + Drop>(
     requires { IsCalled session.old first }
 {
     match up_to(alloc, spool, session, line, first, "")? {
-        Reached::Ends(end) => Ok(end),
-        Reached::Asks(_) => bail!("no question has this name"),
+        Came::Ends(end) => Ok(end),
+        Came::Asks(ask) => {
+            discard_ask(ask);
+            bail!("no question has this name")
+        }
     }
+}
+
+// Carries a session on to its end, and lets it go.
+fn spent<D: Disk + Drop>(
+    alloc: Global,
+    spool: &mut Spool<D, MemClock>,
+    mut session: Session,
+    line: &mut Line,
+    first: Action,
+) -> Result<SessionEnd>
+    requires { IsCalled session first }
+{
+    let end = to_end(alloc, spool, &mut session, line, first);
+    discard(session);
+    end
 }
 
 // The second session from its beginning to its end.
@@ -161,8 +179,8 @@ fn second<D: Disk + Drop>(
     spool: &mut Spool<D, MemClock>,
     line: &mut Line,
 ) -> Result<SessionEnd> {
-    let (mut session, action) = begun(alloc, held, spool)?;
-    to_end(alloc, spool, &mut session, line, action)
+    let (session, action) = begun(alloc, held, spool)?;
+    spent(alloc, spool, session, line, action)
 }
 
 // The question that was held is answered, and the session goes on to its end.
@@ -177,9 +195,10 @@ fn go_on<D: Disk + Drop>(
 {
     let reply = answer(alloc, spool, ask);
     let refusal = refusal_in(&reply);
-    let action = told(session, reply).map_err(|_| lost())?;
-    let end = to_end(alloc, spool, session, line, action)?;
-    Ok((refusal, end))
+    match told(session, reply) {
+        Ok(action) => Ok((refusal, to_end(alloc, spool, session, line, action)?)),
+        Err(_) => Err(lost()),
+    }
 }
 
 // What is told where the first session comes to its end before it is held.
@@ -209,9 +228,53 @@ fn held_at<D: Disk + Drop>(
 ) -> Result<String>
     requires { IsCalled session.old (actions.Ask ask) }
 {
-    let second = second(alloc, held, spool, other)?;
-    let (refusal, first) = go_on(alloc, spool, session, one, ask)?;
-    said(alloc, &refusal, &first, &second)
+    match second(alloc, held, spool, other) {
+        Ok(second) => {
+            let (refusal, first) = go_on(alloc, spool, session, one, ask)?;
+            said(alloc, &refusal, &first, &second)
+        }
+        Err(error) => {
+            discard_ask(ask);
+            Err(error)
+        }
+    }
+}
+
+// A session from this action on, which is held at a question of this name, and the second session then.
+fn from_action<D: Disk + Drop>(
+    alloc: Global,
+    held: &held::Held,
+    spool: &mut Spool<D, MemClock>,
+    session: &mut Session,
+    one: &mut Line,
+    other: &mut Line,
+    first: Action,
+    name: &str,
+) -> Result<String>
+    requires { IsCalled session.old first }
+{
+    match up_to(alloc, spool, session, one, first, name)? {
+        Came::Ends(end) => said_alone(alloc, &end),
+        Came::Asks(ask) => held_at(alloc, held, spool, session, one, other, ask),
+    }
+}
+
+// The same, and the session is let go.
+fn spent_from<D: Disk + Drop>(
+    alloc: Global,
+    held: &held::Held,
+    spool: &mut Spool<D, MemClock>,
+    mut session: Session,
+    one: &mut Line,
+    other: &mut Line,
+    first: Action,
+    name: &str,
+) -> Result<String>
+    requires { IsCalled session first }
+{
+    let said = from_action(alloc, held, spool, &mut session, one, other, first, name);
+    discard(session);
+    said
 }
 
 // Both sessions, the first of which is held at a question of this name.
@@ -223,11 +286,21 @@ fn both<D: Disk + Drop>(
     other: &mut Line,
     name: &str,
 ) -> Result<String> {
-    let (mut session, action) = begun(alloc, held, spool)?;
-    match up_to(alloc, spool, &mut session, one, action, name)? {
-        Reached::Ends(end) => said_alone(alloc, &end),
-        Reached::Asks(ask) => held_at(alloc, held, spool, &mut session, one, other, ask),
-    }
+    let (session, action) = begun(alloc, held, spool)?;
+    spent_from(alloc, held, spool, session, one, other, action, name)
+}
+
+// Both over a spool, and its disk then.
+fn both_over<D: Disk + Drop>(
+    alloc: Global,
+    held: &held::Held,
+    mut spool: Spool<D, MemClock>,
+    one: &mut Line,
+    other: &mut Line,
+    name: &str,
+) -> (D, Result<String>) {
+    let said = both(alloc, held, &mut spool, one, other, name);
+    (spool.end(), said)
 }
 
 fn puts_of(alloc: Global, one: &Line, other: &Line) -> Result<Vec<Vec<u8>>> {
@@ -240,13 +313,14 @@ fn puts_of(alloc: Global, one: &Line, other: &Line) -> Result<Vec<Vec<u8>>> {
 
 /// Carries on two sessions, the first of which is held at its first question of this name until the second ends.
 pub fn overtakes(alloc: Global, held: &mut held::Held, name: &str) -> Result<String> {
-    let octets = std::mem::replace(&mut held.disk, Vec::new(alloc));
-    let disk = SafeDisk::new(alloc, Octets::from_vec(octets));
-    let mut spool = opened(alloc, held, disk)?;
     let mut one = line_of(alloc, held, 0)?;
     let mut other = line_of(alloc, held, 1)?;
-    let said = both(alloc, held, &mut spool, &mut one, &mut other, name)?;
-    held.disk = spool.end().octets().to_vec(alloc)?;
+    let octets = std::mem::replace(&mut held.disk, Vec::new(alloc));
+    let disk = SafeDisk::new(alloc, Octets::from_vec(octets));
+    let spool = opened(alloc, held, disk)?;
+    let (disk, said) = both_over(alloc, held, spool, &mut one, &mut other, name);
+    let said = said?;
+    held.disk = disk.octets().to_vec(alloc)?;
     held.given = Vec::new(alloc);
     held.puts = puts_of(alloc, &one, &other)?;
     Ok(said)

@@ -5,7 +5,7 @@ use crate::held::Held;
 use crate::works::opened;
 use anyhow::{Result, anyhow, bail};
 use mta_apdu::Apdu;
-use mta_edge::{MemClock, SafeDisk};
+use mta_edge::{MemClock, Memory, Octets, SafeDisk};
 use mta_rows::shown;
 use mta_show::{show_mailbox, show_queue};
 use mta_spool::{Spool, Tables, Turned};
@@ -18,40 +18,73 @@ fn spool_of(alloc: Global, held: &Held) -> Result<Spool<SafeDisk, MemClock>> {
     opened(alloc, held, safe_disk(alloc, held.disk.as_slice())?)
 }
 
-fn tables_of(alloc: Global, held: &Held) -> Result<Tables> {
-    match Tables::read(alloc, held.tables.as_slice()) {
-        Ok(tables) => Ok(tables),
-        Err(_) => Err(anyhow!("no tables")),
+fn queue_in(
+    alloc: Global,
+    spool: Spool<SafeDisk, MemClock>,
+) -> std::result::Result<Octets, Memory> {
+    let text = show_queue(alloc, spool.items(), spool.lanes());
+    spool.end();
+    text
+}
+
+fn mailbox_in(
+    alloc: Global,
+    spool: Spool<SafeDisk, MemClock>,
+    word: &str,
+) -> std::result::Result<Octets, Memory> {
+    let text = show_mailbox(alloc, word.as_bytes(), spool.items(), spool.mailboxes());
+    spool.end();
+    text
+}
+
+fn text_of(alloc: Global, text: std::result::Result<Octets, Memory>) -> Result<String> {
+    match text {
+        Ok(text) => Ok(shown(alloc, text.as_slice())?),
+        Err(_) => Err(anyhow!("no memory")),
     }
 }
 
 /// The queue of the spool that these octets are.
 pub fn queue(alloc: Global, held: &Held, octets: &[u8]) -> Result<String> {
     let spool = opened(alloc, held, safe_disk(alloc, octets)?)?;
-    match show_queue(alloc, spool.items(), spool.lanes()) {
-        Ok(text) => Ok(shown(alloc, text.as_slice())?),
-        Err(_) => Err(anyhow!("no memory")),
-    }
+    text_of(alloc, queue_in(alloc, spool))
 }
 
 /// What the mailbox of this word got.
 pub fn mailbox(alloc: Global, held: &Held, word: &str) -> Result<String> {
     let spool = spool_of(alloc, held)?;
-    match show_mailbox(alloc, word.as_bytes(), spool.items(), spool.mailboxes()) {
-        Ok(text) => Ok(shown(alloc, text.as_slice())?),
-        Err(_) => Err(anyhow!("no memory")),
+    text_of(alloc, mailbox_in(alloc, spool, word))
+}
+
+// How many items the spool has once these tables are recorded; none where they are not.
+fn items_under(spool: &mut Spool<SafeDisk, MemClock>, tables: &Tables) -> Option<usize> {
+    match spool.set_tables(tables) {
+        Ok(()) => Some(spool.items().len()),
+        Err(_) => None,
     }
+}
+
+// The same of the tables of a text, and the disk then.
+fn recorded(
+    alloc: Global,
+    mut spool: Spool<SafeDisk, MemClock>,
+    text: &[u8],
+) -> (SafeDisk, Option<usize>) {
+    let items = match Tables::read(alloc, text) {
+        Ok(tables) => items_under(&mut spool, &tables),
+        Err(_) => None,
+    };
+    (spool.end(), items)
 }
 
 /// Records the tables in the spool that the disk holds, and keeps what it holds then: how many items the spool has.
 pub fn records(alloc: Global, held: &mut Held) -> Result<String> {
-    let tables = tables_of(alloc, held)?;
-    let mut spool = spool_of(alloc, held)?;
-    if spool.set_tables(&tables).is_err() {
-        bail!("not recorded");
-    }
-    let items = spool.items().len();
-    held.disk = spool.end().octets().to_vec(alloc)?;
+    let spool = spool_of(alloc, held)?;
+    let (disk, items) = recorded(alloc, spool, held.tables.as_slice());
+    let Some(items) = items else {
+        bail!("no tables, or not recorded");
+    };
+    held.disk = disk.octets().to_vec(alloc)?;
     Ok(format!(in alloc; "{items}")?)
 }
 
@@ -87,13 +120,48 @@ fn settle(spool: &mut Spool<SafeDisk, MemClock>) -> Result<()> {
     bail!("too many steps")
 }
 
+// Takes octets as the next item, under the tables of a text; its number.
+fn accept_under(
+    alloc: Global,
+    spool: &mut Spool<SafeDisk, MemClock>,
+    text: &[u8],
+    octets: &[u8],
+) -> Result<u32> {
+    match Tables::read(alloc, text) {
+        Ok(tables) => accept(alloc, spool, &tables, octets),
+        Err(_) => Err(anyhow!("no tables")),
+    }
+}
+
+// The same, and makes the steps that are due then.
+fn take_up(
+    alloc: Global,
+    spool: &mut Spool<SafeDisk, MemClock>,
+    text: &[u8],
+    octets: &[u8],
+) -> Result<u32> {
+    let number = accept_under(alloc, spool, text, octets)?;
+    settle(spool)?;
+    Ok(number)
+}
+
+// The same, and the disk then.
+fn take_into(
+    alloc: Global,
+    mut spool: Spool<SafeDisk, MemClock>,
+    text: &[u8],
+    octets: &[u8],
+) -> (SafeDisk, Result<u32>) {
+    let taken = take_up(alloc, &mut spool, text, octets);
+    (spool.end(), taken)
+}
+
 /// Takes octets as the next item of the spool that the disk holds, does what is due, and keeps what it holds then.
 pub fn submit(alloc: Global, held: &mut Held, text: &str) -> Result<String> {
     let octets = held.names.octets(alloc, text)?;
-    let tables = tables_of(alloc, held)?;
-    let mut spool = spool_of(alloc, held)?;
-    let number = accept(alloc, &mut spool, &tables, octets.as_slice())?;
-    settle(&mut spool)?;
-    held.disk = spool.end().octets().to_vec(alloc)?;
+    let spool = spool_of(alloc, held)?;
+    let (disk, taken) = take_into(alloc, spool, held.tables.as_slice(), octets.as_slice());
+    let number = taken?;
+    held.disk = disk.octets().to_vec(alloc)?;
     Ok(format!(in alloc; "accepted {number}")?)
 }

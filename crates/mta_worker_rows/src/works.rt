@@ -1,4 +1,7 @@
 //! A worker over the disk as it is.
+//!
+//! A spool is changed and ended in a function to which it is handed: where it comes out of a `?` of the same one, or is
+//! dropped there, the proof goes through each of its parts.
 
 ghost use Rattle.std.specs.Prelude.{IfOk};
 ghost use Rattle.mta_edge.specs.Moments.{memory_clock};
@@ -6,7 +9,7 @@ ghost use Rattle.mta_spool.specs.Bases.{base_of, Keeps};
 
 use crate::given::{clock, disk_of, limits, station};
 use crate::held::Held;
-use anyhow::{Result, anyhow, bail};
+use anyhow::{Result, anyhow};
 use mta_edge::{Disk, MemClock, Octets, SafeDisk};
 use mta_links::{MemLink, MemStation};
 use mta_session::Limits;
@@ -51,11 +54,16 @@ fn alone<R: Wait, D: Disk + Drop>(
 ) -> Result<(D, WorkerEnd)>
     requires { Keeps D.model memory_clock spool (base_of D.model memory_clock spool) }
 {
-    let Ok((shared, mut pass)) = Shared::open(alloc, spool) else {
-        bail!("no memory");
-    };
-    let end = work(rt, alloc, &shared, &mut pass, station, limits);
-    Ok((shared.close(pass).end(), end))
+    match Shared::open(alloc, spool) {
+        Ok((shared, mut pass)) => {
+            let end = work(rt, alloc, &shared, &mut pass, station, limits);
+            Ok((shared.close(pass).end(), end))
+        }
+        Err(spool) => {
+            spool.end();
+            Err(anyhow!("no memory"))
+        }
+    }
 }
 
 fn puts_of(alloc: Global, links: &[MemLink]) -> Result<Vec<Vec<u8>>, AllocError> {
@@ -64,6 +72,21 @@ fn puts_of(alloc: Global, links: &[MemLink]) -> Result<Vec<Vec<u8>>, AllocError>
         puts.push(link.octets().to_vec(alloc)?)?;
     }
     Ok(puts)
+}
+
+// What a worker of this station makes of a spool.
+fn work_with<R: Wait, D: Disk + Drop>(
+    rt: &R,
+    alloc: Global,
+    held: &Held,
+    spool: Spool<D, MemClock>,
+    mut station: MemStation,
+) -> Result<Worked<D>>
+    requires { Keeps D.model memory_clock spool (base_of D.model memory_clock spool) }
+{
+    let (disk, end) = alone(rt, alloc, spool, &mut station, &limits(held))?;
+    let puts = puts_of(alloc, station.ended())?;
+    Ok(Worked { disk, puts, end })
 }
 
 /// What a worker of this role makes of a spool.
@@ -76,10 +99,13 @@ pub fn work_at<R: Wait, D: Disk + Drop>(
 ) -> Result<Worked<D>>
     requires { Keeps D.model memory_clock spool (base_of D.model memory_clock spool) }
 {
-    let mut station = station(alloc, held, role)?;
-    let (disk, end) = alone(rt, alloc, spool, &mut station, &limits(held))?;
-    let puts = puts_of(alloc, station.ended())?;
-    Ok(Worked { disk, puts, end })
+    match station(alloc, held, role) {
+        Ok(station) => work_with(rt, alloc, held, spool, station),
+        Err(error) => {
+            spool.end();
+            Err(error)
+        }
+    }
 }
 
 /// What a worker came to.

@@ -1,0 +1,30 @@
+-- Who opened the lane that a session has: this agent or its peer.
+use Rattle.std.specs.Prelude.{◌≡◌, ℕ, List, [], ◌∷◌, ◌++◌, Some}
+use Rattle.mta_records.specs.declared.lane.LaneRole.{LaneRole}
+use Rattle.mta_records.specs.declared.lane.LaneRole.TheVariants.{Responder}
+use Rattle.mta_records.specs.declared.step.Step.{Step}
+use Rattle.mta_histories.specs.History.{after}
+use Rattle.mta_histories.specs.Lanes.{Lane, State, lane_at}
+use Rattle.mta_session_lists.specs.Calls.{Call, StepOn}
+use Rattle.mta_session_lists.specs.Lists.{step_by}
+
+-- the lane is open, in this role
+pub record IsOpenAs (role : LaneRole) (lane : ℕ) (s : State) : Type 0 where
+  pub now : Lane
+  pub now_is : lane_at lane s.lanes.open_lanes ≡ Some now
+  pub role_is : now.role ≡ role
+
+-- at some length of the history it was so
+pub record WasOpenAs (role : LaneRole) (lane : ℕ) (steps : List Step) : Type 0 where
+  pub before : List Step
+  pub behind : List Step
+  pub parts : before ++ behind ≡ steps
+  pub opened : IsOpenAs role lane (after before)
+
+-- where one of these calls tells a responder that it has a lane, its peer opened that lane
+abbrev pub AreGiven : (steps : List Step) → List Call → Type 0
+AreGiven steps [] = Unit {0}
+AreGiven steps (c ∷ cs) =
+    ((x : StepOn) → step_by c.turn.before.phase c.turn.event c.turn.after ≡ Some x
+    → WasOpenAs Responder c.turn.after.lane steps)
+    × AreGiven steps cs
