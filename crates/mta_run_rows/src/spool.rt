@@ -1,5 +1,5 @@
-//! Tables that are recorded in a spool. A spool and tables are used up in functions to which they are handed: where they
-//! come out of a `?` of the same one, or are dropped on one of its ways, the proof goes through each of their parts.
+//! Tables that are recorded in a spool. A spool and tables are used up in functions to which they are handed: where
+//! they come out of a `?` of the same one, or are dropped on one of its ways, the proof goes through all their parts.
 
 use crate::given::disk_of;
 use crate::held::Held;
