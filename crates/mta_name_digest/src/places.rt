@@ -52,6 +52,7 @@ impl Places {
     /// Adds a place under its digest.
     pub fn add(&mut self, digest: u64, place: u32) -> Result<(), Memory>
         ensures ok { OnOk result (self.new.whole ≡ true → Adds self.old digest place self.new) }
+        ensures free { OnOk result (self.old.whole ≡ true → place_of self.old digest ≡ None → self.new.whole ≡ true) }
         ensures err { OnErr result (self.new ≡ self.old) }
     {
         let earlier = self.map.insert(digest, place)?;

@@ -1,11 +1,11 @@
 //! Numbers of 0 to 32,767, and object identifiers: values that hold nothing else.
 
-ghost use Rattle.mta_ber.specs.Parts.{Reads};
+ghost use Rattle.std.specs.Prelude.{◌≡◌};
 ghost use Rattle.mta_ber.specs.Seen.{view};
 ghost use Rattle.mta_names.specs.Strings.{number_in};
 
 use crate::extension::read_number;
-use mta_ber::{Memory, Octets, ReadFault, View};
+use mta_ber::{Fault, Memory, Octets, ReadFault, View};
 use std::alloc::Global;
 use std::marker::Model;
 
@@ -101,8 +101,8 @@ impl ObjectId {
 }
 
 /// A code of 0 to 32,767 that an INTEGER spells.
-pub fn read_code(part: &View) -> Result<Code, ReadFault>
-    ensures { Reads result (number_in 0 32767 (view part.now)) }
+pub fn read_code(part: &View) -> Result<Code, Fault>
+    ensures { result ≡ number_in 0 32767 (view part.now) }
 {
     let number = read_number(part, 0, 32767)?;
     Ok(Code { number })

@@ -12,7 +12,7 @@ ghost use Rattle.mta_names.specs.Strings.{number_in};
 use crate::attributes::{Attribute, Extra, ExtraFields};
 use crate::row::Row;
 use mta_ber::{
-    Components, Kind, Octets, ReadFault, Text, TextClass, View, bad, is_tag_of, take_parts,
+    Components, Fault, Kind, Octets, ReadFault, Text, TextClass, View, bad, is_tag_of, take_parts,
     take_required,
 };
 use std::alloc::Global;
@@ -49,8 +49,8 @@ pub struct ExtensionParts {
 
 /// An INTEGER of `low` to `high`.
 #[tactic(auto, unfolding(crate::specs::Strings::number_in))]
-pub fn read_number(part: &View, low: u32, high: u32) -> Result<u32, ReadFault>
-    ensures { Reads result (number_in low high (view part.now)) }
+pub fn read_number(part: &View, low: u32, high: u32) -> Result<u32, Fault>
+    ensures { result ≡ number_in low high (view part.now) }
 {
     let number = part.int(low as i64, high as i64)?;
     Ok(number as u32)

@@ -1,8 +1,8 @@
 //! Replaying the bodies of a journal: the state in memory after them.
 //!
 //! Each body is read as a step (`read_record`), which is taken up where it is possible after those before it, as a
-//! step that is made is, without the journal, and is freed then. Out goes the state, or the place of the first body that
-//! is no such step, or want of memory. The disk is not called.
+//! step that is made is, without the journal, and is freed then. Out goes the state, or the place of the first body
+//! that is no such step, or want of memory. The disk is not called.
 
 ghost use Rattle.std.specs.Prelude.{◌≡◌, ◌<◌, ◌+◌, ◌^◌, length, IfErr, IfOk};
 ghost use Rattle.mta_journal.specs.Bodies.{AreShort, front};
