@@ -8,8 +8,6 @@
 set -u
 cd "$(dirname "$0")/.." || exit 2
 . checks/speed.bash
-the_program python3
-folder=$(mktemp -d /var/tmp/open.XXXXXX)
-trap 'rm -rf "$made" "$folder"' EXIT
+on_disk open
 decoder
 python3 checks/open_speed.py "$mta" "$folder" "$asn1c" "${@:-1000 10000 100000}"

@@ -8,7 +8,5 @@
 set -u
 cd "$(dirname "$0")/.." || exit 2
 . checks/speed.bash
-the_program python3
-folder=$(mktemp -d /var/tmp/relay.XXXXXX)
-trap 'rm -rf "$made" "$folder"' EXIT
+on_disk relay
 python3 checks/relay_speed.py "$mta" "$folder" "${@:-160}"

@@ -1,8 +1,9 @@
 # Sourced by the scripts that take times.
 #
 # `bench NAME` sets `program` to the program of a crate that is timed, and builds it where PROGRAMS names no folder that
-# has it. `the_program TOOL..` is `program` of checks/program.bash, or the program in MTA. `decoder` sets `asn1c` to the
-# decoder that asn1c makes of checks/asn1c_speed.asn1, or to nothing where a tool is missing, and says so.
+# has it. `the_program TOOL..` is `program` of checks/program.bash, or the program in MTA. `on_disk NAME` is that with
+# python3, and sets `folder` to one under /var/tmp that goes when the script ends. `decoder` sets `asn1c` to the decoder
+# that asn1c makes of checks/asn1c_speed.asn1, or to nothing where a tool is missing, and says so.
 . checks/program.bash
 export PYTHONDONTWRITEBYTECODE=1
 
@@ -23,6 +24,12 @@ the_program() {
   mta=$MTA
   made=$(mktemp -d)
   trap 'rm -rf "$made"' EXIT
+}
+
+on_disk() {
+  the_program python3
+  folder=$(mktemp -d "/var/tmp/$1.XXXXXX")
+  trap 'rm -rf "$made" "$folder"' EXIT
 }
 
 decoder() {

@@ -7,7 +7,5 @@
 set -u
 cd "$(dirname "$0")/.." || exit 2
 . checks/speed.bash
-the_program python3
-exec_in=$(mktemp -d /var/tmp/submit.XXXXXX)
-trap 'rm -rf "$made" "$exec_in"' EXIT
-python3 checks/submit_speed.py "$mta" "$exec_in" "${@:-1000}"
+on_disk submit
+python3 checks/submit_speed.py "$mta" "$folder" "${@:-1000}"
