@@ -23,6 +23,8 @@ pub mod Good
 pub mod Segments
 pub mod Unlisted
 pub mod OwnSteps
+pub mod Beginning
+pub mod Once
 pub mod Keeping
 pub mod Owned
 pub mod Sessions

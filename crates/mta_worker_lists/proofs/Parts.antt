@@ -25,6 +25,7 @@ closings_plain history n ks are = record {
   lists = λ k lane g step hit get piece.
       let closed = are k hit in
       closes_none closed.0 lane closed.1 g step (sym closed.2 ∙ get) piece;
+  once = λ k lane g hit begins. tt;
 }
 
 seen_same : (x y : Seen) → Some x ≡ Some y → x ≡ y

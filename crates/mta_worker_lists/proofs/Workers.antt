@@ -321,6 +321,7 @@ module _ {D C L S : Type 0} (disks : DiskView D) (clocks : ClockView C) (links :
                 let same = some_same _ _ (sym there ∙ ap (λ (n : ℕ). slice_get history (length first + n)) (sym place)
                 ∙ get) in
                 due_plain (after (first ++ old.entries)) old.current _ _ lane g step other i.did.at.0 same piece);
+            once = λ k lane g hit begins. tt;
           },
           tt,
         );
