@@ -36,6 +36,7 @@ use Rattle.mta_worker_lists.proofs.Annotating.{length_seen}
 use Rattle.mta_worker_lists.proofs.Segments.{is_segment, maker, Maker}
 use Rattle.mta_lane_lists.specs.Lanes.{AreOnSide, EachBegan, HaveLane, HaveSteps, IsOnSide, IsStation}
 use Rattle.mta_lane_lists.proofs.Sides.{side_of}
+use Rattle.mta_lane_lists.proofs.Told.{each_began}
 use Rattle.mta_lane_lists.specs.Lanes.{LanesOfStationsAgree}
 use Rattle.mta_lane_lists.specs.Turns.{AreInTurn, None_more, Then}
 use Rattle.mta_lane_lists.proofs.Ones.{one_list, OneList}
@@ -585,9 +586,10 @@ on_side good may_stop whole_agree agree links spells first entries low all tells
 pub lanes_agree : ListsAreGood → ListsMayStop → SessionsAgree → OneStationAgrees → {L : Type 0} (links : LinkView L)
     → LanesOfStationsAgree links
 lanes_agree good may_stop whole_agree agree links spells first entries low all tells possible lane size window ss one
-    station have began values before added cut from_is = (
+    station have told values before added cut from_is = (
       side_of links spells first entries possible lane ss one.sessions,
       λ initiator side.
           on_side good may_stop whole_agree agree links spells first entries low all tells possible lane size window ss
-          one station have began values before added cut from_is initiator side,
+          one station have (each_began links spells first entries low all lane ss have told) values before added cut
+          from_is initiator side,
     )

@@ -3,3 +3,4 @@ pub mod Between
 pub mod Ones
 pub mod Lanes
 pub mod Sides
+pub mod Told
