@@ -70,6 +70,7 @@ module _ {D C L S : Type 0} (disks : DiskView D) (clocks : ClockView C) (links :
     pub mid : Held Step
     pub served : Served
     pub next : LeadsNext links (Some link) (stations.served x.station) (stations.served given)
+    pub kept : stations.role given ≡ stations.role x.station
     pub session : IsLinkServed disks clocks links (stations.role given) units x.pass link left mid served
     pub back : LeadsBack links left (stations.served given) (stations.served y.station)
     pub out : stations.out y.station ≡ stations.out x.station
