@@ -4,3 +4,4 @@ pub mod Ones
 pub mod Lanes
 pub mod Sides
 pub mod Told
+pub mod Called

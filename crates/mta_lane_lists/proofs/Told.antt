@@ -16,7 +16,7 @@ use Rattle.mta_worker_lists.proofs.Segments.{is_segment}
 use Rattle.mta_lane_lists.specs.Lanes.{AreTold, BeganAt, EachBegan, HaveLane}
 
 -- such a step is made for a session
-for_one : (lane g : ℕ) (x : Seen) → BeginsHere lane g x → IsForNone x → ⊥
+pub for_one : (lane g : ℕ) (x : Seen) → BeginsHere lane g x → IsForNone x → ⊥
 for_one lane g (On m (h.LaneOpen agreed size window)) b none = none
 for_one lane g (On m (h.Bind j)) b none = none
 for_one lane g x b none = b

@@ -29,7 +29,8 @@ pub record BeganAt (s : Segment) (lane at : ℕ) : Type 0 where
   pub lane_is : on.lane ≡ lane
   pub at_is : on.at ≡ at
 
--- Each session that opened or bound the lane was told so, and has a list; for want of memory one may not be told.
+-- Each session that opened or bound the lane was told so, and has a list. For want of memory one may not be told of a
+-- lane that its peer opened.
 abbrev pub AreTold : List Seen → (before lane : ℕ) → List Segment → Type 0
 AreTold history before lane parts =
     (s : Segment) (k g : ℕ) → IsOne s parts → s.list ≡ None → 0 < times k s.own
@@ -67,8 +68,9 @@ HaveSteps links spells first entries parts before added lane size window initiat
     (ls : List SessionList) × AreListsIn links spells first entries parts lane size window initiator ls
     × LaneAgrees spells before added lane size window initiator ls
 
--- Where one station had all sessions of a lane, and each was told that it has it, all are on one side, and their lists, in the order in which they were served, have the steps of both halves that the
--- history has from there on, in its order, and the two ends agree. (Where it had none, so it is on either side.)
+-- Where one station had all sessions of a lane, and each was told that it has it, all are on one side, and their lists,
+-- in the order in which they were served, have the steps of both halves that the history has from some length on, in its
+-- order, and the two ends agree. (Where it had none, so it is on either side.)
 abbrev pub LanesAgree : {L : Type 0} (links : LinkView L) (spells : List ℕ → Bool) (first entries : List Step)
     (low : ℕ) → AllParts links spells first entries low → Type 0
 LanesAgree links spells first entries low all =

@@ -149,7 +149,7 @@ begins_told l g x z o e f b =
     subst (λ (s : Seen). BeginsHere l g s) same b
 
 module _ (spells : List ℕ → Bool) (history : List Seen) (n : ℕ) where
-  entry_begins : (q : Ask) (y : Reply) (o : Option StepOn) (from seen k l g : ℕ) → step_told q y ≡ o
+  pub entry_begins : (q : Ask) (y : Reply) (o : Option StepOn) (from seen k l g : ℕ) → step_told q y ≡ o
       → StandsAs spells history from seen q y o → n ≤ from → 0 < times k (entry_at n seen o)
       → BeginsAt history (n + k) l g → IsBegin q y
   entry_begins q y None from seen k l g e s le hit b = none_hit k hit
