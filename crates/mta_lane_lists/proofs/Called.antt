@@ -69,11 +69,11 @@ module _ (lane : ℕ) where
 
   find : (ss : List Segment) → Having ss ⊎ NoneHas ss
   find [] = inr (λ s on i e f. absurd i)
-  find (s ∷ ss) = by_list s.list refl
+  find (s ∷ ss) = by_list (find ss) s.list refl
     where
-      by_list : (o : Option OnLane) → s.list ≡ o → Having (s ∷ ss) ⊎ NoneHas (s ∷ ss)
-      by_list None e = not_first s ss (λ on f g. no_list s on e f) (find ss)
-      by_list (Some on) e = by_lane (on.lane == lane) refl
+      by_list : Having ss ⊎ NoneHas ss → (o : Option OnLane) → s.list ≡ o → Having (s ∷ ss) ⊎ NoneHas (s ∷ ss)
+      by_list rest None e = not_first s ss (λ on f g. no_list s on e f) rest
+      by_list rest (Some on) e = by_lane (on.lane == lane) refl
         where
           by_lane : (t : Bool) → (on.lane == lane) ≡ t → Having (s ∷ ss) ⊎ NoneHas (s ∷ ss)
           by_lane true t =
@@ -87,7 +87,7 @@ module _ (lane : ℕ) where
           by_lane false t =
               not_first s ss
               (λ o f g.
-              eqb-false on.lane lane t (ap (λ (z : OnLane). z.lane) (same_on on o (sym e ∙ f)) ∙ g)) (find ss)
+              eqb-false on.lane lane t (ap (λ (z : OnLane). z.lane) (same_on on o (sym e ∙ f)) ∙ g)) rest
 
 -- ---- the station of the lane
 
@@ -173,10 +173,10 @@ module _ {L : Type 0} (links : LinkView L) (spells : List ℕ → Bool) (first e
     station = inr refl;
     have = λ s on i e f. absurd i;
   }
-  the_station from (ss ∷ more) t others = by_find (find lane ss)
+  the_station from (ss ∷ more) t others = by_find (the_station from more t.1 others.1) (find lane ss)
     where
-      by_find : Having lane ss ⊎ NoneHas lane ss → Station from (ss ∷ more)
-      by_find (inl h) =
+      by_find : Station from more → Having lane ss ⊎ NoneHas lane ss → Station from (ss ∷ more)
+      by_find rest (inl h) =
           let x = of_role t.0.role ss t.0.sessions h.segment h.on t.0.of_role h.one h.has in
           let c : Called h.segment x.0 = called h.segment x.0 h.on h.has h.lane_is in
           record {
@@ -191,18 +191,16 @@ module _ {L : Type 0} (links : LinkView L) (spells : List ℕ → Bool) (first e
                       (is_called c.peer c.calls from more t.1 s on later e f))
                 ];
           }
-      by_find (inr none) =
-          let rest : Station from more = the_station from more t.1 others.1 in
-          record {
-            served = rest.served;
-            parts = rest.parts;
-            station = elim rest.station [ inl i ↦ inl (inr i) | inr e ↦ inr e ];
-            have = λ s on i e f.
-                elim (one_in s ss (all_of more) i) [
-                  | inl here ↦ absurd (none s on here e f)
-                  | inr later ↦ rest.have s on later e f
-                ];
-          }
+      by_find rest (inr none) = record {
+        served = rest.served;
+        parts = rest.parts;
+        station = elim rest.station [ inl i ↦ inl (inr i) | inr e ↦ inr e ];
+        have = λ s on i e f.
+            elim (one_in s ss (all_of more) i) [
+              | inl here ↦ absurd (none s on here e f)
+              | inr later ↦ rest.have s on later e f
+            ];
+      }
 
   -- ---- its sessions
 
