@@ -241,8 +241,8 @@ pub called_lanes_agree : ListsAreGood → ListsMayStop → SessionsAgree → One
     (links : LinkView L) → CalledLanesOfStationsAgree links
 called_lanes_agree good may_stop whole_agree agree links spells first entries low all tells possible others lane size
     window was values before added cut from_is =
-    let st = the_station links spells first entries possible lane was (length first + low) all.by_station all.turns others
-    in
+    let st = the_station links spells first entries possible lane was (length first + low) all.by_station all.turns
+    others in
     let have : HaveLane st.served all.parts lane =
     subst (λ (ps : List Segment). HaveLane st.served ps lane) (sym all.of_stations) st.have in
     record {

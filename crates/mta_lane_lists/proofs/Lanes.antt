@@ -527,7 +527,8 @@ pub on_side : ListsAreGood → ListsMayStop → SessionsAgree → OneStationAgre
     (spells : List ℕ → Bool) (first entries : List Step) (low : ℕ) (all : AllParts links spells first entries low)
     → TellsApdus spells → IsHistory (first ++ entries) → (lane size window : ℕ) (ss : List Segment)
     (one : StationParts links spells first entries (length first + low) ss)
-    → ((s : Segment) → IsOne s ss → IsOne s all.parts) → HaveLane ss all.parts lane → EachBegan (whole first entries) (length first + low) lane ss
+    → ((s : Segment) → IsOne s ss → IsOne s all.parts) → HaveLane ss all.parts lane
+    → EachBegan (whole first entries) (length first + low) lane ss
     → AreValues (whole first entries) lane size window → (before added : List Seen)
     → before ++ added ≡ whole first entries → length before ≡ length first + low → (initiator : Bool)
     → AreOnSide links spells first entries lane initiator ss one.sessions

@@ -37,8 +37,8 @@ module _ {L : Type 0} (links : LinkView L) (spells : List ℕ → Bool) (first e
   abbrev history : List Seen
   history = whole first entries
 
-  by_list : (p k g : ℕ) (s : Segment) → IsOne s all.parts → 0 < times k s.own → BeginsAt history (length first + k) lane g
-      → length first + k ≡ p → (o : Option OnLane) → s.list ≡ o → IsBegunAt o (length first + k) lane
+  by_list : (p k g : ℕ) (s : Segment) → IsOne s all.parts → 0 < times k s.own
+      → BeginsAt history (length first + k) lane g → length first + k ≡ p → (o : Option OnLane) → s.list ≡ o → IsBegunAt o (length first + k) lane
       → (r : Segment) × IsOne r ss × BeganAt r lane p
   by_list p k g s one hit b at None e once = absurd (told s k g one e hit b)
   by_list p k g s one hit b at (Some on) e once = (

@@ -69,8 +69,8 @@ HaveSteps links spells first entries parts before added lane size window initiat
     × LaneAgrees spells before added lane size window initiator ls
 
 -- Where one station had all sessions of a lane, and each was told that it has it, all are on one side, and their lists,
--- in the order in which they were served, have the steps of both halves that the history has from some length on, in its
--- order, and the two ends agree. (Where it had none, so it is on either side.)
+-- in the order in which they were served, have the steps of both halves that the history has from some length on, in
+-- its order, and the two ends agree. (Where it had none, so it is on either side.)
 abbrev pub LanesAgree : {L : Type 0} (links : LinkView L) (spells : List ℕ → Bool) (first entries : List Step)
     (low : ℕ) → AllParts links spells first entries low → Type 0
 LanesAgree links spells first entries low all =

@@ -80,8 +80,8 @@ module _ {D C I L S : Type 0} (disks : DiskView D) (clocks : ClockView C) (sourc
       after out result
       → HasCommanded disks clocks sources links stations (Some words) conf conf_after input input disk disk_after
       clock before after out result
-  commanded_serving words sessions named is said roles theirs conf conf_after input disk disk_after clock before after out
-      result x =
+  commanded_serving words sessions named is said roles theirs conf conf_after input disk disk_after clock before after
+      out result x =
       subst (λ (w : Words). HasCommanded disks clocks sources links stations (Some w) conf conf_after input input disk
       disk_after clock before after out result) (sym is)
       (x input named roles_are (subst CallOthers (sym roles_are) (call_others words sessions named is said)))

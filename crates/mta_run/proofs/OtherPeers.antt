@@ -72,8 +72,8 @@ first_other : (earlier later : List StationWord) (x : StationWord) (peer : List 
 first_other earlier later (Station.In port) peer m e c = in_out peer e
 first_other earlier later (Station.Out other host port) peer m e c =
     not_again peer (earlier ++ Station.Out other host port ∷ []) later
-    (called_last peer earlier (Station.Out other host port) ((bytes_eq-Decides other peer).1 (same_peer other peer e))) m
-    c
+    (called_last peer earlier (Station.Out other host port)
+    ((bytes_eq-Decides other peer).1 (same_peer other peer e))) m c
 
 stand_others : (earlier later : List StationWord) → MayStand earlier later → CallOthers (roles_of later)
 stand_others earlier [] m = tt

@@ -144,7 +144,8 @@ opens_peer s peer p (Opens tables line now none) = line_named tables peer line n
 binds_own : (s : State) (peer : List ℕ) (n : ℕ) (p : InitiatorPlan) → IsNext s peer (next.Bind n p) → IsKept s
     → IsPeers Initiator peer n s.lanes.open_lanes
 binds_own s peer n p (Binds tables line lane now is agreed) kept =
-    subst (λ (k : ℕ). IsPeers Initiator peer k s.lanes.open_lanes) (number-at s.lanes.open_lanes is.number lane is.lane_is)
+    subst (λ (k : ℕ). IsPeers Initiator peer k s.lanes.open_lanes)
+    (number-at s.lanes.open_lanes is.number lane is.lane_is)
     (first_peers Initiator peer None 0 s.lanes.open_lanes s.lanes.count is.number kept.numbered_lanes is.first)
 
 -- ---- the turn before the session
@@ -313,7 +314,8 @@ module _ {D C : Type 0} (disks : DiskView D) (clocks : ClockView C) where
     -- the step for it was made
     was_made : (units : ℕ) (old new : Shown D C) (halt halt' : Option Halt) (u : Session) (r : Result Action Lost)
         → old.current ≡ after (first ++ old.entries) → IsPrefix new.entries entries
-        → (w : BeginsWith disks clocks peer units old new halt u halt' r) → Makes (step_told w.question w.answer) old new
+        → (w : BeginsWith disks clocks peer units old new halt u halt' r)
+        → Makes (step_told w.question w.answer) old new
     was_made units old new halt halt' u r state f w =
         answer_made disks clocks w.question old w.answer new
         (was_possible disks clocks spells tells first entries possible old new state f) w.answered
@@ -336,7 +338,8 @@ module _ {D C : Type 0} (disks : DiskView D) (clocks : ClockView C) where
 
     abbrev there : (units : ℕ) (old new : Shown D C) (pass : Held Step) (halt halt' : Option Halt) (u : Session)
         (r : Result Action Lost) → pass.seen ≡ new.entries → old.current ≡ after (first ++ old.entries)
-        → IsPrefix new.entries entries → BeginsWith disks clocks peer units old new halt u halt' r → IsBegun old new pass
+        → IsPrefix new.entries entries → BeginsWith disks clocks peer units old new halt u halt' r
+        → IsBegun old new pass
     there units old new pass halt halt' u r sees state f w =
         has_step w.question w.answer w.plan old new pass sees state f w.planned
         (was_made units old new halt halt' u r state f w)

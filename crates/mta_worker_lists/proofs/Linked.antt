@@ -263,8 +263,8 @@ module _ {D C L : Type 0} (disks : DiskView D) (clocks : ClockView C) (links : L
       let behind : IsPrefix i.after.entries entries = subst (λ (xs : List Step). IsPrefix xs entries) left front in
       let state = state_then disks clocks i.before mid.base first entries i.keeps are in
       let led : Led disks clocks spells tells first entries are.possible peer i.before i.after at u one =
-      begins_led disks clocks spells tells first entries are.possible peer units i.before i.after at None noted u one left
-      state
+      begins_led disks clocks spells tells first entries are.possible peer units i.before i.after at None noted u one
+      left state
       behind (readied_begins disks clocks peer units i.before i.after None noted u (Ok one) i.did) in
       let there : length first + length i.after.entries ≡ place first at =
       ap (λ (xs : List Step). length first + length xs) (sym left) in
@@ -318,8 +318,8 @@ module _ {D C L : Type 0} (disks : DiskView D) (clocks : ClockView C) (links : L
       let behind : IsPrefix i.after.entries entries = subst (λ (xs : List Step). IsPrefix xs entries) left f in
       let state = state_then disks clocks i.before mid.base first entries i.keeps are in
       let led : Lost_there disks clocks spells tells first entries are.possible peer links i.before i.after old q new =
-      begins_lost disks clocks spells tells first entries are.possible peer links units i.before i.after None noted u lost
-      old q new
+      begins_lost disks clocks spells tells first entries are.possible peer links units i.before i.after None noted u
+      lost old q new
       state behind left (readied_begins disks clocks peer units i.before i.after None noted u (Err lost) i.did)
       (gave_up links lost (has_turned u.phase) noted old new served gives) in
       record {

@@ -59,8 +59,8 @@ module _ (spells : List ℕ → Bool) (history : List Seen) (n : ℕ) where
       let later = comes_later spells history c.turn.before.phase a c.turn.event from c.seen is.0 in
       elim (cases_lt 0 (times k (made_by n c.seen a c.turn.event))) [
         | inl now ↦ none_is (step_by c.turn.before.phase c.turn.event c.turn.after) none.0
-            (call_begins spells history n c.turn.before.phase c.turn.before a c.turn.event c.turn.after from c.seen k l g
-            (asked_of spells history n a c.turn.before here) is.0 le now b)
+            (call_begins spells history n c.turn.before.phase c.turn.before a c.turn.event c.turn.after from c.seen k l
+            g (asked_of spells history n a c.turn.before here) is.0 le now b)
         | inr zero_of ↦ none_begun before cs c.turn.action c.turn.after u c.seen k l g
             (asked_next c.turn.action c.turn.before c.turn.event c.turn.after run.1.follows) run.2 is.1 none.1
             (omega (arith, le, later)) (omega (arith, hit, sum, zero_of)) b
@@ -82,8 +82,8 @@ module _ (spells : List ℕ → Bool) (history : List Seen) (n : ℕ) where
         elim (cases_lt 0 (times k (made_by n c.seen a c.turn.event))) [
           | inl now ↦ held_none c.turn.before.phase c.turn.before (turned a here.turn) c.turn.event c.turn.after
               here.holds
-              (call_begins spells history n c.turn.before.phase c.turn.before a c.turn.event c.turn.after from c.seen k l
-              g (asked_of spells history n a c.turn.before here.asked) is.0 le now b)
+              (call_begins spells history n c.turn.before.phase c.turn.before a c.turn.event c.turn.after from c.seen k
+              l g (asked_of spells history n a c.turn.before here.asked) is.0 le now b)
           | inr zero_of ↦ listed_none cs c.turn.action c.turn.after u c.seen k l g
               (listed_next lane generation c.turn a run.1 here) run.2 is.1 (omega (arith, le, later))
               (omega (arith, hit, sum, zero_of)) b

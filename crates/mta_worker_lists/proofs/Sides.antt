@@ -81,8 +81,8 @@ pub record CallsPeer (r : Role) (lane : ℕ) (steps : List Step) : Type 0 where
   pub role_is : r ≡ station.Out peer
   pub opened : WasOpenTo peer lane steps
 
-pub called_by : {history : List Seen} {from : ℕ} {t : State} (steps : List Step) (r : Role) (new : IsNewAt history from t)
-    → IsCalledOn steps r new → is_initiator t.side ≡ true → CallsPeer r t.lane steps
+pub called_by : {history : List Seen} {from : ℕ} {t : State} (steps : List Step) (r : Role)
+    (new : IsNewAt history from t) → IsCalledOn steps r new → is_initiator t.side ≡ true → CallsPeer r t.lane steps
 called_by steps (station.Out peer) (Calls p units at from is has opens) c i =
     record { peer = peer; role_is = refl; opened = c }
 called_by steps station.In (Calls p units at from is has opens) c i = absurd c

@@ -27,7 +27,8 @@ module _ {L : Type 0} (links : LinkView L) (spells : List ℕ → Bool) (first e
       → WasOpenAs Initiator on.lane (first ++ entries) → s.list ≡ Some on → is_initiator x.new.side ≡ true
   called_side s x on was has =
       opens_it (is_initiator x.new.side)
-      (was_same (role_of (is_initiator x.new.side)) Initiator on.lane (first ++ entries) possible (had_role x on has) was)
+      (was_same (role_of (is_initiator x.new.side)) Initiator on.lane (first ++ entries) possible (had_role x on has)
+      was)
 
   -- its station calls the lane's peer
   calls_peer : (s : Segment) (x : IsSession links spells first entries s) (on : OnLane)
