@@ -4,7 +4,7 @@ use Rattle.std.proofs.Common.{◌++◌, length, refl, sym, ap, subst, ◌∙◌,
 use Rattle.std.proofs.lemmas.Bool.{eqb-false, eqb-true}
 use Rattle.mta_links.specs.Links.{LinkView}
 use Rattle.mta_links.specs.declared.role.Role.{Role}
-use Rattle.mta_links.specs.declared.role.Role.TheVariants as station
+use Rattle.mta_links.specs.declared.role.Role.TheVariants as Roles
 use Rattle.mta_ends.specs.Lanes.{Seen}
 use Rattle.mta_records.specs.declared.lane.LaneRole.TheVariants.{Initiator, Responder}
 use Rattle.mta_records.specs.declared.step.Step.{Step}
@@ -124,7 +124,7 @@ module _ {L : Type 0} (links : LinkView L) (spells : List ℕ → Bool) (first e
   -- whoever had the lane was at a station that calls this peer
   module _ (peer : List ℕ)
       (calls : (s : Segment) (x : IsSession links spells first entries s) (on : OnLane) → s.list ≡ Some on
-      → on.lane ≡ lane → x.ran.role ≡ station.Out peer) where
+      → on.lane ≡ lane → x.ran.role ≡ Roles.Out peer) where
     is_called : (from : ℕ) (all : List (List Segment)) (t : Each from all) (s : Segment) (on : OnLane)
         → IsOne s (all_of all) → s.list ≡ Some on → on.lane ≡ lane → IsCalled peer (roles from all t)
     is_called from [] t s on i e f = absurd i
@@ -142,9 +142,9 @@ module _ {L : Type 0} (links : LinkView L) (spells : List ℕ → Bool) (first e
 
   record Called (s : Segment) (x : IsSession links spells first entries s) : Type 0 where
     peer : List ℕ
-    role_is : x.ran.role ≡ station.Out peer
+    role_is : x.ran.role ≡ Roles.Out peer
     calls : (r : Segment) (y : IsSession links spells first entries r) (on : OnLane) → r.list ≡ Some on
-        → on.lane ≡ lane → y.ran.role ≡ station.Out peer
+        → on.lane ≡ lane → y.ran.role ≡ Roles.Out peer
 
   called : (s : Segment) (x : IsSession links spells first entries s) (on : OnLane) → s.list ≡ Some on
       → on.lane ≡ lane → Called s x
@@ -169,7 +169,7 @@ module _ {L : Type 0} (links : LinkView L) (spells : List ℕ → Bool) (first e
       → Station from all
   the_station from [] t others = record {
     served = [];
-    parts = record { sessions = tt; role = station.In; of_role = tt; upto = from; turns = omega arith };
+    parts = record { sessions = tt; role = Roles.In; of_role = tt; upto = from; turns = omega arith };
     station = inr refl;
     have = λ s on i e f. absurd i;
   }

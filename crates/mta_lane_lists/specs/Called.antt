@@ -2,7 +2,7 @@
 use Rattle.std.specs.Prelude.{◌≡◌, ◌⊎◌, ℕ, ◌+◌, Bool, true, List, [], ◌∷◌, ◌++◌, length}
 use Rattle.mta_links.specs.Links.{LinkView}
 use Rattle.mta_links.specs.declared.role.Role.{Role}
-use Rattle.mta_links.specs.declared.role.Role.TheVariants as station
+use Rattle.mta_links.specs.declared.role.Role.TheVariants as Roles
 use Rattle.mta_ends.specs.Lanes.{Seen}
 use Rattle.mta_records.specs.declared.lane.LaneRole.TheVariants.{Initiator}
 use Rattle.mta_records.specs.declared.step.Step.{Step}
@@ -17,12 +17,12 @@ use Rattle.mta_lane_lists.specs.Lanes.{HaveLane, HaveSteps, IsStation}
 -- a station of one of these roles calls the peer
 abbrev pub IsCalled : (peer : List ℕ) → List Role → Type 0
 IsCalled peer [] = ⊥
-IsCalled peer (r ∷ rs) = (r ≡ station.Out peer) ⊎ IsCalled peer rs
+IsCalled peer (r ∷ rs) = (r ≡ Roles.Out peer) ⊎ IsCalled peer rs
 
 -- no two stations of these roles call one peer
 abbrev pub CallOthers : List Role → Type 0
 CallOthers [] = Unit {0}
-CallOthers (r ∷ rs) = ((peer : List ℕ) → r ≡ station.Out peer → IsCalled peer rs → ⊥) × CallOthers rs
+CallOthers (r ∷ rs) = ((peer : List ℕ) → r ≡ Roles.Out peer → IsCalled peer rs → ⊥) × CallOthers rs
 
 -- One station had all sessions of the lane, or there were none. Their lists, in the order in which they were served,
 -- have the steps of both halves that the history has from one length on, in its order, and the two ends agree.

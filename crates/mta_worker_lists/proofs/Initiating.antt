@@ -31,7 +31,7 @@ use Rattle.mta_session_lists.specs.Lists.{step_for}
 use Rattle.mta_session_lists.specs.Standing.{Stands}
 use Rattle.mta_plans.specs.Plans.{on_lane}
 use Rattle.mta_links.specs.Links.{LinkView}
-use Rattle.mta_links.specs.declared.role.Role.TheVariants as station
+use Rattle.mta_links.specs.declared.role.Role.TheVariants as Roles
 use Rattle.mta_spool.specs.Shown.{Shown}
 use Rattle.mta_units.specs.Feed.{no_feed}
 use Rattle.mta_worker.specs.Serving.{At}
@@ -262,7 +262,7 @@ module _ {D C : Type 0} (disks : DiskView D) (clocks : ClockView C) where
           ≡ begun_by (length first) begun
       pub later : length (begun_by (length first) begun) ≤ length pass.seen
       pub behind : IsBehind (length first + length old.entries) begun
-      pub called : IsCalledOn (first ++ entries) (station.Out peer) begun
+      pub called : IsCalledOn (first ++ entries) (Roles.Out peer) begun
 
     -- It is carried on from these first calls.
     pub record Led (old new : Shown D C) (pass : Held Step) (u : Session) (b : Action) : Type 0 where

@@ -8,7 +8,7 @@ use Rattle.mta_ber.specs.declared.memory.Memory.{Memory as NoMemory}
 use Rattle.mta_edge.specs.Views.{ClockView, DiskView}
 use Rattle.mta_links.specs.Links.{LinkView}
 use Rattle.mta_links.specs.declared.role.Role.{Role}
-use Rattle.mta_links.specs.declared.role.Role.TheVariants as station
+use Rattle.mta_links.specs.declared.role.Role.TheVariants as Roles
 use Rattle.mta_ends.specs.Lanes.{CloseLane, On, Seen}
 use Rattle.mta_records.specs.Reference.{Identifier}
 use Rattle.mta_records.specs.declared.fault.StepFault.{StepFault}
@@ -141,7 +141,7 @@ module _ {D C L : Type 0} (disks : DiskView D) (clocks : ClockView C) (links : L
         feed = no_feed;
         pass = mid;
         halt = None;
-      }) new q served → IsPrefix q.seen entries → RunOf station.In old new (place first mid) mid.own [] q
+      }) new q served → IsPrefix q.seen entries → RunOf Roles.In old new (place first mid) mid.own [] q
   listens_run own units mid old new q served one t are turn is f =
       let n : ℕ = place first mid in
       let fresh : Session = new_responder own units in
@@ -166,7 +166,7 @@ module _ {D C L : Type 0} (disks : DiskView D) (clocks : ClockView C) (links : L
         calls = call ∷ [] ++ rest.0;
         of_role = refl;
         ran = record {
-          role = station.In;
+          role = Roles.In;
           begins = Listens own units n;
           called = tt;
           done =
@@ -196,16 +196,16 @@ module _ {D C L : Type 0} (disks : DiskView D) (clocks : ClockView C) (links : L
 
   listened_run : (units : ℕ) (p : Held Step) (old new : L) (q : Held Step) (served : Served)
       → AreEntries p.base first entries → HasListened disks clocks links units p old new q served
-      → IsPrefix q.seen entries → Ran station.In old new p q served
+      → IsPrefix q.seen entries → Ran Roles.In old new p q served
   listened_run units p old new q served are (Without i same is) f =
-      none_began station.In old new p q served (ap (λ (s : Served). s.end) is) (own_still (Ok None) p q i) same
+      none_began Roles.In old new p q served (ap (λ (s : Served). s.end) is) (own_still (Ok None) p q i) same
   listened_run units p old new q served are (Wanting i same is) f =
-      none_began station.In old new p q served (ap (λ (s : Served). s.end) is)
+      none_began Roles.In old new p q served (ap (λ (s : Served). s.end) is)
       (still_owns (λ s t. t ≡ s) p q i (ap (λ (s : Shown D C). s.entries) i.did)) same
   listened_run units p old new q served are (Listening own mid one t i turn is) f =
       let r = listens_run own units mid old new q served one t
       (turn_then (λ s t. IsOwnName s.current (Ok (Some own)) × (t ≡ s)) p mid are i) turn is f in
-      began station.In old new p q served (record {
+      began Roles.In old new p q served (record {
         new = r.new;
         begun = r.begun;
         calls = r.calls;
@@ -221,13 +221,13 @@ module _ {D C L : Type 0} (disks : DiskView D) (clocks : ClockView C) (links : L
       })
   listened_run units p old new q served are (Lost_at_once own i gives) f =
       let fresh : Session = new_responder own units in
-      began station.In old new p q served (record {
+      began Roles.In old new p q served (record {
         new = fresh;
         begun = q;
         calls = [];
         of_role = refl;
         ran = record {
-          role = station.In;
+          role = Roles.In;
           begins = Listens own units (place first q);
           called = tt;
           done = done_at_once links spells first entries fresh old q new
@@ -254,7 +254,7 @@ module _ {D C L : Type 0} (disks : DiskView D) (clocks : ClockView C) (links : L
         pass = at;
         halt = noted;
       }) new q served → IsPrefix at.seen entries → IsPrefix q.seen entries
-      → RunOf (station.Out peer) old new (place first mid) mid.own [] q
+      → RunOf (Roles.Out peer) old new (place first mid) mid.own [] q
   begins_run peer units mid at u one noted old new q served are i is front f =
       let left : at.seen ≡ i.after.entries = ap (λ (h : Held Step). h.seen) i.left in
       let owned : at.own
@@ -288,7 +288,7 @@ module _ {D C L : Type 0} (disks : DiskView D) (clocks : ClockView C) (links : L
         calls = led.calls ++ rest.0;
         of_role = refl;
         ran = record {
-          role = station.Out peer;
+          role = Roles.Out peer;
           begins = led.begins.begun;
           called = led.begins.called;
           done =
@@ -309,7 +309,7 @@ module _ {D C L : Type 0} (disks : DiskView D) (clocks : ClockView C) (links : L
       (old new : L) (served : Served) → AreEntries mid.base first entries
       → InTurn disks clocks (λ s t. IsReadied disks clocks peer units s None t noted (ready.Begins u (Err lost))) mid q
       → GivesUp links lost (has_turned u.phase) noted old new served → IsPrefix q.seen entries
-      → RunOf (station.Out peer) old new (place first mid) mid.own [] q
+      → RunOf (Roles.Out peer) old new (place first mid) mid.own [] q
   lost_run peer units mid q u lost noted old new served are i gives f =
       let left : q.seen ≡ i.after.entries = ap (λ (h : Held Step). h.seen) i.left in
       let owned : q.own
@@ -328,7 +328,7 @@ module _ {D C L : Type 0} (disks : DiskView D) (clocks : ClockView C) (links : L
         calls = led.closed.0;
         of_role = refl;
         ran = record {
-          role = station.Out peer;
+          role = Roles.Out peer;
           begins = led.begins.begun;
           called = led.begins.called;
           done = led.closed.1;
@@ -529,7 +529,7 @@ module _ {D C L : Type 0} (disks : DiskView D) (clocks : ClockView C) (links : L
 
   called_run : (peer : List ℕ) (units : ℕ) (p : Held Step) (old new : L) (q : Held Step) (served : Served)
       → AreEntries p.base first entries → HasCalled disks clocks links peer units p old new q served
-      → IsPrefix q.seen entries → Ran (station.Out peer) old new p q served
+      → IsPrefix q.seen entries → Ran (Roles.Out peer) old new p q served
   called_run peer units p old new q served are (Halting ms mid halt noted c i same is) f =
       let entries_are : i.after.entries ≡ i.before.entries =
       readied_halts peer units i.before i.after noted halt i.did in
@@ -553,12 +553,12 @@ module _ {D C L : Type 0} (disks : DiskView D) (clocks : ClockView C) (links : L
       let front : IsPrefix at.seen entries = prefix_trans at.seen q.seen entries grown_on f in
       let before : IsPrefix mid.seen at.seen = readied_grows peer units mid at u (Ok one) noted i in
       let all = closed_all peer units p ms mid are c (prefix_trans mid.seen at.seen entries before front) in
-      begun_behind (station.Out peer) old new p mid q served all (closings_grow peer units p ms mid c)
+      begun_behind (Roles.Out peer) old new p mid q served all (closings_grow peer units p ms mid c)
       (begins_run peer units mid at u one noted old new q served all.base i is front f)
   called_run peer units p old new q served are (Lost_before ms mid u lost noted c i gives) f =
       let before : IsPrefix mid.seen q.seen = readied_grows peer units mid q u (Err lost) noted i in
       let all = closed_all peer units p ms mid are c (prefix_trans mid.seen q.seen entries before f) in
-      begun_behind (station.Out peer) old new p mid q served all (closings_grow peer units p ms mid c)
+      begun_behind (Roles.Out peer) old new p mid q served all (closings_grow peer units p ms mid c)
       (lost_run peer units mid q u lost noted old new served all.base i gives f)
   called_run peer units p old new q served are (Too_often ms c many same is) f =
       let all = closed_all peer units p ms q are c f in
@@ -566,7 +566,7 @@ module _ {D C L : Type 0} (disks : DiskView D) (clocks : ClockView C) (links : L
 
 pub links_are_run : {D C L : Type 0} (disks : DiskView D) (clocks : ClockView C) (links : LinkView L)
     → LinksAreRun disks clocks links
-links_are_run disks clocks links spells first entries station.In units p old new q served tells are is f =
+links_are_run disks clocks links spells first entries Roles.In units p old new q served tells are is f =
     listened_run disks clocks links spells tells first entries units p old new q served are is f
-links_are_run disks clocks links spells first entries (station.Out peer) units p old new q served tells are is f =
+links_are_run disks clocks links spells first entries (Roles.Out peer) units p old new q served tells are is f =
     called_run disks clocks links spells tells first entries peer units p old new q served are is f

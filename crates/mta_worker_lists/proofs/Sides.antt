@@ -2,7 +2,7 @@
 use Rattle.std.proofs.Common.{◌≡◌, ◌⊎◌, ℕ, ◌≤◌, Bool, true, false, List, [], ◌∷◌, ◌++◌, Option, Some, refl, sym, ap}
 use Rattle.std.proofs.Common.{subst, ◌∙◌, inl, inr, arith}
 use Rattle.mta_links.specs.declared.role.Role.{Role}
-use Rattle.mta_links.specs.declared.role.Role.TheVariants as station
+use Rattle.mta_links.specs.declared.role.Role.TheVariants as Roles
 use Rattle.mta_ends.specs.Lanes.{Seen}
 use Rattle.mta_links.specs.Links.{LinkView}
 use Rattle.mta_records.specs.declared.lane.LaneRole.{LaneRole}
@@ -78,16 +78,16 @@ side_is false true e = absurd (let f : Responder ≡ Initiator = e in cc)
 -- a session of an initiator is of a station that calls a peer, to which its lane was opened
 pub record CallsPeer (r : Role) (lane : ℕ) (steps : List Step) : Type 0 where
   pub peer : List ℕ
-  pub role_is : r ≡ station.Out peer
+  pub role_is : r ≡ Roles.Out peer
   pub opened : WasOpenTo peer lane steps
 
 pub called_by : {history : List Seen} {from : ℕ} {t : State} (steps : List Step) (r : Role)
     (new : IsNewAt history from t) → IsCalledOn steps r new → is_initiator t.side ≡ true → CallsPeer r t.lane steps
-called_by steps (station.Out peer) (Calls p units at from is has opens) c i =
+called_by steps (Roles.Out peer) (Calls p units at from is has opens) c i =
     record { peer = peer; role_is = refl; opened = c }
-called_by steps station.In (Calls p units at from is has opens) c i = absurd c
-called_by steps (station.Out peer) (Listens own units from) c i = absurd c
-called_by steps station.In (Listens own units from) c i = absurd (never i)
+called_by steps Roles.In (Calls p units at from is has opens) c i = absurd c
+called_by steps (Roles.Out peer) (Listens own units from) c i = absurd c
+called_by steps Roles.In (Listens own units from) c i = absurd (never i)
 
 called_lane : {history : List Seen} {from : ℕ} {t : State} (steps : List Step) (r : Role) (new : IsNewAt history from t)
     → IsCalledOn steps r new → is_initiator t.side ≡ true → WasOpenAs Initiator t.lane steps

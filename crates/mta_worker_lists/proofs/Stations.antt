@@ -2,7 +2,7 @@
 use Rattle.std.proofs.Common.{◌≡◌, ℕ, Bool, true, false, List, ◌++◌, Option, Some, refl, sym, ap, subst, ◌∙◌, inl, inr}
 use Rattle.mta_links.specs.Links.{LinkView}
 use Rattle.mta_links.specs.declared.role.Role.{Role}
-use Rattle.mta_links.specs.declared.role.Role.TheVariants as station
+use Rattle.mta_links.specs.declared.role.Role.TheVariants as Roles
 use Rattle.mta_records.specs.declared.lane.LaneRole.TheVariants.{Initiator, Responder}
 use Rattle.mta_records.specs.declared.step.Step.{Step}
 use Rattle.mta_histories.specs.History.{IsHistory}
@@ -49,14 +49,14 @@ module _ {L : Type 0} (links : LinkView L) (spells : List ℕ → Bool) (first e
   stations_one : (s r : Segment) (x : IsSession links spells first entries s)
       (y : IsSession links spells first entries r) (on other : OnLane)
       → WasOpenAs Initiator on.lane (first ++ entries) → s.list ≡ Some on → r.list ≡ Some other → on.lane ≡ other.lane
-      → (peer : List ℕ) × (x.ran.role ≡ station.Out peer) × (y.ran.role ≡ station.Out peer)
+      → (peer : List ℕ) × (x.ran.role ≡ Roles.Out peer) × (y.ran.role ≡ Roles.Out peer)
   stations_one s r x y on other was has had same =
       let a = calls_peer s x on was has in
       let b = calls_peer r y other (subst (λ (n : ℕ). WasOpenAs Initiator n (first ++ entries)) same was) had in
       let there : WasOpenTo b.peer on.lane (first ++ entries) =
       subst (λ (n : ℕ). WasOpenTo b.peer n (first ++ entries)) (sym same) b.opened in
       let one : b.peer ≡ a.peer = one_peer b.peer a.peer on.lane (first ++ entries) possible there a.opened in
-      (a.peer, a.role_is, b.role_is ∙ ap (λ (p : List ℕ). station.Out p) one)
+      (a.peer, a.role_is, b.role_is ∙ ap (λ (p : List ℕ). Roles.Out p) one)
 
 pub stations_agree : {L : Type 0} (links : LinkView L) → StationsAgree links
 stations_agree links spells first entries s r x y on other possible was has had same =

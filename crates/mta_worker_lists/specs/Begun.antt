@@ -4,7 +4,7 @@ use Rattle.std.specs.Prelude.{List, [], ◌∷◌}
 use Rattle.std.specs.Prelude.{◌++◌, length}
 use Rattle.mta_links.specs.Links.{LinkView}
 use Rattle.mta_links.specs.declared.role.Role.{Role}
-use Rattle.mta_links.specs.declared.role.Role.TheVariants as station
+use Rattle.mta_links.specs.declared.role.Role.TheVariants as Roles
 use Rattle.mta_records.specs.declared.lane.LaneRole.TheVariants.{Responder}
 use Rattle.mta_records.specs.declared.step.Step.{Step}
 use Rattle.mta_units.specs.Feed.{Feed, no_feed}
@@ -134,10 +134,10 @@ at_first t link pass = record {
 -- Where the station calls a peer, the session's lane was opened by this agent, to that peer; else the session listens.
 abbrev pub IsCalledOn : {history : List Seen} {from : ℕ} {t : State} → (steps : List Step) → Role
     → IsNewAt history from t → Type 0
-IsCalledOn steps (station.Out peer) (Calls p units at from is has opens) = WasOpenTo peer p.lane steps
-IsCalledOn steps station.In (Calls p units at from is has opens) = ⊥
-IsCalledOn steps (station.Out peer) (Listens own units from) = ⊥
-IsCalledOn steps station.In (Listens own units from) = Unit {0}
+IsCalledOn steps (Roles.Out peer) (Calls p units at from is has opens) = WasOpenTo peer p.lane steps
+IsCalledOn steps Roles.In (Calls p units at from is has opens) = ⊥
+IsCalledOn steps (Roles.Out peer) (Listens own units from) = ⊥
+IsCalledOn steps Roles.In (Listens own units from) = Unit {0}
 
 -- a new session, over the link that a station of this role gave, and all that it did
 pub record HasRun {L : Type 0} (links : LinkView L) (spells : List ℕ → Bool) (first entries : List Step) (old : L)

@@ -1,7 +1,7 @@
 -- At which stations the sessions of a lane were that this agent opened.
 use Rattle.std.specs.Prelude.{◌≡◌, ℕ, Bool, List, ◌++◌, Some}
 use Rattle.mta_links.specs.Links.{LinkView}
-use Rattle.mta_links.specs.declared.role.Role.TheVariants as station
+use Rattle.mta_links.specs.declared.role.Role.TheVariants as Roles
 use Rattle.mta_records.specs.declared.lane.LaneRole.TheVariants.{Initiator}
 use Rattle.mta_records.specs.declared.step.Step.{Step}
 use Rattle.mta_histories.specs.History.{IsHistory}
@@ -16,4 +16,4 @@ StationsAgree links =
     (x : IsSession links spells first entries s) (y : IsSession links spells first entries r) (on other : OnLane)
     → IsHistory (first ++ entries) → WasOpenAs Initiator on.lane (first ++ entries) → s.list ≡ Some on
     → r.list ≡ Some other → on.lane ≡ other.lane
-    → (peer : List ℕ) × (x.ran.role ≡ station.Out peer) × (y.ran.role ≡ station.Out peer)
+    → (peer : List ℕ) × (x.ran.role ≡ Roles.Out peer) × (y.ran.role ≡ Roles.Out peer)
