@@ -36,6 +36,7 @@ use Rattle.mta_worker_lists.proofs.Annotating.{length_seen}
 use Rattle.mta_worker_lists.proofs.Segments.{is_segment, maker, Maker}
 use Rattle.mta_lane_lists.specs.Lanes.{AreOnSide, EachBegan, HaveLane, HaveSteps, IsOnSide, IsStation}
 use Rattle.mta_lane_lists.proofs.Sides.{side_of}
+use Rattle.mta_lane_lists.proofs.Told.{each_began}
 use Rattle.mta_lane_lists.specs.Lanes.{LanesOfStationsAgree}
 use Rattle.mta_lane_lists.specs.Turns.{AreInTurn, None_more, Then}
 use Rattle.mta_lane_lists.proofs.Ones.{one_list, OneList}
@@ -513,7 +514,7 @@ one_back s [] ys i = i
 one_back s (x ∷ xs) ys i = inr (one_back s xs ys i)
 
 -- a station's parts are among all
-of_all : (ss : List Segment) (all : List (List Segment)) (s : Segment) → IsStation ss all → IsOne s ss
+pub of_all : (ss : List Segment) (all : List (List Segment)) (s : Segment) → IsStation ss all → IsOne s ss
     → IsOne s (all_of all)
 of_all ss [] s i one = absurd i
 of_all ss (x ∷ xs) s i one =
@@ -522,17 +523,18 @@ of_all ss (x ∷ xs) s i one =
       | inr more ↦ one_back s x (all_of xs) (of_all ss xs s more one)
     ]
 
-on_side : ListsAreGood → ListsMayStop → SessionsAgree → OneStationAgrees → {L : Type 0} (links : LinkView L)
+pub on_side : ListsAreGood → ListsMayStop → SessionsAgree → OneStationAgrees → {L : Type 0} (links : LinkView L)
     (spells : List ℕ → Bool) (first entries : List Step) (low : ℕ) (all : AllParts links spells first entries low)
     → TellsApdus spells → IsHistory (first ++ entries) → (lane size window : ℕ) (ss : List Segment)
-    (one : StationParts links spells first entries (length first + low) ss) → IsStation ss all.by_station
-    → HaveLane ss all.parts lane → EachBegan (whole first entries) (length first + low) lane ss
+    (one : StationParts links spells first entries (length first + low) ss)
+    → ((s : Segment) → IsOne s ss → IsOne s all.parts) → HaveLane ss all.parts lane
+    → EachBegan (whole first entries) (length first + low) lane ss
     → AreValues (whole first entries) lane size window → (before added : List Seen)
     → before ++ added ≡ whole first entries → length before ≡ length first + low → (initiator : Bool)
     → AreOnSide links spells first entries lane initiator ss one.sessions
     → HaveSteps links spells first entries all.parts before added lane size window initiator
 on_side good may_stop whole_agree agree links spells first entries low all tells possible lane size window
-    ss one station have began values before added cut from_is initiator side = (
+    ss one within have began values before added cut from_is initiator side = (
       built.lists,
       built.are,
       agree spells before added lane size window initiator built.lists
@@ -552,9 +554,6 @@ on_side good may_stop whole_agree agree links spells first entries low all tells
 
     allow : LanesAllow spells (whole first entries)
     allow = (lanes_see_histories (first ++ entries) possible).allowed spells tells.of_apdus
-
-    within : (s : Segment) → IsOne s ss → IsOne s all.parts
-    within s i = subst (λ (zs : List Segment). IsOne s zs) (sym all.of_stations) (of_all ss all.by_station s station i)
 
     built : Built links spells first entries low all lane size window initiator n ss
     built = build links spells first entries low all lane size window initiator n one.upto ss one.sessions one.turns
@@ -585,9 +584,13 @@ on_side good may_stop whole_agree agree links spells first entries low all tells
 pub lanes_agree : ListsAreGood → ListsMayStop → SessionsAgree → OneStationAgrees → {L : Type 0} (links : LinkView L)
     → LanesOfStationsAgree links
 lanes_agree good may_stop whole_agree agree links spells first entries low all tells possible lane size window ss one
-    station have began values before added cut from_is = (
+    station have told values before added cut from_is = (
       side_of links spells first entries possible lane ss one.sessions,
       λ initiator side.
           on_side good may_stop whole_agree agree links spells first entries low all tells possible lane size window ss
-          one station have began values before added cut from_is initiator side,
+          one
+          (λ s i.
+          subst (λ (zs : List Segment). IsOne s zs) (sym all.of_stations) (of_all ss all.by_station s station i)) have
+          (each_began links spells first entries low all lane ss have told) values before added cut
+          from_is initiator side,
     )

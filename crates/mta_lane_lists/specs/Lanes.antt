@@ -1,5 +1,5 @@
 -- What two ends of a lane agree on, where one station had all sessions of the lane.
-use Rattle.std.specs.Prelude.{◌≡◌, ◌⊎◌, ◌≤◌, ℕ, ◌+◌, Bool, List, [], ◌∷◌, ◌++◌, length, Some}
+use Rattle.std.specs.Prelude.{◌≡◌, ◌⊎◌, ◌<◌, ◌≤◌, ℕ, ◌+◌, Bool, List, [], ◌∷◌, ◌++◌, length, None, Some}
 use mathlib.Core.Logic.{inl, inr}
 use Rattle.mta_links.specs.Links.{LinkView}
 use Rattle.mta_ends.specs.Lanes.{Seen}
@@ -10,6 +10,7 @@ use Rattle.mta_runs.specs.Clause.{LaneAgrees}
 use Rattle.mta_runs.specs.Sessions.{SessionList}
 use Rattle.mta_session.specs.State.{is_initiator}
 use Rattle.mta_session_lists.specs.Lists.{AreValues}
+use Rattle.mta_shared.specs.Counts.{times}
 use Rattle.mta_worker_lists.specs.Agreeing.{AreListsIn}
 use Rattle.mta_worker_lists.specs.All.{AllParts, StationParts}
 use Rattle.mta_worker_lists.specs.Histories.{TellsApdus, whole}
@@ -28,8 +29,14 @@ pub record BeganAt (s : Segment) (lane at : ℕ) : Type 0 where
   pub lane_is : on.lane ≡ lane
   pub at_is : on.at ≡ at
 
--- Each generation of the lane that began there or behind began with one of these. It is so wherever a session was told
--- of the LaneOpen or Bind step that it had asked for; for want of memory one may not be.
+-- Each session that opened or bound the lane was told so, and has a list. For want of memory one may not be told of a
+-- lane that its peer opened.
+abbrev pub AreTold : List Seen → (before lane : ℕ) → List Segment → Type 0
+AreTold history before lane parts =
+    (s : Segment) (k g : ℕ) → IsOne s parts → s.list ≡ None → 0 < times k s.own
+    → BeginsAt history (before + k) lane g → ⊥
+
+-- So each generation of the lane that began there or behind began with one of these.
 abbrev pub EachBegan : List Seen → (from lane : ℕ) → List Segment → Type 0
 EachBegan history from lane ss =
     (p g : ℕ) → from ≤ p → BeginsAt history p lane g → (s : Segment) × IsOne s ss × BeganAt s lane p
@@ -61,15 +68,15 @@ HaveSteps links spells first entries parts before added lane size window initiat
     (ls : List SessionList) × AreListsIn links spells first entries parts lane size window initiator ls
     × LaneAgrees spells before added lane size window initiator ls
 
--- Where one station had all sessions of a lane, and had each of its generations from some length of the history on,
--- all are on one side, and their lists, in the order in which they were served, have the steps of both halves that the
--- history has from there on, in its order, and the two ends agree. (Where it had none, so it is on either side.)
+-- Where one station had all sessions of a lane, and each was told that it has it, all are on one side, and their lists,
+-- in the order in which they were served, have the steps of both halves that the history has from some length on, in
+-- its order, and the two ends agree. (Where it had none, so it is on either side.)
 abbrev pub LanesAgree : {L : Type 0} (links : LinkView L) (spells : List ℕ → Bool) (first entries : List Step)
     (low : ℕ) → AllParts links spells first entries low → Type 0
 LanesAgree links spells first entries low all =
     (lane size window : ℕ) (ss : List Segment)
     (one : StationParts links spells first entries (length first + low) ss) → IsStation ss all.by_station
-    → HaveLane ss all.parts lane → EachBegan (whole first entries) (length first + low) lane ss
+    → HaveLane ss all.parts lane → AreTold (whole first entries) (length first) lane all.parts
     → AreValues (whole first entries) lane size window → (before added : List Seen)
     → before ++ added ≡ whole first entries → length before ≡ length first + low
     → ((initiator : Bool) × AreOnSide links spells first entries lane initiator ss one.sessions)

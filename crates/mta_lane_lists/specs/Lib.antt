@@ -1,3 +1,4 @@
 pub mod Turns
 pub mod Between
 pub mod Lanes
+pub mod Called

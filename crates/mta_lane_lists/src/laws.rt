@@ -1,6 +1,7 @@
 //! Laws over the definitions.
 
 ghost use Rattle.mta_lane_lists.specs.Between.{ListsStandBetween, StoppedListsStandBetween};
+ghost use Rattle.mta_lane_lists.specs.Called.{CalledLanesOfStationsAgree};
 ghost use Rattle.mta_lane_lists.specs.Lanes.{LanesOfStationsAgree};
 ghost use Rattle.mta_lane_lists.specs.Turns.{ListsInTurnAgree, ListsInTurnRise};
 
@@ -36,6 +37,17 @@ pub fn lists_in_turn_agree()
 /// both halves in the history's order, and the two ends of the lane agree.
 pub fn lanes_agree<L: Link>()
     ensures { LanesOfStationsAgree L.model }
+{
+    lists_are_good();
+    lists_may_stop();
+    sessions_agree();
+    one_station_agrees();
+}
+
+/// So it is of each lane that this agent opened, where no two stations call one peer: the station that calls its peer
+/// had all its sessions, and each of its generations began with one that has a list.
+pub fn called_lanes_agree<L: Link>()
+    ensures { CalledLanesOfStationsAgree L.model }
 {
     lists_are_good();
     lists_may_stop();

@@ -5,6 +5,6 @@
 mod laws;
 
 pub use laws::{
-    lanes_agree, lists_in_turn_agree, lists_in_turn_rise, lists_stand_between,
+    called_lanes_agree, lanes_agree, lists_in_turn_agree, lists_in_turn_rise, lists_stand_between,
     stopped_lists_stand_between,
 };

@@ -8,6 +8,7 @@ use Rattle.mta_edge.specs.Views.{ClockView, DiskLaws, DiskView, SourceView}
 use Rattle.mta_links.specs.Links.{LinkView, StationView}
 use Rattle.mta_links.specs.declared.role.Role.{Role}
 use Rattle.mta_apdu.specs.Apdus.{longest_apdu}
+use Rattle.mta_lane_lists.specs.Called.{CallOthers}
 use Rattle.mta_stations.specs.Roles.{roles_of}
 use Rattle.mta_stations.specs.Stations.{roles_in}
 use Rattle.mta_stations.proofs.RoleLaws.{roles_same}
@@ -25,8 +26,9 @@ use Rattle.mta_run.specs.Inputs.{longest_tables}
 use Rattle.mta_run.specs.Output.{Output}
 use Rattle.mta_run.specs.Runs.{HasCommanded, sessions_in}
 use Rattle.mta_run.specs.Served.{HasServed, StationsLeft, Untouched}
-use Rattle.mta_run.specs.Words.{are_stations_for, Serves, words_with}
+use Rattle.mta_run.specs.Words.{are_stations_for, IsSaid, Serves, words_with}
 use Rattle.mta_run.proofs.HandedOn.{ended_early, undrawn}
+use Rattle.mta_run.proofs.OtherPeers.{call_others}
 use Rattle.mta_run.proofs.ServedAll.{ended_with}
 
 -- the roles are those that the words name
@@ -71,17 +73,21 @@ module _ {D C I L S : Type 0} (disks : DiskView D) (clocks : ClockView C) (sourc
 
   -- `serve`
   pub commanded_serving : (words : Words) (sessions : ℕ) (named : List StationWord)
-      → words ≡ Say.Serve sessions named → (roles : List Role) → are_stations_for words roles ≡ true
+      → words ≡ Say.Serve sessions named → IsSaid words → (roles : List Role) → are_stations_for words roles ≡ true
       → (conf conf_after input : I) (disk disk_after : D) (clock : C) (before after : List S) (out : Output)
       (result : Result (Unit {0}) Stop)
       → HasServed disks clocks sources links stations sessions roles conf conf_after disk disk_after clock before
       after out result
       → HasCommanded disks clocks sources links stations (Some words) conf conf_after input input disk disk_after
       clock before after out result
-  commanded_serving words sessions named is roles theirs conf conf_after input disk disk_after clock before after out
-      result x =
+  commanded_serving words sessions named is said roles theirs conf conf_after input disk disk_after clock before after
+      out result x =
       subst (λ (w : Words). HasCommanded disks clocks sources links stations (Some w) conf conf_after input input disk
-      disk_after clock before after out result) (sym is) (x input named (named_so roles words sessions named is theirs))
+      disk_after clock before after out result) (sym is)
+      (x input named roles_are (subst CallOthers (sym roles_are) (call_others words sessions named is said)))
+    where
+      roles_are : roles ≡ roles_of named
+      roles_are = named_so roles words sessions named is theirs
 
   -- a command that reads and opens nothing
   pub commanded_early : (laws : DiskLaws disks) (words : Option Words) (conf input : I) (disk : D) (clock : C)

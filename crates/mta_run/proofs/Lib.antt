@@ -22,4 +22,5 @@ pub mod DiskServed
 pub mod ServedSpool
 pub mod ServedWorkers
 pub mod ServedAll
+pub mod OtherPeers
 pub mod Commanded

@@ -14,6 +14,7 @@ use Rattle.mta_records.specs.declared.fault.StepFault.{StepFault}
 use Rattle.mta_records.specs.declared.fault.StepFault.TheVariants as StepFaults
 use Rattle.mta_spool.specs.Opening.{HasOpened, HasRefused}
 use Rattle.mta_spool.specs.Shown.{Shown}
+use Rattle.mta_lane_lists.specs.Called.{CallOthers}
 use Rattle.mta_stations.specs.Peers.{IsNamed, IsUnnamed}
 use Rattle.mta_stations.specs.Roles.{roles_of}
 use Rattle.mta_stations.specs.Stations.{roles_in}
@@ -156,10 +157,10 @@ module _ {D C I L S : Type 0} (disks : DiskView D) (laws : DiskLaws disks) (cloc
 
       -- it was, and served over
       pub served_over : SessionLaws disks clocks links stations
-          → (new : D) (before after : List S) (result : Result (Unit {0}) Stop)
+          → (new : D) (before after : List S) (result : Result (Unit {0}) Stop) → CallOthers (roles_in stations before)
           → ServesSpool disks clocks links stations sessions tables.text out spool before after new result
           → HasEnded (Serving old new) (Left old new before after) out result
-      served_over known new before after _ (Not_begun mid fault b disk_is same silent) =
+      served_over known new before after _ others (Not_begun mid fault b disk_is same silent) =
           begun_ended (Serving old new) tt laws tables read all_named (sources_left old new (Ok tables) read)
           (inputs new)
           spool o clock_is mid (Err fault) b (Left old new before after) out (stop_of_step fault) disk_is silent
@@ -167,19 +168,19 @@ module _ {D C I L S : Type 0} (disks : DiskView D) (laws : DiskLaws disks) (cloc
           (inputs new) spool o clock_is mid (Err fault) b fault refl disk_is)
           (Untouched same refl (λ s w. begun_own (Serving old new) tt laws tables read all_named
           (sources_left old new (Ok tables) read) (inputs new) spool o clock_is mid (Err fault) b))
-      served_over known new before after _ (No_workers mid b disk_is same silent) =
+      served_over known new before after _ others (No_workers mid b disk_is same silent) =
           begun_ended (Serving old new) tt laws tables read all_named (sources_left old new (Ok tables) read)
           (inputs new)
           spool o clock_is mid (Ok tt) b (Left old new before after) out Stops.Memory disk_is silent (memory opened)
           (Untouched same refl (λ s w. begun_own (Serving old new) tt laws tables read all_named
           (sources_left old new (Ok tables) read) (inputs new) spool o clock_is mid (Ok tt) b))
-      served_over known new before after result
+      served_over known new before after result others
           (Served limits mid joined final ends _ are b grown kj workers x k disk_is) =
           served_ended (Serving old new) tt laws clock_laws (sources_left old new (Ok tables) read) (inputs new)
           (peers (Serving old new) tt laws tables read all_named (sources_left old new (Ok tables) read) (inputs new)
           spool
           o clock_is) spool o handed_clock joined final kj k disk_is ends links stations known sessions limits are
-          before after out result mid.entries own grown workers x
+          before after out result mid.entries others own grown workers x
         where
           bare : b.added ++ b.torn_step ≡ mid.entries
           bare =

@@ -19,9 +19,11 @@ use Rattle.mta_spool.specs.Bases.{base_of, Keeps, where_listed}
 use Rattle.mta_spool.specs.Opening.{HasOpened}
 use Rattle.mta_spool.specs.Shown.{Shown}
 use Rattle.mta_spool.specs.Stands.{step_moment}
+use Rattle.mta_stations.specs.Stations.{roles_in}
 use Rattle.mta_stations.specs.declared.end.WorkerEnd.{WorkerEnd}
 use Rattle.mta_worker_lists.specs.Agreeing.{EndsAgree}
 use Rattle.mta_worker_lists.specs.Histories.{AreEntries, is_apdu, TellsApdus}
+use Rattle.mta_lane_lists.specs.Called.{CalledLanesOfStationsAgree, CallOthers}
 use Rattle.mta_lane_lists.specs.Lanes.{LanesOfStationsAgree}
 use Rattle.mta_workers.specs.Wholes.{AreWorkers}
 use Rattle.mta_run.specs.declared.stop.Stop.{Stop}
@@ -53,6 +55,7 @@ pub record SessionLaws {D C L S : Type 0} (disks : DiskView D) (clocks : ClockVi
   pub tells : TellsApdus is_apdu
   pub agree : EndsAgree disks clocks links stations
   pub lanes : LanesOfStationsAgree links
+  pub called : CalledLanesOfStationsAgree links
 
 module _ {D C I : Type 0} (h : Handed D C I) (serves : Serves h.words) (laws : DiskLaws h.disks)
     (clock_laws : ClockLaws h.clocks) (sources : SourcesLeft h) (inputs : InputsRead h) (peers : PeersNamed h)
@@ -212,11 +215,11 @@ module _ {D C I : Type 0} (h : Handed D C I) (serves : Serves h.words) (laws : D
   pub served_ended : {L S : Type 0} (links : LinkView L) (stations : StationView S)
       → SessionLaws h.disks h.clocks links stations → (sessions : ℕ) (limits : Limits) → AreLimits sessions limits
       → (before after : List S) (out : Output) (result : Result (Unit {0}) Stop) (front : List Step)
-      → AreOfRun h front → (grown : IsPrefix front joined.entries)
+      → CallOthers (roles_in stations before) → AreOfRun h front → (grown : IsPrefix front joined.entries)
       → AreWorkers h.disks h.clocks links stations limits before after ends front (base_of h.disks h.clocks spool)
       joined.entries → HasFinished h.disks (h.clocks.tells joined.clock) ends out joined final result
       → HasEnded h (StationsLeft h links stations sessions before after) out result
-  served_ended links stations known sessions limits are before after out result front own grown did x = record {
+  served_ended links stations known sessions limits are before after out result front others own grown did x = record {
     opening = opened;
     ends = ends;
     added = final.entries;
@@ -278,6 +281,9 @@ module _ {D C I : Type 0} (h : Handed D C I) (serves : Serves h.words) (laws : D
           good = x.1;
           agree = x.2;
           lanes = known.lanes is_apdu steps joined.entries (length front) x.0 known.tells e.possible;
+          called =
+              known.called is_apdu steps joined.entries (length front) x.0 known.tells e.possible
+              (subst CallOthers (sym x.3) others);
         }
 
     sessions_are : ForOpened h (λ first. SessionsServed links first (front ++ grown.0) (length front))

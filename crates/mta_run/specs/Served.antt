@@ -16,6 +16,7 @@ use Rattle.mta_spool.specs.Shown.{Shown}
 use Rattle.mta_stations.specs.declared.end.WorkerEnd.{WorkerEnd}
 use Rattle.mta_stations.specs.Peers.{IsNamed, IsUnnamed}
 use Rattle.mta_stations.specs.Roles.{roles_of}
+use Rattle.mta_lane_lists.specs.Called.{CallOthers}
 use Rattle.mta_words.specs.declared.station.StationWord.{StationWord}
 use Rattle.mta_words.specs.declared.words.Words.TheVariants as Say
 use Rattle.mta_workers.specs.Wholes.{AreWorkers}
@@ -121,13 +122,13 @@ pub data ServesSpool {D C L S : Type 0} (disks : DiskView D) (clocks : ClockView
 
 -- ---- all of it
 
--- what `serve` leaves where its words name the stations that were handed in
+-- what `serve` leaves where its words name the stations that were handed in, no two of which call one peer
 abbrev pub HasServed : {D C I L S : Type 0} → DiskView D → ClockView C → SourceView I → LinkView L
     → StationView S → (sessions : ℕ) → (roles : List Role) → (conf conf_after : I) → (disk disk_after : D)
     → (clock : C) → (before after : List S) → Output → Result (Unit {0}) Stop → Type 0
 HasServed {I = I} disks clocks sources links stations sessions roles conf conf_after disk disk_after clock before after
     out result =
-    (input : I) (named : List StationWord) → roles ≡ roles_of named →
+    (input : I) (named : List StationWord) → roles ≡ roles_of named → CallOthers roles →
     let h = handed disks clocks sources (Some (Say.Serve sessions named)) conf conf_after input input disk disk_after
     clock in
     HasEnded h (StationsLeft h links stations sessions before after) out result

@@ -1,9 +1,10 @@
 -- What the commands read, open and add, and which is not built yet.
-use Rattle.std.specs.Prelude.{Bool, true, if◌then◌else◌, List, [], Option, Some, None}
+use Rattle.std.specs.Prelude.{ℕ, Bool, true, if◌then◌else◌, List, [], Option, Some, None}
 use Rattle.mta_links.specs.declared.role.Role.{Role}
 use Rattle.mta_stations.specs.Roles.{are_roles_of, roles_of}
 use Rattle.mta_words.specs.declared.words.Words.{Words}
 use Rattle.mta_words.specs.declared.words.Words.TheVariants as Say
+use Rattle.mta_words.specs.Words.{Says}
 
 -- ---- the stations
 
@@ -20,6 +21,10 @@ are_stations_for (Say.Drill messages) roles = true
 abbrev pub words_with : List Role → Option Words → Option Words
 words_with roles None = None
 words_with roles (Some words) = if are_stations_for words roles then Some words else None
+
+-- the words are in the grammar
+abbrev pub IsSaid : Words → Type 0
+IsSaid words = (texts : List (List ℕ)) × Says texts words
 
 -- the roles of the stations that the words name
 abbrev pub roles_named : Option Words → List Role

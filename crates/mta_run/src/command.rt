@@ -14,7 +14,7 @@ ghost use Rattle.mta_run.specs.Handed.{handed};
 ghost use Rattle.mta_run.specs.Output.{output};
 ghost use Rattle.mta_run.specs.Ran.{IsComplete, Tells};
 ghost use Rattle.mta_run.specs.Runs.{HasCommanded, HasRunWith};
-ghost use Rattle.mta_run.specs.Words.{are_stations_for, words_with};
+ghost use Rattle.mta_run.specs.Words.{are_stations_for, IsSaid, words_with};
 ghost use Rattle.mta_words.specs.Words.{command_of};
 
 use crate::decode::decode;
@@ -98,6 +98,7 @@ fn perform<
 ) -> ServeEnd<D, S>
 where
     S::Link: Send,
+    requires said { IsSaid words }
     requires theirs { are_stations_for words (roles_in S.model stations.items) ≡ true }
     ensures ended { HasCommanded D.model C.model I.model S.Link.model S.model (Some words) conf.old conf.new input.old
         input.new disk result.ended.disk clock stations.items result.stations.items (output O.model out.old out.new)

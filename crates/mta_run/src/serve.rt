@@ -26,7 +26,7 @@ use crate::stop::{Stop, stop_of_halt, stop_of_step};
 use crate::submit::settle;
 use mta_ber::Word;
 use mta_edge::{Clock, Disk, Sink, Source};
-use mta_lane_lists::lanes_agree;
+use mta_lane_lists::{called_lanes_agree, lanes_agree};
 use mta_links::Station;
 use mta_session::Limits;
 use mta_spool::{Spool, StepFault, Tables};
@@ -264,6 +264,7 @@ where
     reading_tells();
     ends_agree::<D, C, S::Link, S>();
     lanes_agree::<S::Link>();
+    called_lanes_agree::<S::Link>();
     let tables = match tables_for(alloc, conf, stations.as_slice()) {
         Ok(tables) => tables,
         Err(stop) => {

@@ -61,4 +61,5 @@ ends_agree good may_stop agree disks clocks links stations spells first front en
       all.1,
       parts_agree links good may_stop agree spells first entries (length front)
           ((lanes_see_histories (first ++ entries) based.possible).allowed spells tells.of_apdus) all.0,
+      all.2,
     )

@@ -102,10 +102,10 @@ pub all_are_good : ListsAreGood → ListsMayStop → {D C L S : Type 0} (disks :
     (links : LinkView L) (stations : StationView S) → AllAreGood disks clocks links stations
 all_are_good good may_stop disks clocks links stations spells first front entries limits before after ends base tells
     based w =
-    let all : AllParts links spells first entries (length front) =
-    all_have_parts disks clocks links stations spells first front entries limits before after ends base tells based w
-    in (
-      all,
+    let all = all_have_parts disks clocks links stations spells first front entries limits before after ends base tells
+    based w in (
+      all.0,
       parts_are_good links good may_stop spells first entries (length front)
-          ((lanes_see_histories _ based.possible).allowed spells tells.of_apdus) all,
+          ((lanes_see_histories _ based.possible).allowed spells tells.of_apdus) all.0,
+      all.1,
     )

@@ -12,6 +12,7 @@ use Rattle.mta_units.specs.declared.unit.Unit.TheVariants as unit
 use Rattle.mta_unit_links.specs.Carried.{Carried}
 use Rattle.mta_unit_links.proofs.Talks.{carried_front, leads_map}
 use Rattle.mta_ends.specs.Lanes.{Seen}
+use Rattle.mta_records.specs.declared.lane.LaneRole.TheVariants.{Responder}
 use Rattle.mta_records.specs.declared.step.Step.{Step}
 use Rattle.mta_histories.specs.History.{after, IsHistory}
 use Rattle.mta_session.specs.Fits.{Answers as SessionAnswers}
@@ -39,7 +40,8 @@ use Rattle.mta_worker.specs.Turns.{At_look, At_reply, IsLost, IsLostAt, IsLostLo
 use Rattle.mta_worker.specs.declared.session.Served.{Served}
 use Rattle.mta_worker.specs.declared.telling.Lost.{Lost}
 use Rattle.mta_worker.specs.declared.telling.Lost.TheVariants as losts
-use Rattle.mta_worker_lists.specs.Begun.{at_first, HasAborted, IsAtLink, IsDone, IsOver, LeavesLink, made_over}
+use Rattle.mta_worker_lists.specs.Begun.{at_first, HasAborted, IsAtLink, IsDone, IsGivenOver, IsOver, LeavesLink}
+use Rattle.mta_worker_lists.specs.Begun.{made_over}
 use Rattle.mta_worker_lists.specs.Begun as over
 use Rattle.mta_worker_lists.specs.Histories.{AreEntries, TellsApdus, place, whole}
 use Rattle.mta_worker_lists.specs.Leads.{AreCarried, entry_at, Leads, made_by, made_in}
@@ -47,7 +49,8 @@ use Rattle.mta_worker_lists.proofs.Calm.{is_looking}
 use Rattle.mta_worker_lists.proofs.Joining.{carried_more, leads_more, no_calls, none_carried, owns_more}
 use Rattle.mta_worker_lists.proofs.Going.{answers_grow, goes_base, goes_grow, goes_led, Reaches, run_ran, state_then}
 use Rattle.mta_worker_lists.proofs.Going.{since_knows, turn_grows}
-use Rattle.mta_worker_lists.specs.Roles.{AreGiven}
+use Rattle.mta_worker_lists.specs.Roles.{AreGiven, WasOpenAs, WhereBegun}
+use Rattle.mta_worker_lists.proofs.Calling.{look_begins, reply_theirs}
 use Rattle.mta_worker_lists.proofs.Given.{given_more, looks_given, reply_given}
 use Rattle.mta_worker_lists.proofs.Heard.{look_answered, looks_mind, Minds, reply_answers, reply_minds}
 use Rattle.mta_worker_lists.proofs.Known.{Knows}
@@ -81,6 +84,7 @@ done_behind links spells first entries x y calls cs q new leads owns carried giv
       d.carried;
   leaves = d.leaves;
   given = given_more (first ++ entries) calls cs given d.given;
+  given_over = d.given_over;
 }
 
 -- ---- a session that is given up
@@ -129,6 +133,7 @@ pub record Untold_at {L : Type 0} (links : LinkView L) (spells : List ℕ → Bo
   pub over : IsOver spells history from upto u b
   pub made : made_over n over ≡ made_by n upto (action.Ask q) (event.Reply x)
   pub leaves : LeavesLink links over old fed new
+  pub given : (steps : List Step) → WhereBegun (λ lane. WasOpenAs Responder lane steps) q x → IsGivenOver steps over
 
 untold : {L : Type 0} (links : LinkView L) (spells : List ℕ → Bool) (history : List Seen) (n from upto : ℕ)
     (u : Session) (b : Action) (q : Ask) (x : Reply) (old : L) (fed : Feed) (new : L) → b ≡ action.Ask q
@@ -139,6 +144,7 @@ untold links spells history n from upto u b q x old fed new asks answers so gave
   over = over.Untold q x gave.aborts asks so answers gave.going;
   made = refl;
   leaves = gave.aborted;
+  given = λ steps g. g;
 }
 
 -- ---- a session that was stopped at its link
@@ -161,6 +167,7 @@ pub record Stopped_at {L : Type 0} (links : LinkView L) (spells : List ℕ → B
   pub over : IsOver spells history from upto u b
   pub made : made_over n over ≡ []
   pub leaves : LeavesLink links over old fed new
+  pub given : (steps : List Step) → IsGivenOver steps over
 
 pub stopped_at : {L : Type 0} (links : LinkView L) (spells : List ℕ → Bool) (history : List Seen) (n from upto : ℕ)
     (u : Session) (b : Action) (old : L) (fed : Feed) (mid new : L) → upto ≡ from
@@ -170,11 +177,13 @@ stopped_at links spells history n from upto u b old fed mid new same (Not_done u
   over = over.Stopped None gave.aborts (undone_at links b old fed mid undone) tt gave.going same;
   made = refl;
   leaves = (mid, undone, gave.aborted);
+  given = λ steps. tt;
 }
 stopped_at links spells history n from upto u b old fed mid new same (Not_told e feed done answers) gave = record {
   over = over.Stopped (Some e) gave.aborts (done_at links b old fed e mid feed done) answers gave.going same;
   made = refl;
   leaves = (mid, (feed, done), gave.aborted);
+  given = λ steps. tt;
 }
 
 -- nothing was read yet
@@ -203,6 +212,7 @@ done_at_once links spells first entries t old p new gave =
       carried = none_carried links [] action.Read old no_feed refl refl;
       leaves = end.leaves;
       given = tt;
+      given_over = end.given (first ++ entries);
     }
 
 module _ {D C L : Type 0} (disks : DiskView D) (clocks : ClockView C) (links : LinkView L) (spells : List ℕ → Bool)
@@ -253,6 +263,9 @@ module _ {D C L : Type 0} (disks : DiskView D) (clocks : ClockView C) (links : L
         leaves = end.leaves;
         given = looks_given disks clocks (first ++ entries) l.looked.turns s t a u (action.Ask l.question) (long s)
             l.looked.looks;
+        given_over =
+            end.given (first ++ entries)
+            (look_begins (λ lane. WasOpenAs Responder lane (first ++ entries)) l.question l.answer l.is_look);
       },
     )
       where
@@ -318,6 +331,9 @@ module _ {D C L : Type 0} (disks : DiskView D) (clocks : ClockView C) (links : L
             carried = none_carried links [] x.action x.link x.feed refl refl;
             leaves = end.leaves;
             given = tt;
+            given_over =
+                end.given (first ++ entries)
+                (reply_theirs disks clocks spells tells first entries possible q x.session y old new state f m r);
           },
         )
       where
@@ -444,6 +460,7 @@ module _ {D C L : Type 0} (disks : DiskView D) (clocks : ClockView C) (links : L
           carried = led.carried;
           leaves = at;
           given = led.given;
+          given_over = tt;
         },
       )
   served_closed x link pass served are w calm k (Stopped zs y t at g h same gives) f =
@@ -478,6 +495,7 @@ module _ {D C L : Type 0} (disks : DiskView D) (clocks : ClockView C) (links : L
           };
           leaves = end.leaves;
           given = ran.given (first ++ entries);
+          given_over = end.given (first ++ entries);
         },
       )
   served_closed x link pass served are w calm k (Given_up zs y q t halt lost g asks i gives) f =

@@ -131,7 +131,7 @@ module _ {D C : Type 0} (disks : DiskView D) (clocks : ClockView C) where
   opens_given t u a (Some o) None n q old new asked d r kept = absurd asked
   opens_given t u a None p n q old new asked d r kept = absurd asked
 
-  bound_given : (t : Session) (g : ℕ) (old new : Shown D C) → IsAnswered t.lane old.current
+  pub bound_given : (t : Session) (g : ℕ) (old new : Shown D C) → IsAnswered t.lane old.current
       → Replied disks clocks (ask.Bind t.lane) t old (reply.Bind (Ok g)) new → WasPossible old new
       → IsOpenAs Responder t.lane new.current
   bound_given t g old new k r may =

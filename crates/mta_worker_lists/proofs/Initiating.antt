@@ -31,6 +31,7 @@ use Rattle.mta_session_lists.specs.Lists.{step_for}
 use Rattle.mta_session_lists.specs.Standing.{Stands}
 use Rattle.mta_plans.specs.Plans.{on_lane}
 use Rattle.mta_links.specs.Links.{LinkView}
+use Rattle.mta_links.specs.declared.role.Role.TheVariants as Roles
 use Rattle.mta_spool.specs.Shown.{Shown}
 use Rattle.mta_units.specs.Feed.{no_feed}
 use Rattle.mta_worker.specs.Serving.{At}
@@ -50,13 +51,14 @@ use Rattle.mta_histories.specs.Kept.{IsKept}
 use Rattle.mta_histories.specs.Lanes.{Lane}
 use Rattle.mta_histories.proofs.LaneLists.{number-at}
 use Rattle.mta_worker_lists.specs.Begun.{at_first, begun_by, Calls, IsBehind, IsCalledOn, IsNewAt}
-use Rattle.mta_worker_lists.specs.Roles.{AreGiven, IsOpenAs, WasOpenAs}
+use Rattle.mta_worker_lists.specs.Roles.{AreGiven, IsOpenTo, WasOpenTo}
 use Rattle.mta_worker_lists.specs.Histories.{TellsApdus, place, whole}
 use Rattle.mta_worker_lists.specs.Leads.{Leads}
 use Rattle.mta_worker_lists.proofs.Calm.{is_looking}
 use Rattle.mta_worker_lists.proofs.Ending.{Closed, done_at_once, done_behind, Gave_up, looking_closed}
 use Rattle.mta_worker_lists.proofs.Joining.{leads_more, none_carried}
-use Rattle.mta_worker_lists.proofs.Given.{given_more, kept_stood, looks_given, opened_as, unheard, was_open}
+use Rattle.mta_worker_lists.proofs.Calling.{line_named, opened_with, was_opened}
+use Rattle.mta_worker_lists.proofs.Given.{given_more, kept_stood, looks_given, unheard}
 use Rattle.mta_worker_lists.proofs.Heard.{looks_mind, Minds}
 use Rattle.mta_worker_lists.proofs.Known.{first_peers, IsPeers, Knows}
 use Rattle.mta_worker_lists.proofs.Knowing.{IsBound, lane_bound}
@@ -134,49 +136,58 @@ planned s peer (next.Bind n p) q (reply.Bind (Ok g)) plan is asks so =
     bind_planned n p q g plan (binds_old s peer n p is) (same_some _ q asks) (same_some _ plan so)
 planned s peer x q y plan is asks so = none_some plan so
 
--- the lane that is bound is one that this agent opened
+-- a lane is opened to the peer that is called
+opens_peer : (s : State) (peer : List ℕ) (p : InitiatorPlan) → IsNext s peer (next.Open p) → p.peer ≡ peer
+opens_peer s peer p (Opens tables line now none) = line_named tables peer line now.line_is
+
+-- the lane that is bound is one that this agent opened to it
 binds_own : (s : State) (peer : List ℕ) (n : ℕ) (p : InitiatorPlan) → IsNext s peer (next.Bind n p) → IsKept s
-    → IsPeers Initiator n s.lanes.open_lanes
+    → IsPeers Initiator peer n s.lanes.open_lanes
 binds_own s peer n p (Binds tables line lane now is agreed) kept =
-    subst (λ (k : ℕ). IsPeers Initiator k s.lanes.open_lanes) (number-at s.lanes.open_lanes is.number lane is.lane_is)
+    subst (λ (k : ℕ). IsPeers Initiator peer k s.lanes.open_lanes)
+    (number-at s.lanes.open_lanes is.number lane is.lane_is)
     (first_peers Initiator peer None 0 s.lanes.open_lanes s.lanes.count is.number kept.numbered_lanes is.first)
 
 -- ---- the turn before the session
 
--- a session begins with this plan, behind the reply to this question
-pub record BeginsWith {D C : Type 0} (disks : DiskView D) (clocks : ClockView C) (units : ℕ) (old new : Shown D C)
-    (halt : Option Halt) (u : Session) (halt' : Option Halt) (first : Result Action Lost) : Type 0 where
+-- a session begins with this plan, behind the reply to this question, at a station that calls this peer
+pub record BeginsWith {D C : Type 0} (disks : DiskView D) (clocks : ClockView C) (peer : List ℕ) (units : ℕ)
+    (old new : Shown D C) (halt : Option Halt) (u : Session) (halt' : Option Halt) (first : Result Action Lost)
+    : Type 0 where
   pub question : Ask
   pub answer : Reply
   pub plan : InitiatorPlan
   pub answered : Answered disks clocks question old answer new
   pub planned : IsPlanned question answer plan
   pub begins : Begins disks clocks new plan units halt u halt' first
-  pub role : IsKept old.current → WasPossible old new → IsOpenAs Initiator plan.lane new.current
+  pub opened : IsKept old.current → WasPossible old new → IsOpenTo peer plan.lane new.current
 
 module _ {D C : Type 0} (disks : DiskView D) (clocks : ClockView C) where
-  bound_own : (n g : ℕ) (old new : Shown D C) → IsPeers Initiator n old.current.lanes.open_lanes
-      → IsBound n g old.current new.current → IsOpenAs Initiator n new.current
-  bound_own n g old new p b =
+  bound_own : (peer : List ℕ) (n g : ℕ) (old new : Shown D C) → IsPeers Initiator peer n old.current.lanes.open_lanes
+      → IsBound n g old.current new.current → IsOpenTo peer n new.current
+  bound_own peer n g old new p b =
       let same : p.lane ≡ b.was = same_some p.lane b.was (sym p.lane_is ∙ b.was_is) in
       record {
         now = b.lane;
         now_is = b.lane_is;
         role_is = b.role_is ∙ ap (λ (l : Lane). l.role) (sym same) ∙ p.role_is;
+        peer_is = b.peer_is ∙ ap (λ (l : Lane). l.peer) (sym same) ∙ p.peer_is;
       }
 
-  -- the lane of the session is open then, as one that this agent opened
+  -- the lane of the session is open then, as one that this agent opened to the peer that is called
   begins_as : (peer : List ℕ) (x : Next) (q : Ask) (y : Reply) (plan : InitiatorPlan) (old new : Shown D C)
       → IsNext old.current peer x → asks_next x ≡ Some q → plan_behind x y ≡ Some plan
       → Answered disks clocks q old y new → IsKept old.current → WasPossible old new
-      → IsOpenAs Initiator plan.lane new.current
+      → IsOpenTo peer plan.lane new.current
   begins_as peer (next.Open p) q (reply.LaneOpen (Ok n)) plan old new is asks so a kept may =
-      subst (λ (z : InitiatorPlan). IsOpenAs Initiator z.lane new.current) (same_some _ plan so)
-      (opened_as disks clocks Initiator p.peer p.reference p.twa p.checkpoint p.window n old new
-      (subst (λ (z : Ask). Answered disks clocks z old (reply.LaneOpen (Ok n)) new) (sym (same_some _ q asks)) a) kept)
+      subst (λ (z : InitiatorPlan). IsOpenTo peer z.lane new.current) (same_some _ plan so)
+      (subst (λ (z : List ℕ). IsOpenTo z n new.current) (opens_peer old.current peer p is)
+      (opened_with disks clocks p.peer p.reference p.twa p.checkpoint p.window n old new
+      (subst (λ (z : Ask). Answered disks clocks z old (reply.LaneOpen (Ok n)) new) (sym (same_some _ q asks)) a)
+      kept))
   begins_as peer (next.Bind n p) q (reply.Bind (Ok g)) plan old new is asks so a kept may =
-      subst (λ (z : InitiatorPlan). IsOpenAs Initiator z.lane new.current) (same_some _ plan so)
-      (bound_own n g old new (binds_own old.current peer n p is kept)
+      subst (λ (z : InitiatorPlan). IsOpenTo peer z.lane new.current) (same_some _ plan so)
+      (bound_own peer n g old new (binds_own old.current peer n p is kept)
       (lane_bound disks clocks n g old new
       (subst (λ (z : Ask). Answered disks clocks z old (reply.Bind (Ok g)) new) (sym (same_some _ q asks)) a) may))
   begins_as peer x q y plan old new is asks so a kept may = none_some plan so
@@ -184,7 +195,7 @@ module _ {D C : Type 0} (disks : DiskView D) (clocks : ClockView C) where
   stepped_begins : (peer : List ℕ) (x : Next) (units : ℕ) (old new : Shown D C) (halt halt' : Option Halt) (u : Session)
       (first : Result Action Lost) → IsNext old.current peer x
       → IsStepped disks clocks x units old halt new halt' (ready.Begins u first)
-      → BeginsWith disks clocks units old new halt u halt' first
+      → BeginsWith disks clocks peer units old new halt u halt' first
   stepped_begins peer x units old new halt halt' u first is (Begun q y plan v f asks a so begins) = record {
     question = q;
     answer = y;
@@ -192,12 +203,12 @@ module _ {D C : Type 0} (disks : DiskView D) (clocks : ClockView C) where
     answered = a;
     planned = planned old.current peer x q y plan is asks so;
     begins = begins;
-    role = begins_as peer x q y plan old new is asks so a;
+    opened = begins_as peer x q y plan old new is asks so a;
   }
 
   pub readied_begins : (peer : List ℕ) (units : ℕ) (old new : Shown D C) (halt halt' : Option Halt) (u : Session)
       (first : Result Action Lost) → IsReadied disks clocks peer units old halt new halt' (ready.Begins u first)
-      → BeginsWith disks clocks units old new halt u halt' first
+      → BeginsWith disks clocks peer units old new halt u halt' first
   readied_begins peer units old new halt halt' u first (Stepped x r is s) =
       stepped_begins peer x units old new halt halt' u first is s
 
@@ -235,7 +246,7 @@ module _ {D C : Type 0} (disks : DiskView D) (clocks : ClockView C) where
       by_plan false e d = subst (λ (z : Session). Knows z new) (sym d.1) tt
 
   module _ (spells : List ℕ → Bool) (tells : TellsApdus spells) (first entries : List Step)
-      (possible : IsHistory (first ++ entries)) where
+      (possible : IsHistory (first ++ entries)) (peer : List ℕ) where
     abbrev history : List Seen
     history = whole first entries
 
@@ -251,7 +262,7 @@ module _ {D C : Type 0} (disks : DiskView D) (clocks : ClockView C) where
           ≡ begun_by (length first) begun
       pub later : length (begun_by (length first) begun) ≤ length pass.seen
       pub behind : IsBehind (length first + length old.entries) begun
-      pub called : IsCalledOn (first ++ entries) begun
+      pub called : IsCalledOn (first ++ entries) (Roles.Out peer) begun
 
     -- It is carried on from these first calls.
     pub record Led (old new : Shown D C) (pass : Held Step) (u : Session) (b : Action) : Type 0 where
@@ -271,9 +282,9 @@ module _ {D C : Type 0} (disks : DiskView D) (clocks : ClockView C) where
 
     abbrev has_step : (q : Ask) (y : Reply) (plan : InitiatorPlan) (old new : Shown D C) (pass : Held Step)
         → pass.seen ≡ new.entries → old.current ≡ after (first ++ old.entries) → IsPrefix new.entries entries
-        → IsPlanned q y plan → Makes (step_told q y) old new → WasOpenAs Initiator plan.lane (first ++ entries)
+        → IsPlanned q y plan → Makes (step_told q y) old new → WasOpenTo peer plan.lane (first ++ entries)
         → (units : ℕ) → IsBegun old new pass
-    has_step q y plan old new pass sees state f p m role units =
+    has_step q y plan old new pass sees state f p m opened units =
         let makes : Makes (Some (step_for plan)) old new = subst (λ (o : Option StepOn). Makes o old new) p.told m in
         let stands : Stands history 0 (long new) (step_for plan) =
         made_stands disks clocks spells tells first entries possible (step_for plan) 0 old new makes state f
@@ -297,36 +308,38 @@ module _ {D C : Type 0} (disks : DiskView D) (clocks : ClockView C) where
               length-append old.entries (makes.0 ∷ []) in
               let same : length new.entries ≡ length (old.entries ++ makes.0 ∷ []) = ap length makes.1 in
               omega (arith, one, same);
-          called = role;
+          called = opened;
         }
 
     -- the step for it was made
     was_made : (units : ℕ) (old new : Shown D C) (halt halt' : Option Halt) (u : Session) (r : Result Action Lost)
         → old.current ≡ after (first ++ old.entries) → IsPrefix new.entries entries
-        → (w : BeginsWith disks clocks units old new halt u halt' r) → Makes (step_told w.question w.answer) old new
+        → (w : BeginsWith disks clocks peer units old new halt u halt' r)
+        → Makes (step_told w.question w.answer) old new
     was_made units old new halt halt' u r state f w =
         answer_made disks clocks w.question old w.answer new
         (was_possible disks clocks spells tells first entries possible old new state f) w.answered
 
-    -- its lane is open then, as one that this agent opened
+    -- its lane is open then, as one that this agent opened to the peer
     was_called : (units : ℕ) (old new : Shown D C) (halt halt' : Option Halt) (u : Session) (r : Result Action Lost)
         → old.current ≡ after (first ++ old.entries) → IsPrefix new.entries entries
-        → (w : BeginsWith disks clocks units old new halt u halt' r)
-        → WasOpenAs Initiator w.plan.lane (first ++ entries)
+        → (w : BeginsWith disks clocks peer units old new halt u halt' r)
+        → WasOpenTo peer w.plan.lane (first ++ entries)
     was_called units old new halt halt' u r state f w =
         let makes : Makes (step_told w.question w.answer) old new =
         was_made units old new halt halt' u r state f w in
-        was_open disks clocks spells tells first entries possible Initiator w.plan.lane new
+        was_opened disks clocks spells tells first entries possible peer w.plan.lane new
         (stands_next disks clocks spells tells first entries possible (step_told w.question w.answer) old new makes
         state f)
-        (w.role
+        (w.opened
         (kept_stood disks clocks spells tells first entries possible old
         (stands_before disks clocks spells tells first entries possible (step_told w.question w.answer) old new makes
         state f)) (was_possible disks clocks spells tells first entries possible old new state f))
 
     abbrev there : (units : ℕ) (old new : Shown D C) (pass : Held Step) (halt halt' : Option Halt) (u : Session)
         (r : Result Action Lost) → pass.seen ≡ new.entries → old.current ≡ after (first ++ old.entries)
-        → IsPrefix new.entries entries → BeginsWith disks clocks units old new halt u halt' r → IsBegun old new pass
+        → IsPrefix new.entries entries → BeginsWith disks clocks peer units old new halt u halt' r
+        → IsBegun old new pass
     there units old new pass halt halt' u r sees state f w =
         has_step w.question w.answer w.plan old new pass sees state f w.planned
         (was_made units old new halt halt' u r state f w)
@@ -334,7 +347,7 @@ module _ {D C : Type 0} (disks : DiskView D) (clocks : ClockView C) where
 
     stands_there : (units : ℕ) (old new : Shown D C) (halt halt' : Option Halt) (u : Session) (r : Result Action Lost)
         → old.current ≡ after (first ++ old.entries) → IsPrefix new.entries entries
-        → BeginsWith disks clocks units old new halt u halt' r
+        → BeginsWith disks clocks peer units old new halt u halt' r
         → StandsNow disks clocks spells tells first entries possible new
     stands_there units old new halt halt' u r state f w =
         stands_next disks clocks spells tells first entries possible (step_told w.question w.answer) old new
@@ -360,7 +373,7 @@ module _ {D C : Type 0} (disks : DiskView D) (clocks : ClockView C) where
     -- the session knows its lane behind that call
     first_minds : (units : ℕ) (old new : Shown D C) (halt halt' : Option Halt) (u : Session) (r : Result Action Lost)
         (one : Action) (t : Session) → old.current ≡ after (first ++ old.entries) → IsPrefix new.entries entries
-        → (w : BeginsWith disks clocks units old new halt u halt' r)
+        → (w : BeginsWith disks clocks peer units old new halt u halt' r)
         → IsTurn (first_call (new_initiator w.plan units) new one t).turn → Minds disks clocks one t new.current
     first_minds units old new halt halt' u r one t state f w turn = record {
       waits = waits_next (first_call (new_initiator w.plan units) new one t).turn turn refl;
@@ -372,7 +385,7 @@ module _ {D C : Type 0} (disks : DiskView D) (clocks : ClockView C) where
 
     pub begins_led : (units : ℕ) (old new : Shown D C) (pass : Held Step) (halt halt' : Option Halt) (u : Session)
         (b : Action) → pass.seen ≡ new.entries → old.current ≡ after (first ++ old.entries)
-        → IsPrefix new.entries entries → BeginsWith disks clocks units old new halt u halt' (Ok b)
+        → IsPrefix new.entries entries → BeginsWith disks clocks peer units old new halt u halt' (Ok b)
         → Led old new pass u b
     begins_led units old new pass halt halt' u b sees state f w = by_begin w.begins
       where
@@ -421,7 +434,7 @@ module _ {D C : Type 0} (disks : DiskView D) (clocks : ClockView C) where
       pub begins_lost : (units : ℕ) (old new : Shown D C) (halt halt' : Option Halt) (u : Session) (lost : Lost)
           (at : L) (pass : Held Step) (link : L) → old.current ≡ after (first ++ old.entries)
           → IsPrefix new.entries entries → pass.seen ≡ new.entries
-          → BeginsWith disks clocks units old new halt u halt' (Err lost)
+          → BeginsWith disks clocks peer units old new halt u halt' (Err lost)
           → (lost ≡ losts.Memory → Gave_up links (has_turned u.phase) at link) → Lost_there old new at pass link
       begins_lost units old new halt halt' u lost at pass link state f sees w gives = by_begin lost gives w.begins
         where

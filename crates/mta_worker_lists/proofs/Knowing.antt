@@ -55,6 +55,7 @@ pub record IsBound (n g : ℕ) (old new : State) : Type 0 where
   pub lane_is : lane_at n new.lanes.open_lanes ≡ Some lane
   pub generation_is : lane.generation ≡ g
   pub role_is : lane.role ≡ was.role
+  pub peer_is : lane.peer ≡ was.peer
 
 module _ {D C : Type 0} (disks : DiskView D) (clocks : ClockView C) where
   bound_at : (n g h : ℕ) (old new : Shown D C) → Appends disks (step.Bind n h) old new None
@@ -73,6 +74,7 @@ module _ {D C : Type 0} (disks : DiskView D) (clocks : ClockView C) where
         lane_is = put_then n l next (lanes_of old) (lanes_of new) may.allowed.lane_is refl lanes;
         generation_is = sym (is ∙ ap next_generation may.allowed.lane_is);
         role_is = refl;
+        peer_is = refl;
       }
 
   pub lane_bound : (n g : ℕ) (old new : Shown D C) → Binds disks clocks n old (Ok g) new → WasPossible old new

@@ -2,6 +2,7 @@
 use Rattle.std.proofs.Common.{◌≡◌, ℕ, ◌*◌, ◌<◌, ◌≤◌, ◌==◌, Bool, true, false, cond, eqb, nat_lt, List, [], ◌∷◌}
 use Rattle.std.proofs.Common.{◌++◌, length, Option, None, Some, inl, inr, refl, sym, ap, subst, ◌∙◌, arith}
 use Rattle.std.proofs.lemmas.Bool.{and_parts, cond-false, cond-true, eq-eqb, eqb-true, ltb-true, ne_eqb}
+use Rattle.std.proofs.lemmas.Slice.Eq.{bytes_eq-Decides}
 use Rattle.mta_lane_send.specs.Half.{FitsState}
 use Rattle.mta_lane_send.specs.Pieces.{has_piece_after}
 use Rattle.mta_lane_send.specs.declared.state.SendState.{SendState}
@@ -108,13 +109,14 @@ role_is Responder Responder i = refl
 role_is Initiator Initiator i = refl
 role_is Initiator Responder i = absurd (never i)
 
-pub record IsPeers (role : LaneRole) (n : ℕ) (lanes : List Lane) : Type 0 where
+pub record IsPeers (role : LaneRole) (peer : List ℕ) (n : ℕ) (lanes : List Lane) : Type 0 where
   pub lane : Lane
   pub lane_is : lane_at n lanes ≡ Some lane
   pub role_is : lane.role ≡ role
+  pub peer_is : lane.peer ≡ peer
 
 pub first_peers : (q : LaneRole) (peer : List ℕ) (name : Option Identifier) (above : ℕ) (lanes : List Lane)
-    (most n : ℕ) → AreNumbered above lanes most → IsFirstNamed q peer name lanes (Some n) → IsPeers q n lanes
+    (most n : ℕ) → AreNumbered above lanes most → IsFirstNamed q peer name lanes (Some n) → IsPeers q peer n lanes
 first_peers q peer name above [] most n a f = absurd cc
 first_peers q peer name above (l ∷ lanes) most n a f =
     elim f [
@@ -125,14 +127,15 @@ first_peers q peer name above (l ∷ lanes) most n a f =
     same_number : Some n ≡ Some l.number → n ≡ l.number
     same_number e = cc
 
-    found : IsNamed q peer name l → Some n ≡ Some l.number → IsPeers q n (l ∷ lanes)
+    found : IsNamed q peer name l → Some n ≡ Some l.number → IsPeers q peer n (l ∷ lanes)
     found named e = record {
       lane = l;
       lane_is = cond-true (eqb n l.number) (Some l) (lane_at n lanes) (eq-eqb n l.number (same_number e));
       role_is = role_is q l.role (and_parts _ _ named.0).0;
+      peer_is = sym ((bytes_eq-Decides peer l.peer).0 (and_parts _ _ named.0).1);
     }
 
-    behind : IsPeers q n lanes → IsPeers q n (l ∷ lanes)
+    behind : IsPeers q peer n lanes → IsPeers q peer n (l ∷ lanes)
     behind p =
         let over : l.number < p.lane.number = number-above l.number lanes most n p.lane a.1 p.lane_is in
         let at : n ≡ p.lane.number = number-at lanes n p.lane p.lane_is in
@@ -143,6 +146,7 @@ first_peers q peer name above (l ∷ lanes) most n a f =
               (ne_eqb n l.number (λ e. omega (arith, e, over, at)))
               ∙ p.lane_is;
           role_is = p.role_is;
+          peer_is = p.peer_is;
         }
 
 -- the first lane of a name that the peer opened

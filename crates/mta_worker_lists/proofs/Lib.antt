@@ -1,5 +1,6 @@
 pub mod Joining
 pub mod Annotating
+pub mod Peers
 pub mod Making
 pub mod Telling
 pub mod Truth
@@ -11,7 +12,9 @@ pub mod Replying
 pub mod Suiting
 pub mod Knowing
 pub mod Heard
+pub mod Beginning
 pub mod Given
+pub mod Calling
 pub mod Going
 pub mod Ending
 pub mod Responding
@@ -23,6 +26,7 @@ pub mod Good
 pub mod Segments
 pub mod Unlisted
 pub mod OwnSteps
+pub mod Once
 pub mod Keeping
 pub mod Owned
 pub mod Sessions
@@ -36,3 +40,5 @@ pub mod Made
 pub mod AllGood
 pub mod Agreeing
 pub mod Sides
+pub mod Untold
+pub mod Stations

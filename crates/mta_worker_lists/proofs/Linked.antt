@@ -7,7 +7,8 @@ use mathlib.Core.List.{IsPrefix}
 use Rattle.mta_ber.specs.declared.memory.Memory.{Memory as NoMemory}
 use Rattle.mta_edge.specs.Views.{ClockView, DiskView}
 use Rattle.mta_links.specs.Links.{LinkView}
-use Rattle.mta_links.specs.declared.role.Role.TheVariants as role
+use Rattle.mta_links.specs.declared.role.Role.{Role}
+use Rattle.mta_links.specs.declared.role.Role.TheVariants as Roles
 use Rattle.mta_ends.specs.Lanes.{CloseLane, On, Seen}
 use Rattle.mta_records.specs.Reference.{Identifier}
 use Rattle.mta_records.specs.declared.fault.StepFault.{StepFault}
@@ -86,30 +87,31 @@ module _ {D C L : Type 0} (disks : DiskView D) (clocks : ClockView C) (links : L
   abbrev history : List Seen
   history = whole first entries
 
-  -- A session that began over this link, behind these entries of its pass.
-  pub record RunOf (old new_link : L) (low : ℕ) (own opened : List ℕ) (q : Held Step) : Type 0 where
+  -- A session that began over this link of a station of this role, behind these entries of its pass.
+  pub record RunOf (r : Role) (old new_link : L) (low : ℕ) (own opened : List ℕ) (q : Held Step) : Type 0 where
     pub new : Session
     pub begun : Held Step
     pub calls : List Call
     pub ran : HasRun links spells first entries old new begun calls q new_link
+    pub of_role : ran.role ≡ r
     pub owns : begun.own ≡ own ++ begun_by (length first) ran.begins
     pub later : length (begun_by (length first) ran.begins) ≤ length begun.seen
     pub behind : IsBehind low ran.begins
 
-  abbrev Ran : L → L → Held Step → Held Step → Served → Type 0
-  Ran old new p q served = IsRun links spells first entries old new p q served
+  abbrev Ran : Role → L → L → Held Step → Held Step → Served → Type 0
+  Ran r old new p q served = IsRun links spells first entries r old new p q served
 
   no_closings : AreClosings history (length first) []
   no_closings k hit = none_hit k hit
 
   -- where none was closed
-  began : (old new : L) (p q : Held Step) (served : Served) → RunOf old new (place first p) p.own [] q
-      → Ran old new p q served
-  began old new p q served r = Began [] r.new r.begun r.calls r.ran no_closings r.owns r.later r.behind
+  began : (role : Role) (old new : L) (p q : Held Step) (served : Served)
+      → RunOf role old new (place first p) p.own [] q → Ran role old new p q served
+  began role old new p q served r = Began [] r.new r.begun r.calls r.ran r.of_role no_closings r.owns r.later r.behind
 
-  none_began : (old new : L) (p q : Held Step) (served : Served) → served.end ≡ None → q.own ≡ p.own → new ≡ old
-      → Ran old new p q served
-  none_began old new p q served none owns same =
+  none_began : (role : Role) (old new : L) (p q : Held Step) (served : Served) → served.end ≡ None → q.own ≡ p.own
+      → new ≡ old → Ran role old new p q served
+  none_began role old new p q served none owns same =
       None_began [] no_closings none (owns ∙ sym (append-nil p.own)) same
 
   -- no entry is made in a turn of the lock
@@ -139,7 +141,7 @@ module _ {D C L : Type 0} (disks : DiskView D) (clocks : ClockView C) (links : L
         feed = no_feed;
         pass = mid;
         halt = None;
-      }) new q served → IsPrefix q.seen entries → RunOf old new (place first mid) mid.own [] q
+      }) new q served → IsPrefix q.seen entries → RunOf Roles.In old new (place first mid) mid.own [] q
   listens_run own units mid old new q served one t are turn is f =
       let n : ℕ = place first mid in
       let fresh : Session = new_responder own units in
@@ -162,7 +164,9 @@ module _ {D C L : Type 0} (disks : DiskView D) (clocks : ClockView C) (links : L
         new = fresh;
         begun = mid;
         calls = call ∷ [] ++ rest.0;
+        of_role = refl;
         ran = record {
+          role = Roles.In;
           begins = Listens own units n;
           called = tt;
           done =
@@ -192,20 +196,21 @@ module _ {D C L : Type 0} (disks : DiskView D) (clocks : ClockView C) (links : L
 
   listened_run : (units : ℕ) (p : Held Step) (old new : L) (q : Held Step) (served : Served)
       → AreEntries p.base first entries → HasListened disks clocks links units p old new q served
-      → IsPrefix q.seen entries → Ran old new p q served
+      → IsPrefix q.seen entries → Ran Roles.In old new p q served
   listened_run units p old new q served are (Without i same is) f =
-      none_began old new p q served (ap (λ (s : Served). s.end) is) (own_still (Ok None) p q i) same
+      none_began Roles.In old new p q served (ap (λ (s : Served). s.end) is) (own_still (Ok None) p q i) same
   listened_run units p old new q served are (Wanting i same is) f =
-      none_began old new p q served (ap (λ (s : Served). s.end) is)
+      none_began Roles.In old new p q served (ap (λ (s : Served). s.end) is)
       (still_owns (λ s t. t ≡ s) p q i (ap (λ (s : Shown D C). s.entries) i.did)) same
   listened_run units p old new q served are (Listening own mid one t i turn is) f =
       let r = listens_run own units mid old new q served one t
       (turn_then (λ s t. IsOwnName s.current (Ok (Some own)) × (t ≡ s)) p mid are i) turn is f in
-      began old new p q served (record {
+      began Roles.In old new p q served (record {
         new = r.new;
         begun = r.begun;
         calls = r.calls;
         ran = r.ran;
+        of_role = r.of_role;
         owns = r.owns ∙ ap (λ (ns : List ℕ). ns ++ begun_by (length first) r.ran.begins)
             (own_still (Ok (Some own)) p mid i);
         later = r.later;
@@ -216,11 +221,13 @@ module _ {D C L : Type 0} (disks : DiskView D) (clocks : ClockView C) (links : L
       })
   listened_run units p old new q served are (Lost_at_once own i gives) f =
       let fresh : Session = new_responder own units in
-      began old new p q served (record {
+      began Roles.In old new p q served (record {
         new = fresh;
         begun = q;
         calls = [];
+        of_role = refl;
         ran = record {
+          role = Roles.In;
           begins = Listens own units (place first q);
           called = tt;
           done = done_at_once links spells first entries fresh old q new
@@ -247,7 +254,7 @@ module _ {D C L : Type 0} (disks : DiskView D) (clocks : ClockView C) (links : L
         pass = at;
         halt = noted;
       }) new q served → IsPrefix at.seen entries → IsPrefix q.seen entries
-      → RunOf old new (place first mid) mid.own [] q
+      → RunOf (Roles.Out peer) old new (place first mid) mid.own [] q
   begins_run peer units mid at u one noted old new q served are i is front f =
       let left : at.seen ≡ i.after.entries = ap (λ (h : Held Step). h.seen) i.left in
       let owned : at.own
@@ -255,9 +262,9 @@ module _ {D C L : Type 0} (disks : DiskView D) (clocks : ClockView C) (links : L
       ap (λ (h : Held Step). h.own) i.left in
       let behind : IsPrefix i.after.entries entries = subst (λ (xs : List Step). IsPrefix xs entries) left front in
       let state = state_then disks clocks i.before mid.base first entries i.keeps are in
-      let led : Led disks clocks spells tells first entries are.possible i.before i.after at u one =
-      begins_led disks clocks spells tells first entries are.possible units i.before i.after at None noted u one left
-      state
+      let led : Led disks clocks spells tells first entries are.possible peer i.before i.after at u one =
+      begins_led disks clocks spells tells first entries are.possible peer units i.before i.after at None noted u one
+      left state
       behind (readied_begins disks clocks peer units i.before i.after None noted u (Ok one) i.did) in
       let there : length first + length i.after.entries ≡ place first at =
       ap (λ (xs : List Step). length first + length xs) (sym left) in
@@ -279,7 +286,9 @@ module _ {D C L : Type 0} (disks : DiskView D) (clocks : ClockView C) (links : L
         new = fresh;
         begun = at;
         calls = led.calls ++ rest.0;
+        of_role = refl;
         ran = record {
+          role = Roles.Out peer;
           begins = led.begins.begun;
           called = led.begins.called;
           done =
@@ -300,7 +309,7 @@ module _ {D C L : Type 0} (disks : DiskView D) (clocks : ClockView C) (links : L
       (old new : L) (served : Served) → AreEntries mid.base first entries
       → InTurn disks clocks (λ s t. IsReadied disks clocks peer units s None t noted (ready.Begins u (Err lost))) mid q
       → GivesUp links lost (has_turned u.phase) noted old new served → IsPrefix q.seen entries
-      → RunOf old new (place first mid) mid.own [] q
+      → RunOf (Roles.Out peer) old new (place first mid) mid.own [] q
   lost_run peer units mid q u lost noted old new served are i gives f =
       let left : q.seen ≡ i.after.entries = ap (λ (h : Held Step). h.seen) i.left in
       let owned : q.own
@@ -308,16 +317,22 @@ module _ {D C L : Type 0} (disks : DiskView D) (clocks : ClockView C) (links : L
       ap (λ (h : Held Step). h.own) i.left in
       let behind : IsPrefix i.after.entries entries = subst (λ (xs : List Step). IsPrefix xs entries) left f in
       let state = state_then disks clocks i.before mid.base first entries i.keeps are in
-      let led : Lost_there disks clocks spells tells first entries are.possible links i.before i.after old q new =
-      begins_lost disks clocks spells tells first entries are.possible links units i.before i.after None noted u lost
-      old q new
+      let led : Lost_there disks clocks spells tells first entries are.possible peer links i.before i.after old q new =
+      begins_lost disks clocks spells tells first entries are.possible peer links units i.before i.after None noted u
+      lost old q new
       state behind left (readied_begins disks clocks peer units i.before i.after None noted u (Err lost) i.did)
       (gave_up links lost (has_turned u.phase) noted old new served gives) in
       record {
         new = new_initiator led.begins.plan led.begins.units;
         begun = q;
         calls = led.closed.0;
-        ran = record { begins = led.begins.begun; called = led.begins.called; done = led.closed.1 };
+        of_role = refl;
+        ran = record {
+          role = Roles.Out peer;
+          begins = led.begins.begun;
+          called = led.begins.called;
+          done = led.closed.1;
+        };
         owns = owned ∙ ap (λ (ns : List ℕ). mid.own ++ ns) led.begins.opened;
         later = led.begins.later;
         behind =
@@ -503,10 +518,10 @@ module _ {D C L : Type 0} (disks : DiskView D) (clocks : ClockView C) (links : L
       (λ s t d. let w = readied_begins disks clocks peer units s t None noted u r d in
       answered_grow w.question s t w.answer w.answered) i
 
-  begun_behind : (old new : L) (p mid q : Held Step) (served : Served) → ClosedAll p mid → IsPrefix p.seen mid.seen
-      → RunOf old new (place first mid) mid.own [] q → Ran old new p q served
-  begun_behind old new p mid q served c front r =
-      Began c.closings r.new r.begun r.calls r.ran c.are
+  begun_behind : (role : Role) (old new : L) (p mid q : Held Step) (served : Served) → ClosedAll p mid
+      → IsPrefix p.seen mid.seen → RunOf role old new (place first mid) mid.own [] q → Ran role old new p q served
+  begun_behind role old new p mid q served c front r =
+      Began c.closings r.new r.begun r.calls r.ran r.of_role c.are
       (r.owns ∙ ap (λ (ns : List ℕ). ns ++ begun_by (length first) r.ran.begins) c.owns
       ∙ append_assoc p.own c.closings (begun_by (length first) r.ran.begins)) r.later
       (let seen : length p.seen ≤ length mid.seen = prefix_length p.seen mid.seen front in
@@ -514,7 +529,7 @@ module _ {D C L : Type 0} (disks : DiskView D) (clocks : ClockView C) (links : L
 
   called_run : (peer : List ℕ) (units : ℕ) (p : Held Step) (old new : L) (q : Held Step) (served : Served)
       → AreEntries p.base first entries → HasCalled disks clocks links peer units p old new q served
-      → IsPrefix q.seen entries → Ran old new p q served
+      → IsPrefix q.seen entries → Ran (Roles.Out peer) old new p q served
   called_run peer units p old new q served are (Halting ms mid halt noted c i same is) f =
       let entries_are : i.after.entries ≡ i.before.entries =
       readied_halts peer units i.before i.after noted halt i.did in
@@ -538,12 +553,12 @@ module _ {D C L : Type 0} (disks : DiskView D) (clocks : ClockView C) (links : L
       let front : IsPrefix at.seen entries = prefix_trans at.seen q.seen entries grown_on f in
       let before : IsPrefix mid.seen at.seen = readied_grows peer units mid at u (Ok one) noted i in
       let all = closed_all peer units p ms mid are c (prefix_trans mid.seen at.seen entries before front) in
-      begun_behind old new p mid q served all (closings_grow peer units p ms mid c)
+      begun_behind (Roles.Out peer) old new p mid q served all (closings_grow peer units p ms mid c)
       (begins_run peer units mid at u one noted old new q served all.base i is front f)
   called_run peer units p old new q served are (Lost_before ms mid u lost noted c i gives) f =
       let before : IsPrefix mid.seen q.seen = readied_grows peer units mid q u (Err lost) noted i in
       let all = closed_all peer units p ms mid are c (prefix_trans mid.seen q.seen entries before f) in
-      begun_behind old new p mid q served all (closings_grow peer units p ms mid c)
+      begun_behind (Roles.Out peer) old new p mid q served all (closings_grow peer units p ms mid c)
       (lost_run peer units mid q u lost noted old new served all.base i gives f)
   called_run peer units p old new q served are (Too_often ms c many same is) f =
       let all = closed_all peer units p ms q are c f in
@@ -551,7 +566,7 @@ module _ {D C L : Type 0} (disks : DiskView D) (clocks : ClockView C) (links : L
 
 pub links_are_run : {D C L : Type 0} (disks : DiskView D) (clocks : ClockView C) (links : LinkView L)
     → LinksAreRun disks clocks links
-links_are_run disks clocks links spells first entries role.In units p old new q served tells are is f =
+links_are_run disks clocks links spells first entries Roles.In units p old new q served tells are is f =
     listened_run disks clocks links spells tells first entries units p old new q served are is f
-links_are_run disks clocks links spells first entries (role.Out peer) units p old new q served tells are is f =
+links_are_run disks clocks links spells first entries (Roles.Out peer) units p old new q served tells are is f =
     called_run disks clocks links spells tells first entries peer units p old new q served are is f

@@ -16,7 +16,7 @@ use Rattle.mta_worker_lists.proofs.Segments.{maker, Maker}
 
 module _ {L : Type 0} (links : LinkView L) (spells : List ℕ → Bool) (first entries : List Step) where
   -- what one of the parts is
-  part_is : (ss : List Segment) (s : Segment) → AreSessions links spells first entries ss → IsOne s ss
+  pub part_is : (ss : List Segment) (s : Segment) → AreSessions links spells first entries ss → IsOne s ss
       → AreForNone (whole first entries) (length first) s ⊎ IsSession links spells first entries s
   part_is [] s are i = absurd i
   part_is (x ∷ xs) s are i =

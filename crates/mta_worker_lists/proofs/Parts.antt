@@ -25,6 +25,7 @@ closings_plain history n ks are = record {
   lists = λ k lane g step hit get piece.
       let closed = are k hit in
       closes_none closed.0 lane closed.1 g step (sym closed.2 ∙ get) piece;
+  once = λ k lane g hit begins. tt;
 }
 
 seen_same : (x y : Seen) → Some x ≡ Some y → x ≡ y
@@ -41,13 +42,14 @@ closings_for_none history n ks are = record {
 
 module _ {L : Type 0} (links : LinkView L) where
   pub links_have_parts : LinksHaveParts links
-  links_have_parts spells first entries old new p q served (None_began closings are none owns same) = record {
+  links_have_parts spells first entries role old new p q served (None_began closings are none owns same) = record {
     parts = plain closings ∷ [];
     are = (closings_plain (whole first entries) (length first) closings are, tt);
     owns = owns ∙ ap (λ (ns : List ℕ). p.own ++ ns) (sym (append-nil closings));
     of_it = refl;
   }
-  links_have_parts spells first entries old new p q served (Began closings t begun calls ran are owns later after) =
+  links_have_parts spells first entries role old new p q served
+      (Began closings t begun calls ran of_role are owns later after) =
       let n : ℕ = length first in
       let s = sessions_are_segments spells (whole first entries) n (place first begun) (place first ran.done.mid)
       (place first q) t ran.done.last ran.done.wanted calls ran.begins ran.done.over (omega (arith, later))

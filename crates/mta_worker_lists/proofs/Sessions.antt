@@ -46,6 +46,8 @@ use Rattle.mta_worker_lists.specs.Begun.{Stopped, Untold}
 use Rattle.mta_worker_lists.specs.Leads.{Leads, made_by, made_in}
 use Rattle.mta_worker_lists.specs.Segments.{IsOf, IsOwnStep, IsSegment, OnLane}
 use Rattle.mta_worker_lists.specs.Segments.{Segment, SessionsAreSegments, told_over}
+use Rattle.mta_worker_lists.proofs.Beginning.{begins_told}
+use Rattle.mta_worker_lists.proofs.Once.{all_none, begun_lane, none_begun}
 use Rattle.mta_worker_lists.proofs.Good.{read_asks}
 use Rattle.mta_worker_lists.proofs.Joining.{action_more, made_more}
 use Rattle.mta_worker_lists.proofs.Keeping.{Listed, listed_next, not_both, not_first}
@@ -354,6 +356,23 @@ module _ (spells : List ℕ → Bool) (history : List Seen) (n : ℕ) where
                     less (omega (arith, hit, sum, none)) get piece in
                     record { lane_is = found.lane_is; generation_is = found.generation_is; listed = found.listed })
               ];
+          once = λ k lane g hit begins.
+              let sum : times k ((at - n) ∷ [] ++ rest) ≡ times k ((at - n) ∷ []) + times k rest =
+              times-append k ((at - n) ∷ []) rest in
+              elim (cases_lt 0 (times k ((at - n) ∷ []))) [
+                | inl first ↦ (
+                    let place : k ≡ at - n = one_hit k (at - n) first in
+                    let there : n + k ≡ at = omega (arith, place, le, next) in (
+                      begun_lane lane g p.lane (step_for p).step
+                          (begins_told lane g begins.0 (step_for p) (slice_get history (n + k)) begins.1
+                          (ap (λ (m : ℕ). slice_get history m) there ∙ has) begins.2),
+                      there,
+                    ))
+                | inr none ↦ absurd (
+                    all_none spells history n p.lane p.generation calls action.Read (new_initiator p units) u b from mid
+                    upto o k lane g (new_listed p units) led.calls_are led.come_true led.wanted (omega (arith, le))
+                    less (omega (arith, hit, sum, none)) begins)
+              ];
         },
       )
 
@@ -530,6 +549,37 @@ module _ (spells : List ℕ → Bool) (history : List Seen) (n : ℕ) where
                     (omega (arith, hit, sum, none)) get piece in
                     record { lane_is = found.lane_is; generation_is = found.generation_is; listed = found.listed })
               ];
+          once = λ k m j hit begins.
+              let sum : times k rest ≡ times k first_part + times k behind =
+              ap (λ (ns : List ℕ). times k ns) all ∙ times-append k first_part behind in
+              let one_sum : times k first_part
+              ≡ times k (made_in n action.Read g.before) + times k ((c.seen - 1 - n) ∷ []) =
+              ap (λ (ns : List ℕ). times k ns) made_first
+              ∙ times-append k (made_in n action.Read g.before) ((c.seen - 1 - n) ∷ []) in
+              elim (cases_lt 0 (times k ((c.seen - 1 - n) ∷ []))) [
+                | inl now ↦ (
+                    let place : k ≡ c.seen - 1 - n = one_hit k (c.seen - 1 - n) now in
+                    let there : n + k ≡ g.at = omega (arith, place, le, g.least, g.seen) in (
+                      begun_lane m j g.step.lane g.step.step
+                          (begins_told m j begins.0 g.step (slice_get history (n + k)) begins.1
+                          (ap (λ (z : ℕ). slice_get history z) there ∙ g.has) begins.2)
+                          ∙ sym (begun_lane lane generation g.step.lane g.step.step begun),
+                      there,
+                    ))
+                | inr not_now ↦ elim (cases_lt 0 (times k (made_in n action.Read g.before))) [
+                  | inl early ↦ absurd (
+                      none_begun spells history n g.before (c ∷ g.calls) action.Read (new_responder own units) u from k
+                      m j tt
+                      (subst (λ (cs : List Call). AreCalls (new_responder own units) (turns_of cs) u) g.cut
+                      led.calls_are)
+                      (subst (λ (cs : List Call). AllComeTrue spells history from action.Read cs) g.cut led.come_true)
+                      g.none le early begins)
+                  | inr not_early ↦ absurd (
+                      all_none spells history n lane generation g.calls c.turn.action c.turn.after u b (g.at + 1) mid
+                      upto o k m j listed_now g.run g.come_true wanted (omega (arith, le, g.least)) less
+                      (omega (arith, hit, sum, one_sum, not_now, not_early)) begins)
+                ]
+              ];
         },
       )
 
@@ -548,6 +598,7 @@ sessions_are_segments spells history n from mid upto t u b calls (Listens own un
           lists = λ k m j step hit get piece.
               absurd (gives_none spells history n own units mid upto u b calls from o k m j step led none
               (omega (arith, le)) get piece hit);
+          once = λ k m j hit begins. tt;
         },
       )
     ]

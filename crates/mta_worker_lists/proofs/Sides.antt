@@ -1,6 +1,8 @@
 -- Sessions of one lane are on one side.
 use Rattle.std.proofs.Common.{◌≡◌, ◌⊎◌, ℕ, ◌≤◌, Bool, true, false, List, [], ◌∷◌, ◌++◌, Option, Some, refl, sym, ap}
 use Rattle.std.proofs.Common.{subst, ◌∙◌, inl, inr, arith}
+use Rattle.mta_links.specs.declared.role.Role.{Role}
+use Rattle.mta_links.specs.declared.role.Role.TheVariants as Roles
 use Rattle.mta_ends.specs.Lanes.{Seen}
 use Rattle.mta_links.specs.Links.{LinkView}
 use Rattle.mta_records.specs.declared.lane.LaneRole.{LaneRole}
@@ -21,27 +23,11 @@ use Rattle.mta_session_lists.proofs.Found.{never}
 use Rattle.mta_worker_lists.specs.Begun.{Calls, IsCalledOn, IsNewAt, Listens}
 use Rattle.mta_worker_lists.specs.Histories.{whole}
 use Rattle.mta_worker_lists.specs.Parts.{IsSession}
-use Rattle.mta_worker_lists.specs.Roles.{AreGiven, IsOpenAs, WasOpenAs}
+use Rattle.mta_worker_lists.specs.Roles.{AreGiven, IsOpenAs, WasOpenAs, WasOpenTo}
 use Rattle.mta_worker_lists.specs.Segments.{ListsAs, OnLane, Segment, told_over}
 use Rattle.mta_worker_lists.specs.Sides.{SidesAgree}
 use Rattle.mta_worker_lists.proofs.Annotating.{after_all, front_history, rest_history}
-
--- ---- two lengths of one history
-
-cons_same : (x z : Step) (xs zs : List Step) → x ≡ z → zs ≡ xs → z ∷ zs ≡ x ∷ xs
-cons_same x z xs zs e f = cc
-
-fronts : (xs ys zs ws : List Step) → xs ++ ys ≡ zs ++ ws
-    → ((m : List Step) × (zs ≡ xs ++ m)) ⊎ ((m : List Step) × (xs ≡ zs ++ m))
-fronts [] ys zs ws e = inl (zs, refl)
-fronts (x ∷ xs) ys [] ws e = inr (x ∷ xs, refl)
-fronts (x ∷ xs) ys (z ∷ zs) ws e =
-    let head : x ≡ z = cc in
-    let tail : xs ++ ys ≡ zs ++ ws = cc in
-    elim (fronts xs ys zs ws tail) [
-      | inl f ↦ inl (f.0, cons_same x z (xs ++ f.0) zs head f.1)
-      | inr f ↦ inr (f.0, cons_same z x (zs ++ f.0) xs (sym head) f.1)
-    ]
+use Rattle.mta_worker_lists.proofs.Peers.{fronts, opened_to}
 
 -- ---- the role of a lane
 
@@ -63,7 +49,7 @@ role_stays r q n xs more history a b =
     subst (λ (o : Option Lane). WhereOpen (λ lane. lane.role ≡ r) o) here then in
     sym same ∙ b.role_is
 
-was_same : (r q : LaneRole) (n : ℕ) (steps : List Step) → IsHistory steps → WasOpenAs r n steps
+pub was_same : (r q : LaneRole) (n : ℕ) (steps : List Step) → IsHistory steps → WasOpenAs r n steps
     → WasOpenAs q n steps → r ≡ q
 was_same r q n steps history a b =
     elim (fronts a.before a.behind b.before b.behind (a.parts ∙ sym b.parts)) [
@@ -79,7 +65,7 @@ was_same r q n steps history a b =
 
 -- ---- the side of a session
 
-abbrev role_of : Bool → LaneRole
+abbrev pub role_of : Bool → LaneRole
 role_of true = Initiator
 role_of false = Responder
 
@@ -89,10 +75,23 @@ side_is false false e = refl
 side_is true false e = absurd (let f : Initiator ≡ Responder = e in cc)
 side_is false true e = absurd (let f : Responder ≡ Initiator = e in cc)
 
-called_lane : {history : List Seen} {from : ℕ} {t : State} (steps : List Step) (new : IsNewAt history from t)
-    → IsCalledOn steps new → is_initiator t.side ≡ true → WasOpenAs Initiator t.lane steps
-called_lane steps (Calls p units at from is has opens) c i = c
-called_lane steps (Listens own units from) c i = absurd (never i)
+-- a session of an initiator is of a station that calls a peer, to which its lane was opened
+pub record CallsPeer (r : Role) (lane : ℕ) (steps : List Step) : Type 0 where
+  pub peer : List ℕ
+  pub role_is : r ≡ Roles.Out peer
+  pub opened : WasOpenTo peer lane steps
+
+pub called_by : {history : List Seen} {from : ℕ} {t : State} (steps : List Step) (r : Role)
+    (new : IsNewAt history from t) → IsCalledOn steps r new → is_initiator t.side ≡ true → CallsPeer r t.lane steps
+called_by steps (Roles.Out peer) (Calls p units at from is has opens) c i =
+    record { peer = peer; role_is = refl; opened = c }
+called_by steps Roles.In (Calls p units at from is has opens) c i = absurd c
+called_by steps (Roles.Out peer) (Listens own units from) c i = absurd c
+called_by steps Roles.In (Listens own units from) c i = absurd (never i)
+
+called_lane : {history : List Seen} {from : ℕ} {t : State} (steps : List Step) (r : Role) (new : IsNewAt history from t)
+    → IsCalledOn steps r new → is_initiator t.side ≡ true → WasOpenAs Initiator t.lane steps
+called_lane steps r new c i = let by = called_by steps r new c i in opened_to by.peer _ steps by.opened
 
 given_lane : (steps : List Step) (before calls : List Call) (c : Call) (x : StepOn)
     → AreGiven steps (before ++ c ∷ calls) → step_by c.turn.before.phase c.turn.event c.turn.after ≡ Some x
@@ -100,7 +99,7 @@ given_lane : (steps : List Step) (before calls : List Call) (c : Call) (x : Step
 given_lane steps [] calls c x g e = g.0 x e
 given_lane steps (b ∷ bs) calls c x g e = given_lane steps bs calls c x g.1 e
 
-listed_lane : (spells : List ℕ → Bool) (history : List Seen) (steps : List Step) (t : State) (calls : List Call)
+pub listed_lane : (spells : List ℕ → Bool) (history : List Seen) (steps : List Step) (t : State) (calls : List Call)
     (lane : ℕ) (l : SessionList) → IsListOf spells history t calls lane l → AreGiven steps calls
     → ((is_initiator t.side ≡ true) × (lane ≡ t.lane))
     ⊎ ((is_initiator t.side ≡ false) × WasOpenAs Responder lane steps)
@@ -108,7 +107,7 @@ listed_lane spells history steps t calls lane l (Initiates p units at cs has com
 listed_lane spells history steps t calls lane l (Responds own units at before cs c x by seen has come) g =
     inr (refl, given_lane steps before cs c x g by)
 
-had_role : {L : Type 0} {links : LinkView L} {spells : List ℕ → Bool} {first entries : List Step} {s : Segment}
+pub had_role : {L : Type 0} {links : LinkView L} {spells : List ℕ → Bool} {first entries : List Step} {s : Segment}
     (x : IsSession links spells first entries s) (on : OnLane) → s.list ≡ Some on
     → WasOpenAs (role_of (is_initiator x.new.side)) on.lane (first ++ entries)
 had_role {spells = spells} {first = first} {entries = entries} x on has =
@@ -119,7 +118,7 @@ had_role {spells = spells} {first = first} {entries = entries} x on has =
     elim (listed_lane spells (whole first entries) steps x.new x.calls on.lane listed.0 listed.1 x.ran.done.given) [
       | inl i ↦ subst (λ (b : Bool). WasOpenAs (role_of b) on.lane steps) (sym i.0)
           (subst (λ (n : ℕ). WasOpenAs Initiator n steps) (sym i.1)
-          (called_lane steps x.ran.begins x.ran.called i.0))
+          (called_lane steps x.ran.role x.ran.begins x.ran.called i.0))
       | inr i ↦ subst (λ (b : Bool). WasOpenAs (role_of b) on.lane steps) (sym i.0) i.1
     ]
 

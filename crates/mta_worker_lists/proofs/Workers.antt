@@ -45,7 +45,8 @@ use Rattle.mta_worker.specs.declared.telling.Lost.{Lost}
 use Rattle.mta_worker_lists.specs.Begun.{IsBehind}
 use Rattle.mta_worker_lists.specs.Histories.{AreEntries, place, TellsApdus, whole}
 use Rattle.mta_worker_lists.specs.Linked.{Began, IsRun, None_began}
-use Rattle.mta_worker_lists.specs.Parts.{AreForNone, AreParts, AreSessions, BeginsBetween, IsForNone, IsSession, plain}
+use Rattle.mta_worker_lists.specs.Parts.{AreForNone, AreOfRole, AreParts, AreSessions, BeginsBetween, IsForNone}
+use Rattle.mta_worker_lists.specs.Parts.{IsSession, plain}
 use Rattle.mta_worker_lists.specs.Parts.{StandInTurn, StandsFrom, WorkersHaveParts}
 use Rattle.mta_worker_lists.specs.Segments.{AreSegments, Begins, IsOwnStep, IsSegment, OnLane, owned, Segment}
 use Rattle.mta_worker_lists.proofs.Annotating.{seen_behind}
@@ -138,12 +139,13 @@ segments_more history n [] ys a b = b
 segments_more history n (x ∷ xs) ys a b = (a.0, segments_more history n xs ys a.1 b)
 
 module _ {D C L S : Type 0} (disks : DiskView D) (clocks : ClockView C) (links : LinkView L)
-    (stations : StationView S) (spells : List ℕ → Bool) (tells : TellsApdus spells) (first entries : List Step) where
+    (stations : StationView S) (spells : List ℕ → Bool) (tells : TellsApdus spells) (first entries : List Step)
+    (theirs : Role) where
   abbrev history : List Seen
   history = whole first entries
 
   abbrev Parts : Held Step → Held Step → Type 0
-  Parts p q = AreParts links spells first entries p q
+  Parts p q = AreParts links spells first entries theirs p q
 
   -- how long the history is that a pass has seen
   seen_more : (p q : Held Step) → IsPrefix p.seen q.seen → place first p ≤ place first q
@@ -184,11 +186,21 @@ module _ {D C L S : Type 0} (disks : DiskView D) (clocks : ClockView C) (links :
   turns_more from mid upto (x ∷ xs) ys a b t u =
       (t.0, t.1, turns_more t.0 mid upto xs ys a.1 b t.2 u)
 
+  -- and so are their roles
+  of_role_more : (xs ys : List Segment) (a : AreSessions links spells first entries xs)
+      (b : AreSessions links spells first entries ys) → AreOfRole links spells first entries theirs xs a
+      → AreOfRole links spells first entries theirs ys b
+      → AreOfRole links spells first entries theirs (xs ++ ys) (sessions_more xs ys a b)
+  unfolding sessions_more
+  of_role_more [] ys a b t u = u
+  of_role_more (x ∷ xs) ys a b t u = (t.0, of_role_more xs ys a.1 b t.1 u)
+
   no_parts : (p q : Held Step) → q.own ≡ p.own → IsPrefix p.seen q.seen → Parts p q
   no_parts p q e f = record {
     parts = [];
     are = tt;
     sessions = tt;
+    of_role = tt;
     owns = e ∙ sym (append-nil p.own);
     turns = seen_more p q f;
   }
@@ -198,6 +210,7 @@ module _ {D C L S : Type 0} (disks : DiskView D) (clocks : ClockView C) (links :
     parts = a.parts ++ b.parts;
     are = segments_more history (length first) a.parts b.parts a.are b.are;
     sessions = sessions_more a.parts b.parts a.sessions b.sessions;
+    of_role = of_role_more a.parts b.parts a.sessions b.sessions a.of_role b.of_role;
     owns =
         b.owns ∙ ap (λ (ns : List ℕ). ns ++ owned b.parts) a.owns
         ∙ append_assoc p.own (owned a.parts) (owned b.parts)
@@ -226,17 +239,18 @@ module _ {D C L S : Type 0} (disks : DiskView D) (clocks : ClockView C) (links :
           (omega (arith, low, b.later), omega (arith, high, b.later))
 
   link_parts : (old new : L) (p q : Held Step) (served : Served) → IsPrefix p.seen q.seen
-      → IsRun links spells first entries old new p q served → Parts p q
+      → IsRun links spells first entries theirs old new p q served → Parts p q
   link_parts old new p q served f (None_began closings are none owns same) = record {
     parts = plain closings ∷ [];
     are = (closings_plain history (length first) closings are, tt);
     sessions = (inl (closings_for_none history (length first) closings are), tt);
+    of_role = (tt, tt);
     owns = owns ∙ ap (λ (ns : List ℕ). p.own ++ ns) (sym (append-nil closings));
     turns = (place first q, seen_more p q f, omega arith);
   }
-  link_parts old new p q served f (Began closings t begun calls ran are owns later after) =
-      let given = links_have_parts links spells first entries old new p q served
-      (Began closings t begun calls ran are owns later after) in
+  link_parts old new p q served f (Began closings t begun calls ran of_role are owns later after) =
+      let given = links_have_parts links spells first entries theirs old new p q served
+      (Began closings t begun calls ran of_role are owns later after) in
       let s : Segment = given.of_it.0 in
       let none : AreForNone history (length first) (plain closings) =
       closings_for_none history (length first) closings are in
@@ -256,6 +270,7 @@ module _ {D C L S : Type 0} (disks : DiskView D) (clocks : ClockView C) (links :
         parts = plain closings ∷ s ∷ [];
         are = segments;
         sessions = (inl none, (inr x, tt));
+        of_role = (tt, (of_role, tt));
         owns = given.owns ∙ ap (λ (ss : List Segment). p.own ++ owned ss) given.of_it.1;
         turns = (
           place first p,
@@ -321,6 +336,7 @@ module _ {D C L S : Type 0} (disks : DiskView D) (clocks : ClockView C) (links :
                 let same = some_same _ _ (sym there ∙ ap (λ (n : ℕ). slice_get history (length first + n)) (sym place)
                 ∙ get) in
                 due_plain (after (first ++ old.entries)) old.current _ _ lane g step other i.did.at.0 same piece);
+            once = λ k lane g hit begins. tt;
           },
           tt,
         );
@@ -337,6 +353,7 @@ module _ {D C L S : Type 0} (disks : DiskView D) (clocks : ClockView C) (links :
           }),
           tt,
         );
+        of_role = (tt, tt);
         owns = owned_now ∙ ap (λ (n : ℕ). p.own ++ row (length old.entries) n) one;
         turns = (place first m, seen_more p m (due_grows step p m i), omega arith);
       }
@@ -527,15 +544,17 @@ module _ {D C L S : Type 0} (disks : DiskView D) (clocks : ClockView C) (links :
   base_of p q are e = subst (λ (b : Base). AreEntries b first entries) (sym e) are
 
   serves_parts : (units : ℕ) (x y : AtStation S) (halt : Option Halt) → AreEntries x.pass.base first entries
-      → Serves disks clocks links stations units x y halt → IsPrefix y.pass.seen entries → Parts x.pass y.pass
-  serves_parts units x y halt are s f =
+      → stations.role x.station ≡ theirs → Serves disks clocks links stations units x y halt
+      → IsPrefix y.pass.seen entries → Parts x.pass y.pass
+  serves_parts units x y halt are e s f =
       let g = link_grown (stations.role s.given) units x.pass s.link s.left s.mid s.served s.session in
       let front : IsPrefix s.mid.seen entries =
       prefix_trans s.mid.seen y.pass.seen entries (behind_grows s.mid s.served.halt y.pass halt s.behind) f in
       parts_more x.pass s.mid y.pass
       (link_parts s.link s.left x.pass s.mid s.served g.seen
+      (subst (λ (r : Role). IsRun links spells first entries r s.link s.left x.pass s.mid s.served) (s.kept ∙ e)
       (links_are_run disks clocks links spells first entries (stations.role s.given) units x.pass s.link s.left s.mid
-      s.served tells are s.session front))
+      s.served tells are s.session front)))
       (behind_parts s.mid s.served.halt y.pass halt (base_of x.pass s.mid are g.base) s.behind f)
 
   serves_grows : (units : ℕ) (x y : AtStation S) (halt : Option Halt)
@@ -565,40 +584,47 @@ module _ {D C L S : Type 0} (disks : DiskView D) (clocks : ClockView C) (links :
   all_base units x [] y are a = subst (λ (z : AtStation S). AreEntries z.pass.base first entries) (sym a) are
   all_base units x (z ∷ zs) y are a = all_base units z zs y (serves_base units x z None are a.0) a.1
 
+  all_roles : (units : ℕ) (x : AtStation S) (zs : List (AtStation S)) (y : AtStation S)
+      → AllServed disks clocks links stations units x zs y → stations.role y.station ≡ stations.role x.station
+  all_roles units x [] y a = ap (λ (z : AtStation S). stations.role z.station) a
+  all_roles units x (z ∷ zs) y a = all_roles units z zs y a.1 ∙ a.0.role
+
   all_parts : (units : ℕ) (x : AtStation S) (zs : List (AtStation S)) (y : AtStation S)
-      → AreEntries x.pass.base first entries → AllServed disks clocks links stations units x zs y
-      → IsPrefix y.pass.seen entries → Parts x.pass y.pass
-  all_parts units x [] y are a f =
+      → AreEntries x.pass.base first entries → stations.role x.station ≡ theirs
+      → AllServed disks clocks links stations units x zs y → IsPrefix y.pass.seen entries → Parts x.pass y.pass
+  all_parts units x [] y are e a f =
       no_parts x.pass y.pass (ap (λ (z : AtStation S). z.pass.own) a) (all_grow units x [] y a)
-  all_parts units x (z ∷ zs) y are a f =
+  all_parts units x (z ∷ zs) y are e a f =
       let front : IsPrefix z.pass.seen entries =
       prefix_trans z.pass.seen y.pass.seen entries (all_grow units z zs y a.1) f in
-      parts_more x.pass z.pass y.pass (serves_parts units x z None are a.0 front)
-      (all_parts units z zs y (serves_base units x z None are a.0) a.1 f)
+      parts_more x.pass z.pass y.pass (serves_parts units x z None are e a.0 front)
+      (all_parts units z zs y (serves_base units x z None are a.0) (a.0.role ∙ e) a.1 f)
 
   up_to : (units : ℕ) (x : AtStation S) (zs : List (AtStation S)) (y : AtStation S) (q : Held Step)
-      → AreEntries x.pass.base first entries → AllServed disks clocks links stations units x zs y → q ≡ y.pass
-      → IsPrefix q.seen entries → Parts x.pass q
-  up_to units x zs y q are a e f =
+      → AreEntries x.pass.base first entries → stations.role x.station ≡ theirs
+      → AllServed disks clocks links stations units x zs y → q ≡ y.pass → IsPrefix q.seen entries → Parts x.pass q
+  up_to units x zs y q are at a e f =
       subst (λ (h : Held Step). Parts x.pass h) (sym e)
-      (all_parts units x zs y are a (subst (λ (h : Held Step). IsPrefix h.seen entries) e f))
+      (all_parts units x zs y are at a (subst (λ (h : Held Step). IsPrefix h.seen entries) e f))
 
   pub worked_parts : (limits : Limits) (x : AtStation S) (last : S) (q : Held Step) (end : WorkerEnd)
-      → AreEntries x.pass.base first entries → HasWorked disks clocks links stations limits x last q end
-      → IsPrefix q.seen entries → Parts x.pass q
-  worked_parts limits x last q end are (At_limit zs y a le is e) f = up_to limits.units x zs y q are a e f
-  worked_parts limits x last q end are (No_link zs y a next e) f = up_to limits.units x zs y q are a e f
-  worked_parts limits x last q end are (Station_failed zs y a rose served e) f =
-      up_to limits.units x zs y q are a e f
-  worked_parts limits x last q end are (Halted zs y z halt a s is e) f =
+      → AreEntries x.pass.base first entries → stations.role x.station ≡ theirs
+      → HasWorked disks clocks links stations limits x last q end → IsPrefix q.seen entries → Parts x.pass q
+  worked_parts limits x last q end are at (At_limit zs y a le is e) f = up_to limits.units x zs y q are at a e f
+  worked_parts limits x last q end are at (No_link zs y a next e) f = up_to limits.units x zs y q are at a e f
+  worked_parts limits x last q end are at (Station_failed zs y a rose served e) f =
+      up_to limits.units x zs y q are at a e f
+  worked_parts limits x last q end are at (Halted zs y z halt a s is e) f =
       let front : IsPrefix z.pass.seen entries = subst (λ (h : Held Step). IsPrefix h.seen entries) e f in
       let before : IsPrefix y.pass.seen entries =
       prefix_trans y.pass.seen z.pass.seen entries (serves_grows limits.units y z (Some halt) s) front in
       subst (λ (h : Held Step). Parts x.pass h) (sym e)
-      (parts_more x.pass y.pass z.pass (all_parts limits.units x zs y are a before)
-      (serves_parts limits.units y z (Some halt) (all_base limits.units x zs y are a) s front))
+      (parts_more x.pass y.pass z.pass (all_parts limits.units x zs y are at a before)
+      (serves_parts limits.units y z (Some halt) (all_base limits.units x zs y are a)
+      (all_roles limits.units x zs y a ∙ at) s front))
 
 pub workers_have_parts : {D C L S : Type 0} (disks : DiskView D) (clocks : ClockView C) (links : LinkView L)
     (stations : StationView S) → WorkersHaveParts disks clocks links stations
 workers_have_parts disks clocks links stations spells first entries limits x last q end tells are did f =
-    worked_parts disks clocks links stations spells tells first entries limits x last q end are did f
+    worked_parts disks clocks links stations spells tells first entries (stations.role x.station) limits x last q end
+    are refl did f

@@ -1,5 +1,5 @@
 -- What two ends of a lane agree on, where workers of this agent served its sessions.
-use Rattle.std.specs.Prelude.{◌≡◌, ℕ, Bool, List, [], ◌∷◌, ◌++◌, length, Some}
+use Rattle.std.specs.Prelude.{◌≡◌, ℕ, Bool, List, [], ◌∷◌, ◌++◌, length, map, Some}
 use Rattle.mta_edge.specs.Views.{ClockView, DiskView}
 use Rattle.mta_links.specs.Links.{LinkView, StationView}
 use Rattle.mta_ends.specs.Lanes.{Seen}
@@ -12,7 +12,7 @@ use Rattle.mta_session_lists.specs.Lists.{AreValues, completed}
 use Rattle.mta_shared.specs.declared.history.Base.{Base}
 use Rattle.mta_stations.specs.declared.end.WorkerEnd.{WorkerEnd}
 use Rattle.mta_workers.specs.Wholes.{AreWorkers}
-use Rattle.mta_worker_lists.specs.All.{AllParts, AreGood}
+use Rattle.mta_worker_lists.specs.All.{AllParts, AreGood, roles_of}
 use Rattle.mta_worker_lists.specs.Good.{IsListOver}
 use Rattle.mta_worker_lists.specs.Histories.{AreEntries, TellsApdus, whole}
 use Rattle.mta_worker_lists.specs.Parts.{IsSession}
@@ -54,7 +54,7 @@ PartsAgree links spells first entries parts =
 
 module _ {D C L S : Type 0} (disks : DiskView D) (clocks : ClockView C) (links : LinkView L)
     (stations : StationView S) where
-  -- The lists of the sessions that workers served are good, and the ends agree.
+  -- The lists of the sessions that workers served are good, and the ends agree. The stations are those of the workers.
   abbrev pub EndsAgree : Type 0
   EndsAgree =
       (spells : List ℕ → Bool) (first front entries : List Step) (limits : Limits) (before after : List S)
@@ -62,3 +62,4 @@ module _ {D C L S : Type 0} (disks : DiskView D) (clocks : ClockView C) (links :
       → AreWorkers disks clocks links stations limits before after ends front base entries
       → (all : AllParts links spells first entries (length front))
       × AreGood links spells first entries all.parts all.sessions × PartsAgree links spells first entries all.parts
+      × (roles_of all ≡ map stations.role before)

@@ -1,9 +1,10 @@
 -- The parts of the history that all workers made, and the lists of all their sessions.
 use Rattle.std.specs.Prelude.{◌≡◌, ◌⊎◌, ◌<◌, ◌≤◌, ℕ, ◌+◌, Bool, false, List, [], ◌∷◌}
-use Rattle.std.specs.Prelude.{◌++◌, length, slice_get, Option, None, Some}
+use Rattle.std.specs.Prelude.{◌++◌, length, map, slice_get, Option, None, Some}
 use mathlib.Core.Logic.{inl, inr}
 use Rattle.mta_edge.specs.Views.{ClockView, DiskView}
 use Rattle.mta_links.specs.Links.{LinkView, StationView}
+use Rattle.mta_links.specs.declared.role.Role.{Role}
 use Rattle.mta_ends.specs.Lanes.{On, SeenStep}
 use Rattle.mta_records.specs.declared.step.Step.{Step}
 use Rattle.mta_runs.specs.Sessions.{IsGoodSession, SessionList}
@@ -17,7 +18,7 @@ use Rattle.mta_workers.specs.Wholes.{AreWorkers}
 use Rattle.mta_worker_lists.specs.Begun.{GiveNone}
 use Rattle.mta_worker_lists.specs.Good.{IsListOver}
 use Rattle.mta_worker_lists.specs.Histories.{AreEntries, TellsApdus, whole}
-use Rattle.mta_worker_lists.specs.Parts.{AreForNone, AreSessions, IsForNone, IsSession, StandInTurn}
+use Rattle.mta_worker_lists.specs.Parts.{AreForNone, AreOfRole, AreSessions, IsForNone, IsSession, StandInTurn}
 use Rattle.mta_worker_lists.specs.Segments.{AreAll, IsOne, OnLane, owned, Segment}
 
 abbrev pub all_of : List (List Segment) → List Segment
@@ -28,6 +29,8 @@ all_of (ss ∷ more) = ss ++ all_of more
 pub record StationParts {L : Type 0} (links : LinkView L) (spells : List ℕ → Bool) (first entries : List Step)
     (from : ℕ) (ss : List Segment) : Type 0 where
   pub sessions : AreSessions links spells first entries ss
+  pub role : Role
+  pub of_role : AreOfRole links spells first entries role ss sessions
   pub upto : ℕ
   pub turns : StandInTurn links spells first entries from upto ss sessions
 
@@ -36,6 +39,13 @@ abbrev pub EachInTurn : {L : Type 0} (links : LinkView L) (spells : List ℕ →
 EachInTurn links spells first entries from [] = Unit {0}
 EachInTurn links spells first entries from (ss ∷ more) =
     StationParts links spells first entries from ss × EachInTurn links spells first entries from more
+
+-- the roles of these stations, in their order
+abbrev pub roles_at : {L : Type 0} (links : LinkView L) (spells : List ℕ → Bool) (first entries : List Step)
+    (from : ℕ) (all : List (List Segment)) → EachInTurn links spells first entries from all → List Role
+roles_at links spells first entries from [] each = []
+roles_at links spells first entries from (ss ∷ more) each =
+    each.0.role ∷ roles_at links spells first entries from more each.1
 
 -- Each of these parts is of a session that ran over a link, or was made for none; no entry was made twice, and all are
 -- from some on, each of which is in one of them.
@@ -50,6 +60,12 @@ pub record AllParts {L : Type 0} (links : LinkView L) (spells : List ℕ → Boo
   pub by_station : List (List Segment)
   pub of_stations : parts ≡ all_of by_station
   pub turns : EachInTurn links spells first entries (length first + low) by_station
+
+-- the roles of all stations
+abbrev pub roles_of : {L : Type 0} {links : LinkView L} {spells : List ℕ → Bool} {first entries : List Step} {low : ℕ}
+    → AllParts links spells first entries low → List Role
+roles_of {links = links} {spells = spells} {first = first} {entries = entries} {low = low} all =
+    roles_at links spells first entries (length first + low) all.by_station all.turns
 
 -- So each step of a lane that is none of these that are made for no session was made for one.
 abbrev pub StepsHaveSessions : {L : Type 0} → LinkView L → Type 0
@@ -92,13 +108,13 @@ AreGood links spells first entries (s ∷ ss) are = IsGoodPart are.0 × AreGood 
 
 module _ {D C L S : Type 0} (disks : DiskView D) (clocks : ClockView C) (links : LinkView L)
     (stations : StationView S) where
-  -- So are all entries that workers made together, behind those that stood before them.
+  -- So are all entries that workers made together, behind those that stood before them, and the stations are theirs.
   abbrev pub AllHaveParts : Type 0
   AllHaveParts =
       (spells : List ℕ → Bool) (first front entries : List Step) (limits : Limits) (before after : List S)
       (ends : List WorkerEnd) (base : Base) → TellsApdus spells → AreEntries base first entries
       → AreWorkers disks clocks links stations limits before after ends front base entries
-      → AllParts links spells first entries (length front)
+      → (all : AllParts links spells first entries (length front)) × (roles_of all ≡ map stations.role before)
 
   -- And the session lists of all that they served are good.
   abbrev pub AllAreGood : Type 0
@@ -107,4 +123,4 @@ module _ {D C L S : Type 0} (disks : DiskView D) (clocks : ClockView C) (links :
       (ends : List WorkerEnd) (base : Base) → TellsApdus spells → AreEntries base first entries
       → AreWorkers disks clocks links stations limits before after ends front base entries
       → (all : AllParts links spells first entries (length front))
-      × AreGood links spells first entries all.parts all.sessions
+      × AreGood links spells first entries all.parts all.sessions × (roles_of all ≡ map stations.role before)

@@ -3,7 +3,9 @@ use Rattle.std.specs.Prelude.{◌≡◌, ◌⊎◌, ◌≤◌, ℕ, ◌+◌, ◌
 use Rattle.std.specs.Prelude.{List, [], ◌∷◌}
 use Rattle.std.specs.Prelude.{◌++◌, length}
 use Rattle.mta_links.specs.Links.{LinkView}
-use Rattle.mta_records.specs.declared.lane.LaneRole.TheVariants.{Initiator}
+use Rattle.mta_links.specs.declared.role.Role.{Role}
+use Rattle.mta_links.specs.declared.role.Role.TheVariants as Roles
+use Rattle.mta_records.specs.declared.lane.LaneRole.TheVariants.{Responder}
 use Rattle.mta_records.specs.declared.step.Step.{Step}
 use Rattle.mta_units.specs.Feed.{Feed, no_feed}
 use Rattle.mta_units.specs.declared.unit.Unit.TheVariants as unit
@@ -28,7 +30,7 @@ use Rattle.mta_shared.specs.Held.{Held}
 use Rattle.mta_worker.specs.Serving.{At}
 use Rattle.mta_worker_lists.specs.Histories.{place, whole}
 use Rattle.mta_worker_lists.specs.Leads.{AreCarried, entry_at, Leads, made_in}
-use Rattle.mta_worker_lists.specs.Roles.{AreGiven, WasOpenAs}
+use Rattle.mta_worker_lists.specs.Roles.{AreGiven, WasOpenAs, WasOpenTo, WhereBegun}
 
 -- A session is new at this length of the history. The lane of one that its worker began was opened or bound in the step
 -- before, and a lane that was opened is in its first generation.
@@ -68,6 +70,13 @@ made_over n (Ended e is same) = []
 made_over n (Stopped came aborts at may going same) = []
 made_over {upto = upto} n (Untold q x aborts is comes answers going) = entry_at n upto (step_told q x)
 
+-- where such a reply says that a lane was opened or bound, that lane is the peer's
+abbrev pub IsGivenOver : {spells : List ℕ → Bool} {history : List Seen} {from upto : ℕ} {u : State} {b : Action}
+    → (steps : List Step) → IsOver spells history from upto u b → Type 0
+IsGivenOver steps (Ended e is same) = Unit {0}
+IsGivenOver steps (Stopped came aborts at may going same) = Unit {0}
+IsGivenOver steps (Untold q x aborts is comes answers going) = WhereBegun (λ lane. WasOpenAs Responder lane steps) q x
+
 -- ---- at its link
 
 -- this came of the last action, or there was no memory for what it does at the link
@@ -92,7 +101,8 @@ LeavesLink links (Untold q x aborts is comes answers going) old fed new = HasAbo
 
 -- All that was done for a session from one point on, up to what its pass and its link were when it was over: these
 -- calls, which the history has, and its end. Of its own entries the calls tell all that the pass made then. What went
--- over the link is that of the calls, and behind them that of the end. A lane that a responder has was its peer's.
+-- over the link is that of the calls, and behind them that of the end. A lane that a responder has was its peer's, and
+-- so was one that it would have if the last reply had been told.
 pub record IsDone {L : Type 0} (links : LinkView L) (spells : List ℕ → Bool) (first entries : List Step) (x : At L)
     (calls : List Call) (q : Held Step) (new : L) : Type 0 where
   pub mid : Held Step
@@ -108,6 +118,7 @@ pub record IsDone {L : Type 0} (links : LinkView L) (spells : List ℕ → Bool)
   pub carried : AreCarried links x.action calls x.link x.feed left feed
   pub leaves : LeavesLink links over left feed new
   pub given : AreGiven (first ++ entries) calls
+  pub given_over : IsGivenOver (first ++ entries) over
 
 -- a session before its first call, which is told Go as if it had been read
 abbrev pub at_first : {L : Type 0} → State → L → Held Step → At L
@@ -120,17 +131,20 @@ at_first t link pass = record {
   halt = None;
 }
 
--- a lane that its worker opened or bound for it was opened by this agent
-abbrev pub IsCalledOn : {history : List Seen} {from : ℕ} {t : State} → (steps : List Step) → IsNewAt history from t
-    → Type 0
-IsCalledOn steps (Calls p units at from is has opens) = WasOpenAs Initiator p.lane steps
-IsCalledOn steps (Listens own units from) = Unit {0}
+-- Where the station calls a peer, the session's lane was opened by this agent, to that peer; else the session listens.
+abbrev pub IsCalledOn : {history : List Seen} {from : ℕ} {t : State} → (steps : List Step) → Role
+    → IsNewAt history from t → Type 0
+IsCalledOn steps (Roles.Out peer) (Calls p units at from is has opens) = WasOpenTo peer p.lane steps
+IsCalledOn steps Roles.In (Calls p units at from is has opens) = ⊥
+IsCalledOn steps (Roles.Out peer) (Listens own units from) = ⊥
+IsCalledOn steps Roles.In (Listens own units from) = Unit {0}
 
--- a new session, over the link that a station gave, and all that it did
+-- a new session, over the link that a station of this role gave, and all that it did
 pub record HasRun {L : Type 0} (links : LinkView L) (spells : List ℕ → Bool) (first entries : List Step) (old : L)
     (t : State) (p : Held Step) (calls : List Call) (q : Held Step) (new : L) : Type 0 where
+  pub role : Role
   pub begins : IsNewAt (whole first entries) (place first p) t
-  pub called : IsCalledOn (first ++ entries) begins
+  pub called : IsCalledOn (first ++ entries) role begins
   pub done : IsDone links spells first entries (at_first t old p) calls q new
 
 -- the entry by which a session's lane was opened or bound before its first call

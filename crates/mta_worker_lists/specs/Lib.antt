@@ -10,3 +10,5 @@ pub mod Examples
 pub mod All
 pub mod Agreeing
 pub mod Sides
+pub mod Untold
+pub mod Stations

@@ -5,6 +5,7 @@ use mathlib.Core.Logic.{inl, inr}
 use mathlib.Core.List.{IsPrefix}
 use Rattle.mta_edge.specs.Views.{ClockView, DiskView}
 use Rattle.mta_links.specs.Links.{LinkView, StationView}
+use Rattle.mta_links.specs.declared.role.Role.{Role}
 use Rattle.mta_ends.specs.Lanes.{Abandon, CloseLane, Elsewhere, On, Seen}
 use Rattle.mta_records.specs.declared.step.Step.{Step}
 use Rattle.mta_session.specs.State.{State}
@@ -26,16 +27,16 @@ plain own = record { own = own; list = None }
 
 -- Lanes that were closed before, and the session, where one began.
 abbrev pub ArePartsOf : {L : Type 0} {links : LinkView L} {spells : List ℕ → Bool} {first entries : List Step}
-    {old new : L} {p q : Held Step} {served : Served} → IsRun links spells first entries old new p q served
-    → List Segment → Type 0
+    {role : Role} {old new : L} {p q : Held Step} {served : Served}
+    → IsRun links spells first entries role old new p q served → List Segment → Type 0
 ArePartsOf (None_began closings are none owns same) ss = ss ≡ plain closings ∷ []
-ArePartsOf {first = first} (Began closings t begun calls ran are owns later behind) ss =
+ArePartsOf {first = first} (Began closings t begun calls ran of_role are owns later behind) ss =
     (s : Segment) × (ss ≡ plain closings ∷ s ∷ []) × IsOf (length first) ran.begins calls ran.done.over s
 
 -- What was done with a link is in these parts of the history, which are all own entries of the pass then.
 pub record LinkParts {L : Type 0} {links : LinkView L} {spells : List ℕ → Bool} {first entries : List Step}
-    {old new : L} {p q : Held Step} {served : Served} (run : IsRun links spells first entries old new p q served)
-    : Type 0 where
+    {role : Role} {old new : L} {p q : Held Step} {served : Served}
+    (run : IsRun links spells first entries role old new p q served) : Type 0 where
   pub parts : List Segment
   pub are : AreSegments (whole first entries) (length first) parts
   pub owns : q.own ≡ p.own ++ owned parts
@@ -44,8 +45,8 @@ pub record LinkParts {L : Type 0} {links : LinkView L} {spells : List ℕ → Bo
 module _ {L : Type 0} (links : LinkView L) where
   abbrev pub LinksHaveParts : Type 0
   LinksHaveParts =
-      (spells : List ℕ → Bool) (first entries : List Step) (old new : L) (p q : Held Step) (served : Served)
-      (run : IsRun links spells first entries old new p q served) → LinkParts run
+      (spells : List ℕ → Bool) (first entries : List Step) (role : Role) (old new : L) (p q : Held Step)
+      (served : Served) (run : IsRun links spells first entries role old new p q served) → LinkParts run
 
 -- ---- workers
 
@@ -81,6 +82,19 @@ AreSessions links spells first entries (s ∷ ss) =
     (AreForNone (whole first entries) (length first) s ⊎ IsSession links spells first entries s)
     × AreSessions links spells first entries ss
 
+-- the session was over a link of a station of this role
+abbrev pub IsOfRole : {L : Type 0} {links : LinkView L} {spells : List ℕ → Bool} {first entries : List Step}
+    {s : Segment} → Role
+    → AreForNone (whole first entries) (length first) s ⊎ IsSession links spells first entries s → Type 0
+IsOfRole role (inl none) = Unit {0}
+IsOfRole role (inr x) = x.ran.role ≡ role
+
+abbrev pub AreOfRole : {L : Type 0} (links : LinkView L) (spells : List ℕ → Bool) (first entries : List Step)
+    → Role → (ss : List Segment) → AreSessions links spells first entries ss → Type 0
+AreOfRole links spells first entries role [] are = Unit {0}
+AreOfRole links spells first entries role (s ∷ ss) are =
+    IsOfRole role are.0 × AreOfRole links spells first entries role ss are.1
+
 -- ---- one behind the other
 
 -- the list, where there is one, begins between these lengths of the history
@@ -103,12 +117,14 @@ StandInTurn links spells first entries from upto [] are = from ≤ upto
 StandInTurn links spells first entries from upto (s ∷ ss) are =
     (mid : ℕ) × StandsFrom from mid are.0 × StandInTurn links spells first entries mid upto ss are.1
 
--- these parts of the history are all own entries of the pass from one point on to another, in their order
+-- These parts of the history are all own entries of the pass from one point on to another, in their order, at a station
+-- of this role.
 pub record AreParts {L : Type 0} (links : LinkView L) (spells : List ℕ → Bool) (first entries : List Step)
-    (p q : Held Step) : Type 0 where
+    (role : Role) (p q : Held Step) : Type 0 where
   pub parts : List Segment
   pub are : AreSegments (whole first entries) (length first) parts
   pub sessions : AreSessions links spells first entries parts
+  pub of_role : AreOfRole links spells first entries role parts sessions
   pub owns : q.own ≡ p.own ++ owned parts
   pub turns : StandInTurn links spells first entries (place first p) (place first q) parts sessions
 
@@ -120,4 +136,4 @@ module _ {D C L S : Type 0} (disks : DiskView D) (clocks : ClockView C) (links :
       (spells : List ℕ → Bool) (first entries : List Step) (limits : Limits) (x : AtStation S) (last : S)
       (q : Held Step) (end : WorkerEnd) → TellsApdus spells → AreEntries x.pass.base first entries
       → HasWorked disks clocks links stations limits x last q end → IsPrefix q.seen entries
-      → AreParts links spells first entries x.pass q
+      → AreParts links spells first entries (stations.role x.station) x.pass q

@@ -71,12 +71,20 @@ IsOwnStep g (h.Complete j k n piece) = j ≡ g
 IsOwnStep g (h.Drop j k) = j ≡ g
 IsOwnStep g step = ⊥
 
--- Each of its entries that is such a step stands in its list.
+-- the list is of this lane, and begins there; nothing is said where there is none
+abbrev pub IsBegunAt : Option OnLane → (position lane : ℕ) → Type 0
+IsBegunAt None p lane = Unit {0}
+IsBegunAt (Some l) p lane = (lane ≡ l.lane) × (p ≡ l.at)
+
+-- Each of its entries that is such a step stands in its list. One by which a generation of a lane begins is that by
+-- which the list begins.
 pub record IsSegment (history : List Seen) (before : ℕ) (s : Segment) : Type 0 where
   pub begins : Begins history before s.own s.list
   pub lists : (k lane g : ℕ) (step : SeenStep) → 0 < times k s.own
       → slice_get history (before + k) ≡ Some (On lane step) → IsOwnStep g step
       → IsListedIn s.list (before + k) lane step g
+  pub once : (k lane g : ℕ) → 0 < times k s.own → BeginsAt history (before + k) lane g
+      → IsBegunAt s.list (before + k) lane
 
 abbrev pub AreSegments : List Seen → (before : ℕ) → List Segment → Type 0
 AreSegments history n [] = Unit {0}

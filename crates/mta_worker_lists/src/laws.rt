@@ -9,6 +9,8 @@ ghost use Rattle.mta_worker_lists.specs.Linked.{LinksAreRun};
 ghost use Rattle.mta_worker_lists.specs.Parts.{LinksHaveParts, WorkersHaveParts};
 ghost use Rattle.mta_worker_lists.specs.Segments.{ListsOwnSteps, SegmentsAreGood, SessionsAreSegments};
 ghost use Rattle.mta_worker_lists.specs.Sides.{SidesAgree};
+ghost use Rattle.mta_worker_lists.specs.Stations.{StationsAgree};
+ghost use Rattle.mta_worker_lists.specs.Untold.{UntoldAreTheirs};
 
 use mta_edge::{Clock, Disk};
 use mta_links::{Link, Station};
@@ -91,6 +93,17 @@ pub fn steps_have_sessions<L: Link>()
 /// Two sessions of one lane have it in one role: it is open in the role that its LaneOpen gave, as long as it is open.
 pub fn sides_agree<L: Link>()
     ensures { SidesAgree L.model }
+{}
+
+/// Two sessions of a lane that this agent opened were at stations that call its peer: an open lane keeps its peer.
+pub fn stations_agree<L: Link>()
+    ensures { StationsAgree L.model }
+{}
+
+/// A session that has no list opened or bound no lane but one of its peer's, of which it was not told for want of
+/// memory.
+pub fn untold_are_theirs<L: Link>()
+    ensures { UntoldAreTheirs L.model }
 {}
 
 /// So each session that they served and that had a lane has a good session list: with what came of its last action, and

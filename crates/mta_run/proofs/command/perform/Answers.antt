@@ -20,7 +20,7 @@ returns-in-Submit-clause-ended g c =
 pub returns-in-Serve-clause-ended : goal.returns-in-Serve-clause-ended
 returns-in-Serve-clause-ended g c =
     commanded_serving g.D.Disk.model g.C.Clock.model g.I.Source.model g.S.Link.Link.model g.S.Station.model
-    c.args.words c.in-Serve.sessions c.in-Serve.stations c.in-Serve.is
+    c.args.words c.in-Serve.sessions c.in-Serve.stations c.in-Serve.is c.requires.said
     (roles_in g.S.Station.model c.args.stations.items) c.requires.theirs c.args.conf.now c.serve.new.conf
     c.args.input.now c.args.disk c.serve.result.ended.disk c.args.clock c.args.stations.items
     c.serve.result.stations.items (output g.O.Sink.model c.args.out.now c.serve.new.out)
