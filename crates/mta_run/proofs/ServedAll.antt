@@ -183,12 +183,18 @@ module _ {D C I L S : Type 0} (disks : DiskView D) (laws : DiskLaws disks) (cloc
           (peers (Serving old new) tt laws tables read all_named (sources_left old new (Ok tables) read) (inputs new)
           spool
           o clock_is) spool o handed_clock joined final kj k disk_is ends links stations known sessions limits are
-          before after out result mid.entries own of_call recorded grown workers x
+          before after out result mid.entries (record { own = own; of_call = of_call; recorded = recorded }) grown
+          workers x
         where
           bare : b.added ++ b.torn_step ≡ mid.entries
           bare =
               ap (λ (t : List Step). b.added ++ t) (b.adds.calm ok_err) ∙ append-nil b.added
               ∙ sym (b.adds.entries ∙ ap (λ (t : List Step). t ++ b.added) o.none)
+
+          own : AreOfRun (Serving old new) mid.entries
+          own =
+              subst (AreOfRun (Serving old new)) bare (begun_own (Serving old new) tt laws tables read all_named
+              (sources_left old new (Ok tables) read) (inputs new) spool o clock_is mid (Ok tt) b)
 
           whole : b.added ≡ mid.entries
           whole = sym (b.adds.entries ∙ ap (λ (t : List Step). t ++ b.added) o.none)
@@ -205,11 +211,6 @@ module _ {D C I L S : Type 0} (disks : DiskView D) (laws : DiskLaws disks) (cloc
               (λ c. ForOpened (Serving old new) (λ steps. IsRecorded (after_steps (steps ++ y)) c))) whole
               (begun_recorded (Serving old new) tt laws tables read all_named
               (sources_left old new (Ok tables) read) (inputs new) spool o clock_is mid (Ok tt) b refl)
-
-          own : AreOfRun (Serving old new) mid.entries
-          own =
-              subst (AreOfRun (Serving old new)) bare (begun_own (Serving old new) tt laws tables read all_named
-              (sources_left old new (Ok tables) read) (inputs new) spool o clock_is mid (Ok tt) b)
 
 -- the tables that were read name each peer
 pub serve_named : {I : Type 0} (sources : SourceView I) (old new : I) (roles : List Role) (tables : TablesValue)

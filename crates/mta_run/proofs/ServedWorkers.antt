@@ -62,6 +62,12 @@ pub record SessionLaws {D C L S : Type 0} (disks : DiskView D) (clocks : ClockVi
   pub agree : EndsAgree disks clocks links stations
   pub lanes : LanesOfStationsAgree links
 
+-- what is known of the steps before them
+pub record IsFront {D C I : Type 0} (h : Handed D C I) (front : List Step) : Type 0 where
+  pub own : AreOfRun h front
+  pub of_call : AreOfCall h front
+  pub recorded : ForTables h (λ c. ForOpened h (λ steps. IsRecorded (after (steps ++ front)) c))
+
 module _ {D C I : Type 0} (h : Handed D C I) (serves : Serves h.words) (laws : DiskLaws h.disks)
     (clock_laws : ClockLaws h.clocks) (sources : SourcesLeft h) (inputs : InputsRead h) (peers : PeersNamed h)
     (spool : Shown D C) (o : HasOpened h.disks h.disk.before spool) (handed_clock : spool.opened.clock ≡ h.clock)
@@ -239,112 +245,116 @@ module _ {D C I : Type 0} (h : Handed D C I) (serves : Serves h.words) (laws : D
   pub served_ended : {L S : Type 0} (links : LinkView L) (stations : StationView S)
       → SessionLaws h.disks h.clocks links stations → (sessions : ℕ) (limits : Limits) → AreLimits sessions limits
       → (before after : List S) (out : Output) (result : Result (Unit {0}) Stop) (front : List Step)
-      → AreOfRun h front → AreOfCall h front
-      → ForTables h (λ c. ForOpened h (λ steps. IsRecorded (after_steps (steps ++ front)) c))
-      → (grown : IsPrefix front joined.entries)
+      → IsFront h front → (grown : IsPrefix front joined.entries)
       → AreWorkers h.disks h.clocks links stations limits before after ends front (base_of h.disks h.clocks spool)
       joined.entries → HasFinished h.disks (h.clocks.tells joined.clock) ends out joined final result
       → HasEnded h (StationsLeft h links stations sessions before after) out result
-  served_ended links stations known sessions limits are before after out result front own of_front recorded grown did
-      x = record {
-        opening = opened;
-        ends = ends;
-        added = final.entries;
-        torn_step = b.torn_step;
-        sources = sources;
-        disk = subst (λ (d : D). DiskLeft h.disks h.disk.before d opened final.entries b.torn_step) (sym after_is)
-            (disk_served h.disks laws h.clocks h.disk.before spool o final k b.torn_step b.fails);
-        uncalled_unless = λ none. absurd (none (serves_opens h.words serves));
-        safe_before = λ none. absurd (none serves);
-        printed = printed_map out result (λ stop e why. finish_why x.settled x.behind stop why)
-            (λ t is. of_serve t serves inputs peers is) x.printed;
-        history = λ f steps was s.
-            subst (λ (y : List Step). IsHistory (y ++ (final.entries ++ b.torn_step))) (firsts f steps was s)
-            b.fails.tried;
-        own = λ none. absurd (none serves);
-        in_turn = λ none. absurd (none serves);
-        of_call = subst (AreOfCall h) (sym whole) (more_of_call h serves front (grown.0 ++ b.back) of_front late timed);
-        only_adding = λ none. absurd (none (serves_adds h.words serves));
-        calm = λ ok. b.calm (x.well ok).0;
-        settled = λ e ok f steps was s.
-            subst (λ (y : List Step). IsSettled Tells (y ++ final.entries)) (firsts f steps was s)
-            (subst (λ (z : State). (told : ℕ) × Tells told × IsQuiet z (step_moment told z.moment)) k.state
-            (quiet x.settled x.behind (x.well ok).0));
-        recorded = λ e ok c told f steps was s.
-            subst (λ (y : List Step). IsRecorded (after_steps (steps ++ y)) c) (sym whole)
-            (recorded_behind c steps front (grown.0 ++ b.back) late (recorded c told f steps was s));
-        undecided = λ ok. (x.well ok).1;
-        stations_are = Worked limits front grown.0 b.back (base_of h.disks h.clocks spool) are refl whole found own
-            theirs sessions_are
-            (subst (λ (y : List Step). ComesBehind h y b.back b.torn_step) (sym grown.1) b.last);
-      } where
-        b : Behind x.settled
-        b = behind x.settled x.behind
+  served_ended links stations known sessions limits are before after out result front own grown did x = record {
+    opening = opened;
+    ends = ends;
+    added = final.entries;
+    torn_step = b.torn_step;
+    sources = sources;
+    disk = subst (λ (d : D). DiskLeft h.disks h.disk.before d opened final.entries b.torn_step) (sym after_is)
+        (disk_served h.disks laws h.clocks h.disk.before spool o final k b.torn_step b.fails);
+    uncalled_unless = λ none. absurd (none (serves_opens h.words serves));
+    safe_before = λ none. absurd (none serves);
+    printed = printed_map out result (λ stop e why. finish_why x.settled x.behind stop why)
+        (λ t is. of_serve t serves inputs peers is) x.printed;
+    history = λ f steps was s.
+        subst (λ (y : List Step). IsHistory (y ++ (final.entries ++ b.torn_step))) (firsts f steps was s)
+        b.fails.tried;
+    own = λ none. absurd (none serves);
+    in_turn = λ none. absurd (none serves);
+    of_call = of_call;
+    only_adding = λ none. absurd (none (serves_adds h.words serves));
+    calm = λ ok. b.calm (x.well ok).0;
+    settled = λ e ok f steps was s.
+        subst (λ (y : List Step). IsSettled Tells (y ++ final.entries)) (firsts f steps was s)
+        (subst (λ (z : State). (told : ℕ) × Tells told × IsQuiet z (step_moment told z.moment)) k.state
+        (quiet x.settled x.behind (x.well ok).0));
+    recorded = λ e ok. recorded;
+    undecided = λ ok. (x.well ok).1;
+    stations_are = Worked limits front grown.0 b.back (base_of h.disks h.clocks spool) are refl whole found own.own
+        theirs
+        sessions_are
+        (subst (λ (y : List Step). ComesBehind h y b.back b.torn_step) (sym grown.1) b.last);
+  } where
+    b : Behind x.settled
+    b = behind x.settled x.behind
 
-        whole : final.entries ≡ front ++ (grown.0 ++ b.back)
-        whole = b.entries ∙ (ap (λ (y : List Step). y ++ b.back) (sym grown.1) ∙ append_assoc front grown.0 b.back)
+    whole : final.entries ≡ front ++ (grown.0 ++ b.back)
+    whole = b.entries ∙ (ap (λ (y : List Step). y ++ b.back) (sym grown.1) ∙ append_assoc front grown.0 b.back)
 
-        theirs : AreWorkers h.disks h.clocks links stations limits before after ends front
-            (base_of h.disks h.clocks spool) (front ++ grown.0)
-        theirs =
-            subst (AreWorkers h.disks h.clocks links stations limits before after ends front
-            (base_of h.disks h.clocks spool)) (sym grown.1) did
+    theirs : AreWorkers h.disks h.clocks links stations limits before after ends front
+        (base_of h.disks h.clocks spool) (front ++ grown.0)
+    theirs =
+        subst (AreWorkers h.disks h.clocks links stations limits before after ends front
+        (base_of h.disks h.clocks spool)) (sym grown.1) did
 
-        -- what the workers made is theirs
-        made : AreMade (TellsUnder (base_of h.disks h.clocks spool)) (after_steps (kj.first ++ front)) grown.0
-        made =
-            steps_are_timed h.disks h.clocks links stations kj.first front grown.0 limits before after ends
-            (base_of h.disks h.clocks spool) kj.found (front_records kj.first joined.entries kj.each) theirs
+    -- what the workers made is theirs
+    made : AreMade (TellsUnder (base_of h.disks h.clocks spool)) (after_steps (kj.first ++ front)) grown.0
+    made =
+        steps_are_timed h.disks h.clocks links stations kj.first front grown.0 limits before after ends
+        (base_of h.disks h.clocks spool) kj.found (front_records kj.first joined.entries kj.each) theirs
 
-        late : AreInTurn 2 (grown.0 ++ b.back)
-        late =
-            late_append grown.0 b.back
-            (made_late (TellsUnder (base_of h.disks h.clocks spool)) (after_steps (kj.first ++ front)) grown.0 made)
-            (back_late joined.entries b.back b.torn_step b.last)
+    late : AreInTurn 2 (grown.0 ++ b.back)
+    late =
+        late_append grown.0 b.back
+        (made_late (TellsUnder (base_of h.disks h.clocks spool)) (after_steps (kj.first ++ front)) grown.0 made)
+        (back_late joined.entries b.back b.torn_step b.last)
 
-        made_timely : ForOpened h (λ steps. AreTimed Tells (after_steps (steps ++ front)) grown.0)
-        made_timely f steps was s =
-            subst (λ (y : List Step). AreTimed Tells (after_steps (y ++ front)) grown.0) (firsts_joined f steps was s)
-            (made_timed (TellsUnder (base_of h.disks h.clocks spool)) Tells (after_steps (kj.first ++ front)) grown.0
-            listed made)
+    made_timely : ForOpened h (λ steps. AreTimed Tells (after_steps (steps ++ front)) grown.0)
+    made_timely f steps was s =
+        subst (λ (y : List Step). AreTimed Tells (after_steps (y ++ front)) grown.0) (firsts_joined f steps was s)
+        (made_timed (TellsUnder (base_of h.disks h.clocks spool)) Tells (after_steps (kj.first ++ front)) grown.0
+        listed made)
 
-        timed : ForOpened h (λ steps. AreTimed Tells (after_steps (steps ++ front)) (grown.0 ++ b.back))
-        timed f steps was s =
-            timed_append Tells (after_steps (steps ++ front)) grown.0 b.back (made_timely f steps was s)
-            (subst (λ (st : State). AreTimed Tells st b.back)
-            (ap (λ (y : List Step). after_steps (steps ++ y)) (sym grown.1)
-            ∙ ap (λ (y : List Step). after_steps y) (sym (append_assoc steps front grown.0))
-            ∙ after_append empty (steps ++ front) grown.0)
-            (back_timed joined.entries b.back b.torn_step b.last f steps was s))
+    timed : ForOpened h (λ steps. AreTimed Tells (after_steps (steps ++ front)) (grown.0 ++ b.back))
+    timed f steps was s =
+        timed_append Tells (after_steps (steps ++ front)) grown.0 b.back (made_timely f steps was s)
+        (subst (λ (st : State). AreTimed Tells st b.back)
+        (ap (λ (y : List Step). after_steps (steps ++ y)) (sym grown.1)
+        ∙ ap (λ (y : List Step). after_steps y) (sym (append_assoc steps front grown.0))
+        ∙ after_append empty (steps ++ front) grown.0)
+        (back_timed joined.entries b.back b.torn_step b.last f steps was s))
 
-        found : IsBaseOf h (base_of h.disks h.clocks spool)
-        found = record {
-          found = λ f steps was s.
-              o.bodies ∙ ap (map body_of) (same_steps h.disks laws h.disk.before spool o f steps was s);
-          count = ap (λ (d : D). h.disks.faults d) o.disk;
-          listed = ap (λ (c : C). where_listed (h.clocks.moments c)) handed_clock;
+    of_call : AreOfCall h final.entries
+    of_call = subst (AreOfCall h) (sym whole) (more_of_call h serves front (grown.0 ++ b.back) own.of_call late timed)
+
+    recorded : ForTables h (λ c. ForOpened h (λ steps. IsRecorded (after_steps (steps ++ final.entries)) c))
+    recorded c told f steps was s =
+        subst (λ (y : List Step). IsRecorded (after_steps (steps ++ y)) c) (sym whole)
+        (recorded_behind c steps front (grown.0 ++ b.back) late (own.recorded c told f steps was s))
+
+    found : IsBaseOf h (base_of h.disks h.clocks spool)
+    found = record {
+      found = λ f steps was s.
+          o.bodies ∙ ap (map body_of) (same_steps h.disks laws h.disk.before spool o f steps was s);
+      count = ap (λ (d : D). h.disks.faults d) o.disk;
+      listed = ap (λ (c : C). where_listed (h.clocks.moments c)) handed_clock;
+    }
+
+    entries_are : ForOpened h (λ first. AreEntries (base_of h.disks h.clocks spool) first joined.entries)
+    entries_are f steps was s = record {
+      found = sym (found.found f steps was s);
+      each = subst (λ (y : List Step). AreRecords (y ++ joined.entries)) (firsts_joined f steps was s) kj.each;
+      possible = subst (λ (y : List Step). IsHistory (y ++ joined.entries)) (firsts_joined f steps was s) kj.history;
+    }
+
+    sessions_joined : ForOpened h (λ first. SessionsServed links first joined.entries (length front))
+    sessions_joined f steps was s =
+        let e = entries_are f steps was s in
+        let x = known.agree is_apdu steps front joined.entries limits before after ends
+        (base_of h.disks h.clocks spool) known.tells e did in
+        record {
+          parts = x.0;
+          good = x.1;
+          agree = x.2;
+          lanes = known.lanes is_apdu steps joined.entries (length front) x.0 known.tells e.possible;
         }
 
-        entries_are : ForOpened h (λ first. AreEntries (base_of h.disks h.clocks spool) first joined.entries)
-        entries_are f steps was s = record {
-          found = sym (found.found f steps was s);
-          each = subst (λ (y : List Step). AreRecords (y ++ joined.entries)) (firsts_joined f steps was s) kj.each;
-          possible = subst (λ (y : List Step). IsHistory (y ++ joined.entries)) (firsts_joined f steps was s) kj.history;
-        }
-
-        sessions_joined : ForOpened h (λ first. SessionsServed links first joined.entries (length front))
-        sessions_joined f steps was s =
-            let e = entries_are f steps was s in
-            let x = known.agree is_apdu steps front joined.entries limits before after ends
-            (base_of h.disks h.clocks spool) known.tells e did in
-            record {
-              parts = x.0;
-              good = x.1;
-              agree = x.2;
-              lanes = known.lanes is_apdu steps joined.entries (length front) x.0 known.tells e.possible;
-            }
-
-        sessions_are : ForOpened h (λ first. SessionsServed links first (front ++ grown.0) (length front))
-        sessions_are f steps was s =
-            subst (λ (y : List Step). SessionsServed links steps y (length front)) (sym grown.1)
-            (sessions_joined f steps was s)
+    sessions_are : ForOpened h (λ first. SessionsServed links first (front ++ grown.0) (length front))
+    sessions_are f steps was s =
+        subst (λ (y : List Step). SessionsServed links steps y (length front)) (sym grown.1)
+        (sessions_joined f steps was s)
