@@ -22,7 +22,8 @@ use Rattle.mta_histories.proofs.Runs.{possible-more}
 use Rattle.mta_spool.specs.Shown.{Shown}
 use Rattle.mta_spool.specs.Stands.{Stands, IsOfNoLane, Appends}
 use Rattle.mta_spool.specs.Turning.{IsUnchanged}
-use Rattle.mta_run.specs.Submit.{IsTimed, IsOwnOnLane, IsOwnOf, IsOwn, AreOwn, turn_of_class, turn_of, turn_behind}
+use Rattle.mta_worker_steps.specs.Steps.{IsTimed}
+use Rattle.mta_run.specs.Submit.{IsOwnOnLane, IsOwnOf, IsOwn, AreOwn, turn_of_class, turn_of, turn_behind}
 use Rattle.mta_run.specs.Submit.{AreInTurn, turn_after}
 use Rattle.mta_run.specs.Submit.{takes_apdu, is_accept, accepts, Adds}
 use Rattle.mta_spool.proofs.Crashing.{still, made, torn, leaves_then}
@@ -108,6 +109,10 @@ turn_append turn (step ∷ a) b p q = (p.0, p.1, turn_append (turn_behind step) 
 pub turn_after_append : (turn : ℕ) (a b : List Step) → turn_after turn (a ++ b) ≡ turn_after (turn_after turn a) b
 turn_after_append turn [] b = refl
 turn_after_append turn (step ∷ a) b = turn_after_append (turn_behind step) a b
+
+pub front_in_turn : (turn : ℕ) (a b : List Step) → AreInTurn turn (a ++ b) → AreInTurn turn a
+front_in_turn turn [] b p = tt
+front_in_turn turn (step ∷ a) b p = (p.0, p.1, front_in_turn (turn_behind step) a b p.2)
 
 -- what is due keeps the turn
 pub turn_stays : (a : List Step) → AreInTurn 2 a → turn_after 2 a ≡ 2

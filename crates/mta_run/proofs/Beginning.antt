@@ -17,8 +17,9 @@ use Rattle.mta_spool.specs.Turning.{IsRecorded, Records}
 use Rattle.mta_run.specs.Serving.{HasBegun, IsNextOwn, IsOwnFull, IsOwnRefusal, IsOwnSpent, records, RecordsFirst}
 use Rattle.mta_run.specs.Serving.{settles}
 use Rattle.mta_run.specs.Submit.{apdu, AreInTurn, due, HasSettled, IsNextStep, IsRefusal, tables, turn_after}
-use Rattle.mta_run.specs.Submit.{turn_behind}
-use Rattle.mta_run.proofs.Added.{adds_more, adds_refused, adds_then, turn_after_append, turn_stays, unchanged}
+use Rattle.mta_run.proofs.Added.{adds_more, adds_refused, adds_then, front_in_turn, turn_after_append, turn_stays}
+use Rattle.mta_run.proofs.Added.{unchanged}
+use Rattle.mta_run.proofs.Provenance.{recorded_as}
 use Rattle.mta_run.proofs.Same.{err_same}
 use Rattle.mta_run.proofs.Stored.{not_same, Recording}
 
@@ -87,10 +88,6 @@ own_more tells other conf s size failed failed_too fault more so r = by_fault fa
     by_fault (StepFaults.NoLane lane) r = r
     by_fault (StepFaults.BusyLanes count) r = r
     by_fault StepFaults.Unexpected r = r
-
-pub front_in_turn : (turn : ℕ) (a b : List Step) → AreInTurn turn (a ++ b) → AreInTurn turn a
-front_in_turn turn [] b p = tt
-front_in_turn turn (step ∷ a) b p = (p.0, p.1, front_in_turn (turn_behind step) a b p.2)
 
 module _ {D C : Type 0} (disks : DiskView D) where
   -- why what is due was not done, whatever the tables are
@@ -168,6 +165,7 @@ module _ {D C : Type 0} (disks : DiskView D) (laws : DiskLaws disks) (clocks : C
         (adds_more disks (clocks.tells mid.clock) (clocks.tells old.clock) conf [] mid new h.added h.torn_step _ fewer
         (h.adds conf []));
     first = first_then conf added h.added h.torn_step so.which h.in_turn;
+    recorded = λ ok. recorded_as mid.current new.current conf (h.tables (λ e. other (sym ok ∙ e))) so.last;
     refused = λ fault e.
         own_more (clocks.tells mid.clock) (clocks.tells old.clock) conf new.current new.journal.size _ _ fault fewer
         (λ r. omega (arith, r, so.adds.later))
@@ -192,6 +190,7 @@ module _ {D C : Type 0} (disks : DiskView D) (laws : DiskLaws disks) (clocks : C
         torn_step = x.torn_step;
         adds = x.adds conf [] (λ steps s. refl);
         first = tried_first conf x.torn_step x.at_most;
+        recorded = λ ok. absurd cc;
         refused = λ f e.
             subst (IsOwnRefusal (clocks.tells old.clock) conf new.current new.journal.size
             (Rose (disks.faults old.journal.disk) (disks.faults new.journal.disk))) (err_same fault f e)

@@ -18,6 +18,7 @@ use Rattle.mta_run.specs.Causes.{Cause, IsText}
 use Rattle.mta_run.specs.Command.{SourcesLeft, HasEnded, OnStations}
 use Rattle.mta_run.specs.Images.{IsSafeBefore}
 use Rattle.mta_run.proofs.DiskStands.{before_alone, left_alone}
+use Rattle.mta_run.proofs.Provenance.{none_of_call}
 use Rattle.mta_run.proofs.Worked.{prints_nothing}
 
 -- ---- what was printed
@@ -96,10 +97,11 @@ ended_alike h stations out result opening sources disk before other unless print
   history = λ f steps was s. stands_history f steps s;
   own = λ none c e i w f steps was s. tt;
   in_turn = λ none. tt;
+  of_call = none_of_call h;
   only_adding = λ e. refl;
   calm = λ e. refl;
   settled = λ e ok. absurd (other e ok);
-  recorded = λ e ok. absurd (other (subst AddsSteps (sym e) tt) ok);
+  recorded = λ e ok. absurd (other e ok);
   undecided = λ e. none_undecided;
   stations_are = left;
 }

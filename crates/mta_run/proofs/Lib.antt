@@ -17,6 +17,7 @@ pub mod Statuses
 pub mod AcknowledgedKept
 pub mod RanFields
 pub mod Beginning
+pub mod Provenance
 pub mod Finishing
 pub mod DiskServed
 pub mod ServedSpool

@@ -172,6 +172,7 @@ ran h sinks a b c result status stations has closed first then = record {
   printed = printed;
   provenance = has.own;
   in_turn = has.in_turn;
+  of_call = has.of_call;
   at_most_one = λ none. one_accept 0 (has.added ++ has.torn_step) (has.in_turn none);
   only_adding = has.only_adding;
   stations_are = has.stations_are;

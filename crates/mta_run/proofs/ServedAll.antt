@@ -12,8 +12,10 @@ use Rattle.mta_links.specs.declared.role.Role.{Role}
 use Rattle.mta_records.specs.declared.step.Step.{Step}
 use Rattle.mta_records.specs.declared.fault.StepFault.{StepFault}
 use Rattle.mta_records.specs.declared.fault.StepFault.TheVariants as StepFaults
+use Rattle.mta_histories.specs.History.{after as after_steps}
 use Rattle.mta_spool.specs.Opening.{HasOpened, HasRefused}
 use Rattle.mta_spool.specs.Shown.{Shown}
+use Rattle.mta_spool.specs.Turning.{IsRecorded}
 use Rattle.mta_lane_lists.specs.Called.{CallOthers}
 use Rattle.mta_stations.specs.Peers.{IsNamed, IsUnnamed}
 use Rattle.mta_stations.specs.Roles.{roles_of}
@@ -26,9 +28,10 @@ use Rattle.mta_run.specs.declared.stop.Stop.TheVariants as Stops
 use Rattle.mta_run.specs.Causes.{Cause, memory, no_peer, not_opened, not_spool}
 use Rattle.mta_run.specs.Command.{HasEnded, OnStations, SourcesLeft}
 use Rattle.mta_run.specs.DiskLeft.{opened, Opening, refused, uncalled}
-use Rattle.mta_run.specs.Handed.{Handed, handed, InputsRead}
+use Rattle.mta_run.specs.Handed.{ForOpened, ForTables, Handed, handed, InputsRead}
 use Rattle.mta_run.specs.Inputs.{HasTables}
 use Rattle.mta_run.specs.Output.{Output, stopped}
+use Rattle.mta_run.specs.Provenance.{AreOfCall}
 use Rattle.mta_run.specs.Served.{All_named, AreOfRun, HasTablesFor, No_workers, Not_begun, Not_named}
 use Rattle.mta_run.specs.Served.{Not_read}
 use Rattle.mta_run.specs.Served.{Served, ServesSpool, StationsLeft, Untouched}
@@ -36,7 +39,7 @@ use Rattle.mta_run.specs.Shows.{stop_of_open}
 use Rattle.mta_run.specs.Submit.{stop_of_step}
 use Rattle.mta_run.proofs.DiskStands.{before_refused, disk_refused}
 use Rattle.mta_run.proofs.HandedOn.{ended_alike, ended_early, undrawn}
-use Rattle.mta_run.proofs.ServedSpool.{begun_cause, begun_ended, begun_own, peers}
+use Rattle.mta_run.proofs.ServedSpool.{begun_call, begun_cause, begun_ended, begun_own, begun_recorded, peers}
 use Rattle.mta_run.proofs.ServedWorkers.{served_ended, SessionLaws}
 use Rattle.mta_run.proofs.Submitted.{tables_cause, tables_text}
 use Rattle.mta_run.proofs.Worked.{prints_nothing}
@@ -58,6 +61,7 @@ ended_with h P Q out result more x = record {
   history = x.history;
   own = x.own;
   in_turn = x.in_turn;
+  of_call = x.of_call;
   only_adding = x.only_adding;
   calm = x.calm;
   settled = x.settled;
@@ -180,7 +184,8 @@ module _ {D C I L S : Type 0} (disks : DiskView D) (laws : DiskLaws disks) (cloc
           (peers (Serving old new) tt laws tables read all_named (sources_left old new (Ok tables) read) (inputs new)
           spool
           o clock_is) spool o handed_clock joined final kj k disk_is ends links stations known sessions limits are
-          before after out result mid.entries others own grown workers x
+          before after out result mid.entries others (record { own = own; of_call = of_call; recorded = recorded })
+          grown workers x
         where
           bare : b.added ++ b.torn_step ≡ mid.entries
           bare =
@@ -191,6 +196,22 @@ module _ {D C I L S : Type 0} (disks : DiskView D) (laws : DiskLaws disks) (cloc
           own =
               subst (AreOfRun (Serving old new)) bare (begun_own (Serving old new) tt laws tables read all_named
               (sources_left old new (Ok tables) read) (inputs new) spool o clock_is mid (Ok tt) b)
+
+          whole : b.added ≡ mid.entries
+          whole = sym (b.adds.entries ∙ ap (λ (t : List Step). t ++ b.added) o.none)
+
+          of_call : AreOfCall (Serving old new) mid.entries
+          of_call =
+              subst (AreOfCall (Serving old new)) whole (begun_call (Serving old new) tt laws tables read all_named
+              (sources_left old new (Ok tables) read) (inputs new) spool o clock_is mid (Ok tt) b)
+
+          recorded : ForTables (Serving old new)
+              (λ c. ForOpened (Serving old new) (λ steps. IsRecorded (after_steps (steps ++ mid.entries)) c))
+          recorded =
+              subst (λ (y : List Step). ForTables (Serving old new)
+              (λ c. ForOpened (Serving old new) (λ steps. IsRecorded (after_steps (steps ++ y)) c))) whole
+              (begun_recorded (Serving old new) tt laws tables read all_named
+              (sources_left old new (Ok tables) read) (inputs new) spool o clock_is mid (Ok tt) b refl)
 
 -- the tables that were read name each peer
 pub serve_named : {I : Type 0} (sources : SourceView I) (old new : I) (roles : List Role) (tables : TablesValue)

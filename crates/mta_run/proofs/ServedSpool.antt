@@ -15,16 +15,19 @@ use Rattle.mta_spool.specs.Bases.{base_of, Keeps, where_listed}
 use Rattle.mta_spool.specs.Opening.{HasOpened}
 use Rattle.mta_spool.specs.Shown.{Shown}
 use Rattle.mta_spool.specs.Stands.{Stands}
+use Rattle.mta_spool.specs.Turning.{IsRecorded}
 use Rattle.mta_stations.specs.Peers.{IsNamed}
+use Rattle.mta_worker_steps.specs.Steps.{AreTimed}
 use Rattle.mta_run.specs.declared.stop.Stop.{Stop}
 use Rattle.mta_run.specs.declared.stop.Stop.TheVariants as Stops
 use Rattle.mta_run.specs.Causes.{Cause, disk as cause_disk, full_serving, memory as cause_memory}
 use Rattle.mta_run.specs.Causes.{PeersNamed, spent_serving}
 use Rattle.mta_run.specs.Command.{HasEnded, OnStations, SourcesLeft}
 use Rattle.mta_run.specs.DiskLeft.{DiskLeft, opened}
-use Rattle.mta_run.specs.Handed.{DiskFailed, ForOpened, Handed, InputsRead}
+use Rattle.mta_run.specs.Handed.{DiskFailed, ForOpened, ForTables, Handed, InputsRead}
 use Rattle.mta_run.specs.Inputs.{HasTables}
 use Rattle.mta_run.specs.Output.{Output, stopped}
+use Rattle.mta_run.specs.Provenance.{AreOfCall, AreTablesOf}
 use Rattle.mta_run.specs.Served.{AreOfRun}
 use Rattle.mta_run.specs.Serving.{HasBegun, IsOwnFull}
 use Rattle.mta_run.specs.Serving.{IsOwnRefusal, IsOwnSpent, RecordsFirst}
@@ -33,12 +36,13 @@ use Rattle.mta_run.specs.Words.{AddsSteps, roles_named, Serves}
 use Rattle.mta_run.proofs.Added.{own_more as own_known}
 use Rattle.mta_run.proofs.Beginning.{own_more}
 use Rattle.mta_run.proofs.DiskStands.{disk_opened, same_steps}
+use Rattle.mta_run.proofs.Provenance.{first_front, first_none, first_tables, own_front, own_timed}
 use Rattle.mta_run.proofs.Same.{err_same}
 use Rattle.mta_run.proofs.Statuses.{serves_adds, serves_opens}
 use Rattle.mta_run.proofs.Worked.{prints_nothing}
 
 -- the clock tells what it listed, or anything
-among : {C : Type 0} (clocks : ClockView C) → ClockLaws clocks → (c : C) (listed : Option (List ℕ))
+pub among : {C : Type 0} (clocks : ClockView C) → ClockLaws clocks → (c : C) (listed : Option (List ℕ))
     → clocks.moments c ≡ listed → (m : ℕ)
     → ((moments : List ℕ) → where_listed listed ≡ moments ∷ [] → Contains moments m) → clocks.tells c m
 among clocks laws c None e m contains = (laws.listed c m).1 (subst (λ (o : Option (List ℕ)). IsAmong o m) (sym e) tt)
@@ -77,6 +81,9 @@ module _ {D C I : Type 0} (h : Handed D C I) (serves : Serves h.words) (laws : D
 
   -- ---- before the workers
 
+  ok_err : ◌≡◌ {A = Result (Unit {0}) StepFault} (Ok tt) (Err StepFaults.Disk) → ⊥
+  ok_err e = cc
+
   module _ (mid : Shown D C) (result : Result (Unit {0}) StepFault) (b : Begun mid result) where
     grown : h.disks.faults h.disk.before ≤ h.disks.faults spool.journal.disk
     grown = o.later
@@ -108,6 +115,37 @@ module _ {D C I : Type 0} (h : Handed D C I) (serves : Serves h.words) (laws : D
           (own_known (h.clocks.tells spool.clock) Tells tables.text [] (after o.steps) (b.added ++ b.torn_step)
           from_first (b.adds.own o.steps o.stands))),
     )
+
+    kept_first : RecordsFirst tables.text b.added
+    kept_first = first_front tables.text b.added b.torn_step b.first
+
+    begun_timed : AreTimed Tells (after o.steps) b.added
+    begun_timed =
+        own_timed Tells tables.text [] (after o.steps) b.added
+        (own_known (h.clocks.tells spool.clock) Tells tables.text [] (after o.steps) b.added from_first
+        (own_front (h.clocks.tells spool.clock) tables.text [] (after o.steps) b.added b.torn_step
+        (b.adds.own o.steps o.stands)))
+
+    pub begun_call : AreOfCall h b.added
+    begun_call = record {
+      tables = λ c e.
+          subst (λ (x : List ℕ). AreTablesOf x b.added) (read.read.0 c e)
+          (first_tables tables.text b.added kept_first);
+      accepted = λ other. first_none tables.text b.added kept_first;
+      moments = λ f steps was s.
+          subst (λ (y : List Step). AreTimed Tells (after y) b.added)
+          (same_steps h.disks laws h.disk.before spool o f steps was s) begun_timed;
+      in_turn = λ is c e. subst (λ (x : List ℕ). RecordsFirst x b.added) (read.read.0 c e) kept_first;
+    }
+
+    pub begun_recorded : result ≡ Ok tt → ForTables h (λ c. ForOpened h (λ steps. IsRecorded (after (steps ++ b.added))
+        c))
+    begun_recorded ok c e f steps was s =
+        subst (λ (x : List ℕ). IsRecorded (after (steps ++ b.added)) x) (read.read.0 c e)
+        (subst (λ (y : List Step). IsRecorded (after (y ++ b.added)) tables.text)
+        (same_steps h.disks laws h.disk.before spool o f steps was s)
+        (subst (λ (x : State). IsRecorded x tables.text)
+        (b.adds.stands (λ w. ok_err (sym ok ∙ w)) o.steps o.stands).state_is (b.recorded ok)))
 
     -- a step of them was refused
     full_cause : (added : List Step) (size need : ℕ) (final : Shown D C)
@@ -173,6 +211,7 @@ module _ {D C I : Type 0} (h : Handed D C I) (serves : Serves h.words) (laws : D
       history = begun_history;
       own = λ none. absurd (none serves);
       in_turn = λ none. absurd (none serves);
+      of_call = begun_call;
       only_adding = λ none. absurd (none adds);
       calm = λ ok. absurd cc;
       settled = λ e ok. absurd cc;

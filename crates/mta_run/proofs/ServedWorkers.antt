@@ -10,15 +10,17 @@ use Rattle.mta_records.specs.Body.{body_of}
 use Rattle.mta_records.specs.declared.step.Step.{Step}
 use Rattle.mta_records.specs.declared.fault.StepFault.{StepFault}
 use Rattle.mta_records.specs.declared.fault.StepFault.TheVariants as StepFaults
-use Rattle.mta_histories.specs.Lanes.{State}
+use Rattle.mta_histories.specs.Lanes.{empty, State}
 use Rattle.mta_histories.specs.Due.{IsQuiet}
 use Rattle.mta_histories.specs.History.{after, IsHistory}
+use Rattle.mta_histories.specs.History.{after as after_steps}
 use Rattle.mta_images.specs.Image.{AreRecords, size_of, StandsFor}
 use Rattle.mta_session.specs.declared.limits.Limits.{Limits}
 use Rattle.mta_spool.specs.Bases.{base_of, Keeps, where_listed}
 use Rattle.mta_spool.specs.Opening.{HasOpened}
 use Rattle.mta_spool.specs.Shown.{Shown}
 use Rattle.mta_spool.specs.Stands.{step_moment}
+use Rattle.mta_spool.specs.Turning.{IsRecorded}
 use Rattle.mta_stations.specs.Stations.{roles_in}
 use Rattle.mta_stations.specs.declared.end.WorkerEnd.{WorkerEnd}
 use Rattle.mta_worker_lists.specs.Agreeing.{EndsAgree}
@@ -26,27 +28,33 @@ use Rattle.mta_worker_lists.specs.Histories.{AreEntries, is_apdu, TellsApdus}
 use Rattle.mta_lane_lists.specs.Called.{CalledLanesOfStationsAgree, CallOthers}
 use Rattle.mta_lane_lists.specs.Lanes.{LanesOfStationsAgree}
 use Rattle.mta_workers.specs.Wholes.{AreWorkers}
+use Rattle.mta_worker_steps.specs.Steps.{AreMade, AreTimed, Tells as TellsUnder}
+use Rattle.mta_worker_steps.proofs.Turns.{front_records}
+use Rattle.mta_worker_steps.proofs.Workers.{steps_are_timed}
 use Rattle.mta_run.specs.declared.stop.Stop.{Stop}
 use Rattle.mta_run.specs.Causes.{Cause, disk as cause_disk, full_serving, memory as cause_memory, of_serve}
 use Rattle.mta_run.specs.Causes.{of_worker, PeersNamed, spent_serving}
 use Rattle.mta_run.specs.Command.{HasEnded, IsSettled, SourcesLeft}
 use Rattle.mta_run.specs.DiskLeft.{DiskLeft, opened}
-use Rattle.mta_run.specs.Handed.{DiskFailed, ForOpened, Handed, InputsRead}
+use Rattle.mta_run.specs.Handed.{DiskFailed, ForOpened, ForTables, Handed, InputsRead}
 use Rattle.mta_run.specs.Output.{Output}
 use Rattle.mta_run.specs.Served.{AreLimits, AreOfRun, ComesBehind, Had_failed, IsBaseOf, StationsLeft, Went_on}
 use Rattle.mta_run.specs.Served.{Worked}
 use Rattle.mta_run.specs.Serving.{Decided, Had_ended, HasFinished, IsFinishStop, IsOutcome, IsOwnFull, IsOwnRefusal}
 use Rattle.mta_run.specs.Serving.{IsOwnSpent, Refused, Settled, SettlesBehind, Well}
 use Rattle.mta_run.specs.Sessions.{SessionsServed}
-use Rattle.mta_run.specs.Submit.{AreOwn, HasSettled, stop_of_step}
+use Rattle.mta_run.specs.Provenance.{AreOfCall}
+use Rattle.mta_run.specs.Submit.{AreInTurn, AreOwn, HasSettled, stop_of_step}
 use Rattle.mta_run.specs.Words.{Serves}
-use Rattle.mta_run.proofs.Added.{own_more as own_known}
+use Rattle.mta_run.proofs.Added.{after_append, front_in_turn, own_more as own_known}
 use Rattle.mta_run.proofs.Beginning.{own_more, settled_why}
 use Rattle.mta_run.proofs.DiskServed.{disk_served, fails_behind, fails_kept, FailsIn, first_steps, risen}
 use Rattle.mta_run.proofs.DiskStands.{same_steps}
 use Rattle.mta_run.proofs.HandedOn.{printed_map}
+use Rattle.mta_run.proofs.Provenance.{late_append, made_late, made_timed, more_of_call, own_front, own_timed}
+use Rattle.mta_run.proofs.Provenance.{recorded_behind, timed_append}
 use Rattle.mta_run.proofs.Same.{err_same}
-use Rattle.mta_run.proofs.ServedSpool.{tells_back}
+use Rattle.mta_run.proofs.ServedSpool.{among, tells_back}
 use Rattle.mta_run.proofs.Statuses.{serves_adds, serves_opens}
 
 -- what holds of the sessions that workers serve
@@ -56,6 +64,12 @@ pub record SessionLaws {D C L S : Type 0} (disks : DiskView D) (clocks : ClockVi
   pub agree : EndsAgree disks clocks links stations
   pub lanes : LanesOfStationsAgree links
   pub called : CalledLanesOfStationsAgree links
+
+-- what is known of the steps before them
+pub record IsFront {D C I : Type 0} (h : Handed D C I) (front : List Step) : Type 0 where
+  pub own : AreOfRun h front
+  pub of_call : AreOfCall h front
+  pub recorded : ForTables h (λ c. ForOpened h (λ steps. IsRecorded (after (steps ++ front)) c))
 
 module _ {D C I : Type 0} (h : Handed D C I) (serves : Serves h.words) (laws : DiskLaws h.disks)
     (clock_laws : ClockLaws h.clocks) (sources : SourcesLeft h) (inputs : InputsRead h) (peers : PeersNamed h)
@@ -133,6 +147,25 @@ module _ {D C I : Type 0} (h : Handed D C I) (serves : Serves h.words) (laws : D
       → (told : ℕ) × Tells told × IsQuiet final.current (step_moment told final.current.moment)
   quiet _ (Had_ended ended same) ok = absurd cc
   quiet _ (Settled result going x) ok = let q = x.quiet ok in (q.0, from_joined q.0 q.1, q.2)
+
+  -- it comes behind tables, and each moment of it is one of the clock's
+  back_late : (before back torn_step : List Step) → ComesBehind h before back torn_step → AreInTurn 2 back
+  back_late before back torn_step (Went_on due) = front_in_turn 2 back torn_step due.0
+  back_late before back torn_step (Had_failed failed none) = subst (AreInTurn 2) (sym none) tt
+
+  back_timed : (before back torn_step : List Step) → ComesBehind h before back torn_step
+      → ForOpened h (λ steps. AreTimed Tells (after_steps (steps ++ before)) back)
+  back_timed before back torn_step (Went_on due) f steps was s =
+      own_timed Tells [] [] (after_steps (steps ++ before)) back
+      (own_front Tells [] [] (after_steps (steps ++ before)) back torn_step (due.1 f steps was s))
+  back_timed before back torn_step (Had_failed failed none) f steps was s =
+      subst (AreTimed Tells (after_steps (steps ++ before))) (sym none) tt
+
+  -- what the base lists the clock tells that was handed in
+  listed : (m : ℕ) → TellsUnder (base_of h.disks h.clocks spool) m → Tells m
+  listed m told =
+      subst (λ (c : C). h.clocks.tells c m) handed_clock
+      (among h.clocks clock_laws spool.opened.clock (h.clocks.moments spool.opened.clock) refl m told)
 
   -- ---- why it stopped
 
@@ -215,7 +248,7 @@ module _ {D C I : Type 0} (h : Handed D C I) (serves : Serves h.words) (laws : D
   pub served_ended : {L S : Type 0} (links : LinkView L) (stations : StationView S)
       → SessionLaws h.disks h.clocks links stations → (sessions : ℕ) (limits : Limits) → AreLimits sessions limits
       → (before after : List S) (out : Output) (result : Result (Unit {0}) Stop) (front : List Step)
-      → CallOthers (roles_in stations before) → AreOfRun h front → (grown : IsPrefix front joined.entries)
+      → CallOthers (roles_in stations before) → IsFront h front → (grown : IsPrefix front joined.entries)
       → AreWorkers h.disks h.clocks links stations limits before after ends front (base_of h.disks h.clocks spool)
       joined.entries → HasFinished h.disks (h.clocks.tells joined.clock) ends out joined final result
       → HasEnded h (StationsLeft h links stations sessions before after) out result
@@ -236,17 +269,17 @@ module _ {D C I : Type 0} (h : Handed D C I) (serves : Serves h.words) (laws : D
         b.fails.tried;
     own = λ none. absurd (none serves);
     in_turn = λ none. absurd (none serves);
+    of_call = of_call;
     only_adding = λ none. absurd (none (serves_adds h.words serves));
     calm = λ ok. b.calm (x.well ok).0;
     settled = λ e ok f steps was s.
         subst (λ (y : List Step). IsSettled Tells (y ++ final.entries)) (firsts f steps was s)
         (subst (λ (z : State). (told : ℕ) × Tells told × IsQuiet z (step_moment told z.moment)) k.state
         (quiet x.settled x.behind (x.well ok).0));
-    recorded = λ e. absurd (subst Serves e serves);
+    recorded = λ e ok. recorded;
     undecided = λ ok. (x.well ok).1;
-    stations_are = Worked limits front grown.0 b.back (base_of h.disks h.clocks spool) are refl whole found own
-        (subst (AreWorkers h.disks h.clocks links stations limits before after ends front
-        (base_of h.disks h.clocks spool)) (sym grown.1) did)
+    stations_are = Worked limits front grown.0 b.back (base_of h.disks h.clocks spool) are refl whole found own.own
+        theirs
         sessions_are
         (subst (λ (y : List Step). ComesBehind h y b.back b.torn_step) (sym grown.1) b.last);
   } where
@@ -255,6 +288,47 @@ module _ {D C I : Type 0} (h : Handed D C I) (serves : Serves h.words) (laws : D
 
     whole : final.entries ≡ front ++ (grown.0 ++ b.back)
     whole = b.entries ∙ (ap (λ (y : List Step). y ++ b.back) (sym grown.1) ∙ append_assoc front grown.0 b.back)
+
+    theirs : AreWorkers h.disks h.clocks links stations limits before after ends front
+        (base_of h.disks h.clocks spool) (front ++ grown.0)
+    theirs =
+        subst (AreWorkers h.disks h.clocks links stations limits before after ends front
+        (base_of h.disks h.clocks spool)) (sym grown.1) did
+
+    -- what the workers made is theirs
+    made : AreMade (TellsUnder (base_of h.disks h.clocks spool)) (after_steps (kj.first ++ front)) grown.0
+    made =
+        steps_are_timed h.disks h.clocks links stations kj.first front grown.0 limits before after ends
+        (base_of h.disks h.clocks spool) kj.found (front_records kj.first joined.entries kj.each) theirs
+
+    late : AreInTurn 2 (grown.0 ++ b.back)
+    late =
+        late_append grown.0 b.back
+        (made_late (TellsUnder (base_of h.disks h.clocks spool)) (after_steps (kj.first ++ front)) grown.0 made)
+        (back_late joined.entries b.back b.torn_step b.last)
+
+    made_timely : ForOpened h (λ steps. AreTimed Tells (after_steps (steps ++ front)) grown.0)
+    made_timely f steps was s =
+        subst (λ (y : List Step). AreTimed Tells (after_steps (y ++ front)) grown.0) (firsts_joined f steps was s)
+        (made_timed (TellsUnder (base_of h.disks h.clocks spool)) Tells (after_steps (kj.first ++ front)) grown.0
+        listed made)
+
+    timed : ForOpened h (λ steps. AreTimed Tells (after_steps (steps ++ front)) (grown.0 ++ b.back))
+    timed f steps was s =
+        timed_append Tells (after_steps (steps ++ front)) grown.0 b.back (made_timely f steps was s)
+        (subst (λ (st : State). AreTimed Tells st b.back)
+        (ap (λ (y : List Step). after_steps (steps ++ y)) (sym grown.1)
+        ∙ ap (λ (y : List Step). after_steps y) (sym (append_assoc steps front grown.0))
+        ∙ after_append empty (steps ++ front) grown.0)
+        (back_timed joined.entries b.back b.torn_step b.last f steps was s))
+
+    of_call : AreOfCall h final.entries
+    of_call = subst (AreOfCall h) (sym whole) (more_of_call h serves front (grown.0 ++ b.back) own.of_call late timed)
+
+    recorded : ForTables h (λ c. ForOpened h (λ steps. IsRecorded (after_steps (steps ++ final.entries)) c))
+    recorded c told f steps was s =
+        subst (λ (y : List Step). IsRecorded (after_steps (steps ++ y)) c) (sym whole)
+        (recorded_behind c steps front (grown.0 ++ b.back) late (own.recorded c told f steps was s))
 
     found : IsBaseOf h (base_of h.disks h.clocks spool)
     found = record {

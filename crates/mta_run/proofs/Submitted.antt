@@ -18,10 +18,11 @@ use Rattle.mta_spool.specs.Shown.{Shown}
 use Rattle.mta_spool.specs.Stands.{Stands, step_moment}
 use Rattle.mta_spool.specs.Turning.{IsRecorded}
 use Rattle.mta_run.specs.declared.inputs.Inputs.{Inputs}
+use Rattle.mta_worker_steps.specs.Steps.{AreTimed}
 use Rattle.mta_run.specs.declared.stop.Stop.{Stop}
 use Rattle.mta_run.specs.declared.stop.Stop.TheVariants as Stops
 use Rattle.mta_words.specs.declared.words.Words.TheVariants as Say
-use Rattle.mta_run.specs.Words.{AddsSteps, ReadsTables, ReadsApdu, OpensDisk}
+use Rattle.mta_run.specs.Words.{AddsSteps, ReadsTables, ReadsApdu, OpensDisk, Serves}
 use Rattle.mta_run.specs.Handed.{Handed, handed, ForTables, ForOpened, DiskFailed, InputsRead}
 use Rattle.mta_run.specs.Inputs.{IsReadAsTables, AreTablesRead, HasTables, IsInputStop}
 use Rattle.mta_run.specs.Inputs.{HasInput, HasInputs, no_tables, no_apdu, both}
@@ -35,9 +36,11 @@ use Rattle.mta_run.specs.Causes.{not_opened as cause_not_opened, disk as cause_d
 use Rattle.mta_run.specs.Causes.{spent as cause_spent}
 use Rattle.mta_run.specs.Command.{IsSettled, SourcesLeft, HasEnded, NoneWorked}
 use Rattle.mta_run.specs.Images.{IsSafeBefore}
+use Rattle.mta_run.specs.Provenance.{AreOfCall, AreTablesOf}
 use Rattle.mta_run.specs.Shows.{stop_of_open}
 use Rattle.mta_run.proofs.Same.{err_same}
 use Rattle.mta_run.proofs.DiskStands.{before_opened, before_refused, disk_refused, disk_opened, same_steps}
+use Rattle.mta_run.proofs.Provenance.{own_front, own_tables, own_timed}
 use Rattle.mta_run.proofs.Worked.{prints_nothing}
 use Rattle.mta_run.proofs.HandedOn.{printed_map, undrawn_along, ended_alike, ended_early, none_undecided}
 
@@ -242,6 +245,7 @@ module _ {D C I : Type 0} (h : Handed D C I) (is : h.words ≡ Some Say.Submit) 
         (subst (λ (y : List ℕ). AreOwn (h.clocks.tells h.clock) y x.apdu (after base) (has.added ++ has.torn_step))
         (read.read.0 c e) (has.adds.own base stands)));
     in_turn = λ none. has.in_turn;
+    of_call = of_call;
     only_adding = λ other. absurd (other (subst AddsSteps (sym is) tt));
     calm = λ ok. has.adds.calm (λ e. ok_err (sym ok ∙ e));
     settled = λ e ok f steps was s. settled_there ok f steps was s;
@@ -254,6 +258,23 @@ module _ {D C I : Type 0} (h : Handed D C I) (is : h.words ≡ Some Say.Submit) 
   } where
     ok_err : ◌≡◌ {A = Result (Unit {0}) Stop} (Ok tt) (Err Stops.Disk) → ⊥
     ok_err e = cc
+
+    own_added : AreOwn (h.clocks.tells h.clock) x.tables.text x.apdu (after base) has.added
+    own_added =
+        own_front (h.clocks.tells h.clock) x.tables.text x.apdu (after base) has.added has.torn_step
+        (has.adds.own base stands)
+
+    of_call : AreOfCall h has.added
+    of_call = record {
+      tables = λ c e.
+          subst (λ (y : List ℕ). AreTablesOf y has.added) (read.read.0 c e)
+          (own_tables (h.clocks.tells h.clock) x.tables.text x.apdu (after base) has.added own_added);
+      accepted = λ other. absurd (other is);
+      moments = λ f steps was s.
+          subst (λ (y : List Step). AreTimed (h.clocks.tells h.clock) (after y) has.added) (same f steps was s)
+          (own_timed (h.clocks.tells h.clock) x.tables.text x.apdu (after base) has.added own_added);
+      in_turn = λ serves. absurd (subst Serves is serves);
+    }
 
     there : result ≡ Ok tt → Stands h.disks new (base ++ has.added)
     there ok = has.adds.stands (λ e. ok_err (sym ok ∙ e)) base stands

@@ -9,13 +9,13 @@ use Rattle.mta_spool.specs.Turning.{IsRecorded}
 use Rattle.mta_stations.specs.declared.end.WorkerEnd.{WorkerEnd}
 use Rattle.mta_stations.specs.Deciding.{halts_of, IsUndecided}
 use Rattle.mta_run.specs.declared.stop.Stop.{Stop}
-use Rattle.mta_words.specs.declared.words.Words.TheVariants as Say
 use Rattle.mta_run.specs.Words.{AddsSteps, ReadsTables, ReadsApdu, OpensDisk, Serves}
 use Rattle.mta_run.specs.Handed.{Handed, ForTables, ForInput, ForOpened}
 use Rattle.mta_run.specs.Output.{Output, HasPrinted}
 use Rattle.mta_run.specs.Inputs.{longest_tables, IsDrawn}
 use Rattle.mta_run.specs.DiskLeft.{Opening, uncalled, DiskLeft}
 use Rattle.mta_run.specs.Images.{IsSafeBefore}
+use Rattle.mta_run.specs.Provenance.{AreOfCall}
 use Rattle.mta_run.specs.Submit.{AreOwn, AreInTurn}
 use Rattle.mta_run.specs.Causes.{Cause, IsText}
 
@@ -57,11 +57,12 @@ pub record HasEnded {D C I : Type 0} (h : Handed D C I) (stations : OnStations) 
   pub own : (Serves h.words → ⊥) → ForTables h (λ c. ForInput h (λ i. ForOpened h (λ steps.
       AreOwn (h.clocks.tells h.clock) c i (after steps) (added ++ torn_step))))
   pub in_turn : (Serves h.words → ⊥) → AreInTurn 0 (added ++ torn_step)
+  pub of_call : AreOfCall h added
   pub only_adding : (AddsSteps h.words → ⊥) → added ++ torn_step ≡ []
   pub calm : result ≡ Ok tt → torn_step ≡ []
   pub settled : AddsSteps h.words → result ≡ Ok tt
       → ForOpened h (λ steps. IsSettled (h.clocks.tells h.clock) (steps ++ added))
-  pub recorded : h.words ≡ Some Say.Submit → result ≡ Ok tt
+  pub recorded : AddsSteps h.words → result ≡ Ok tt
       → ForTables h (λ c. ForOpened h (λ steps. IsRecorded (after (steps ++ added)) c))
   pub undecided : result ≡ Ok tt → IsUndecided (halts_of ends)
   pub stations_are : stations opening ends added torn_step

@@ -7,6 +7,7 @@ pub mod Images
 pub mod DiskLeft
 pub mod Submit
 pub mod Serving
+pub mod Provenance
 pub mod Sessions
 pub mod Causes
 pub mod Command

@@ -23,6 +23,7 @@ use Rattle.mta_run.specs.Submit.{AreOwn, AreInTurn, accepts, IsAccepted}
 use Rattle.mta_run.specs.Causes.{Cause, IsText, mailbox_named, PeersNamed}
 use Rattle.mta_run.specs.Command.{IsSettled, OnStations, SourcesLeft}
 use Rattle.mta_run.specs.Images.{IsSafeBefore}
+use Rattle.mta_run.specs.Provenance.{AreOfCall}
 
 -- What the steps are for the machine of recipients is a run of it, and each recipient for whom this agent is
 -- responsible is pending with no discharge, or is not pending and has one.
@@ -55,8 +56,8 @@ pub record EndedWell {D C I : Type 0} (h : Handed D C I) (opening : Opening) (en
   pub settled : AddsSteps h.words → ForOpened h (λ steps. IsSettled (h.clocks.tells h.clock) (steps ++ added))
   -- with `serve` each worker gave its links back, or its station ended, failed, or calls a peer that is not named
   pub undecided : IsUndecided (halts_of ends)
-  -- with `submit` the tables recorded last are those that were read
-  pub recorded : h.words ≡ Some Say.Submit
+  -- with `submit` and `serve` the tables recorded last are those that were read
+  pub recorded : AddsSteps h.words
       → ForTables h (λ c. ForOpened h (λ steps. IsRecorded (after (steps ++ added)) c))
 
 -- What a run leaves, each part where the objects that it speaks of tell what they hold. `opening` says how far it
@@ -87,6 +88,8 @@ pub record Ran {D C I : Type 0} (h : Handed D C I) (stations : OnStations) (out 
       → ForInput h (λ i. ForOpened h (λ steps. IsKept steps added i n × IsKept steps (added ++ torn_step) i n))
   -- what was printed, the status, and why
   pub printed : IsEnded (Cause h ends added opening) (IsText h ends added opening) out status
+  -- added tables are those of this call, an APDU is accepted by `submit` alone, and each moment is one of the clock's
+  pub of_call : AreOfCall h added
   -- the steps of `submit` are of the tables and the input of this call, and their moments are those of the clock
   pub provenance : (Serves h.words → ⊥) → ForTables h (λ c. ForInput h (λ i. ForOpened h (λ steps.
       AreOwn (h.clocks.tells h.clock) c i (after steps) (added ++ torn_step))))

@@ -18,10 +18,11 @@ use Rattle.mta_stations.specs.declared.end.Halt.TheVariants as Halts
 use Rattle.mta_stations.specs.declared.end.WorkerEnd.{WorkerEnd}
 use Rattle.mta_stations.specs.Deciding.{Decides, halts_of, IsUndecided}
 use Rattle.mta_stations.specs.Lines.{station_lines}
+use Rattle.mta_worker_steps.specs.Steps.{IsTimed}
 use Rattle.mta_run.specs.declared.stop.Stop.{Stop}
 use Rattle.mta_run.specs.declared.stop.Stop.TheVariants as Stops
 use Rattle.mta_run.specs.Output.{Output, HasPrinted, Prints, PrintsFront}
-use Rattle.mta_run.specs.Submit.{Adds, AreInTurn, HasSettled, IsTimed, stop_of_step}
+use Rattle.mta_run.specs.Submit.{Adds, AreInTurn, HasSettled, stop_of_step}
 
 -- ---- steps of its own
 
@@ -75,6 +76,7 @@ pub record HasBegun {D C : Type 0} (disks : DiskView D) (tells : ℕ → Type 0)
   pub torn_step : List Step
   pub adds : Adds disks tells conf [] old new added torn_step (result ≡ Err StepFaults.Disk)
   pub first : RecordsFirst conf (added ++ torn_step)
+  pub recorded : result ≡ Ok tt → IsRecorded new.current conf
   pub refused : (fault : StepFault) → result ≡ Err fault
       → IsOwnRefusal tells conf new.current new.journal.size
       (Rose (disks.faults old.journal.disk) (disks.faults new.journal.disk)) fault

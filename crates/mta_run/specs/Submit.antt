@@ -17,6 +17,7 @@ use Rattle.mta_histories.specs.History.{IsHistory, when, after, after_step}
 use Rattle.mta_spool.specs.Shown.{Shown}
 use Rattle.mta_spool.specs.Stands.{Stands, step_moment, need_of, IsSpent}
 use Rattle.mta_spool.specs.Turning.{IsRecorded}
+use Rattle.mta_worker_steps.specs.Steps.{IsTimed}
 use Rattle.mta_run.specs.declared.stop.Stop.{Stop}
 use Rattle.mta_run.specs.declared.stop.Stop.TheVariants as Stops
 use Rattle.mta_spool.specs.Crashing.{Leaves}
@@ -24,10 +25,6 @@ use Rattle.mta_run.specs.Lines.{accepted_line}
 use Rattle.mta_run.specs.Output.{Output, Prints, PrintsFront, HasPrinted}
 
 -- ---- whose the steps are
-
--- the moment is the greater of the last one and one that the clock tells, capped
-abbrev pub IsTimed : (ℕ → Type 0) → ℕ → ℕ → Type 0
-IsTimed tells last moment = (told : ℕ) × tells told × (moment ≡ step_moment told last)
 
 -- of the steps on lanes the one that gives an activity up, whose item has expired
 abbrev pub IsOwnOnLane : (ℕ → Type 0) → (last : ℕ) → LaneStep → (moment : ℕ) → Type 0
