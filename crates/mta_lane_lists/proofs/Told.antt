@@ -47,6 +47,13 @@ module _ {L : Type 0} (links : LinkView L) (spells : List ℕ → Bool) (first e
     record { on = on; has = e; lane_is = sym once.0; at_is = sym once.1 ∙ at },
   )
 
+  by_segment : (p k g : ℕ) (s : Segment) → IsOne s all.parts → 0 < times k s.own
+      → BeginsAt history (length first + k) lane g → length first + k ≡ p
+      → (r : Segment) × IsOne r ss × BeganAt r lane p
+  by_segment p k g s one hit b at =
+      by_list p k g s one hit b at s.list refl
+      ((is_segment history (length first) all.parts s all.all.segments one).once k lane g hit b)
+
   pub each_began : EachBegan history (length first + low) lane ss
   each_began p g le b =
       let k : ℕ = p - length first in
@@ -57,5 +64,4 @@ module _ {L : Type 0} (links : LinkView L) (spells : List ℕ → Bool) (first e
       let made = steps_have_sessions links spells first entries low all k on.number on.step (omega (arith, le))
       (there.1 ∙ ap Some on.is)
       (subst (λ (x : Seen). IsForNone x → ⊥) on.is (for_one lane g there.0 there.2)) in
-      by_list p k g made.0 made.1 made.3 there at made.0.list refl
-      ((is_segment history (length first) all.parts made.0 all.all.segments made.1).once k lane g made.3 there)
+      by_segment p k g made.0 made.1 made.3 there at

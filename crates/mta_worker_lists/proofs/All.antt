@@ -81,6 +81,16 @@ roles_with links spells first entries from [] ss t one = refl
 roles_with links spells first entries from (x ∷ xs) ss t one =
     ap (λ (rs : List Role). t.0.role ∷ rs) (roles_with links spells first entries from xs ss t.1 one)
 
+roles_more : {L : Type 0} (links : LinkView L) (spells : List ℕ → Bool) (first entries : List Step) (from : ℕ)
+    (more : List (List Segment)) (ss : List Segment) (t : EachInTurn links spells first entries from more)
+    (one : StationParts links spells first entries from ss) (rs : List Role)
+    → roles_at links spells first entries from more t ≡ rs
+    → roles_at links spells first entries from (more ++ ss ∷ [])
+    (turns_with links spells first entries from more ss t one)
+    ≡ rs ++ one.role ∷ []
+roles_more links spells first entries from more ss t one rs e =
+    roles_with links spells first entries from more ss t one ∙ ap (λ (xs : List Role). xs ++ one.role ∷ []) e
+
 -- and none is before the first one that they share
 shared_later : (low n : ℕ) (own : List ℕ) → ((k : ℕ) → times k (row 0 low ++ own) ≡ times k (row 0 n)) → (k : ℕ)
     → 0 < times k own → low ≤ k
@@ -188,8 +198,8 @@ module _ {D C L S : Type 0} (disks : DiskView D) (clocks : ClockView C) (links :
               turns_with links spells first entries (length first + length front) rest.by_station one.parts rest.turns
               here;
         },
-        roles_with links spells first entries (length first + length front) rest.by_station one.parts rest.turns here
-            ∙ ap (λ (rs : List Role). rs ++ stations.role j.station ∷ []) dealt.1,
+        roles_more links spells first entries (length first + length front) rest.by_station one.parts rest.turns here
+            (roles_dealt js) dealt.1,
       )
 
   -- they are in the order of their stations
@@ -227,5 +237,5 @@ all_have_parts disks clocks links stations spells first front entries limits bef
           jobs.0 w.shares,
       jobs.1
           ∙ roles_turned disks clocks links stations spells tells first entries limits w.lock front base based w.dealt
-          ∙ ap (λ (ss : List S). map stations.role ss) w.before_are,
+          ∙ ap (λ (ss : List _). map stations.role ss) w.before_are,
     )

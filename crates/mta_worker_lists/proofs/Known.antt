@@ -3,6 +3,7 @@ use Rattle.std.proofs.Common.{◌≡◌, ℕ, ◌*◌, ◌<◌, ◌≤◌, ◌==
 use Rattle.std.proofs.Common.{◌++◌, length, Option, None, Some, inl, inr, refl, sym, ap, subst, ◌∙◌, arith}
 use Rattle.std.proofs.lemmas.Bool.{and_parts, cond-false, cond-true, eq-eqb, eqb-true, ltb-true, ne_eqb}
 use Rattle.std.proofs.lemmas.Slice.Eq.{bytes_eq-Decides}
+use Rattle.std.specs.Str.{bytes_eq}
 use Rattle.mta_lane_send.specs.Half.{FitsState}
 use Rattle.mta_lane_send.specs.Pieces.{has_piece_after}
 use Rattle.mta_lane_send.specs.declared.state.SendState.{SendState}
@@ -132,7 +133,8 @@ first_peers q peer name above (l ∷ lanes) most n a f =
       lane = l;
       lane_is = cond-true (eqb n l.number) (Some l) (lane_at n lanes) (eq-eqb n l.number (same_number e));
       role_is = role_is q l.role (and_parts _ _ named.0).0;
-      peer_is = sym ((bytes_eq-Decides peer l.peer).0 (and_parts _ _ named.0).1);
+      peer_is = sym ((bytes_eq-Decides peer l.peer).0
+          (and_parts (is_role q l.role) (bytes_eq peer l.peer) named.0).1);
     }
 
     behind : IsPeers q peer n lanes → IsPeers q peer n (l ∷ lanes)
