@@ -92,7 +92,7 @@ module _ {D C : Type 0} (disks : DiskView D) (clocks : ClockView C) (base : Base
 
   -- the step that was made is such an entry
   one_made : (old new : Shown D C) (step : Step) (k : ℕ) → Keeps disks clocks old base
-      → new.entries ≡ old.entries ++ step ∷ [] → IsMade (λ m. clocks.tells old.clock m) old.current step
+      → new.entries ≡ old.entries ++ step ∷ [] → IsMade (clocks.tells old.clock) old.current step
       → length old.entries ≡ k → IsMadeAt (Tells base) first new.entries k
   one_made old new step k keeps entries made place = record {
     before = old.entries;
@@ -102,7 +102,7 @@ module _ {D C : Type 0} (disks : DiskView D) (clocks : ClockView C) (base : Base
     place = place;
     made =
         subst (λ (s : State). IsMade (Tells base) s step) (state_then old keeps)
-        (timed_more (λ m. clocks.tells old.clock m) (Tells base) old.current step
+        (timed_more (clocks.tells old.clock) (Tells base) old.current step
         (λ m tell moments listed. keeps.clock moments listed m tell) made);
   }
 
