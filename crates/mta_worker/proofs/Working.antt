@@ -78,7 +78,7 @@ module _ {D C L S : Type 0} (disks : DiskView D) (clocks : ClockView C) (links :
         mid = mid;
         served = served;
         next = next;
-        kept = keeps;
+        kept = stays;
         session = subst (λ (r : Role). IsLinkServed disks clocks links r units x.pass link left mid served) told
             session;
         back = back;
