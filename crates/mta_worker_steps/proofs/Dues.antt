@@ -1,5 +1,5 @@
 -- What a due step is: one that settles a recipient, or that gives an activity up.
-use Rattle.std.proofs.Common.{◌≡◌, ℕ, Option, Some, None, sym, subst, inl, inr}
+use Rattle.std.proofs.Common.{◌≡◌, ℕ, Some, sym, subst, inl, inr}
 use Rattle.mta_records.specs.declared.step.Step.{Step}
 use Rattle.mta_records.specs.declared.step.Step.TheVariants as step
 use Rattle.mta_procedures.specs.declared.verdict.Verdict.{Verdict}

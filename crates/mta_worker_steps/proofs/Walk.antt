@@ -6,14 +6,12 @@ use Rattle.mta_links.specs.Links.{LinkView, StationView}
 use Rattle.mta_links.specs.declared.role.Role.{Role}
 use Rattle.mta_links.specs.declared.role.Role.TheVariants as role
 use Rattle.mta_records.specs.Body.{body_of}
-use Rattle.mta_records.specs.declared.fault.StepFault.{StepFault}
 use Rattle.mta_records.specs.declared.step.Step.{Step}
 use Rattle.mta_images.specs.Image.{AreRecords}
 use Rattle.mta_session.specs.declared.limits.Limits.{Limits}
 use Rattle.mta_shared.specs.declared.history.Base.{Base}
 use Rattle.mta_shared.specs.Held.{Held}
 use Rattle.mta_spool.specs.Bases.{found_of}
-use Rattle.mta_spool.specs.Shown.{Shown}
 use Rattle.mta_spool.specs.declared.spool.Turned.TheVariants.{Did, Quiet}
 use Rattle.mta_stations.specs.declared.end.Halt.{Halt}
 use Rattle.mta_stations.specs.declared.end.WorkerEnd.{WorkerEnd}
