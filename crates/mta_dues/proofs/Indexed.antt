@@ -1,7 +1,6 @@
 -- What is known of items that rest, as the index changes, and as steps are made.
 use Rattle.std.proofs.Common.{inl, inr, ◌≡◌, ◌≢◌, ◌≤◌, ◌<◌, ◌+◌, ℕ, true, false, List, Option, Some, None}
-use Rattle.std.proofs.Common.{Result, Ok, Err, refl, sym, ap, subst, ◌∙◌, arith}
-use Rattle.std.specs.Prelude.{OnOk}
+use Rattle.std.proofs.Common.{refl, sym, ap, subst, ◌∙◌, arith}
 use Rattle.std.proofs.lemmas.Bool.{cases_eq}
 use Rattle.std.specs.BTreeSet.{BTreeSet}
 use Rattle.mta_machine.specs.Items.{ItemValue, Machine, numbered, has_status, is_pending}
@@ -216,10 +215,6 @@ fresh text items index none = record {
   never i a = let from = a.from in let known = a.known in omega (arith, from, known, none)
 
 -- ---- lines of peers
-
-pub on_ok_so : {A E : Type 0} (made : Result A E) (P Q : Type 0) → (P → Q) → OnOk made P → OnOk made Q
-on_ok_so (Ok a) P Q f h = f h
-on_ok_so (Err e) P Q f h = h
 
 pub ready_in : (text : List ℕ) (item : ItemValue) (places : List ℕ) (lines : List (BTreeSet ℕ)) (i moment : ℕ)
     → AreRelays text item moment places → StandsAll lines places i → IsReadyIn text item lines i moment

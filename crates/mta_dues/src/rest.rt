@@ -4,15 +4,15 @@ ghost use Rattle.std.specs.Prelude.{◌≡◌, ◌↔◌, ℕ, IfOk, IsTrue, Lis
 ghost use Rattle.mta_machine.specs.Items.{ItemValue, numbered};
 ghost use Rattle.mta_idle.specs.Idle.{IsIdle};
 ghost use Rattle.mta_agenda.specs.Agendas.{is_active, IsAllCalled};
-ghost use Rattle.mta_agenda.specs.Lines.{KeepsLines};
+ghost use Rattle.mta_agenda.specs.Lines.{KeepsLines, StandsAll};
 ghost use Rattle.mta_replay.specs.Asked.{IsStored};
-ghost use Rattle.mta_dues.specs.Index.{HasPending, IsIndexed, IsReadyIn, IsRoutedIn};
+ghost use Rattle.mta_dues.specs.Index.{HasPending, IsIndexed};
 
 use crate::index::Index;
 use mta_ber::Memory;
 use mta_items::is_pending;
 use mta_machine::Item;
-use mta_replay::Rules;
+use mta_replay::{Rest, Rules};
 use std::alloc::Global;
 
 // Whether some recipient of an item is pending.
@@ -32,26 +32,18 @@ fn has_pending(item: &Item) -> bool
     false
 }
 
-// The item stands in the lines of the peers to which pending recipients go.
-fn line_up<R: Rules>(
-    alloc: Global,
-    rules: &R,
-    index: &mut Index,
-    number: u32,
-    item: &Item,
-    moment: u64,
-) -> Result<(), Memory>
-    requires stored { IsStored item.now }
+// The item stands in the lines of the peers to whom its pending recipients go.
+fn line_up(alloc: Global, index: &mut Index, number: u32, found: &Rest) -> Result<(), Memory>
     ensures agenda { index.new.agenda ≡ index.old.agenda }
     ensures ready { KeepsLines index.old.ready index.new.ready }
     ensures routed { KeepsLines index.old.routed index.new.routed }
-    ensures is_ready { OnOk result (IsReadyIn (R.text rules.now) item.now index.new.ready number moment) }
-    ensures is_routed { OnOk result (IsRoutedIn (R.text rules.now) item.now index.new.routed number) }
+    ensures is_ready { OnOk result (StandsAll index.new.ready found.now.relays.items number) }
+    ensures is_routed { OnOk result (StandsAll index.new.routed found.now.routes.items number) }
 {
-    let routes = rules.routes(alloc, item)?;
-    index.routed.put_all(alloc, routes.as_slice(), number)?;
-    let relays = rules.relays(alloc, item, moment)?;
-    index.ready.put_all(alloc, relays.as_slice(), number)
+    index
+        .routed
+        .put_all(alloc, found.routes.as_slice(), number)?;
+    index.ready.put_all(alloc, found.relays.as_slice(), number)
 }
 
 /// Whether an active item is idle at a moment. It rests then: until its verdicts may change, or for good where nobody
@@ -78,11 +70,11 @@ pub fn rest<R: Rules>(
         index.agenda.let_go(number);
         return Ok(true);
     }
-    match rules.idle_until(alloc, item, moment)? {
+    match rules.rest(alloc, item, moment)? {
         None => Ok(false),
-        Some(until) => {
-            line_up(alloc, rules, index, number, item, moment)?;
-            index.agenda.put_off(number, moment, until);
+        Some(found) => {
+            line_up(alloc, index, number, &found)?;
+            index.agenda.put_off(number, moment, found.until);
             Ok(true)
         }
     }

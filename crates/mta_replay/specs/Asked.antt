@@ -8,9 +8,11 @@ use Rattle.mta_procedures.specs.declared.verdict.Verdict.TheVariants as Verdicts
 use Rattle.mta_machine.specs.Items.{ItemValue, numbered, names, has_status, is_pending}
 use Rattle.mta_machine.specs.Rules.{delivery_report, is_tables_text, peer_word, route_word, verdict_of}
 use Rattle.mta_machine.specs.Machine.{last_tables, own_item, relay_by}
+use Rattle.mta_idle.specs.Idle.{IsIdleUntil}
 use Rattle.mta_items.specs.Parts.{machine_of}
 use Rattle.mta_replay.specs.declared.delivery.Delivery.{Delivery}
 use Rattle.mta_replay.specs.declared.kept.Kept.{Kept}
+use Rattle.mta_replay.specs.declared.rest.Rest.{Rest}
 
 -- a reason and a diagnostic that a verdict tells may be written
 abbrev pub CodesAreCodes : Option Verdict → Type 0
@@ -38,6 +40,18 @@ AreRoutes text item = AreLed (peer_word text) item (route_word text item.octets)
 abbrev pub AreRelays : List ℕ → ItemValue → ℕ → List ℕ → Type 0
 AreRelays text item moment =
     AreLed (peer_word text) item (λ r. relay_by text (verdict_of text item.octets item.arrival r moment))
+
+-- the item rests until then, and its pending recipients go to peers at these places
+pub record RestsAs (text : List ℕ) (item : ItemValue) (moment : ℕ) (rest : Rest) : Type 0 where
+  pub idle : IsIdleUntil text item moment (Some rest.until)
+  pub routes : AreRoutes text item rest.routes.items
+  pub relays : AreRelays text item moment rest.relays.items
+
+-- what is found of an item of which nothing is called for at once; none where something is called for now, or where no
+-- change is to come
+abbrev pub IsRestOf : List ℕ → ItemValue → ℕ → Option Rest → Type 0
+IsRestOf text item moment None = IsIdleUntil text item moment None
+IsRestOf text item moment (Some rest) = RestsAs text item moment rest
 
 -- a list is expanded
 abbrev pub Expands : Option Verdict → Type 0

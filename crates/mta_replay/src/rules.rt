@@ -4,17 +4,16 @@ ghost use Rattle.std.specs.Prelude.{◌≡◌, ◌≤◌, ◌<◌, ◌^◌, ◌�
 ghost use Rattle.std.specs.Prelude.{length, map};
 ghost use Rattle.std.specs.Option.{option_copied, option_map};
 ghost use Rattle.mta_ber.specs.Times.{last_moment};
-ghost use Rattle.mta_idle.specs.Idle.{IsIdleUntil};
 ghost use Rattle.mta_names.specs.Bounded.{IsCode};
 ghost use Rattle.mta_machine.specs.Machine.{own_item};
 ghost use Rattle.mta_machine.specs.Rules.{delivery_report, expansion, is_expired, mailbox_word, names_peer};
 ghost use Rattle.mta_machine.specs.Rules.{non_delivery_report, outgoing_copy, passed_back, peer_word, route_word};
 ghost use Rattle.mta_machine.specs.Rules.{verdict_of};
 ghost use Rattle.mta_items.specs.Parts.{made_items};
-ghost use Rattle.mta_replay.specs.Asked.{AreRelays, AreRoutes, AreUnder, CodesAreCodes, Expands, IsDeliveryOf, Passes};
-ghost use Rattle.mta_replay.specs.Asked.{Relays};
+ghost use Rattle.mta_replay.specs.Asked.{AreUnder, CodesAreCodes, Expands, IsDeliveryOf, IsRestOf, Passes, Relays};
 
 use crate::delivery::Delivery;
+use crate::rest::Rest;
 use mta_ber::{Memory, Word};
 use mta_items::Made;
 use mta_machine::Item;
@@ -57,25 +56,14 @@ pub trait Rules {
         requires { arrival ≤ last_moment }
         ensures { IfOk result (λ b. b ≡ is_expired (text self.now) octets.now arrival moment) };
 
-    /// Until when nothing is called for at once of those recipients of an item who are pending: the next moment behind
-    /// this one at which a verdict may change, the end of the deferral or else of the hold time. None where something
-    /// is called for, where the item has waited for its hold time, or where its octets are those of no APDU.
-    fn idle_until(&self, alloc: Global, item: &Item, moment: u64) -> Result<Option<u64>, Memory>
+    /// What is found of an item where nothing is called for at once of those of its recipients who are pending: the
+    /// next moment behind this one at which a verdict may change, which is the end of the deferral or else of the hold
+    /// time, and the peers to whom they go. None where something is called for, where the item has waited for its hold
+    /// time, or where its octets are those of no APDU.
+    fn rest(&self, alloc: Global, item: &Item, moment: u64) -> Result<Option<Rest>, Memory>
         requires arrived { item.now.arrival ≤ last_moment }
         requires few { length item.now.statuses < 2 ^ 32 }
-        ensures { IfOk result (IsIdleUntil (text self.now) item.now moment) };
-
-    /// Places of peers, from 0: of each peer to which the best route of a name leads, among the names of those
-    /// recipients of an item who are pending.
-    fn routes(&self, alloc: Global, item: &Item) -> Result<Vec<u32>, Memory>
-        requires { length item.now.statuses < 2 ^ 32 }
-        ensures { IfOk result (λ places. AreRoutes (text self.now) item.now places.items) };
-
-    /// Places of peers, from 0: of each peer to which a recipient of an item who is pending is relayed at a moment.
-    fn relays(&self, alloc: Global, item: &Item, moment: u64) -> Result<Vec<u32>, Memory>
-        requires arrived { item.now.arrival ≤ last_moment }
-        requires few { length item.now.statuses < 2 ^ 32 }
-        ensures { IfOk result (λ places. AreRelays (text self.now) item.now moment places.items) };
+        ensures { IfOk result (IsRestOf (text self.now) item.now moment) };
 
     /// Whether a report that comes to a list can be passed back, among these items.
     fn passes_back(&self, alloc: Global, items: &[Item], item: &Item) -> Result<bool, Memory>

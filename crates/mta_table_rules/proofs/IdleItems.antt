@@ -1,5 +1,5 @@
 -- Until when an item is idle, once its APDU is read.
-use Rattle.std.proofs.Common.{◌≡◌, ℕ, zero, suc, ◌+◌, ◌≤◌, ◌<◌, true, false, List, length, Option, Some, None}
+use Rattle.std.proofs.Common.{◌≡◌, ℕ, zero, suc, ◌+◌, ◌≤◌, ◌<◌, false, List, length, Option, Some, None}
 use Rattle.std.proofs.Common.{refl, sym, ap, subst, ◌∙◌, inl, inr, arith}
 use Rattle.std.proofs.lemmas.Bool.{cases_lt}
 use Rattle.std.proofs.lemmas.Option.{slice_get_past}
@@ -64,5 +64,3 @@ idle_is t item v moment (Some until) e h is = (
 pub none_is : (t : TablesValue) (item : ItemValue) (moment : ℕ) → tables_value t.text ≡ Some t
     → value_of item.octets ≡ None → IsIdleUntil t.text item moment None
 none_is t item moment e h = λ all. next_is t item.octets None item.arrival moment e h
-
-pub ruleset waiting_laws = (wait_at_first, wait_further, all_up_to)

@@ -13,7 +13,7 @@ use Rattle.mta_machine.specs.Machine.{relay_by}
 use Rattle.mta_machine.specs.Rules.{peer_at, peer_word, route_under, route_word, tables_value, verdict_of}
 use Rattle.mta_replay.specs.Asked.{AreLed, AreRelays, AreRoutes}
 use Rattle.mta_table_rules.specs.Led.{AreLedUpTo, LeadsPending, relay_under}
-use Rattle.mta_table_rules.proofs.Read.{no_route, no_verdict, peer_word_is, route_is, verdict_is}
+use Rattle.mta_table_rules.proofs.Read.{peer_word_is, route_is, verdict_is}
 
 -- ---- numbers that stand in a list
 
@@ -82,10 +82,6 @@ routes_are t item v places e h led =
     led_as (peer_at t) (peer_word t.text) item (route_under t v) (route_word t.text item.octets) places
     (λ place. peer_word_is t place e) (λ r. route_is t item.octets v r e h) led
 
-pub no_routes : (t : TablesValue) (item : ItemValue) (places : List ℕ) → tables_value t.text ≡ Some t
-    → value_of item.octets ≡ None → AreRoutes t.text item places
-no_routes t item places e h r peer pending is = let none = no_route t item.octets r e h in absurd cc
-
 pub relays_are : (t : TablesValue) (item : ItemValue) (v : ApduValue) (moment : ℕ) (places : List ℕ)
     → tables_value t.text ≡ Some t → value_of item.octets ≡ Some v
     → AreLed (peer_word t.text) item (relay_under t v item.arrival moment) places
@@ -94,12 +90,3 @@ relays_are t item v moment places e h led =
     led_as (peer_word t.text) (peer_word t.text) item (relay_under t v item.arrival moment)
     (λ r. relay_by t.text (verdict_of t.text item.octets item.arrival r moment)) places (λ place. refl)
     (λ r. ap (relay_by t.text) (verdict_is t item.octets v item.arrival r moment e h)) led
-
-pub no_relays : (t : TablesValue) (item : ItemValue) (moment : ℕ) (places : List ℕ) → tables_value t.text ≡ Some t
-    → value_of item.octets ≡ None → AreRelays t.text item moment places
-no_relays t item moment places e h r peer pending is =
-    let none : None ≡ Some peer =
-    sym (ap (relay_by t.text) (no_verdict t item.octets item.arrival r moment e h)) ∙ is in
-    absurd cc
-
-pub ruleset led_laws = (led_at_first, led_further, all_led)

@@ -9,6 +9,7 @@ pub mod Numbered
 pub mod Passed
 pub mod Read
 pub mod Reported
+pub mod Rests
 pub mod Sames
 pub mod Texts
 pub mod Walking

@@ -3,3 +3,4 @@ pub mod Copied
 pub mod Text
 pub mod Waits
 pub mod Led
+pub mod Rests

@@ -9,6 +9,7 @@ mod names;
 mod passing;
 mod reading;
 mod reports;
+mod rest;
 mod routes;
 mod table_rules;
 mod verdicts;

@@ -3,19 +3,18 @@
 use crate::copies::outgoing_copy;
 use crate::deliveries::delivery;
 use crate::expansion::expansion_items;
-use crate::idle::idle_until;
 use crate::names::{mailbox_at, names_peer, peer_at, routes_to};
 use crate::passing::{passed_item, passes_back};
 use crate::reading::text_reads;
 use crate::reports::{delivery_item, non_delivery_item};
-use crate::routes::{relays, routes};
+use crate::rest::rest;
 use crate::verdicts::{has_expired, verdict};
 use mta_ber::{Memory, Word};
 use mta_items::Made;
 use mta_machine::Item;
 use mta_procedures::Verdict;
 use mta_records::Outgoing;
-use mta_replay::{Delivery, Rules};
+use mta_replay::{Delivery, Rest, Rules};
 use mta_tables::{Tables, TablesFault};
 use std::alloc::Global;
 use std::marker::Model;
@@ -86,16 +85,8 @@ impl Rules for TableRules {
         has_expired(alloc, &self.tables, octets, arrival, moment)
     }
 
-    fn idle_until(&self, alloc: Global, item: &Item, moment: u64) -> Result<Option<u64>, Memory> {
-        idle_until(alloc, &self.tables, item, moment)
-    }
-
-    fn routes(&self, alloc: Global, item: &Item) -> Result<Vec<u32>, Memory> {
-        routes(alloc, &self.tables, item)
-    }
-
-    fn relays(&self, alloc: Global, item: &Item, moment: u64) -> Result<Vec<u32>, Memory> {
-        relays(alloc, &self.tables, item, moment)
+    fn rest(&self, alloc: Global, item: &Item, moment: u64) -> Result<Option<Rest>, Memory> {
+        rest(alloc, &self.tables, item, moment)
     }
 
     fn passes_back(&self, alloc: Global, items: &[Item], item: &Item) -> Result<bool, Memory> {

@@ -1,10 +1,11 @@
 use Rattle.std.proofs.Common.{Some, None}
 use Rattle.mta_apdu.specs.Apdus.{ApduValue, apdu_value}
-use Rattle.mta_idle.specs.Idle.{IsIdleUntil}
-use Rattle.mta_table_rules.specs.Waits.{IsIdleUnder}
-use Rattle.mta_table_rules.proofs.IdleItems.{idle_is, none_is}
+use Rattle.mta_replay.specs.Asked.{IsRestOf}
+use Rattle.mta_table_rules.specs.Rests.{IsRestUnder}
+use Rattle.mta_table_rules.proofs.IdleItems.{none_is}
 use Rattle.mta_table_rules.proofs.Read.{if_ok_so, kept_is}
-use Rattle.mta_table_rules.proofs.idle.idle_until.Goals as goal
+use Rattle.mta_table_rules.proofs.Rests.{rest_is}
+use Rattle.mta_table_rules.proofs.rest.rest.Goals as goal
 
 pub returns-in_default : goal.returns-in_default
 returns-in_default c =
@@ -16,9 +17,9 @@ pub returns : goal.returns
 returns c =
     let t = c.args.tables.now in
     let v : ApduValue = apdu_value c.in-Some.apdu in
-    if_ok_so c.idle_under-until.result (IsIdleUnder t v c.args.item.now c.args.moment)
-    (IsIdleUntil t.text c.args.item.now c.args.moment)
-    (λ until is. idle_is t c.args.item.now v c.args.moment until c.text_reads.ensures
+    if_ok_so c.rest_under-rest.result (IsRestUnder t v c.args.item.now c.args.moment)
+    (IsRestOf t.text c.args.item.now c.args.moment)
+    (λ rest is. rest_is t c.args.item.now v c.args.moment rest c.text_reads.ensures
     (kept_is c.args.item.now.octets c.octets.result.now c.in_ok-apdu.field-0 (Some c.in-Some.apdu) c.octets.ensures
     c.in_ok-apdu.ensures.value c.in-Some.is) is)
-    c.idle_under-until.ensures
+    c.rest_under-rest.ensures

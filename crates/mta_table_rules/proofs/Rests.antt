@@ -1,0 +1,70 @@
+-- What is found of an item that rests, recipient by recipient, once its APDU is read.
+use Rattle.std.proofs.Common.{◌≡◌, ℕ, ◌+◌, ◌≤◌, List, [], ◌++◌, length, Option, Some, None, sym, subst}
+use Rattle.std.specs.Prelude.{option_to_list}
+use Rattle.mta_apdu.specs.Apdus.{ApduValue}
+use Rattle.mta_tables.specs.Tables.{TablesValue}
+use Rattle.mta_machine.specs.Apdu.{value_of}
+use Rattle.mta_machine.specs.Items.{ItemValue}
+use Rattle.mta_machine.specs.Rules.{peer_at, peer_word, route_under, tables_value}
+use Rattle.mta_idle.specs.Next.{next_under}
+use Rattle.mta_replay.specs.Asked.{IsRestOf}
+use Rattle.mta_replay.specs.declared.rest.Rest.{Rest}
+use Rattle.mta_table_rules.specs.declared.rest.Places.{Places}
+use Rattle.mta_table_rules.specs.Led.{AreLedUpTo, relay_under}
+use Rattle.mta_table_rules.specs.Rests.{GoUpTo, IsLookAt, IsRestUnder}
+use Rattle.mta_table_rules.proofs.IdleItems.{all_up_to, idle_is, wait_at_first, wait_further}
+use Rattle.mta_table_rules.proofs.Led.{all_led, led_at_first, led_further, relays_are, routes_are}
+
+-- ---- recipients in turn
+
+module _ (t : TablesValue) (v : ApduValue) (item : ItemValue) (moment : ℕ) where
+  -- no recipient is numbered 0
+  pub go_at_first : GoUpTo t v item 0 moment [] []
+  go_at_first = record {
+    wait = wait_at_first t v item moment;
+    routed = led_at_first (peer_at t) item (route_under t v);
+    relayed = led_at_first (peer_word t.text) item (relay_under t v item.arrival moment);
+  }
+
+  pub go_further : (n : ℕ) (routes relays routes_now relays_now : List ℕ) (places : Places)
+      → GoUpTo t v item n moment routes relays → IsLookAt t v item (n + 1) moment (Some places)
+      → routes_now ≡ routes ++ option_to_list places.route → relays_now ≡ relays ++ option_to_list places.relay
+      → GoUpTo t v item (n + 1) moment routes_now relays_now
+  go_further n routes relays routes_now relays_now places before here routes_are relays_are = record {
+    wait = wait_further t v item n moment before.wait here.waits;
+    routed = subst (λ (xs : List ℕ). AreLedUpTo (peer_at t) item (route_under t v) (n + 1) xs) (sym routes_are)
+        (led_further (peer_at t) item (route_under t v) n routes places.route before.routed here.route);
+    relayed = subst
+        (λ (xs : List ℕ). AreLedUpTo (peer_word t.text) item (relay_under t v item.arrival moment) (n + 1) xs)
+        (sym relays_are)
+        (led_further (peer_word t.text) item (relay_under t v item.arrival moment) n relays places.relay
+        before.relayed here.relay);
+  }
+
+  -- something is called for at once of a recipient
+  pub not_idle : (r : ℕ) → IsLookAt t v item r moment None → IsRestUnder t v item moment None
+  not_idle r calls = λ all. absurd (calls (all r))
+
+  pub all_go : (most : ℕ) (rest : Rest) → length item.statuses ≤ most
+      → GoUpTo t v item most moment rest.routes.items rest.relays.items
+      → next_under (Some t) (Some v) item.arrival moment ≡ Some rest.until → IsRestUnder t v item moment (Some rest)
+  all_go most rest few go next = record {
+    idle = (all_up_to t v item most moment few go.wait, next);
+    routed = all_led (peer_at t) item (route_under t v) most rest.routes.items few go.routed;
+    relayed = all_led (peer_word t.text) item (relay_under t v item.arrival moment) most rest.relays.items few
+        go.relayed;
+  }
+
+-- ---- what is read
+
+pub rest_is : (t : TablesValue) (item : ItemValue) (v : ApduValue) (moment : ℕ) (rest : Option Rest)
+    → tables_value t.text ≡ Some t → value_of item.octets ≡ Some v → IsRestUnder t v item moment rest
+    → IsRestOf t.text item moment rest
+rest_is t item v moment None e h is = idle_is t item v moment None e h is
+rest_is t item v moment (Some rest) e h is = record {
+  idle = idle_is t item v moment (Some rest.until) e h is.idle;
+  routes = routes_are t item v rest.routes.items e h is.routed;
+  relays = relays_are t item v moment rest.relays.items e h is.relayed;
+}
+
+pub ruleset resting_laws = (go_at_first, go_further, not_idle, all_go)

@@ -1,0 +1,123 @@
+//! Until when items rest, and to whom their recipients go, from one reading.
+
+ghost use Rattle.std.specs.Prelude.{◌≡◌, ◌≤◌, ◌<◌, ◌^◌, ◌++◌, IfOk, OnOk, length, option_to_list};
+ghost use Rattle.mta_apdu.specs.Apdus.{apdu_value};
+ghost use Rattle.mta_ber.specs.Times.{last_moment};
+ghost use Rattle.mta_replay.specs.Asked.{IsRestOf};
+ghost use Rattle.mta_table_rules.specs.Rests.{IsLookAt, IsRestUnder};
+
+use crate::idle::{calls_at_once, next_under};
+use crate::reading::{read_kept, text_reads};
+use crate::routes::{place_of_relay, place_of_route};
+use crate::verdicts::verdict_under;
+use mta_apdu::Apdu;
+use mta_ber::Memory;
+use mta_items::is_pending;
+use mta_machine::Item;
+use mta_replay::Rest;
+use mta_tables::Tables;
+use std::alloc::Global;
+
+/// The places of the peers to whom a recipient goes, where there are any.
+#[derive(Clone, Copy)]
+struct Places {
+    /// Of the peer to which the best route of the name leads.
+    route: Option<u32>,
+    /// Of the peer to whom the recipient is relayed.
+    relay: Option<u32>,
+}
+
+/// The places of the peers to whom a recipient goes, if pending; none where something is called for at once.
+fn look_at(
+    alloc: Global,
+    tables: &Tables,
+    apdu: &Apdu<'_>,
+    item: &Item,
+    recipient: u32,
+    moment: u64,
+) -> Result<Option<Places>, Memory>
+    requires arrived { item.now.arrival ≤ last_moment }
+    ensures { IfOk result (IsLookAt tables.now (apdu_value apdu.now) item.now recipient moment) }
+{
+    let pending = is_pending(item, recipient);
+    if !pending {
+        return Ok(Some(Places {
+            route: None,
+            relay: None,
+        }));
+    }
+    let verdict = verdict_under(alloc, tables, apdu, item.arrival(), recipient, moment)?;
+    let calls = calls_at_once(verdict);
+    if calls {
+        return Ok(None);
+    }
+    let route = place_of_route(tables, apdu, recipient);
+    let relay = place_of_relay(verdict);
+    Ok(Some(Places { route, relay }))
+}
+
+/// The place is one of them, where there is one.
+fn add(places: &mut Vec<u32>, place: Option<u32>) -> Result<(), Memory>
+    ensures { OnOk result (places.new.items ≡ places.old.items ++ option_to_list place) }
+{
+    if let Some(place) = place {
+        places.push(place)?;
+    }
+    Ok(())
+}
+
+/// What is found of an item whose APDU was read, by one verdict on each recipient who is pending.
+#[tactic(auto, using(crate::proofs::Rests::resting_laws))]
+fn rest_under(
+    alloc: Global,
+    tables: &Tables,
+    apdu: &Apdu<'_>,
+    item: &Item,
+    moment: u64,
+) -> Result<Option<Rest>, Memory>
+    requires arrived { item.now.arrival ≤ last_moment }
+    requires few { length item.now.statuses < 2 ^ 32 }
+    ensures { IfOk result (IsRestUnder tables.now (apdu_value apdu.now) item.now moment) }
+{
+    let Some(until) = next_under(tables, apdu, item.arrival(), moment) else {
+        return Ok(None);
+    };
+    let count = item.statuses().len() as u32;
+    let mut routes: Vec<u32> = Vec::new(alloc);
+    let mut relays: Vec<u32> = Vec::new(alloc);
+    let mut recipient: u32 = 0;
+    while recipient < count {
+        recipient += 1;
+        let Some(places) = look_at(alloc, tables, apdu, item, recipient, moment)? else {
+            return Ok(None);
+        };
+        add(&mut routes, places.route)?;
+        add(&mut relays, places.relay)?;
+    }
+    Ok(Some(Rest {
+        until,
+        routes,
+        relays,
+    }))
+}
+
+/// What is found of an item where nothing is called for at once of those of its recipients who are pending; none where
+/// something is, where the item has waited for its hold time, or where its octets are those of no APDU.
+pub fn rest(
+    alloc: Global,
+    tables: &Tables,
+    item: &Item,
+    moment: u64,
+) -> Result<Option<Rest>, Memory>
+    requires arrived { item.now.arrival ≤ last_moment }
+    requires few { length item.now.statuses < 2 ^ 32 }
+    ensures { IfOk result (IsRestOf tables.now.text item.now moment) }
+{
+    text_reads(tables);
+    let Some(apdu) = read_kept(alloc, item.octets())? else {
+        return Ok(None);
+    };
+    let rest = rest_under(alloc, tables, &apdu, item, moment);
+    apdu.discard();
+    rest
+}
