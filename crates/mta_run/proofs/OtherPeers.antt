@@ -80,6 +80,10 @@ stand_others earlier [] m = tt
 stand_others earlier (x ∷ later) m =
     ((λ peer e c. first_other earlier later x peer m.1 e c), stand_others (earlier ++ x ∷ []) later m.1)
 
+-- these texts say the words
+pub said_by : (texts : List (List ℕ)) (words : Words) → Says texts words → IsSaid words
+said_by texts words s = (texts, s)
+
 pub call_others : (words : Words) (sessions : ℕ) (named : List StationWord) → words ≡ Say.Serve sessions named
     → IsSaid words → CallOthers (roles_of named)
 call_others words sessions named is said =

@@ -7,13 +7,13 @@ use Rattle.mta_run.specs.DiskLeft.{uncalled}
 use Rattle.mta_run.specs.Output.{output}
 use Rattle.mta_run.specs.Words.{words_with}
 use Rattle.mta_run.proofs.Commanded.{early_ended, with_others_as}
+use Rattle.mta_run.proofs.OtherPeers.{said_by}
 use Rattle.mta_run.proofs.command.command.Goals as goal
 
 pub perform-requires-clause-said : goal.perform-requires-clause-said
-perform-requires-clause-said g c = (
-  map (string_bytes {Z = Global}) c.args.words.now,
-  c.in-Ok-Some.ensures.found c.in-Ok-Some.words (ap Ok c.in-Ok-Some.field-0-is),
-)
+perform-requires-clause-said g c =
+    said_by (map (string_bytes {Z = Global}) c.args.words.now) c.in-Ok-Some.words
+    (c.in-Ok-Some.ensures.found c.in-Ok-Some.words (ap Ok c.in-Ok-Some.field-0-is))
 
 pub returns-else-are_stations_for-clause-ended : goal.returns-else-are_stations_for-clause-ended
 returns-else-are_stations_for-clause-ended g c =
