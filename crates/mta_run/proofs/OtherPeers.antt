@@ -82,10 +82,11 @@ stand_others earlier (x ∷ later) m =
 
 -- these texts say the words
 pub said_by : (texts : List (List ℕ)) (words : Words) → Says texts words → IsSaid words
-said_by texts words s = (texts, s)
+said_by texts words s = record { texts = texts; says = s }
 
 pub call_others : (words : Words) (sessions : ℕ) (named : List StationWord) → words ≡ Say.Serve sessions named
     → IsSaid words → CallOthers (roles_of named)
 call_others words sessions named is said =
-    let serves : Says said.0 (Say.Serve sessions named) = subst (λ (w : Words). Says said.0 w) is said.1 in
+    let serves : Says said.texts (Say.Serve sessions named) =
+    subst (λ (w : Words). Says said.texts w) is said.says in
     stand_others [] named serves.spelled.stand

@@ -22,9 +22,10 @@ abbrev pub words_with : List Role → Option Words → Option Words
 words_with roles None = None
 words_with roles (Some words) = if are_stations_for words roles then Some words else None
 
--- the words are in the grammar
-abbrev pub IsSaid : Words → Type 0
-IsSaid words = (texts : List (List ℕ)) × Says texts words
+-- the words are in the grammar: these texts say them
+pub record IsSaid (words : Words) : Type 0 where
+  pub texts : List (List ℕ)
+  pub says : Says texts words
 
 -- the roles of the stations that the words name
 abbrev pub roles_named : Option Words → List Role
