@@ -11,7 +11,7 @@ use Rattle.mta_run.proofs.OtherPeers.{said_by}
 use Rattle.mta_run.proofs.command.command.Goals as goal
 
 pub perform-requires-clause-said : goal.perform-requires-clause-said
-perform-requires-clause-said g c =
+perform-requires-clause-said g c κs within =
     said_by (map (string_bytes {Z = Global}) c.args.words.now) c.in-Ok-Some.words
     (c.in-Ok-Some.ensures.found c.in-Ok-Some.words (ap Ok c.in-Ok-Some.field-0-is))
 
