@@ -157,6 +157,13 @@ impl Agenda {
         self.wake(moment)
     }
 
+    /// Whether a number is active.
+    pub fn is_active(&self, number: u32) -> bool
+        ensures { result ≡ is_active self.now number }
+    {
+        self.active.contains(&number)
+    }
+
     /// An active number rests from a moment on until another, if there is memory to note it: else it stays active.
     pub fn put_off(&mut self, number: u32, moment: u64, until: u64)
         requires active { is_active self.old number ≡ true }

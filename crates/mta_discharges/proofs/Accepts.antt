@@ -1,6 +1,6 @@
 -- What is changed by tables that are recorded, and by an APDU that is accepted.
 use Rattle.std.proofs.Common.{◌≡◌, ◌<◌, ◌+◌, ◌^◌, ℕ, true, false, List, [], ◌∷◌, ◌++◌}
-use Rattle.std.proofs.Common.{length, Some, None, refl, ap, arith, length-append}
+use Rattle.std.proofs.Common.{length, Option, Some, None, refl, ap, subst, arith, length-append}
 use Rattle.mta_records.specs.declared.step.Step.TheVariants as step
 use Rattle.mta_machine.specs.declared.item.Origin.TheVariants as Origins
 use Rattle.mta_machine.specs.Items.{ItemValue}
@@ -9,6 +9,8 @@ use Rattle.mta_machine.specs.Rules.{is_tables_text}
 use Rattle.mta_histories.specs.Lanes.{State}
 use Rattle.mta_items.specs.Reading.{IsAccepted}
 use Rattle.mta_replay.specs.declared.change.Change.TheVariants as change
+use Rattle.mta_replay.specs.declared.rest.Rest.{Rest}
+use Rattle.mta_replay.specs.Asked.{IsRestOf}
 use Rattle.mta_replay.specs.Kept.{with_item}
 use Rattle.mta_replay.specs.Prepared.{Prepares}
 use Rattle.mta_discharges.specs.Ready.{MayAccept}
@@ -66,5 +68,12 @@ may_not_accept s moment apdu never possible =
 pub no_apdu : (s : State) (moment : ℕ) (apdu : List ℕ) → IsAccepted apdu Origins.Submitted moment None
     → Prepares s (step.Accept moment apdu) None
 no_apdu s moment apdu never possible = never possible.as_machine.0
+
+-- what is found of the item is found of that of the octets
+pub found_of : (text : List ℕ) (moment : ℕ) (apdu : List ℕ) (item : ItemValue) (rest : Option Rest)
+    → IsAccepted apdu Origins.Submitted moment (Some item) → IsRestOf text item moment rest
+    → IsRestOf text (accepted_item apdu Origins.Submitted moment) moment rest
+found_of text moment apdu item rest is found =
+    subst (λ (x : ItemValue). IsRestOf text x moment rest) is.1 found
 
 pub ruleset accept_laws = (accept_change, may_not_accept, no_apdu)

@@ -8,6 +8,6 @@ mod ready;
 mod report;
 mod settling;
 
-pub use accept::{prepare_accept, prepare_tables};
+pub use accept::{Arrival, prepare_accept, prepare_arrival, prepare_tables};
 pub use deliver::{prepare_affirm, prepare_deliver, prepare_expand};
 pub use report::{prepare_back, prepare_discard, prepare_report};

@@ -14,4 +14,5 @@ pub use due::due_of;
 pub use index::Index;
 pub use queue::waiting;
 pub use relay::{batch_for, is_to_relay};
+pub use rest::note;
 pub use scan::due_step;

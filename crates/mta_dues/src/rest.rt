@@ -1,11 +1,11 @@
 //! Items that rest, since nothing is due of them for a while.
 
-ghost use Rattle.std.specs.Prelude.{◌≡◌, ◌↔◌, ℕ, IfOk, IsTrue, List, OnOk, Some, true};
+ghost use Rattle.std.specs.Prelude.{◌≡◌, ◌<◌, ◌↔◌, ℕ, IfOk, IsTrue, List, OnOk, Some, true};
 ghost use Rattle.mta_machine.specs.Items.{ItemValue, numbered};
 ghost use Rattle.mta_idle.specs.Idle.{IsIdle};
 ghost use Rattle.mta_agenda.specs.Agendas.{is_active, IsAllCalled};
 ghost use Rattle.mta_agenda.specs.Lines.{KeepsLines, StandsAll};
-ghost use Rattle.mta_replay.specs.Asked.{IsStored};
+ghost use Rattle.mta_replay.specs.Asked.{IsStored, RestsAs};
 ghost use Rattle.mta_dues.specs.Index.{HasPending, IsIndexed};
 
 use crate::index::Index;
@@ -46,6 +46,28 @@ fn line_up(alloc: Global, index: &mut Index, number: u32, found: &Rest) -> Resul
     index.ready.put_all(alloc, found.relays.as_slice(), number)
 }
 
+// An active item rests until its verdicts may change, in the lines of the peers to whom its pending recipients go.
+fn put_to_rest(
+    alloc: Global,
+    index: &mut Index,
+    number: u32,
+    moment: u64,
+    found: &Rest,
+) -> Result<(), Memory>
+    requires active { is_active index.old.agenda number ≡ true }
+    requires later { moment < found.now.until }
+    ensures indexed { (text : List ℕ) (items : List ItemValue) (item : ItemValue)
+        → numbered items number ≡ Some item → RestsAs text item moment found.now
+        → IsIndexed text items index.old → IsIndexed text items index.new }
+    ensures called { (count : ℕ) → IsAllCalled index.old.agenda count moment
+        → IsAllCalled index.new.agenda count moment }
+{
+    index.leave(number);
+    line_up(alloc, index, number, found)?;
+    index.agenda.put_off(number, moment, found.until);
+    Ok(())
+}
+
 /// Whether an active item is idle at a moment. It rests then: until its verdicts may change, or for good where nobody
 /// is pending. Where there is no memory to note it the item stays active.
 pub fn rest<R: Rules>(
@@ -64,18 +86,38 @@ pub fn rest<R: Rules>(
     ensures called { (count : ℕ) → IsAllCalled index.old.agenda count moment
         → IsAllCalled index.new.agenda count moment }
 {
-    index.leave(number);
     let pending = has_pending(item);
     if !pending {
+        index.leave(number);
         index.agenda.let_go(number);
         return Ok(true);
     }
     match rules.rest(alloc, item, moment)? {
         None => Ok(false),
         Some(found) => {
-            line_up(alloc, index, number, &found)?;
-            index.agenda.put_off(number, moment, found.until);
+            put_to_rest(alloc, index, number, moment, &found)?;
             Ok(true)
         }
     }
+}
+
+/// What was found of an item at a moment at which it rests is noted, unless it rests by now. Where there is no memory
+/// to note it the item stays active.
+pub fn note(
+    alloc: Global,
+    index: &mut Index,
+    number: u32,
+    moment: u64,
+    found: &Rest,
+) -> Result<(), Memory>
+    requires later { moment < found.now.until }
+    ensures { (text : List ℕ) (items : List ItemValue) (item : ItemValue)
+        → numbered items number ≡ Some item → RestsAs text item moment found.now
+        → IsIndexed text items index.old → IsIndexed text items index.new }
+{
+    index.agenda.call(number, moment)?;
+    if index.agenda.is_active(number) {
+        put_to_rest(alloc, index, number, moment, found)?;
+    }
+    Ok(())
 }

@@ -13,6 +13,6 @@ mod verdict;
 pub use change::{Change, Settlement};
 pub use delivery::Delivery;
 pub use kept::Kept;
-pub use rest::Rest;
+pub use rest::{Rest, Submitted};
 pub use rules::Rules;
 pub use verdict::verdict_on;

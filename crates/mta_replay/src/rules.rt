@@ -5,16 +5,19 @@ ghost use Rattle.std.specs.Prelude.{length, map};
 ghost use Rattle.std.specs.Option.{option_copied, option_map};
 ghost use Rattle.mta_ber.specs.Times.{last_moment};
 ghost use Rattle.mta_names.specs.Bounded.{IsCode};
+ghost use Rattle.mta_machine.specs.declared.item.Origin.TheVariants as Origins;
 ghost use Rattle.mta_machine.specs.Machine.{own_item};
 ghost use Rattle.mta_machine.specs.Rules.{delivery_report, expansion, is_expired, mailbox_word, names_peer};
 ghost use Rattle.mta_machine.specs.Rules.{non_delivery_report, outgoing_copy, passed_back, peer_word, route_word};
 ghost use Rattle.mta_machine.specs.Rules.{verdict_of};
 ghost use Rattle.mta_items.specs.Parts.{made_items};
+ghost use Rattle.mta_items.specs.Reading.{IsAccepted};
+ghost use Rattle.mta_replay.specs.declared.rest.Submitted.{Submitted};
 ghost use Rattle.mta_replay.specs.Asked.{AreUnder, CodesAreCodes, Expands, IsDeliveryOf, IsRestOf, Passes, Relays};
 
 use crate::delivery::Delivery;
-use crate::rest::Rest;
-use mta_ber::{Memory, Word};
+use crate::rest::{Rest, Submitted};
+use mta_ber::{Memory, Octets, Word};
 use mta_items::Made;
 use mta_machine::Item;
 use mta_procedures::Verdict;
@@ -64,6 +67,19 @@ pub trait Rules {
         requires arrived { item.now.arrival ≤ last_moment }
         requires few { length item.now.statuses < 2 ^ 32 }
         ensures { IfOk result (IsRestOf (text self.now) item.now moment) };
+
+    /// The item of an APDU that is submitted at a moment, and what is found of it then, from one reading; none where
+    /// the octets spell no APDU.
+    fn submitted(
+        &self,
+        alloc: Global,
+        octets: Octets,
+        moment: u64,
+    ) -> Result<Option<Submitted>, Memory>
+        requires { moment ≤ last_moment }
+        ensures item { IfOk result (λ found.
+            IsAccepted octets Origins.Submitted moment (option_map (λ (s : Submitted). s.item) found)) }
+        ensures rest { IfOk result (λ found. IfSome found (λ s. IsRestOf (text self.now) s.item moment s.rest)) };
 
     /// Whether a report that comes to a list can be passed back, among these items.
     fn passes_back(&self, alloc: Global, items: &[Item], item: &Item) -> Result<bool, Memory>

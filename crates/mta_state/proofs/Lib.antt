@@ -1,3 +1,4 @@
+pub mod Founds
 pub mod Nothing
 pub mod Stored
 pub mod Sounds

@@ -138,11 +138,11 @@ class-fits s (on_lane n generation step) moment fits other allowed needs =
 
 -- ---- tables
 
-get-last : (ts : List (List ℕ)) (t : List ℕ) → slice_get (ts ++ t ∷ []) (length ts) ≡ Some t
+get-last : {A : Type 0} (ts : List A) (t : A) → slice_get (ts ++ t ∷ []) (length ts) ≡ Some t
 get-last [] t = refl
 get-last (x ∷ ts) t = get-last ts t
 
-numbered-last : (ts : List (List ℕ)) (t : List ℕ) → numbered (ts ++ t ∷ []) (length (ts ++ t ∷ [])) ≡ Some t
+pub numbered-last : {A : Type 0} (ts : List A) (t : A) → numbered (ts ++ t ∷ []) (length (ts ++ t ∷ [])) ≡ Some t
 numbered-last ts t =
     let n : length (ts ++ t ∷ []) ≡ suc (length ts) = omega (arith, length-append ts (t ∷ [])) in
     ap (numbered (ts ++ t ∷ [])) n ∙ get-last ts t

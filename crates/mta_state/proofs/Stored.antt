@@ -1,6 +1,6 @@
 -- What is stored keeps its bounds: each item arrived up to the last moment of 2049, and its recipients have numbers.
 use Rattle.std.proofs.Common.{◌≡◌, ℕ, zero, suc, ◌+◌, ◌≤◌, ◌<◌, ◌^◌, Bool, true, false, cond, List, [], ◌∷◌, ◌++◌, length}
-use Rattle.std.proofs.Common.{map, get_or, Option, Some, None, Result, Ok, Err, refl, sym, ap, subst, ◌∙◌, arith}
+use Rattle.std.proofs.Common.{map, get_or, Option, Some, None, Result, Ok, Err, refl, subst, ◌∙◌, arith}
 use Rattle.std.specs.Prelude.{slice_get, option_to_list, option_and_then, option_map, IfSome}
 use Rattle.std.specs.List.{All}
 use Rattle.std.proofs.lemmas.List.Elements.{All-nil, All-cons, All-set, All-append, All-push, All-map}
@@ -10,10 +10,7 @@ use Rattle.mta_ber.specs.Times.{last_moment}
 use Rattle.mta_recipient.specs.declared.recipient.RecipientFields.{RecipientFields}
 use Rattle.mta_envelope.specs.Messages.{MessageValue}
 use Rattle.mta_report.specs.declared.fields.ReportFields.{ReportFields}
-use Rattle.mta_apdu.specs.Apdus.{ApduValue, message, probe, report, SpellsApdu, stored_of}
-use Rattle.mta_apdu.specs.Laws.{IsWholeApdu}
-use Rattle.mta_apdu.proofs.ApduAgain.{apdus_kept}
-use Rattle.mta_apdu.proofs.ApduLaws.{stored_is, apdu_full}
+use Rattle.mta_apdu.specs.Apdus.{ApduValue, message, probe, report}
 use Rattle.mta_tables.specs.declared.entry.MailList.{MailList}
 use Rattle.mta_tables.specs.Whole.{IsAt, AreTables}
 use Rattle.mta_tables.specs.Hops.{best_hop}
@@ -30,10 +27,10 @@ use Rattle.mta_procedures.specs.Walks as walks
 use Rattle.mta_names.specs.declared.attributes.Attributes.{Attributes}
 use Rattle.mta_envelope.specs.declared.envelope.EnvelopeFields.{EnvelopeFields}
 use Rattle.mta_procedures.proofs.MembersLaws.{members_copy_is_one}
-use Rattle.mta_machine.specs.Apdu.{IsApdu, value_of, value_read, is_report, responsible_in, is_responsible}
+use Rattle.mta_machine.specs.Apdu.{IsApdu, value_of, value_read, is_report, responsible_in}
 use Rattle.mta_machine.specs.declared.item.Status.{Status}
 use Rattle.mta_machine.specs.declared.item.Origin.{Origin}
-use Rattle.mta_machine.specs.Items.{ItemValue, Machine, numbered, set_numbered, status_at_first, statuses_of, statuses_read}
+use Rattle.mta_machine.specs.Items.{ItemValue, Machine, numbered, set_numbered, status_at_first}
 use Rattle.mta_machine.specs.Rules.{tables_value, expansion, expansion_under, expanded_for, expanded_to}
 use Rattle.mta_machine.specs.Rules.{delivery_report, non_delivery_report, passed_back, report_on, read_both, envelope_in}
 use Rattle.mta_machine.specs.Rules.{passed_under, is_own, accepted_in, reason_of, diagnostic_of}
@@ -42,44 +39,14 @@ use Rattle.mta_machine.specs.Machine.{not_delivered, failed, discarded, passed, 
 use Rattle.mta_machine.specs.Machine.{with_statuses, discharged_item, items_after, made_by, made_for, own_item}
 use Rattle.mta_machine.specs.Machine.{accepted_item, unless_report, last_tables, status_after}
 use Rattle.mta_machine.proofs.Later.{length-set_numbered}
+use Rattle.mta_items.proofs.Few.{IsFew, few_message, few_accepted}
 use Rattle.mta_replay.specs.Asked.{IsStored}
 
--- ---- APDUs have few recipients
-
-abbrev pub IsFew : ApduValue → Type 0
-IsFew v = length (statuses_of v) < 2 ^ 32
-
-few-map : (v : ApduValue) → length (responsible_in v) < 2 ^ 32 → IsFew v
-few-map v few = omega (arith, few, length-map (responsible_in v) status_at_first)
-
-few-message : (v : MessageValue) → length v.envelope.recipients ≤ 32767 → IsFew (message v)
-unfolding responsible_in
-few-message v few = few-map (message v) (omega (arith, few, length-map v.envelope.recipients is_responsible))
+-- ---- what is made has few recipients
 
 few-report : (p : ReportFields) → IsFew (report p)
 unfolding responsible_in
-few-report p = few-map (report p) (omega arith)
-
-few-whole : (v : ApduValue) → IsWholeApdu v → IsFew v
-unfolding responsible_in
-few-whole (message v) whole = few-message v whole.0.envelope.few_recipients
-few-whole (probe e) whole =
-    few-map (probe e) (omega (arith, whole.0.envelope.few_recipients, length-map e.recipients is_responsible))
-few-whole (report p) whole = few-report p
-
-value-is : (octets : List ℕ) (v : ApduValue) → SpellsApdu octets v → value_of octets ≡ Some v
-unfolding value_of
-value-is octets v spells = ap value_read (stored_is octets spells.short ∙ apdu_full octets v spells)
-
-few-accepted : (octets : List ℕ) → IsApdu octets → length (statuses_read (value_of octets)) < 2 ^ 32
-few-accepted octets is =
-    omega (
-      arith,
-      few-whole is.0 (apdus_kept octets is.0 is.1).1,
-      ap (λ o. length (statuses_read o)) (value-is octets is.0 is.1),
-    )
-
--- ---- what is made has few recipients
+few-report p = omega (arith, length-map (responsible_in (report p)) status_at_first)
 
 abbrev AreFew : List ApduValue → Type 0
 AreFew vs = All IsFew vs
@@ -168,7 +135,7 @@ few-copy s l v x few = by_copy (members_copy s l v x) refl
     by_copy : (o : Option MessageValue) → members_copy s l v x ≡ o → IfSome (option_map message o) IsFew
     by_copy None is = tt
     by_copy (Some copy) is =
-        few-message copy (omega (arith, few, (members_copy_is_one s l v copy x is).as_many))
+        few_message copy (omega (arith, few, (members_copy_is_one s l v copy x is).as_many))
 
 few-to : (t : TablesValue) (number arrival : ℕ) (v : MessageValue) (x : RecipientFields) (o : Option MailList)
     (moment : ℕ) → ((l : MailList) → o ≡ Some l → length l.members ≤ 1000)
@@ -303,7 +270,7 @@ stored-one : (m : Machine) (step : MachineStep) → Fits step → All IsStored m
 stored-one m (set_tables text) fits stored = absurd fits
 stored-one m (accept octets origin moment) fits stored =
     All-push IsStored m.items (accepted_item octets origin moment) stored
-    (record { arrived = fits.1; few = few-accepted octets fits.0 })
+    (record { arrived = fits.1; few = few_accepted octets fits.0 })
 stored-one m (discharge i rs how moment) fits stored = stored-discharged m i rs how moment fits stored
 
 pub stored-run : (m : Machine) (steps : List MachineStep) → EachFits steps → All IsStored m.items

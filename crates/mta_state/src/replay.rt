@@ -4,21 +4,31 @@
 //! memory is refused; `commit` makes the change and cannot fail. Between the last two the spool writes the step's
 //! record down; replaying a history does not.
 
-ghost use Rattle.std.specs.Prelude.{◌≡◌, ℕ, List, IfOk, IfSome, IfNone, OnErr, OnOk};
-ghost use Rattle.mta_machine.specs.Items.{ItemValue};
+ghost use Rattle.std.specs.Prelude.{◌≡◌, ◌≤◌, ◌<◌, ℕ, List, IfOk, IfSome, IfNone, OnErr, OnOk, Some};
+ghost use Rattle.std.specs.Option.{option_map};
+ghost use Rattle.mta_ber.specs.Times.{last_moment};
+ghost use Rattle.mta_machine.specs.declared.item.Origin.TheVariants as Origins;
+ghost use Rattle.mta_machine.specs.Items.{ItemValue, numbered};
+ghost use Rattle.mta_machine.specs.Machine.{accepted_item};
 ghost use Rattle.mta_records.specs.declared.step.Step.{Step};
+ghost use Rattle.mta_records.specs.declared.step.Step.TheVariants as Steps;
 ghost use Rattle.mta_records.specs.Body.{HasFields};
 ghost use Rattle.mta_histories.specs.Lanes.{empty};
 ghost use Rattle.mta_histories.specs.History.{after_step};
+ghost use Rattle.mta_replay.specs.Asked.{IsRestOf};
 ghost use Rattle.mta_replay.specs.Kept.{state_of, CanChange, HasRoomFor};
+ghost use Rattle.mta_replay.specs.Prepared.{Prepares};
+ghost use Rattle.mta_discharges.specs.declared.accept.Arrival.{Arrival};
 ghost use Rattle.mta_dues.specs.Index.{IsIndexed};
+ghost use Rattle.mta_state.specs.Found.{IsFound, IsFoundLast};
 ghost use Rattle.mta_state.specs.Ready.{IsReady, TakesUp};
 ghost use Rattle.mta_state.specs.Sound.{IsSound};
 
-use mta_ber::Memory;
-use mta_dues::Index;
+use mta_ber::{Memory, Octets};
+use mta_discharges::{Arrival, prepare_arrival};
+use mta_dues::{Index, note};
 use mta_records::Step;
-use mta_replay::{Change, Kept, Rules};
+use mta_replay::{Change, Kept, Rest, Rules};
 use std::alloc::Global;
 
 /// Why a step was not taken up.
@@ -76,6 +86,22 @@ fn recall_changed(index: &mut Index, change: &Change) -> Result<(), Memory>
         Change::Complete { .. } => Ok(()),
         Change::Discharge { item, .. } => index.recall(*item),
         Change::Close { .. } => Ok(()),
+    }
+}
+
+// What was found of the item of this number is noted, where something was and there is memory for it.
+fn note_in(alloc: Global, index: &mut Index, number: u32, moment: u64, rest: Option<Rest>)
+    requires later { IfSome rest (λ found. moment < found.until) }
+    ensures { (text : List ℕ) (items : List ItemValue) (item : ItemValue)
+        → numbered items number ≡ Some item → IsRestOf text item moment rest
+        → IsIndexed text items index.old → IsIndexed text items index.new }
+{
+    match rest {
+        None => {}
+        Some(found) => match note(alloc, index, number, moment, &found) {
+            Ok(()) => {}
+            Err(_) => {}
+        },
     }
 }
 
@@ -158,11 +184,62 @@ impl<R: Rules + Drop> Replay<R> {
         }
     }
 
-    /// Takes up a step where it is possible.
-    ///
-    /// # Errors
-    /// `Impossible` exactly where it is not; `Memory`. After either the state is as it was.
-    pub fn add(&mut self, alloc: Global, step: Step) -> Result<(), NotMade>
+    // What an Accept changes, and what is found of its item then; none exactly where it is not possible.
+    #[tactic(auto, using(crate::proofs::Founds::found_under))]
+    fn arrival(&self, alloc: Global, moment: u64, apdu: Octets) -> Result<Option<Arrival>, Memory>
+        requires sound { IsSound R.text self.now.kept self.now.rules }
+        requires fits { moment ≤ last_moment }
+        ensures prepares { IfOk result (λ found.
+            Prepares (state_of self.now.kept) (Steps.Accept moment apdu)
+            (option_map (λ (a : Arrival). a.change) found)) }
+        ensures rest { IfOk result (λ found. IfSome found (λ a.
+            IsFound self.now.kept (accepted_item apdu Origins.Submitted moment) moment a.rest)) }
+    {
+        let Some(force) = &self.rules else {
+            return Ok(None);
+        };
+        prepare_arrival(alloc, &force.rules, &self.kept, moment, apdu)
+    }
+
+    // What was found of the last item is noted.
+    #[tactic(auto, using(crate::proofs::Founds::found_later))]
+    fn note(&mut self, alloc: Global, moment: u64, rest: Option<Rest>)
+        requires sound { IsSound R.text self.old.kept self.old.rules }
+        requires found { IsFoundLast self.old.kept moment rest }
+        ensures same { self.new.kept ≡ self.old.kept }
+        ensures sound { IsSound R.text self.new.kept self.new.rules }
+    {
+        let count = self.kept.parts.items.len() as u32;
+        match &mut self.rules {
+            None => {}
+            Some(force) => note_in(alloc, &mut force.index, count, moment, rest),
+        }
+    }
+
+    // Takes up an Accept where it is possible, and notes what is found of its item.
+    #[tactic(auto, using(crate::proofs::Founds::found_last))]
+    fn take_in(&mut self, alloc: Global, moment: u64, apdu: Octets) -> Result<(), NotMade>
+        requires sound { IsSound R.text self.old.kept self.old.rules }
+        requires fields { HasFields (Steps.Accept moment apdu) }
+        ensures taken { TakesUp (Steps.Accept moment apdu) (state_of self.old.kept) (state_of self.new.kept) result }
+        ensures kept { OnErr result (state_of self.new.kept ≡ state_of self.old.kept) }
+        ensures sound { IsSound R.text self.new.kept self.new.rules }
+    {
+        let Some(Arrival { change, rest }) = self.arrival(alloc, moment, apdu)? else {
+            return Err(NotMade::Impossible);
+        };
+        let ready = Ready {
+            change,
+            rules: None,
+        };
+        self.reserve(&ready)?;
+        self.commit(ready);
+        self.note(alloc, moment, rest);
+        Ok(())
+    }
+
+    // Takes up a step where it is possible.
+    fn take_up(&mut self, alloc: Global, step: Step) -> Result<(), NotMade>
         requires sound { IsSound R.text self.old.kept self.old.rules }
         requires fields { HasFields step }
         ensures taken { TakesUp step (state_of self.old.kept) (state_of self.new.kept) result }
@@ -175,5 +252,22 @@ impl<R: Rules + Drop> Replay<R> {
         self.reserve(&ready)?;
         self.commit(ready);
         Ok(())
+    }
+
+    /// Takes up a step where it is possible. What is accepted is read once: what is found of it then is noted.
+    ///
+    /// # Errors
+    /// `Impossible` exactly where it is not; `Memory`. After either the state is as it was.
+    pub fn add(&mut self, alloc: Global, step: Step) -> Result<(), NotMade>
+        requires sound { IsSound R.text self.old.kept self.old.rules }
+        requires fields { HasFields step }
+        ensures taken { TakesUp step (state_of self.old.kept) (state_of self.new.kept) result }
+        ensures kept { OnErr result (state_of self.new.kept ≡ state_of self.old.kept) }
+        ensures sound { IsSound R.text self.new.kept self.new.rules }
+    {
+        match step {
+            Step::Accept { moment, apdu } => self.take_in(alloc, moment, apdu),
+            step => self.take_up(alloc, step),
+        }
     }
 }

@@ -11,6 +11,7 @@ mod reading;
 mod reports;
 mod rest;
 mod routes;
+mod submitted;
 mod table_rules;
 mod verdicts;
 

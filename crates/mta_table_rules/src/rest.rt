@@ -68,7 +68,7 @@ fn add(places: &mut Vec<u32>, place: Option<u32>) -> Result<(), Memory>
 
 /// What is found of an item whose APDU was read, by one verdict on each recipient who is pending.
 #[tactic(auto, using(crate::proofs::Rests::resting_laws))]
-fn rest_under(
+pub fn rest_under(
     alloc: Global,
     tables: &Tables,
     apdu: &Apdu<'_>,

@@ -8,13 +8,14 @@ use crate::passing::{passed_item, passes_back};
 use crate::reading::text_reads;
 use crate::reports::{delivery_item, non_delivery_item};
 use crate::rest::rest;
+use crate::submitted::submitted;
 use crate::verdicts::{has_expired, verdict};
-use mta_ber::{Memory, Word};
+use mta_ber::{Memory, Octets, Word};
 use mta_items::Made;
 use mta_machine::Item;
 use mta_procedures::Verdict;
 use mta_records::Outgoing;
-use mta_replay::{Delivery, Rest, Rules};
+use mta_replay::{Delivery, Rest, Rules, Submitted};
 use mta_tables::{Tables, TablesFault};
 use std::alloc::Global;
 use std::marker::Model;
@@ -87,6 +88,15 @@ impl Rules for TableRules {
 
     fn rest(&self, alloc: Global, item: &Item, moment: u64) -> Result<Option<Rest>, Memory> {
         rest(alloc, &self.tables, item, moment)
+    }
+
+    fn submitted(
+        &self,
+        alloc: Global,
+        octets: Octets,
+        moment: u64,
+    ) -> Result<Option<Submitted>, Memory> {
+        submitted(alloc, &self.tables, octets, moment)
     }
 
     fn passes_back(&self, alloc: Global, items: &[Item], item: &Item) -> Result<bool, Memory> {

@@ -4,7 +4,7 @@ use Rattle.mta_agenda.specs.Agendas.{AgendaValue, IsAllCalled}
 use Rattle.mta_replay.specs.Asked.{IsRestOf}
 use Rattle.mta_replay.specs.declared.rest.Rest.{Rest}
 use Rattle.mta_dues.specs.declared.index.Index.{Index}
-use Rattle.mta_dues.proofs.Indexed.{change_later, left, let_go, lined, put_off, ready_in, routed_in}
+use Rattle.mta_dues.proofs.Indexed.{change_later, left, let_go}
 use Rattle.mta_dues.proofs.rest.rest.Goals as goal
 
 pub returns-then-not-pending-clause-indexed : goal.returns-then-not-pending-clause-indexed
@@ -22,54 +22,33 @@ returns-then-not-pending-clause-called g c = λ count all.
     c.let_go.ensures.called count c.args.moment
     (subst (λ (a : AgendaValue). IsAllCalled a count c.args.moment) (sym c.leave.ensures.agenda) all)
 
-pub returns-in_err-rest-clause-indexed : goal.returns-in_err-rest-clause-indexed
-returns-in_err-rest-clause-indexed g c = λ items is indexed.
-    left (g.R.Rules.text c.args.rules.now) items c.args.index.now c.leave.new.self c.args.number c.requires.active
-    c.leave.ensures indexed
-
-pub returns-in_err-line_up-in-Some-clause-indexed :
-    goal.returns-in_err-line_up-in-Some-clause-indexed
-returns-in_err-line_up-in-Some-clause-indexed g c = λ items is indexed.
-    let text = g.R.Rules.text c.args.rules.now in
-    lined text items c.leave.new.self c.line_up.new.index c.line_up.ensures.agenda c.line_up.ensures.ready
-    c.line_up.ensures.routed
-    (left text items c.args.index.now c.leave.new.self c.args.number c.requires.active c.leave.ensures indexed)
-
-pub put_off-requires-clause-later : goal.put_off-requires-clause-later
-put_off-requires-clause-later g c =
+pub put_to_rest-requires-clause-later : goal.put_to_rest-requires-clause-later
+put_to_rest-requires-clause-later g c =
     let text = g.R.Rules.text c.args.rules.now in
     let rests = subst (λ (o : Option Rest). IsRestOf text c.args.item.now c.args.moment o) c.in-Some.is
     c.in_ok-rest.ensures in
     change_later text c.args.item.now c.args.moment c.in-Some.found.until rests.idle
 
-pub returns-in-None-clause-indexed : goal.returns-in-None-clause-indexed
-returns-in-None-clause-indexed g c = λ items is indexed.
-    left (g.R.Rules.text c.args.rules.now) items c.args.index.now c.leave.new.self c.args.number c.requires.active
-    c.leave.ensures indexed
+pub returns-in_err-put_to_rest-in-Some-clause-indexed :
+    goal.returns-in_err-put_to_rest-in-Some-clause-indexed
+returns-in_err-put_to_rest-in-Some-clause-indexed g c = λ items is indexed.
+    let text = g.R.Rules.text c.args.rules.now in
+    let rests = subst (λ (o : Option Rest). IsRestOf text c.args.item.now c.args.moment o) c.in-Some.is
+    c.in_ok-rest.ensures in
+    c.put_to_rest.ensures.indexed text items c.args.item.now is rests indexed
 
-pub returns-in_ok-line_up-in-Some-clause-idle : goal.returns-in_ok-line_up-in-Some-clause-idle
-returns-in_ok-line_up-in-Some-clause-idle g c = λ e.
+pub returns-in_ok-put_to_rest-in-Some-clause-idle : goal.returns-in_ok-put_to_rest-in-Some-clause-idle
+returns-in_ok-put_to_rest-in-Some-clause-idle g c = λ e.
     let text = g.R.Rules.text c.args.rules.now in
     let rests = subst (λ (o : Option Rest). IsRestOf text c.args.item.now c.args.moment o) c.in-Some.is
     c.in_ok-rest.ensures in
     idle_until_next text c.args.item.now c.args.moment c.in-Some.found.until c.args.moment rests.idle (omega arith)
     (change_later text c.args.item.now c.args.moment c.in-Some.found.until rests.idle)
 
-pub returns-in_ok-line_up-in-Some-clause-indexed :
-    goal.returns-in_ok-line_up-in-Some-clause-indexed
-returns-in_ok-line_up-in-Some-clause-indexed g c = λ items is indexed.
+pub returns-in_ok-put_to_rest-in-Some-clause-indexed :
+    goal.returns-in_ok-put_to_rest-in-Some-clause-indexed
+returns-in_ok-put_to_rest-in-Some-clause-indexed g c = λ items is indexed.
     let text = g.R.Rules.text c.args.rules.now in
-    let item = c.args.item.now in
-    let found = c.in-Some.found in
-    let lines = c.line_up.new.index in
-    let new : Index = record { agenda = c.put_off.new.self; ready = lines.ready; routed = lines.routed } in
-    let rests = subst (λ (o : Option Rest). IsRestOf text item c.args.moment o) c.in-Some.is c.in_ok-rest.ensures in
-    put_off text items lines new c.args.number item c.args.moment found.until rests.idle is
-    (ready_in text item found.relays.items lines.ready c.args.number c.args.moment rests.relays
-    c.in_ok-line_up-in-Some.ensures.is_ready)
-    (routed_in text item found.routes.items lines.routed c.args.number rests.routes
-    c.in_ok-line_up-in-Some.ensures.is_routed)
-    c.put_off.ensures refl refl
-    (lined text items c.leave.new.self lines c.line_up.ensures.agenda c.line_up.ensures.ready
-    c.line_up.ensures.routed
-    (left text items c.args.index.now c.leave.new.self c.args.number c.requires.active c.leave.ensures indexed))
+    let rests = subst (λ (o : Option Rest). IsRestOf text c.args.item.now c.args.moment o) c.in-Some.is
+    c.in_ok-rest.ensures in
+    c.put_to_rest.ensures.indexed text items c.args.item.now is rests indexed

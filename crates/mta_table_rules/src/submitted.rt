@@ -1,0 +1,69 @@
+//! An item that is submitted and what is found of it, from one reading.
+
+ghost use Rattle.std.specs.Prelude.{◌≡◌, ◌≤◌, IfOk, IfSome};
+ghost use Rattle.std.specs.Option.{option_map};
+ghost use Rattle.mta_ber.specs.Times.{last_moment};
+ghost use Rattle.mta_apdu.specs.Apdus.{apdu_value, SpellsApdu};
+ghost use Rattle.mta_machine.specs.declared.item.Origin.TheVariants as Origins;
+ghost use Rattle.mta_machine.specs.Machine.{accepted_item};
+ghost use Rattle.mta_items.specs.Reading.{IsAccepted};
+ghost use Rattle.mta_replay.specs.declared.rest.Submitted.{Submitted};
+ghost use Rattle.mta_replay.specs.Asked.{IsRestOf};
+
+use crate::reading::text_reads;
+use crate::rest::rest_under;
+use mta_apdu::Apdu;
+use mta_ber::{Memory, Octets, ReadFault};
+use mta_machine::{Item, Origin, Statuses};
+use mta_replay::Submitted;
+use mta_tables::Tables;
+use std::alloc::Global;
+use std::sync::Arc;
+
+/// The item of octets whose APDU was read, and what is found of it.
+fn submitted_as(
+    alloc: Global,
+    tables: &Tables,
+    apdu: &Apdu<'_>,
+    octets: Arc<Octets, Global>,
+    moment: u64,
+) -> Result<Submitted, Memory>
+    requires fits { moment ≤ last_moment }
+    requires spelled { SpellsApdu octets.value (apdu_value apdu.now) }
+    ensures item { IfOk result (λ s. s.item ≡ accepted_item octets.value Origins.Submitted moment) }
+    ensures rest { IfOk result (λ s. IsRestOf tables.now.text s.item moment s.rest) }
+{
+    text_reads(tables);
+    let statuses = Statuses::of_apdu(alloc, apdu)?;
+    let item = Item::new(octets, moment, Origin::Submitted, statuses);
+    let rest = rest_under(alloc, tables, apdu, &item, moment)?;
+    Ok(Submitted { item, rest })
+}
+
+/// The item of an APDU that is submitted at a moment, and what is found of it then; none where the octets spell none.
+pub fn submitted(
+    alloc: Global,
+    tables: &Tables,
+    octets: Octets,
+    moment: u64,
+) -> Result<Option<Submitted>, Memory>
+    requires { moment ≤ last_moment }
+    ensures item { IfOk result (λ found.
+        IsAccepted octets Origins.Submitted moment (option_map (λ (s : Submitted). s.item) found)) }
+    ensures rest { IfOk result (λ found. IfSome found (λ s. IsRestOf tables.now.text s.item moment s.rest)) }
+{
+    let shared = Arc::new(alloc, octets)?;
+    let same = Arc::try_clone(&shared)?;
+    match Apdu::read(alloc, shared.as_slice()) {
+        Err(ReadFault::Bad(_)) => Ok(None),
+        Err(ReadFault::Memory) => Err(Memory),
+        Ok(apdu) => {
+            let found = submitted_as(alloc, tables, &apdu, same, moment);
+            apdu.discard();
+            match found {
+                Ok(found) => Ok(Some(found)),
+                Err(_) => Err(Memory),
+            }
+        }
+    }
+}
