@@ -1,19 +1,23 @@
 -- What is found of an item that is accepted.
-use Rattle.std.proofs.Common.{◌≡◌, ℕ, ◌<◌, List, [], ◌∷◌, length, Option, Some, None, sym, ap, subst, ◌∙◌}
-use Rattle.std.specs.Prelude.{IfSome}
+use Rattle.std.proofs.Common.{◌≡◌, ℕ, ◌<◌, List, length, Option, Some, None, Ok, refl, sym, ap, subst, ◌∙◌}
+use Rattle.std.specs.Prelude.{IfSome, option_map}
 use Rattle.std.proofs.lemmas.Option.{same_Some}
+use Rattle.mta_records.specs.declared.step.Step.{Step}
 use Rattle.mta_records.specs.declared.step.Step.TheVariants.{Accept}
 use Rattle.mta_machine.specs.declared.item.Origin.TheVariants as Origins
 use Rattle.mta_machine.specs.Items.{ItemValue, numbered}
 use Rattle.mta_machine.specs.Machine.{accepted_item, last_tables}
 use Rattle.mta_histories.specs.Lanes.{State}
-use Rattle.mta_histories.specs.History.{after_step}
+use Rattle.mta_histories.specs.History.{IsPossible, after_step}
 use Rattle.mta_replay.specs.Asked.{IsRestOf, IsTextOf}
 use Rattle.mta_replay.specs.declared.kept.Kept.{Kept}
 use Rattle.mta_replay.specs.declared.rest.Rest.{Rest}
 use Rattle.mta_replay.specs.Kept.{state_of}
+use Rattle.mta_replay.specs.Prepared.{Prepares}
+use Rattle.mta_discharges.specs.declared.accept.Arrival.{Arrival}
 use Rattle.mta_dues.proofs.Indexed.{change_later}
 use Rattle.mta_state.specs.Found.{IsFound, IsFoundLast}
+use Rattle.mta_state.specs.Ready.{IsReady, TakesUp}
 use Rattle.mta_state.proofs.Sounds.{numbered-last}
 
 -- there is one text of the tables recorded last
@@ -41,3 +45,26 @@ pub found_later : (kept : Kept) (text : List ℕ) (moment : ℕ) (rest : Option 
 found_later kept text moment None last found = tt
 found_later kept text moment (Some rest) last found =
     change_later text found.item moment rest.until (found.found text last).idle
+
+-- what was found is ready
+pub arrival_ready : {R : Type 0} (text : R → List ℕ) (s : State) (moment : ℕ) (apdu : List ℕ)
+    (found : Option Arrival) (arrival : Arrival) → found ≡ Some arrival
+    → Prepares s (Accept moment apdu) (option_map (λ (a : Arrival). a.change) found)
+    → IsReady text s (Accept moment apdu) arrival.change None
+arrival_ready text s moment apdu found arrival is prepares = record {
+  is_change =
+      subst (λ (o : Option Arrival). Prepares s (Accept moment apdu) (option_map (λ (a : Arrival). a.change) o)) is
+      prepares;
+  under = refl;
+  fresh = tt;
+}
+
+pub arrival_found : (kept : Kept) (item : ItemValue) (moment : ℕ) (found : Option Arrival) (arrival : Arrival)
+    → found ≡ Some arrival → IfSome found (λ (a : Arrival). IsFound kept item moment a.rest)
+    → IsFound kept item moment arrival.rest
+arrival_found kept item moment found arrival is was =
+    subst (λ (o : Option Arrival). IfSome o (λ (a : Arrival). IsFound kept item moment a.rest)) is was
+
+pub taken_up : (step : Step) (old new : State) → IsPossible old step → new ≡ after_step old step
+    → TakesUp step old new (Ok tt)
+taken_up step old new possible same = record { made = λ ok. (possible, same); impossible = λ never. absurd cc }

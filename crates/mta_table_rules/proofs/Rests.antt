@@ -11,8 +11,7 @@ use Rattle.mta_replay.specs.Asked.{IsRestOf}
 use Rattle.mta_replay.specs.declared.rest.Rest.{Rest}
 use Rattle.mta_table_rules.specs.declared.rest.Places.{Places}
 use Rattle.mta_table_rules.specs.Led.{AreLedUpTo, relay_under}
-use Rattle.mta_table_rules.specs.Rests.{GoesTo, GoUpTo, IsLookAt, IsRestUnder}
-use Rattle.mta_table_rules.specs.Waits.{IsIdleUnder}
+use Rattle.mta_table_rules.specs.Rests.{GoUpTo, IsLookAt, IsRestUnder}
 use Rattle.mta_table_rules.proofs.IdleItems.{all_up_to, idle_is, wait_at_first, wait_further}
 use Rattle.mta_table_rules.proofs.Led.{all_led, led_at_first, led_further, relays_are, routes_are}
 
