@@ -62,7 +62,6 @@ fn put_to_rest(
     ensures called { (count : ℕ) → IsAllCalled index.old.agenda count moment
         → IsAllCalled index.new.agenda count moment }
 {
-    index.leave(number);
     line_up(alloc, index, number, found)?;
     index.agenda.put_off(number, moment, found.until);
     Ok(())
@@ -95,14 +94,15 @@ pub fn rest<R: Rules>(
     match rules.rest(alloc, item, moment)? {
         None => Ok(false),
         Some(found) => {
+            index.leave(number);
             put_to_rest(alloc, index, number, moment, &found)?;
             Ok(true)
         }
     }
 }
 
-/// What was found of an item at a moment at which it rests is noted, unless it rests by now. Where there is no memory
-/// to note it the item stays active.
+/// What was found of an item is noted, which stood in no line yet, unless it rests by now. Where there is no memory to
+/// note it the item stays active.
 pub fn note(
     alloc: Global,
     index: &mut Index,

@@ -1,13 +1,12 @@
 use Rattle.std.proofs.Common.{refl}
 use Rattle.mta_dues.specs.declared.index.Index.{Index}
-use Rattle.mta_dues.proofs.Indexed.{left, lined, put_off, ready_in, routed_in}
+use Rattle.mta_dues.proofs.Indexed.{lined, put_off, ready_in, routed_in}
 use Rattle.mta_dues.proofs.rest.put_to_rest.Goals as goal
 
 pub returns-in_err-line_up-clause-indexed : goal.returns-in_err-line_up-clause-indexed
 returns-in_err-line_up-clause-indexed c = λ text items item is rests indexed.
-    lined text items c.leave.new.self c.line_up.new.index c.line_up.ensures.agenda c.line_up.ensures.ready
-    c.line_up.ensures.routed
-    (left text items c.args.index.now c.leave.new.self c.args.number c.requires.active c.leave.ensures indexed)
+    lined text items c.args.index.now c.line_up.new.index c.line_up.ensures.agenda c.line_up.ensures.ready
+    c.line_up.ensures.routed indexed
 
 pub returns-clause-indexed : goal.returns-clause-indexed
 returns-clause-indexed c = λ text items item is rests indexed.
@@ -20,6 +19,5 @@ returns-clause-indexed c = λ text items item is rests indexed.
     (routed_in text item found.routes.items lines.routed c.args.number rests.routes
     c.in_ok-line_up.ensures.is_routed)
     c.put_off.ensures refl refl
-    (lined text items c.leave.new.self lines c.line_up.ensures.agenda c.line_up.ensures.ready
-    c.line_up.ensures.routed
-    (left text items c.args.index.now c.leave.new.self c.args.number c.requires.active c.leave.ensures indexed))
+    (lined text items c.args.index.now lines c.line_up.ensures.agenda c.line_up.ensures.ready
+    c.line_up.ensures.routed indexed)

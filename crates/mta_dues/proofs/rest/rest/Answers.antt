@@ -35,7 +35,9 @@ returns-in_err-put_to_rest-in-Some-clause-indexed g c = λ items is indexed.
     let text = g.R.Rules.text c.args.rules.now in
     let rests = subst (λ (o : Option Rest). IsRestOf text c.args.item.now c.args.moment o) c.in-Some.is
     c.in_ok-rest.ensures in
-    c.put_to_rest.ensures.indexed text items c.args.item.now is rests indexed
+    c.put_to_rest.ensures.indexed text items c.args.item.now is rests
+    (left text items c.args.index.now c.leave-in-Some.new.self c.args.number c.requires.active
+    c.leave-in-Some.ensures indexed)
 
 pub returns-in_ok-put_to_rest-in-Some-clause-idle : goal.returns-in_ok-put_to_rest-in-Some-clause-idle
 returns-in_ok-put_to_rest-in-Some-clause-idle g c = λ e.
@@ -51,4 +53,6 @@ returns-in_ok-put_to_rest-in-Some-clause-indexed g c = λ items is indexed.
     let text = g.R.Rules.text c.args.rules.now in
     let rests = subst (λ (o : Option Rest). IsRestOf text c.args.item.now c.args.moment o) c.in-Some.is
     c.in_ok-rest.ensures in
-    c.put_to_rest.ensures.indexed text items c.args.item.now is rests indexed
+    c.put_to_rest.ensures.indexed text items c.args.item.now is rests
+    (left text items c.args.index.now c.leave-in-Some.new.self c.args.number c.requires.active
+    c.leave-in-Some.ensures indexed)
