@@ -45,17 +45,48 @@ fn handed(alloc: Global, peers: &str) -> Result<Vec<MemStation>, Fail> {
     Ok(stations)
 }
 
-// Whether the stations are those of the words, and the peer that the tables do not name.
-fn looked(alloc: Global, line: &str, peers: &str) -> Result<(bool, Option<Octets>), Fail> {
-    let tables = Tables::read(alloc, TABLES)?;
-    let words = said(alloc, line)?;
+// The peer that the tables do not name.
+fn unnamed(
+    alloc: Global,
+    tables: &Tables,
+    stations: &[MemStation],
+) -> Result<Option<Octets>, Fail> {
+    match unnamed_peer(tables, stations) {
+        Some(peer) => Ok(Some(Octets::from_slice(alloc, peer.as_slice())?)),
+        None => Ok(None),
+    }
+}
+
+// Large records are let go in functions of their own, each once.
+fn forget_tables(_tables: Tables) {}
+
+fn forget_words(_words: Stations) {}
+
+fn forget_stations(_stations: Vec<MemStation>) {}
+
+type Looked = Result<(bool, Option<Octets>), Fail>;
+
+fn looked_at(alloc: Global, tables: &Tables, words: &Stations, peers: &str) -> Looked {
     let stations = handed(alloc, peers)?;
     let are = have_roles(words.as_slice(), stations.as_slice());
-    let unnamed = match unnamed_peer(&tables, stations.as_slice()) {
-        Some(peer) => Some(Octets::from_slice(alloc, peer.as_slice())?),
-        None => None,
-    };
-    Ok((are, unnamed))
+    let unnamed = unnamed(alloc, tables, stations.as_slice());
+    forget_stations(stations);
+    Ok((are, unnamed?))
+}
+
+fn looked_under(alloc: Global, tables: &Tables, line: &str, peers: &str) -> Looked {
+    let words = said(alloc, line)?;
+    let found = looked_at(alloc, tables, &words, peers);
+    forget_words(words);
+    found
+}
+
+// Whether the stations are those of the words, and the peer that the tables do not name.
+fn looked(alloc: Global, line: &str, peers: &str) -> Looked {
+    let tables = Tables::read(alloc, TABLES)?;
+    let found = looked_under(alloc, &tables, line, peers);
+    forget_tables(tables);
+    found
 }
 
 fn is_octets(octets: &Option<Octets>, wanted: &str) -> bool {
