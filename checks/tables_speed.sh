@@ -9,27 +9,33 @@ trap 'rm -rf "$made"' EXIT
 . checks/speed.bash
 bench mta_tables_bench
 
-# the seconds of user time of the fastest of seven runs of the program with these words
+# the seconds of user time of the fastest of seven runs, each so many times the program with these words
 TIMEFORMAT=%U
+runs() {
+  local _
+  for _ in $(seq "$1"); do "$program" "${@:2}" >/dev/null; done
+}
 fastest() {
+  local _
   for _ in 1 2 3 4 5 6 7; do
-    { time "$program" "$@" >/dev/null; } 2>&1
+    { time runs "$@"; } 2>&1
   done | sort -n | head -n 1
 }
 
 [ "$("$program" route 4096)" = "131072 names found" ] || { echo "other names were found"; exit 1; }
 [ "$("$program" scan 4096)" = "4096 names found" ] || { echo "other names were found by the scan"; exit 1; }
-half=$(fastest read 2048)
-whole=$(fastest read 4096)
-few=$(fastest route 256)
-read_few=$(fastest read 256)
-route=$(fastest route 4096)
-scan=$(fastest scan 4096)
+half=$(fastest 1 read 2048)
+whole=$(fastest 1 read 4096)
+# 32 times, since one is too short
+few=$(fastest 32 route 256)
+read_few=$(fastest 32 read 256)
+route=$(fastest 1 route 4096)
+scan=$(fastest 1 scan 4096)
 echo "processors: $(nproc), load before: $(cut -d' ' -f1 /proc/loadavg)"
 awk -v half="$half" -v whole="$whole" -v few="$few" -v read_few="$read_few" -v route="$route" -v scan="$scan" 'BEGIN {
   one = whole / 8
   asked = (route - one) / 131072 * 1e6
-  asked_few = (few - read_few / 8) / 8192 * 1e6
+  asked_few = (few - read_few / 8) / 32 / 8192 * 1e6
   scanned = (scan - one) / 8192 * 1e6
   printf "reading: %.1f ms for 4,096 mailboxes and routes, ", one * 1000
   printf "%.1f ms for 2,048; ratio %.2f\n", half / 8 * 1000, whole / (half + 0.001)
