@@ -16,6 +16,7 @@ ghost use Rattle.mta_dues.specs.Index.{IsIndexed};
 
 use crate::index::Index;
 use crate::lined::next_for;
+use crate::rest::pass_over;
 use mta_ber::{Memory, Word};
 use mta_machine::Item;
 use mta_procedures::Verdict;
@@ -118,21 +119,22 @@ fn relayed<R: Rules>(
     }
 }
 
-// The lowest item with recipients to relay to the peer, found among those in its lines.
+// The lowest item with recipients to relay to the peer, found among those in its lines. What is settled is let go.
 #[tactic(auto, using(crate::proofs::Passed::batch_laws))]
 fn first_batch<R: Rules>(
     alloc: Global,
     rules: &R,
     kept: &Kept,
-    index: &Index,
+    index: &mut Index,
     peer: &[u8],
     moment: u64,
 ) -> Result<Option<Batch>, Memory>
     requires text { IsTextOf kept.now (R.text rules.now) }
     requires stored { All IsStored kept.now.parts.items.items }
-    requires called { IsAllCalled index.now.agenda (length kept.now.parts.items.items) moment }
-    requires indexed { IsIndexed (R.text rules.now) kept.now.parts.items.items index.now }
-    ensures { IfOk result (IsBatchOf (state_of kept.now) peer.now moment) }
+    requires called { IsAllCalled index.old.agenda (length kept.now.parts.items.items) moment }
+    requires indexed { IsIndexed (R.text rules.now) kept.now.parts.items.items index.old }
+    ensures batch { IfOk result (IsBatchOf (state_of kept.now) peer.now moment) }
+    ensures indexed { IsIndexed (R.text rules.now) kept.now.parts.items.items index.new }
 {
     let mut after: u32 = 0;
     while let Some(number) = next_for(rules, &index.agenda, &index.ready, peer, after) {
@@ -144,6 +146,7 @@ fn first_batch<R: Rules>(
                 recipients: Recipients::from_vec(recipients),
             }));
         }
+        pass_over(kept, index, number);
         after = number;
     }
     Ok(None)

@@ -1,6 +1,7 @@
 //! Items that rest, since nothing is due of them for a while.
 
 ghost use Rattle.std.specs.Prelude.{◌≡◌, ◌<◌, ◌↔◌, ℕ, IfOk, IsTrue, List, OnOk, Some, true};
+ghost use Rattle.std.specs.List.{All};
 ghost use Rattle.mta_machine.specs.Items.{ItemValue, numbered};
 ghost use Rattle.mta_idle.specs.Idle.{IsIdle};
 ghost use Rattle.mta_agenda.specs.Agendas.{is_active, IsAllCalled};
@@ -12,7 +13,7 @@ use crate::index::Index;
 use mta_ber::Memory;
 use mta_items::is_pending;
 use mta_machine::Item;
-use mta_replay::{Rest, Rules};
+use mta_replay::{Kept, Rest, Rules};
 use std::alloc::Global;
 
 // Whether some recipient of an item is pending.
@@ -98,6 +99,25 @@ pub fn rest<R: Rules>(
             put_to_rest(alloc, index, number, moment, &found)?;
             Ok(true)
         }
+    }
+}
+
+/// An active item of which nobody is pending rests for good. Any other stays as it is.
+#[tactic(auto, using(crate::proofs::Passed::stored_at))]
+pub fn pass_over(kept: &Kept, index: &mut Index, number: u32)
+    requires stored { All IsStored kept.now.parts.items.items }
+    ensures indexed { (text : List ℕ) → IsIndexed text kept.now.parts.items.items index.old
+        → IsIndexed text kept.now.parts.items.items index.new }
+    ensures called { (count moment : ℕ) → IsAllCalled index.old.agenda count moment
+        → IsAllCalled index.new.agenda count moment }
+{
+    let Some(item) = kept.parts.item(number) else {
+        return;
+    };
+    let pending = has_pending(item);
+    if index.agenda.is_active(number) && !pending {
+        index.leave(number);
+        index.agenda.let_go(number);
     }
 }
 

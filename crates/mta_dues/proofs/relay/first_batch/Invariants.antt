@@ -1,10 +1,16 @@
-use Rattle.std.proofs.Common.{◌-◌, ◌^◌}
+use Rattle.std.proofs.Common.{◌-◌, ◌^◌, length}
+use Rattle.mta_agenda.specs.Agendas.{IsAllCalled}
 use Rattle.mta_replay.specs.Kept.{state_of}
 use Rattle.mta_dues.specs.Answers.{NoneRelayedUpTo}
+use Rattle.mta_dues.specs.Index.{IsIndexed}
 use Rattle.mta_dues.proofs.relay.first_batch.Given as goal
 
 abbrev pub invariant-loop-number : goal.invariant-loop-number
-invariant-loop-number g l = record { none : NoneRelayedUpTo (state_of l.kept) l.peer l.moment l.after }
+invariant-loop-number g l = record {
+  none : NoneRelayedUpTo (state_of l.kept) l.peer l.moment l.after;
+  called : IsAllCalled l.index.agenda (length l.kept.parts.items.items) l.moment;
+  indexed : IsIndexed (g.R.Rules.text l.rules) l.kept.parts.items.items l.index;
+}
 
 abbrev pub decreases-loop-number : goal.decreases-loop-number
 decreases-loop-number g l = 2 ^ 32 - l.after
