@@ -5,11 +5,16 @@
 set -u
 cd "$(dirname "$0")/.." || exit 2
 . checks/speed.bash
-bench mta_apdu_bench
-TIMEFORMAT=%U
+bench
+prints "1 recipients, 101 octets: read 40000 times
+1 recipients, 101 octets: written 4040000 octets
+40 recipients, 1472 octets: read 1000 times
+40 recipients, 1472 octets: written 1472000 octets
+1000 recipients, 35072 octets: read 40 times
+1000 recipients, 35072 octets: written 1402880 octets" "$program" apdu
 told() { awk -v word="$1" -v best="$2" 'BEGIN { printf "%s: %.2f million recipients a second\n", word, 0.12 / best }'; }
 for word in read write; do
-  told "$word" "$(for _ in 1 2 3 4 5 6 7; do { time "$program" "$word" >/dev/null; } 2>&1; done | sort -n | head -n 1)"
+  told "$word" "$(fastest "$program" apdu "$word")"
 done
 for tool in tshark python3; do
   command -v "$tool" >/dev/null || { echo "skipped: $tool is not on the PATH"; exit 0; }

@@ -4,7 +4,7 @@ import sys
 
 import speed_tools as tools
 
-# recipients that are read of each kind of message, as in mta_apdu_bench
+# recipients that are read of each kind of message, as in crates/mta_bench/src/apdu.rt
 WORK = 40_000
 
 
@@ -20,7 +20,7 @@ def reading(bench, decoder, folder):
 
     def decodes(*more):
         return sum(tools.run([decoder, "apdu", file, str(times), *more])[1] for file, times in each)
-    ways = [lambda: tools.run([bench, "read"])[1], decodes, lambda: decodes("check")]
+    ways = [lambda: tools.run([bench, "apdu", "read"])[1], decodes, lambda: decodes("check")]
     ours, theirs, checked = tools.in_turn(ways)
     for what, (best, spread) in (("mta_apdu", ours), ("asn1c", theirs), ("asn1c, and its check", checked)):
         print(f"{what}: {best:.3f} s for 120,000 recipients (spread {spread:.2f}), as a multiple of mta_apdu's "

@@ -9,7 +9,7 @@ set -u
 cd "$(dirname "$0")/.." || exit 2
 . checks/speed.bash
 the_program python3
-bench mta_apdu_bench
+bench
 decoder
 [ -n "$asn1c" ] || exit 0
 python3 checks/asn1c_speed.py "$mta" "$program" "$asn1c" "$made"

@@ -10,8 +10,8 @@ KINDS = (("turn", "due", 10_000_000), ("batch_for", "batch", 200_000), ("waiting
 
 def a_call(bench, kind, items, rounds):
     """The seconds of one call."""
-    none, _ = tools.processor_seconds([bench, kind, str(items), "0"])
-    all_of_them, spread = tools.processor_seconds([bench, kind, str(items), str(rounds)])
+    none, _ = tools.processor_seconds([bench, "dues", kind, str(items), "0"])
+    all_of_them, spread = tools.processor_seconds([bench, "dues", kind, str(items), str(rounds)])
     return max(all_of_them - none, 1e-6) / rounds, spread
 
 

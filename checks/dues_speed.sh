@@ -10,5 +10,5 @@ cd "$(dirname "$0")/.." || exit 2
 command -v python3 >/dev/null || { echo "skipped: python3 is not on the PATH"; exit 0; }
 made=$(mktemp -d)
 trap 'rm -rf "$made"' EXIT
-bench mta_dues_bench
+bench
 python3 checks/dues_speed.py "$program" "${@:-1000 10000 100000}"

@@ -17,7 +17,7 @@ def removed(path):
 
 def appends(bench, folder, size, many):
     def way():
-        return tools.run([bench, "journal", removed(f"{folder}/file"), str(many), str(size)])[0] / many
+        return tools.run([bench, "journal", "journal", removed(f"{folder}/file"), str(many), str(size)])[0] / many
     return way
 
 

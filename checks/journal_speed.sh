@@ -9,5 +9,5 @@ cd "$(dirname "$0")/.." || exit 2
 command -v python3 >/dev/null || { echo "skipped: python3 is not on the PATH"; exit 0; }
 made=$(mktemp -d "${2:-/var/tmp}/journal.XXXXXX")
 trap 'rm -rf "$made"' EXIT
-bench mta_journal_bench
+bench
 python3 checks/journal_speed.py "$program" "$made" "${1:-500}"

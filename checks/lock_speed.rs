@@ -1,4 +1,4 @@
-// The same work as the program `mta_shared_bench`, with the standard library's Mutex: each thread writes its numbers
+// The same work as `mta_bench shared`, with the standard library's Mutex: each thread writes its numbers
 // one at a time behind a list in memory and a list of entries, both under one lock.
 use std::env;
 use std::process::exit;

@@ -10,18 +10,17 @@ made=$(mktemp -d)
 trap 'rm -rf "$made"' EXIT
 rustc -O --edition 2021 -o "$made/stock" checks/lock_speed.rs
 . checks/speed.bash
-bench mta_shared_bench
-ours=$program
-[ -x "$ours" ] || { echo "no program at $ours"; exit 1; }
+bench
 
-# the milliseconds of the fastest of three runs of the program $1 with $2 threads, $3 turns each; its answer is checked
-fastest() {
+# the microseconds of the fastest of three runs of a command with $1 threads, $2 turns each; its answer is checked
+took_at_least() {
+  local best start said end took _
   best=
   for _ in 1 2 3; do
     start=$(date +%s%N)
-    said=$("$1" "$2" "$3")
+    said=$("${@:3}" "$1" "$2")
     end=$(date +%s%N)
-    [ "$said" = "$(($2 * $3)) turns" ] || { echo "$1 $2 $3 said: $said" >&2; exit 1; }
+    [ "$said" = "$(($1 * $2)) turns" ] || { echo "$* said: $said" >&2; exit 1; }
     took=$(((end - start) / 1000))
     if [ -z "$best" ] || [ "$took" -lt "$best" ]; then best=$took; fi
   done
@@ -33,8 +32,8 @@ printf '%8s %16s %16s %8s\n' threads 'turns/s' 'Mutex turns/s' ratio
 for threads in 1 2 4 8 16; do
   each=$((turns / threads))
   all=$((each * threads))
-  a=$(fastest "$ours" "$threads" "$each")
-  b=$(fastest "$made/stock" "$threads" "$each")
+  a=$(took_at_least "$threads" "$each" "$program" shared)
+  b=$(took_at_least "$threads" "$each" "$made/stock")
   printf '%8d %16d %16d %8s\n' "$threads" $((all * 1000000 / a)) $((all * 1000000 / b)) \
     "$(awk -v a="$a" -v b="$b" 'BEGIN { printf "%.2f", b / a }')"
 done

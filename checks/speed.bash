@@ -1,18 +1,32 @@
 # Sourced by the scripts that take times.
 #
-# `bench NAME` sets `program` to the program of a crate that is timed, and builds it where PROGRAMS names no folder that
-# has it. `the_program TOOL..` is `program` of checks/program.bash, or the program in MTA. `on_disk NAME` is that with
+# `bench` sets `program` to `mta_bench`, whose first word says what is timed, and builds it where PROGRAMS names no folder
+# that has it. `fastest COMMAND..` prints the seconds that TIMEFORMAT asks for (user time where it is not set) of the
+# fastest of seven runs of a command, a function of the script too. `prints WANTED COMMAND..` leaves with status 1 where
+# a command prints something else. `the_program TOOL..` is `program` of checks/program.bash, or the program in MTA. `on_disk NAME` is that with
 # python3, and sets `folder` to one under /var/tmp that goes when the script ends. `decoder` sets `asn1c` to the decoder
 # that asn1c makes of checks/asn1c_speed.asn1, or to nothing where a tool is missing, and says so.
 . checks/program.bash
 export PYTHONDONTWRITEBYTECODE=1
 
 bench() {
-  program=${PROGRAMS:-}/$1
+  program=${PROGRAMS:-}/mta_bench
   [ -x "$program" ] && return
   command -v rt >/dev/null || { echo "skipped: rt is not on the PATH"; exit 0; }
-  program=$PWD/crates/$1/out/$1
-  built "$1"
+  program=$PWD/crates/mta_bench/out/mta_bench
+  built mta_bench
+}
+
+seven_runs() {
+  local _
+  for _ in 1 2 3 4 5 6 7; do { time "$@" >/dev/null; } 2>&1; done | awk '{ print $1 + $2 }' | sort -n
+}
+
+TIMEFORMAT=%U
+fastest() { seven_runs "$@" | head -n 1; }
+
+prints() {
+  [ "$("${@:2}")" = "$1" ] || { echo "something else was printed by: ${*:2}"; exit 1; }
 }
 
 the_program() {

@@ -7,30 +7,23 @@ cd "$(dirname "$0")/.."
 made=$(mktemp -d)
 trap 'rm -rf "$made"' EXIT
 . checks/speed.bash
-bench mta_tables_bench
+bench
 
-# the seconds of user time of the fastest of seven runs, each so many times the program with these words
-TIMEFORMAT=%U
+# so many times the program with these words
 runs() {
   local _
-  for _ in $(seq "$1"); do "$program" "${@:2}" >/dev/null; done
-}
-fastest() {
-  local _
-  for _ in 1 2 3 4 5 6 7; do
-    { time runs "$@"; } 2>&1
-  done | sort -n | head -n 1
+  for _ in $(seq "$1"); do "$program" tables "${@:2}"; done
 }
 
-[ "$("$program" route 4096)" = "131072 names found" ] || { echo "other names were found"; exit 1; }
-[ "$("$program" scan 4096)" = "4096 names found" ] || { echo "other names were found by the scan"; exit 1; }
-half=$(fastest 1 read 2048)
-whole=$(fastest 1 read 4096)
+prints "131072 names found" runs 1 route 4096
+prints "4096 names found" runs 1 scan 4096
+half=$(fastest runs 1 read 2048)
+whole=$(fastest runs 1 read 4096)
 # 32 times, since one is too short
-few=$(fastest 32 route 256)
-read_few=$(fastest 32 read 256)
-route=$(fastest 1 route 4096)
-scan=$(fastest 1 scan 4096)
+few=$(fastest runs 32 route 256)
+read_few=$(fastest runs 32 read 256)
+route=$(fastest runs 1 route 4096)
+scan=$(fastest runs 1 scan 4096)
 echo "processors: $(nproc), load before: $(cut -d' ' -f1 /proc/loadavg)"
 awk -v half="$half" -v whole="$whole" -v few="$few" -v read_few="$read_few" -v route="$route" -v scan="$scan" 'BEGIN {
   one = whole / 8

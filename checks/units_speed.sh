@@ -8,19 +8,10 @@ made=$(mktemp -d)
 trap 'rm -rf "$made"' EXIT
 gcc -O2 -o "$made/copy" checks/units_speed.c
 . checks/speed.bash
-bench mta_units_bench
-ours=$program
-[ "$("$ours")" = "$(cat crates/mta_units_bench/stdout)" ] || { echo "$ours printed something else"; exit 1; }
+bench
+prints "225000 units 921600000 octets" "$program" units
 
-# the seconds of user time of the fastest of seven runs of the program $1
-TIMEFORMAT=%U
-fastest() {
-  for _ in 1 2 3 4 5 6 7; do
-    { time "$1" >/dev/null; } 2>&1
-  done | sort -n | head -n 1
-}
-
-a=$(fastest "$ours")
+a=$(fastest "$program" units)
 b=$(fastest "$made/copy")
 echo "processors: $(nproc), load before: $(cut -d' ' -f1 /proc/loadavg)"
 awk -v a="$a" -v b="$b" 'BEGIN {

@@ -1,6 +1,0 @@
-use Rattle.mta_shared.specs.Passes.{lock_of}
-use Rattle.mta_shared_bench.specs.Parts.{IsPart}
-use Rattle.mta_shared_bench.proofs.take_turns.Given as goal
-
-abbrev pub invariant-loop-number : goal.invariant-loop-number
-invariant-loop-number g l = IsPart (lock_of l.shared) l.pass
