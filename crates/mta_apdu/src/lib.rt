@@ -10,6 +10,3 @@ pub use laws::{
     apdus_are_read_again, apdus_that_were_read_are_kept, no_apdu_begins_another,
     stored_apdus_are_read_again, what_was_read_is_read_again,
 };
-
-#[cfg(test)]
-mod tests;

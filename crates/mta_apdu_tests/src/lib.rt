@@ -1,5 +1,19 @@
-//! Tests of whole APDUs: long lists, parts that are kept unread, and texts. They stand apart, so that the libraries are not proved again with them.
+//! What is read and written of the octets of names, fields, messages, probes and reports, whole APDUs among them, and of
+//! the texts of names: outside vectors and happy paths, which no clause says. The tests stand apart, so that no library
+//! is proved again with them.
 #![tactic(auto)]
 
 #[cfg(test)]
-mod tests;
+mod apdu;
+#[cfg(test)]
+mod envelope;
+#[cfg(test)]
+mod fields;
+#[cfg(test)]
+mod name_text;
+#[cfg(test)]
+mod report;
+#[cfg(test)]
+mod sample;
+#[cfg(test)]
+mod spellings;

@@ -14,8 +14,6 @@ mod place;
 mod reading;
 mod route;
 mod shape;
-#[cfg(test)]
-mod tests;
 
 pub use fault::NameFault;
 pub use key::Key;
