@@ -27,14 +27,15 @@ const INNER_FIELD: &[u8] = b"\x30\x05\xA0\x03\x80\x01\x1A";
 /// An empty name and the first second of 1950.
 const EXPANSION: &[u8] = b"\x30\x13\x60\x02\x30\0\x17\x0D500101000000Z";
 
-/// A name with an extension attribute of type 7 and a directory name, in which what is not read has lengths that are indefinite or
-/// longer than need be.
+/// A name with an extension attribute of type 7 and a directory name, in which what is not read has lengths that are
+/// indefinite or longer than need be.
 const KEPT: &[u8] =
     b"\x60\x18\x30\0\x31\x0C\x30\x0A\x80\x01\x07\xA1\x80\x04\x01\xFF\0\0\xA0\x81\x05\x31\x03\x02\x01\x07";
 
 /// The same, where what is read has such lengths too.
 const LONG_KEPT: &[u8] =
-    b"\x60\x80\x30\x81\0\x31\x80\x30\x80\x80\x01\x07\xA1\x80\x04\x01\xFF\0\0\0\0\0\0\xA0\x81\x05\x31\x03\x02\x01\x07\0\0";
+    b"\x60\x80\x30\x81\0\x31\x80\x30\x80\x80\x01\x07\xA1\x80\x04\x01\xFF\0\0\0\0\0\0\
+    \xA0\x81\x05\x31\x03\x02\x01\x07\0\0";
 
 fn first_of(octets: &[u8]) -> Result<View<'_>, ReadFault> {
     if octets.len() > 4000 {

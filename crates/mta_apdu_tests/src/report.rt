@@ -8,12 +8,14 @@ use std::test::Fail;
 
 // A report of a non-delivery.
 // offset 0: A1 81 95, a report of 149 octets
-// 3: 31 35, the envelope: at 5 the destination C=GB;A=GOLD;S=BELL (60 18 ..), at 31 the identifier R0001 (64 17 ..), at 56 an empty trace (69 00)
+// 3: 31 35, the envelope: at 5 the destination C=GB;A=GOLD;S=BELL (60 18 ..), at 31 the identifier R0001 (64 17 ..),
+// at 56 an empty trace (69 00)
 // 58: 31 5C, the content: at 60 the subject M0001 (64 17 ..), at 85 the content type 22 (46 01 16)
 // 88: A0 3E, the recipients: at 90 one of them (31 3C)
-// 92: A0 18 .., its name C=GB;A=GOLD;S=WATT; at 118 the number 1 (81 01 01); at 121 the indicators 10101000 (82 02 00 A8)
-// 125: A3 19, its last trace: at 127 the arrival at moment 0 (80 0D ..), at 142 the report type (A1 08): at 144 a non-delivery (A1 06), its reason 1
-// (80 01 01) and its diagnostic 0 (81 01 00)
+// 92: A0 18 .., its name C=GB;A=GOLD;S=WATT; at 118 the number 1 (81 01 01); at 121 the indicators 10101000 (82 02 00
+// A8)
+// 125: A3 19, its last trace: at 127 the arrival at moment 0 (80 0D ..), at 142 the report type (A1 08): at 144 a
+// non-delivery (A1 06), its reason 1 (80 01 01) and its diagnostic 0 (81 01 00)
 const FAILED: [u8; 152] = [
     0xA1, 0x81, 0x95, 0x31, 0x35, 0x60, 0x18, 0x30, 0x16, 0x61, 0x04, 0x13, 0x02, 0x47, 0x42, 0x62,
     0x06, 0x13, 0x04, 0x47, 0x4F, 0x4C, 0x44, 0xA5, 0x06, 0x80, 0x04, 0x42, 0x45, 0x4C, 0x4C, 0x64,
@@ -28,14 +30,16 @@ const FAILED: [u8; 152] = [
 ];
 
 // A report of a delivery with all that may be left out.
-// The envelope: a trace element of C=GB;A=GOLD with the arrival at moment 0, relayed (69 26 30 24 ..), and an extension (A1 0E) of type 5 (80 01 05),
-// critical for delivery (81 02 05 20), with the value INTEGER 7 (A2 03 02 01 07).
-// The content: a content type that is an object identifier (06 03 55 04 03) in front, the subject M0002, encoded information types (65 02 05 00), a subject trace
-// (69 00), the content identifier C1 (4A 02 43 31), the recipients (A0 73), the returned content (81 02 48 69), additional information (82 01 00) and an
-// extension of type 5 with no value (A3 05 30 03 80 01 05).
-// The recipient: C=GB;A=GOLD;S=WATT, number 2, in its last trace converted types (65 02 05 00), the arrival at moment 0, and a delivery at moment 1,000
-// to a user of type 3 (A1 14 A0 12 80 0D .. 81 01 03); the intended name C=GB;A=GOLD;S=BELL (A4 18 ..), supplementary information (85 02 41 42) and an
-// extension (A6 05 30 03 80 01 05).
+// The envelope: a trace element of C=GB;A=GOLD with the arrival at moment 0, relayed (69 26 30 24 ..), and an
+// extension (A1 0E) of type 5 (80 01 05), critical for delivery (81 02 05 20), with the value INTEGER 7 (A2 03 02 01
+// 07).
+// The content: a content type that is an object identifier (06 03 55 04 03) in front, the subject M0002, encoded
+// information types (65 02 05 00), a subject trace (69 00), the content identifier C1 (4A 02 43 31), the recipients
+// (A0 73), the returned content (81 02 48 69), additional information (82 01 00) and an extension of type 5 with no
+// value (A3 05 30 03 80 01 05).
+// The recipient: C=GB;A=GOLD;S=WATT, number 2, in its last trace converted types (65 02 05 00), the arrival at moment
+// 0, and a delivery at moment 1,000 to a user of type 3 (A1 14 A0 12 80 0D .. 81 01 03); the intended name
+// C=GB;A=GOLD;S=BELL (A4 18 ..), supplementary information (85 02 41 42) and an extension (A6 05 30 03 80 01 05).
 const DELIVERED: [u8; 287] = [
     0xA1, 0x82, 0x01, 0x1B, 0x31, 0x6B, 0x60, 0x18, 0x30, 0x16, 0x61, 0x04, 0x13, 0x02, 0x47, 0x42,
     0x62, 0x06, 0x13, 0x04, 0x47, 0x4F, 0x4C, 0x44, 0xA5, 0x06, 0x80, 0x04, 0x42, 0x45, 0x4C, 0x4C,
@@ -57,8 +61,8 @@ const DELIVERED: [u8; 287] = [
     0x05, 0x81, 0x02, 0x48, 0x69, 0x82, 0x01, 0x00, 0xA3, 0x05, 0x30, 0x03, 0x80, 0x01, 0x05,
 ];
 
-/// What is looked at of a report: its one recipient's number, the moment and the type of user of a delivery, the reason and the diagnostic of a
-/// non-delivery, and whether it is written as the octets that it was read from.
+/// What is looked at of a report: its one recipient's number, the moment and the type of user of a delivery, the
+/// reason and the diagnostic of a non-delivery, and whether it is written as the octets that it was read from.
 #[derive(Clone, Copy, Debug, PartialEq, Eq)]
 struct Seen {
     number: u32,
@@ -170,7 +174,8 @@ fn a_delivery_with_all_parts(rt: HostRuntime) -> Result<(), Fail> {
     Ok(())
 }
 
-// An envelope with nothing in it is Missing at the envelope, before the content is looked at; a component that is cut off is Truncated.
+// An envelope with nothing in it is Missing at the envelope, before the content is looked at; a component that is cut
+// off is Truncated.
 #[test]
 fn faults(rt: HostRuntime) -> Result<(), Fail> {
     let alloc = rt.alloc();

@@ -18,7 +18,8 @@ const REVERSED: [u8; 105] = [
 ];
 
 const TEXT: &[u8] =
-    b"message C=GB;A=GOLD/M0001\noriginator C=GB;A=GOLD;S=BELL\ncontent-type 22\npriority normal\nindicators 00000000\nrecipient 1 10101000 C=GB;A=GOLD;S=WATT\ncontent 2 4869\n";
+    b"message C=GB;A=GOLD/M0001\noriginator C=GB;A=GOLD;S=BELL\ncontent-type 22\npriority normal\nindicators 00000000\n\
+    recipient 1 10101000 C=GB;A=GOLD;S=WATT\ncontent 2 4869\n";
 
 // Originator BELL, identifier M0001 and content type 22.
 const FIELDS: [u8; 54] = [

@@ -1,10 +1,10 @@
-//! The forms in memory of the outside, the two synced writes of a record, and the journal. A row has fields behind tabs:
-//! what is asked, what is to be answered, and what it is asked with; octets are in hexadecimal. It is told of each row
-//! whether it was answered so.
+//! The forms in memory of the outside, the two synced writes of a record, and the journal. A row has fields behind
+//! tabs: what is asked, what is to be answered, and what it is asked with; octets are in hexadecimal. It is told of
+//! each row whether it was answered so.
 //!
 //! The rows `source`, `sink`, `disk`, `clock` and those of the same names with `safe-` before them have nothing to be
-//! answered: they make what is asked from there on. `streams.rt`, `disks.rt` and `journals.rt` in `outside` have what is
-//! asked.
+//! answered: they make what is asked from there on. `streams.rt`, `disks.rt` and `journals.rt` in `outside` have what
+//! is asked.
 //!
 //! The rows were worked out by hand; the octets of journals are those of the format, written out.
 

@@ -1,7 +1,7 @@
 //! Bodies of records. A row has what reading the octets answers (the step, or the place of the first fault), and the
-//! octets in hexadecimal, behind a tab. The octets of a step are also written again. A row that is answered otherwise is
-//! printed. The rows were worked out from the format of the journal: of each kind a body, the body cut by an octet and
-//! with an octet behind it, and bodies with a field outside its type.
+//! octets in hexadecimal, behind a tab. The octets of a step are also written again. A row that is answered otherwise
+//! is printed. The rows were worked out from the format of the journal: of each kind a body, the body cut by an octet
+//! and with an octet behind it, and bodies with a field outside its type.
 
 use anyhow::Result;
 use mta_records::{RecordFault, read_record, write_record};

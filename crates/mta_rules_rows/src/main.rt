@@ -1,8 +1,8 @@
-//! First faults of APDUs (`faults.rt`), tables and names (`tables.rt`), command lines (`words.rt`), and what is done and
-//! made under tables (`rules.rt`). Reads rows from its input, each with fields behind tabs. A row `section` names what
-//! the rows behind it are about; the head of its file says what they are. A row `tables` holds the text of the tables of
-//! the rows behind it, in which each line ends with `|`. Prints the section's name, what is told of its rows, and how
-//! many were answered.
+//! First faults of APDUs (`faults.rt`), tables and names (`tables.rt`), command lines (`words.rt`), and what is done
+//! and made under tables (`rules.rt`). Reads rows from its input, each with fields behind tabs. A row `section` names
+//! what the rows behind it are about; the head of its file says what they are. A row `tables` holds the text of the
+//! tables of the rows behind it, in which each line ends with `|`. Prints the section's name, what is told of its
+//! rows, and how many were answered.
 #![tactic(auto)]
 
 mod faults;

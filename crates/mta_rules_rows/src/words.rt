@@ -1,6 +1,6 @@
 //! Command lines. A row has `taken` or `usage`, and behind a tab the words, one space between two; a row without a tab
-//! has no words. A row that is answered otherwise is printed, where words that are taken have to come back as they were.
-//! The rows were written from the grammar by hand.
+//! has no words. A row that is answered otherwise is printed, where words that are taken have to come back as they
+//! were. The rows were written from the grammar by hand.
 
 use anyhow::Result;
 use mta_words::{StationWord, Words};
