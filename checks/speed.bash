@@ -1,11 +1,12 @@
 # Sourced by the scripts that take times.
 #
-# `bench` sets `program` to `mta_bench`, whose first word says what is timed, and builds it where PROGRAMS names no folder
-# that has it. `fastest COMMAND..` prints the seconds that TIMEFORMAT asks for (user time where it is not set) of the
-# fastest of seven runs of a command, a function of the script too. `prints WANTED COMMAND..` leaves with status 1 where
-# a command prints something else. `the_program TOOL..` is `program` of checks/program.bash, or the program in MTA. `on_disk NAME` is that with
-# python3, and sets `folder` to one under /var/tmp that goes when the script ends. `decoder` sets `asn1c` to the decoder
-# that asn1c makes of checks/asn1c_speed.asn1, or to nothing where a tool is missing, and says so.
+# `bench` sets `program` to `mta_bench`, whose first word says what is timed, and builds it where PROGRAMS names no
+# folder that has it. `seven_runs COMMAND..` prints the seconds of seven runs of a command, a function of the script
+# too, sorted: what TIMEFORMAT asks for, added up, which is user time where the script does not set it. `fastest
+# COMMAND..` prints the first of them. `prints WANTED COMMAND..` ends the script with status 1 where a command prints
+# something else. `the_program TOOL..` is `program` of checks/program.bash, or the program in MTA. `on_disk NAME` is
+# that with python3, and sets `folder` to one under /var/tmp that goes when the script ends. `decoder` sets `asn1c` to
+# the decoder that asn1c makes of checks/asn1c_speed.asn1, or to nothing where a tool is missing, and says so.
 . checks/program.bash
 export PYTHONDONTWRITEBYTECODE=1
 
