@@ -7,7 +7,7 @@ built() {
   if [ ! -x "$program" ] || [ -n "$(find crates -path '*/out' -prune -o -name '*.rt' -newer "$program" -print -quit)" ]; then
     rm -f "$program"
     log=$(mktemp)
-    (cd "crates/$1" && python3 ../../.ci/rt.py run </dev/null) >"$log" 2>&1 || true
+    (cd "crates/$1" && rt run </dev/null) >"$log" 2>&1 || true
     [ -x "$program" ] || { cat "$log"; rm -f "$log"; exit 1; }
     rm -f "$log"
   fi

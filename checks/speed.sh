@@ -1,13 +1,14 @@
 #!/usr/bin/env bash
-# Draws curves of all that grows, as docs/speed has them: checks/speed.sh FOLDER. A script leaves its figures in the
-# folder that SPEED_OUT names, as in `SPEED_OUT=FOLDER checks/open_speed.sh 1000 100000 1000000`; those of which the
-# folder has none are taken here first, at their default sizes. gnuplot draws them. Run it at the top of the repository.
+# Draws curves of all that grows, as docs/speed has them: checks/speed.sh [FOLDER], out/speed where none is named. A
+# script leaves its figures in the folder that SPEED_OUT names, as in
+# `SPEED_OUT=FOLDER checks/open_speed.sh 1000 100000 1000000`; those of which the folder has none are taken here first,
+# at their default sizes. gnuplot draws them. Run it at the top of the repository.
 set -u
 cd "$(dirname "$0")/.." || exit 2
-[ $# -gt 0 ] || { echo "skipped: no folder for figures and curves was named"; exit 0; }
 command -v gnuplot >/dev/null || { echo "skipped: gnuplot is not on the PATH"; exit 0; }
-mkdir -p "$1" || exit 1
-out=$(cd "$1" && pwd)
+folder=${1:-out/speed}
+mkdir -p "$folder" || exit 1
+out=$(cd "$folder" && pwd)
 for name in submit journal relay open dues; do
   [ -e "$out/$name.dat" ] || { echo "== checks/${name}_speed.sh"; SPEED_OUT=$out bash "checks/${name}_speed.sh"; }
 done

@@ -33,7 +33,7 @@ use std::alloc::Global;
 use std::sync::Wait;
 use std::thread::Threads;
 
-/// How a run ended: its status, and the disk and the stations that were handed in.
+/// How a run ended: the disk and the stations that were handed in, and its status.
 #[derive(Drop)]
 pub struct Finished<D: Drop, S: Drop> {
     pub status: u8,
