@@ -15,7 +15,7 @@ use Rattle.mta_ber.proofs.RoundTrip.{first_again}
 use Rattle.mta_ber.proofs.RowLaws.{one_spelling}
 use Rattle.mta_ber.proofs.Steps.{bind_ok, ok_is}
 use Rattle.mta_names.proofs.Again.{low_tag}
-use Rattle.mta_names.proofs.Kept.{stands_above}
+use Rattle.mta_names.proofs.Levels.{stands_above}
 use Rattle.mta_names.proofs.Rows.{short_inside}
 use Rattle.mta_names.proofs.Tools.{tag_is}
 use Rattle.mta_envelope.specs.declared.envelope.EnvelopeFields.{EnvelopeFields}

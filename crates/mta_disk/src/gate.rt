@@ -17,11 +17,14 @@ ghost use Rattle.mta_disk.specs.Records.{IsLiftedAt, IsPutAt, counted};
 
 use mta_edge::{Disk, Failed, Memory, Octets};
 use std::alloc::Global;
+use thiserror::Error;
 
 /// Why a record was not put.
-#[derive(Clone, Copy, Debug, PartialEq, Eq)]
+#[derive(Clone, Copy, Debug, PartialEq, Eq, Error)]
 pub enum PutFault {
+    #[error("the disk failed")]
     Disk,
+    #[error("out of memory")]
     Memory,
 }
 

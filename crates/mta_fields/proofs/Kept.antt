@@ -8,7 +8,8 @@ use Rattle.mta_ber.specs.Spelling.{Stands}
 use Rattle.mta_names.specs.Laws.{IsRawAt, KeepsName}
 use Rattle.mta_names.specs.Values.{IsName}
 use Rattle.mta_names.proofs.Again.{low_tag}
-use Rattle.mta_names.proofs.Kept.{KeepsAt, spelled_kept, stands_above, raw_above, some_so, name_kept, name_above}
+use Rattle.mta_names.proofs.Kept.{KeepsAt, spelled_kept, some_so, name_kept, name_above}
+use Rattle.mta_names.proofs.Levels.{stands_above, raw_above}
 use Rattle.mta_names.proofs.NameLaws.{name_is}
 use Rattle.mta_names.proofs.Rows.{element_stands}
 use Rattle.mta_fields.specs.declared.expansion.ExpansionFields.{ExpansionFields}

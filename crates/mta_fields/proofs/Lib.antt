@@ -9,4 +9,5 @@ pub mod ExtLaws
 pub mod FieldAgain
 pub mod ExtensionAgain
 pub mod Kept
+pub mod Definite
 pub mod Tagged

@@ -5,4 +5,5 @@ pub mod Traces
 pub mod TraceElements
 pub mod ExtensionFields
 pub mod Laws
+pub mod Definite
 pub mod Tagged

@@ -1,5 +1,7 @@
 //! Laws of fields and octets.
 
+ghost use Rattle.mta_fields.specs.Definite.{DefiniteElementsStandEverywhere, SuppliedInformationThatFitsIsKept, TraceElementsThatFitAreKept, ExtensionFieldsThatFitAreKept, ExpansionsThatFitAreKept};
+ghost use Rattle.mta_fields.specs.Definite.{SuppliedInformationThatFitsIsReadAgain, TraceElementsThatFitAreReadAgain, ExtensionFieldsThatFitAreReadAgain, ExpansionsThatFitAreReadAgain};
 ghost use Rattle.mta_fields.specs.Laws.{DomainsAreReadAgain, MtsIdentifiersAreReadAgain, SuppliedInformationIsReadAgain, TraceElementsAreReadAgain, ExtensionFieldsAreReadAgain, ExpansionsAreReadAgain};
 ghost use Rattle.mta_fields.specs.Laws.{ReadSuppliedInformationIsKept, ReadTraceElementsAreKept, ReadExtensionFieldsAreKept, ReadExpansionsAreKept, KeptSuppliedInformationIsKeptAbove, KeptTraceElementsAreKeptAbove, KeptExtensionFieldsAreKeptAbove, KeptExpansionsAreKeptAbove};
 ghost use Rattle.mta_fields.specs.Laws.{ReadMtsIdentifiersAreReadAgain, ReadTraceElementsAreReadAgain, ReadExtensionFieldsAreReadAgain, ReadExpansionsAreReadAgain};
@@ -48,6 +50,25 @@ pub fn what_is_kept_is_kept_above()
     ensures supplied { KeptSuppliedInformationIsKeptAbove }
     ensures extension_fields { KeptExtensionFieldsAreKeptAbove }
     ensures expansions { KeptExpansionsAreKeptAbove }
+{}
+
+/// The value of an extension that has a definite length stands at every level up to 16. So what a field keeps unread stands in the
+/// level of its place where each part of it that has an indefinite length does.
+pub fn what_fits_is_kept()
+    ensures definite { DefiniteElementsStandEverywhere }
+    ensures trace_elements { TraceElementsThatFitAreKept }
+    ensures supplied { SuppliedInformationThatFitsIsKept }
+    ensures extension_fields { ExtensionFieldsThatFitAreKept }
+    ensures expansions { ExpansionsThatFitAreKept }
+{}
+
+/// A field that is written is read again, whatever follows it, where each part of an indefinite length that it keeps unread stands
+/// in the level of its place.
+pub fn fields_that_fit_are_read_again()
+    ensures trace_elements { TraceElementsThatFitAreReadAgain }
+    ensures supplied { SuppliedInformationThatFitsIsReadAgain }
+    ensures extension_fields { ExtensionFieldsThatFitAreReadAgain }
+    ensures expansions { ExpansionsThatFitAreReadAgain }
 {}
 
 /// A field that was read is written so that it is read again, in the level where it was read and in each level above. An MTS

@@ -20,6 +20,7 @@ use mta_disk::{PutFault, lift_gate, put_closed};
 use mta_edge::Disk;
 use std::alloc::Global;
 use std::marker::Model;
+use thiserror::Error;
 
 /// The most octets of a body.
 pub const LONGEST_BODY: u32 = 4_194_304;
@@ -28,15 +29,19 @@ pub const LONGEST_BODY: u32 = 4_194_304;
 pub const JOURNAL_LIMIT: u64 = 268_435_456;
 
 /// Why a body was not appended.
-#[derive(Clone, Copy, Debug, PartialEq, Eq)]
+#[derive(Clone, Copy, Debug, PartialEq, Eq, Error)]
 pub enum AppendFault {
     /// So many octets are used, and the record needs so many more.
+    #[error("the journal has {size} octets and the record needs {need}")]
     Full { size: u64, need: u64 },
     /// The disk failed. The journal takes no more bodies; a crash leaves it with this one or without.
+    #[error("the disk failed")]
     Disk,
     /// An earlier append answered `Disk`.
+    #[error("the journal has ended")]
     Ended,
     /// Memory was refused, before the disk was called.
+    #[error("out of memory")]
     Memory,
 }
 

@@ -22,13 +22,16 @@ use mta_lane_send::SendState;
 use mta_records::{LaneRole, LaneValues, Reference};
 use std::alloc::Global;
 use std::marker::Model;
+use thiserror::Error;
 
 /// Why a step may not be made on a lane.
-#[derive(Clone, Copy, Debug, PartialEq, Eq)]
+#[derive(Clone, Copy, Debug, PartialEq, Eq, Error)]
 pub enum LaneFault {
     /// The lane is of this later generation.
+    #[error("the lane is of generation {generation}")]
     Fenced { generation: u64 },
     /// The state of the lane does not allow the step.
+    #[error("the lane's state does not allow the step")]
     Unexpected,
 }
 

@@ -4,6 +4,7 @@ pub mod ShapeLaws
 pub mod KeyLaws
 pub mod Drafts
 pub mod Again
+pub mod Short
 pub mod MadeLaws
 pub mod NameFits
 pub mod NamesAgain

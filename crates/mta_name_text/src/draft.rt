@@ -1,6 +1,6 @@
 //! What has been read of a text form, octet by octet.
 
-ghost use Rattle.std.specs.Prelude.{◌≡◌, ◌<◌, ◌^◌, ◌++◌, ◌∷◌, [], ◌&&◌, length, IfOk};
+ghost use Rattle.std.specs.Prelude.{◌≡◌, ◌++◌, ◌∷◌, [], ◌&&◌, IfOk};
 ghost use Rattle.std.specs.List.{find, list_any};
 ghost use Rattle.std.specs.Str.{bytes_eq};
 ghost use Rattle.mta_name_text.specs.Grammar.{follows};
@@ -297,7 +297,6 @@ pub fn finish(draft: Draft) -> Result<Option<Row<Part>>, Memory>
 /// The parts of a text form, or the first octet at which none goes on.
 #[tactic(auto, unfolding(crate::specs::Reading::parts_of_text))]
 pub fn parts_of(alloc: Global, grammar: Grammar, text: &[u8]) -> Result<Row<Part>, NameFault>
-    requires { length text.now < 2 ^ 32 }
     ensures { Reads result (parts_of_text grammar text.now) }
 {
     let mut draft = nothing_read(alloc);

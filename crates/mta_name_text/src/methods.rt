@@ -1,6 +1,6 @@
 //! Text forms and routes as methods of names and patterns.
 
-ghost use Rattle.std.specs.Prelude.{◌≡◌, ◌<◌, ◌^◌, ◌↔◌, IsTrue, ℕ, List, length, Err, IfOk};
+ghost use Rattle.std.specs.Prelude.{◌≡◌, ◌↔◌, IsTrue, ℕ, List, Err, IfOk};
 ghost use Rattle.mta_names.specs.declared.attributes.Attributes.{Attributes as AttributesValue};
 ghost use Rattle.mta_name_text.specs.declared.fault.NameFault.TheVariants as Faults;
 ghost use Rattle.mta_name_text.specs.declared.place.Grammar.TheVariants as Grammars;
@@ -22,15 +22,13 @@ use std::alloc::Global;
 /// A value that is read from a text form: a name or a pattern.
 pub trait FromText: Sized {
     /// The value of a text form. `NameText` at the first octet at which no text form goes on.
-    fn from_text(alloc: Global, text: &[u8]) -> Result<Self, NameFault>
-        requires { length text.now < 2 ^ 32 };
+    fn from_text(alloc: Global, text: &[u8]) -> Result<Self, NameFault>;
 }
 
 impl FromText for OrName {
     /// The name of a text form: parts KEY=value joined by semicolons, in the order C, A, P, O, OU (up to four), S, G,
     /// I, Q, CN, X121, TID, UID, DDA:type (up to four), at least one of them, and G, I and Q only behind S.
     fn from_text(alloc: Global, text: &[u8]) -> Result<OrName, NameFault>
-        requires { length text.now < 2 ^ 32 }
         ensures exact { Reads result (name_of_text text.now) }
 
         // What is answered has this text form, and what has it is answered, unless memory runs out.
@@ -48,7 +46,6 @@ impl FromText for Pattern {
     /// The pattern of a text form: parts C, A, P, O and OU (up to four), joined by semicolons, from C on with none left
     /// out before the last.
     fn from_text(alloc: Global, text: &[u8]) -> Result<Pattern, NameFault>
-        requires { length text.now < 2 ^ 32 }
         ensures exact { Reads result (pattern_of_text text.now) }
 
         // What is answered has this text form, and what has it is answered, unless memory runs out.

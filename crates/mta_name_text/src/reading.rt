@@ -1,6 +1,6 @@
 //! Reading text forms of names and of patterns.
 
-ghost use Rattle.std.specs.Prelude.{◌≡◌, ◌<◌, ◌^◌, ℕ, List, length, Err, IfOk};
+ghost use Rattle.std.specs.Prelude.{◌≡◌, ℕ, List, Err, IfOk};
 ghost use Rattle.mta_names.specs.declared.attributes.Attributes.{Attributes as AttributesValue};
 ghost use Rattle.mta_name_text.specs.declared.fault.NameFault.TheVariants as Faults;
 ghost use Rattle.mta_name_text.specs.declared.place.Grammar.TheVariants as Grammars;
@@ -20,7 +20,6 @@ use std::alloc::Global;
 /// The attributes that a text form makes.
 #[tactic(auto, unfolding(crate::specs::Made::name_of_text))]
 fn draft_of(alloc: Global, text: &[u8]) -> Result<NameDraft, NameFault>
-    requires { length text.now < 2 ^ 32 }
     ensures { Reads result (name_of_text text.now) }
 {
     let parts = parts_of(alloc, Grammar::Names, text)?;
@@ -31,7 +30,6 @@ fn draft_of(alloc: Global, text: &[u8]) -> Result<NameDraft, NameFault>
 /// The values that the text form of a pattern has.
 #[tactic(auto, unfolding(crate::specs::Made::pattern_of_text))]
 fn pattern_values_of(alloc: Global, text: &[u8]) -> Result<Row<Text>, NameFault>
-    requires { length text.now < 2 ^ 32 }
     ensures { Reads result (pattern_of_text text.now) }
 {
     let parts = parts_of(alloc, Grammar::Patterns, text)?;
@@ -42,7 +40,6 @@ fn pattern_values_of(alloc: Global, text: &[u8]) -> Result<Row<Text>, NameFault>
 /// The name of a text form: parts KEY=value joined by semicolons, in the order C, A, P, O, OU (up to four), S, G, I, Q, CN, X121,
 /// TID, UID, DDA:type (up to four), at least one of them, and G, I and Q only behind S.
 pub fn name_from_text(alloc: Global, text: &[u8]) -> Result<OrName, NameFault>
-    requires { length text.now < 2 ^ 32 }
     ensures exact { Reads result (name_of_text text.now) }
 
     // What is answered has this text form, and what has it is answered, unless memory runs out.
@@ -64,7 +61,6 @@ pub fn name_from_text(alloc: Global, text: &[u8]) -> Result<OrName, NameFault>
 /// The pattern of a text form: parts C, A, P, O and OU (up to four), joined by semicolons, from C on with none left out before
 /// the last.
 pub fn pattern_from_text(alloc: Global, text: &[u8]) -> Result<Pattern, NameFault>
-    requires { length text.now < 2 ^ 32 }
     ensures exact { Reads result (pattern_of_text text.now) }
 
     // What is answered has this text form, and what has it is answered, unless memory runs out.

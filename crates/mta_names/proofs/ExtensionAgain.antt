@@ -3,6 +3,7 @@ use Rattle.std.proofs.Common.{◌≡◌, ℕ, zero, suc, ◌+◌, ◌≤◌, ◌
 use Rattle.std.specs.Prelude.{IfSome, is_some, ◌&&◌}
 use Rattle.std.specs.List.{flat_map}
 use Rattle.std.proofs.lemmas.Bool.Decides.{nat_tests}
+use Rattle.mta_ber.specs.declared.tag.Tag.{Tag}
 use Rattle.mta_ber.specs.declared.text.TextClass.TheVariants.{Printable}
 use Rattle.mta_ber.specs.Canon.{element, primitive, constructed, optional}
 use Rattle.mta_ber.specs.Components.{IsComponent}
@@ -20,7 +21,9 @@ use Rattle.mta_names.specs.Lists.{canonical_printable}
 use Rattle.mta_names.specs.Values.{Each, IsExtra}
 use Rattle.mta_names.proofs.Again.{low_tag, text_spelled, number_spelled, explicit_spelled}
 use Rattle.mta_names.proofs.ExtensionLaws.{extensions_full}
+use Rattle.mta_names.proofs.Levels.{one_tag}
 use Rattle.mta_names.proofs.Rows.{short_inside, short_front, short_back, puts, component, IsRow, row_more, row_last, row_spelled, items_row, each_both, content_again}
+use Rattle.mta_names.proofs.Tools.{so_constructed}
 
 -- ---- one attribute
 
@@ -93,17 +96,22 @@ other_number n h = grind (arith, nat_tests)
 not_twice : (b c : Bool) → b ≡ false → (b && c) ≡ false
 not_twice b c e = rw e refl
 
+-- what stands in the place of a value is the explicit tag that it may be
+explicit_form : (depth : ℕ) (x : ExtraFields) → IsExtra x → (k : IsRawAt depth 2 1 x.raw) → k.tag.constructed ≡ true
+explicit_form depth x h k = subst (λ (t : Tag). t.constructed ≡ true) (one_tag h.raw.depth depth h.raw.tag k.tag h.raw.content k.content x.raw h.raw.stands k.stands) h.explicit
+
 extra_component : (depth : ℕ) (c : Option (List ℕ)) → depth + 1 ≤ 16 → (xs : List ExtraFields) (x : ExtraFields) → IsExtra x × IsRawAt (depth + 1) 2 1 x.raw → length (canonical_extra x) < 2 ^ 64
     → IsComponent MakesExtension depth (of_common c xs) (canonical_extra x) (of_common c (xs ++ x ∷ []))
 extra_component depth c d xs x h short =
     let other = other_number x.number h.0.other in
     let taken = is_some c in
+    let form = explicit_form (depth + 1) x h.0 h.1 in
     attribute_component (of_common c xs) (of_common c (xs ++ x ∷ [])) x.number depth x.raw (Raw x.raw) h.0.small (not_twice (eqb x.number 1) taken other) d refl short (record {
       tag = h.1.tag;
       content = h.1.content;
       stands = h.1.stands;
       made = inr (record {
-        is_tag_of = h.1.is_tag_of;
+        is_tag_of = so_constructed 2 1 h.1.tag h.1.is_tag_of form;
         number = x.number;
         typed_so = refl;
         absent = refl;

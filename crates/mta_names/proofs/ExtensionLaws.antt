@@ -8,6 +8,7 @@ use Rattle.mta_ber.specs.declared.tag.Tag.{Tag}
 use Rattle.mta_ber.specs.declared.text.TextClass.TheVariants.{Printable}
 use Rattle.mta_ber.specs.Components.{AreComponents, SpellsComponents}
 use Rattle.mta_ber.specs.Element.{Part, explicit}
+use Rattle.mta_ber.specs.Forms.{is_constructed_tag}
 use Rattle.mta_ber.specs.Head.{◌>>=◌, fault}
 use Rattle.mta_ber.specs.Int.{int_in, in_range, SpellsInteger}
 use Rattle.mta_ber.specs.Octet.{IsOctets}
@@ -20,6 +21,7 @@ use Rattle.mta_ber.proofs.IntLaws.{int_sound, int_full}
 use Rattle.mta_ber.proofs.Steps.{bind_ok, chosen, ok_is, passed, taken, required_so}
 use Rattle.mta_ber.proofs.StringLaws.{text_sound, text_full}
 use Rattle.mta_names.specs.declared.attributes.Attribute.{Attribute}
+use Rattle.mta_names.specs.declared.attributes.ExtraFields.{ExtraFields}
 use Rattle.mta_names.specs.declared.extension.AttributeFields.{AttributeFields}
 use Rattle.mta_names.specs.declared.extension.AttributeValue.{AttributeValue}
 use Rattle.mta_names.specs.declared.extension.AttributeValue.TheVariants.{Name, Raw}
@@ -28,8 +30,8 @@ use Rattle.mta_names.specs.declared.extension.ExtensionParts.{ExtensionParts}
 use Rattle.mta_names.specs.Extensions.{common_choice, value_in, typed, type_in, valued, attribute_step, no_attribute, attribute_fields, attribute_parts_in, attribute_as, attribute, IsAttributeOf, IsAttribute, attribute_in, with_attribute, extension_step, no_extensions, extension_count, extensions_in, SpellsPrintable, SpellsAttributeValue, MakesType, MakesAttributeValue, MakesAttribute, SpellsAttributeFields, SpellsAttribute, MakesExtension, SpellsExtensions}
 use Rattle.mta_names.specs.Lists.{is_printable, is_sequence}
 use Rattle.mta_names.specs.Strings.{number_in, SpellsNumber}
-use Rattle.mta_names.specs.Values.{Each, IsRaw, IsExtra}
-use Rattle.mta_names.proofs.Tools.{puts_sound, puts_full, tag_is, components_sound, components_full, counted_so, so_between, each_more, Keeps, spelled_keep}
+use Rattle.mta_names.specs.Values.{Each, IsExtra}
+use Rattle.mta_names.proofs.Tools.{puts_sound, puts_full, constructed_tag, tag_is, components_sound, components_full, counted_so, so_between, each_more, Keeps, spelled_keep}
 
 -- ---- numbers
 
@@ -111,7 +113,7 @@ type_full s t p h =
     let r = number_full 0 32767 h.number p h.spelled in
     rw (h.absent, r, h.once_only) (ap (λ (x : AttributeParts). Ok x) (sym h.after_is))
 
-attribute_value_sound : (s t : AttributeParts) (p : Part) (o : Option ℕ) → s.number ≡ o → is_tag 2 1 p.tag ≡ true → IsOctets p.content → valued s o p ≡ Ok t → MakesAttributeValue p.depth s p.tag p.content p.octets t
+attribute_value_sound : (s t : AttributeParts) (p : Part) (o : Option ℕ) → s.number ≡ o → is_constructed_tag 2 1 p.tag ≡ true → IsOctets p.content → valued s o p ≡ Ok t → MakesAttributeValue p.depth s p.tag p.content p.octets t
 attribute_value_sound s t p None w is octets e = absurd cc
 attribute_value_sound s t p (Some n) w is octets e =
     let a = passed (is_some s.value) _ _ t e in
@@ -137,7 +139,7 @@ unfolding attribute_step
 step_sound s t p shallow content octets e =
     elim (chosen (is_tag 2 0 p.tag) _ _ _ e) [
       | inl y ↦ inl (type_sound s t p y.0 y.1)
-      | inr n ↦ elim (chosen (is_tag 2 1 p.tag) _ _ _ n.1) [
+      | inr n ↦ elim (chosen (is_constructed_tag 2 1 p.tag) _ _ _ n.1) [
         | inl y ↦ inr (attribute_value_sound s t p s.number refl y.0 content y.1)
         | inr n ↦ absurd (cc n.1)
       ]
@@ -148,7 +150,7 @@ unfolding attribute_step
 step_full s t p shallow h =
     elim h [
       | inl m ↦ rw m.is_tag_of (type_full s t p m)
-      | inr m ↦ rw (other_tag p.tag m.is_tag_of, m.is_tag_of) (attribute_value_full s t p m)
+      | inr m ↦ rw (other_tag p.tag (constructed_tag 2 1 p.tag m.is_tag_of).0, m.is_tag_of) (attribute_value_full s t p m)
     ]
 
 pub fields_sound : (taken : Bool) (x : AttributeFields) (p : Part) → IsOctets p.content → attribute_parts_in taken p ≡ Ok x → SpellsAttributeFields taken p.depth p.tag.constructed p.content x
@@ -242,10 +244,18 @@ record Held (s : AttributeParts) : Type 0 where
   fits : (n : ℕ) → s.number ≡ Some n → IfSome s.value (IsAttributeOf n)
   none : s.number ≡ None → s.value ≡ None
 
-value_fits : (n depth : ℕ) (tag : Tag) (content octets : List ℕ) (v : AttributeValue) → n ≤ 32767 → is_tag 2 1 tag ≡ true → Stands depth tag content octets → SpellsAttributeValue (eqb n 1) depth tag content octets v → IsAttributeOf n v
+abbrev extra : ℕ → List ℕ → ExtraFields
+extra n octets = record { number = n; raw = octets }
+
+value_fits : (n depth : ℕ) (tag : Tag) (content octets : List ℕ) (v : AttributeValue) → n ≤ 32767 → is_constructed_tag 2 1 tag ≡ true → Stands depth tag content octets → SpellsAttributeValue (eqb n 1) depth tag content octets v → IsAttributeOf n v
 value_fits n depth tag content octets (Name t) small is stands h = (eqb-true n 1 h.0, h.1.spelled.1.is_text)
 value_fits n depth tag content octets (Raw o) small is stands h =
-    record { small = small; other = eqb-false n 1 h.0; raw = subst (IsRaw 2 1) (sym h.1) (record { depth = depth; tag = tag; content = content; is_tag_of = is; stands = stands }) }
+    subst (λ (x : List ℕ). IsExtra (extra n x)) (sym h.1) (record {
+      small = small;
+      other = eqb-false n 1 h.0;
+      raw = record { depth = depth; tag = tag; content = content; is_tag_of = (constructed_tag 2 1 tag is).0; stands = stands };
+      explicit = (constructed_tag 2 1 tag is).1;
+    })
 
 nothing_fits : (P : AttributeValue → Type 0) (o : Option AttributeValue) → o ≡ None → IfSome o P
 nothing_fits P o e = subst (λ x. IfSome x P) (sym e) tt

@@ -1,10 +1,10 @@
 -- What is kept unread stands in the level of the place where it was read, and in each level above.
-use Rattle.std.proofs.Common.{◌≡◌, ℕ, zero, suc, ◌+◌, ◌-◌, ◌≤◌, Bool, true, false, eqb, List, [], ◌∷◌, Option, Some, None, sym, ap, subst, ◌∙◌, arith, inl, inr}
-use Rattle.std.specs.Prelude.{IfSome, IfNone, is_some}
+use Rattle.std.proofs.Common.{◌≡◌, ℕ, ◌+◌, Bool, true, eqb, List, [], ◌∷◌, Option, Some, None, sym, ap, subst, ◌∙◌, arith, inl, inr}
+use Rattle.std.specs.Prelude.{IfSome, is_some}
 use Rattle.mta_ber.specs.declared.tag.Tag.{Tag}
 use Rattle.mta_ber.specs.Components.{Makes, AreComponents, SpellsComponents}
 use Rattle.mta_ber.specs.Parts.{is_tag}
-use Rattle.mta_ber.specs.Spelling.{IsRow, Row, IsContent, Whole, Stands}
+use Rattle.mta_ber.specs.Spelling.{Stands}
 use Rattle.mta_names.specs.declared.attributes.Attributes.{Attributes}
 use Rattle.mta_names.specs.declared.extension.AttributeFields.{AttributeFields}
 use Rattle.mta_names.specs.declared.extension.AttributeParts.{AttributeParts}
@@ -18,55 +18,13 @@ use Rattle.mta_names.specs.Extensions.{no_attribute, attribute_as, with_attribut
 use Rattle.mta_names.specs.Laws.{IsRawAt, AreKeptAt, ReadNamesAreKept, KeptNamesAreKeptAbove, ReadNamesAreReadAgain}
 use Rattle.mta_names.specs.Names.{name_class, name_number, name_parts, MakesNamePart, MakesName}
 use Rattle.mta_names.specs.Values.{Each, nothing}
+use Rattle.mta_names.proofs.Levels.{raw_above}
 use Rattle.mta_names.proofs.NameAgain.{names_again}
 use Rattle.mta_names.proofs.NameLaws.{name_is}
 use Rattle.mta_names.proofs.StandardLaws.{standard_is}
-use Rattle.mta_names.proofs.Tools.{each_more}
+use Rattle.mta_names.proofs.Tools.{constructed_tag, each_more}
 
--- ---- levels above: there is more room for what is inside
-
-each_whole : (P Q : List ℕ → Type 0) → ((e : List ℕ) → P e → Q e) → (marked : Bool) (es : List (List ℕ)) → IsRow P marked es → IsRow Q marked es
-each_whole P Q f marked [] h = tt
-each_whole P Q f marked (e ∷ es) h = (f e h.0, h.1, each_whole P Q f marked es h.2)
-
-row_whole : (P Q : List ℕ → Type 0) → ((e : List ℕ) → P e → Q e) → (marked : Bool) (content : List ℕ) → Row P marked content → Row Q marked content
-row_whole P Q f marked content h = record { elements = h.elements; each = each_whole P Q f marked h.elements h.each; joined = h.joined }
-
-content_whole : (P Q : List ℕ → Type 0) → ((e : List ℕ) → P e → Q e) → (c : Bool) (count : Option ℕ) (content : List ℕ) → IsContent P c count content → IsContent Q c count content
-content_whole P Q f c (Some n) content h = (h.0, λ e. row_whole P Q f false content (h.1 e))
-content_whole P Q f c None content h = row_whole P Q f true content h
-
-whole_in_more : (left more : ℕ) → left ≤ more → (e : List ℕ) → Whole left e → Whole more e
-whole_in_more zero more le e h = absurd h
-whole_in_more (suc left) zero le e h = absurd (omega arith)
-whole_in_more (suc left) (suc more) le e h = record {
-  tag = h.tag;
-  count = h.count;
-  header = h.header;
-  content = h.content;
-  is_header = h.is_header;
-  is_content = content_whole (Whole left) (Whole more) (whole_in_more left more (omega arith)) h.tag.constructed h.count h.content h.is_content;
-  octets_are = h.octets_are;
-}
-
-none_so : {A B : Type 0} (count : Option ℕ) → (A → B) → IfNone count A → IfNone count B
-none_so None f h = f h
-none_so (Some n) f h = tt
-
--- an element of a level stands in each level above
-pub stands_above : (depth above : ℕ) (t : Tag) (content octets : List ℕ) → above ≤ depth → Stands depth t content octets → Stands above t content octets
-stands_above depth above t content octets le h = record {
-  count = h.count;
-  header = h.header;
-  is_header = h.is_header;
-  shallow = let s = h.shallow in omega arith;
-  definite = h.definite;
-  indefinite = none_so {A = Row (Whole (16 - depth)) true content} {B = Row (Whole (16 - above)) true content} h.count (row_whole (Whole (16 - depth)) (Whole (16 - above)) (whole_in_more (16 - depth) (16 - above) (omega arith)) true content) h.indefinite;
-  octets_are = h.octets_are;
-}
-
-pub raw_above : (depth above class number : ℕ) (octets : List ℕ) → above ≤ depth → IsRawAt depth class number octets → IsRawAt above class number octets
-raw_above depth above class number octets le h = record { tag = h.tag; content = h.content; is_tag_of = h.is_tag_of; stands = stands_above depth above h.tag h.content octets le h.stands }
+-- ---- levels above
 
 pub some_so : {A : Type 0} (P Q : A → Type 0) → ((x : A) → P x → Q x) → (o : Option A) → IfSome o P → IfSome o Q
 some_so P Q f None h = tt
@@ -113,7 +71,7 @@ held : (depth : ℕ) → KeepsAt MakesAttribute (Held depth) depth
 held depth s t tag content octets stands h k =
     elim h [
       | inl m ↦ subst (Held depth) (sym m.after_is) k
-      | inr m ↦ subst (Held depth) (sym m.puts.after_is) (value_kept (eqb m.number 1) depth tag content octets m.puts.value m.is_tag_of stands m.puts.value_spelled)
+      | inr m ↦ subst (Held depth) (sym m.puts.after_is) (value_kept (eqb m.number 1) depth tag content octets m.puts.value (constructed_tag 2 1 tag m.is_tag_of).0 stands m.puts.value_spelled)
     ]
 
 fields_kept : (taken : Bool) (depth : ℕ) (c : Bool) (content : List ℕ) (f : AttributeFields) → SpellsAttributeFields taken depth c content f → KeptAs (depth + 1) f.value

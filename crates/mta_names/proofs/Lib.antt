@@ -8,6 +8,7 @@ pub mod NameLaws
 pub mod Written
 pub mod NormalLaws
 pub mod Rows
+pub mod Levels
 pub mod Again
 pub mod ExtensionAgain
 pub mod NameAgain

@@ -8,6 +8,7 @@ use Rattle.mta_ber.specs.declared.tag.Tag.{Tag}
 use Rattle.mta_ber.specs.Components.{Makes, AreComponents, SpellsComponents}
 use Rattle.mta_ber.specs.Element.{Part}
 use Rattle.mta_ber.specs.Explicit.{Spells}
+use Rattle.mta_ber.specs.Forms.{is_constructed_tag}
 use Rattle.mta_ber.specs.Head.{◌>>=◌, fault}
 use Rattle.mta_ber.specs.Octet.{IsOctets}
 use Rattle.mta_ber.specs.declared.fault.ReadFault.{ReadFault}
@@ -38,6 +39,13 @@ puts_full {S} read put t spelled f h =
 
 pub tag_is : (class number : ℕ) (t : Tag) → is_tag class number t ≡ true → (t.class ≡ class) × (t.number ≡ number)
 tag_is class number t h = let a = and_true (eqb t.class class) (eqb t.number number) h in (eqb-true t.class class a.0, eqb-true t.number number a.1)
+
+-- a tag of the constructed form
+pub constructed_tag : (class number : ℕ) (t : Tag) → is_constructed_tag class number t ≡ true → (is_tag class number t ≡ true) × (t.constructed ≡ true)
+constructed_tag class number t h = and_true (is_tag class number t) t.constructed h
+
+pub so_constructed : (class number : ℕ) (t : Tag) → is_tag class number t ≡ true → t.constructed ≡ true → is_constructed_tag class number t ≡ true
+so_constructed class number t h k = rw (h, k) refl
 
 -- what a chain of tests finds
 pub picked : {A : Type 0} (P : A → Type 0) (b : Bool) (x : A) (o : Option A) → (b ≡ true → P x) → ((k : A) → o ≡ Some k → P k) → (k : A) → cond b (Some x) o ≡ Some k → P k

@@ -28,10 +28,12 @@ pub record IsRaw (class number : ℕ) (octets : List ℕ) : Type 0 where
   pub is_tag_of : is_tag class number tag ≡ true
   pub stands : Stands depth tag content octets
 
+-- what is kept of an attribute is the explicit tag around its value, which is constructed (X.690, 8.14)
 pub record IsExtra (e : ExtraFields) : Type 0 where
   pub small : e.number ≤ 32767
   pub other : e.number ≢ 1
   pub raw : IsRaw 2 1 e.raw
+  pub explicit : raw.tag.constructed ≡ true
 
 -- a number as most of X.411 bounds them: a built-in content type, the type of an extension, a type of user, a reason, a
 -- diagnostic

@@ -1,5 +1,5 @@
--- Extension attributes (X.411, ExtensionAttributes): a SET of SEQUENCEs of a type and a value. Type 1 is the common name; of the
--- others the whole element of the value is kept.
+-- Extension attributes (X.411, ExtensionAttributes): a SET of SEQUENCEs of a type and a value, which stands in an explicit tag.
+-- Type 1 is the common name; of the others the whole element of that tag is kept.
 use Rattle.std.specs.Prelude.{◌≡◌, ℕ, zero, suc, pos, ◌+◌, ◌≤◌, ◌⊎◌, Bool, true, false, List, [], ◌∷◌, ◌++◌, length, Option, Some, None, is_some, Result, Ok, ◌==◌, ◌&&◌, if◌then◌else◌}
 use Rattle.std.specs.List.{flat_map}
 use Rattle.mta_ber.specs.declared.fault.Fault.{Fault}
@@ -11,6 +11,7 @@ use Rattle.mta_ber.specs.Components.{Makes, SpellsComponents}
 use Rattle.mta_ber.specs.Contents.{canon_int}
 use Rattle.mta_ber.specs.Element.{Part, explicit}
 use Rattle.mta_ber.specs.Explicit.{Spells, SpellsExplicit}
+use Rattle.mta_ber.specs.Forms.{is_constructed_tag}
 use Rattle.mta_ber.specs.Head.{◌>>=◌, fault}
 use Rattle.mta_ber.specs.Parts.{components, is_tag, required}
 use Rattle.mta_ber.specs.Segmented.{SpellsText}
@@ -48,8 +49,12 @@ abbrev pub valued : AttributeParts → Option ℕ → Part → Result AttributeP
 valued s None p = fault p.at BadTag
 valued s (Some n) p = if is_some s.value then fault p.at BadTag else (value_in n p >>= λ v. Ok (record s { value = Some v }))
 
+-- an explicit tag is constructed (X.690, 8.14), so a primitive value is none, also where it would be kept
 unfoldable pub attribute_step : AttributeParts → Part → Result AttributeParts Fault
-attribute_step s p = if is_tag 2 0 p.tag then type_in s p else if is_tag 2 1 p.tag then valued s s.number p else fault p.at BadTag
+attribute_step s p =
+    if is_tag 2 0 p.tag then type_in s p
+    else if is_constructed_tag 2 1 p.tag then valued s s.number p
+    else fault p.at BadTag
 
 abbrev pub no_attribute : Bool → ℕ → AttributeParts
 no_attribute taken at = record { taken = taken; at = at; number = None; value = None }
@@ -109,7 +114,7 @@ extensions_in p = components extension_step no_extensions p >>= λ s. if between
 abbrev pub SpellsPrintable : ℕ → ℕ → Spells (List ℕ)
 SpellsPrintable low high depth tag content octets t = (is_printable tag ≡ true) × SpellsText Printable low high depth tag.constructed content t
 
--- the value of an attribute: an explicit tag around a common name, which is of type 1, or any element
+-- the value of an attribute: an explicit tag around a common name, which is of type 1, or around anything
 abbrev pub SpellsAttributeValue : Bool → ℕ → Tag → List ℕ → List ℕ → AttributeValue → Type 0
 SpellsAttributeValue common depth tag content octets (Name t) = (common ≡ true)
     × SpellsExplicit (SpellsPrintable 1 64) depth tag.constructed content t
@@ -124,7 +129,7 @@ pub record MakesType (before : AttributeParts) (tag : Tag) (content : List ℕ) 
   pub after_is : after ≡ record before { number = Some number }
 
 pub record MakesAttributeValue (depth : ℕ) (before : AttributeParts) (tag : Tag) (content octets : List ℕ) (after : AttributeParts) : Type 0 where
-  pub is_tag_of : is_tag 2 1 tag ≡ true
+  pub is_tag_of : is_constructed_tag 2 1 tag ≡ true
   pub number : ℕ
   pub typed_so : before.number ≡ Some number
   pub absent : before.value ≡ None

@@ -115,11 +115,12 @@ impl Pair {
 pub struct ExtraFields {
     /// Its type: 0, or 2 to 32,767.
     pub number: u32,
-    /// The whole element of its value, `[1]`.
+    /// The explicit tag around its value, `[1]`, whole.
     pub raw: Octets,
 }
 
-/// An extension attribute that is not read: its type, 0 or 2 to 32,767, and the whole element of its value, `[1]`.
+/// An extension attribute that is not read: its type, 0 or 2 to 32,767, and the explicit tag around its value, `[1]`,
+/// whole, which is constructed (X.690, 8.14).
 #[derive(Debug, Drop)]
 pub struct Extra {
     fields: ExtraFields,

@@ -12,12 +12,12 @@ ghost use Rattle.mta_names.specs.Strings.{number_in};
 use crate::attributes::{Attribute, Extra, ExtraFields};
 use crate::row::Row;
 use mta_ber::{
-    Components, Fault, Kind, Octets, ReadFault, Text, TextClass, View, bad, is_tag_of, take_parts,
-    take_required,
+    Components, Fault, Kind, Octets, ReadFault, Text, TextClass, View, bad, is_constructed_tag,
+    is_tag_of, take_parts, take_required,
 };
 use std::alloc::Global;
 
-/// The value of an attribute: a common name, or the octets of the element that is kept.
+/// The value of an attribute: a common name, or the octets of the explicit tag that is kept.
 #[derive(Debug, Drop)]
 pub enum AttributeValue {
     Name(Text),
@@ -125,7 +125,7 @@ impl Components for AttributeParts {
     fn take(&mut self, alloc: Global, part: &View) -> Result<(), ReadFault> {
         if is_tag_of(part.tag, 2, 0) {
             self.put_type(part)
-        } else if is_tag_of(part.tag, 2, 1) {
+        } else if is_constructed_tag(part.tag, 2, 1) {
             self.put_value(alloc, part)
         } else {
             bad(part.at, Kind::BadTag)

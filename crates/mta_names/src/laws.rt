@@ -1,10 +1,10 @@
 //! Laws of names and octets.
 
-ghost use Rattle.mta_names.specs.Definite.{DefinitePartsStandEverywhere};
+ghost use Rattle.mta_names.specs.Definite.{DefinitePartsStandEverywhere, NamesThatFitAreKept, NamesThatFitAreReadAgain};
 ghost use Rattle.mta_names.specs.Laws.{CountriesAreReadAgain, LabelsAreReadAgain, LabelChoicesAreReadAgain, PersonalNamesAreReadAgain, UnitNamesAreReadAgain, DomainDefinedAttributesAreReadAgain, ExtensionAttributesAreReadAgain, StandardAttributesAreReadAgain, NamesAreReadAgain, ReadNamesAreKept, KeptNamesAreKeptAbove, ReadNamesAreReadAgain};
 ghost use Rattle.mta_names.specs.Laws.{NoCountryBeginsAnother, NoLabelBeginsAnother, NoPersonalNameBeginsAnother, NoUnitNamesBeginOthers, NoDomainDefinedAttributesBeginOthers, NoExtensionAttributesBeginOthers, NoStandardAttributesBeginOthers, NoNameBeginsAnother};
 
-/// A part that is kept unread, and that was read in a definite length, stands at every level up to 16.
+/// A part that is kept unread, and that has a definite length, stands at every level up to 16.
 pub fn definite_parts_stand_everywhere()
     ensures { DefinitePartsStandEverywhere }
 {}
@@ -47,6 +47,13 @@ pub fn standard_attributes_are_read_again()
 /// place.
 pub fn names_are_read_again()
     ensures { NamesAreReadAgain }
+{}
+
+/// A name that is written is read again, whatever follows it, where each part of an indefinite length that it keeps unread stands
+/// in the level of its place (X.411, ORName).
+pub fn names_that_fit_are_read_again()
+    ensures kept { NamesThatFitAreKept }
+    ensures again { NamesThatFitAreReadAgain }
 {}
 
 /// A name that was read is written so that it is read again: what it keeps unread stands in the level of its place, where it was

@@ -30,8 +30,8 @@ pub use label::{
 pub use laws::{
     definite_parts_stand_everywhere, domain_defined_attributes_are_read_again,
     extension_attributes_are_read_again, labels_are_read_again, names_are_read_again,
-    names_that_were_read_are_read_again, no_name_begins_another, personal_names_are_read_again,
-    standard_attributes_are_read_again, unit_names_are_read_again,
+    names_that_fit_are_read_again, names_that_were_read_are_read_again, no_name_begins_another,
+    personal_names_are_read_again, standard_attributes_are_read_again, unit_names_are_read_again,
 };
 pub use length::{label_choice_length, label_length, raw_length};
 pub use name::OrName;

@@ -8,12 +8,16 @@ ghost use Rattle.mta_streams.specs.Streams.{HasReadCause, TakesAtMost};
 
 use mta_edge::{Failed, Memory, Octets, Source};
 use std::alloc::Global;
+use thiserror::Error;
 
 /// Why a source was not read to its end.
-#[derive(Clone, Copy, Debug, PartialEq, Eq)]
+#[derive(Clone, Copy, Debug, PartialEq, Eq, Error)]
 pub enum SourceFault {
+    #[error("the source failed")]
     Failed,
+    #[error("the source has more than its limit")]
     TooLong,
+    #[error("out of memory")]
     Memory,
 }
 
