@@ -167,7 +167,7 @@ pub enum Attribute {
 }
 
 /// The attributes of a name. What is absent is `None`, and a list that is absent is empty.
-#[derive(Debug, Drop)]
+#[derive(Debug)]
 pub struct Attributes {
     /// country-name: two letters, or three digits as NumericString.
     pub country: Option<Label>,
@@ -195,4 +195,25 @@ pub struct Attributes {
     pub extras: Row<Extra>,
     /// directory-name: the whole element, `[0]`.
     pub directory: Option<Octets>,
+}
+
+// By hand, since a derived one is opened anew, field by field, at each place where attributes are let go.
+impl Drop for Attributes {
+    fn drop(self) {
+        let Attributes {
+            country: _,
+            admd: _,
+            network: _,
+            terminal: _,
+            prmd: _,
+            organization: _,
+            user: _,
+            person: _,
+            units: _,
+            pairs: _,
+            common: _,
+            extras: _,
+            directory: _,
+        } = self;
+    }
 }
