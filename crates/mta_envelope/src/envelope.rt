@@ -14,7 +14,7 @@ use std::marker::Model;
 
 /// What the envelope of a message or a probe has. What is absent is `None`, and what has a default is there. Moments are seconds from
 /// 1950-01-01 00:00:00 UTC, at most the last second of 2049.
-#[derive(Debug, Drop)]
+#[derive(Debug)]
 pub struct EnvelopeFields {
     /// message-identifier, or probe-identifier.
     pub id: MtsId,
@@ -51,10 +51,41 @@ pub struct EnvelopeFields {
     pub dl_prohibited: bool,
 }
 
+// Written out, since a derived one is opened anew, field by field, at each place where a value is let go.
+impl Drop for EnvelopeFields {
+    fn drop(self) {
+        let EnvelopeFields {
+            id: _,
+            originator: _,
+            eits: _,
+            content_kind: _,
+            content_id: _,
+            priority: _,
+            indicators: _,
+            deferral: _,
+            length: _,
+            bilateral: _,
+            recipients: _,
+            trace: _,
+            extensions: _,
+            history: _,
+            latest: _,
+            dl_prohibited: _,
+        } = self;
+    }
+}
+
 /// The envelope of a message or a probe (X.411, MessageTransferEnvelope and ProbeTransferEnvelope).
-#[derive(Debug, Drop)]
+#[derive(Debug)]
 pub struct Envelope {
     fields: EnvelopeFields,
+}
+
+// Written out, since a derived one is opened anew, field by field, at each place where a value is let go.
+impl Drop for Envelope {
+    fn drop(self) {
+        let Envelope { fields: _ } = self;
+    }
 }
 
 impl Model for Envelope {

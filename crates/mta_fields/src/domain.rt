@@ -18,7 +18,7 @@ use std::alloc::Global;
 use std::marker::Model;
 
 /// What a domain has.
-#[derive(Debug, Drop)]
+#[derive(Debug)]
 pub struct DomainFields {
     /// Two letters, or three digits.
     pub country: Label,
@@ -28,10 +28,28 @@ pub struct DomainFields {
     pub prmd: Option<Label>,
 }
 
+// Written out, since a derived one is opened anew, field by field, at each place where a value is let go.
+impl Drop for DomainFields {
+    fn drop(self) {
+        let DomainFields {
+            country: _,
+            admd: _,
+            prmd: _,
+        } = self;
+    }
+}
+
 /// A global domain identifier (X.411): each label is such as it may be.
-#[derive(Debug, Drop)]
+#[derive(Debug)]
 pub struct Domain {
     fields: DomainFields,
+}
+
+// Written out, since a derived one is opened anew, field by field, at each place where a value is let go.
+impl Drop for Domain {
+    fn drop(self) {
+        let Domain { fields: _ } = self;
+    }
 }
 
 impl Model for Domain {

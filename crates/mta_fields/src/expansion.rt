@@ -14,7 +14,7 @@ use std::alloc::Global;
 use std::marker::Model;
 
 /// What an expansion has.
-#[derive(Debug, Drop)]
+#[derive(Debug)]
 pub struct ExpansionFields {
     /// The name of the list.
     pub name: OrName,
@@ -22,10 +22,24 @@ pub struct ExpansionFields {
     pub moment: u64,
 }
 
+// Written out, since a derived one is opened anew, field by field, at each place where a value is let go.
+impl Drop for ExpansionFields {
+    fn drop(self) {
+        let ExpansionFields { name: _, moment: _ } = self;
+    }
+}
+
 /// An expansion of a distribution list (X.411, DLExpansion).
-#[derive(Debug, Drop)]
+#[derive(Debug)]
 pub struct Expansion {
     fields: ExpansionFields,
+}
+
+// Written out, since a derived one is opened anew, field by field, at each place where a value is let go.
+impl Drop for Expansion {
+    fn drop(self) {
+        let Expansion { fields: _ } = self;
+    }
 }
 
 impl Model for Expansion {

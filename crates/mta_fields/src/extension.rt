@@ -27,7 +27,7 @@ pub enum ExtKind {
 }
 
 /// What an extension field has.
-#[derive(Debug, Drop)]
+#[derive(Debug)]
 pub struct ExtFields {
     pub kind: ExtKind,
     /// Critical for submission.
@@ -40,10 +40,30 @@ pub struct ExtFields {
     pub value: Octets,
 }
 
+// Written out, since a derived one is opened anew, field by field, at each place where a value is let go.
+impl Drop for ExtFields {
+    fn drop(self) {
+        let ExtFields {
+            kind: _,
+            submission: _,
+            transfer: _,
+            delivery: _,
+            value: _,
+        } = self;
+    }
+}
+
 /// An extension field (X.411, ExtensionField), whose value is kept unread.
-#[derive(Debug, Drop)]
+#[derive(Debug)]
 pub struct ExtField {
     fields: ExtFields,
+}
+
+// Written out, since a derived one is opened anew, field by field, at each place where a value is let go.
+impl Drop for ExtField {
+    fn drop(self) {
+        let ExtField { fields: _ } = self;
+    }
 }
 
 impl Model for ExtField {

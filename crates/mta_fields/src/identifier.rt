@@ -16,17 +16,34 @@ use std::alloc::Global;
 use std::marker::Model;
 
 /// What an MTS identifier has.
-#[derive(Debug, Drop)]
+#[derive(Debug)]
 pub struct MtsIdFields {
     pub domain: Domain,
     /// 1 to 32 characters of IA5String.
     pub local: Text,
 }
 
+// Written out, since a derived one is opened anew, field by field, at each place where a value is let go.
+impl Drop for MtsIdFields {
+    fn drop(self) {
+        let MtsIdFields {
+            domain: _,
+            local: _,
+        } = self;
+    }
+}
+
 /// An MTS identifier (X.411): the domain that gave it, and an identifier of that domain's own.
-#[derive(Debug, Drop)]
+#[derive(Debug)]
 pub struct MtsId {
     fields: MtsIdFields,
+}
+
+// Written out, since a derived one is opened anew, field by field, at each place where a value is let go.
+impl Drop for MtsId {
+    fn drop(self) {
+        let MtsId { fields: _ } = self;
+    }
 }
 
 impl Model for MtsId {

@@ -24,7 +24,7 @@ pub enum Action {
 }
 
 /// What a domain did with a message. Moments are seconds from 1950-01-01 00:00:00 UTC, at most the last second of 2049.
-#[derive(Debug, Drop)]
+#[derive(Debug)]
 pub struct Supplied {
     pub arrival: u64,
     pub action: Action,
@@ -37,6 +37,21 @@ pub struct Supplied {
     /// Other actions.
     pub redirected: bool,
     pub dl: bool,
+}
+
+// Written out, since a derived one is opened anew, field by field, at each place where a value is let go.
+impl Drop for Supplied {
+    fn drop(self) {
+        let Supplied {
+            arrival: _,
+            action: _,
+            attempted: _,
+            deferred: _,
+            converted: _,
+            redirected: _,
+            dl: _,
+        } = self;
+    }
 }
 
 /// The components.

@@ -17,16 +17,33 @@ use std::alloc::Global;
 use std::marker::Model;
 
 /// What a trace element has.
-#[derive(Debug, Drop)]
+#[derive(Debug)]
 pub struct TraceFields {
     pub domain: Domain,
     pub supplied: Supplied,
 }
 
+// Written out, since a derived one is opened anew, field by field, at each place where a value is let go.
+impl Drop for TraceFields {
+    fn drop(self) {
+        let TraceFields {
+            domain: _,
+            supplied: _,
+        } = self;
+    }
+}
+
 /// A trace element (X.411, TraceInformationElement): a domain, and what it did with the message.
-#[derive(Debug, Drop)]
+#[derive(Debug)]
 pub struct TraceElement {
     fields: TraceFields,
+}
+
+// Written out, since a derived one is opened anew, field by field, at each place where a value is let go.
+impl Drop for TraceElement {
+    fn drop(self) {
+        let TraceElement { fields: _ } = self;
+    }
 }
 
 impl Model for TraceElement {

@@ -37,7 +37,6 @@ pub enum LaneFault {
 
 /// A lane that is open. Its checkpoint size is at most 64 units of 1,024 octets, and the pieces that came have at most
 /// 2,097,152 octets.
-#[derive(Drop)]
 pub struct Lane {
     number: u32,
     role: LaneRole,
@@ -53,6 +52,28 @@ pub struct Lane {
     high: u32,
     last: Last,
     pieces: Pieces,
+}
+
+// Written out, since a derived one is opened anew, field by field, at each place where a value is let go.
+impl Drop for Lane {
+    fn drop(self) {
+        let Lane {
+            number: _,
+            role: _,
+            peer: _,
+            reference: _,
+            checkpoint: _,
+            window: _,
+            twa: _,
+            agreed: _,
+            generation: _,
+            sending: _,
+            transfer: _,
+            high: _,
+            last: _,
+            pieces: _,
+        } = self;
+    }
 }
 
 impl Model for Lane {

@@ -9,13 +9,25 @@ use std::marker::Model;
 
 /// What an activity transfers: an item to recipients, when that was decided, in seconds since 1950-01-01 00:00:00 UTC,
 /// under which tables, counted from 1, and the octets.
-#[derive(Drop)]
 pub struct Transfer {
     item: u32,
     recipients: Recipients,
     moment: u64,
     tables: u32,
     outgoing: Outgoing,
+}
+
+// Written out, since a derived one is opened anew, field by field, at each place where a value is let go.
+impl Drop for Transfer {
+    fn drop(self) {
+        let Transfer {
+            item: _,
+            recipients: _,
+            moment: _,
+            tables: _,
+            outgoing: _,
+        } = self;
+    }
 }
 
 impl Model for Transfer {

@@ -5,14 +5,24 @@ use mta_ber::{Octets, Text};
 use std::marker::Model;
 
 /// A label of a country or of a domain: digits and spaces as NumericString, or characters of PrintableString.
-#[derive(Debug, Drop)]
+#[derive(Debug)]
 pub struct Label {
     pub numeric: bool,
     pub text: Text,
 }
 
+// Written out, since a derived one is opened anew, field by field, at each place where a value is let go.
+impl Drop for Label {
+    fn drop(self) {
+        let Label {
+            numeric: _,
+            text: _,
+        } = self;
+    }
+}
+
 /// What a personal-name has.
-#[derive(Debug, Drop)]
+#[derive(Debug)]
 pub struct PersonFields {
     /// 1 to 40 characters of PrintableString.
     pub surname: Text,
@@ -24,11 +34,30 @@ pub struct PersonFields {
     pub generation: Option<Text>,
 }
 
+// Written out, since a derived one is opened anew, field by field, at each place where a value is let go.
+impl Drop for PersonFields {
+    fn drop(self) {
+        let PersonFields {
+            surname: _,
+            given: _,
+            initials: _,
+            generation: _,
+        } = self;
+    }
+}
+
 /// A personal-name: a surname of 1 to 40 characters of PrintableString, and at most a given name of 1 to 16, initials
 /// of 1 to 5 and a generation qualifier of 1 to 3.
-#[derive(Debug, Drop)]
+#[derive(Debug)]
 pub struct Person {
     fields: PersonFields,
+}
+
+// Written out, since a derived one is opened anew, field by field, at each place where a value is let go.
+impl Drop for Person {
+    fn drop(self) {
+        let Person { fields: _ } = self;
+    }
 }
 
 impl Model for Person {
@@ -64,7 +93,7 @@ impl Person {
 }
 
 /// What a domain-defined attribute has.
-#[derive(Debug, Drop)]
+#[derive(Debug)]
 pub struct PairFields {
     /// The type: 1 to 8 characters of PrintableString.
     pub kind: Text,
@@ -72,10 +101,24 @@ pub struct PairFields {
     pub value: Text,
 }
 
+// Written out, since a derived one is opened anew, field by field, at each place where a value is let go.
+impl Drop for PairFields {
+    fn drop(self) {
+        let PairFields { kind: _, value: _ } = self;
+    }
+}
+
 /// A domain-defined attribute: a type of 1 to 8 and a value of 1 to 128 characters of PrintableString.
-#[derive(Debug, Drop)]
+#[derive(Debug)]
 pub struct Pair {
     fields: PairFields,
+}
+
+// Written out, since a derived one is opened anew, field by field, at each place where a value is let go.
+impl Drop for Pair {
+    fn drop(self) {
+        let Pair { fields: _ } = self;
+    }
 }
 
 impl Model for Pair {
@@ -111,7 +154,7 @@ impl Pair {
 }
 
 /// What an extension attribute has that is not read.
-#[derive(Debug, Drop)]
+#[derive(Debug)]
 pub struct ExtraFields {
     /// Its type: 0, or 2 to 32,767.
     pub number: u32,
@@ -119,11 +162,25 @@ pub struct ExtraFields {
     pub raw: Octets,
 }
 
+// Written out, since a derived one is opened anew, field by field, at each place where a value is let go.
+impl Drop for ExtraFields {
+    fn drop(self) {
+        let ExtraFields { number: _, raw: _ } = self;
+    }
+}
+
 /// An extension attribute that is not read: its type, 0 or 2 to 32,767, and the explicit tag around its value, `[1]`,
 /// whole, which is constructed (X.690, 8.14).
-#[derive(Debug, Drop)]
+#[derive(Debug)]
 pub struct Extra {
     fields: ExtraFields,
+}
+
+// Written out, since a derived one is opened anew, field by field, at each place where a value is let go.
+impl Drop for Extra {
+    fn drop(self) {
+        let Extra { fields: _ } = self;
+    }
 }
 
 impl Model for Extra {
@@ -168,7 +225,7 @@ pub enum Attribute {
 }
 
 /// The attributes of a name. What is absent is `None`, and a list that is absent is empty.
-#[derive(Debug, Drop)]
+#[derive(Debug)]
 pub struct Attributes {
     /// country-name: two letters, or three digits as NumericString.
     pub country: Option<Label>,
@@ -196,4 +253,67 @@ pub struct Attributes {
     pub extras: Row<Extra>,
     /// directory-name: the whole element, `[0]`.
     pub directory: Option<Octets>,
+}
+
+// By hand, since a derived one is opened anew, field by field, at each place where attributes are let go.
+impl Drop for Attributes {
+    fn drop(self) {
+        let Attributes {
+            country: _,
+            admd: _,
+            network: _,
+            terminal: _,
+            prmd: _,
+            organization: _,
+            user: _,
+            person: _,
+            units: _,
+            pairs: _,
+            common: _,
+            extras: _,
+            directory: _,
+        } = self;
+    }
+}
+
+/// The labels of a name's domain.
+#[derive(Debug, Drop)]
+pub struct DomainLabels {
+    pub country: Option<Label>,
+    pub admd: Option<Label>,
+    pub prmd: Option<Label>,
+}
+
+impl Attributes {
+    ghost use Rattle.std.specs.Prelude.{◌≡◌};
+
+    /// The labels of the name's domain, which takes no memory. The other attributes are let go.
+    pub fn into_labels(self) -> DomainLabels
+        ensures { result ≡ record {
+          country = self.country;
+          admd = self.admd;
+          prmd = self.prmd;
+        } }
+    {
+        let Attributes {
+            country,
+            admd,
+            network: _,
+            terminal: _,
+            prmd,
+            organization: _,
+            user: _,
+            person: _,
+            units: _,
+            pairs: _,
+            common: _,
+            extras: _,
+            directory: _,
+        } = self;
+        DomainLabels {
+            country,
+            admd,
+            prmd,
+        }
+    }
 }

@@ -19,7 +19,7 @@ mod unit;
 mod writing;
 
 pub use attributes::{
-    Attributes, Extra, ExtraFields, Label, Pair, PairFields, Person, PersonFields,
+    Attributes, DomainLabels, Extra, ExtraFields, Label, Pair, PairFields, Person, PersonFields,
 };
 pub use bounded::{Code, ObjectId, read_code};
 pub use extension::read_number;

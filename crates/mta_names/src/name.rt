@@ -9,9 +9,16 @@ use std::alloc::Global;
 use std::marker::Model;
 
 /// An O/R name: attributes, each with the characters and the size that it may have.
-#[derive(Debug, Drop)]
+#[derive(Debug)]
 pub struct OrName {
     pub(crate) attributes: Attributes,
+}
+
+// Written out, since a derived one is opened anew, field by field, at each place where a value is let go.
+impl Drop for OrName {
+    fn drop(self) {
+        let OrName { attributes: _ } = self;
+    }
 }
 
 impl Model for OrName {

@@ -19,7 +19,7 @@ use std::alloc::Global;
 use std::marker::Model;
 
 /// What a recipient has.
-#[derive(Debug, Drop)]
+#[derive(Debug)]
 pub struct RecipientFields {
     pub name: OrName,
     /// originally-specified-recipient-number: 1 to 32,767.
@@ -32,10 +32,30 @@ pub struct RecipientFields {
     pub extensions: Row<ExtField>,
 }
 
+// Written out, since a derived one is opened anew, field by field, at each place where a value is let go.
+impl Drop for RecipientFields {
+    fn drop(self) {
+        let RecipientFields {
+            name: _,
+            number: _,
+            indicators: _,
+            conversion: _,
+            extensions: _,
+        } = self;
+    }
+}
+
 /// A recipient of a message or a probe (X.411, PerRecipientMessageTransferFields).
-#[derive(Debug, Drop)]
+#[derive(Debug)]
 pub struct Recipient {
     fields: RecipientFields,
+}
+
+// Written out, since a derived one is opened anew, field by field, at each place where a value is let go.
+impl Drop for Recipient {
+    fn drop(self) {
+        let Recipient { fields: _ } = self;
+    }
 }
 
 impl Model for Recipient {

@@ -7,7 +7,7 @@ use mta_names::{OrName, Row};
 use mta_reported::Reported;
 
 /// What a report has.
-#[derive(Debug, Drop)]
+#[derive(Debug)]
 pub struct ReportFields {
     /// The identifier of the report itself.
     pub id: MtsId,
@@ -34,4 +34,25 @@ pub struct ReportFields {
     pub content_extensions: Row<ExtField>,
     /// 1 to 32,767 recipients.
     pub recipients: Row<Reported>,
+}
+
+// Written out, since a derived one is opened anew, field by field, at each place where a value is let go.
+impl Drop for ReportFields {
+    fn drop(self) {
+        let ReportFields {
+            id: _,
+            destination: _,
+            trace: _,
+            extensions: _,
+            subject: _,
+            subject_trace: _,
+            eits: _,
+            content_kind: _,
+            content_id: _,
+            returned: _,
+            additional: _,
+            content_extensions: _,
+            recipients: _,
+        } = self;
+    }
 }

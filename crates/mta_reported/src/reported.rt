@@ -21,7 +21,7 @@ use std::alloc::Global;
 use std::marker::Model;
 
 /// What a recipient of whom is reported has.
-#[derive(Debug, Drop)]
+#[derive(Debug)]
 pub struct ReportedFields {
     /// The actual recipient.
     pub name: OrName,
@@ -42,10 +42,34 @@ pub struct ReportedFields {
     pub extensions: Row<ExtField>,
 }
 
+// Written out, since a derived one is opened anew, field by field, at each place where a value is let go.
+impl Drop for ReportedFields {
+    fn drop(self) {
+        let ReportedFields {
+            name: _,
+            number: _,
+            indicators: _,
+            arrival: _,
+            converted: _,
+            outcome: _,
+            intended: _,
+            supplementary: _,
+            extensions: _,
+        } = self;
+    }
+}
+
 /// A recipient of whom is reported (X.411, PerRecipientReportTransferFields).
-#[derive(Debug, Drop)]
+#[derive(Debug)]
 pub struct Reported {
     fields: ReportedFields,
+}
+
+// Written out, since a derived one is opened anew, field by field, at each place where a value is let go.
+impl Drop for Reported {
+    fn drop(self) {
+        let Reported { fields: _ } = self;
+    }
 }
 
 impl Model for Reported {

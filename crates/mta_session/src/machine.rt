@@ -18,7 +18,6 @@ use std::alloc::Global;
 use std::marker::Model;
 
 /// A session, between two of its calls and inside them.
-#[derive(Drop)]
 pub struct Machine {
     pub alloc: Global,
     pub phase: Phase,
@@ -36,6 +35,30 @@ pub struct Machine {
     pub please: bool,
     pub send: SendLink,
     pub recv: RecvLink,
+}
+
+// Written out, since a derived one is opened anew, field by field, at each place where a value is let go.
+impl Drop for Machine {
+    fn drop(self) {
+        let Machine {
+            alloc: _,
+            phase: _,
+            left: _,
+            side: _,
+            opened: _,
+            line: _,
+            lane: _,
+            generation: _,
+            checkpoint: _,
+            window: _,
+            twa: _,
+            agreed: _,
+            ours: _,
+            please: _,
+            send: _,
+            recv: _,
+        } = self;
+    }
 }
 
 impl Model for Machine {

@@ -21,9 +21,16 @@ use std::alloc::Global;
 use std::marker::Model;
 
 /// The rules of X.411, clause 14, under tables.
-#[derive(Debug, Drop)]
+#[derive(Debug)]
 pub struct TableRules {
     tables: Tables,
+}
+
+// Written out, since a derived one is opened anew, field by field, at each place where a value is let go.
+impl Drop for TableRules {
+    fn drop(self) {
+        let TableRules { tables: _ } = self;
+    }
 }
 
 impl Model for TableRules {

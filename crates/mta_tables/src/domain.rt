@@ -4,7 +4,7 @@ ghost use Rattle.std.specs.Prelude.{◌≡◌};
 ghost use Rattle.mta_tables.specs.Domain.{is_bare, domain_of};
 
 use mta_fields::{Domain, DomainFields};
-use mta_names::{Attributes, OrName};
+use mta_names::{Attributes, DomainLabels, OrName};
 
 /// Whether a name has at most a country, an administration domain and a private domain.
 fn is_bare(n: &Attributes) -> bool
@@ -29,12 +29,11 @@ pub fn domain_of(name: OrName) -> Option<Domain>
     if !is_bare(name.attributes()) {
         return None;
     }
-    let Attributes {
+    let DomainLabels {
         country,
         admd,
         prmd,
-        ..
-    } = name.into_attributes();
+    } = name.into_attributes().into_labels();
     match (country, admd) {
         (Some(country), Some(admd)) => Some(Domain::from_fields(DomainFields {
             country,

@@ -30,7 +30,7 @@ pub struct Mailbox {
 
 /// A distribution list (X.402, clause 7): whether reports on its members go back to who posted, who may post, and its
 /// members. Where no pattern is given, everybody may post.
-#[derive(Debug, Drop)]
+#[derive(Debug)]
 pub struct MailList {
     pub word: Word,
     /// Whether reports go back to the poster, and are not kept here.
@@ -40,6 +40,19 @@ pub struct MailList {
     pub from: Row<Pattern>,
     /// At most 1,000 names.
     pub members: Row<OrName>,
+}
+
+// Written out, since a derived one is opened anew, field by field, at each place where a value is let go.
+impl Drop for MailList {
+    fn drop(self) {
+        let MailList {
+            word: _,
+            back: _,
+            name: _,
+            from: _,
+            members: _,
+        } = self;
+    }
 }
 
 /// Where the names of a route go.

@@ -16,7 +16,7 @@ use mta_fields::Domain;
 use std::alloc::Global;
 
 /// What the lines of a text say.
-#[derive(Debug, Drop)]
+#[derive(Debug)]
 pub struct Lines {
     pub domain: Domain,
     pub own: Word,
@@ -25,6 +25,21 @@ pub struct Lines {
     pub lists: Lists,
     pub routes: Routes,
     pub holds: Holds,
+}
+
+// Written out, since a derived one is opened anew, field by field, at each place where a value is let go.
+impl Drop for Lines {
+    fn drop(self) {
+        let Lines {
+            domain: _,
+            own: _,
+            peers: _,
+            mailboxes: _,
+            lists: _,
+            routes: _,
+            holds: _,
+        } = self;
+    }
 }
 
 fn or_usual(usual: u64, held: Option<u64>) -> u64

@@ -16,10 +16,17 @@ use std::marker::Model;
 
 /// What an agent knows of its surroundings, with the text that says so: its own domain and name, its peers, mailboxes
 /// and lists, the routes, and how long messages are held.
-#[derive(Debug, Drop)]
+#[derive(Debug)]
 pub struct Tables {
     text: Octets,
     lines: Lines,
+}
+
+// Written out, since a derived one is opened anew, field by field, at each place where a value is let go.
+impl Drop for Tables {
+    fn drop(self) {
+        let Tables { text: _, lines: _ } = self;
+    }
 }
 
 impl Model for Tables {

@@ -10,13 +10,26 @@ use std::alloc::Global;
 use std::marker::Model;
 
 /// A stream of units, fed in pieces of any size: what was fed and not yet taken. A fault, once found, is kept.
-#[derive(Debug, Drop)]
+#[derive(Debug)]
 pub struct Frames {
     alloc: Global,
     octets: Vec<u8>,
     taken: usize,
     at: u64,
     bad: Option<BadUnit>,
+}
+
+// Written out, since a derived one is opened anew, field by field, at each place where a value is let go.
+impl Drop for Frames {
+    fn drop(self) {
+        let Frames {
+            alloc: _,
+            octets: _,
+            taken: _,
+            at: _,
+            bad: _,
+        } = self;
+    }
 }
 
 impl Model for Frames {
