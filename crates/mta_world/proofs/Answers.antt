@@ -96,14 +96,9 @@ module _ (bad known : ℕ → Type 0) where
 
     -- an answer to Resume, where nothing was put behind it
     answered-resume : (stage : SendStage) (D : List LaneUnit) (k n : ℕ) → Order stage D (Waits k n) → Order stage (D ++ ResumeAck k n ∷ []) (Behind_pieces k n) × Order stage (D ++ Unrecognized ∷ []) Between
-    answered-resume s.Quiet D k n o = not_waits k n Between _ o (λ q. cc)
-    answered-resume s.Opened D k n o = not_waits k n Between _ o (λ q. cc)
-    answered-resume (s.Started j) D k n o = not_waits k n Between _ o (λ q. cc)
     answered-resume (s.Next j m) D k n o = not_waits k n (Behind_pieces j m) _ o (λ q. cc)
     answered-resume (s.Sync_next j m) D k n o = not_waits k n (Behind_piece j m) _ o (λ q. cc)
     answered-resume (s.Last_put j m) D k n o = not_waits k n (Behind_piece j m) _ o (λ q. cc)
-    answered-resume (s.End_put j m) D k n o = not_waits k n Between _ o (λ q. cc)
-    answered-resume (s.Discard_put j) D k n o = not_waits k n Between _ o (λ q. cc)
     answered-resume (s.Resume_put j m) D k n o =
         elim o [
           | inl p ↦
@@ -115,18 +110,12 @@ module _ (bad known : ℕ → Type 0) where
               )
           | inr q ↦ elim q [ inl p ↦ absurd (let e : Waits k n ≡ Between = p.0 in cc) | inr p ↦ not_waits k n (Behind_pieces j m) _ p (λ e. cc) ]
         ]
+    answered-resume any0 D k n o = not_waits k n Between _ o (λ q. cc)
 
     -- where the sending end waits for an answer to Resume, it put no Discard
     no_discard : (stage : SendStage) (D : List LaneUnit) (b : Place) (k j n : ℕ) (T : List LaneUnit) → Names h stage → j ≡ h → Finish h stage (Resume k n ∷ (Discard j ∷ T)) → Order stage D b → (x : LaneUnit) → Order stage (D ++ x ∷ []) b
-    no_discard s.Quiet D b k j n T na e fi o x = o
-    no_discard s.Opened D b k j n T na e fi o x = o
-    no_discard (s.Started i) D b k j n T na e fi o x = o
-    no_discard (s.Next i m) D b k j n T na e fi o x = o
-    no_discard (s.Sync_next i m) D b k j n T na e fi o x = o
-    no_discard (s.Last_put i m) D b k j n T na e fi o x = o
-    no_discard (s.End_put i m) D b k j n T na e fi o x = o
-    no_discard (s.Discard_put i) D b k j n T na e fi o x = o
     no_discard (s.Resume_put i m) D b k j n T na e fi o x = absurd (fi.1.0 e)
+    no_discard any0 D b k j n T na e fi o x = o
 
     resume-order : (size : ℕ) (octets : ℕ → List ℕ) (stage : SendStage) (D : List LaneUnit) (k n : ℕ) (T : List LaneUnit)
         → Names h stage → k ≡ h → Finish h stage (Resume k n ∷ T) → Flows size octets (Waits k n) T → Order stage D (after (Waits k n) T)
@@ -158,12 +147,7 @@ module _ (bad known : ℕ → Type 0) where
   idle-syncs i r.Free k m w g = g
   idle-syncs i (r.Skips j) k m w g = g
   idle-syncs i (r.Discards j) k m w g = g
-  idle-syncs i (r.Next j n) k m w g = w
-  idle-syncs i (r.Held j n o) k m w g = w
-  idle-syncs i (r.Synced j n o) k m w g = w
-  idle-syncs i (r.Ended j n o) k m w g = w
-  idle-syncs i (r.Asked j n) k m w g = w
-  idle-syncs i (r.Found j) k m w g = w
+  idle-syncs i any1 k m w g = w
 
   answers-rest : (i : ℕ) (e f : RecvStage) (x : LaneUnit) (T : List LaneUnit) → Answers bad known e x f → Rest bad i e (pending e ++ T) → Rest bad i f (pending f ++ T) × Clean i x
   answers-rest i e f x T (confirms k {m = m} g) h = absurd (idle-syncs i e k m h.0 g)
@@ -179,9 +163,8 @@ module _ (bad known : ℕ → Type 0) where
   module _ (h : ℕ) (is_bad : (k : ℕ) → known k → bad k) where
     only-one : (p : Phase) (x : LaneUnit) (T : List LaneUnit) → Finishes h x → IsBehind p ⊎ (p ≡ During) → FinishAt h p (x ∷ T) → (T ≡ []) × IsBehind p
     only-one Behind x T g w fi = (fi.0 g, tt)
-    only-one During x T g w fi = absurd (fi.0 g)
-    only-one Before x T g w fi = absurd (fi.0 g)
     only-one At_rest x T g w fi = elim w [ inl b ↦ absurd b | inr e ↦ absurd cc ]
+    only-one any0 x T g w fi = absurd (fi.0 g)
 
     -- the receiving end settles h, and nothing is on its way behind
     closes : (p : Phase) (x y : LaneUnit) (T D : List LaneUnit) → Finishes h x → IsBehind p ⊎ (p ≡ During) → FinishAt h p (x ∷ T) → Each (NoEnds h) D → Closed bad h p r.Free T (D ++ y ∷ [])
@@ -259,8 +242,7 @@ module _ (bad known : ℕ → Type 0) where
     by_talk : (p : Phase) (e : RecvStage) (V D : List LaneUnit) (k : ℕ) → ((i : ℕ) → Rest bad i e V → k ≡ h) → (Begun bad h e V → k ≡ h) → Talk bad h p e V D → k ≡ h
     by_talk At_rest e V D k f g t = f (h + 1) t.0
     by_talk Before e V D k f g t = f h t.0
-    by_talk During e V D k f g t = elim t [ inl b ↦ g b.0 | inr c ↦ f (h + 1) c.0 ]
-    by_talk Behind e V D k f g t = elim t [ inl b ↦ g b.0 | inr c ↦ f (h + 1) c.0 ]
+    by_talk any0 e V D k f g t = elim t [ inl b ↦ g b.0 | inr c ↦ f (h + 1) c.0 ]
 
     pub asked-own : (p : Phase) (k n : ℕ) (T D : List LaneUnit) → Talk bad h p (r.Asked k n) (Resume k n ∷ T) D → k ≡ h
     asked-own p k n T D t =
@@ -282,22 +264,14 @@ module _ (bad known : ℕ → Type 0) where
     busy-syncs (r.Held j n o) k m g b = g.0 ∙ b
     busy-syncs (r.Synced j n o) k m g b = g.0 ∙ b
     busy-syncs (r.Ended j n o) k m g b = g.0 ∙ b
-    busy-syncs r.Free k m g b = absurd g
-    busy-syncs (r.Asked j n) k m g b = absurd g
-    busy-syncs (r.Discards j) k m g b = absurd g
-    busy-syncs (r.Found j) k m g b = absurd g
-    busy-syncs (r.Skips j) k m g b = absurd g
+    busy-syncs any0 k m g b = absurd g
 
     waiting-syncs : (e : RecvStage) (k m : ℕ) → Syncs e k m → IsWaiting h e → ⊥
     waiting-syncs (r.Next j n) k m g b = b
     waiting-syncs (r.Held j n o) k m g b = b
     waiting-syncs (r.Synced j n o) k m g b = b
     waiting-syncs (r.Ended j n o) k m g b = b
-    waiting-syncs r.Free k m g b = g
-    waiting-syncs (r.Asked j n) k m g b = g
-    waiting-syncs (r.Discards j) k m g b = g
-    waiting-syncs (r.Found j) k m g b = g
-    waiting-syncs (r.Skips j) k m g b = g
+    waiting-syncs any0 k m g b = g
 
     pub syncs-own : (p : Phase) (e : RecvStage) (V D : List LaneUnit) (k m : ℕ) → Syncs e k m → Talk bad h p e V D → k ≡ h
     syncs-own p e V D k m g t =
@@ -306,11 +280,6 @@ module _ (bad known : ℕ → Type 0) where
 
 pub finish-at : (h : ℕ) (stage : SendStage) (V : List LaneUnit) → Finish h stage V → FinishAt h (phase stage) V
 finish-at h s.Quiet V f = tt
-finish-at h s.Opened V f = f
-finish-at h (s.Started k) V f = f
-finish-at h (s.Next k n) V f = f
-finish-at h (s.Sync_next k n) V f = f
-finish-at h (s.Last_put k n) V f = f
-finish-at h (s.Resume_put k n) V f = f
 finish-at h (s.End_put k n) V f = f.1
 finish-at h (s.Discard_put k) V f = f.1
+finish-at h any1 V f = f

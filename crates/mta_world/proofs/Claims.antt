@@ -73,9 +73,7 @@ LinkOk p l = LinkParts p l.up.way l.down.way l.send l.recv.stage l.send_joined l
 
 abbrev pub is_rest : Phase → Bool
 is_rest At_rest = true
-is_rest Before = false
-is_rest During = false
-is_rest Behind = false
+is_rest any0 = false
 
 -- a transfer whose Syncs a SyncAck may confirm
 abbrev pub IsGoing : SendStage → Type 0

@@ -68,15 +68,11 @@ bound (state.Dropping k) = k
 
 pub bound-live : (st : SendState) → is_idle st ≡ false → bound st ≡ last_of st
 bound-live (state.Idle l) e = absurd cc
-bound-live (state.Sending k c) e = refl
-bound-live (state.Ending k c) e = refl
-bound-live (state.Dropping k) e = refl
+bound-live any0 e = refl
 
 pub bound-idle : (st : SendState) → is_idle st ≡ true → bound st ≡ last_of st + 1
 bound-idle (state.Idle l) e = refl
-bound-idle (state.Sending k c) e = absurd cc
-bound-idle (state.Ending k c) e = absurd cc
-bound-idle (state.Dropping k) e = absurd cc
+bound-idle any0 e = absurd cc
 
 -- What became of the activities ------------------------------------------------------------------------------
 
@@ -112,9 +108,8 @@ pub record Receives (spells : List ℕ → Bool) (size : ℕ) (octets : ℕ → 
 
 pub done-among : (size : ℕ) (octets : ℕ → List ℕ) (high : ℕ) (l : Last) (pieces : List (List ℕ)) (completed : List Message) (k : ℕ)
     → Held size octets high l pieces completed → is_done l k ≡ true → IsAmong k completed
-done-among size octets high last.None pieces completed k h e = absurd cc
-done-among size octets high (last.Partial j n) pieces completed k h e = absurd cc
 done-among size octets high (last.Done j) pieces completed k h e = subst (λ (z : ℕ). IsAmong z completed) (sym (eqb-true k j e)) h.1
+done-among size octets high any3 pieces completed k h e = absurd cc
 
 module _ (spells : List ℕ → Bool) (size : ℕ) (octets : ℕ → List ℕ) (top high : ℕ) (l : Last) (pieces : List (List ℕ)) (completed : List Message) (o : Receives spells size octets top high l pieces completed) where
   pub done-good : (k : ℕ) → IsAmong k completed → spells (octets k) ≡ true
@@ -180,9 +175,8 @@ piece-goes_on size octets high (last.Partial i q) pieces completed k m h t =
     }
 
 takes-some : (high : ℕ) (l : Last) (k n : ℕ) → takes_piece high l k n ≡ true → 1 ≤ n
-takes-some high last.None k n t = omega (arith, eqb-true n 1 (and_parts (nat_lt high k) (n == 1) t).1)
-takes-some high (last.Done j) k n t = omega (arith, eqb-true n 1 (and_parts (nat_lt high k) (n == 1) t).1)
 takes-some high (last.Partial j q) k n t = leb-true 1 n (and_parts (k == j) (nat_le 1 n) (and_parts ((k == j) && nat_le 1 n) (nat_le n (q + 1)) t).0).1
+takes-some high any1 k n t = omega (arith, eqb-true n 1 (and_parts (nat_lt high k) (n == 1) t).1)
 
 pub not-zero : (high : ℕ) (l : Last) (k : ℕ) → takes_piece high l k 0 ≡ true → ⊥
 not-zero high l k t = let le : 1 ≤ 0 = takes-some high l k 0 t in omega (arith, le)

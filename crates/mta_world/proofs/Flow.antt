@@ -43,26 +43,20 @@ after-snoc p (y ∷ ys) x = after-snoc (next p y) ys x
 
 -- where the ends stand
 abbrev pub place : RecvStage → Place
-place r.Free = Between
 place (r.Next k n) = Behind_pieces k n
 place (r.Held k n o) = Behind_piece k n
 place (r.Synced k n o) = Behind_pieces k n
 place (r.Ended k n o) = Behind_piece k n
-place (r.Asked k n) = Between
-place (r.Discards k) = Between
 place (r.Found k) = Skipping k
 place (r.Skips k) = Skipping k
+place any0 = Between
 
 abbrev pub send_place : SendStage → Place
-send_place s.Quiet = Between
-send_place s.Opened = Between
-send_place (s.Started k) = Between
 send_place (s.Next k n) = Behind_pieces k n
 send_place (s.Sync_next k n) = Behind_piece k n
 send_place (s.Last_put k n) = Behind_piece k n
-send_place (s.End_put k n) = Between
 send_place (s.Resume_put k n) = Waits k n
-send_place (s.Discard_put k) = Between
+send_place any0 = Between
 
 abbrev pub AtOrPast : Place → ℕ → Type 0
 AtOrPast Between k = Unit {0}
@@ -174,6 +168,4 @@ rest-after bad h p (x ∷ xs) i e = rest-after bad h (next p x) xs (rest-step ba
 pub rest-under : (b : Place) → IsRest b → Under Between b
 rest-under Between i = inl refl
 rest-under (Skipping k) i = inr (k, refl, tt)
-rest-under (Waits k n) i = absurd i
-rest-under (Behind_pieces k n) i = absurd i
-rest-under (Behind_piece k n) i = absurd i
+rest-under any0 i = absurd i

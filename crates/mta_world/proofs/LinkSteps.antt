@@ -120,21 +120,7 @@ module _ (spells : List ℕ → Bool) (octets : ℕ → List ℕ) (w : World) (k
   -- with a DiscardAck on the sending end's link, nothing is on another newest link of this end
   acked-there : (i y : ℕ) (x : LaneUnit) (V : List LaneUnit) → (IsConfirming x → V ≡ []) → Acked P V x
   acked-there i y (DiscardAck j) V f = λ live e g. subst (λ (z : List LaneUnit). Each (NoEnd j) z) (sym (f tt)) tt
-  acked-there i y (SyncAck n) V f = tt
-  acked-there i y (EndAck j) V f = tt
-  acked-there i y (ResumeAck j n) V f = tt
-  acked-there i y Exception V f = tt
-  acked-there i y Completed V f = tt
-  acked-there i y Unrecognized V f = tt
-  acked-there i y CannotRecover V f = tt
-  acked-there i y Accept V f = tt
-  acked-there i y Other V f = tt
-  acked-there i y (Start j) V f = tt
-  acked-there i y (Piece o) V f = tt
-  acked-there i y (Sync n) V f = tt
-  acked-there i y (End j) V f = tt
-  acked-there i y (Resume j n) V f = tt
-  acked-there i y (Discard j) V f = tt
+  acked-there i y any2 V f = tt
 
   pub puts : (i : ℕ) (x : LaneUnit) → ReceiverUses (w.links i) → r.MayPut (recv_end w (w.links i).recv) x → (w.sender_opens ≡ false → IsConfirming x → w.recv_link ≡ Some i) → Keeps spells octets (receiver_put w i x)
   puts i x uses mp late =
@@ -306,14 +292,7 @@ module _ (spells : List ℕ → Bool) (octets : ℕ → List ℕ) (w : World) (k
   sends isof i (End j) uses on mp = put_transfer isof i (End j) refl uses (on refl) mp
   sends isof i (Resume j n) uses on mp = put_transfer isof i (Resume j n) refl uses (on refl) mp
   sends isof i (Discard j) uses on mp = put_transfer isof i (Discard j) refl uses (on refl) mp
-  sends isof i (SyncAck n) uses on mp = absurd mp.1
-  sends isof i (EndAck j) uses on mp = absurd mp.1
-  sends isof i (ResumeAck j n) uses on mp = absurd mp.1
-  sends isof i (DiscardAck j) uses on mp = absurd mp.1
-  sends isof i Exception uses on mp = absurd mp.1
-  sends isof i Completed uses on mp = absurd mp.1
-  sends isof i Unrecognized uses on mp = absurd mp.1
-  sends isof i CannotRecover uses on mp = absurd mp.1
+  sends isof i any2 uses on mp = absurd mp.1
 
   -- It gets one --------------------------------------------------------------------------------------------------
 

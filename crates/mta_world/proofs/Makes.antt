@@ -32,14 +32,7 @@ module _ (p : Sides) where
 
   stage-more : (h i : ℕ) → h ≤ i → (e : RecvStage) → StageUpTo h e → StageUpTo i e
   stage-more h i le r.Free g = tt
-  stage-more h i le (r.Next k n) g = omega (arith, le, g)
-  stage-more h i le (r.Held k n o) g = omega (arith, le, g)
-  stage-more h i le (r.Synced k n o) g = omega (arith, le, g)
-  stage-more h i le (r.Ended k n o) g = omega (arith, le, g)
-  stage-more h i le (r.Asked k n) g = omega (arith, le, g)
-  stage-more h i le (r.Discards k) g = omega (arith, le, g)
-  stage-more h i le (r.Found k) g = omega (arith, le, g)
-  stage-more h i le (r.Skips k) g = omega (arith, le, g)
+  stage-more h i le any3 g = omega (arith, le, g)
 
   pub link-state : (st : SendState) (U down : List LaneUnit) (send : SendPart) (e : RecvStage) (a b : Bool) → last_of p.state ≤ last_of st
       → LinkParts p U down send e a b → LinkParts (with_state p st) U down send e a b
@@ -164,21 +157,7 @@ module _ (p : Sides) where
   -- where the activity is settled, it is complete, or no End of it is on its way
   ended-none : (st : SendState) (x : LaneUnit) → Ended p x → NoEnd (last_of p.state) x → Ended (with_state p st) x
   ended-none st (End j) g ne = λ gd. elim (g gd) [ inl z ↦ absurd (ne (ending-last p.state j z)) | inr z ↦ inr z ]
-  ended-none st (Start k) g ne = tt
-  ended-none st (Piece o) g ne = tt
-  ended-none st (Sync n) g ne = tt
-  ended-none st (Resume k n) g ne = tt
-  ended-none st (Discard k) g ne = tt
-  ended-none st (SyncAck n) g ne = tt
-  ended-none st (EndAck k) g ne = tt
-  ended-none st (ResumeAck k n) g ne = tt
-  ended-none st (DiscardAck k) g ne = tt
-  ended-none st Exception g ne = tt
-  ended-none st Completed g ne = tt
-  ended-none st Unrecognized g ne = tt
-  ended-none st CannotRecover g ne = tt
-  ended-none st Accept g ne = tt
-  ended-none st Other g ne = tt
+  ended-none st any1 g ne = tt
 
   pub ended-settled : (st : SendState) (V : List LaneUnit) → (Bad p (last_of p.state)) ⊎ (IsAmong (last_of p.state) p.completed ⊎ Each (NoEnd (last_of p.state)) V)
       → Each (Ended p) V → Each (Ended (with_state p st)) V
@@ -242,53 +221,33 @@ module _ (p : Sides) where
 
 pub confirmed-last : (st : SendState) (n : ℕ) → last_of (confirmed_at st n) ≡ last_of st
 confirmed-last (state.Idle l) n = refl
-confirmed-last (state.Sending k c) n = refl
-confirmed-last (state.Ending k c) n = refl
-confirmed-last (state.Dropping k) n = refl
+confirmed-last any0 n = refl
 
 pub confirmed-idle : (st : SendState) (n : ℕ) → is_idle (confirmed_at st n) ≡ is_idle st
 confirmed-idle (state.Idle l) n = refl
-confirmed-idle (state.Sending k c) n = refl
-confirmed-idle (state.Ending k c) n = refl
-confirmed-idle (state.Dropping k) n = refl
+confirmed-idle any0 n = refl
 
 pub confirmed-dropping : (st : SendState) (n : ℕ) → is_dropping (confirmed_at st n) ≡ is_dropping st
 confirmed-dropping (state.Idle l) n = refl
-confirmed-dropping (state.Sending k c) n = refl
-confirmed-dropping (state.Ending k c) n = refl
-confirmed-dropping (state.Dropping k) n = refl
+confirmed-dropping any0 n = refl
 
 pub confirmed-live : (st : SendState) (n j : ℕ) → is_live (confirmed_at st n) j ≡ is_live st j
 confirmed-live (state.Idle l) n j = refl
-confirmed-live (state.Sending k c) n j = refl
-confirmed-live (state.Ending k c) n j = refl
-confirmed-live (state.Dropping k) n j = refl
+confirmed-live any0 n j = refl
 
 pub confirmed-ending : (st : SendState) (n j : ℕ) → is_ending (confirmed_at st n) j ≡ is_ending st j
 confirmed-ending (state.Idle l) n j = refl
-confirmed-ending (state.Sending k c) n j = refl
-confirmed-ending (state.Ending k c) n j = refl
-confirmed-ending (state.Dropping k) n j = refl
+confirmed-ending any0 n j = refl
 
 -- a SyncAck counts only in a transfer
 pub synced-going : (a : SendStage) (c n : ℕ) → c < n → n ≤ synced a → IsGoing a
 synced-going s.Quiet c n lt le = absurd (let z : n ≤ 0 = le in omega arith)
 synced-going s.Opened c n lt le = absurd (let z : n ≤ 0 = le in omega arith)
 synced-going (s.Started k) c n lt le = absurd (let z : n ≤ 0 = le in omega arith)
-synced-going (s.Next k m) c n lt le = tt
-synced-going (s.Sync_next k m) c n lt le = tt
-synced-going (s.Last_put k m) c n lt le = tt
-synced-going (s.End_put k m) c n lt le = tt
-synced-going (s.Resume_put k m) c n lt le = tt
 synced-going (s.Discard_put k) c n lt le = absurd (let z : n ≤ 0 = le in omega arith)
+synced-going any0 c n lt le = tt
 
 pub first-not_going : (a : SendStage) → IsFirst a → IsGoing a → ⊥
 first-not_going s.Opened f g = g
 first-not_going (s.Discard_put k) f g = g
-first-not_going s.Quiet f g = f
-first-not_going (s.Started k) f g = f
-first-not_going (s.Next k n) f g = f
-first-not_going (s.Sync_next k n) f g = f
-first-not_going (s.Last_put k n) f g = f
-first-not_going (s.End_put k n) f g = f
-first-not_going (s.Resume_put k n) f g = f
+first-not_going any0 f g = f

@@ -38,39 +38,27 @@ silent-acked p V _ g = absurd g
 module _ (p : Sides) where
   fresh-order : (st : SendState) (D : List LaneUnit) → Order (stage_on_link st) D Between
   fresh-order (state.Idle l) D = inl refl
-  fresh-order (state.Sending k c) D = inl refl
-  fresh-order (state.Ending k c) D = inl refl
-  fresh-order (state.Dropping k) D = inl refl
+  fresh-order any0 D = inl refl
 
   fresh-talk : (st : SendState) (h : ℕ) (D : List LaneUnit) → Each IsSilent D → Talk (Bad p) h (phase (stage_on_link st)) r.Free [] D
   fresh-talk (state.Idle l) h D g = ((tt, tt), each-map IsSilent (Clean (h + 1)) D (silent-clean (h + 1)) g)
-  fresh-talk (state.Sending k c) h D g = ((tt, tt), each-map IsSilent (Clean h) D (silent-clean h) g)
-  fresh-talk (state.Ending k c) h D g = ((tt, tt), each-map IsSilent (Clean h) D (silent-clean h) g)
-  fresh-talk (state.Dropping k) h D g = ((tt, tt), each-map IsSilent (Clean h) D (silent-clean h) g)
+  fresh-talk any0 h D g = ((tt, tt), each-map IsSilent (Clean h) D (silent-clean h) g)
 
   fresh-idle : (st : SendState) → is_idle st ≡ is_rest (phase (stage_on_link st))
   fresh-idle (state.Idle l) = refl
-  fresh-idle (state.Sending k c) = refl
-  fresh-idle (state.Ending k c) = refl
-  fresh-idle (state.Dropping k) = refl
+  fresh-idle any0 = refl
 
   fresh-names : (st : SendState) (h : ℕ) → Names h (stage_on_link st)
   fresh-names (state.Idle l) h = tt
-  fresh-names (state.Sending k c) h = tt
-  fresh-names (state.Ending k c) h = tt
-  fresh-names (state.Dropping k) h = tt
+  fresh-names any0 h = tt
 
   fresh-finish : (st : SendState) (h : ℕ) → Finish h (stage_on_link st) []
   fresh-finish (state.Idle l) h = tt
-  fresh-finish (state.Sending k c) h = tt
-  fresh-finish (state.Ending k c) h = tt
-  fresh-finish (state.Dropping k) h = tt
+  fresh-finish any0 h = tt
 
   fresh-cut : (st : SendState) → IsCutAt p.size p.octets (stage_on_link st)
   fresh-cut (state.Idle l) = tt
-  fresh-cut (state.Sending k c) = tt
-  fresh-cut (state.Ending k c) = tt
-  fresh-cut (state.Dropping k) = tt
+  fresh-cut any0 = tt
 
   fresh-send : (D : List LaneUnit) → Each IsSilent D → (1 ≤ confirmed_of p.state → Good p (last_of p.state) → StandsSome p.last (last_of p.state)) → SendParts p (stage_on_link p.state) D [] r.Free
   fresh-send D g st = record {
@@ -88,9 +76,8 @@ module _ (p : Sides) where
   -- what was doomed stays so on a new link
   fresh-doomed : (st : SendState) (a : SendStage) (j : ℕ) → is_live st j ≡ true → IsDoomed st a → IsDoomed st (stage_on_link st)
   fresh-doomed (state.Idle l) a j lv d = absurd (let c : false ≡ true = lv in cc)
-  fresh-doomed (state.Sending k c) a j lv d = elim d [ inl e ↦ inl e | inr g ↦ inr (g.0, tt) ]
-  fresh-doomed (state.Ending k c) a j lv d = elim d [ inl e ↦ inl e | inr g ↦ inr (g.0, tt) ]
   fresh-doomed (state.Dropping k) a j lv d = inl refl
+  fresh-doomed any0 a j lv d = elim d [ inl e ↦ inl e | inr g ↦ inr (g.0, tt) ]
 
   fresh-discarded : (a : SendStage) (x : LaneUnit) → Discarded p a x → Discarded p (stage_on_link p.state) x
   fresh-discarded a (Discard j) g = λ gd lv. fresh-doomed p.state a j lv (g gd lv)
@@ -104,21 +91,7 @@ module _ (p : Sides) where
       idle-live (state.Sending k c) j e lv = absurd cc
       idle-live (state.Ending k c) j e lv = absurd cc
       idle-live (state.Dropping k) j e lv = absurd cc
-  idle-discarded e (Start j) = tt
-  idle-discarded e (Piece o) = tt
-  idle-discarded e (Sync n) = tt
-  idle-discarded e (End j) = tt
-  idle-discarded e (Resume j n) = tt
-  idle-discarded e (SyncAck n) = tt
-  idle-discarded e (EndAck j) = tt
-  idle-discarded e (ResumeAck j n) = tt
-  idle-discarded e (DiscardAck j) = tt
-  idle-discarded e Exception = tt
-  idle-discarded e Completed = tt
-  idle-discarded e Unrecognized = tt
-  idle-discarded e CannotRecover = tt
-  idle-discarded e Accept = tt
-  idle-discarded e Other = tt
+  idle-discarded e any1 = tt
 
   each-all : (P : LaneUnit → Type 0) (xs : List LaneUnit) → ((x : LaneUnit) → P x) → Each P xs
   each-all P [] f = tt

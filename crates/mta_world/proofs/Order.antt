@@ -78,16 +78,9 @@ moves-upto h e f x U passes_other b g = b
 -- The order where the answers on their way change ---------------------------------------------
 
 pub order-answers : (stage : SendStage) (D E : List LaneUnit) (b : Place) → (Each NoResumeAck D → Each NoResumeAck E) → Order stage D b → Order stage E b
-order-answers s.Quiet D E b g o = o
-order-answers s.Opened D E b g o = o
-order-answers (s.Started k) D E b g o = o
-order-answers (s.Next k n) D E b g o = o
-order-answers (s.Sync_next k n) D E b g o = o
-order-answers (s.Last_put k n) D E b g o = o
-order-answers (s.End_put k n) D E b g o = o
-order-answers (s.Discard_put k) D E b g o = o
 order-answers (s.Resume_put k n) D E b g o =
     elim o [ inl p ↦ inl (p.0, g p.1) | inr q ↦ elim q [ inl p ↦ inr (inl (p.0, g p.1)) | inr p ↦ inr (inr p) ] ]
+order-answers any0 D E b g o = o
 
 -- the plain form of it where the answers do not count
 pub order-plain : (stage : SendStage) (D E : List LaneUnit) (b c : Place) → b ≡ c → (Each NoResumeAck D → Each NoResumeAck E) → Order stage D b → Order stage E c

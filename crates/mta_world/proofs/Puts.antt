@@ -89,13 +89,7 @@ module _ (bad known : ℕ → Type 0) where
   put-answers e Exception g kn nd fb = subst (λ (z : RecvStage). Answers bad known z Exception (r.skipped z)) (sym g.1) (refuses {k = g.0} (fb g.0 g.1))
   put-answers e Accept g kn nd fb = accepts
   put-answers e Other g kn nd fb = says_other
-  put-answers e (Start k) g kn nd fb = absurd g
-  put-answers e (Piece o) g kn nd fb = absurd g
-  put-answers e (Sync n) g kn nd fb = absurd g
-  put-answers e (End k) g kn nd fb = absurd g
-  put-answers e (Resume k n) g kn nd fb = absurd g
-  put-answers e (Discard k) g kn nd fb = absurd g
-  put-answers e CannotRecover g kn nd fb = absurd g
+  put-answers e any1 g kn nd fb = absurd g
 
 module _ (p : Sides) where
   pub put-link : (known : ℕ → Type 0) (U down : List LaneUnit) (send : SendPart) (e f : RecvStage) (x : LaneUnit) (a b : Bool) → b ≡ true → Answers (Bad p) known e x f
@@ -118,14 +112,9 @@ module _ (p : Sides) where
   pub discard-behind : (stage : SendStage) (D T : List LaneUnit) (e : RecvStage) (k : ℕ) → SendParts p stage D (Discard k ∷ T) e → is_idle p.state ≡ false → k ≡ last_of p.state
       → (stage ≡ s.Discard_put (last_of p.state)) × (T ≡ [])
   discard-behind s.Quiet D T e k o i same = absurd (let g : false ≡ true = sym i ∙ o.idle in cc)
-  discard-behind s.Opened D T e k o i same = absurd (o.finish.0 same)
-  discard-behind (s.Started j) D T e k o i same = absurd (o.finish.0 same)
-  discard-behind (s.Next j n) D T e k o i same = absurd (o.finish.0 same)
-  discard-behind (s.Sync_next j n) D T e k o i same = absurd (o.finish.0 same)
-  discard-behind (s.Last_put j n) D T e k o i same = absurd (o.finish.0 same)
-  discard-behind (s.Resume_put j n) D T e k o i same = absurd (o.finish.0 same)
   discard-behind (s.End_put j n) D T e k o i same = absurd (o.finish.0.0 same)
   discard-behind (s.Discard_put j) D T e k o i same = (ap (λ (z : ℕ). s.Discard_put z) o.names, o.finish.1.0 same)
+  discard-behind any0 D T e k o i same = absurd (o.finish.0 same)
 
   module _ (stage : SendStage) (D T : List LaneUnit) (e : RecvEnd) (o : SendParts p stage D (pending e.stage ++ T) e.stage) (facts : Facts p) (genuine : Genuine p.size p.octets (Bad p) e.stage) (same_last : e.last ≡ p.last) where
     -- the same claims where the stage is known
@@ -170,7 +159,6 @@ module _ (p : Sides) where
         let held : StandsSome e.last g.0 = stands-some e.last g.0 m g.3 in
         subst (λ (z : ℕ). StandsSome p.last z) own (subst (λ (z : Last). StandsSome z g.0) same_last held)
     put-truth (EndAck k) i g = among k g.3
-    put-truth (ResumeAck k n) i g = tt
     put-truth Unrecognized i g =
         let own : g.0 ≡ last_of p.state = asked-own (Bad p) (Bad p) (last_of p.state) (phase stage) g.0 g.1 T D (at (r.Asked g.0 g.1) g.2).talk in
         subst (λ (z : ℕ). Bad p z) own (denied-bad i g.0 g.1 g.2 g.3 g.4)
@@ -186,15 +174,8 @@ module _ (p : Sides) where
     put-truth Exception i g =
         let own : g.0 ≡ last_of p.state = found-own (Bad p) (Bad p) (last_of p.state) (phase stage) g.0 T D (at (r.Found g.0) g.1).talk in
         subst (λ (z : ℕ). Bad p z) own (faulty-bad g.0 g.1)
-    put-truth Accept i g = tt
-    put-truth Other i g = tt
-    put-truth (Start k) i g = tt
-    put-truth (Piece q) i g = tt
-    put-truth (Sync n) i g = tt
-    put-truth (End k) i g = tt
-    put-truth (Resume k n) i g = tt
-    put-truth (Discard k) i g = tt
     put-truth CannotRecover i g = absurd g
+    put-truth any0 i g = tt
 
     -- with a DiscardAck no End is on its way
     pub put-acked : (x : LaneUnit) → MayPut e x → (f : RecvStage) → Answers (Bad p) (Bad p) e.stage x f → Acked p (pending f ++ T) x
@@ -203,21 +184,7 @@ module _ (p : Sides) where
         let whole : Each (NoEnd k) (pending e.stage ++ T) =
         subst (λ (z : RecvStage). Each (NoEnd k) (pending z ++ T)) (sym g.0) (subst (λ (z : List LaneUnit). Each (NoEnd k) (Discard k ∷ z)) (sym none) (tt, tt)) in
         (answers-shrinks (Bad p) (Bad p) e.stage f (DiscardAck k) T m).each (NoEnd k) whole
-    put-acked (SyncAck n) g f m = tt
-    put-acked (EndAck k) g f m = tt
-    put-acked (ResumeAck k n) g f m = tt
-    put-acked Exception g f m = tt
-    put-acked Completed g f m = tt
-    put-acked Unrecognized g f m = tt
-    put-acked CannotRecover g f m = tt
-    put-acked Accept g f m = tt
-    put-acked Other g f m = tt
-    put-acked (Start k) g f m = tt
-    put-acked (Piece q) g f m = tt
-    put-acked (Sync n) g f m = tt
-    put-acked (End k) g f m = tt
-    put-acked (Resume k n) g f m = tt
-    put-acked (Discard k) g f m = tt
+    put-acked any0 g f m = tt
 
     pub put-send : (x : LaneUnit) (f : RecvStage) → MayPut e x → Answers (Bad p) (Bad p) e.stage x f → Flows p.size p.octets (place e.stage) (pending e.stage ++ T)
         → SendParts p stage (D ++ x ∷ []) (pending f ++ T) f

@@ -95,15 +95,7 @@ module _ (p : Sides) (l : Last) (ms : List Message) where
   truth-last a more keep Exception t st = t
   truth-last a more keep Unrecognized t st = t
   truth-last a more keep CannotRecover t st = t
-  truth-last a more keep (ResumeAck j n) t st = tt
-  truth-last a more keep Accept t st = tt
-  truth-last a more keep Other t st = tt
-  truth-last a more keep (Start j) t st = tt
-  truth-last a more keep (Piece q) t st = tt
-  truth-last a more keep (Sync n) t st = tt
-  truth-last a more keep (End j) t st = tt
-  truth-last a more keep (Resume j n) t st = tt
-  truth-last a more keep (Discard j) t st = tt
+  truth-last a more keep any3 t st = tt
 
   pub relast : (a : SendStage) (D V : List LaneUnit) (f : RecvStage) → ((j : ℕ) → IsAmong j p.completed → IsAmong j ms)
       → (is_dropping p.state ≡ false → IsGoing a → Good p (last_of p.state) → StandsSome p.last (last_of p.state) → StandsSome l (last_of p.state))
@@ -135,40 +127,12 @@ module _ (p : Sides) (l : Last) (ms : List Message) where
   pub still-acked : (W : List LaneUnit) → (Good p (last_of p.state) → IsAmong (last_of p.state) p.completed → ⊥) → (Good p (last_of p.state) → Each (NoEnd (last_of p.state)) W → IsAmong (last_of p.state) ms → ⊥)
       → is_idle p.state ≡ false → (x : LaneUnit) → Acked p W x → Still x
   still-acked W before after i (DiscardAck j) g = λ e gd am. after gd (subst (λ (z : ℕ). Each (NoEnd z) W) e (g i e (subst (λ (z : ℕ). Good p z) (sym e) gd))) am
-  still-acked W before after i (SyncAck n) g = tt
-  still-acked W before after i (EndAck j) g = tt
-  still-acked W before after i (ResumeAck j n) g = tt
-  still-acked W before after i Exception g = tt
-  still-acked W before after i Completed g = tt
-  still-acked W before after i Unrecognized g = tt
-  still-acked W before after i CannotRecover g = tt
-  still-acked W before after i Accept g = tt
-  still-acked W before after i Other g = tt
-  still-acked W before after i (Start j) g = tt
-  still-acked W before after i (Piece q) g = tt
-  still-acked W before after i (Sync n) g = tt
-  still-acked W before after i (End j) g = tt
-  still-acked W before after i (Resume j n) g = tt
-  still-acked W before after i (Discard j) g = tt
+  still-acked W before after i any4 g = tt
 
   -- nothing was added
   pub still-same : (ms ≡ p.completed) → (a : SendStage) (x : LaneUnit) → Truth p a x → Still x
   still-same e a (DiscardAck j) t = λ s gd am. (t s).1 gd (subst (λ (z : List Message). IsAmong (last_of p.state) z) e am)
-  still-same e a (SyncAck n) t = tt
-  still-same e a (EndAck j) t = tt
-  still-same e a (ResumeAck j n) t = tt
-  still-same e a Exception t = tt
-  still-same e a Completed t = tt
-  still-same e a Unrecognized t = tt
-  still-same e a CannotRecover t = tt
-  still-same e a Accept t = tt
-  still-same e a Other t = tt
-  still-same e a (Start j) t = tt
-  still-same e a (Piece q) t = tt
-  still-same e a (Sync n) t = tt
-  still-same e a (End j) t = tt
-  still-same e a (Resume j n) t = tt
-  still-same e a (Discard j) t = tt
+  still-same e a any2 t = tt
 
   pub discarded-last : (a : SendStage) (x : LaneUnit) → Discarded p a x → Discarded (with_last p l ms) a x
   discarded-last a (Discard j) g = g
@@ -213,22 +177,19 @@ stands-same high (last.Partial j q) k n h t nd st =
 
 -- a part is of one activity
 pub part-same : (l : Last) (k h : ℕ) → is_partial_of l k ≡ true → StandsSome l h → k ≡ h
-part-same last.None k h e st = absurd cc
-part-same (last.Done j) k h e st = absurd cc
 part-same (last.Partial j q) k h e st = elim st [ inl g ↦ eqb-true k j e ∙ sym (eqb-true h j g) | inr g ↦ absurd cc ]
+part-same any0 k h e st = absurd cc
 
 pub part-not_done : (l : Last) (k h : ℕ) → is_partial_of l k ≡ true → is_done l h ≡ true → ⊥
 part-not_done last.None k h e g = cc
-part-not_done (last.Done j) k h e g = cc
-part-not_done (last.Partial j q) k h e g = cc
+part-not_done any0 k h e g = cc
 
 -- The stage of a piece that is made durable
 module _ (p : Sides) where
   secure-talk : (h : ℕ) (q : Phase) (k n : ℕ) (o : List ℕ) (V D : List LaneUnit) → Talk (Bad p) h q (r.Synced k n o) V D → Talk (Bad p) h q (r.Next k n) V D
-  secure-talk h At_rest k n o V D t = absurd t.0.0
-  secure-talk h Before k n o V D t = absurd t.0.0
   secure-talk h During k n o V D t = elim t [ inl b ↦ inl (elim b.0 [ inl z ↦ inl z | inr z ↦ absurd z.0 ], b.1) | inr c ↦ absurd c.0.0 ]
   secure-talk h Behind k n o V D t = elim t [ inl b ↦ inl (elim b.0 [ inl z ↦ inl z | inr z ↦ absurd z.0 ], b.1) | inr c ↦ absurd c.0.0 ]
+  secure-talk h any1 k n o V D t = absurd t.0.0
 
   pub secure-send : (a : SendStage) (D V : List LaneUnit) (k n : ℕ) (o : List ℕ) → SendParts p a D V (r.Synced k n o) → SendParts p a D V (r.Next k n)
   secure-send a D V k n o g = record {
@@ -281,7 +242,6 @@ module _ (p : Sides) where
           ]
 
       by_phase : (q : Phase) → Talk (Bad p) h q (r.Discards k) (Discard k ∷ T) D → Each (Resumed (with_last p l ms)) (Discard k ∷ T)
-      by_phase At_rest t = absurd (nb t.0.1.0.1)
-      by_phase Before t = absurd (nb t.0.1.0.1)
       by_phase During t = active During t
       by_phase Behind t = active Behind t
+      by_phase any0 t = absurd (nb t.0.1.0.1)

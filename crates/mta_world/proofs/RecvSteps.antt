@@ -34,26 +34,19 @@ live-self (state.Dropping k) e = eq-eqb k k refl
 
 confirmed-live : (st : SendState) → 1 ≤ confirmed_of st → is_idle st ≡ false
 confirmed-live (state.Idle l) c = absurd (let z : 1 ≤ 0 = c in omega (arith, z))
-confirmed-live (state.Sending k n) c = refl
-confirmed-live (state.Ending k n) c = refl
-confirmed-live (state.Dropping k) c = refl
+confirmed-live any0 c = refl
 
 dropping-confirmed : (st : SendState) → is_dropping st ≡ true → confirmed_of st ≡ 0
-dropping-confirmed (state.Idle l) e = refl
 dropping-confirmed (state.Sending k n) e = absurd cc
 dropping-confirmed (state.Ending k n) e = absurd cc
-dropping-confirmed (state.Dropping k) e = refl
+dropping-confirmed any0 e = refl
 
 going-rest : (a : SendStage) → IsGoing a → is_rest (phase a) ≡ false
-going-rest (s.Next k n) g = refl
-going-rest (s.Sync_next k n) g = refl
-going-rest (s.Last_put k n) g = refl
-going-rest (s.End_put k n) g = refl
-going-rest (s.Resume_put k n) g = refl
 going-rest s.Quiet g = absurd g
 going-rest s.Opened g = absurd g
 going-rest (s.Started k) g = absurd g
 going-rest (s.Discard_put k) g = absurd g
+going-rest any0 g = refl
 
 module _ (spells : List ℕ → Bool) (octets : ℕ → List ℕ) (w : World) (k : Keeps spells octets w) (i : ℕ) (ry : w.recv_link ≡ Some i) where
   abbrev P : Sides
@@ -254,21 +247,7 @@ module _ (spells : List ℕ → Bool) (octets : ℕ → List ℕ) (w : World) (k
         let st : StandsSome w.last h = subst (λ (z : ℕ). StandsSome w.last z) same (o live same gd) in
         let none : Each (NoDiscard q) (ups (r.Discards j) L.up.way) = subst (λ (z : RecvStage). Each (NoDiscard q) (ups z L.up.way)) e (g gd) in
         absurd (none.0 (is-h st ∙ sym same))
-    apart-resumed e (Start q) g o = tt
-    apart-resumed e (Piece q) g o = tt
-    apart-resumed e (Sync n) g o = tt
-    apart-resumed e (End q) g o = tt
-    apart-resumed e (Discard q) g o = tt
-    apart-resumed e (SyncAck n) g o = tt
-    apart-resumed e (EndAck q) g o = tt
-    apart-resumed e (ResumeAck q n) g o = tt
-    apart-resumed e (DiscardAck q) g o = tt
-    apart-resumed e Exception g o = tt
-    apart-resumed e Completed g o = tt
-    apart-resumed e Unrecognized g o = tt
-    apart-resumed e CannotRecover g o = tt
-    apart-resumed e Accept g o = tt
-    apart-resumed e Other g o = tt
+    apart-resumed e any1 g o = tt
 
     by_badness : (A : Type 0) → (Bad P j → A) → ((Bad P j → ⊥) → A) → A
     by_badness A f g = by_test (spells (octets j)) refl

@@ -62,12 +62,7 @@ made-of : (octets : ℕ → List ℕ) (w : World) (i : ℕ) (st : SendStep) → 
 made-of octets w i (s.Start new) f = λ k le.
     set-other w.octets (last_of w.state + 1) new k (λ (z : List ℕ). octets k ≡ z → octets k ≡ w.octets k) (λ e. absurd (omega (arith, e, le))) (λ e. e) (f k (omega (arith, le)))
 made-of octets w i (s.Confirm n) f = λ k le. f k (omega (arith, le, confirmed-last w.state n))
-made-of octets w i s.To_end f = f
-made-of octets w i s.Sent f = f
-made-of octets w i s.Dropped f = f
-made-of octets w i s.Refused f = f
-made-of octets w i s.Denied f = f
-made-of octets w i s.Abandon f = f
+made-of octets w i any3 f = f
 
 module _ (spells : List ℕ → Bool) where
   stepped : (w v : World) → WorldStep spells w v → Holds spells w → Holds spells v
@@ -89,8 +84,7 @@ module _ (spells : List ℕ → Bool) where
   stepped w v (step.Loses_down i n reach) g octets f = links.unchanged spells octets w (g octets f) i _ ((g octets f).linked.links i) (λ o. o) (λ o. o) (λ y b c. c) (λ x a c. c)
   stepped w v (step.Sender_stops i) g octets f = links.unchanged spells octets w (g octets f) i _ ((g octets f).linked.links i) (λ o. o) (λ o. o) (λ y b c. c) (λ x a c. c)
   stepped w v (step.Receiver_stops i) g octets f = links.unchanged spells octets w (g octets f) i _ ((g octets f).linked.links i) (λ o. o) (λ o. o) (λ y b c. c) (λ x a c. c)
-  stepped w v step.Sender_crashes g octets f = links.crashed spells octets w (g octets f) _ (λ i o. o) (λ i o. o) (λ i o. o) (λ x y c. c)
-  stepped w v step.Receiver_crashes g octets f = links.crashed spells octets w (g octets f) _ (λ i o. o) (λ i o. o) (λ i o. o) (λ x y c. c)
+  stepped w v any2 g octets f = links.crashed spells octets w (g octets f) _ (λ i o. o) (λ i o. o) (λ i o. o) (λ x y c. c)
 
   run-holds : (w : World) → IsWorldRun spells w → Holds spells w
   unfolding Holds
@@ -108,10 +102,8 @@ octets-more [] m = refl
 octets-more (x ∷ ms) m = ap (λ (z : List (List ℕ)). x.octets ∷ z) (octets-more ms m)
 
 is-ending : (st : SendState) → is_ending st (last_of st) ≡ true → (st ≡ state.Ending (last_of st) (confirmed_of st)) × (is_dropping st ≡ false) × (is_idle st ≡ false)
-is-ending (state.Idle l) e = absurd cc
-is-ending (state.Sending k c) e = absurd cc
 is-ending (state.Ending k c) e = (refl, refl, refl)
-is-ending (state.Dropping k) e = absurd cc
+is-ending any0 e = absurd cc
 
 module _ (spells : List ℕ → Bool) (w : World) (k : Keeps spells w.octets w) where
   -- what is completed was sent, or is the activity that ends

@@ -24,28 +24,21 @@ use Rattle.mta_world.proofs.Keeps.{sides, Keeps, IsOf, some-same, facts, not_sen
 -- States --------------------------------------------------------------------------------------------------------
 
 ending-live : (st : SendState) (k : ℕ) → is_ending st k ≡ true → (is_idle st ≡ false) × (is_dropping st ≡ false) × (is_ending st (last_of st) ≡ true)
-ending-live (state.Idle l) k g = absurd cc
-ending-live (state.Sending j c) k g = absurd cc
 ending-live (state.Ending j c) k g = (refl, refl, eq-eqb j j refl)
-ending-live (state.Dropping j) k g = absurd cc
+ending-live any0 k g = absurd cc
 
 sending-live : (st : SendState) (k : ℕ) → is_sending st k ≡ true → (is_idle st ≡ false) × (is_dropping st ≡ false) × ((j : ℕ) → is_ending st j ≡ false)
-sending-live (state.Idle l) k g = absurd cc
 sending-live (state.Sending j c) k g = (refl, refl, λ i. refl)
-sending-live (state.Ending j c) k g = absurd cc
-sending-live (state.Dropping j) k g = absurd cc
+sending-live any0 k g = absurd cc
 
 sending-confirmed : (st : SendState) (k : ℕ) → is_sending st k ≡ true → (j : ℕ) → is_live st j ≡ (j == last_of st)
-sending-confirmed (state.Idle l) k g j = absurd cc
 sending-confirmed (state.Sending i c) k g j = refl
-sending-confirmed (state.Ending i c) k g j = absurd cc
-sending-confirmed (state.Dropping i) k g j = absurd cc
+sending-confirmed any0 k g j = absurd cc
 
 going-state : (st : SendState) (k : ℕ) → goes_on st k ≡ true → (is_idle st ≡ false) × (is_dropping st ≡ false)
-going-state (state.Idle l) k g = absurd cc
 going-state (state.Sending j c) k g = (refl, refl)
 going-state (state.Ending j c) k g = (refl, refl)
-going-state (state.Dropping j) k g = absurd cc
+going-state any0 k g = absurd cc
 
 live-last : (st : SendState) (k : ℕ) → is_live st k ≡ true → (is_idle st ≡ false) × (k ≡ last_of st)
 live-last (state.Idle l) k g = absurd cc
@@ -58,15 +51,11 @@ idle-bound st e = sym (bound-idle st e)
 
 confirmed-bound : (st : SendState) (n : ℕ) → bound (confirmed_at st n) ≡ bound st
 confirmed-bound (state.Idle l) n = refl
-confirmed-bound (state.Sending k c) n = refl
-confirmed-bound (state.Ending k c) n = refl
-confirmed-bound (state.Dropping k) n = refl
+confirmed-bound any0 n = refl
 
 idle-not_ending : (st : SendState) (j : ℕ) → is_idle st ≡ true → is_ending st j ≡ true → ⊥
 idle-not_ending (state.Idle l) j i e = cc
-idle-not_ending (state.Sending k c) j i e = cc
-idle-not_ending (state.Ending k c) j i e = cc
-idle-not_ending (state.Dropping k) j i e = cc
+idle-not_ending any0 j i e = cc
 
 module _ (spells : List ℕ → Bool) (octets : ℕ → List ℕ) (w : World) (k : Keeps spells octets w) where
   abbrev P : Sides

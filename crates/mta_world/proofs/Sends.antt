@@ -17,16 +17,13 @@ use Rattle.mta_world.proofs.Talk.{IsIdle, IsWaiting, Phase, At_rest, Before, Dur
 -- The state's activity ----------------------------------------------------------------------------
 
 pub goes-last : (st : SendState) (k : ℕ) → goes_on st k ≡ true → k ≡ last_of st
-goes-last (state.Idle l) k h = absurd cc
 goes-last (state.Sending j c) k h = eqb-true k j h
 goes-last (state.Ending j c) k h = eqb-true k j h
-goes-last (state.Dropping j) k h = absurd cc
+goes-last any0 k h = absurd cc
 
 pub ending-last : (st : SendState) (k : ℕ) → is_ending st k ≡ true → k ≡ last_of st
-ending-last (state.Idle l) k h = absurd cc
-ending-last (state.Sending j c) k h = absurd cc
 ending-last (state.Ending j c) k h = eqb-true k j h
-ending-last (state.Dropping j) k h = absurd cc
+ending-last any0 k h = absurd cc
 
 module _ (size : ℕ) (octets : ℕ → List ℕ) where
   -- what a sending end of the activity h puts
@@ -55,9 +52,7 @@ module _ (size : ℕ) (octets : ℕ → List ℕ) where
     cut-sends (s.Sync_next j n) c = subst (λ (z : ℕ). Sends h (s.Sync_next z n) (Discard h) (s.Discard_put h)) c discards_sync
     cut-sends (s.Last_put j n) c = subst (λ (z : ℕ). Sends h (s.Last_put z n) (Discard h) (s.Discard_put h)) c discards_last
     cut-sends (s.Resume_put j n) c = subst (λ (z : ℕ). Sends h (s.Resume_put z n) (Discard h) (s.Discard_put h)) c discards_resume
-    cut-sends s.Quiet c = absurd c
-    cut-sends (s.End_put j n) c = absurd c
-    cut-sends (s.Discard_put j) c = absurd c
+    cut-sends any0 c = absurd c
 
     piece-sends : (n : ℕ) (b : Bool) → is_last size (octets h) (n + 1) ≡ b
         → Sends h (s.Next h n) (Piece (piece_of size (octets h) (n + 1))) (if b then s.Last_put h (n + 1) else s.Sync_next h (n + 1))
@@ -114,14 +109,7 @@ module _ (size : ℕ) (octets : ℕ → List ℕ) where
       ]
   puts-send e Accept t sz oc p = absurd cc
   puts-send e Other t sz oc p = absurd cc
-  puts-send e (SyncAck n) t sz oc p = absurd p
-  puts-send e (EndAck k) t sz oc p = absurd p
-  puts-send e (ResumeAck k n) t sz oc p = absurd p
-  puts-send e (DiscardAck k) t sz oc p = absurd p
-  puts-send e Exception t sz oc p = absurd p
-  puts-send e Completed t sz oc p = absurd p
-  puts-send e Unrecognized t sz oc p = absurd p
-  puts-send e CannotRecover t sz oc p = absurd p
+  puts-send e any1 t sz oc p = absurd p
 
   -- What it keeps ---------------------------------------------------------------------------------
 
@@ -222,15 +210,8 @@ module _ (size : ℕ) (octets : ℕ → List ℕ) where
     -- Talk
     module _ (bad : ℕ → Type 0) where
       idle-waits : (i : ℕ) (e : RecvStage) → IsIdle i e → IsWaiting i e
-      idle-waits i r.Free w = w
-      idle-waits i (r.Skips k) w = w
-      idle-waits i (r.Discards k) w = w
-      idle-waits i (r.Next k n) w = w
-      idle-waits i (r.Held k n o) w = w
-      idle-waits i (r.Synced k n o) w = w
-      idle-waits i (r.Ended k n o) w = w
       idle-waits i (r.Asked k n) w = absurd w
-      idle-waits i (r.Found k) w = w
+      idle-waits i any1 w = w
 
       clean-ends : (i : ℕ) (x : LaneUnit) → Clean i x → NoEnds i x
       clean-ends i (DiscardAck k) c e = omega (arith, c, e)
@@ -275,10 +256,9 @@ module _ (bad : ℕ → Type 0) (h : ℕ) where
   tail-active p e V x D a = elim a [ inl b ↦ inl (b.0, b.1.1) | inr c ↦ inr (c.0, c.1.1, c.2) ]
 
   pub tail-talk : (p : Phase) (e : RecvStage) (V : List LaneUnit) (x : LaneUnit) (D : List LaneUnit) → Talk bad h p e V (x ∷ D) → Talk bad h p e V D
-  tail-talk At_rest e V x D t = (t.0, t.1.1)
-  tail-talk Before e V x D t = (t.0, t.1.1)
   tail-talk During e V x D t = tail-active During e V x D t
   tail-talk Behind e V x D t = tail-active Behind e V x D t
+  tail-talk any0 e V x D t = (t.0, t.1.1)
 
   -- Settling ------------------------------------------------------------------------------------
 
@@ -304,12 +284,7 @@ idle-rest : (i : ℕ) (e : RecvStage) → IsIdle i e → IsRest (place e)
 idle-rest i r.Free w = tt
 idle-rest i (r.Skips k) w = tt
 idle-rest i (r.Discards k) w = tt
-idle-rest i (r.Next k n) w = absurd w
-idle-rest i (r.Held k n o) w = absurd w
-idle-rest i (r.Synced k n o) w = absurd w
-idle-rest i (r.Ended k n o) w = absurd w
-idle-rest i (r.Asked k n) w = absurd w
-idle-rest i (r.Found k) w = absurd w
+idle-rest i any1 w = absurd w
 
 pub rest-order : (bad : ℕ → Type 0) (i : ℕ) (e : RecvStage) (V : List LaneUnit) → Rest bad i e V → Under Between (after (place e) V)
 rest-order bad i e V t = rest-under (after (place e) V) (rest-after bad i (place e) V (idle-rest i e t.0) t.1)

@@ -23,16 +23,13 @@ pub record Tells (st : SendState) (x : LaneUnit) : Type 0 where
   pub live : is_idle st ≡ false
 
 going-live : (st : SendState) (k : ℕ) → goes_on st k ≡ true → (is_idle st ≡ false) × (is_dropping st ≡ false) × (is_live st k ≡ true)
-going-live (state.Idle l) k g = absurd cc
 going-live (state.Sending j c) k g = (refl, refl, g)
 going-live (state.Ending j c) k g = (refl, refl, g)
-going-live (state.Dropping j) k g = absurd cc
+going-live any0 k g = absurd cc
 
 ending-live : (st : SendState) (k : ℕ) → is_ending st k ≡ true → is_idle st ≡ false
-ending-live (state.Idle l) k g = absurd cc
-ending-live (state.Sending j c) k g = absurd cc
 ending-live (state.Ending j c) k g = refl
-ending-live (state.Dropping j) k g = absurd cc
+ending-live any0 k g = absurd cc
 
 tells_little : (st : SendState) (x : LaneUnit) → is_idle st ≡ false → ((k n : ℕ) → x ≡ Resume k n → ⊥) → ((k : ℕ) → x ≡ End k → ⊥) → ((k : ℕ) → x ≡ Discard k → ⊥) → Tells st x
 tells_little st x i f g h = record {
@@ -67,14 +64,7 @@ put-tells e (Discard k) t g = record {
 }
 put-tells e Accept t g = absurd cc
 put-tells e Other t g = absurd cc
-put-tells e (SyncAck n) t g = absurd g
-put-tells e (EndAck k) t g = absurd g
-put-tells e (ResumeAck k n) t g = absurd g
-put-tells e (DiscardAck k) t g = absurd g
-put-tells e Exception t g = absurd g
-put-tells e Completed t g = absurd g
-put-tells e Unrecognized t g = absurd g
-put-tells e CannotRecover t g = absurd g
+put-tells e any1 t g = absurd g
 
 module _ (p : Sides) where
   -- An answer passes ----------------------------------------------------------------------------------
@@ -213,21 +203,7 @@ module _ (p : Sides) where
 
   pub put-ended : (x : LaneUnit) → Tells p.state x → Ended p x
   put-ended (End k) t = λ g. inl (t.ending k refl)
-  put-ended (Start k) t = tt
-  put-ended (Piece q) t = tt
-  put-ended (Sync n) t = tt
-  put-ended (Resume k n) t = tt
-  put-ended (Discard k) t = tt
-  put-ended (SyncAck n) t = tt
-  put-ended (EndAck k) t = tt
-  put-ended (ResumeAck k n) t = tt
-  put-ended (DiscardAck k) t = tt
-  put-ended Exception t = tt
-  put-ended Completed t = tt
-  put-ended Unrecognized t = tt
-  put-ended CannotRecover t = tt
-  put-ended Accept t = tt
-  put-ended Other t = tt
+  put-ended any0 t = tt
 
   -- both ends' links ------------------------------------------------------------------------------------
 
@@ -263,21 +239,7 @@ module _ (p : Sides) where
             | inl z ↦ (let c : true ≡ false = sym z ∙ facts.1 in cc)
             | inr z ↦ (let c : 1 ≤ confirmed_of p.state = facts.0 in omega (arith, c, z.0))
           ]
-      one (Start j) q = tt
-      one (Piece q') q = tt
-      one (Sync m) q = tt
-      one (End j) q = tt
-      one (Resume j m) q = tt
-      one (SyncAck m) q = tt
-      one (EndAck j) q = tt
-      one (ResumeAck j m) q = tt
-      one (DiscardAck j) q = tt
-      one Exception q = tt
-      one Completed q = tt
-      one Unrecognized q = tt
-      one CannotRecover q = tt
-      one Accept q = tt
-      one Other q = tt
+      one any0 q = tt
 
   apart-put : (a b : SendStage) (x : LaneUnit) (V : List LaneUnit) → Tells p.state x → Sends p.size p.octets (last_of p.state) a x b → Each (Discarded p a) V → ResumedApart p V x
   apart-put a b x V t (sends_resume {n = n}) d = apart-new a (last_of p.state) n V t d
@@ -353,14 +315,7 @@ module _ (p : Sides) where
       by_numbers true g = goes
       by_numbers false g = o
   hears-parts (s.Resume_put k n) _ D V e o = o
-  hears-parts s.Quiet x D V e o = o
-  hears-parts s.Opened x D V e o = o
-  hears-parts (s.Started k) x D V e o = o
-  hears-parts (s.Next k n) x D V e o = o
-  hears-parts (s.Sync_next k n) x D V e o = o
-  hears-parts (s.Last_put k n) x D V e o = o
-  hears-parts (s.End_put k n) x D V e o = o
-  hears-parts (s.Discard_put k) x D V e o = o
+  hears-parts any0 x D V e o = o
 
   pub got-parts : (a : SendStage) (o : Option LaneUnit) (x : LaneUnit) (D V : List LaneUnit) (e : RecvStage) → SendParts p a (heard_with o (x ∷ D)) V e → SendParts p (stage_got a x) (x ∷ D) V e
   got-parts a o x D V e g = hears-parts a x D V e (part-unheard a V e o (x ∷ D) g)

@@ -54,14 +54,9 @@ moves-shrinks e f x U m = record { each = λ P g. moves-each P e f x U m g; last
 
 pub finish-shrinks : (h : ℕ) (stage : SendStage) (V W : List LaneUnit) → Shrinks V W → Finish h stage V → Finish h stage W
 finish-shrinks h s.Quiet V W g f = tt
-finish-shrinks h s.Opened V W g f = g.each (NoFinish h) f
-finish-shrinks h (s.Started k) V W g f = g.each (NoFinish h) f
-finish-shrinks h (s.Next k n) V W g f = g.each (NoFinish h) f
-finish-shrinks h (s.Sync_next k n) V W g f = g.each (NoFinish h) f
-finish-shrinks h (s.Last_put k n) V W g f = g.each (NoFinish h) f
-finish-shrinks h (s.Resume_put k n) V W g f = g.each (NoFinish h) f
 finish-shrinks h (s.End_put k n) V W g f = (g.each (NoDiscard h) f.0, g.last h f.1)
 finish-shrinks h (s.Discard_put k) V W g f = (g.each (NoEnd h) f.0, g.last h f.1)
+finish-shrinks h any1 V W g f = g.each (NoFinish h) f
 
 module _ (p : Sides) where
   pub acked-map : (V W : List LaneUnit) → (((k : ℕ) → Each (NoEnd k) V → Each (NoEnd k) W)) → (x : LaneUnit) → Acked p V x → Acked p W x
@@ -187,14 +182,11 @@ own-skips h (_ ∷ T) g = own-skips h T g.1
 
 skip-order : (h : ℕ) (stage : SendStage) (D : List LaneUnit) → Names h stage → is_rest (phase stage) ≡ false → Order stage D (Skipping h)
 skip-order h s.Quiet D na e = absurd cc
-skip-order h s.Opened D na e = inr (h, refl, tt)
-skip-order h (s.Started k) D na e = inr (h, refl, tt)
 skip-order h (s.Next k n) D na e = inr (h, refl, na)
 skip-order h (s.Sync_next k n) D na e = inr (h, refl, na)
 skip-order h (s.Last_put k n) D na e = inr (h, refl, na)
-skip-order h (s.End_put k n) D na e = inr (h, refl, tt)
 skip-order h (s.Resume_put k n) D na e = inr (inr (inr (h, refl, na)))
-skip-order h (s.Discard_put k) D na e = inr (h, refl, tt)
+skip-order h any1 D na e = inr (h, refl, tt)
 
 module _ (bad : ℕ → Type 0) (h : ℕ) where
   -- a transfer in which octets are faulty is that of h

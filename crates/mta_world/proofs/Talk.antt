@@ -42,12 +42,9 @@ abbrev pub phase : SendStage → Phase
 phase s.Quiet = At_rest
 phase s.Opened = Before
 phase (s.Started k) = Before
-phase (s.Next k n) = During
-phase (s.Sync_next k n) = During
-phase (s.Last_put k n) = During
-phase (s.Resume_put k n) = During
 phase (s.End_put k n) = Behind
 phase (s.Discard_put k) = Behind
+phase any0 = During
 
 abbrev pub IsBehind : Phase → Type 0
 IsBehind Behind = Unit {0}

@@ -64,15 +64,10 @@ transfers-snoc (CannotRecover ∷ xs) x = ap (λ (z : List LaneUnit). CannotReco
 
 -- the unit that was taken and is not answered
 abbrev pub pending : RecvStage → List LaneUnit
-pending r.Free = []
-pending (r.Next k n) = []
-pending (r.Held k n o) = []
-pending (r.Synced k n o) = []
 pending (r.Ended k n o) = End k ∷ []
 pending (r.Asked k n) = Resume k n ∷ []
 pending (r.Discards k) = Discard k ∷ []
-pending (r.Found k) = []
-pending (r.Skips k) = []
+pending any0 = []
 
 -- Units that go up ------------------------------------------------------------------------------
 
