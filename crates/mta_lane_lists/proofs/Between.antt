@@ -62,32 +62,18 @@ module _ (spells : List ℕ → Bool) (history : List Seen) where
   got_stand : (low upto : ℕ) (w : Wanted) (u : AnyUnit) (rest : List SessionEvent) → StandUpto low upto rest
       → StandUpto low upto (got_as w u ∷ rest)
   got_stand low upto (Aborts reason) u rest r = r
-  got_stand low upto (Rejects reason) u rest r = r
-  got_stand low upto (Ends e) u rest r = r
-  got_stand low upto (Puts v t) u rest r = r
-  got_stand low upto (Asks a t) u rest r = r
-  got_stand low upto (Reads t) u rest r = r
-  got_stand low upto (Goes_on t) u rest r = r
-  got_stand low upto (Excepts t f) u rest r = r
-  got_stand low upto Never u rest r = r
+  got_stand low upto any2 u rest r = r
 
   come_stand : (low from seen upto : ℕ) (p : Phase) (a : Action) (t : Turn) (e : Event) (rest : List SessionEvent)
       → low ≤ from → ComesTrue spells history from seen p a e → From seen upto rest
       → StandUpto low upto (come_of a t seen e ++ rest)
-  come_stand low from seen upto p (action.Put u) t e rest le is more = more low (omega (arith, le, is))
   come_stand low from seen upto p action.Read t (event.Unit u) rest le is more =
       got_stand low upto (called_for t.before.phase t.before u) u rest (more low (omega (arith, le, is)))
-  come_stand low from seen upto p action.Read t event.Go rest le is more = more low (omega (arith, le, is))
-  come_stand low from seen upto p action.Read t event.BadUnit rest le is more = more low (omega (arith, le, is))
-  come_stand low from seen upto p action.Read t (event.Reply y) rest le is more = more low (omega (arith, le, is))
-  come_stand low from seen upto p action.Read t event.Over rest le is more = more low (omega (arith, le, is))
+  come_stand low from seen upto p action.Read t any7 rest le is more = more low (omega (arith, le, is))
   come_stand low from seen upto p (action.Ask a) t (event.Reply y) rest le is more =
       told_stand low from seen upto a y (step_told a y) (look_told a y) rest le is.1 more
-  come_stand low from seen upto p (action.Ask a) t event.Go rest le is more = more low (omega (arith, le, is))
-  come_stand low from seen upto p (action.Ask a) t (event.Unit u) rest le is more = more low (omega (arith, le, is))
-  come_stand low from seen upto p (action.Ask a) t event.BadUnit rest le is more = more low (omega (arith, le, is))
-  come_stand low from seen upto p (action.Ask a) t event.Over rest le is more = more low (omega (arith, le, is))
-  come_stand low from seen upto p (action.Finish y) t e rest le is more = more low (omega (arith, le, is))
+  come_stand low from seen upto p (action.Ask a) t any7 rest le is more = more low (omega (arith, le, is))
+  come_stand low from seen upto p any5 t e rest le is more = more low (omega (arith, le, is))
 
   pub calls_then : (cs : List Call) (tail : List SessionEvent) (low from upto : ℕ) (a : Action) → low ≤ from
       → AllComeTrue spells history from a cs → From (seen_of from cs) upto tail
@@ -128,11 +114,10 @@ module _ (spells : List ℕ → Bool) (history : List Seen) where
 -- it is so from each earlier length on
 sooner : (low from upto : ℕ) (ys : List SessionEvent) → low ≤ from → StandUpto from upto ys → StandUpto low upto ys
 sooner low from upto [] le r = omega (arith, le, r)
-sooner low from upto (Made p j step ∷ ys) le r = let here = r.0 in (omega (arith, le, here), r.1)
-sooner low from upto (Looked n look ∷ ys) le r = let here = r.0 in (omega (arith, le, here), r.1)
 sooner low from upto (Got u ∷ ys) le r = sooner low from upto ys le r
 sooner low from upto (Refused u ∷ ys) le r = sooner low from upto ys le r
 sooner low from upto (Put u ∷ ys) le r = sooner low from upto ys le r
+sooner low from upto any3 le r = let here = r.0 in (omega (arith, le, here), r.1)
 
 -- ---- the receiving half
 

@@ -49,14 +49,6 @@ sends_there : (p : ℕ) (b : Bool) (step : SeenStep) (v : s.SendStep) (xs : List
     → sending.sending_step p step ≡ sending.Makes v ∷ []
     → sent.HasPosition p (sent.placed_at p (if b then sending_step_of step else []) ++ xs)
 sends_there p false step v xs t e = cc
-sends_there p true (h.Start g k octets) v xs t e = inl refl
-sends_there p true (h.Confirm g k n) v xs t e = inl refl
-sends_there p true (h.To_end g k) v xs t e = inl refl
-sends_there p true (h.Sent g k) v xs t e = inl refl
-sends_there p true (h.Refused g k) v xs t e = inl refl
-sends_there p true (h.Denied g k) v xs t e = inl refl
-sends_there p true (h.Dropped g k) v xs t e = inl refl
-sends_there p true (h.Abandon k) v xs t e = inl refl
 sends_there p true (h.LaneOpen agreed size window) v xs t e = cc
 sends_there p true (h.LaneAgree size window) v xs t e = cc
 sends_there p true (h.Bind g) v xs t e = cc
@@ -64,6 +56,7 @@ sends_there p true (h.Secure g k n piece) v xs t e = cc
 sends_there p true (h.Complete g k n piece) v xs t e = cc
 sends_there p true (h.Drop g k) v xs t e = cc
 sends_there p true (h.CloseLane g) v xs t e = cc
+sends_there p true any2 v xs t e = inl refl
 
 receives_there : (p : ℕ) (b : Bool) (step : SeenStep) (v : r.RecvStep) (xs : List received.Placed) → b ≡ true
     → receiving.receiving_step p step ≡ receiving.Makes v ∷ []
@@ -72,18 +65,7 @@ receives_there p false step v xs t e = cc
 receives_there p true (h.Secure g k n piece) v xs t e = inl refl
 receives_there p true (h.Complete g k n piece) v xs t e = inl refl
 receives_there p true (h.Drop g k) v xs t e = inl refl
-receives_there p true (h.LaneOpen agreed size window) v xs t e = cc
-receives_there p true (h.LaneAgree size window) v xs t e = cc
-receives_there p true (h.Bind g) v xs t e = cc
-receives_there p true (h.Start g k octets) v xs t e = cc
-receives_there p true (h.Confirm g k n) v xs t e = cc
-receives_there p true (h.To_end g k) v xs t e = cc
-receives_there p true (h.Sent g k) v xs t e = cc
-receives_there p true (h.Refused g k) v xs t e = cc
-receives_there p true (h.Denied g k) v xs t e = cc
-receives_there p true (h.Dropped g k) v xs t e = cc
-receives_there p true (h.Abandon k) v xs t e = cc
-receives_there p true (h.CloseLane g) v xs t e = cc
+receives_there p true any2 v xs t e = cc
 
 sent_front : (p : ℕ) (xs ys : List sent.Placed) → sent.HasPosition p xs → sent.HasPosition p (xs ++ ys)
 sent_front p [] ys i = absurd i
@@ -210,11 +192,7 @@ kind_of p (h.Refused g k) y e = makes_it g s.Refused refl refl
 kind_of p (h.Denied g k) y e = makes_it g s.Denied refl refl
 kind_of p (h.Dropped g k) y e = makes_it g s.Dropped refl refl
 kind_of p (h.Abandon k) y e = gives_up (sym (same_half _ y e))
-kind_of p (h.LaneAgree size window) y e = cc
-kind_of p (h.Secure g k n piece) y e = cc
-kind_of p (h.Complete g k n piece) y e = cc
-kind_of p (h.Drop g k) y e = cc
-kind_of p (h.CloseLane g) y e = cc
+kind_of p any1 y e = cc
 
 data ReceivedKind (p : ℕ) (step : SeenStep) : Type 0 where
   begins_there : ((lane : ℕ) → (j : ℕ) × BeginsHere lane j (On lane step)) → ReceivedKind p step
@@ -228,16 +206,7 @@ received_kind p (h.Bind g) y e = begins_there (λ lane. (g, (refl, refl)))
 received_kind p (h.Secure g k n piece) y e = makes_there g (r.Secure k n piece) refl refl
 received_kind p (h.Complete g k n piece) y e = makes_there g (r.Complete k n piece) refl refl
 received_kind p (h.Drop g k) y e = makes_there g (r.Drop k) refl refl
-received_kind p (h.LaneAgree size window) y e = cc
-received_kind p (h.Start g k octets) y e = cc
-received_kind p (h.Confirm g k n) y e = cc
-received_kind p (h.To_end g k) y e = cc
-received_kind p (h.Sent g k) y e = cc
-received_kind p (h.Refused g k) y e = cc
-received_kind p (h.Denied g k) y e = cc
-received_kind p (h.Dropped g k) y e = cc
-received_kind p (h.Abandon k) y e = cc
-received_kind p (h.CloseLane g) y e = cc
+received_kind p any1 y e = cc
 
 -- what the history has at a position where a half has a step
 record OnHalf {Y : Type 0} (which : ℕ → SeenStep → List Y) (lane p : ℕ) (x : Option Seen) (y : Y) : Type 0 where

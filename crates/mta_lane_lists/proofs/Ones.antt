@@ -64,12 +64,8 @@ module _ (spells : List ℕ → Bool) (history : List Seen) where
       → StandUpto low upto (lost_of a upto e ++ abort_of aborts)
   link_tail low upto (action.Put x) e aborts at le = abort_stand spells history low upto aborts le
   link_tail low upto action.Read (event.Unit u) aborts at le = abort_stand spells history low upto aborts le
-  link_tail low upto action.Read event.Go aborts at le = abort_stand spells history low upto aborts le
-  link_tail low upto action.Read event.BadUnit aborts at le = abort_stand spells history low upto aborts le
-  link_tail low upto action.Read event.Over aborts at le = abort_stand spells history low upto aborts le
-  link_tail low upto action.Read (event.Reply y) aborts at le = abort_stand spells history low upto aborts le
-  link_tail low upto (action.Ask q) e aborts at le = absurd at
-  link_tail low upto (action.Finish y) e aborts at le = absurd at
+  link_tail low upto action.Read any3 aborts at le = abort_stand spells history low upto aborts le
+  link_tail low upto any2 e aborts at le = absurd at
 
   abbrev Stands : (at upto : ℕ) → SessionList → Type 0
   Stands at upto m = StandUpto (at + 1) upto m.events

@@ -79,9 +79,7 @@ starts_answer keep t s after handed o kept still made = made_answers keep t s af
 
 idle_is : (known kept : SendState) → is_idle known ≡ true → IsHalf known kept → kept ≡ known
 idle_is (Idle l) kept e h = h
-idle_is (Sending k c) kept e h = absurd cc
-idle_is (Ending k c) kept e h = absurd cc
-idle_is (Dropping k) kept e h = absurd cc
+idle_is any0 kept e h = absurd cc
 
 pub looks_still : LooksStill
 looks_still t pieces s lane fits at k =

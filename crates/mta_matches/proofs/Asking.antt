@@ -152,9 +152,7 @@ link_asked t (side.Responder own) = accept_asked t (answer_for t.side t.opened t
 
 received_asked : (t : State) (state : SendState) → AsksAs (on_received t state)
 received_asked t (state.Idle last) = link_asked (restored t (state.Idle last) []) t.side
-received_asked t (state.Sending k c) = refl
-received_asked t (state.Ending k c) = refl
-received_asked t (state.Dropping k) = refl
+received_asked t any1 = refl
 
 receiving_asked : (t : State) (state : SendState) (x : Option (ℕ × Last)) → AsksAs (on_receiving t state x)
 receiving_asked t state None = tt
@@ -169,10 +167,7 @@ resumed_asked t state (Err m) = tt
 
 step_asked : (t : State) (step : OwnStep) → ask_of t step ≡ ask_of (in_phase t (phase.AsksStep step)) step
 step_asked t (own.Confirm n) = refl
-step_asked t own.Ending = refl
-step_asked t own.Sent = refl
-step_asked t own.Dropped = refl
-step_asked t (own.Refused kind) = refl
+step_asked t any1 = refl
 
 makes_asked : (t : State) (x : AnyUnit) (step : Option OwnStep) → AsksAs (makes_or t x step)
 makes_asked t x (Some step) = step_asked t step

@@ -14,20 +14,9 @@ module _ (spells : List ℕ → Bool) (n g : ℕ) where
 
   stays_past : (l : Halves) (step : SeenStep) → Allows spells l step → Past l → Past (halves_after l step)
   stays_past l (LaneOpen agreed size window) may p = absurd (p.0 may)
-  stays_past l (LaneAgree size window) may p = p
   stays_past l (Bind h) may p = (p.0, omega (arith, p.1, may.1))
-  stays_past l (Start h k octets) may p = p
-  stays_past l (Confirm h k c) may p = p
-  stays_past l (To_end h k) may p = p
-  stays_past l (Sent h k) may p = p
-  stays_past l (Refused h k) may p = p
-  stays_past l (Denied h k) may p = p
-  stays_past l (Dropped h k) may p = p
-  stays_past l (Abandon k) may p = p
-  stays_past l (Secure h k c piece) may p = p
-  stays_past l (Complete h k c piece) may p = p
-  stays_past l (Drop h k) may p = p
   stays_past l (CloseLane h) may p = ((λ e. cc), p.1)
+  stays_past l any1 may p = p
 
   none_begins : (l : Halves) (m : ℕ) (step : SeenStep) → Allows spells l step → Past l → Begins n g (On m step) → ⊥
   none_begins l m (LaneOpen agreed size window) may p b = p.0 may

@@ -81,9 +81,7 @@ recovery_place t (Some state) = refl
 
 received_place : (t : State) (state : SendState) → PlaceAs t (on_received t state)
 received_place t (state.Idle last) = link_place (restored t (state.Idle last) []) t.side
-received_place t (state.Sending k c) = refl
-received_place t (state.Ending k c) = refl
-received_place t (state.Dropping k) = refl
+received_place t any1 = refl
 
 receiving_place : (t : State) (state : SendState) (x : Option (ℕ × Last)) → PlaceAs t (on_receiving t state x)
 receiving_place t state None = tt
@@ -234,26 +232,20 @@ excepts_put t found x new d = absurd d
 excepts_place : (t : State) (found : Found) (a : Action) (new : State) → ExceptsFor t found a new → place new ≡ place t
 excepts_place t found (action.Put x) new d = excepts_put t found x new d
 excepts_place t found (action.Ask x) new d = excepts_ask t found x new d
-excepts_place t found action.Read new d = absurd d
-excepts_place t found (action.Finish e) new d = absurd d
+excepts_place t found any2 new d = absurd d
 
 done_place : (t : State) (w : Wanted) (a : Action) (new : State) → PlaceAs t w → Does t w a new → place new ≡ place t
-done_place t (Aborts reason) a new h d = ap place d.1
-done_place t (Rejects reason) a new h d = ap place d.1
-done_place t (Ends e) a new h d = ap place d.1
 done_place t (Puts x after) a new h d = ap place d.1 ∙ h
 done_place t (Asks x after) a new h d = ap place d.1 ∙ h
 done_place t (Reads after) a new h d = ap place d.1 ∙ h
 done_place t (Goes_on after) a new h d = goes_on_place after a new d ∙ h
 done_place t (Excepts after found) a new h d = excepts_place after found a new d ∙ h
 done_place t Never a new h d = absurd d
+done_place t any1 a new h d = ap place d.1
 
 counted_place : (t : State) (e : Event) → place (counted t e) ≡ place t
 counted_place t event.Go = refl
-counted_place t (event.Unit x) = refl
-counted_place t event.BadUnit = refl
-counted_place t (event.Reply x) = refl
-counted_place t event.Over = refl
+counted_place t any1 = refl
 
 follows_place : (f : Phase) (t : State) (e : Event) (a : Action) (new : State) → has_lane f ≡ true
     → PlaceAs (counted t e) (wanted (counted t e) e) → FollowsAt f t e a new → place new ≡ place t

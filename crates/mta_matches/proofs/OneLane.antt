@@ -86,9 +86,6 @@ class_keeps : (P : Lane → Type 0) (m : ℕ) (s : spool.State) (c : Class) (mom
     → AreNumbered 0 s.lanes.open_lanes s.lanes.count → StepNeeds s c moment → LeadsOn P m s c moment
     → m ≤ s.lanes.count → WhereOpen P (lane_at m s.lanes.open_lanes)
     → (m ≤ (lanes_after s c moment).count) × WhereOpen P (lane_at m (lanes_after s c moment).open_lanes)
-class_keeps P m s (records text) moment numbered needs leads le holds = (le, holds)
-class_keeps P m s (accepts octets) moment numbered needs leads le holds = (le, holds)
-class_keeps P m s (settles how i r) moment numbered needs leads le holds = (le, holds)
 class_keeps P m s (opens role peer reference twa checkpoint window) moment numbered needs leads le holds =
     let new : Lane = new_lane (s.lanes.count + 1) role peer reference twa checkpoint window in
     let apart : eqb m (s.lanes.count + 1) ≡ false = ne_eqb m (s.lanes.count + 1) (λ e. omega (arith, le, e)) in
@@ -99,6 +96,7 @@ class_keeps P m s (on_lane n g step) moment numbered needs leads le holds = (
       (step_on P m s n needs.lane moment step numbered needs.lane_is
       (λ same. leads needs.lane same needs.current needs.needs) holds),
 )
+class_keeps P m s any3 moment numbered needs leads le holds = (le, holds)
 
 pub step_keeps : (P : Lane → Type 0) (m : ℕ) (s : spool.State) (step : Step)
     → AreNumbered 0 s.lanes.open_lanes s.lanes.count → IsPossible s step

@@ -19,15 +19,11 @@ use Rattle.mta_matches.proofs.OneLane.{LeadsOn, step_keeps}
 
 -- what is given up was in Sending, so the session has it there
 given_up : (known kept : SendState) (k : ℕ) → is_sending kept k ≡ true → IsHalf known kept → IsHalf known (Dropping k)
-given_up known (Idle last) k e h = absurd cc
-given_up (Idle last) (Sending j c) k e h = absurd cc
 given_up (Sending i d) (Sending j c) k e (inl h) =
     inr (let one : i ≡ j = cc in ap Dropping (eqb-true k j e ∙ sym one))
 given_up (Sending i d) (Sending j c) k e (inr h) = absurd cc
-given_up (Ending i d) (Sending j c) k e h = absurd cc
-given_up (Dropping i) (Sending j c) k e h = absurd cc
-given_up known (Ending j c) k e h = absurd cc
-given_up known (Dropping j) k e h = absurd cc
+given_up any0 (Sending j c) k e h = absurd cc
+given_up known any1 k e h = absurd cc
 
 module _ (t : Known) (s : spool.State) (lane : Lane) (moment : ℕ) where
   -- a lane of a later generation stays so
@@ -84,13 +80,10 @@ module _ (t : Known) (s : spool.State) (lane : Lane) (moment : ℕ) where
 
 others_lead : (t : Known) (s : spool.State) (c : Class) (moment : ℕ) → IsOthers t.lane t.generation c
     → LeadsOn (IsLaterOrKnown t) t.lane s c moment
-others_lead t s (records text) moment other = tt
-others_lead t s (accepts octets) moment other = tt
-others_lead t s (settles how i r) moment other = tt
-others_lead t s (opens role peer reference twa checkpoint window) moment other = tt
 others_lead t s (on_lane n g step) moment other =
     λ lane same current needs. lane_keeps t s lane moment step g current needs
     (subst (λ (v : ℕ). IsOthersOn t.lane t.generation v g step) same other)
+others_lead t s any2 moment other = tt
 
 pub others_keep : OthersKeep
 others_keep t s step numbered possible others m =

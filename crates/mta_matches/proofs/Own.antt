@@ -20,31 +20,23 @@ use Rattle.mta_matches.specs.Steps.{IsAsked, IsTold, learned}
 use Rattle.mta_matches.specs.Laws.{OwnStepsMatch}
 
 pub same_last : (known kept : SendState) → IsHalf known kept → last_of kept ≡ last_of known
-same_last (Idle l) kept h = ap last_of h
 same_last (Sending k c) kept (inl h) = ap last_of h
 same_last (Sending k c) kept (inr h) = ap last_of h
-same_last (Ending k c) kept h = ap last_of h
-same_last (Dropping k) kept h = ap last_of h
+same_last any0 kept h = ap last_of h
 
 going_half : (known kept : SendState) (k : ℕ) → goes_on kept k ≡ true → IsHalf known kept → kept ≡ known
-going_half (Idle l) kept k e h = h
 going_half (Sending j c) kept k e (inl h) = h
 going_half (Sending j c) kept k e (inr h) =
     absurd (let none : goes_on (Dropping j) k ≡ true = subst (λ (x : SendState). goes_on x k ≡ true) h e in cc)
-going_half (Ending j c) kept k e h = h
-going_half (Dropping j) kept k e h = h
+going_half any0 kept k e h = h
 
 sending_goes : (kept : SendState) (k : ℕ) → is_sending kept k ≡ true → goes_on kept k ≡ true
-sending_goes (Idle l) k e = absurd cc
 sending_goes (Sending j c) k e = e
-sending_goes (Ending j c) k e = absurd cc
-sending_goes (Dropping j) k e = absurd cc
+sending_goes any0 k e = absurd cc
 
 half_same : (x : SendState) → IsHalf x x
-half_same (Idle l) = refl
 half_same (Sending k c) = inl refl
-half_same (Ending k c) = refl
-half_same (Dropping k) = refl
+half_same any0 = refl
 
 settled_is : (lane : Lane) (outcome : Outcome) (k : ℕ)
     → sends lane (send_step outcome k) ≡ Idle (last_of lane.sending)

@@ -224,9 +224,7 @@ reply_match lead f p t s x after fits m r =
     (λ told is e. stays (given_up p t told) s after e (given_up_match p t s told is m))
 
 pub replies_match : OwnStepsMatch → RepliesMatch
-replies_match lead p t s event.Go after fits m r = stays (known t p.stand) s after r m
 replies_match lead p t s (event.Unit x) after fits m r =
     stays (learned_of_unit t.phase p t x) s after r (unit_match t.phase p t s x m)
-replies_match lead p t s event.BadUnit after fits m r = stays (known t p.stand) s after r m
 replies_match lead p t s (event.Reply x) after fits m r = reply_match lead t.phase p t s x after fits m r
-replies_match lead p t s event.Over after fits m r = stays (known t p.stand) s after r m
+replies_match lead p t s any4 after fits m r = stays (known t p.stand) s after r m

@@ -28,11 +28,8 @@ role_kept s lane moment step = search rules
 
 roles_lead : (n : ℕ) (role : LaneRole) (s : spool.State) (c : Class) (moment : ℕ)
     → LeadsOn (λ lane. lane.role ≡ role) n s c moment
-roles_lead n role s (records text) moment = tt
-roles_lead n role s (accepts octets) moment = tt
-roles_lead n role s (settles how i r) moment = tt
-roles_lead n role s (opens x peer reference twa checkpoint window) moment = tt
 roles_lead n role s (on_lane m g step) moment = λ lane same current needs is. role_kept s lane moment step ∙ is
+roles_lead n role s any3 moment = tt
 
 pub lanes_keep_roles : StepsKeep → LanesKeepRoles
 lanes_keep_roles keep n role s steps kept possible le is =
@@ -43,18 +40,14 @@ lanes_keep_roles keep n role s steps kept possible le is =
 confirmed_past : (x : SendState) (k n : ℕ) → (k ≤ last_of x) × (goes_on x k ≡ false)
     → (k ≤ last_of (confirmed_at x n)) × (goes_on (confirmed_at x n) k ≡ false)
 confirmed_past (Idle l) k n h = h
-confirmed_past (Sending j c) k n h = h
-confirmed_past (Ending j c) k n h = h
-confirmed_past (Dropping j) k n h = h
+confirmed_past any0 k n h = h
 
 ended_past : (x : SendState) (k j c : ℕ) → is_sending x j ≡ true → (k ≤ last_of x) × (goes_on x k ≡ false)
     → (k ≤ j) × (eqb k j ≡ false)
-ended_past (Idle l) k j c e h = absurd cc
 ended_past (Sending i d) k j c e h =
     let same : j ≡ i = eqb-true j i e in
     subst (λ (v : ℕ). (k ≤ v) × (eqb k v ≡ false)) (sym same) h
-ended_past (Ending i d) k j c e h = absurd cc
-ended_past (Dropping i) k j c e h = absurd cc
+ended_past any0 k j c e h = absurd cc
 
 module _ (k : ℕ) (s : spool.State) (lane : Lane) (moment : ℕ) where
   past_leads : (step : LaneStep) → LaneNeeds s lane step moment → IsPast k lane
@@ -76,11 +69,8 @@ module _ (k : ℕ) (s : spool.State) (lane : Lane) (moment : ℕ) where
   past_leads close needs h = h
 
 all_past_lead : (n k : ℕ) (s : spool.State) (c : Class) (moment : ℕ) → LeadsOn (IsPast k) n s c moment
-all_past_lead n k s (records text) moment = tt
-all_past_lead n k s (accepts octets) moment = tt
-all_past_lead n k s (settles how i r) moment = tt
-all_past_lead n k s (opens x peer reference twa checkpoint window) moment = tt
 all_past_lead n k s (on_lane m g step) moment = λ lane same current needs h. past_leads k s lane moment step needs h
+all_past_lead n k s any3 moment = tt
 
 pub given_up_stays : StepsKeep → GivenUpStays
 given_up_stays keep n k s steps kept possible le h =
@@ -89,10 +79,8 @@ given_up_stays keep n k s steps kept possible le h =
 -- ---- an activity that is given up
 
 confirmed_dropping : (x : SendState) (k n : ℕ) → confirmed_at x n ≡ Dropping k → x ≡ Dropping k
-confirmed_dropping (Idle l) k n e = absurd cc
-confirmed_dropping (Sending j c) k n e = absurd cc
-confirmed_dropping (Ending j c) k n e = absurd cc
 confirmed_dropping (Dropping j) k n e = e
+confirmed_dropping any0 k n e = absurd cc
 
 module _ (n k : ℕ) (s : spool.State) (lane : Lane) (moment : ℕ) where
   drop_leads : (g : Option ℕ) (step : LaneStep) → IsNoAbandon n k (on_lane n g step) → (IsDropping k lane → ⊥)
@@ -114,13 +102,10 @@ module _ (n k : ℕ) (s : spool.State) (lane : Lane) (moment : ℕ) where
 
 no_abandon_leads : (n k : ℕ) (s : spool.State) (c : Class) (moment : ℕ) → IsNoAbandon n k c
     → LeadsOn (λ lane. IsDropping k lane → ⊥) n s c moment
-no_abandon_leads n k s (records text) moment other = tt
-no_abandon_leads n k s (accepts octets) moment other = tt
-no_abandon_leads n k s (settles how i r) moment other = tt
-no_abandon_leads n k s (opens x peer reference twa checkpoint window) moment other = tt
 no_abandon_leads n k s (on_lane m g step) moment other =
     λ lane same current needs h. drop_leads n k s lane moment g step
     (subst (λ (v : ℕ). IsNoAbandon n k (on_lane v g step)) same other) h
+no_abandon_leads n k s any3 moment other = tt
 
 drops_hold : StepsKeep → (n k : ℕ) (s : spool.State) (steps : List Step) → IsKept s → ArePossible s steps
     → AreNoAbandon n k steps → Holds (λ lane. IsDropping k lane → ⊥) n s

@@ -33,52 +33,16 @@ use Rattle.mta_procedures.proofs.RelayLaws.{not_passed, not_looped, short_copy, 
 
 of_messages : (hop : Hop) (deferral : ℕ) (c : Case) → IsOfMessages (message_column hop deferral c)
 of_messages hop deferral Looped = tt
-of_messages hop deferral CriticalExtension = tt
-of_messages hop deferral NoRoute = tt
-of_messages hop deferral Expired = tt
-of_messages hop deferral Deferred = tt
-of_messages hop deferral ListInHistory = tt
-of_messages hop deferral ListProhibited = tt
-of_messages hop deferral PosterNotPermitted = tt
-of_messages hop deferral FullHistory = tt
-of_messages hop deferral LongMembersCopy = tt
-of_messages hop deferral ToList = tt
-of_messages hop deferral ToMailbox = tt
-of_messages hop deferral LongCopy = tt
-of_messages hop deferral ToPeer = tt
+of_messages hop deferral any2 = tt
 
 of_probes : (hop : Hop) (c : Case) → IsOfProbes (probe_column hop c)
 of_probes hop Looped = tt
-of_probes hop CriticalExtension = tt
-of_probes hop NoRoute = tt
-of_probes hop Expired = tt
-of_probes hop Deferred = tt
-of_probes hop ListInHistory = tt
-of_probes hop ListProhibited = tt
-of_probes hop PosterNotPermitted = tt
-of_probes hop FullHistory = tt
-of_probes hop LongMembersCopy = tt
-of_probes hop ToList = tt
-of_probes hop ToMailbox = tt
-of_probes hop LongCopy = tt
-of_probes hop ToPeer = tt
+of_probes hop any1 = tt
 
 of_reports : (hop : Hop) (back : Bool) (c : Case) → IsOfReports (report_column hop back c)
-of_reports hop back Looped = tt
-of_reports hop back CriticalExtension = tt
-of_reports hop back NoRoute = tt
-of_reports hop back Expired = tt
-of_reports hop back Deferred = tt
-of_reports hop back ListInHistory = tt
-of_reports hop back ListProhibited = tt
-of_reports hop back PosterNotPermitted = tt
-of_reports hop back FullHistory = tt
-of_reports hop back LongMembersCopy = tt
 of_reports hop true ToList = tt
 of_reports hop false ToList = tt
-of_reports hop back ToMailbox = tt
-of_reports hop back LongCopy = tt
-of_reports hop back ToPeer = tt
+of_reports hop back any2 = tt
 
 pub messages_have_theirs : MessagesHaveTheirVerdicts
 unfolding verdict_of_message
@@ -96,42 +60,17 @@ no_reports_on_reports s p back = of_reports (best_hop s.tables p.destination) ba
 
 mailbox_is : (hop : Hop) → leads_to_mailbox hop ≡ true → hop ≡ Hops.Local (place_of hop)
 mailbox_is (Hops.Local place) e = refl
-mailbox_is (Hops.List place) e = absurd cc
-mailbox_is (Hops.Peer place) e = absurd cc
-mailbox_is Hops.None e = absurd cc
+mailbox_is any0 e = absurd cc
 
 message_delivered : (hop : Hop) (deferral place : ℕ) (c : Case) → message_column hop deferral c ≡ Deliver place → (c ≡ ToMailbox) × (place_of hop ≡ place)
-message_delivered hop deferral place Looped e = absurd cc
-message_delivered hop deferral place CriticalExtension e = absurd cc
-message_delivered hop deferral place NoRoute e = absurd cc
-message_delivered hop deferral place Expired e = absurd cc
-message_delivered hop deferral place Deferred e = absurd cc
-message_delivered hop deferral place ListInHistory e = absurd cc
-message_delivered hop deferral place ListProhibited e = absurd cc
-message_delivered hop deferral place PosterNotPermitted e = absurd cc
-message_delivered hop deferral place FullHistory e = absurd cc
-message_delivered hop deferral place LongMembersCopy e = absurd cc
-message_delivered hop deferral place ToList e = absurd cc
 message_delivered hop deferral place ToMailbox e = (refl, cc)
-message_delivered hop deferral place LongCopy e = absurd cc
-message_delivered hop deferral place ToPeer e = absurd cc
+message_delivered hop deferral place any3 e = absurd cc
 
 report_delivered : (hop : Hop) (back : Bool) (place : ℕ) (c : Case) → report_column hop back c ≡ Deliver place → (c ≡ ToMailbox) × (place_of hop ≡ place)
-report_delivered hop back place Looped e = absurd cc
-report_delivered hop back place CriticalExtension e = absurd cc
-report_delivered hop back place NoRoute e = absurd cc
-report_delivered hop back place Expired e = absurd cc
-report_delivered hop back place Deferred e = absurd cc
-report_delivered hop back place ListInHistory e = absurd cc
-report_delivered hop back place ListProhibited e = absurd cc
-report_delivered hop back place PosterNotPermitted e = absurd cc
-report_delivered hop back place FullHistory e = absurd cc
-report_delivered hop back place LongMembersCopy e = absurd cc
 report_delivered hop true place ToList e = absurd cc
 report_delivered hop false place ToList e = absurd cc
 report_delivered hop back place ToMailbox e = (refl, cc)
-report_delivered hop back place LongCopy e = absurd cc
-report_delivered hop back place ToPeer e = absurd cc
+report_delivered hop back place any3 e = absurd cc
 
 at_mailbox : (f : Facts) (place : ℕ) → (first_case f ≡ ToMailbox) × (place_of f.hop ≡ place) → f.hop ≡ Hops.Local place
 at_mailbox f place h =
@@ -155,19 +94,7 @@ reports_at_mailboxes s p back place e =
 column_passed : (hop : Hop) (back : Bool) (c : Case) → report_column hop back c ≡ Back → back ≡ true
 column_passed hop true c e = refl
 column_passed hop false Looped e = absurd cc
-column_passed hop false CriticalExtension e = absurd cc
-column_passed hop false NoRoute e = absurd cc
-column_passed hop false Expired e = absurd cc
-column_passed hop false Deferred e = absurd cc
-column_passed hop false ListInHistory e = absurd cc
-column_passed hop false ListProhibited e = absurd cc
-column_passed hop false PosterNotPermitted e = absurd cc
-column_passed hop false FullHistory e = absurd cc
-column_passed hop false LongMembersCopy e = absurd cc
-column_passed hop false ToList e = absurd cc
-column_passed hop false ToMailbox e = absurd cc
-column_passed hop false LongCopy e = absurd cc
-column_passed hop false ToPeer e = absurd cc
+column_passed hop false any2 e = absurd cc
 
 pub passed_reports : PassedReportsHaveDestinations
 unfolding verdict_of_report
@@ -192,26 +119,13 @@ data IsExpansion (c : Case) : Type 0 where
   once : c ≡ ToList → IsExpansion c
 
 message_expanded : (hop : Hop) (deferral place : ℕ) (c : Case) → message_column hop deferral c ≡ Expand place → IsExpansion c × (place_of hop ≡ place)
-message_expanded hop deferral place Looped e = absurd cc
-message_expanded hop deferral place CriticalExtension e = absurd cc
-message_expanded hop deferral place NoRoute e = absurd cc
-message_expanded hop deferral place Expired e = absurd cc
-message_expanded hop deferral place Deferred e = absurd cc
 message_expanded hop deferral place ListInHistory e = (again refl, cc)
-message_expanded hop deferral place ListProhibited e = absurd cc
-message_expanded hop deferral place PosterNotPermitted e = absurd cc
-message_expanded hop deferral place FullHistory e = absurd cc
-message_expanded hop deferral place LongMembersCopy e = absurd cc
 message_expanded hop deferral place ToList e = (once refl, cc)
-message_expanded hop deferral place ToMailbox e = absurd cc
-message_expanded hop deferral place LongCopy e = absurd cc
-message_expanded hop deferral place ToPeer e = absurd cc
+message_expanded hop deferral place any3 e = absurd cc
 
 list_is : (hop : Hop) → leads_to_list hop ≡ true → hop ≡ Hops.List (place_of hop)
-list_is (Hops.Local place) e = absurd cc
 list_is (Hops.List place) e = refl
-list_is (Hops.Peer place) e = absurd cc
-list_is Hops.None e = absurd cc
+list_is any0 e = absurd cc
 
 first_of_two : (x y : Bool) → (x && y) ≡ true → x ≡ true
 first_of_two true y e = refl

@@ -108,9 +108,7 @@ told_more (y ∷ ys) x = refl
 -- a topic that is that of a history
 is_history : (t u : Topic) → is_topic ExpansionHistory u ≡ true → is_topic t ExpansionHistory ≡ false → is_topic t u ≡ false
 is_history t ExpansionHistory e h = h
-is_history t LatestDelivery e h = absurd cc
-is_history t ExpansionProhibited e h = absurd cc
-is_history t Other e h = absurd cc
+is_history t any1 e h = absurd cc
 
 skipped : (b : Bool) (v : List ℕ) (vs : List (List ℕ)) → b ≡ false → cond b (v ∷ vs) vs ≡ vs
 skipped true v vs e = absurd cc

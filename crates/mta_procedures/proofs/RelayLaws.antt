@@ -81,10 +81,8 @@ is_short f e =
     sym (ap (λ b. b && f.long_copy) (leads_there f e)) ∙ none
 
 peer_is : (hop : Hop) → leads_to_peer hop ≡ true → hop ≡ Hops.Peer (place_of hop)
-peer_is (Hops.Local place) e = absurd cc
-peer_is (Hops.List place) e = absurd cc
 peer_is (Hops.Peer place) e = refl
-peer_is Hops.None e = absurd cc
+peer_is any0 e = absurd cc
 
 pub short_trace : (s : Situation) (trace : List TraceFields) → has_looped s trace ≡ false → length trace < longest_trace
 short_trace s trace e = leb-false longest_trace (length trace) (or_parts (comes_back s.tables.domain trace) (nat_le longest_trace (length trace)) e).1
@@ -95,53 +93,18 @@ short_copy n e = ltb-false longest_copy n e
 -- ---- which case relays
 
 message_relayed : (hop : Hop) (deferral place : ℕ) (c : Case) → message_column hop deferral c ≡ Relay place → (c ≡ ToPeer) × (place_of hop ≡ place)
-message_relayed hop deferral place Looped e = absurd cc
-message_relayed hop deferral place CriticalExtension e = absurd cc
-message_relayed hop deferral place NoRoute e = absurd cc
-message_relayed hop deferral place Expired e = absurd cc
-message_relayed hop deferral place Deferred e = absurd cc
-message_relayed hop deferral place ListInHistory e = absurd cc
-message_relayed hop deferral place ListProhibited e = absurd cc
-message_relayed hop deferral place PosterNotPermitted e = absurd cc
-message_relayed hop deferral place FullHistory e = absurd cc
-message_relayed hop deferral place LongMembersCopy e = absurd cc
-message_relayed hop deferral place ToList e = absurd cc
-message_relayed hop deferral place ToMailbox e = absurd cc
-message_relayed hop deferral place LongCopy e = absurd cc
 message_relayed hop deferral place ToPeer e = (refl, cc)
+message_relayed hop deferral place any3 e = absurd cc
 
 probe_relayed : (hop : Hop) (place : ℕ) (c : Case) → probe_column hop c ≡ Relay place → (c ≡ ToPeer) × (place_of hop ≡ place)
-probe_relayed hop place Looped e = absurd cc
-probe_relayed hop place CriticalExtension e = absurd cc
-probe_relayed hop place NoRoute e = absurd cc
-probe_relayed hop place Expired e = absurd cc
-probe_relayed hop place Deferred e = absurd cc
-probe_relayed hop place ListInHistory e = absurd cc
-probe_relayed hop place ListProhibited e = absurd cc
-probe_relayed hop place PosterNotPermitted e = absurd cc
-probe_relayed hop place FullHistory e = absurd cc
-probe_relayed hop place LongMembersCopy e = absurd cc
-probe_relayed hop place ToList e = absurd cc
-probe_relayed hop place ToMailbox e = absurd cc
-probe_relayed hop place LongCopy e = absurd cc
 probe_relayed hop place ToPeer e = (refl, cc)
+probe_relayed hop place any2 e = absurd cc
 
 report_relayed : (hop : Hop) (back : Bool) (place : ℕ) (c : Case) → report_column hop back c ≡ Relay place → (c ≡ ToPeer) × (place_of hop ≡ place)
-report_relayed hop back place Looped e = absurd cc
-report_relayed hop back place CriticalExtension e = absurd cc
-report_relayed hop back place NoRoute e = absurd cc
-report_relayed hop back place Expired e = absurd cc
-report_relayed hop back place Deferred e = absurd cc
-report_relayed hop back place ListInHistory e = absurd cc
-report_relayed hop back place ListProhibited e = absurd cc
-report_relayed hop back place PosterNotPermitted e = absurd cc
-report_relayed hop back place FullHistory e = absurd cc
-report_relayed hop back place LongMembersCopy e = absurd cc
 report_relayed hop true place ToList e = absurd cc
 report_relayed hop false place ToList e = absurd cc
-report_relayed hop back place ToMailbox e = absurd cc
-report_relayed hop back place LongCopy e = absurd cc
 report_relayed hop back place ToPeer e = (refl, cc)
+report_relayed hop back place any3 e = absurd cc
 
 -- ---- copies
 

@@ -29,35 +29,11 @@ told_form text n h = ((forms_told text n).0 h).0
 
 told_line : (s : Line) (w : Words) → Mean w s → IsToldLine s
 told_line (Said.List l) (ListLine word policy text) h = told_form text l.name h.1.1
-told_line (Said.List l) SilentLine h = absurd h
-told_line (Said.List l) (DomainLine text) h = absurd h
-told_line (Said.List l) (NameLine word) h = absurd h
-told_line (Said.List l) (PeerLine words) h = absurd h
-told_line (Said.List l) (MailboxLine word text) h = absurd h
-told_line (Said.List l) (FromLine word text) h = absurd h
-told_line (Said.List l) (MemberLine word text) h = absurd h
-told_line (Said.List l) (HereLine text) h = absurd h
-told_line (Said.List l) (RouteLineTo text word) h = absurd h
-told_line (Said.List l) (HoldLine grade seconds) h = absurd h
+told_line (Said.List l) any1 h = absurd h
 told_line (Said.Member m) (MemberLine word text) h = told_form text m.name h.1
-told_line (Said.Member m) SilentLine h = absurd h
-told_line (Said.Member m) (DomainLine text) h = absurd h
-told_line (Said.Member m) (NameLine word) h = absurd h
-told_line (Said.Member m) (PeerLine words) h = absurd h
-told_line (Said.Member m) (MailboxLine word text) h = absurd h
-told_line (Said.Member m) (ListLine word policy text) h = absurd h
-told_line (Said.Member m) (FromLine word text) h = absurd h
-told_line (Said.Member m) (HereLine text) h = absurd h
-told_line (Said.Member m) (RouteLineTo text word) h = absurd h
-told_line (Said.Member m) (HoldLine grade seconds) h = absurd h
-told_line Said.Nothing w h = tt
-told_line (Said.Domain d) w h = tt
-told_line (Said.Name n) w h = tt
-told_line (Said.Peer p) w h = tt
-told_line (Said.Mailbox m) w h = tt
-told_line (Said.From f) w h = tt
-told_line (Said.Route r) w h = tt
+told_line (Said.Member m) any1 h = absurd h
 told_line (Said.Hold h) w k = tt
+told_line any0 w h = tt
 
 told_lines : (rows : List Row) → All IsRow rows → Each IsToldLine (said_by rows)
 told_lines [] h = tt

@@ -79,14 +79,13 @@ on_lane_more tells other last moment close more own = own
 class_more : (tells other : ℕ → Type 0) (conf input : List ℕ) (last moment : ℕ) (c : Class)
     → ((t : ℕ) → tells t → other t) → IsOwnOf tells conf input last c moment
     → IsOwnOf other conf input last c moment
-class_more tells other conf input last moment (classes.records text) more own = own
 class_more tells other conf input last moment (classes.accepts octets) more own =
     (own.0, timed_more tells other last moment more own.1)
 class_more tells other conf input last moment (classes.settles how i r) more own =
     timed_more tells other last moment more own
-class_more tells other conf input last moment (classes.opens role peer reference twa checkpoint window) more own = own
 class_more tells other conf input last moment (classes.on_lane n generation step) more own =
     on_lane_more tells other last moment step more own
+class_more tells other conf input last moment any6 more own = own
 
 own_one : (tells other : ℕ → Type 0) (conf input : List ℕ) (s : State) (step : Step)
     → ((t : ℕ) → tells t → other t) → IsOwn tells conf input s step → IsOwn other conf input s step
@@ -136,18 +135,13 @@ accepts_cons step a = sum_by-cons (λ (x : Step). cond (is_accept x) 1 0) step a
 
 -- the turn of an Accept, and of what takes no APDU
 taking_turn : (c : Class) → takes_apdu c ≡ true → turn_of_class c ≡ 1
-taking_turn (classes.records text) e = absurd cc
 taking_turn (classes.accepts octets) e = refl
-taking_turn (classes.settles how i r) e = absurd cc
-taking_turn (classes.opens role peer reference twa checkpoint window) e = absurd cc
-taking_turn (classes.on_lane n generation step) e = absurd cc
+taking_turn any0 e = absurd cc
 
 late_takes_none : (c : Class) → 2 ≤ turn_of_class c → takes_apdu c ≡ false
 late_takes_none (classes.records text) late = absurd (omega (arith, late))
 late_takes_none (classes.accepts octets) late = absurd (omega (arith, late))
-late_takes_none (classes.settles how i r) late = refl
-late_takes_none (classes.opens role peer reference twa checkpoint window) late = refl
-late_takes_none (classes.on_lane n generation step) late = refl
+late_takes_none any0 late = refl
 
 taken_count : (step : Step) (b : Bool) → is_accept step ≡ b
     → ◌≡◌ {A = ℕ} (cond (is_accept step) 1 0) (cond b 1 0)
@@ -294,10 +288,7 @@ module _ {D C : Type 0} (disks : DiskView D) where
         adds = λ conf input own. adds_still laws tells conf input old new
             failed (unchanged step old new StepFaults.Memory (λ e. absurd cc) appends);
       }
-  adds_refused laws tells step old new (StepFaults.Fenced generation) failed so no_lane appends = absurd no_lane
-  adds_refused laws tells step old new (StepFaults.NoLane lane) failed so no_lane appends = absurd no_lane
-  adds_refused laws tells step old new (StepFaults.BusyLanes count) failed so no_lane appends = absurd no_lane
-  adds_refused laws tells step old new StepFaults.Unexpected failed so no_lane appends = absurd no_lane
+  adds_refused laws tells step old new any5 failed so no_lane appends = absurd no_lane
 
   -- a row in which the disk did not fail
   pub adds_calm : (tells : ℕ → Type 0) (conf input : List ℕ) (old new : Shown D C) (a torn_step : List Step)

@@ -49,12 +49,7 @@ own_of tells conf input added s size failed other (StepFaults.Spent last) turn s
   over = r.over;
 }
 own_of tells conf input added s size failed other StepFaults.Disk turn so r = so r
-own_of tells conf input added s size failed other StepFaults.Ended turn so r = r
-own_of tells conf input added s size failed other StepFaults.Memory turn so r = r
-own_of tells conf input added s size failed other (StepFaults.Fenced generation) turn so r = r
-own_of tells conf input added s size failed other (StepFaults.NoLane lane) turn so r = r
-own_of tells conf input added s size failed other (StepFaults.BusyLanes count) turn so r = r
-own_of tells conf input added s size failed other StepFaults.Unexpected turn so r = r
+own_of tells conf input added s size failed other any8 turn so r = r
 
 -- the same for one who knew more moments
 pub own_more : (tells other : ℕ → Type 0) (conf : List ℕ) (s : State) (size : ℕ) (failed failed_too : Type 0)
@@ -82,12 +77,7 @@ own_more tells other conf s size failed failed_too fault more so r = by_fault fa
       over = r.over;
     }
     by_fault StepFaults.Disk r = so r
-    by_fault StepFaults.Ended r = r
-    by_fault StepFaults.Memory r = r
-    by_fault (StepFaults.Fenced generation) r = r
-    by_fault (StepFaults.NoLane lane) r = r
-    by_fault (StepFaults.BusyLanes count) r = r
-    by_fault StepFaults.Unexpected r = r
+    by_fault any0 r = r
 
 module _ {D C : Type 0} (disks : DiskView D) where
   -- why what is due was not done, whatever the tables are
@@ -129,10 +119,7 @@ module _ {D C : Type 0} (disks : DiskView D) where
   record_why tells conf old new StepFaults.Ended going other no_lane a =
       absurd (true≢false (sym (a.ended.0 refl) ∙ going))
   record_why tells conf old new StepFaults.Memory going other no_lane a = tt
-  record_why tells conf old new (StepFaults.Fenced generation) going other no_lane a = no_lane
-  record_why tells conf old new (StepFaults.NoLane lane) going other no_lane a = no_lane
-  record_why tells conf old new (StepFaults.BusyLanes count) going other no_lane a = no_lane
-  record_why tells conf old new StepFaults.Unexpected going other no_lane a = no_lane
+  record_why tells conf old new any4 going other no_lane a = no_lane
 
 -- ---- their order
 

@@ -34,17 +34,7 @@ told_stop : (input : Option (List ℕ)) (octets : List ℕ) (failed : Type 0) (s
     → IsInputStop (Some octets) ⊥ stop → IsInputStop input failed stop
 told_stop input octets failed (Stops.BadApdu at kind) told is = λ i e. is i (ap (λ (x : List ℕ). Some x) (told i e))
 told_stop input octets failed Stops.Memory told is = tt
-told_stop input octets failed Stops.Source told is = absurd is
-told_stop input octets failed (Stops.Tables line kind) told is = absurd is
-told_stop input octets failed Stops.Usage told is = absurd is
-told_stop input octets failed (Stops.NotSpool at) told is = absurd is
-told_stop input octets failed Stops.Disk told is = absurd is
-told_stop input octets failed (Stops.Full size need) told is = absurd is
-told_stop input octets failed (Stops.Spent last) told is = absurd is
-told_stop input octets failed Stops.Sink told is = absurd is
-told_stop input octets failed Stops.NotBuilt told is = absurd is
-told_stop input octets failed (Stops.NoMailbox name) told is = absurd is
-told_stop input octets failed (Stops.NoPeer name) told is = absurd is
+told_stop input octets failed any3 told is = absurd is
 
 decoded_stop : (input : Option (List ℕ)) (octets : List ℕ) (failed : Type 0) (text : Result (List ℕ) Stop)
     → IsTold input octets → IsDecodedAs octets text → (stop : Stop) → text ≡ Err stop
@@ -87,16 +77,7 @@ decode_cause disks clocks sources conf input input_after disk clock (Stops.BadAp
     (λ r. absurd r) is
 decode_cause disks clocks sources conf input input_after disk clock Stops.Source is = source (inr (tt, is))
 decode_cause disks clocks sources conf input input_after disk clock Stops.Memory is = memory uncalled
-decode_cause disks clocks sources conf input input_after disk clock (Stops.Tables line kind) is = absurd is
-decode_cause disks clocks sources conf input input_after disk clock Stops.Usage is = absurd is
-decode_cause disks clocks sources conf input input_after disk clock (Stops.NotSpool at) is = absurd is
-decode_cause disks clocks sources conf input input_after disk clock Stops.Disk is = absurd is
-decode_cause disks clocks sources conf input input_after disk clock (Stops.Full size need) is = absurd is
-decode_cause disks clocks sources conf input input_after disk clock (Stops.Spent last) is = absurd is
-decode_cause disks clocks sources conf input input_after disk clock Stops.Sink is = absurd is
-decode_cause disks clocks sources conf input input_after disk clock Stops.NotBuilt is = absurd is
-decode_cause disks clocks sources conf input input_after disk clock (Stops.NoMailbox name) is = absurd is
-decode_cause disks clocks sources conf input input_after disk clock (Stops.NoPeer name) is = absurd is
+decode_cause disks clocks sources conf input input_after disk clock any8 is = absurd is
 
 pub decode_ended : {D C I : Type 0} (disks : DiskView D) (laws : DiskLaws disks) (clocks : ClockView C)
     (sources : SourceView I) (conf input input_after : I) (disk : D) (clock : C) (out : Output)

@@ -23,15 +23,11 @@ use Rattle.mta_run.proofs.Worked.{prints_nothing}
 
 own_no_lane : (tells : ℕ → Type 0) (conf : List ℕ) (s : State) (size : ℕ) (failed : Type 0) (fault : StepFault)
     → IsOwnRefusal tells conf s size failed fault → IsOfNoLane (Some fault)
-own_no_lane tells conf s size failed (StepFaults.Full used need) r = tt
-own_no_lane tells conf s size failed (StepFaults.Spent last) r = tt
-own_no_lane tells conf s size failed StepFaults.Disk r = tt
-own_no_lane tells conf s size failed StepFaults.Ended r = tt
-own_no_lane tells conf s size failed StepFaults.Memory r = tt
 own_no_lane tells conf s size failed (StepFaults.Fenced generation) r = r
 own_no_lane tells conf s size failed (StepFaults.NoLane lane) r = r
 own_no_lane tells conf s size failed (StepFaults.BusyLanes count) r = r
 own_no_lane tells conf s size failed StepFaults.Unexpected r = r
+own_no_lane tells conf s size failed any5 r = tt
 
 -- none of its own steps is refused for a lane
 pub begun_no_lane : (tells : ℕ → Type 0) (conf : List ℕ) (s : State) (size : ℕ) (failed : Type 0)
@@ -77,8 +73,7 @@ module _ {D C : Type 0} (disks : DiskView D) (tells : ℕ → Type 0) (ends : Li
     outcome_well : (result : Result (Unit {0}) Stop) → IsOutcome settled ends result → result ≡ Ok tt
         → (settled ≡ Ok tt) × IsUndecided (halts_of ends)
     outcome_well _ (Well e undecided) ok = (e, undecided)
-    outcome_well _ (Refused fault e) ok = absurd cc
-    outcome_well _ (Decided halt e decides) ok = absurd cc
+    outcome_well _ any1 ok = absurd cc
 
     -- the lines were printed
     pub finished : (result : Result (Unit {0}) Stop) → HasToldStations ends out (Ok tt)

@@ -71,18 +71,7 @@ module _ {O : Type 0} (sinks : SinkView O) (a b c : O) (Cause : Stop → Type 0)
 -- no stop has status 0
 some_status : (stop : Stop) (status : ℕ) → status ≡ status_of stop → status ≡ 0 → ⊥
 some_status Stops.Usage status e z = omega (arith, e, z)
-some_status (Stops.Tables n kind) status e z = omega (arith, e, z)
-some_status (Stops.NotSpool at) status e z = omega (arith, e, z)
-some_status Stops.Disk status e z = omega (arith, e, z)
-some_status (Stops.Full size need) status e z = omega (arith, e, z)
-some_status (Stops.Spent last) status e z = omega (arith, e, z)
-some_status Stops.Memory status e z = omega (arith, e, z)
-some_status Stops.Source status e z = omega (arith, e, z)
-some_status Stops.Sink status e z = omega (arith, e, z)
-some_status Stops.NotBuilt status e z = omega (arith, e, z)
-some_status (Stops.NoMailbox name) status e z = omega (arith, e, z)
-some_status (Stops.NoPeer name) status e z = omega (arith, e, z)
-some_status (Stops.BadApdu at kind) status e z = omega (arith, e, z)
+some_status any0 status e z = omega (arith, e, z)
 
 told_some : (stop : Stop) (out : Output) (status : ℕ) → HasTold stop out status → status ≡ 0 → ⊥
 told_some stop out status (line e goes) z = some_status stop status e z

@@ -74,9 +74,7 @@ own_front tells conf input s (x ∷ a) b own = (own.0, own_front tells conf inpu
 worker_turn : (c : Class) → IsOfWorkers c → turn_of_class c ≡ 2
 worker_turn (classes.records text) is = absurd is
 worker_turn (classes.accepts octets) is = absurd is
-worker_turn (classes.settles how i r) is = refl
-worker_turn (classes.opens role peer reference twa checkpoint window) is = refl
-worker_turn (classes.on_lane n generation x) is = refl
+worker_turn any0 is = refl
 
 -- what workers make comes behind tables and APDUs
 pub made_late : (tells : ℕ → Type 0) (s : State) (a : List Step) → AreMade tells s a → AreInTurn 2 a
@@ -119,10 +117,7 @@ first_front conf (x ∷ a) b (inr r) =
 
 late_tables_of : (conf : List ℕ) (c : Class) → 2 ≤ turn_of_class c → IsTablesOf conf c
 late_tables_of conf (classes.records text) late = absurd (omega (arith, late))
-late_tables_of conf (classes.accepts octets) late = tt
-late_tables_of conf (classes.settles how i r) late = tt
-late_tables_of conf (classes.opens role peer reference twa checkpoint window) late = tt
-late_tables_of conf (classes.on_lane n generation x) late = tt
+late_tables_of conf any1 late = tt
 
 late_tables : (conf : List ℕ) (a : List Step) → AreInTurn 2 a → AreTablesOf conf a
 late_tables conf [] p = tt
@@ -144,10 +139,7 @@ first_none conf a (inr r) =
 own_tables_of : (tells : ℕ → Type 0) (conf input : List ℕ) (last moment : ℕ) (c : Class)
     → IsOwnOf tells conf input last c moment → IsTablesOf conf c
 own_tables_of tells conf input last moment (classes.records text) own = own
-own_tables_of tells conf input last moment (classes.accepts octets) own = tt
-own_tables_of tells conf input last moment (classes.settles how i r) own = tt
-own_tables_of tells conf input last moment (classes.opens role peer reference twa checkpoint window) own = tt
-own_tables_of tells conf input last moment (classes.on_lane n generation x) own = tt
+own_tables_of tells conf input last moment any5 own = tt
 
 pub own_tables : (tells : ℕ → Type 0) (conf input : List ℕ) (s : State) (a : List Step)
     → AreOwn tells conf input s a → AreTablesOf conf a
@@ -162,9 +154,7 @@ own_tables tells conf input s (x ∷ a) own = (
 late_class : (c : Class) → 2 ≤ turn_of_class c → IsOfWorkers c
 late_class (classes.records text) late = absurd (omega (arith, late))
 late_class (classes.accepts octets) late = absurd (omega (arith, late))
-late_class (classes.settles how i r) late = tt
-late_class (classes.opens role peer reference twa checkpoint window) late = tt
-late_class (classes.on_lane n generation x) late = tt
+late_class any0 late = tt
 
 late_kept : (s : State) (a : List Step) → AreInTurn 2 a → (after_from s a).machine.tables ≡ s.machine.tables
 late_kept s [] p = refl

@@ -44,33 +44,13 @@ once_in steps history = record { run = histories_are_runs steps history; once = 
 
 halt_not_sink : (halt : Halt) → stop_of_halt halt ≡ Stops.Sink → ⊥
 halt_not_sink Halts.Disk e = cc
-halt_not_sink (Halts.Full size need) e = cc
-halt_not_sink (Halts.Spent last) e = cc
-halt_not_sink Halts.Memory e = cc
-halt_not_sink Halts.Limit e = cc
-halt_not_sink Halts.StationEnded e = cc
-halt_not_sink Halts.StationFailed e = cc
-halt_not_sink Halts.NoPeer e = cc
+halt_not_sink any0 e = cc
 
 -- no cause is a fault of the output
 no_sink_of : {D C I : Type 0} (h : Handed D C I) (ends : List WorkerEnd) (added : List Step) (opening : Opening)
     (stop : Stop) → Cause h ends added opening stop → stop ≡ Stops.Sink → ⊥
-no_sink_of h ends added _ _ (usage none) e = cc
-no_sink_of h ends added _ _ (not_built unbuilt) e = cc
-no_sink_of h ends added _ _ (memory opening) e = cc
-no_sink_of h ends added _ _ (source failed) e = cc
-no_sink_of h ends added _ _ (tables line kind reads first same) e = cc
-no_sink_of h ends added _ _ (apdu at kind reads read fault) e = cc
-no_sink_of h ends added _ _ (not_spool at opens inputs none) e = cc
-no_sink_of h ends added _ _ (not_opened opens inputs failed) e = cc
-no_sink_of h ends added _ _ (disk adds inputs failed) e = cc
-no_sink_of h ends added _ _ (full size need submit inputs why) e = cc
-no_sink_of h ends added _ _ (spent last submit inputs why) e = cc
-no_sink_of h ends added _ _ (no_mailbox name word none) e = cc
-no_sink_of h ends added _ _ (no_peer name serves unnamed) e = cc
-no_sink_of h ends added _ _ (full_serving size need serves inputs why) e = cc
-no_sink_of h ends added _ _ (spent_serving last serves inputs why) e = cc
 no_sink_of h ends added _ _ (of_worker halt serves inputs decides) e = halt_not_sink halt e
+no_sink_of h ends added _ _ any5 e = cc
 
 no_sink : {D C I : Type 0} (h : Handed D C I) (ends : List WorkerEnd) (added : List Step) (opening : Opening)
     → Cause h ends added opening Stops.Sink → ⊥
@@ -143,8 +123,7 @@ printed_tells : {D C I : Type 0} (h : Handed D C I) (ends : List WorkerEnd) (add
     (out : Output) (result : Result (Unit {0}) Stop) → HasPrinted (Cause h ends added opening)
     (IsText h ends added opening) out result → result ≡ Ok tt → TextTells h opening
 printed_tells h ends added opening out _ (whole d text x p) e = text_tells h ends added opening text x
-printed_tells h ends added opening out _ (stopped stop why text f p) e = absurd cc
-printed_tells h ends added opening out _ (cut text x p) e = absurd cc
+printed_tells h ends added opening out _ any6 e = absurd cc
 
 -- ---- a run
 

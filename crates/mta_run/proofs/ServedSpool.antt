@@ -187,12 +187,8 @@ module _ {D C I : Type 0} (h : Handed D C I) (serves : Serves h.words) (laws : D
             (own_more (h.clocks.tells spool.clock) Tells tables.text mid.current mid.journal.size (⊥) (⊥)
             (StepFaults.Spent last) from_first (λ x. x) r))))
         by_fault StepFaults.Disk w r = cause_disk adds inputs (failed_so is r)
-        by_fault StepFaults.Ended w r = absurd r
         by_fault StepFaults.Memory w r = cause_memory opened
-        by_fault (StepFaults.Fenced generation) w r = absurd r
-        by_fault (StepFaults.NoLane lane) w r = absurd r
-        by_fault (StepFaults.BusyLanes count) w r = absurd r
-        by_fault StepFaults.Unexpected w r = absurd r
+        by_fault any0 w r = absurd r
 
     -- the run stopped with that
     pub begun_ended : (stations : OnStations) (out : Output) (stop : Stop) → h.disk.after ≡ mid.journal.disk

@@ -213,12 +213,8 @@ module _ {D C I : Type 0} (h : Handed D C I) (serves : Serves h.words) (laws : D
             low,
             ap (λ (d : D). h.disks.faults d) o.disk,
           )))
-      by_fault StepFaults.Ended y r = absurd (r [])
       by_fault StepFaults.Memory y r = cause_memory opened
-      by_fault (StepFaults.Fenced generation) y r = absurd (r [])
-      by_fault (StepFaults.NoLane lane) y r = absurd (r [])
-      by_fault (StepFaults.BusyLanes count) y r = absurd (r [])
-      by_fault StepFaults.Unexpected y r = absurd (r [])
+      by_fault any0 y r = absurd (r [])
 
   refused_why : (settled : Result (Unit {0}) StepFault) (fault : StepFault) → Finishes settled
       → settled ≡ Err fault → Why (stop_of_step fault)

@@ -514,11 +514,7 @@ module _ {D C I : Type 0} (h : Handed D C I) (ends : List WorkerEnd) (added : Li
   complete_worker Halts.Disk status serves e = inr (inr (inr (e, serves)))
   complete_worker (Halts.Full size need) status serves e = inr (inr (inl (e, serves_adds h.words serves)))
   complete_worker (Halts.Spent last) status serves e = inr (inr (inl (e, serves_adds h.words serves)))
-  complete_worker Halts.Memory status serves e = inr (inl e)
-  complete_worker Halts.Limit status serves e = inr (inl e)
-  complete_worker Halts.StationEnded status serves e = inr (inl e)
-  complete_worker Halts.StationFailed status serves e = inr (inl e)
-  complete_worker Halts.NoPeer status serves e = inr (inl e)
+  complete_worker any0 status serves e = inr (inl e)
 
   complete_stop : (opening : Opening) (stop : Stop) (status : ℕ) (out : Output) → Cause h ends added opening stop
       → AllInOrder h out → status ≡ status_of stop → Completes h status

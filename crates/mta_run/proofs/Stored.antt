@@ -98,10 +98,9 @@ module _ {D C : Type 0} (disks : DiskView D) where
   refusal tells conf input added step mid new before StepFaults.Memory le going next no_lane appends = tt
   refusal tells conf input added step mid new before (StepFaults.Fenced generation) le going next no_lane appends =
       no_lane
-  refusal tells conf input added step mid new before (StepFaults.NoLane lane) le going next no_lane appends = no_lane
   refusal tells conf input added step mid new before (StepFaults.BusyLanes count) le going next no_lane appends =
       no_lane
-  refusal tells conf input added step mid new before StepFaults.Unexpected le going next no_lane appends = no_lane
+  refusal tells conf input added step mid new before any8 le going next no_lane appends = no_lane
 
 -- ---- the tables
 

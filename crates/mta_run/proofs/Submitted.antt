@@ -53,16 +53,7 @@ pub tables_cause : {D C I : Type 0} (h : Handed D C I) (stop : Stop) → ReadsTa
 tables_cause h (Stops.Tables line kind) reads same is = cause_tables line kind reads is same
 tables_cause h Stops.Source reads same is = cause_source (inl (reads, is))
 tables_cause h Stops.Memory reads same is = cause_memory uncalled
-tables_cause h (Stops.BadApdu at kind) reads same is = absurd is
-tables_cause h Stops.Usage reads same is = absurd is
-tables_cause h (Stops.NotSpool at) reads same is = absurd is
-tables_cause h Stops.Disk reads same is = absurd is
-tables_cause h (Stops.Full size need) reads same is = absurd is
-tables_cause h (Stops.Spent last) reads same is = absurd is
-tables_cause h Stops.Sink reads same is = absurd is
-tables_cause h Stops.NotBuilt reads same is = absurd is
-tables_cause h (Stops.NoMailbox name) reads same is = absurd is
-tables_cause h (Stops.NoPeer name) reads same is = absurd is
+tables_cause h any1 reads same is = absurd is
 
 apdu_cause : {D C I : Type 0} (h : Handed D C I) (stop : Stop) → ReadsApdu h.words
     → (ReadsTables h.words → ForTables h IsReadAsTables)
@@ -71,16 +62,7 @@ apdu_cause : {D C I : Type 0} (h : Handed D C I) (stop : Stop) → ReadsApdu h.w
 apdu_cause h (Stops.BadApdu at kind) reads read is = cause_apdu at kind reads read is
 apdu_cause h Stops.Source reads read is = cause_source (inr (reads, is))
 apdu_cause h Stops.Memory reads read is = cause_memory uncalled
-apdu_cause h (Stops.Tables line kind) reads read is = absurd is
-apdu_cause h Stops.Usage reads read is = absurd is
-apdu_cause h (Stops.NotSpool at) reads read is = absurd is
-apdu_cause h Stops.Disk reads read is = absurd is
-apdu_cause h (Stops.Full size need) reads read is = absurd is
-apdu_cause h (Stops.Spent last) reads read is = absurd is
-apdu_cause h Stops.Sink reads read is = absurd is
-apdu_cause h Stops.NotBuilt reads read is = absurd is
-apdu_cause h (Stops.NoMailbox name) reads read is = absurd is
-apdu_cause h (Stops.NoPeer name) reads read is = absurd is
+apdu_cause h any1 reads read is = absurd is
 
 -- the text of tables that were read has a value
 pub tables_text : (conf : Option (List ℕ)) (failed : Type 0) (t : TablesValue) → AreTablesRead conf failed (Ok t)
@@ -305,9 +287,8 @@ work_failed disks tells conf input out old new result has e = failed_in result h
 
   failed_in : (r : Result (Unit {0}) Stop) → HasPrinted Why (IsAcceptedLine disks old has.added input) out r
       → r ≡ Err Stops.Disk → Rose (disks.faults old.journal.disk) (disks.faults new.journal.disk)
-  failed_in _ (whole d t y p) w = absurd cc
   failed_in _ (stopped stop why t f p) w = disk_only stop (err_same stop Stops.Disk w) why
-  failed_in _ (cut t y p) w = absurd cc
+  failed_in _ any1 w = absurd cc
 
 -- ---- the calls
 

@@ -43,26 +43,18 @@ work_stop : (tells : ℕ → Type 0) (conf input : List ℕ) (added : List Step)
 work_stop tells conf input added s size failed (StepFaults.Full used need) r = full used need r
 work_stop tells conf input added s size failed (StepFaults.Spent last) r = spent last r
 work_stop tells conf input added s size failed StepFaults.Disk r = disk r
-work_stop tells conf input added s size failed StepFaults.Ended r = absurd r
 work_stop tells conf input added s size failed StepFaults.Memory r = memory
-work_stop tells conf input added s size failed (StepFaults.Fenced generation) r = absurd r
-work_stop tells conf input added s size failed (StepFaults.NoLane lane) r = absurd r
-work_stop tells conf input added s size failed (StepFaults.BusyLanes count) r = absurd r
-work_stop tells conf input added s size failed StepFaults.Unexpected r = absurd r
+work_stop tells conf input added s size failed any7 r = absurd r
 
 -- and it is of no lane
 refusal_no_lane : (tells : ℕ → Type 0) (conf input : List ℕ) (added : List Step) (s : State) (size : ℕ)
     (failed : Type 0) (fault : StepFault) → IsRefusal tells conf input added s size failed fault → IsOfNoLane
     (Some fault)
-refusal_no_lane tells conf input added s size failed (StepFaults.Full used need) r = tt
-refusal_no_lane tells conf input added s size failed (StepFaults.Spent last) r = tt
-refusal_no_lane tells conf input added s size failed StepFaults.Disk r = tt
-refusal_no_lane tells conf input added s size failed StepFaults.Ended r = tt
-refusal_no_lane tells conf input added s size failed StepFaults.Memory r = tt
 refusal_no_lane tells conf input added s size failed (StepFaults.Fenced generation) r = r
 refusal_no_lane tells conf input added s size failed (StepFaults.NoLane lane) r = r
 refusal_no_lane tells conf input added s size failed (StepFaults.BusyLanes count) r = r
 refusal_no_lane tells conf input added s size failed StepFaults.Unexpected r = r
+refusal_no_lane tells conf input added s size failed any7 r = tt
 
 next_more : (tells other : ℕ → Type 0) (conf input : List ℕ) (added : List Step) (s : State) (step : Step)
     → ((t : ℕ) → tells t → other t) → IsNextStep tells conf input added s step
@@ -94,12 +86,8 @@ refusal_more tells other conf input added s size failed failed_too (StepFaults.S
       over = r.over;
     }
 refusal_more tells other conf input added s size failed failed_too StepFaults.Disk more too r = too r
-refusal_more tells other conf input added s size failed failed_too StepFaults.Ended more too r = r
 refusal_more tells other conf input added s size failed failed_too StepFaults.Memory more too r = tt
-refusal_more tells other conf input added s size failed failed_too (StepFaults.Fenced generation) more too r = r
-refusal_more tells other conf input added s size failed failed_too (StepFaults.NoLane lane) more too r = r
-refusal_more tells other conf input added s size failed failed_too (StepFaults.BusyLanes count) more too r = r
-refusal_more tells other conf input added s size failed failed_too StepFaults.Unexpected more too r = r
+refusal_more tells other conf input added s size failed failed_too any9 more too r = r
 
 disk_stop : {T : Type 0} (fault : StepFault) → ◌≡◌ {A = Result T StepFault} (Err fault) (Err StepFaults.Disk)
     → ◌≡◌ {A = Result (Unit {0}) Stop} (Err (stop_of_step fault)) (Err Stops.Disk)

@@ -21,13 +21,7 @@ discard-quiet k e = cc
 
 accept_calls : (e : s.SendEnd) (step : s.SendStep) → s.IsCalledBy e step u.Accept → ⊥
 accept_calls e (s.Start octets) c = c
-accept_calls e (s.Confirm n) c = c
-accept_calls e s.To_end c = c
-accept_calls e s.Sent c = c
-accept_calls e s.Refused c = c
-accept_calls e s.Denied c = c
-accept_calls e s.Dropped c = c
-accept_calls e s.Abandon c = c
+accept_calls e any1 c = c
 
 -- Accept calls for no step
 heard_accept : (e : s.SendEnd) (y : u.LaneUnit) (step : s.SendStep) → Some u.Accept ≡ Some y

@@ -30,15 +30,11 @@ append_run e f g (x ∷ xs) ys r q = (r.0, append_run (s.send_after e x) f g xs 
 
 going_live : (st : SendState) (k : ℕ) → goes_on st k ≡ true → is_idle st ≡ false
 going_live (state.Idle last) k l = search l
-going_live (state.Sending j c) k l = refl
-going_live (state.Ending j c) k l = refl
-going_live (state.Dropping j) k l = refl
+going_live any0 k l = refl
 
 ending_live : (st : SendState) (k : ℕ) → is_ending st k ≡ true → is_idle st ≡ false
 ending_live (state.Idle last) k l = search l
-ending_live (state.Sending j c) k l = refl
-ending_live (state.Ending j c) k l = refl
-ending_live (state.Dropping j) k l = refl
+ending_live any0 k l = refl
 
 dropping_live : (st : SendState) (k : ℕ) → st ≡ state.Dropping k → is_idle st ≡ false
 dropping_live st k l = rw l refl
@@ -70,9 +66,6 @@ abort_put e events t z new false q false p g =
 
 puts_go : (e : SendEnd) (events : List SendEvent) (t : State) (x : AnyUnit) (new : State) → PutsFor t (part_of x) x new → Reaches e events phase.Puts t.send →
     ReachesAt e (with_unit events x) new.phase new.send
-puts_go e events t (unit.Open z) new g r = elim g [ ]
-puts_go e events t (unit.Accept z1 z2 z3) new g r = elim g [ ]
-puts_go e events t (unit.Reject z) new g r = elim g [ ]
 puts_go e events t (unit.Start z) new g r = subst (λ p. ReachesAt e (events ++ (s.Put (u.Start z) ∷ [])) p new.send) (sym (ap {A = State} (λ v. v.phase) g.2)) (own_goes e events t (unit.Start z) (u.Start z) new (going_live t.send.state z g.1.1.1) g r)
 puts_go e events t (unit.Piece z) new g r = subst (λ p. ReachesAt e (events ++ (s.Put (u.Piece z) ∷ [])) p new.send) (sym (ap {A = State} (λ v. v.phase) g.2)) (own_goes e events t (unit.Piece z) (u.Piece z) new (going_live t.send.state g.1.1.0 g.1.1.3) g r)
 puts_go e events t (unit.Sync z) new g r = subst (λ p. ReachesAt e (events ++ (s.Put (u.Sync z) ∷ [])) p new.send) (sym (ap {A = State} (λ v. v.phase) g.2)) (own_goes e events t (unit.Sync z) (u.Sync z) new (going_live t.send.state g.1.1.0 g.1.1.2) g r)
@@ -83,36 +76,16 @@ puts_go e events t (unit.Resume z1 z2) new g r = subst (λ p. ReachesAt e (event
 puts_go e events t (unit.ResumeAck z1 z2) new g r = subst (λ v. ReachesAt e events v.phase v.send) (sym g.1) r
 puts_go e events t (unit.Discard z) new g r = subst (λ p. ReachesAt e (events ++ (s.Put (u.Discard z) ∷ [])) p new.send) (sym (ap {A = State} (λ v. v.phase) g.2)) (own_goes e events t (unit.Discard z) (u.Discard z) new (discard_live t z g.1.1) g r)
 puts_go e events t (unit.DiscardAck z) new g r = subst (λ v. ReachesAt e events v.phase v.send) (sym g.1) r
-puts_go e events t (unit.Please z) new g r = elim g [ ]
-puts_go e events t unit.Give new g r = elim g [ ]
-puts_go e events t (unit.Exception z1 z2) new g r = elim g [ ]
 puts_go e events t (unit.Abort z) new g r = abort_put e events t z new (z == 7) refl (z == 2) refl g
-puts_go e events t unit.Close new g r = elim g [ ]
-puts_go e events t unit.CloseAck new g r = elim g [ ]
+puts_go e events t any3 new g r = elim g [ ]
 
 asks_go : (e : SendEnd) (events : List SendEvent) (t : State) (x : Ask) (new : State) → AsksFor t x new → Reaches e events phase.Puts t.send → ReachesAt e events new.phase new.send
 asks_go e events t (ask.BatchFor z) new g r = subst (λ v. ReachesAt e events v.phase v.send) (sym g.3) (r.0, r.1, r.2, tt)
-asks_go e events t (ask.LaneOpen z1 z2 z3 z4 z5 z6) new g r = elim g [ ]
-asks_go e events t (ask.LaneAgree z1 z2 z3 z4) new g r = elim g [ ]
-asks_go e events t (ask.Bind z) new g r = elim g [ ]
-asks_go e events t (ask.Start z1 z2 z3) new g r = elim g [ ]
-asks_go e events t (ask.Confirm z1 z2 z3 z4) new g r = elim g [ ]
 asks_go e events t (ask.Ending z1 z2 z3) new g r = subst (λ v. ReachesAt e events v.phase v.send) (sym g.6) (r.0, r.1, r.2, sending_last t.send.state z3 g.3)
-asks_go e events t (ask.Sent z1 z2 z3) new g r = elim g [ ]
-asks_go e events t (ask.Dropped z1 z2 z3) new g r = elim g [ ]
-asks_go e events t (ask.Denied z1 z2 z3) new g r = elim g [ ]
-asks_go e events t (ask.Refused z1 z2 z3 z4) new g r = elim g [ ]
 asks_go e events t (ask.Secure z1 z2 z3 z4 z5) new g r = subst (λ v. ReachesAt e events v.phase v.send) (sym g.3) (r.0, r.1, r.2, tt)
 asks_go e events t (ask.Complete z1 z2 z3 z4 z5) new g r = subst (λ v. ReachesAt e events v.phase v.send) (sym g.3) (r.0, r.1, r.2, tt)
 asks_go e events t (ask.DropActivity z1 z2 z3) new g r = subst (λ v. ReachesAt e events v.phase v.send) (sym g.3) (r.0, r.1, r.2, tt)
-asks_go e events t (ask.CloseLane z1 z2) new g r = elim g [ ]
-asks_go e events t (ask.Resumed z) new g r = elim g [ ]
-asks_go e events t (ask.LaneOf z1 z2 z3) new g r = elim g [ ]
-asks_go e events t (ask.Recovery z) new g r = elim g [ ]
-asks_go e events t (ask.Receiving z) new g r = elim g [ ]
-asks_go e events t (ask.Values z) new g r = elim g [ ]
-asks_go e events t (ask.SpareLane z1 z2) new g r = elim g [ ]
-asks_go e events t (ask.Peer z) new g r = elim g [ ]
+asks_go e events t any3 new g r = elim g [ ]
 
 on_goes : (e : SendEnd) (events : List SendEvent) (t : State) (a : Action) (new : State) → GoesOn t a new → Reaches e events phase.Puts t.send → ReachesAt e (with_action events a) new.phase new.send
 on_goes e events t (action.Put x) new g r = puts_go e events t x new g r
@@ -162,57 +135,21 @@ except_goes e events t f (action.Put (unit.Exception z1 z2)) new g r = subst (λ
 except_goes e events t f (action.Put (unit.Abort z)) new g r = elim g [ ]
 except_goes e events t f (action.Put unit.Close) new g r = elim g [ ]
 except_goes e events t f (action.Put unit.CloseAck) new g r = elim g [ ]
-except_goes e events t f action.Read new g r = elim g [ ]
-except_goes e events t f (action.Finish x) new g r = elim g [ ]
+except_goes e events t f any4 new g r = elim g [ ]
 
 pub does_goes : (e : SendEnd) (events : List SendEvent) (t : State) (w : Wanted) (a : Action) (new : State) → SendGoes e events w → Does t w a new → ReachesAt e (with_action events a) new.phase new.send
-does_goes e events t (Aborts reason) a new r d = subst (λ v. ReachesAt e (with_action events a) v.phase v.send) (sym d.1) tt
-does_goes e events t (Rejects reason) a new r d = subst (λ v. ReachesAt e (with_action events a) v.phase v.send) (sym d.1) tt
-does_goes e events t (Ends x) a new r d = subst (λ v. ReachesAt e (with_action events a) v.phase v.send) (sym d.1) tt
 does_goes e events t (Puts x then_) a new r d = subst (λ b. ReachesAt e (with_action events b) new.phase new.send) (sym d.0) (subst (λ v. ReachesAt e (with_unit events x) v.phase v.send) (sym d.1) r)
 does_goes e events t (Asks x then_) a new r d = subst (λ b. ReachesAt e (with_action events b) new.phase new.send) (sym d.0) (subst (λ v. ReachesAt e events v.phase v.send) (sym d.1) r)
 does_goes e events t (Reads then_) a new r d = subst (λ b. ReachesAt e (with_action events b) new.phase new.send) (sym d.0) (subst (λ v. ReachesAt e events v.phase v.send) (sym d.1) r)
 does_goes e events t (Goes_on then_) a new r d = on_goes e events then_ a new d r
 does_goes e events t (Excepts then_ f) a new r d = except_goes e events then_ f a new d r
 does_goes e events t Never a new r d = elim d [ ]
+does_goes e events t any3 a new r d = subst (λ v. ReachesAt e (with_action events a) v.phase v.send) (sym d.1) tt
 
 -- a session that is not over follows the table
 pub follows_does : (p : Phase) (t : State) (e : Event) (a : Action) (new : State) → is_open p ≡ true → FollowsAt p t e a new → Does (counted t e) (wanted (counted t e) e) a new
-follows_does phase.Begin t e a new i f = f
-follows_does phase.ReadsOpen t e a new i f = f
-follows_does phase.AsksPeer t e a new i f = f
-follows_does phase.AsksStands t e a new i f = f
-follows_does (phase.AsksNewLane again) t e a new i f = f
-follows_does phase.AsksSpare t e a new i f = f
-follows_does phase.AsksRoom t e a new i f = f
-follows_does phase.AsksOldLane t e a new i f = f
-follows_does phase.AsksBind t e a new i f = f
-follows_does phase.PutsAccept t e a new i f = f
-follows_does phase.AsksDue t e a new i f = f
-follows_does phase.AsksValues t e a new i f = f
-follows_does phase.AsksRecovery t e a new i f = f
-follows_does (phase.AsksReceiving st) t e a new i f = f
-follows_does (phase.AsksResumed st) t e a new i f = f
-follows_does phase.PutsOpen t e a new i f = f
-follows_does phase.ReadsAnswer t e a new i f = f
-follows_does phase.AsksAgree t e a new i f = f
-follows_does phase.AsksDenied t e a new i f = f
-follows_does phase.Puts t e a new i f = f
-follows_does phase.Reads t e a new i f = f
-follows_does phase.AsksBatch t e a new i f = f
-follows_does phase.AsksStart t e a new i f = f
-follows_does phase.AsksStillIdle t e a new i f = f
-follows_does (phase.AsksStep step) t e a new i f = f
-follows_does phase.AsksState t e a new i f = f
-follows_does (phase.AsksSecure k n) t e a new i f = f
-follows_does (phase.AsksComplete k n) t e a new i f = f
-follows_does (phase.AsksDrop k found) t e a new i f = f
-follows_does phase.PutsClose t e a new i f = f
-follows_does phase.ReadsCloseAck t e a new i f = f
-follows_does phase.AsksClose t e a new i f = f
-follows_does (phase.AsksLast x1) t e a new i f = f
-follows_does (phase.PutsLast x1) t e a new i f = f
 follows_does (phase.Ended x1) t e a new i f = absurd (never i)
+follows_does any0 t e a new i f = f
 
 pub calls_go : EventsGo → CallsGo
 calls_go g t e a new h o i f n c m d = does_goes (listed t.send h o) (told_by t.phase t e) (counted t e) (wanted (counted t e) e) a new (g t e h o i f n c m) (follows_does t.phase t e a new i d)

@@ -31,14 +31,7 @@ syncs_if false k n j m x y s = s
 
 syncs_filled : (l : Last) (s : RecvStage) (p : List ℕ) (j m : ℕ) → Syncs s j m → Syncs (filled l s p) j m
 syncs_filled l (r.Ended k n held) p j m s = syncs_if (is_done l k) k n j m p held s
-syncs_filled l r.Free p j m s = s
-syncs_filled l (r.Next k n) p j m s = s
-syncs_filled l (r.Held k n held) p j m s = s
-syncs_filled l (r.Synced k n held) p j m s = s
-syncs_filled l (r.Asked k n) p j m s = s
-syncs_filled l (r.Discards k) p j m s = s
-syncs_filled l (r.Found k) p j m s = s
-syncs_filled l (r.Skips k) p j m s = s
+syncs_filled l any1 p j m s = s
 
 -- at a stage of a constructor other than Ended
 pub at : (e : RecvEnd) (s : RecvStage) (p : List ℕ) → e.stage ≡ s → filled e.last s p ≡ s → filled e.last e.stage p ≡ s
@@ -69,9 +62,6 @@ abort_put e events t z new false q false p g =
     elim second [ ]
 
 pub puts_go : (e : RecvEnd) (events : List RecvEvent) (t : State) (x : AnyUnit) (new : State) → PutsFor t (part_of x) x new → Reaches e events phase.Puts t.recv → ReachesAt e (with_unit events x) new.phase new.recv
-puts_go e events t (unit.Open z) new g a = elim g [ ]
-puts_go e events t (unit.Accept z1 z2 z3) new g a = elim g [ ]
-puts_go e events t (unit.Reject z) new g a = elim g [ ]
 puts_go e events t (unit.Start z) new g a = (subst (λ v. ReachesAt e (with_unit events (unit.Start z)) v.phase v.recv) (sym g.2) (a))
 puts_go e events t (unit.Piece z) new g a = (subst (λ v. ReachesAt e (with_unit events (unit.Piece z)) v.phase v.recv) (sym g.2) (a))
 puts_go e events t (unit.Sync z) new g a = (subst (λ v. ReachesAt e (with_unit events (unit.Sync z)) v.phase v.recv) (sym g.2) (a))
@@ -82,36 +72,16 @@ puts_go e events t (unit.Resume z1 z2) new g a = (subst (λ v. ReachesAt e (with
 puts_go e events t (unit.ResumeAck z1 z2) new g a = (subst (λ v. ReachesAt e (with_unit events (unit.ResumeAck z1 z2)) v.phase v.recv) (sym g.1) (a.0, behind e events (whole phase.Puts t.recv a.0) (u.ResumeAck z1 z2) _ a.1 (at t.recv (r.Asked z1 z2) a.0 g.0.0 refl, g.0.1, g.0.2) refl))
 puts_go e events t (unit.Discard z) new g a = (subst (λ v. ReachesAt e (with_unit events (unit.Discard z)) v.phase v.recv) (sym g.2) (a))
 puts_go e events t (unit.DiscardAck z) new g a = (subst (λ v. ReachesAt e (with_unit events (unit.DiscardAck z)) v.phase v.recv) (sym g.1) (a.0, behind e events (whole phase.Puts t.recv a.0) (u.DiscardAck z) _ a.1 (at t.recv (r.Discards z) a.0 g.0.0 refl, g.0.1, g.0.2) refl))
-puts_go e events t (unit.Please z) new g a = elim g [ ]
-puts_go e events t unit.Give new g a = elim g [ ]
-puts_go e events t (unit.Exception z1 z2) new g a = elim g [ ]
 puts_go e events t (unit.Abort z) new g a = abort_put e events t z new (z == 7) refl (z == 2) refl g
-puts_go e events t unit.Close new g a = elim g [ ]
-puts_go e events t unit.CloseAck new g a = elim g [ ]
+puts_go e events t any3 new g a = elim g [ ]
 
 asks_go : (e : RecvEnd) (events : List RecvEvent) (t : State) (x : Ask) (new : State) → AsksFor t x new → Fits new → Reaches e events phase.Puts t.recv → ReachesAt e events new.phase new.recv
 asks_go e events t (ask.BatchFor z) new g f a = subst (λ v. ReachesAt e events v.phase v.recv) (sym g.3) (a.0, a.1)
-asks_go e events t (ask.LaneOpen z1 z2 z3 z4 z5 z6) new g f a = elim g [ ]
-asks_go e events t (ask.LaneAgree z1 z2 z3 z4) new g f a = elim g [ ]
-asks_go e events t (ask.Bind z) new g f a = elim g [ ]
-asks_go e events t (ask.Start z1 z2 z3) new g f a = elim g [ ]
-asks_go e events t (ask.Confirm z1 z2 z3 z4) new g f a = elim g [ ]
 asks_go e events t (ask.Ending z1 z2 z3) new g f a = subst (λ v. ReachesAt e events v.phase v.recv) (sym g.6) (a.0, a.1)
-asks_go e events t (ask.Sent z1 z2 z3) new g f a = elim g [ ]
-asks_go e events t (ask.Dropped z1 z2 z3) new g f a = elim g [ ]
-asks_go e events t (ask.Denied z1 z2 z3) new g f a = elim g [ ]
-asks_go e events t (ask.Refused z1 z2 z3 z4) new g f a = elim g [ ]
 asks_go e events t (ask.Secure z1 z2 z3 z4 z5) new g f a = subst (λ v. ReachesAt e events v.phase v.recv) (sym g.3) (z5, subst (λ s. r.IsReceivingEnd e events (record t.recv { stage = s })) (at t.recv (r.Synced z3 z4 z5) a.0 g.0.0 refl) a.1)
 asks_go e events t (ask.Complete z1 z2 z3 z4 z5) new g f a = subst (λ v. ReachesAt e events v.phase v.recv) (sym g.3) (z5, subst (λ s. r.IsReceivingEnd e events (record t.recv { stage = s })) (at_open t.recv z3 z4 z5 a.0 g.0.0 (subst (λ v. FitsAt v.phase v) g.3 f).3) a.1)
 asks_go e events t (ask.DropActivity z1 z2 z3) new g f a = subst (λ v. ReachesAt e events v.phase v.recv) (sym g.3) (a.0, a.1)
-asks_go e events t (ask.CloseLane z1 z2) new g f a = elim g [ ]
-asks_go e events t (ask.Resumed z) new g f a = elim g [ ]
-asks_go e events t (ask.LaneOf z1 z2 z3) new g f a = elim g [ ]
-asks_go e events t (ask.Recovery z) new g f a = elim g [ ]
-asks_go e events t (ask.Receiving z) new g f a = elim g [ ]
-asks_go e events t (ask.Values z) new g f a = elim g [ ]
-asks_go e events t (ask.SpareLane z1 z2) new g f a = elim g [ ]
-asks_go e events t (ask.Peer z) new g f a = elim g [ ]
+asks_go e events t any3 new g f a = elim g [ ]
 
 pub on_goes : (e : RecvEnd) (events : List RecvEvent) (t : State) (x : Action) (new : State) → GoesOn t x new → Fits new → Reaches e events phase.Puts t.recv → ReachesAt e (with_action events x) new.phase new.recv
 on_goes e events t (action.Put x) new g f a = puts_go e events t x new g a
@@ -169,19 +139,16 @@ except_goes e events t f (action.Put (unit.Exception z1 z2)) new g a = exception
 except_goes e events t f (action.Put (unit.Abort z)) new g a = elim g [ ]
 except_goes e events t f (action.Put unit.Close) new g a = elim g [ ]
 except_goes e events t f (action.Put unit.CloseAck) new g a = elim g [ ]
-except_goes e events t f action.Read new g a = elim g [ ]
-except_goes e events t f (action.Finish x) new g a = elim g [ ]
+except_goes e events t f any4 new g a = elim g [ ]
 
 pub does_goes : (e : RecvEnd) (events : List RecvEvent) (t : State) (w : Wanted) (x : Action) (new : State) → RecvGoes e events w → Does t w x new → Fits new → ReachesAt e (with_action events x) new.phase new.recv
-does_goes e events t (Aborts reason) x new a d f = subst (λ v. ReachesAt e (with_action events x) v.phase v.recv) (sym d.1) tt
-does_goes e events t (Rejects reason) x new a d f = subst (λ v. ReachesAt e (with_action events x) v.phase v.recv) (sym d.1) tt
-does_goes e events t (Ends y) x new a d f = subst (λ v. ReachesAt e (with_action events x) v.phase v.recv) (sym d.1) tt
 does_goes e events t (Puts y n) x new a d f = subst (λ b. ReachesAt e (with_action events b) new.phase new.recv) (sym d.0) (subst (λ v. ReachesAt e (with_unit events y) v.phase v.recv) (sym d.1) a)
 does_goes e events t (Asks y n) x new a d f = subst (λ b. ReachesAt e (with_action events b) new.phase new.recv) (sym d.0) (subst (λ v. ReachesAt e events v.phase v.recv) (sym d.1) a)
 does_goes e events t (Reads n) x new a d f = subst (λ b. ReachesAt e (with_action events b) new.phase new.recv) (sym d.0) (subst (λ v. ReachesAt e events v.phase v.recv) (sym d.1) a)
 does_goes e events t (Goes_on n) x new a d f = on_goes e events n x new d f a
 does_goes e events t (Excepts n y) x new a d f = except_goes e events n y x new d a
 does_goes e events t Never x new a d f = elim d [ ]
+does_goes e events t any3 x new a d f = subst (λ v. ReachesAt e (with_action events x) v.phase v.recv) (sym d.1) tt
 
 pub calls_go : EventsGo → CallsGo
 calls_go g t e x new p i f n a d = does_goes (whole t.phase t.recv p) (told_by t.phase t p e) (counted t e) (wanted (counted t e) e) x new (g t e p i f a) (follows_does t.phase t e x new i d) n

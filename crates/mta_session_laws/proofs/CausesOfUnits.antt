@@ -258,19 +258,16 @@ excepts_put v f x new g y i = elim g [ ]
 excepts_quiet : (v : State) (f : Found) (a : Action) (new : State) → ExceptsFor v f a new → (y : SessionEnd) → end_of new.phase ≡ Some y → ⊥
 excepts_quiet v f (action.Ask x) new g y i = excepts_ask v f x new g y i
 excepts_quiet v f (action.Put x) new g y i = excepts_put v f x new g y i
-excepts_quiet v f action.Read new g y i = elim g [ ]
-excepts_quiet v f (action.Finish x) new g y i = elim g [ ]
+excepts_quiet v f any2 new g y i = elim g [ ]
 
 does_cause : (t : State) (e : Event) (v : State) (w : Wanted) (a : Action) (new : State) (y : SessionEnd) → Leads t e w → Does v w a new → end_of new.phase ≡ Some y → EndCause t e y
 does_cause t e v (Aborts reason) a new y l d i = ended t e new _ (end.Aborted reason) y d.1 refl l i
 does_cause t e v (Rejects reason) a new y l d i = ended t e new _ (end.Refused reason) y d.1 refl l i
 does_cause t e v (Ends x) a new y l d i = ended t e new _ x y d.1 refl l i
-does_cause t e v (Puts x z) a new y l d i = l y (subst (λ s. end_of s.phase ≡ Some y) d.1 i)
-does_cause t e v (Asks x z) a new y l d i = l y (subst (λ s. end_of s.phase ≡ Some y) d.1 i)
-does_cause t e v (Reads z) a new y l d i = l y (subst (λ s. end_of s.phase ≡ Some y) d.1 i)
 does_cause t e v (Goes_on z) a new y l d i = goes_cause t e z a new l d y i
 does_cause t e v (Excepts z f) a new y l d i = absurd (excepts_quiet z f a new d y i)
 does_cause t e v Never a new y l d i = elim d [ ]
+does_cause t e v any3 a new y l d i = l y (subst (λ s. end_of s.phase ≡ Some y) d.1 i)
 
 going : (p : Phase) (t : State) (e : Event) (a : Action) (new : State) → end_of p ≡ None → FollowsAt p t e a new → Does (counted t e) (wanted (counted t e) e) a new
 going (phase.Ended x) t e a new n f = absurd (some_none x n)

@@ -304,8 +304,7 @@ excepts_put_way v f x new g = elim g [ ]
 pub excepts_way : (v : State) (f : Found) (a : Action) (new : State) → ExceptsFor v f a new → is_open new.phase ≡ true
 excepts_way v f (action.Ask x) new g = excepts_ask_way v f x new g
 excepts_way v f (action.Put x) new g = excepts_put_way v f x new g
-excepts_way v f action.Read new g = elim g [ ]
-excepts_way v f (action.Finish x) new g = elim g [ ]
+excepts_way v f any2 new g = elim g [ ]
 
 -- what was asked last
 asked : (t : State) (e : Event) (q : Ask) (v : State) (a : Action) (new : State) → a ≡ action.Ask q → new ≡ v → (is_open v.phase ≡ true) ⊎ TurnsTo v.phase t e →
@@ -360,14 +359,7 @@ got_as_runs e b x = if_runs e b (s.Got (heard_as x)) tt
 
 refused_runs : (e : SendEnd) (w : Wanted) (events : List SendEvent) → Runs e events → Runs e (unless_refused w events)
 refused_runs e (Aborts reason) events r = none_runs e
-refused_runs e (Rejects reason) events r = r
-refused_runs e (Ends x) events r = r
-refused_runs e (Puts x v) events r = r
-refused_runs e (Asks q v) events r = r
-refused_runs e (Reads v) events r = r
-refused_runs e (Goes_on v) events r = r
-refused_runs e (Excepts v f) events r = r
-refused_runs e Never events r = r
+refused_runs e any1 events r = r
 
 pub got_runs : (e : SendEnd) (p : Phase) (b : Bool) (t : State) (x : AnyUnit) → Runs e (unless_refused (called_for p t x) (got_as b x))
 got_runs e p b t x = refused_runs e (called_for p t x) (got_as b x) (got_as_runs e b x)

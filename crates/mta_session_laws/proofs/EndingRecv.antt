@@ -64,14 +64,10 @@ Met told Never = Unit {0}
 
 met_plain : (told : List RecvEvent) (w : Wanted) → Met told w → Plain (unless_refused w told) w
 met_plain told (Aborts reason) m = (refl, m)
-met_plain told (Rejects reason) m = m
-met_plain told (Ends y) m = m
-met_plain told (Asks q v) m = m
-met_plain told (Reads v) m = m
-met_plain told (Puts x v) m = m
 met_plain told (Goes_on v) m = tt
 met_plain told (Excepts v f) m = tt
 met_plain told Never m = tt
+met_plain told any1 m = m
 
 if_met : (told : List RecvEvent) (b : Bool) (w v : Wanted) → Met told w → Met told v → Met told (if b then w else v)
 if_met told true w v p q = p
@@ -282,9 +278,8 @@ put_runs e events v x new g a = elim g [ ]
 
 pub goes_runs : (e : RecvEnd) (events : List RecvEvent) (v : State) (a : Action) (new : State) → GoesOn v a new → Fits new → Reaches e events phase.Puts v.recv → Runs e (with_action events a)
 goes_runs e events v (action.Put x) new g f k = put_runs e events v x new g k
-goes_runs e events v (action.Ask x) new g f k = (whole phase.Puts v.recv k.0, k.1)
-goes_runs e events v action.Read new g f k = (whole phase.Puts v.recv k.0, k.1)
 goes_runs e events v (action.Finish x) new g f k = elim g [ ]
+goes_runs e events v any3 new g f k = (whole phase.Puts v.recv k.0, k.1)
 
 -- a run of an open session
 pub reached_runs : (e : RecvEnd) (events : List RecvEvent) (new : State) → is_open new.phase ≡ true → ReachesAt e events new.phase new.recv → Runs e events
@@ -294,12 +289,9 @@ reached_runs e events new i k =
 
 pub wanted_runs : (e : RecvEnd) (events : List RecvEvent) (c : State) (w : Wanted) (a : Action) (new : State) → RecvGoes e events w → Plain events w → Does c w a new → Fits new → Runs e (with_action events a)
 wanted_runs e events c (Aborts reason) a new g p d f = none_runs e (with_action events a) (ap {A = Action} (with_action events) d.0 ∙ ap (with_put events) p.1 ∙ p.0)
-wanted_runs e events c (Rejects reason) a new g p d f = none_runs e (with_action events a) (ap {A = Action} (with_action events) d.0 ∙ p)
-wanted_runs e events c (Ends y) a new g p d f = none_runs e (with_action events a) (ap {A = Action} (with_action events) d.0 ∙ p)
-wanted_runs e events c (Asks q v) a new g p d f = none_runs e (with_action events a) (ap {A = Action} (with_action events) d.0 ∙ p)
-wanted_runs e events c (Reads v) a new g p d f = none_runs e (with_action events a) (ap {A = Action} (with_action events) d.0 ∙ p)
 wanted_runs e events c (Puts x v) a new g p d f =
     none_runs e (with_action events a) (ap {A = Action} (with_action events) d.0 ∙ ap {A = List RecvEvent} (λ z. with_unit z x) p.0 ∙ p.1)
 wanted_runs e events c (Goes_on v) a new g p d f = goes_runs e events v a new d f g
 wanted_runs e events c (Excepts v y) a new g p d f = reached_runs e (with_action events a) new (excepts_way v y a new d) (except_goes e events v y a new d g)
 wanted_runs e events c Never a new g p d f = elim d [ ]
+wanted_runs e events c any3 a new g p d f = none_runs e (with_action events a) (ap {A = Action} (with_action events) d.0 ∙ p)

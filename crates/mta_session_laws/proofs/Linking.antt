@@ -39,16 +39,12 @@ new_link accepted = s.New_link accepted ∷ []
 
 kept_same : (st : SendState) (os x : List ℕ) → x ≡ os → kept st os x ≡ os
 kept_same (state.Idle last) os x q = refl
-kept_same (state.Sending k c) os x q = q
-kept_same (state.Ending k c) os x q = q
-kept_same (state.Dropping k) os x q = q
+kept_same any0 os x q = q
 
 -- Accept changes no stage of a link on which nothing was done
 got_accept : (st : SendState) → stage_got (stage_on_link st) u.Accept ≡ stage_on_link st
 got_accept (state.Idle last) = refl
-got_accept (state.Sending k c) = refl
-got_accept (state.Ending k c) = refl
-got_accept (state.Dropping k) = refl
+got_accept any0 = refl
 
 accepted_end : (e : SendEnd) (st : SendState) (os : List ℕ) → e.state ≡ st → e.octets ≡ os → e.stage ≡ stage_on_link st →
     listed (record e { accepted = true }) (Some u.Accept) os ≡ s.got (s.on_link (half_of st os e.size e.window) false) u.Accept
@@ -82,14 +78,7 @@ eq_of n m l = grind (arith, nat_tests)
 
 discarded_got : (stage : SendStage) (k : ℕ) (x : LaneUnit) → is_discard_put stage k ≡ true → is_discarded (stage_got stage x) ≡ true
 discarded_got (s.Discard_put j) k x l = refl
-discarded_got s.Quiet k x l = absurd (never l)
-discarded_got s.Opened k x l = absurd (never l)
-discarded_got (s.Started j) k x l = absurd (never l)
-discarded_got (s.Next j n) k x l = absurd (never l)
-discarded_got (s.Sync_next j n) k x l = absurd (never l)
-discarded_got (s.Last_put j n) k x l = absurd (never l)
-discarded_got (s.End_put j n) k x l = absurd (never l)
-discarded_got (s.Resume_put j n) k x l = absurd (never l)
+discarded_got any0 k x l = absurd (never l)
 
 -- unrecognizedActivity denies what is under way
 pub denied_last : (e : SendEnd) (st : SendState) (reason : ℕ) → e.state ≡ st → ((reason == 2) && not (is_idle st)) ≡ true →
@@ -174,19 +163,16 @@ pub opening_opens : (t : State) (st : SendState) (os : List ℕ) (e : Event) →
 opening_opens t st os event.Go h a = (h, a, refl)
 opening_opens t st os (event.Unit x) h a = counted_opens st os (new_link false) [] (counted t (event.Unit x)) Never tt
 opening_opens t st os event.BadUnit h a = counted_opens st os (new_link false) [] (counted t event.BadUnit) (Aborts 4) tt
-opening_opens t st os (event.Reply x) h a = tt
-opening_opens t st os event.Over h a = tt
+opening_opens t st os any3 h a = tt
 
 pub answering_opens : (t : State) (st : SendState) (os : List ℕ) (e : Event) → HasHalf t st os →
     Opens st os (new_link false) (told_by phase.ReadsAnswer t e) (wanted_in phase.ReadsAnswer (counted t e) e)
-answering_opens t st os event.Go h = tt
 answering_opens t st os (event.Unit x) h =
     let c : State = counted t (event.Unit x) in
     refused_opens st os (new_link false) (got_as true x) (called_for phase.ReadsAnswer t x)
     (counted_opens st os (new_link false) (got_as true x) c (wanted_of_unit phase.ReadsAnswer c x) (answer_opens t.side c x st os h))
 answering_opens t st os event.BadUnit h = counted_opens st os (new_link false) [] (counted t event.BadUnit) (Aborts 4) tt
-answering_opens t st os (event.Reply x) h = tt
-answering_opens t st os event.Over h = tt
+answering_opens t st os any3 h = tt
 
 agreed_opens : (t : State) (st : SendState) (os : List ℕ) (x : Reply) → HasHalf t st os →
     Opens st os (s.New_link false ∷ s.Got u.Accept ∷ []) [] (wanted_in phase.AsksAgree t (event.Reply x))
@@ -196,11 +182,10 @@ agreed_opens t st os x h = tt
 
 pub agreeing_opens : (t : State) (st : SendState) (os : List ℕ) (e : Event) → HasHalf t st os →
     Opens st os (s.New_link false ∷ s.Got u.Accept ∷ []) [] (wanted_in phase.AsksAgree (counted t e) e)
-agreeing_opens t st os event.Go h = tt
 agreeing_opens t st os (event.Unit x) h = counted_opens st os (s.New_link false ∷ s.Got u.Accept ∷ []) [] (counted t (event.Unit x)) Never tt
 agreeing_opens t st os event.BadUnit h = counted_opens st os (s.New_link false ∷ s.Got u.Accept ∷ []) [] (counted t event.BadUnit) (Aborts 4) tt
 agreeing_opens t st os (event.Reply x) h = agreed_opens t st os x h
-agreeing_opens t st os event.Over h = tt
+agreeing_opens t st os any3 h = tt
 
 -- a responder has accepted the link
 accepted_opens : (t : State) (st : SendState) (os : List ℕ) → HasHalf t st os → t.send.accepted ≡ true → Opens st os (new_link true) [] (after_accept t)
@@ -215,5 +200,4 @@ pub accepting_opens : (t : State) (st : SendState) (os : List ℕ) (e : Event) �
 accepting_opens t st os event.Go h a = accepted_opens t st os h a
 accepting_opens t st os (event.Unit x) h a = counted_opens st os (new_link true) [] (counted t (event.Unit x)) Never tt
 accepting_opens t st os event.BadUnit h a = counted_opens st os (new_link true) [] (counted t event.BadUnit) (Aborts 4) tt
-accepting_opens t st os (event.Reply x) h a = tt
-accepting_opens t st os event.Over h a = tt
+accepting_opens t st os any3 h a = tt

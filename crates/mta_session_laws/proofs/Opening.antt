@@ -114,12 +114,8 @@ pub refused_opens : (st : SendState) (os : List ℕ) (evs told : List SendEvent)
 refused_opens st os evs told (Aborts reason) o = tt
 refused_opens st os evs told (Rejects reason) o = tt
 refused_opens st os evs told (Ends x) o = tt
-refused_opens st os evs told (Puts x v) o = o
-refused_opens st os evs told (Asks a v) o = o
-refused_opens st os evs told (Reads v) o = o
-refused_opens st os evs told (Goes_on v) o = o
-refused_opens st os evs told (Excepts v f) o = o
 refused_opens st os evs told Never o = tt
+refused_opens st os evs told any4 o = o
 
 -- Before the link is answered -----------------------------------------------------------------
 
@@ -292,16 +288,14 @@ before_opens p t (event.Reply x) i b = before_reply p t x i b
 before_opens p t event.Over i b = over_opens p (state.Idle 0) [] [] []
 
 pub receiving_opens : (t : State) (r : SendState) (e : Event) → Blank t → Opens r [] [] [] (wanted_in (phase.AsksReceiving r) (counted t e) e)
-receiving_opens t r event.Go b = tt
 receiving_opens t r (event.Unit x) b = counted_opens r [] [] [] (counted t (event.Unit x)) Never tt
 receiving_opens t r event.BadUnit b = counted_opens r [] [] [] (counted t event.BadUnit) (Aborts 4) tt
 receiving_opens t r (event.Reply x) b = received_opens t r x b
-receiving_opens t r event.Over b = tt
+receiving_opens t r any2 b = tt
 
 pub resuming_opens : (t : State) (r : SendState) (e : Event) → Blank t →
     Opens r (told_octets e (phase.AsksResumed r) []) [] [] (wanted_in (phase.AsksResumed r) (counted t e) e)
-resuming_opens t r event.Go b = tt
 resuming_opens t r (event.Unit x) b = counted_opens r [] [] [] (counted t (event.Unit x)) Never tt
 resuming_opens t r event.BadUnit b = counted_opens r [] [] [] (counted t event.BadUnit) (Aborts 4) tt
 resuming_opens t r (event.Reply x) b = resumed_opens t r x b
-resuming_opens t r event.Over b = tt
+resuming_opens t r any2 b = tt

@@ -92,14 +92,7 @@ Leaves e b Never = Unit {0}
 -- a refusal of a step answers no unit
 pub refusal_says_nothing : (f : StepFault) → part_of_abort (abort_of f) ≡ Of_neither
 refusal_says_nothing (fault.Full size need) = refl
-refusal_says_nothing fault.Disk = refl
-refusal_says_nothing fault.Ended = refl
-refusal_says_nothing (fault.Spent z) = refl
-refusal_says_nothing fault.Memory = refl
-refusal_says_nothing (fault.Fenced z) = refl
-refusal_says_nothing (fault.NoLane z) = refl
-refusal_says_nothing (fault.BusyLanes z) = refl
-refusal_says_nothing fault.Unexpected = refl
+refusal_says_nothing any0 = refl
 
 if_leaves : (e : RecvEnd) (l : Bool) (b : Bool) (w v : Wanted) → Leaves e l w → Leaves e l v → Leaves e l (if b then w else v)
 if_leaves e l true w v p q = p

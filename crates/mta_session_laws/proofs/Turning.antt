@@ -45,9 +45,7 @@ passes p t h o x c n (Some f) q = (Some (heard_as x), o, (tt, got_is t.send f h 
 -- the octets of an activity that is under way are kept
 pub kept_live : (st : SendState) (o x : List ℕ) → is_idle st ≡ false → kept st o x ≡ x
 kept_live (state.Idle last) o x l = search l
-kept_live (state.Sending k c) o x l = refl
-kept_live (state.Ending k c) o x l = refl
-kept_live (state.Dropping k) o x l = refl
+kept_live any0 o x l = refl
 
 made_listed : (e : SendEnd) (o : List ℕ) (x : LaneUnit) (step : s.SendStep) → is_idle e.state ≡ false → s.MayMake (s.got e x) step → forget (s.got e x) ≡ e → s.MayMake (listed e (Some x) o) step
 made_listed e o x step l m eq =
@@ -86,33 +84,25 @@ holder_goes m d p t h o (unit.Please priority) z = please t h o priority z t.twa
 
 kept_confirmed : (st : SendState) (n : ℕ) (o x : List ℕ) → kept (confirmed_at st n) (kept st o x) x ≡ kept st o x
 kept_confirmed (state.Idle last) n o x = refl
-kept_confirmed (state.Sending k c) n o x = refl
-kept_confirmed (state.Ending k c) n o x = refl
-kept_confirmed (state.Dropping k) n o x = refl
+kept_confirmed any0 n o x = refl
 
 pub sending_live : (st : SendState) (k : ℕ) → is_sending st k ≡ true → is_idle st ≡ false
 sending_live (state.Idle last) k l = search l
-sending_live (state.Sending j c) k l = refl
-sending_live (state.Ending j c) k l = refl
-sending_live (state.Dropping j) k l = refl
+sending_live any0 k l = refl
 
 pub step_goes : StepGoes
 step_goes t h o (own.Confirm n) c m = (None, kept t.send.state o t.send.octets, (m, rw (kept_confirmed t.send.state n o t.send.octets) refl), tt)
 step_goes t h o own.Ending c m =
     (None, [], (m, rw (kept_live t.send.state o t.send.octets (sending_live t.send.state (last_of t.send.state) m)) refl), tt)
-step_goes t h o own.Sent c m = (None, kept t.send.state o t.send.octets, (m, refl), tt)
-step_goes t h o own.Dropped c m = (None, kept t.send.state o t.send.octets, (m, refl), tt)
-step_goes t h o (own.Refused k) c m = (None, kept t.send.state o t.send.octets, (m, refl), tt)
+step_goes t h o any3 c m = (None, kept t.send.state o t.send.octets, (m, refl), tt)
 
 pub start_goes : StartGoes
 start_goes t h o x c i q l = (None, o, ((i, q, l), refl), tt)
 
 -- a half in Sending is of the activity under way
 pub sending_last : (st : SendState) (k : ℕ) → is_sending st k ≡ true → is_sending st (last_of st) ≡ true
-sending_last (state.Idle last) k l = search l
 sending_last (state.Sending j c) k l = search rules
-sending_last (state.Ending j c) k l = search l
-sending_last (state.Dropping j) k l = search l
+sending_last any0 k l = search l
 
 both_true : (a b : Bool) → (a && b) ≡ true → a ≡ true
 both_true true b l = refl
@@ -120,9 +110,7 @@ both_true false b l = search l
 
 pub given_up : (t : State) (told : SendState) → is_given_up t told ≡ true → is_sending t.send.state (last_of t.send.state) ≡ true
 given_up t (state.Dropping k) g = sending_last t.send.state k (both_true (is_sending t.send.state k) (is_cut t.send.stage k) g)
-given_up t (state.Idle k) g = search g
-given_up t (state.Sending k c) g = search g
-given_up t (state.Ending k c) g = search g
+given_up t any1 g = search g
 
 pub abandon_goes : AbandonGoes
 abandon_goes t h o told c g =
@@ -132,21 +120,7 @@ abandon_goes t h o told c g =
 -- what may be put does not rest on what was heard
 puts_same : (e : SendEnd) (h : Option LaneUnit) (y : LaneUnit) → s.MayPut e y → s.MayPut (record e { heard = h }) y × (s.put (record e { heard = h }) y ≡ s.put e y)
 puts_same e h (u.Start k) m = (m, refl)
-puts_same e h (u.Piece x) m = (m, refl)
-puts_same e h (u.Sync n) m = (m, refl)
-puts_same e h (u.End k) m = (m, refl)
-puts_same e h (u.Resume k n) m = (m, refl)
-puts_same e h (u.Discard k) m = (m, refl)
-puts_same e h (u.SyncAck n) m = (m, refl)
-puts_same e h (u.EndAck k) m = (m, refl)
-puts_same e h (u.ResumeAck k n) m = (m, refl)
-puts_same e h (u.DiscardAck k) m = (m, refl)
-puts_same e h u.Exception m = (m, refl)
-puts_same e h u.Completed m = (m, refl)
-puts_same e h u.Unrecognized m = (m, refl)
-puts_same e h u.CannotRecover m = (m, refl)
-puts_same e h u.Accept m = (m, refl)
-puts_same e h u.Other m = (m, refl)
+puts_same e h any2 m = (m, refl)
 
 put_listed : (e : SendEnd) (y : LaneUnit) → is_idle e.state ≡ false → listed (s.put e y) None [] ≡ s.put e y
 put_listed e y l = rw (kept_live e.state [] e.octets l) refl

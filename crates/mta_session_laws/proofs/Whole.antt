@@ -49,8 +49,7 @@ link_runs e b = (s.on_link e b, (tt, refl))
 
 part_behind : (xs ys : List SendEvent) (p : Part) → with_put (xs ++ ys) p ≡ xs ++ with_put ys p
 part_behind xs ys (Of_sender y) = append_assoc xs ys (s.Put y ∷ [])
-part_behind xs ys (Of_receiver y) = refl
-part_behind xs ys Of_neither = refl
+part_behind xs ys any2 = refl
 
 unit_behind : (xs ys : List SendEvent) (x : AnyUnit) → with_unit (xs ++ ys) x ≡ xs ++ with_unit ys x
 unit_behind xs ys (unit.Open o) = append_assoc xs ys (s.New_link false ∷ [])
@@ -59,9 +58,7 @@ unit_behind xs ys x = part_behind xs ys (part_of x)
 
 action_behind : (xs ys : List SendEvent) (a : Action) → with_action (xs ++ ys) a ≡ xs ++ with_action ys a
 action_behind xs ys (action.Put x) = unit_behind xs ys x
-action_behind xs ys (action.Ask q) = refl
-action_behind xs ys action.Read = refl
-action_behind xs ys (action.Finish y) = refl
+action_behind xs ys any2 = refl
 
 -- ---- where the list stands
 
@@ -426,10 +423,8 @@ does_final c (Rejects reason) a new k d = (λ events. ap {A = Action} (with_acti
 does_final c (Ends y) a new k d = (λ events. ap {A = Action} (with_action events) d.0, subst (λ z. IsFinal z.phase) (sym d.1) tt)
 does_final c (Puts x v) a new k d = (λ events. ap {A = Action} (with_action events) d.0 ∙ k.0 events, subst (λ z. IsFinal z.phase) (sym d.1) k.1)
 does_final c (Asks q v) a new k d = (λ events. ap {A = Action} (with_action events) d.0, subst (λ z. IsFinal z.phase) (sym d.1) k)
-does_final c (Reads v) a new k d = elim k [ ]
-does_final c (Goes_on v) a new k d = elim k [ ]
-does_final c (Excepts v f) a new k d = elim k [ ]
 does_final c Never a new k d = elim d [ ]
+does_final c any1 a new k d = elim k [ ]
 
 stands_last : (p : Phase) (t : State) (st : SendState) (os : List ℕ) (evs : List SendEvent) → is_last_phase p ≡ true → Stands p t st os evs → EndsAt p st os evs
 stands_last phase.AsksDenied t st os evs l k = k
@@ -471,10 +466,7 @@ over_call y t e a new st os evs q d k =
 
 pub in_phase_wanted : (t : State) (e : Event) → wanted (counted t e) e ≡ wanted_in t.phase (counted t e) e
 in_phase_wanted t event.Go = refl
-in_phase_wanted t (event.Unit x) = refl
-in_phase_wanted t event.BadUnit = refl
-in_phase_wanted t (event.Reply x) = refl
-in_phase_wanted t event.Over = refl
+in_phase_wanted t any1 = refl
 
 pub follows_does : (p : Phase) (t : State) (e : Event) (a : Action) (new : State) → is_ended p ≡ false → FollowsAt p t e a new → Does (counted t e) (wanted (counted t e) e) a new
 follows_does (phase.Ended y) t e a new i f = absurd (never (sym i))

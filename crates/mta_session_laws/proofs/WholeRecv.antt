@@ -161,8 +161,7 @@ stage_opening p b at_accept = record { closed = refl; going = refl }
 
 part_behind : (xs ys : List RecvEvent) (p : Part) → with_put (xs ++ ys) p ≡ xs ++ with_put ys p
 part_behind xs ys (Of_receiver y) = append_assoc xs ys (r.Put y ∷ [])
-part_behind xs ys (Of_sender y) = refl
-part_behind xs ys Of_neither = refl
+part_behind xs ys any2 = refl
 
 unit_behind : (xs ys : List RecvEvent) (x : AnyUnit) → with_unit (xs ++ ys) x ≡ xs ++ with_unit ys x
 unit_behind xs ys (unit.Open o) = append_assoc xs ys (r.New_link ∷ [])
@@ -172,9 +171,7 @@ unit_behind xs ys x = part_behind xs ys (part_of x)
 
 action_behind : (xs ys : List RecvEvent) (a : Action) → with_action (xs ++ ys) a ≡ xs ++ with_action ys a
 action_behind xs ys (action.Put x) = unit_behind xs ys x
-action_behind xs ys (action.Ask q) = refl
-action_behind xs ys action.Read = refl
-action_behind xs ys (action.Finish y) = refl
+action_behind xs ys any2 = refl
 
 -- One call -----------------------------------------------------------------------------------------
 
@@ -329,10 +326,8 @@ does_final c (Rejects reason) a new k q d = (ap {A = Action} (with_action []) d.
 does_final c (Ends y) a new k q d = (ap {A = Action} (with_action []) d.0, ap {A = State} (λ z. is_last_phase z.phase) d.1)
 does_final c (Puts x v) a new k q d = (ap {A = Action} (with_action []) d.0 ∙ q, ap {A = State} (λ z. is_last_phase z.phase) d.1 ∙ final_last v.phase k.1)
 does_final c (Asks y v) a new k q d = (ap {A = Action} (with_action []) d.0, ap {A = State} (λ z. is_last_phase z.phase) d.1 ∙ final_last v.phase k)
-does_final c (Reads v) a new k q d = elim k [ ]
-does_final c (Goes_on v) a new k q d = elim k [ ]
-does_final c (Excepts v f) a new k q d = elim k [ ]
 does_final c Never a new k q d = elim d [ ]
+does_final c any1 a new k q d = elim k [ ]
 
 over_says : (p : Phase) (x : Turn) → is_ended p ≡ true → FollowsAt p x.before x.event x.action x.after → (with_action [] x.action ≡ []) × (x.after ≡ x.before)
 over_says (phase.Ended y) x i f = (ap {A = Action} (with_action []) f.0, f.1)

@@ -204,26 +204,20 @@ excepts_put v k x new a w g = elim g [ ]
 excepts_write : (v : State) (k : Found) (x : Action) (new : State) → Ends_write v → IsWritable (unit.Exception k.kind k.at) → ExceptsFor v k x new → CanWrite new × PutsWritable x
 excepts_write v k (action.Ask x) new a w g = (excepts_ask v k x new a w g, tt)
 excepts_write v k (action.Put x) new a w g = excepts_put v k x new a w g
-excepts_write v k action.Read new a w g = elim g [ ]
-excepts_write v k (action.Finish x) new a w g = elim g [ ]
+excepts_write v k any2 new a w g = elim g [ ]
 
 does_write : (v : State) (w : Wanted) (a : Action) (new : State) → SideWrites v.side → Writes w → Fits new → Does v w a new → CanWrite new × PutsWritable a
-does_write v (Aborts reason) a new s w f d = (subst (λ z. CanWrite z) (sym d.1) (silent _ s refl tt), subst (λ z. PutsWritable z) (sym d.0) tt)
-does_write v (Rejects reason) a new s w f d = (subst (λ z. CanWrite z) (sym d.1) (silent _ s refl tt), subst (λ z. PutsWritable z) (sym d.0) tt)
-does_write v (Ends x) a new s w f d = (subst (λ z. CanWrite z) (sym d.1) (silent _ s refl tt), subst (λ z. PutsWritable z) (sym d.0) tt)
 does_write v (Puts x z) a new s w f d = (subst (λ y. CanWrite y) (sym d.1) w.1, subst (λ y. PutsWritable y) (sym d.0) (w.0 (subst (λ y. Fits y) d.1 f)))
 does_write v (Asks x z) a new s w f d = (subst (λ y. CanWrite y) (sym d.1) w, subst (λ y. PutsWritable y) (sym d.0) tt)
 does_write v (Reads z) a new s w f d = (subst (λ y. CanWrite y) (sym d.1) w, subst (λ y. PutsWritable y) (sym d.0) tt)
 does_write v (Goes_on z) a new s w f d = goes_write z a new w f d
 does_write v (Excepts z k) a new s w f d = excepts_write z k a new w.0 w.1 d
 does_write v Never a new s w f d = elim d [ ]
+does_write v any1 a new s w f d = (subst (λ z. CanWrite z) (sym d.1) (silent _ s refl tt), subst (λ z. PutsWritable z) (sym d.0) tt)
 
 counted_side : (t : State) (e : Event) → SideWrites t.side → SideWrites (counted t e).side
 counted_side t event.Go s = s
-counted_side t (event.Unit x) s = s
-counted_side t event.BadUnit s = s
-counted_side t (event.Reply x) s = s
-counted_side t event.Over s = s
+counted_side t any1 s = s
 
 -- an ended session goes on as it is
 going : (p : Phase) (t : State) (e : Event) (a : Action) (new : State) → Fits new → CanWrite t → TellsWritable t e → FollowsAt p t e a new → CanWrite new × PutsWritable a

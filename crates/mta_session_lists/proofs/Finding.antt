@@ -37,22 +37,14 @@ later_only gen j pieces l e none (inr k) = absurd (none (e ∙ k.0))
 pub step_tracks : (spells : List ℕ → Bool) (gen : ℕ) (pieces : List (List ℕ)) (l : Halves) (step : SeenStep)
     → Allows spells l step → (IsPiece gen step → ⊥) → Tracks gen pieces l → Tracks gen pieces (halves_after l step)
 step_tracks spells gen pieces l (h.LaneOpen a s w) may none k = absurd (k.0 may)
-step_tracks spells gen pieces l (h.LaneAgree s w) may none k = k
 step_tracks spells gen pieces l (h.Bind g) may none k = (k.0, inl (bound gen g pieces l may.1 k.1))
-step_tracks spells gen pieces l (h.Start g j o) may none k = k
-step_tracks spells gen pieces l (h.Confirm g j n) may none k = k
-step_tracks spells gen pieces l (h.To_end g j) may none k = k
-step_tracks spells gen pieces l (h.Sent g j) may none k = k
-step_tracks spells gen pieces l (h.Refused g j) may none k = k
-step_tracks spells gen pieces l (h.Denied g j) may none k = k
-step_tracks spells gen pieces l (h.Dropped g j) may none k = k
-step_tracks spells gen pieces l (h.Abandon j) may none k = k
 step_tracks spells gen pieces l (h.Secure g j n o) may none k =
     (k.0, inl (later_only gen g pieces l may.0.1 none k.1))
 step_tracks spells gen pieces l (h.Complete g j n o) may none k =
     (k.0, inl (later_only gen g pieces l may.0.1 none k.1))
 step_tracks spells gen pieces l (h.Drop g j) may none k = (k.0, inl (later_only gen g pieces l may.0.1 none k.1))
 step_tracks spells gen pieces l (h.CloseLane g) may none k = (closed_not, k.1)
+step_tracks spells gen pieces l any4 may none k = k
 
 -- where the lane is of that generation still
 pub held_pieces : (gen : ℕ) (pieces : List (List ℕ)) (l : Halves) → gen ≡ l.generation → Tracks gen pieces l

@@ -74,14 +74,7 @@ pub got_true : (spells : List ℕ → Bool) (lane : ℕ) (b : RecvEnd) (pieces :
     → AreTrue spells b pieces (receiving_event lane (got_as w y))
     × (pieces_all pieces (receiving_event lane (got_as w y)) ≡ pieces)
 got_true spells lane b pieces (Aborts reason) y = (tt, refl)
-got_true spells lane b pieces (Rejects reason) y = took_true spells b pieces (transfer_unit y)
-got_true spells lane b pieces (Ends z) y = took_true spells b pieces (transfer_unit y)
-got_true spells lane b pieces (Puts z t) y = took_true spells b pieces (transfer_unit y)
-got_true spells lane b pieces (Asks a t) y = took_true spells b pieces (transfer_unit y)
-got_true spells lane b pieces (Reads t) y = took_true spells b pieces (transfer_unit y)
-got_true spells lane b pieces (Goes_on t) y = took_true spells b pieces (transfer_unit y)
-got_true spells lane b pieces (Excepts t f) y = took_true spells b pieces (transfer_unit y)
-got_true spells lane b pieces Never y = took_true spells b pieces (transfer_unit y)
+got_true spells lane b pieces any4 y = took_true spells b pieces (transfer_unit y)
 
 -- ---- positions
 
@@ -113,13 +106,7 @@ module _ (spells : List ℕ → Bool) (history : List Seen) (lane : ℕ) (allow 
       behind_other from seen (Refused u) rest le (λ p j step e. cc) more
   got_behind from seen (Rejects reason) u rest le more =
       behind_other from seen (Got u) rest le (λ p j step e. cc) more
-  got_behind from seen (Ends z) u rest le more = behind_other from seen (Got u) rest le (λ p j step e. cc) more
-  got_behind from seen (Puts z t) u rest le more = behind_other from seen (Got u) rest le (λ p j step e. cc) more
-  got_behind from seen (Asks a t) u rest le more = behind_other from seen (Got u) rest le (λ p j step e. cc) more
-  got_behind from seen (Reads t) u rest le more = behind_other from seen (Got u) rest le (λ p j step e. cc) more
-  got_behind from seen (Goes_on t) u rest le more = behind_other from seen (Got u) rest le (λ p j step e. cc) more
-  got_behind from seen (Excepts t f) u rest le more = behind_other from seen (Got u) rest le (λ p j step e. cc) more
-  got_behind from seen Never u rest le more = behind_other from seen (Got u) rest le (λ p j step e. cc) more
+  got_behind from seen any2 u rest le more = behind_other from seen (Got u) rest le (λ p j step e. cc) more
 
   same_behind : (from seen : ℕ) (rest : List SessionEvent) → seen ≡ from → Behind seen rest → Behind from rest
   same_behind from seen rest e more = subst (λ n. Behind n rest) e more
@@ -130,16 +117,10 @@ module _ (spells : List ℕ → Bool) (history : List Seen) (lane : ℕ) (allow 
       behind_other from seen (Put u) rest (omega (arith, is)) (λ q j step k. cc) more
   come_behind from seen p action.Read t (event.Unit u) rest is more =
       got_behind from seen (called_for t.before.phase t.before u) u rest (omega (arith, is)) more
-  come_behind from seen p action.Read t event.Go rest is more = same_behind from seen rest is more
-  come_behind from seen p action.Read t event.BadUnit rest is more = same_behind from seen rest is more
-  come_behind from seen p action.Read t (event.Reply y) rest is more = same_behind from seen rest is more
-  come_behind from seen p action.Read t event.Over rest is more = same_behind from seen rest is more
+  come_behind from seen p action.Read t any5 rest is more = same_behind from seen rest is more
   come_behind from seen p (action.Ask a) t (event.Reply y) rest is more =
       told_behind from seen a y (step_told a y) (look_told a y) rest is.1 more
-  come_behind from seen p (action.Ask a) t event.Go rest is more = same_behind from seen rest is more
-  come_behind from seen p (action.Ask a) t (event.Unit u) rest is more = same_behind from seen rest is more
-  come_behind from seen p (action.Ask a) t event.BadUnit rest is more = same_behind from seen rest is more
-  come_behind from seen p (action.Ask a) t event.Over rest is more = same_behind from seen rest is more
+  come_behind from seen p (action.Ask a) t any5 rest is more = same_behind from seen rest is more
   come_behind from seen p (action.Finish y) t e rest is more = same_behind from seen rest is more
 
   pub calls_behind : (cs : List Call) (from : ℕ) (a : Action) → AllComeTrue spells history from a cs
@@ -162,14 +143,7 @@ pub got_as_else : (spells : List ℕ → Bool) (history : List Seen) (lane : ℕ
     ℕ)
     (w : Wanted) (y : AnyUnit) → IsElse spells history lane allow gen (got_as w y)
 got_as_else spells history lane allow gen (Aborts reason) y = refused_else spells history lane allow gen y
-got_as_else spells history lane allow gen (Rejects reason) y = got_else spells history lane allow gen y
-got_as_else spells history lane allow gen (Ends z) y = got_else spells history lane allow gen y
-got_as_else spells history lane allow gen (Puts z t) y = got_else spells history lane allow gen y
-got_as_else spells history lane allow gen (Asks a t) y = got_else spells history lane allow gen y
-got_as_else spells history lane allow gen (Reads t) y = got_else spells history lane allow gen y
-got_as_else spells history lane allow gen (Goes_on t) y = got_else spells history lane allow gen y
-got_as_else spells history lane allow gen (Excepts t f) y = got_else spells history lane allow gen y
-got_as_else spells history lane allow gen Never y = got_else spells history lane allow gen y
+got_as_else spells history lane allow gen any5 y = got_else spells history lane allow gen y
 
 secure_phase : (p : Phase) (t : State) (z : Result (Unit {0}) CompleteFault) → is_last_phase p ≡ false
     → RepliesTo p t (reply.Secure z) → (k n : ℕ) × (p ≡ phase.AsksSecure k n)

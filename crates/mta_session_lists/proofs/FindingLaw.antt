@@ -263,28 +263,21 @@ begins_gen t (side.Responder own) = refl
 first_gen : (t : State) (e : Event) → AnswersAt phase.Begin t e → GenKept t (wanted_in phase.Begin (counted t e) e)
 first_gen t event.Go n = begins_gen t t.side
 first_gen t event.Over n = tt
-first_gen t (event.Unit u) n = absurd (never n)
-first_gen t event.BadUnit n = absurd (never n)
-first_gen t (event.Reply y) n = absurd (never n)
+first_gen t any1 n = absurd (never n)
 
 does_gen : (t c : State) (w : Wanted) (a : Action) (new : State) → c.generation ≡ t.generation → GenKept t w
     → Does c w a new → new.generation ≡ t.generation
-does_gen t c (Aborts reason) a new e k d = ap {A = State} (λ z. z.generation) d.1 ∙ e
-does_gen t c (Rejects reason) a new e k d = ap {A = State} (λ z. z.generation) d.1 ∙ e
-does_gen t c (Ends y) a new e k d = ap {A = State} (λ z. z.generation) d.1 ∙ e
 does_gen t c (Puts y u) a new e k d = ap {A = State} (λ z. z.generation) d.1 ∙ k
 does_gen t c (Asks q u) a new e k d = ap {A = State} (λ z. z.generation) d.1 ∙ k
 does_gen t c (Reads u) a new e k d = ap {A = State} (λ z. z.generation) d.1 ∙ k
 does_gen t c (Goes_on u) a new e k d = absurd k
 does_gen t c (Excepts u f) a new e k d = absurd k
 does_gen t c Never a new e k d = elim d [ ]
+does_gen t c any2 a new e k d = ap {A = State} (λ z. z.generation) d.1 ∙ e
 
 counted_gen : (t : State) (e : Event) → (counted t e).generation ≡ t.generation
 counted_gen t event.Go = refl
-counted_gen t (event.Unit u) = refl
-counted_gen t event.BadUnit = refl
-counted_gen t (event.Reply y) = refl
-counted_gen t event.Over = refl
+counted_gen t any1 = refl
 
 opening_gen : (t : Turn) → IsTurn t → (t.before.phase ≡ phase.Begin) ⊎ (has_lane t.before.phase ≡ true)
     → t.after.generation ≡ t.before.generation
@@ -559,9 +552,7 @@ rests_at : (v : x.Turn) (a : SendEnd) (b : RecvEnd) (y : SessionEvent) → SendO
     → RestsAt v a b y
 rests_at v a b (Got u) p q = (p, q)
 rests_at v a b (Refused u) p q = (p, q)
-rests_at v a b (Put u) p q = tt
-rests_at v a b (Made n j step) p q = tt
-rests_at v a b (Looked n look) p q = tt
+rests_at v a b any3 p q = tt
 
 pub rests : (lane : ℕ) (v : x.Turn) (a : SendEnd) (b : RecvEnd) (ys : List SessionEvent) → SendOwesNothingAt lane v a ys
     → OwesNothingAt lane b ys → Rests lane v a b ys

@@ -46,9 +46,7 @@ module _ (history : List Seen) (lane : ℕ) where
   shape (Looked n (x.Finds k m piece)) = silent refl (λ from e. tt)
   shape (Looked n x.No_batch) = silent refl (λ from e. tt)
   shape (Looked n x.Elsewhere) = silent refl (λ from e. tt)
-  shape (Got u) = silent refl (λ from e. tt)
-  shape (Refused u) = silent refl (λ from e. tt)
-  shape (Put u) = silent refl (λ from e. tt)
+  shape any0 = silent refl (λ from e. tt)
 
   -- ---- an Abandon
 
@@ -123,9 +121,7 @@ module _ (history : List Seen) (lane : ℕ) where
       → (StepsStand history ys → StepsStand history ws) → StepsStand history (y ∷ ws)
   one_stands (Made p j step) ys ws k rest = (k.0, rest k.1)
   one_stands (Looked n look) ys ws k rest = (k.0, rest k.1)
-  one_stands (Got u) ys ws k rest = rest k
-  one_stands (Refused u) ys ws k rest = rest k
-  one_stands (Put u) ys ws k rest = rest k
+  one_stands any0 ys ws k rest = rest k
 
   stand_here : (y : SessionEvent) (from : ℕ) (e : SendEnd) (ws : List SessionEvent) → Shape y
       → RisesBehind from (has_before lane y) → StepsStand history (y ∷ ws)
@@ -149,12 +145,7 @@ module _ (history : List Seen) (lane : ℕ) where
   made_turns : (t : Turn) (p : ℕ) (step : SeenStep) (ys : List SessionEvent) → KeepsTurn t ys
       → KeepsTurn t (Made p lane step ∷ ys)
   made_turns x.Before_accept p step ys k = (tt, k)
-  made_turns x.Own p step ys k = (tt, k)
-  made_turns x.Theirs p step ys k = (tt, k)
-  made_turns x.Own_closing p step ys k = (tt, k)
-  made_turns x.Their_closing p step ys k = (tt, k)
-  made_turns x.Acknowledged p step ys k = (tt, k)
-  made_turns x.Over p step ys k = (tt, k)
+  made_turns any0 p step ys k = (tt, k)
 
   turns_before : (t : Turn) (e : SendEnd) (found : Option ℕ) (ys : List SessionEvent) → KeepsTurn t ys
       → KeepsTurn t (abandon_at lane e found ++ ys)

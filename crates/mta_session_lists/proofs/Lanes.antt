@@ -20,19 +20,14 @@ abbrev IsDropping : (k : ℕ) → Halves → Type 0
 IsDropping k l = l.state ≡ Dropping k
 
 not_dropping : (k : ℕ) (x : SendState) → (x ≡ Dropping k → ⊥) → (n : ℕ) → confirmed_at x n ≡ Dropping k → ⊥
-not_dropping k (Idle l) not_so n e = cc
-not_dropping k (Sending j c) not_so n e = cc
-not_dropping k (Ending j c) not_so n e = cc
 not_dropping k (Dropping j) not_so n e = not_so e
+not_dropping k any1 not_so n e = cc
 
 dropped_by : (j k : ℕ) → Dropping j ≡ Dropping k → j ≡ k
 dropped_by j k e = cc
 
 undropped : (k : ℕ) (l : Halves) (step : SeenStep) → (step ≡ h.Abandon k → ⊥) → (IsDropping k l → ⊥)
     → IsDropping k (halves_after l step) → ⊥
-undropped k l (h.LaneOpen agreed size window) other not_so e = not_so e
-undropped k l (h.LaneAgree size window) other not_so e = not_so e
-undropped k l (h.Bind g) other not_so e = not_so e
 undropped k l (h.Start g j octets) other not_so e = cc
 undropped k l (h.Confirm g j n) other not_so e = not_dropping k l.state not_so n e
 undropped k l (h.To_end g j) other not_so e = cc
@@ -41,10 +36,7 @@ undropped k l (h.Refused g j) other not_so e = cc
 undropped k l (h.Denied g j) other not_so e = cc
 undropped k l (h.Dropped g j) other not_so e = cc
 undropped k l (h.Abandon j) other not_so e = other (ap h.Abandon (dropped_by j k e))
-undropped k l (h.Secure g j n piece) other not_so e = not_so e
-undropped k l (h.Complete g j n piece) other not_so e = not_so e
-undropped k l (h.Drop g j) other not_so e = not_so e
-undropped k l (h.CloseLane g) other not_so e = not_so e
+undropped k l any2 other not_so e = not_so e
 
 -- ---- an activity that is past does not go on again
 
@@ -53,16 +45,12 @@ IsPast k x = (k ≤ last_of x) × (goes_on x k ≡ false)
 
 confirmed_past : (x : SendState) (k n : ℕ) → IsPast k x → IsPast k (confirmed_at x n)
 confirmed_past (Idle l) k n p = p
-confirmed_past (Sending j c) k n p = p
-confirmed_past (Ending j c) k n p = p
-confirmed_past (Dropping j) k n p = p
+confirmed_past any0 k n p = p
 
 ending_past : (x : SendState) (k j : ℕ) → is_sending x j ≡ true → IsPast k x → (k ≤ j) × ((k == j) ≡ false)
-ending_past (Idle l) k j e p = absurd (never e)
 ending_past (Sending i c) k j e p =
     subst (λ (v : ℕ). (k ≤ v) × ((k == v) ≡ false)) (sym (eqb-true j i e)) p
-ending_past (Ending i c) k j e p = absurd (never e)
-ending_past (Dropping i) k j e p = absurd (never e)
+ending_past any0 k j e p = absurd (never e)
 
 live_last : (x : SendState) (j : ℕ) → is_live x j ≡ true → last_of x ≡ j
 live_last (Idle l) j e = absurd (never e)
@@ -71,22 +59,16 @@ live_last (Ending i c) j e = sym (eqb-true j i e)
 live_last (Dropping i) j e = sym (eqb-true j i e)
 
 sending_last : (x : SendState) (j : ℕ) → is_sending x j ≡ true → last_of x ≡ j
-sending_last (Idle l) j e = absurd (never e)
 sending_last (Sending i c) j e = sym (eqb-true j i e)
-sending_last (Ending i c) j e = absurd (never e)
-sending_last (Dropping i) j e = absurd (never e)
+sending_last any0 j e = absurd (never e)
 
 ending_last : (x : SendState) (j : ℕ) → is_ending x j ≡ true → last_of x ≡ j
-ending_last (Idle l) j e = absurd (never e)
-ending_last (Sending i c) j e = absurd (never e)
 ending_last (Ending i c) j e = sym (eqb-true j i e)
-ending_last (Dropping i) j e = absurd (never e)
+ending_last any0 j e = absurd (never e)
 
 sending_goes : (x : SendState) (k : ℕ) → is_sending x k ≡ true → goes_on x k ≡ true
-sending_goes (Idle l) k e = absurd (never e)
 sending_goes (Sending i c) k e = e
-sending_goes (Ending i c) k e = absurd (never e)
-sending_goes (Dropping i) k e = absurd (never e)
+sending_goes any0 k e = absurd (never e)
 
 settled_past : (x : SendState) (k j : ℕ) → last_of x ≡ j → IsPast k x → IsPast k (Idle j)
 settled_past x k j e p = (subst (λ (v : ℕ). k ≤ v) e p.0, refl)
@@ -98,9 +80,6 @@ started_past x k j e le p =
 
 past_step : (spells : List ℕ → Bool) (k : ℕ) (l : Halves) (step : SeenStep) → Allows spells l step → IsPast k l.state
     → IsPast k (halves_after l step).state
-past_step spells k l (h.LaneOpen agreed size window) may p = p
-past_step spells k l (h.LaneAgree size window) may p = p
-past_step spells k l (h.Bind g) may p = p
 past_step spells k l (h.Start g j octets) may p = started_past l.state k j may.2 may.3 p
 past_step spells k l (h.Confirm g j n) may p = confirmed_past l.state k n p
 past_step spells k l (h.To_end g j) may p = ending_past l.state k j may.1 p
@@ -110,10 +89,7 @@ past_step spells k l (h.Denied g j) may p = settled_past l.state k j (live_last 
 past_step spells k l (h.Dropped g j) may p = settled_past l.state k j (live_last l.state j may.1) p
 past_step spells k l (h.Abandon j) may p =
     (subst (λ (v : ℕ). k ≤ v) (sending_last l.state j may.1) p.0, refl)
-past_step spells k l (h.Secure g j n piece) may p = p
-past_step spells k l (h.Complete g j n piece) may p = p
-past_step spells k l (h.Drop g j) may p = p
-past_step spells k l (h.CloseLane g) may p = p
+past_step spells k l any3 may p = p
 
 -- ---- one entry of a history
 

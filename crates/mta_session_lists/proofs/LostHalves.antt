@@ -140,10 +140,7 @@ module _ (l : Halves) (early : Type 0) (lane : ℕ) where
   tail_receives action.Read u y (event.Unit w) b c k n =
       let same : c ≡ b = k.put in
       (subst (λ z. r.OwesNothing z) same (reads_owes u b c k (part u.phase)), tt, abort_receives lane b y.aborts)
-  tail_receives action.Read u y event.Go b c k n = abort_receives lane b y.aborts
-  tail_receives action.Read u y event.BadUnit b c k n = abort_receives lane b y.aborts
-  tail_receives action.Read u y event.Over b c k n = abort_receives lane b y.aborts
-  tail_receives action.Read u y (event.Reply z) b c k n = abort_receives lane b y.aborts
+  tail_receives action.Read u y any3 b c k n = abort_receives lane b y.aborts
   tail_receives (action.Ask q) u y (event.Reply z) b c k n =
       let same : c ≡ b = k.put in (
         told_rests y.seen (step_told q z) (look_told q z) b,
@@ -151,10 +148,7 @@ module _ (l : Halves) (early : Type 0) (lane : ℕ) where
             (told_part q z y.seen u b c k n (part u.phase)),
         abort_receives lane _ y.aborts,
       )
-  tail_receives (action.Ask q) u y event.Go b c k n = abort_receives lane b y.aborts
-  tail_receives (action.Ask q) u y event.BadUnit b c k n = abort_receives lane b y.aborts
-  tail_receives (action.Ask q) u y event.Over b c k n = abort_receives lane b y.aborts
-  tail_receives (action.Ask q) u y (event.Unit w) b c k n = abort_receives lane b y.aborts
+  tail_receives (action.Ask q) u y any3 b c k n = abort_receives lane b y.aborts
   tail_receives (action.Finish z) u y e b c k n = abort_receives lane b y.aborts
 
 -- ---- the sending half
@@ -207,12 +201,11 @@ module _ (g : EventsGo) (spells : List ℕ → Bool) (history : List Seen) (lane
       silent_keeps history lane v behind b (Refused w) (abort_of y.aborts) refl refl
       (subst (λ z. SendOwesNothing v z) same (send_rests u b c behind from y.seen v k (part u.phase))) tt
       (abort_sends history lane v behind b y.aborts)
-  tail_sends action.Read u y event.Go b c behind from v k n is tells = abort_sends history lane v behind b y.aborts
   tail_sends action.Read u y event.BadUnit b c behind from v k n is tells =
       abort_sends history lane v behind b y.aborts
-  tail_sends action.Read u y event.Over b c behind from v k n is tells = abort_sends history lane v behind b y.aborts
   tail_sends action.Read u y (event.Reply z) b c behind from v k n is tells =
       abort_sends history lane v behind b y.aborts
+  tail_sends action.Read u y any3 b c behind from v k n is tells = abort_sends history lane v behind b y.aborts
   tail_sends (action.Ask q) u y (event.Reply z) b c behind from v k n is tells =
       let same : c ≡ b = k.put in
       asked_keeps spells history lane allow l size window accepted low early early (λ w. Unit {0}) u behind from y.seen
@@ -236,12 +229,11 @@ module _ (g : EventsGo) (spells : List ℕ → Bool) (history : List Seen) (lane
         waits_after = λ i mid waits. tt;
         last_after = λ i mid. tt;
       })
-  tail_sends (action.Ask q) u y event.Go b c behind from v k n is tells = abort_sends history lane v behind b y.aborts
   tail_sends (action.Ask q) u y event.BadUnit b c behind from v k n is tells =
       abort_sends history lane v behind b y.aborts
-  tail_sends (action.Ask q) u y event.Over b c behind from v k n is tells = abort_sends history lane v behind b y.aborts
   tail_sends (action.Ask q) u y (event.Unit w) b c behind from v k n is tells =
       abort_sends history lane v behind b y.aborts
+  tail_sends (action.Ask q) u y any3 b c behind from v k n is tells = abort_sends history lane v behind b y.aborts
   tail_sends (action.Finish z) u y e b c behind from v k n is tells = abort_sends history lane v behind b y.aborts
 
 -- ---- what is found
@@ -292,14 +284,8 @@ module _ (spells : List ℕ → Bool) (history : List Seen) (lane : ℕ) (allow 
         ((put_true spells b pieces (answer_unit w)).0, abort_finds _ _ y.aborts)
     tail_finds action.Read u y (event.Unit w) b c pieces n from k gens ans is found =
         (tt, abort_finds b pieces y.aborts)
-    tail_finds action.Read u y event.Go b c pieces n from k gens ans is found = abort_finds b pieces y.aborts
-    tail_finds action.Read u y event.BadUnit b c pieces n from k gens ans is found = abort_finds b pieces y.aborts
-    tail_finds action.Read u y event.Over b c pieces n from k gens ans is found = abort_finds b pieces y.aborts
-    tail_finds action.Read u y (event.Reply z) b c pieces n from k gens ans is found = abort_finds b pieces y.aborts
+    tail_finds action.Read u y any3 b c pieces n from k gens ans is found = abort_finds b pieces y.aborts
     tail_finds (action.Ask q) u y (event.Reply z) b c pieces n from k gens ans is found =
         told_finds q z u y b c pieces n from k gens ans is.1 found (is_last_phase u.phase) refl
-    tail_finds (action.Ask q) u y event.Go b c pieces n from k gens ans is found = abort_finds b pieces y.aborts
-    tail_finds (action.Ask q) u y event.BadUnit b c pieces n from k gens ans is found = abort_finds b pieces y.aborts
-    tail_finds (action.Ask q) u y event.Over b c pieces n from k gens ans is found = abort_finds b pieces y.aborts
-    tail_finds (action.Ask q) u y (event.Unit w) b c pieces n from k gens ans is found = abort_finds b pieces y.aborts
+    tail_finds (action.Ask q) u y any3 b c pieces n from k gens ans is found = abort_finds b pieces y.aborts
     tail_finds (action.Finish z) u y e b c pieces n from k gens ans is found = abort_finds b pieces y.aborts

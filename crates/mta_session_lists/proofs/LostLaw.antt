@@ -215,17 +215,11 @@ module _ (spells : List ℕ → Bool) (history : List Seen) (lane : ℕ) (allow 
   tail_behind from p action.Read y (event.Unit w) is =
       behind_other spells history lane allow gen from from (Refused w) (abort_of y.aborts) (omega arith)
       (λ q j step k. cc) (abort_behind spells history lane allow gen from y.aborts)
-  tail_behind from p action.Read y event.Go is = abort_behind spells history lane allow gen from y.aborts
-  tail_behind from p action.Read y event.BadUnit is = abort_behind spells history lane allow gen from y.aborts
-  tail_behind from p action.Read y event.Over is = abort_behind spells history lane allow gen from y.aborts
-  tail_behind from p action.Read y (event.Reply z) is = abort_behind spells history lane allow gen from y.aborts
+  tail_behind from p action.Read y any4 is = abort_behind spells history lane allow gen from y.aborts
   tail_behind from p (action.Ask q) y (event.Reply z) is =
       told_behind spells history lane allow gen from y.seen q z (step_told q z) (look_told q z) (abort_of y.aborts) is.1
       (abort_behind spells history lane allow gen y.seen y.aborts)
-  tail_behind from p (action.Ask q) y event.Go is = abort_behind spells history lane allow gen from y.aborts
-  tail_behind from p (action.Ask q) y event.BadUnit is = abort_behind spells history lane allow gen from y.aborts
-  tail_behind from p (action.Ask q) y event.Over is = abort_behind spells history lane allow gen from y.aborts
-  tail_behind from p (action.Ask q) y (event.Unit w) is = abort_behind spells history lane allow gen from y.aborts
+  tail_behind from p (action.Ask q) y any4 is = abort_behind spells history lane allow gen from y.aborts
   tail_behind from p (action.Finish z) y e is = abort_behind spells history lane allow gen from y.aborts
 
 module _ (spells : List ℕ → Bool) (history : List Seen) (lane : ℕ) (allow : LanesAllow spells history) (gen at : ℕ)

@@ -92,20 +92,13 @@ module _ (spells : List ℕ → Bool) (history : List Seen) (lane : ℕ) where
 
   tail_stands : (from : ℕ) (p : Phase) (a : Action) (y : Lost) (e : Event)
       → ComesTrue spells history from y.seen p a e → StepsStand history (lost_of a y.seen e ++ abort_of y.aborts)
-  tail_stands from p (action.Put u) y e is = abort_stands y.aborts
   tail_stands from p action.Read y (event.Unit u) is = abort_stands y.aborts
-  tail_stands from p action.Read y event.Go is = abort_stands y.aborts
-  tail_stands from p action.Read y event.BadUnit is = abort_stands y.aborts
-  tail_stands from p action.Read y event.Over is = abort_stands y.aborts
-  tail_stands from p action.Read y (event.Reply z) is = abort_stands y.aborts
+  tail_stands from p action.Read y any4 is = abort_stands y.aborts
   tail_stands from p (action.Ask q) y (event.Reply z) is =
       told_stands spells history lane from y.seen q z (step_told q z) (look_told q z) (abort_of y.aborts) is.1
       (abort_stands y.aborts)
-  tail_stands from p (action.Ask q) y event.Go is = abort_stands y.aborts
-  tail_stands from p (action.Ask q) y event.BadUnit is = abort_stands y.aborts
-  tail_stands from p (action.Ask q) y event.Over is = abort_stands y.aborts
-  tail_stands from p (action.Ask q) y (event.Unit u) is = abort_stands y.aborts
-  tail_stands from p (action.Finish z) y e is = abort_stands y.aborts
+  tail_stands from p (action.Ask q) y any4 is = abort_stands y.aborts
+  tail_stands from p any2 y e is = abort_stands y.aborts
 
   pub lost_stands : (cs : List Call) (from : ℕ) (a : Action) (p : Phase) (y : Lost)
       → AllComeTrue spells history from a cs
@@ -168,16 +161,10 @@ tail_turns : (a : Action) (y : Lost) (e : Event) (v : x.Turn) → PutAllowed a v
     → KeepsTurn v (lost_of a y.seen e ++ abort_of y.aborts)
 tail_turns (action.Put u) y e v allowed k = (allowed, abort_turns (turned (action.Put u) v) y.aborts k)
 tail_turns action.Read y (event.Unit u) v allowed k = (refused_allowed v u, abort_turns v y.aborts k)
-tail_turns action.Read y event.Go v allowed k = abort_turns v y.aborts k
-tail_turns action.Read y event.BadUnit v allowed k = abort_turns v y.aborts k
-tail_turns action.Read y event.Over v allowed k = abort_turns v y.aborts k
-tail_turns action.Read y (event.Reply z) v allowed k = abort_turns v y.aborts k
+tail_turns action.Read y any2 v allowed k = abort_turns v y.aborts k
 tail_turns (action.Ask q) y (event.Reply z) v allowed k =
     told_turns v y.seen (step_told q z) (look_told q z) (abort_of y.aborts) (abort_turns v y.aborts k)
-tail_turns (action.Ask q) y event.Go v allowed k = abort_turns v y.aborts k
-tail_turns (action.Ask q) y event.BadUnit v allowed k = abort_turns v y.aborts k
-tail_turns (action.Ask q) y event.Over v allowed k = abort_turns v y.aborts k
-tail_turns (action.Ask q) y (event.Unit u) v allowed k = abort_turns v y.aborts k
+tail_turns (action.Ask q) y any2 v allowed k = abort_turns v y.aborts k
 tail_turns (action.Finish z) y e v allowed k = abort_turns v y.aborts k
 
 pub lost_turns : (cs : List Call) (a : Action) (t u : State) (v : x.Turn) (y : Lost) → Ready a t → PutAllowed a v
@@ -253,34 +240,20 @@ got_refuses : (w : Wanted) (u : AnyUnit) (t : State) (a : Action) (new v : State
 got_refuses (Aborts reason) u t a new v cs y d run i k =
     subst (λ b. EndsSo (Behind_calls b cs y)) (sym d.0)
     (last_ends cs new v (end.Aborted reason) reason y (ap {A = State} (λ z. z.phase) d.1) run i)
-got_refuses (Rejects reason) u t a new v cs y d run i k = k
-got_refuses (Ends e) u t a new v cs y d run i k = k
-got_refuses (Puts x f) u t a new v cs y d run i k = k
-got_refuses (Asks q f) u t a new v cs y d run i k = k
-got_refuses (Reads f) u t a new v cs y d run i k = k
-got_refuses (Goes_on f) u t a new v cs y d run i k = k
-got_refuses (Excepts f z) u t a new v cs y d run i k = k
-got_refuses Never u t a new v cs y d run i k = k
+got_refuses any0 u t a new v cs y d run i k = k
 
 come_refuses : (a : Action) (c : Call) (e : Event) (cs : List Call) (v : State) (y : Lost)
     → c.turn.event ≡ e → IsTurn c.turn → goes_with a c.turn.before.phase ≡ true → AreCalls c.turn.after (turns_of cs) v
     → (y.aborts ≡ true → has_turned v.phase ≡ false) → RefusesLast (Behind_calls c.turn.action cs y)
     → RefusesLast (come_of a c.turn c.seen e ++ Behind_calls c.turn.action cs y)
-come_refuses (action.Put u) c e cs v y q is r run i k = k
 come_refuses action.Read c (event.Unit u) cs v y q is r run i k =
     got_refuses (called_for c.turn.before.phase c.turn.before u) u (counted c.turn.before (event.Unit u)) c.turn.action
     c.turn.after v cs y (unit_does c.turn u is q (reading_going c.turn.before.phase r)) run i k
-come_refuses action.Read c event.Go cs v y q is r run i k = k
-come_refuses action.Read c event.BadUnit cs v y q is r run i k = k
-come_refuses action.Read c (event.Reply z) cs v y q is r run i k = k
-come_refuses action.Read c event.Over cs v y q is r run i k = k
+come_refuses action.Read c any2 cs v y q is r run i k = k
 come_refuses (action.Ask a) c (event.Reply z) cs v y q is r run i k =
     told_refuses c.seen (step_told a z) (look_told a z) (Behind_calls c.turn.action cs y) k
-come_refuses (action.Ask a) c event.Go cs v y q is r run i k = k
-come_refuses (action.Ask a) c (event.Unit u) cs v y q is r run i k = k
-come_refuses (action.Ask a) c event.BadUnit cs v y q is r run i k = k
-come_refuses (action.Ask a) c event.Over cs v y q is r run i k = k
-come_refuses (action.Finish z) c e cs v y q is r run i k = k
+come_refuses (action.Ask a) c any2 cs v y q is r run i k = k
+come_refuses any0 c e cs v y q is r run i k = k
 
 abort_refuses : (b : Bool) → RefusesLast (abort_of b)
 abort_refuses true = tt
@@ -291,19 +264,12 @@ abort_ends true = tt
 abort_ends false = tt
 
 tail_refuses : (a : Action) (y : Lost) (e : Event) → RefusesLast (lost_of a y.seen e ++ abort_of y.aborts)
-tail_refuses (action.Put u) y e = abort_refuses y.aborts
 tail_refuses action.Read y (event.Unit u) = abort_ends y.aborts
-tail_refuses action.Read y event.Go = abort_refuses y.aborts
-tail_refuses action.Read y event.BadUnit = abort_refuses y.aborts
-tail_refuses action.Read y event.Over = abort_refuses y.aborts
-tail_refuses action.Read y (event.Reply z) = abort_refuses y.aborts
+tail_refuses action.Read y any2 = abort_refuses y.aborts
 tail_refuses (action.Ask q) y (event.Reply z) =
     told_refuses y.seen (step_told q z) (look_told q z) (abort_of y.aborts) (abort_refuses y.aborts)
-tail_refuses (action.Ask q) y event.Go = abort_refuses y.aborts
-tail_refuses (action.Ask q) y event.BadUnit = abort_refuses y.aborts
-tail_refuses (action.Ask q) y event.Over = abort_refuses y.aborts
-tail_refuses (action.Ask q) y (event.Unit u) = abort_refuses y.aborts
-tail_refuses (action.Finish z) y e = abort_refuses y.aborts
+tail_refuses (action.Ask q) y any2 = abort_refuses y.aborts
+tail_refuses any0 y e = abort_refuses y.aborts
 
 pub lost_refuses : (cs : List Call) (a : Action) (t u : State) (y : Lost) → Ready a t → AreCalls t (turns_of cs) u
     → (y.aborts ≡ true → has_turned u.phase ≡ false) → RefusesLast (list_of a cs ++ tail_of (action_of a cs) y)

@@ -37,38 +37,17 @@ module _ (lane : ℕ) where
   pub nothing_taken : (w : Wanted) (y : AnyUnit) → took_of (transfer_unit y) ≡ []
       → receiving_event lane (got_as w y) ≡ []
   nothing_taken (Aborts reason) y e = refl
-  nothing_taken (Rejects reason) y e = e
-  nothing_taken (Ends z) y e = e
-  nothing_taken (Puts z t) y e = e
-  nothing_taken (Asks a t) y e = e
-  nothing_taken (Reads t) y e = e
-  nothing_taken (Goes_on t) y e = e
-  nothing_taken (Excepts t f) y e = e
-  nothing_taken Never y e = e
+  nothing_taken any0 y e = e
 
   -- a holder of the turn takes no unit of a transfer
   pub own_taken : (w : Wanted) (y : AnyUnit) → TurnAllows x.Own (got_as w y)
       → receiving_event lane (got_as w y) ≡ unless_refused w []
   own_taken (Aborts reason) y k = refl
-  own_taken (Rejects reason) y k = none_took (transfer_unit y) k
-  own_taken (Ends z) y k = none_took (transfer_unit y) k
-  own_taken (Puts z t) y k = none_took (transfer_unit y) k
-  own_taken (Asks a t) y k = none_took (transfer_unit y) k
-  own_taken (Reads t) y k = none_took (transfer_unit y) k
-  own_taken (Goes_on t) y k = none_took (transfer_unit y) k
-  own_taken (Excepts t f) y k = none_took (transfer_unit y) k
-  own_taken Never y k = none_took (transfer_unit y) k
+  own_taken any0 y k = none_took (transfer_unit y) k
 
   pub their_taken : (w : Wanted) (y : AnyUnit) → receiving_event lane (got_as w y) ≡ unless_refused w (taken_as y)
   their_taken (Aborts reason) y = refl
-  their_taken (Rejects reason) y = took_same y
-  their_taken (Ends z) y = took_same y
-  their_taken (Puts z t) y = took_same y
-  their_taken (Asks a t) y = took_same y
-  their_taken (Reads t) y = took_same y
-  their_taken (Goes_on t) y = took_same y
-  their_taken (Excepts t f) y = took_same y
-  their_taken Never y = took_same y
+  their_taken any0 y = took_same y
 
 abort_same : (told : List RecvEvent) (reason : ℕ) (b c : Bool) → (reason == 7) ≡ b → (reason == 2) ≡ c
     → with_put told (part_of_abort reason) ≡ told ++ answers_of (abort_unit reason)

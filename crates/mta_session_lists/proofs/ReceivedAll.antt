@@ -58,13 +58,8 @@ module _ (spells : List ℕ → Bool) (history : List Seen) where
   pub in_turn : (p : Phase) (a : Action) (e : Event) (from seen : ℕ) → ComesTrue spells history from seen p a e
       → goes_with a p ≡ true → is_early p ≡ true → seen ≡ from
   in_turn p (action.Ask q) (event.Reply y) from seen c w i = early_asks p q from seen w i c.0
-  in_turn p (action.Ask q) event.Go from seen c w i = c
-  in_turn p (action.Ask q) (event.Unit u) from seen c w i = c
-  in_turn p (action.Ask q) event.BadUnit from seen c w i = c
-  in_turn p (action.Ask q) event.Over from seen c w i = c
-  in_turn p (action.Put u) e from seen c w i = c
-  in_turn p action.Read e from seen c w i = c
-  in_turn p (action.Finish y) e from seen c w i = c
+  in_turn p (action.Ask q) any2 from seen c w i = c
+  in_turn p any1 e from seen c w i = c
 
   -- what the spool told of the receiving half is so
   abbrev Half : (lane at : ℕ) → Halves
@@ -89,9 +84,7 @@ module _ (spells : List ℕ → Bool) (history : List Seen) where
       → ((Half lane at).high ≡ z.0) × ((Half lane at).last ≡ z.1)
   tells_by lane at from seen s z t (action.Ask q) p k w f g c =
       told_so lane at from seen s t q z (subst (λ y. IsAskOf y t q) p k) f g c.1
-  tells_by lane at from seen s z t (action.Put u) p k w f g c = absurd (never w)
-  tells_by lane at from seen s z t action.Read p k w f g c = absurd (never w)
-  tells_by lane at from seen s z t (action.Finish y) p k w f g c = absurd (never w)
+  tells_by lane at from seen s z t any7 p k w f g c = absurd (never w)
 
   pub tells : (p : Phase) (e : Event) (lane at from seen : ℕ) (t : State) (a : Action) → t.phase ≡ p → Asked a t
       → goes_with a p ≡ true → (is_last_phase p ≡ false → t.lane ≡ lane) → (is_early p ≡ true → seen ≡ at + 1)
@@ -161,28 +154,21 @@ pub first_kept : (t : State) (e : Event) → AnswersAt phase.Begin t e
     → LaneKept t (wanted_in phase.Begin (counted t e) e)
 first_kept t event.Go n = begins_kept t t.side
 first_kept t event.Over n = tt
-first_kept t (event.Unit u) n = absurd (never n)
-first_kept t event.BadUnit n = absurd (never n)
-first_kept t (event.Reply y) n = absurd (never n)
+first_kept t any1 n = absurd (never n)
 
 pub does_kept : (t c : State) (w : Wanted) (a : Action) (new : State) → c.lane ≡ t.lane → LaneKept t w → Does c w a new
     → new.lane ≡ t.lane
-does_kept t c (Aborts reason) a new e k d = ap {A = State} (λ z. z.lane) d.1 ∙ e
-does_kept t c (Rejects reason) a new e k d = ap {A = State} (λ z. z.lane) d.1 ∙ e
-does_kept t c (Ends y) a new e k d = ap {A = State} (λ z. z.lane) d.1 ∙ e
 does_kept t c (Puts y u) a new e k d = ap {A = State} (λ z. z.lane) d.1 ∙ k
 does_kept t c (Asks q u) a new e k d = ap {A = State} (λ z. z.lane) d.1 ∙ k
 does_kept t c (Reads u) a new e k d = ap {A = State} (λ z. z.lane) d.1 ∙ k
 does_kept t c (Goes_on u) a new e k d = absurd k
 does_kept t c (Excepts u f) a new e k d = absurd k
 does_kept t c Never a new e k d = elim d [ ]
+does_kept t c any2 a new e k d = ap {A = State} (λ z. z.lane) d.1 ∙ e
 
 counted_lane : (t : State) (e : Event) → (counted t e).lane ≡ t.lane
 counted_lane t event.Go = refl
-counted_lane t (event.Unit u) = refl
-counted_lane t event.BadUnit = refl
-counted_lane t (event.Reply y) = refl
-counted_lane t event.Over = refl
+counted_lane t any1 = refl
 
 first_lane : (t : Turn) → IsTurn t → t.before.phase ≡ phase.Begin → t.after.lane ≡ t.before.lane
 first_lane t is q =

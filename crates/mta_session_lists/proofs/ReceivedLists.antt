@@ -101,14 +101,7 @@ module _ (l : Halves) (early later : Type 0) (lane : ℕ) where
 
   got_rests : (w : Wanted) (y : AnyUnit) (b : RecvEnd) → r.OwesNothing b → RestsRecv b (got_as w y)
   got_rests (Aborts reason) y b o = o
-  got_rests (Rejects reason) y b o = o
-  got_rests (Ends z) y b o = o
-  got_rests (Puts z t) y b o = o
-  got_rests (Asks a t) y b o = o
-  got_rests (Reads t) y b o = o
-  got_rests (Goes_on t) y b o = o
-  got_rests (Excepts t f) y b o = o
-  got_rests Never y b o = o
+  got_rests any0 y b o = o
 
   told_rests : (seen : ℕ) (o : Option StepOn) (look : Look) (b : RecvEnd) → RestsRecv b (told_as seen o look)
   told_rests seen (Some z) look b = tt

@@ -62,9 +62,7 @@ IsCommon a = Unit {0}
 
 pub common_action : (told : List RecvEvent) (a : Action) → IsCommon a → with_action told a ≡ told ++ pending a
 common_action told (action.Put u) i = put_same told u i
-common_action told (action.Ask q) i = sym (append-nil told)
-common_action told action.Read i = sym (append-nil told)
-common_action told (action.Finish y) i = sym (append-nil told)
+common_action told any1 i = sym (append-nil told)
 
 common_put : (v : State) (y : AnyUnit) (new : State) → PutsFor v (part_of y) y new → is_common y ≡ true
 common_put v (unit.Open o) new g = elim g [ ]
@@ -74,9 +72,7 @@ common_put v y new g = refl
 
 pub goes_common : (v : State) (a : Action) (new : State) → GoesOn v a new → IsCommon a
 goes_common v (action.Put y) new g = common_put v y new g
-goes_common v (action.Ask q) new g = tt
-goes_common v action.Read new g = tt
-goes_common v (action.Finish y) new g = tt
+goes_common v any1 new g = tt
 
 except_common : (v : State) (f : Found) (y : AnyUnit) (new : State) → ExceptsFor v f (action.Put y) new → is_common y
     ≡ true
@@ -85,20 +81,16 @@ except_common v f y new g = elim g [ ]
 
 excepts_common : (v : State) (f : Found) (a : Action) (new : State) → ExceptsFor v f a new → IsCommon a
 excepts_common v f (action.Put y) new g = except_common v f y new g
-excepts_common v f (action.Ask q) new g = tt
-excepts_common v f action.Read new g = tt
-excepts_common v f (action.Finish y) new g = tt
+excepts_common v f any2 new g = tt
 
 pub does_common : (c : State) (w : Wanted) (a : Action) (new : State) → NoHand w → Does c w a new → IsCommon a
 does_common c (Aborts reason) a new n d = subst IsCommon (sym d.0) refl
 does_common c (Rejects reason) a new n d = absurd n
-does_common c (Ends y) a new n d = subst IsCommon (sym d.0) tt
 does_common c (Puts u t) a new n d = subst IsCommon (sym d.0) n.0
-does_common c (Asks q t) a new n d = subst IsCommon (sym d.0) tt
-does_common c (Reads t) a new n d = subst IsCommon (sym d.0) tt
 does_common c (Goes_on t) a new n d = goes_common t a new d
 does_common c (Excepts t f) a new n d = excepts_common t f a new d
 does_common c Never a new n d = elim d [ ]
+does_common c any1 a new n d = subst IsCommon (sym d.0) tt
 
 -- ---- what is handed on
 
@@ -194,8 +186,7 @@ except_put_hands v f y new a = elim a [ ]
 excepts_hands : (v : State) (f : Found) (a : Action) (new : State) → ExceptsFor v f a new → hands new.phase ≡ false
 excepts_hands v f (action.Put y) new g = except_put_hands v f y new g
 excepts_hands v f (action.Ask q) new g = except_hands v f q new g
-excepts_hands v f action.Read new g = elim g [ ]
-excepts_hands v f (action.Finish y) new g = elim g [ ]
+excepts_hands v f any2 new g = elim g [ ]
 
 -- A call that leaves the session open: the events that were told, and what is put now, lead to the end that it has.
 pub does_next : (e : RecvEnd) (told : List RecvEvent) (c : State) (w : Wanted) (a : Action) (new : State)

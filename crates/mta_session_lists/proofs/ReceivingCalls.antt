@@ -185,14 +185,10 @@ over_told p t q = refl
 stage_whole : (m : Last) (s : RecvStage) (acked : ℕ) (q : List ℕ) → r.StageOwesNothing s acked
     → r.StageOwesNothing (filled m s q) acked
 stage_whole m (r.Ended k n held) acked q o = absurd o
-stage_whole m r.Free acked q o = o
-stage_whole m (r.Next k n) acked q o = o
-stage_whole m (r.Held k n held) acked q o = o
-stage_whole m (r.Synced k n held) acked q o = o
 stage_whole m (r.Asked k n) acked q o = absurd o
 stage_whole m (r.Discards k) acked q o = absurd o
 stage_whole m (r.Found k) acked q o = absurd o
-stage_whole m (r.Skips k) acked q o = o
+stage_whole m any1 acked q o = o
 
 free_owes : (s : RecvStage) (acked : ℕ) → is_free s ≡ true → r.StageOwesNothing s acked
 free_owes r.Free acked i = tt

@@ -114,17 +114,14 @@ pub record Silent (a : Action) (new : State) : Type 0 where
 does_silent : (c : State) (w : Wanted) (a : Action) (new : State) → LastWaits w → Does c w a new → Silent a new
 does_silent c (Aborts reason) a new k d = record
     { none = ap {A = Action} pending d.0 ∙ none_put reason k; last = ap {A = State} (λ z. is_last_phase z.phase) d.1 }
-does_silent c (Rejects reason) a new k d = absurd k
 does_silent c (Ends y) a new k d = record
     { none = ap {A = Action} pending d.0; last = ap {A = State} (λ z. is_last_phase z.phase) d.1 }
 does_silent c (Puts y t) a new k d = record
     { none = ap {A = Action} pending d.0 ∙ k.0; last = ap {A = State} (λ z. is_last_phase z.phase) d.1 ∙ k.1 }
 does_silent c (Asks q t) a new k d = record
     { none = ap {A = Action} pending d.0; last = ap {A = State} (λ z. is_last_phase z.phase) d.1 ∙ k }
-does_silent c (Reads t) a new k d = absurd k
-does_silent c (Goes_on t) a new k d = absurd k
-does_silent c (Excepts t f) a new k d = absurd k
 does_silent c Never a new k d = elim d [ ]
+does_silent c any1 a new k d = absurd k
 
 -- it puts nothing of a transfer, and does not go on
 pub last_silent : (t : Turn) → IsTurn t → is_ended t.before.phase ≡ false → is_last_phase t.before.phase ≡ true

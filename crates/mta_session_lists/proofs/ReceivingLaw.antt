@@ -149,9 +149,7 @@ keeps_allowed lane b (y ∷ ys) k =
 rests_owes : (b : RecvEnd) (y : SessionEvent) → RestsRecv b y → OwesAt b y
 rests_owes b (Got u) k = k
 rests_owes b (Refused u) k = k
-rests_owes b (Put u) k = tt
-rests_owes b (Made p j step) k = tt
-rests_owes b (Looked n look) k = tt
+rests_owes b any1 k = tt
 
 pub keeps_owes : (lane : ℕ) (b : RecvEnd) (ys : List SessionEvent) → RecvKeeps lane b ys → OwesNothingAt lane b ys
 keeps_owes lane b [] k = tt

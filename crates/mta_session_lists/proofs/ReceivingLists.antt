@@ -113,9 +113,7 @@ Asked a t = Unit {0}
 
 pub asked_next : (a : Action) (t : State) (e : Event) (new : State) → Follows t e a new → Asked a new
 asked_next (action.Ask q) t e new f = asks_are_of_phase t e q new f
-asked_next (action.Put u) t e new f = tt
-asked_next action.Read t e new f = tt
-asked_next (action.Finish y) t e new f = tt
+asked_next any0 t e new f = tt
 
 abbrev pub is_early : Phase → Bool
 is_early phase.Begin = true
@@ -139,9 +137,7 @@ module _ (l : Halves) (later : Type 0) where
       → Waits phase.Begin t e
   begin_wants t event.Go k next n = begin_waits l later t t.side k next
   begin_wants t event.Over k next n = tt
-  begin_wants t (event.Unit y) k next n = absurd (never n)
-  begin_wants t event.BadUnit k next n = absurd (never n)
-  begin_wants t (event.Reply y) k next n = absurd (never n)
+  begin_wants t any1 k next n = absurd (never n)
 
   values_wants : (t : State) (e : Event) → later → AnswersAt phase.AsksValues t e → Waits phase.AsksValues t e
   values_wants t (event.Reply (reply.Values (Some v))) next n = λ q. (refl, next)
@@ -174,17 +170,14 @@ module _ (l : Halves) (later : Type 0) where
       t e
   opens_wants t event.Go k n = λ q. (refl, k)
   opens_wants t event.Over k n = tt
-  opens_wants t (event.Unit y) k n = absurd (never n)
-  opens_wants t event.BadUnit k n = absurd (never n)
-  opens_wants t (event.Reply y) k n = absurd (never n)
+  opens_wants t any1 k n = absurd (never n)
 
   answer_wants : (t : State) (e : Event) → t.recv ≡ first l later → AnswersAt phase.ReadsAnswer t e
       → Waits phase.ReadsAnswer t e
   answer_wants t (event.Unit y) k n = unit_waits l later (counted t (event.Unit y)) y k
   answer_wants t event.BadUnit k n = bad_waits l later (counted t event.BadUnit)
   answer_wants t event.Over k n = tt
-  answer_wants t event.Go k n = absurd (never n)
-  answer_wants t (event.Reply y) k n = absurd (never n)
+  answer_wants t any1 k n = absurd (never n)
 
   agree_wants : (t : State) (e : Event) → t.recv ≡ first l later → AnswersAt phase.AsksAgree t e → Waits
       phase.AsksAgree t e
@@ -195,9 +188,7 @@ module _ (l : Halves) (later : Type 0) where
       → Waits phase.PutsAccept t e
   accept_wants t event.Go k n = accepted_waits l later t k
   accept_wants t event.Over k n = tt
-  accept_wants t (event.Unit y) k n = absurd (never n)
-  accept_wants t event.BadUnit k n = absurd (never n)
-  accept_wants t (event.Reply y) k n = absurd (never n)
+  accept_wants t any1 k n = absurd (never n)
 
   pub opening_wants : (early : Type 0) (p : Phase) (t : State) (e : Event) (a : Action) (b : RecvEnd)
       → is_opening p ≡ true → RecvAt early (first l early) p t a b → (is_early p ≡ true → early → later)
@@ -315,19 +306,12 @@ module _ (l : Halves) (early : Type 0) (lane : ℕ) where
   pub opening_heard : (a : Action) (t : Turn) (seen : ℕ) (e : Event) (b : RecvEnd) → RecvHere l early lane a t b
       → is_opening t.before.phase ≡ true → AnswersAt t.before.phase t.before e → heard lane a t seen e ≡ []
   opening_heard action.Read t seen (event.Unit y) b k i n = opening_reads t.before.phase t.before y i n
+  opening_heard action.Read t seen any3 b k i n = refl
   opening_heard (action.Ask a) t seen (event.Reply y) b k i n =
       opening_quiet lane seen t.before.phase t.before a y i
       (ask_answers t.before.phase t.before (event.Reply y) k.waits n)
-  opening_heard (action.Put u) t seen e b k i n = refl
-  opening_heard action.Read t seen event.Go b k i n = refl
-  opening_heard action.Read t seen event.BadUnit b k i n = refl
-  opening_heard action.Read t seen event.Over b k i n = refl
-  opening_heard action.Read t seen (event.Reply y) b k i n = refl
-  opening_heard (action.Ask a) t seen event.Go b k i n = refl
-  opening_heard (action.Ask a) t seen (event.Unit y) b k i n = refl
-  opening_heard (action.Ask a) t seen event.BadUnit b k i n = refl
-  opening_heard (action.Ask a) t seen event.Over b k i n = refl
-  opening_heard (action.Finish y) t seen e b k i n = refl
+  opening_heard (action.Ask a) t seen any3 b k i n = refl
+  opening_heard any0 t seen e b k i n = refl
 
   pub last_reads : (p : Phase) → is_last_phase p ≡ true → goes_with action.Read p ≡ true → ⊥
   last_reads phase.AsksDenied i k = never k
@@ -343,9 +327,5 @@ module _ (l : Halves) (early : Type 0) (lane : ℕ) where
   last_heard (action.Ask a) t seen (event.Reply y) b k i n =
       end_quiet lane seen t.before.phase t.before a y i k.asked
       (ask_answers t.before.phase t.before (event.Reply y) k.waits n)
-  last_heard (action.Put u) t seen e b k i n = refl
-  last_heard (action.Ask a) t seen event.Go b k i n = refl
-  last_heard (action.Ask a) t seen (event.Unit y) b k i n = refl
-  last_heard (action.Ask a) t seen event.BadUnit b k i n = refl
-  last_heard (action.Ask a) t seen event.Over b k i n = refl
-  last_heard (action.Finish y) t seen e b k i n = refl
+  last_heard (action.Ask a) t seen any3 b k i n = refl
+  last_heard any0 t seen e b k i n = refl

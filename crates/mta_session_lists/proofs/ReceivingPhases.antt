@@ -192,7 +192,6 @@ module _ (l : Halves) (early : Type 0) where
         (subst (λ z. r.IsReceivingEnd first z first) (sym (none_put reason k)) refl);
     at = last_at early first new.phase new a first (ap {A = State} (λ z. is_last_phase z.phase) d.1);
   }
-  waits_after c (Rejects reason) a new k d f = absurd k
   waits_after c (Ends y) a new k d f = record {
     ended = first;
     run = subst (λ z. r.IsReceivingEnd first (pending z) first) (sym d.0) refl;
@@ -214,8 +213,8 @@ module _ (l : Halves) (early : Type 0) where
     at = subst (λ z. RecvAt early first z.phase z a first) (sym d.1) (k a);
   }
   waits_after c (Goes_on t) a new k d f = goes_after t a new k d f
-  waits_after c (Excepts t y) a new k d f = absurd k
   waits_after c Never a new k d f = elim d [ ]
+  waits_after c any1 a new k d f = absurd k
 
   -- ---- phase by phase
 

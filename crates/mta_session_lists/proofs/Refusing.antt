@@ -53,9 +53,7 @@ put_finishes y t event.Over a new i q d =
     let does : Does t (Ends (cut_short y)) a new =
     subst (λ p. Does t (wanted_of_over p) a new) q d in
     (cut_short y, does.0, ap {A = State} (λ z. z.phase) does.1)
-put_finishes y t (event.Unit u) a new i q d = absurd (never i)
-put_finishes y t event.BadUnit a new i q d = absurd (never i)
-put_finishes y t (event.Reply r) a new i q d = absurd (never i)
+put_finishes y t any2 a new i q d = absurd (never i)
 
 pub last_turn : (y : SessionEnd) (x : Turn) → x.before.phase ≡ phase.PutsLast y → IsTurn x
     → Finishes x.before x.event x.action x.after
@@ -83,14 +81,7 @@ got_refuses : (w : Wanted) (u : AnyUnit) (t : State) (a : Action) (new v : State
 got_refuses (Aborts reason) u t a new v cs d run k =
     subst (λ b. EndsSo (list_of b cs)) (sym d.0)
     (last_list cs new v (end.Aborted reason) reason (ap {A = State} (λ z. z.phase) d.1) run)
-got_refuses (Rejects reason) u t a new v cs d run k = k
-got_refuses (Ends e) u t a new v cs d run k = k
-got_refuses (Puts x f) u t a new v cs d run k = k
-got_refuses (Asks q f) u t a new v cs d run k = k
-got_refuses (Reads f) u t a new v cs d run k = k
-got_refuses (Goes_on f) u t a new v cs d run k = k
-got_refuses (Excepts f y) u t a new v cs d run k = k
-got_refuses Never u t a new v cs d run k = k
+got_refuses any0 u t a new v cs d run k = k
 
 pub told_refuses : (seen : ℕ) (o : Option StepOn)
     (look : Look) (rest : List SessionEvent) → RefusesLast rest
@@ -108,21 +99,14 @@ come_refuses : (a : Action) (c : Call) (e : Event) (cs : List Call) (v : State) 
     → goes_with a c.turn.before.phase ≡ true → AreCalls c.turn.after (turns_of cs) v → RefusesLast
     (list_of c.turn.action cs)
     → RefusesLast (come_of a c.turn c.seen e ++ list_of c.turn.action cs)
-come_refuses (action.Put u) c e cs v q is r run k = k
 come_refuses action.Read c (event.Unit u) cs v q is r run k =
     got_refuses (called_for c.turn.before.phase c.turn.before u) u (counted c.turn.before (event.Unit u)) c.turn.action
     c.turn.after v cs (unit_does c.turn u is q (reading_going c.turn.before.phase r)) run k
-come_refuses action.Read c event.Go cs v q is r run k = k
-come_refuses action.Read c event.BadUnit cs v q is r run k = k
-come_refuses action.Read c (event.Reply y) cs v q is r run k = k
-come_refuses action.Read c event.Over cs v q is r run k = k
+come_refuses action.Read c any2 cs v q is r run k = k
 come_refuses (action.Ask a) c (event.Reply y) cs v q is r run k =
     told_refuses c.seen (step_told a y) (look_told a y) (list_of c.turn.action cs) k
-come_refuses (action.Ask a) c event.Go cs v q is r run k = k
-come_refuses (action.Ask a) c (event.Unit u) cs v q is r run k = k
-come_refuses (action.Ask a) c event.BadUnit cs v q is r run k = k
-come_refuses (action.Ask a) c event.Over cs v q is r run k = k
-come_refuses (action.Finish y) c e cs v q is r run k = k
+come_refuses (action.Ask a) c any2 cs v q is r run k = k
+come_refuses any0 c e cs v q is r run k = k
 
 pub calls_refuse : (cs : List Call) (a : Action) (t u : State) → Ready a t → AreCalls t (turns_of cs) u
     → RefusesLast (list_of a cs)

@@ -78,19 +78,15 @@ else_state phase.AsksState i = absurd (never i)
 else_state p i = refl
 
 sending_is : (st : SendState) (k : ℕ) → is_sending st k ≡ true → k ≡ last_of st
-sending_is (state.Idle n) k e = absurd (never e)
 sending_is (state.Sending j c) k e = eqb-true k j e
-sending_is (state.Ending j c) k e = absurd (never e)
-sending_is (state.Dropping j) k e = absurd (never e)
+sending_is any0 k e = absurd (never e)
 
 -- an activity that a look tells as given up is the one that is sent
 given_told : (t : State) (told : SendState) → is_given_up t told ≡ true
     → told ≡ state.Dropping (last_of t.send.state)
 given_told t (state.Dropping k) g =
     ap state.Dropping (sending_is t.send.state k (both (is_sending t.send.state k) (is_cut t.send.stage k) g).0)
-given_told t (state.Idle k) g = absurd (never g)
-given_told t (state.Sending k c) g = absurd (never g)
-given_told t (state.Ending k c) g = absurd (never g)
+given_told t any1 g = absurd (never g)
 
 given_listed : (t : State) (hd : Option LaneUnit) (o : List ℕ)
     → is_sending t.send.state (last_of t.send.state) ≡ true

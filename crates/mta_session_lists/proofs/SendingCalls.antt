@@ -141,38 +141,17 @@ gots_allowed e (y ∷ us) = (tt, gots_allowed (s.got e y) us)
 
 pub got_allowed : (lane : ℕ) (e : SendEnd) (w : Wanted) (y : AnyUnit) → Allowed e (sending_event lane (got_as w y))
 got_allowed lane e (Aborts reason) y = tt
-got_allowed lane e (Rejects reason) y = gots_allowed e (answer_unit y)
-got_allowed lane e (Ends z) y = gots_allowed e (answer_unit y)
-got_allowed lane e (Puts z t) y = gots_allowed e (answer_unit y)
-got_allowed lane e (Asks a t) y = gots_allowed e (answer_unit y)
-got_allowed lane e (Reads t) y = gots_allowed e (answer_unit y)
-got_allowed lane e (Goes_on t) y = gots_allowed e (answer_unit y)
-got_allowed lane e (Excepts t f) y = gots_allowed e (answer_unit y)
-got_allowed lane e Never y = gots_allowed e (answer_unit y)
+got_allowed lane e any2 y = gots_allowed e (answer_unit y)
 
 pub got_rests : (v : x.Turn) (e : SendEnd) (w : Wanted) (y : AnyUnit) → SendOwesNothing v e → RestsSend v e (got_as w y)
 got_rests v e (Aborts reason) y k = k
-got_rests v e (Rejects reason) y k = k
-got_rests v e (Ends z) y k = k
-got_rests v e (Puts z t) y k = k
-got_rests v e (Asks a t) y k = k
-got_rests v e (Reads t) y k = k
-got_rests v e (Goes_on t) y k = k
-got_rests v e (Excepts t f) y k = k
-got_rests v e Never y k = k
+got_rests v e any2 y k = k
 
 -- what is owed does not rest on what was heard
 stage_listed : (e : SendEnd) (h : Option LaneUnit) (o : List ℕ) (z : SendStage) → s.StageOwesNothing e z
     → s.StageOwesNothing (listed e h o) z
 stage_listed e h o s.Quiet k = k
-stage_listed e h o s.Opened k = k
-stage_listed e h o (s.Started j) k = k
-stage_listed e h o (s.Next j n) k = k
-stage_listed e h o (s.Sync_next j n) k = k
-stage_listed e h o (s.Last_put j n) k = k
-stage_listed e h o (s.End_put j n) k = k
-stage_listed e h o (s.Resume_put j n) k = k
-stage_listed e h o (s.Discard_put j) k = k
+stage_listed e h o any3 k = k
 
 rests_by : (o p : Bool) (v : x.Turn) (e : SendEnd) → HoldsBy o p v → s.CallsForNothing e
     → (o ≡ true → (e.stage ≡ s.Quiet → ⊥) × s.StageOwesNothing e e.stage) → SendOwesNothing v e

@@ -123,14 +123,11 @@ silent a z new n p q e i k = record {
 
 does_silent : (c : State) (w : Wanted) (a : Action) (new : State) → EndWaits w → Does c w a new → EndsSilent a new
 does_silent c (Aborts reason) a new k d = silent a _ new _ d.0 d.1 refl refl (λ b. tt)
-does_silent c (Rejects reason) a new k d = absurd k
 does_silent c (Ends y) a new k d = silent a _ new _ d.0 d.1 refl refl (λ b. tt)
 does_silent c (Puts y t) a new k d = silent a _ new t d.0 d.1 (ap puts_of k.0) k.1 (λ b. tt)
 does_silent c (Asks q t) a new k d = silent a _ new t d.0 d.1 refl k.1 (closes_at q k.0)
-does_silent c (Reads t) a new k d = absurd k
-does_silent c (Goes_on t) a new k d = absurd k
-does_silent c (Excepts t f) a new k d = absurd k
 does_silent c Never a new k d = elim d [ ]
+does_silent c any1 a new k d = absurd k
 
 finish_silent : (a : Action) (new : State) → is_finish a ≡ true → is_last_phase new.phase ≡ true → EndsSilent a new
 finish_silent (action.Finish y) new i k = record { none = refl; last = k; at = λ b. tt }

@@ -71,9 +71,7 @@ unit_put told y i = sym (append-nil told)
 
 pub action_put : (a : Action) → IsCommon a → with_action [] a ≡ pending a
 action_put (action.Put y) i = unit_put [] y i
-action_put (action.Ask q) i = refl
-action_put action.Read i = refl
-action_put (action.Finish y) i = refl
+action_put any0 i = refl
 
 -- ---- without the units that say nothing
 
@@ -142,7 +140,4 @@ goes_behind e told (Reads t) n k =
 goes_behind e told (Puts y t) n k =
     by_last (is_last_phase t.phase) e _ (with_unit told y) (with_unit [] y) t.phase t.send
     (led_unit e told y t.phase t.send n.0) k
-goes_behind e told (Aborts reason) n k = tt
-goes_behind e told (Rejects reason) n k = tt
-goes_behind e told (Ends y) n k = tt
-goes_behind e told Never n k = tt
+goes_behind e told any2 n k = tt

@@ -85,13 +85,8 @@ module _ (spells : List ℕ → Bool) (history : List Seen) where
   pub in_turn : (p : Phase) (a : Action) (e : Event) (from seen : ℕ) → ComesTrue spells history from seen p a e
       → goes_with a p ≡ true → is_soon p ≡ true → seen ≡ from
   in_turn p (action.Ask q) (event.Reply y) from seen c w i = soon_asks p q from seen w i c.0
-  in_turn p (action.Ask q) event.Go from seen c w i = c
-  in_turn p (action.Ask q) (event.Unit y) from seen c w i = c
-  in_turn p (action.Ask q) event.BadUnit from seen c w i = c
-  in_turn p (action.Ask q) event.Over from seen c w i = c
-  in_turn p (action.Put y) e from seen c w i = c
-  in_turn p action.Read e from seen c w i = c
-  in_turn p (action.Finish y) e from seen c w i = c
+  in_turn p (action.Ask q) any2 from seen c w i = c
+  in_turn p any1 e from seen c w i = c
 
 -- ---- values
 
@@ -335,10 +330,9 @@ module _ (g : EventsGo) (spells : List ℕ → Bool) (history : List Seen) (lane
 -- ---- where a list begins
 
 dropping_none : (st : SendState) (k : ℕ) → is_sending st (last_of st) ≡ true → st ≡ state.Dropping k → ⊥
-dropping_none (state.Idle n) k i e = never i
 dropping_none (state.Sending j c) k i e = cc
 dropping_none (state.Ending j c) k i e = cc
-dropping_none (state.Dropping j) k i e = never i
+dropping_none any0 k i e = never i
 
 call_side : (z : Side) (o : Option OpenUnit) → HasCall z o → is_initiator z ≡ false
 call_side (side.Initiator p) o k = absurd k
@@ -454,10 +448,9 @@ if_plain false xs k = tt
 
 event_plain : (lane : ℕ) (y : SessionEvent) → ArePlain (sending_event lane y)
 event_plain lane (Got u) = gots_plain (answer_unit u)
-event_plain lane (Refused u) = tt
 event_plain lane (Put u) = puts_plain (transfer_unit u)
 event_plain lane (Made p j step) = if_plain (j == lane) (sending_step_of step) (made_plain step)
-event_plain lane (Looked n look) = tt
+event_plain lane any1 = tt
 
 both_plain : (xs ys : List SendEvent) → ArePlain xs → ArePlain ys → ArePlain (xs ++ ys)
 both_plain [] ys p q = q
@@ -482,9 +475,7 @@ keeps_allowed lane v b (y ∷ ys) k =
 rests_owes : (v : x.Turn) (b : SendEnd) (y : SessionEvent) → RestsSend v b y → SendOwesAt v b y
 rests_owes v b (Got u) k = k
 rests_owes v b (Refused u) k = k
-rests_owes v b (Put u) k = tt
-rests_owes v b (Made p j step) k = tt
-rests_owes v b (Looked n look) k = tt
+rests_owes v b any2 k = tt
 
 pub keeps_owes : (lane : ℕ) (v : x.Turn) (b : SendEnd) (ys : List SessionEvent) → SendKeeps lane v b ys
     → SendOwesNothingAt lane v b ys

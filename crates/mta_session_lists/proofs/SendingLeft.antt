@@ -170,8 +170,7 @@ excepts_left : (v : State) (f : Found) (a : Action) (new : State) (b : SendEnd) 
     → LeftAt new.phase new a (send_all b (pending a))
 excepts_left v f (action.Put y) new b c g = except_put v f y new b c g
 excepts_left v f (action.Ask q) new b c g = except_asked v f q new b c g
-excepts_left v f action.Read new b c g = elim g [ ]
-excepts_left v f (action.Finish y) new b c g = elim g [ ]
+excepts_left v f any2 new b c g = elim g [ ]
 
 abbrev Left : State → Action → SendEnd → Type 0
 Left t a b = LeftAt t.phase t a (send_all b (pending a))
@@ -181,9 +180,6 @@ so_done a z new n b p q k = subst (λ w. Left new w b) (sym p) (subst (λ w. Lef
 
 pub left_after : (c : State) (w : Wanted) (a : Action) (new : State) (b : SendEnd) → Leaves b w → Does c w a new
     → LeftAt new.phase new a (send_all b (pending a))
-left_after c (Aborts reason) a new b k d = so_done a _ new _ b d.0 d.1 tt
-left_after c (Rejects reason) a new b k d = so_done a _ new _ b d.0 d.1 tt
-left_after c (Ends y) a new b k d = so_done a _ new _ b d.0 d.1 tt
 left_after c (Puts y t) a new b k d =
     so_done a _ new t b d.0 d.1 (subst (λ us. LeftAt t.phase t (action.Put y) (send_all b (puts_of us))) (sym k.0) k.1)
 left_after c (Asks q t) a new b k d = so_done a _ new t b d.0 d.1 k
@@ -191,6 +187,7 @@ left_after c (Reads t) a new b k d = so_done a _ new t b d.0 d.1 k
 left_after c (Goes_on t) a new b k d = goes_left t a new b k d
 left_after c (Excepts t f) a new b k d = excepts_left t f a new b k d
 left_after c Never a new b k d = elim d [ ]
+left_after c any1 a new b k d = so_done a _ new _ b d.0 d.1 tt
 
 -- ---- the end of the list
 

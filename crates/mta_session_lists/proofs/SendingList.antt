@@ -108,26 +108,12 @@ gots_state (y ∷ us) e = gots_state us (s.got e y)
 got_state : (lane : ℕ) (w : Wanted) (y : AnyUnit) (e : SendEnd)
     → (send_all e (sending_event lane (got_as w y))).state ≡ e.state
 got_state lane (Aborts reason) y e = refl
-got_state lane (Rejects reason) y e = gots_state (answer_unit y) e
-got_state lane (Ends z) y e = gots_state (answer_unit y) e
-got_state lane (Puts z t) y e = gots_state (answer_unit y) e
-got_state lane (Asks a t) y e = gots_state (answer_unit y) e
-got_state lane (Reads t) y e = gots_state (answer_unit y) e
-got_state lane (Goes_on t) y e = gots_state (answer_unit y) e
-got_state lane (Excepts t f) y e = gots_state (answer_unit y) e
-got_state lane Never y e = gots_state (answer_unit y) e
+got_state lane any1 y e = gots_state (answer_unit y) e
 
 got_silent : (lane : ℕ) (w : Wanted) (y : AnyUnit) (n : ℕ)
     → (has_before lane (got_as w y) ≡ None) × (seen_after lane n (got_as w y) ≡ n)
 got_silent lane (Aborts reason) y n = (refl, refl)
-got_silent lane (Rejects reason) y n = (refl, refl)
-got_silent lane (Ends z) y n = (refl, refl)
-got_silent lane (Puts z t) y n = (refl, refl)
-got_silent lane (Asks a t) y n = (refl, refl)
-got_silent lane (Reads t) y n = (refl, refl)
-got_silent lane (Goes_on t) y n = (refl, refl)
-got_silent lane (Excepts t f) y n = (refl, refl)
-got_silent lane Never y n = (refl, refl)
+got_silent lane any1 y n = (refl, refl)
 
 module _ (g : EventsGo) (spells : List ℕ → Bool) (history : List Seen) (lane : ℕ) (allow : LanesAllow spells history)
     (l : Halves) (size window : ℕ) (accepted : Bool) (low : ℕ) (early later : Type 0) where
@@ -181,8 +167,7 @@ module _ (g : EventsGo) (spells : List ℕ → Bool) (history : List Seen) (lane
         subst (λ z. After_at z t) (sym k.is) (bad_after g l size window accepted later t is i k.heard k.before k.may q)
     on_open i k event.Over q j =
         subst (λ z. After_at z t) (sym k.is) (over_after g l size window accepted later t is i k.heard k.before k.may q)
-    on_open i k (event.Unit y) q j = absurd (never j)
-    on_open i k (event.Reply y) q j = absurd (never j)
+    on_open i k any2 q j = absurd (never j)
 
     by_state : (i : is_open t.before.phase ≡ true) → (b : Bool) → asks_state t.before.phase ≡ b → After_at c t
     by_state i true j = absurd (state_plain t.before.phase t.before e j plain answers)
@@ -407,8 +392,7 @@ module _ (g : EventsGo) (spells : List ℕ → Bool) (history : List Seen) (lane
   none_asked_plain q t event.Go v k i n = ask_answers t.before.phase t.before event.Go k.waits n
   none_asked_plain q t event.BadUnit v k i n = ask_answers t.before.phase t.before event.BadUnit k.waits n
   none_asked_plain q t event.Over v k i n = ask_answers t.before.phase t.before event.Over k.waits n
-  none_asked_plain q t (event.Unit y) v k i n = never i
-  none_asked_plain q t (event.Reply y) v k i n = never i
+  none_asked_plain q t any2 v k i n = never i
 
   finished_last : (p : Phase) (a : Action) → is_finish a ≡ true → goes_with a p ≡ true → is_last_phase p ≡ true
   finished_last (phase.Ended z) (action.Finish y) i w = refl

@@ -152,10 +152,8 @@ module _ (history : List Seen) (lane : ℕ) where
 -- ---- which step an Abandon stands before
 
 is_past : (st : SendState) (k : ℕ) → is_ending st k ≡ true → is_sending st (last_of st) ≡ true → ⊥
-is_past (state.Idle l) k a b = never a
-is_past (state.Sending j c) k a b = never a
 is_past (state.Ending j c) k a b = never b
-is_past (state.Dropping j) k a b = never a
+is_past any0 k a b = never a
 
 -- none before the step Sent
 sent_past : (e : SendEnd) (y : LaneUnit) → s.IsCalledBy e s.Sent y → is_sending e.state (last_of e.state) ≡ true → ⊥
@@ -168,15 +166,12 @@ sent_none e m i = sent_past e m.0 m.2 i
 
 pub idle_none : (st : SendState) → is_idle st ≡ true → is_sending st (last_of st) ≡ true → ⊥
 idle_none (state.Idle l) a b = never b
-idle_none (state.Sending j c) a b = never a
-idle_none (state.Ending j c) a b = never a
-idle_none (state.Dropping j) a b = never a
+idle_none any0 a b = never a
 
 confirmed_stays : (st : SendState) (k n j : ℕ) → goes_on st k ≡ true → confirmed_at st n ≡ state.Dropping j → ⊥
-confirmed_stays (state.Idle l) k n j g e = never g
 confirmed_stays (state.Sending i c) k n j g e = cc
 confirmed_stays (state.Ending i c) k n j g e = cc
-confirmed_stays (state.Dropping i) k n j g e = never g
+confirmed_stays any0 k n j g e = never g
 
 -- a step of the session on its lane
 abbrev pub own_seen : State → OwnStep → SeenStep
@@ -221,10 +216,7 @@ module _ (spells : List ℕ → Bool) (history : List Seen) (lane : ℕ) (allow 
       (last_of (s.made e (s.Confirm n)).state)
       (step_allowed spells history lane allow p _ is).1
       (ap (λ (l : Halves). l.state) (sym (behind p _ is)) ∙ q)
-  not_yet_own t own.Ending e p is i q = never i
-  not_yet_own t own.Sent e p is i q = never i
-  not_yet_own t own.Dropped e p is i q = never i
-  not_yet_own t (own.Refused kind) e p is i q = never i
+  not_yet_own t any1 e p is i q = never i
 
   -- ---- own steps
 

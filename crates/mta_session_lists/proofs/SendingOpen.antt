@@ -102,31 +102,17 @@ module _ (lane : ℕ) (b : SendEnd) where
   -- ResumeAck calls for no step
   none_resumes : (e : SendEnd) (step : SendStep) (k n : ℕ) → s.IsCalledBy e step (u.ResumeAck k n) → ⊥
   none_resumes e (s.Start octets) k n c = c
-  none_resumes e (s.Confirm m) k n c = c
-  none_resumes e s.To_end k n c = c
-  none_resumes e s.Sent k n c = c
-  none_resumes e s.Dropped k n c = c
-  none_resumes e s.Refused k n c = c
-  none_resumes e s.Denied k n c = c
-  none_resumes e s.Abandon k n c = c
+  none_resumes e any1 k n c = c
 
   dropping_stays : (st : SendState) (k : ℕ) → is_dropping st ≡ true → goes_on st k ≡ true → ⊥
-  dropping_stays (state.Idle l) k d g = never d
-  dropping_stays (state.Sending j c) k d g = never d
-  dropping_stays (state.Ending j c) k d g = never d
   dropping_stays (state.Dropping j) k d g = never g
+  dropping_stays any0 k d g = never d
 
   -- nor does SyncAck where the activity is given up
   none_confirms : (e : SendEnd) (step : SendStep) (n : ℕ) → is_dropping e.state ≡ true
       → s.IsCalledBy e step (u.SyncAck n) → ⊥
-  none_confirms e (s.Start octets) n d c = c
   none_confirms e (s.Confirm m) n d c = dropping_stays e.state (last_of e.state) d c.1
-  none_confirms e s.To_end n d c = c
-  none_confirms e s.Sent n d c = c
-  none_confirms e s.Dropped n d c = c
-  none_confirms e s.Refused n d c = c
-  none_confirms e s.Denied n d c = c
-  none_confirms e s.Abandon n d c = c
+  none_confirms e any1 n d c = c
 
   sync_passes : (t : State) (n : ℕ) (c : Bool) → (is_dropping t.send.state && is_discarded t.send.stage) ≡ c
       → b.state ≡ t.send.state
@@ -296,32 +282,25 @@ module _ (mid : SendEnd) where
   given_owes : (e : SendEnd) (z : SendStage) (k : ℕ) → is_cut z k ≡ true
       → s.StageOwesNothing (record e { state = state.Dropping k }) z → ⊥
   given_owes e s.Quiet k i o = never i
-  given_owes e s.Opened k i o = o
-  given_owes e (s.Started j) k i o = o
   given_owes e (s.Next j n) k i o = never o.0
-  given_owes e (s.Sync_next j n) k i o = o
-  given_owes e (s.Last_put j n) k i o = o
   given_owes e (s.End_put j n) k i o = never i
   given_owes e (s.Resume_put j n) k i o = never o
   given_owes e (s.Discard_put j) k i o = never i
+  given_owes e any1 k i o = o
 
   cut_owes : (e : SendEnd) (st : SendState) (k : ℕ) → e.state ≡ st → is_sending st k ≡ true → is_cut e.stage k ≡ true
       → Owes (s.made e s.Abandon)
-  cut_owes e (state.Idle l) k q i c = absurd (never i)
   cut_owes e (state.Sending j n) k q i c = λ o. given_owes (s.made e s.Abandon) e.stage k c
       (subst (λ z. s.StageOwesNothing (record (s.made e s.Abandon) { state = z }) e.stage)
       (ap (λ (z : SendState). state.Dropping (last_of z)) q ∙ ap state.Dropping (sym (eq_of k j i))) o)
-  cut_owes e (state.Ending j n) k q i c = absurd (never i)
-  cut_owes e (state.Dropping j) k q i c = absurd (never i)
+  cut_owes e any1 k q i c = absurd (never i)
 
   pub given_calm : (t : State) (told : SendState) → t.ours ≡ true → is_given_up t told ≡ true
       → Owes (s.made t.send s.Abandon)
   given_calm t (state.Dropping k) o g =
       let parts = both (is_sending t.send.state k) (is_cut t.send.stage k) g in
       cut_owes t.send t.send.state k refl parts.0 parts.1
-  given_calm t (state.Idle k) o g = absurd (never g)
-  given_calm t (state.Sending k c) o g = absurd (never g)
-  given_calm t (state.Ending k c) o g = absurd (never g)
+  given_calm t any1 o g = absurd (never g)
 
   pub state_leaves : (t : State) (y : Option SendState) → t.ours ≡ true → Leaves mid (on_state t y)
   state_leaves t (Some told) o =

@@ -48,22 +48,16 @@ use Rattle.mta_session_lists.proofs.SendingPhases.{SendWaits, if_waits}
 
 kept_idle : (st : SendState) (os x : List ℕ) → is_idle st ≡ true → kept st os x ≡ os
 kept_idle (state.Idle l) os x i = refl
-kept_idle (state.Sending k c) os x i = absurd (never i)
-kept_idle (state.Ending k c) os x i = absurd (never i)
-kept_idle (state.Dropping k) os x i = absurd (never i)
+kept_idle any0 os x i = absurd (never i)
 
 kept_same : (st : SendState) (os x : List ℕ) → x ≡ os → kept st os x ≡ os
 kept_same (state.Idle l) os x q = refl
-kept_same (state.Sending k c) os x q = q
-kept_same (state.Ending k c) os x q = q
-kept_same (state.Dropping k) os x q = q
+kept_same any0 os x q = q
 
 -- Accept changes no stage of a link on which nothing was done
 got_accept : (st : SendState) → stage_got (stage_on_link st) u.Accept ≡ stage_on_link st
 got_accept (state.Idle l) = refl
-got_accept (state.Sending k c) = refl
-got_accept (state.Ending k c) = refl
-got_accept (state.Dropping k) = refl
+got_accept any0 = refl
 
 or_true : (b : Bool) → (b || true) ≡ true
 or_true true = refl
@@ -71,13 +65,7 @@ or_true false = refl
 
 none_accepts : (e : SendEnd) (step : SendStep) → s.IsCalledBy e step u.Accept → ⊥
 none_accepts e (s.Start octets) c = c
-none_accepts e (s.Confirm m) c = c
-none_accepts e s.To_end c = c
-none_accepts e s.Sent c = c
-none_accepts e s.Dropped c = c
-none_accepts e s.Refused c = c
-none_accepts e s.Denied c = c
-none_accepts e s.Abandon c = c
+none_accepts e any1 c = c
 
 some_is : (y z : LaneUnit) → Some y ≡ Some z → y ≡ z
 some_is y z e = cc
@@ -273,9 +261,7 @@ module _ (l : Halves) (size window : ℕ) (accepted : Bool) where
         → later → AnswersAt phase.Begin t e → Waits first (wanted_in phase.Begin (counted t e) e)
     begin_wants t event.Go k i next n = begin_waits t t.side k i next
     begin_wants t event.Over k i next n = tt
-    begin_wants t (event.Unit y) k i next n = absurd (never n)
-    begin_wants t event.BadUnit k i next n = absurd (never n)
-    begin_wants t (event.Reply y) k i next n = absurd (never n)
+    begin_wants t any1 k i next n = absurd (never n)
 
     values_wants : (t : State) (e : Event) → IsSide l size window accepted t → later → AnswersAt phase.AsksValues t e
         → SendTells phase.AsksValues t e → Waits first (wanted_in phase.AsksValues (counted t e) e)
@@ -312,17 +298,14 @@ module _ (l : Halves) (size window : ℕ) (accepted : Bool) where
         → Waits first (wanted_in phase.PutsOpen (counted t e) e)
     opens_wants t event.Go k n = (refl, k)
     opens_wants t event.Over k n = tt
-    opens_wants t (event.Unit y) k n = absurd (never n)
-    opens_wants t event.BadUnit k n = absurd (never n)
-    opens_wants t (event.Reply y) k n = absurd (never n)
+    opens_wants t any1 k n = absurd (never n)
 
     answer_wants : (t : State) (e : Event) → is_unit e ≡ false → AnswersAt phase.ReadsAnswer t e
         → Waits first (wanted_in phase.ReadsAnswer (counted t e) e)
     answer_wants t (event.Unit y) i n = absurd (never (sym i))
     answer_wants t event.BadUnit i n = bad_waits first (counted t event.BadUnit)
     answer_wants t event.Over i n = tt
-    answer_wants t event.Go i n = absurd (never n)
-    answer_wants t (event.Reply y) i n = absurd (never n)
+    answer_wants t any1 i n = absurd (never n)
 
     agree_wants : (t : State) (e : Event) → HasHalf l size window accepted t → HasSize t
         → AnswersAt phase.AsksAgree t e → SendTells phase.AsksAgree t e
@@ -335,9 +318,7 @@ module _ (l : Halves) (size window : ℕ) (accepted : Bool) where
         → Waits first (wanted_in phase.PutsAccept (counted t e) e)
     accept_wants t event.Go k i f n = accepted_waits t (linked_is t k.0 k.1.0 (k.1.1 f.0.5) f.0.2 i)
     accept_wants t event.Over k i f n = tt
-    accept_wants t (event.Unit y) k i f n = absurd (never n)
-    accept_wants t event.BadUnit k i f n = absurd (never n)
-    accept_wants t (event.Reply y) k i f n = absurd (never n)
+    accept_wants t any1 k i f n = absurd (never n)
 
     -- any other event than a unit
     pub opening_wants : (early : Type 0) (p : Phase) (t : State) (e : Event) (a : Action) (b : SendEnd)

@@ -210,12 +210,10 @@ module _ (l : Halves) (size window : ℕ) (accepted : Bool) where
 
   pub waits_after : (early : Type 0) (mid : SendEnd) (c : State) (w : Wanted) (a : Action) (new : State)
       → SendWaits early mid w → Does c w a new → AfterSend early mid a new
-  waits_after early mid c (Aborts reason) a new k d = quiet_after early mid a _ new _ d.0 d.1 refl tt
-  waits_after early mid c (Rejects reason) a new k d = quiet_after early mid a _ new _ d.0 d.1 refl tt
-  waits_after early mid c (Ends y) a new k d = quiet_after early mid a _ new _ d.0 d.1 refl tt
   waits_after early mid c (Puts y t) a new k d = quiet_after early mid a _ new t d.0 d.1 (ap puts_of k.0) k.1
   waits_after early mid c (Asks q t) a new k d = quiet_after early mid a _ new t d.0 d.1 refl k
   waits_after early mid c (Reads t) a new k d = quiet_after early mid a _ new t d.0 d.1 refl k
   waits_after early mid c (Goes_on t) a new k d = goes_after early mid t a new k d
   waits_after early mid c (Excepts t f) a new k d = absurd k
   waits_after early mid c Never a new k d = elim d [ ]
+  waits_after early mid c any3 a new k d = quiet_after early mid a _ new _ d.0 d.1 refl tt

@@ -55,14 +55,12 @@ answers_same e h step (inr q) m =
 
 pub may_same : (e : SendEnd) (h : Option LaneUnit) (step : SendStep) → Hears h e.heard → s.MayMake e step
     → s.MayMake (hearing e h) step
-may_same e h (s.Start octets) k m = m
-may_same e h s.To_end k m = m
-may_same e h s.Abandon k m = m
 may_same e h (s.Confirm n) k m = answers_same e h (s.Confirm n) k m
 may_same e h s.Sent k m = answers_same e h s.Sent k m
 may_same e h s.Dropped k m = answers_same e h s.Dropped k m
 may_same e h s.Refused k m = answers_same e h s.Refused k m
 may_same e h s.Denied k m = answers_same e h s.Denied k m
+may_same e h any2 k m = m
 
 -- ---- along a list
 

@@ -78,25 +78,11 @@ module _ (lane : ℕ) where
   pub holder_heard : (w : Wanted) (y : AnyUnit)
       → sending_event lane (got_as w y) ≡ without_other (unless_refused w (s.Got (heard_as y) ∷ []))
   holder_heard (Aborts reason) y = refl
-  holder_heard (Rejects reason) y = heard_same y
-  holder_heard (Ends e) y = heard_same y
-  holder_heard (Puts z t) y = heard_same y
-  holder_heard (Asks a t) y = heard_same y
-  holder_heard (Reads t) y = heard_same y
-  holder_heard (Goes_on t) y = heard_same y
-  holder_heard (Excepts t f) y = heard_same y
-  holder_heard Never y = heard_same y
+  holder_heard any0 y = heard_same y
 
   nothing_heard : (w : Wanted) (y : AnyUnit) → gots_of (answer_unit y) ≡ [] → sending_event lane (got_as w y) ≡ []
   nothing_heard (Aborts reason) y e = refl
-  nothing_heard (Rejects reason) y e = e
-  nothing_heard (Ends z) y e = e
-  nothing_heard (Puts z t) y e = e
-  nothing_heard (Asks a t) y e = e
-  nothing_heard (Reads t) y e = e
-  nothing_heard (Goes_on t) y e = e
-  nothing_heard (Excepts t f) y e = e
-  nothing_heard Never y e = e
+  nothing_heard any0 y e = e
 
   -- without it no unit is heard, but an Abort
   listener_heard : (t : State) (y : AnyUnit) → is_abort y ≡ false → sending_event lane (got_as (as_listener t y) y) ≡ []
@@ -115,14 +101,7 @@ module _ (lane : ℕ) where
 
   none_refused : (w : Wanted) → without_other (unless_refused w []) ≡ []
   none_refused (Aborts reason) = refl
-  none_refused (Rejects reason) = refl
-  none_refused (Ends e) = refl
-  none_refused (Puts z t) = refl
-  none_refused (Asks a t) = refl
-  none_refused (Reads t) = refl
-  none_refused (Goes_on t) = refl
-  none_refused (Excepts t f) = refl
-  none_refused Never = refl
+  none_refused any0 = refl
 
   if_heard : (b : Bool) (w : Wanted) (y : AnyUnit) → sending_event lane (got_as w y) ≡ []
       → sending_event lane (got_as (if b then Aborts 3 else w) y) ≡ []

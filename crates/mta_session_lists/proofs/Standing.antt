@@ -32,9 +32,7 @@ module _ (spells : List ℕ → Bool) (history : List Seen) (lane : ℕ) where
   looked_rises : (low seen : ℕ) (look : Look) → low ≤ seen
       → RisesBehind low (has_before lane (Looked seen look)) × (seen_after lane low (Looked seen look) ≤ seen)
   looked_rises low seen x.At_sending le = (le, omega arith)
-  looked_rises low seen (x.Finds k n piece) le = (tt, le)
-  looked_rises low seen x.No_batch le = (tt, le)
-  looked_rises low seen x.Elsewhere le = (tt, le)
+  looked_rises low seen any2 le = (tt, le)
 
   abbrev From : (seen : ℕ) → List SessionEvent → Type 0
   From seen rest = (low : ℕ) → low ≤ seen → Rises lane low rest
@@ -54,14 +52,7 @@ module _ (spells : List ℕ → Bool) (history : List Seen) (lane : ℕ) where
   got_rises : (low : ℕ) (w : Wanted) (u : AnyUnit) (rest : List SessionEvent) → Rises lane low rest
       → Rises lane low (got_as w u ∷ rest)
   got_rises low (Aborts reason) u rest r = (tt, r)
-  got_rises low (Rejects reason) u rest r = (tt, r)
-  got_rises low (Ends e) u rest r = (tt, r)
-  got_rises low (Puts v t) u rest r = (tt, r)
-  got_rises low (Asks a t) u rest r = (tt, r)
-  got_rises low (Reads t) u rest r = (tt, r)
-  got_rises low (Goes_on t) u rest r = (tt, r)
-  got_rises low (Excepts t f) u rest r = (tt, r)
-  got_rises low Never u rest r = (tt, r)
+  got_rises low any1 u rest r = (tt, r)
 
   pub come_rises : (low from seen : ℕ) (p : Phase) (a : Action) (t : Turn) (e : Event) (rest : List SessionEvent)
       → low ≤ from → ComesTrue spells history from seen p a e → From seen rest
@@ -69,16 +60,10 @@ module _ (spells : List ℕ → Bool) (history : List Seen) (lane : ℕ) where
   come_rises low from seen p (action.Put u) t e rest le is more = (tt, more low (omega (arith, le, is)))
   come_rises low from seen p action.Read t (event.Unit u) rest le is more =
       got_rises low (called_for t.before.phase t.before u) u rest (more low (omega (arith, le, is)))
-  come_rises low from seen p action.Read t event.Go rest le is more = more low (omega (arith, le, is))
-  come_rises low from seen p action.Read t event.BadUnit rest le is more = more low (omega (arith, le, is))
-  come_rises low from seen p action.Read t (event.Reply y) rest le is more = more low (omega (arith, le, is))
-  come_rises low from seen p action.Read t event.Over rest le is more = more low (omega (arith, le, is))
+  come_rises low from seen p action.Read t any6 rest le is more = more low (omega (arith, le, is))
   come_rises low from seen p (action.Ask a) t (event.Reply y) rest le is more =
       told_rises low from seen a y (step_told a y) (look_told a y) rest le is.1 more
-  come_rises low from seen p (action.Ask a) t event.Go rest le is more = more low (omega (arith, le, is))
-  come_rises low from seen p (action.Ask a) t (event.Unit u) rest le is more = more low (omega (arith, le, is))
-  come_rises low from seen p (action.Ask a) t event.BadUnit rest le is more = more low (omega (arith, le, is))
-  come_rises low from seen p (action.Ask a) t event.Over rest le is more = more low (omega (arith, le, is))
+  come_rises low from seen p (action.Ask a) t any6 rest le is more = more low (omega (arith, le, is))
   come_rises low from seen p (action.Finish y) t e rest le is more = more low (omega (arith, le, is))
 
   pub calls_rise : (cs : List Call) (low from : ℕ) (a : Action) → low ≤ from → AllComeTrue spells history from a cs
@@ -99,32 +84,18 @@ module _ (spells : List ℕ → Bool) (history : List Seen) (lane : ℕ) where
   got_stands : (w : Wanted) (u : AnyUnit) (rest : List SessionEvent) → StepsStand history rest
       → StepsStand history (got_as w u ∷ rest)
   got_stands (Aborts reason) u rest k = k
-  got_stands (Rejects reason) u rest k = k
-  got_stands (Ends e) u rest k = k
-  got_stands (Puts v t) u rest k = k
-  got_stands (Asks a t) u rest k = k
-  got_stands (Reads t) u rest k = k
-  got_stands (Goes_on t) u rest k = k
-  got_stands (Excepts t f) u rest k = k
-  got_stands Never u rest k = k
+  got_stands any0 u rest k = k
 
   pub come_stands : (from seen : ℕ) (p : Phase) (a : Action) (t : Turn) (e : Event) (rest : List SessionEvent)
       → ComesTrue spells history from seen p a e → StepsStand history rest
       → StepsStand history (come_of a t seen e ++ rest)
-  come_stands from seen p (action.Put u) t e rest is more = more
   come_stands from seen p action.Read t (event.Unit u) rest is more =
       got_stands (called_for t.before.phase t.before u) u rest more
-  come_stands from seen p action.Read t event.Go rest is more = more
-  come_stands from seen p action.Read t event.BadUnit rest is more = more
-  come_stands from seen p action.Read t (event.Reply y) rest is more = more
-  come_stands from seen p action.Read t event.Over rest is more = more
+  come_stands from seen p action.Read t any5 rest is more = more
   come_stands from seen p (action.Ask a) t (event.Reply y) rest is more =
       told_stands from seen a y (step_told a y) (look_told a y) rest is.1 more
-  come_stands from seen p (action.Ask a) t event.Go rest is more = more
-  come_stands from seen p (action.Ask a) t (event.Unit u) rest is more = more
-  come_stands from seen p (action.Ask a) t event.BadUnit rest is more = more
-  come_stands from seen p (action.Ask a) t event.Over rest is more = more
-  come_stands from seen p (action.Finish y) t e rest is more = more
+  come_stands from seen p (action.Ask a) t any5 rest is more = more
+  come_stands from seen p any3 t e rest is more = more
 
   pub calls_stand : (cs : List Call) (from : ℕ) (a : Action) → AllComeTrue spells history from a cs
       → StepsStand history (list_of a cs)

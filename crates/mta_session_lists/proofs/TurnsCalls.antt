@@ -87,8 +87,7 @@ quiet_done a t (event.Reply y) v k n q i =
     (reply_goes t.before.phase t.before y (turned a v) k.holds k.is.fits)
 quiet_done a t event.Over v k n q i =
     done_by a t event.Over v (turned a v) k n q (over_goes t.before.phase (turned a v))
-quiet_done a t (event.Unit u) v k n q i = absurd (never (sym i))
-quiet_done a t event.BadUnit v k n q i = absurd (never (sym i))
+quiet_done a t any2 v k n q i = absurd (never (sym i))
 
 pub bad_done : (t : Turn) (v : x.Turn) → Here action.Read t v → t.event ≡ event.BadUnit → Done t.action t.after v
 bad_done t v k q =

@@ -304,13 +304,10 @@ excepts_done : (t : State) (f : Found) (a : Action) (new : State) (v : Turn) →
     → Done a new v
 excepts_done t f (action.Ask y) new v h g = excepts_asked t f y new v h g
 excepts_done t f (action.Put y) new v h g = excepts_put t f y new v h g
-excepts_done t f action.Read new v h g = elim g [ ]
-excepts_done t f (action.Finish y) new v h g = elim g [ ]
+excepts_done t f any2 new v h g = elim g [ ]
 
 pub does_done : (t : State) (w : Wanted) (a : Action) (new : State) (v : Turn) → TurnGoes v w → Does t w a new → Done
     a new v
-does_done t (Aborts reason) a new v k d = landed a _ new _ v d.0 d.1 k tt
-does_done t (Rejects reason) a new v k d = landed a _ new _ v d.0 d.1 k tt
 does_done t (Ends y) a new v k d = landed a _ new _ v d.0 d.1 tt tt
 does_done t (Puts y z) a new v k d = landed a _ new z v d.0 d.1 k.0 k.1
 does_done t (Asks y z) a new v k d = landed a _ new z v d.0 d.1 tt k
@@ -318,3 +315,4 @@ does_done t (Reads z) a new v k d = landed a _ new z v d.0 d.1 tt k
 does_done t (Goes_on z) a new v k d = goes_done z a new v k d
 does_done t (Excepts z f) a new v k d = excepts_done z f a new v k d
 does_done t Never a new v k d = elim d [ ]
+does_done t any1 a new v k d = landed a _ new _ v d.0 d.1 k tt

@@ -32,12 +32,7 @@ use Rattle.mta_session_lists.proofs.Turns.{abort_allowed, is_answer}
 
 got_abort : (v : Turn) (reason : ℕ) → TurnAllows v (Got (unit.Abort reason))
 got_abort x.Before_accept reason = tt
-got_abort x.Own reason = tt
-got_abort x.Theirs reason = tt
-got_abort x.Own_closing reason = tt
-got_abort x.Their_closing reason = tt
-got_abort x.Acknowledged reason = tt
-got_abort x.Over reason = tt
+got_abort any0 reason = tt
 
 pub abort_goes : (v : Turn) (t : State) (reason : ℕ) → UnitGoes v (unit.Abort reason) (on_abort t reason)
 abort_goes v t reason =
@@ -253,12 +248,7 @@ reads_list p = false
 
 pub refused_allowed : (v : Turn) (u : AnyUnit) → TurnAllows v (x.Refused u)
 refused_allowed x.Before_accept u = tt
-refused_allowed x.Own u = tt
-refused_allowed x.Theirs u = tt
-refused_allowed x.Own_closing u = tt
-refused_allowed x.Their_closing u = tt
-refused_allowed x.Acknowledged u = tt
-refused_allowed x.Over u = tt
+refused_allowed any0 u = tt
 
 pub reading_aborts : (p : Phase) (t : State) (v : Turn) (reason : ℕ) → reads_list p ≡ true → Holds p t v
     → TurnAllows v (Put (unit.Abort reason))

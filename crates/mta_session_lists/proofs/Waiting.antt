@@ -89,17 +89,13 @@ ask_answers p t e i a = a
 
 not_put : (e : Event) → answers_put e ≡ true → takes_unit e ≡ true → ⊥
 not_put event.Go a b = never b
-not_put (event.Unit u) a b = never a
-not_put event.BadUnit a b = never a
-not_put (event.Reply y) a b = never a
 not_put event.Over a b = never b
+not_put any0 a b = never a
 
 not_asked : (p : Phase) (t : State) (e : Event) → AnswersAsk p t e → takes_unit e ≡ true → ⊥
-not_asked p t (event.Reply y) a b = never b
-not_asked p t event.Go a b = never b
 not_asked p t (event.Unit u) a b = elim a [ ]
 not_asked p t event.BadUnit a b = elim a [ ]
-not_asked p t event.Over a b = never b
+not_asked p t any2 a b = never b
 
 -- a unit comes of a read alone
 pub none_put : (p : Phase) (t : State) (e : Event) → is_putting p ≡ true → AnswersAt p t e → takes_unit e ≡ true → ⊥
@@ -110,10 +106,7 @@ none_asked p t e i a b = not_asked p t e (ask_answers p t e i a) b
 
 not_go : (e : Event) → is_go e ≡ true → takes_unit e ≡ true → ⊥
 not_go event.Go a b = never b
-not_go (event.Unit u) a b = never a
-not_go event.BadUnit a b = never a
-not_go (event.Reply y) a b = never a
-not_go event.Over a b = never a
+not_go any0 a b = never a
 
 pub none_first : (e : Event) → is_go e ≡ true → takes_unit e ≡ true → ⊥
 none_first e a b = not_go e a b

@@ -34,13 +34,12 @@ told a b moment e is = subst (λ (x : Step). moment_of x ≡ Some moment) (some-
 due-by : (v : Verdict) (i r moment : ℕ) (due : Step) → step_of v i r moment ≡ Some due → IsDueStep due
 due-by (Verdicts.Deliver place) i r moment due e = subst IsDueStep (some-is (step.Deliver i r moment) due e) tt
 due-by (Verdicts.Expand place) i r moment due e = subst IsDueStep (some-is (step.Expand i r moment) due e) tt
-due-by (Verdicts.Relay place) i r moment due e = absurd cc
 due-by Verdicts.Affirm i r moment due e = subst IsDueStep (some-is (step.Affirm i r moment) due e) tt
 due-by (Verdicts.NonDeliver reason diagnostic) i r moment due e =
     subst IsDueStep (some-is (step.Report i r moment) due e) tt
-due-by (Verdicts.Hold until) i r moment due e = absurd cc
 due-by Verdicts.Back i r moment due e = subst IsDueStep (some-is (step.Back i r moment) due e) tt
 due-by Verdicts.Discard i r moment due e = subst IsDueStep (some-is (step.Discard i r moment) due e) tt
+due-by any0 i r moment due e = absurd cc
 
 due-of : (s : State) (i r moment : ℕ) (due : Step) → IsDue s i r moment due → IsDueStep due
 due-of s i r moment due (inl d) = due-by d.verdict i r moment due d.step_is
@@ -53,12 +52,11 @@ next_is_due s moment due next = due-of s next.item next.recipient moment due nex
 moment-by : (v : Verdict) (i r moment : ℕ) (due : Step) → step_of v i r moment ≡ Some due → moment_of due ≡ Some moment
 moment-by (Verdicts.Deliver place) i r moment due e = told (step.Deliver i r moment) due moment e refl
 moment-by (Verdicts.Expand place) i r moment due e = told (step.Expand i r moment) due moment e refl
-moment-by (Verdicts.Relay place) i r moment due e = absurd cc
 moment-by Verdicts.Affirm i r moment due e = told (step.Affirm i r moment) due moment e refl
 moment-by (Verdicts.NonDeliver reason diagnostic) i r moment due e = told (step.Report i r moment) due moment e refl
-moment-by (Verdicts.Hold until) i r moment due e = absurd cc
 moment-by Verdicts.Back i r moment due e = told (step.Back i r moment) due moment e refl
 moment-by Verdicts.Discard i r moment due e = told (step.Discard i r moment) due moment e refl
+moment-by any0 i r moment due e = absurd cc
 
 moment-of : (s : State) (i r moment : ℕ) (due : Step) → IsDue s i r moment due → moment_of due ≡ Some moment
 moment-of s i r moment due (inl d) = moment-by d.verdict i r moment due d.step_is
@@ -79,16 +77,15 @@ not-by s (Verdicts.Deliver place) i r moment due e =
     subst (IsOfNoRefusal s) (some-is (step.Deliver i r moment) due e) (λ f is. is)
 not-by s (Verdicts.Expand place) i r moment due e =
     subst (IsOfNoRefusal s) (some-is (step.Expand i r moment) due e) (λ f is. is)
-not-by s (Verdicts.Relay place) i r moment due e = absurd cc
 not-by s Verdicts.Affirm i r moment due e =
     subst (IsOfNoRefusal s) (some-is (step.Affirm i r moment) due e) (λ f is. is)
 not-by s (Verdicts.NonDeliver reason diagnostic) i r moment due e =
     subst (IsOfNoRefusal s) (some-is (step.Report i r moment) due e) (λ f is. is)
-not-by s (Verdicts.Hold until) i r moment due e = absurd cc
 not-by s Verdicts.Back i r moment due e =
     subst (IsOfNoRefusal s) (some-is (step.Back i r moment) due e) (λ f is. is)
 not-by s Verdicts.Discard i r moment due e =
     subst (IsOfNoRefusal s) (some-is (step.Discard i r moment) due e) (λ f is. is)
+not-by s any1 i r moment due e = absurd cc
 
 not-of : (s : State) (i r moment : ℕ) (due : Step) → IsDue s i r moment due → IsOfNoRefusal s due
 not-of s i r moment due (inl d) = not-by s d.verdict i r moment due d.step_is

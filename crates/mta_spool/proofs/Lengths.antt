@@ -40,29 +40,14 @@ length-two a b moment = refl
 
 -- a due step has a short body
 pub short-due : (step : Step) → IsDueStep step → length (body_of step) ≤ longest_body
-short-due (Tables text) due = absurd due
-short-due (Accept moment apdu) due = absurd due
 short-due (Deliver item recipient moment) due = omega (arith, length-two item recipient moment)
 short-due (Expand item recipient moment) due = omega (arith, length-two item recipient moment)
 short-due (Report item recipient moment) due = omega (arith, length-two item recipient moment)
 short-due (Affirm item recipient moment) due = omega (arith, length-two item recipient moment)
 short-due (Discard item recipient moment) due = omega (arith, length-two item recipient moment)
 short-due (Back item recipient moment) due = omega (arith, length-two item recipient moment)
-short-due (LaneOpen role peer reference twa checkpoint window moment) due = absurd due
-short-due (LaneAgree lane generation checkpoint window) due = absurd due
-short-due (Bind lane generation) due = absurd due
-short-due (Start lane generation activity item recipients moment) due = absurd due
-short-due (Confirm lane generation activity checkpoint) due = absurd due
-short-due (Ending lane generation activity) due = absurd due
-short-due (Sent lane generation activity moment) due = absurd due
-short-due (Refused lane generation activity kind moment) due = absurd due
-short-due (Denied lane generation activity moment) due = absurd due
-short-due (Dropped lane generation activity) due = absurd due
 short-due (Abandon lane activity moment) due = omega (arith, length-two lane activity moment)
-short-due (Secure lane generation activity number piece) due = absurd due
-short-due (Complete lane generation activity number piece moment) due = absurd due
-short-due (Drop lane generation activity) due = absurd due
-short-due (CloseLane lane generation) due = absurd due
+short-due any0 due = absurd due
 
 -- ---- a text of tables is short
 
@@ -101,15 +86,6 @@ length-number n = refl
 
 -- such a record has a short body
 pub short_brief : (step : Step) → IsBrief step → length (body_of step) ≤ longest_body
-short_brief (Tables text) brief = absurd brief
-short_brief (Accept moment apdu) brief = absurd brief
-short_brief (Deliver item recipient moment) brief = absurd brief
-short_brief (Expand item recipient moment) brief = absurd brief
-short_brief (Report item recipient moment) brief = absurd brief
-short_brief (Affirm item recipient moment) brief = absurd brief
-short_brief (Discard item recipient moment) brief = absurd brief
-short_brief (Back item recipient moment) brief = absurd brief
-short_brief (LaneOpen role peer reference twa checkpoint window moment) brief = absurd brief
 short_brief (LaneAgree lane generation checkpoint window) brief =
     omega (
       arith,
@@ -120,7 +96,6 @@ short_brief (LaneAgree lane generation checkpoint window) brief =
       length-number window,
     )
 short_brief (Bind lane generation) brief = omega (arith, length-lane lane generation)
-short_brief (Start lane generation activity item recipients moment) brief = absurd brief
 short_brief (Confirm lane generation activity checkpoint) brief =
     omega (arith, length-numbered lane generation activity checkpoint)
 short_brief (Ending lane generation activity) brief = omega (arith, length-activity lane generation activity)
@@ -146,8 +121,6 @@ short_brief (Denied lane generation activity moment) brief =
       length-long moment,
     )
 short_brief (Dropped lane generation activity) brief = omega (arith, length-activity lane generation activity)
-short_brief (Abandon lane activity moment) brief = absurd brief
-short_brief (Secure lane generation activity number piece) brief = absurd brief
-short_brief (Complete lane generation activity number piece moment) brief = absurd brief
 short_brief (Drop lane generation activity) brief = omega (arith, length-activity lane generation activity)
 short_brief (CloseLane lane generation) brief = omega (arith, length-lane lane generation)
+short_brief any0 brief = absurd brief

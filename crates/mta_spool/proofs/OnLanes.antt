@@ -32,11 +32,8 @@ lane_possible s step n g ls class needs timely left = record {
 }
 
 machine-plain : (s : State) (n g : ℕ) (c : Class) (moment : ℕ) → IsPlainOn n g c → MachineNeeds s c moment
-machine-plain s n g (records text) moment plain = absurd plain
-machine-plain s n g (accepts octets) moment plain = absurd plain
-machine-plain s n g (settles how i r) moment plain = absurd plain
-machine-plain s n g (opens role peer name twa size window) moment plain = absurd plain
 machine-plain s n g (on_lane m h ls) moment plain = tt
+machine-plain s n g any3 moment plain = absurd plain
 
 pub plain_possible : (s : State) (step : Step) (n g : ℕ) → IsPlainOn n g (class_of step)
     → StepNeeds s (class_of step) (when s step) → s.moment ≤ when s step
@@ -64,11 +61,8 @@ plain-quiet (drop_pieces k) quiet = tt
 plain-quiet close quiet = tt
 
 pub quiet_is_plain : (n g : ℕ) (c : Class) → IsQuietOn n g c → IsPlainOn n g c
-quiet_is_plain n g (records text) quiet = absurd quiet
-quiet_is_plain n g (accepts octets) quiet = absurd quiet
-quiet_is_plain n g (settles how i r) quiet = absurd quiet
-quiet_is_plain n g (opens role peer name twa size window) quiet = absurd quiet
 quiet_is_plain n g (on_lane m h ls) quiet = (quiet.0, quiet.1, plain-quiet ls quiet.2)
+quiet_is_plain n g any2 quiet = absurd quiet
 
 none-open : (lane : Lane) (ls : LaneStep) → IsQuiet ls → 0 ≡ numbers_on (Some lane) ls
 none-open lane (agree checkpoint window) quiet = refl
@@ -91,11 +85,8 @@ none-on None ls quiet = refl
 none-on (Some lane) ls quiet = none-open lane ls quiet
 
 pub quiet_needs_none : (s : State) (n g : ℕ) (c : Class) → IsQuietOn n g c → 0 ≡ numbers_needed s c
-quiet_needs_none s n g (records text) quiet = absurd quiet
-quiet_needs_none s n g (accepts octets) quiet = absurd quiet
-quiet_needs_none s n g (settles how i r) quiet = absurd quiet
-quiet_needs_none s n g (opens role peer name twa size window) quiet = absurd quiet
 quiet_needs_none s n g (on_lane m h ls) quiet = none-on (lane_at m s.lanes.open_lanes) ls quiet.2
+quiet_needs_none s n g any3 quiet = absurd quiet
 
 -- ---- a plain step that is refused
 
@@ -170,10 +161,6 @@ module _ (s : State) (n g moment : ℕ) where
   -- what the lane does not allow is refused so
   pub refused_plainly : (c : Class) → IsPlainOn n g c → (StepNeeds s c moment → ⊥)
       → IsRefused s c moment (refusal_on (lane_at n s.lanes.open_lanes) n g)
-  refused_plainly (records text) plain never = absurd plain
-  refused_plainly (accepts octets) plain never = absurd plain
-  refused_plainly (settles how i r) plain never = absurd plain
-  refused_plainly (opens role peer name twa size window) plain never = absurd plain
   refused_plainly (on_lane m h step) plain never =
       let fault = refusal_on (lane_at n s.lanes.open_lanes) n g in
       let base : (IsOnLane s n (Some g) step moment → ⊥) → IsRefused s (on_lane n (Some g) step) moment fault =
@@ -183,6 +170,7 @@ module _ (s : State) (n g moment : ℕ) where
       (sym plain.1) base in
       subst (λ (x : ℕ). (IsOnLane s x h step moment → ⊥) → IsRefused s (on_lane x h step) moment fault)
       (sym plain.0) by_generation never
+  refused_plainly any0 plain never = absurd plain
 
 -- ---- a Bind
 

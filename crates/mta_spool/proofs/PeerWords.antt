@@ -31,33 +31,16 @@ first-of false b c d e f all = absurd cc
 
 line-word : (words : Words) (p : Peer) (line : List ℕ) → HasWords line words → Mean words (Said.Peer p)
     → is_word p.name ≡ true
-line-word SilentLine p line has mean = absurd mean
-line-word (DomainLine text) p line has mean = absurd mean
-line-word (NameLine word) p line has mean = absurd mean
 line-word (PeerLine w) p line has mean =
     subst (λ (n : List ℕ). is_word n ≡ true) (sym mean.name)
     (first-of (is_word w.name) (is_password w.send) (is_password w.expected) (is_mode w.mode) (is_filled w.size)
     (is_filled w.window) has.0.words)
-line-word (MailboxLine word text) p line has mean = absurd mean
-line-word (ListLine word policy text) p line has mean = absurd mean
-line-word (FromLine word text) p line has mean = absurd mean
-line-word (MemberLine word text) p line has mean = absurd mean
-line-word (HereLine text) p line has mean = absurd mean
-line-word (RouteLineTo text word) p line has mean = absurd mean
-line-word (HoldLine grade seconds) p line has mean = absurd mean
+line-word any0 p line has mean = absurd mean
 
 with-line : (says : Line) (words : Words) (line : List ℕ) (rest : List Peer) → HasWords line words → Mean words says
     → All HasWord rest → All HasWord (peer_in says ++ rest)
 with-line (Said.Peer p) words line rest has mean each = All-cons HasWord p rest (line-word words p line has mean) each
-with-line Said.Nothing words line rest has mean each = each
-with-line (Said.Domain d) words line rest has mean each = each
-with-line (Said.Name w) words line rest has mean each = each
-with-line (Said.Mailbox m) words line rest has mean each = each
-with-line (Said.List l) words line rest has mean each = each
-with-line (Said.From f) words line rest has mean each = each
-with-line (Said.Member m) words line rest has mean each = each
-with-line (Said.Route r) words line rest has mean each = each
-with-line (Said.Hold h) words line rest has mean each = each
+with-line any0 words line rest has mean each = each
 
 each-said : (rows : List Row) → All IsRow rows → All HasWord (peers_of (said_by rows))
 each-said [] each = All-nil HasWord

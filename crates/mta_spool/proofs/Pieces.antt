@@ -126,9 +126,6 @@ module _ (s : State) (n g moment : ℕ) (step : LaneStep) (plain : Plain g step)
 
   -- where it is expected none of the refusals for a lane stands
   none-stands : IsExpected s n g step moment → (f : StepFault) → IsRefused s (on_lane n (Some g) step) moment f → ⊥
-  none-stands is (Faults.Full size need) refusal = refusal
-  none-stands is Faults.Disk refusal = refusal
-  none-stands is Faults.Ended refusal = refusal
   none-stands is (Faults.Fenced generation) refusal =
       let same = same_Some refusal.lane is.lane (sym refusal.lane_is ∙ is.lane_is) in
       omega (
@@ -138,13 +135,11 @@ module _ (s : State) (n g moment : ℕ) (step : LaneStep) (plain : Plain g step)
         is.current,
       )
   none-stands is (Faults.NoLane m) refusal = let both : None ≡ Some is.lane = sym refusal.1 ∙ is.lane_is in cc
-  none-stands is (Faults.BusyLanes count) refusal = refusal
   none-stands is Faults.Unexpected refusal =
       let same = same_Some is.lane refusal.lane (sym is.lane_is ∙ refusal.lane_is) in
       refusal.not_now (plain.is_of refusal.lane (is.current ∙ ap (λ (l : Lane). l.generation) same))
       (subst (λ (l : Lane). LaneExpects s l step moment) same is.expected)
-  none-stands is (Faults.Spent last) refusal = refusal
-  none-stands is Faults.Memory refusal = refusal
+  none-stands is any1 refusal = refusal
 
 module _ (s : State) (n g activity number : ℕ) (piece : List ℕ) (moment : ℕ) where
   pub secure_refused : (IsExpected s n g (secure activity number piece) moment → ⊥)

@@ -59,31 +59,18 @@ expects s lane close moment needs = needs
 
 on-lane : (s : State) (n : ℕ) (g : Option ℕ) (step : LaneStep) (moment : ℕ) (f : StepFault)
     → StepNeeds s (on_lane n g step) moment → IsRefused s (on_lane n g step) moment f → ⊥
-on-lane s n g step moment (Faults.Full size need) needs is = is
-on-lane s n g step moment Faults.Disk needs is = is
-on-lane s n g step moment Faults.Ended needs is = is
 on-lane s n g step moment (Faults.Fenced generation) needs is =
     let same = one-lane (lane_at n s.lanes.open_lanes) is.lane needs.lane is.lane_is needs.lane_is in
     not-fenced needs.lane g step needs.current (subst (λ (l : Lane). IsFenced l g step) same is.fenced)
 on-lane s n g step moment (Faults.NoLane m) needs is =
     let both : ◌≡◌ {A = Option Lane} None (Some needs.lane) = sym is.1 ∙ needs.lane_is in cc
-on-lane s n g step moment (Faults.BusyLanes count) needs is = is
 on-lane s n g step moment Faults.Unexpected needs is =
     let same = one-lane (lane_at n s.lanes.open_lanes) needs.lane is.lane needs.lane_is is.lane_is in
     is.not_now (subst (λ (l : Lane). IsOfGeneration l g step) same needs.current)
     (subst (λ (l : Lane). LaneExpects s l step moment) same (expects s needs.lane step moment needs.needs))
-on-lane s n g step moment (Faults.Spent last) needs is = is
-on-lane s n g step moment Faults.Memory needs is = is
+on-lane s n g step moment any5 needs is = is
 
 pub allowed : (s : State) (c : Class) (moment : ℕ) (f : StepFault) → StepNeeds s c moment → IsRefused s c moment f → ⊥
-allowed s (records text) moment f needs is = is
-allowed s (accepts octets) moment f needs is = is
-allowed s (settles how i r) moment f needs is = is
-allowed s (opens role peer name twa size window) moment (Faults.Full a b) needs is = is
-allowed s (opens role peer name twa size window) moment Faults.Disk needs is = is
-allowed s (opens role peer name twa size window) moment Faults.Ended needs is = is
-allowed s (opens role peer name twa size window) moment (Faults.Fenced generation) needs is = is
-allowed s (opens role peer name twa size window) moment (Faults.NoLane lane) needs is = is
 allowed s (opens role peer name twa size window) moment (Faults.BusyLanes count) needs is =
     omega (arith, needs.room, is.1, is.2)
 allowed s (opens role peer name twa size window) moment Faults.Unexpected needs is = is (record {
@@ -93,9 +80,9 @@ allowed s (opens role peer name twa size window) moment Faults.Unexpected needs 
   checkpoint_fits = needs.checkpoint_fits;
   window_fits = needs.window_fits;
 })
-allowed s (opens role peer name twa size window) moment (Faults.Spent last) needs is = is
-allowed s (opens role peer name twa size window) moment Faults.Memory needs is = is
+allowed s (opens role peer name twa size window) moment any3 needs is = is
 allowed s (on_lane n g step) moment f needs is = on-lane s n g step moment f needs is
+allowed s any1 moment f needs is = is
 
 pub not_refused : (s : State) (step : Step) (f : StepFault) → IsPossible s step
     → IsRefused s (class_of step) (when s step) f → ⊥
@@ -119,131 +106,81 @@ no_lane (Some Faults.Memory) none = tt
 
 -- it is a refusal of the steps of lanes
 pub refusal_of_lane : (s : State) (c : Class) (moment : ℕ) (f : StepFault) → IsRefused s c moment f → IsOfLane f
-refusal_of_lane s (records text) moment f is = absurd is
-refusal_of_lane s (accepts octets) moment f is = absurd is
-refusal_of_lane s (settles how i r) moment f is = absurd is
-refusal_of_lane s (opens role peer name twa size window) moment (Faults.Full a b) is = absurd is
-refusal_of_lane s (opens role peer name twa size window) moment Faults.Disk is = absurd is
-refusal_of_lane s (opens role peer name twa size window) moment Faults.Ended is = absurd is
 refusal_of_lane s (opens role peer name twa size window) moment (Faults.Fenced generation) is = tt
 refusal_of_lane s (opens role peer name twa size window) moment (Faults.NoLane lane) is = tt
 refusal_of_lane s (opens role peer name twa size window) moment (Faults.BusyLanes count) is = tt
 refusal_of_lane s (opens role peer name twa size window) moment Faults.Unexpected is = tt
-refusal_of_lane s (opens role peer name twa size window) moment (Faults.Spent last) is = absurd is
-refusal_of_lane s (opens role peer name twa size window) moment Faults.Memory is = absurd is
-refusal_of_lane s (on_lane n g step) moment (Faults.Full a b) is = absurd is
-refusal_of_lane s (on_lane n g step) moment Faults.Disk is = absurd is
-refusal_of_lane s (on_lane n g step) moment Faults.Ended is = absurd is
+refusal_of_lane s (opens role peer name twa size window) moment any3 is = absurd is
 refusal_of_lane s (on_lane n g step) moment (Faults.Fenced generation) is = tt
 refusal_of_lane s (on_lane n g step) moment (Faults.NoLane lane) is = tt
 refusal_of_lane s (on_lane n g step) moment (Faults.BusyLanes count) is = tt
 refusal_of_lane s (on_lane n g step) moment Faults.Unexpected is = tt
-refusal_of_lane s (on_lane n g step) moment (Faults.Spent last) is = absurd is
-refusal_of_lane s (on_lane n g step) moment Faults.Memory is = absurd is
+refusal_of_lane s (on_lane n g step) moment any3 is = absurd is
+refusal_of_lane s any1 moment f is = absurd is
 
 module _ (s : State) (n : ℕ) (g : Option ℕ) (step : LaneStep) (moment : ℕ) where
   no-lane-alone : lane_at n s.lanes.open_lanes ≡ None → (h : StepFault)
       → IsRefused s (on_lane n g step) moment h → h ≡ Faults.NoLane n
-  no-lane-alone none (Faults.Full a b) is = absurd is
-  no-lane-alone none Faults.Disk is = absurd is
-  no-lane-alone none Faults.Ended is = absurd is
   no-lane-alone none (Faults.Fenced generation) is =
       let both : ◌≡◌ {A = Option Lane} None (Some is.lane) = sym none ∙ is.lane_is in absurd cc
   no-lane-alone none (Faults.NoLane m) is = ap (λ (x : ℕ). Faults.NoLane x) is.0
-  no-lane-alone none (Faults.BusyLanes count) is = absurd is
   no-lane-alone none Faults.Unexpected is =
       let both : ◌≡◌ {A = Option Lane} None (Some is.lane) = sym none ∙ is.lane_is in absurd cc
-  no-lane-alone none (Faults.Spent last) is = absurd is
-  no-lane-alone none Faults.Memory is = absurd is
+  no-lane-alone none any1 is = absurd is
 
   fenced-alone : (lane : Lane) → lane_at n s.lanes.open_lanes ≡ Some lane → IsFenced lane g step → (h : StepFault)
       → IsRefused s (on_lane n g step) moment h → h ≡ Faults.Fenced lane.generation
-  fenced-alone lane found fenced (Faults.Full a b) is = absurd is
-  fenced-alone lane found fenced Faults.Disk is = absurd is
-  fenced-alone lane found fenced Faults.Ended is = absurd is
   fenced-alone lane found fenced (Faults.Fenced generation) is =
       let same = one-lane (lane_at n s.lanes.open_lanes) is.lane lane is.lane_is found in
       ap (λ (x : ℕ). Faults.Fenced x) (is.generation_is ∙ ap (λ (l : Lane). l.generation) same)
   fenced-alone lane found fenced (Faults.NoLane m) is =
       let both : ◌≡◌ {A = Option Lane} None (Some lane) = sym is.1 ∙ found in absurd cc
-  fenced-alone lane found fenced (Faults.BusyLanes count) is = absurd is
   fenced-alone lane found fenced Faults.Unexpected is =
       let same = one-lane (lane_at n s.lanes.open_lanes) lane is.lane found is.lane_is in
       absurd (is.current (subst (λ (l : Lane). IsFenced l g step) same fenced))
-  fenced-alone lane found fenced (Faults.Spent last) is = absurd is
-  fenced-alone lane found fenced Faults.Memory is = absurd is
+  fenced-alone lane found fenced any3 is = absurd is
 
   unexpected-alone : IsUnexpected s n g step moment → (h : StepFault)
       → IsRefused s (on_lane n g step) moment h → h ≡ Faults.Unexpected
-  unexpected-alone not_now (Faults.Full a b) is = absurd is
-  unexpected-alone not_now Faults.Disk is = absurd is
-  unexpected-alone not_now Faults.Ended is = absurd is
   unexpected-alone not_now (Faults.Fenced generation) is =
       let same = one-lane (lane_at n s.lanes.open_lanes) is.lane not_now.lane is.lane_is not_now.lane_is in
       absurd (not_now.current (subst (λ (l : Lane). IsFenced l g step) same is.fenced))
   unexpected-alone not_now (Faults.NoLane m) is =
       let both : ◌≡◌ {A = Option Lane} None (Some not_now.lane) = sym is.1 ∙ not_now.lane_is in absurd cc
-  unexpected-alone not_now (Faults.BusyLanes count) is = absurd is
   unexpected-alone not_now Faults.Unexpected is = refl
-  unexpected-alone not_now (Faults.Spent last) is = absurd is
-  unexpected-alone not_now Faults.Memory is = absurd is
+  unexpected-alone not_now any1 is = absurd is
 
   alone-on-lane : (f h : StepFault) → IsRefused s (on_lane n g step) moment f
       → IsRefused s (on_lane n g step) moment h → h ≡ f
-  alone-on-lane (Faults.Full a b) h is other = absurd is
-  alone-on-lane Faults.Disk h is other = absurd is
-  alone-on-lane Faults.Ended h is other = absurd is
   alone-on-lane (Faults.Fenced generation) h is other =
       fenced-alone is.lane is.lane_is is.fenced h other ∙ ap (λ (x : ℕ). Faults.Fenced x) (sym is.generation_is)
   alone-on-lane (Faults.NoLane m) h is other =
       no-lane-alone is.1 h other ∙ ap (λ (x : ℕ). Faults.NoLane x) (sym is.0)
-  alone-on-lane (Faults.BusyLanes count) h is other = absurd is
   alone-on-lane Faults.Unexpected h is other = unexpected-alone is h other
-  alone-on-lane (Faults.Spent last) h is other = absurd is
-  alone-on-lane Faults.Memory h is other = absurd is
+  alone-on-lane any0 h is other = absurd is
 
 module _ (s : State) (role : LaneRole) (peer : List ℕ) (name : Identifier) (twa : Bool) (size window moment : ℕ) where
   busy-alone : (count : ℕ) → IsRefused s (opens role peer name twa size window) moment (Faults.BusyLanes count)
       → (h : StepFault) → IsRefused s (opens role peer name twa size window) moment h → h ≡ Faults.BusyLanes count
-  busy-alone count busy (Faults.Full a b) is = absurd is
-  busy-alone count busy Faults.Disk is = absurd is
-  busy-alone count busy Faults.Ended is = absurd is
-  busy-alone count busy (Faults.Fenced generation) is = absurd is
-  busy-alone count busy (Faults.NoLane lane) is = absurd is
   busy-alone count busy (Faults.BusyLanes m) is = ap (λ (x : ℕ). Faults.BusyLanes x) (is.1 ∙ sym busy.1)
   busy-alone count busy Faults.Unexpected is = absurd (is busy.0)
-  busy-alone count busy (Faults.Spent last) is = absurd is
-  busy-alone count busy Faults.Memory is = absurd is
+  busy-alone count busy any2 is = absurd is
 
   never-alone : (MayOpen s role peer name size window → ⊥) → (h : StepFault)
       → IsRefused s (opens role peer name twa size window) moment h → h ≡ Faults.Unexpected
-  never-alone never (Faults.Full a b) is = absurd is
-  never-alone never Faults.Disk is = absurd is
-  never-alone never Faults.Ended is = absurd is
-  never-alone never (Faults.Fenced generation) is = absurd is
-  never-alone never (Faults.NoLane lane) is = absurd is
   never-alone never (Faults.BusyLanes m) is = absurd (never is.0)
   never-alone never Faults.Unexpected is = refl
-  never-alone never (Faults.Spent last) is = absurd is
-  never-alone never Faults.Memory is = absurd is
+  never-alone never any1 is = absurd is
 
   alone-opening : (f h : StepFault) → IsRefused s (opens role peer name twa size window) moment f
       → IsRefused s (opens role peer name twa size window) moment h → h ≡ f
-  alone-opening (Faults.Full a b) h is other = absurd is
-  alone-opening Faults.Disk h is other = absurd is
-  alone-opening Faults.Ended h is other = absurd is
-  alone-opening (Faults.Fenced generation) h is other = absurd is
-  alone-opening (Faults.NoLane lane) h is other = absurd is
   alone-opening (Faults.BusyLanes count) h is other = busy-alone count is h other
   alone-opening Faults.Unexpected h is other = never-alone is h other
-  alone-opening (Faults.Spent last) h is other = absurd is
-  alone-opening Faults.Memory h is other = absurd is
+  alone-opening any0 h is other = absurd is
 
 pub one_refusal : (s : State) (c : Class) (moment : ℕ) (f h : StepFault) → IsRefused s c moment f
     → IsRefused s c moment h → h ≡ f
-one_refusal s (records text) moment f h is other = absurd is
-one_refusal s (accepts octets) moment f h is other = absurd is
-one_refusal s (settles how i r) moment f h is other = absurd is
 one_refusal s (opens role peer name twa size window) moment f h is other =
     alone-opening s role peer name twa size window moment f h is other
 one_refusal s (on_lane n g step) moment f h is other = alone-on-lane s n g step moment f h is other
+one_refusal s any1 moment f h is other = absurd is

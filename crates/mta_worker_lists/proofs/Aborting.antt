@@ -108,29 +108,18 @@ turn_front t [] y k = tt
 turn_front t (z ∷ zs) y k = (k.0, turn_front (turn_after t z) zs y k.1)
 
 abort_allowed : (t : x.Turn) (a : AnyUnit) → TurnAllows t (Put a) → TurnAllows t abort
-abort_allowed x.Before_accept a k = tt
-abort_allowed x.Own a k = tt
-abort_allowed x.Theirs a k = tt
-abort_allowed x.Own_closing a k = tt
-abort_allowed x.Their_closing a k = tt
-abort_allowed x.Acknowledged a k = tt
 abort_allowed x.Over a k = absurd k
+abort_allowed any0 a k = tt
 
 -- behind a refused unit no two units are put
 not_ends : (ys : List SessionEvent) (y z : SessionEvent) → EndsSo ((ys ++ y ∷ []) ++ z ∷ []) → ⊥
 not_ends [] (Put (unit.Abort reason)) z k = k
 not_ends [] (Put a) z k = elim k [ ]
-not_ends [] (Got a) z k = k
-not_ends [] (Refused a) z k = k
-not_ends [] (Made p j step) z k = k
-not_ends [] (Looked n look) z k = k
+not_ends [] any1 z k = k
 not_ends (Put (unit.Abort reason) ∷ []) y z k = k
 not_ends (Put (unit.Abort reason) ∷ w ∷ ws) y z k = k
 not_ends (Put a ∷ ws) y z k = elim k [ ]
-not_ends (Got a ∷ ws) y z k = k
-not_ends (Refused a ∷ ws) y z k = k
-not_ends (Made p j step ∷ ws) y z k = k
-not_ends (Looked n look ∷ ws) y z k = k
+not_ends any0 y z k = k
 
 refuses_instead : (ys : List SessionEvent) (a : AnyUnit) → RefusesLast ((ys ++ Put a ∷ []) ++ abort ∷ [])
     → RefusesLast (ys ++ abort ∷ [])

@@ -89,10 +89,7 @@ last_none t q y i b = i
 
 step_none : (t : State) (s : OwnStep) (y : Reply) → IsBegin (ask_of t s) y → ⊥
 step_none t (own.Confirm n) y b = b
-step_none t own.Ending y b = b
-step_none t own.Sent y b = b
-step_none t own.Dropped y b = b
-step_none t (own.Refused kind) y b = b
+step_none t any1 y b = b
 
 as_asked : (q r : Ask) (y : Reply) → q ≡ r → IsBegin q y → IsBegin r y
 as_asked q r y e b = subst (λ (z : Ask). IsBegin z y) e b
@@ -166,10 +163,5 @@ module _ (spells : List ℕ → Bool) (history : List Seen) (n : ℕ) where
       → 0 < times k (made_by n seen a e) → BeginsAt history (n + k) l g → IsSome (step_by p e u)
   call_begins p t (action.Ask q) (event.Reply y) u from seen k l g asks is le hit b =
       asks_some p t q y u (asks q refl) (entry_begins q y (step_told q y) from seen k l g refl is.1 le hit b)
-  call_begins p t (action.Ask q) event.Go u from seen k l g asks is le hit b = none_hit k hit
-  call_begins p t (action.Ask q) (event.Unit x) u from seen k l g asks is le hit b = none_hit k hit
-  call_begins p t (action.Ask q) event.BadUnit u from seen k l g asks is le hit b = none_hit k hit
-  call_begins p t (action.Ask q) event.Over u from seen k l g asks is le hit b = none_hit k hit
-  call_begins p t (action.Put x) e u from seen k l g asks is le hit b = none_hit k hit
-  call_begins p t action.Read e u from seen k l g asks is le hit b = none_hit k hit
-  call_begins p t (action.Finish x) e u from seen k l g asks is le hit b = none_hit k hit
+  call_begins p t (action.Ask q) any3 u from seen k l g asks is le hit b = none_hit k hit
+  call_begins p t any2 e u from seen k l g asks is le hit b = none_hit k hit

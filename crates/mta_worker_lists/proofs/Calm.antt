@@ -120,15 +120,13 @@ excepts_calm t found a new x = elim x [ ]
 
 pub does_calm : (t : State) (w : Wanted) (a : Action) (new : State) → IsCalm w → Does t w a new
     → is_calm new.phase ≡ true
-does_calm t (Aborts reason) a new i d = there new _ d.1 refl
-does_calm t (Rejects reason) a new i d = there new _ d.1 refl
-does_calm t (Ends e) a new i d = there new _ d.1 refl
 does_calm t (Puts x u) a new i d = there new u d.1 i
 does_calm t (Asks q u) a new i d = there new u d.1 i
 does_calm t (Reads u) a new i d = there new u d.1 i
 does_calm t (Goes_on u) a new i d = goes_calm u a new d
 does_calm t (Excepts u found) a new i d = excepts_calm u found a new d
 does_calm t Never a new i d = absurd d
+does_calm t any1 a new i d = there new _ d.1 refl
 
 -- ---- a unit that is got
 

@@ -156,10 +156,9 @@ undone_at links b old fed new (Not_read is front) = subst (λ (z : Action). IsAt
 
 done_at : {L : Type 0} (links : LinkView L) (b : Action) (old : L) (fed : Feed) (e : Event) (new : L) (feed : Feed)
     → HasDone links b old fed e new feed → IsAtLink b
-done_at links (action.Put x) old fed e new feed h = tt
-done_at links action.Read old fed e new feed h = tt
 done_at links (action.Ask q) old fed e new feed h = absurd h
 done_at links (action.Finish y) old fed e new feed h = absurd h
+done_at links any1 old fed e new feed h = tt
 
 -- what came of its last action, and that no entry is made then
 pub record Stopped_at {L : Type 0} (links : LinkView L) (spells : List ℕ → Bool) (history : List Seen)

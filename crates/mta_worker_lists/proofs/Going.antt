@@ -104,22 +104,17 @@ since_knows t first seen s front history state calm k =
 -- what was put for an action, and what comes of it
 put_true : (spells : List ℕ → Bool) (history : List Seen) (n : ℕ) (p : Phase) (b : Action) (e : Event)
     (piece : List ℕ) → PutFor b e piece → ComesTrue spells history n n p b e
-put_true spells history n p (action.Put u) e piece f = refl
-put_true spells history n p action.Read e piece f = refl
 put_true spells history n p (action.Ask q) e piece f = absurd f
-put_true spells history n p (action.Finish x) e piece f = refl
+put_true spells history n p any4 e piece f = refl
 
 put_by : (b : Action) (e : Event) (piece : List ℕ) → PutFor b e piece → PutBy b e piece
-put_by (action.Put u) e piece f = f
-put_by action.Read e piece f = f
 put_by (action.Ask q) e piece f = absurd f
 put_by (action.Finish x) e piece f = absurd f
+put_by any0 e piece f = f
 
 none_made : (n seen : ℕ) (b : Action) (e : Event) (piece : List ℕ) → PutFor b e piece → made_by n seen b e ≡ []
-none_made n seen (action.Put u) e piece f = refl
-none_made n seen action.Read e piece f = refl
 none_made n seen (action.Ask q) e piece f = absurd f
-none_made n seen (action.Finish x) e piece f = refl
+none_made n seen any2 e piece f = refl
 
 module _ (spells : List ℕ → Bool) (history : List Seen) (n : ℕ) where
   -- the calls of a session that was carried on: no entry is made in them, and no lane is given

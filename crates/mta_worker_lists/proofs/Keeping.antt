@@ -134,16 +134,11 @@ first_keeps : (t : State) (e : Event) (a : Action) (new : State) → AnswersAt p
     → Does (counted t e) (wanted_in phase.Begin (counted t e) e) a new
     → (new.lane ≡ t.lane) × (new.generation ≡ t.generation)
 first_keeps t event.Go a new i d = begins_keeps t.side t a new d
-first_keeps t (event.Unit u) a new i d = absurd (never i)
-first_keeps t event.BadUnit a new i d = absurd (never i)
-first_keeps t (event.Reply y) a new i d = absurd (never i)
-first_keeps t event.Over a new i d = absurd (never i)
+first_keeps t any1 a new i d = absurd (never i)
 
 pub not_first : (a : Action) → awaits a phase.Begin ≡ true → ⊥
 not_first (action.Put u) i = never i
-not_first action.Read i = never i
-not_first (action.Ask q) i = never i
-not_first (action.Finish y) i = never i
+not_first any0 i = never i
 
 module _ (lane generation : ℕ) where
   on_next : (t : Turn) → IsTurn t → Where t.before.phase

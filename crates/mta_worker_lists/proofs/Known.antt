@@ -208,10 +208,9 @@ leaves checkpoint n octets some has = by_size (checkpoint == 0) refl has
 
 pub carries_on : (checkpoint : ℕ) (state : SendState) (octets : List ℕ) → FitsState checkpoint state (length octets)
     → CarriesOn (1024 * checkpoint) state octets
-carries_on checkpoint (Idle last) octets fits = tt
 carries_on checkpoint (Sending k c) octets fits = leaves checkpoint c octets fits.0 fits.1
 carries_on checkpoint (Ending k c) octets fits = leaves checkpoint c octets fits.0 fits.1
-carries_on checkpoint (Dropping k) octets fits = tt
+carries_on checkpoint any1 octets fits = tt
 
 -- the octets of what it carries are those that are counted
 pub carried_total : (t : Option Transfer) (k : ℕ) (o : Carried) → Carries t k o → total_of t ≡ length o.octets

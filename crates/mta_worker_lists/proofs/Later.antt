@@ -36,13 +36,8 @@ module _ (spells : List ℕ → Bool) (history : List Seen) (n low : ℕ) (less 
       → low ≤ from → 0 < times k (made_by n seen a e) → (low ≤ n + k) × (n + k < seen)
   call_later p (action.Ask q) (event.Reply y) from seen k is le hit =
       entry_later q y (step_told q y) from seen k is.1 le hit
-  call_later p (action.Ask q) event.Go from seen k is le hit = none_hit k hit
-  call_later p (action.Ask q) (event.Unit u) from seen k is le hit = none_hit k hit
-  call_later p (action.Ask q) event.BadUnit from seen k is le hit = none_hit k hit
-  call_later p (action.Ask q) event.Over from seen k is le hit = none_hit k hit
-  call_later p (action.Put u) e from seen k is le hit = none_hit k hit
-  call_later p action.Read e from seen k is le hit = none_hit k hit
-  call_later p (action.Finish y) e from seen k is le hit = none_hit k hit
+  call_later p (action.Ask q) any2 from seen k is le hit = none_hit k hit
+  call_later p any1 e from seen k is le hit = none_hit k hit
 
   calls_later : (cs : List Call) (a : Action) (from k : ℕ) → AllComeTrue spells history from a cs → low ≤ from
       → 0 < times k (made_in n a cs) → (low ≤ n + k) × (n + k < seen_of from cs)

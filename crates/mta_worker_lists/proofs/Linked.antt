@@ -378,8 +378,7 @@ module _ {D C L : Type 0} (disks : DiskView D) (clocks : ClockView C) (links : L
       bind_refused lane y f old new (subst (λ (z : Ask). Answered disks clocks z old y new) (same_ask _ q e) a) is
   next_refused (next.Close lane g) q y f old new e a is =
       close_refused lane g y f old new (subst (λ (z : Ask). Answered disks clocks z old y new) (same_ask _ q e) a) is
-  next_refused next.NoPeer q y f old new e a is = none_asked q e
-  next_refused (next.NoNumber last) q y f old new e a is = none_asked q e
+  next_refused any0 q y f old new e a is = none_asked q e
 
   same_entries : (old new : Shown D C) → new ≡ old → new.entries ≡ old.entries
   same_entries old new e = ap (λ (s : Shown D C). s.entries) e

@@ -99,12 +99,11 @@ module _ (spells : List ℕ → Bool) (history : List Seen) (n : ℕ) where
 
     over_none : (mid upto : ℕ) (u : State) (b : Action) (o : IsOver spells history mid upto u b) (k l g : ℕ)
         → Listed lane generation b u → n ≤ mid → 0 < times k (made_over n o) → BeginsAt history (n + k) l g → ⊥
-    over_none mid upto u b (Ended e is same) k l g listed le hit begins = none_hit k hit
-    over_none mid upto u b (Stopped came aborts at may going same) k l g listed le hit begins = none_hit k hit
     over_none mid upto u b (Untold q y aborts is comes answers going) k l g listed le hit begins =
         held_none u.phase u (turned b listed.turn) (event.Reply y) u listed.holds
         (call_begins spells history n u.phase u (action.Ask q) (event.Reply y) u mid upto k l g
         (λ z e. asked_of spells history n b u listed.asked z (is ∙ e)) comes le hit begins)
+    over_none mid upto u b any4 k l g listed le hit begins = none_hit k hit
 
     -- and behind its last call
     pub all_none : (cs : List Call) (a : Action) (t u : State) (b : Action) (from mid upto : ℕ)

@@ -84,10 +84,7 @@ last_place t q x i e = absurd i
 
 own_place : (t : State) (step : OwnStep) → place_of (ask_of t step) ≡ Some (place t.lane t.generation)
 own_place t (own.Confirm n) = refl
-own_place t own.Ending = refl
-own_place t own.Sent = refl
-own_place t own.Dropped = refl
-own_place t (own.Refused kind) = refl
+own_place t any1 = refl
 
 -- It is the session's lane, in a session that has one.
 pub asked_place : (p : Phase) (t : State) (q : Ask) (x : Place) → IsAskOf p t q → place_of q ≡ Some x

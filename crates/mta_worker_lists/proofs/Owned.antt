@@ -97,13 +97,8 @@ module _ (spells : List ℕ → Bool) (history : List Seen) (n : ℕ) where
       → IsOwnStep g step → Found p t lane g (n + k) step (come_of a turn seen e)
   call_piece p t (action.Ask q) (event.Reply y) turn from seen k lane g step asked is le l get piece =
       ask_piece p t q y turn from seen k lane g step (asked q refl) is le l get piece
-  call_piece p t (action.Ask q) event.Go turn from seen k lane g step asked is le l get piece = none_hit k l
-  call_piece p t (action.Ask q) (event.Unit u) turn from seen k lane g step asked is le l get piece = none_hit k l
-  call_piece p t (action.Ask q) event.BadUnit turn from seen k lane g step asked is le l get piece = none_hit k l
-  call_piece p t (action.Ask q) event.Over turn from seen k lane g step asked is le l get piece = none_hit k l
-  call_piece p t (action.Put u) e turn from seen k lane g step asked is le l get piece = none_hit k l
-  call_piece p t action.Read e turn from seen k lane g step asked is le l get piece = none_hit k l
-  call_piece p t (action.Finish y) e turn from seen k lane g step asked is le l get piece = none_hit k l
+  call_piece p t (action.Ask q) any3 turn from seen k lane g step asked is le l get piece = none_hit k l
+  call_piece p t any2 e turn from seen k lane g step asked is le l get piece = none_hit k l
 
   -- ---- all calls
 

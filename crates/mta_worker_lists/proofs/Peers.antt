@@ -20,11 +20,8 @@ peer_kept s lane moment step = search rules
 
 peers_lead : (n : ℕ) (peer : List ℕ) (s : Spool) (c : Class) (moment : ℕ)
     → LeadsOn (λ lane. lane.peer ≡ peer) n s c moment
-peers_lead n peer s (records text) moment = tt
-peers_lead n peer s (accepts octets) moment = tt
-peers_lead n peer s (settles how i r) moment = tt
-peers_lead n peer s (opens x other reference twa checkpoint window) moment = tt
 peers_lead n peer s (on_lane m g step) moment = λ lane same current needs is. peer_kept s lane moment step ∙ is
+peers_lead n peer s any3 moment = tt
 
 -- ---- two lengths of one history
 

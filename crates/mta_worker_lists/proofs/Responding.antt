@@ -119,13 +119,8 @@ module _ (spells : List ℕ → Bool) (history : List Seen) where
       by_step : (o : Option StepOn) → StandsAs spells history from seen q y o → from ≤ seen
       by_step (Some z) s = omega (arith, s.later)
       by_step None s = s.later
-  comes_later p (action.Ask q) event.Go from seen is = omega (arith, is)
-  comes_later p (action.Ask q) (event.Unit u) from seen is = omega (arith, is)
-  comes_later p (action.Ask q) event.BadUnit from seen is = omega (arith, is)
-  comes_later p (action.Ask q) event.Over from seen is = omega (arith, is)
-  comes_later p (action.Put u) e from seen is = omega (arith, is)
-  comes_later p action.Read e from seen is = omega (arith, is)
-  comes_later p (action.Finish y) e from seen is = omega (arith, is)
+  comes_later p (action.Ask q) any2 from seen is = omega (arith, is)
+  comes_later p any1 e from seen is = omega (arith, is)
 
   -- ---- all calls
 

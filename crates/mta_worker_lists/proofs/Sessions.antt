@@ -144,10 +144,7 @@ begins_none n m g j step b piece = b
 first_none : (own : List ℕ) (units : ℕ) (e : Event) (a : Action) (new : State)
     → Answers (new_responder own units) e → Follows (new_responder own units) e a new → has_none new.phase ≡ true
 first_none own units event.Go a new i f = ap (λ (z : State). has_none z.phase) f.1
-first_none own units (event.Unit u) a new i f = absurd (never i)
-first_none own units event.BadUnit a new i f = absurd (never i)
-first_none own units (event.Reply y) a new i f = absurd (never i)
-first_none own units event.Over a new i f = absurd (never i)
+first_none own units any2 a new i f = absurd (never i)
 
 module _ (spells : List ℕ → Bool) (history : List Seen) (n : ℕ) where
   not_piece : (x : Turn) (a : Action) (from seen k l g : ℕ) (step : SeenStep) → Asked a x.before
@@ -235,12 +232,11 @@ module _ (spells : List ℕ → Bool) (history : List Seen) (n : ℕ) where
   over_piece : (mid upto : ℕ) (u : State) (b : Action) (o : IsOver spells history mid upto u b) (k l g : ℕ)
       (step : SeenStep) → Asked b u → n ≤ mid → 0 < times k (made_over n o)
       → slice_get history (n + k) ≡ Some (On l step) → IsOwnStep g step → Found u.phase u l g (n + k) step (told_over o)
-  over_piece mid upto u b (Ended e is same) k l g step asked le hit get piece = none_hit k hit
-  over_piece mid upto u b (Stopped came aborts at may going same) k l g step asked le hit get piece = none_hit k hit
   over_piece mid upto u b (Untold q y aborts is comes answers going) k l g step asked le hit get piece =
       call_piece spells history n u.phase u (action.Ask q) (event.Reply y)
       (record { before = u; event = event.Reply y; action = action.Ask q; after = u }) mid upto k l g step
       (λ z e. asked_of spells history n b u asked z (is ∙ e)) comes le hit get piece
+  over_piece mid upto u b any4 k l g step asked le hit get piece = none_hit k hit
 
   -- ---- calls of a session that has its lane, and what is behind them
 

@@ -82,20 +82,16 @@ none_listed spells history t calls lane l (Responds own units at before cs c x b
 
 go_alone : (e : Event) → is_go e ≡ true → e ≡ event.Go
 go_alone event.Go i = refl
-go_alone (event.Unit u) i = absurd (never i)
-go_alone event.BadUnit i = absurd (never i)
-go_alone (event.Reply y) i = absurd (never i)
-go_alone event.Over i = absurd (never i)
+go_alone any0 i = absurd (never i)
 
 first_go : (p : Phase) (t : State) (e : Event) → p ≡ phase.Begin → AnswersAt p t e → e ≡ event.Go
 first_go p t e q a = go_alone e (subst (λ (z : Phase). AnswersAt z t e) q a)
 
 link_true : (spells : List ℕ → Bool) (history : List Seen) (n : ℕ) (p : Phase) (b : Action) (e : Event) → IsAtLink b
     → ComesTrue spells history n n p b e
-link_true spells history n p (action.Put x) e at = refl
-link_true spells history n p action.Read e at = refl
 link_true spells history n p (action.Ask q) e at = absurd at
 link_true spells history n p (action.Finish y) e at = absurd at
+link_true spells history n p any4 e at = refl
 
 -- ---- the law
 
@@ -182,8 +178,7 @@ module _ (whole : ListsAreGood) (may_stop : ListsMayStop) (spells : List ℕ →
       subst IsGood list_is
       (came_good c cs u action.Read from mid upto event.BadUnit true is_list led same at (read_bad u.phase u w.waits)
       (λ e. going) (subst Owns (sym list_is) owns))
-  given_up_good c cs u (action.Ask q) from mid upto new is_list led same at going w owns = absurd at
-  given_up_good c cs u (action.Finish y) from mid upto new is_list led same at going w owns = absurd at
+  given_up_good c cs u any3 from mid upto new is_list led same at going w owns = absurd at
 
   -- before its first call
   first_good : (u : State) → IsListOf spells history t [] lane l → u ≡ t → Owns (with_last l abort)

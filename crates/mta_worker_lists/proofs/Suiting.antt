@@ -118,10 +118,7 @@ room_suits t q x asked k = absurd asked
 
 step_suits : (t : Session) (step : OwnStep) (x : Reply) → Suits (ask_of t step) x → AnswersStep step x
 step_suits t (own.Confirm n) x k = k
-step_suits t own.Ending x k = k
-step_suits t own.Sent x k = k
-step_suits t own.Dropped x k = k
-step_suits t (own.Refused kind) x k = k
+step_suits t any1 x k = k
 
 -- So it meets the session's condition, where the session does not look at its lane right behind a Bind.
 pub suits_answers : (p : Phase) (t : Session) (q : Ask) (x : Reply) → is_asking p ≡ true → is_looking p ≡ false

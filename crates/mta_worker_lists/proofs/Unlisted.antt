@@ -59,15 +59,13 @@ Unlisted Never = Unit {0}
 
 does_unlisted : (t : State) (w : Wanted) (a : Action) (new : State) → Unlisted w → Does t w a new
     → has_none new.phase ≡ true
-does_unlisted t (Aborts reason) a new i d = ap (λ (z : State). has_none z.phase) d.1
-does_unlisted t (Rejects reason) a new i d = ap (λ (z : State). has_none z.phase) d.1
-does_unlisted t (Ends e) a new i d = ap (λ (z : State). has_none z.phase) d.1
 does_unlisted t (Puts x u) a new i d = ap (λ (z : State). has_none z.phase) d.1 ∙ i
 does_unlisted t (Asks q u) a new i d = ap (λ (z : State). has_none z.phase) d.1 ∙ i
 does_unlisted t (Reads u) a new i d = ap (λ (z : State). has_none z.phase) d.1 ∙ i
 does_unlisted t (Goes_on u) a new i d = absurd i
 does_unlisted t (Excepts u found) a new i d = absurd i
 does_unlisted t Never a new i d = absurd d
+does_unlisted t any1 a new i d = ap (λ (z : State). has_none z.phase) d.1
 
 either : (b : Bool) (x y : Wanted) → Unlisted x → Unlisted y → Unlisted (cond b x y)
 either true x y i j = i

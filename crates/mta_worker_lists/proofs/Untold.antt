@@ -58,12 +58,11 @@ module _ (spells : List ℕ → Bool) (history : List Seen) (n : ℕ) where
   over_theirs : (steps : List Step) (mid upto : ℕ) (u : State) (b : Action) (o : IsOver spells history mid upto u b)
       (k lane g : ℕ) → n ≤ mid → 0 < times k (made_over n o) → BeginsAt history (n + k) lane g → IsGivenOver steps o
       → WasOpenAs Responder lane steps
-  over_theirs steps mid upto u b (Ended e is same) k lane g le hit begins given = none_hit k hit
-  over_theirs steps mid upto u b (Stopped came aborts at may going same) k lane g le hit begins given = none_hit k hit
   over_theirs steps mid upto u b (Untold q y aborts is comes answers going) k lane g le hit begins given =
       by_reply (λ m. WasOpenAs Responder m steps) q y mid upto k lane g
       (entry_begins spells history n q y (step_told q y) mid upto k lane g refl comes.1 le hit begins) comes.1 le hit
       begins given
+  over_theirs steps mid upto u b any5 k lane g le hit begins given = none_hit k hit
 
   own_theirs : (steps : List Step) (from mid upto : ℕ) (t u : State) (b : Action) (calls : List Call)
       (new : IsNewAt history from t) (o : IsOver spells history mid upto u b) (k lane g : ℕ)

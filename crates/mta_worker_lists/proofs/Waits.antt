@@ -33,9 +33,7 @@ Asked a t = Unit {0}
 
 pub asked_next : (a : Action) (t : State) (e : Event) (new : State) → Follows t e a new → Asked a new
 asked_next (action.Ask q) t e new f = asks_are_of_phase t e q new f
-asked_next (action.Put u) t e new f = tt
-asked_next action.Read t e new f = tt
-asked_next (action.Finish y) t e new f = tt
+asked_next any0 t e new f = tt
 
 pub record Waits (a : Action) (t : State) : Type 0 where
   pub due : Due t.phase t.recv.stage

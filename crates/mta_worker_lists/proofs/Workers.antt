@@ -77,16 +77,15 @@ verdict_plain s (Verdicts.Deliver place) i r m at lane x step e get =
     else_on lane step (ap (λ (z : Step). seen_of s (class_of z) at) (same_due (steps.Deliver i r m) x e) ∙ get)
 verdict_plain s (Verdicts.Expand place) i r m at lane x step e get =
     else_on lane step (ap (λ (z : Step). seen_of s (class_of z) at) (same_due (steps.Expand i r m) x e) ∙ get)
-verdict_plain s (Verdicts.Relay place) i r m at lane x step e get = none_some x e
 verdict_plain s Verdicts.Affirm i r m at lane x step e get =
     else_on lane step (ap (λ (z : Step). seen_of s (class_of z) at) (same_due (steps.Affirm i r m) x e) ∙ get)
 verdict_plain s (Verdicts.NonDeliver reason diagnostic) i r m at lane x step e get =
     else_on lane step (ap (λ (z : Step). seen_of s (class_of z) at) (same_due (steps.Report i r m) x e) ∙ get)
-verdict_plain s (Verdicts.Hold until) i r m at lane x step e get = none_some x e
 verdict_plain s Verdicts.Back i r m at lane x step e get =
     else_on lane step (ap (λ (z : Step). seen_of s (class_of z) at) (same_due (steps.Back i r m) x e) ∙ get)
 verdict_plain s Verdicts.Discard i r m at lane x step e get =
     else_on lane step (ap (λ (z : Step). seen_of s (class_of z) at) (same_due (steps.Discard i r m) x e) ∙ get)
+verdict_plain s any1 i r m at lane x step e get = none_some x e
 
 abandon_plain : (n k lane g : ℕ) (step : SeenStep) → On n (Abandon k) ≡ On lane step → IsOwnStep g step → ⊥
 abandon_plain n k lane g step e piece =
@@ -108,16 +107,15 @@ verdict_for_none s (Verdicts.Deliver place) i r m at x e =
     subst (λ (z : Step). IsForNone (seen_of s (class_of z) at)) (same_due (steps.Deliver i r m) x e) tt
 verdict_for_none s (Verdicts.Expand place) i r m at x e =
     subst (λ (z : Step). IsForNone (seen_of s (class_of z) at)) (same_due (steps.Expand i r m) x e) tt
-verdict_for_none s (Verdicts.Relay place) i r m at x e = none_some x e
 verdict_for_none s Verdicts.Affirm i r m at x e =
     subst (λ (z : Step). IsForNone (seen_of s (class_of z) at)) (same_due (steps.Affirm i r m) x e) tt
 verdict_for_none s (Verdicts.NonDeliver reason diagnostic) i r m at x e =
     subst (λ (z : Step). IsForNone (seen_of s (class_of z) at)) (same_due (steps.Report i r m) x e) tt
-verdict_for_none s (Verdicts.Hold until) i r m at x e = none_some x e
 verdict_for_none s Verdicts.Back i r m at x e =
     subst (λ (z : Step). IsForNone (seen_of s (class_of z) at)) (same_due (steps.Back i r m) x e) tt
 verdict_for_none s Verdicts.Discard i r m at x e =
     subst (λ (z : Step). IsForNone (seen_of s (class_of z) at)) (same_due (steps.Discard i r m) x e) tt
+verdict_for_none s any1 i r m at x e = none_some x e
 
 due_for_none : (s now : State) (m at : ℕ) (x : Step) → IsNext now m x → IsForNone (seen_of s (class_of x) at)
 due_for_none s now m at x next =
