@@ -8,7 +8,7 @@ ghost use Rattle.mta_session.specs.Fits.{ValuesFit};
 
 use crate::ask::Reply;
 use crate::event::Event;
-use crate::holder::{is_idle, last_of};
+use crate::got_with_turn::{is_idle, last_of};
 use crate::machine::Machine;
 use crate::peer::Peer;
 use crate::phase::{OwnStep, Phase};

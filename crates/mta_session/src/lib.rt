@@ -5,25 +5,25 @@
 //!
 //! `specs/Wanted.antt` is the table of what each event calls for, phase by phase, and `specs/Follows.antt` what is done
 //! for it, in the words of the rules of the two ends of a lane. Each phase group has a file: `opening_initiator.rt`,
-//! `opening_responder.rt` and `recovering.rt`; with the turn `holding.rt` (what is put) and `holder.rt` (what is got);
-//! without it `listening.rt` (what is answered) and `listener.rt` (what is got, Give and Close); `replies.rt` for the
-//! answers of the spool; `step.rt` and `told.rt` hand an event to its phase.
+//! `opening_responder.rt` and `recovering.rt`; with the turn `put_with_turn.rt` (what the own activity calls for) and
+//! `got_with_turn.rt`; without it `put_without_turn.rt` (what is answered) and `got_without_turn.rt` (also Give and
+//! Close); `replies.rt` for the answers of the spool; `step.rt` and `told.rt` hand an event to its phase.
 #![tactic(auto)]
 
 mod ask;
 mod event;
 mod expects;
-mod holder;
-mod holding;
+mod got_with_turn;
+mod got_without_turn;
 mod limits;
-mod listener;
-mod listening;
 mod machine;
 mod opening_initiator;
 mod opening_responder;
 mod password;
 mod peer;
 mod phase;
+mod put_with_turn;
+mod put_without_turn;
 mod receiving;
 mod recovering;
 mod replies;

@@ -12,7 +12,7 @@ ghost use Rattle.mta_session.specs.Fits.{Fits, FitsAt, IsReady, HasPlan, StepsAs
 
 use crate::ask::Ask;
 use crate::event::{Action, SessionEnd, Side};
-use crate::holder::{is_idle, last_of};
+use crate::got_with_turn::{is_idle, last_of};
 use crate::machine::Machine;
 use crate::password::is_same_password;
 use crate::phase::Phase;

@@ -9,7 +9,7 @@ ghost use Rattle.mta_session.specs.Fits.{AgreedFor, FitsAt, StepsAs, IsReady, Ha
 
 use crate::ask::Ask;
 use crate::event::Action;
-use crate::holder::is_idle;
+use crate::got_with_turn::is_idle;
 use crate::machine::Machine;
 use crate::phase::Phase;
 use crate::receiving::{RecvLink, Stage};

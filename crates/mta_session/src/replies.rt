@@ -13,7 +13,7 @@ ghost use Rattle.mta_session.specs.Fits.{Fits, FitsAt, IsLive, HoldsFree, StepsA
 
 use crate::ask::Ask;
 use crate::event::Action;
-use crate::holder::last_of;
+use crate::got_with_turn::last_of;
 use crate::machine::Machine;
 use crate::phase::{Found, OwnStep, Phase};
 use crate::receiving::Stage;

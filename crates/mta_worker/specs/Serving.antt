@@ -53,7 +53,7 @@ pub record At (L : Type 0) : Type 0 where
   -- why the worker ends behind it, if it does
   pub halt : Option Halt
 
--- the reason of the Abort by which a worker gives a session up (X.228): temporaryProblem where memory is wanted
+-- the reason of the Abort by which a worker gives a session up (X.228): localSystemProblem where memory is wanted
 abbrev pub reason_of : Lost → ℕ
 reason_of losts.Memory = 0
 reason_of losts.Lane = 4

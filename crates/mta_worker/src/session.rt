@@ -24,8 +24,8 @@ use mta_units::{Frames, Unit};
 use std::alloc::Global;
 use std::sync::Wait;
 
-// The reasons of an Abort (X.228): a temporary problem, and a protocol error.
-const TEMPORARY_PROBLEM: u32 = 0;
+// The reasons of an Abort (X.228): a local system problem, and a protocol error.
+const LOCAL_SYSTEM_PROBLEM: u32 = 0;
 
 const PROTOCOL_ERROR: u32 = 4;
 
@@ -41,7 +41,7 @@ fn reason_of(lost: Lost) -> u32
     ensures { result ≡ reason_of lost }
 {
     match lost {
-        Lost::Memory => TEMPORARY_PROBLEM,
+        Lost::Memory => LOCAL_SYSTEM_PROBLEM,
         Lost::Lane => PROTOCOL_ERROR,
     }
 }
