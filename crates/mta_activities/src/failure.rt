@@ -14,7 +14,7 @@ use mta_procedures::{
 };
 
 /// How an activity failed for its recipients.
-#[derive(Clone, Copy, Debug, Drop, PartialEq, Eq)]
+#[derive(Clone, Copy, Drop)]
 pub(crate) enum Failure {
     /// The peer found its octets too many.
     TooLong,

@@ -22,7 +22,7 @@ pub const LONGEST_APDU: u32 = 2_097_152;
 pub const LONGEST_STORED: u32 = 4_294_967_295;
 
 /// An APDU (X.411, MTS-APDU). The content of a message is lent where it stands in one piece.
-#[derive(Debug, Drop)]
+#[derive(Drop)]
 pub enum Apdu<'a> {
     Message(Message<'a>),
     Probe(Probe),

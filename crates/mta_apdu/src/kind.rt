@@ -6,7 +6,7 @@ ghost use Rattle.mta_apdu.specs.Apdus.{kind_of};
 use mta_ber::{Tag, is_tag_of};
 
 /// The choices of an APDU (X.411, MTS-APDU): `[0]`, `[1]` and `[2]`.
-#[derive(Clone, Copy, Debug, PartialEq, Eq)]
+#[derive(Clone, Copy)]
 pub enum ApduKind {
     OfMessage,
     OfReport,

@@ -16,7 +16,7 @@ use std::alloc::Global;
 use std::marker::Model;
 
 /// The fields so far.
-#[derive(Debug, Drop)]
+#[derive(Drop)]
 pub struct ExtRow {
     fields: Row<ExtField>,
 }

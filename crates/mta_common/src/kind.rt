@@ -14,7 +14,7 @@ use mta_names::{Code, ObjectId, primitive, read_code};
 use std::alloc::Global;
 
 /// A content type (X.411, ContentType): a number of 0 to 32,767, or an object identifier. It holds no other value.
-#[derive(Debug, Drop)]
+#[derive(Drop)]
 pub enum ContentKind {
     Number(Code),
     Oid(ObjectId),

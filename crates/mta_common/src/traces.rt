@@ -16,7 +16,7 @@ use std::alloc::Global;
 use std::marker::Model;
 
 /// The elements so far.
-#[derive(Debug, Drop)]
+#[derive(Drop)]
 pub struct TraceRow {
     elements: Row<TraceElement>,
 }

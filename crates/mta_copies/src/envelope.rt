@@ -14,7 +14,7 @@ use mta_recipient::Recipient;
 use std::alloc::Global;
 
 /// The parts of an envelope with memory of their own that every copy has in common.
-#[derive(Debug, Drop)]
+#[derive(Drop)]
 pub struct Kept {
     pub id: MtsId,
     pub originator: OrName,

@@ -8,7 +8,7 @@ use mta_ber::{Kind, Octets, ReadFault, View, bad, is_tag_of};
 use std::alloc::Global;
 
 /// The octets of a content (X.411, Content): those of the input itself where they stand there in one piece, else the segments joined.
-#[derive(Debug, Drop)]
+#[derive(Drop)]
 pub enum Content<'a> {
     Lent(&'a [u8]),
     Joined(Octets),

@@ -14,7 +14,6 @@ use std::marker::Model;
 
 /// What the envelope of a message or a probe has. What is absent is `None`, and what has a default is there. Moments are seconds from
 /// 1950-01-01 00:00:00 UTC, at most the last second of 2049.
-#[derive(Debug)]
 pub struct EnvelopeFields {
     /// message-identifier, or probe-identifier.
     pub id: MtsId,
@@ -76,7 +75,6 @@ impl Drop for EnvelopeFields {
 }
 
 /// The envelope of a message or a probe (X.411, MessageTransferEnvelope and ProbeTransferEnvelope).
-#[derive(Debug)]
 pub struct Envelope {
     fields: EnvelopeFields,
 }

@@ -8,7 +8,7 @@ use crate::place::Place;
 
 /// A message (X.411, Message): an envelope, which has no content length, a content, and the place of a content that is
 /// lent in the input that was read.
-#[derive(Debug, Drop)]
+#[derive(Drop)]
 pub struct Message<'a> {
     pub envelope: Envelope,
     pub content: Content<'a>,

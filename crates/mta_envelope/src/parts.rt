@@ -22,7 +22,7 @@ use mta_recipient::{Recipient, read_recipients};
 use std::alloc::Global;
 
 /// The components.
-#[derive(Clone, Copy, Debug, PartialEq, Eq)]
+#[derive(Clone, Copy)]
 pub enum EnvelopePart {
     Originator,
     Identifier,
@@ -40,7 +40,7 @@ pub enum EnvelopePart {
 }
 
 /// Whether the envelope is that of a probe, and the components so far.
-#[derive(Debug, Drop)]
+#[derive(Drop)]
 pub struct EnvelopeParts {
     pub probe: bool,
     pub originator: Option<OrName>,

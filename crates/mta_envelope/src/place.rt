@@ -7,7 +7,7 @@ ghost use Rattle.mta_envelope.specs.Places.{place_in};
 use mta_ber::View;
 
 /// The offsets in the input of the first octet of a content and of the first octet behind it.
-#[derive(Clone, Copy, Debug, PartialEq, Eq)]
+#[derive(Clone, Copy)]
 pub struct Place {
     pub from: u32,
     pub to: u32,

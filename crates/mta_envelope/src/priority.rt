@@ -10,7 +10,7 @@ use mta_ber::{Memory, ReadFault, View, Writer, put_int};
 use mta_names::{primitive, read_number};
 
 /// The priority of a message (X.411, Priority).
-#[derive(Clone, Copy, Debug, PartialEq, Eq)]
+#[derive(Clone, Copy, PartialEq, Eq)]
 pub enum Priority {
     Normal,
     NonUrgent,

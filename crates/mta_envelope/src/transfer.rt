@@ -54,7 +54,7 @@ fn read_set(alloc: Global, part: &View) -> Result<Envelope, ReadFault>
 }
 
 /// A content with its place.
-#[derive(Debug, Drop)]
+#[derive(Drop)]
 struct PlacedContent<'a> {
     content: Content<'a>,
     place: Option<Place>,

@@ -12,7 +12,7 @@ use std::alloc::Global;
 use std::marker::Model;
 
 /// The expansions so far.
-#[derive(Debug, Drop)]
+#[derive(Drop)]
 pub struct Expansions {
     items: Row<Expansion>,
 }

@@ -15,7 +15,7 @@ use mta_names::Row;
 use std::alloc::Global;
 
 /// The extension fields of an envelope, each kept as it stood, and what those say that are read.
-#[derive(Debug, Drop)]
+#[derive(Drop)]
 pub struct Extensions {
     pub fields: Row<ExtField>,
     /// What the field of type 26 says, dl-expansion-history.

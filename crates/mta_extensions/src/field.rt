@@ -19,7 +19,7 @@ use mta_names::{ObjectId, read_code};
 use std::alloc::Global;
 
 /// Which of the extensions that are read are there already.
-#[derive(Clone, Copy, Debug, PartialEq, Eq)]
+#[derive(Clone, Copy)]
 pub struct Held {
     pub history: bool,
     pub latest: bool,
@@ -27,14 +27,14 @@ pub struct Held {
 }
 
 /// A field, and what its value says.
-#[derive(Debug, Drop)]
+#[derive(Drop)]
 pub struct Told {
     pub field: ExtFields,
     pub said: Said,
 }
 
 /// The components of a field.
-#[derive(Clone, Copy, Debug, PartialEq, Eq)]
+#[derive(Clone, Copy)]
 pub enum FieldPart {
     FieldType,
     Criticality,
@@ -43,7 +43,7 @@ pub enum FieldPart {
 
 /// What stood before the field, the offset of the field, the place of the last component that was read, 0 where there is none, and
 /// the components so far.
-#[derive(Debug, Drop)]
+#[derive(Drop)]
 pub struct FieldParts {
     pub held: Held,
     pub at: u32,

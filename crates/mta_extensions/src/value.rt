@@ -13,7 +13,7 @@ use mta_names::{Row, read_number};
 use std::alloc::Global;
 
 /// Which of the extensions that are read a type is.
-#[derive(Clone, Copy, Debug, PartialEq, Eq)]
+#[derive(Clone, Copy, PartialEq, Eq)]
 pub enum Topic {
     /// dl-expansion-history, 26.
     ExpansionHistory,
@@ -26,7 +26,7 @@ pub enum Topic {
 }
 
 /// What a value says.
-#[derive(Debug, Drop)]
+#[derive(Drop)]
 pub enum Said {
     /// The expansions so far, 1 to 512 of them, the first one first.
     History(Row<Expansion>),
@@ -39,7 +39,7 @@ pub enum Said {
 }
 
 /// A value: its whole element, and what it says.
-#[derive(Debug, Drop)]
+#[derive(Drop)]
 pub struct ExtValue {
     pub octets: Octets,
     pub said: Said,

@@ -18,7 +18,6 @@ use std::alloc::Global;
 use std::marker::Model;
 
 /// What a domain has.
-#[derive(Debug)]
 pub struct DomainFields {
     /// Two letters, or three digits.
     pub country: Label,
@@ -40,7 +39,6 @@ impl Drop for DomainFields {
 }
 
 /// A global domain identifier (X.411): each label is such as it may be.
-#[derive(Debug)]
 pub struct Domain {
     fields: DomainFields,
 }
@@ -64,7 +62,7 @@ impl Model for Domain {
 }
 
 /// The components of a domain.
-#[derive(Clone, Copy, Debug, PartialEq, Eq)]
+#[derive(Clone, Copy)]
 pub enum DomainPart {
     Country,
     Admd,
@@ -72,7 +70,7 @@ pub enum DomainPart {
 }
 
 /// The place of the last component that was read, 0 where there is none, and the components so far.
-#[derive(Debug, Drop)]
+#[derive(Drop)]
 pub struct DomainParts {
     pub last: u8,
     pub country: Option<Label>,

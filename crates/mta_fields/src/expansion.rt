@@ -14,7 +14,6 @@ use std::alloc::Global;
 use std::marker::Model;
 
 /// What an expansion has.
-#[derive(Debug)]
 pub struct ExpansionFields {
     /// The name of the list.
     pub name: OrName,
@@ -30,7 +29,6 @@ impl Drop for ExpansionFields {
 }
 
 /// An expansion of a distribution list (X.411, DLExpansion).
-#[derive(Debug)]
 pub struct Expansion {
     fields: ExpansionFields,
 }
@@ -54,14 +52,14 @@ impl Model for Expansion {
 }
 
 /// The components of an expansion.
-#[derive(Clone, Copy, Debug, PartialEq, Eq)]
+#[derive(Clone, Copy)]
 pub enum ExpansionPart {
     Name,
     Time,
 }
 
 /// The place of the last component that was read, 0 where there is none, and the components so far.
-#[derive(Debug, Drop)]
+#[derive(Drop)]
 pub struct ExpansionParts {
     pub last: u8,
     pub name: Option<OrName>,

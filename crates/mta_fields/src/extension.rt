@@ -20,14 +20,13 @@ use std::alloc::Global;
 use std::marker::Model;
 
 /// The type of an extension: a standard number of 0 to 32,767, or an object identifier. It holds no other value.
-#[derive(Debug, Drop)]
+#[derive(Drop)]
 pub enum ExtKind {
     Standard(Code),
     Private(ObjectId),
 }
 
 /// What an extension field has.
-#[derive(Debug)]
 pub struct ExtFields {
     pub kind: ExtKind,
     /// Critical for submission.
@@ -54,7 +53,6 @@ impl Drop for ExtFields {
 }
 
 /// An extension field (X.411, ExtensionField), whose value is kept unread.
-#[derive(Debug)]
 pub struct ExtField {
     fields: ExtFields,
 }
@@ -78,7 +76,7 @@ impl Model for ExtField {
 }
 
 /// The components of a field.
-#[derive(Clone, Copy, Debug, PartialEq, Eq)]
+#[derive(Clone, Copy)]
 pub enum ExtPart {
     ExtType,
     Criticality,
@@ -86,7 +84,7 @@ pub enum ExtPart {
 }
 
 /// The place of the last component that was read, 0 where there is none, and the components so far.
-#[derive(Debug, Drop)]
+#[derive(Drop)]
 pub struct ExtParts {
     pub last: u8,
     pub kind: Option<ExtKind>,

@@ -16,7 +16,6 @@ use std::alloc::Global;
 use std::marker::Model;
 
 /// What an MTS identifier has.
-#[derive(Debug)]
 pub struct MtsIdFields {
     pub domain: Domain,
     /// 1 to 32 characters of IA5String.
@@ -34,7 +33,6 @@ impl Drop for MtsIdFields {
 }
 
 /// An MTS identifier (X.411): the domain that gave it, and an identifier of that domain's own.
-#[derive(Debug)]
 pub struct MtsId {
     fields: MtsIdFields,
 }
@@ -58,14 +56,14 @@ impl Model for MtsId {
 }
 
 /// The components of an identifier.
-#[derive(Clone, Copy, Debug, PartialEq, Eq)]
+#[derive(Clone, Copy)]
 pub enum MtsIdPart {
     Issuer,
     Local,
 }
 
 /// The place of the last component that was read, 0 where there is none, and the components so far.
-#[derive(Debug, Drop)]
+#[derive(Drop)]
 pub struct MtsIdParts {
     pub last: u8,
     pub domain: Option<Domain>,

@@ -17,14 +17,13 @@ use mta_names::{constructed, primitive, put_around, put_raw_if, read_number};
 use std::alloc::Global;
 
 /// The routing action of a trace element.
-#[derive(Clone, Copy, Debug, PartialEq, Eq)]
+#[derive(Clone, Copy)]
 pub enum Action {
     Relayed,
     Rerouted,
 }
 
 /// What a domain did with a message. Moments are seconds from 1950-01-01 00:00:00 UTC, at most the last second of 2049.
-#[derive(Debug)]
 pub struct Supplied {
     pub arrival: u64,
     pub action: Action,
@@ -55,7 +54,7 @@ impl Drop for Supplied {
 }
 
 /// The components.
-#[derive(Clone, Copy, Debug, PartialEq, Eq)]
+#[derive(Clone, Copy)]
 pub enum SuppliedPart {
     Arrival,
     Deferred,
@@ -66,7 +65,7 @@ pub enum SuppliedPart {
 }
 
 /// The components so far.
-#[derive(Debug, Drop)]
+#[derive(Drop)]
 pub struct SuppliedParts {
     pub arrival: Option<u64>,
     pub deferred: Option<u64>,

@@ -17,7 +17,6 @@ use std::alloc::Global;
 use std::marker::Model;
 
 /// What a trace element has.
-#[derive(Debug)]
 pub struct TraceFields {
     pub domain: Domain,
     pub supplied: Supplied,
@@ -34,7 +33,6 @@ impl Drop for TraceFields {
 }
 
 /// A trace element (X.411, TraceInformationElement): a domain, and what it did with the message.
-#[derive(Debug)]
 pub struct TraceElement {
     fields: TraceFields,
 }
@@ -58,14 +56,14 @@ impl Model for TraceElement {
 }
 
 /// The components of an element.
-#[derive(Clone, Copy, Debug, PartialEq, Eq)]
+#[derive(Clone, Copy)]
 pub enum TracePart {
     Place,
     Information,
 }
 
 /// The place of the last component that was read, 0 where there is none, and the components so far.
-#[derive(Debug, Drop)]
+#[derive(Drop)]
 pub struct TraceParts {
     pub last: u8,
     pub domain: Option<Domain>,

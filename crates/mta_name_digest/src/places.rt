@@ -6,7 +6,7 @@ use std::collections::BTreeMap;
 use std::marker::Model;
 
 /// An index of places by digests. Where two places had one digest it is no longer whole, and says nothing.
-#[derive(Debug, Drop)]
+#[derive(Drop)]
 pub struct Places {
     map: BTreeMap<u64, u32>,
     whole: bool,

@@ -17,7 +17,7 @@ use mta_names::Row;
 use std::alloc::Global;
 
 /// What has to follow.
-#[derive(Debug, Drop)]
+#[derive(Drop)]
 pub enum Stage {
     /// More of a key, of which these octets have been read.
     Front(Octets),
@@ -28,7 +28,7 @@ pub enum Stage {
 }
 
 /// The parts that have ended, what stands before the next one, and what has to follow.
-#[derive(Debug, Drop)]
+#[derive(Drop)]
 pub struct Draft {
     pub parts: Row<Part>,
     pub place: Place,

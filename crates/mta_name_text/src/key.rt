@@ -8,7 +8,7 @@ use crate::shape::Shape;
 use mta_ber::TextClass;
 
 /// The keys, in the order in which their parts stand.
-#[derive(Clone, Copy, Debug, PartialEq, Eq)]
+#[derive(Clone, Copy, PartialEq, Eq)]
 pub enum Key {
     Country,
     Admd,

@@ -6,7 +6,7 @@ ghost use Rattle.mta_name_text.specs.Grammar.{start, behind, follows};
 use crate::key::Key;
 
 /// What a text is the text form of.
-#[derive(Clone, Copy, Debug)]
+#[derive(Clone, Copy)]
 pub enum Grammar {
     /// A name: parts in the order of their keys, given name, initials and generation only behind a surname.
     Names,
@@ -17,7 +17,7 @@ pub enum Grammar {
 
 /// What stands before a part: the place of the last key, how many more parts of that key may follow, and whether there is a
 /// surname.
-#[derive(Clone, Copy, Debug)]
+#[derive(Clone, Copy)]
 pub struct Place {
     pub last: u8,
     pub left: u8,

@@ -8,7 +8,7 @@ ghost use Rattle.mta_name_text.specs.Shapes.{is_no_equals, is_value, is_begun};
 use mta_ber::{TextClass, is_of_class};
 
 /// What a value may be.
-#[derive(Clone, Copy, Debug)]
+#[derive(Clone, Copy)]
 pub enum Shape {
     /// Two letters, or three digits.
     Country,

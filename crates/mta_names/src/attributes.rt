@@ -5,7 +5,6 @@ use mta_ber::{Octets, Text};
 use std::marker::Model;
 
 /// A label of a country or of a domain: digits and spaces as NumericString, or characters of PrintableString.
-#[derive(Debug)]
 pub struct Label {
     pub numeric: bool,
     pub text: Text,
@@ -22,7 +21,6 @@ impl Drop for Label {
 }
 
 /// What a personal-name has.
-#[derive(Debug)]
 pub struct PersonFields {
     /// 1 to 40 characters of PrintableString.
     pub surname: Text,
@@ -48,7 +46,6 @@ impl Drop for PersonFields {
 
 /// A personal-name: a surname of 1 to 40 characters of PrintableString, and at most a given name of 1 to 16, initials
 /// of 1 to 5 and a generation qualifier of 1 to 3.
-#[derive(Debug)]
 pub struct Person {
     fields: PersonFields,
 }
@@ -93,7 +90,6 @@ impl Person {
 }
 
 /// What a domain-defined attribute has.
-#[derive(Debug)]
 pub struct PairFields {
     /// The type: 1 to 8 characters of PrintableString.
     pub kind: Text,
@@ -109,7 +105,6 @@ impl Drop for PairFields {
 }
 
 /// A domain-defined attribute: a type of 1 to 8 and a value of 1 to 128 characters of PrintableString.
-#[derive(Debug)]
 pub struct Pair {
     fields: PairFields,
 }
@@ -154,7 +149,6 @@ impl Pair {
 }
 
 /// What an extension attribute has that is not read.
-#[derive(Debug)]
 pub struct ExtraFields {
     /// Its type: 0, or 2 to 32,767.
     pub number: u32,
@@ -171,7 +165,6 @@ impl Drop for ExtraFields {
 
 /// An extension attribute that is not read: its type, 0 or 2 to 32,767, and the explicit tag around its value, `[1]`,
 /// whole, which is constructed (X.690, 8.14).
-#[derive(Debug)]
 pub struct Extra {
     fields: ExtraFields,
 }
@@ -216,7 +209,7 @@ impl Extra {
 }
 
 /// An extension attribute as it is read.
-#[derive(Debug, Drop)]
+#[derive(Drop)]
 pub enum Attribute {
     /// common-name, type 1: 1 to 64 characters of PrintableString.
     Common(Text),
@@ -225,7 +218,6 @@ pub enum Attribute {
 }
 
 /// The attributes of a name. What is absent is `None`, and a list that is absent is empty.
-#[derive(Debug)]
 pub struct Attributes {
     /// country-name: two letters, or three digits as NumericString.
     pub country: Option<Label>,
@@ -277,7 +269,7 @@ impl Drop for Attributes {
 }
 
 /// The labels of a name's domain.
-#[derive(Debug, Drop)]
+#[derive(Drop)]
 pub struct DomainLabels {
     pub country: Option<Label>,
     pub admd: Option<Label>,

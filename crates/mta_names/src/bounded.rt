@@ -11,7 +11,7 @@ use std::marker::Model;
 
 /// A number of 0 to 32,767, as X.411 bounds built-in content types, types of extensions and of users, reasons and
 /// diagnostics. Contracts see the number.
-#[derive(Clone, Copy, Debug, PartialEq, Eq)]
+#[derive(Clone, Copy, PartialEq, Eq)]
 pub struct Code {
     number: u32,
 }
@@ -51,7 +51,7 @@ impl Code {
 }
 
 /// The contents octets of an object identifier (X.690, 8.19), seen by contracts as their list.
-#[derive(Debug, Drop)]
+#[derive(Drop)]
 pub struct ObjectId {
     octets: Octets,
 }

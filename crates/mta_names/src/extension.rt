@@ -18,14 +18,14 @@ use mta_ber::{
 use std::alloc::Global;
 
 /// The value of an attribute: a common name, or the octets of the explicit tag that is kept.
-#[derive(Debug, Drop)]
+#[derive(Drop)]
 pub enum AttributeValue {
     Name(Text),
     Raw(Octets),
 }
 
 /// An attribute so far: whether a common name is there already, the offset of the attribute, its type, and its value.
-#[derive(Debug, Drop)]
+#[derive(Drop)]
 pub struct AttributeParts {
     pub taken: bool,
     pub at: u32,
@@ -34,14 +34,14 @@ pub struct AttributeParts {
 }
 
 /// The type and the value of an attribute.
-#[derive(Debug, Drop)]
+#[derive(Drop)]
 pub struct AttributeFields {
     pub number: u32,
     pub value: AttributeValue,
 }
 
 /// The attributes so far.
-#[derive(Debug, Drop)]
+#[derive(Drop)]
 pub struct ExtensionParts {
     pub common: Option<Text>,
     pub extras: Row<Extra>,

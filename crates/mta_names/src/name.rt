@@ -9,7 +9,6 @@ use std::alloc::Global;
 use std::marker::Model;
 
 /// An O/R name: attributes, each with the characters and the size that it may have.
-#[derive(Debug)]
 pub struct OrName {
     pub(crate) attributes: Attributes,
 }

@@ -13,7 +13,7 @@ use mta_ber::{
 use std::alloc::Global;
 
 /// The type and the value so far.
-#[derive(Debug, Drop)]
+#[derive(Drop)]
 pub struct PairParts {
     pub kind: Option<Text>,
     pub value: Option<Text>,

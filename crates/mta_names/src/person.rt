@@ -15,7 +15,7 @@ use mta_ber::{
 use std::alloc::Global;
 
 /// The components of a personal name.
-#[derive(Clone, Copy, Debug, PartialEq, Eq)]
+#[derive(Clone, Copy)]
 pub enum PersonPart {
     Surname,
     Given,
@@ -24,7 +24,7 @@ pub enum PersonPart {
 }
 
 /// The components so far.
-#[derive(Debug, Drop)]
+#[derive(Drop)]
 pub struct PersonParts {
     pub surname: Option<Text>,
     pub given: Option<Text>,

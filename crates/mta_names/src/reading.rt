@@ -15,7 +15,7 @@ use mta_ber::{
 use std::alloc::Global;
 
 /// The components of a name.
-#[derive(Clone, Copy, Debug, PartialEq, Eq)]
+#[derive(Clone, Copy)]
 pub enum NamePart {
     Standard,
     Pairs,
@@ -24,7 +24,7 @@ pub enum NamePart {
 }
 
 /// The place of the last component that was read, 0 where there is none, and the attributes so far.
-#[derive(Debug, Drop)]
+#[derive(Drop)]
 pub struct NameParts {
     pub last: u8,
     pub attributes: Attributes,

@@ -17,7 +17,7 @@ use mta_ber::{
 use std::alloc::Global;
 
 /// The standard attributes.
-#[derive(Clone, Copy, Debug, PartialEq, Eq)]
+#[derive(Clone, Copy)]
 pub enum StandardPart {
     Country,
     Admd,
@@ -31,7 +31,7 @@ pub enum StandardPart {
 }
 
 /// The place of the last attribute that was read, 0 where there is none, and the attributes so far.
-#[derive(Debug, Drop)]
+#[derive(Drop)]
 pub struct StandardParts {
     pub last: u8,
     pub attributes: Attributes,

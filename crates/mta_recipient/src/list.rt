@@ -16,7 +16,7 @@ use std::alloc::Global;
 use std::marker::Model;
 
 /// The recipients so far.
-#[derive(Debug, Drop)]
+#[derive(Drop)]
 pub struct Recipients {
     items: Row<Recipient>,
 }

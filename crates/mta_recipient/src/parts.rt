@@ -16,7 +16,7 @@ use mta_names::{OrName, Row, read_number};
 use std::alloc::Global;
 
 /// The components.
-#[derive(Clone, Copy, Debug, PartialEq, Eq)]
+#[derive(Clone, Copy)]
 pub enum RecipientPart {
     Addressee,
     Number,
@@ -26,7 +26,7 @@ pub enum RecipientPart {
 }
 
 /// The components so far.
-#[derive(Debug, Drop)]
+#[derive(Drop)]
 pub struct RecipientParts {
     pub name: Option<OrName>,
     pub number: Option<u32>,

@@ -19,7 +19,6 @@ use std::alloc::Global;
 use std::marker::Model;
 
 /// What a recipient has.
-#[derive(Debug)]
 pub struct RecipientFields {
     pub name: OrName,
     /// originally-specified-recipient-number: 1 to 32,767.
@@ -46,7 +45,6 @@ impl Drop for RecipientFields {
 }
 
 /// A recipient of a message or a probe (X.411, PerRecipientMessageTransferFields).
-#[derive(Debug)]
 pub struct Recipient {
     fields: RecipientFields,
 }

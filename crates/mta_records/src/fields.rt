@@ -20,7 +20,7 @@ use std::alloc::{AllocFailed, Global};
 const LONGEST_REFERENCE: usize = 1_024;
 
 /// Why no step was read: a field that begins where this many octets were left, or want of memory.
-#[derive(Clone, Copy, Debug, PartialEq, Eq)]
+#[derive(Clone, Copy, Debug)]
 pub enum Short {
     Left(usize),
     Memory,

@@ -4,7 +4,7 @@ ghost use Rattle.std.specs.Prelude.{◌≡◌};
 ghost use Rattle.mta_records.specs.Kind.{octet_of, kind_at};
 
 /// The kind of a record, one for each kind of step; its number is its kind octet.
-#[derive(Clone, Copy, Debug, PartialEq, Eq)]
+#[derive(Clone, Copy, Debug)]
 pub enum RecordKind {
     Tables = 1,
     Accept = 2,

@@ -7,7 +7,6 @@ use mta_names::{OrName, Row};
 use mta_reported::Reported;
 
 /// What a report has.
-#[derive(Debug)]
 pub struct ReportFields {
     /// The identifier of the report itself.
     pub id: MtsId,

@@ -15,7 +15,6 @@ use std::alloc::Global;
 use std::marker::Model;
 
 /// A report (X.411, Report): what came of a message or a probe for some of its recipients.
-#[derive(Debug)]
 pub struct Report {
     fields: ReportFields,
 }

@@ -9,7 +9,7 @@ use std::marker::Model;
 
 /// A moment: seconds from 1950-01-01 00:00:00 UTC, at most the last second of 2049. Contracts see the number of
 /// seconds.
-#[derive(Clone, Copy, Debug, PartialEq, Eq)]
+#[derive(Clone, Copy, PartialEq, Eq)]
 pub struct Moment {
     seconds: u64,
 }

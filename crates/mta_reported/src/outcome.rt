@@ -16,7 +16,7 @@ use std::alloc::Global;
 
 /// What came of a message for a recipient (X.411, ReportType): numbers are 0 to 32,767, and a type of user of 0 is
 /// public. It holds no other value.
-#[derive(Debug, Drop)]
+#[derive(Drop)]
 pub enum Outcome {
     Delivery {
         moment: Moment,

@@ -21,7 +21,6 @@ use std::alloc::Global;
 use std::marker::Model;
 
 /// What a recipient of whom is reported has.
-#[derive(Debug)]
 pub struct ReportedFields {
     /// The actual recipient.
     pub name: OrName,
@@ -60,7 +59,6 @@ impl Drop for ReportedFields {
 }
 
 /// A recipient of whom is reported (X.411, PerRecipientReportTransferFields).
-#[derive(Debug)]
 pub struct Reported {
     fields: ReportedFields,
 }

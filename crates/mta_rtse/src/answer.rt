@@ -18,7 +18,7 @@ use mta_ber::{
 use std::alloc::Global;
 
 /// The components so far.
-#[derive(Debug, Drop)]
+#[derive(Drop)]
 pub struct AnswerParts {
     pub checkpoint: Option<u32>,
     pub window: Option<u32>,

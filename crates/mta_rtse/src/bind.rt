@@ -17,7 +17,7 @@ use std::alloc::Global;
 const LONGEST_PASSWORD: usize = 62;
 
 /// The components so far; `context` says whether a security context was passed over.
-#[derive(Debug, Drop)]
+#[derive(Drop)]
 pub struct BindParts {
     pub name: Option<Word>,
     pub password: Option<Octets>,

@@ -19,7 +19,7 @@ use std::alloc::Global;
 const LONGEST_REFERENCE: usize = 1024;
 
 /// The components so far, and the place of the last one.
-#[derive(Debug, Drop)]
+#[derive(Drop)]
 pub struct ReferenceParts {
     pub last: u8,
     pub calling: Option<Octets>,

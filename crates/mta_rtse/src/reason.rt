@@ -11,7 +11,7 @@ use mta_ber::{Components, Kind, ReadFault, View, bad, is_primitive_tag, is_tag_o
 use std::alloc::Global;
 
 /// The components so far: the reason, and whether components `[1]` and `[2]` were passed over. Only where `aborts` may `[2]` stand.
-#[derive(Debug, Drop)]
+#[derive(Drop)]
 pub struct ReasonParts {
     pub aborts: bool,
     pub reason: Option<u32>,

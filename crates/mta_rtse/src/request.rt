@@ -20,7 +20,7 @@ use std::alloc::Global;
 pub const DEFAULT_WINDOW: u32 = 3;
 
 /// The components so far; `protocol` says whether an application protocol was passed over.
-#[derive(Debug, Drop)]
+#[derive(Drop)]
 pub struct RequestParts {
     pub checkpoint: Option<u32>,
     pub window: Option<u32>,

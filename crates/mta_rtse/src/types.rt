@@ -5,7 +5,7 @@ use mta_records::Reference;
 
 /// What an initiator asks for: an association of an agent that says nothing of itself, one of an agent with a name and a password of
 /// at most 62 octets, or a broken association again.
-#[derive(Debug, Drop)]
+#[derive(Drop)]
 pub enum Request {
     Null,
     Bind { name: Word, password: Octets },
@@ -13,7 +13,7 @@ pub enum Request {
 }
 
 /// What a responder answers to a request that it takes.
-#[derive(Debug, Drop)]
+#[derive(Drop)]
 pub enum Answer {
     Bind { name: Word, password: Octets },
     Recover(Reference),
@@ -21,7 +21,7 @@ pub enum Answer {
 
 /// RTORQ: the checkpoint size in units of 1,024 octets (0: no checkpoints) and the window that the initiator proposes, whether it asks
 /// for two-way alternate dialogue, and its request.
-#[derive(Debug, Drop)]
+#[derive(Drop)]
 pub struct OpenRequest {
     pub checkpoint: u32,
     pub window: u32,
@@ -30,7 +30,7 @@ pub struct OpenRequest {
 }
 
 /// RTOAC: the agreed checkpoint size and window, and the answer.
-#[derive(Debug, Drop)]
+#[derive(Drop)]
 pub struct OpenAnswer {
     pub checkpoint: u32,
     pub window: u32,

@@ -74,7 +74,7 @@ fn one(alloc: Global, reported: Reported) -> Result<Row<Reported>, Memory>
 }
 
 /// What a report has of its item and of the subject message.
-#[derive(Debug, Drop)]
+#[derive(Drop)]
 pub struct About {
     pub id: MtsId,
     pub subject: MtsId,

@@ -14,7 +14,7 @@ use mta_stations::Halt;
 use mta_tables::LineKind;
 
 /// Each with its status and its line.
-#[derive(Debug, Drop)]
+#[derive(Drop)]
 pub enum Stop {
     /// The words are outside the grammar.
     Usage,

@@ -3,7 +3,7 @@
 use mta_ber::{Octets, Word};
 
 /// A peer, as the line of the tables says.
-#[derive(Debug, Drop)]
+#[derive(Drop)]
 pub struct Peer {
     /// The name that it goes by.
     pub name: Word,

@@ -4,7 +4,7 @@ use mta_lane_send::SendState;
 use mta_records::Outgoing;
 
 /// What was put on the link.
-#[derive(Clone, Copy, Debug, Drop, PartialEq, Eq)]
+#[derive(Clone, Copy, Drop, PartialEq, Eq)]
 pub enum PutStage {
     /// No activity is under way.
     Quiet,

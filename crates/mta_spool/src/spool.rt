@@ -45,7 +45,7 @@ const LAST_NUMBER: usize = 4_294_967_295;
 const NEEDED_TO_ACCEPT: usize = 2;
 
 /// What a turn did.
-#[derive(Debug, Drop)]
+#[derive(Drop)]
 pub enum Turned {
     /// This step was due and is made.
     Did(Step),

@@ -32,7 +32,7 @@ use mta_replay::{Change, Kept, Rest, Rules};
 use std::alloc::Global;
 
 /// Why a step was not taken up.
-#[derive(Clone, Copy, Debug, PartialEq, Eq)]
+#[derive(Clone, Copy)]
 pub enum NotMade {
     /// The step is not possible.
     Impossible,

@@ -21,7 +21,6 @@ use std::alloc::Global;
 use std::marker::Model;
 
 /// The rules of X.411, clause 14, under tables.
-#[derive(Debug)]
 pub struct TableRules {
     tables: Tables,
 }

@@ -6,7 +6,7 @@ ghost use Rattle.mta_tables.specs.Words.{command_of};
 use crate::cut::is_text;
 
 /// What a line is about.
-#[derive(Clone, Copy, Debug)]
+#[derive(Clone, Copy)]
 pub enum Command {
     Domain,
     Name,

@@ -19,7 +19,7 @@ use mta_names::OrName;
 use std::alloc::Global;
 
 /// What the lines so far have said.
-#[derive(Debug, Drop)]
+#[derive(Drop)]
 pub struct Draft {
     pub domain: Option<Domain>,
     pub own: Option<Word>,

@@ -6,7 +6,7 @@ use mta_names::{OrName, Row};
 
 /// A peer: its name, the password that is sent to it and the one that is expected of it, and what is proposed to it
 /// or agreed with it at most.
-#[derive(Debug, Drop)]
+#[derive(Drop)]
 pub struct Peer {
     pub name: Word,
     /// 1 to 62 visible characters of IA5String.
@@ -22,7 +22,7 @@ pub struct Peer {
 }
 
 /// A mailbox: its word, and the O/R name whose messages it gets.
-#[derive(Debug, Drop)]
+#[derive(Drop)]
 pub struct Mailbox {
     pub word: Word,
     pub name: OrName,
@@ -30,7 +30,6 @@ pub struct Mailbox {
 
 /// A distribution list (X.402, clause 7): whether reports on its members go back to who posted, who may post, and its
 /// members. Where no pattern is given, everybody may post.
-#[derive(Debug)]
 pub struct MailList {
     pub word: Word,
     /// Whether reports go back to the poster, and are not kept here.
@@ -56,7 +55,7 @@ impl Drop for MailList {
 }
 
 /// Where the names of a route go.
-#[derive(Clone, Copy, Debug, PartialEq, Eq)]
+#[derive(Clone, Copy, Debug)]
 pub enum Target {
     /// They end here: a name that is no mailbox's and no list's is unknown.
     Here,
@@ -65,14 +64,14 @@ pub enum Target {
 }
 
 /// A route: the names that a pattern matches, and where they go.
-#[derive(Debug, Drop)]
+#[derive(Drop)]
 pub struct Route {
     pub pattern: Pattern,
     pub target: Target,
 }
 
 /// For how many seconds a message of each grade of delivery may wait, at most 31,536,000.
-#[derive(Clone, Copy, Debug, PartialEq, Eq)]
+#[derive(Clone, Copy)]
 pub struct Holds {
     pub urgent: u64,
     pub normal: u64,

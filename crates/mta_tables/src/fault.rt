@@ -48,7 +48,7 @@ impl From<Memory> for TablesFault {
 }
 
 /// Why a line was not taken.
-#[derive(Clone, Copy, Debug)]
+#[derive(Clone, Copy)]
 pub enum LineFault {
     Bad(LineKind),
     Memory,

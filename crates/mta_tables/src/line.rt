@@ -7,7 +7,7 @@ use mta_name_text::Pattern;
 use mta_names::OrName;
 
 /// The grade of delivery that a priority asks for (X.411, Priority).
-#[derive(Clone, Copy, Debug, PartialEq, Eq)]
+#[derive(Clone, Copy)]
 pub enum Grade {
     Urgent,
     Normal,
@@ -15,7 +15,7 @@ pub enum Grade {
 }
 
 /// A list, as its first line says it.
-#[derive(Debug, Drop)]
+#[derive(Drop)]
 pub struct ListHead {
     pub word: Word,
     pub back: bool,
@@ -23,35 +23,35 @@ pub struct ListHead {
 }
 
 /// Who may post to the list of this word.
-#[derive(Debug, Drop)]
+#[derive(Drop)]
 pub struct Permission {
     pub word: Word,
     pub pattern: Pattern,
 }
 
 /// A member of the list of this word.
-#[derive(Debug, Drop)]
+#[derive(Drop)]
 pub struct Membership {
     pub word: Word,
     pub name: OrName,
 }
 
 /// A route to the peer of this word, or to `here`.
-#[derive(Debug, Drop)]
+#[derive(Drop)]
 pub struct RouteLine {
     pub pattern: Pattern,
     pub peer: Option<Word>,
 }
 
 /// For how many seconds messages of a grade may wait.
-#[derive(Clone, Copy, Debug)]
+#[derive(Clone, Copy)]
 pub struct Hold {
     pub grade: Grade,
     pub seconds: u64,
 }
 
 /// What a line says.
-#[derive(Debug, Drop)]
+#[derive(Drop)]
 pub enum Line {
     /// Nothing: it is empty or begins with `#`.
     Nothing,
@@ -76,7 +76,7 @@ pub enum Line {
 }
 
 /// The words of a line about a peer.
-#[derive(Clone, Copy, Debug)]
+#[derive(Clone, Copy)]
 pub struct PeerWords<'a> {
     pub name: &'a [u8],
     pub send: &'a [u8],

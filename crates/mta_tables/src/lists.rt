@@ -13,7 +13,7 @@ use std::alloc::Global;
 use std::marker::Model;
 
 /// Distribution lists, in the order of their first lines, no two of one word, with indexes of their words and names.
-#[derive(Debug, Drop)]
+#[derive(Drop)]
 pub struct Lists {
     inner: Vec<MailList>,
     words: Places,

@@ -12,7 +12,7 @@ use std::alloc::Global;
 use std::marker::Model;
 
 /// Mailboxes, in the order of their lines, with indexes of their words and of their names.
-#[derive(Debug, Drop)]
+#[derive(Drop)]
 pub struct Mailboxes {
     inner: Vec<Mailbox>,
     words: Places,

@@ -7,7 +7,7 @@ use std::alloc::Global;
 use std::marker::Model;
 
 /// Peers, in the order of their lines.
-#[derive(Debug, Drop)]
+#[derive(Drop)]
 pub struct Peers {
     inner: Vec<Peer>,
 }

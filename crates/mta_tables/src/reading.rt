@@ -16,7 +16,6 @@ use mta_fields::Domain;
 use std::alloc::Global;
 
 /// What the lines of a text say.
-#[derive(Debug)]
 pub struct Lines {
     pub domain: Domain,
     pub own: Word,

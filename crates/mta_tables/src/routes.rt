@@ -13,7 +13,7 @@ use std::alloc::Global;
 use std::marker::Model;
 
 /// Routes, in the order of their lines, with an index of their patterns.
-#[derive(Debug, Drop)]
+#[derive(Drop)]
 pub struct Routes {
     inner: Vec<Route>,
     patterns: Places,

@@ -16,7 +16,6 @@ use std::marker::Model;
 
 /// What an agent knows of its surroundings, with the text that says so: its own domain and name, its peers, mailboxes
 /// and lists, the routes, and how long messages are held.
-#[derive(Debug)]
 pub struct Tables {
     text: Octets,
     lines: Lines,

@@ -12,7 +12,7 @@ use mta_links::Link;
 use mta_units::{Frames, Next, Unit};
 
 /// What came: a unit, octets that are none, or that no more comes.
-#[derive(Debug, Drop)]
+#[derive(Drop)]
 pub enum Heard {
     Unit(Unit),
     Bad,

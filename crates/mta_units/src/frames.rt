@@ -10,7 +10,6 @@ use std::alloc::Global;
 use std::marker::Model;
 
 /// A stream of units, fed in pieces of any size: what was fed and not yet taken. A fault, once found, is kept.
-#[derive(Debug)]
 pub struct Frames {
     alloc: Global,
     octets: Vec<u8>,

@@ -9,7 +9,7 @@ use crate::kind::UnitKind;
 pub const LONGEST_BODY: u32 = 2_097_157;
 
 /// Why no unit stands in a stream: its length is above the limit, its kind octet is no kind's, or its body is none of that kind.
-#[derive(Clone, Copy, Debug, PartialEq, Eq)]
+#[derive(Clone, Copy, Debug)]
 pub enum BadUnit {
     Length,
     Kind,

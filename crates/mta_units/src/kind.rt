@@ -4,7 +4,7 @@ ghost use Rattle.std.specs.Prelude.{◌≡◌};
 ghost use Rattle.mta_units.specs.Kind.{kind_number, kind_at};
 
 /// The kind of a unit; its number is its kind octet.
-#[derive(Clone, Copy, Debug, PartialEq, Eq)]
+#[derive(Clone, Copy)]
 pub enum UnitKind {
     Open = 1,
     Accept = 2,

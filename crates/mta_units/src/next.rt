@@ -4,7 +4,7 @@ use crate::front::BadUnit;
 use crate::unit::Unit;
 
 /// The next unit; that more octets are needed to tell; or that the unit that begins at an offset of the stream is none.
-#[derive(Debug, Drop)]
+#[derive(Drop)]
 pub enum Next {
     Unit(Unit),
     More,

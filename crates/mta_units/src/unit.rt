@@ -6,7 +6,7 @@ use mta_rtse::{Answer, Request};
 
 /// What an initiator opens a link with: its name, the reference that it makes, the checkpoint size in units of 1,024 octets and the
 /// window that it proposes, whether it asks for two-way alternate dialogue, and its request.
-#[derive(Debug, Drop)]
+#[derive(Drop)]
 pub struct OpenUnit {
     pub name: Word,
     pub reference: Reference,
@@ -18,7 +18,7 @@ pub struct OpenUnit {
 
 /// A unit. Activities and checkpoints are numbered; reasons are those of X.228; the kind and the place of an exception are those of
 /// the fault in the octets that were transferred.
-#[derive(Debug, Drop)]
+#[derive(Drop)]
 pub enum Unit {
     Open(OpenUnit),
     Accept {

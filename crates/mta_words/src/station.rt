@@ -15,7 +15,7 @@ use mta_tables::is_word;
 use std::alloc::Global;
 
 /// Where the links of a station come from.
-#[derive(Debug, Drop)]
+#[derive(Drop)]
 pub enum StationWord {
     /// `in:PORT`: peers call at this port of TCP, 1 to 65,535.
     In { port: u32 },

@@ -22,7 +22,7 @@ use mta_tables::is_word;
 use std::alloc::Global;
 
 /// What the words say.
-#[derive(Debug, Drop)]
+#[derive(Drop)]
 pub enum Words {
     /// `submit`: record the tables, and take the APDU on standard input.
     Submit,

@@ -30,7 +30,7 @@ const LOCAL_SYSTEM_PROBLEM: u32 = 0;
 const PROTOCOL_ERROR: u32 = 4;
 
 /// What a session came to: how it ended, where one was begun, and why its worker ends, if it does.
-#[derive(Debug, Drop)]
+#[derive(Drop)]
 pub struct Served {
     pub end: Option<SessionEnd>,
     pub halt: Option<Halt>,

@@ -18,7 +18,7 @@ use mta_session_run::tell;
 use mta_stations::{Halt, halt_of};
 
 /// Why a session is given up by its worker, which puts an Abort for it.
-#[derive(Clone, Copy, Debug, PartialEq, Eq)]
+#[derive(Clone, Copy)]
 pub enum Lost {
     /// No memory was left.
     Memory,
