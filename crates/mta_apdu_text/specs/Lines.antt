@@ -11,8 +11,8 @@ use Rattle.mta_fields.specs.declared.identifier.MtsIdFields.{MtsIdFields}
 use Rattle.mta_fields.specs.declared.supplied.Action.{Action}
 use Rattle.mta_fields.specs.declared.supplied.Action.TheVariants.{Relayed, Rerouted}
 use Rattle.mta_fields.specs.declared.trace.TraceFields.{TraceFields}
-use Rattle.mta_common.specs.declared.kind.ContentKind.{ContentKind}
-use Rattle.mta_common.specs.declared.kind.ContentKind.TheVariants.{Number, Oid}
+use Rattle.mta_envelope_common.specs.declared.kind.ContentKind.{ContentKind}
+use Rattle.mta_envelope_common.specs.declared.kind.ContentKind.TheVariants.{Number, Oid}
 use Rattle.mta_apdu_text.specs.Pieces.{hex_text, bit_digit, bits_text, escaped_text, moment_text, domain_text, id_text, word_if}
 
 -- the line of a part that may be absent

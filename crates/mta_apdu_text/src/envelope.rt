@@ -11,7 +11,7 @@ use crate::lines::{
 };
 use mta_ber::{Memory, Octets};
 use mta_envelope::{EnvelopeFields, Message, Priority, Probe};
-use mta_recipient::Recipient;
+use mta_envelope_recipient::Recipient;
 use std::alloc::Global;
 
 fn put_priority(out: &mut Octets, priority: Priority) -> Result<(), Memory>

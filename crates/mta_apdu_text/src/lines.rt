@@ -9,7 +9,7 @@ use crate::pieces::{
     put_number, put_word_if,
 };
 use mta_ber::{Bits, Memory, Octets, Text};
-use mta_common::ContentKind;
+use mta_envelope_common::ContentKind;
 use mta_fields::{Action, ExtField, ExtFields, ExtKind, MtsId, TraceElement};
 use mta_names::OrName;
 use std::alloc::Global;

@@ -9,7 +9,7 @@ use crate::lines::{
 };
 use crate::reported::put_reported_lines;
 use mta_ber::{Memory, Octets};
-use mta_common::ContentKind;
+use mta_envelope_common::ContentKind;
 use mta_report::{Report, ReportFields};
 use std::alloc::Global;
 

@@ -6,7 +6,7 @@ ghost use Rattle.mta_apdu_text.specs.Reporteds.{delivery_text, diagnostic_text, 
 use crate::pieces::{put_bits, put_moment, put_name, put_number};
 use mta_ber::{Memory, Octets};
 use mta_names::{Code, OrName};
-use mta_reported::{Moment, Outcome, Reported};
+use mta_report_recipient::{Moment, Outcome, Reported};
 use std::alloc::Global;
 
 #[tactic(auto, unfolding(crate::specs::Reporteds::delivery_text))]

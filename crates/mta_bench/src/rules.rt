@@ -8,10 +8,10 @@ use crate::message::message;
 use anyhow::{Result, anyhow};
 use mta_apdu::Apdu;
 use mta_ber::{Memory, Octets, ReadFault};
+use mta_copies::{outgoing_head, outgoing_message};
 use mta_envelope::Message;
-use mta_outgoing::{outgoing_head, outgoing_message};
+use mta_rules::{Verdict, verdict_message};
 use mta_tables::Tables;
-use mta_verdicts::{Verdict, verdict_message};
 use std::alloc::Global;
 use std::env::Args;
 

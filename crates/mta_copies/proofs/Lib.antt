@@ -1,2 +1,7 @@
 pub mod Same
 pub mod Envelopes
+pub mod Bits
+pub mod Copied
+pub mod Responsible
+pub mod Wholes
+pub mod ReportParts

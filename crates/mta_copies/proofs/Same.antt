@@ -2,8 +2,8 @@
 use Rattle.std.proofs.Common.{◌≡◌, ℕ, List, Option, ap, ◌∙◌}
 use Rattle.mta_names.specs.declared.attributes.Attributes.{Attributes}
 use Rattle.mta_fields.specs.declared.extension.ExtFields.{ExtFields}
-use Rattle.mta_reported.specs.declared.outcome.Outcome.{Outcome}
-use Rattle.mta_reported.specs.declared.reported.ReportedFields.{ReportedFields}
+use Rattle.mta_report_recipient.specs.declared.outcome.Outcome.{Outcome}
+use Rattle.mta_report_recipient.specs.declared.reported.ReportedFields.{ReportedFields}
 
 abbrev with_parts : ReportedFields → Attributes → Option (List ℕ) → Outcome → Option Attributes
     → Option (List ℕ) → List ExtFields → ReportedFields

@@ -6,11 +6,11 @@ ghost use Rattle.mta_copies.specs.Kept.{IsKept};
 use crate::fields::copied_id;
 use crate::parts::{copied_kind, copied_text};
 use mta_ber::{Memory, Octets, Text};
-use mta_common::ContentKind;
 use mta_envelope::EnvelopeFields;
+use mta_envelope_common::ContentKind;
+use mta_envelope_recipient::Recipient;
 use mta_fields::{Expansion, ExtField, MtsId, TraceElement};
 use mta_names::{OrName, Row, copied_raw};
-use mta_recipient::Recipient;
 use std::alloc::Global;
 
 /// The parts of an envelope with memory of their own that every copy has in common.

@@ -3,7 +3,7 @@
 ghost use Rattle.std.specs.Prelude.{◌≡◌, IfOk};
 
 use mta_ber::{Memory, Text};
-use mta_common::ContentKind;
+use mta_envelope_common::ContentKind;
 use std::alloc::Global;
 
 /// An equal text, where it is there.

@@ -5,7 +5,7 @@ ghost use Rattle.std.specs.Prelude.{◌≡◌, IfOk};
 use crate::fields::copied_fields;
 use mta_ber::Memory;
 use mta_names::{OrName, Row, copied_raw};
-use mta_reported::{Outcome, Reported, ReportedFields};
+use mta_report_recipient::{Outcome, Reported, ReportedFields};
 use std::alloc::Global;
 
 fn copied_outcome(outcome: &Outcome) -> Outcome

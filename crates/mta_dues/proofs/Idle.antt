@@ -12,7 +12,7 @@ use Rattle.mta_machine.specs.Machine.{last_tables, settled, verdict_at, verdict_
 use Rattle.mta_histories.specs.Lanes.{State}
 use Rattle.mta_histories.specs.Kept.{IsKept}
 use Rattle.mta_histories.specs.Due.{IsDue, step_of}
-use Rattle.mta_idle.specs.Idle.{calls_at_once, IsAtRest, IsIdle}
+use Rattle.mta_idle_laws.specs.Idle.{calls_at_once, IsAtRest, IsIdle}
 use Rattle.mta_dues.specs.Answers.{IsDueOf, IsFirstOf}
 use Rattle.mta_dues.proofs.Recipients.{expires, not_pending}
 

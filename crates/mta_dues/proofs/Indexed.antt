@@ -6,13 +6,13 @@ use Rattle.std.specs.BTreeSet.{BTreeSet}
 use Rattle.mta_machine.specs.Items.{ItemValue, Machine, numbered, has_status, is_pending}
 use Rattle.mta_machine.specs.Rules.{peer_word, route_word, verdict_of}
 use Rattle.mta_machine.specs.Machine.{MachineStep, machine_run, relay_by}
-use Rattle.mta_idle.specs.Idle.{IsIdle, IsIdleUntil}
-use Rattle.mta_idle.specs.Later.{GoesOn, IsLater}
-use Rattle.mta_idle.proofs.Kept.{idle_later, items_go_on, verdict_later}
-use Rattle.mta_idle.proofs.Stays.{idle_until_next, verdicts_stay}
-use Rattle.mta_agenda.specs.Agendas.{AgendaValue, is_active, IsAside, IsLetGo, IsPutOff, KeepsAll, Rests}
-use Rattle.mta_agenda.specs.Lines.{KeepsLines, Leaves, stands, StandsAll}
-use Rattle.mta_replay.specs.Asked.{AreRelays, AreRoutes}
+use Rattle.mta_idle_laws.specs.Idle.{IsIdle, IsIdleUntil}
+use Rattle.mta_idle_laws.specs.Later.{GoesOn, IsLater}
+use Rattle.mta_idle_laws.proofs.Kept.{idle_later, items_go_on, verdict_later}
+use Rattle.mta_idle_laws.proofs.Stays.{idle_until_next, verdicts_stay}
+use Rattle.mta_dues.specs.Agendas.{AgendaValue, is_active, IsAside, IsLetGo, IsPutOff, KeepsAll, Rests}
+use Rattle.mta_dues.specs.Lines.{KeepsLines, Leaves, stands, StandsAll}
+use Rattle.mta_state.specs.Asked.{AreRelays, AreRoutes}
 use Rattle.mta_dues.specs.declared.index.Index.{Index}
 use Rattle.mta_dues.specs.Index.{HasPending, IndexesStay, IsAtRestIn, IsIndexed, IsLeft, IsListedIn, IsReadyIn}
 use Rattle.mta_dues.specs.Index.{IsRoutedIn}

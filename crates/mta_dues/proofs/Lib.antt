@@ -8,3 +8,5 @@ pub mod Queues
 pub mod Recipients
 pub mod Relays
 pub mod Scans
+pub mod Keeping
+pub mod Standing

@@ -6,9 +6,9 @@ use Rattle.std.specs.BTreeSet.{BTreeSet}
 use Rattle.std.proofs.lemmas.Bool.{cases_lt}
 use Rattle.std.proofs.lemmas.Option.{slice_get_past}
 use Rattle.mta_machine.specs.Rules.{peer_word}
-use Rattle.mta_agenda.specs.Agendas.{AgendaValue, is_active}
-use Rattle.mta_agenda.specs.Lines.{stands, stands_in}
-use Rattle.mta_agenda.specs.Next.{IsAbove, IsBefore, IsNextIn, IsNextUnknown, lower, NoneBetween}
+use Rattle.mta_dues.specs.Agendas.{AgendaValue, is_active}
+use Rattle.mta_dues.specs.Lines.{stands, stands_in}
+use Rattle.mta_dues.specs.Next.{IsAbove, IsBefore, IsNextIn, IsNextUnknown, lower, NoneBetween}
 use Rattle.mta_dues.specs.declared.index.Index.{Index}
 use Rattle.mta_dues.specs.Index.{IsNextFor, IsNextLined, IsNextWaiting, IsPassed, NoneLinedBelow, StandsFor}
 

@@ -11,9 +11,9 @@ use Rattle.mta_machine.specs.Machine.{last_tables, relay_by}
 use Rattle.mta_histories.specs.Lanes.{State}
 use Rattle.mta_histories.specs.Kept.{IsKept}
 use Rattle.mta_histories.specs.Due.{IsDue, IsRoutedTo, IsToRelay}
-use Rattle.mta_agenda.specs.Agendas.{is_active, IsAllCalled, IsAside, Rests}
-use Rattle.mta_agenda.specs.Next.{IsNextIn}
-use Rattle.mta_replay.specs.Asked.{IsStored}
+use Rattle.mta_dues.specs.Agendas.{is_active, IsAllCalled, IsAside, Rests}
+use Rattle.mta_dues.specs.Next.{IsNextIn}
+use Rattle.mta_state.specs.Asked.{IsStored}
 use Rattle.mta_dues.specs.declared.index.Index.{Index}
 use Rattle.mta_dues.specs.Index.{IsIndexed, IsNextFor, IsNextWaiting, IsPassed}
 use Rattle.mta_dues.proofs.Idle.{nothing_of_idle}

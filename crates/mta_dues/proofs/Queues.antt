@@ -10,7 +10,7 @@ use Rattle.mta_machine.specs.Rules.{names_peer, route_word}
 use Rattle.mta_machine.specs.Machine.{last_tables}
 use Rattle.mta_histories.specs.Lanes.{State, activities_of}
 use Rattle.mta_histories.specs.Due.{IsAscending, IsRoutedTo, IsQueue, HasQueue, routed}
-use Rattle.mta_agenda.specs.Next.{IsBefore}
+use Rattle.mta_dues.specs.Next.{IsBefore}
 use Rattle.mta_dues.specs.Answers.{HasRouted, NoneRoutedUpTo, AreQueuedUpTo}
 use Rattle.mta_dues.proofs.Ascending.{named_before, named_last, named_more, ascends}
 use Rattle.mta_dues.proofs.Scans.{cases_le, past, not_there, no_such}

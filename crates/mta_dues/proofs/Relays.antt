@@ -10,7 +10,7 @@ use Rattle.mta_machine.specs.Rules.{verdict_of}
 use Rattle.mta_machine.specs.Machine.{last_tables, relay_by, relay_on, relay_at}
 use Rattle.mta_histories.specs.Lanes.{State, activities_of}
 use Rattle.mta_histories.specs.Due.{IsAscending, IsToRelay, IsBatch, IsNoBatch}
-use Rattle.mta_agenda.specs.Next.{IsBefore}
+use Rattle.mta_dues.specs.Next.{IsBefore}
 use Rattle.mta_dues.specs.Answers.{AreRelayedUpTo, AreRelayed, NoneRelayedUpTo, IsBatchOf}
 use Rattle.mta_dues.proofs.Ascending.{named_before, named_last, named_more, ascends}
 use Rattle.mta_dues.proofs.Scans.{cases_le, past, not_there, no_such}

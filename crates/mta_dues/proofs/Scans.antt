@@ -9,7 +9,7 @@ use Rattle.mta_histories.specs.Lanes.{State}
 use Rattle.mta_histories.specs.Kept.{IsKept}
 use Rattle.mta_histories.specs.Due.{IsDue, IsNext, IsQuiet, IsLowest}
 use Rattle.mta_records.specs.declared.step.Step.{Step}
-use Rattle.mta_agenda.specs.Next.{IsBefore}
+use Rattle.mta_dues.specs.Next.{IsBefore}
 use Rattle.mta_dues.specs.Answers.{IsDueOf, IsFirstIn, IsFirstOf, IsNextOf, NoneDueUpTo, NothingDueUpTo}
 use Rattle.mta_dues.proofs.Recipients.{not_pending}
 

@@ -4,10 +4,10 @@ use Rattle.std.specs.BTreeSet.{BTreeSet}
 use Rattle.mta_machine.specs.Items.{ItemValue, Machine, numbered, has_status, is_pending}
 use Rattle.mta_machine.specs.Rules.{peer_word, route_word, verdict_of}
 use Rattle.mta_machine.specs.Machine.{MachineStep, machine_run, relay_by}
-use Rattle.mta_idle.specs.Idle.{IsIdle}
-use Rattle.mta_agenda.specs.Agendas.{AgendaValue, is_active, IsAside, Rests}
-use Rattle.mta_agenda.specs.Lines.{KeepsLines, Leaves, stands}
-use Rattle.mta_agenda.specs.Next.{IsAbove, IsBefore}
+use Rattle.mta_idle_laws.specs.Idle.{IsIdle}
+use Rattle.mta_dues.specs.Agendas.{AgendaValue, is_active, IsAside, Rests}
+use Rattle.mta_dues.specs.Lines.{KeepsLines, Leaves, stands}
+use Rattle.mta_dues.specs.Next.{IsAbove, IsBefore}
 use Rattle.mta_dues.specs.declared.index.Index.{Index}
 
 -- ---- who is pending

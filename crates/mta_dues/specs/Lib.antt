@@ -1,2 +1,5 @@
 pub mod Answers
 pub mod Index
+pub mod Next
+pub mod Agendas
+pub mod Lines

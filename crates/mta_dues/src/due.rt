@@ -7,9 +7,9 @@ ghost use Rattle.mta_ber.specs.Times.{last_moment};
 ghost use Rattle.mta_machine.specs.Items.{is_pending_at, numbered};
 ghost use Rattle.mta_histories.specs.Lanes.{activities_of};
 ghost use Rattle.mta_histories.specs.Kept.{IsKept};
-ghost use Rattle.mta_items.specs.Parts.{machine_of};
-ghost use Rattle.mta_replay.specs.Kept.{state_of};
-ghost use Rattle.mta_replay.specs.Asked.{IsTextOf};
+ghost use Rattle.mta_state.specs.Parts.{machine_of};
+ghost use Rattle.mta_state.specs.Kept.{state_of};
+ghost use Rattle.mta_state.specs.Asked.{IsTextOf};
 ghost use Rattle.mta_dues.specs.Answers.{IsDueOf, is_sending_for, step_by};
 
 use mta_ber::Memory;
@@ -17,7 +17,7 @@ use mta_lanes::{Lane, Lanes};
 use mta_machine::Item;
 use mta_procedures::Verdict;
 use mta_records::Step;
-use mta_replay::{Kept, Rules, verdict_on};
+use mta_state::{Kept, Rules, verdict_on};
 use std::alloc::Global;
 
 // The step that a verdict calls for at once.

@@ -4,7 +4,8 @@ ghost use Rattle.std.specs.Prelude.{◌≡◌, ℕ, List};
 ghost use Rattle.mta_machine.specs.Items.{ItemValue};
 ghost use Rattle.mta_dues.specs.Index.{IsIndexed, IsLeft};
 
-use mta_agenda::{Agenda, Lines};
+use crate::agenda::Agenda;
+use crate::lines::Lines;
 use mta_ber::Memory;
 use std::alloc::Global;
 

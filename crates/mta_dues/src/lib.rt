@@ -1,17 +1,24 @@
-//! What is due in the state of a spool, and what goes to a peer next. Only items are looked at that may have something
-//! due, and those that stand in a line of the peer.
+//! What is due in the state of a spool, and what goes to a peer next. Only those items are looked at that may have
+//! something due (`Agenda`), and those that stand in a line of the peer (`Lines`), so a look costs by how many there are
+//! of these, and by a logarithm by how many items there are.
 #![tactic(auto)]
 
+mod agenda;
 mod due;
 mod index;
 mod lined;
+mod lines;
+mod next;
 mod queue;
 mod relay;
 mod rest;
 mod scan;
 
+pub use agenda::Agenda;
 pub use due::due_of;
 pub use index::Index;
+pub use lines::Lines;
+pub use next::lowest;
 pub use queue::waiting;
 pub use relay::{batch_for, is_to_relay};
 pub use rest::note;

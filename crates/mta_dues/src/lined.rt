@@ -4,8 +4,10 @@ ghost use Rattle.std.specs.Prelude.{◌≡◌, ◌↔◌, IsTrue, Some};
 ghost use Rattle.mta_machine.specs.Rules.{peer_word};
 ghost use Rattle.mta_dues.specs.Index.{IsNextFor, IsNextLined};
 
-use mta_agenda::{Agenda, Lines, lowest};
-use mta_replay::Rules;
+use crate::agenda::Agenda;
+use crate::lines::Lines;
+use crate::next::lowest;
+use mta_state::Rules;
 
 // Whether the peer is the one at a place.
 fn is_peer_at<R: Rules>(rules: &R, place: u32, peer: &[u8]) -> bool

@@ -4,18 +4,18 @@ ghost use Rattle.std.specs.Prelude.{◌≡◌, ◌≤◌, ◌<◌, ◌^◌, ◌�
 ghost use Rattle.std.specs.List.{All};
 ghost use Rattle.mta_machine.specs.Items.{numbered};
 ghost use Rattle.mta_histories.specs.Due.{HasQueue, IsQueue, IsRoutedTo};
-ghost use Rattle.mta_replay.specs.Kept.{state_of};
-ghost use Rattle.mta_replay.specs.Asked.{IsStored, IsTextOf};
+ghost use Rattle.mta_state.specs.Kept.{state_of};
+ghost use Rattle.mta_state.specs.Asked.{IsStored, IsTextOf};
 ghost use Rattle.mta_dues.specs.Answers.{HasRouted};
 ghost use Rattle.mta_dues.specs.Index.{IsIndexed, IsNextWaiting};
 
 use crate::index::Index;
 use crate::lined::next_for;
-use mta_agenda::lowest;
+use crate::next::lowest;
 use mta_ber::{Memory, Word};
 use mta_machine::Item;
 use mta_records::Recipients;
-use mta_replay::{Kept, Rules};
+use mta_state::{Kept, Rules};
 use std::alloc::Global;
 
 // Whether a recipient of an item is pending, in no activity, and has a name whose best route leads to the peer.

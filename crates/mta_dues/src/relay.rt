@@ -8,9 +8,9 @@ ghost use Rattle.mta_machine.specs.Items.{ItemValue, numbered};
 ghost use Rattle.mta_machine.specs.Rules.{verdict_of};
 ghost use Rattle.mta_machine.specs.Machine.{relay_by};
 ghost use Rattle.mta_histories.specs.Due.{IsToRelay};
-ghost use Rattle.mta_replay.specs.Kept.{state_of};
-ghost use Rattle.mta_replay.specs.Asked.{IsStored, IsTextOf};
-ghost use Rattle.mta_agenda.specs.Agendas.{IsAllCalled};
+ghost use Rattle.mta_state.specs.Kept.{state_of};
+ghost use Rattle.mta_state.specs.Asked.{IsStored, IsTextOf};
+ghost use Rattle.mta_dues.specs.Agendas.{IsAllCalled};
 ghost use Rattle.mta_dues.specs.Answers.{AreRelayed, IsBatchOf};
 ghost use Rattle.mta_dues.specs.Index.{IsIndexed};
 
@@ -21,7 +21,7 @@ use mta_ber::{Memory, Word};
 use mta_machine::Item;
 use mta_procedures::Verdict;
 use mta_records::{Batch, Recipients};
-use mta_replay::{Kept, Rules};
+use mta_state::{Kept, Rules};
 use std::alloc::Global;
 
 // Whether a verdict relays to the peer.

@@ -3,17 +3,16 @@
 ghost use Rattle.std.specs.Prelude.{◌≡◌, ◌<◌, ◌↔◌, ℕ, IfOk, IsTrue, List, OnOk, Some, true};
 ghost use Rattle.std.specs.List.{All};
 ghost use Rattle.mta_machine.specs.Items.{ItemValue, numbered};
-ghost use Rattle.mta_idle.specs.Idle.{IsIdle};
-ghost use Rattle.mta_agenda.specs.Agendas.{is_active, IsAllCalled};
-ghost use Rattle.mta_agenda.specs.Lines.{KeepsLines, StandsAll};
-ghost use Rattle.mta_replay.specs.Asked.{IsStored, RestsAs};
+ghost use Rattle.mta_idle_laws.specs.Idle.{IsIdle};
+ghost use Rattle.mta_dues.specs.Agendas.{is_active, IsAllCalled};
+ghost use Rattle.mta_dues.specs.Lines.{KeepsLines, StandsAll};
+ghost use Rattle.mta_state.specs.Asked.{IsStored, RestsAs};
 ghost use Rattle.mta_dues.specs.Index.{HasPending, IsIndexed};
 
 use crate::index::Index;
 use mta_ber::Memory;
-use mta_items::is_pending;
 use mta_machine::Item;
-use mta_replay::{Kept, Rest, Rules};
+use mta_state::{Kept, Rest, Rules, is_pending};
 use std::alloc::Global;
 
 // Whether some recipient of an item is pending.

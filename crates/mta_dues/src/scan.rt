@@ -4,9 +4,9 @@ ghost use Rattle.std.specs.Prelude.{◌≡◌, ◌<◌, ◌^◌, ℕ, IfOk, Some
 ghost use Rattle.std.specs.List.{All};
 ghost use Rattle.mta_machine.specs.Items.{numbered};
 ghost use Rattle.mta_histories.specs.Kept.{IsKept};
-ghost use Rattle.mta_agenda.specs.Agendas.{is_active, IsAllCalled};
-ghost use Rattle.mta_replay.specs.Kept.{state_of};
-ghost use Rattle.mta_replay.specs.Asked.{IsStored, IsTextOf};
+ghost use Rattle.mta_dues.specs.Agendas.{is_active, IsAllCalled};
+ghost use Rattle.mta_state.specs.Kept.{state_of};
+ghost use Rattle.mta_state.specs.Asked.{IsStored, IsTextOf};
 ghost use Rattle.mta_dues.specs.Answers.{IsFirstOf, IsNextOf};
 ghost use Rattle.mta_dues.specs.Index.{IsIndexed};
 
@@ -16,7 +16,7 @@ use crate::rest::rest;
 use mta_ber::Memory;
 use mta_machine::Item;
 use mta_records::Step;
-use mta_replay::{Kept, Rules};
+use mta_state::{Kept, Rules};
 use std::alloc::Global;
 
 // What is due of the lowest recipient of an item.

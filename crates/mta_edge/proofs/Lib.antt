@@ -3,3 +3,5 @@ pub mod Logged
 pub mod Chosen
 pub mod Differ
 pub mod Told
+pub mod Drawn
+pub mod Pieces

@@ -8,3 +8,4 @@ pub mod Crashes
 pub mod Tears
 pub mod Images
 pub mod ImageLaws
+pub mod Streams

@@ -12,15 +12,15 @@ use Rattle.mta_fields.proofs.Tagged.{none_tagged_begins}
 use Rattle.mta_fields.specs.declared.expansion.ExpansionFields.{ExpansionFields}
 use Rattle.mta_fields.specs.Laws.{IsWholeId, KeepsTrace}
 use Rattle.mta_fields.proofs.Kept.{identifier_whole}
-use Rattle.mta_common.proofs.Kept.{AreKeptTraces, trace_list_kept}
-use Rattle.mta_extensions.specs.declared.extensions.Extensions.{Extensions}
-use Rattle.mta_extensions.specs.declared.value.Topic.TheVariants.{ExpansionHistory}
-use Rattle.mta_extensions.specs.Laws.{SaysAt, AreToldAt}
-use Rattle.mta_extensions.specs.Told.{history_said, values_of}
-use Rattle.mta_extensions.proofs.ExtKept.{extensions_kept}
-use Rattle.mta_recipient.specs.Laws.{IsWholeRecipient, KeepsRecipient}
-use Rattle.mta_recipient.proofs.Again.{IsKeptRecipient}
-use Rattle.mta_recipient.proofs.RecKept.{each_first, each_second, recipients_kept}
+use Rattle.mta_envelope_common.proofs.Kept.{AreKeptTraces, trace_list_kept}
+use Rattle.mta_envelope_extensions.specs.declared.extensions.Extensions.{Extensions}
+use Rattle.mta_envelope_extensions.specs.declared.value.Topic.TheVariants.{ExpansionHistory}
+use Rattle.mta_envelope_extensions.specs.Laws.{SaysAt, AreToldAt}
+use Rattle.mta_envelope_extensions.specs.Told.{history_said, values_of}
+use Rattle.mta_envelope_extensions.proofs.ExtKept.{extensions_kept}
+use Rattle.mta_envelope_recipient.specs.Laws.{IsWholeRecipient, KeepsRecipient}
+use Rattle.mta_envelope_recipient.proofs.Again.{IsKeptRecipient}
+use Rattle.mta_envelope_recipient.proofs.RecKept.{each_first, each_second, recipients_kept}
 use Rattle.mta_envelope.specs.declared.envelope.EnvelopeFields.{EnvelopeFields}
 use Rattle.mta_envelope.specs.declared.parts.EnvelopePart.{EnvelopePart}
 use Rattle.mta_envelope.specs.declared.parts.EnvelopePart.TheVariants.{Originator, Identifier, InformationTypes, ContentType, MessagePriority, Indicators, TraceList, ContentIdentifier, Deferral, Length, Bilateral, RecipientList, ExtensionSet}

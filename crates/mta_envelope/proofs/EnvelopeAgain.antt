@@ -33,24 +33,24 @@ use Rattle.mta_fields.specs.Laws.{IsWholeTrace, KeepsTrace}
 use Rattle.mta_fields.specs.TraceElements.{canonical_trace}
 use Rattle.mta_fields.specs.Traces.{canonical_supplied}
 use Rattle.mta_fields.proofs.FieldAgain.{moment_spelled, identifier_spelled, trace_spelled}
-use Rattle.mta_common.specs.declared.kind.ContentKind.{ContentKind}
-use Rattle.mta_common.specs.declared.kind.ContentKind.TheVariants.{Number, Oid}
-use Rattle.mta_common.specs.ContentIdentifiers.{IsContentId, SpellsContentId, canonical_content_id}
-use Rattle.mta_common.specs.ContentKinds.{IsContentKind, SpellsContentKind, kind_in_front, kind_in_place}
-use Rattle.mta_common.specs.ExtensionLists.{canonical_ext_list}
-use Rattle.mta_common.specs.Indicators.{IsIndicators, SpellsIndicators, canonical_indicators}
-use Rattle.mta_common.specs.TraceLists.{SpellsTraceItem, SpellsTraceList, canonical_trace_list}
-use Rattle.mta_extensions.specs.declared.extensions.Extensions.{Extensions}
-use Rattle.mta_extensions.specs.declared.value.Topic.TheVariants.{ExpansionHistory, LatestDelivery, ExpansionProhibited}
-use Rattle.mta_extensions.specs.Laws.{SaysAt, AreToldAt}
-use Rattle.mta_extensions.specs.Told.{SpellsExtensions, history_said, latest_said, prohibited_said}
-use Rattle.mta_extensions.proofs.ToldAgain.{extensions_spelled}
-use Rattle.mta_recipient.specs.declared.recipient.RecipientFields.{RecipientFields}
-use Rattle.mta_recipient.specs.Laws.{IsWholeRecipient, KeepsRecipient}
-use Rattle.mta_recipient.specs.Lists.{SpellsRecipients, canonical_recipients}
-use Rattle.mta_recipient.specs.Recipients.{canonical_recipient}
-use Rattle.mta_recipient.proofs.Again.{sequence_low, write_fields, fields_listed, recipients_spelled}
-use Rattle.mta_recipient.proofs.BitsAgain.{indicators_spelled}
+use Rattle.mta_envelope_common.specs.declared.kind.ContentKind.{ContentKind}
+use Rattle.mta_envelope_common.specs.declared.kind.ContentKind.TheVariants.{Number, Oid}
+use Rattle.mta_envelope_common.specs.ContentIdentifiers.{IsContentId, SpellsContentId, canonical_content_id}
+use Rattle.mta_envelope_common.specs.ContentKinds.{IsContentKind, SpellsContentKind, kind_in_front, kind_in_place}
+use Rattle.mta_envelope_common.specs.ExtensionLists.{canonical_ext_list}
+use Rattle.mta_envelope_common.specs.Indicators.{IsIndicators, SpellsIndicators, canonical_indicators}
+use Rattle.mta_envelope_common.specs.TraceLists.{SpellsTraceItem, SpellsTraceList, canonical_trace_list}
+use Rattle.mta_envelope_extensions.specs.declared.extensions.Extensions.{Extensions}
+use Rattle.mta_envelope_extensions.specs.declared.value.Topic.TheVariants.{ExpansionHistory, LatestDelivery, ExpansionProhibited}
+use Rattle.mta_envelope_extensions.specs.Laws.{SaysAt, AreToldAt}
+use Rattle.mta_envelope_extensions.specs.Told.{SpellsExtensions, history_said, latest_said, prohibited_said}
+use Rattle.mta_envelope_extensions.proofs.ToldAgain.{extensions_spelled}
+use Rattle.mta_envelope_recipient.specs.declared.recipient.RecipientFields.{RecipientFields}
+use Rattle.mta_envelope_recipient.specs.Laws.{IsWholeRecipient, KeepsRecipient}
+use Rattle.mta_envelope_recipient.specs.Lists.{SpellsRecipients, canonical_recipients}
+use Rattle.mta_envelope_recipient.specs.Recipients.{canonical_recipient}
+use Rattle.mta_envelope_recipient.proofs.Again.{sequence_low, write_fields, fields_listed, recipients_spelled}
+use Rattle.mta_envelope_recipient.proofs.BitsAgain.{indicators_spelled}
 use Rattle.mta_envelope.specs.declared.envelope.EnvelopeFields.{EnvelopeFields}
 use Rattle.mta_envelope.specs.declared.parts.EnvelopePart.{EnvelopePart}
 use Rattle.mta_envelope.specs.declared.parts.EnvelopePart.TheVariants.{Originator, Identifier, InformationTypes, ContentType, MessagePriority, Indicators, TraceList, ContentIdentifier, Deferral, Length, Bilateral, RecipientList, ExtensionSet}

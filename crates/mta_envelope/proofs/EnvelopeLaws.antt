@@ -19,17 +19,17 @@ use Rattle.mta_names.proofs.Tools.{components_sound, components_full, Keeps, spe
 use Rattle.mta_fields.specs.declared.expansion.ExpansionFields.{ExpansionFields}
 use Rattle.mta_fields.specs.declared.identifier.MtsIdFields.{MtsIdFields}
 use Rattle.mta_fields.specs.declared.trace.TraceFields.{TraceFields}
-use Rattle.mta_common.specs.declared.kind.ContentKind.{ContentKind}
-use Rattle.mta_common.specs.ContentIdentifiers.{IsContentId}
-use Rattle.mta_common.specs.ContentKinds.{IsContentKind}
-use Rattle.mta_common.specs.Indicators.{IsIndicators}
-use Rattle.mta_common.proofs.IndicatorLaws.{indicators_are}
-use Rattle.mta_common.proofs.KindLaws.{kind_is}
-use Rattle.mta_extensions.specs.declared.extensions.Extensions.{Extensions}
-use Rattle.mta_extensions.specs.declared.value.Topic.TheVariants.{ExpansionHistory}
-use Rattle.mta_extensions.specs.Told.{AreTold, Says, values_of, history_said}
-use Rattle.mta_extensions.proofs.ToldLaws.{extensions_are}
-use Rattle.mta_recipient.specs.declared.recipient.RecipientFields.{RecipientFields}
+use Rattle.mta_envelope_common.specs.declared.kind.ContentKind.{ContentKind}
+use Rattle.mta_envelope_common.specs.ContentIdentifiers.{IsContentId}
+use Rattle.mta_envelope_common.specs.ContentKinds.{IsContentKind}
+use Rattle.mta_envelope_common.specs.Indicators.{IsIndicators}
+use Rattle.mta_envelope_common.proofs.IndicatorLaws.{indicators_are}
+use Rattle.mta_envelope_common.proofs.KindLaws.{kind_is}
+use Rattle.mta_envelope_extensions.specs.declared.extensions.Extensions.{Extensions}
+use Rattle.mta_envelope_extensions.specs.declared.value.Topic.TheVariants.{ExpansionHistory}
+use Rattle.mta_envelope_extensions.specs.Told.{AreTold, Says, values_of, history_said}
+use Rattle.mta_envelope_extensions.proofs.ToldLaws.{extensions_are}
+use Rattle.mta_envelope_recipient.specs.declared.recipient.RecipientFields.{RecipientFields}
 use Rattle.mta_envelope.specs.declared.parts.EnvelopePart.{EnvelopePart}
 use Rattle.mta_envelope.specs.declared.parts.EnvelopePart.TheVariants.{Originator, Identifier, InformationTypes, ContentType, MessagePriority, Indicators, TraceList, ContentIdentifier, Deferral, Length, Bilateral, RecipientList, ExtensionSet}
 use Rattle.mta_envelope.specs.declared.parts.EnvelopeParts.{EnvelopeParts}

@@ -12,7 +12,7 @@ use Rattle.mta_ber.proofs.RoundTrip.{no_part}
 use Rattle.mta_ber.proofs.RowLaws.{part_sound, stands_again, lent_part, IsBytes-back}
 use Rattle.mta_ber.proofs.Steps.{bind_ok, ok_is, taken}
 use Rattle.mta_ber.proofs.StringLaws.{IsBytes-front}
-use Rattle.mta_recipient.specs.Lists.{is_set}
+use Rattle.mta_envelope_recipient.specs.Lists.{is_set}
 use Rattle.mta_envelope.specs.declared.envelope.EnvelopeFields.{EnvelopeFields}
 use Rattle.mta_envelope.specs.Contents.{ContentValue, content_in, SpellsContent}
 use Rattle.mta_envelope.specs.Envelopes.{envelope_in, SpellsEnvelope}

@@ -24,18 +24,18 @@ use Rattle.mta_names.proofs.Tools.{tag_is, picked, not_none}
 use Rattle.mta_fields.specs.Identifiers.{id_in, SpellsMtsId}
 use Rattle.mta_fields.specs.Traces.{raw_in}
 use Rattle.mta_fields.proofs.IdentifierLaws.{id_sound, id_full}
-use Rattle.mta_common.specs.ContentIdentifiers.{content_id_in, SpellsContentId}
-use Rattle.mta_common.specs.ContentKinds.{is_content_kind, content_kind_in, SpellsContentKind}
-use Rattle.mta_common.specs.Indicators.{indicators_in, SpellsIndicators}
-use Rattle.mta_common.specs.TraceLists.{trace_list_in, SpellsTraceList}
-use Rattle.mta_common.proofs.KindLaws.{kind_sound, kind_full}
-use Rattle.mta_common.proofs.IndicatorLaws.{indicators_sound, indicators_full}
-use Rattle.mta_common.proofs.TraceListLaws.{trace_list_sound, trace_list_full}
-use Rattle.mta_extensions.specs.Told.{extensions_in, SpellsExtensions}
-use Rattle.mta_extensions.proofs.ToldLaws.{extensions_sound, extensions_full}
-use Rattle.mta_recipient.specs.Lists.{recipients_in, SpellsRecipients}
-use Rattle.mta_recipient.proofs.ListLaws.{recipients_sound, recipients_full}
-use Rattle.mta_recipient.proofs.RecipientLaws.{once_sound, once_full}
+use Rattle.mta_envelope_common.specs.ContentIdentifiers.{content_id_in, SpellsContentId}
+use Rattle.mta_envelope_common.specs.ContentKinds.{is_content_kind, content_kind_in, SpellsContentKind}
+use Rattle.mta_envelope_common.specs.Indicators.{indicators_in, SpellsIndicators}
+use Rattle.mta_envelope_common.specs.TraceLists.{trace_list_in, SpellsTraceList}
+use Rattle.mta_envelope_common.proofs.KindLaws.{kind_sound, kind_full}
+use Rattle.mta_envelope_common.proofs.IndicatorLaws.{indicators_sound, indicators_full}
+use Rattle.mta_envelope_common.proofs.TraceListLaws.{trace_list_sound, trace_list_full}
+use Rattle.mta_envelope_extensions.specs.Told.{extensions_in, SpellsExtensions}
+use Rattle.mta_envelope_extensions.proofs.ToldLaws.{extensions_sound, extensions_full}
+use Rattle.mta_envelope_recipient.specs.Lists.{recipients_in, SpellsRecipients}
+use Rattle.mta_envelope_recipient.proofs.ListLaws.{recipients_sound, recipients_full}
+use Rattle.mta_envelope_recipient.proofs.RecipientLaws.{once_sound, once_full}
 use Rattle.mta_envelope.specs.declared.priority.Priority.{Priority}
 use Rattle.mta_envelope.specs.declared.priority.Priority.TheVariants.{Normal, NonUrgent, Urgent}
 use Rattle.mta_envelope.specs.declared.parts.EnvelopePart.{EnvelopePart}

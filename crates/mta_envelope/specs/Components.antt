@@ -18,15 +18,15 @@ use Rattle.mta_fields.specs.declared.identifier.MtsIdFields.{MtsIdFields}
 use Rattle.mta_fields.specs.declared.trace.TraceFields.{TraceFields}
 use Rattle.mta_fields.specs.Identifiers.{id_in, SpellsMtsId}
 use Rattle.mta_fields.specs.Traces.{raw_in}
-use Rattle.mta_common.specs.declared.kind.ContentKind.{ContentKind}
-use Rattle.mta_common.specs.ContentIdentifiers.{content_id_in, SpellsContentId}
-use Rattle.mta_common.specs.ContentKinds.{is_content_kind, content_kind_in, SpellsContentKind}
-use Rattle.mta_common.specs.Indicators.{indicators_in, SpellsIndicators}
-use Rattle.mta_common.specs.TraceLists.{trace_list_in, SpellsTraceList}
-use Rattle.mta_extensions.specs.declared.extensions.Extensions.{Extensions}
-use Rattle.mta_extensions.specs.Told.{extensions_in, SpellsExtensions}
-use Rattle.mta_recipient.specs.declared.recipient.RecipientFields.{RecipientFields}
-use Rattle.mta_recipient.specs.Lists.{recipients_in, SpellsRecipients}
+use Rattle.mta_envelope_common.specs.declared.kind.ContentKind.{ContentKind}
+use Rattle.mta_envelope_common.specs.ContentIdentifiers.{content_id_in, SpellsContentId}
+use Rattle.mta_envelope_common.specs.ContentKinds.{is_content_kind, content_kind_in, SpellsContentKind}
+use Rattle.mta_envelope_common.specs.Indicators.{indicators_in, SpellsIndicators}
+use Rattle.mta_envelope_common.specs.TraceLists.{trace_list_in, SpellsTraceList}
+use Rattle.mta_envelope_extensions.specs.declared.extensions.Extensions.{Extensions}
+use Rattle.mta_envelope_extensions.specs.Told.{extensions_in, SpellsExtensions}
+use Rattle.mta_envelope_recipient.specs.declared.recipient.RecipientFields.{RecipientFields}
+use Rattle.mta_envelope_recipient.specs.Lists.{recipients_in, SpellsRecipients}
 use Rattle.mta_envelope.specs.declared.priority.Priority.{Priority}
 use Rattle.mta_envelope.specs.declared.parts.EnvelopePart.{EnvelopePart}
 use Rattle.mta_envelope.specs.declared.parts.EnvelopePart.TheVariants.{Originator, Identifier, InformationTypes, ContentType, MessagePriority, Indicators, TraceList, ContentIdentifier, Deferral, Length, Bilateral, RecipientList, ExtensionSet}

@@ -17,16 +17,16 @@ use Rattle.mta_fields.specs.declared.extension.ExtFields.{ExtFields}
 use Rattle.mta_fields.specs.declared.identifier.MtsIdFields.{MtsIdFields}
 use Rattle.mta_fields.specs.declared.trace.TraceFields.{TraceFields}
 use Rattle.mta_fields.specs.Identifiers.{canonical_id}
-use Rattle.mta_common.specs.declared.kind.ContentKind.{ContentKind}
-use Rattle.mta_common.specs.ContentIdentifiers.{IsContentId, canonical_content_id}
-use Rattle.mta_common.specs.ContentKinds.{IsContentKind, kind_in_front, kind_in_place}
-use Rattle.mta_common.specs.ExtensionLists.{canonical_ext_list}
-use Rattle.mta_common.specs.Indicators.{IsIndicators, canonical_indicators}
-use Rattle.mta_common.specs.TraceLists.{canonical_trace_list}
-use Rattle.mta_extensions.specs.declared.extensions.Extensions.{Extensions}
-use Rattle.mta_extensions.specs.Told.{no_extensions, AreTold}
-use Rattle.mta_recipient.specs.declared.recipient.RecipientFields.{RecipientFields}
-use Rattle.mta_recipient.specs.Lists.{canonical_recipients}
+use Rattle.mta_envelope_common.specs.declared.kind.ContentKind.{ContentKind}
+use Rattle.mta_envelope_common.specs.ContentIdentifiers.{IsContentId, canonical_content_id}
+use Rattle.mta_envelope_common.specs.ContentKinds.{IsContentKind, kind_in_front, kind_in_place}
+use Rattle.mta_envelope_common.specs.ExtensionLists.{canonical_ext_list}
+use Rattle.mta_envelope_common.specs.Indicators.{IsIndicators, canonical_indicators}
+use Rattle.mta_envelope_common.specs.TraceLists.{canonical_trace_list}
+use Rattle.mta_envelope_extensions.specs.declared.extensions.Extensions.{Extensions}
+use Rattle.mta_envelope_extensions.specs.Told.{no_extensions, AreTold}
+use Rattle.mta_envelope_recipient.specs.declared.recipient.RecipientFields.{RecipientFields}
+use Rattle.mta_envelope_recipient.specs.Lists.{canonical_recipients}
 use Rattle.mta_envelope.specs.declared.priority.Priority.{Priority}
 use Rattle.mta_envelope.specs.declared.priority.Priority.TheVariants.{Normal}
 use Rattle.mta_envelope.specs.declared.parts.EnvelopeParts.{EnvelopeParts}

@@ -8,9 +8,9 @@ use Rattle.mta_names.specs.Values.{Each, IsName}
 use Rattle.mta_ber.specs.Canon.{constructed}
 use Rattle.mta_fields.specs.Tagged.{NoTaggedBeginsAnother}
 use Rattle.mta_fields.specs.Laws.{IsWholeId, IsWholeTrace, KeepsTrace}
-use Rattle.mta_extensions.specs.declared.extensions.Extensions.{Extensions}
-use Rattle.mta_extensions.specs.Laws.{AreToldAt}
-use Rattle.mta_recipient.specs.Laws.{IsWholeRecipient, KeepsRecipient}
+use Rattle.mta_envelope_extensions.specs.declared.extensions.Extensions.{Extensions}
+use Rattle.mta_envelope_extensions.specs.Laws.{AreToldAt}
+use Rattle.mta_envelope_recipient.specs.Laws.{IsWholeRecipient, KeepsRecipient}
 use Rattle.mta_envelope.specs.declared.envelope.EnvelopeFields.{EnvelopeFields}
 use Rattle.mta_envelope.specs.Contents.{content_as}
 use Rattle.mta_envelope.specs.Envelopes.{IsEnvelope, IsOfKind, told_history, SpellsEnvelope}

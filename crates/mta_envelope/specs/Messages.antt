@@ -8,7 +8,7 @@ use Rattle.mta_ber.specs.Element.{Part, next_part, alone}
 use Rattle.mta_ber.specs.Forms.{is_constructed_tag}
 use Rattle.mta_ber.specs.Head.{◌>>=◌, fault}
 use Rattle.mta_ber.specs.Spelling.{Stands}
-use Rattle.mta_recipient.specs.Lists.{is_set}
+use Rattle.mta_envelope_recipient.specs.Lists.{is_set}
 use Rattle.mta_envelope.specs.declared.envelope.EnvelopeFields.{EnvelopeFields}
 use Rattle.mta_envelope.specs.declared.message.Message.{Message}
 use Rattle.mta_envelope.specs.Contents.{ContentValue, content_value, content_in, SpellsContent}

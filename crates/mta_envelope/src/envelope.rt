@@ -5,10 +5,10 @@ use crate::priority::Priority;
 use crate::reading::read_fields;
 use crate::writing::put_components;
 use mta_ber::{Bits, Memory, Octets, ReadFault, Tag, Text, View, Writer, element_length};
-use mta_common::ContentKind;
+use mta_envelope_common::ContentKind;
+use mta_envelope_recipient::Recipient;
 use mta_fields::{Expansion, ExtField, MtsId, TraceElement};
 use mta_names::{OrName, Row, put_around};
-use mta_recipient::Recipient;
 use std::alloc::Global;
 use std::marker::Model;
 

@@ -13,11 +13,11 @@ ghost use Rattle.mta_envelope.specs.Priorities.{canonical_priority};
 use crate::envelope::EnvelopeFields;
 use crate::priority::{Priority, number_of};
 use mta_ber::{Bits, bits_length, int_length, length_of_both, utc_length};
-use mta_common::{
+use mta_envelope_common::{
     content_id_length, extensions_length, kind_in_front_length, kind_in_place_length, trace_length,
 };
+use mta_envelope_recipient::recipients_length;
 use mta_names::{constructed, primitive, raw_length};
-use mta_recipient::recipients_length;
 
 fn priority_length(priority: Priority) -> u64
     ensures { result ≡ octet_length (canonical_priority priority) }

@@ -21,8 +21,8 @@ pub use laws::{
     probes_are_read_again, what_was_read_is_read_again,
 };
 pub use message::Message;
-pub use mta_common::ContentKind;
-pub use mta_recipient::Recipient;
+pub use mta_envelope_common::ContentKind;
+pub use mta_envelope_recipient::Recipient;
 pub use place::Place;
 pub use priority::Priority;
 pub use probe::Probe;

@@ -11,14 +11,14 @@ use mta_ber::{
     Bits, Components, Kind, Octets, ReadFault, Tag, Text, View, bad, is_constructed_tag,
     is_primitive_tag, is_tag_of,
 };
-use mta_common::{
+use mta_envelope_common::{
     ContentKind, is_content_kind_tag, read_content_id, read_content_kind, read_indicators,
     read_trace,
 };
-use mta_extensions::{Extensions, read_extensions};
+use mta_envelope_extensions::{Extensions, read_extensions};
+use mta_envelope_recipient::{Recipient, read_recipients};
 use mta_fields::{MtsId, TraceElement};
 use mta_names::{OrName, Row};
-use mta_recipient::{Recipient, read_recipients};
 use std::alloc::Global;
 
 /// The components.

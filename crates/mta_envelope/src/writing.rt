@@ -3,18 +3,18 @@
 ghost use Rattle.std.specs.Prelude.{◌≡◌, ◌≤◌, IfOk, OnOk, IfSome};
 ghost use Rattle.mta_ber.specs.Canon.{appended, optional};
 ghost use Rattle.mta_ber.specs.Times.{last_moment};
-ghost use Rattle.mta_common.specs.ContentKinds.{kind_in_front, kind_in_place};
+ghost use Rattle.mta_envelope_common.specs.ContentKinds.{kind_in_front, kind_in_place};
 ghost use Rattle.mta_envelope.specs.Components.{longest};
 ghost use Rattle.mta_envelope.specs.Envelopes.{IsEnvelope, canonical_or_none, canonical_deferral, canonical_length, envelope_front, envelope_middle, envelope_back, envelope_content};
 
 use crate::envelope::EnvelopeFields;
 use crate::priority::put_priority;
 use mta_ber::{Bits, Memory, Writer, put_int, put_utc};
-use mta_common::{
+use mta_envelope_common::{
     ContentKind, put_content_id, put_content_kind, put_extensions, put_indicators, put_trace,
 };
+use mta_envelope_recipient::put_recipients;
 use mta_names::{constructed, primitive, put_raw_if};
-use mta_recipient::put_recipients;
 use std::alloc::Global;
 
 #[tactic(auto, using(crate::proofs::Written::appended_none))]

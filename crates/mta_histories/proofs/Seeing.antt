@@ -11,7 +11,7 @@ use Rattle.mta_lane_send.specs.declared.state.SendState.{SendState}
 use Rattle.mta_lane_send.specs.declared.state.SendState.TheVariants.{Idle, Sending, Ending, Dropping}
 use Rattle.mta_lane_send.specs.Half.{confirmed_of, goes_on, is_ending, is_live, is_idle, last_of}
 use Rattle.mta_lane_send.specs.Pieces.{has_piece_after}
-use Rattle.mta_ends.specs.Pieces.{is_last, joined}
+use Rattle.mta_transfer_rules.specs.Pieces.{is_last, joined}
 use Rattle.mta_records.specs.declared.step.Step.{Step}
 use Rattle.mta_machine.specs.Apdu.{IsApdu}
 use Rattle.mta_histories.specs.Lanes.{Transfer, Lane, Lanes, State, empty, lane_at, put_lane, without_lane}
@@ -23,9 +23,9 @@ use Rattle.mta_histories.specs.History.{LaneNeeds, StepNeeds, IsOfGeneration, wi
 use Rattle.mta_histories.specs.History.{lane_after, on_lane_after, lanes_after, new_lane, when, after_step, after_from}
 use Rattle.mta_histories.specs.History.{after, ArePossible}
 use Rattle.mta_histories.specs.Kept.{IsKept, AreNumbered}
-use Rattle.mta_ends.specs.Lanes.{On, SeenStep, LaneOpen, CloseLane, Halves, Closed}
-use Rattle.mta_ends.specs.Lanes.{unopened, Allows, halves_after, of_lane, of_lane_all}
-use Rattle.mta_ends.specs.Lanes.{halves_run, AreAllowed}
+use Rattle.mta_transfer_rules.specs.Lanes.{On, SeenStep, LaneOpen, CloseLane, Halves, Closed}
+use Rattle.mta_transfer_rules.specs.Lanes.{unopened, Allows, halves_after, of_lane, of_lane_all}
+use Rattle.mta_transfer_rules.specs.Lanes.{halves_run, AreAllowed}
 use Rattle.mta_histories.specs.Seen.{told, checkpoint_unit, seen_by, seen_of, annotated_from, annotated, transferred}
 use Rattle.mta_histories.specs.Seen.{halves_of, LanesSeeHistories}
 use Rattle.mta_histories.proofs.LaneLists.{each-weaker, number-at, number-within, number-above}

@@ -1,11 +1,11 @@
 -- The steps of a history as far as they concern one lane: each as the lane sees it, with the octets that a Start
 -- transfers. Which of them are possible, and what they leave of the lane's halves (X.228 clause 7), is said of lanes in
--- `mta_ends`.
+-- `mta_transfer_rules`.
 use Rattle.std.specs.Prelude.{◌≡◌, ◌<◌, ℕ, ◌+◌, ◌*◌, Bool, true, List, [], ◌∷◌, length}
 use Rattle.std.specs.Prelude.{Option, Some, None}
-use Rattle.mta_ends.specs.Lanes.{Seen, On, Elsewhere, SeenStep, LaneOpen, LaneAgree, Bind, Start}
-use Rattle.mta_ends.specs.Lanes.{Confirm, To_end, Sent, Refused, Denied, Dropped, Abandon, Secure, Complete, Drop}
-use Rattle.mta_ends.specs.Lanes.{CloseLane, Halves, Open, unopened, lane_in, LanesAllow}
+use Rattle.mta_transfer_rules.specs.Lanes.{Seen, On, Elsewhere, SeenStep, LaneOpen, LaneAgree, Bind, Start}
+use Rattle.mta_transfer_rules.specs.Lanes.{Confirm, To_end, Sent, Refused, Denied, Dropped, Abandon, Secure, Complete, Drop}
+use Rattle.mta_transfer_rules.specs.Lanes.{CloseLane, Halves, Open, unopened, lane_in, LanesAllow}
 use Rattle.mta_records.specs.declared.lane.LaneRole.TheVariants.{Responder}
 use Rattle.mta_records.specs.declared.step.Step.{Step}
 use Rattle.mta_machine.specs.Apdu.{IsApdu}

@@ -14,13 +14,13 @@ use Rattle.mta_fields.specs.Expansions.{canonical_expansion}
 use Rattle.mta_fields.specs.ExtensionFields.{IsElement}
 use Rattle.mta_fields.specs.Laws.{IsWholeExpansion, KeepsExpansion}
 use Rattle.mta_fields.proofs.Kept.{expansion_above}
-use Rattle.mta_extensions.specs.declared.value.Said.{Said}
-use Rattle.mta_extensions.specs.declared.value.Said.TheVariants.{History}
-use Rattle.mta_extensions.specs.declared.value.Topic.{Topic}
-use Rattle.mta_extensions.specs.declared.value.Topic.TheVariants.{ExpansionHistory, LatestDelivery, ExpansionProhibited}
-use Rattle.mta_extensions.specs.Told.{values_of, history_said, latest_said, prohibited_said, Says}
-use Rattle.mta_extensions.specs.Topics.{IsSaidBy}
-use Rattle.mta_recipient.specs.declared.recipient.RecipientFields.{RecipientFields}
+use Rattle.mta_envelope_extensions.specs.declared.value.Said.{Said}
+use Rattle.mta_envelope_extensions.specs.declared.value.Said.TheVariants.{History}
+use Rattle.mta_envelope_extensions.specs.declared.value.Topic.{Topic}
+use Rattle.mta_envelope_extensions.specs.declared.value.Topic.TheVariants.{ExpansionHistory, LatestDelivery, ExpansionProhibited}
+use Rattle.mta_envelope_extensions.specs.Told.{values_of, history_said, latest_said, prohibited_said, Says}
+use Rattle.mta_envelope_extensions.specs.Topics.{IsSaidBy}
+use Rattle.mta_envelope_recipient.specs.declared.recipient.RecipientFields.{RecipientFields}
 use Rattle.mta_envelope.specs.declared.envelope.EnvelopeFields.{EnvelopeFields}
 use Rattle.mta_envelope.specs.Envelopes.{IsEnvelope, told_history}
 use Rattle.mta_tables.specs.declared.entry.MailList.{MailList}

@@ -4,8 +4,8 @@ use Rattle.std.proofs.Common.{get_or}
 use Rattle.std.proofs.Common.{sym, ap, ◌∙◌, arith}
 use Rattle.std.proofs.lemmas.List.{take_more, length-take-le}
 use Rattle.mta_names.specs.declared.attributes.Attributes.{Attributes}
-use Rattle.mta_recipient.specs.declared.recipient.RecipientFields.{RecipientFields}
-use Rattle.mta_recipient.specs.Recipients.{IsRecipient}
+use Rattle.mta_envelope_recipient.specs.declared.recipient.RecipientFields.{RecipientFields}
+use Rattle.mta_envelope_recipient.specs.Recipients.{IsRecipient}
 use Rattle.mta_procedures.specs.Members.{member_as, members_from}
 
 pub member_is_recipient : (r : RecipientFields) (k : ℕ) (m : Attributes) → IsRecipient r → 1 ≤ k → k ≤ 32767

@@ -4,8 +4,8 @@ ghost use Rattle.std.specs.Prelude.{◌≡◌, ◌-◌, ◌∷◌, [], ◌++◌,
 ghost use Rattle.std.specs.Prelude.{Some, None, true, IfOk};
 ghost use Rattle.std.specs.Option.{option_map};
 ghost use Rattle.mta_ber.specs.Times.{last_moment};
-ghost use Rattle.mta_recipient.specs.declared.recipient.RecipientFields.{RecipientFields};
-ghost use Rattle.mta_recipient.specs.Recipients.{IsRecipient};
+ghost use Rattle.mta_envelope_recipient.specs.declared.recipient.RecipientFields.{RecipientFields};
+ghost use Rattle.mta_envelope_recipient.specs.Recipients.{IsRecipient};
 ghost use Rattle.mta_envelope.specs.Contents.{content_value};
 ghost use Rattle.mta_envelope.specs.Messages.{message_value};
 ghost use Rattle.mta_tables.specs.declared.entry.MailList.{MailList};
@@ -20,11 +20,11 @@ use crate::members::members_of;
 use mta_ber::Memory;
 use mta_copies::{copied_trace, envelope_with, relayed_element};
 use mta_envelope::{Content, Envelope, Message};
+use mta_envelope_recipient::RecipientFields;
 use mta_fields::TraceElement;
 use mta_names::Row;
-use mta_recipient::RecipientFields;
+use mta_rules::is_in_history;
 use mta_tables::{MailList, Tables};
-use mta_verdicts::is_in_history;
 use std::alloc::Global;
 
 /// A trace with an own element behind it that has dl-operation, as where a list is expanded (X.411, clause 12: other

@@ -1,12 +1,12 @@
 //! Members as recipients.
 
 ghost use Rattle.std.specs.Prelude.{◌≡◌, ◌≤◌, length, IfOk};
-ghost use Rattle.mta_recipient.specs.Recipients.{IsRecipient};
+ghost use Rattle.mta_envelope_recipient.specs.Recipients.{IsRecipient};
 ghost use Rattle.mta_procedures.specs.Members.{member_as, members_from};
 
 use mta_ber::Memory;
+use mta_envelope_recipient::{Recipient, RecipientFields};
 use mta_names::{OrName, Row};
-use mta_recipient::{Recipient, RecipientFields};
 use std::alloc::Global;
 
 /// A member as a recipient, with the indicators of the list as a recipient.

@@ -3,7 +3,7 @@ use Rattle.std.proofs.Common.{◌≡◌, ◌≤◌, ◌+◌, ℕ, true, List, []
 use Rattle.std.proofs.Common.{Option, Some, None, refl, arith, subst, length-append}
 use Rattle.std.specs.Prelude.{option_map, option_to_list}
 use Rattle.mta_names.specs.declared.attributes.Attributes.{Attributes}
-use Rattle.mta_recipient.specs.declared.recipient.RecipientFields.{RecipientFields}
+use Rattle.mta_envelope_recipient.specs.declared.recipient.RecipientFields.{RecipientFields}
 use Rattle.mta_envelope.specs.Messages.{MessageValue}
 use Rattle.mta_apdu.specs.Apdus.{ApduValue, message, probe, report}
 use Rattle.mta_tables.specs.declared.entry.MailList.{MailList}

@@ -1,7 +1,7 @@
 -- What the octets of an item spell (X.411, MTS-APDU), and for which recipients this agent is responsible.
 use Rattle.std.specs.Prelude.{Bool, true, false, List, [], ◌∷◌, map, ℕ, Option, Some, None, Result, Ok, Err}
 use Rattle.mta_ber.specs.Bits.{bit}
-use Rattle.mta_recipient.specs.declared.recipient.RecipientFields.{RecipientFields}
+use Rattle.mta_envelope_recipient.specs.declared.recipient.RecipientFields.{RecipientFields}
 use Rattle.mta_apdu.specs.Apdus.{ApduValue, message, probe, report, stored_of, SpellsApdu}
 
 -- the value where one is read

@@ -4,10 +4,10 @@ use Rattle.std.specs.Prelude.{unwrap_or}
 use Rattle.std.specs.Option.{option_map}
 use Rattle.std.proofs.lemmas.Bool.{both_ways, leb-false}
 use Rattle.mta_names.specs.declared.attributes.Attributes.{Attributes}
-use Rattle.mta_recipient.specs.declared.recipient.RecipientFields.{RecipientFields}
+use Rattle.mta_envelope_recipient.specs.declared.recipient.RecipientFields.{RecipientFields}
 use Rattle.mta_envelope.specs.declared.envelope.EnvelopeFields.{EnvelopeFields}
 use Rattle.mta_envelope.specs.Messages.{MessageValue}
-use Rattle.mta_reported.specs.declared.outcome.Outcome.{Outcome}
+use Rattle.mta_report_recipient.specs.declared.outcome.Outcome.{Outcome}
 use Rattle.mta_report.specs.declared.fields.ReportFields.{ReportFields}
 use Rattle.mta_tables.specs.declared.hop.Hop.{Hop}
 use Rattle.mta_tables.specs.declared.hop.Hop.TheVariants as Hops

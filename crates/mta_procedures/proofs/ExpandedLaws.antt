@@ -21,15 +21,15 @@ use Rattle.mta_fields.specs.ExtensionFields.{IsExtField}
 use Rattle.mta_fields.specs.Laws.{IsWholeExpansion, KeepsExpansion, KeepsExtField, IsWholeTrace, KeepsTrace}
 use Rattle.mta_fields.proofs.FieldAgain.{expansion_spelled}
 use Rattle.mta_fields.proofs.Kept.{expansion_kept, expansion_whole}
-use Rattle.mta_extensions.specs.declared.value.Said.{Said}
-use Rattle.mta_extensions.specs.declared.value.Said.TheVariants.{History}
-use Rattle.mta_extensions.specs.declared.value.Topic.{Topic}
-use Rattle.mta_extensions.specs.declared.value.Topic.TheVariants.{ExpansionHistory, LatestDelivery, ExpansionProhibited, Other}
-use Rattle.mta_extensions.specs.Laws.{IsSaidAt, SaysAt, AreToldAt}
-use Rattle.mta_extensions.specs.Told.{is_topic, values_of, history_said, latest_said, prohibited_said, Says}
-use Rattle.mta_extensions.specs.Topics.{topic_of, SpellsItem, SpellsHistory}
-use Rattle.mta_recipient.specs.declared.recipient.RecipientFields.{RecipientFields}
-use Rattle.mta_recipient.specs.Laws.{IsWholeRecipient, KeepsRecipient}
+use Rattle.mta_envelope_extensions.specs.declared.value.Said.{Said}
+use Rattle.mta_envelope_extensions.specs.declared.value.Said.TheVariants.{History}
+use Rattle.mta_envelope_extensions.specs.declared.value.Topic.{Topic}
+use Rattle.mta_envelope_extensions.specs.declared.value.Topic.TheVariants.{ExpansionHistory, LatestDelivery, ExpansionProhibited, Other}
+use Rattle.mta_envelope_extensions.specs.Laws.{IsSaidAt, SaysAt, AreToldAt}
+use Rattle.mta_envelope_extensions.specs.Told.{is_topic, values_of, history_said, latest_said, prohibited_said, Says}
+use Rattle.mta_envelope_extensions.specs.Topics.{topic_of, SpellsItem, SpellsHistory}
+use Rattle.mta_envelope_recipient.specs.declared.recipient.RecipientFields.{RecipientFields}
+use Rattle.mta_envelope_recipient.specs.Laws.{IsWholeRecipient, KeepsRecipient}
 use Rattle.mta_envelope.specs.declared.envelope.EnvelopeFields.{EnvelopeFields}
 use Rattle.mta_envelope.specs.Envelopes.{told_history}
 use Rattle.mta_envelope.specs.Laws.{IsWholeEnvelope, KeepsEnvelope, told_of}

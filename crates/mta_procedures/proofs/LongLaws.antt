@@ -11,10 +11,10 @@ use Rattle.mta_fields.specs.declared.trace.TraceFields.{TraceFields}
 use Rattle.mta_fields.specs.Domains.{canonical_domain}
 use Rattle.mta_fields.specs.TraceElements.{canonical_trace}
 use Rattle.mta_fields.specs.Traces.{canonical_supplied, canonical_deferred}
-use Rattle.mta_common.specs.TraceLists.{canonical_trace_list}
-use Rattle.mta_recipient.specs.declared.recipient.RecipientFields.{RecipientFields}
-use Rattle.mta_recipient.specs.Recipients.{canonical_recipient}
-use Rattle.mta_recipient.specs.Lists.{canonical_recipients}
+use Rattle.mta_envelope_common.specs.TraceLists.{canonical_trace_list}
+use Rattle.mta_envelope_recipient.specs.declared.recipient.RecipientFields.{RecipientFields}
+use Rattle.mta_envelope_recipient.specs.Recipients.{canonical_recipient}
+use Rattle.mta_envelope_recipient.specs.Lists.{canonical_recipients}
 use Rattle.mta_envelope.specs.declared.envelope.EnvelopeFields.{EnvelopeFields}
 use Rattle.mta_envelope.specs.Envelopes.{envelope_front, envelope_middle, envelope_back, envelope_content}
 use Rattle.mta_envelope.specs.Messages.{MessageValue, canonical_message, canonical_probe}

@@ -9,15 +9,15 @@ use Rattle.mta_names.proofs.Kept.{name_above}
 use Rattle.mta_names.proofs.Rows.{each_both}
 use Rattle.mta_fields.specs.declared.expansion.ExpansionFields.{ExpansionFields}
 use Rattle.mta_fields.specs.Laws.{IsWholeExpansion, IsWholeTrace, KeepsExpansion, KeepsTrace}
-use Rattle.mta_extensions.specs.declared.value.Topic.TheVariants.{ExpansionHistory}
-use Rattle.mta_extensions.specs.Told.{values_of}
-use Rattle.mta_recipient.specs.declared.recipient.RecipientFields.{RecipientFields}
-use Rattle.mta_recipient.specs.Laws.{IsWholeRecipient, KeepsRecipient}
+use Rattle.mta_envelope_extensions.specs.declared.value.Topic.TheVariants.{ExpansionHistory}
+use Rattle.mta_envelope_extensions.specs.Told.{values_of}
+use Rattle.mta_envelope_recipient.specs.declared.recipient.RecipientFields.{RecipientFields}
+use Rattle.mta_envelope_recipient.specs.Laws.{IsWholeRecipient, KeepsRecipient}
 use Rattle.mta_envelope.specs.declared.envelope.EnvelopeFields.{EnvelopeFields}
 use Rattle.mta_envelope.specs.Contents.{content_as}
 use Rattle.mta_envelope.specs.Laws.{IsWholeEnvelope, KeepsEnvelope}
 use Rattle.mta_envelope.specs.Messages.{MessageValue, message_as}
-use Rattle.mta_reported.specs.declared.outcome.Outcome.{Outcome}
+use Rattle.mta_report_recipient.specs.declared.outcome.Outcome.{Outcome}
 use Rattle.mta_report.specs.declared.fields.ReportFields.{ReportFields}
 use Rattle.mta_report.specs.Laws.{IsWholeReport, KeepsReport}
 use Rattle.mta_report.specs.Reports.{canonical_report}

@@ -6,7 +6,7 @@ use Rattle.std.proofs.lemmas.Bool.{and_parts, both_ways, or_parts, ltb-false, le
 use Rattle.mta_ber.specs.Canon.{element, constructed}
 use Rattle.mta_ber.proofs.RoundTrip.{element_long}
 use Rattle.mta_fields.specs.declared.trace.TraceFields.{TraceFields}
-use Rattle.mta_recipient.specs.declared.recipient.RecipientFields.{RecipientFields}
+use Rattle.mta_envelope_recipient.specs.declared.recipient.RecipientFields.{RecipientFields}
 use Rattle.mta_envelope.specs.declared.envelope.EnvelopeFields.{EnvelopeFields}
 use Rattle.mta_envelope.specs.Messages.{MessageValue, canonical_message, canonical_probe}
 use Rattle.mta_report.specs.declared.fields.ReportFields.{ReportFields}

@@ -2,7 +2,7 @@
 -- originating-MTA-non-delivery-report 2, originator-report 3, originator-non-delivery-report 4.
 use Rattle.std.specs.Prelude.{ℕ, ◌+◌, ◌-◌, ◌^◌, Bool, if◌then◌else◌, ◌||◌}
 use Rattle.mta_ber.specs.Bits.{BitString, bit}
-use Rattle.mta_recipient.specs.declared.recipient.RecipientFields.{RecipientFields}
+use Rattle.mta_envelope_recipient.specs.declared.recipient.RecipientFields.{RecipientFields}
 
 -- the number whose one binary digit is the bit at a place
 abbrev pub weight : BitString → ℕ → ℕ

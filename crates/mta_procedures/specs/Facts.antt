@@ -1,7 +1,7 @@
 -- What a verdict asks of an item and a recipient.
 use Rattle.std.specs.Prelude.{ℕ, Bool, false, [], Option, None, length, slice_get, not}
 use Rattle.std.specs.Option.{option_map_or}
-use Rattle.mta_recipient.specs.declared.recipient.RecipientFields.{RecipientFields}
+use Rattle.mta_envelope_recipient.specs.declared.recipient.RecipientFields.{RecipientFields}
 use Rattle.mta_envelope.specs.declared.envelope.EnvelopeFields.{EnvelopeFields}
 use Rattle.mta_envelope.specs.Messages.{MessageValue}
 use Rattle.mta_report.specs.declared.fields.ReportFields.{ReportFields}

@@ -10,14 +10,14 @@ use Rattle.mta_fields.specs.Domains.{IsDomain}
 use Rattle.mta_fields.specs.Expansions.{canonical_expansion}
 use Rattle.std.specs.List.{flat_map}
 use Rattle.mta_fields.specs.Laws.{IsWholeExpansion}
-use Rattle.mta_common.specs.Indicators.{IsIndicators}
-use Rattle.mta_recipient.specs.declared.recipient.RecipientFields.{RecipientFields}
-use Rattle.mta_recipient.specs.Laws.{IsWholeRecipient}
+use Rattle.mta_envelope_common.specs.Indicators.{IsIndicators}
+use Rattle.mta_envelope_recipient.specs.declared.recipient.RecipientFields.{RecipientFields}
+use Rattle.mta_envelope_recipient.specs.Laws.{IsWholeRecipient}
 use Rattle.mta_envelope.specs.declared.envelope.EnvelopeFields.{EnvelopeFields}
 use Rattle.mta_envelope.specs.Laws.{IsWholeEnvelope, KeepsEnvelope}
 use Rattle.mta_envelope.specs.Messages.{MessageValue}
-use Rattle.mta_reported.specs.declared.outcome.Outcome.{Outcome}
-use Rattle.mta_reported.specs.Values.{IsOutcome}
+use Rattle.mta_report_recipient.specs.declared.outcome.Outcome.{Outcome}
+use Rattle.mta_report_recipient.specs.Values.{IsOutcome}
 use Rattle.mta_report.specs.declared.fields.ReportFields.{ReportFields}
 use Rattle.mta_report.specs.Laws.{IsWholeReport, KeepsReport}
 use Rattle.mta_tables.specs.declared.entry.MailList.{MailList}

@@ -10,10 +10,10 @@ use Rattle.mta_fields.specs.declared.expansion.ExpansionFields.{ExpansionFields}
 use Rattle.mta_fields.specs.declared.extension.ExtFields.{ExtFields}
 use Rattle.mta_fields.specs.declared.extension.ExtKind.TheVariants.{Standard}
 use Rattle.mta_fields.specs.Expansions.{canonical_expansion}
-use Rattle.mta_extensions.specs.declared.value.Topic.TheVariants.{ExpansionHistory}
-use Rattle.mta_extensions.specs.Told.{is_topic}
-use Rattle.mta_extensions.specs.Topics.{topic_of}
-use Rattle.mta_recipient.specs.declared.recipient.RecipientFields.{RecipientFields}
+use Rattle.mta_envelope_extensions.specs.declared.value.Topic.TheVariants.{ExpansionHistory}
+use Rattle.mta_envelope_extensions.specs.Told.{is_topic}
+use Rattle.mta_envelope_extensions.specs.Topics.{topic_of}
+use Rattle.mta_envelope_recipient.specs.declared.recipient.RecipientFields.{RecipientFields}
 use Rattle.mta_envelope.specs.declared.envelope.EnvelopeFields.{EnvelopeFields}
 use Rattle.mta_envelope.specs.Messages.{MessageValue, message_as, canonical_message}
 use Rattle.mta_tables.specs.declared.entry.MailList.{MailList}

@@ -5,13 +5,13 @@ use Rattle.mta_names.specs.declared.attributes.Attributes.{Attributes}
 use Rattle.mta_names.specs.Laws.{KeepsName}
 use Rattle.mta_names.specs.Values.{Each, IsName}
 use Rattle.mta_fields.specs.Domains.{IsDomain}
-use Rattle.mta_recipient.specs.declared.recipient.RecipientFields.{RecipientFields}
+use Rattle.mta_envelope_recipient.specs.declared.recipient.RecipientFields.{RecipientFields}
 use Rattle.mta_envelope.specs.declared.envelope.EnvelopeFields.{EnvelopeFields}
 use Rattle.mta_envelope.specs.Contents.{content_as}
 use Rattle.mta_envelope.specs.Laws.{IsWholeEnvelope, KeepsEnvelope}
 use Rattle.mta_envelope.specs.Messages.{MessageValue, message_as}
-use Rattle.mta_reported.specs.declared.outcome.Outcome.{Outcome}
-use Rattle.mta_reported.specs.Values.{IsOutcome}
+use Rattle.mta_report_recipient.specs.declared.outcome.Outcome.{Outcome}
+use Rattle.mta_report_recipient.specs.Values.{IsOutcome}
 use Rattle.mta_report.specs.declared.fields.ReportFields.{ReportFields}
 use Rattle.mta_report.specs.Reports.{canonical_report}
 use Rattle.mta_apdu.specs.Apdus.{ApduValue, message, probe, report, apdu_of, stored_of, longest_stored, SpellsStored}

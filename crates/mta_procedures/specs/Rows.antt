@@ -8,16 +8,16 @@ use Rattle.mta_names.specs.declared.attributes.Label.{Label}
 use Rattle.mta_names.specs.Values.{nothing}
 use Rattle.mta_fields.specs.declared.domain.DomainFields.{DomainFields}
 use Rattle.mta_fields.specs.declared.identifier.MtsIdFields.{MtsIdFields}
-use Rattle.mta_common.specs.TraceLists.{canonical_trace_list}
-use Rattle.mta_common.specs.declared.kind.ContentKind.TheVariants.{Number}
-use Rattle.mta_recipient.specs.declared.recipient.RecipientFields.{RecipientFields}
+use Rattle.mta_envelope_common.specs.TraceLists.{canonical_trace_list}
+use Rattle.mta_envelope_common.specs.declared.kind.ContentKind.TheVariants.{Number}
+use Rattle.mta_envelope_recipient.specs.declared.recipient.RecipientFields.{RecipientFields}
 use Rattle.mta_envelope.specs.declared.envelope.EnvelopeFields.{EnvelopeFields}
 use Rattle.mta_envelope.specs.declared.priority.Priority.TheVariants.{Normal}
 use Rattle.mta_envelope.specs.Contents.{content_as}
 use Rattle.mta_envelope.specs.Messages.{MessageValue, message_as, canonical_message}
-use Rattle.mta_reported.specs.declared.outcome.Outcome.{Outcome}
-use Rattle.mta_reported.specs.declared.outcome.Outcome.TheVariants.{Delivery, NonDelivery}
-use Rattle.mta_reported.specs.declared.reported.ReportedFields.{ReportedFields}
+use Rattle.mta_report_recipient.specs.declared.outcome.Outcome.{Outcome}
+use Rattle.mta_report_recipient.specs.declared.outcome.Outcome.TheVariants.{Delivery, NonDelivery}
+use Rattle.mta_report_recipient.specs.declared.reported.ReportedFields.{ReportedFields}
 use Rattle.mta_report.specs.declared.fields.ReportFields.{ReportFields}
 use Rattle.mta_tables.specs.declared.entry.MailList.{MailList}
 use Rattle.mta_tables.specs.declared.entry.Route.{Route}

@@ -4,7 +4,7 @@ use Rattle.std.specs.Prelude.{◌≡◌, ℕ, Bool, true, false, List, [], ◌�
 use Rattle.std.specs.Prelude.{if◌then◌else◌, ◌&&◌}
 use Rattle.std.specs.List.{find, list_any}
 use Rattle.std.specs.Option.{option_map_or}
-use Rattle.mta_recipient.specs.declared.recipient.RecipientFields.{RecipientFields}
+use Rattle.mta_envelope_recipient.specs.declared.recipient.RecipientFields.{RecipientFields}
 use Rattle.mta_envelope.specs.declared.envelope.EnvelopeFields.{EnvelopeFields}
 use Rattle.mta_envelope.specs.Messages.{MessageValue}
 use Rattle.mta_report.specs.declared.fields.ReportFields.{ReportFields}

@@ -6,7 +6,7 @@ use Rattle.std.specs.List.{find, list_any, zip}
 use Rattle.mta_names.specs.declared.attributes.Attributes.{Attributes}
 use Rattle.mta_names.specs.Normal.{is_same_name}
 use Rattle.mta_fields.specs.Identifiers.{is_same_id}
-use Rattle.mta_recipient.specs.declared.recipient.RecipientFields.{RecipientFields}
+use Rattle.mta_envelope_recipient.specs.declared.recipient.RecipientFields.{RecipientFields}
 use Rattle.mta_envelope.specs.declared.envelope.EnvelopeFields.{EnvelopeFields}
 use Rattle.mta_report.specs.declared.fields.ReportFields.{ReportFields}
 use Rattle.mta_tables.specs.declared.entry.MailList.{MailList}

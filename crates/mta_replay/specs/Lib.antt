@@ -1,4 +1,10 @@
-pub mod Asked
-pub mod Kept
-pub mod Prepared
+pub mod Found
+pub mod Sound
+pub mod Ready
+pub mod Settleable
 pub mod Settling
+pub mod Changes
+pub mod Failures
+pub mod Laws
+pub mod Opening
+pub mod Starting

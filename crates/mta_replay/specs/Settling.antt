@@ -1,17 +1,17 @@
--- What the discharge of a recipient makes.
-use Rattle.std.specs.Prelude.{◌≡◌, ℕ, List, [], ◌∷◌, map, Some}
-use Rattle.mta_machine.specs.Apdu.{value_of, is_report}
+-- The change that settles one recipient.
+use Rattle.std.specs.Prelude.{ℕ, ◌+◌, ◌^◌, nat_lt, List, length, Option, Some, None, if◌then◌else◌}
 use Rattle.mta_machine.specs.declared.item.Status.{Status}
 use Rattle.mta_machine.specs.declared.item.MailboxLine.{MailboxLine}
-use Rattle.mta_machine.specs.Items.{ItemValue, Machine, numbered}
-use Rattle.mta_machine.specs.Machine.{Discharge, last_tables, status_after, made_for, own_item, lines_of}
+use Rattle.mta_machine.specs.Items.{ItemValue}
+use Rattle.mta_state.specs.declared.parts.Made.{Made}
+use Rattle.mta_state.specs.Parts.{made_items}
+use Rattle.mta_state.specs.declared.change.Change.{Change}
+use Rattle.mta_state.specs.declared.change.Change.TheVariants as change
 
--- the status, the items and the deliveries that the discharge of a recipient leaves
-pub record IsDischarge (m : Machine) (i r : ℕ) (how : Discharge) (moment : ℕ)
-    (status : Status) (made : List ItemValue) (lines : List MailboxLine) : Type 0 where
-  pub item : ItemValue
-  pub item_is : numbered m.items i ≡ Some item
-  pub status_is : status ≡ status_after (is_report (value_of item.octets)) how moment
-  pub made_is : made
-      ≡ map (own_item moment) (made_for m item (numbered m.tables (last_tables m)) (r ∷ []) how moment)
-  pub lines_are : lines ≡ lines_of m i (r ∷ []) how moment
+-- none where an item that is made has no number
+abbrev pub settling_change :
+    List ItemValue → (i r : ℕ) → Status → Made → Option MailboxLine → (moment : ℕ) → Option Change
+settling_change items i r status made line moment =
+    if nat_lt (length items + length (made_items made)) (2 ^ 32)
+    then Some (change.Settle i r status made line moment)
+    else None

@@ -1,18 +1,33 @@
-//! The state of a spool as a value: what a history leads to. It has no disk and no clock.
+//! The state that a history leads to, as a value (`Replay`): steps are taken up where they are possible, and it tells what
+//! is due and what waits. What a step changes is found before its record is written, by a call for each kind of step, and
+//! there is nothing exactly where the step is not possible.
 #![tactic(auto)]
 
-mod change;
-mod delivery;
-mod kept;
-mod on_lane;
-mod rest;
-mod rules;
-mod secure;
-mod verdict;
+mod accept;
+mod complete;
+mod deliver;
+mod different;
+mod failing;
+mod failure;
+mod finds;
+mod law;
+mod looking;
+mod open;
+mod outcome;
+mod prepare;
+mod ready;
+mod replay;
+mod report;
+mod sending;
+mod settling;
+mod start;
 
-pub use change::{Change, Settlement};
-pub use delivery::Delivery;
-pub use kept::Kept;
-pub use rest::{Rest, Submitted};
-pub use rules::Rules;
-pub use verdict::verdict_on;
+pub use accept::{Arrival, prepare_accept, prepare_arrival, prepare_tables};
+pub use complete::prepare_complete;
+pub use deliver::{prepare_affirm, prepare_deliver, prepare_expand};
+pub use law::tables_come_first;
+pub use open::prepare_open;
+pub use outcome::{prepare_abandon, prepare_denied, prepare_refused, prepare_sent};
+pub use replay::{InForce, NotMade, Ready, Replay};
+pub use report::{prepare_back, prepare_discard, prepare_report};
+pub use start::prepare_start;

@@ -19,19 +19,19 @@ use Rattle.mta_names.proofs.Tools.{puts_sound, puts_full, tag_is, picked, not_no
 use Rattle.mta_fields.specs.Identifiers.{id_in, SpellsMtsId}
 use Rattle.mta_fields.specs.Traces.{raw_in}
 use Rattle.mta_fields.proofs.IdentifierLaws.{id_sound, id_full}
-use Rattle.mta_common.specs.ContentIdentifiers.{IsContentId, content_id_in, SpellsContentId}
-use Rattle.mta_common.specs.ContentKinds.{IsContentKind, is_content_kind, content_kind_in, SpellsContentKind}
-use Rattle.mta_common.specs.ExtensionLists.{ext_list_in, SpellsExtList}
-use Rattle.mta_common.proofs.ExtListLaws.{ext_list_sound, ext_list_full}
-use Rattle.mta_common.proofs.KindLaws.{kind_sound, kind_full, kind_is}
+use Rattle.mta_envelope_common.specs.ContentIdentifiers.{IsContentId, content_id_in, SpellsContentId}
+use Rattle.mta_envelope_common.specs.ContentKinds.{IsContentKind, is_content_kind, content_kind_in, SpellsContentKind}
+use Rattle.mta_envelope_common.specs.ExtensionLists.{ext_list_in, SpellsExtList}
+use Rattle.mta_envelope_common.proofs.ExtListLaws.{ext_list_sound, ext_list_full}
+use Rattle.mta_envelope_common.proofs.KindLaws.{kind_sound, kind_full, kind_is}
 use Rattle.mta_report.specs.declared.content.ContentPart.{ContentPart}
 use Rattle.mta_report.specs.declared.content.ContentPart.TheVariants.{Subject, Eits, ContentType, SubjectTrace, ContentId, Recipients, Returned, Additional, Extensions}
 use Rattle.mta_report.specs.declared.content.ContentParts.{ContentParts}
 use Rattle.mta_report.specs.ReportContents.{content_part_of, is_content_tag, content_held, with_subject, with_eits, with_content_kind, with_subject_trace, with_content_id, with_recipients, with_returned, with_additional, with_extensions, content_part_in, content_step_of, content_step, no_content, report_content, content_from, content_in, MakesContentPart, MakesContent, SpellsContent}
 use Rattle.mta_report.specs.ReportValues.{IsReportedRow}
 use Rattle.mta_report.specs.declared.content.ContentFields.{ContentFields}
-use Rattle.mta_reported.specs.ReportedRecipients.{reported_list_in, SpellsReportedList}
-use Rattle.mta_reported.proofs.ReportedLaws.{reported_list_sound, reported_list_full}
+use Rattle.mta_report_recipient.specs.ReportedRecipients.{reported_list_in, SpellsReportedList}
+use Rattle.mta_report_recipient.proofs.ReportedLaws.{reported_list_sound, reported_list_full}
 
 abbrev HasTag : Tag → ContentPart → Type 0
 HasTag t k = is_content_tag k t ≡ true

@@ -17,10 +17,10 @@ use Rattle.mta_names.proofs.NameLaws.{name_sound, name_full}
 use Rattle.mta_names.proofs.Tools.{puts_sound, puts_full, tag_is, picked, not_none, components_sound, components_full, Keeps, spelled_keep}
 use Rattle.mta_fields.specs.Identifiers.{id_in, SpellsMtsId}
 use Rattle.mta_fields.proofs.IdentifierLaws.{id_sound, id_full}
-use Rattle.mta_common.specs.ExtensionLists.{ext_list_in, SpellsExtList}
-use Rattle.mta_common.specs.TraceLists.{trace_list_in, SpellsTraceList}
-use Rattle.mta_common.proofs.ExtListLaws.{ext_list_sound, ext_list_full}
-use Rattle.mta_common.proofs.TraceListLaws.{trace_list_sound, trace_list_full}
+use Rattle.mta_envelope_common.specs.ExtensionLists.{ext_list_in, SpellsExtList}
+use Rattle.mta_envelope_common.specs.TraceLists.{trace_list_in, SpellsTraceList}
+use Rattle.mta_envelope_common.proofs.ExtListLaws.{ext_list_sound, ext_list_full}
+use Rattle.mta_envelope_common.proofs.TraceListLaws.{trace_list_sound, trace_list_full}
 use Rattle.mta_report.specs.declared.envelope.EnvelopePart.{EnvelopePart}
 use Rattle.mta_report.specs.declared.envelope.EnvelopePart.TheVariants.{Destination, Identifier, Trace, Extensions}
 use Rattle.mta_report.specs.declared.envelope.EnvelopeParts.{EnvelopeParts}

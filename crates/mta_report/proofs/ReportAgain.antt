@@ -27,18 +27,18 @@ use Rattle.mta_fields.specs.Identifiers.{SpellsMtsId, canonical_id}
 use Rattle.mta_fields.specs.Laws.{IsWholeId, IsWholeTrace, KeepsTrace, KeepsExtField}
 use Rattle.mta_fields.specs.TraceElements.{canonical_trace}
 use Rattle.mta_fields.proofs.FieldAgain.{identifier_spelled}
-use Rattle.mta_common.specs.declared.kind.ContentKind.{ContentKind}
-use Rattle.mta_common.specs.declared.kind.ContentKind.TheVariants.{Number, Oid}
-use Rattle.mta_common.specs.ContentIdentifiers.{IsContentId, SpellsContentId, canonical_content_id}
-use Rattle.mta_common.specs.ContentKinds.{IsContentKind, SpellsContentKind, kind_in_front, kind_in_place}
-use Rattle.mta_common.specs.ExtensionLists.{SpellsExtList}
-use Rattle.mta_common.specs.TraceLists.{SpellsTraceList, canonical_trace_list}
-use Rattle.mta_common.proofs.Again.{kind_number_spelled, kind_oid_spelled, trace_list_spelled, ext_list_spelled, ext_list_of, write_ext_list, ext_list_written, ext_list_held}
-use Rattle.mta_common.proofs.SetRows.{SetRow, SetPiece, set_none, set_more, set_optional, set_last}
-use Rattle.mta_reported.specs.declared.reported.ReportedFields.{ReportedFields}
-use Rattle.mta_reported.specs.Laws.{IsWholeReported, KeepsReported}
-use Rattle.mta_reported.specs.ReportedRecipients.{SpellsReportedList, canonical_reported, canonical_reported_list}
-use Rattle.mta_reported.proofs.ReportedAgain.{reported_list_spelled}
+use Rattle.mta_envelope_common.specs.declared.kind.ContentKind.{ContentKind}
+use Rattle.mta_envelope_common.specs.declared.kind.ContentKind.TheVariants.{Number, Oid}
+use Rattle.mta_envelope_common.specs.ContentIdentifiers.{IsContentId, SpellsContentId, canonical_content_id}
+use Rattle.mta_envelope_common.specs.ContentKinds.{IsContentKind, SpellsContentKind, kind_in_front, kind_in_place}
+use Rattle.mta_envelope_common.specs.ExtensionLists.{SpellsExtList}
+use Rattle.mta_envelope_common.specs.TraceLists.{SpellsTraceList, canonical_trace_list}
+use Rattle.mta_envelope_common.proofs.Again.{kind_number_spelled, kind_oid_spelled, trace_list_spelled, ext_list_spelled, ext_list_of, write_ext_list, ext_list_written, ext_list_held}
+use Rattle.mta_envelope_common.proofs.SetRows.{SetRow, SetPiece, set_none, set_more, set_optional, set_last}
+use Rattle.mta_report_recipient.specs.declared.reported.ReportedFields.{ReportedFields}
+use Rattle.mta_report_recipient.specs.Laws.{IsWholeReported, KeepsReported}
+use Rattle.mta_report_recipient.specs.ReportedRecipients.{SpellsReportedList, canonical_reported, canonical_reported_list}
+use Rattle.mta_report_recipient.proofs.ReportedAgain.{reported_list_spelled}
 use Rattle.mta_report.specs.declared.content.ContentFields.{ContentFields}
 use Rattle.mta_report.specs.declared.content.ContentPart.TheVariants as contents
 use Rattle.mta_report.specs.declared.content.ContentParts.{ContentParts}

@@ -13,9 +13,9 @@ use Rattle.mta_names.proofs.NameLaws.{name_is}
 use Rattle.mta_fields.proofs.Tagged.{none_tagged_begins}
 use Rattle.mta_fields.specs.Laws.{IsWholeId, KeepsTrace, KeepsExtField}
 use Rattle.mta_fields.proofs.Kept.{identifier_whole}
-use Rattle.mta_common.proofs.Kept.{AreKeptTraces, trace_list_kept, AreKeptFields, ext_list_kept, fields_or_none_kept}
-use Rattle.mta_reported.specs.Laws.{KeepsReported}
-use Rattle.mta_reported.proofs.ReportedKept.{AreKeptRecipients, reported_list_kept}
+use Rattle.mta_envelope_common.proofs.Kept.{AreKeptTraces, trace_list_kept, AreKeptFields, ext_list_kept, fields_or_none_kept}
+use Rattle.mta_report_recipient.specs.Laws.{KeepsReported}
+use Rattle.mta_report_recipient.proofs.ReportedKept.{AreKeptRecipients, reported_list_kept}
 use Rattle.mta_report.specs.declared.content.ContentFields.{ContentFields}
 use Rattle.mta_report.specs.declared.content.ContentPart.{ContentPart}
 use Rattle.mta_report.specs.declared.content.ContentPart.TheVariants as contents

@@ -20,7 +20,7 @@ use Rattle.mta_report.specs.declared.reading.ReportPart.TheVariants.{Envelope, C
 use Rattle.mta_report.specs.declared.reading.ReportParts.{ReportParts}
 use Rattle.mta_report.specs.ReportEnvelopes.{envelope_in, SpellsEnvelope}
 use Rattle.mta_report.specs.ReportContents.{content_in, SpellsContent}
-use Rattle.mta_reported.specs.ReportedRecipients.{is_set}
+use Rattle.mta_report_recipient.specs.ReportedRecipients.{is_set}
 use Rattle.mta_report.specs.ReportValues.{IsTraceRow, IsReport}
 use Rattle.mta_report.specs.Reports.{report_part_of, report_place, report_needed, with_envelope, with_content, report_part_in, report_step_of, report_step, no_report, report, report_from, report_in, MakesReportPart, MakesReport, SpellsReport}
 use Rattle.mta_report.proofs.EnvelopeLaws.{envelope_sound, envelope_full, envelope_trace_is}

@@ -10,7 +10,7 @@ use Rattle.mta_fields.specs.Tagged.{NoTaggedBeginsAnother}
 use Rattle.mta_names.specs.Values.{Each, IsName}
 use Rattle.mta_fields.specs.ExtensionFields.{IsExtField}
 use Rattle.mta_fields.specs.Laws.{IsWholeId, IsWholeTrace, KeepsTrace, KeepsExtField}
-use Rattle.mta_reported.specs.Laws.{IsWholeReported, KeepsReported}
+use Rattle.mta_report_recipient.specs.Laws.{IsWholeReported, KeepsReported}
 use Rattle.mta_report.specs.declared.fields.ReportFields.{ReportFields}
 use Rattle.mta_report.specs.ReportValues.{IsReport}
 use Rattle.mta_report.specs.Reports.{report_in, SpellsReport, canonical_report}

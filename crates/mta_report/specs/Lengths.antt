@@ -3,8 +3,8 @@ use Rattle.std.specs.Prelude.{ℕ, List, ◌++◌}
 use Rattle.mta_ber.specs.Canon.{optional}
 use Rattle.mta_names.specs.Names.{kept}
 use Rattle.mta_fields.specs.Identifiers.{canonical_id}
-use Rattle.mta_common.specs.ContentIdentifiers.{canonical_content_id}
-use Rattle.mta_common.specs.ContentKinds.{kind_in_front, kind_in_place}
+use Rattle.mta_envelope_common.specs.ContentIdentifiers.{canonical_content_id}
+use Rattle.mta_envelope_common.specs.ContentKinds.{kind_in_front, kind_in_place}
 use Rattle.mta_report.specs.declared.fields.ReportFields.{ReportFields}
 
 abbrev pub content_front : ReportFields → List ℕ

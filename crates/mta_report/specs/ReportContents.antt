@@ -15,17 +15,17 @@ use Rattle.mta_fields.specs.declared.extension.ExtFields.{ExtFields}
 use Rattle.mta_fields.specs.declared.identifier.MtsIdFields.{MtsIdFields}
 use Rattle.mta_fields.specs.Identifiers.{id_in, SpellsMtsId, canonical_id}
 use Rattle.mta_fields.specs.Traces.{raw_in}
-use Rattle.mta_common.specs.declared.kind.ContentKind.{ContentKind}
-use Rattle.mta_common.specs.ContentIdentifiers.{content_id_in, SpellsContentId, canonical_content_id}
-use Rattle.mta_common.specs.ContentKinds.{is_content_kind, content_kind_in, SpellsContentKind, kind_in_front, kind_in_place}
-use Rattle.mta_common.specs.ExtensionLists.{ext_list_in, SpellsExtList, canonical_ext_list}
+use Rattle.mta_envelope_common.specs.declared.kind.ContentKind.{ContentKind}
+use Rattle.mta_envelope_common.specs.ContentIdentifiers.{content_id_in, SpellsContentId, canonical_content_id}
+use Rattle.mta_envelope_common.specs.ContentKinds.{is_content_kind, content_kind_in, SpellsContentKind, kind_in_front, kind_in_place}
+use Rattle.mta_envelope_common.specs.ExtensionLists.{ext_list_in, SpellsExtList, canonical_ext_list}
 use Rattle.mta_report.specs.declared.content.ContentPart.{ContentPart}
 use Rattle.mta_report.specs.declared.content.ContentPart.TheVariants.{Subject, Eits, ContentType, SubjectTrace, ContentId, Recipients, Returned, Additional, Extensions}
 use Rattle.mta_report.specs.declared.content.ContentParts.{ContentParts}
 use Rattle.mta_report.specs.declared.content.ContentFields.{ContentFields}
 use Rattle.mta_report.specs.declared.fields.ReportFields.{ReportFields}
-use Rattle.mta_reported.specs.declared.reported.ReportedFields.{ReportedFields}
-use Rattle.mta_reported.specs.ReportedRecipients.{reported_list_in, SpellsReportedList, canonical_reported_list}
+use Rattle.mta_report_recipient.specs.declared.reported.ReportedFields.{ReportedFields}
+use Rattle.mta_report_recipient.specs.ReportedRecipients.{reported_list_in, SpellsReportedList, canonical_reported_list}
 
 abbrev pub content_part_of : Tag → Option ContentPart
 content_part_of t =

@@ -16,8 +16,8 @@ use Rattle.mta_fields.specs.declared.extension.ExtFields.{ExtFields}
 use Rattle.mta_fields.specs.declared.identifier.MtsIdFields.{MtsIdFields}
 use Rattle.mta_fields.specs.declared.trace.TraceFields.{TraceFields}
 use Rattle.mta_fields.specs.Identifiers.{id_in, SpellsMtsId, canonical_id}
-use Rattle.mta_common.specs.ExtensionLists.{ext_list_in, SpellsExtList, canonical_ext_list}
-use Rattle.mta_common.specs.TraceLists.{trace_list_in, SpellsTraceList, canonical_trace_list}
+use Rattle.mta_envelope_common.specs.ExtensionLists.{ext_list_in, SpellsExtList, canonical_ext_list}
+use Rattle.mta_envelope_common.specs.TraceLists.{trace_list_in, SpellsTraceList, canonical_trace_list}
 use Rattle.mta_report.specs.declared.envelope.EnvelopePart.{EnvelopePart}
 use Rattle.mta_report.specs.declared.envelope.EnvelopePart.TheVariants.{Destination, Identifier, Trace, Extensions}
 use Rattle.mta_report.specs.declared.envelope.EnvelopeParts.{EnvelopeParts}

@@ -2,9 +2,9 @@
 use Rattle.std.specs.Prelude.{◌≤◌, List, length, IfSome}
 use Rattle.mta_names.specs.Values.{IsRaw}
 use Rattle.mta_fields.specs.declared.trace.TraceFields.{TraceFields}
-use Rattle.mta_common.specs.ContentIdentifiers.{IsContentId}
-use Rattle.mta_common.specs.ContentKinds.{IsContentKind}
-use Rattle.mta_reported.specs.declared.reported.ReportedFields.{ReportedFields}
+use Rattle.mta_envelope_common.specs.ContentIdentifiers.{IsContentId}
+use Rattle.mta_envelope_common.specs.ContentKinds.{IsContentKind}
+use Rattle.mta_report_recipient.specs.declared.reported.ReportedFields.{ReportedFields}
 use Rattle.mta_report.specs.declared.fields.ReportFields.{ReportFields}
 
 -- 0 to 512 trace elements

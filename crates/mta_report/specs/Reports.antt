@@ -18,7 +18,7 @@ use Rattle.mta_report.specs.declared.reading.ReportPart.TheVariants.{Envelope, C
 use Rattle.mta_report.specs.declared.reading.ReportParts.{ReportParts}
 use Rattle.mta_report.specs.ReportEnvelopes.{envelope_in, SpellsEnvelope, canonical_envelope}
 use Rattle.mta_report.specs.ReportContents.{content_in, SpellsContent, canonical_content}
-use Rattle.mta_reported.specs.ReportedRecipients.{is_set}
+use Rattle.mta_report_recipient.specs.ReportedRecipients.{is_set}
 
 -- the first SET is the envelope, and one behind it the content
 abbrev pub report_part_of : ℕ → Tag → Option ReportPart

@@ -11,13 +11,13 @@ use mta_ber::{
     Components, Kind, Memory, Octets, ReadFault, Tag, Text, View, Writer, bad, is_constructed_tag,
     is_tag_of, take_parts,
 };
-use mta_common::{
+use mta_envelope_common::{
     ContentKind, is_content_kind_tag, put_content_id, put_content_kind_in_front,
     put_content_kind_in_place, put_extensions, read_content_id, read_content_kind, read_extensions,
 };
 use mta_fields::{ExtField, MtsId};
 use mta_names::{Row, constructed, put_around, put_raw_if};
-use mta_reported::{Reported, fields_or_none, put_recipients, read_recipients};
+use mta_report_recipient::{Reported, fields_or_none, put_recipients, read_recipients};
 use std::alloc::Global;
 
 /// What a content has.

@@ -10,10 +10,10 @@ use crate::fields::ReportFields;
 use mta_ber::{
     Components, Kind, Memory, ReadFault, Tag, View, Writer, bad, is_constructed_tag, take_parts,
 };
-use mta_common::{put_extensions, put_trace, read_extensions, read_trace};
+use mta_envelope_common::{put_extensions, put_trace, read_extensions, read_trace};
 use mta_fields::{ExtField, MtsId, TraceElement};
 use mta_names::{OrName, Row, constructed, put_around};
-use mta_reported::fields_or_none;
+use mta_report_recipient::fields_or_none;
 use std::alloc::Global;
 
 /// What an envelope has.

@@ -1,10 +1,10 @@
 //! What a report has.
 
 use mta_ber::{Octets, Text};
-use mta_common::ContentKind;
+use mta_envelope_common::ContentKind;
 use mta_fields::{ExtField, MtsId, TraceElement};
 use mta_names::{OrName, Row};
-use mta_reported::Reported;
+use mta_report_recipient::Reported;
 
 /// What a report has.
 pub struct ReportFields {

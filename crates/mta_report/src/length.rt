@@ -4,19 +4,19 @@
 ghost use Rattle.std.specs.Prelude.{◌≡◌};
 ghost use Rattle.mta_ber.specs.Canon.{optional};
 ghost use Rattle.mta_ber.specs.Lengths.{octet_length};
-ghost use Rattle.mta_common.specs.ContentKinds.{kind_in_front, kind_in_place};
+ghost use Rattle.mta_envelope_common.specs.ContentKinds.{kind_in_front, kind_in_place};
 ghost use Rattle.mta_report.specs.Lengths.{content_front};
 ghost use Rattle.mta_report.specs.ReportContents.{canonical_content};
 ghost use Rattle.mta_report.specs.ReportEnvelopes.{canonical_envelope};
 
 use crate::fields::ReportFields;
 use mta_ber::{element_length, length_of_both};
-use mta_common::{
+use mta_envelope_common::{
     ContentKind, content_id_length, extensions_length, kind_in_front_length, kind_in_place_length,
     trace_length,
 };
 use mta_names::{constructed, raw_length};
-use mta_reported::recipients_length;
+use mta_report_recipient::recipients_length;
 
 fn front_length(kind: &Option<ContentKind>) -> u64
     ensures { result ≡ octet_length (optional kind_in_front kind.now) }

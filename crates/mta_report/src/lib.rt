@@ -14,6 +14,6 @@ pub use laws::{
     no_report_begins_another, reports_are_read_again, reports_that_were_read_are_kept,
     reports_that_were_read_are_read_again,
 };
-pub use mta_common::ContentKind;
-pub use mta_reported::{Moment, Outcome, Reported, ReportedFields};
+pub use mta_envelope_common::ContentKind;
+pub use mta_report_recipient::{Moment, Outcome, Reported, ReportedFields};
 pub use report::Report;

@@ -3,3 +3,12 @@ pub mod Digits
 pub mod Places
 pub mod Chosen
 pub mod Made
+pub mod CaseSteps
+pub mod SameVerdicts
+pub mod Backs
+pub mod ChosenVerdicts
+pub mod Lengths
+pub mod HopPlaces
+pub mod Copies
+pub mod Wholes
+pub mod Columns

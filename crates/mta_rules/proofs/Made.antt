@@ -9,15 +9,15 @@ use Rattle.mta_fields.specs.declared.domain.DomainFields.{DomainFields}
 use Rattle.mta_names.specs.declared.attributes.Attributes.{Attributes}
 use Rattle.mta_fields.specs.declared.extension.ExtFields.{ExtFields}
 use Rattle.mta_fields.specs.declared.trace.TraceFields.{TraceFields}
-use Rattle.mta_common.specs.Indicators.{IsIndicators}
-use Rattle.mta_recipient.specs.declared.recipient.RecipientFields.{RecipientFields}
-use Rattle.mta_recipient.specs.Recipients.{IsRecipient}
+use Rattle.mta_envelope_common.specs.Indicators.{IsIndicators}
+use Rattle.mta_envelope_recipient.specs.declared.recipient.RecipientFields.{RecipientFields}
+use Rattle.mta_envelope_recipient.specs.Recipients.{IsRecipient}
 use Rattle.mta_envelope.specs.declared.envelope.EnvelopeFields.{EnvelopeFields}
 use Rattle.mta_envelope.specs.Envelopes.{IsEnvelope}
-use Rattle.mta_reported.specs.declared.outcome.Outcome.{Outcome}
-use Rattle.mta_reported.specs.declared.reported.ReportedFields.{ReportedFields}
+use Rattle.mta_report_recipient.specs.declared.outcome.Outcome.{Outcome}
+use Rattle.mta_report_recipient.specs.declared.reported.ReportedFields.{ReportedFields}
 use Rattle.mta_report.specs.declared.fields.ReportFields.{ReportFields}
-use Rattle.mta_reported.specs.Values.{IsOutcome, IsReported}
+use Rattle.mta_report_recipient.specs.Values.{IsOutcome, IsReported}
 use Rattle.mta_report.specs.ReportValues.{IsReport}
 use Rattle.mta_tables.specs.Tables.{TablesValue}
 use Rattle.mta_procedures.specs.Bits.{reported_indicators, with_set}

@@ -7,7 +7,7 @@ use Rattle.std.proofs.Math.Nat.{mod-eq_of_lt}
 use Rattle.std.proofs.Math.Pow.{pow-lt}
 use Rattle.mta_ber.specs.Bits.{BitString, bit}
 use Rattle.mta_ber.proofs.BitLaws.{fits_64}
-use Rattle.mta_common.specs.Indicators.{IsIndicators}
+use Rattle.mta_envelope_common.specs.Indicators.{IsIndicators}
 use Rattle.mta_procedures.specs.Bits.{weight, with_word, with_set}
 use Rattle.mta_procedures.proofs.SetLaws.{set_fits}
 

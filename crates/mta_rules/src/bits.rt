@@ -1,7 +1,7 @@
 //! Indicators with one of them set.
 
 ghost use Rattle.std.specs.Prelude.{◌≡◌, ◌<◌};
-ghost use Rattle.mta_common.specs.Indicators.{IsIndicators};
+ghost use Rattle.mta_envelope_common.specs.Indicators.{IsIndicators};
 ghost use Rattle.mta_procedures.specs.Bits.{weight, with_set};
 
 use mta_ber::Bits;

@@ -1,11 +1,22 @@
-//! What a transfer agent makes for a recipient (X.411, clause 14): reports.
+//! What is done with a recipient of a message, a probe or a report (X.411, clause 14): the verdict, and the report.
 #![tactic(auto)]
 
 mod bits;
+mod case;
 mod identifier;
+mod length;
+mod list;
+mod looks;
 mod report;
+mod verdict;
 mod walk;
 
 pub use identifier::put_digits;
+pub use list::is_in_history;
+pub use looks::{expiry, is_expired};
+pub use mta_procedures::Verdict;
 pub use report::{make_report, report_on};
+pub use verdict::{
+    verdict_message, verdict_on_message, verdict_on_probe, verdict_probe, verdict_report,
+};
 pub use walk::{list_named, report_walk};

@@ -1,11 +1,11 @@
 //! The reports that are made here.
 
 ghost use Rattle.std.specs.Prelude.{◌≡◌, ◌-◌, ◌≤◌, ◌∷◌, [], IfOk, Some, length, slice_get};
-ghost use Rattle.mta_recipient.specs.declared.recipient.RecipientFields.{RecipientFields};
+ghost use Rattle.mta_envelope_recipient.specs.declared.recipient.RecipientFields.{RecipientFields};
 ghost use Rattle.mta_ber.specs.Times.{last_moment};
-ghost use Rattle.mta_recipient.specs.Recipients.{IsRecipient};
-ghost use Rattle.mta_common.specs.Indicators.{IsIndicators};
-ghost use Rattle.mta_reported.specs.Values.{IsOutcome};
+ghost use Rattle.mta_envelope_recipient.specs.Recipients.{IsRecipient};
+ghost use Rattle.mta_envelope_common.specs.Indicators.{IsIndicators};
+ghost use Rattle.mta_report_recipient.specs.Values.{IsOutcome};
 ghost use Rattle.mta_procedures.specs.Bits.{reported_indicators};
 ghost use Rattle.mta_procedures.specs.Reports.{reported_of, report_of};
 ghost use Rattle.mta_rules.specs.About.{IsAbout, about_of, told};
@@ -14,14 +14,14 @@ use crate::bits::with_set;
 use crate::identifier::report_id;
 use crate::walk::report_walk;
 use mta_ber::{Bits, Memory, Text};
-use mta_common::ContentKind;
 use mta_copies::{copied_id, copied_kind, copied_text};
 use mta_envelope::{Envelope, EnvelopeFields};
+use mta_envelope_common::ContentKind;
+use mta_envelope_recipient::RecipientFields;
 use mta_fields::{Domain, MtsId};
 use mta_names::{OrName, Row};
-use mta_recipient::RecipientFields;
 use mta_report::{Report, ReportFields};
-use mta_reported::{Outcome, Reported, ReportedFields};
+use mta_report_recipient::{Outcome, Reported, ReportedFields};
 use mta_tables::Tables;
 use std::alloc::Global;
 

@@ -8,7 +8,7 @@ use Rattle.std.proofs.lemmas.Bool.{cases_Bool, eqb-true}
 use Rattle.std.proofs.lemmas.Fmt.{decimal_injective, decimal_by_steps}
 use Rattle.std.proofs.lemmas.List.{append_cancel_left, append-nil, length-append}
 use Rattle.mta_edge.specs.Outside.{Goes}
-use Rattle.mta_streams.specs.Streams.{TakesFront}
+use Rattle.mta_edge.specs.Streams.{TakesFront}
 use Rattle.mta_records.specs.declared.step.Step.{Step}
 use Rattle.mta_records.specs.declared.step.Step.TheVariants.{Accept}
 use Rattle.mta_machine.specs.declared.item.Origin.TheVariants.{Submitted}

@@ -8,7 +8,7 @@ use Rattle.mta_edge.specs.Views.{ClockView, DiskLaws, DiskView, SourceView}
 use Rattle.mta_links.specs.Links.{LinkView, StationView}
 use Rattle.mta_links.specs.declared.role.Role.{Role}
 use Rattle.mta_apdu.specs.Apdus.{longest_apdu}
-use Rattle.mta_lane_lists.specs.Called.{CallOthers}
+use Rattle.mta_lane_list_laws.specs.Called.{CallOthers}
 use Rattle.mta_stations.specs.Roles.{roles_of}
 use Rattle.mta_stations.specs.Stations.{roles_in}
 use Rattle.mta_stations.proofs.RoleLaws.{roles_same}

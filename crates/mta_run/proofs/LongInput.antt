@@ -5,9 +5,9 @@ use Rattle.mta_ber.specs.declared.fault.Kind.TheVariants.{TooLong}
 use Rattle.mta_ber.specs.Head.{fault}
 use Rattle.mta_edge.specs.Views.{SourceView}
 use Rattle.mta_apdu.specs.Apdus.{longest_apdu, front_in, apdu_of}
-use Rattle.mta_streams.specs.declared.read.SourceFault.{SourceFault}
-use Rattle.mta_streams.specs.declared.read.SourceFault.TheVariants as SourceFaults
-use Rattle.mta_streams.specs.Streams.{HasReadCause}
+use Rattle.mta_edge.specs.declared.read.SourceFault.{SourceFault}
+use Rattle.mta_edge.specs.declared.read.SourceFault.TheVariants as SourceFaults
+use Rattle.mta_edge.specs.Streams.{HasReadCause}
 use Rattle.mta_run.specs.Inputs.{HasFirstFault}
 
 read_long : (f : List ℕ) → longest_apdu < length f

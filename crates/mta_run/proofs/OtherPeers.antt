@@ -7,7 +7,7 @@ use Rattle.std.proofs.lemmas.List.Folds.{list_any-append}
 use Rattle.std.proofs.lemmas.Slice.Eq.{bytes_eq-Decides}
 use Rattle.mta_links.specs.declared.role.Role.{Role}
 use Rattle.mta_links.specs.declared.role.Role.TheVariants as Roles
-use Rattle.mta_lane_lists.specs.Called.{CallOthers, IsCalled}
+use Rattle.mta_lane_list_laws.specs.Called.{CallOthers, IsCalled}
 use Rattle.mta_stations.specs.Roles.{role_of, roles_of}
 use Rattle.mta_words.specs.Stations.{calls, MayStand}
 use Rattle.mta_words.specs.Words.{Says}

@@ -5,7 +5,7 @@ use Rattle.std.proofs.Common.{arith, append_assoc, inl, inr}
 use Rattle.std.proofs.lemmas.List.{length-append}
 use Rattle.mta_edge.specs.Views.{SinkView}
 use Rattle.mta_edge.specs.Outside.{Goes, Goes-then}
-use Rattle.mta_streams.specs.Streams.{TakesFront}
+use Rattle.mta_edge.specs.Streams.{TakesFront}
 use Rattle.mta_run.specs.declared.stop.Stop.{Stop}
 use Rattle.mta_run.specs.declared.stop.Stop.TheVariants as Stops
 use Rattle.mta_run.specs.Lines.{line_of, status_of}

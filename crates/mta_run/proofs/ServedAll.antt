@@ -16,7 +16,7 @@ use Rattle.mta_histories.specs.History.{after as after_steps}
 use Rattle.mta_spool.specs.Opening.{HasOpened, HasRefused}
 use Rattle.mta_spool.specs.Shown.{Shown}
 use Rattle.mta_spool.specs.Turning.{IsRecorded}
-use Rattle.mta_lane_lists.specs.Called.{CallOthers}
+use Rattle.mta_lane_list_laws.specs.Called.{CallOthers}
 use Rattle.mta_stations.specs.Peers.{IsNamed, IsUnnamed}
 use Rattle.mta_stations.specs.Roles.{roles_of}
 use Rattle.mta_stations.specs.Stations.{roles_in}

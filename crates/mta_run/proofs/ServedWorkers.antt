@@ -23,14 +23,14 @@ use Rattle.mta_spool.specs.Stands.{step_moment}
 use Rattle.mta_spool.specs.Turning.{IsRecorded}
 use Rattle.mta_stations.specs.Stations.{roles_in}
 use Rattle.mta_stations.specs.declared.end.WorkerEnd.{WorkerEnd}
-use Rattle.mta_worker_lists.specs.Agreeing.{EndsAgree}
-use Rattle.mta_worker_lists.specs.Histories.{AreEntries, is_apdu, TellsApdus}
-use Rattle.mta_lane_lists.specs.Called.{CalledLanesOfStationsAgree, CallOthers}
-use Rattle.mta_lane_lists.specs.Lanes.{LanesOfStationsAgree}
-use Rattle.mta_workers.specs.Wholes.{AreWorkers}
-use Rattle.mta_worker_steps.specs.Steps.{AreMade, AreTimed, Tells as TellsUnder}
-use Rattle.mta_worker_steps.proofs.Turns.{front_records}
-use Rattle.mta_worker_steps.proofs.Workers.{steps_are_timed}
+use Rattle.mta_worker_list_laws.specs.Agreeing.{EndsAgree}
+use Rattle.mta_worker_list_laws.specs.Histories.{AreEntries, is_apdu, TellsApdus}
+use Rattle.mta_lane_list_laws.specs.Called.{CalledLanesOfStationsAgree, CallOthers}
+use Rattle.mta_lane_list_laws.specs.Lanes.{LanesOfStationsAgree}
+use Rattle.mta_worker.specs.Wholes.{AreWorkers}
+use Rattle.mta_worker_step_laws.specs.Steps.{AreMade, AreTimed, Tells as TellsUnder}
+use Rattle.mta_worker_step_laws.proofs.Turns.{front_records}
+use Rattle.mta_worker_step_laws.proofs.Workers.{steps_are_timed}
 use Rattle.mta_run.specs.declared.stop.Stop.{Stop}
 use Rattle.mta_run.specs.Causes.{Cause, disk as cause_disk, full_serving, memory as cause_memory, of_serve}
 use Rattle.mta_run.specs.Causes.{of_worker, PeersNamed, spent_serving}

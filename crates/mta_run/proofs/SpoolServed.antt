@@ -9,7 +9,7 @@ use Rattle.mta_shared.specs.declared.history.Base.{Base}
 use Rattle.mta_spool.specs.Bases.{base_of, Keeps, KeepsOn, where_listed, where_told}
 use Rattle.mta_spool.specs.Shown.{AtOpening, Shown}
 use Rattle.mta_stations.specs.declared.end.WorkerEnd.{WorkerEnd}
-use Rattle.mta_workers.specs.Wholes.{AreWorkers}
+use Rattle.mta_worker.specs.Wholes.{AreWorkers}
 use Rattle.mta_run.specs.declared.stop.Stop.{Stop}
 use Rattle.mta_run.specs.declared.stop.Stop.TheVariants as Stops
 use Rattle.mta_run.specs.Output.{Output}

@@ -10,7 +10,7 @@ use Rattle.mta_tables.specs.Tables.{TablesValue, tables_of}
 use Rattle.mta_tables.specs.Grammar.{IsFirstBadLine}
 use Rattle.mta_apdu.specs.Apdus.{longest_apdu, apdu_of}
 use Rattle.mta_machine.specs.Apdu.{IsApdu}
-use Rattle.mta_streams.specs.Streams.{TakesAtMost}
+use Rattle.mta_edge.specs.Streams.{TakesAtMost}
 use Rattle.mta_run.specs.declared.stop.Stop.{Stop}
 use Rattle.mta_run.specs.declared.stop.Stop.TheVariants as Stops
 use Rattle.mta_run.specs.declared.inputs.Inputs.{Inputs}

@@ -16,10 +16,10 @@ use Rattle.mta_spool.specs.Shown.{Shown}
 use Rattle.mta_stations.specs.declared.end.WorkerEnd.{WorkerEnd}
 use Rattle.mta_stations.specs.Peers.{IsNamed, IsUnnamed}
 use Rattle.mta_stations.specs.Roles.{roles_of}
-use Rattle.mta_lane_lists.specs.Called.{CallOthers}
+use Rattle.mta_lane_list_laws.specs.Called.{CallOthers}
 use Rattle.mta_words.specs.declared.station.StationWord.{StationWord}
 use Rattle.mta_words.specs.declared.words.Words.TheVariants as Say
-use Rattle.mta_workers.specs.Wholes.{AreWorkers}
+use Rattle.mta_worker.specs.Wholes.{AreWorkers}
 use Rattle.mta_run.specs.declared.stop.Stop.{Stop}
 use Rattle.mta_run.specs.declared.stop.Stop.TheVariants as Stops
 use Rattle.mta_run.specs.DiskLeft.{Opening, opened}

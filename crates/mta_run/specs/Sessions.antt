@@ -2,11 +2,11 @@
 use Rattle.std.specs.Prelude.{ℕ, List}
 use Rattle.mta_links.specs.Links.{LinkView}
 use Rattle.mta_records.specs.declared.step.Step.{Step}
-use Rattle.mta_worker_lists.specs.Agreeing.{PartsAgree}
-use Rattle.mta_worker_lists.specs.All.{AllParts, AreGood}
-use Rattle.mta_worker_lists.specs.Histories.{is_apdu}
-use Rattle.mta_lane_lists.specs.Called.{CalledLanesAgree}
-use Rattle.mta_lane_lists.specs.Lanes.{LanesAgree}
+use Rattle.mta_worker_list_laws.specs.Agreeing.{PartsAgree}
+use Rattle.mta_worker_list_laws.specs.All.{AllParts, AreGood}
+use Rattle.mta_worker_list_laws.specs.Histories.{is_apdu}
+use Rattle.mta_lane_list_laws.specs.Called.{CalledLanesAgree}
+use Rattle.mta_lane_list_laws.specs.Lanes.{LanesAgree}
 
 -- The entries behind so many of these, which the workers made, are in parts of the history, one for each session or for
 -- none, and no entry is in two. The list of each session that had a lane is a good one. In each world that has such

@@ -12,8 +12,7 @@ ghost use Rattle.mta_run.specs.Inputs.{HasTables, HasOctets, IsChecked, HasInput
 use crate::stop::{Stop, stop_of_read};
 use mta_apdu::{Apdu, LONGEST_APDU};
 use mta_ber::Kind;
-use mta_edge::{Octets, Source};
-use mta_streams::{SourceFault, read_all};
+use mta_edge::{Octets, Source, SourceFault, read_all};
 use mta_tables::{LineKind, Tables, TablesFault};
 use std::alloc::Global;
 

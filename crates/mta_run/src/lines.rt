@@ -13,8 +13,7 @@ ghost use Rattle.mta_run.specs.Output.{HasTold, HasClosed, output};
 use crate::stop::Stop;
 use mta_apdu_text::put_number;
 use mta_ber::{Kind, Memory, Octets};
-use mta_edge::Sink;
-use mta_streams::put_all;
+use mta_edge::{Sink, put_all};
 use mta_tables::LineKind;
 use std::alloc::Global;
 

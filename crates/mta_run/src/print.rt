@@ -5,8 +5,7 @@ ghost use Rattle.mta_run.specs.Output.{HasShown, output};
 
 use crate::stop::Stop;
 use mta_ber::Octets;
-use mta_edge::Sink;
-use mta_streams::put_all;
+use mta_edge::{Sink, put_all};
 
 /// Prints a text, or hands on why there is none.
 pub fn print<O: Sink>(out: &mut O, text: Result<Octets, Stop>) -> Result<(), Stop>

@@ -25,9 +25,8 @@ use crate::inputs::{Inputs, inputs_of};
 use crate::lines::accepted_line;
 use crate::stop::{Stop, stop_of_step};
 use mta_ber::Octets;
-use mta_edge::{Clock, Disk, Sink, Source};
+use mta_edge::{Clock, Disk, Sink, Source, put_all};
 use mta_spool::{Spool, StepFault, Tables, Turned};
-use mta_streams::put_all;
 use std::alloc::Global;
 
 // Records the tables, where they changed, and takes the APDU; its number.

@@ -7,9 +7,9 @@ use Rattle.mta_lane_send.specs.declared.state.SendState.{SendState}
 use Rattle.mta_lane_send.specs.declared.state.SendState.TheVariants as state
 use Rattle.mta_lane_send.specs.Half.{goes_on, is_ending, is_sending, is_live, is_idle, last_of, confirmed_of}
 use Rattle.mta_lane_recv.specs.Half.{is_done, is_partial_of, takes_piece}
-use Rattle.mta_ends.specs.Sending as s
-use Rattle.mta_ends.specs.Sending.{SendEnd, SendStage, synced}
-use Rattle.mta_ends.specs.Receiving as r
+use Rattle.mta_transfer_rules.specs.Sending as s
+use Rattle.mta_transfer_rules.specs.Sending.{SendEnd, SendStage, synced}
+use Rattle.mta_transfer_rules.specs.Receiving as r
 use Rattle.mta_session.specs.declared.event.Side.{Side}
 use Rattle.mta_session.specs.declared.event.Side.TheVariants as side
 use Rattle.mta_session.specs.declared.event.SessionEnd.TheVariants as end

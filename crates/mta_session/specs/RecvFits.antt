@@ -1,9 +1,9 @@
 -- What a session keeps of the other end's transfer.
 use Rattle.std.specs.Prelude.{◌≡◌, ◌<◌, ◌≤◌, ℕ, ◌+◌, ◌||◌, Bool, true, false, List, length}
 use Rattle.mta_lane_recv.specs.Half.{is_done, stands, takes_piece}
-use Rattle.mta_ends.specs.Receiving as r
+use Rattle.mta_transfer_rules.specs.Receiving as r
 use Rattle.mta_session.specs.Receiving.{piece_limit}
-use Rattle.mta_ends.specs.Receiving.{RecvEnd, RecvStage, may_resume}
+use Rattle.mta_transfer_rules.specs.Receiving.{RecvEnd, RecvStage, may_resume}
 
 -- piece n of k may be made durable, or k is done
 abbrev pub goes : RecvEnd → ℕ → ℕ → Bool

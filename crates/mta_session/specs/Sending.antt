@@ -4,9 +4,9 @@ use Rattle.std.specs.Prelude.{false, Option, Some, None, List, []}
 use Rattle.mta_units.specs.declared.unit.Unit.{Unit as AnyUnit}
 use Rattle.mta_units.specs.declared.unit.Unit.TheVariants as unit
 use Rattle.mta_lane_send.specs.Half.{goes_on, is_ending, is_live, is_idle, last_of, confirmed_of}
-use Rattle.mta_ends.specs.Units as u
-use Rattle.mta_ends.specs.Sending as s
-use Rattle.mta_ends.specs.Sending.{SendEnd, SendStage, is_dropping, synced, is_discarded, stage_got}
+use Rattle.mta_transfer_rules.specs.Units as u
+use Rattle.mta_transfer_rules.specs.Sending as s
+use Rattle.mta_transfer_rules.specs.Sending.{SendEnd, SendStage, is_dropping, synced, is_discarded, stage_got}
 use Rattle.mta_records.specs.Outgoing.{Carried}
 use Rattle.mta_session.specs.declared.phase.OwnStep.{OwnStep}
 use Rattle.mta_session.specs.declared.phase.OwnStep.TheVariants as own

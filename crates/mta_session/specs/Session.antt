@@ -3,8 +3,8 @@ use Rattle.std.specs.Prelude.{◌≡◌, ◌<◌, ℕ, true, false, None, Result
 use Rattle.mta_ber.specs.declared.memory.Memory.{Memory as NoMemory}
 use Rattle.mta_lane_send.specs.declared.state.SendState.TheVariants as state
 use Rattle.mta_lane_recv.specs.declared.state.Last.TheVariants as last
-use Rattle.mta_ends.specs.Sending as s
-use Rattle.mta_ends.specs.Receiving as r
+use Rattle.mta_transfer_rules.specs.Sending as s
+use Rattle.mta_transfer_rules.specs.Receiving as r
 use Rattle.mta_session.specs.declared.event.Side.{Side}
 use Rattle.mta_session.specs.declared.event.Side.TheVariants as side
 use Rattle.mta_session.specs.declared.event.InitiatorPlan.{InitiatorPlan}

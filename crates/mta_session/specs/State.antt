@@ -1,9 +1,9 @@
 -- What a session knows, as contracts see it.
 use Rattle.std.specs.Prelude.{ℕ, ◌*◌, Bool, true, false, Option, Some, None, List, []}
 use Rattle.mta_units.specs.declared.unit.OpenUnit.{OpenUnit}
-use Rattle.mta_ends.specs.Sending.{SendEnd}
-use Rattle.mta_ends.specs.Receiving as r
-use Rattle.mta_ends.specs.Receiving.{RecvEnd, RecvStage}
+use Rattle.mta_transfer_rules.specs.Sending.{SendEnd}
+use Rattle.mta_transfer_rules.specs.Receiving as r
+use Rattle.mta_transfer_rules.specs.Receiving.{RecvEnd, RecvStage}
 use Rattle.mta_session.specs.declared.event.Side.{Side}
 use Rattle.mta_session.specs.declared.event.Side.TheVariants as side
 use Rattle.mta_session.specs.declared.peer.Peer.{Peer}

@@ -18,9 +18,9 @@ use Rattle.mta_lane_send.specs.declared.state.SendState.{SendState}
 use Rattle.mta_lane_send.specs.declared.state.SendState.TheVariants as state
 use Rattle.mta_lane_send.specs.Half.{is_idle, is_ending, is_sending, last_of}
 use Rattle.mta_lane_recv.specs.declared.state.Last.{Last}
-use Rattle.mta_ends.specs.Sending as s
-use Rattle.mta_ends.specs.Sending.{SendStage, IsCut, is_discarded, stage_on_link}
-use Rattle.mta_ends.specs.Receiving as r
+use Rattle.mta_transfer_rules.specs.Sending as s
+use Rattle.mta_transfer_rules.specs.Sending.{SendStage, IsCut, is_discarded, stage_on_link}
+use Rattle.mta_transfer_rules.specs.Receiving as r
 use Rattle.mta_session.specs.declared.ask.Ask.{Ask}
 use Rattle.mta_session.specs.declared.ask.Ask.TheVariants as ask
 use Rattle.mta_session.specs.declared.ask.Reply.{Reply}

@@ -3,9 +3,9 @@
 ghost use Rattle.std.specs.Prelude.{◌≡◌, ◌≤◌, ◌<◌, ◌+◌, ◌*◌, ◌^◌, IfOk, true, length, ℕ};
 ghost use Rattle.mta_session.specs.Rank.{FallsBelow, work};
 ghost use Rattle.mta_lane_send.specs.Half.{confirmed_of};
-ghost use Rattle.mta_ends.specs.Pieces.{piece_of, is_last};
-ghost use Rattle.mta_ends.specs.Units as u;
-ghost use Rattle.mta_ends.specs.Sending as s;
+ghost use Rattle.mta_transfer_rules.specs.Pieces.{piece_of, is_last};
+ghost use Rattle.mta_transfer_rules.specs.Units as u;
+ghost use Rattle.mta_transfer_rules.specs.Sending as s;
 ghost use Rattle.mta_session.specs.Sending.{octets_of};
 ghost use Rattle.mta_session.specs.State.{peer_of};
 ghost use Rattle.mta_session.specs.Follows.{GoesOn};

@@ -2,7 +2,7 @@
 
 ghost use Rattle.std.specs.Prelude.{◌≡◌, false};
 ghost use Rattle.mta_session.specs.State.{is_initiator};
-ghost use Rattle.mta_ends.specs.Sending.{stage_on_link};
+ghost use Rattle.mta_transfer_rules.specs.Sending.{stage_on_link};
 ghost use Rattle.mta_session.specs.Sending.{stage_of};
 ghost use Rattle.mta_session.specs.Wanted.{accepts, answers_link, after_accept, on_receiving, on_resumed};
 ghost use Rattle.mta_session.specs.Fits.{AgreedFor, FitsAt, StepsAs, IsReady, HasLink, IsTold, ResumedFits};

@@ -3,7 +3,7 @@
 ghost use Rattle.std.specs.Prelude.{◌≡◌, true, []};
 ghost use Rattle.mta_session.specs.Rank.{FallsBelow, rank_of_step};
 ghost use Rattle.mta_lane_send.specs.Half.{is_sending};
-ghost use Rattle.mta_ends.specs.Sending as s;
+ghost use Rattle.mta_transfer_rules.specs.Sending as s;
 ghost use Rattle.mta_session.specs.Sending.{stage_of};
 ghost use Rattle.mta_session.specs.Wanted.{Goes_on, abort_of, kind_octet, is_cut, after_step, on_batch, on_due};
 ghost use Rattle.mta_session.specs.Wanted.{on_start, on_still_idle, on_step, on_state, on_secured, on_completed};

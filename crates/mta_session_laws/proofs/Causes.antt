@@ -8,9 +8,9 @@ use Rattle.mta_rtse.specs.declared.types.Request.{Request}
 use Rattle.mta_rtse.specs.declared.types.Request.TheVariants as request
 use Rattle.mta_rtse.specs.declared.types.Answer.{Answer}
 use Rattle.mta_units.specs.declared.unit.OpenUnit.{OpenUnit}
-use Rattle.mta_ends.specs.Units as u
-use Rattle.mta_ends.specs.Receiving as r
-use Rattle.mta_ends.specs.Receiving.{RecvEnd}
+use Rattle.mta_transfer_rules.specs.Units as u
+use Rattle.mta_transfer_rules.specs.Receiving as r
+use Rattle.mta_transfer_rules.specs.Receiving.{RecvEnd}
 use Rattle.mta_records.specs.declared.fault.StepFault.{StepFault}
 use Rattle.mta_records.specs.declared.fault.StepFault.TheVariants as fault
 use Rattle.mta_records.specs.declared.fault.CompleteFault.TheVariants as piece

@@ -5,11 +5,11 @@ use Rattle.mta_units.specs.declared.unit.Unit.{Unit as AnyUnit}
 use Rattle.mta_units.specs.declared.unit.Unit.TheVariants as unit
 use Rattle.mta_lane_send.specs.declared.state.SendState.{SendState}
 use Rattle.mta_lane_send.specs.Half.{is_idle, is_ending, last_of}
-use Rattle.mta_ends.specs.Units.{LaneUnit}
-use Rattle.mta_ends.specs.Units as u
-use Rattle.mta_ends.specs.Sending as s
-use Rattle.mta_ends.specs.Sending.{SendEnd, SendEvent}
-use Rattle.mta_ends.specs.Receiving.{RecvEnd}
+use Rattle.mta_transfer_rules.specs.Units.{LaneUnit}
+use Rattle.mta_transfer_rules.specs.Units as u
+use Rattle.mta_transfer_rules.specs.Sending as s
+use Rattle.mta_transfer_rules.specs.Sending.{SendEnd, SendEvent}
+use Rattle.mta_transfer_rules.specs.Receiving.{RecvEnd}
 use Rattle.mta_records.specs.declared.fault.StepFault.{StepFault}
 use Rattle.mta_records.specs.declared.fault.StepFault.TheVariants as fault
 use Rattle.mta_records.specs.declared.fault.CompleteFault.TheVariants as piece

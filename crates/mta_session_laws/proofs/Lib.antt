@@ -15,3 +15,8 @@ pub mod Whole
 pub mod OpeningRecv
 pub mod EndingRecv
 pub mod WholeRecv
+pub mod Wants
+pub mod Replies
+pub mod OrderedCalls
+pub mod Order
+pub mod Ends

@@ -15,8 +15,8 @@ use Rattle.mta_lane_send.specs.declared.state.SendState.{SendState}
 use Rattle.mta_lane_send.specs.Half.{is_idle, is_ending, last_of}
 use Rattle.mta_lane_recv.specs.declared.state.Last.{Last}
 use Rattle.mta_lane_recv.specs.declared.state.Last.TheVariants as last
-use Rattle.mta_ends.specs.Receiving as r
-use Rattle.mta_ends.specs.Receiving.{RecvEnd, RecvEvent}
+use Rattle.mta_transfer_rules.specs.Receiving as r
+use Rattle.mta_transfer_rules.specs.Receiving.{RecvEnd, RecvEvent}
 use Rattle.mta_records.specs.declared.fault.StepFault.{StepFault}
 use Rattle.mta_records.specs.declared.fault.StepFault.TheVariants as fault
 use Rattle.mta_session.specs.declared.ask.Reply.{Reply}

@@ -1,6 +1,6 @@
 -- The calls of an open session, one after the other.
 use Rattle.std.proofs.Common.{◌≡◌, true, false, List, [], ◌∷◌, ◌++◌, refl, sym, subst}
-use Rattle.mta_ends.specs.Receiving.{RecvEvent}
+use Rattle.mta_transfer_rules.specs.Receiving.{RecvEvent}
 use Rattle.mta_session.specs.declared.phase.Phase.{Phase}
 use Rattle.mta_session.specs.declared.phase.Phase.TheVariants as phase
 use Rattle.mta_session.specs.State.{State}

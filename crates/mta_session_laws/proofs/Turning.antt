@@ -5,10 +5,10 @@ use Rattle.mta_units.specs.declared.unit.Unit.TheVariants as unit
 use Rattle.mta_lane_send.specs.declared.state.SendState.{SendState}
 use Rattle.mta_lane_send.specs.declared.state.SendState.TheVariants as state
 use Rattle.mta_lane_send.specs.Half.{is_idle, is_sending, last_of, confirmed_at}
-use Rattle.mta_ends.specs.Units.{LaneUnit}
-use Rattle.mta_ends.specs.Units as u
-use Rattle.mta_ends.specs.Sending as s
-use Rattle.mta_ends.specs.Sending.{SendEnd, SendEvent}
+use Rattle.mta_transfer_rules.specs.Units.{LaneUnit}
+use Rattle.mta_transfer_rules.specs.Units as u
+use Rattle.mta_transfer_rules.specs.Sending as s
+use Rattle.mta_transfer_rules.specs.Sending.{SendEnd, SendEvent}
 use Rattle.mta_session.specs.declared.phase.OwnStep.{OwnStep}
 use Rattle.mta_session.specs.declared.phase.OwnStep.TheVariants as own
 use Rattle.mta_session.specs.declared.phase.Phase.TheVariants as phase

@@ -6,9 +6,9 @@ use Rattle.mta_units.specs.declared.unit.Unit.{Unit as AnyUnit}
 use Rattle.mta_units.specs.declared.unit.Unit.TheVariants as unit
 use Rattle.mta_lane_recv.specs.declared.state.Last.{Last}
 use Rattle.mta_lane_recv.specs.declared.state.Last.TheVariants as last
-use Rattle.mta_ends.specs.Units as u
-use Rattle.mta_ends.specs.Receiving as r
-use Rattle.mta_ends.specs.Receiving.{RecvEnd, RecvEvent}
+use Rattle.mta_transfer_rules.specs.Units as u
+use Rattle.mta_transfer_rules.specs.Receiving as r
+use Rattle.mta_transfer_rules.specs.Receiving.{RecvEnd, RecvEvent}
 use Rattle.mta_records.specs.declared.fault.StepFault.{StepFault}
 use Rattle.mta_session.specs.declared.ask.Reply.{Reply}
 use Rattle.mta_session.specs.declared.ask.Reply.TheVariants as reply

@@ -6,3 +6,4 @@ pub mod TurningRecv
 pub mod Whole
 pub mod WholeRecv
 pub mod Writing
+pub mod Order

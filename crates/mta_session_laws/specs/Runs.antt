@@ -1,8 +1,8 @@
 -- What a session does while it is open, call by call, as one list of events of each end of its lane.
 use Rattle.std.specs.Prelude.{◌≡◌, ℕ, true, false, Option, None, List, [], ◌∷◌, ◌++◌}
-use Rattle.mta_ends.specs.Units.{LaneUnit}
-use Rattle.mta_ends.specs.Sending.{SendEvent}
-use Rattle.mta_ends.specs.Receiving.{RecvEvent}
+use Rattle.mta_transfer_rules.specs.Units.{LaneUnit}
+use Rattle.mta_transfer_rules.specs.Sending.{SendEvent}
+use Rattle.mta_transfer_rules.specs.Receiving.{RecvEvent}
 use Rattle.mta_session.specs.declared.event.Event.{Event}
 use Rattle.mta_session.specs.declared.event.Action.{Action}
 use Rattle.mta_session.specs.State.{State}

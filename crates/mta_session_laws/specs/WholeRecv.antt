@@ -2,8 +2,8 @@
 use Rattle.std.specs.Prelude.{◌≡◌, ℕ, true, Some, List, [], ◌∷◌}
 use Rattle.mta_lane_recv.specs.declared.state.Last.{Last}
 use Rattle.mta_lane_recv.specs.declared.state.Last.TheVariants as last
-use Rattle.mta_ends.specs.Receiving as r
-use Rattle.mta_ends.specs.Receiving.{RecvEnd, RecvEvent}
+use Rattle.mta_transfer_rules.specs.Receiving as r
+use Rattle.mta_transfer_rules.specs.Receiving.{RecvEnd, RecvEvent}
 use Rattle.mta_session.specs.declared.ask.Reply.TheVariants as reply
 use Rattle.mta_session.specs.declared.event.Event.{Event}
 use Rattle.mta_session.specs.declared.event.Event.TheVariants as event

@@ -5,7 +5,7 @@ use Rattle.mta_links.specs.Links.{LinkView, Talk, Leads}
 use Rattle.mta_units.specs.declared.unit.Unit.{Unit as AnyUnit}
 use Rattle.mta_units.specs.Feed.{Feed}
 use Rattle.mta_units.specs.Canon.{unit_octets}
-use Rattle.mta_unit_links.specs.Carried.{Carried, PutsAll}
+use Rattle.mta_session_run.specs.Carried.{Carried, PutsAll}
 use Rattle.mta_session.specs.declared.ask.Reply.{Reply}
 use Rattle.mta_session.specs.declared.event.Event.{Event}
 use Rattle.mta_session.specs.declared.event.Event.TheVariants as event
@@ -20,7 +20,7 @@ use Rattle.mta_session.specs.Rank.{is_over}
 use Rattle.mta_session_laws.specs.Runs.{Turn, IsTurn}
 use Rattle.mta_session_laws.specs.Whole.{AreCalls}
 use Rattle.mta_session_laws.specs.Writing.{TellsWritable, PutsMayBeWritten}
-use Rattle.mta_session_order.specs.Order.{awaits, is_putting, is_reading, ActionsAreAwaited}
+use Rattle.mta_session_laws.specs.Order.{awaits, is_putting, is_reading, ActionsAreAwaited}
 use Rattle.mta_session_run.specs.Running.{HasPut, HasGot, HasDone, IsRead, units_of, IsCalled, HasTold, PutFor, is_cut, Runs, Not_yet, Goes_on, IsRun, HasRun, HasStopped, IsShort, IsUndone, Not_done, Not_told, Not_put, Exchanged, action_of, RunsAreCalls}
 use Rattle.mta_session_run.specs.declared.came.Came.{Came}
 use Rattle.mta_session_run.specs.declared.link.Done.{Done}

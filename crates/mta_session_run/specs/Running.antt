@@ -6,7 +6,7 @@ use Rattle.mta_links.specs.Links.{LinkView, Talk, Leads}
 use Rattle.mta_units.specs.declared.unit.Unit.{Unit as AnyUnit}
 use Rattle.mta_units.specs.Feed.{Feed}
 use Rattle.mta_units.specs.Canon.{unit_octets}
-use Rattle.mta_unit_links.specs.Carried.{Carried, Fronted, IsOver, PutsAll, PutsFront}
+use Rattle.mta_session_run.specs.Carried.{Carried, Fronted, IsOver, PutsAll, PutsFront}
 use Rattle.mta_session.specs.declared.event.Event.{Event}
 use Rattle.mta_session.specs.declared.event.Event.TheVariants as event
 use Rattle.mta_session.specs.declared.event.Action.{Action}
@@ -17,7 +17,7 @@ use Rattle.mta_session.specs.Rank.{calls_left, is_over}
 use Rattle.mta_session_laws.specs.Runs.{Turn, IsTurn}
 use Rattle.mta_session_laws.specs.Whole.{IsNew, AreCalls}
 use Rattle.mta_session_laws.specs.Writing.{CanWrite, TellsWritable, PutsWritable}
-use Rattle.mta_session_order.specs.Order.{awaits}
+use Rattle.mta_session_laws.specs.Order.{awaits}
 use Rattle.mta_session_run.specs.declared.came.Came.{Came}
 use Rattle.mta_session_run.specs.declared.came.Came.TheVariants as came
 use Rattle.mta_session_run.specs.declared.link.Done.{Done}

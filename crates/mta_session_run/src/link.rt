@@ -3,16 +3,17 @@
 ghost use Rattle.std.specs.Prelude.{◌≡◌, ◌≤◌, List, ℕ, Option, IfOk, OnErr};
 ghost use Rattle.mta_links.specs.Links.{Leads, Talk};
 ghost use Rattle.mta_session_laws.specs.Writing.{PutsWritable};
-ghost use Rattle.mta_unit_links.specs.Carried.{Carried, Fronted};
+ghost use Rattle.mta_session_run.specs.Carried.{Carried, Fronted};
 ghost use Rattle.mta_units.specs.Canon.{IsWritable};
 ghost use Rattle.mta_units.specs.declared.unit.Unit.{Unit as AnyUnit};
 ghost use Rattle.mta_session_run.specs.Running.{HasPut, HasGot, Exchanged, IsUndone};
 
 use crate::came::Came;
+use crate::get::{Heard, get_unit};
+use crate::put::put_unit;
 use mta_ber::Memory;
 use mta_links::Link;
 use mta_session::{Action, Event};
-use mta_unit_links::{Heard, get_unit, put_unit};
 use mta_units::{Frames, Unit};
 use std::alloc::Global;
 

@@ -10,8 +10,7 @@ use crate::link::{Done, exchange};
 use mta_ber::Memory;
 use mta_links::Link;
 use mta_session::{Action, Event, Session};
-use mta_session_laws::units_put_may_be_written;
-use mta_session_order::actions_are_awaited;
+use mta_session_laws::{actions_are_awaited, units_put_may_be_written};
 use mta_units::Frames;
 use std::alloc::Global;
 

@@ -1,10 +1,10 @@
 -- Components of deliveries that are neighbours may change places.
 use Rattle.std.proofs.Common.{◌≡◌, ℕ, false, List, refl}
 use Rattle.mta_ber.specs.declared.tag.Tag.{Tag}
-use Rattle.mta_reported.specs.declared.delivery.DeliveryPart.{DeliveryPart}
-use Rattle.mta_reported.specs.declared.delivery.DeliveryPart.TheVariants.{Moment, User}
-use Rattle.mta_reported.specs.declared.delivery.DeliveryParts.{DeliveryParts}
-use Rattle.mta_reported.specs.Deliveries.{MakesDelivery, MakesDeliveryPart, delivery_held, with_moment, with_user}
+use Rattle.mta_report_recipient.specs.declared.delivery.DeliveryPart.{DeliveryPart}
+use Rattle.mta_report_recipient.specs.declared.delivery.DeliveryPart.TheVariants.{Moment, User}
+use Rattle.mta_report_recipient.specs.declared.delivery.DeliveryParts.{DeliveryParts}
+use Rattle.mta_report_recipient.specs.Deliveries.{MakesDelivery, MakesDeliveryPart, delivery_held, with_moment, with_user}
 use Rattle.mta_set_laws.specs.Orders.{ChangePlaces}
 use Rattle.mta_set_laws.proofs.Slots.{Slot, moved, twice}
 

@@ -5,9 +5,9 @@ use Rattle.mta_ber.specs.Bits.{BitString}
 use Rattle.mta_names.specs.declared.attributes.Attributes.{Attributes}
 use Rattle.mta_fields.specs.declared.identifier.MtsIdFields.{MtsIdFields}
 use Rattle.mta_fields.specs.declared.trace.TraceFields.{TraceFields}
-use Rattle.mta_common.specs.declared.kind.ContentKind.{ContentKind}
-use Rattle.mta_extensions.specs.declared.extensions.Extensions.{Extensions}
-use Rattle.mta_recipient.specs.declared.recipient.RecipientFields.{RecipientFields}
+use Rattle.mta_envelope_common.specs.declared.kind.ContentKind.{ContentKind}
+use Rattle.mta_envelope_extensions.specs.declared.extensions.Extensions.{Extensions}
+use Rattle.mta_envelope_recipient.specs.declared.recipient.RecipientFields.{RecipientFields}
 use Rattle.mta_envelope.specs.declared.priority.Priority.{Priority}
 use Rattle.mta_envelope.specs.declared.parts.EnvelopePart.{EnvelopePart}
 use Rattle.mta_envelope.specs.declared.parts.EnvelopePart.TheVariants.{Originator, Identifier, InformationTypes, ContentType, MessagePriority, Indicators, TraceList, ContentIdentifier, Deferral, Length, Bilateral, RecipientList, ExtensionSet}

@@ -1,10 +1,10 @@
 -- Components of non-deliveries that are neighbours may change places.
 use Rattle.std.proofs.Common.{◌≡◌, ℕ, false, List, refl}
 use Rattle.mta_ber.specs.declared.tag.Tag.{Tag}
-use Rattle.mta_reported.specs.declared.failure.FailurePart.{FailurePart}
-use Rattle.mta_reported.specs.declared.failure.FailurePart.TheVariants.{Reason, Diagnostic}
-use Rattle.mta_reported.specs.declared.failure.FailureParts.{FailureParts}
-use Rattle.mta_reported.specs.Failures.{MakesFailure, MakesFailurePart, failure_held, with_diagnostic, with_reason}
+use Rattle.mta_report_recipient.specs.declared.failure.FailurePart.{FailurePart}
+use Rattle.mta_report_recipient.specs.declared.failure.FailurePart.TheVariants.{Reason, Diagnostic}
+use Rattle.mta_report_recipient.specs.declared.failure.FailureParts.{FailureParts}
+use Rattle.mta_report_recipient.specs.Failures.{MakesFailure, MakesFailurePart, failure_held, with_diagnostic, with_reason}
 use Rattle.mta_set_laws.specs.Orders.{ChangePlaces}
 use Rattle.mta_set_laws.proofs.Slots.{Slot, moved, twice}
 

@@ -1,13 +1,13 @@
 -- Octets of the components of a value spell it in any order.
 use Rattle.mta_names.specs.Persons.{MakesPerson, no_person}
 use Rattle.mta_fields.specs.Traces.{MakesSupplied, no_supplied}
-use Rattle.mta_reported.specs.Deliveries.{MakesDelivery, no_delivery}
-use Rattle.mta_reported.specs.Failures.{MakesFailure, no_failure}
-use Rattle.mta_reported.specs.LastTraces.{MakesLast, no_last}
-use Rattle.mta_reported.specs.ReportedRecipients.{MakesReported, no_reported}
+use Rattle.mta_report_recipient.specs.Deliveries.{MakesDelivery, no_delivery}
+use Rattle.mta_report_recipient.specs.Failures.{MakesFailure, no_failure}
+use Rattle.mta_report_recipient.specs.LastTraces.{MakesLast, no_last}
+use Rattle.mta_report_recipient.specs.ReportedRecipients.{MakesReported, no_reported}
 use Rattle.mta_report.specs.ReportEnvelopes.{MakesEnvelope as MakesReportEnvelope, no_envelope as no_report_envelope}
 use Rattle.mta_report.specs.ReportContents.{MakesContent, no_content}
-use Rattle.mta_recipient.specs.Recipients.{MakesRecipient, no_recipient}
+use Rattle.mta_envelope_recipient.specs.Recipients.{MakesRecipient, no_recipient}
 use Rattle.mta_envelope.specs.Components.{MakesEnvelope, no_envelope}
 use Rattle.mta_set_laws.specs.Laws.{SuppliedInformationInAnyOrder}
 use Rattle.mta_set_laws.specs.Laws.{PersonalNamesInAnyOrder, DeliveriesInAnyOrder, NonDeliveriesInAnyOrder, LastTracesInAnyOrder, ReportedRecipientsInAnyOrder, ReportEnvelopesInAnyOrder, ReportContentsInAnyOrder, RecipientsInAnyOrder, EnvelopesInAnyOrder}

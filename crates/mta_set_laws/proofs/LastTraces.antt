@@ -1,11 +1,11 @@
 -- Components of last traces that are neighbours may change places.
 use Rattle.std.proofs.Common.{◌≡◌, ℕ, false, List, refl}
 use Rattle.mta_ber.specs.declared.tag.Tag.{Tag}
-use Rattle.mta_reported.specs.declared.outcome.Outcome.{Outcome}
-use Rattle.mta_reported.specs.declared.last.LastPart.{LastPart}
-use Rattle.mta_reported.specs.declared.last.LastPart.TheVariants.{Arrival, ReportType, Converted}
-use Rattle.mta_reported.specs.declared.last.LastParts.{LastParts}
-use Rattle.mta_reported.specs.LastTraces.{MakesLast, MakesLastPart, last_held, with_arrival, with_converted, with_outcome}
+use Rattle.mta_report_recipient.specs.declared.outcome.Outcome.{Outcome}
+use Rattle.mta_report_recipient.specs.declared.last.LastPart.{LastPart}
+use Rattle.mta_report_recipient.specs.declared.last.LastPart.TheVariants.{Arrival, ReportType, Converted}
+use Rattle.mta_report_recipient.specs.declared.last.LastParts.{LastParts}
+use Rattle.mta_report_recipient.specs.LastTraces.{MakesLast, MakesLastPart, last_held, with_arrival, with_converted, with_outcome}
 use Rattle.mta_set_laws.specs.Orders.{ChangePlaces}
 use Rattle.mta_set_laws.proofs.Slots.{Slot, moved, twice}
 

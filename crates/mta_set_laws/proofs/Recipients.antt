@@ -4,10 +4,10 @@ use Rattle.mta_ber.specs.declared.tag.Tag.{Tag}
 use Rattle.mta_ber.specs.Bits.{BitString}
 use Rattle.mta_names.specs.declared.attributes.Attributes.{Attributes}
 use Rattle.mta_fields.specs.declared.extension.ExtFields.{ExtFields}
-use Rattle.mta_recipient.specs.declared.parts.RecipientPart.{RecipientPart}
-use Rattle.mta_recipient.specs.declared.parts.RecipientPart.TheVariants.{Addressee, Number, Indicators, Conversion, Extensions}
-use Rattle.mta_recipient.specs.declared.parts.RecipientParts.{RecipientParts}
-use Rattle.mta_recipient.specs.Recipients.{MakesRecipient, MakesRecipientPart, with_conversion, with_extensions, with_indicators, with_name, with_number}
+use Rattle.mta_envelope_recipient.specs.declared.parts.RecipientPart.{RecipientPart}
+use Rattle.mta_envelope_recipient.specs.declared.parts.RecipientPart.TheVariants.{Addressee, Number, Indicators, Conversion, Extensions}
+use Rattle.mta_envelope_recipient.specs.declared.parts.RecipientParts.{RecipientParts}
+use Rattle.mta_envelope_recipient.specs.Recipients.{MakesRecipient, MakesRecipientPart, with_conversion, with_extensions, with_indicators, with_name, with_number}
 use Rattle.mta_set_laws.specs.Orders.{ChangePlaces}
 use Rattle.mta_set_laws.proofs.Slots.{Field, moved_field, twice_in_field}
 

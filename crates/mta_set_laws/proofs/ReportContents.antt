@@ -3,11 +3,11 @@ use Rattle.std.proofs.Common.{◌≡◌, ℕ, false, List, refl}
 use Rattle.mta_ber.specs.declared.tag.Tag.{Tag}
 use Rattle.mta_fields.specs.declared.extension.ExtFields.{ExtFields}
 use Rattle.mta_fields.specs.declared.identifier.MtsIdFields.{MtsIdFields}
-use Rattle.mta_common.specs.declared.kind.ContentKind.{ContentKind}
+use Rattle.mta_envelope_common.specs.declared.kind.ContentKind.{ContentKind}
 use Rattle.mta_report.specs.declared.content.ContentPart.{ContentPart}
 use Rattle.mta_report.specs.declared.content.ContentPart.TheVariants.{Subject, Eits, ContentType, SubjectTrace, ContentId, Recipients, Returned, Additional, Extensions}
 use Rattle.mta_report.specs.declared.content.ContentParts.{ContentParts}
-use Rattle.mta_reported.specs.declared.reported.ReportedFields.{ReportedFields}
+use Rattle.mta_report_recipient.specs.declared.reported.ReportedFields.{ReportedFields}
 use Rattle.mta_report.specs.ReportContents.{MakesContent, MakesContentPart, content_held, with_additional, with_content_id, with_content_kind, with_eits, with_extensions, with_recipients, with_returned, with_subject, with_subject_trace}
 use Rattle.mta_set_laws.specs.Orders.{ChangePlaces}
 use Rattle.mta_set_laws.proofs.Slots.{Slot, moved, twice}

@@ -4,11 +4,11 @@ use Rattle.mta_ber.specs.declared.tag.Tag.{Tag}
 use Rattle.mta_ber.specs.Bits.{BitString}
 use Rattle.mta_names.specs.declared.attributes.Attributes.{Attributes}
 use Rattle.mta_fields.specs.declared.extension.ExtFields.{ExtFields}
-use Rattle.mta_reported.specs.declared.reported.ReportedPart.{ReportedPart}
-use Rattle.mta_reported.specs.declared.reported.ReportedPart.TheVariants.{Actual, Number, Indicators, Last, Intended, Supplementary, Extensions}
-use Rattle.mta_reported.specs.declared.reported.ReportedParts.{ReportedParts}
-use Rattle.mta_reported.specs.declared.last.LastTrace.{LastTrace}
-use Rattle.mta_reported.specs.ReportedRecipients.{MakesReported, MakesReportedPart, reported_held, with_extensions, with_indicators, with_intended, with_last, with_name, with_number, with_supplementary}
+use Rattle.mta_report_recipient.specs.declared.reported.ReportedPart.{ReportedPart}
+use Rattle.mta_report_recipient.specs.declared.reported.ReportedPart.TheVariants.{Actual, Number, Indicators, Last, Intended, Supplementary, Extensions}
+use Rattle.mta_report_recipient.specs.declared.reported.ReportedParts.{ReportedParts}
+use Rattle.mta_report_recipient.specs.declared.last.LastTrace.{LastTrace}
+use Rattle.mta_report_recipient.specs.ReportedRecipients.{MakesReported, MakesReportedPart, reported_held, with_extensions, with_indicators, with_intended, with_last, with_name, with_number, with_supplementary}
 use Rattle.mta_set_laws.specs.Orders.{ChangePlaces}
 use Rattle.mta_set_laws.proofs.Slots.{Slot, moved, twice}
 

@@ -5,22 +5,22 @@ use Rattle.std.specs.List.{concat}
 use Rattle.mta_ber.specs.declared.tag.Tag.{Tag}
 use Rattle.mta_names.specs.declared.attributes.PersonFields.{PersonFields}
 use Rattle.mta_fields.specs.declared.supplied.Supplied.{Supplied}
-use Rattle.mta_reported.specs.declared.outcome.Outcome.{Outcome}
-use Rattle.mta_reported.specs.declared.last.LastTrace.{LastTrace}
-use Rattle.mta_reported.specs.declared.reported.ReportedFields.{ReportedFields}
+use Rattle.mta_report_recipient.specs.declared.outcome.Outcome.{Outcome}
+use Rattle.mta_report_recipient.specs.declared.last.LastTrace.{LastTrace}
+use Rattle.mta_report_recipient.specs.declared.reported.ReportedFields.{ReportedFields}
 use Rattle.mta_report.specs.declared.envelope.EnvelopeFields.{EnvelopeFields as ReportEnvelopeFields}
 use Rattle.mta_report.specs.declared.content.ContentFields.{ContentFields}
-use Rattle.mta_recipient.specs.declared.recipient.RecipientFields.{RecipientFields}
+use Rattle.mta_envelope_recipient.specs.declared.recipient.RecipientFields.{RecipientFields}
 use Rattle.mta_envelope.specs.declared.envelope.EnvelopeFields.{EnvelopeFields}
 use Rattle.mta_names.specs.Persons.{SpellsPerson}
 use Rattle.mta_fields.specs.Traces.{SpellsSupplied}
-use Rattle.mta_reported.specs.Deliveries.{SpellsDelivery}
-use Rattle.mta_reported.specs.Failures.{SpellsFailure}
-use Rattle.mta_reported.specs.LastTraces.{SpellsLast}
-use Rattle.mta_reported.specs.ReportedRecipients.{SpellsReported}
+use Rattle.mta_report_recipient.specs.Deliveries.{SpellsDelivery}
+use Rattle.mta_report_recipient.specs.Failures.{SpellsFailure}
+use Rattle.mta_report_recipient.specs.LastTraces.{SpellsLast}
+use Rattle.mta_report_recipient.specs.ReportedRecipients.{SpellsReported}
 use Rattle.mta_report.specs.ReportEnvelopes.{SpellsEnvelope as SpellsReportEnvelope}
 use Rattle.mta_report.specs.ReportContents.{SpellsContent}
-use Rattle.mta_recipient.specs.Recipients.{SpellsRecipient}
+use Rattle.mta_envelope_recipient.specs.Recipients.{SpellsRecipient}
 use Rattle.mta_envelope.specs.Envelopes.{SpellsEnvelope}
 use Rattle.mta_set_laws.specs.Orders.{IsOrderOf}
 

@@ -4,7 +4,7 @@ use Rattle.std.specs.Prelude.{ℕ, ◌+◌, List, [], ◌∷◌, ◌++◌, Optio
 use Rattle.std.specs.Prelude.{slice_get, codes, decimal}
 use Rattle.mta_ber.specs.declared.fault.Fault.{Fault}
 use Rattle.mta_fields.specs.declared.identifier.MtsIdFields.{MtsIdFields}
-use Rattle.mta_recipient.specs.declared.recipient.RecipientFields.{RecipientFields}
+use Rattle.mta_envelope_recipient.specs.declared.recipient.RecipientFields.{RecipientFields}
 use Rattle.mta_apdu.specs.Apdus.{ApduValue, message, probe, report, stored_of}
 use Rattle.mta_apdu_text.specs.Pieces.{moment_text, id_text}
 use Rattle.mta_machine.specs.Items.{ItemValue}

@@ -15,10 +15,10 @@ use crate::status::put_status_line_if;
 use mta_apdu::Apdu;
 use mta_apdu_text::{put_id, put_moment, put_number};
 use mta_ber::{Memory, Octets, ReadFault};
+use mta_envelope_recipient::Recipient;
 use mta_fields::MtsId;
 use mta_lanes::Lane;
 use mta_machine::{Item, Status};
-use mta_recipient::Recipient;
 use std::alloc::Global;
 
 fn word_of(apdu: &Apdu) -> &'static [u8]

@@ -11,8 +11,8 @@ use Rattle.mta_journal.specs.Bodies.{longest_body, magic, front, open_record, Ar
 use Rattle.mta_images.specs.Image.{StopsAt, size_of}
 use Rattle.mta_histories.proofs.Runs.{after_from-more, possible-more}
 use Rattle.mta_images.proofs.Bodies.{map-more, are-records-more, size-more}
-use Rattle.mta_state.specs.declared.replay.NotMade.{NotMade}
-use Rattle.mta_state.specs.declared.replay.NotMade.TheVariants as NotMades
+use Rattle.mta_replay.specs.declared.replay.NotMade.{NotMade}
+use Rattle.mta_replay.specs.declared.replay.NotMade.TheVariants as NotMades
 use Rattle.mta_spool.specs.Replaying.{HasReplayed, HasStopped, HasTaken, IsReplay, open_why}
 
 -- ---- a row of bodies

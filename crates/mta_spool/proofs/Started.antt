@@ -24,7 +24,7 @@ use Rattle.mta_histories.specs.Kept.{IsFilled}
 use Rattle.mta_histories.specs.Numbers.{numbers_on}
 use Rattle.mta_histories.proofs.LaneLists.{each-at, number-at}
 use Rattle.mta_histories.proofs.Shown.{put-found}
-use Rattle.mta_replay.specs.Asked.{IsStored, Relays}
+use Rattle.mta_state.specs.Asked.{IsStored, Relays}
 use Rattle.mta_spool.specs.OnLanes.{refusal_on}
 use Rattle.mta_spool.specs.Refusals.{IsRefused}
 use Rattle.mta_spool.specs.Stands.{IsSpent, Makes}

@@ -7,8 +7,8 @@ use Rattle.mta_histories.specs.History.{IsHistory, IsPossible, after, after_step
 use Rattle.mta_images.specs.Image.{AreRecords, StopsAt}
 use Rattle.mta_journal.specs.declared.why.OpenWhy.{OpenWhy}
 use Rattle.mta_journal.specs.declared.why.OpenWhy.TheVariants as Whys
-use Rattle.mta_state.specs.declared.replay.NotMade.{NotMade}
-use Rattle.mta_state.specs.declared.replay.NotMade.TheVariants as NotMades
+use Rattle.mta_replay.specs.declared.replay.NotMade.{NotMade}
+use Rattle.mta_replay.specs.declared.replay.NotMade.TheVariants as NotMades
 
 -- the step of a body was taken up, or it has none that is possible
 pub record HasTaken {T : Type 0} (body : List ℕ) (old new : State) (result : Result T NotMade) : Type 0 where

@@ -10,7 +10,7 @@ use Rattle.mta_machine.specs.Items.{ItemValue, names}
 use Rattle.mta_machine.specs.Rules.{outgoing_copy, verdict_of}
 use Rattle.mta_histories.specs.Lanes.{Transfer, Lane, State, lane_at}
 use Rattle.mta_histories.specs.History.{CanStart, IsPossible}
-use Rattle.mta_replay.specs.Asked.{Relays}
+use Rattle.mta_state.specs.Asked.{Relays}
 use Rattle.mta_spool.specs.Shown.{Shown}
 use Rattle.mta_spool.specs.Turning.{IsUnchanged}
 

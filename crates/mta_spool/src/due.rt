@@ -6,12 +6,12 @@ ghost use Rattle.mta_records.specs.Body.{HasFields};
 ghost use Rattle.mta_histories.specs.Classes.{abandon, class_of, moment_of, settle, was_denied, was_refused};
 ghost use Rattle.mta_histories.specs.Lanes.{lane_at};
 ghost use Rattle.mta_histories.specs.Numbers.{numbers_needed, numbers_on, recipient_count};
-ghost use Rattle.mta_replay.specs.Kept.{state_of};
+ghost use Rattle.mta_state.specs.Kept.{state_of};
 ghost use Rattle.mta_spool.specs.Due.{IsDueStep};
 
 use mta_lanes::{Lane, Lanes};
 use mta_records::Step;
-use mta_replay::Kept;
+use mta_state::Kept;
 
 // How many recipients the activity of a lane has.
 fn recipient_count(lane: &Lane) -> usize

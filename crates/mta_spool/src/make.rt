@@ -11,9 +11,9 @@ ghost use Rattle.std.specs.Prelude.{◌≡◌, ◌≤◌, length, false};
 ghost use Rattle.mta_records.specs.Body.{HasFields, body_of};
 ghost use Rattle.mta_journal.specs.Bodies.{longest_body};
 ghost use Rattle.mta_histories.specs.History.{IsPossible};
-ghost use Rattle.mta_replay.specs.Kept.{state_of};
+ghost use Rattle.mta_state.specs.Kept.{state_of};
 ghost use Rattle.mta_table_rules.specs.Text.{text_of};
-ghost use Rattle.mta_state.specs.Sound.{IsSound};
+ghost use Rattle.mta_replay.specs.Sound.{IsSound};
 ghost use Rattle.mta_spool.specs.Making.{step_fault};
 ghost use Rattle.mta_spool.specs.Stands.{fault_of, IsSpent, Makes};
 
@@ -21,7 +21,7 @@ use crate::entries::Entries;
 use mta_edge::Disk;
 use mta_journal::{AppendFault, Journal};
 use mta_records::{Step, StepFault, write_record};
-use mta_state::Replay;
+use mta_replay::Replay;
 use mta_table_rules::TableRules;
 use std::alloc::Global;
 

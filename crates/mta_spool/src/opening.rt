@@ -10,7 +10,7 @@ use crate::spool::Spool;
 use mta_ber::Word;
 use mta_edge::{Clock, Disk};
 use mta_records::{LaneRole, Reference, Step, StepFault};
-use mta_replay::Rules;
+use mta_state::Rules;
 
 // The most open lanes of a role with one peer.
 const MOST_LANES: u32 = 64;

@@ -6,15 +6,15 @@
 
 ghost use Rattle.std.specs.Prelude.{◌≡◌, ◌<◌, ◌+◌, ◌^◌, length, IfErr, IfOk};
 ghost use Rattle.mta_journal.specs.Bodies.{AreShort, front};
-ghost use Rattle.mta_replay.specs.Kept.{state_of};
+ghost use Rattle.mta_state.specs.Kept.{state_of};
 ghost use Rattle.mta_table_rules.specs.Text.{text_of};
-ghost use Rattle.mta_state.specs.Sound.{IsSound};
+ghost use Rattle.mta_replay.specs.Sound.{IsSound};
 ghost use Rattle.mta_spool.specs.Replaying.{HasReplayed, HasStopped, HasTaken, open_why};
 
 use mta_ber::Octets;
 use mta_journal::OpenWhy;
 use mta_records::{RecordFault, read_record};
-use mta_state::{NotMade, Replay};
+use mta_replay::{NotMade, Replay};
 use mta_table_rules::TableRules;
 use std::alloc::Global;
 

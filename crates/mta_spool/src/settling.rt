@@ -10,15 +10,15 @@ ghost use Rattle.mta_histories.specs.Classes.{settle, was_denied, was_refused, w
 ghost use Rattle.mta_histories.specs.History.{IsOnLane};
 ghost use Rattle.mta_histories.specs.Lanes.{lane_at};
 ghost use Rattle.mta_histories.specs.Numbers.{numbers_on};
-ghost use Rattle.mta_replay.specs.Kept.{state_of};
-ghost use Rattle.mta_replay.specs.Prepared.{Allows};
+ghost use Rattle.mta_state.specs.Kept.{state_of};
+ghost use Rattle.mta_state.specs.Prepared.{Allows};
 
 use crate::due::needed_to_fail;
 use crate::spool::Spool;
 use mta_edge::{Clock, Disk};
 use mta_lanes::Lane;
 use mta_records::{Step, StepFault};
-use mta_replay::Kept;
+use mta_state::Kept;
 
 fn allows_sent(opened: &Lane, generation: u64, activity: u32) -> bool
     ensures { IsTrue result ↔ Allows opened.now (Some generation) (settle was_sent activity) }

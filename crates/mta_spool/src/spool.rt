@@ -29,7 +29,7 @@ use mta_journal::Journal;
 use mta_lanes::Lane;
 use mta_machine::{Item, MailboxLine};
 use mta_records::{Step, StepFault};
-use mta_state::Replay;
+use mta_replay::Replay;
 use mta_table_rules::TableRules;
 use mta_tables::Tables;
 use std::alloc::Global;
@@ -66,9 +66,9 @@ pub struct Spool<D: Disk + Drop, C: Clock + Drop> {
 }
 
 impl<D: Disk + Drop, C: Clock + Drop> Model for Spool<D, C> {
-    ghost use Rattle.mta_replay.specs.Kept.{state_of};
+    ghost use Rattle.mta_state.specs.Kept.{state_of};
     ghost use Rattle.mta_table_rules.specs.Text.{text_of};
-    ghost use Rattle.mta_state.specs.Sound.{IsSound};
+    ghost use Rattle.mta_replay.specs.Sound.{IsSound};
     ghost use Rattle.mta_spool.specs.Shown.{Shown};
 
     ghost Value = { Shown D C };

@@ -1,4 +1,8 @@
-pub mod Founds
-pub mod Nothing
+pub mod Discharging
+pub mod OnLane
+pub mod Received
+pub mod Steps
+pub mod Tests
+pub mod Turns
+pub mod Few
 pub mod Stored
-pub mod Sounds

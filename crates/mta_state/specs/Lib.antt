@@ -1,3 +1,7 @@
-pub mod Found
-pub mod Sound
-pub mod Ready
+pub mod Asked
+pub mod Kept
+pub mod Prepared
+pub mod Settling
+pub mod Settled
+pub mod Parts
+pub mod Reading

@@ -1,9 +1,26 @@
-//! The state that a history leads to, as a value: steps are taken up where they are possible, and it tells what is due
-//! and what waits. It has no disk and no clock.
+//! The state of a spool in memory, without disk and clock: what a history leads to (`Kept`), what a step changes of it
+//! (`Change`), and what is asked of the rules of X.411 under the tables of one text (`Rules`). Each step of the machine of
+//! recipients (X.411, clause 14) is one change of `Parts`, which takes no memory where room was found before.
 #![tactic(auto)]
 
-mod finds;
-mod prepare;
-mod replay;
+mod change;
+mod delivery;
+mod kept;
+mod on_lane;
+mod parts;
+mod reading;
+mod rest;
+mod rules;
+mod secure;
+mod settle;
+mod verdict;
 
-pub use replay::{InForce, NotMade, Ready, Replay};
+pub use change::{Change, Settlement};
+pub use delivery::Delivery;
+pub use kept::Kept;
+pub use parts::{Made, Parts};
+pub use reading::{accepted_item, is_report};
+pub use rest::{Rest, Submitted};
+pub use rules::Rules;
+pub use settle::is_pending;
+pub use verdict::verdict_on;

@@ -7,9 +7,9 @@ use Rattle.mta_machine.specs.declared.item.Origin.TheVariants as Origins
 use Rattle.mta_machine.specs.Items.{ItemValue, statuses_of, statuses_read}
 use Rattle.mta_machine.specs.Machine.{accepted_item}
 use Rattle.mta_machine.specs.Rules.{tables_value}
-use Rattle.mta_items.proofs.Few.{few_accepted, value_is}
-use Rattle.mta_replay.specs.Asked.{IsRestOf}
-use Rattle.mta_replay.specs.declared.rest.Rest.{Rest}
+use Rattle.mta_state.proofs.Few.{few_accepted, value_is}
+use Rattle.mta_state.specs.Asked.{IsRestOf}
+use Rattle.mta_state.specs.declared.rest.Rest.{Rest}
 use Rattle.mta_table_rules.specs.Rests.{IsRestUnder}
 use Rattle.mta_table_rules.proofs.Rests.{rest_is}
 

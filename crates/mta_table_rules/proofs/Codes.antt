@@ -6,7 +6,7 @@ use Rattle.std.specs.Option.{option_map}
 use Rattle.std.proofs.lemmas.Option.{same_Some}
 use Rattle.mta_names.specs.Bounded.{IsCode}
 use Rattle.mta_names.specs.declared.attributes.Attributes.{Attributes}
-use Rattle.mta_recipient.specs.declared.recipient.RecipientFields.{RecipientFields}
+use Rattle.mta_envelope_recipient.specs.declared.recipient.RecipientFields.{RecipientFields}
 use Rattle.mta_envelope.specs.declared.envelope.EnvelopeFields.{EnvelopeFields}
 use Rattle.mta_envelope.specs.Messages.{MessageValue}
 use Rattle.mta_report.specs.declared.fields.ReportFields.{ReportFields}
@@ -26,7 +26,7 @@ use Rattle.mta_procedures.specs.Verdicts.{verdict_on_message}
 use Rattle.mta_machine.specs.Apdu.{value_of}
 use Rattle.mta_machine.specs.Items.{numbered}
 use Rattle.mta_machine.specs.Rules.{read_both, tables_value, verdict_of, verdict_under}
-use Rattle.mta_replay.specs.Asked.{CodesAreCodes}
+use Rattle.mta_state.specs.Asked.{CodesAreCodes}
 
 abbrev IsCoded : Verdict → Type 0
 IsCoded (Verdicts.Deliver place) = Unit {0}

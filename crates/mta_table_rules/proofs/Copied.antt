@@ -11,7 +11,7 @@ use Rattle.std.proofs.lemmas.Option.{same_Some}
 use Rattle.mta_ber.specs.Spelling.{ending_of}
 use Rattle.mta_names.specs.declared.attributes.Attributes.{Attributes}
 use Rattle.mta_records.specs.Outgoing.{carried}
-use Rattle.mta_recipient.specs.declared.recipient.RecipientFields.{RecipientFields}
+use Rattle.mta_envelope_recipient.specs.declared.recipient.RecipientFields.{RecipientFields}
 use Rattle.mta_envelope.specs.declared.content.Content.{Content}
 use Rattle.mta_envelope.specs.declared.content.Content.TheVariants.{Lent, Joined}
 use Rattle.mta_envelope.specs.declared.envelope.EnvelopeFields.{EnvelopeFields}
@@ -34,7 +34,7 @@ use Rattle.mta_procedures.proofs.HeadLaws.{head_is_in_front}
 use Rattle.mta_procedures.proofs.RelayLaws.{relayed_messages, relayed_probes, relayed_reports}
 use Rattle.mta_machine.specs.Items.{numbered}
 use Rattle.mta_machine.specs.Rules.{verdict_under}
-use Rattle.mta_replay.specs.Asked.{Relays}
+use Rattle.mta_state.specs.Asked.{Relays}
 use Rattle.mta_table_rules.specs.Copied.{HasCopy, IsCut, IsCutAt, IsCutIn}
 
 -- ---- where a content lies

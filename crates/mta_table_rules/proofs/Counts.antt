@@ -5,7 +5,7 @@ use Rattle.std.specs.Prelude.{if◌then◌else◌, nat_le, slice_get, unwrap_or}
 use Rattle.std.specs.Option.{option_map_or}
 use Rattle.std.proofs.lemmas.Bool.{cases_lt, lt-ltb, le-ltb, le-leb}
 use Rattle.mta_ber.specs.Lengths.{octet_length}
-use Rattle.mta_recipient.specs.declared.recipient.RecipientFields.{RecipientFields}
+use Rattle.mta_envelope_recipient.specs.declared.recipient.RecipientFields.{RecipientFields}
 use Rattle.mta_envelope.specs.Messages.{MessageValue, message_as}
 use Rattle.mta_tables.specs.declared.entry.MailList.{MailList}
 use Rattle.mta_tables.specs.declared.hop.Hop.{Hop}
@@ -21,9 +21,9 @@ use Rattle.mta_procedures.specs.Situations.{Situation, situation}
 use Rattle.mta_procedures.specs.Traces.{comes_back, has_looped}
 use Rattle.mta_procedures.specs.Verdicts.{first_case, leads_to_list, length_for_members, message_column}
 use Rattle.mta_procedures.specs.Verdicts.{verdict_of_message}
-use Rattle.mta_verdicts.proofs.CaseSteps.{looped_first}
+use Rattle.mta_rules.proofs.CaseSteps.{looped_first}
 use Rattle.mta_table_rules.specs.Counts.{CountsAsLength}
-use Rattle.mta_idle.proofs.Lengths.{copy_long}
+use Rattle.mta_idle_laws.proofs.Lengths.{copy_long}
 
 -- the facts, with a members' copy that is long or not
 abbrev with_long : Facts → Bool → Facts

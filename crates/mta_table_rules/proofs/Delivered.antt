@@ -9,8 +9,8 @@ use Rattle.mta_machine.specs.Apdu.{value_of}
 use Rattle.mta_machine.specs.Items.{ItemValue}
 use Rattle.mta_machine.specs.Machine.{own_item}
 use Rattle.mta_machine.specs.Rules.{delivery_report, report_on, tables_value, verdict_of, verdict_under}
-use Rattle.mta_replay.specs.declared.delivery.Delivery.{Delivery}
-use Rattle.mta_replay.specs.Asked.{Delivers, IsDeliveryOf}
+use Rattle.mta_state.specs.declared.delivery.Delivery.{Delivery}
+use Rattle.mta_state.specs.Asked.{Delivers, IsDeliveryOf}
 use Rattle.mta_table_rules.proofs.Read.{delivery_is, no_verdict, verdict_is}
 
 -- the delivery under the APDU that was read is that of the item

@@ -5,7 +5,7 @@ use Rattle.std.specs.Prelude.{option_to_list, slice_get}
 use Rattle.std.specs.Option.{option_map, option_map_or}
 use Rattle.std.proofs.lemmas.List.{map-append}
 use Rattle.std.proofs.lemmas.Option.{same_Some}
-use Rattle.mta_recipient.specs.declared.recipient.RecipientFields.{RecipientFields}
+use Rattle.mta_envelope_recipient.specs.declared.recipient.RecipientFields.{RecipientFields}
 use Rattle.mta_envelope.specs.Messages.{MessageValue}
 use Rattle.mta_report.specs.declared.fields.ReportFields.{ReportFields}
 use Rattle.mta_apdu.specs.Apdus.{ApduValue, message, report}
@@ -26,7 +26,7 @@ use Rattle.mta_procedures.proofs.EndLaws.{expanded_have_room}
 use Rattle.mta_machine.specs.Items.{ItemValue, numbered}
 use Rattle.mta_machine.specs.Machine.{own_item}
 use Rattle.mta_machine.specs.Rules.{expanded_for, expanded_to, verdict_under}
-use Rattle.mta_replay.specs.Asked.{Expands}
+use Rattle.mta_state.specs.Asked.{Expands}
 use Rattle.mta_table_rules.specs.Counts.{HasRoom}
 
 -- ---- what is made, in its order

@@ -9,8 +9,8 @@ use Rattle.mta_machine.specs.declared.item.Status.{Status}
 use Rattle.mta_machine.specs.Apdu.{value_of}
 use Rattle.mta_machine.specs.Items.{ItemValue, numbered, has_status, is_pending}
 use Rattle.mta_machine.specs.Rules.{tables_value}
-use Rattle.mta_idle.specs.Idle.{calls_at_once, IsIdleUntil}
-use Rattle.mta_idle.specs.Next.{next_change, next_under}
+use Rattle.mta_idle_laws.specs.Idle.{calls_at_once, IsIdleUntil}
+use Rattle.mta_idle_laws.specs.Next.{next_change, next_under}
 use Rattle.mta_table_rules.specs.Waits.{WaitsUnder, AllWaitUnder, WaitUpTo, IsIdleUnder}
 use Rattle.mta_table_rules.proofs.Read.{verdict_is}
 

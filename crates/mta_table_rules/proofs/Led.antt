@@ -11,7 +11,7 @@ use Rattle.mta_machine.specs.Apdu.{value_of}
 use Rattle.mta_machine.specs.Items.{ItemValue, numbered, names, has_status, is_pending}
 use Rattle.mta_machine.specs.Machine.{relay_by}
 use Rattle.mta_machine.specs.Rules.{peer_at, peer_word, route_under, route_word, tables_value, verdict_of}
-use Rattle.mta_replay.specs.Asked.{AreLed, AreRelays, AreRoutes}
+use Rattle.mta_state.specs.Asked.{AreLed, AreRelays, AreRoutes}
 use Rattle.mta_table_rules.specs.Led.{AreLedUpTo, LeadsPending, relay_under}
 use Rattle.mta_table_rules.proofs.Read.{peer_word_is, route_is, verdict_is}
 

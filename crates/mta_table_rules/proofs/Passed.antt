@@ -5,7 +5,7 @@ use Rattle.std.specs.Option.{option_map}
 use Rattle.std.proofs.lemmas.Option.{same_Some}
 use Rattle.mta_names.specs.declared.attributes.Attributes.{Attributes}
 use Rattle.mta_fields.specs.declared.trace.TraceFields.{TraceFields}
-use Rattle.mta_recipient.specs.declared.recipient.RecipientFields.{RecipientFields}
+use Rattle.mta_envelope_recipient.specs.declared.recipient.RecipientFields.{RecipientFields}
 use Rattle.mta_envelope.specs.declared.envelope.EnvelopeFields.{EnvelopeFields}
 use Rattle.mta_envelope.specs.Messages.{MessageValue}
 use Rattle.mta_report.specs.declared.fields.ReportFields.{ReportFields}
@@ -32,7 +32,7 @@ use Rattle.mta_procedures.proofs.RelayLaws.{not_looped, short_trace}
 use Rattle.mta_procedures.proofs.WholeLaws.{one_more}
 use Rattle.mta_machine.specs.Items.{numbered}
 use Rattle.mta_machine.specs.Rules.{verdict_under}
-use Rattle.mta_replay.specs.Asked.{Passes}
+use Rattle.mta_state.specs.Asked.{Passes}
 use Rattle.mta_table_rules.specs.Copied.{trace_in}
 
 -- ---- room for an element of the trace

@@ -2,7 +2,7 @@
 use Rattle.std.proofs.Common.{◌≡◌, ℕ, Option, Some, None, sym, ap, ◌∙◌}
 use Rattle.std.specs.Prelude.{option_and_then}
 use Rattle.std.specs.Option.{option_map}
-use Rattle.mta_recipient.specs.declared.recipient.RecipientFields.{RecipientFields}
+use Rattle.mta_envelope_recipient.specs.declared.recipient.RecipientFields.{RecipientFields}
 use Rattle.mta_envelope.specs.declared.envelope.EnvelopeFields.{EnvelopeFields}
 use Rattle.mta_report.specs.declared.fields.ReportFields.{ReportFields}
 use Rattle.mta_apdu.specs.Apdus.{ApduValue, report}

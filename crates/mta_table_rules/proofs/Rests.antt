@@ -6,9 +6,9 @@ use Rattle.mta_tables.specs.Tables.{TablesValue}
 use Rattle.mta_machine.specs.Apdu.{value_of}
 use Rattle.mta_machine.specs.Items.{ItemValue}
 use Rattle.mta_machine.specs.Rules.{peer_at, peer_word, route_under, tables_value}
-use Rattle.mta_idle.specs.Next.{next_under}
-use Rattle.mta_replay.specs.Asked.{IsRestOf}
-use Rattle.mta_replay.specs.declared.rest.Rest.{Rest}
+use Rattle.mta_idle_laws.specs.Next.{next_under}
+use Rattle.mta_state.specs.Asked.{IsRestOf}
+use Rattle.mta_state.specs.declared.rest.Rest.{Rest}
 use Rattle.mta_table_rules.specs.declared.rest.Places.{Places}
 use Rattle.mta_table_rules.specs.Led.{AreLedUpTo, relay_under}
 use Rattle.mta_table_rules.specs.Rests.{GoUpTo, IsLookAt, IsRestUnder}

@@ -1,6 +1,6 @@
 -- What is asked of the members' copy of a list.
 use Rattle.std.specs.Prelude.{◌≡◌, ℕ, ◌<◌, false, length}
-use Rattle.mta_recipient.specs.declared.recipient.RecipientFields.{RecipientFields}
+use Rattle.mta_envelope_recipient.specs.declared.recipient.RecipientFields.{RecipientFields}
 use Rattle.mta_envelope.specs.declared.envelope.EnvelopeFields.{EnvelopeFields}
 use Rattle.mta_envelope.specs.Messages.{MessageValue}
 use Rattle.mta_tables.specs.declared.entry.MailList.{MailList}

@@ -4,8 +4,8 @@ use Rattle.mta_apdu.specs.Apdus.{ApduValue}
 use Rattle.mta_tables.specs.Tables.{TablesValue}
 use Rattle.mta_machine.specs.Items.{ItemValue}
 use Rattle.mta_machine.specs.Rules.{peer_at, peer_word, route_under}
-use Rattle.mta_replay.specs.Asked.{AreLed}
-use Rattle.mta_replay.specs.declared.rest.Rest.{Rest}
+use Rattle.mta_state.specs.Asked.{AreLed}
+use Rattle.mta_state.specs.declared.rest.Rest.{Rest}
 use Rattle.mta_table_rules.specs.declared.rest.Places.{Places}
 use Rattle.mta_table_rules.specs.Led.{AreLedUpTo, LeadsPending, relay_under}
 use Rattle.mta_table_rules.specs.Waits.{IsIdleUnder, WaitsUnder, WaitUpTo}

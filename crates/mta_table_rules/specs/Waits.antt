@@ -4,8 +4,8 @@ use Rattle.mta_apdu.specs.Apdus.{ApduValue}
 use Rattle.mta_tables.specs.Tables.{TablesValue}
 use Rattle.mta_machine.specs.Items.{ItemValue, numbered, has_status, is_pending}
 use Rattle.mta_machine.specs.Rules.{verdict_under}
-use Rattle.mta_idle.specs.Idle.{calls_at_once}
-use Rattle.mta_idle.specs.Next.{next_under}
+use Rattle.mta_idle_laws.specs.Idle.{calls_at_once}
+use Rattle.mta_idle_laws.specs.Next.{next_under}
 
 -- nothing is called for at once of the recipient, or that one is not pending
 abbrev pub WaitsUnder : TablesValue → ApduValue → ItemValue → (r moment : ℕ) → Type 0

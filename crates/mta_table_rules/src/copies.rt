@@ -7,15 +7,15 @@ ghost use Rattle.mta_envelope.specs.Messages.{message_value};
 ghost use Rattle.mta_apdu.specs.Apdus.{apdu_value};
 ghost use Rattle.mta_apdu.specs.Apdus as apdus;
 ghost use Rattle.mta_machine.specs.Rules.{copy_under, outgoing_copy, verdict_of, verdict_under};
-ghost use Rattle.mta_replay.specs.Asked.{Relays};
+ghost use Rattle.mta_state.specs.Asked.{Relays};
 ghost use Rattle.mta_table_rules.specs.Copied.{HasCopy, IsCut, IsCutAt, IsCutIn};
 
 use crate::reading::{read_kept, text_reads};
 use mta_apdu::Apdu;
 use mta_ber::{Memory, Octets};
+use mta_copies::{outgoing_head, outgoing_probe, outgoing_report};
 use mta_envelope::{Message, Place, Probe};
 use mta_machine::Item;
-use mta_outgoing::{outgoing_head, outgoing_probe, outgoing_report};
 use mta_records::Outgoing;
 use mta_report::Report;
 use mta_tables::Tables;

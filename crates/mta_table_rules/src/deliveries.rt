@@ -7,7 +7,7 @@ ghost use Rattle.mta_apdu.specs.Apdus.{apdu_value};
 ghost use Rattle.mta_procedures.specs.Reports.{delivery_report};
 ghost use Rattle.mta_machine.specs.Machine.{own_item};
 ghost use Rattle.mta_machine.specs.Rules.{report_on, verdict_under};
-ghost use Rattle.mta_replay.specs.Asked.{Delivers, IsDeliveryOf};
+ghost use Rattle.mta_state.specs.Asked.{Delivers, IsDeliveryOf};
 
 use crate::reading::{read_kept, text_reads};
 use crate::reports::{delivery_report_in, report_item};
@@ -16,7 +16,7 @@ use mta_apdu::Apdu;
 use mta_ber::Memory;
 use mta_machine::Item;
 use mta_procedures::Verdict;
-use mta_replay::Delivery;
+use mta_state::Delivery;
 use mta_tables::Tables;
 use std::alloc::Global;
 

@@ -3,7 +3,7 @@
 ghost use Rattle.std.specs.Prelude.{◌≡◌, ◌≤◌, ◌+◌, ◌^◌, IfOk, Some, None, length, map, slice_get, option_to_list};
 ghost use Rattle.std.specs.Option.{option_copied, option_map};
 ghost use Rattle.mta_ber.specs.Times.{last_moment};
-ghost use Rattle.mta_recipient.specs.Recipients.{IsRecipient};
+ghost use Rattle.mta_envelope_recipient.specs.Recipients.{IsRecipient};
 ghost use Rattle.mta_envelope.specs.Messages.{message_value};
 ghost use Rattle.mta_apdu.specs.Apdus.{apdu_value};
 ghost use Rattle.mta_apdu.specs.Apdus as apdus;
@@ -16,8 +16,8 @@ ghost use Rattle.mta_machine.specs.Items.{numbered};
 ghost use Rattle.mta_machine.specs.Machine.{own_item};
 ghost use Rattle.mta_machine.specs.Rules.{expanded_for, expanded_to, expansion, expansion_under, verdict_of};
 ghost use Rattle.mta_machine.specs.Rules.{verdict_under, with_list_report};
-ghost use Rattle.mta_items.specs.Parts.{made_items};
-ghost use Rattle.mta_replay.specs.Asked.{Expands};
+ghost use Rattle.mta_state.specs.Parts.{made_items};
+ghost use Rattle.mta_state.specs.Asked.{Expands};
 ghost use Rattle.mta_table_rules.specs.Counts.{HasRoom};
 
 use crate::reading::{own_item, read_kept, recipient_of, text_reads};
@@ -25,17 +25,16 @@ use crate::reports::{asks_report, report_item};
 use mta_apdu::Apdu;
 use mta_ber::Memory;
 use mta_envelope::{Envelope, Message};
-use mta_items::Made;
+use mta_envelope_recipient::RecipientFields;
 use mta_lists::expand;
 use mta_machine::Item;
 use mta_names::Code;
 use mta_procedures::DL;
-use mta_recipient::RecipientFields;
 use mta_report::Report;
-use mta_reported::{Moment, Outcome};
-use mta_rules::report_on;
+use mta_report_recipient::{Moment, Outcome};
+use mta_rules::{is_in_history, report_on};
+use mta_state::Made;
 use mta_tables::{Hop, MailList, Tables};
-use mta_verdicts::is_in_history;
 use std::alloc::Global;
 
 /// The copy of a message for the members of the list at a place of the tables, from 0; none where the list has no

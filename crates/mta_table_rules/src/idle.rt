@@ -5,14 +5,14 @@ ghost use Rattle.std.specs.Option.{option_map_or};
 ghost use Rattle.mta_apdu.specs.Apdus.{apdu_value};
 ghost use Rattle.mta_ber.specs.Times.{last_moment};
 ghost use Rattle.mta_procedures.specs.Situations.{situation, terms_of};
-ghost use Rattle.mta_idle.specs.Idle.{calls_at_once};
-ghost use Rattle.mta_idle.specs.Next.{next_in, next_under};
+ghost use Rattle.mta_idle_laws.specs.Idle.{calls_at_once};
+ghost use Rattle.mta_idle_laws.specs.Next.{next_in, next_under};
 
 use mta_apdu::Apdu;
 use mta_envelope::{Envelope, Priority};
 use mta_procedures::Verdict;
+use mta_rules::{expiry, is_expired};
 use mta_tables::Tables;
-use mta_verdicts::{expiry, is_expired};
 
 /// Whether the deferral is still to come.
 fn is_deferred(deferral: Option<u64>, moment: u64) -> bool

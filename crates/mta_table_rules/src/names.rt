@@ -11,8 +11,8 @@ use crate::reading::{read_kept, recipient_of, text_reads};
 use mta_apdu::Apdu;
 use mta_ber::{Memory, Word};
 use mta_envelope::Envelope;
+use mta_envelope_recipient::Recipient;
 use mta_names::OrName;
-use mta_recipient::Recipient;
 use mta_tables::{Hop, Tables};
 use std::alloc::Global;
 

@@ -10,8 +10,8 @@ ghost use Rattle.mta_machine.specs.Rules.{tables_value};
 
 use mta_apdu::Apdu;
 use mta_ber::{Memory, ReadFault};
+use mta_envelope_recipient::Recipient;
 use mta_machine::{Item, Origin, Statuses};
-use mta_recipient::Recipient;
 use mta_tables::Tables;
 use std::alloc::Global;
 use std::sync::Arc;

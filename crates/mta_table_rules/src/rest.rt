@@ -3,7 +3,7 @@
 ghost use Rattle.std.specs.Prelude.{◌≡◌, ◌≤◌, ◌<◌, ◌^◌, ◌++◌, IfOk, OnOk, length, option_to_list};
 ghost use Rattle.mta_apdu.specs.Apdus.{apdu_value};
 ghost use Rattle.mta_ber.specs.Times.{last_moment};
-ghost use Rattle.mta_replay.specs.Asked.{IsRestOf};
+ghost use Rattle.mta_state.specs.Asked.{IsRestOf};
 ghost use Rattle.mta_table_rules.specs.Rests.{IsLookAt, IsRestUnder};
 
 use crate::idle::{calls_at_once, next_under};
@@ -12,9 +12,8 @@ use crate::routes::{place_of_relay, place_of_route};
 use crate::verdicts::verdict_under;
 use mta_apdu::Apdu;
 use mta_ber::Memory;
-use mta_items::is_pending;
 use mta_machine::Item;
-use mta_replay::Rest;
+use mta_state::{Rest, is_pending};
 use mta_tables::Tables;
 use std::alloc::Global;
 

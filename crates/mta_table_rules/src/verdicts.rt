@@ -18,18 +18,18 @@ ghost use Rattle.mta_procedures.specs.Verdicts.{verdict_of_probe, verdict_on_mes
 ghost use Rattle.mta_machine.specs.Items.{numbered};
 ghost use Rattle.mta_machine.specs.Rules.{expired_under, is_expired, verdict_of, verdict_under};
 ghost use Rattle.mta_table_rules.specs.Counts.{CountsAsLength};
-ghost use Rattle.mta_replay.specs.Asked.{CodesAreCodes};
+ghost use Rattle.mta_state.specs.Asked.{CodesAreCodes};
 
 use crate::reading::{read_kept, recipient_of, text_reads};
 use mta_apdu::Apdu;
 use mta_ber::Memory;
 use mta_envelope::{Envelope, Message, Priority, Probe};
+use mta_envelope_recipient::RecipientFields;
 use mta_lists::expand;
 use mta_procedures::Verdict;
-use mta_recipient::RecipientFields;
 use mta_report::Report;
+use mta_rules::{is_expired, verdict_on_message, verdict_on_probe, verdict_report};
 use mta_tables::{Hop, Tables};
-use mta_verdicts::{is_expired, verdict_on_message, verdict_on_probe, verdict_report};
 use std::alloc::Global;
 
 /// How many octets a members' copy has; 0 where there is none.

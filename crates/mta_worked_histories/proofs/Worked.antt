@@ -50,24 +50,24 @@ use Rattle.mta_name_text.specs.Forms.{text_form}
 use Rattle.mta_name_text.specs.Made.{name_of_text, pattern_of_text}
 use Rattle.mta_name_text.specs.Reading.{is_front, named, step_front, step_kind, step_value, step as text_step, finish, parts_of_text}
 use Rattle.mta_name_text.specs.Shapes.{is_value, is_begun}
-use Rattle.mta_extensions.specs.Fields.{field_step, field_in}
-use Rattle.mta_extensions.specs.Told.{extension_step as told_step, extensions_in as told_in}
-use Rattle.mta_extensions.specs.Topics.{history_in}
-use Rattle.mta_common.specs.ContentKinds.{content_kind_in}
-use Rattle.mta_common.specs.ExtensionLists.{ext_list_in}
-use Rattle.mta_common.specs.TraceLists.{trace_list_in, canonical_trace_list}
-use Rattle.mta_recipient.specs.Lists.{recipients_in, canonical_recipients}
-use Rattle.mta_recipient.specs.Recipients.{recipient_step, recipient_in, canonical_recipient}
+use Rattle.mta_envelope_extensions.specs.Fields.{field_step, field_in}
+use Rattle.mta_envelope_extensions.specs.Told.{extension_step as told_step, extensions_in as told_in}
+use Rattle.mta_envelope_extensions.specs.Topics.{history_in}
+use Rattle.mta_envelope_common.specs.ContentKinds.{content_kind_in}
+use Rattle.mta_envelope_common.specs.ExtensionLists.{ext_list_in}
+use Rattle.mta_envelope_common.specs.TraceLists.{trace_list_in, canonical_trace_list}
+use Rattle.mta_envelope_recipient.specs.Lists.{recipients_in, canonical_recipients}
+use Rattle.mta_envelope_recipient.specs.Recipients.{recipient_step, recipient_in, canonical_recipient}
 use Rattle.mta_envelope.specs.Components.{length_in, envelope_step}
 use Rattle.mta_envelope.specs.Contents.{content_in}
 use Rattle.mta_envelope.specs.Envelopes.{envelope_in, envelope_front, envelope_middle, envelope_back, envelope_content}
 use Rattle.mta_envelope.specs.Messages.{set_in, last_in, message_in, probe_in, canonical_message, canonical_probe}
-use Rattle.mta_reported.specs.Deliveries.{delivery_step, delivery_in}
-use Rattle.mta_reported.specs.Failures.{failure_step, failure_in}
-use Rattle.mta_reported.specs.LastTraces.{last_step, last_in as last_trace_in, canonical_last}
-use Rattle.mta_reported.specs.Outcomes.{outcome_choice}
-use Rattle.mta_reported.specs.ReportedRecipients.{reported_step, reported_in, reported_list_in, canonical_reported}
-use Rattle.mta_reported.specs.ReportedRecipients.{canonical_reported_list}
+use Rattle.mta_report_recipient.specs.Deliveries.{delivery_step, delivery_in}
+use Rattle.mta_report_recipient.specs.Failures.{failure_step, failure_in}
+use Rattle.mta_report_recipient.specs.LastTraces.{last_step, last_in as last_trace_in, canonical_last}
+use Rattle.mta_report_recipient.specs.Outcomes.{outcome_choice}
+use Rattle.mta_report_recipient.specs.ReportedRecipients.{reported_step, reported_in, reported_list_in, canonical_reported}
+use Rattle.mta_report_recipient.specs.ReportedRecipients.{canonical_reported_list}
 use Rattle.mta_report.specs.ReportContents.{content_step, content_in as report_content_in, canonical_content}
 use Rattle.mta_report.specs.ReportEnvelopes.{envelope_step as report_envelope_step, envelope_in as report_envelope_in}
 use Rattle.mta_report.specs.ReportEnvelopes.{canonical_envelope}

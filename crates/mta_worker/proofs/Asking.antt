@@ -3,7 +3,7 @@ use Rattle.std.proofs.Common.{◌≡◌, true, false, refl}
 use Rattle.mta_session.specs.declared.phase.Phase.{Phase}
 use Rattle.mta_session.specs.declared.phase.Phase.TheVariants as phase
 use Rattle.mta_session.specs.Rank.{is_over}
-use Rattle.mta_session_order.specs.Order.{is_asking}
+use Rattle.mta_session_laws.specs.Order.{is_asking}
 
 never : false ≡ true → ⊥
 never i = cc

@@ -6,7 +6,7 @@ use Rattle.mta_edge.specs.Views.{ClockView, DiskView}
 use Rattle.mta_links.specs.Links.{LinkView}
 use Rattle.mta_links.specs.declared.role.Role.{Role}
 use Rattle.mta_links.specs.declared.role.Role.TheVariants as role
-use Rattle.mta_plans.specs.Names.{IsName}
+use Rattle.mta_worker.specs.Names.{IsName}
 use Rattle.mta_records.specs.declared.step.Step.{Step}
 use Rattle.mta_units.specs.Feed.{no_feed}
 use Rattle.mta_session.specs.State.{State}

@@ -12,3 +12,10 @@ pub mod Turned
 pub mod Turning
 pub mod Working
 pub mod Workings
+pub mod Wordings
+pub mod Entries
+pub mod TellingLines
+pub mod Planning
+pub mod Along
+pub mod Crossing
+pub mod Gathering

@@ -5,7 +5,7 @@ use Rattle.mta_tables.specs.Tables.{TablesValue}
 use Rattle.mta_machine.specs.Items.{Machine, numbered}
 use Rattle.mta_machine.specs.Machine.{last_tables}
 use Rattle.mta_machine.specs.Rules.{tables_value}
-use Rattle.mta_plans.specs.Lines.{line_in}
+use Rattle.mta_worker.specs.PeerLines.{line_in}
 use Rattle.mta_worker.specs.Lines.{line_now}
 
 pub line_at : (m : Machine) (name : List ℕ) (t : TablesValue) → numbered m.tables (last_tables m) ≡ Some t.text

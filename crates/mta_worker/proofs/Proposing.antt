@@ -13,7 +13,7 @@ use Rattle.mta_tables.specs.Tables.{TablesValue}
 use Rattle.mta_histories.specs.Lanes.{Lane, State, lane_at}
 use Rattle.mta_spool.specs.Looking.{IsFirstNamed}
 use Rattle.mta_session.specs.declared.peer.Peer.{Peer}
-use Rattle.mta_plans.specs.Plans.{plan_to_open, plan_to_recover}
+use Rattle.mta_worker.specs.Plans.{plan_to_open, plan_to_recover}
 use Rattle.mta_worker.specs.declared.proposal.Next.{Next}
 use Rattle.mta_worker.specs.declared.proposal.Next.TheVariants as next
 use Rattle.mta_worker.specs.Nexts.{next_of_lane, next_of_none}

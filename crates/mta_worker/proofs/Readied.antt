@@ -15,8 +15,8 @@ use Rattle.mta_session_laws.specs.Whole.{IsNew, Initiates, Responds}
 use Rattle.mta_session_laws.specs.Writing.{CanWrite, TellsWritable}
 use Rattle.mta_session_run.specs.Running.{HasTold, IsCalled}
 use Rattle.mta_stations.specs.declared.end.Halt.{Halt}
-use Rattle.mta_plans.specs.Names.{IsName}
-use Rattle.mta_plans.specs.Plans.{IsPlan}
+use Rattle.mta_worker.specs.Names.{IsName}
+use Rattle.mta_worker.specs.Plans.{IsPlan}
 use Rattle.mta_worker.specs.declared.telling.Lost.{Lost}
 use Rattle.mta_worker.specs.Readying.{Begins, Well, Lost_looking}
 use Rattle.mta_worker.specs.Turns.{HasLooked, IsLostLooking, WantsNoLook}

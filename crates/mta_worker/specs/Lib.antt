@@ -10,3 +10,9 @@ pub mod Serving
 pub mod Telling
 pub mod Turns
 pub mod Working
+pub mod PeerLines
+pub mod Names
+pub mod Plans
+pub mod Told
+pub mod Jobs
+pub mod Wholes

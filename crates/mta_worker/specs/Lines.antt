@@ -5,7 +5,7 @@ use Rattle.mta_machine.specs.Items.{Machine, numbered}
 use Rattle.mta_machine.specs.Machine.{last_tables}
 use Rattle.mta_machine.specs.Rules.{tables_value}
 use Rattle.mta_session.specs.declared.peer.Peer.{Peer}
-use Rattle.mta_plans.specs.Lines.{line_in}
+use Rattle.mta_worker.specs.PeerLines.{line_in}
 
 -- the line of the name in the tables recorded last; none where none are recorded
 abbrev pub line_now : Machine → List ℕ → Option Peer

@@ -3,7 +3,7 @@ use Rattle.std.specs.Prelude.{ℕ, ◌+◌, ◌-◌, ◌^◌, nat_lt, if◌then�
 use Rattle.mta_tables.specs.Tables.{TablesValue}
 use Rattle.mta_histories.specs.Lanes.{Lane}
 use Rattle.mta_session.specs.declared.peer.Peer.{Peer}
-use Rattle.mta_plans.specs.Plans.{IsPlan, plan_to_open, plan_to_recover}
+use Rattle.mta_worker.specs.Plans.{IsPlan, plan_to_open, plan_to_recover}
 use Rattle.mta_worker.specs.declared.proposal.Next.{Next}
 use Rattle.mta_worker.specs.declared.proposal.Next.TheVariants as next
 

@@ -6,8 +6,8 @@ use Rattle.mta_histories.specs.Lanes.{Lane, State, lane_at}
 use Rattle.mta_spool.specs.Looking.{IsFirstNamed}
 use Rattle.mta_spool.specs.Turning.{IsLastRecorded}
 use Rattle.mta_session.specs.declared.peer.Peer.{Peer}
-use Rattle.mta_plans.specs.Lines.{line_in}
-use Rattle.mta_plans.specs.Plans.{plan_to_open, plan_to_recover}
+use Rattle.mta_worker.specs.PeerLines.{line_in}
+use Rattle.mta_worker.specs.Plans.{plan_to_open, plan_to_recover}
 use Rattle.mta_worker.specs.declared.proposal.Next.{Next}
 use Rattle.mta_worker.specs.declared.proposal.Next.TheVariants as next
 

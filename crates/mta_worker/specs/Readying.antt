@@ -14,7 +14,7 @@ use Rattle.mta_session.specs.declared.event.Event.TheVariants as event
 use Rattle.mta_session.specs.declared.event.Action.{Action}
 use Rattle.mta_session.specs.declared.event.InitiatorPlan.{InitiatorPlan}
 use Rattle.mta_session_laws.specs.Runs.{IsTurn}
-use Rattle.mta_plans.specs.Plans.{on_lane}
+use Rattle.mta_worker.specs.Plans.{on_lane}
 use Rattle.mta_stations.specs.declared.end.Halt.{Halt}
 use Rattle.mta_stations.specs.declared.end.Halt.TheVariants as Halts
 use Rattle.mta_worker.specs.declared.proposal.Next.{Next}

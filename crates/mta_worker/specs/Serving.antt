@@ -10,7 +10,7 @@ use Rattle.mta_units.specs.declared.unit.Unit.{Unit as AnyUnit}
 use Rattle.mta_units.specs.declared.unit.Unit.TheVariants as unit
 use Rattle.mta_units.specs.Canon.{unit_octets}
 use Rattle.mta_units.specs.Feed.{Feed}
-use Rattle.mta_unit_links.specs.Carried.{PutsAll, PutsFront}
+use Rattle.mta_session_run.specs.Carried.{PutsAll, PutsFront}
 use Rattle.mta_session.specs.State.{State}
 use Rattle.mta_session.specs.Groups.{has_turned}
 use Rattle.mta_session.specs.declared.ask.Ask.{Ask}

@@ -5,7 +5,7 @@ ghost use Rattle.mta_shared.specs.Rule.{Grows};
 ghost use Rattle.mta_spool.specs.Bases.{KeepsOn};
 ghost use Rattle.mta_spool.specs.Stands.{TellsFewer};
 ghost use Rattle.mta_session.specs.declared.event.Event.TheVariants as events;
-ghost use Rattle.mta_plans.specs.Told.{TellsLine};
+ghost use Rattle.mta_worker.specs.Told.{TellsLine};
 ghost use Rattle.mta_worker.specs.Answers.{Answered, Refuses};
 
 use crate::line::line_of;

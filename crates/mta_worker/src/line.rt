@@ -2,12 +2,12 @@
 
 ghost use Rattle.std.specs.Prelude.{◌≡◌, IfOk, IfSome, Some};
 ghost use Rattle.mta_machine.specs.Rules.{tables_value};
-ghost use Rattle.mta_plans.specs.Lines.{IsLine};
+ghost use Rattle.mta_worker.specs.PeerLines.{IsLine};
 ghost use Rattle.mta_worker.specs.Lines.{line_now};
 
+use crate::peer_line::line_in;
 use mta_ber::Memory;
 use mta_edge::{Clock, Disk};
-use mta_plans::line_in;
 use mta_session::Peer;
 use mta_spool::Spool;
 use mta_tables::Tables;

@@ -3,14 +3,15 @@
 ghost use Rattle.std.specs.Prelude.{◌≡◌, ◌≤◌, IfOk, IfSome, None};
 ghost use Rattle.std.specs.Option.{option_copied};
 ghost use Rattle.mta_ber.specs.Times.{last_moment};
-ghost use Rattle.mta_plans.specs.Lines.{IsLine};
+ghost use Rattle.mta_worker.specs.PeerLines.{IsLine};
 ghost use Rattle.mta_worker.specs.Proposals.{HasFirst, HasNone, IsNext};
 ghost use Rattle.mta_worker.specs.Nexts.{IsProposed, next_of_lane, next_of_none};
 
+use crate::peer_line::line_in;
+use crate::plan::{plan_to_open, plan_to_recover};
 use mta_ber::{Memory, Word};
 use mta_edge::{Clock, Disk};
 use mta_lanes::Lane;
-use mta_plans::{line_in, plan_to_open, plan_to_recover};
 use mta_records::LaneRole;
 use mta_session::{InitiatorPlan, Peer};
 use mta_spool::Spool;

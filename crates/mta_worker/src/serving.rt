@@ -1,20 +1,20 @@
 //! One session over a link that a station gave.
 
 ghost use Rattle.std.specs.Prelude.{◌≡◌, ◌≤◌, IfOk, IfSome};
-ghost use Rattle.mta_plans.specs.Names.{IsName};
+ghost use Rattle.mta_worker.specs.Names.{IsName};
 ghost use Rattle.mta_shared.specs.Passes.{lock_of, IsReady, Worked};
 ghost use Rattle.mta_worker.specs.Begun.{MayGoOn};
 ghost use Rattle.mta_worker.specs.Readying.{IsReadied};
 ghost use Rattle.mta_worker.specs.Served.{HasCalled, HasListened, IsLinkServed, IsOwnName, none_begun};
 ghost use Rattle.mta_worker.specs.Serving.{InTurn};
 
+use crate::name::own_name;
 use crate::ready::{Ready, get_ready};
 use crate::session::{Served, give_up, run_session};
 use crate::telling::Lost;
 use mta_ber::{Memory, Word};
 use mta_edge::{Clock, Disk};
 use mta_links::{Link, Role};
-use mta_plans::own_name;
 use mta_records::Step;
 use mta_session::{Event, Limits, Session};
 use mta_session_run::tell;

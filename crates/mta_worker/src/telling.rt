@@ -5,13 +5,13 @@ ghost use Rattle.mta_session.specs.Fits.{Answers};
 ghost use Rattle.mta_session.specs.Rank.{calls_left};
 ghost use Rattle.mta_worker.specs.declared.telling.Lost.TheVariants as losts;
 ghost use Rattle.mta_session.specs.declared.event.Event.TheVariants as events;
-ghost use Rattle.mta_plans.specs.Told.{TellsLine};
+ghost use Rattle.mta_worker.specs.Told.{TellsLine};
 ghost use Rattle.mta_session_run.specs.Running.{HasTold, IsCalled};
 ghost use Rattle.mta_worker.specs.Halting.{fault_of, fault_of_piece, halt_after};
 ghost use Rattle.mta_worker.specs.Telling.{IsAsked};
 
+use crate::plan_laws::lines_may_be_told;
 use mta_ber::Memory;
-use mta_plans::lines_may_be_told;
 use mta_records::{CompleteFault, StepFault};
 use mta_session::{Action, Event, Reply, Session};
 use mta_session_run::tell;

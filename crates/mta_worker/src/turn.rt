@@ -4,7 +4,7 @@ ghost use Rattle.std.specs.Prelude.{◌≡◌, ◌≤◌, ◌<◌, ◌↔◌, If
 ghost use Rattle.mta_shared.specs.Rule.{Grows};
 ghost use Rattle.mta_spool.specs.Bases.{KeepsOn};
 ghost use Rattle.mta_spool.specs.Stands.{TellsFewer};
-ghost use Rattle.mta_plans.specs.Told.{TellsLine};
+ghost use Rattle.mta_worker.specs.Told.{TellsLine};
 ghost use Rattle.mta_session.specs.declared.event.Action.TheVariants as actions;
 ghost use Rattle.mta_session.specs.declared.event.Event.TheVariants as events;
 ghost use Rattle.mta_session.specs.Rank.{calls_left};

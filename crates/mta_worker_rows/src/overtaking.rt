@@ -11,13 +11,12 @@ use crate::works::opened;
 use anyhow::{Error, Result, anyhow, bail};
 use mta_edge::{Disk, MemClock, Octets, SafeDisk};
 use mta_links::MemLink;
-use mta_plans::own_name;
 use mta_records::{CompleteFault, StepFault};
 use mta_session::{Action, Ask, Event, Reply, Session, SessionEnd};
 use mta_session_run::{Came, carry_on, tell};
 use mta_spool::Spool;
 use mta_units::Frames;
-use mta_worker::{answer, answer_all, told};
+use mta_worker::{answer, answer_all, own_name, told};
 use std::alloc::Global;
 
 // A link, and what of it was not taken yet.

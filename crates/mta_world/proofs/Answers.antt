@@ -1,10 +1,10 @@
 -- A receiving end puts a unit.
 use Rattle.std.proofs.Common.{◌≡◌, ◌⊎◌, ℕ, ◌+◌, List, [], ◌∷◌, ◌++◌, refl, sym, ◌∙◌, ap, subst, arith, inl, inr}
-use Rattle.mta_ends.specs.Units.{LaneUnit, End, Resume, Discard, SyncAck, EndAck, ResumeAck, DiscardAck, Exception, Completed, Unrecognized, Accept, Other}
-use Rattle.mta_ends.specs.Sending as s
-use Rattle.mta_ends.specs.Sending.{SendStage}
-use Rattle.mta_ends.specs.Receiving as r
-use Rattle.mta_ends.specs.Receiving.{RecvStage, Syncs}
+use Rattle.mta_transfer_rules.specs.Units.{LaneUnit, End, Resume, Discard, SyncAck, EndAck, ResumeAck, DiscardAck, Exception, Completed, Unrecognized, Accept, Other}
+use Rattle.mta_transfer_rules.specs.Sending as s
+use Rattle.mta_transfer_rules.specs.Sending.{SendStage}
+use Rattle.mta_transfer_rules.specs.Receiving as r
+use Rattle.mta_transfer_rules.specs.Receiving.{RecvStage, Syncs}
 use Rattle.mta_world.proofs.Units.{Each, each-snoc, each-map, pending, StageUpTo, Own, Leftover, HasBegin, Opens, NoFinish, Finishes, LastOnly, NoEnds, Clean, NoResumeAck, answered-snoc, answered-more, own-left}
 use Rattle.mta_world.proofs.Flow.{Place, Between, Waits, Behind_pieces, Behind_piece, Skipping, after, place, Flows, Under, Order}
 use Rattle.mta_world.proofs.Talk.{IsIdle, IsWaiting, Busy, Phase, At_rest, Before, During, Behind, phase, IsBehind, Rest, Begun, Closed, Active, Talk, Names, Finish, Genuine}

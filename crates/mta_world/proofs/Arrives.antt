@@ -1,8 +1,8 @@
 -- A run in which one message is sent and completed.
 use Rattle.std.proofs.Common.{◌≤◌, ℕ, true, List, length, refl, arith}
-use Rattle.mta_ends.specs.Units.{Start, Piece, End, EndAck, Accept}
-use Rattle.mta_ends.specs.Sending as s
-use Rattle.mta_ends.specs.Receiving as r
+use Rattle.mta_transfer_rules.specs.Units.{Start, Piece, End, EndAck, Accept}
+use Rattle.mta_transfer_rules.specs.Sending as s
+use Rattle.mta_transfer_rules.specs.Receiving as r
 use Rattle.mta_world.specs.World.{World, Whole, first_world, empty_queue, recv_end}
 use Rattle.mta_world.specs.Steps as step
 use Rattle.mta_world.specs.Steps.{IsWorldRun, opened_by_sender, joined_by_receiver, receiver_put, sender_got, sender_made, sender_put, receiver_took, receiver_made}

@@ -5,11 +5,11 @@ use Rattle.mta_lane_send.specs.declared.state.SendState.{SendState}
 use Rattle.mta_lane_send.specs.Half.{last_of, is_ending, is_live, is_idle, confirmed_of}
 use Rattle.mta_lane_recv.specs.declared.state.Last.{Last}
 use Rattle.mta_lane_recv.specs.Half.{is_done, is_partial_of}
-use Rattle.mta_ends.specs.Units.{LaneUnit, End, Resume, Discard, SyncAck, EndAck, DiscardAck, Exception, Completed, Unrecognized, CannotRecover, Accept}
-use Rattle.mta_ends.specs.Sending as s
-use Rattle.mta_ends.specs.Sending.{SendStage, is_dropping}
-use Rattle.mta_ends.specs.Receiving as r
-use Rattle.mta_ends.specs.Receiving.{RecvStage}
+use Rattle.mta_transfer_rules.specs.Units.{LaneUnit, End, Resume, Discard, SyncAck, EndAck, DiscardAck, Exception, Completed, Unrecognized, CannotRecover, Accept}
+use Rattle.mta_transfer_rules.specs.Sending as s
+use Rattle.mta_transfer_rules.specs.Sending.{SendStage, is_dropping}
+use Rattle.mta_transfer_rules.specs.Receiving as r
+use Rattle.mta_transfer_rules.specs.Receiving.{RecvStage}
 use Rattle.mta_world.specs.World.{Link, Message, SendPart, set_at}
 use Rattle.mta_world.specs.Agrees.{IsAmong}
 use Rattle.mta_world.proofs.Units.{Each, pending, transfers, UpTo, StageUpTo, NoEnd, NoDiscard, IsSilent}

@@ -7,8 +7,8 @@ use Rattle.mta_lane_send.specs.Half.{last_of, is_idle, is_ending}
 use Rattle.mta_lane_recv.specs.declared.state.Last.{Last}
 use Rattle.mta_lane_recv.specs.declared.state.Last.TheVariants as last
 use Rattle.mta_lane_recv.specs.Half.{is_done, takes_piece}
-use Rattle.mta_ends.specs.Pieces.{is_last}
-use Rattle.mta_ends.specs.Sending.{is_dropping}
+use Rattle.mta_transfer_rules.specs.Pieces.{is_last}
+use Rattle.mta_transfer_rules.specs.Sending.{is_dropping}
 use Rattle.mta_world.specs.World.{Message, Outcome, Unsettled, Was_sent, Was_denied, set_at}
 use Rattle.mta_world.specs.Agrees.{IsAmong}
 use Rattle.mta_world.proofs.Octets.{firsts, firsts-none, take-firsts}

@@ -1,11 +1,11 @@
 -- The order of units on one link, as a place in a transfer that each unit moves.
 use Rattle.std.proofs.Common.{◌≡◌, ◌⊎◌, ℕ, ◌+◌, ◌==◌, Bool, true, false, if◌then◌else◌, List, [], ◌∷◌, ◌++◌, refl, sym, ◌∙◌, subst, inl, inr}
-use Rattle.mta_ends.specs.Units.{LaneUnit, Start, Piece, Sync, End, Resume, Discard}
-use Rattle.mta_ends.specs.Pieces.{piece_of, is_last}
-use Rattle.mta_ends.specs.Sending as s
-use Rattle.mta_ends.specs.Sending.{SendStage}
-use Rattle.mta_ends.specs.Receiving as r
-use Rattle.mta_ends.specs.Receiving.{RecvStage}
+use Rattle.mta_transfer_rules.specs.Units.{LaneUnit, Start, Piece, Sync, End, Resume, Discard}
+use Rattle.mta_transfer_rules.specs.Pieces.{piece_of, is_last}
+use Rattle.mta_transfer_rules.specs.Sending as s
+use Rattle.mta_transfer_rules.specs.Sending.{SendStage}
+use Rattle.mta_transfer_rules.specs.Receiving as r
+use Rattle.mta_transfer_rules.specs.Receiving.{RecvStage}
 use Rattle.mta_world.proofs.Units.{Each, Leftover, NoResumeAck}
 
 pub data Place : Type 0 where

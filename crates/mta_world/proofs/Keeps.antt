@@ -2,7 +2,7 @@
 use Rattle.std.proofs.Common.{◌≡◌, ◌<◌, ◌≤◌, ℕ, Bool, true, false, Option, Some, None, List, ◌∷◌, refl, sym, ◌∙◌, subst, arith, inl, inr}
 use Rattle.mta_lane_send.specs.Half.{last_of, is_idle}
 use Rattle.mta_lane_recv.specs.Half.{is_done}
-use Rattle.mta_ends.specs.Units.{LaneUnit}
+use Rattle.mta_transfer_rules.specs.Units.{LaneUnit}
 use Rattle.mta_world.specs.World.{World, Link, Queue, Message, set_at, Takes, Whole, Cut, Was_sent}
 use Rattle.mta_world.specs.Agrees.{IsAmong}
 use Rattle.mta_world.proofs.Puts.{Facts}

@@ -3,12 +3,12 @@ use Rattle.std.proofs.Common.{◌≡◌, ℕ, zero, suc, Bool, true, false, Some
 use Rattle.std.proofs.lemmas.Bool.{or_parts, or_from}
 use Rattle.mta_lane_send.specs.Half.{last_of}
 use Rattle.mta_lane_recv.specs.Half.{is_done, takes_piece}
-use Rattle.mta_ends.specs.Units.{LaneUnit, Start, Piece, Sync, End, Resume, Discard, SyncAck, EndAck, ResumeAck, DiscardAck, Exception, Completed, Unrecognized, CannotRecover, Accept, Other}
-use Rattle.mta_ends.specs.Pieces.{piece_of, is_last, octets_with}
-use Rattle.mta_ends.specs.Sending as s
-use Rattle.mta_ends.specs.Sending.{SendStage, SendEnd, is_transfer, is_accept, stage_put, stage_got}
-use Rattle.mta_ends.specs.Receiving as r
-use Rattle.mta_ends.specs.Receiving.{RecvStage, RecvEnd}
+use Rattle.mta_transfer_rules.specs.Units.{LaneUnit, Start, Piece, Sync, End, Resume, Discard, SyncAck, EndAck, ResumeAck, DiscardAck, Exception, Completed, Unrecognized, CannotRecover, Accept, Other}
+use Rattle.mta_transfer_rules.specs.Pieces.{piece_of, is_last, octets_with}
+use Rattle.mta_transfer_rules.specs.Sending as s
+use Rattle.mta_transfer_rules.specs.Sending.{SendStage, SendEnd, is_transfer, is_accept, stage_put, stage_got}
+use Rattle.mta_transfer_rules.specs.Receiving as r
+use Rattle.mta_transfer_rules.specs.Receiving.{RecvStage, RecvEnd}
 use Rattle.mta_world.specs.World.{World, Link, Queue, send_end, recv_end, send_part, recv_part, put_on, Takes}
 use Rattle.mta_world.specs.Steps.{with_link, sender_put, sender_got, receiver_took, receiver_put, receiver_found, SenderUses, ReceiverUses, IsConfirming, IsFaulty}
 use Rattle.mta_world.proofs.Units.{Each, each-snoc, pending, transfers, transfers-snoc, UpTo, IsSilent, NoEnd}

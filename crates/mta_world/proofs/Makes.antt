@@ -4,11 +4,11 @@ use Rattle.std.proofs.lemmas.Bool.{eqb-true}
 use Rattle.mta_lane_send.specs.declared.state.SendState.{SendState}
 use Rattle.mta_lane_send.specs.declared.state.SendState.TheVariants as state
 use Rattle.mta_lane_send.specs.Half.{last_of, is_idle, is_live, is_ending, confirmed_of, confirmed_at}
-use Rattle.mta_ends.specs.Units.{LaneUnit, Start, Piece, Sync, End, Resume, Discard, SyncAck, EndAck, ResumeAck, DiscardAck, Exception, Completed, Unrecognized, CannotRecover, Accept, Other}
-use Rattle.mta_ends.specs.Sending as s
-use Rattle.mta_ends.specs.Sending.{SendStage, is_dropping, synced}
-use Rattle.mta_ends.specs.Receiving as r
-use Rattle.mta_ends.specs.Receiving.{RecvStage}
+use Rattle.mta_transfer_rules.specs.Units.{LaneUnit, Start, Piece, Sync, End, Resume, Discard, SyncAck, EndAck, ResumeAck, DiscardAck, Exception, Completed, Unrecognized, CannotRecover, Accept, Other}
+use Rattle.mta_transfer_rules.specs.Sending as s
+use Rattle.mta_transfer_rules.specs.Sending.{SendStage, is_dropping, synced}
+use Rattle.mta_transfer_rules.specs.Receiving as r
+use Rattle.mta_transfer_rules.specs.Receiving.{RecvStage}
 use Rattle.mta_world.specs.World.{SendPart}
 use Rattle.mta_world.specs.Agrees.{IsAmong}
 use Rattle.mta_world.proofs.Units.{Each, each-map, each-both, UpTo, StageUpTo, Leftover, NoEnd, NoFinish, Ends, Clean, IsSilent}

@@ -2,9 +2,9 @@
 use Rattle.std.proofs.Common.{◌≡◌, ℕ, ◌+◌, ◌==◌, ◌&&◌, nat_lt, not, Bool, true, false, if◌then◌else◌, Option, Some, None, List, ◌∷◌, ◌++◌, refl, sym, subst, arith, inl, inr}
 use Rattle.std.proofs.lemmas.Bool.{eqb-true}
 use Rattle.mta_lane_recv.specs.Half.{is_partial}
-use Rattle.mta_ends.specs.Units.{LaneUnit, Start, Piece, Sync, End, Resume, Discard, Accept, Other}
-use Rattle.mta_ends.specs.Receiving as r
-use Rattle.mta_ends.specs.Receiving.{RecvStage, RecvEnd, take, take_start, take_piece, take_sync, take_end, take_discard, take_resume, may_resume, when, in_stage}
+use Rattle.mta_transfer_rules.specs.Units.{LaneUnit, Start, Piece, Sync, End, Resume, Discard, Accept, Other}
+use Rattle.mta_transfer_rules.specs.Receiving as r
+use Rattle.mta_transfer_rules.specs.Receiving.{RecvStage, RecvEnd, take, take_start, take_piece, take_sync, take_end, take_discard, take_resume, may_resume, when, in_stage}
 use Rattle.mta_world.proofs.Units.{Each, Own, Leftover, HasBegin, Opens, LastOnly, transfers, pending}
 use Rattle.mta_world.proofs.Talk.{IsWaiting, Busy, Rest, Begun}
 

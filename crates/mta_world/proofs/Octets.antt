@@ -4,7 +4,7 @@ use Rattle.std.proofs.Math.Seq.{take-add}
 use Rattle.std.proofs.Math.Nat.{mul-suc}
 use Rattle.std.proofs.lemmas.List.{take_all, take-append-le, take-append-drop}
 use Rattle.std.proofs.lemmas.Bool.{leb-true, cases_lt}
-use Rattle.mta_ends.specs.Pieces.{piece_of, is_last, joined, octets_with}
+use Rattle.mta_transfer_rules.specs.Pieces.{piece_of, is_last, joined, octets_with}
 
 -- pieces 1 to n
 pub firsts : (size : ℕ) → List ℕ → ℕ → List (List ℕ)

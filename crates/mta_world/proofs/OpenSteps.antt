@@ -3,10 +3,10 @@ use Rattle.std.proofs.Common.{◌≡◌, ◌<◌, ◌≤◌, ℕ, ◌+◌, Bool,
 use Rattle.mta_lane_send.specs.declared.state.SendState.{SendState}
 use Rattle.mta_lane_send.specs.declared.state.SendState.TheVariants as state
 use Rattle.mta_lane_send.specs.Half.{last_of, is_idle, is_live, confirmed_of}
-use Rattle.mta_ends.specs.Units.{LaneUnit, Start, Piece, Sync, End, Resume, Discard, SyncAck, EndAck, ResumeAck, DiscardAck, Exception, Completed, Unrecognized, CannotRecover, Accept, Other}
-use Rattle.mta_ends.specs.Sending.{SendStage, stage_on_link}
-use Rattle.mta_ends.specs.Receiving as r
-use Rattle.mta_ends.specs.Receiving.{RecvStage}
+use Rattle.mta_transfer_rules.specs.Units.{LaneUnit, Start, Piece, Sync, End, Resume, Discard, SyncAck, EndAck, ResumeAck, DiscardAck, Exception, Completed, Unrecognized, CannotRecover, Accept, Other}
+use Rattle.mta_transfer_rules.specs.Sending.{SendStage, stage_on_link}
+use Rattle.mta_transfer_rules.specs.Receiving as r
+use Rattle.mta_transfer_rules.specs.Receiving.{RecvStage}
 use Rattle.mta_world.specs.World.{World, Link, SendPart, set_at, new_link}
 use Rattle.mta_world.specs.Steps.{opened_by_sender, opened_by_receiver, joined_by_sender, joined_by_receiver}
 use Rattle.mta_world.proofs.Units.{Each, each-map, transfers, UpTo, Clean, IsSilent}

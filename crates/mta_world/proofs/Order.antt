@@ -1,11 +1,11 @@
 -- What the ends do keeps the order of units on a link.
 use Rattle.std.proofs.Common.{◌≡◌, ℕ, ◌==◌, true, List, ◌∷◌, refl, sym, ap, subst, inl, inr}
 use Rattle.std.proofs.lemmas.Bool.{eq-eqb}
-use Rattle.mta_ends.specs.Units.{LaneUnit, Discard}
-use Rattle.mta_ends.specs.Sending as s
-use Rattle.mta_ends.specs.Sending.{SendStage}
-use Rattle.mta_ends.specs.Receiving as r
-use Rattle.mta_ends.specs.Receiving.{RecvStage}
+use Rattle.mta_transfer_rules.specs.Units.{LaneUnit, Discard}
+use Rattle.mta_transfer_rules.specs.Sending as s
+use Rattle.mta_transfer_rules.specs.Sending.{SendStage}
+use Rattle.mta_transfer_rules.specs.Receiving as r
+use Rattle.mta_transfer_rules.specs.Receiving.{RecvStage}
 use Rattle.mta_world.proofs.Units.{Each, UpTo, StageUpTo, NoResumeAck, transfers}
 use Rattle.mta_world.proofs.Flow.{Place, Between, Skipping, next, after, place, Flows, Order}
 use Rattle.mta_world.proofs.Talk.{Genuine}

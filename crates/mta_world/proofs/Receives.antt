@@ -5,11 +5,11 @@ use Rattle.mta_lane_send.specs.Half.{last_of, is_idle, confirmed_of}
 use Rattle.mta_lane_recv.specs.declared.state.Last.{Last}
 use Rattle.mta_lane_recv.specs.declared.state.Last.TheVariants as last
 use Rattle.mta_lane_recv.specs.Half.{is_done, is_partial_of, takes_piece}
-use Rattle.mta_ends.specs.Units.{LaneUnit, Start, Piece, Sync, End, Resume, Discard, SyncAck, EndAck, ResumeAck, DiscardAck, Exception, Completed, Unrecognized, CannotRecover, Accept, Other}
-use Rattle.mta_ends.specs.Pieces.{piece_of, is_last, octets_with}
-use Rattle.mta_ends.specs.Sending.{SendStage, is_dropping}
-use Rattle.mta_ends.specs.Receiving as r
-use Rattle.mta_ends.specs.Receiving.{RecvStage}
+use Rattle.mta_transfer_rules.specs.Units.{LaneUnit, Start, Piece, Sync, End, Resume, Discard, SyncAck, EndAck, ResumeAck, DiscardAck, Exception, Completed, Unrecognized, CannotRecover, Accept, Other}
+use Rattle.mta_transfer_rules.specs.Pieces.{piece_of, is_last, octets_with}
+use Rattle.mta_transfer_rules.specs.Sending.{SendStage, is_dropping}
+use Rattle.mta_transfer_rules.specs.Receiving as r
+use Rattle.mta_transfer_rules.specs.Receiving.{RecvStage}
 use Rattle.mta_world.specs.World.{Message, SendPart}
 use Rattle.mta_world.specs.Agrees.{IsAmong}
 use Rattle.mta_world.specs.Steps.{SpellsNothing}

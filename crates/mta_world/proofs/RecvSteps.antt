@@ -7,14 +7,14 @@ use Rattle.mta_lane_send.specs.Half.{last_of, is_idle, is_live, is_ending, confi
 use Rattle.mta_lane_recv.specs.declared.state.Last.{Last}
 use Rattle.mta_lane_recv.specs.declared.state.Last.TheVariants as last
 use Rattle.mta_lane_recv.specs.Half.{is_partial_of, takes_piece}
-use Rattle.mta_ends.specs.Units.{LaneUnit, Start, Piece, Sync, End, Resume, Discard, SyncAck, EndAck, ResumeAck, DiscardAck, Exception, Completed, Unrecognized, CannotRecover, Accept, Other}
-use Rattle.mta_ends.specs.Sending as s
-use Rattle.mta_ends.specs.Sending.{SendStage, is_dropping}
-use Rattle.mta_ends.specs.Receiving as r
-use Rattle.mta_ends.specs.Receiving.{RecvStage, RecvStep}
+use Rattle.mta_transfer_rules.specs.Units.{LaneUnit, Start, Piece, Sync, End, Resume, Discard, SyncAck, EndAck, ResumeAck, DiscardAck, Exception, Completed, Unrecognized, CannotRecover, Accept, Other}
+use Rattle.mta_transfer_rules.specs.Sending as s
+use Rattle.mta_transfer_rules.specs.Sending.{SendStage, is_dropping}
+use Rattle.mta_transfer_rules.specs.Receiving as r
+use Rattle.mta_transfer_rules.specs.Receiving.{RecvStage, RecvStep}
 use Rattle.mta_world.specs.World.{World, Link, Message, RecvPart, set_at, recv_end}
 use Rattle.mta_world.specs.Agrees.{IsAmong}
-use Rattle.mta_ends.specs.Pieces.{octets_with}
+use Rattle.mta_transfer_rules.specs.Pieces.{octets_with}
 use Rattle.mta_world.specs.Steps.{receiver_made, Spells}
 use Rattle.mta_world.proofs.Units.{Each, each-map, each-both, transfers, StageUpTo, NoEnd, NoDiscard}
 use Rattle.mta_world.proofs.Talk.{phase, Talk, Genuine}

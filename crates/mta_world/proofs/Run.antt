@@ -3,8 +3,8 @@ use Rattle.std.proofs.Common.{◌≡◌, ◌⊎◌, ◌<◌, ℕ, ◌+◌, Bool,
 use Rattle.mta_lane_send.specs.declared.state.SendState.{SendState}
 use Rattle.mta_lane_send.specs.declared.state.SendState.TheVariants as state
 use Rattle.mta_lane_send.specs.Half.{last_of, is_idle, is_ending, confirmed_of}
-use Rattle.mta_ends.specs.Sending as s
-use Rattle.mta_ends.specs.Sending.{SendStep, is_dropping}
+use Rattle.mta_transfer_rules.specs.Sending as s
+use Rattle.mta_transfer_rules.specs.Sending.{SendStep, is_dropping}
 use Rattle.mta_world.specs.World.{World, Message, Outcome, Unsettled, Was_sent, Was_dropped, Was_refused, Was_denied, first_world}
 use Rattle.mta_world.specs.Steps as step
 use Rattle.mta_world.specs.Steps.{WorldStep, IsWorldRun, IsOnNewest, sender_made, given_up}

@@ -5,9 +5,9 @@ use Rattle.mta_lane_send.specs.declared.state.SendState.{SendState}
 use Rattle.mta_lane_send.specs.declared.state.SendState.TheVariants as state
 use Rattle.mta_lane_send.specs.Half.{last_of, is_idle, is_live, is_ending, is_sending, goes_on, confirmed_of, confirmed_at}
 use Rattle.mta_lane_recv.specs.Half.{is_done}
-use Rattle.mta_ends.specs.Units.{LaneUnit, SyncAck, EndAck, DiscardAck, Exception, Completed, Unrecognized, CannotRecover}
-use Rattle.mta_ends.specs.Sending as s
-use Rattle.mta_ends.specs.Sending.{SendStage, SendEnd, SendStep, is_dropping, synced, IsCalledBy}
+use Rattle.mta_transfer_rules.specs.Units.{LaneUnit, SyncAck, EndAck, DiscardAck, Exception, Completed, Unrecognized, CannotRecover}
+use Rattle.mta_transfer_rules.specs.Sending as s
+use Rattle.mta_transfer_rules.specs.Sending.{SendStage, SendEnd, SendStep, is_dropping, synced, IsCalledBy}
 use Rattle.mta_world.specs.World.{World, Link, Message, Outcome, Unsettled, Was_sent, Was_dropped, Was_refused, Was_denied, set_at, send_end}
 use Rattle.mta_world.specs.Agrees.{IsAmong}
 use Rattle.mta_world.specs.Steps.{with_link, sender_made, given_up, IsOnNewest}

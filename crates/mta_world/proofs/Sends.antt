@@ -4,12 +4,12 @@ use Rattle.std.proofs.lemmas.Bool.{eqb-true}
 use Rattle.mta_lane_send.specs.declared.state.SendState.{SendState}
 use Rattle.mta_lane_send.specs.declared.state.SendState.TheVariants as state
 use Rattle.mta_lane_send.specs.Half.{last_of, goes_on, is_ending}
-use Rattle.mta_ends.specs.Units.{LaneUnit, Start, Piece, Sync, End, Resume, Discard, SyncAck, EndAck, ResumeAck, DiscardAck, Exception, Completed, Unrecognized, CannotRecover, Accept, Other}
-use Rattle.mta_ends.specs.Pieces.{piece_of, is_last}
-use Rattle.mta_ends.specs.Sending as s
-use Rattle.mta_ends.specs.Sending.{SendStage, SendEnd, PutsAt, IsCut, is_transfer, stage_put, stage_at_piece}
-use Rattle.mta_ends.specs.Receiving as r
-use Rattle.mta_ends.specs.Receiving.{RecvStage}
+use Rattle.mta_transfer_rules.specs.Units.{LaneUnit, Start, Piece, Sync, End, Resume, Discard, SyncAck, EndAck, ResumeAck, DiscardAck, Exception, Completed, Unrecognized, CannotRecover, Accept, Other}
+use Rattle.mta_transfer_rules.specs.Pieces.{piece_of, is_last}
+use Rattle.mta_transfer_rules.specs.Sending as s
+use Rattle.mta_transfer_rules.specs.Sending.{SendStage, SendEnd, PutsAt, IsCut, is_transfer, stage_put, stage_at_piece}
+use Rattle.mta_transfer_rules.specs.Receiving as r
+use Rattle.mta_transfer_rules.specs.Receiving.{RecvStage}
 use Rattle.mta_world.proofs.Units.{Each, each-snoc, each-map, Own, Leftover, Opens, NoFinish, NoEnd, NoDiscard, Ends, NoEnds, Clean, NoResumeAck, begin-snoc, begin-more, last-snoc, own-left}
 use Rattle.mta_world.proofs.Flow.{Place, Between, Behind_pieces, Behind_piece, next, after, place, Stands, Under, Order, under-step, IsRest, rest-after, rest-under}
 use Rattle.mta_world.proofs.Talk.{IsIdle, IsWaiting, Phase, At_rest, Before, During, Behind, phase, Rest, Active, Talk, Names, Finish, IsCutAt}

@@ -2,11 +2,11 @@
 use Rattle.std.proofs.Common.{◌≡◌, ℕ, ◌+◌, Bool, false, List, [], ◌∷◌, ◌++◌, refl, sym, ◌∙◌, ap, subst, inl, inr}
 use Rattle.std.proofs.lemmas.Bool.{eq-eqb}
 use Rattle.mta_lane_send.specs.Half.{last_of}
-use Rattle.mta_ends.specs.Units.{LaneUnit, Start, End, Resume, Discard, DiscardAck}
-use Rattle.mta_ends.specs.Sending as s
-use Rattle.mta_ends.specs.Sending.{SendStage}
-use Rattle.mta_ends.specs.Receiving as r
-use Rattle.mta_ends.specs.Receiving.{RecvStage}
+use Rattle.mta_transfer_rules.specs.Units.{LaneUnit, Start, End, Resume, Discard, DiscardAck}
+use Rattle.mta_transfer_rules.specs.Sending as s
+use Rattle.mta_transfer_rules.specs.Sending.{SendStage}
+use Rattle.mta_transfer_rules.specs.Receiving as r
+use Rattle.mta_transfer_rules.specs.Receiving.{RecvStage}
 use Rattle.mta_world.specs.World.{SendPart}
 use Rattle.mta_world.proofs.Units.{Each, each-map, pending, transfers, UpTo, StageUpTo, Own, NoEnd, NoDiscard, LastOnly, IsSilent, NoFinish}
 use Rattle.mta_world.proofs.Flow.{Place, Between, Behind_pieces, Behind_piece, Skipping, next, after, place, Flows, Order, under-flows}

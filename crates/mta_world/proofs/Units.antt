@@ -1,8 +1,8 @@
 -- Lists of units, and what each unit of one may be.
 use Rattle.std.proofs.Common.{◌≡◌, ◌⊎◌, ◌<◌, ◌≤◌, ℕ, ◌+◌, List, [], ◌∷◌, ◌++◌, refl, sym, ap, subst, arith, inl, inr}
-use Rattle.mta_ends.specs.Units.{LaneUnit, Start, Piece, Sync, End, Resume, Discard, SyncAck, EndAck, ResumeAck, DiscardAck, Exception, Completed, Unrecognized, CannotRecover, Accept, Other}
-use Rattle.mta_ends.specs.Receiving as r
-use Rattle.mta_ends.specs.Receiving.{RecvStage}
+use Rattle.mta_transfer_rules.specs.Units.{LaneUnit, Start, Piece, Sync, End, Resume, Discard, SyncAck, EndAck, ResumeAck, DiscardAck, Exception, Completed, Unrecognized, CannotRecover, Accept, Other}
+use Rattle.mta_transfer_rules.specs.Receiving as r
+use Rattle.mta_transfer_rules.specs.Receiving.{RecvStage}
 
 abbrev pub Each : (LaneUnit → Type 0) → List LaneUnit → Type 0
 Each P [] = Unit {0}

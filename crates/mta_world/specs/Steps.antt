@@ -3,11 +3,11 @@
 use Rattle.std.specs.Prelude.{◌≡◌, ◌≤◌, ◌<◌, ℕ, ◌+◌, ◌-◌, Bool, true, false, Option, Some}
 use Rattle.std.specs.Prelude.{None, List, [], ◌∷◌, ◌++◌, take}
 use Rattle.mta_lane_send.specs.Half.{last_of, is_sending}
-use Rattle.mta_ends.specs.Units.{LaneUnit}
-use Rattle.mta_ends.specs.Units as u
-use Rattle.mta_ends.specs.Pieces.{octets_with}
-use Rattle.mta_ends.specs.Sending as s
-use Rattle.mta_ends.specs.Receiving as r
+use Rattle.mta_transfer_rules.specs.Units.{LaneUnit}
+use Rattle.mta_transfer_rules.specs.Units as u
+use Rattle.mta_transfer_rules.specs.Pieces.{octets_with}
+use Rattle.mta_transfer_rules.specs.Sending as s
+use Rattle.mta_transfer_rules.specs.Receiving as r
 use Rattle.mta_world.specs.World.{World, Link, Queue, Message, Outcome, Unsettled, Was_sent, Was_dropped, Was_refused}
 use Rattle.mta_world.specs.World.{Was_denied, set_at, new_link, first_world, send_end, recv_end, send_part, recv_part}
 use Rattle.mta_world.specs.World.{put_on, Takes}

@@ -6,9 +6,9 @@ use Rattle.mta_lane_send.specs.declared.state.SendState.TheVariants as state
 use Rattle.mta_lane_recv.specs.declared.state.Last.{Last}
 use Rattle.mta_lane_recv.specs.declared.state.Last.TheVariants as last
 use Rattle.mta_lane_send.specs.Half.{last_of}
-use Rattle.mta_ends.specs.Units.{LaneUnit}
-use Rattle.mta_ends.specs.Sending as s
-use Rattle.mta_ends.specs.Receiving as r
+use Rattle.mta_transfer_rules.specs.Units.{LaneUnit}
+use Rattle.mta_transfer_rules.specs.Sending as s
+use Rattle.mta_transfer_rules.specs.Receiving as r
 
 -- One direction of a link: the units that were put and not taken. Where a suffix was lost, only the first
 -- `reach` of them can still be taken, so what is put behind a loss is lost too.

@@ -2,17 +2,17 @@
 //! moment and the chosen positions.
 
 ghost use Rattle.std.specs.Prelude.{IfSome};
-ghost use Rattle.mta_reported.specs.Values.{IsOutcome};
+ghost use Rattle.mta_report_recipient.specs.Values.{IsOutcome};
 
 use crate::rules::answer::Answer;
 use mta_apdu::Apdu;
 use mta_ber::{LAST_MOMENT, Memory};
+use mta_copies::{outgoing_head, outgoing_message, outgoing_probe, outgoing_report};
 use mta_envelope::{Envelope, Message, Probe};
 use mta_lists::expand;
 use mta_names::Code;
-use mta_outgoing::{outgoing_head, outgoing_message, outgoing_probe, outgoing_report};
 use mta_report::Report;
-use mta_reported::{Moment, Outcome};
+use mta_report_recipient::{Moment, Outcome};
 use mta_rules::make_report;
 use mta_tables::Tables;
 use std::alloc::Global;

@@ -6,8 +6,8 @@ use mta_apdu::Apdu;
 use mta_ber::LAST_MOMENT;
 use mta_envelope::{Message, Probe};
 use mta_report::Report;
+use mta_rules::{verdict_message, verdict_probe, verdict_report};
 use mta_tables::Tables;
-use mta_verdicts::{verdict_message, verdict_probe, verdict_report};
 
 fn on_message(tables: &Tables, message: &Message, numbers: &[u32]) -> Answer {
     let [arrival, moment, position, members] = numbers else {

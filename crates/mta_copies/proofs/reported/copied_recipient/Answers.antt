@@ -1,5 +1,5 @@
 use Rattle.std.proofs.Common.{sym, subst, ◌∙◌}
-use Rattle.mta_reported.specs.Values.{IsReported}
+use Rattle.mta_report_recipient.specs.Values.{IsReported}
 use Rattle.mta_copies.proofs.Same.{same_parts}
 use Rattle.mta_copies.proofs.reported.copied_recipient.Goals as goal
 

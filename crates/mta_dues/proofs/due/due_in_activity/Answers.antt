@@ -1,4 +1,4 @@
-use Rattle.mta_replay.specs.Kept.{state_of}
+use Rattle.mta_state.specs.Kept.{state_of}
 use Rattle.mta_dues.proofs.Recipients.{none_sending}
 use Rattle.mta_dues.proofs.due.due_in_activity.Goals as goal
 

@@ -1,5 +1,5 @@
 use Rattle.std.proofs.Common.{sym, ◌∙◌}
-use Rattle.mta_replay.specs.Kept.{state_of}
+use Rattle.mta_state.specs.Kept.{state_of}
 use Rattle.mta_dues.proofs.Recipients.{not_pending}
 use Rattle.mta_dues.proofs.due.due_of.Goals as goal
 

@@ -3,7 +3,7 @@ use Rattle.mta_records.specs.declared.step.Step.{Step}
 use Rattle.mta_procedures.specs.declared.verdict.Verdict.{Verdict}
 use Rattle.mta_machine.specs.Items.{ItemValue}
 use Rattle.mta_machine.specs.Machine.{verdict_on}
-use Rattle.mta_replay.specs.Kept.{state_of}
+use Rattle.mta_state.specs.Kept.{state_of}
 use Rattle.mta_dues.specs.Answers.{IsDueOf, step_by}
 use Rattle.mta_dues.proofs.Recipients.{by_verdict}
 use Rattle.mta_dues.proofs.due.due_while_free.Goals as goal

@@ -1,5 +1,5 @@
 use Rattle.std.proofs.Common.{◌≤◌, ◌-◌, length}
-use Rattle.mta_agenda.specs.Next.{IsAbove}
+use Rattle.mta_dues.specs.Next.{IsAbove}
 use Rattle.mta_dues.specs.Index.{NoneLinedBelow}
 use Rattle.mta_dues.proofs.lined.next_lined.Given as goal
 

@@ -1,5 +1,5 @@
 use Rattle.std.proofs.Common.{◌≤◌, ◌-◌}
-use Rattle.mta_replay.specs.Kept.{state_of}
+use Rattle.mta_state.specs.Kept.{state_of}
 use Rattle.mta_dues.specs.Answers.{NoneRoutedUpTo}
 use Rattle.mta_dues.proofs.queue.has_routed.Given as goal
 

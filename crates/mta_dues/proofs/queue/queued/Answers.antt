@@ -1,6 +1,6 @@
 use Rattle.std.proofs.Common.{◌≡◌, ℕ, List, length, Option, Some, None, sym, subst, arith}
-use Rattle.mta_replay.specs.Kept.{state_of}
-use Rattle.mta_agenda.specs.Next.{IsAbove}
+use Rattle.mta_state.specs.Kept.{state_of}
+use Rattle.mta_dues.specs.Next.{IsAbove}
 use Rattle.mta_dues.specs.Answers.{AreQueuedUpTo}
 use Rattle.mta_dues.specs.Index.{IsNextWaiting}
 use Rattle.mta_dues.proofs.Queues.{NoneQueuedBetween, queue_further, queue_one_more, whole_queue}

@@ -1,6 +1,6 @@
 use Rattle.std.proofs.Common.{ℕ, List, Option, Some, None, length, sym, subst}
 use Rattle.mta_histories.specs.Due.{IsBatch}
-use Rattle.mta_replay.specs.Kept.{state_of}
+use Rattle.mta_state.specs.Kept.{state_of}
 use Rattle.mta_dues.proofs.Relays.{a_batch, no_batch, none_of_item, NoneRelayedBetween}
 use Rattle.mta_dues.proofs.Passed.{none_relayed_between}
 use Rattle.mta_dues.proofs.relay.first_batch.Goals as goal

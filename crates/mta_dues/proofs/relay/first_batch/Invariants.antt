@@ -1,6 +1,6 @@
 use Rattle.std.proofs.Common.{◌-◌, ◌^◌, length}
-use Rattle.mta_agenda.specs.Agendas.{IsAllCalled}
-use Rattle.mta_replay.specs.Kept.{state_of}
+use Rattle.mta_dues.specs.Agendas.{IsAllCalled}
+use Rattle.mta_state.specs.Kept.{state_of}
 use Rattle.mta_dues.specs.Answers.{NoneRelayedUpTo}
 use Rattle.mta_dues.specs.Index.{IsIndexed}
 use Rattle.mta_dues.proofs.relay.first_batch.Given as goal

@@ -1,5 +1,5 @@
 use Rattle.std.proofs.Common.{◌≡◌, ◌+◌, ℕ, List, length, sym, ap, subst, arith}
-use Rattle.mta_replay.specs.Kept.{state_of}
+use Rattle.mta_state.specs.Kept.{state_of}
 use Rattle.mta_dues.specs.Answers.{AreRelayedUpTo}
 use Rattle.mta_dues.proofs.Relays.{relays_further, relays_one_more, all_relays}
 use Rattle.mta_dues.proofs.relay.recipients_for.Goals as goal

@@ -1,7 +1,7 @@
 use Rattle.std.proofs.Common.{◌≡◌, ℕ, List, Some, true, false, refl, sym, ap, subst, ◌∙◌}
 use Rattle.std.specs.Option.{option_copied}
 use Rattle.mta_machine.specs.Items.{numbered}
-use Rattle.mta_agenda.specs.Agendas.{AgendaValue, IsAllCalled}
+use Rattle.mta_dues.specs.Agendas.{AgendaValue, IsAllCalled}
 use Rattle.mta_dues.specs.declared.index.Index.{Index}
 use Rattle.mta_dues.proofs.Indexed.{left, let_go}
 use Rattle.mta_dues.proofs.rest.pass_over.Goals as goal

@@ -1,8 +1,8 @@
 use Rattle.std.proofs.Common.{◌≡◌, ℕ, List, Option, Some, true, false, refl, sym, subst, arith}
-use Rattle.mta_idle.proofs.Stays.{idle_until_next}
-use Rattle.mta_agenda.specs.Agendas.{AgendaValue, IsAllCalled}
-use Rattle.mta_replay.specs.Asked.{IsRestOf}
-use Rattle.mta_replay.specs.declared.rest.Rest.{Rest}
+use Rattle.mta_idle_laws.proofs.Stays.{idle_until_next}
+use Rattle.mta_dues.specs.Agendas.{AgendaValue, IsAllCalled}
+use Rattle.mta_state.specs.Asked.{IsRestOf}
+use Rattle.mta_state.specs.declared.rest.Rest.{Rest}
 use Rattle.mta_dues.specs.declared.index.Index.{Index}
 use Rattle.mta_dues.proofs.Indexed.{change_later, left, let_go}
 use Rattle.mta_dues.proofs.rest.rest.Goals as goal

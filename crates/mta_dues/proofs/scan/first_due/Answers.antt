@@ -1,6 +1,6 @@
 use Rattle.std.proofs.Common.{Option, Some, None, length, subst}
 use Rattle.mta_records.specs.declared.step.Step.{Step}
-use Rattle.mta_replay.specs.Kept.{state_of}
+use Rattle.mta_state.specs.Kept.{state_of}
 use Rattle.mta_dues.specs.Answers.{IsFirstOf}
 use Rattle.mta_dues.proofs.Passed.{nothing_between}
 use Rattle.mta_dues.proofs.Scans.{first_item, no_item, nothing_further, NothingDueBetween}

@@ -1,6 +1,6 @@
 use Rattle.std.proofs.Common.{◌≡◌, ◌+◌, Option, length, ap, subst, arith}
 use Rattle.mta_records.specs.declared.step.Step.{Step}
-use Rattle.mta_replay.specs.Kept.{state_of}
+use Rattle.mta_state.specs.Kept.{state_of}
 use Rattle.mta_dues.specs.Answers.{IsDueOf}
 use Rattle.mta_dues.proofs.Scans.{none_at_first, none_further, no_recipient}
 use Rattle.mta_dues.proofs.scan.first_of.Goals as goal

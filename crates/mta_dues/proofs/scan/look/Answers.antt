@@ -1,5 +1,5 @@
 use Rattle.std.proofs.Common.{sym}
-use Rattle.mta_replay.specs.Kept.{state_of}
+use Rattle.mta_state.specs.Kept.{state_of}
 use Rattle.mta_dues.proofs.Idle.{nothing_of_idle}
 use Rattle.mta_dues.proofs.Passed.{stored_at}
 use Rattle.mta_dues.proofs.scan.look.Goals as goal

@@ -1,14 +1,14 @@
 use Rattle.std.proofs.Common.{◌≡◌, ◌-◌, Option, Some, sym, ap, subst, ◌∙◌}
 use Rattle.std.specs.Prelude.{slice_get}
 use Rattle.std.specs.Option.{option_map}
-use Rattle.mta_recipient.specs.declared.recipient.RecipientFields.{RecipientFields}
-use Rattle.mta_recipient.specs.Recipients.{IsRecipient}
+use Rattle.mta_envelope_recipient.specs.declared.recipient.RecipientFields.{RecipientFields}
+use Rattle.mta_envelope_recipient.specs.Recipients.{IsRecipient}
 use Rattle.mta_envelope.specs.declared.envelope.EnvelopeFields.{EnvelopeFields}
 use Rattle.mta_envelope.specs.Messages.{MessageValue, message_value}
 use Rattle.mta_tables.specs.declared.entry.MailList.{MailList}
 use Rattle.mta_procedures.specs.Members.{members_copy}
 use Rattle.mta_procedures.specs.Situations.{Situation, situation}
-use Rattle.mta_verdicts.proofs.Chosen.{chosen_is}
+use Rattle.mta_rules.proofs.ChosenVerdicts.{chosen_is}
 use Rattle.mta_lists.proofs.Chosen.{if_ok_so, list_at, list_is, few_members, writable}
 use Rattle.mta_lists.proofs.expansion.expand.Goals as goal
 

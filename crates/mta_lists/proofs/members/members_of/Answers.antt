@@ -1,6 +1,6 @@
 use Rattle.std.proofs.Common.{◌≡◌, ◌+◌, ◌<◌, List, [], ◌∷◌, ◌++◌, length, ap, ◌∙◌, arith}
 use Rattle.mta_names.specs.declared.attributes.Attributes.{Attributes}
-use Rattle.mta_recipient.specs.declared.recipient.RecipientFields.{RecipientFields}
+use Rattle.mta_envelope_recipient.specs.declared.recipient.RecipientFields.{RecipientFields}
 use Rattle.mta_procedures.specs.Members.{member_as}
 use Rattle.mta_lists.proofs.Numbered.{members_more}
 use Rattle.mta_lists.proofs.members.members_of.Goals as goal

@@ -1,7 +1,7 @@
 use Rattle.std.proofs.lemmas.Result.{err_from_is_err_and}
 use Rattle.mta_ber.specs.Seen.{view}
 use Rattle.mta_report.specs.ReportContents.{content_step, no_content, content_from, content_in}
-use Rattle.mta_reported.proofs.Failing.{parts_fail}
+use Rattle.mta_report_recipient.proofs.Failing.{parts_fail}
 use Rattle.mta_report.proofs.content.read_content.Goals as goal
 
 pub returns-in_err-take_parts : goal.returns-in_err-take_parts

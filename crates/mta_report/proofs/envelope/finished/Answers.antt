@@ -1,6 +1,6 @@
 use Rattle.std.proofs.Common.{◌≡◌, false, Ok, sym, ◌∙◌}
 use Rattle.mta_report.specs.ReportEnvelopes.{report_envelope, envelope_complete}
-use Rattle.mta_reported.proofs.AbsentParts.{one_of_three}
+use Rattle.mta_report_recipient.proofs.AbsentParts.{one_of_three}
 use Rattle.mta_report.proofs.envelope.finished.Goals as goal
 
 pub returns-else-is_complete : goal.returns-else-is_complete

@@ -1,6 +1,6 @@
 use Rattle.std.proofs.Common.{◌≡◌, false, Ok, sym, ◌∙◌}
 use Rattle.mta_report.specs.Reports.{report, report_complete}
-use Rattle.mta_reported.proofs.AbsentParts.{one_of_two}
+use Rattle.mta_report_recipient.proofs.AbsentParts.{one_of_two}
 use Rattle.mta_report.proofs.reading.finished.Goals as goal
 
 pub returns-else-is_complete : goal.returns-else-is_complete

@@ -2,7 +2,7 @@ use Rattle.std.proofs.Common.{sym, ◌∙◌}
 use Rattle.std.proofs.lemmas.Result.{err_from_is_err_and}
 use Rattle.mta_ber.specs.Seen.{view}
 use Rattle.mta_report.specs.Reports.{report_step, no_report, report_from, report_in}
-use Rattle.mta_reported.proofs.Failing.{parts_under_fail}
+use Rattle.mta_report_recipient.proofs.Failing.{parts_under_fail}
 use Rattle.mta_report.proofs.reading.read_report.Goals as goal
 
 pub returns-in_err-take_parts : goal.returns-in_err-take_parts

@@ -1,5 +1,5 @@
 use Rattle.std.proofs.Common.{sym, subst, ◌∙◌}
-use Rattle.mta_reported.specs.Values.{IsReported}
+use Rattle.mta_report_recipient.specs.Values.{IsReported}
 use Rattle.mta_rules.proofs.Made.{reported_is_one, reported_so}
 use Rattle.mta_rules.proofs.report.reported.Goals as goal
 

@@ -4,9 +4,9 @@ use Rattle.mta_records.specs.declared.step.Step.{Step}
 use Rattle.mta_records.specs.Body.{body_of}
 use Rattle.mta_histories.specs.Lanes.{State}
 use Rattle.mta_histories.specs.History.{after_step}
-use Rattle.mta_replay.specs.Kept.{state_of}
+use Rattle.mta_state.specs.Kept.{state_of}
 use Rattle.mta_table_rules.specs.Text.{text_of}
-use Rattle.mta_state.specs.Ready.{IsReady}
+use Rattle.mta_replay.specs.Ready.{IsReady}
 use Rattle.mta_spool.specs.Stands.{Makes}
 use Rattle.mta_spool.proofs.Making.{made, refused}
 use Rattle.mta_spool.proofs.make.make.Goals as goal

@@ -1,6 +1,6 @@
 use Rattle.std.proofs.Common.{◌+◌, List, ℕ, [], length, Ok, Err, refl, subst, ap, arith}
 use Rattle.std.specs.Vec.Iter.{into_iter_items}
-use Rattle.mta_replay.specs.Kept.{state_of}
+use Rattle.mta_state.specs.Kept.{state_of}
 use Rattle.mta_spool.specs.Replaying.{HasTaken}
 use Rattle.mta_spool.proofs.Replays.{next_short, under_way_at_first, under_way_further, way_ended, way_fits, way_stopped}
 use Rattle.mta_spool.proofs.replay.replay.Goals as goal

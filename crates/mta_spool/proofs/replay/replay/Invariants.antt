@@ -1,7 +1,7 @@
 use Rattle.std.specs.Vec.Iter.{into_iter_items, into_iter_len}
-use Rattle.mta_replay.specs.Kept.{state_of}
+use Rattle.mta_state.specs.Kept.{state_of}
 use Rattle.mta_table_rules.specs.Text.{text_of}
-use Rattle.mta_state.specs.Sound.{IsSound}
+use Rattle.mta_replay.specs.Sound.{IsSound}
 use Rattle.mta_spool.proofs.Replays.{IsUnderWay}
 use Rattle.mta_spool.proofs.replay.replay.Given as goal
 

@@ -1,8 +1,8 @@
 use Rattle.std.proofs.Common.{Option, subst}
-use Rattle.mta_items.specs.Parts.{machine_of}
-use Rattle.mta_replay.specs.Kept.{state_of}
-use Rattle.mta_state.specs.declared.replay.InForce.{InForce}
-use Rattle.mta_state.specs.Sound.{AreLast}
+use Rattle.mta_state.specs.Parts.{machine_of}
+use Rattle.mta_state.specs.Kept.{state_of}
+use Rattle.mta_replay.specs.declared.replay.InForce.{InForce}
+use Rattle.mta_replay.specs.Sound.{AreLast}
 use Rattle.mta_table_rules.specs.Text.{text_of}
 use Rattle.mta_tables.specs.Tables.{TablesValue}
 use Rattle.mta_spool.proofs.Started.{some_tables}

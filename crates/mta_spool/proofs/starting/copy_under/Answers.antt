@@ -1,8 +1,8 @@
 use Rattle.std.proofs.Common.{List, ℕ, sym, subst, ◌∙◌}
 use Rattle.std.proofs.lemmas.Result.{IfOk-weaker}
 use Rattle.mta_histories.specs.History.{transfer_of}
-use Rattle.mta_items.specs.Parts.{machine_of}
-use Rattle.mta_replay.specs.Kept.{state_of}
+use Rattle.mta_state.specs.Parts.{machine_of}
+use Rattle.mta_state.specs.Kept.{state_of}
 use Rattle.mta_table_rules.specs.Text.{text_of}
 use Rattle.mta_spool.specs.Starting.{AreRelayed, IsCarried, IsCopy}
 use Rattle.mta_spool.proofs.Started.{all_relayed, arrived_at, copy_carried, some_item}

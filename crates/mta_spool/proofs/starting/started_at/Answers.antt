@@ -3,8 +3,8 @@ use Rattle.std.proofs.lemmas.Result.{IfOk-weaker}
 use Rattle.mta_records.specs.declared.step.Step.{Step}
 use Rattle.mta_records.specs.declared.step.Step.TheVariants as steps
 use Rattle.mta_histories.specs.History.{IsPossible, transfer_of}
-use Rattle.mta_items.specs.Parts.{machine_of}
-use Rattle.mta_replay.specs.Kept.{state_of}
+use Rattle.mta_state.specs.Parts.{machine_of}
+use Rattle.mta_state.specs.Kept.{state_of}
 use Rattle.mta_spool.specs.Starting.{IsCarried, StartsAs}
 use Rattle.mta_spool.proofs.Started.{starts_as}
 use Rattle.mta_spool.proofs.starting.started_at.Goals as goal

@@ -6,7 +6,7 @@ use Rattle.mta_apdu.specs.Apdus.{ApduValue, apdu_value, IsPlacedIn}
 use Rattle.mta_procedures.specs.declared.verdict.Verdict.TheVariants as Verdicts
 use Rattle.mta_records.specs.Outgoing.{Carried}
 use Rattle.mta_machine.specs.Rules.{copy_under, outgoing_copy}
-use Rattle.mta_replay.specs.Asked.{Relays}
+use Rattle.mta_state.specs.Asked.{Relays}
 use Rattle.mta_table_rules.specs.Copied.{IsCutIn}
 use Rattle.mta_table_rules.proofs.Copied.{placed, relayed}
 use Rattle.mta_table_rules.proofs.Read.{copy_is, if_ok_so, kept_is, no_verdict, verdict_is}

@@ -4,8 +4,8 @@ use Rattle.mta_apdu.specs.Apdus.{ApduValue, apdu_value}
 use Rattle.mta_procedures.specs.Reports as reports
 use Rattle.mta_machine.specs.Machine.{own_item}
 use Rattle.mta_machine.specs.Rules.{report_on, verdict_under}
-use Rattle.mta_replay.specs.declared.delivery.Delivery.{Delivery}
-use Rattle.mta_replay.specs.Asked.{Delivers, IsDeliveryOf}
+use Rattle.mta_state.specs.declared.delivery.Delivery.{Delivery}
+use Rattle.mta_state.specs.Asked.{Delivers, IsDeliveryOf}
 use Rattle.mta_table_rules.proofs.Delivered.{none_told, told_of}
 use Rattle.mta_table_rules.proofs.Read.{if_ok_so, kept_is}
 use Rattle.mta_table_rules.proofs.deliveries.delivery.Goals as goal

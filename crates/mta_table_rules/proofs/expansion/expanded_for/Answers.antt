@@ -1,9 +1,9 @@
 use Rattle.std.proofs.Common.{◌≡◌, List, Some, ap, ◌∙◌, map}
-use Rattle.mta_recipient.specs.declared.recipient.RecipientFields.{RecipientFields}
+use Rattle.mta_envelope_recipient.specs.declared.recipient.RecipientFields.{RecipientFields}
 use Rattle.mta_envelope.specs.declared.envelope.EnvelopeFields.{EnvelopeFields}
 use Rattle.mta_envelope.specs.Messages.{MessageValue, message_value}
 use Rattle.mta_apdu.specs.Apdus.{ApduValue}
-use Rattle.mta_items.specs.Parts.{made_items}
+use Rattle.mta_state.specs.Parts.{made_items}
 use Rattle.mta_machine.specs.Items.{numbered}
 use Rattle.mta_machine.specs.Machine.{own_item}
 use Rattle.mta_machine.specs.Rules.{expanded_for, expanded_to}

@@ -1,9 +1,9 @@
 use Rattle.std.proofs.Common.{◌≡◌, Some, None, sym, ap, subst, ◌∙◌, List, map}
 use Rattle.mta_apdu.specs.Apdus.{ApduValue, apdu_value}
-use Rattle.mta_items.specs.Parts.{made_items}
+use Rattle.mta_state.specs.Parts.{made_items}
 use Rattle.mta_machine.specs.Machine.{own_item}
 use Rattle.mta_machine.specs.Rules.{expansion, expansion_under, verdict_under}
-use Rattle.mta_replay.specs.Asked.{Expands}
+use Rattle.mta_state.specs.Asked.{Expands}
 use Rattle.mta_table_rules.proofs.Read.{expansion_is, if_ok_so, kept_is, verdict_is}
 use Rattle.mta_table_rules.proofs.expansion.expansion_items.Goals as goal
 

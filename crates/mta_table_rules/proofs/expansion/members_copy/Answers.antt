@@ -3,7 +3,7 @@ use Rattle.std.specs.Prelude.{slice_get}
 use Rattle.std.specs.Option.{option_map}
 use Rattle.std.proofs.lemmas.Option.{slice_get_within}
 use Rattle.mta_envelope.specs.Messages.{MessageValue, message_value}
-use Rattle.mta_recipient.specs.declared.recipient.RecipientFields.{RecipientFields}
+use Rattle.mta_envelope_recipient.specs.declared.recipient.RecipientFields.{RecipientFields}
 use Rattle.mta_tables.specs.declared.entry.MailList.{MailList}
 use Rattle.mta_procedures.specs.Members.{members_copy}
 use Rattle.mta_procedures.specs.Histories.{is_in_history}

@@ -1,6 +1,6 @@
 use Rattle.std.proofs.Common.{ap, ◌∙◌}
 use Rattle.mta_names.specs.Normal.{is_same_name}
-use Rattle.mta_recipient.specs.declared.recipient.RecipientFields.{RecipientFields}
+use Rattle.mta_envelope_recipient.specs.declared.recipient.RecipientFields.{RecipientFields}
 use Rattle.mta_table_rules.proofs.Sames.{same_is}
 use Rattle.mta_table_rules.proofs.passing.is_of_list.Goals as goal
 

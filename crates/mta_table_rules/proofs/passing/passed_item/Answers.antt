@@ -4,7 +4,7 @@ use Rattle.mta_apdu.specs.Apdus.{ApduValue, apdu_value, report}
 use Rattle.mta_machine.specs.declared.item.Origin.{Origin}
 use Rattle.mta_machine.specs.Machine.{own_item}
 use Rattle.mta_machine.specs.Rules.{passed_back, passed_under}
-use Rattle.mta_replay.specs.Asked.{Passes}
+use Rattle.mta_state.specs.Asked.{Passes}
 use Rattle.mta_table_rules.proofs.Passed.{has_room}
 use Rattle.mta_table_rules.proofs.Read.{if_ok_so, kept_is, none_passed, passed_is, verdict_is}
 use Rattle.mta_table_rules.proofs.passing.passed_item.Goals as goal

@@ -1,6 +1,6 @@
 use Rattle.std.proofs.Common.{Some, None}
 use Rattle.mta_apdu.specs.Apdus.{ApduValue, apdu_value}
-use Rattle.mta_replay.specs.Asked.{IsRestOf}
+use Rattle.mta_state.specs.Asked.{IsRestOf}
 use Rattle.mta_table_rules.specs.Rests.{IsRestUnder}
 use Rattle.mta_table_rules.proofs.IdleItems.{none_is}
 use Rattle.mta_table_rules.proofs.Read.{if_ok_so, kept_is}

@@ -1,7 +1,7 @@
 use Rattle.std.proofs.Common.{◌≡◌, ◌+◌, ℕ, Option, Some, length, sym, ap, subst, ◌∙◌, arith}
 use Rattle.mta_apdu.specs.Apdus.{apdu_value}
-use Rattle.mta_idle.specs.Next.{next_under}
-use Rattle.mta_replay.specs.declared.rest.Rest.{Rest}
+use Rattle.mta_idle_laws.specs.Next.{next_under}
+use Rattle.mta_state.specs.declared.rest.Rest.{Rest}
 use Rattle.mta_table_rules.specs.declared.rest.Places.{Places}
 use Rattle.mta_table_rules.specs.Rests.{IsLookAt}
 use Rattle.mta_table_rules.proofs.Rests.{all_go, go_further}

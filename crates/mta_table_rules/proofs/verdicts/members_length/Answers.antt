@@ -2,7 +2,7 @@ use Rattle.std.proofs.Common.{length, ap, arith}
 use Rattle.mta_envelope.specs.declared.envelope.EnvelopeFields.{EnvelopeFields}
 use Rattle.mta_envelope.specs.Messages.{message_value}
 use Rattle.mta_tables.specs.declared.hop.Hop.TheVariants as Hops
-use Rattle.mta_verdicts.proofs.HopPlaces.{hop_is_of}
+use Rattle.mta_rules.proofs.HopPlaces.{hop_is_of}
 use Rattle.mta_table_rules.proofs.Counts.{full_history, full_trace}
 use Rattle.mta_table_rules.proofs.verdicts.members_length.Goals as goal
 

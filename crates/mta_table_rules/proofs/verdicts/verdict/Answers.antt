@@ -2,7 +2,7 @@ use Rattle.std.proofs.Common.{◌≡◌, sym, ap, subst, ◌∙◌}
 use Rattle.std.specs.Option.{option_map}
 use Rattle.mta_apdu.specs.Apdus.{ApduValue, apdu_value}
 use Rattle.mta_machine.specs.Rules.{verdict_of, verdict_under}
-use Rattle.mta_replay.specs.Asked.{CodesAreCodes}
+use Rattle.mta_state.specs.Asked.{CodesAreCodes}
 use Rattle.mta_table_rules.proofs.Codes.{all_coded}
 use Rattle.mta_table_rules.proofs.Read.{if_ok_so, no_verdict, verdict_is}
 use Rattle.mta_table_rules.proofs.verdicts.verdict.Goals as goal

@@ -1,5 +1,5 @@
 use Rattle.std.proofs.Common.{refl, sym, ap, ◌∙◌}
-use Rattle.mta_plans.specs.Lines.{line_in}
+use Rattle.mta_worker.specs.PeerLines.{line_in}
 use Rattle.mta_worker.specs.Proposals.{Without, No_tables, No_line}
 use Rattle.mta_worker.proofs.Proposing.{next_is_of_lane, next_is_of_none}
 use Rattle.mta_worker.proofs.proposal.next_with.Goals as goal

@@ -1,6 +1,6 @@
 use Rattle.std.proofs.Common.{Global, List, ℕ, Vec, sym, ap, ◌∙◌}
 use Rattle.mta_journal.specs.Opening.{synced, same_since}
-use Rattle.mta_replay.specs.Kept.{state_of}
+use Rattle.mta_state.specs.Kept.{state_of}
 use Rattle.mta_spool.proofs.Keeping.{keeps_opened}
 use Rattle.mta_spool.proofs.Openings.{stands_opened, history_opened, replay_refused, open_refused}
 use Rattle.mta_spool.proofs.spool.Spool.open.Goals as goal

@@ -1,7 +1,7 @@
 use Rattle.std.proofs.Common.{Option, ap, subst, ◌∙◌}
 use Rattle.std.specs.Prelude.{IfOk}
 use Rattle.mta_histories.specs.Lanes.{Lane, lane_at}
-use Rattle.mta_replay.specs.Kept.{state_of}
+use Rattle.mta_state.specs.Kept.{state_of}
 use Rattle.mta_spool.specs.Shown.{Shown}
 use Rattle.mta_spool.specs.Starting.{IsResumed}
 use Rattle.mta_spool.proofs.Started.{filled_at}

@@ -1,5 +1,0 @@
-use Rattle.mta_activities.proofs.Before.{tables_come_first}
-use Rattle.mta_activities.proofs.law.tables_come_first.Goals as goal
-
-pub returns : goal.returns
-returns c = tables_come_first

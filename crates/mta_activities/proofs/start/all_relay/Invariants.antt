@@ -1,8 +1,0 @@
-use Rattle.std.proofs.Common.{take}
-use Rattle.mta_replay.specs.Kept.{state_of}
-use Rattle.mta_activities.specs.Starting.{AreToRelay}
-use Rattle.mta_activities.proofs.start.all_relay.Given as goal
-
-abbrev pub invariant-loop-recipient : goal.invariant-loop-recipient
-invariant-loop-recipient g l =
-    AreToRelay (state_of l.kept) l.peer l.moment l.number (take l.recipient-index l.recipients)

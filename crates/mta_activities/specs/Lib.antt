@@ -1,5 +1,0 @@
-pub mod Changes
-pub mod Failures
-pub mod Laws
-pub mod Opening
-pub mod Starting

@@ -1,8 +1,0 @@
-use Rattle.mta_discharges.proofs.Delivers.{delivered_as}
-use Rattle.mta_discharges.proofs.deliver.delivery.Goals as goal
-
-pub returns : goal.returns
-returns g c =
-    delivered_as c.args.kept.now (g.R.Rules.text c.args.rules.now) c.args.item.now c.args.number c.args.recipient
-    c.args.moment c.requires.text c.requires.item c.args.told c.in_ok-line.line c.requires.may c.requires.told
-    c.in_ok-line.ensures c.settling_change.result c.settling_change.ensures

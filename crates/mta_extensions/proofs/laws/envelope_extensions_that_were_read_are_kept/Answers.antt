@@ -1,5 +1,0 @@
-use Rattle.mta_extensions.proofs.ExtKept.{extensions_kept}
-use Rattle.mta_extensions.proofs.laws.envelope_extensions_that_were_read_are_kept.Goals as goal
-
-pub returns : goal.returns
-returns c = extensions_kept

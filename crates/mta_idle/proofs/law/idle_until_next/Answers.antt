@@ -1,5 +1,0 @@
-use Rattle.mta_idle.proofs.Stays.{idle_until_next}
-use Rattle.mta_idle.proofs.law.idle_until_next.Goals as goal
-
-pub returns : goal.returns
-returns c = idle_until_next

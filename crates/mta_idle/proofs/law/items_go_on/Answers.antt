@@ -1,5 +1,0 @@
-use Rattle.mta_idle.proofs.Kept.{items_go_on}
-use Rattle.mta_idle.proofs.law.items_go_on.Goals as goal
-
-pub returns : goal.returns
-returns c = items_go_on

@@ -1,0 +1,19 @@
+//! Laws of verdicts and idle items, each the contract of a function that does nothing.
+
+ghost use Rattle.mta_idle_laws.specs.Laws.{IdleUntilNext, ItemsGoOn, VerdictsAreLast, VerdictsStay};
+
+/// Before the next change every verdict on an item's recipients stays as it is; where there is none, for good.
+pub fn verdicts_stay()
+    ensures until { VerdictsStay }
+    ensures last { VerdictsAreLast }
+{}
+
+/// An item of which nothing is called for is idle until the next change.
+pub fn idle_until_next()
+    ensures { IdleUntilNext }
+{}
+
+/// Whatever steps are made, an item stays under its number, and no recipient of it becomes pending.
+pub fn items_go_on()
+    ensures { ItemsGoOn }
+{}

@@ -1,5 +1,0 @@
-use Rattle.mta_lane_lists.proofs.Turns.{lists_in_turn_rise}
-use Rattle.mta_lane_lists.proofs.laws.lists_in_turn_rise.Goals as goal
-
-pub returns : goal.returns
-returns c = lists_in_turn_rise

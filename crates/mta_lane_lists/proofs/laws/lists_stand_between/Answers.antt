@@ -1,5 +1,0 @@
-use Rattle.mta_lane_lists.proofs.Between.{lists_stand_between}
-use Rattle.mta_lane_lists.proofs.laws.lists_stand_between.Goals as goal
-
-pub returns : goal.returns
-returns c = lists_stand_between

@@ -1,5 +1,0 @@
-use Rattle.mta_matches.proofs.Asking.{asks_are_of_phase}
-use Rattle.mta_matches.proofs.laws.asks_are_of_phase.Goals as goal
-
-pub returns : goal.returns
-returns c = asks_are_of_phase

@@ -1,5 +1,0 @@
-use Rattle.mta_matches.proofs.Staying.{given_up_stays}
-use Rattle.mta_matches.proofs.laws.given_up_stays.Goals as goal
-
-pub returns : goal.returns
-returns c = given_up_stays c.steps_keep.ensures

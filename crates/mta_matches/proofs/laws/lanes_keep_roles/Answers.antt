@@ -1,5 +1,0 @@
-use Rattle.mta_matches.proofs.Staying.{lanes_keep_roles}
-use Rattle.mta_matches.proofs.laws.lanes_keep_roles.Goals as goal
-
-pub returns : goal.returns
-returns c = lanes_keep_roles c.steps_keep.ensures

@@ -1,5 +1,0 @@
-use Rattle.mta_matches.proofs.Staying.{only_abandons_drop}
-use Rattle.mta_matches.proofs.laws.only_abandons_drop.Goals as goal
-
-pub returns : goal.returns
-returns c = only_abandons_drop c.steps_keep.ensures

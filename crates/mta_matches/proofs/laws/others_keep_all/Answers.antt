@@ -1,5 +1,0 @@
-use Rattle.mta_matches.proofs.Others.{others_keep_all}
-use Rattle.mta_matches.proofs.laws.others_keep_all.Goals as goal
-
-pub returns : goal.returns
-returns c = others_keep_all c.others_keep.ensures c.steps_keep.ensures

@@ -1,8 +1,0 @@
-use Rattle.mta_matches.proofs.Answering.{starts_answer, looks_still}
-use Rattle.mta_matches.proofs.laws.starts_answer.Goals as goal
-
-pub returns-clause-answers : goal.returns-clause-answers
-returns-clause-answers c = starts_answer c.steps_keep.ensures
-
-pub returns-clause-looks : goal.returns-clause-looks
-returns-clause-looks c = looks_still

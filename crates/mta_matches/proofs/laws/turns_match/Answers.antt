@@ -1,5 +1,0 @@
-use Rattle.mta_matches.proofs.Turns.{turns_match}
-use Rattle.mta_matches.proofs.laws.turns_match.Goals as goal
-
-pub returns : goal.returns
-returns c = turns_match c.calls_know.ensures c.replies_match.ensures

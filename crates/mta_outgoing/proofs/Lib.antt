@@ -1,5 +1,0 @@
-pub mod Bits
-pub mod Copied
-pub mod Responsible
-pub mod Wholes
-pub mod ReportParts

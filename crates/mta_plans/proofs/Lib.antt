@@ -1,4 +1,0 @@
-pub mod Wordings
-pub mod Entries
-pub mod Telling
-pub mod Planning

@@ -1,5 +1,0 @@
-use Rattle.mta_plans.proofs.Telling.{lines_may_be_accepted, lines_may_be_told}
-use Rattle.mta_plans.proofs.laws.lines_may_be_told.Goals as goal
-
-pub returns : goal.returns
-returns c = record { accepted = lines_may_be_accepted; told = lines_may_be_told }

@@ -1,0 +1,279 @@
+-- What is sound before a step is sound behind it.
+use Rattle.std.proofs.Common.{◌≡◌, ◌≢◌, ℕ, zero, suc, ◌+◌, ◌≤◌, ◌<◌, ◌^◌, Bool, true, false, cond, List, [], ◌∷◌}
+use Rattle.std.proofs.Common.{◌++◌, length}
+use Rattle.std.proofs.Common.{map, Option, Some, None, refl, sym, ap, subst, ◌∙◌, arith}
+use Rattle.std.specs.Prelude.{IfSome, is_some, option_map, slice_get}
+use Rattle.std.proofs.lemmas.List.{length-append}
+use Rattle.std.proofs.lemmas.List.Elements.{All-nil}
+use Rattle.std.specs.List.{All, concat}
+use Rattle.mta_ber.specs.Times.{last_moment}
+use Rattle.mta_lane_send.specs.Half.{is_ending}
+use Rattle.mta_records.specs.declared.step.Step.{Step}
+use Rattle.mta_records.specs.declared.step.Step.TheVariants.{Tables, Accept, Deliver, Expand, Report, Affirm, Discard}
+use Rattle.mta_records.specs.declared.step.Step.TheVariants.{Back, LaneOpen, LaneAgree, Bind, Start, Confirm, Ending}
+use Rattle.mta_records.specs.declared.step.Step.TheVariants.{Sent, Refused, Denied, Dropped, Abandon, Secure, Complete}
+use Rattle.mta_records.specs.declared.step.Step.TheVariants.{Drop, CloseLane}
+use Rattle.mta_records.specs.Body.{HasFields}
+use Rattle.mta_dues.specs.Index.{IsIndexed}
+use Rattle.mta_dues.proofs.Indexed.{fresh, indexes_stay}
+use Rattle.mta_machine.specs.Items.{ItemValue, Machine, numbered}
+use Rattle.mta_machine.specs.Rules.{Failure, denied, expired}
+use Rattle.mta_machine.specs.Machine.{MachineStep, discharge, failed, last_tables, machine_run}
+use Rattle.mta_histories.specs.Classes.{was_sent, was_refused, was_denied, was_dropped, LaneStep, agree, bind, start}
+use Rattle.mta_histories.specs.Classes.{confirm, to_end, settle, abandon, secure, complete, drop_pieces, close}
+use Rattle.mta_histories.specs.Classes.{Class, records, accepts, settles, opens, on_lane, class_of, moment_of}
+use Rattle.mta_histories.specs.Lanes.{Transfer, Lane, State, empty, lane_at, is_dropping}
+use Rattle.mta_histories.specs.History.{StepNeeds, MachineNeeds, LaneNeeds, IsPossible, after_step, class_steps}
+use Rattle.mta_histories.specs.History.{lane_steps}
+use Rattle.mta_histories.specs.History.{on_lane_steps, outcome_steps, failures, sendings, failure_of_kind, later, when}
+use Rattle.mta_histories.specs.Kept.{IsKept}
+use Rattle.mta_histories.proofs.Keeps.{histories_keep, steps_keep}
+use Rattle.mta_state.specs.Parts.{machine_of}
+use Rattle.mta_state.specs.declared.kept.Kept.{Kept}
+use Rattle.mta_state.specs.declared.change.Change.{Change}
+use Rattle.mta_state.specs.Asked.{IsStored}
+use Rattle.mta_state.specs.Kept.{state_of, changed_state}
+use Rattle.mta_replay.specs.declared.replay.InForce.{InForce}
+use Rattle.mta_replay.specs.Ready.{recorded_by, AreFresh, IsReady}
+use Rattle.mta_replay.specs.Sound.{AreLast, IsIndexedUnder, IsSound}
+use Rattle.mta_replay.proofs.Stored.{EachFits, stored-run, tables-stay}
+
+-- ---- moments
+
+moment-fits : (step : Step) → HasFields step → IfSome (moment_of step) (λ m. m ≤ last_moment)
+moment-fits (Tables text) f = tt
+moment-fits (Accept moment apdu) f = f.0
+moment-fits (Deliver item recipient moment) f = f.1.1
+moment-fits (Expand item recipient moment) f = f.1.1
+moment-fits (Report item recipient moment) f = f.1.1
+moment-fits (Affirm item recipient moment) f = f.1.1
+moment-fits (Discard item recipient moment) f = f.1.1
+moment-fits (Back item recipient moment) f = f.1.1
+moment-fits (LaneOpen role peer reference twa checkpoint window moment) f = f.1.1.1.1
+moment-fits (LaneAgree lane generation checkpoint window) f = tt
+moment-fits (Bind lane generation) f = tt
+moment-fits (Start lane generation activity item recipients moment) f = f.1.1
+moment-fits (Confirm lane generation activity checkpoint) f = tt
+moment-fits (Ending lane generation activity) f = tt
+moment-fits (Sent lane generation activity moment) f = f.1
+moment-fits (Refused lane generation activity kind moment) f = f.1.1
+moment-fits (Denied lane generation activity moment) f = f.1
+moment-fits (Dropped lane generation activity) f = tt
+moment-fits (Abandon lane activity moment) f = f.1.1
+moment-fits (Secure lane generation activity number piece) f = tt
+moment-fits (Complete lane generation activity number piece moment) f = f.1.1
+moment-fits (Drop lane generation activity) f = tt
+moment-fits (CloseLane lane generation) f = tt
+
+pub fits_of : (step : Step) (moment : ℕ) → HasFields step → moment_of step ≡ Some moment → moment ≤ last_moment
+fits_of step moment fields is =
+    subst (λ (o : Option ℕ). IfSome o (λ m. m ≤ last_moment)) is (moment-fits step fields)
+
+pub when-fits : (s : State) (step : Step) → HasFields step → s.moment ≤ last_moment → when s step ≤ last_moment
+when-fits s step f timely = by_moment (moment_of step) (moment-fits step f)
+  where
+    by_moment : (o : Option ℕ) → IfSome o (λ m. m ≤ last_moment) → later s.moment o ≤ last_moment
+    by_moment None fits = timely
+    by_moment (Some m) fits = fits
+
+-- ---- what a step is for the machine
+
+fail-fits : (failure : Failure) (moment i : ℕ) (rs : List ℕ) → moment ≤ last_moment
+    → EachFits (map (λ r. discharge i (r ∷ []) (failed failure) moment) rs)
+fail-fits failure moment i [] fits = tt
+fail-fits failure moment i (r ∷ rs) fits = (fits, fail-fits failure moment i rs fits)
+
+failures-fit : (failure : Failure) (moment : ℕ) (o : Option Transfer) → moment ≤ last_moment
+    → EachFits (failures failure moment o)
+failures-fit failure moment None fits = tt
+failures-fit failure moment (Some t) fits = fail-fits failure moment t.item t.recipients fits
+
+sendings-fit : (peer : List ℕ) (moment : ℕ) (o : Option Transfer) → moment ≤ last_moment
+    → EachFits (sendings peer moment o)
+sendings-fit peer moment None fits = tt
+sendings-fit peer moment (Some t) fits = (fits, tt)
+
+lane-fits : (s : State) (lane : Lane) (step : LaneStep) (moment : ℕ) → moment ≤ last_moment
+    → LaneNeeds s lane step moment → EachFits (lane_steps lane step moment)
+lane-fits s lane (agree checkpoint window) moment fits needs = tt
+lane-fits s lane bind moment fits needs = tt
+lane-fits s lane (start k i rs) moment fits needs = tt
+lane-fits s lane (confirm k n) moment fits needs = tt
+lane-fits s lane (to_end k) moment fits needs = tt
+lane-fits s lane (settle was_sent k) moment fits needs = sendings-fit lane.peer moment lane.transfer fits
+lane-fits s lane (settle (was_refused kind) k) moment fits needs = by_test (is_dropping lane.sending)
+  where
+    by_test : (b : Bool) → EachFits (cond b [] (failures (failure_of_kind kind) moment lane.transfer))
+    by_test true = tt
+    by_test false = failures-fit (failure_of_kind kind) moment lane.transfer fits
+lane-fits s lane (settle was_denied k) moment fits needs = by_test (is_ending lane.sending k)
+  where
+    by_test : (b : Bool) → EachFits (cond b (failures denied moment lane.transfer) [])
+    by_test true = failures-fit denied moment lane.transfer fits
+    by_test false = tt
+lane-fits s lane (settle was_dropped k) moment fits needs = tt
+lane-fits s lane (abandon k) moment fits needs = failures-fit expired moment lane.transfer fits
+lane-fits s lane (secure k n piece) moment fits needs = tt
+lane-fits s lane (complete k n piece) moment fits needs = ((needs.1, fits), tt)
+lane-fits s lane (drop_pieces k) moment fits needs = tt
+lane-fits s lane close moment fits needs = tt
+
+some-is : (a b : Lane) → ◌≡◌ {A = Option Lane} (Some a) (Some b) → a ≡ b
+some-is a b e = cc
+
+class-fits : (s : State) (c : Class) (moment : ℕ) → moment ≤ last_moment → recorded_by c ≡ None
+    → StepNeeds s c moment → MachineNeeds s c moment → EachFits (class_steps s c moment)
+class-fits s (records text) moment fits other allowed needs = absurd cc
+class-fits s (accepts octets) moment fits other allowed needs = ((needs.0, fits), tt)
+class-fits s (settles how i r) moment fits other allowed needs = (fits, tt)
+class-fits s (opens role peer reference twa checkpoint window) moment fits other allowed needs = tt
+class-fits s (on_lane n generation step) moment fits other allowed needs =
+    by_lane (lane_at n s.lanes.open_lanes) allowed.lane_is
+  where
+    by_lane : (o : Option Lane) → o ≡ Some allowed.lane → EachFits (on_lane_steps o step moment)
+    by_lane None e = absurd cc
+    by_lane (Some lane) e =
+        lane-fits s lane step moment fits
+        (subst (λ (l : Lane). LaneNeeds s l step moment) (some-is allowed.lane lane (sym e)) allowed.needs)
+
+-- ---- tables
+
+get-last : {A : Type 0} (ts : List A) (t : A) → slice_get (ts ++ t ∷ []) (length ts) ≡ Some t
+get-last [] t = refl
+get-last (x ∷ ts) t = get-last ts t
+
+pub numbered-last : {A : Type 0} (ts : List A) (t : A) → numbered (ts ++ t ∷ []) (length (ts ++ t ∷ [])) ≡ Some t
+numbered-last ts t =
+    let n : length (ts ++ t ∷ []) ≡ suc (length ts) = omega (arith, length-append ts (t ∷ [])) in
+    ap (numbered (ts ++ t ∷ [])) n ∙ get-last ts t
+
+-- ---- a step
+
+records-of : (c : Class) (text : List ℕ) → recorded_by c ≡ Some text → c ≡ records text
+records-of (records other) text e = cc
+records-of (accepts octets) text e = absurd cc
+records-of (settles how i r) text e = absurd cc
+records-of (opens role peer reference twa checkpoint window) text e = absurd cc
+records-of (on_lane n generation step) text e = absurd cc
+
+stored-after : (s : State) (step : Step) → HasFields step → s.moment ≤ last_moment → IsPossible s step
+    → All IsStored s.machine.items → All IsStored (after_step s step).machine.items
+stored-after s step fields timely possible stored = by_text (recorded_by (class_of step)) refl
+  where
+    by_text : (o : Option (List ℕ)) → recorded_by (class_of step) ≡ o
+        → All IsStored (after_step s step).machine.items
+    by_text None e =
+        stored-run s.machine (class_steps s (class_of step) (when s step))
+        (class-fits s (class_of step) (when s step) (when-fits s step fields timely) e possible.allowed
+        possible.as_machine) stored
+    by_text (Some text) e =
+        subst (λ (c : Class). All IsStored (machine_run s.machine (class_steps s c (when s step))).items)
+        (sym (records-of (class_of step) text e)) stored
+
+-- the rules behind a step that records tables, or others
+abbrev pub rules_after : {R : Type 0} → Option R → Option R → Option R
+rules_after old None = old
+rules_after old (Some new) = Some new
+
+module _ {R : Type 0} (text : R → List ℕ) where
+  stays-last : (m n : Machine) (rules : Option (InForce R)) → n.tables ≡ m.tables → AreLast text m rules
+      → AreLast text n rules
+  stays-last m n None same last = same ∙ last
+  stays-last m n (Some r) same last = ap (λ (ts : List (List ℕ)). numbered ts (length ts)) same ∙ last
+
+  last-after : (s : State) (step : Step) (old new : Option (InForce R)) → HasFields step → s.moment ≤ last_moment
+      → IsPossible s step → option_map (λ (force : InForce R). text force.rules) new ≡ recorded_by (class_of step)
+      → AreLast text s.machine old
+      → AreLast text (after_step s step).machine (rules_after old new)
+  last-after s step old None fields timely possible under last =
+      stays-last s.machine (after_step s step).machine old
+      (tables-stay s.machine (class_steps s (class_of step) (when s step))
+      (class-fits s (class_of step) (when s step) (when-fits s step fields timely) (sym under) possible.allowed
+      possible.as_machine)) last
+  last-after s step old (Some r) fields timely possible under last =
+      subst (λ (c : Class). AreLast text (machine_run s.machine (class_steps s c (when s step))) (Some r))
+      (sym (records-of (class_of step) (text r.rules) (sym under)))
+      (numbered-last s.machine.tables (text r.rules))
+
+  -- what is known of items stays true under the same rules, and of other rules nothing is known yet
+  indexed-after : (s : State) (step : Step) (old new : Option (InForce R)) → AreFresh new
+      → IsIndexedUnder text s.machine old → IsIndexedUnder text (after_step s step).machine (rules_after old new)
+  indexed-after s step None None unknown indexed = tt
+  indexed-after s step (Some f) None unknown indexed =
+      indexes_stay (text f.rules) s.machine (class_steps s (class_of step) (when s step)) f.index indexed
+  indexed-after s step None (Some f) unknown indexed =
+      fresh (text f.rules) (after_step s step).machine.items f.index unknown
+  indexed-after s step (Some other) (Some f) unknown indexed =
+      fresh (text f.rules) (after_step s step).machine.items f.index unknown
+
+  pub sound_after : (kept new : Kept) (old ready : Option (InForce R)) (step : Step) (change : Change)
+      → IsSound text kept old → HasFields step → IsReady text (state_of kept) step change ready
+      → state_of new ≡ changed_state (state_of kept) change → IsSound text new (rules_after old ready)
+  sound_after kept new old ready step change sound fields is changed = record {
+    of_history = subst IsKept (sym same) (steps_keep (state_of kept) step sound.of_history possible);
+    stored = subst (λ (t : State). All IsStored t.machine.items) (sym same)
+        (stored-after (state_of kept) step fields sound.timely possible sound.stored);
+    numbers = subst (λ (t : State). length t.machine.items < 2 ^ 32) (sym same) possible.numbers;
+    timely = subst (λ (t : State). t.moment ≤ last_moment) (sym same)
+        (when-fits (state_of kept) step fields sound.timely);
+    last = subst (λ (t : State). AreLast text t.machine (rules_after old ready)) (sym same)
+        (last-after (state_of kept) step old ready fields sound.timely possible is.under sound.last);
+    indexed = subst (λ (t : State). IsIndexedUnder text t.machine (rules_after old ready)) (sym same)
+        (indexed-after (state_of kept) step old ready is.fresh sound.indexed);
+  } where
+    possible : IsPossible (state_of kept) step
+    possible = is.is_change.possible
+
+    same : state_of new ≡ after_step (state_of kept) step
+    same = changed ∙ is.is_change.after
+
+  -- as the rules are that the step records, or those of before
+  pub sound_new : (kept new : Kept) (old ready : Option (InForce R)) (step : Step) (change : Change)
+      → IsSound text kept old → HasFields step → IsReady text (state_of kept) step change ready
+      → state_of new ≡ changed_state (state_of kept) change → is_some ready ≡ true → IsSound text new ready
+  sound_new kept new old None step change sound fields is changed some = absurd cc
+  sound_new kept new old (Some r) step change sound fields is changed some =
+      sound_after kept new old (Some r) step change sound fields is changed
+
+  pub sound_old : (kept new : Kept) (old ready : Option (InForce R)) (step : Step) (change : Change)
+      → IsSound text kept old → HasFields step → IsReady text (state_of kept) step change ready
+      → state_of new ≡ changed_state (state_of kept) change → is_some ready ≡ false → IsSound text new old
+  sound_old kept new old None step change sound fields is changed none =
+      sound_after kept new old None step change sound fields is changed
+  sound_old kept new old (Some r) step change sound fields is changed none = absurd cc
+
+  -- the same state is as sound
+  pub sound_still : (kept new : Kept) (rules : Option (InForce R)) → state_of new ≡ state_of kept
+      → IsSound text kept rules → IsSound text new rules
+  sound_still kept new rules same sound = record {
+    of_history = subst IsKept (sym same) sound.of_history;
+    stored = subst (λ (t : State). All IsStored t.machine.items) (sym same) sound.stored;
+    numbers = subst (λ (t : State). length t.machine.items < 2 ^ 32) (sym same) sound.numbers;
+    timely = subst (λ (t : State). t.moment ≤ last_moment) (sym same) sound.timely;
+    last = subst (λ (t : State). AreLast text t.machine rules) (sym same) sound.last;
+    indexed = subst (λ (t : State). IsIndexedUnder text t.machine rules) (sym same) sound.indexed;
+  }
+
+  -- and so it is with another index, as long as that is true
+  pub sound_with : (kept : Kept) (force new : InForce R) → new.rules ≡ force.rules
+      → IsIndexed (text force.rules) kept.parts.items.items new.index → IsSound text kept (Some force)
+      → IsSound text kept (Some new)
+  sound_with kept force new same indexed sound = record {
+    of_history = sound.of_history;
+    stored = sound.stored;
+    numbers = sound.numbers;
+    timely = sound.timely;
+    last = sound.last ∙ ap (λ (r : R). Some (text r)) (sym same);
+    indexed = subst (λ (r : R). IsIndexed (text r) kept.parts.items.items new.index) (sym same) indexed;
+  }
+
+  -- and so is the state after no step
+  pub sound_at_first : (kept : Kept) → state_of kept ≡ empty → IsSound text kept None
+  sound_at_first kept same = record {
+    of_history = subst IsKept (sym same) (histories_keep [] tt);
+    stored = subst (λ (t : State). All IsStored t.machine.items) (sym same) (All-nil IsStored);
+    numbers = subst (λ (t : State). length t.machine.items < 2 ^ 32) (sym same) (omega arith);
+    timely = subst (λ (t : State). t.moment ≤ last_moment) (sym same) (omega arith);
+    last = ap (λ (t : State). t.machine.tables) same;
+    indexed = tt;
+  }

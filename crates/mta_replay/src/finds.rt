@@ -1,0 +1,71 @@
+//! What is due in the state, and what waits in it.
+
+ghost use Rattle.std.specs.Prelude.{◌≡◌, IfOk};
+ghost use Rattle.mta_histories.specs.Due.{HasQueue};
+ghost use Rattle.mta_dues.specs.Answers.{IsBatchOf, IsNextOf};
+ghost use Rattle.mta_state.specs.Kept.{state_of};
+ghost use Rattle.mta_replay.specs.Sound.{IsSound};
+
+use crate::replay::Replay;
+use mta_ber::{Memory, Word};
+use mta_dues::{batch_for, due_step, waiting};
+use mta_records::{Batch, Recipients, Step};
+use mta_state::Rules;
+use std::alloc::Global;
+
+impl<R: Rules + Drop> Replay<R> {
+    /// The due step of the lowest item and recipient at a moment, in seconds since 1950-01-01 00:00:00 UTC: none where
+    /// nothing is due. What is found out of items is kept for the next call.
+    #[tactic(auto, using(crate::proofs::Nothing::nothing_is_due, crate::proofs::Sounds::sound_with))]
+    pub fn due_step(&mut self, alloc: Global, moment: u64) -> Result<Option<Step>, Memory>
+        requires sound { IsSound R.text self.old.kept self.old.rules }
+        ensures next { IfOk result (IsNextOf (state_of self.old.kept) moment) }
+        ensures same { state_of self.new.kept ≡ state_of self.old.kept }
+        ensures sound { IsSound R.text self.new.kept self.new.rules }
+    {
+        match &mut self.rules {
+            None => Ok(None),
+            Some(force) => due_step(alloc, &force.rules, &self.kept, &mut force.index, moment),
+        }
+    }
+
+    /// The lowest item with recipients to relay to the peer, and all those; none where there is no such item.
+    #[tactic(auto, using(crate::proofs::Nothing::nothing_is_relayed, crate::proofs::Sounds::sound_with))]
+    pub fn batch_for(
+        &mut self,
+        alloc: Global,
+        peer: &Word,
+        moment: u64,
+    ) -> Result<Option<Batch>, Memory>
+        requires sound { IsSound R.text self.old.kept self.old.rules }
+        ensures batch { IfOk result (IsBatchOf (state_of self.old.kept) peer.now moment) }
+        ensures same { state_of self.new.kept ≡ state_of self.old.kept }
+        ensures sound { IsSound R.text self.new.kept self.new.rules }
+    {
+        match &mut self.rules {
+            None => Ok(None),
+            Some(force) => {
+                batch_for(
+                    alloc,
+                    &force.rules,
+                    &self.kept,
+                    &mut force.index,
+                    peer,
+                    moment,
+                )
+            }
+        }
+    }
+
+    /// The items of which a recipient waits for the peer, by ascending numbers; none where no tables name the peer.
+    #[tactic(auto, using(crate::proofs::Nothing::nothing_waits))]
+    pub fn waiting(&self, alloc: Global, peer: &Word) -> Result<Option<Recipients>, Memory>
+        requires sound { IsSound R.text self.now.kept self.now.rules }
+        ensures { IfOk result (HasQueue (state_of self.now.kept) peer.now) }
+    {
+        match &self.rules {
+            None => Ok(None),
+            Some(force) => waiting(alloc, &force.rules, &self.kept, &force.index, peer),
+        }
+    }
+}

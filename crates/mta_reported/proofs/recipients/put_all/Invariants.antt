@@ -1,6 +1,0 @@
-use Rattle.mta_names.proofs.Written.{Left}
-use Rattle.mta_reported.specs.ReportedRecipients.{canonical_reported}
-use Rattle.mta_reported.proofs.recipients.put_all.Given as goal
-
-abbrev pub invariant-loop-recipient : goal.invariant-loop-recipient
-invariant-loop-recipient l = Left canonical_reported l.fn.w l.recipients l.recipient-index l.w

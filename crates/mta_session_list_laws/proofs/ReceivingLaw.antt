@@ -1,0 +1,267 @@
+-- The receiving half of a session's list, with Abandons of other passes, from the step that begins the list.
+use Rattle.std.proofs.Common.{◌≡◌, ℕ, suc, ◌==◌, ◌+◌, ◌*◌, if◌then◌else◌, Bool, true, false, Option}
+use Rattle.std.proofs.Common.{Some, None, Ok, List, [], ◌∷◌, ◌++◌, take, refl, sym, ap, subst, ◌∙◌, arith}
+use Rattle.std.proofs.lemmas.Option.{slice_get_within}
+use Rattle.mta_lane_recv.specs.declared.state.Last.TheVariants as last
+use Rattle.mta_lane_send.specs.Half.{last_of}
+use Rattle.mta_units.specs.declared.unit.OpenUnit.{OpenUnit}
+use Rattle.mta_transfer_rules.specs.Units.{LaneUnit}
+use Rattle.mta_transfer_rules.specs.Lanes as h
+use Rattle.mta_transfer_rules.specs.Lanes.{Halves, SeenStep, Seen, On, Unopened, Open, Closed, unopened, Allows, LanesAllow}
+use Rattle.mta_transfer_rules.specs.Lanes.{halves_after}
+use Rattle.mta_transfer_rules.specs.Lanes.{lane_in}
+use Rattle.mta_transfer_rules.specs.Receiving as r
+use Rattle.mta_transfer_rules.specs.Receiving.{RecvEnd, RecvEvent}
+use Rattle.mta_transfer_rules.specs.Sending.{SendEnd}
+use Rattle.mta_session.specs.declared.ask.Reply.TheVariants as reply
+use Rattle.mta_session.specs.declared.event.Action.{Action}
+use Rattle.mta_session.specs.declared.event.Action.TheVariants as action
+use Rattle.mta_session.specs.declared.event.Event.{Event}
+use Rattle.mta_session.specs.declared.event.Event.TheVariants as event
+use Rattle.mta_session.specs.declared.event.InitiatorPlan.{InitiatorPlan}
+use Rattle.mta_session.specs.declared.peer.Peer.{Peer}
+use Rattle.mta_session.specs.declared.phase.Phase.{Phase}
+use Rattle.mta_session.specs.declared.phase.Phase.TheVariants as phase
+use Rattle.mta_session.specs.State.{State}
+use Rattle.mta_session.specs.Session.{new_initiator, new_responder}
+use Rattle.mta_session.specs.Wanted.{with_lane, answer_for}
+use Rattle.mta_session.specs.Follows.{counted}
+use Rattle.mta_session_laws.specs.Whole.{AreCalls}
+use Rattle.mta_session_laws.proofs.Opening.{wanted_in}
+use Rattle.mta_session_laws.proofs.Whole.{is_ended}
+use Rattle.mta_transfer_laws.specs.Receivings.{end_on_link, ArePlain}
+use Rattle.mta_transfer_laws.specs.Sessions as x
+use Rattle.mta_transfer_laws.specs.Sessions.{SessionEvent, Made, Looked, Got, Refused, Put, took_of, answers_of}
+use Rattle.mta_transfer_laws.specs.Sessions.{receiving_step_of}
+use Rattle.mta_transfer_laws.specs.Sessions.{transfer_unit, answer_unit, receiving_event, receiving_events, recv_all, seen_after}
+use Rattle.mta_transfer_laws.specs.Sessions.{send_all, sending_event}
+use Rattle.mta_session_list_laws.specs.Calls.{Call, StepOn, turns_of, list_of}
+use Rattle.mta_session_list_laws.specs.Abandons.{has_before, abandoned_upto, abandon_at, given_up, with_abandons}
+use Rattle.mta_session_list_laws.specs.Lists.{HasAt, step_for, step_by, Initiates, Responds, end_begun, completed}
+use Rattle.mta_session_list_laws.specs.Laws.{OwesAt, OwesNothingAt, KeepsReceiving, ListsReceive}
+use Rattle.mta_session_list_laws.proofs.Insertion.{none_received}
+use Rattle.mta_session_list_laws.proofs.Lanes.{lane_at, step_allowed, step_leads, between_keeps}
+use Rattle.mta_session_list_laws.proofs.Waiting.{Ready, does_at}
+use Rattle.mta_session_list_laws.proofs.Ordering.{is_some, later_calls}
+use Rattle.mta_session_list_laws.proofs.Answering.{reached_without}
+use Rattle.mta_session_list_laws.proofs.Receiving.{Allowed, allowed_run}
+use Rattle.mta_session_list_laws.proofs.ReceivingPhases.{first, RecvWaits, waits_after, accept_waits}
+use Rattle.mta_session_list_laws.proofs.ReceivingLists.{is_unlisted, RestsRecv, RecvKeeps, asked_next}
+use Rattle.mta_session_list_laws.proofs.ReceivedAll.{calls_receive}
+
+-- ---- a lane that was never opened has done nothing
+
+abbrev IsNew : Halves → Type 0
+IsNew l = l.phase ≡ Unopened → l ≡ unopened
+
+opened_not : (l : Halves) → l.phase ≡ Open → IsNew l
+opened_not l o u = absurd (let c : Open ≡ Unopened = sym o ∙ u in cc)
+
+new_step : (spells : List ℕ → Bool) (l : Halves) (step : SeenStep) → Allows spells l step → IsNew (halves_after l step)
+new_step spells l (h.LaneOpen a s w) p = λ u. absurd (let c : Open ≡ Unopened = u in cc)
+new_step spells l (h.LaneAgree s w) p = opened_not (halves_after l (h.LaneAgree s w)) p.0
+new_step spells l (h.Bind g) p = opened_not (halves_after l (h.Bind g)) p.0
+new_step spells l (h.Abandon k) p = opened_not (halves_after l (h.Abandon k)) p.0
+new_step spells l (h.CloseLane g) p = λ u. absurd (let c : Closed ≡ Unopened = u in cc)
+new_step spells l (h.Start g k o) p = opened_not (halves_after l (h.Start g k o)) p.0.0
+new_step spells l (h.Confirm g k n) p = opened_not (halves_after l (h.Confirm g k n)) p.0.0
+new_step spells l (h.To_end g k) p = opened_not (halves_after l (h.To_end g k)) p.0.0
+new_step spells l (h.Sent g k) p = opened_not (halves_after l (h.Sent g k)) p.0.0
+new_step spells l (h.Refused g k) p = opened_not (halves_after l (h.Refused g k)) p.0.0
+new_step spells l (h.Denied g k) p = opened_not (halves_after l (h.Denied g k)) p.0.0
+new_step spells l (h.Dropped g k) p = opened_not (halves_after l (h.Dropped g k)) p.0.0
+new_step spells l (h.Secure g k n o) p = opened_not (halves_after l (h.Secure g k n o)) p.0.0
+new_step spells l (h.Complete g k n o) p = opened_not (halves_after l (h.Complete g k n o)) p.0.0
+new_step spells l (h.Drop g k) p = opened_not (halves_after l (h.Drop g k)) p.0.0
+
+module _ (spells : List ℕ → Bool) (history : List Seen) (lane : ℕ) (allow : LanesAllow spells history) where
+  new_before : (at : ℕ) (a : Bool) (s w : ℕ) → HasAt history at (record { lane = lane; step = h.LaneOpen a s w })
+      → lane_at spells history lane allow at ≡ unopened
+  new_before at a s w is =
+      let within = slice_get_within history at _ is in
+      between_keeps spells history lane allow IsNew 0 at (omega arith) (omega (arith, within))
+      (λ q i j step e k. new_step spells (lane_at spells history lane allow q) step
+      (step_allowed spells history lane allow q step e))
+      (λ u. refl) (step_allowed spells history lane allow at (h.LaneOpen a s w) is)
+
+  -- a lane as it is opened
+  pub opened_half : (at : ℕ) (a : Bool) (s w : ℕ) → HasAt history at (record { lane = lane; step = h.LaneOpen a s w })
+      → lane_in lane (take (at + 1) history) ≡ halves_after unopened (h.LaneOpen a s w)
+  opened_half at a s w is =
+      let e : at + 1 ≡ suc at = omega arith in
+      ap (λ (n : ℕ). lane_in lane (take n history)) e
+      ∙ step_leads spells history lane allow at (h.LaneOpen a s w) is
+      ∙ ap (λ (l : Halves). halves_after l (h.LaneOpen a s w)) (new_before at a s w is)
+
+abbrev fresh : RecvEnd
+fresh = record { high = 0; last = last.None; stage = r.Free; from = 0; acked = 0 }
+
+-- ---- what a list is made of
+
+rest_plain : (us : List LaneUnit) → ArePlain (took_of us)
+rest_plain [] = tt
+rest_plain (y ∷ us) = (tt, rest_plain us)
+
+put_plain : (us : List LaneUnit) → ArePlain (answers_of us)
+put_plain [] = tt
+put_plain (y ∷ us) = (tt, put_plain us)
+
+made_plain : (step : SeenStep) → ArePlain (receiving_step_of step)
+made_plain (h.Secure g k n piece) = (tt, tt)
+made_plain (h.Complete g k n piece) = (tt, tt)
+made_plain (h.Drop g k) = (tt, tt)
+made_plain step = tt
+
+if_plain : (b : Bool) (xs : List RecvEvent) → ArePlain xs → ArePlain (if b then xs else [])
+if_plain true xs k = k
+if_plain false xs k = tt
+
+event_plain : (lane : ℕ) (y : SessionEvent) → ArePlain (receiving_event lane y)
+event_plain lane (Got u) = rest_plain (transfer_unit u)
+event_plain lane (Refused u) = tt
+event_plain lane (Put u) = put_plain (answer_unit u)
+event_plain lane (Made p j step) = if_plain (j == lane) (receiving_step_of step) (made_plain step)
+event_plain lane (Looked n (x.Finds k m piece)) = (tt, tt)
+event_plain lane (Looked n x.At_sending) = tt
+event_plain lane (Looked n x.No_batch) = tt
+event_plain lane (Looked n x.Elsewhere) = tt
+
+both_plain : (xs ys : List RecvEvent) → ArePlain xs → ArePlain ys → ArePlain (xs ++ ys)
+both_plain [] ys p q = q
+both_plain (v ∷ vs) ys p q = (p.0, both_plain vs ys p.1 q)
+
+pub all_plain : (lane : ℕ) (ys : List SessionEvent) → ArePlain (receiving_events lane ys)
+all_plain lane [] = tt
+all_plain lane (y ∷ ys) = both_plain (receiving_event lane y) (receiving_events lane ys) (event_plain lane y)
+    (all_plain lane ys)
+
+both_allowed : (b : RecvEnd) (xs ys : List RecvEvent) → Allowed b xs → Allowed (recv_all b xs) ys → Allowed b (xs ++ ys)
+both_allowed b [] ys p q = q
+both_allowed b (v ∷ vs) ys p q = (p.0, both_allowed (r.recv_after b v) vs ys p.1 q)
+
+pub keeps_allowed : (lane : ℕ) (b : RecvEnd) (ys : List SessionEvent) → RecvKeeps lane b ys → Allowed b
+    (receiving_events lane ys)
+keeps_allowed lane b [] k = tt
+keeps_allowed lane b (y ∷ ys) k =
+    both_allowed b (receiving_event lane y) (receiving_events lane ys) k.1
+    (keeps_allowed lane (recv_all b (receiving_event lane y)) ys k.2)
+
+rests_owes : (b : RecvEnd) (y : SessionEvent) → RestsRecv b y → OwesAt b y
+rests_owes b (Got u) k = k
+rests_owes b (Refused u) k = k
+rests_owes b any1 k = tt
+
+pub keeps_owes : (lane : ℕ) (b : RecvEnd) (ys : List SessionEvent) → RecvKeeps lane b ys → OwesNothingAt lane b ys
+keeps_owes lane b [] k = tt
+keeps_owes lane b (y ∷ ys) k = (rests_owes b y k.0, keeps_owes lane (recv_all b (receiving_event lane y)) ys k.2)
+
+-- Abandons of other passes are none of this half's
+keeps_before : (lane : ℕ) (b : RecvEnd) (history : List Seen) (e : SendEnd) (found : Option ℕ) (ys : List SessionEvent)
+    → RecvKeeps lane b ys → RecvKeeps lane b (abandon_at lane e found ++ ys)
+keeps_before lane b history e None ys k = k
+keeps_before lane b history e (Some p) ys k =
+    subst (λ z. Unit {0} × Allowed b z × RecvKeeps lane (recv_all b z) ys)
+    (sym (none_received history lane p (last_of e.state))) (tt, tt, k)
+
+pub keeps_with : (history : List Seen) (lane : ℕ) (ys : List SessionEvent) (from : ℕ) (e : SendEnd) (b : RecvEnd)
+    → RecvKeeps lane b ys → RecvKeeps lane b (with_abandons history lane from e ys)
+keeps_with history lane [] from e b k = tt
+keeps_with history lane (y ∷ ys) from e b k =
+    let found : Option ℕ = abandoned_upto history lane from e (has_before lane y) in
+    keeps_before lane b history e found _ (
+      k.0,
+      k.1,
+      keeps_with history lane ys (seen_after lane from y) (send_all (given_up e found) (sending_event lane y))
+          (recv_all b (receiving_event lane y)) k.2,
+    )
+
+-- ---- where a list begins
+
+same_recv : (t : State) (o : Option OpenUnit) (p : Option Peer) (lane : ℕ) → (with_lane t o p lane).recv ≡ t.recv
+same_recv t (Some o) (Some p) lane = refl
+same_recv t (Some o) None lane = refl
+same_recv t None p lane = refl
+
+some_is : (y z : StepOn) → Some y ≡ Some z → y ≡ z
+some_is y z e = cc
+
+module _ (spells : List ℕ → Bool) (history : List Seen) (at : ℕ) (allow : LanesAllow spells history) where
+  abbrev pub now : Type 0
+  now = at + 1 ≡ at + 1
+
+  abbrev pub half : (lane : ℕ) → Halves
+  half lane = lane_in lane (take (at + 1) history)
+
+  opened_first : (lane : ℕ) (a : Bool) (s w : ℕ) → HasAt history at (record { lane = lane; step = h.LaneOpen a s w })
+      → fresh ≡ first (half lane) now
+  opened_first lane a s w is = sym (ap end_on_link (opened_half spells history lane allow at a s w is))
+
+  pub planned : (p : InitiatorPlan) → HasAt history at (step_for p) → p.recovering ≡ false
+      → fresh ≡ first (half p.lane) now
+  planned p is e =
+      opened_first p.lane false (1024 * p.checkpoint) p.window
+      (subst (λ b. HasAt history at (record {
+        lane = p.lane;
+        step = if b then h.Bind p.generation else h.LaneOpen false (1024 * p.checkpoint) p.window;
+      })) e is)
+
+  pub responds : (p : Phase) (t : State) (e : Event) (new : State) (y : StepOn) → step_by p e new ≡ Some y
+      → HasAt history
+      at y
+      → (is_unlisted p ≡ true → t.recv ≡ fresh)
+      → RecvWaits (half new.lane) now (wanted_in p (counted t e) e) × (is_ended p ≡ false)
+  responds (phase.AsksNewLane again) t (event.Reply (reply.LaneOpen (Ok lane))) new y q is k =
+      let v : State = with_lane t t.opened t.line lane in
+      let there = opened_first new.lane true (1024 * new.checkpoint) new.window
+      (subst (λ z. HasAt history at z) (sym (some_is _ y q)) is) in (
+        accept_waits (half new.lane) now v (answer_for v.side v.opened v.line)
+            (same_recv t t.opened t.line lane ∙ k refl ∙ there),
+        refl,
+      )
+  responds phase.AsksBind t (event.Reply (reply.Bind (Ok generation))) new y q is k = ((λ a. (refl, refl)), refl)
+  responds p t e new y q is k = elim (is_some (step_by p e new) y q) [ ]
+
+kept : (history : List Seen) (lane size window at : ℕ) (initiator : Bool) (a : Action) (cs : List Call)
+    (opening : List SessionEvent) → RecvKeeps lane (end_on_link (lane_in lane (take (at + 1) history))) (list_of a cs)
+    → KeepsReceiving history lane
+    (completed history lane size window initiator (record { opening = opening; at = at; events = list_of a cs }))
+kept history lane size window at initiator a cs opening k =
+    let b : RecvEnd = end_on_link (lane_in lane (take (at + 1) history)) in
+    let e : SendEnd = end_begun history lane size window at initiator in
+    let ys : List SessionEvent = with_abandons history lane (at + 1) e (list_of a cs) in
+    let all : RecvKeeps lane b ys = keeps_with history lane (list_of a cs) (at + 1) e b k in
+    record {
+      plain = all_plain lane ys;
+      last_end = recv_all b (receiving_events lane ys);
+      allowed = allowed_run b (receiving_events lane ys) (keeps_allowed lane b ys all);
+      owes = keeps_owes lane b ys all;
+    }
+
+pub run_front : (before cs : List Call) (c : Call) (t u : State) → AreCalls t (turns_of (before ++ c ∷ cs)) u
+    → AreCalls t (turns_of before) c.turn.before
+run_front [] cs c t u run = run.0
+run_front (d ∷ ds) cs c t u run = (run.0, run.1, run_front ds cs c d.turn.after u run.2)
+
+pub lists_receive : ListsReceive
+lists_receive spells history one u calls lane size window l allow (Initiates p units at cs is true_) run =
+    kept history p.lane size window at true action.Read cs []
+    (calls_receive spells history p.lane at cs action.Read (new_initiator p units) u
+    (first (lane_in p.lane (take (at + 1) history)) (at + 1 ≡ at + 1))
+    (first (lane_in p.lane (take (at + 1) history)) (at + 1 ≡ at + 1)) (at + 1) (record { due = refl; waits = refl }) tt
+    (λ n. refl) refl (refl, (λ n. planned spells history at allow p is n), refl) true_ run)
+lists_receive spells history one u calls lane size window l allow
+    (Responds own units at before cs c y by seen is true_) run =
+    let start : Ready action.Read (new_responder own units) = record { due = refl; waits = refl } in
+    let later = later_calls before cs c action.Read (new_responder own units) u start run in
+    let waits = responds spells history at allow c.turn.before.phase c.turn.before c.turn.event c.turn.after y by is
+    (λ i. (reached_without before action.Read (new_responder own units) c.turn.before start
+    (run_front before cs c (new_responder own units) u run) i).1) in
+    let after = waits_after (lane_in c.turn.after.lane (take (at + 1) history)) (at + 1 ≡ at + 1)
+    (counted c.turn.before c.turn.event)
+    (wanted_in c.turn.before.phase (counted c.turn.before c.turn.event) c.turn.event) c.turn.action c.turn.after waits.0
+    (does_at c.turn c.turn.event refl later.is waits.1) later.is.fits_after in
+    kept history c.turn.after.lane size window at false c.turn.action cs (list_of action.Read before)
+    (calls_receive spells history c.turn.after.lane at cs c.turn.action c.turn.after u
+    (first (lane_in c.turn.after.lane (take (at + 1) history)) (at + 1 ≡ at + 1)) after.ended (at + 1) later.ready
+    (asked_next c.turn.action c.turn.before c.turn.event c.turn.after later.is.follows) (λ n. refl) after.run after.at
+    true_ later.run)

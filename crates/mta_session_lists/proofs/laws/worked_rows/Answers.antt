@@ -1,5 +1,0 @@
-use Rattle.mta_session_lists.proofs.Worked.{takes_one, gives_up, resumes}
-use Rattle.mta_session_lists.proofs.laws.worked_rows.Goals as goal
-
-pub returns : goal.returns
-returns c = record { takes = takes_one; gives_up = gives_up; resumes = resumes }

@@ -1,5 +1,0 @@
-pub mod Wants
-pub mod Replies
-pub mod Calls
-pub mod Order
-pub mod Ends

@@ -1,5 +1,0 @@
-use Rattle.mta_session_order.proofs.Order.{owing_nothing}
-use Rattle.mta_session_order.proofs.laws.nothing_is_owed.Goals as goal
-
-pub returns : goal.returns
-returns c = owing_nothing

@@ -1,0 +1,206 @@
+//! What is asked of the rules.
+
+ghost use Rattle.std.specs.Prelude.{◌≡◌, ◌≤◌, ◌<◌, ◌^◌, ◌↔◌, List, ℕ, IfOk, IfSome, IsTrue, Some, is_some};
+ghost use Rattle.std.specs.Prelude.{length, map};
+ghost use Rattle.std.specs.Option.{option_copied, option_map};
+ghost use Rattle.mta_ber.specs.Times.{last_moment};
+ghost use Rattle.mta_names.specs.Bounded.{IsCode};
+ghost use Rattle.mta_machine.specs.declared.item.Origin.TheVariants as Origins;
+ghost use Rattle.mta_machine.specs.Machine.{own_item};
+ghost use Rattle.mta_machine.specs.Rules.{delivery_report, expansion, is_expired, mailbox_word, names_peer};
+ghost use Rattle.mta_machine.specs.Rules.{non_delivery_report, outgoing_copy, passed_back, peer_word, route_word};
+ghost use Rattle.mta_machine.specs.Rules.{verdict_of};
+ghost use Rattle.mta_state.specs.Parts.{made_items};
+ghost use Rattle.mta_state.specs.Reading.{IsAccepted};
+ghost use Rattle.mta_state.specs.declared.rest.Submitted.{Submitted};
+ghost use Rattle.mta_state.specs.Asked.{AreUnder, CodesAreCodes, Expands, IsDeliveryOf, IsRestOf, Passes, Relays};
+
+use crate::delivery::Delivery;
+use crate::parts::Made;
+use crate::rest::{Rest, Submitted};
+use mta_ber::{Memory, Octets, Word};
+use mta_machine::Item;
+use mta_procedures::Verdict;
+use mta_records::Outgoing;
+use std::alloc::Global;
+
+/// The rules of X.411, clause 14, under the tables of one text. Moments are seconds since 1950-01-01 00:00:00 UTC, and
+/// recipients are numbered from 1.
+pub trait Rules {
+    /// The text of the tables.
+    ghost text: { Self → List ℕ };
+
+    /// The rules under the tables of a text; none where the grammar of tables does not read it.
+    fn under(alloc: Global, octets: &[u8]) -> Result<Option<Self>, Memory>
+        ensures { IfOk result (AreUnder text octets.now) };
+
+    /// The verdict on a recipient of an APDU that arrived at a moment, looked at at another; none where the octets are
+    /// those of no APDU, or where it has no such recipient. A report that comes to a list has the verdict Back here.
+    fn verdict(
+        &self,
+        alloc: Global,
+        octets: &[u8],
+        arrival: u64,
+        recipient: u32,
+        moment: u64,
+    ) -> Result<Option<Verdict>, Memory>
+        requires { arrival ≤ last_moment }
+        ensures exact { IfOk result (λ v. v ≡ verdict_of (text self.now) octets.now arrival recipient moment) }
+        ensures codes { IfOk result CodesAreCodes };
+
+    /// Whether an APDU that arrived at a moment has waited for its hold time.
+    fn has_expired(
+        &self,
+        alloc: Global,
+        octets: &[u8],
+        arrival: u64,
+        moment: u64,
+    ) -> Result<bool, Memory>
+        requires { arrival ≤ last_moment }
+        ensures { IfOk result (λ b. b ≡ is_expired (text self.now) octets.now arrival moment) };
+
+    /// What is found of an item where nothing is called for at once of those of its recipients who are pending: the
+    /// next moment behind this one at which a verdict may change, which is the end of the deferral or else of the hold
+    /// time, and the peers to whom they go. None where something is called for, where the item has waited for its hold
+    /// time, or where its octets are those of no APDU.
+    fn rest(&self, alloc: Global, item: &Item, moment: u64) -> Result<Option<Rest>, Memory>
+        requires arrived { item.now.arrival ≤ last_moment }
+        requires few { length item.now.statuses < 2 ^ 32 }
+        ensures { IfOk result (IsRestOf (text self.now) item.now moment) };
+
+    /// The item of an APDU that is submitted at a moment, and what is found of it then, from one reading; none where
+    /// the octets spell no APDU.
+    fn submitted(
+        &self,
+        alloc: Global,
+        octets: Octets,
+        moment: u64,
+    ) -> Result<Option<Submitted>, Memory>
+        requires { moment ≤ last_moment }
+        ensures item { IfOk result (λ found.
+            IsAccepted octets Origins.Submitted moment (option_map (λ (s : Submitted). s.item) found)) }
+        ensures rest { IfOk result (λ found. IfSome found (λ s. IsRestOf (text self.now) s.item moment s.rest)) };
+
+    /// Whether a report that comes to a list can be passed back, among these items.
+    fn passes_back(&self, alloc: Global, items: &[Item], item: &Item) -> Result<bool, Memory>
+        ensures { IfOk result (λ b. b ≡ is_some (passed_back (text self.now) items.now item.now)) };
+
+    /// Whether the best route of a recipient's name leads to this peer.
+    fn routes_to(
+        &self,
+        alloc: Global,
+        octets: &[u8],
+        recipient: u32,
+        peer: &[u8],
+    ) -> Result<bool, Memory>
+        ensures { let route = route_word (text self.now) octets.now recipient in
+            IfOk result (λ b. IsTrue b ↔ (route ≡ Some peer.now)) };
+
+    /// Whether the tables have a peer of this word.
+    fn names_peer(&self, word: &[u8]) -> bool
+        ensures { result ≡ names_peer (text self.now) word.now };
+
+    /// The word of the peer at a place of the tables, from 0.
+    fn peer_at(&self, place: u32) -> Option<&[u8]>
+        ensures { option_copied result ≡ peer_word (text self.now) place };
+
+    /// The word of the mailbox at a place of the tables, from 0.
+    fn mailbox_at(&self, place: u32) -> Option<&Word>
+        ensures { option_copied result ≡ mailbox_word (text self.now) place };
+
+    /// Where a recipient of an item is delivered to at a moment, with the item that is the delivery report, made at
+    /// that moment as the item of a number; none where the verdict is another.
+    fn delivery(
+        &self,
+        alloc: Global,
+        number: u64,
+        item: &Item,
+        recipient: u32,
+        moment: u64,
+    ) -> Result<Option<Delivery>, Memory>
+        requires arrived { item.now.arrival ≤ last_moment }
+        requires fits { moment ≤ last_moment }
+        ensures { IfOk result (IsDeliveryOf (text self.now) number item.now recipient moment) };
+
+    /// The item that is the delivery report on a recipient, made at a moment as the item of a number; none where no
+    /// report is asked for, or where the walk ends.
+    fn delivery_report(
+        &self,
+        alloc: Global,
+        number: u64,
+        item: &Item,
+        recipient: u32,
+        moment: u64,
+    ) -> Result<Option<Item>, Memory>
+        requires arrived { item.now.arrival ≤ last_moment }
+        requires fits { moment ≤ last_moment }
+        ensures { IfOk result (λ made. made
+            ≡ option_map (own_item moment) (delivery_report (text self.now) number item.now recipient moment)) };
+
+    /// The item that is the non-delivery report on a recipient, made at a moment as the item of a number; none where
+    /// the walk ends.
+    fn non_delivery_report(
+        &self,
+        alloc: Global,
+        number: u64,
+        item: &Item,
+        recipient: u32,
+        reason: u32,
+        diagnostic: Option<u32>,
+        moment: u64,
+    ) -> Result<Option<Item>, Memory>
+        requires arrived { item.now.arrival ≤ last_moment }
+        requires reason { IsCode reason }
+        requires diagnostic { IfSome diagnostic IsCode }
+        ensures { let about = non_delivery_report (text self.now) number item.now recipient reason diagnostic in
+            IfOk result (λ made. made ≡ option_map (own_item moment) about) };
+
+    /// The items that the expansion of a recipient makes, of which the first has this number: the members' copy, and
+    /// then the report of the list, where there is one.
+    fn expansion(
+        &self,
+        alloc: Global,
+        number: u64,
+        item: &Item,
+        recipient: u32,
+        moment: u64,
+    ) -> Result<Made, Memory>
+        requires number { number ≤ 2 ^ 32 }
+        requires arrived { item.now.arrival ≤ last_moment }
+        requires fits { moment ≤ last_moment }
+        requires list { Expands (verdict_of (text self.now) item.now.octets item.now.arrival recipient moment) }
+        ensures { IfOk result (λ made. made_items made
+            ≡ map (own_item moment) (expansion (text self.now) number item.now recipient moment)) };
+
+    /// The item that is a report which is passed back at a moment from a recipient who is a list, among these items;
+    /// none where it cannot be.
+    fn passed_back(
+        &self,
+        alloc: Global,
+        items: &[Item],
+        item: &Item,
+        recipient: u32,
+        moment: u64,
+    ) -> Result<Option<Item>, Memory>
+        requires arrived { item.now.arrival ≤ last_moment }
+        requires passed { Passes (verdict_of (text self.now) item.now.octets item.now.arrival recipient moment) }
+        ensures { IfOk result (λ made. made
+            ≡ option_map (own_item moment) (passed_back (text self.now) items.now item.now)) };
+
+    /// The copy of an item for recipients of whom one is relayed, as an activity of this number.
+    fn outgoing_copy(
+        &self,
+        alloc: Global,
+        activity: u32,
+        item: &Item,
+        recipients: &[u32],
+        recipient: u32,
+        moment: u64,
+    ) -> Result<Outgoing, Memory>
+        requires arrived { item.now.arrival ≤ last_moment }
+        requires fits { moment ≤ last_moment }
+        requires relayed { Relays (verdict_of (text self.now) item.now.octets item.now.arrival recipient moment) }
+        ensures copy { IfOk result (λ out. Some out.octets
+            ≡ outgoing_copy (text self.now) item.now.octets item.now.arrival recipients.now moment) }
+        ensures activity { IfOk result (λ out. out.activity ≡ activity) };
+}

@@ -1,0 +1,40 @@
+//! The verdict on a recipient of an item, under the tables recorded last.
+
+ghost use Rattle.std.specs.Prelude.{◌≡◌, ◌≤◌, IfOk, Some};
+ghost use Rattle.mta_ber.specs.Times.{last_moment};
+ghost use Rattle.mta_machine.specs.Machine.{verdict_on};
+ghost use Rattle.mta_state.specs.Asked.{CodesAreCodes};
+
+use crate::rules::Rules;
+use mta_ber::Memory;
+use mta_machine::Item;
+use mta_procedures::Verdict;
+use std::alloc::Global;
+
+/// The verdict on a recipient of an item among these items, at a moment in seconds since 1950-01-01 00:00:00 UTC; none
+/// where the item has no such recipient. A report to a list that cannot be passed back goes no further.
+pub fn verdict_on<R: Rules>(
+    alloc: Global,
+    rules: &R,
+    items: &[Item],
+    item: &Item,
+    recipient: u32,
+    moment: u64,
+) -> Result<Option<Verdict>, Memory>
+    requires { item.now.arrival ≤ last_moment }
+    ensures exact { let text = Some (R.text rules.now) in
+        IfOk result (λ v. v ≡ verdict_on items.now text (Some item.now) recipient moment) }
+    ensures codes { IfOk result CodesAreCodes }
+{
+    let verdict = rules.verdict(alloc, item.octets(), item.arrival(), recipient, moment)?;
+    match verdict {
+        Some(Verdict::Back) => {
+            if rules.passes_back(alloc, items, item)? {
+                Ok(Some(Verdict::Back))
+            } else {
+                Ok(Some(Verdict::Discard))
+            }
+        }
+        other => Ok(other),
+    }
+}

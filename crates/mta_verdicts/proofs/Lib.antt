@@ -1,9 +1,0 @@
-pub mod CaseSteps
-pub mod Sames
-pub mod Backs
-pub mod Chosen
-pub mod Lengths
-pub mod HopPlaces
-pub mod Copies
-pub mod Wholes
-pub mod Columns

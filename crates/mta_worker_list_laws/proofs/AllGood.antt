@@ -1,0 +1,111 @@
+-- The session lists of all workers are good.
+use Rattle.std.proofs.Common.{◌≡◌, ◌⊎◌, ◌≤◌, ℕ, ◌+◌, ◌-◌, Bool, false, List, [], ◌∷◌, length, Option, None, Some}
+use Rattle.std.proofs.Common.{inl, inr}
+use Rattle.std.proofs.Common.{◌++◌, true, refl, subst, arith}
+use Rattle.mta_edge.specs.Views.{ClockView, DiskView}
+use Rattle.mta_links.specs.Links.{LinkView, StationView}
+use Rattle.mta_transfer_rules.specs.Lanes.{LanesAllow, Seen}
+use Rattle.mta_histories.proofs.Seeing.{lanes_see_histories}
+use Rattle.mta_records.specs.declared.step.Step.{Step}
+use Rattle.mta_session.specs.State.{is_initiator, State}
+use Rattle.mta_session.specs.declared.event.Action.{Action}
+use Rattle.mta_session.specs.declared.event.Event.{Event}
+use Rattle.mta_session.specs.declared.event.Event.TheVariants as event
+use Rattle.mta_transfer_laws.specs.Sessions.{IsGoodSession, SessionList}
+use Rattle.mta_session_list_laws.specs.Calls.{Call}
+use Rattle.mta_session_list_laws.specs.Laws.{ListsAreGood, ListsMayStop}
+use Rattle.mta_session_list_laws.specs.Lists.{AreValues, completed}
+use Rattle.mta_session_list_laws.specs.Lost.{abort_of, stopped}
+use Rattle.mta_worker_list_laws.specs.All.{AllAreGood, AllParts, AreGood, IsGoodPart, IsGoodWhere}
+use Rattle.mta_worker_list_laws.specs.Begun.{Ended, IsOver, Stopped, Untold}
+use Rattle.mta_worker_list_laws.specs.Good.{IsListOver, IsStopped}
+use Rattle.mta_worker_list_laws.specs.Histories.{place, whole}
+use Rattle.mta_worker_list_laws.specs.Parts.{AreForNone, AreSessions, IsSession}
+use Rattle.mta_worker_list_laws.specs.Segments.{Begins, BeginsIn, IsOne, ListsAs, OnLane, Segment, told_over}
+use Rattle.mta_worker_list_laws.proofs.All.{all_have_parts}
+use Rattle.mta_worker_list_laws.proofs.Segments.{has_in, is_segment}
+use Rattle.mta_worker_list_laws.proofs.Whole.{segments_are_good}
+
+-- the list with what came of the last action, and with the Abort that was put
+list_stopped : (calls : List Call) (l : SessionList) (upto : ℕ) (came : Option Event) (aborts : Bool)
+    → (m : SessionList) × IsStopped calls l upto came aborts m
+list_stopped calls l upto None false = (l, refl)
+list_stopped calls l upto None true =
+    (record { opening = l.opening; at = l.at; events = l.events ++ abort_of true }, refl)
+list_stopped calls l upto (Some e) aborts =
+    (stopped calls l (record { event = e; seen = upto; aborts = aborts }), refl)
+
+pub list_behind : (spells : List ℕ → Bool) (history : List Seen) (mid upto : ℕ) (u : State) (b : Action)
+    (calls : List Call) (l : SessionList) (o : IsOver spells history mid upto u b)
+    → (m : SessionList) × IsListOver calls l o m
+list_behind spells history mid upto u b calls l (Ended e is same) = (l, refl)
+list_behind spells history mid upto u b calls l (Stopped came aborts at may going same) =
+    list_stopped calls l upto came aborts
+list_behind spells history mid upto u b calls l (Untold q x aborts is comes answers going) =
+    (stopped calls l (record { event = event.Reply x; seen = upto; aborts = aborts }), refl)
+
+module _ {L : Type 0} (links : LinkView L) (good : ListsAreGood) (may_stop : ListsMayStop) (spells : List ℕ → Bool)
+    (first entries : List Step) (low : ℕ) (allow : LanesAllow spells (whole first entries))
+    (all : AllParts links spells first entries low) where
+  abbrev history : List Seen
+  history = whole first entries
+
+  -- the step by which the session has its lane is an own entry, so it is one of those from there on
+  begins_later : (s : Segment) (on : OnLane) → IsOne s all.parts → s.list ≡ Some on → length first + low ≤ on.at
+  begins_later s on i e =
+      let begun : BeginsIn history (length first) s.own on =
+      subst (λ (o : Option OnLane). Begins history (length first) s.own o) e
+      (is_segment history (length first) all.parts s all.all.segments i).begins in
+      let behind : low ≤ on.at - length first =
+      all.later (on.at - length first) (has_in all.parts s (on.at - length first) i begun.owned) in
+      omega (arith, begun.later, behind)
+
+  -- the list of such a session, with what came of its last action
+  pub one_is_good : (s : Segment) (x : IsSession links spells first entries s) (on : OnLane) → IsOne s all.parts
+      → s.list ≡ Some on → (listed : ListsAs spells history x.new x.calls (told_over x.ran.done.over) (Some on))
+      → (m : SessionList) (size window : ℕ) → IsListOver x.calls listed.0 x.ran.done.over m
+      → AreValues history on.lane size window
+      → IsGoodSession spells history on.lane size window (is_initiator x.new.side)
+      (completed history on.lane size window (is_initiator x.new.side) m)
+  one_is_good s x on i e listed m size window over values =
+      segments_are_good good may_stop spells history (length first) low (place first x.begun)
+      (place first x.ran.done.mid) (place first x.over) all.parts s x.new x.ran.done.last x.ran.done.wanted x.calls
+      x.ran.begins x.ran.done.over on listed.0 m size window allow all.all i x.of_it e (begins_later s on i e)
+      x.ran.done.leads listed.1 listed.2 listed.3 over values
+
+  list_good : (s : Segment) (x : IsSession links spells first entries s) (o : Option OnLane) → IsOne s all.parts
+      → s.list ≡ o → ListsAs spells history x.new x.calls (told_over x.ran.done.over) o → IsGoodWhere x o
+  list_good s x None i e listed = listed
+  list_good s x (Some on) i e listed = record {
+    list = listed.0;
+    is_list = listed.1;
+    behind = list_behind spells history (place first x.ran.done.mid) (place first x.over) x.ran.done.last
+        x.ran.done.wanted x.calls listed.0 x.ran.done.over;
+    good = one_is_good s x on i e listed;
+  }
+
+  part_good : (s : Segment) (o : AreForNone history (length first) s ⊎ IsSession links spells first entries s)
+      → IsOne s all.parts → IsGoodPart o
+  part_good s (inl none) i = tt
+  part_good s (inr x) i = list_good s x s.list i refl x.of_it.list
+
+  each_good : (ss : List Segment) (are : AreSessions links spells first entries ss)
+      → ((s : Segment) → IsOne s ss → IsOne s all.parts) → AreGood links spells first entries ss are
+  each_good [] are within = tt
+  each_good (s ∷ ss) are within =
+      (part_good s are.0 (within s (inl refl)), each_good ss are.1 (λ z i. within z (inr i)))
+
+  pub parts_are_good : AreGood links spells first entries all.parts all.sessions
+  parts_are_good = each_good all.parts all.sessions (λ s i. i)
+
+pub all_are_good : ListsAreGood → ListsMayStop → {D C L S : Type 0} (disks : DiskView D) (clocks : ClockView C)
+    (links : LinkView L) (stations : StationView S) → AllAreGood disks clocks links stations
+all_are_good good may_stop disks clocks links stations spells first front entries limits before after ends base tells
+    based w =
+    let all = all_have_parts disks clocks links stations spells first front entries limits before after ends base tells
+    based w in (
+      all.0,
+      parts_are_good links good may_stop spells first entries (length front)
+          ((lanes_see_histories _ based.possible).allowed spells tells.of_apdus) all.0,
+      all.1,
+    )

@@ -1,0 +1,164 @@
+-- The list of a session that is one of the parts of a history is a good one.
+use Rattle.std.proofs.Common.{◌≡◌, ◌<◌, ℕ, suc, ◌+◌, Bool, true, false, Option, None, Some, List, [], ◌∷◌, ◌++◌, take}
+use Rattle.std.proofs.Common.{inl, inr}
+use Rattle.std.proofs.Common.{refl, sym, ap, subst, ◌∙◌, arith, slice_get, append-nil}
+use Rattle.mta_transfer_rules.specs.Sending.{SendEnd}
+use Rattle.mta_transfer_rules.specs.Lanes.{Bind, Complete, Drop, Halves, halves_after, lane_in, LaneOpen, LanesAllow, On}
+use Rattle.mta_transfer_rules.specs.Lanes.{Secure, Seen, SeenStep}
+use Rattle.mta_session.specs.State.{is_initiator, State}
+use Rattle.mta_session.specs.declared.event.Action.{Action}
+use Rattle.mta_session.specs.declared.event.Action.TheVariants as action
+use Rattle.mta_session.specs.declared.event.Event.{Event}
+use Rattle.mta_session.specs.declared.event.Event.TheVariants as event
+use Rattle.mta_transfer_laws.specs.Sessions.{Made, seen_after, send_all, sending_event, SessionEvent, SessionList}
+use Rattle.mta_lane_match_laws.specs.Generations.{Begins as BeginsHere, BeginsAt}
+use Rattle.mta_session_list_laws.specs.Abandons.{abandon_at, abandoned_upto, given_up, has_before, with_abandons}
+use Rattle.mta_session_list_laws.specs.Calls.{action_of, Call, look_told, step_told, told_as}
+use Rattle.mta_session_list_laws.specs.Laws.{IsIn, IsPiece, ListsAreGood, ListsMayStop, OwnsPieces}
+use Rattle.mta_session_list_laws.specs.Lists.{completed}
+use Rattle.mta_session_list_laws.specs.Lost.{abort_of, lost_of, tail_of}
+use Rattle.mta_session_list_laws.proofs.Lanes.{step_leads}
+use Rattle.mta_worker_list_laws.specs.Begun.{Ended, IsOver, Stopped, Untold}
+use Rattle.mta_worker_list_laws.specs.Good.{IsListOver, IsStopped}
+use Rattle.mta_worker_list_laws.specs.Segments.{Begins, BeginsIn, IsOwnStep, OnLane, SegmentsAreGood}
+use Rattle.mta_worker_list_laws.specs.Segments.{told_over}
+use Rattle.mta_worker_list_laws.proofs.Good.{sessions_good}
+use Rattle.mta_worker_list_laws.proofs.Segments.{is_segment, lists_own_steps}
+
+-- ---- in the list
+
+before_in : (y : SessionEvent) (xs ys : List SessionEvent) → IsIn y xs → IsIn y (xs ++ ys)
+before_in y [] ys i = absurd i
+before_in y (x ∷ xs) ys i = elim i [ inl e ↦ inl e | inr more ↦ inr (before_in y xs ys more) ]
+
+behind_in : (y : SessionEvent) (xs ys : List SessionEvent) → IsIn y ys → IsIn y (xs ++ ys)
+behind_in y [] ys i = i
+behind_in y (x ∷ xs) ys i = inr (behind_in y xs ys i)
+
+in_either : (y : SessionEvent) (xs ys zs : List SessionEvent) → (IsIn y ys → IsIn y zs) → IsIn y (xs ++ ys)
+    → IsIn y (xs ++ zs)
+in_either y [] ys zs f i = f i
+in_either y (x ∷ xs) ys zs f i = elim i [ inl e ↦ inl e | inr more ↦ inr (in_either y xs ys zs f more) ]
+
+-- with the Abandons of other passes too
+pub with_in : (history : List Seen) (lane : ℕ) (y : SessionEvent) (ys : List SessionEvent) (from : ℕ) (e : SendEnd)
+    → IsIn y ys → IsIn y (with_abandons history lane from e ys)
+with_in history lane y [] from e i = absurd i
+with_in history lane y (x ∷ xs) from e i =
+    let found : Option ℕ = abandoned_upto history lane from e (has_before lane x) in
+    let then : ℕ = seen_after lane from x in
+    let after : SendEnd = send_all (given_up e found) (sending_event lane x) in
+    behind_in y (abandon_at lane e found) (x ∷ with_abandons history lane then after xs)
+    (elim i [ inl same ↦ inl same | inr more ↦ inr (with_in history lane y xs then after more) ])
+
+-- whatever came of an action at the link
+stopped_in : (calls : List Call) (l m : SessionList) (upto : ℕ) (came : Option Event) (aborts : Bool)
+    (y : SessionEvent) → IsStopped calls l upto came aborts m → IsIn y l.events → IsIn y m.events
+stopped_in calls l m upto None false y is i = subst (λ (z : SessionList). IsIn y z.events) (sym is) i
+stopped_in calls l m upto None true y is i =
+    subst (λ (z : SessionList). IsIn y z.events) (sym is) (before_in y l.events (abort_of true) i)
+stopped_in calls l m upto (Some e) aborts y is i =
+    subst (λ (z : SessionList). IsIn y z.events) (sym is)
+    (before_in y l.events
+    (tail_of (action_of action.Read calls) (record { event = e; seen = upto; aborts = aborts })) i)
+
+stopped_at : (calls : List Call) (l m : SessionList) (upto : ℕ) (came : Option Event) (aborts : Bool)
+    → IsStopped calls l upto came aborts m → m.at ≡ l.at
+stopped_at calls l m upto None false is = ap (λ (z : SessionList). z.at) is
+stopped_at calls l m upto None true is = ap (λ (z : SessionList). z.at) is
+stopped_at calls l m upto (Some e) aborts is = ap (λ (z : SessionList). z.at) is
+
+-- what came of the last action
+pub over_in : (spells : List ℕ → Bool) (history : List Seen) (mid upto : ℕ) (u : State) (b : Action) (calls : List Call)
+    (l m : SessionList) (o : IsOver spells history mid upto u b) (y : SessionEvent) → action_of action.Read calls ≡ b
+    → IsListOver calls l o m → IsIn y (l.events ++ told_over o) → IsIn y m.events
+over_in spells history mid upto u b calls l m (Ended e is same) y w so i =
+    subst (λ (z : SessionList). IsIn y z.events) (sym so)
+    (subst (λ (zs : List SessionEvent). IsIn y zs) (append-nil l.events) i)
+over_in spells history mid upto u b calls l m (Stopped came aborts at may going same) y w so i =
+    stopped_in calls l m upto came aborts y so
+    (subst (λ (zs : List SessionEvent). IsIn y zs) (append-nil l.events) i)
+over_in spells history mid upto u b calls l m (Untold q x aborts is comes answers going) y w so i =
+    let told : List SessionEvent = told_as upto (step_told q x) (look_told q x) ∷ [] in
+    let asks : action_of action.Read calls ≡ action.Ask q = w ∙ is in
+    let tail : IsIn y (l.events ++ (told ++ abort_of aborts)) =
+    in_either y l.events told (told ++ abort_of aborts) (before_in y told (abort_of aborts)) i in
+    subst (λ (z : SessionList). IsIn y z.events) (sym so)
+    (subst (λ (a : Action). IsIn y (l.events ++ (lost_of a upto (event.Reply x) ++ abort_of aborts))) (sym asks) tail)
+
+pub over_at : (spells : List ℕ → Bool) (history : List Seen) (mid upto : ℕ) (u : State) (b : Action) (calls : List Call)
+    (l m : SessionList) (o : IsOver spells history mid upto u b) → IsListOver calls l o m → m.at ≡ l.at
+over_at spells history mid upto u b calls l m (Ended e is same) so = ap (λ (z : SessionList). z.at) so
+over_at spells history mid upto u b calls l m (Stopped came aborts at may going same) so =
+    stopped_at calls l m upto came aborts so
+over_at spells history mid upto u b calls l m (Untold q x aborts is comes answers going) so =
+    ap (λ (z : SessionList). z.at) so
+
+-- ---- its generation
+
+begun_generation : (l : Halves) (lane g : ℕ) (step : Seen) (m : ℕ) (on : SeenStep) → step ≡ On m on
+    → BeginsHere lane g step → (halves_after l on).generation ≡ g
+begun_generation l lane g step m on e b = by_step on (subst (λ (z : Seen). BeginsHere lane g z) e b)
+  where
+    by_step : (on : SeenStep) → BeginsHere lane g (On m on) → (halves_after l on).generation ≡ g
+    by_step (LaneOpen agreed size window) b = sym b.1
+    by_step (Bind h) b = b.1
+    by_step on b = absurd b
+
+module _ (spells : List ℕ → Bool) (history : List Seen) (allow : LanesAllow spells history) where
+  -- behind the step that begins it
+  generation_there : (lane g at : ℕ) → BeginsAt history at lane g
+      → (lane_in lane (take (suc at) history)).generation ≡ g
+  generation_there lane g at b = by_step b.0 b.1 b.2
+    where
+      by_step : (step : Seen) → slice_get history at ≡ Some step → BeginsHere lane g step
+          → (lane_in lane (take (suc at) history)).generation ≡ g
+      by_step (On m on) get b =
+          let same : m ≡ lane = mine m on b in
+          let get_here : slice_get history at ≡ Some (On lane on) =
+          subst (λ (n : ℕ). slice_get history at ≡ Some (On n on)) same get in
+          ap (λ (z : Halves). z.generation) (step_leads spells history lane allow at on get_here)
+          ∙ begun_generation (lane_in lane (take at history)) lane g (On m on) m on refl b
+        where
+          mine : (m : ℕ) (on : SeenStep) → BeginsHere lane g (On m on) → m ≡ lane
+          mine m (LaneOpen agreed size window) b = b.0
+          mine m (Bind h) b = b.0
+          mine m on b = absurd b
+      by_step step get b = absurd b
+
+-- a step that concerns pieces is one that a session makes
+piece_is : (g : ℕ) (step : SeenStep) → IsPiece g step → IsOwnStep g step
+piece_is g (Secure j k n piece) i = i
+piece_is g (Complete j k n piece) i = i
+piece_is g (Drop j k) i = i
+piece_is g step i = absurd i
+
+pub segments_are_good : ListsAreGood → ListsMayStop → SegmentsAreGood
+segments_are_good whole may_stop spells history before low from mid upto ss s t u b calls new over x l m size window
+    allow
+    are one of_it list le led is_list at_is events_are so values =
+    sessions_good whole may_stop spells history from mid upto t u b calls x.lane l m size window allow new led over
+    is_list
+    so values owned
+  where
+    place : m.at ≡ x.at
+    place = over_at spells history mid upto u b calls l m over so ∙ sym at_is
+
+    begun : BeginsIn history before s.own x
+    begun = subst (λ (o : Option OnLane). Begins history before s.own o) list
+        (is_segment history before ss s are.segments one).begins
+
+    generation_is : (lane_in x.lane (take (m.at + 1) history)).generation ≡ x.generation
+    generation_is =
+        let next : m.at + 1 ≡ suc x.at = omega (arith, place) in
+        ap (λ (n : ℕ). (lane_in x.lane (take n history)).generation) next
+        ∙ generation_there spells history allow x.lane x.generation x.at begun.begins
+
+    owned : OwnsPieces history x.lane (completed history x.lane size window (is_initiator t.side) m)
+    owned = λ q step later get piece.
+        with_in history x.lane (Made q x.lane step) m.events _ _
+        (over_in spells history mid upto u b calls l m over (Made q x.lane step) led.wanted so
+        (subst (λ (zs : List SessionEvent). IsIn (Made q x.lane step) zs) events_are
+        (lists_own_steps spells history before low ss s x allow are one list le q step
+        (subst (λ (n : ℕ). n < q) place later) get
+        (piece_is x.generation step (subst (λ (g : ℕ). IsPiece g step) generation_is piece)))))

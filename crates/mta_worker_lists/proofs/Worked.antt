@@ -1,6 +1,0 @@
--- The worked row.
-use Rattle.std.proofs.Common.{refl}
-use Rattle.mta_worker_lists.specs.Examples.{TakesOne}
-
-pub takes_one : TakesOne
-takes_one = record { entries = refl; got = refl }

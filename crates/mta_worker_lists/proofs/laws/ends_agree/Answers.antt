@@ -1,7 +1,0 @@
-use Rattle.mta_worker_lists.proofs.Agreeing.{ends_agree}
-use Rattle.mta_worker_lists.proofs.laws.ends_agree.Goals as goal
-
-pub returns : goal.returns
-returns g c =
-    ends_agree c.lists_are_good.ensures c.lists_may_stop.ensures c.sessions_agree.ensures g.D.Disk.model
-    g.C.Clock.model g.L.Link.model g.S.Station.model

@@ -1,5 +1,0 @@
-use Rattle.mta_worker_lists.proofs.Linked.{links_are_run}
-use Rattle.mta_worker_lists.proofs.laws.links_are_run.Goals as goal
-
-pub returns : goal.returns
-returns g c = links_are_run g.D.Disk.model g.C.Clock.model g.L.Link.model

@@ -1,5 +1,0 @@
-use Rattle.mta_worker_lists.proofs.Segments.{lists_own_steps}
-use Rattle.mta_worker_lists.proofs.laws.lists_own_steps.Goals as goal
-
-pub returns : goal.returns
-returns c = lists_own_steps

@@ -1,5 +1,0 @@
-use Rattle.mta_worker_lists.proofs.Sides.{sides_agree}
-use Rattle.mta_worker_lists.proofs.laws.sides_agree.Goals as goal
-
-pub returns : goal.returns
-returns g c = sides_agree g.L.Link.model

@@ -1,5 +1,0 @@
-use Rattle.mta_worker_lists.proofs.Stations.{stations_agree}
-use Rattle.mta_worker_lists.proofs.laws.stations_agree.Goals as goal
-
-pub returns : goal.returns
-returns g c = stations_agree g.L.Link.model

@@ -1,5 +1,0 @@
-use Rattle.mta_worker_lists.proofs.Worked.{takes_one}
-use Rattle.mta_worker_lists.proofs.laws.worked_row.Goals as goal
-
-pub returns : goal.returns
-returns c = takes_one

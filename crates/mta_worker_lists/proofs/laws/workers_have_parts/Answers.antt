@@ -1,5 +1,0 @@
-use Rattle.mta_worker_lists.proofs.Workers.{workers_have_parts}
-use Rattle.mta_worker_lists.proofs.laws.workers_have_parts.Goals as goal
-
-pub returns : goal.returns
-returns g c = workers_have_parts g.D.Disk.model g.C.Clock.model g.L.Link.model g.S.Station.model
