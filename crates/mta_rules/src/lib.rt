@@ -1,4 +1,5 @@
-//! What is done with a recipient of a message, a probe or a report (X.411, clause 14): the verdict, and the report.
+//! What is done with a recipient of a message, a probe or a report (X.411, clause 14): the verdict, the report, and
+//! the copies that go to peers, which are passed on from `mta_copies`.
 #![tactic(auto)]
 
 mod bits;
@@ -14,6 +15,7 @@ mod walk;
 pub use identifier::put_digits;
 pub use list::is_in_history;
 pub use looks::{expiry, is_expired};
+pub use mta_copies::{outgoing_head, outgoing_message, outgoing_probe, outgoing_report};
 pub use mta_procedures::Verdict;
 pub use report::{make_report, report_on};
 pub use verdict::{
