@@ -107,10 +107,16 @@ fn note_in(alloc: Global, index: &mut Index, number: u32, moment: u64, rest: Opt
 
 /// The state that a history leads to, and the rules under the tables recorded last, where some were. Its fields are
 /// plain, since room for a change has to be seen by whoever commits it.
-#[derive(Drop)]
 pub struct Replay<R: Rules + Drop> {
     pub kept: Kept,
     pub rules: Option<InForce<R>>,
+}
+
+// Written out, since a derived one is opened anew, field by field, at each place where a value is let go.
+impl<R: Rules + Drop> Drop for Replay<R> {
+    fn drop(self) {
+        let Replay { kept: _, rules: _ } = self;
+    }
 }
 
 /// What a step changes, with the rules under the tables that it records.
