@@ -1,5 +1,5 @@
 -- A worker, one link after another, and what is due behind each.
-use Rattle.std.proofs.Common.{◌≡◌, ℕ, ◌+◌, List, [], ◌∷◌, ◌++◌, Bool, Option, None, Some, Ok}
+use Rattle.std.proofs.Common.{◌≡◌, ◌<◌, ℕ, ◌+◌, List, [], ◌∷◌, ◌++◌, Bool, Option, None, Some, Ok}
 use Rattle.std.proofs.Common.{Err, refl, sym}
 use Rattle.std.proofs.Common.{◌∙◌, subst, arith}
 use Rattle.std.specs.Prelude.{if◌then◌else◌}
@@ -8,6 +8,7 @@ use Rattle.mta_links.specs.Links.{LeadsBack, LeadsNext, LinkView, StationView}
 use Rattle.mta_links.specs.declared.role.Role.{Role}
 use Rattle.mta_records.specs.declared.fault.StepFault.{StepFault}
 use Rattle.mta_records.specs.declared.step.Step.{Step}
+use Rattle.mta_session.specs.declared.limits.Limits.{Limits}
 use Rattle.mta_shared.specs.Held.{Held}
 use Rattle.mta_spool.specs.declared.spool.Turned.{Turned}
 use Rattle.mta_spool.specs.declared.spool.Turned.TheVariants.{Did, Quiet}
@@ -52,26 +53,27 @@ module _ {D C : Type 0} (disks : DiskView D) (clocks : ClockView C) where
 
 module _ {D C L S : Type 0} (disks : DiskView D) (clocks : ClockView C) (links : LinkView L)
     (stations : StationView S) where
-  pub served_more : (units : ℕ) (x : AtStation S) (zs : List (AtStation S)) (y z : AtStation S)
-      → AllServed disks clocks links stations units x zs y → Serves disks clocks links stations units y z None
-      → AllServed disks clocks links stations units x (zs ++ z ∷ []) z
-  served_more units x [] y z a s =
-      (subst (λ (w : AtStation S). Serves disks clocks links stations units w z None) a s, refl)
-  served_more units x (w ∷ ws) y z a s = (a.0, served_more units w ws y z a.1 s)
+  pub served_more : (limits : Limits) (x : AtStation S) (zs : List (AtStation S)) (y z : AtStation S)
+      → AllServed disks clocks links stations limits x zs y → Serves disks clocks links stations limits y z None
+      → AllServed disks clocks links stations limits x (zs ++ z ∷ []) z
+  served_more limits x [] y z a s =
+      (subst (λ (w : AtStation S). Serves disks clocks links stations limits w z None) a s, refl)
+  served_more limits x (w ∷ ws) y z a s = (a.0, served_more limits w ws y z a.1 s)
 
   -- one link, from what the calls leave
-  pub serves : (units : ℕ) (x y : AtStation S) (halt : Option Halt) (given : S) (link left : L) (mid : Held Step)
+  pub serves : (limits : Limits) (x y : AtStation S) (halt : Option Halt) (given : S) (link left : L) (mid : Held Step)
       (served : Served) (role : Role) (is : Bool)
-      → LeadsNext links (Some link) (stations.served x.station) (stations.served given)
+      → x.sessions < limits.sessions → LeadsNext links (Some link) (stations.served x.station) (stations.served given)
       → stations.out given ≡ stations.out x.station + 1 → stations.role given ≡ stations.role x.station
-      → role ≡ stations.role given → IsLinkServed disks clocks links role units x.pass link left mid served
+      → role ≡ stations.role given → IsLinkServed disks clocks links role limits.units x.pass link left mid served
       → LeadsBack links left (stations.served given) (stations.served y.station)
       → stations.out y.station + 1 ≡ stations.out given → stations.role y.station ≡ stations.role given
       → y.sessions ≡ x.sessions + 1 → is ≡ is_closed served.end
       → y.closed ≡ (if is then x.closed + 1 else x.closed) → Behind disks clocks mid served.halt y.pass halt
-      → Serves disks clocks links stations units x y halt
-  serves units x y halt given link left mid served role is next more stays told session back less keeps one e closed
+      → Serves disks clocks links stations limits x y halt
+  serves limits x y halt given link left mid served role is room next more stays told session back less keeps one e closed
       behind = record {
+        room = room;
         given = given;
         link = link;
         left = left;
@@ -79,7 +81,7 @@ module _ {D C L S : Type 0} (disks : DiskView D) (clocks : ClockView C) (links :
         served = served;
         next = next;
         kept = stays;
-        session = subst (λ (r : Role). IsLinkServed disks clocks links r units x.pass link left mid served) told
+        session = subst (λ (r : Role). IsLinkServed disks clocks links r limits.units x.pass link left mid served) told
             session;
         back = back;
         out = omega (arith, more, less);

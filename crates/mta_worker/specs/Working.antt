@@ -1,5 +1,5 @@
 -- What a worker does: one session after another on the links of a station, and what is due behind each.
-use Rattle.std.specs.Prelude.{◌≡◌, ◌≤◌, ◌+◌, ℕ, Bool, true, false, List, [], ◌∷◌, Option}
+use Rattle.std.specs.Prelude.{◌≡◌, ◌<◌, ◌+◌, ℕ, Bool, true, false, List, [], ◌∷◌, Option}
 use Rattle.std.specs.Prelude.{None, Some}
 use Rattle.std.specs.Prelude.{Result, Ok, Err, if◌then◌else◌}
 use Rattle.mta_edge.specs.Causes.{Rose}
@@ -62,8 +62,10 @@ pub record AtStation (S : Type 0) : Type 0 where
 
 module _ {D C L S : Type 0} (disks : DiskView D) (clocks : ClockView C) (links : LinkView L)
     (stations : StationView S) where
-  -- One link: the station gives it, its session is served, the station takes it back, and what is due is done.
-  pub record Serves (units : ℕ) (x y : AtStation S) (halt : Option Halt) : Type 0 where
+  -- One link, where fewer than the limit were given back: the station gives it, its session is served, the station
+  -- takes it back, and what is due is done.
+  pub record Serves (limits : Limits) (x y : AtStation S) (halt : Option Halt) : Type 0 where
+    pub room : x.sessions < limits.sessions
     pub given : S
     pub link : L
     pub left : L
@@ -71,7 +73,7 @@ module _ {D C L S : Type 0} (disks : DiskView D) (clocks : ClockView C) (links :
     pub served : Served
     pub next : LeadsNext links (Some link) (stations.served x.station) (stations.served given)
     pub kept : stations.role given ≡ stations.role x.station
-    pub session : IsLinkServed disks clocks links (stations.role given) units x.pass link left mid served
+    pub session : IsLinkServed disks clocks links (stations.role given) limits.units x.pass link left mid served
     pub back : LeadsBack links left (stations.served given) (stations.served y.station)
     pub out : stations.out y.station ≡ stations.out x.station
     pub role : stations.role y.station ≡ stations.role x.station
@@ -80,22 +82,22 @@ module _ {D C L S : Type 0} (disks : DiskView D) (clocks : ClockView C) (links :
     pub behind : Behind disks clocks mid served.halt y.pass halt
 
   -- one after the other, behind each of which the worker goes on
-  abbrev pub AllServed : (units : ℕ) → AtStation S → List (AtStation S) → AtStation S → Type 0
-  AllServed units x [] y = y ≡ x
-  AllServed units x (z ∷ zs) y = Serves units x z None × AllServed units z zs y
+  abbrev pub AllServed : Limits → AtStation S → List (AtStation S) → AtStation S → Type 0
+  AllServed limits x [] y = y ≡ x
+  AllServed limits x (z ∷ zs) y = Serves limits x z None × AllServed limits z zs y
 
   -- Why a worker ends, and what it has done then.
   pub data HasWorked (limits : Limits) (x : AtStation S) (last : S) (q : Held Step) : WorkerEnd → Type 0 where
-    At_limit : (zs : List (AtStation S)) (y : AtStation S) → AllServed limits.units x zs y
-        → limits.sessions ≤ y.sessions → last ≡ y.station → q ≡ y.pass
+    At_limit : (zs : List (AtStation S)) (y : AtStation S) → AllServed limits x zs y
+        → y.sessions ≡ limits.sessions → last ≡ y.station → q ≡ y.pass
         → HasWorked limits x last q (record { sessions = y.sessions; closed = y.closed; halt = Halts.Limit })
-    No_link : (zs : List (AtStation S)) (y : AtStation S) → AllServed limits.units x zs y
+    No_link : (zs : List (AtStation S)) (y : AtStation S) → AllServed limits x zs y
         → LeadsNext links None (stations.served y.station) (stations.served last) → q ≡ y.pass
         → HasWorked limits x last q (record { sessions = y.sessions; closed = y.closed; halt = Halts.StationEnded })
-    Station_failed : (zs : List (AtStation S)) (y : AtStation S) → AllServed limits.units x zs y
+    Station_failed : (zs : List (AtStation S)) (y : AtStation S) → AllServed limits x zs y
         → Rose (stations.faults y.station) (stations.faults last)
         → stations.served last ≡ stations.served y.station → q ≡ y.pass
         → HasWorked limits x last q (record { sessions = y.sessions; closed = y.closed; halt = Halts.StationFailed })
-    Halted : (zs : List (AtStation S)) (y z : AtStation S) (halt : Halt) → AllServed limits.units x zs y
-        → Serves limits.units y z (Some halt) → last ≡ z.station → q ≡ z.pass
+    Halted : (zs : List (AtStation S)) (y z : AtStation S) (halt : Halt) → AllServed limits x zs y
+        → Serves limits y z (Some halt) → last ≡ z.station → q ≡ z.pass
         → HasWorked limits x last q (record { sessions = z.sessions; closed = z.closed; halt = halt })

@@ -541,85 +541,85 @@ module _ {D C L S : Type 0} (disks : DiskView D) (clocks : ClockView C) (links :
   base_of : (p q : Held Step) → AreEntries p.base first entries → q.base ≡ p.base → AreEntries q.base first entries
   base_of p q are e = subst (λ (b : Base). AreEntries b first entries) (sym e) are
 
-  serves_parts : (units : ℕ) (x y : AtStation S) (halt : Option Halt) → AreEntries x.pass.base first entries
-      → stations.role x.station ≡ theirs → Serves disks clocks links stations units x y halt
+  serves_parts : (limits : Limits) (x y : AtStation S) (halt : Option Halt) → AreEntries x.pass.base first entries
+      → stations.role x.station ≡ theirs → Serves disks clocks links stations limits x y halt
       → IsPrefix y.pass.seen entries → Parts x.pass y.pass
-  serves_parts units x y halt are e s f =
-      let g = link_grown (stations.role s.given) units x.pass s.link s.left s.mid s.served s.session in
+  serves_parts limits x y halt are e s f =
+      let g = link_grown (stations.role s.given) limits.units x.pass s.link s.left s.mid s.served s.session in
       let front : IsPrefix s.mid.seen entries =
       prefix_trans s.mid.seen y.pass.seen entries (behind_grows s.mid s.served.halt y.pass halt s.behind) f in
       parts_more x.pass s.mid y.pass
       (link_parts s.link s.left x.pass s.mid s.served g.seen
       (subst (λ (r : Role). IsRun links spells first entries r s.link s.left x.pass s.mid s.served) (s.kept ∙ e)
-      (links_are_run disks clocks links spells first entries (stations.role s.given) units x.pass s.link s.left s.mid
+      (links_are_run disks clocks links spells first entries (stations.role s.given) limits.units x.pass s.link s.left s.mid
       s.served tells are s.session front)))
       (behind_parts s.mid s.served.halt y.pass halt (base_of x.pass s.mid are g.base) s.behind f)
 
-  serves_grows : (units : ℕ) (x y : AtStation S) (halt : Option Halt)
-      → Serves disks clocks links stations units x y halt → IsPrefix x.pass.seen y.pass.seen
-  serves_grows units x y halt s =
+  serves_grows : (limits : Limits) (x y : AtStation S) (halt : Option Halt)
+      → Serves disks clocks links stations limits x y halt → IsPrefix x.pass.seen y.pass.seen
+  serves_grows limits x y halt s =
       prefix_trans x.pass.seen s.mid.seen y.pass.seen
-      (link_grown (stations.role s.given) units x.pass s.link s.left s.mid s.served s.session).seen
+      (link_grown (stations.role s.given) limits.units x.pass s.link s.left s.mid s.served s.session).seen
       (behind_grows s.mid s.served.halt y.pass halt s.behind)
 
-  serves_base : (units : ℕ) (x y : AtStation S) (halt : Option Halt) → AreEntries x.pass.base first entries
-      → Serves disks clocks links stations units x y halt → AreEntries y.pass.base first entries
-  serves_base units x y halt are s =
+  serves_base : (limits : Limits) (x y : AtStation S) (halt : Option Halt) → AreEntries x.pass.base first entries
+      → Serves disks clocks links stations limits x y halt → AreEntries y.pass.base first entries
+  serves_base limits x y halt are s =
       behind_base s.mid s.served.halt y.pass halt
       (base_of x.pass s.mid are
-      (link_grown (stations.role s.given) units x.pass s.link s.left s.mid s.served s.session).base) s.behind
+      (link_grown (stations.role s.given) limits.units x.pass s.link s.left s.mid s.served s.session).base) s.behind
 
-  all_grow : (units : ℕ) (x : AtStation S) (zs : List (AtStation S)) (y : AtStation S)
-      → AllServed disks clocks links stations units x zs y → IsPrefix x.pass.seen y.pass.seen
-  all_grow units x [] y a = subst (λ (z : AtStation S). IsPrefix x.pass.seen z.pass.seen) (sym a)
+  all_grow : (limits : Limits) (x : AtStation S) (zs : List (AtStation S)) (y : AtStation S)
+      → AllServed disks clocks links stations limits x zs y → IsPrefix x.pass.seen y.pass.seen
+  all_grow limits x [] y a = subst (λ (z : AtStation S). IsPrefix x.pass.seen z.pass.seen) (sym a)
       (prefix_self x.pass.seen)
-  all_grow units x (z ∷ zs) y a =
-      prefix_trans x.pass.seen z.pass.seen y.pass.seen (serves_grows units x z None a.0) (all_grow units z zs y a.1)
+  all_grow limits x (z ∷ zs) y a =
+      prefix_trans x.pass.seen z.pass.seen y.pass.seen (serves_grows limits x z None a.0) (all_grow limits z zs y a.1)
 
-  all_base : (units : ℕ) (x : AtStation S) (zs : List (AtStation S)) (y : AtStation S)
-      → AreEntries x.pass.base first entries → AllServed disks clocks links stations units x zs y
+  all_base : (limits : Limits) (x : AtStation S) (zs : List (AtStation S)) (y : AtStation S)
+      → AreEntries x.pass.base first entries → AllServed disks clocks links stations limits x zs y
       → AreEntries y.pass.base first entries
-  all_base units x [] y are a = subst (λ (z : AtStation S). AreEntries z.pass.base first entries) (sym a) are
-  all_base units x (z ∷ zs) y are a = all_base units z zs y (serves_base units x z None are a.0) a.1
+  all_base limits x [] y are a = subst (λ (z : AtStation S). AreEntries z.pass.base first entries) (sym a) are
+  all_base limits x (z ∷ zs) y are a = all_base limits z zs y (serves_base limits x z None are a.0) a.1
 
-  all_roles : (units : ℕ) (x : AtStation S) (zs : List (AtStation S)) (y : AtStation S)
-      → AllServed disks clocks links stations units x zs y → stations.role y.station ≡ stations.role x.station
-  all_roles units x [] y a = ap (λ (z : AtStation S). stations.role z.station) a
-  all_roles units x (z ∷ zs) y a = all_roles units z zs y a.1 ∙ a.0.role
+  all_roles : (limits : Limits) (x : AtStation S) (zs : List (AtStation S)) (y : AtStation S)
+      → AllServed disks clocks links stations limits x zs y → stations.role y.station ≡ stations.role x.station
+  all_roles limits x [] y a = ap (λ (z : AtStation S). stations.role z.station) a
+  all_roles limits x (z ∷ zs) y a = all_roles limits z zs y a.1 ∙ a.0.role
 
-  all_parts : (units : ℕ) (x : AtStation S) (zs : List (AtStation S)) (y : AtStation S)
+  all_parts : (limits : Limits) (x : AtStation S) (zs : List (AtStation S)) (y : AtStation S)
       → AreEntries x.pass.base first entries → stations.role x.station ≡ theirs
-      → AllServed disks clocks links stations units x zs y → IsPrefix y.pass.seen entries → Parts x.pass y.pass
-  all_parts units x [] y are e a f =
-      no_parts x.pass y.pass (ap (λ (z : AtStation S). z.pass.own) a) (all_grow units x [] y a)
-  all_parts units x (z ∷ zs) y are e a f =
+      → AllServed disks clocks links stations limits x zs y → IsPrefix y.pass.seen entries → Parts x.pass y.pass
+  all_parts limits x [] y are e a f =
+      no_parts x.pass y.pass (ap (λ (z : AtStation S). z.pass.own) a) (all_grow limits x [] y a)
+  all_parts limits x (z ∷ zs) y are e a f =
       let front : IsPrefix z.pass.seen entries =
-      prefix_trans z.pass.seen y.pass.seen entries (all_grow units z zs y a.1) f in
-      parts_more x.pass z.pass y.pass (serves_parts units x z None are e a.0 front)
-      (all_parts units z zs y (serves_base units x z None are a.0) (a.0.role ∙ e) a.1 f)
+      prefix_trans z.pass.seen y.pass.seen entries (all_grow limits z zs y a.1) f in
+      parts_more x.pass z.pass y.pass (serves_parts limits x z None are e a.0 front)
+      (all_parts limits z zs y (serves_base limits x z None are a.0) (a.0.role ∙ e) a.1 f)
 
-  up_to : (units : ℕ) (x : AtStation S) (zs : List (AtStation S)) (y : AtStation S) (q : Held Step)
+  up_to : (limits : Limits) (x : AtStation S) (zs : List (AtStation S)) (y : AtStation S) (q : Held Step)
       → AreEntries x.pass.base first entries → stations.role x.station ≡ theirs
-      → AllServed disks clocks links stations units x zs y → q ≡ y.pass → IsPrefix q.seen entries → Parts x.pass q
-  up_to units x zs y q are at a e f =
+      → AllServed disks clocks links stations limits x zs y → q ≡ y.pass → IsPrefix q.seen entries → Parts x.pass q
+  up_to limits x zs y q are at a e f =
       subst (λ (h : Held Step). Parts x.pass h) (sym e)
-      (all_parts units x zs y are at a (subst (λ (h : Held Step). IsPrefix h.seen entries) e f))
+      (all_parts limits x zs y are at a (subst (λ (h : Held Step). IsPrefix h.seen entries) e f))
 
   pub worked_parts : (limits : Limits) (x : AtStation S) (last : S) (q : Held Step) (end : WorkerEnd)
       → AreEntries x.pass.base first entries → stations.role x.station ≡ theirs
       → HasWorked disks clocks links stations limits x last q end → IsPrefix q.seen entries → Parts x.pass q
-  worked_parts limits x last q end are at (At_limit zs y a le is e) f = up_to limits.units x zs y q are at a e f
-  worked_parts limits x last q end are at (No_link zs y a next e) f = up_to limits.units x zs y q are at a e f
+  worked_parts limits x last q end are at (At_limit zs y a le is e) f = up_to limits x zs y q are at a e f
+  worked_parts limits x last q end are at (No_link zs y a next e) f = up_to limits x zs y q are at a e f
   worked_parts limits x last q end are at (Station_failed zs y a rose served e) f =
-      up_to limits.units x zs y q are at a e f
+      up_to limits x zs y q are at a e f
   worked_parts limits x last q end are at (Halted zs y z halt a s is e) f =
       let front : IsPrefix z.pass.seen entries = subst (λ (h : Held Step). IsPrefix h.seen entries) e f in
       let before : IsPrefix y.pass.seen entries =
-      prefix_trans y.pass.seen z.pass.seen entries (serves_grows limits.units y z (Some halt) s) front in
+      prefix_trans y.pass.seen z.pass.seen entries (serves_grows limits y z (Some halt) s) front in
       subst (λ (h : Held Step). Parts x.pass h) (sym e)
-      (parts_more x.pass y.pass z.pass (all_parts limits.units x zs y are at a before)
-      (serves_parts limits.units y z (Some halt) (all_base limits.units x zs y are a)
-      (all_roles limits.units x zs y a ∙ at) s front))
+      (parts_more x.pass y.pass z.pass (all_parts limits x zs y are at a before)
+      (serves_parts limits y z (Some halt) (all_base limits x zs y are a)
+      (all_roles limits x zs y a ∙ at) s front))
 
 pub workers_have_parts : {D C L S : Type 0} (disks : DiskView D) (clocks : ClockView C) (links : LinkView L)
     (stations : StationView S) → WorkersHaveParts disks clocks links stations

@@ -129,22 +129,22 @@ module _ {D C L S : Type 0} (disks : DiskView D) (clocks : ClockView C) (links :
 
   -- ---- the worker
 
-  serves : (units : ℕ) (x y : AtStation S) (halt : Option Halt)
-      → Serves disks clocks links stations units x y halt → Well x.pass → Well y.pass
-  serves units x y halt s w =
+  serves : (limits : Limits) (x y : AtStation S) (halt : Option Halt)
+      → Serves disks clocks links stations limits x y halt → Well x.pass → Well y.pass
+  serves limits x y halt s w =
       behind s.mid s.served.halt y.pass halt s.behind
-      (link_served (stations.role s.given) units x.pass s.link s.left s.mid s.served s.session w)
+      (link_served (stations.role s.given) limits.units x.pass s.link s.left s.mid s.served s.session w)
 
-  all_served : (units : ℕ) (x : AtStation S) (zs : List (AtStation S)) (y : AtStation S)
-      → AllServed disks clocks links stations units x zs y → Well x.pass → Well y.pass
-  all_served units x [] y a w = kept x.pass y.pass (ap (λ (z : AtStation S). z.pass) a) w
-  all_served units x (z ∷ zs) y a w = all_served units z zs y a.1 (serves units x z None a.0 w)
+  all_served : (limits : Limits) (x : AtStation S) (zs : List (AtStation S)) (y : AtStation S)
+      → AllServed disks clocks links stations limits x zs y → Well x.pass → Well y.pass
+  all_served limits x [] y a w = kept x.pass y.pass (ap (λ (z : AtStation S). z.pass) a) w
+  all_served limits x (z ∷ zs) y a w = all_served limits z zs y a.1 (serves limits x z None a.0 w)
 
   pub worked : (limits : Limits) (x : AtStation S) (last : S) (q : Held Step) (end : WorkerEnd)
       → HasWorked disks clocks links stations limits x last q end → Well x.pass → Well q
-  worked limits x last q end (At_limit zs y a le is e) w = kept y.pass q e (all_served limits.units x zs y a w)
-  worked limits x last q end (No_link zs y a next e) w = kept y.pass q e (all_served limits.units x zs y a w)
+  worked limits x last q end (At_limit zs y a le is e) w = kept y.pass q e (all_served limits x zs y a w)
+  worked limits x last q end (No_link zs y a next e) w = kept y.pass q e (all_served limits x zs y a w)
   worked limits x last q end (Station_failed zs y a rose served e) w =
-      kept y.pass q e (all_served limits.units x zs y a w)
+      kept y.pass q e (all_served limits x zs y a w)
   worked limits x last q end (Halted zs y z halt a s is e) w =
-      kept z.pass q e (serves limits.units y z (Some halt) s (all_served limits.units x zs y a w))
+      kept z.pass q e (serves limits y z (Some halt) s (all_served limits x zs y a w))

@@ -1,4 +1,4 @@
-use Rattle.std.proofs.Common.{◌≡◌, ◌+◌, ◌++◌, ◌∷◌, ◌∙◌, Bool, Option, [], refl, sym, subst}
+use Rattle.std.proofs.Common.{◌≡◌, ◌<◌, ◌+◌, ◌++◌, ◌∷◌, ◌∙◌, Bool, Option, [], refl, sym, subst}
 use Rattle.std.proofs.Common.{arith}
 use Rattle.std.specs.Prelude.{if◌then◌else◌}
 use Rattle.mta_stations.specs.declared.end.Halt.{Halt}
@@ -15,6 +15,7 @@ loop-sessions-init g c = record {
   worked = worked_self c.args.pass.now c.requires.ready.1;
   out = refl;
   few = omega arith;
+  most = omega arith;
   served = ([], refl);
 }
 
@@ -66,11 +67,13 @@ returns-clause-did g c =
       pass = c.loop-sessions.pass;
       sessions = c.loop-sessions.sessions;
       closed = c.loop-sessions.closed;
-    }) i.served.1 (omega (arith, c.loop-sessions-test.false, c.most_links-most.ensures)) refl refl
+    }) i.served.1 (omega (arith, c.loop-sessions-test.false, c.most_links-most.ensures, i.most)) refl refl
 
 pub returns-in-Some-clause-did : goal.returns-in-Some-clause-did
 returns-in-Some-clause-did g c =
     let i = c.loop-sessions.invariant in
+    let room : c.loop-sessions.sessions < c.args.limits.now.sessions =
+    omega (arith, c.loop-sessions-test.true, c.most_links-most.ensures) in
     let behind = subst (λ (h : Option Halt). Behind g.D.Disk.model g.C.Clock.model c.serve_link-end.new.pass
     c.serve_link-end.result.halt c.settle_behind.new.pass h) c.in-Some.is c.settle_behind.ensures.behind in
     let next = subst (λ (r : Option g.row.S-Link.Denot). LeadsNext g.S.Link.Link.model r
@@ -97,9 +100,9 @@ returns-in-Some-clause-did g c =
       sessions = c.loop-sessions.sessions + 1;
       closed = c.if-is_closed.closed;
     }) c.in-Some.halt i.served.1
-    (serves g.D.Disk.model g.C.Clock.model g.S.Link.Link.model g.S.Station.model c.args.limits.now.units _ _ _
+    (serves g.D.Disk.model g.C.Clock.model g.S.Link.Link.model g.S.Station.model c.args.limits.now _ _ _
     c.next.new.self c.in-Ok-Some.link c.serve_link-end.new.link c.serve_link-end.new.pass c.serve_link-end.result
-    c.role.result.now c.is_closed.result next more c.next.ensures.role c.role.ensures
+    c.role.result.now c.is_closed.result room next more c.next.ensures.role c.role.ensures
     c.serve_link-end.ensures.served c.back.ensures.over c.back.ensures.out c.back.ensures.role refl
     c.is_closed.ensures count behind)
     refl refl
@@ -109,6 +112,8 @@ loop-sessions-preserved g c =
     let i = c.loop-sessions.invariant in
     let served = c.serve_link-end.ensures.worked in
     let settled = c.settle_behind.ensures.worked in
+    let room : c.loop-sessions.sessions < c.args.limits.now.sessions =
+    omega (arith, c.loop-sessions-test.true, c.most_links-most.ensures) in
     let behind = subst (λ (h : Option Halt). Behind g.D.Disk.model g.C.Clock.model c.serve_link-end.new.pass
     c.serve_link-end.result.halt c.settle_behind.new.pass h) c.in_default.is c.settle_behind.ensures.behind in
     let next = subst (λ (r : Option g.row.S-Link.Denot). LeadsNext g.S.Link.Link.model r
@@ -133,6 +138,7 @@ loop-sessions-preserved g c =
         | then-is_closed w ↦ omega (arith, i.few, w.closed-is)
         | else-is_closed w ↦ omega (arith, i.few, w.closed-is)
       ];
+      most = room;
       served = (
         i.served.0 ++ record {
           station = c.back.new.self;
@@ -140,11 +146,11 @@ loop-sessions-preserved g c =
           sessions = c.loop-sessions.sessions + 1;
           closed = c.if-is_closed.closed;
         } ∷ [],
-        served_more g.D.Disk.model g.C.Clock.model g.S.Link.Link.model g.S.Station.model c.args.limits.now.units _
+        served_more g.D.Disk.model g.C.Clock.model g.S.Link.Link.model g.S.Station.model c.args.limits.now _
             i.served.0 _ _ i.served.1
-            (serves g.D.Disk.model g.C.Clock.model g.S.Link.Link.model g.S.Station.model c.args.limits.now.units _ _ _
+            (serves g.D.Disk.model g.C.Clock.model g.S.Link.Link.model g.S.Station.model c.args.limits.now _ _ _
             c.next.new.self c.in-Ok-Some.link c.serve_link-end.new.link c.serve_link-end.new.pass
-            c.serve_link-end.result c.role.result.now c.is_closed.result next more c.next.ensures.role c.role.ensures
+            c.serve_link-end.result c.role.result.now c.is_closed.result room next more c.next.ensures.role c.role.ensures
             c.serve_link-end.ensures.served c.back.ensures.over c.back.ensures.out c.back.ensures.role refl
             c.is_closed.ensures count behind),
       );

@@ -9,8 +9,9 @@ invariant-loop-sessions g l = record {
   worked : Worked l.fn.pass l.pass;
   out : g.S.Station.model.out l.station ≡ g.S.Station.model.out l.fn.station;
   few : l.closed ≤ l.sessions;
+  most : l.sessions ≤ l.limits.sessions;
   served : (zs : List (AtStation _)) × AllServed g.D.Disk.model g.C.Clock.model g.S.Link.Link.model
-      g.S.Station.model l.limits.units
+      g.S.Station.model l.limits
       (record { station = l.fn.station; pass = l.fn.pass; sessions = 0; closed = 0 }) zs
       (record { station = l.station; pass = l.pass; sessions = l.sessions; closed = l.closed });
 }
