@@ -22,7 +22,7 @@ use Rattle.mta_histories.proofs.Runs.{possible-more}
 use Rattle.mta_spool.specs.Shown.{Shown}
 use Rattle.mta_spool.specs.Stands.{Stands, IsOfNoLane, Appends}
 use Rattle.mta_spool.specs.Turning.{IsUnchanged}
-use Rattle.mta_worker_step_laws.specs.Steps.{IsTimed}
+use Rattle.mta_spool.specs.Moments.{IsTimed}
 use Rattle.mta_run.specs.Submit.{IsOwnOnLane, IsOwnOf, IsOwn, AreOwn, turn_of_class, turn_of, turn_behind}
 use Rattle.mta_run.specs.Submit.{AreInTurn, turn_after}
 use Rattle.mta_run.specs.Submit.{takes_apdu, is_accept, accepts, Adds}

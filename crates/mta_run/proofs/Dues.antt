@@ -5,9 +5,9 @@ use Rattle.mta_histories.specs.Lanes.{State}
 use Rattle.mta_histories.specs.Classes.{Settling, deliver, expand, report, affirm, discard, back}
 use Rattle.mta_histories.specs.History.{after_step}
 use Rattle.mta_histories.specs.Due.{settling_step, IsNext}
-use Rattle.mta_worker_step_laws.specs.Steps.{IsTimed}
-use Rattle.mta_worker_step_laws.proofs.Dues.{due_class, of_next}
-use Rattle.mta_worker_step_laws.proofs.Tables.{tables_kept}
+use Rattle.mta_spool.specs.Moments.{IsTimed}
+use Rattle.mta_spool.proofs.DueSteps.{due_class, of_next}
+use Rattle.mta_spool.proofs.TablesKept.{tables_kept}
 use Rattle.mta_run.specs.Submit.{IsOwn, turn_of}
 
 -- ---- it is of the turn of what is due

@@ -10,8 +10,9 @@ use Rattle.mta_histories.specs.Classes.{Class, class_of, LaneStep, moment_of}
 use Rattle.mta_histories.specs.Classes as classes
 use Rattle.mta_histories.specs.History.{after, after_from, after_step, when}
 use Rattle.mta_spool.specs.Turning.{IsRecorded}
-use Rattle.mta_worker_step_laws.specs.Steps.{AreMade, AreTimed, IsOfWorkers, IsTimedAs}
-use Rattle.mta_worker_step_laws.proofs.Tables.{tables_kept}
+use Rattle.mta_spool.specs.Moments.{AreTimed, IsOfWorkers, IsTimedAs}
+use Rattle.mta_spool.proofs.TablesKept.{tables_kept}
+use Rattle.mta_worker_step_laws.specs.Steps.{AreMade}
 use Rattle.mta_run.specs.Handed.{ForOpened, Handed}
 use Rattle.mta_run.specs.Provenance.{AreOfCall, AreTablesOf, IsTablesOf}
 use Rattle.mta_run.specs.Serving.{RecordsFirst}

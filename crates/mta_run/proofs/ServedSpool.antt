@@ -17,7 +17,7 @@ use Rattle.mta_spool.specs.Shown.{Shown}
 use Rattle.mta_spool.specs.Stands.{Stands}
 use Rattle.mta_spool.specs.Turning.{IsRecorded}
 use Rattle.mta_stations.specs.Peers.{IsNamed}
-use Rattle.mta_worker_step_laws.specs.Steps.{AreTimed}
+use Rattle.mta_spool.specs.Moments.{AreTimed}
 use Rattle.mta_run.specs.declared.stop.Stop.{Stop}
 use Rattle.mta_run.specs.declared.stop.Stop.TheVariants as Stops
 use Rattle.mta_run.specs.Causes.{Cause, disk as cause_disk, full_serving, memory as cause_memory}

@@ -28,7 +28,8 @@ use Rattle.mta_worker_list_laws.specs.Histories.{AreEntries, is_apdu, TellsApdus
 use Rattle.mta_lane_list_laws.specs.Called.{CalledLanesOfStationsAgree, CallOthers}
 use Rattle.mta_lane_list_laws.specs.Lanes.{LanesOfStationsAgree}
 use Rattle.mta_worker.specs.Wholes.{AreWorkers}
-use Rattle.mta_worker_step_laws.specs.Steps.{AreMade, AreTimed, Tells as TellsUnder}
+use Rattle.mta_spool.specs.Moments.{AreTimed}
+use Rattle.mta_worker_step_laws.specs.Steps.{AreMade, Tells as TellsUnder}
 use Rattle.mta_worker_step_laws.proofs.Turns.{front_records}
 use Rattle.mta_worker_step_laws.proofs.Workers.{steps_are_timed}
 use Rattle.mta_run.specs.declared.stop.Stop.{Stop}

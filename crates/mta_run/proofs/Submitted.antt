@@ -18,7 +18,7 @@ use Rattle.mta_spool.specs.Shown.{Shown}
 use Rattle.mta_spool.specs.Stands.{Stands, step_moment}
 use Rattle.mta_spool.specs.Turning.{IsRecorded}
 use Rattle.mta_run.specs.declared.inputs.Inputs.{Inputs}
-use Rattle.mta_worker_step_laws.specs.Steps.{AreTimed}
+use Rattle.mta_spool.specs.Moments.{AreTimed}
 use Rattle.mta_run.specs.declared.stop.Stop.{Stop}
 use Rattle.mta_run.specs.declared.stop.Stop.TheVariants as Stops
 use Rattle.mta_words.specs.declared.words.Words.TheVariants as Say

@@ -5,7 +5,7 @@ use Rattle.mta_histories.specs.Classes.{Class, class_of}
 use Rattle.mta_histories.specs.Classes as classes
 use Rattle.mta_histories.specs.History.{after}
 use Rattle.mta_words.specs.declared.words.Words.TheVariants as Say
-use Rattle.mta_worker_step_laws.specs.Steps.{AreTimed}
+use Rattle.mta_spool.specs.Moments.{AreTimed}
 use Rattle.mta_run.specs.Handed.{ForOpened, ForTables, Handed}
 use Rattle.mta_run.specs.Serving.{RecordsFirst}
 use Rattle.mta_run.specs.Submit.{accepts}

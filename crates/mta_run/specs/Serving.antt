@@ -18,7 +18,7 @@ use Rattle.mta_stations.specs.declared.end.Halt.TheVariants as Halts
 use Rattle.mta_stations.specs.declared.end.WorkerEnd.{WorkerEnd}
 use Rattle.mta_stations.specs.Deciding.{Decides, halts_of, IsUndecided}
 use Rattle.mta_stations.specs.Lines.{station_lines}
-use Rattle.mta_worker_step_laws.specs.Steps.{IsTimed}
+use Rattle.mta_spool.specs.Moments.{IsTimed}
 use Rattle.mta_run.specs.declared.stop.Stop.{Stop}
 use Rattle.mta_run.specs.declared.stop.Stop.TheVariants as Stops
 use Rattle.mta_run.specs.Output.{Output, HasPrinted, Prints, PrintsFront}

@@ -17,7 +17,7 @@ use Rattle.mta_histories.specs.History.{IsHistory, when, after, after_step}
 use Rattle.mta_spool.specs.Shown.{Shown}
 use Rattle.mta_spool.specs.Stands.{Stands, step_moment, need_of, IsSpent}
 use Rattle.mta_spool.specs.Turning.{IsRecorded}
-use Rattle.mta_worker_step_laws.specs.Steps.{IsTimed}
+use Rattle.mta_spool.specs.Moments.{IsTimed}
 use Rattle.mta_run.specs.declared.stop.Stop.{Stop}
 use Rattle.mta_run.specs.declared.stop.Stop.TheVariants as Stops
 use Rattle.mta_spool.specs.Crashing.{Leaves}

@@ -1,5 +1,6 @@
 pub mod Crashing
 pub mod Dues
+pub mod DueSteps
 pub mod Keeping
 pub mod Lengths
 pub mod Looking
@@ -13,4 +14,5 @@ pub mod Opened
 pub mod LaneLengths
 pub mod PeerWords
 pub mod Started
+pub mod TablesKept
 pub mod Pieces

@@ -4,6 +4,7 @@ pub mod Shown
 pub mod Crashing
 pub mod Bases
 pub mod Stands
+pub mod Moments
 pub mod Making
 pub mod Replaying
 pub mod Opening

@@ -1,5 +1,4 @@
 pub mod Dues
-pub mod Tables
 pub mod Made
 pub mod Turns
 pub mod Walk

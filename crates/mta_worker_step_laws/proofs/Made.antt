@@ -17,6 +17,7 @@ use Rattle.mta_session.specs.declared.ask.Ask.TheVariants as ask
 use Rattle.mta_session.specs.declared.ask.Reply.{Reply}
 use Rattle.mta_session.specs.declared.ask.Reply.TheVariants as reply
 use Rattle.mta_session.specs.declared.event.Action.{Action}
+use Rattle.mta_spool.specs.Moments.{IsTimed}
 use Rattle.mta_spool.specs.OnLanes.{next_generation}
 use Rattle.mta_spool.specs.Receiving.{Receives}
 use Rattle.mta_spool.specs.Shown.{Shown}
@@ -33,7 +34,7 @@ use Rattle.mta_worker.specs.Working.{TurnsOnce}
 use Rattle.mta_worker.specs.declared.proposal.Next.{Next}
 use Rattle.mta_worker.specs.declared.ready.Ready.{Ready}
 use Rattle.mta_worker.specs.declared.telling.Lost.{Lost}
-use Rattle.mta_worker_step_laws.specs.Steps.{IsMade, IsTimed}
+use Rattle.mta_worker_step_laws.specs.Steps.{IsMade}
 use Rattle.mta_worker_step_laws.proofs.Dues.{due_made}
 
 is_kind : (kind : ℕ) → IsKind kind ⊎ (IsKind kind → ⊥)

@@ -18,9 +18,10 @@ use Rattle.mta_shared.specs.Held.{Held}
 use Rattle.mta_shared.proofs.Fronts.{prefix_self, prefix_trans}
 use Rattle.mta_shared.proofs.Sums.{row_bounds, times-append}
 use Rattle.mta_spool.specs.Bases.{found_of, Keeps}
+use Rattle.mta_spool.specs.Moments.{IsTimedAs}
 use Rattle.mta_spool.specs.Shown.{Shown}
 use Rattle.mta_worker.specs.Serving.{InTurn}
-use Rattle.mta_worker_step_laws.specs.Steps.{IsMade, IsTimedAs, Tells}
+use Rattle.mta_worker_step_laws.specs.Steps.{IsMade, Tells}
 use Rattle.mta_worker_step_laws.proofs.Made.{MakesOne}
 
 -- ---- the history that opening gave

@@ -1,4 +1,4 @@
--- No step of a worker changes the tables.
+-- No step changes the tables that neither records tables nor accepts an APDU.
 use Rattle.std.proofs.Common.{◌≡◌, ℕ, Bool, true, false, cond, List, [], ◌∷◌, Option, Some, None, refl}
 use Rattle.mta_records.specs.declared.step.Step.{Step}
 use Rattle.mta_machine.specs.Items.{Machine}
@@ -13,7 +13,7 @@ use Rattle.mta_histories.specs.Classes.{Class, class_of, was_sent}
 use Rattle.mta_histories.specs.Classes as classes
 use Rattle.mta_histories.specs.History.{after_step, class_steps, failure_of_kind, failures, on_lane_steps}
 use Rattle.mta_histories.specs.History.{outcome_steps, sendings, when}
-use Rattle.mta_worker_step_laws.specs.Steps.{IsOfWorkers}
+use Rattle.mta_spool.specs.Moments.{IsOfWorkers}
 
 -- the tables are as they were behind these steps
 abbrev Keep : Machine → List MachineStep → Type 0
