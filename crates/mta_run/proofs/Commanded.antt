@@ -15,19 +15,19 @@ use Rattle.mta_stations.proofs.RoleLaws.{roles_same}
 use Rattle.mta_words.specs.declared.station.StationWord.{StationWord}
 use Rattle.mta_words.specs.declared.words.Words.{Words}
 use Rattle.mta_words.specs.declared.words.Words.TheVariants as Say
-use Rattle.mta_run.specs.declared.ended.Ended.{Ended}
-use Rattle.mta_run.specs.declared.stop.Stop.{Stop}
-use Rattle.mta_run.specs.declared.stop.Stop.TheVariants as Stops
-use Rattle.mta_run.specs.Causes.{Cause, not_built}
-use Rattle.mta_run.specs.Command.{HasEnded, NoneWorked}
-use Rattle.mta_run.specs.DiskLeft.{uncalled}
-use Rattle.mta_run.specs.Handed.{handed}
-use Rattle.mta_run.specs.Inputs.{longest_tables}
-use Rattle.mta_run.specs.Output.{Output}
+use Rattle.mta_commands.specs.declared.ended.Ended.{Ended}
+use Rattle.mta_commands.specs.declared.stop.Stop.{Stop}
+use Rattle.mta_commands.specs.declared.stop.Stop.TheVariants as Stops
+use Rattle.mta_commands.specs.Causes.{Cause, not_built}
+use Rattle.mta_commands.specs.Command.{HasEnded, NoneWorked}
+use Rattle.mta_commands.specs.DiskLeft.{uncalled}
+use Rattle.mta_commands.specs.Handed.{handed}
+use Rattle.mta_commands.specs.Inputs.{longest_tables}
+use Rattle.mta_commands.specs.Output.{Output}
 use Rattle.mta_run.specs.Runs.{HasCommanded, sessions_in}
 use Rattle.mta_run.specs.Served.{HasServed, StationsLeft, Untouched}
-use Rattle.mta_run.specs.Words.{are_stations_for, IsSaid, Serves, words_with}
-use Rattle.mta_run.proofs.HandedOn.{ended_early, undrawn}
+use Rattle.mta_commands.specs.Words.{are_stations_for, IsSaid, Serves, words_with}
+use Rattle.mta_commands.proofs.HandedOn.{ended_early, undrawn}
 use Rattle.mta_run.proofs.OtherPeers.{call_others}
 use Rattle.mta_run.proofs.ServedAll.{ended_with}
 

@@ -1,11 +1,10 @@
 -- No two stations that words name call one peer.
-use Rattle.std.proofs.Common.{◌≡◌, ◌⊎◌, ℕ, Bool, true, false, not, ◌&&◌, ◌||◌, List, [], ◌∷◌, ◌++◌, refl, sym, ap}
+use Rattle.std.proofs.Common.{◌≡◌, ℕ, Bool, true, false, not, ◌||◌, List, [], ◌∷◌, ◌++◌, refl, ap}
 use Rattle.std.proofs.Common.{subst, ◌∙◌, inl, inr}
 use Rattle.std.specs.List.{list_any}
 use Rattle.std.proofs.lemmas.Bool.{and_parts}
 use Rattle.std.proofs.lemmas.List.Folds.{list_any-append}
 use Rattle.std.proofs.lemmas.Slice.Eq.{bytes_eq-Decides}
-use Rattle.mta_links.specs.declared.role.Role.{Role}
 use Rattle.mta_links.specs.declared.role.Role.TheVariants as Roles
 use Rattle.mta_lane_list_laws.specs.Called.{CallOthers, IsCalled}
 use Rattle.mta_stations.specs.Roles.{role_of, roles_of}
@@ -15,7 +14,7 @@ use Rattle.mta_words.specs.declared.station.StationWord.{StationWord}
 use Rattle.mta_words.specs.declared.station.StationWord.TheVariants as Station
 use Rattle.mta_words.specs.declared.words.Words.{Words}
 use Rattle.mta_words.specs.declared.words.Words.TheVariants as Say
-use Rattle.mta_run.specs.Words.{IsSaid}
+use Rattle.mta_commands.specs.Words.{IsSaid}
 
 in_out : {A : Type 0} (peer : List ℕ) → Roles.In ≡ Roles.Out peer → A
 in_out peer e = absurd cc

@@ -11,25 +11,26 @@ use Rattle.mta_histories.proofs.Runs.{histories_are_runs, each_recipient_once}
 use Rattle.mta_stations.specs.declared.end.Halt.{Halt}
 use Rattle.mta_stations.specs.declared.end.Halt.TheVariants as Halts
 use Rattle.mta_stations.specs.declared.end.WorkerEnd.{WorkerEnd}
-use Rattle.mta_run.specs.declared.stop.Stop.{Stop}
-use Rattle.mta_run.specs.declared.stop.Stop.TheVariants as Stops
+use Rattle.mta_commands.specs.declared.stop.Stop.{Stop}
+use Rattle.mta_commands.specs.declared.stop.Stop.TheVariants as Stops
 use Rattle.mta_words.specs.declared.words.Words.{Words}
 use Rattle.mta_words.specs.declared.words.Words.TheVariants as Say
-use Rattle.mta_run.specs.Words.{ReadsTables, ReadsApdu, OpensDisk, Serves}
-use Rattle.mta_run.specs.Handed.{Handed, ForOpened, InputsRead}
-use Rattle.mta_run.specs.Output.{Output, output, HasPrinted, whole, stopped, cut, HasClosed, IsEnded}
-use Rattle.mta_run.specs.DiskLeft.{Opening, opened}
-use Rattle.mta_run.specs.Causes.{mailbox_named, IsText, of_submit, of_queue, of_serve, of_mailbox, of_decode}
-use Rattle.mta_run.specs.Causes.{Cause, usage, not_built, memory, source, tables, apdu, not_spool, not_opened, disk}
-use Rattle.mta_run.specs.Causes.{full, spent, no_mailbox, no_peer, full_serving, spent_serving, of_worker}
-use Rattle.mta_run.specs.Command.{HasEnded, OnStations}
-use Rattle.mta_run.specs.Serving.{stop_of_halt}
-use Rattle.mta_run.specs.Ran.{RecipientsOnce, Ran}
-use Rattle.mta_run.proofs.Same.{some_same}
-use Rattle.mta_run.proofs.Added.{possible_front, one_accept}
-use Rattle.mta_run.proofs.Printed.{ended, closed_well}
-use Rattle.mta_run.proofs.AcknowledgedKept.{ended_accepted, accepted_kept}
-use Rattle.mta_run.proofs.Worked.{accepted_more}
+use Rattle.mta_commands.specs.Words.{ReadsTables, ReadsApdu, OpensDisk, Serves}
+use Rattle.mta_commands.specs.Handed.{Handed, ForOpened, InputsRead}
+use Rattle.mta_commands.specs.Output.{Output, output, HasPrinted, whole, HasClosed, IsEnded}
+use Rattle.mta_commands.specs.DiskLeft.{Opening, opened}
+use Rattle.mta_commands.specs.Causes.{mailbox_named, IsText, of_submit, of_queue, of_serve, of_mailbox, of_decode}
+use Rattle.mta_commands.specs.Causes.{Cause, memory}
+use Rattle.mta_commands.specs.Causes.{of_worker}
+use Rattle.mta_commands.specs.Command.{HasEnded, OnStations}
+use Rattle.mta_commands.specs.Serving.{stop_of_halt}
+use Rattle.mta_commands.specs.Submit.{IsAccepted}
+use Rattle.mta_run.specs.Ran.{RecipientsOnce, IsKept, Ran}
+use Rattle.mta_commands.proofs.Same.{some_same}
+use Rattle.mta_commands.proofs.Added.{possible_front, one_accept}
+use Rattle.mta_commands.proofs.Printed.{ended, closed_well}
+use Rattle.mta_commands.proofs.AcknowledgedKept.{ended_accepted, accepted_kept}
+use Rattle.mta_commands.proofs.Worked.{accepted_more}
 
 -- a beginning of a history is one
 history_front : (steps tried : List Step) (n : ℕ) → IsHistory (steps ++ tried) → IsHistory (steps ++ take n tried)
@@ -127,6 +128,13 @@ printed_tells h ends added opening out _ any6 e = absurd cc
 
 -- ---- a run
 
+-- an Accept behind which steps are added, and its item
+kept : (steps added : List Step) (octets : List ℕ) (n : ℕ) → IsAccepted steps added octets n
+    → IsKept steps added octets n
+kept steps added octets n a =
+    let item = accepted_kept steps added octets n a in
+    record { accepted = a; item = item.0; item_is = item.1; octets_are = item.2 }
+
 pub ran : {D C I O : Type 0} (h : Handed D C I) (sinks : SinkView O) (a b c : O) (result : Result (Unit {0}) Stop)
     (status : ℕ) (stations : OnStations) → HasEnded h stations (output sinks a b) result
     → HasClosed result (output sinks b c) status → sinks.faults a ≤ sinks.faults b
@@ -145,8 +153,8 @@ ran h sinks a b c result status stations has closed first then = record {
   acknowledged_kept = λ submit x y was is n rest small begun i w f steps there s.
       let acc = ended_accepted h has.ends has.added submit n small has.opening (output sinks a c) status x y rest
       printed was is begun i w f steps there s in (
-        accepted_kept steps has.added i n acc,
-        accepted_kept steps (has.added ++ has.torn_step) i n (accepted_more steps has.added has.torn_step i n acc),
+        kept steps has.added i n acc,
+        kept steps (has.added ++ has.torn_step) i n (accepted_more steps has.added has.torn_step i n acc),
       );
   printed = printed;
   provenance = has.own;

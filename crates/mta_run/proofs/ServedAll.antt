@@ -23,26 +23,25 @@ use Rattle.mta_stations.specs.Stations.{roles_in}
 use Rattle.mta_tables.specs.Tables.{TablesValue, tables_of}
 use Rattle.mta_words.specs.declared.station.StationWord.{StationWord}
 use Rattle.mta_words.specs.declared.words.Words.TheVariants as Say
-use Rattle.mta_run.specs.declared.stop.Stop.{Stop}
-use Rattle.mta_run.specs.declared.stop.Stop.TheVariants as Stops
-use Rattle.mta_run.specs.Causes.{Cause, memory, no_peer, not_opened, not_spool}
-use Rattle.mta_run.specs.Command.{HasEnded, OnStations, SourcesLeft}
-use Rattle.mta_run.specs.DiskLeft.{opened, Opening, refused, uncalled}
-use Rattle.mta_run.specs.Handed.{ForOpened, ForTables, Handed, handed, InputsRead}
-use Rattle.mta_run.specs.Inputs.{HasTables}
-use Rattle.mta_run.specs.Output.{Output, stopped}
-use Rattle.mta_run.specs.Provenance.{AreOfCall}
-use Rattle.mta_run.specs.Served.{All_named, AreOfRun, HasTablesFor, No_workers, Not_begun, Not_named}
-use Rattle.mta_run.specs.Served.{Not_read}
+use Rattle.mta_commands.specs.declared.stop.Stop.{Stop}
+use Rattle.mta_commands.specs.declared.stop.Stop.TheVariants as Stops
+use Rattle.mta_commands.specs.Causes.{Cause, memory, no_peer, not_opened, not_spool}
+use Rattle.mta_commands.specs.Command.{HasEnded, OnStations, SourcesLeft}
+use Rattle.mta_commands.specs.DiskLeft.{opened, Opening, refused, uncalled}
+use Rattle.mta_commands.specs.Handed.{ForOpened, ForTables, Handed, handed, InputsRead}
+use Rattle.mta_commands.specs.Inputs.{HasTables}
+use Rattle.mta_commands.specs.Output.{Output, stopped}
+use Rattle.mta_commands.specs.Provenance.{AreOfCall, AreOfRun}
+use Rattle.mta_run.specs.Served.{All_named, HasTablesFor, No_workers, Not_begun, Not_named, Not_read}
 use Rattle.mta_run.specs.Served.{Served, ServesSpool, StationsLeft, Untouched}
-use Rattle.mta_run.specs.Shows.{stop_of_open}
-use Rattle.mta_run.specs.Submit.{stop_of_step}
-use Rattle.mta_run.proofs.DiskStands.{before_refused, disk_refused}
-use Rattle.mta_run.proofs.HandedOn.{ended_alike, ended_early, undrawn}
-use Rattle.mta_run.proofs.ServedSpool.{begun_call, begun_cause, begun_ended, begun_own, begun_recorded, peers}
+use Rattle.mta_commands.specs.Shows.{stop_of_open}
+use Rattle.mta_commands.specs.Submit.{stop_of_step}
+use Rattle.mta_commands.proofs.DiskStands.{before_refused, disk_refused}
+use Rattle.mta_commands.proofs.HandedOn.{ended_alike, ended_early, undrawn}
+use Rattle.mta_commands.proofs.ServedSpool.{begun_call, begun_cause, begun_ended, begun_own, begun_recorded, peers}
 use Rattle.mta_run.proofs.ServedWorkers.{served_ended, SessionLaws}
-use Rattle.mta_run.proofs.Submitted.{tables_cause, tables_text}
-use Rattle.mta_run.proofs.Worked.{prints_nothing}
+use Rattle.mta_commands.proofs.Submitted.{tables_cause, tables_text}
+use Rattle.mta_commands.proofs.Worked.{prints_nothing}
 
 -- the same, where more is known of the stations
 pub ended_with : {D C I : Type 0} (h : Handed D C I) (P Q : OnStations) (out : Output) (result : Result (Unit {0}) Stop)

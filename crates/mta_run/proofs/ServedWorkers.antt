@@ -32,31 +32,33 @@ use Rattle.mta_spool.specs.Moments.{AreTimed}
 use Rattle.mta_worker_step_laws.specs.Steps.{AreMade, Tells as TellsUnder}
 use Rattle.mta_worker_step_laws.proofs.Turns.{front_records}
 use Rattle.mta_worker_step_laws.proofs.Workers.{steps_are_timed}
-use Rattle.mta_run.specs.declared.stop.Stop.{Stop}
-use Rattle.mta_run.specs.Causes.{Cause, disk as cause_disk, full_serving, memory as cause_memory, of_serve}
-use Rattle.mta_run.specs.Causes.{of_worker, PeersNamed, spent_serving}
-use Rattle.mta_run.specs.Command.{HasEnded, IsSettled, SourcesLeft}
-use Rattle.mta_run.specs.DiskLeft.{DiskLeft, opened}
-use Rattle.mta_run.specs.Handed.{DiskFailed, ForOpened, ForTables, Handed, InputsRead}
-use Rattle.mta_run.specs.Output.{Output}
-use Rattle.mta_run.specs.Served.{AreLimits, AreOfRun, ComesBehind, Had_failed, IsBaseOf, StationsLeft, Went_on}
+use Rattle.mta_commands.specs.declared.stop.Stop.{Stop}
+use Rattle.mta_commands.specs.Causes.{Cause, disk as cause_disk, full_serving, memory as cause_memory, of_serve}
+use Rattle.mta_commands.specs.Causes.{of_worker, PeersNamed, spent_serving}
+use Rattle.mta_commands.specs.Command.{HasEnded, IsSettled, SourcesLeft}
+use Rattle.mta_commands.specs.DiskLeft.{DiskLeft, opened}
+use Rattle.mta_commands.specs.Handed.{DiskFailed, ForOpened, ForTables, Handed, InputsRead}
+use Rattle.mta_commands.specs.Output.{Output}
+use Rattle.mta_run.specs.Served.{AreLimits, ComesBehind, Had_failed, IsBaseOf, StationsLeft, Went_on}
 use Rattle.mta_run.specs.Served.{Worked}
-use Rattle.mta_run.specs.Serving.{Decided, Had_ended, HasFinished, IsFinishStop, IsOutcome, IsOwnFull, IsOwnRefusal}
-use Rattle.mta_run.specs.Serving.{IsOwnSpent, Refused, Settled, SettlesBehind, Well}
+use Rattle.mta_commands.specs.Serving.{Decided, Had_ended, HasFinished, IsFinishStop, IsOutcome, IsOwnFull}
+use Rattle.mta_commands.specs.Serving.{IsOwnRefusal}
+use Rattle.mta_commands.specs.Serving.{IsOwnSpent, Refused, Settled, SettlesBehind, Well}
 use Rattle.mta_run.specs.Sessions.{SessionsServed}
-use Rattle.mta_run.specs.Provenance.{AreOfCall}
-use Rattle.mta_run.specs.Submit.{AreInTurn, AreOwn, HasSettled, stop_of_step}
-use Rattle.mta_run.specs.Words.{Serves}
-use Rattle.mta_run.proofs.Added.{after_append, front_in_turn, own_more as own_known}
-use Rattle.mta_run.proofs.Beginning.{own_more, settled_why}
-use Rattle.mta_run.proofs.DiskServed.{disk_served, fails_behind, fails_kept, FailsIn, first_steps, risen}
-use Rattle.mta_run.proofs.DiskStands.{same_steps}
-use Rattle.mta_run.proofs.HandedOn.{printed_map}
-use Rattle.mta_run.proofs.Provenance.{late_append, made_late, made_timed, more_of_call, own_front, own_timed}
-use Rattle.mta_run.proofs.Provenance.{recorded_behind, timed_append}
-use Rattle.mta_run.proofs.Same.{err_same}
-use Rattle.mta_run.proofs.ServedSpool.{among, tells_back}
-use Rattle.mta_run.proofs.Statuses.{serves_adds, serves_opens}
+use Rattle.mta_commands.specs.Provenance.{AreOfCall, AreOfRun}
+use Rattle.mta_commands.specs.Submit.{AreInTurn, AreOwn, HasSettled, stop_of_step}
+use Rattle.mta_commands.specs.Words.{Serves}
+use Rattle.mta_commands.proofs.Added.{after_append, front_in_turn, own_more as own_known}
+use Rattle.mta_commands.proofs.Beginning.{own_more, settled_why}
+use Rattle.mta_commands.proofs.DiskServed.{disk_served, fails_behind, fails_kept, FailsIn, first_steps, risen}
+use Rattle.mta_commands.proofs.DiskStands.{same_steps}
+use Rattle.mta_commands.proofs.HandedOn.{printed_map}
+use Rattle.mta_commands.proofs.Provenance.{late_append, more_of_call, own_front, own_timed, recorded_behind}
+use Rattle.mta_commands.proofs.Provenance.{timed_append}
+use Rattle.mta_commands.proofs.Same.{err_same}
+use Rattle.mta_commands.proofs.ServedSpool.{among, tells_back}
+use Rattle.mta_commands.proofs.Words.{serves_adds, serves_opens}
+use Rattle.mta_run.proofs.Made.{made_late, made_timed}
 
 -- what holds of the sessions that workers serve
 pub record SessionLaws {D C L S : Type 0} (disks : DiskView D) (clocks : ClockView C) (links : LinkView L)

@@ -10,12 +10,12 @@ use Rattle.mta_spool.specs.Bases.{base_of, Keeps, KeepsOn, where_listed, where_t
 use Rattle.mta_spool.specs.Shown.{AtOpening, Shown}
 use Rattle.mta_stations.specs.declared.end.WorkerEnd.{WorkerEnd}
 use Rattle.mta_worker.specs.Wholes.{AreWorkers}
-use Rattle.mta_run.specs.declared.stop.Stop.{Stop}
-use Rattle.mta_run.specs.declared.stop.Stop.TheVariants as Stops
-use Rattle.mta_run.specs.Output.{Output}
+use Rattle.mta_commands.specs.declared.stop.Stop.{Stop}
+use Rattle.mta_commands.specs.declared.stop.Stop.TheVariants as Stops
+use Rattle.mta_commands.specs.Output.{Output}
 use Rattle.mta_run.specs.Served.{AreLimits, No_workers, Not_begun, Served, ServesSpool}
-use Rattle.mta_run.specs.Serving.{HasBegun, HasFinished}
-use Rattle.mta_run.specs.Submit.{stop_of_step}
+use Rattle.mta_commands.specs.Serving.{HasBegun, HasFinished}
+use Rattle.mta_commands.specs.Submit.{stop_of_step}
 
 module _ {D C : Type 0} (disks : DiskView D) (clocks : ClockView C) (old new : Shown D C) where
   abbrev based : AtOpening D C → Base

@@ -1,7 +1,6 @@
 -- What a status tells, and when it is 0.
-use Rattle.std.proofs.Common.{◌≡◌, ℕ, suc, List, [], ◌∷◌, ◌++◌, All, Option, None, Some, Result, Ok}
-use Rattle.std.proofs.Common.{Err}
-use Rattle.std.proofs.Common.{refl, sym, subst, ◌∙◌, arith, inl, inr}
+use Rattle.std.proofs.Common.{◌≡◌, ℕ, suc, List, ◌∷◌, ◌++◌, All, Result, Ok, Err, sym, subst, ◌∙◌, arith}
+use Rattle.std.proofs.Common.{inl, inr}
 use Rattle.std.specs.Prelude.{◌⊎◌}
 use Rattle.mta_ber.specs.declared.fault.Fault.{Fault}
 use Rattle.mta_apdu.specs.Apdus.{ApduValue, apdu_of}
@@ -18,125 +17,28 @@ use Rattle.mta_stations.specs.declared.end.Halt.{Halt}
 use Rattle.mta_stations.specs.declared.end.Halt.TheVariants as Halts
 use Rattle.mta_stations.specs.declared.end.WorkerEnd.{WorkerEnd}
 use Rattle.mta_stations.specs.Peers.{IsNamed, IsUnnamed}
-use Rattle.mta_run.specs.declared.stop.Stop.{Stop}
-use Rattle.mta_words.specs.declared.words.Words.{Words}
-use Rattle.mta_words.specs.declared.words.Words.TheVariants as Say
-use Rattle.mta_run.specs.Words.{AddsSteps, ReadsTables, ReadsApdu, OpensDisk, IsUnbuilt, roles_named, Serves}
-use Rattle.mta_run.specs.Handed.{Handed, SourceFailed, DiskFailed}
-use Rattle.mta_run.specs.Lines.{status_of}
-use Rattle.mta_run.specs.Output.{Output, OutputFailed, IsEnded, done, told, cut_text, cut_line}
-use Rattle.mta_run.specs.DiskLeft.{Opening, uncalled, opened}
-use Rattle.mta_run.specs.Causes.{IsText, of_submit, of_queue, of_serve, of_mailbox, of_decode, Cause, usage, not_built}
-use Rattle.mta_run.specs.Causes.{memory, source, tables, apdu}
-use Rattle.mta_run.specs.Causes.{not_spool, not_opened, disk, full, spent, no_mailbox, no_peer, full_serving}
-use Rattle.mta_run.specs.Causes.{spent_serving, of_worker}
-use Rattle.mta_run.specs.Serving.{stop_of_halt}
-use Rattle.mta_run.proofs.Same.{ok_same}
+use Rattle.mta_commands.specs.declared.stop.Stop.{Stop}
+use Rattle.mta_commands.specs.Words.{AddsSteps, OpensDisk, roles_named, Serves}
+use Rattle.mta_commands.specs.Handed.{Handed}
+use Rattle.mta_commands.specs.Lines.{status_of}
+use Rattle.mta_commands.specs.Output.{Output, OutputFailed, IsEnded, done, told, cut_text, cut_line}
+use Rattle.mta_commands.specs.DiskLeft.{Opening, uncalled}
+use Rattle.mta_commands.specs.Causes.{IsText, Cause, usage, not_built, memory, source, tables, apdu, not_spool}
+use Rattle.mta_commands.specs.Causes.{not_opened, disk, full, spent, no_mailbox, no_peer, full_serving}
+use Rattle.mta_commands.specs.Causes.{spent_serving, of_worker}
+use Rattle.mta_commands.specs.Serving.{stop_of_halt}
+use Rattle.mta_commands.proofs.Same.{ok_same}
+use Rattle.mta_commands.proofs.StopStatuses.{IsEarly, StatusTells, stop_tells, usage_only, usage_there, unbuilt_only}
+use Rattle.mta_commands.proofs.StopStatuses.{unbuilt_there, disk_only, source_only, sink_never, early, text_known}
+use Rattle.mta_commands.proofs.Words.{serves_adds, serves_reads}
 use Rattle.mta_run.specs.Ran.{EndsBeforeOpening, Tells, AllInOrder, IsComplete}
-
--- ---- what a status tells
-
--- a fault of the words, the tables, the input or a source
-abbrev IsEarly : ℕ → Type 0
-IsEarly status = (status ≡ 1) ⊎ (status ≡ 2) ⊎ (status ≡ 6) ⊎ (status ≡ 8)
-
-late : (status n : ℕ) → status ≡ n → (n ≡ 1 → ⊥) → (n ≡ 2 → ⊥) → (n ≡ 6 → ⊥)
-    → (n ≡ 8 → ⊥) → IsEarly status → ⊥
-late status n e a b c d (inl x) = a (sym e ∙ x)
-late status n e a b c d (inr (inl x)) = b (sym e ∙ x)
-late status n e a b c d (inr (inr (inl x))) = c (sym e ∙ x)
-late status n e a b c d (inr (inr (inr x))) = d (sym e ∙ x)
 
 -- what the status is where all is in order
 abbrev Completes : {D C I : Type 0} → Handed D C I → ℕ → Type 0
 Completes h status =
     (status ≡ 0) ⊎ (status ≡ 7) ⊎ ((status ≡ 5) × AddsSteps h.words) ⊎ ((status ≡ 4) × Serves h.words)
 
--- what a stop's status tells
-record StopTells {D C I : Type 0} (h : Handed D C I) (opening : Opening) (status : ℕ) : Type 0 where
-  usage_only : status ≡ 1 → h.words ≡ None
-  usage_there : h.words ≡ None → (status ≡ 1) ⊎ (status ≡ 7)
-  unbuilt_only : status ≡ 11 → IsUnbuilt h.words
-  unbuilt_there : IsUnbuilt h.words → (status ≡ 11) ⊎ (status ≡ 7)
-  disk_only : status ≡ 4 → OpensDisk h.words × (DiskFailed h ⊎ Serves h.words)
-  source_only : status ≡ 8 → SourceFailed h
-  sink_never : status ≡ 9 → ⊥
-  early : IsEarly status → opening ≡ uncalled
-
-no_words : {D C I : Type 0} (h : Handed D C I) (words : Words) → h.words ≡ Some words → h.words ≡ None → ⊥
-no_words h words some none = cc
-
-source_known : {D C I : Type 0} (h : Handed D C I) → SourceFailed h → h.words ≡ None → ⊥
-source_known h (inl s) none = subst ReadsTables none s.0
-source_known h (inr s) none = subst ReadsApdu none s.0
-
--- a command that is not built reads nothing and opens nothing
-tables_built : (words : Option Words) → ReadsTables words → IsUnbuilt words → ⊥
-tables_built None reads unbuilt = unbuilt
-tables_built (Some Say.Submit) reads unbuilt = unbuilt
-tables_built (Some (Say.Serve sessions stations)) reads unbuilt = unbuilt
-tables_built (Some Say.Queue) reads unbuilt = unbuilt
-tables_built (Some (Say.Mailbox name)) reads unbuilt = unbuilt
-tables_built (Some Say.Decode) reads unbuilt = unbuilt
-tables_built (Some (Say.Drill messages)) reads unbuilt = reads
-
-apdu_built : (words : Option Words) → ReadsApdu words → IsUnbuilt words → ⊥
-apdu_built None reads unbuilt = unbuilt
-apdu_built (Some Say.Submit) reads unbuilt = unbuilt
-apdu_built (Some (Say.Serve sessions stations)) reads unbuilt = reads
-apdu_built (Some Say.Queue) reads unbuilt = unbuilt
-apdu_built (Some (Say.Mailbox name)) reads unbuilt = unbuilt
-apdu_built (Some Say.Decode) reads unbuilt = unbuilt
-apdu_built (Some (Say.Drill messages)) reads unbuilt = reads
-
-disk_built : (words : Option Words) → OpensDisk words → IsUnbuilt words → ⊥
-disk_built None opens unbuilt = unbuilt
-disk_built (Some Say.Submit) opens unbuilt = unbuilt
-disk_built (Some (Say.Serve sessions stations)) opens unbuilt = unbuilt
-disk_built (Some Say.Queue) opens unbuilt = unbuilt
-disk_built (Some (Say.Mailbox name)) opens unbuilt = unbuilt
-disk_built (Some Say.Decode) opens unbuilt = unbuilt
-disk_built (Some (Say.Drill messages)) opens unbuilt = opens
-
-adds_opens : (words : Option Words) → AddsSteps words → OpensDisk words
-adds_opens None adds = adds
-adds_opens (Some Say.Submit) adds = adds
-adds_opens (Some (Say.Serve sessions stations)) adds = adds
-adds_opens (Some Say.Queue) adds = tt
-adds_opens (Some (Say.Mailbox name)) adds = tt
-adds_opens (Some Say.Decode) adds = adds
-adds_opens (Some (Say.Drill messages)) adds = adds
-
-pub serves_adds : (words : Option Words) → Serves words → AddsSteps words
-serves_adds None serves = serves
-serves_adds (Some Say.Submit) serves = tt
-serves_adds (Some (Say.Serve sessions stations)) serves = serves
-serves_adds (Some Say.Queue) serves = serves
-serves_adds (Some (Say.Mailbox name)) serves = serves
-serves_adds (Some Say.Decode) serves = serves
-serves_adds (Some (Say.Drill messages)) serves = serves
-
-pub serves_opens : (words : Option Words) → Serves words → OpensDisk words
-serves_opens words serves = adds_opens words (serves_adds words serves)
-
-adds_built : (words : Option Words) → AddsSteps words → IsUnbuilt words → ⊥
-adds_built words adds unbuilt = disk_built words (adds_opens words adds) unbuilt
-
-serves_built : (words : Option Words) → Serves words → IsUnbuilt words → ⊥
-serves_built words serves unbuilt = disk_built words (serves_opens words serves) unbuilt
-
-source_built : {D C I : Type 0} (h : Handed D C I) → SourceFailed h → IsUnbuilt h.words → ⊥
-source_built h (inl s) unbuilt = tables_built h.words s.0 unbuilt
-source_built h (inr s) unbuilt = apdu_built h.words s.0 unbuilt
-
-pub serves_reads : (words : Option Words) → Serves words → ReadsTables words
-serves_reads None serves = serves
-serves_reads (Some Say.Submit) serves = tt
-serves_reads (Some (Say.Serve sessions stations)) serves = serves
-serves_reads (Some Say.Queue) serves = serves
-serves_reads (Some (Say.Mailbox name)) serves = serves
-serves_reads (Some Say.Decode) serves = serves
-serves_reads (Some (Say.Drill messages)) serves = serves
+-- ---- what is in order has no fault
 
 all_tail : {X : Type 0} (P : X → Type 0) (x : X) (xs : List X) → All P (x ∷ xs) → All P xs
 all_tail P x xs h k d l = h (suc k) d (omega arith)
@@ -162,297 +64,62 @@ no_bad c t n kind good wrong = cc
 no_fault : (r : Result ApduValue Fault) (v : ApduValue) (f : Fault) → r ≡ Ok v → r ≡ Err f → ⊥
 no_fault r v f good wrong = cc
 
+-- ---- what a status tells
+
+-- 0 and 9 are none of the early ones
+not_first : (status : ℕ) → status ≡ 0 → IsEarly status → ⊥
+not_first status e (inl x) = omega (arith, e, x)
+not_first status e (inr (inl x)) = omega (arith, e, x)
+not_first status e (inr (inr (inl x))) = omega (arith, e, x)
+not_first status e (inr (inr (inr x))) = omega (arith, e, x)
+
+not_last : (status : ℕ) → status ≡ 9 → IsEarly status → ⊥
+not_last status e (inl x) = omega (arith, e, x)
+not_last status e (inr (inl x)) = omega (arith, e, x)
+not_last status e (inr (inr (inl x))) = omega (arith, e, x)
+not_last status e (inr (inr (inr x))) = omega (arith, e, x)
+
 module _ {D C I : Type 0} (h : Handed D C I) (ends : List WorkerEnd) (added : List Step) where
-  -- the end of a worker decides
-  worker_tells : (halt : Halt) (status : ℕ) → Serves h.words → status ≡ status_of (stop_of_halt halt)
-      → StopTells h opened status
-  worker_tells Halts.Disk status serves e = record {
-    usage_only = λ x. absurd (omega (arith, x, e));
-    usage_there = λ x. absurd (subst Serves x serves);
-    unbuilt_only = λ x. absurd (omega (arith, x, e));
-    unbuilt_there = λ x. absurd (serves_built h.words serves x);
-    disk_only = λ x. (serves_opens h.words serves, inr serves);
-    source_only = λ x. absurd (omega (arith, x, e));
-    sink_never = λ x. omega (arith, x, e);
-    early = λ x. absurd (late status 4 e (λ w. omega (arith, w)) (λ w. omega (arith, w)) (λ w. omega (arith, w))
-        (λ w. omega (arith, w)) x);
-  }
-  worker_tells (Halts.Full size need) status serves e = record {
-    usage_only = λ x. absurd (omega (arith, x, e));
-    usage_there = λ x. absurd (subst Serves x serves);
-    unbuilt_only = λ x. absurd (omega (arith, x, e));
-    unbuilt_there = λ x. absurd (serves_built h.words serves x);
-    disk_only = λ x. absurd (omega (arith, x, e));
-    source_only = λ x. absurd (omega (arith, x, e));
-    sink_never = λ x. omega (arith, x, e);
-    early = λ x. absurd (late status 5 e (λ w. omega (arith, w)) (λ w. omega (arith, w)) (λ w. omega (arith, w))
-        (λ w. omega (arith, w)) x);
-  }
-  worker_tells (Halts.Spent last) status serves e = record {
-    usage_only = λ x. absurd (omega (arith, x, e));
-    usage_there = λ x. absurd (subst Serves x serves);
-    unbuilt_only = λ x. absurd (omega (arith, x, e));
-    unbuilt_there = λ x. absurd (serves_built h.words serves x);
-    disk_only = λ x. absurd (omega (arith, x, e));
-    source_only = λ x. absurd (omega (arith, x, e));
-    sink_never = λ x. omega (arith, x, e);
-    early = λ x. absurd (late status 5 e (λ w. omega (arith, w)) (λ w. omega (arith, w)) (λ w. omega (arith, w))
-        (λ w. omega (arith, w)) x);
-  }
-  worker_tells Halts.Memory status serves e = record {
-    usage_only = λ x. absurd (omega (arith, x, e));
-    usage_there = λ x. absurd (subst Serves x serves);
-    unbuilt_only = λ x. absurd (omega (arith, x, e));
-    unbuilt_there = λ x. absurd (serves_built h.words serves x);
-    disk_only = λ x. absurd (omega (arith, x, e));
-    source_only = λ x. absurd (omega (arith, x, e));
-    sink_never = λ x. omega (arith, x, e);
-    early = λ x. absurd (late status 7 e (λ w. omega (arith, w)) (λ w. omega (arith, w)) (λ w. omega (arith, w))
-        (λ w. omega (arith, w)) x);
-  }
-  worker_tells Halts.Limit status serves e = record {
-    usage_only = λ x. absurd (omega (arith, x, e));
-    usage_there = λ x. absurd (subst Serves x serves);
-    unbuilt_only = λ x. absurd (omega (arith, x, e));
-    unbuilt_there = λ x. absurd (serves_built h.words serves x);
-    disk_only = λ x. absurd (omega (arith, x, e));
-    source_only = λ x. absurd (omega (arith, x, e));
-    sink_never = λ x. omega (arith, x, e);
-    early = λ x. absurd (late status 7 e (λ w. omega (arith, w)) (λ w. omega (arith, w)) (λ w. omega (arith, w))
-        (λ w. omega (arith, w)) x);
-  }
-  worker_tells Halts.StationEnded status serves e = record {
-    usage_only = λ x. absurd (omega (arith, x, e));
-    usage_there = λ x. absurd (subst Serves x serves);
-    unbuilt_only = λ x. absurd (omega (arith, x, e));
-    unbuilt_there = λ x. absurd (serves_built h.words serves x);
-    disk_only = λ x. absurd (omega (arith, x, e));
-    source_only = λ x. absurd (omega (arith, x, e));
-    sink_never = λ x. omega (arith, x, e);
-    early = λ x. absurd (late status 7 e (λ w. omega (arith, w)) (λ w. omega (arith, w)) (λ w. omega (arith, w))
-        (λ w. omega (arith, w)) x);
-  }
-  worker_tells Halts.StationFailed status serves e = record {
-    usage_only = λ x. absurd (omega (arith, x, e));
-    usage_there = λ x. absurd (subst Serves x serves);
-    unbuilt_only = λ x. absurd (omega (arith, x, e));
-    unbuilt_there = λ x. absurd (serves_built h.words serves x);
-    disk_only = λ x. absurd (omega (arith, x, e));
-    source_only = λ x. absurd (omega (arith, x, e));
-    sink_never = λ x. omega (arith, x, e);
-    early = λ x. absurd (late status 7 e (λ w. omega (arith, w)) (λ w. omega (arith, w)) (λ w. omega (arith, w))
-        (λ w. omega (arith, w)) x);
-  }
-  worker_tells Halts.NoPeer status serves e = record {
-    usage_only = λ x. absurd (omega (arith, x, e));
-    usage_there = λ x. absurd (subst Serves x serves);
-    unbuilt_only = λ x. absurd (omega (arith, x, e));
-    unbuilt_there = λ x. absurd (serves_built h.words serves x);
-    disk_only = λ x. absurd (omega (arith, x, e));
-    source_only = λ x. absurd (omega (arith, x, e));
-    sink_never = λ x. omega (arith, x, e);
-    early = λ x. absurd (late status 7 e (λ w. omega (arith, w)) (λ w. omega (arith, w)) (λ w. omega (arith, w))
-        (λ w. omega (arith, w)) x);
-  }
-
-  stop_tells : (opening : Opening) (stop : Stop) (status : ℕ) → Cause h ends added opening stop
-      → status ≡ status_of stop → StopTells h opening status
-  stop_tells _ _ status (usage none) e = record {
-    usage_only = λ x. none;
-    usage_there = λ x. inl e;
-    unbuilt_only = λ x. absurd (omega (arith, x, e));
-    unbuilt_there = λ x. absurd (subst IsUnbuilt none x);
-    disk_only = λ x. absurd (omega (arith, x, e));
-    source_only = λ x. absurd (omega (arith, x, e));
-    sink_never = λ x. omega (arith, x, e);
-    early = λ x. refl;
-  }
-  stop_tells _ _ status (not_built unbuilt) e = record {
-    usage_only = λ x. absurd (omega (arith, x, e));
-    usage_there = λ x. absurd (subst IsUnbuilt x unbuilt);
-    unbuilt_only = λ x. unbuilt;
-    unbuilt_there = λ x. inl e;
-    disk_only = λ x. absurd (omega (arith, x, e));
-    source_only = λ x. absurd (omega (arith, x, e));
-    sink_never = λ x. omega (arith, x, e);
-    early = λ x. refl;
-  }
-  stop_tells _ _ status (memory opening) e = record {
-    usage_only = λ x. absurd (omega (arith, x, e));
-    usage_there = λ x. inr e;
-    unbuilt_only = λ x. absurd (omega (arith, x, e));
-    unbuilt_there = λ x. inr e;
-    disk_only = λ x. absurd (omega (arith, x, e));
-    source_only = λ x. absurd (omega (arith, x, e));
-    sink_never = λ x. omega (arith, x, e);
-    early = λ x. absurd (late status 7 e (λ w. omega (arith, w)) (λ w. omega (arith, w)) (λ w. omega (arith, w))
-        (λ w. omega (arith, w)) x);
-  }
-  stop_tells _ _ status (source s) e = record {
-    usage_only = λ x. absurd (omega (arith, x, e));
-    usage_there = λ x. absurd (source_known h s x);
-    unbuilt_only = λ x. absurd (omega (arith, x, e));
-    unbuilt_there = λ x. absurd (source_built h s x);
-    disk_only = λ x. absurd (omega (arith, x, e));
-    source_only = λ x. s;
-    sink_never = λ x. omega (arith, x, e);
-    early = λ x. refl;
-  }
-  stop_tells _ _ status (tables n kind r first same) e = record {
-    usage_only = λ x. absurd (omega (arith, x, e));
-    usage_there = λ x. absurd (subst ReadsTables x r);
-    unbuilt_only = λ x. absurd (omega (arith, x, e));
-    unbuilt_there = λ x. absurd (tables_built h.words r x);
-    disk_only = λ x. absurd (omega (arith, x, e));
-    source_only = λ x. absurd (omega (arith, x, e));
-    sink_never = λ x. omega (arith, x, e);
-    early = λ x. refl;
-  }
-  stop_tells _ _ status (apdu at kind r read first) e = record {
-    usage_only = λ x. absurd (omega (arith, x, e));
-    usage_there = λ x. absurd (subst ReadsApdu x r);
-    unbuilt_only = λ x. absurd (omega (arith, x, e));
-    unbuilt_there = λ x. absurd (apdu_built h.words r x);
-    disk_only = λ x. absurd (omega (arith, x, e));
-    source_only = λ x. absurd (omega (arith, x, e));
-    sink_never = λ x. omega (arith, x, e);
-    early = λ x. refl;
-  }
-  stop_tells _ _ status (not_spool at o inputs none) e = record {
-    usage_only = λ x. absurd (omega (arith, x, e));
-    usage_there = λ x. absurd (subst OpensDisk x o);
-    unbuilt_only = λ x. absurd (omega (arith, x, e));
-    unbuilt_there = λ x. absurd (disk_built h.words o x);
-    disk_only = λ x. absurd (omega (arith, x, e));
-    source_only = λ x. absurd (omega (arith, x, e));
-    sink_never = λ x. omega (arith, x, e);
-    early = λ x. absurd (late status 3 e (λ w. omega (arith, w)) (λ w. omega (arith, w)) (λ w. omega (arith, w))
-        (λ w. omega (arith, w)) x);
-  }
-  stop_tells _ _ status (not_opened o inputs failed) e = record {
-    usage_only = λ x. absurd (omega (arith, x, e));
-    usage_there = λ x. absurd (subst OpensDisk x o);
-    unbuilt_only = λ x. absurd (omega (arith, x, e));
-    unbuilt_there = λ x. absurd (disk_built h.words o x);
-    disk_only = λ x. (o, inl failed);
-    source_only = λ x. absurd (omega (arith, x, e));
-    sink_never = λ x. omega (arith, x, e);
-    early = λ x. absurd (late status 4 e (λ w. omega (arith, w)) (λ w. omega (arith, w)) (λ w. omega (arith, w))
-        (λ w. omega (arith, w)) x);
-  }
-  stop_tells _ _ status (disk adds inputs failed) e = record {
-    usage_only = λ x. absurd (omega (arith, x, e));
-    usage_there = λ x. absurd (subst AddsSteps x adds);
-    unbuilt_only = λ x. absurd (omega (arith, x, e));
-    unbuilt_there = λ x. absurd (adds_built h.words adds x);
-    disk_only = λ x. (adds_opens h.words adds, inl failed);
-    source_only = λ x. absurd (omega (arith, x, e));
-    sink_never = λ x. omega (arith, x, e);
-    early = λ x. absurd (late status 4 e (λ w. omega (arith, w)) (λ w. omega (arith, w)) (λ w. omega (arith, w))
-        (λ w. omega (arith, w)) x);
-  }
-  stop_tells _ _ status (full size need submit inputs why) e = record {
-    usage_only = λ x. absurd (omega (arith, x, e));
-    usage_there = λ x. absurd (no_words h Say.Submit submit x);
-    unbuilt_only = λ x. absurd (omega (arith, x, e));
-    unbuilt_there = λ x. absurd (subst IsUnbuilt submit x);
-    disk_only = λ x. absurd (omega (arith, x, e));
-    source_only = λ x. absurd (omega (arith, x, e));
-    sink_never = λ x. omega (arith, x, e);
-    early = λ x. absurd (late status 5 e (λ w. omega (arith, w)) (λ w. omega (arith, w)) (λ w. omega (arith, w))
-        (λ w. omega (arith, w)) x);
-  }
-  stop_tells _ _ status (spent last submit inputs why) e = record {
-    usage_only = λ x. absurd (omega (arith, x, e));
-    usage_there = λ x. absurd (no_words h Say.Submit submit x);
-    unbuilt_only = λ x. absurd (omega (arith, x, e));
-    unbuilt_there = λ x. absurd (subst IsUnbuilt submit x);
-    disk_only = λ x. absurd (omega (arith, x, e));
-    source_only = λ x. absurd (omega (arith, x, e));
-    sink_never = λ x. omega (arith, x, e);
-    early = λ x. absurd (late status 5 e (λ w. omega (arith, w)) (λ w. omega (arith, w)) (λ w. omega (arith, w))
-        (λ w. omega (arith, w)) x);
-  }
-  stop_tells _ _ status (no_mailbox name word none) e = record {
-    usage_only = λ x. absurd (omega (arith, x, e));
-    usage_there = λ x. absurd (no_words h (Say.Mailbox name) word x);
-    unbuilt_only = λ x. absurd (omega (arith, x, e));
-    unbuilt_there = λ x. absurd (subst IsUnbuilt word x);
-    disk_only = λ x. absurd (omega (arith, x, e));
-    source_only = λ x. absurd (omega (arith, x, e));
-    sink_never = λ x. omega (arith, x, e);
-    early = λ x. absurd (late status 10 e (λ w. omega (arith, w)) (λ w. omega (arith, w)) (λ w. omega (arith, w))
-        (λ w. omega (arith, w)) x);
-  }
-  stop_tells _ _ status (no_peer name serves why) e = record {
-    usage_only = λ x. absurd (omega (arith, x, e));
-    usage_there = λ x. absurd (subst Serves x serves);
-    unbuilt_only = λ x. absurd (omega (arith, x, e));
-    unbuilt_there = λ x. absurd (serves_built h.words serves x);
-    disk_only = λ x. absurd (omega (arith, x, e));
-    source_only = λ x. absurd (omega (arith, x, e));
-    sink_never = λ x. omega (arith, x, e);
-    early = λ x. absurd (late status 10 e (λ w. omega (arith, w)) (λ w. omega (arith, w)) (λ w. omega (arith, w))
-        (λ w. omega (arith, w)) x);
-  }
-  stop_tells _ _ status (full_serving size need serves inputs why) e = record {
-    usage_only = λ x. absurd (omega (arith, x, e));
-    usage_there = λ x. absurd (subst Serves x serves);
-    unbuilt_only = λ x. absurd (omega (arith, x, e));
-    unbuilt_there = λ x. absurd (serves_built h.words serves x);
-    disk_only = λ x. absurd (omega (arith, x, e));
-    source_only = λ x. absurd (omega (arith, x, e));
-    sink_never = λ x. omega (arith, x, e);
-    early = λ x. absurd (late status 5 e (λ w. omega (arith, w)) (λ w. omega (arith, w)) (λ w. omega (arith, w))
-        (λ w. omega (arith, w)) x);
-  }
-  stop_tells _ _ status (spent_serving last serves inputs why) e = record {
-    usage_only = λ x. absurd (omega (arith, x, e));
-    usage_there = λ x. absurd (subst Serves x serves);
-    unbuilt_only = λ x. absurd (omega (arith, x, e));
-    unbuilt_there = λ x. absurd (serves_built h.words serves x);
-    disk_only = λ x. absurd (omega (arith, x, e));
-    source_only = λ x. absurd (omega (arith, x, e));
-    sink_never = λ x. omega (arith, x, e);
-    early = λ x. absurd (late status 5 e (λ w. omega (arith, w)) (λ w. omega (arith, w)) (λ w. omega (arith, w))
-        (λ w. omega (arith, w)) x);
-  }
-  stop_tells _ _ status (of_worker halt serves inputs decides) e = worker_tells halt status serves e
-
-  -- a text is printed by a command alone
-  text_known : (opening : Opening) (text : List ℕ) → IsText h ends added opening text → h.words ≡ None → ⊥
-  text_known _ _ (of_submit n text word inputs small is acc) none = no_words h Say.Submit word none
-  text_known _ _ (of_queue text word is) none = no_words h Say.Queue word none
-  text_known _ _ (of_mailbox name text word named is) none = no_words h (Say.Mailbox name) word none
-  text_known _ _ (of_serve text serves inputs named is) none = subst Serves none serves
-  text_known _ _ (of_decode text word is) none = no_words h Say.Decode word none
-
-  text_built : (opening : Opening) (text : List ℕ) → IsText h ends added opening text → IsUnbuilt h.words → ⊥
-  text_built _ _ (of_submit n text word inputs small is acc) unbuilt = subst IsUnbuilt word unbuilt
-  text_built _ _ (of_queue text word is) unbuilt = subst IsUnbuilt word unbuilt
-  text_built _ _ (of_mailbox name text word named is) unbuilt = subst IsUnbuilt word unbuilt
-  text_built _ _ (of_serve text serves inputs named is) unbuilt = serves_built h.words serves unbuilt
-  text_built _ _ (of_decode text word is) unbuilt = subst IsUnbuilt word unbuilt
+  -- a stop was told, with its status
+  told_tells : (opening : Opening) (stop : Stop) (status : ℕ) → Cause h ends added opening stop
+      → status ≡ status_of stop → StatusTells h opening status
+  told_tells opening stop status why e =
+      subst (StatusTells h opening) (sym e) (stop_tells h ends added opening stop why)
 
   ended_early : (opening : Opening) (out : Output) (status : ℕ) → IsEnded (Cause h ends added opening)
       (IsText h ends added opening) out status → IsEarly status → opening ≡ uncalled
-  ended_early opening out status (done e t x p) early = absurd
-      (late status 0 e (λ w. omega (arith, w)) (λ w. omega (arith, w)) (λ w. omega (arith, w))
-      (λ w. omega (arith, w)) early)
-  ended_early opening out status (told stop why e t f p) early = (stop_tells opening stop status why e).early early
-  ended_early opening out status (cut_text e t x p) early = absurd
-      (late status 9 e (λ w. omega (arith, w)) (λ w. omega (arith, w)) (λ w. omega (arith, w))
-      (λ w. omega (arith, w)) early)
-  ended_early opening out status (cut_line e stop why t f p) early = absurd
-      (late status 9 e (λ w. omega (arith, w)) (λ w. omega (arith, w)) (λ w. omega (arith, w))
-      (λ w. omega (arith, w)) early)
+  ended_early opening out status (done e t x p) is = absurd (not_first status e is)
+  ended_early opening out status (told stop why e t f p) is =
+      early h opening status (told_tells opening stop status why e) is
+  ended_early opening out status (cut_text e t x p) is = absurd (not_last status e is)
+  ended_early opening out status (cut_line e stop why t f p) is = absurd (not_last status e is)
 
   untouched_unless : (opening : Opening) (out : Output) (status : ℕ)
       → ((OpensDisk h.words → ⊥) → opening ≡ uncalled)
       → IsEnded (Cause h ends added opening) (IsText h ends added opening) out status → EndsBeforeOpening h status
       → opening ≡ uncalled
   untouched_unless opening out status unless is (inl none) = unless none
-  untouched_unless opening out status unless is (inr early) = ended_early opening out status is early
+  untouched_unless opening out status unless is (inr first) = ended_early opening out status is first
+
+  where_known : (out : Output) (status n : ℕ) → (status ≡ n) ⊎ (status ≡ 7)
+      → (status ≡ n) ⊎ (status ≡ 7) ⊎ ((status ≡ 9) × OutputFailed out)
+  where_known out status n (inl e) = inl e
+  where_known out status n (inr e) = inr (inl e)
+
+  -- the output failed
+  cut_tells : (opening : Opening) (out : Output) (status : ℕ) → ((OpensDisk h.words → ⊥) → opening ≡ uncalled)
+      → (opening ≡ uncalled → h.disk.after ≡ h.disk.before) → status ≡ 9 → OutputFailed out
+      → IsEnded (Cause h ends added opening) (IsText h ends added opening) out status → Tells h out status
+  cut_tells opening out status unless same e failed ended = record {
+    usage = λ w. absurd (omega (arith, w, e));
+    usage_where = λ none. inr (inr (e, failed));
+    unbuilt = λ w. absurd (omega (arith, w, e));
+    unbuilt_where = λ unbuilt. inr (inr (e, failed));
+    disk = λ w. absurd (omega (arith, w, e));
+    source = λ w. absurd (omega (arith, w, e));
+    sink = λ w. failed;
+    untouched = λ is. same (untouched_unless opening out status unless ended is);
+  }
 
   -- the fields of what a status tells, but for what became of the disk
   pub ended_tells : (opening : Opening) (out : Output) (status : ℕ)
@@ -461,51 +128,30 @@ module _ {D C I : Type 0} (h : Handed D C I) (ends : List WorkerEnd) (added : Li
       → IsEnded (Cause h ends added opening) (IsText h ends added opening) out status → Tells h out status
   ended_tells opening out status unless same (done e t x p) = record {
     usage = λ w. absurd (omega (arith, w, e));
-    usage_where = λ none. absurd (text_known opening t x none);
+    usage_where = λ none. absurd ((text_known h ends added opening t x).said none);
     unbuilt = λ w. absurd (omega (arith, w, e));
-    unbuilt_where = λ unbuilt. absurd (text_built opening t x unbuilt);
+    unbuilt_where = λ unbuilt. absurd ((text_known h ends added opening t x).built unbuilt);
     disk = λ w. absurd (omega (arith, w, e));
     source = λ w. absurd (omega (arith, w, e));
     sink = λ w. absurd (omega (arith, w, e));
-    untouched = λ early. same (untouched_unless opening out status unless (done e t x p) early);
+    untouched = λ is. same (untouched_unless opening out status unless (done e t x p) is);
   }
   ended_tells opening out status unless same (told stop why e t f p) =
-      let s = stop_tells opening stop status why e in
+      let row = told_tells opening stop status why e in
       record {
-        usage = s.usage_only;
-        usage_where = λ none. where_known 1 (s.usage_there none);
-        unbuilt = s.unbuilt_only;
-        unbuilt_where = λ unbuilt. where_known 11 (s.unbuilt_there unbuilt);
-        disk = s.disk_only;
-        source = s.source_only;
-        sink = λ w. absurd (s.sink_never w);
-        untouched = λ early. same (untouched_unless opening out status unless (told stop why e t f p) early);
+        usage = usage_only h opening status row;
+        usage_where = λ none. where_known out status 1 (usage_there h opening status row none);
+        unbuilt = unbuilt_only h opening status row;
+        unbuilt_where = λ unbuilt. where_known out status 11 (unbuilt_there h opening status row unbuilt);
+        disk = disk_only h opening status row;
+        source = source_only h opening status row;
+        sink = λ w. absurd (sink_never h opening status row w);
+        untouched = λ is. same (untouched_unless opening out status unless (told stop why e t f p) is);
       }
-    where
-      where_known : (n : ℕ) → (status ≡ n) ⊎ (status ≡ 7) → (status ≡ n) ⊎ (status ≡ 7) ⊎
-          ((status ≡ 9) × OutputFailed out)
-      where_known n (inl w) = inl w
-      where_known n (inr w) = inr (inl w)
-  ended_tells opening out status unless same (cut_text e t x p) = record {
-    usage = λ w. absurd (omega (arith, w, e));
-    usage_where = λ none. inr (inr (e, p.0));
-    unbuilt = λ w. absurd (omega (arith, w, e));
-    unbuilt_where = λ unbuilt. inr (inr (e, p.0));
-    disk = λ w. absurd (omega (arith, w, e));
-    source = λ w. absurd (omega (arith, w, e));
-    sink = λ w. p.0;
-    untouched = λ early. same (untouched_unless opening out status unless (cut_text e t x p) early);
-  }
-  ended_tells opening out status unless same (cut_line e stop why t f p) = record {
-    usage = λ w. absurd (omega (arith, w, e));
-    usage_where = λ none. inr (inr (e, p.0));
-    unbuilt = λ w. absurd (omega (arith, w, e));
-    unbuilt_where = λ unbuilt. inr (inr (e, p.0));
-    disk = λ w. absurd (omega (arith, w, e));
-    source = λ w. absurd (omega (arith, w, e));
-    sink = λ w. p.0;
-    untouched = λ early. same (untouched_unless opening out status unless (cut_line e stop why t f p) early);
-  }
+  ended_tells opening out status unless same (cut_text e t x p) = cut_tells opening out status unless same e p.0
+      (cut_text e t x p)
+  ended_tells opening out status unless same (cut_line e stop why t f p) =
+      cut_tells opening out status unless same e p.0 (cut_line e stop why t f p)
 
   -- ---- where all is in order
 
@@ -514,7 +160,7 @@ module _ {D C I : Type 0} (h : Handed D C I) (ends : List WorkerEnd) (added : Li
   complete_worker Halts.Disk status serves e = inr (inr (inr (e, serves)))
   complete_worker (Halts.Full size need) status serves e = inr (inr (inl (e, serves_adds h.words serves)))
   complete_worker (Halts.Spent last) status serves e = inr (inr (inl (e, serves_adds h.words serves)))
-  complete_worker any0 status serves e = inr (inl e)
+  complete_worker any status serves e = inr (inl e)
 
   complete_stop : (opening : Opening) (stop : Stop) (status : ℕ) (out : Output) → Cause h ends added opening stop
       → AllInOrder h out → status ≡ status_of stop → Completes h status

@@ -13,17 +13,17 @@ use Rattle.mta_spool.specs.Turning.{IsRecorded}
 use Rattle.mta_stations.specs.declared.end.WorkerEnd.{WorkerEnd}
 use Rattle.mta_stations.specs.Deciding.{halts_of, IsUndecided}
 use Rattle.mta_words.specs.declared.words.Words.TheVariants as Say
-use Rattle.mta_run.specs.Words.{AddsSteps, ReadsTables, ReadsApdu, OpensDisk, IsUnbuilt, Serves}
-use Rattle.mta_run.specs.Handed.{Handed, ForTables, ForInput, ForOpened, SourceFailed, DiskFailed, InputsRead}
-use Rattle.mta_run.specs.Inputs.{IsReadAsTables}
-use Rattle.mta_run.specs.Lines.{accepted_line}
-use Rattle.mta_run.specs.Output.{Output, OutputFailed, IsEnded}
-use Rattle.mta_run.specs.DiskLeft.{Opening, uncalled, opened, DiskLeft}
-use Rattle.mta_run.specs.Submit.{AreOwn, AreInTurn, accepts, IsAccepted}
-use Rattle.mta_run.specs.Causes.{Cause, IsText, mailbox_named, PeersNamed}
-use Rattle.mta_run.specs.Command.{IsSettled, OnStations, SourcesLeft}
-use Rattle.mta_run.specs.Images.{IsSafeBefore}
-use Rattle.mta_run.specs.Provenance.{AreOfCall}
+use Rattle.mta_commands.specs.Words.{AddsSteps, ReadsTables, ReadsApdu, OpensDisk, IsUnbuilt, Serves}
+use Rattle.mta_commands.specs.Handed.{Handed, ForTables, ForInput, ForOpened, SourceFailed, DiskFailed, InputsRead}
+use Rattle.mta_commands.specs.Inputs.{IsReadAsTables}
+use Rattle.mta_commands.specs.Lines.{accepted_line}
+use Rattle.mta_commands.specs.Output.{Output, OutputFailed, IsEnded}
+use Rattle.mta_commands.specs.DiskLeft.{Opening, uncalled, opened, DiskLeft}
+use Rattle.mta_commands.specs.Submit.{AreOwn, AreInTurn, accepts, IsAccepted}
+use Rattle.mta_commands.specs.Causes.{Cause, IsText, mailbox_named, PeersNamed}
+use Rattle.mta_commands.specs.Command.{IsSettled, OnStations, SourcesLeft}
+use Rattle.mta_commands.specs.Images.{IsSafeBefore}
+use Rattle.mta_commands.specs.Provenance.{AreOfCall}
 
 -- What the steps are for the machine of recipients is a run of it, and each recipient for whom this agent is
 -- responsible is pending with no discharge, or is not pending and has one.

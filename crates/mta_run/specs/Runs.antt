@@ -4,10 +4,10 @@ use Rattle.mta_edge.specs.Views.{ClockView, DiskView, SourceView}
 use Rattle.mta_links.specs.Links.{LinkView, StationView}
 use Rattle.mta_words.specs.declared.words.Words.{Words}
 use Rattle.mta_words.specs.declared.words.Words.TheVariants as Say
-use Rattle.mta_run.specs.declared.stop.Stop.{Stop}
-use Rattle.mta_run.specs.Command.{HasEnded}
-use Rattle.mta_run.specs.Handed.{handed}
-use Rattle.mta_run.specs.Output.{Output}
+use Rattle.mta_commands.specs.declared.stop.Stop.{Stop}
+use Rattle.mta_commands.specs.Command.{HasEnded}
+use Rattle.mta_commands.specs.Handed.{handed}
+use Rattle.mta_commands.specs.Output.{Output}
 use Rattle.mta_run.specs.Ran.{Ran}
 use Rattle.mta_run.specs.Served.{StationsLeft}
 

@@ -20,17 +20,17 @@ use Rattle.mta_lane_list_laws.specs.Called.{CallOthers}
 use Rattle.mta_words.specs.declared.station.StationWord.{StationWord}
 use Rattle.mta_words.specs.declared.words.Words.TheVariants as Say
 use Rattle.mta_worker.specs.Wholes.{AreWorkers}
-use Rattle.mta_run.specs.declared.stop.Stop.{Stop}
-use Rattle.mta_run.specs.declared.stop.Stop.TheVariants as Stops
-use Rattle.mta_run.specs.DiskLeft.{Opening, opened}
-use Rattle.mta_run.specs.Command.{HasEnded}
-use Rattle.mta_run.specs.Handed.{DiskFailed, ForOpened, ForTables, Handed, handed}
-use Rattle.mta_run.specs.Inputs.{HasTables}
-use Rattle.mta_run.specs.Output.{Output}
+use Rattle.mta_commands.specs.declared.stop.Stop.{Stop}
+use Rattle.mta_commands.specs.declared.stop.Stop.TheVariants as Stops
+use Rattle.mta_commands.specs.DiskLeft.{Opening, opened}
+use Rattle.mta_commands.specs.Command.{HasEnded}
+use Rattle.mta_commands.specs.Handed.{DiskFailed, ForOpened, Handed, handed}
+use Rattle.mta_commands.specs.Inputs.{HasTables}
+use Rattle.mta_commands.specs.Output.{Output}
 use Rattle.mta_run.specs.Sessions.{SessionsServed}
-use Rattle.mta_run.specs.Serving.{HasBegun, HasFinished, RecordsFirst}
-use Rattle.mta_run.specs.Submit.{AreInTurn, AreOwn, stop_of_step}
-use Rattle.mta_run.specs.Words.{Serves}
+use Rattle.mta_commands.specs.Serving.{HasBegun, HasFinished}
+use Rattle.mta_commands.specs.Submit.{AreInTurn, AreOwn, stop_of_step}
+use Rattle.mta_commands.specs.Words.{Serves}
 
 -- the most units of a session
 abbrev pub most_units : ℕ
@@ -54,12 +54,6 @@ pub data HasTablesFor {I : Type 0} (sources : SourceView I) (old new : I) (roles
       → HasTablesFor sources old new roles (Ok tables)
 
 -- ---- the stations
-
--- the steps before the workers are of the tables of this call, and of what was due; their moments are the clock's
-abbrev pub AreOfRun : {D C I : Type 0} → Handed D C I → List Step → Type 0
-AreOfRun h steps =
-    ForTables h (λ c. RecordsFirst c steps
-    × ForOpened h (λ first. AreOwn (h.clocks.tells h.clock) c [] (after first) steps))
 
 -- the base that the workers share is of what the run was handed: the bodies that opening found, how often the disk had
 -- failed, and the moments that the clock lists, where it does

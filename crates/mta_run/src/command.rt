@@ -10,21 +10,19 @@
 
 ghost use Rattle.std.specs.Prelude.{◌≡◌, ◌≤◌, Err, Some, map, string_bytes, true};
 ghost use Rattle.mta_stations.specs.Stations.{roles_in};
-ghost use Rattle.mta_run.specs.Handed.{handed};
-ghost use Rattle.mta_run.specs.Output.{output};
+ghost use Rattle.mta_commands.specs.Handed.{handed};
+ghost use Rattle.mta_commands.specs.Output.{output};
 ghost use Rattle.mta_run.specs.Ran.{IsComplete, Tells};
 ghost use Rattle.mta_run.specs.Runs.{HasCommanded, HasRunWith};
-ghost use Rattle.mta_run.specs.Words.{are_stations_for, IsSaid, words_with};
+ghost use Rattle.mta_commands.specs.Words.{are_stations_for, IsSaid, words_with};
 ghost use Rattle.mta_words.specs.Words.{command_of};
 
-use crate::decode::decode;
-use crate::ended::Ended;
-use crate::lines::close;
-use crate::mailbox::mailbox;
-use crate::queue::queue;
 use crate::serve::{ServeEnd, outside_laws, serve};
-use crate::stop::Stop;
-use crate::submit::submit;
+use mta_commands::decode::decode;
+use mta_commands::mailbox::mailbox;
+use mta_commands::queue::queue;
+use mta_commands::submit::submit;
+use mta_commands::{Ended, Stop, close};
 use mta_edge::{Clock, Disk, Sink, Source};
 use mta_links::Station;
 use mta_stations::have_roles;

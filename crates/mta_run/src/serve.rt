@@ -11,26 +11,21 @@
 ghost use Rattle.std.specs.Prelude.{◌≡◌, ◌⊎◌, ◌≤◌, Err, List, false};
 ghost use Rattle.mta_edge.specs.Views.{ClockLaws, DiskLaws};
 ghost use Rattle.mta_records.specs.declared.step.Step.{Step};
-ghost use Rattle.mta_spool.specs.Bases.{base_of, Keeps, KeepsOn};
-ghost use Rattle.mta_spool.specs.Stands.{fault_of, IsOfNoLane, Stands, TellsFewer};
+ghost use Rattle.mta_spool.specs.Bases.{base_of, Keeps};
+ghost use Rattle.mta_spool.specs.Stands.{Stands};
 ghost use Rattle.mta_stations.specs.Stations.{roles_in};
-ghost use Rattle.mta_run.specs.declared.stop.Stop.TheVariants as Stops;
-ghost use Rattle.mta_run.specs.Output.{output};
+ghost use Rattle.mta_commands.specs.declared.stop.Stop.TheVariants as Stops;
+ghost use Rattle.mta_commands.specs.Output.{output};
 ghost use Rattle.mta_run.specs.Served.{HasServed, HasTablesFor, ServesSpool};
-ghost use Rattle.mta_run.specs.Serving.{HasBegun, HasFinished, HasToldStations, IsOutcome, SettlesBehind};
 
-use crate::ended::{Ended, refused};
-use crate::inputs::tables_of;
-use crate::print::print;
-use crate::stop::{Stop, stop_of_halt, stop_of_step};
-use crate::submit::settle;
 use mta_ber::Word;
+use mta_commands::{Ended, Stop, begin, finish, refused, stop_of_step, tables_of};
 use mta_edge::{Clock, Disk, Sink, Source};
 use mta_lane_list_laws::{called_lanes_agree, lanes_agree};
 use mta_links::Station;
 use mta_session::Limits;
-use mta_spool::{Spool, StepFault, Tables};
-use mta_stations::{WorkerEnd, deciding, station_lines, unnamed_peer};
+use mta_spool::{Spool, Tables};
+use mta_stations::unnamed_peer;
 use mta_worker::{Worked, work_side_by_side};
 use mta_worker_list_laws::{ends_agree, reading_tells};
 use std::alloc::Global;
@@ -48,82 +43,6 @@ const MOST_STATIONS: usize = 16;
 pub struct ServeEnd<D: Drop, S: Drop> {
     pub ended: Ended<D>,
     pub stations: Vec<S>,
-}
-
-// Records the tables, where they changed, and does what is due.
-fn begin<D: Disk + Drop, C: Clock + Drop>(
-    spool: &mut Spool<D, C>,
-    tables: &Tables,
-) -> Result<(), StepFault>
-    requires going { spool.old.journal.ended ≡ false }
-    requires stands { (steps : List Step) × Stands D.model spool.old steps }
-    ensures begun { HasBegun D.model (C.model.tells spool.old.clock) tables.now.text spool.old spool.new result }
-    ensures clock { TellsFewer C.model spool.old.clock spool.new.clock }
-    ensures opened { spool.new.opened ≡ spool.old.opened }
-    ensures keeps { KeepsOn D.model C.model spool.old spool.new }
-{
-    match spool.set_tables(tables) {
-        Ok(()) => settle(spool),
-        Err(fault) => Err(fault),
-    }
-}
-
-// Does what has come due behind the workers, where the disk has not failed.
-fn settle_behind<D: Disk + Drop, C: Clock + Drop>(spool: &mut Spool<D, C>) -> Result<(), StepFault>
-    requires stands { spool.old.journal.ended ≡ false → (steps : List Step) × Stands D.model spool.old steps }
-    ensures settled { SettlesBehind D.model (C.model.tells spool.old.clock) spool.old spool.new result }
-    ensures keeps { KeepsOn D.model C.model spool.old spool.new }
-{
-    if spool.is_ended() {
-        return Err(StepFault::Ended);
-    }
-    settle(spool)
-}
-
-// Prints a line a station.
-fn tell_stations<O: Sink>(alloc: Global, out: &mut O, ends: &[WorkerEnd]) -> Result<(), Stop>
-    ensures told { HasToldStations ends.now (output O.model out.old out.new) result }
-    ensures later { O.model.faults out.old ≤ O.model.faults out.new }
-{
-    let text = match station_lines(alloc, ends) {
-        Ok(text) => Ok(text),
-        Err(_) => Err(Stop::Memory),
-    };
-    print(out, text)
-}
-
-// Why a run ends whose last turns came to this, and whose workers came to these ends.
-fn outcome_of(settled: Result<(), StepFault>, ends: &[WorkerEnd]) -> Result<(), Stop>
-    requires no_lane { IsOfNoLane (fault_of settled) }
-    ensures { IsOutcome settled ends.now result }
-{
-    match settled {
-        Err(fault) => Err(stop_of_step(fault)),
-        Ok(()) => match deciding(ends) {
-            Some(halt) => Err(stop_of_halt(halt)),
-            None => Ok(()),
-        },
-    }
-}
-
-// What comes behind the workers: what is due, the lines, and why the run ends.
-fn finish<D: Disk + Drop, C: Clock + Drop, O: Sink>(
-    alloc: Global,
-    spool: &mut Spool<D, C>,
-    out: &mut O,
-    ends: &[WorkerEnd],
-) -> Result<(), Stop>
-    requires stands { spool.old.journal.ended ≡ false → (steps : List Step) × Stands D.model spool.old steps }
-    ensures finished { HasFinished D.model (C.model.tells spool.old.clock) ends.now (output O.model out.old out.new)
-        spool.old spool.new result }
-    ensures keeps { KeepsOn D.model C.model spool.old spool.new }
-    ensures later { O.model.faults out.old ≤ O.model.faults out.new }
-{
-    let settled = settle_behind(spool);
-    match tell_stations(alloc, out, ends) {
-        Ok(()) => outcome_of(settled, ends),
-        Err(stop) => Err(stop),
-    }
 }
 
 // A run that stops with its spool open.

@@ -1,11 +1,11 @@
 use Rattle.std.proofs.Common.{map, string_bytes, Global, Ok, refl, sym, ap, ◌∙◌}
 use Rattle.mta_stations.specs.Stations.{roles_in}
 use Rattle.mta_words.specs.Words.{command_of}
-use Rattle.mta_run.specs.declared.stop.Stop.TheVariants as Stops
-use Rattle.mta_run.specs.Causes.{memory, usage}
-use Rattle.mta_run.specs.DiskLeft.{uncalled}
-use Rattle.mta_run.specs.Output.{output}
-use Rattle.mta_run.specs.Words.{words_with}
+use Rattle.mta_commands.specs.declared.stop.Stop.TheVariants as Stops
+use Rattle.mta_commands.specs.Causes.{memory, usage}
+use Rattle.mta_commands.specs.DiskLeft.{uncalled}
+use Rattle.mta_commands.specs.Output.{output}
+use Rattle.mta_commands.specs.Words.{words_with}
 use Rattle.mta_run.proofs.Commanded.{early_ended, with_others_as}
 use Rattle.mta_run.proofs.OtherPeers.{said_by}
 use Rattle.mta_run.proofs.command.command.Goals as goal

@@ -1,11 +1,11 @@
 use Rattle.std.proofs.Common.{Err, refl, ap}
 use Rattle.mta_stations.specs.Stations.{roles_in}
 use Rattle.mta_words.specs.declared.words.Words.TheVariants as Say
-use Rattle.mta_run.specs.declared.stop.Stop.TheVariants as Stops
-use Rattle.mta_run.specs.Output.{output}
+use Rattle.mta_commands.specs.declared.stop.Stop.TheVariants as Stops
+use Rattle.mta_commands.specs.Output.{output}
 use Rattle.mta_run.proofs.Commanded.{commanded_alone, commanded_serving, drill_ended}
-use Rattle.mta_run.proofs.Decoded.{decode_ended}
-use Rattle.mta_run.proofs.ShownSpool.{shown_ended}
+use Rattle.mta_commands.proofs.Decoded.{decode_ended}
+use Rattle.mta_commands.proofs.ShownSpool.{shown_ended}
 use Rattle.mta_run.proofs.command.perform.Goals as goal
 
 pub returns-in-Submit-clause-ended : goal.returns-in-Submit-clause-ended

@@ -1,11 +1,11 @@
 use Rattle.std.proofs.Common.{map, string_bytes, Global}
 use Rattle.mta_stations.specs.Stations.{roles_in}
 use Rattle.mta_words.specs.Words.{command_of}
-use Rattle.mta_run.specs.Handed.{handed}
-use Rattle.mta_run.specs.Output.{output}
+use Rattle.mta_commands.specs.Handed.{handed}
+use Rattle.mta_commands.specs.Output.{output}
 use Rattle.mta_run.specs.Runs.{sessions_in}
 use Rattle.mta_run.specs.Served.{StationsLeft}
-use Rattle.mta_run.specs.Words.{words_with}
+use Rattle.mta_commands.specs.Words.{words_with}
 use Rattle.mta_run.proofs.RanFields.{ran}
 use Rattle.mta_run.proofs.Statuses.{ended_complete, ended_tells}
 use Rattle.mta_run.proofs.command.run.Goals as goal

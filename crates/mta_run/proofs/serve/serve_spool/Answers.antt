@@ -1,7 +1,7 @@
 use Rattle.std.proofs.Common.{Vec, Global, ap, refl}
-use Rattle.mta_run.specs.Output.{output}
+use Rattle.mta_commands.specs.Output.{output}
 use Rattle.mta_run.specs.Served.{No_workers}
-use Rattle.mta_run.proofs.Finishing.{begun_no_lane}
+use Rattle.mta_commands.proofs.Finishing.{begun_no_lane}
 use Rattle.mta_run.proofs.SpoolServed.{keeps_same, not_begun, served, unserved}
 use Rattle.mta_run.proofs.serve.serve_spool.Goals as goal
 use Rattle.mta_run.proofs.serve.serve_spool.Goals.{then-refused, else-refused}

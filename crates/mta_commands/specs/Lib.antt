@@ -1,0 +1,14 @@
+pub mod Words
+pub mod Handed
+pub mod Output
+pub mod Lines
+pub mod Inputs
+pub mod Images
+pub mod DiskLeft
+pub mod Submit
+pub mod Serving
+pub mod Provenance
+pub mod Causes
+pub mod Command
+pub mod Decode
+pub mod Shows

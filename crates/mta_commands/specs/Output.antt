@@ -1,0 +1,85 @@
+-- What is printed.
+use Rattle.std.specs.Prelude.{◌≡◌, ◌≢◌, ◌⊎◌, ℕ, List, [], ◌++◌, Option, Result, Ok, Err}
+use Rattle.mta_edge.specs.Views.{SinkView}
+use Rattle.mta_edge.specs.Causes.{Rose}
+use Rattle.mta_edge.specs.Outside.{Goes}
+use Rattle.mta_edge.specs.Streams.{TakesFront}
+use Rattle.mta_commands.specs.declared.stop.Stop.{Stop}
+use Rattle.mta_commands.specs.declared.stop.Stop.TheVariants as Stops
+use Rattle.mta_commands.specs.Lines.{line_of, status_of}
+
+-- the octets that an output took before and behind a call, where it tells them, and its counts of faults
+pub record Output : Type 0 where
+  pub before : Option (List ℕ)
+  pub after : Option (List ℕ)
+  pub faults_before : ℕ
+  pub faults_after : ℕ
+
+abbrev pub output : {O : Type 0} → SinkView O → O → O → Output
+output sinks before after = record {
+  before = sinks.taken before;
+  after = sinks.taken after;
+  faults_before = sinks.faults before;
+  faults_after = sinks.faults after;
+}
+
+abbrev pub OutputFailed : Output → Type 0
+OutputFailed out = Rose out.faults_before out.faults_after
+
+-- it took this text
+abbrev pub Prints : Output → List ℕ → Type 0
+Prints out text = Goes (λ a b. b ≡ a ++ text) out.before out.after
+
+-- it took a front of this text, and failed
+abbrev pub PrintsFront : Output → List ℕ → Type 0
+PrintsFront out text = OutputFailed out × Goes (TakesFront text) out.before out.after
+
+-- nothing, or what the command prints
+abbrev pub IsFront : (List ℕ → Type 0) → List ℕ → Type 0
+IsFront IsText text = (text ≡ []) ⊎ IsText text
+
+-- What a command printed before its last line: its text; or nothing or its text, and then it stopped, for a cause;
+-- or a front of its text, where the output failed.
+pub data HasPrinted (Cause : Stop → Type 0) (IsText : List ℕ → Type 0) (out : Output) : Result (Unit {0}) Stop
+    → Type 0 where
+  whole : (done : Unit {0}) (text : List ℕ) → IsText text → Prints out text
+      → HasPrinted Cause IsText out (Ok done)
+  stopped : (stop : Stop) → Cause stop → (text : List ℕ) → IsFront IsText text → Prints out text
+      → HasPrinted Cause IsText out (Err stop)
+  cut : (text : List ℕ) → IsText text → PrintsFront out text → HasPrinted Cause IsText out (Err Stops.Sink)
+
+-- What a run printed, and its status. With status 0 it is the text. Else it is the line of a stop that has its
+-- cause and that status, behind nothing or the text. With status 9, which takes over where the output failed, one
+-- of these is cut or missing.
+pub data IsEnded (Cause : Stop → Type 0) (IsText : List ℕ → Type 0) (out : Output) (status : ℕ) : Type 0 where
+  done : status ≡ 0 → (text : List ℕ) → IsText text → Prints out text → IsEnded Cause IsText out status
+  told : (stop : Stop) → Cause stop → status ≡ status_of stop → (text : List ℕ) → IsFront IsText text
+      → Prints out (text ++ line_of stop)
+      → IsEnded Cause IsText out status
+  cut_text : status ≡ 9 → (text : List ℕ) → IsText text → PrintsFront out text
+      → IsEnded Cause IsText out status
+  cut_line : status ≡ 9 → (stop : Stop) → Cause stop → (text : List ℕ) → IsFront IsText text
+      → PrintsFront out (text ++ line_of stop)
+      → IsEnded Cause IsText out status
+
+-- what telling a stop leaves: its line and status, or those of want of memory, or a front of one of these lines and 9
+pub data HasTold (stop : Stop) (out : Output) (status : ℕ) : Type 0 where
+  line : status ≡ status_of stop → Prints out (line_of stop) → HasTold stop out status
+  short : status ≡ 7 → Prints out (line_of Stops.Memory) → HasTold stop out status
+  failed : status ≡ 9 → PrintsFront out (line_of stop) → HasTold stop out status
+  short_failed : status ≡ 9 → PrintsFront out (line_of Stops.Memory) → HasTold stop out status
+
+-- what the end of a run adds to what its command printed: nothing with 0, nothing with 9 where the output failed
+-- already, or a stop is told
+abbrev pub HasClosed : Result (Unit {0}) Stop → Output → ℕ → Type 0
+HasClosed (Ok nothing) out status = (status ≡ 0) × (out.after ≡ out.before)
+HasClosed (Err stop) out status =
+    ((stop ≡ Stops.Sink) × (status ≡ 9) × (out.after ≡ out.before))
+    ⊎ ((stop ≢ Stops.Sink) × HasTold stop out status)
+
+-- a text was printed, or the output took a front of it; a stop was handed on
+abbrev pub HasShown : Result (List ℕ) Stop → Output → Result (Unit {0}) Stop → Type 0
+HasShown (Ok text) out (Ok nothing) = Prints out text
+HasShown (Ok text) out (Err stop) = (stop ≡ Stops.Sink) × PrintsFront out text
+HasShown (Err stop) out (Ok nothing) = ⊥
+HasShown (Err stop) out (Err other) = (other ≡ stop) × (out.after ≡ out.before)
