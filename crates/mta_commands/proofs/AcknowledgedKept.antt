@@ -137,7 +137,7 @@ module _ {D C I : Type 0} (h : Handed D C I) (ends : List WorkerEnd) (added : Li
       (words_apart Say.Queue (λ e. absurd cc) (sym word ∙ submit))
   text_accepted _ _ x y (of_mailbox name text word named is) begun = absurd
       (words_apart (Say.Mailbox name) (λ e. absurd cc) (sym word ∙ submit))
-  text_accepted _ _ x y (of_serve text serves inputs named is) begun = absurd (subst Serves submit serves)
+  text_accepted _ _ x y (of_serve text serves inputs named each is) begun = absurd (subst Serves submit serves)
   text_accepted _ _ x y (of_decode text word is) begun = absurd
       (words_apart Say.Decode (λ e. absurd cc) (sym word ∙ submit))
 

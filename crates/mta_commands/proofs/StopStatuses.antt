@@ -31,7 +31,7 @@ pub data StatusTells {D C I : Type 0} (h : Handed D C I) : Opening → ℕ → T
   one : h.words ≡ None → StatusTells h uncalled 1
   two : IsKnown h.words → StatusTells h uncalled 2
   three : (opening : Opening) → IsKnown h.words → StatusTells h opening 3
-  four : (opening : Opening) → OpensDisk h.words → DiskFailed h ⊎ Serves h.words → StatusTells h opening 4
+  four : (opening : Opening) → OpensDisk h.words → DiskFailed h → StatusTells h opening 4
   five : (opening : Opening) → IsKnown h.words → StatusTells h opening 5
   six : IsKnown h.words → StatusTells h uncalled 6
   seven : (opening : Opening) → StatusTells h opening 7
@@ -45,7 +45,6 @@ module _ {D C I : Type 0} (h : Handed D C I) where
 
   -- the end of a worker decides
   worker_tells : (halt : Halt) → Serves h.words → StatusTells h opened (status_of (stop_of_halt halt))
-  worker_tells Halts.Disk serves = four opened (serves_opens h.words serves) (inr serves)
   worker_tells (Halts.Full size need) serves = five opened (serves_known h.words serves)
   worker_tells (Halts.Spent last) serves = five opened (serves_known h.words serves)
   worker_tells any serves = seven opened
@@ -60,8 +59,8 @@ module _ {D C I : Type 0} (h : Handed D C I) where
   stop_tells ends added _ _ (tables line kind reads first same) = two (tables_known h.words reads)
   stop_tells ends added _ _ (apdu at kind reads read first) = six (apdu_known h.words reads)
   stop_tells ends added _ _ (not_spool at opens inputs none) = three refused (opens_known h.words opens)
-  stop_tells ends added _ _ (not_opened opens inputs failed) = four refused opens (inl failed)
-  stop_tells ends added _ _ (disk adds inputs failed) = four opened (adds_opens h.words adds) (inl failed)
+  stop_tells ends added _ _ (not_opened opens inputs failed) = four refused opens failed
+  stop_tells ends added _ _ (disk adds inputs failed) = four opened (adds_opens h.words adds) failed
   stop_tells ends added _ _ (full size need submit inputs why) = five opened (said_known Say.Submit submit (λ x. x))
   stop_tells ends added _ _ (spent last submit inputs why) = five opened (said_known Say.Submit submit (λ x. x))
   stop_tells ends added _ _ (no_mailbox name word none) = ten opened (said_known (Say.Mailbox name) word (λ x. x))
@@ -81,7 +80,7 @@ module _ {D C I : Type 0} (h : Handed D C I) where
   unbuilt_only _ _ any e = absurd (omega (arith, e))
 
   pub disk_only : (opening : Opening) (n : ℕ) → StatusTells h opening n → n ≡ 4
-      → OpensDisk h.words × (DiskFailed h ⊎ Serves h.words)
+      → OpensDisk h.words × DiskFailed h
   disk_only _ _ (four opening opens failed) e = (opens, failed)
   disk_only _ _ any e = absurd (omega (arith, e))
 
@@ -137,5 +136,5 @@ module _ {D C I : Type 0} (h : Handed D C I) where
   text_known ends added _ _ (of_submit n text word inputs small is acc) = said_known Say.Submit word (λ x. x)
   text_known ends added _ _ (of_queue text word is) = said_known Say.Queue word (λ x. x)
   text_known ends added _ _ (of_mailbox name text word named is) = said_known (Say.Mailbox name) word (λ x. x)
-  text_known ends added _ _ (of_serve text serves inputs named is) = serves_known h.words serves
+  text_known ends added _ _ (of_serve text serves inputs named each is) = serves_known h.words serves
   text_known ends added _ _ (of_decode text word is) = said_known Say.Decode word (λ x. x)

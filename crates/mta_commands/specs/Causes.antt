@@ -1,6 +1,6 @@
 -- What a command prints, and why a run stops without it.
 use Rattle.std.specs.Prelude.{◌≡◌, ◌≢◌, ◌^◌, ℕ, ◌<◌, List, ◌++◌, All, Option, None, Some, Ok}
-use Rattle.std.specs.Prelude.{option_and_then}
+use Rattle.std.specs.Prelude.{length, option_and_then}
 use Rattle.mta_ber.specs.declared.fault.Kind.{Kind}
 use Rattle.mta_records.specs.declared.step.Step.{Step}
 use Rattle.mta_tables.specs.declared.fault.LineKind.{LineKind}
@@ -54,7 +54,7 @@ abbrev pub PeersNamed : {D C I : Type 0} → Handed D C I → Type 0
 PeersNamed h = ForTables h (λ c. (t : TablesValue) × (tables_of c ≡ Ok t) × All (IsNamed t) (roles_named h.words))
 
 -- What a command prints where it does not stop: `submit` the number of the item, `serve` a line for the end of each
--- worker, `spool` the queue, `read` the mailbox, and `decode` the APDU. All but `decode` have opened the disk then.
+-- worker, of whom there is one a station, `spool` the queue, `read` the mailbox, and `decode` the APDU. All but `decode` have opened the disk then.
 pub data IsText {D C I : Type 0} (h : Handed D C I) (ends : List WorkerEnd) (added : List Step) : Opening → List ℕ
     → Type 0 where
   of_submit : (number : ℕ) (text : List ℕ) → h.words ≡ Some Say.Submit → InputsRead h → number < 2 ^ 32
@@ -63,8 +63,8 @@ pub data IsText {D C I : Type 0} (h : Handed D C I) (ends : List WorkerEnd) (add
   of_queue : (text : List ℕ) → h.words ≡ Some Say.Queue
       → ForOpened h (λ steps. text ≡ queue_of (after steps))
       → IsText h ends added opened text
-  of_serve : (text : List ℕ) → Serves h.words → InputsRead h → PeersNamed h → text ≡ station_lines ends
-      → IsText h ends added opened text
+  of_serve : (text : List ℕ) → Serves h.words → InputsRead h → PeersNamed h
+      → length ends ≡ length (roles_named h.words) → text ≡ station_lines ends → IsText h ends added opened text
   of_mailbox : (name text : List ℕ) → h.words ≡ Some (Say.Mailbox name)
       → ForOpened h (λ steps. mailbox_named (after steps) name ≢ None)
       → ForOpened h (λ steps. text ≡ mailbox_of name (after steps))

@@ -97,9 +97,10 @@ HasToldStations ends out (Ok done) = Prints out (station_lines ends)
 HasToldStations ends out (Err stop) = ((stop ≡ Stops.Memory) × (out.after ≡ out.before))
     ⊎ ((stop ≡ Stops.Sink) × PrintsFront out (station_lines ends))
 
--- the stop for the end of a worker that decides; the last four decide nothing
+-- The stop for the end of a worker that decides. Where it decides the last turns of the run went well, so the disk has
+-- not failed, and an end that says so has no cause: it is told as want of memory. The last four decide nothing.
 abbrev pub stop_of_halt : Halt → Stop
-stop_of_halt Halts.Disk = Stops.Disk
+stop_of_halt Halts.Disk = Stops.Memory
 stop_of_halt (Halts.Full size need) = Stops.Full size need
 stop_of_halt (Halts.Spent last) = Stops.Spent last
 stop_of_halt Halts.Memory = Stops.Memory

@@ -85,13 +85,14 @@ pub fn stop_of_step(fault: StepFault) -> Stop
     }
 }
 
-/// Why a run ends for which a worker's end decides.
+/// Why a run ends for which a worker's end decides. Its last turns went well then, so the disk has not failed, and an
+/// end that says so is told as want of memory.
 pub fn stop_of_halt(halt: Halt) -> Stop
     requires { status_of halt ≢ None }
     ensures { result ≡ stop_of_halt halt }
 {
     match halt {
-        Halt::Disk => Stop::Disk,
+        Halt::Disk => Stop::Memory,
         Halt::Full { size, need } => Stop::Full { size, need },
         Halt::Spent { last } => Stop::Spent { last },
         Halt::Memory => Stop::Memory,

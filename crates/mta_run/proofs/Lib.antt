@@ -6,3 +6,4 @@ pub mod ServedWorkers
 pub mod ServedAll
 pub mod OtherPeers
 pub mod Commanded
+pub mod EndsAsMany

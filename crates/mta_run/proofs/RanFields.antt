@@ -106,7 +106,7 @@ text_tells h ends added _ _ (of_mailbox name text word named is) = record {
   named = λ other e. subst (λ (x : List ℕ). ForOpened h (λ steps. mailbox_named (after steps) x ≢ None))
       (same_name name other (some_same (Say.Mailbox name) (Say.Mailbox other) (sym word ∙ e))) named;
 }
-text_tells h ends added _ _ (of_serve text serves inputs named is) = record {
+text_tells h ends added _ _ (of_serve text serves inputs named each is) = record {
   known = serve_known h.words serves;
   read = inputs;
   opened_it = λ o. refl;

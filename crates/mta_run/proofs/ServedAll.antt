@@ -160,10 +160,10 @@ module _ {D C I L S : Type 0} (disks : DiskView D) (laws : DiskLaws disks) (cloc
 
       -- it was, and served over
       pub served_over : SessionLaws disks clocks links stations
-          → (new : D) (before after : List S) (result : Result (Unit {0}) Stop) → CallOthers (roles_in stations before)
-          → ServesSpool disks clocks links stations sessions tables.text out spool before after new result
+          → (new : D) (before after : List S) (result : Result (Unit {0}) Stop) → roles_in stations before ≡ roles
+          → CallOthers (roles_in stations before) → ServesSpool disks clocks links stations sessions tables.text out spool before after new result
           → HasEnded (Serving old new) (Left old new before after) out result
-      served_over known new before after _ others (Not_begun mid fault b disk_is same silent) =
+      served_over known new before after _ theirs others (Not_begun mid fault b disk_is same silent) =
           begun_ended (Serving old new) tt laws tables read all_named (sources_left old new (Ok tables) read)
           (inputs new)
           spool o clock_is mid (Err fault) b (Left old new before after) out (stop_of_step fault) disk_is silent
@@ -171,19 +171,19 @@ module _ {D C I L S : Type 0} (disks : DiskView D) (laws : DiskLaws disks) (cloc
           (inputs new) spool o clock_is mid (Err fault) b fault refl disk_is)
           (Untouched same refl (λ s w. begun_own (Serving old new) tt laws tables read all_named
           (sources_left old new (Ok tables) read) (inputs new) spool o clock_is mid (Err fault) b))
-      served_over known new before after _ others (No_workers mid b disk_is same silent) =
+      served_over known new before after _ theirs others (No_workers mid b disk_is same silent) =
           begun_ended (Serving old new) tt laws tables read all_named (sources_left old new (Ok tables) read)
           (inputs new)
           spool o clock_is mid (Ok tt) b (Left old new before after) out Stops.Memory disk_is silent (memory opened)
           (Untouched same refl (λ s w. begun_own (Serving old new) tt laws tables read all_named
           (sources_left old new (Ok tables) read) (inputs new) spool o clock_is mid (Ok tt) b))
-      served_over known new before after result others
+      served_over known new before after result theirs others
           (Served limits mid joined final ends _ are b grown kj workers x k disk_is) =
           served_ended (Serving old new) tt laws clock_laws (sources_left old new (Ok tables) read) (inputs new)
           (peers (Serving old new) tt laws tables read all_named (sources_left old new (Ok tables) read) (inputs new)
           spool
           o clock_is) spool o handed_clock joined final kj k disk_is ends links stations known sessions limits are
-          before after out result mid.entries others (record { own = own; of_call = of_call; recorded = recorded })
+          before after out result mid.entries (theirs ∙ e) others (record { own = own; of_call = of_call; recorded = recorded })
           grown workers x
         where
           bare : b.added ++ b.torn_step ≡ mid.entries

@@ -1,11 +1,12 @@
 -- What `serve` leaves behind its workers.
 use Rattle.std.proofs.Common.{◌≡◌, ℕ, true, false, List, [], ◌++◌, length, map, Some, Result, Ok, Err, refl}
 use Rattle.std.proofs.Common.{sym, ap, subst, ◌∙◌, append_assoc, arith, inl, inr}
-use Rattle.std.proofs.lemmas.List.{append-nil}
+use Rattle.std.proofs.lemmas.List.{append-nil, length-map}
 use mathlib.Core.List.{IsPrefix}
 use Rattle.mta_edge.specs.Causes.{Rose}
 use Rattle.mta_edge.specs.Views.{ClockLaws, ClockView, DiskLaws, DiskView}
 use Rattle.mta_links.specs.Links.{LinkView, StationView}
+use Rattle.mta_links.specs.declared.role.Role.{Role}
 use Rattle.mta_records.specs.Body.{body_of}
 use Rattle.mta_records.specs.declared.step.Step.{Step}
 use Rattle.mta_records.specs.declared.fault.StepFault.{StepFault}
@@ -47,7 +48,7 @@ use Rattle.mta_commands.specs.Serving.{IsOwnSpent, Refused, Settled, SettlesBehi
 use Rattle.mta_run.specs.Sessions.{SessionsServed}
 use Rattle.mta_commands.specs.Provenance.{AreOfCall, AreOfRun}
 use Rattle.mta_commands.specs.Submit.{AreInTurn, AreOwn, HasSettled, stop_of_step}
-use Rattle.mta_commands.specs.Words.{Serves}
+use Rattle.mta_commands.specs.Words.{roles_named, Serves}
 use Rattle.mta_commands.proofs.Added.{after_append, front_in_turn, own_more as own_known}
 use Rattle.mta_commands.proofs.Beginning.{own_more, settled_why}
 use Rattle.mta_commands.proofs.DiskServed.{disk_served, fails_behind, fails_kept, FailsIn, first_steps, risen}
@@ -58,6 +59,7 @@ use Rattle.mta_commands.proofs.Provenance.{timed_append}
 use Rattle.mta_commands.proofs.Same.{err_same}
 use Rattle.mta_commands.proofs.ServedSpool.{among, tells_back}
 use Rattle.mta_commands.proofs.Words.{serves_adds, serves_opens}
+use Rattle.mta_run.proofs.EndsAsMany.{ends_as_many}
 use Rattle.mta_run.proofs.Made.{made_late, made_timed}
 
 -- what holds of the sessions that workers serve
@@ -247,11 +249,11 @@ module _ {D C I : Type 0} (h : Handed D C I) (serves : Serves h.words) (laws : D
   pub served_ended : {L S : Type 0} (links : LinkView L) (stations : StationView S)
       → SessionLaws h.disks h.clocks links stations → (sessions : ℕ) (limits : Limits) → AreLimits sessions limits
       → (before after : List S) (out : Output) (result : Result (Unit {0}) Stop) (front : List Step)
-      → CallOthers (roles_in stations before) → IsFront h front → (grown : IsPrefix front joined.entries)
+      → roles_in stations before ≡ roles_named h.words → CallOthers (roles_in stations before) → IsFront h front → (grown : IsPrefix front joined.entries)
       → AreWorkers h.disks h.clocks links stations limits before after ends front (base_of h.disks h.clocks spool)
       joined.entries → HasFinished h.disks (h.clocks.tells joined.clock) ends out joined final result
       → HasEnded h (StationsLeft h links stations sessions before after) out result
-  served_ended links stations known sessions limits are before after out result front others own grown did x = record {
+  served_ended links stations known sessions limits are before after out result front roles others own grown did x = record {
     opening = opened;
     ends = ends;
     added = final.entries;
@@ -262,7 +264,7 @@ module _ {D C I : Type 0} (h : Handed D C I) (serves : Serves h.words) (laws : D
     uncalled_unless = λ none. absurd (none (serves_opens h.words serves));
     safe_before = λ none. absurd (none serves);
     printed = printed_map out result (λ stop e why. finish_why x.settled x.behind stop why)
-        (λ t is. of_serve t serves inputs peers is) x.printed;
+        (λ t is. of_serve t serves inputs peers as_many is) x.printed;
     history = λ f steps was s.
         subst (λ (y : List Step). IsHistory (y ++ (final.entries ++ b.torn_step))) (firsts f steps was s)
         b.fails.tried;
@@ -277,11 +279,17 @@ module _ {D C I : Type 0} (h : Handed D C I) (serves : Serves h.words) (laws : D
         (quiet x.settled x.behind (x.well ok).0));
     recorded = λ e ok. recorded;
     undecided = λ ok. (x.well ok).1;
-    stations_are = Worked limits front grown.0 b.back (base_of h.disks h.clocks spool) are refl whole found own.own
+    stations_are = Worked serves limits front grown.0 b.back (base_of h.disks h.clocks spool) are refl whole found own.own
         theirs
         sessions_are
         (subst (λ (y : List Step). ComesBehind h y b.back b.torn_step) (sym grown.1) b.last);
   } where
+    as_many : length ends ≡ length (roles_named h.words)
+    as_many =
+        ends_as_many h.disks h.clocks links stations limits before after ends front (base_of h.disks h.clocks spool)
+        joined.entries did
+        ∙ (sym (length-map before stations.role) ∙ ap (λ (rs : List Role). length rs) roles)
+
     b : Behind x.settled
     b = behind x.settled x.behind
 

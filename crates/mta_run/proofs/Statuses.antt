@@ -36,7 +36,7 @@ use Rattle.mta_run.specs.Ran.{EndsBeforeOpening, Tells, AllInOrder, IsComplete}
 -- what the status is where all is in order
 abbrev Completes : {D C I : Type 0} → Handed D C I → ℕ → Type 0
 Completes h status =
-    (status ≡ 0) ⊎ (status ≡ 7) ⊎ ((status ≡ 5) × AddsSteps h.words) ⊎ ((status ≡ 4) × Serves h.words)
+    (status ≡ 0) ⊎ (status ≡ 7) ⊎ ((status ≡ 5) × AddsSteps h.words)
 
 -- ---- what is in order has no fault
 
@@ -157,9 +157,8 @@ module _ {D C I : Type 0} (h : Handed D C I) (ends : List WorkerEnd) (added : Li
 
   complete_worker : (halt : Halt) (status : ℕ) → Serves h.words → status ≡ status_of (stop_of_halt halt)
       → Completes h status
-  complete_worker Halts.Disk status serves e = inr (inr (inr (e, serves)))
-  complete_worker (Halts.Full size need) status serves e = inr (inr (inl (e, serves_adds h.words serves)))
-  complete_worker (Halts.Spent last) status serves e = inr (inr (inl (e, serves_adds h.words serves)))
+  complete_worker (Halts.Full size need) status serves e = inr (inr (e, serves_adds h.words serves))
+  complete_worker (Halts.Spent last) status serves e = inr (inr (e, serves_adds h.words serves))
   complete_worker any status serves e = inr (inl e)
 
   complete_stop : (opening : Opening) (stop : Stop) (status : ℕ) (out : Output) → Cause h ends added opening stop
@@ -180,7 +179,7 @@ module _ {D C I : Type 0} (h : Handed D C I) (ends : List WorkerEnd) (added : Li
   complete_stop _ _ status out (disk adds inputs failed) o e = absurd (o.calm_disk failed)
   complete_stop _ _ status out (full size need submit inputs why) o e = inr
       (inr (inl (e, subst AddsSteps (sym submit) tt)))
-  complete_stop _ _ status out (spent last submit inputs why) o e = inr (inr (inl (e, subst AddsSteps (sym submit) tt)))
+  complete_stop _ _ status out (spent last submit inputs why) o e = inr (inr (e, subst AddsSteps (sym submit) tt))
   complete_stop _ _ status out (no_mailbox name word none) o e = let x = o.spool (subst OpensDisk (sym word) tt)
       in absurd (o.named name word x.0 x.1 x.2 x.3 (none x.0 x.1 x.2 x.3))
   complete_stop _ _ status out (no_peer name serves unnamed) o e =
@@ -189,9 +188,9 @@ module _ {D C I : Type 0} (h : Handed D C I) (ends : List WorkerEnd) (added : Li
       let un = unnamed x.0 x.1 in
       absurd (not_unnamed x.0 (roles_named h.words) name named.0 un.0 named.1 un.1 named.2 un.2)
   complete_stop _ _ status out (full_serving size need serves inputs why) o e =
-      inr (inr (inl (e, serves_adds h.words serves)))
+      inr (inr (e, serves_adds h.words serves))
   complete_stop _ _ status out (spent_serving last serves inputs why) o e =
-      inr (inr (inl (e, serves_adds h.words serves)))
+      inr (inr (e, serves_adds h.words serves))
   complete_stop _ _ status out (of_worker halt serves inputs decides) o e = complete_worker halt status serves e
 
   pub ended_complete : (opening : Opening) (out : Output) (status : ℕ) → IsEnded (Cause h ends added opening)

@@ -117,8 +117,7 @@ pub record Tells {D C I : Type 0} (h : Handed D C I) (out : Output) (status : �
   -- and 11 exactly where they are those of a command that is not built yet, but for the same
   pub unbuilt : status ≡ 11 → IsUnbuilt h.words
   pub unbuilt_where : IsUnbuilt h.words → (status ≡ 11) ⊎ (status ≡ 7) ⊎ ((status ≡ 9) × OutputFailed out)
-  -- of `serve` 4 may come of the end of a worker, in a turn of whom it failed
-  pub disk : status ≡ 4 → OpensDisk h.words × (DiskFailed h ⊎ Serves h.words)
+  pub disk : status ≡ 4 → OpensDisk h.words × DiskFailed h
   pub source : status ≡ 8 → SourceFailed h
   pub sink : status ≡ 9 → OutputFailed out
   pub untouched : EndsBeforeOpening h status → h.disk.after ≡ h.disk.before
@@ -138,9 +137,7 @@ pub record AllInOrder {D C I : Type 0} (h : Handed D C I) (out : Output) : Type 
   pub calm_disk : DiskFailed h → ⊥
   pub calm_output : OutputFailed out → ⊥
 
--- Then the status is 0, or 7, or 5 where a step was refused for its numbers, or of `serve` 4, where a worker's end says
--- that the disk failed.
+-- Then the status is 0, or 7, or 5 where a step was refused for its numbers.
 abbrev pub IsComplete : {D C I : Type 0} → Handed D C I → Output → ℕ → Type 0
 IsComplete h out status =
     AllInOrder h out → (status ≡ 0) ⊎ (status ≡ 7) ⊎ ((status ≡ 5) × AddsSteps h.words)
-    ⊎ ((status ≡ 4) × Serves h.words)

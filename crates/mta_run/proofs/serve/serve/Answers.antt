@@ -47,4 +47,4 @@ returns-clause-ended g c input named e others =
       called = c.called_lanes_agree.ensures;
     })
     c.serve_spool.result.ended.disk c.args.stations.items c.serve_spool.result.stations.items
-    c.serve_spool.result.ended.outcome others c.serve_spool.ensures.served
+    c.serve_spool.result.ended.outcome refl others c.serve_spool.ensures.served
