@@ -17,7 +17,7 @@ use Rattle.mta_commands.specs.Causes.{not_built, memory, source, tables, apdu, n
 use Rattle.mta_commands.specs.Causes.{spent, no_mailbox, no_peer, full_serving, spent_serving, of_worker}
 use Rattle.mta_commands.specs.Serving.{stop_of_halt}
 use Rattle.mta_commands.proofs.Words.{IsKnown, opens_known, serves_known, tables_known, apdu_known}
-use Rattle.mta_commands.proofs.Words.{source_known, unbuilt_said, adds_opens, serves_opens}
+use Rattle.mta_commands.proofs.Words.{source_known, unbuilt_said, adds_opens}
 
 -- a fault of the words, the tables, the input or a source
 abbrev pub IsEarly : ℕ → Type 0

@@ -54,7 +54,8 @@ abbrev pub PeersNamed : {D C I : Type 0} → Handed D C I → Type 0
 PeersNamed h = ForTables h (λ c. (t : TablesValue) × (tables_of c ≡ Ok t) × All (IsNamed t) (roles_named h.words))
 
 -- What a command prints where it does not stop: `submit` the number of the item, `serve` a line for the end of each
--- worker, of whom there is one a station, `spool` the queue, `read` the mailbox, and `decode` the APDU. All but `decode` have opened the disk then.
+-- worker, of whom there is one a station, `spool` the queue, `read` the mailbox, and `decode` the APDU. All but
+-- `decode` have opened the disk then.
 pub data IsText {D C I : Type 0} (h : Handed D C I) (ends : List WorkerEnd) (added : List Step) : Opening → List ℕ
     → Type 0 where
   of_submit : (number : ℕ) (text : List ℕ) → h.words ≡ Some Say.Submit → InputsRead h → number < 2 ^ 32

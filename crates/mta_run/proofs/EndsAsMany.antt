@@ -1,5 +1,5 @@
 -- Workers come to as many ends as there are stations.
-use Rattle.std.proofs.Common.{◌≡◌, List, Option, Some, length, map, reverse, sym, ap, ◌∙◌}
+use Rattle.std.proofs.Common.{◌≡◌, List, Option, Some, length, map, sym, ap, ◌∙◌}
 use Rattle.std.proofs.lemmas.List.{length-map, length-reverse}
 use Rattle.mta_edge.specs.Views.{ClockView, DiskView}
 use Rattle.mta_links.specs.Links.{LinkView, StationView}

@@ -161,7 +161,8 @@ module _ {D C I L S : Type 0} (disks : DiskView D) (laws : DiskLaws disks) (cloc
       -- it was, and served over
       pub served_over : SessionLaws disks clocks links stations
           → (new : D) (before after : List S) (result : Result (Unit {0}) Stop) → roles_in stations before ≡ roles
-          → CallOthers (roles_in stations before) → ServesSpool disks clocks links stations sessions tables.text out spool before after new result
+          → CallOthers (roles_in stations before)
+          → ServesSpool disks clocks links stations sessions tables.text out spool before after new result
           → HasEnded (Serving old new) (Left old new before after) out result
       served_over known new before after _ theirs others (Not_begun mid fault b disk_is same silent) =
           begun_ended (Serving old new) tt laws tables read all_named (sources_left old new (Ok tables) read)
@@ -183,7 +184,8 @@ module _ {D C I L S : Type 0} (disks : DiskView D) (laws : DiskLaws disks) (cloc
           (peers (Serving old new) tt laws tables read all_named (sources_left old new (Ok tables) read) (inputs new)
           spool
           o clock_is) spool o handed_clock joined final kj k disk_is ends links stations known sessions limits are
-          before after out result mid.entries (theirs ∙ e) others (record { own = own; of_call = of_call; recorded = recorded })
+          before after out result mid.entries (theirs ∙ e) others
+          (record { own = own; of_call = of_call; recorded = recorded })
           grown workers x
         where
           bare : b.added ++ b.torn_step ≡ mid.entries

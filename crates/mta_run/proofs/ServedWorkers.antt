@@ -249,11 +249,12 @@ module _ {D C I : Type 0} (h : Handed D C I) (serves : Serves h.words) (laws : D
   pub served_ended : {L S : Type 0} (links : LinkView L) (stations : StationView S)
       → SessionLaws h.disks h.clocks links stations → (sessions : ℕ) (limits : Limits) → AreLimits sessions limits
       → (before after : List S) (out : Output) (result : Result (Unit {0}) Stop) (front : List Step)
-      → roles_in stations before ≡ roles_named h.words → CallOthers (roles_in stations before) → IsFront h front → (grown : IsPrefix front joined.entries)
+      → roles_in stations before ≡ roles_named h.words → CallOthers (roles_in stations before) → IsFront h front
+      → (grown : IsPrefix front joined.entries)
       → AreWorkers h.disks h.clocks links stations limits before after ends front (base_of h.disks h.clocks spool)
       joined.entries → HasFinished h.disks (h.clocks.tells joined.clock) ends out joined final result
       → HasEnded h (StationsLeft h links stations sessions before after) out result
-  served_ended links stations known sessions limits are before after out result front roles others own grown did x = record {
+  served_ended links stations known most limits are before after out result front roles apart own grown did x = record {
     opening = opened;
     ends = ends;
     added = final.entries;
@@ -279,9 +280,8 @@ module _ {D C I : Type 0} (h : Handed D C I) (serves : Serves h.words) (laws : D
         (quiet x.settled x.behind (x.well ok).0));
     recorded = λ e ok. recorded;
     undecided = λ ok. (x.well ok).1;
-    stations_are = Worked serves limits front grown.0 b.back (base_of h.disks h.clocks spool) are refl whole found own.own
-        theirs
-        sessions_are
+    stations_are = Worked serves limits front grown.0 b.back (base_of h.disks h.clocks spool) are refl whole found
+        own.own theirs sessions_are
         (subst (λ (y : List Step). ComesBehind h y b.back b.torn_step) (sym grown.1) b.last);
   } where
     as_many : length ends ≡ length (roles_named h.words)
@@ -364,7 +364,7 @@ module _ {D C I : Type 0} (h : Handed D C I) (serves : Serves h.words) (laws : D
           lanes = known.lanes is_apdu steps joined.entries (length front) x.0 known.tells e.possible;
           called =
               known.called is_apdu steps joined.entries (length front) x.0 known.tells e.possible
-              (subst CallOthers (sym x.3) others);
+              (subst CallOthers (sym x.3) apart);
         }
 
     sessions_are : ForOpened h (λ first. SessionsServed links first (front ++ grown.0) (length front))

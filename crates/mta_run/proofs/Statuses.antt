@@ -177,8 +177,8 @@ module _ {D C I : Type 0} (h : Handed D C I) (ends : List WorkerEnd) (added : Li
       (no_history x.0 at x.1 (none x.0 x.2) x.3)
   complete_stop _ _ status out (not_opened opens inputs failed) o e = absurd (o.calm_disk failed)
   complete_stop _ _ status out (disk adds inputs failed) o e = absurd (o.calm_disk failed)
-  complete_stop _ _ status out (full size need submit inputs why) o e = inr
-      (inr (inl (e, subst AddsSteps (sym submit) tt)))
+  complete_stop _ _ status out (full size need submit inputs why) o e =
+      inr (inr (e, subst AddsSteps (sym submit) tt))
   complete_stop _ _ status out (spent last submit inputs why) o e = inr (inr (e, subst AddsSteps (sym submit) tt))
   complete_stop _ _ status out (no_mailbox name word none) o e = let x = o.spool (subst OpensDisk (sym word) tt)
       in absurd (o.named name word x.0 x.1 x.2 x.3 (none x.0 x.1 x.2 x.3))
