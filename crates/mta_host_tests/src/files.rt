@@ -1,9 +1,10 @@
 //! The adapters over real files, streams that stop and start, and the real clock.
 
 use mta_edge::{Clock, Disk, Failed, Sink, Source};
-use mta_host::{FileDisk, Octets as Stream, Reading, SystemClock, Writing};
+use mta_host::{FileDisk, Octets as Stream, Reading, SystemClock, Writing, again};
 use std::fs::{self, File};
 use std::io::{self, Empty, ErrorKind, Read, Write};
+use std::os::unix::fs::PermissionsExt;
 use std::test::Fail;
 
 #[test]
@@ -18,6 +19,8 @@ fn a_file_is_a_disk(rt: HostRuntime) -> Result<(), Fail> {
     assert_eq!(rt; disk.cut(3), Ok(()));
     assert_eq!(rt; disk.read(1, &mut buffer), Ok(2));
     assert_eq!(rt; buffer, *b"bc\0\0");
+    let mode = fs::metadata(&rt, "disk.try")?.permissions().mode();
+    assert_eq!(rt; mode & 0o777, 0o600);
     fs::remove_file(&rt, "disk.try")?;
     Ok(())
 }
@@ -106,5 +109,13 @@ fn interrupted_calls_are_made_again(rt: HostRuntime) -> Result<(), Fail> {
     assert_eq!(rt; sink.put(b"ab"), Err(Failed));
     assert_eq!(rt; sink.put(b"ab"), Ok(1));
     assert_eq!(rt; sink.put(b""), Ok(0));
+    let mut calls = Uneven {
+        kinds: kinds.to_vec(rt.alloc())?,
+    };
+    assert_eq!(rt;
+        again(|| calls.next()).map_err(|error| error.kind()),
+        Err(ErrorKind::BrokenPipe)
+    );
+    assert_eq!(rt; again(|| calls.next())?, 1);
     Ok(())
 }
