@@ -82,7 +82,7 @@ fn stations_of<'a>(
         },
     ) = Words::read(rt.alloc(), words)?
     {
-        let all = u32::try_from(named.len()).unwrap_or(u32::MAX);
+        let all = u32::try_from(named.as_slice().len()).unwrap_or(u32::MAX);
         for (number, word) in (1..=all).zip(named.as_slice()) {
             let place = Place {
                 path: "mta.stations",

@@ -132,8 +132,8 @@ impl Door {
             .poll
             .registry()
             .register(&mut stream, ANY, Interest::READABLE);
-        let before = self.waiting.len();
-        if before >= PLACES {
+        let is_full = self.waiting.len() >= PLACES;
+        if is_full {
             self.waiting.remove(0);
         }
         self.waiting.push(Waiting {
@@ -141,7 +141,7 @@ impl Door {
             since: Instant::now(host).ok(),
             brought: Brought::Little,
         })?;
-        Ok((before + 1).saturating_sub(self.waiting.len()))
+        Ok(usize::from(is_full))
     }
 
     // Waits until something comes, or the pause is over.
