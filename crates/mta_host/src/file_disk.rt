@@ -11,7 +11,7 @@
 ghost use Rattle.std.specs.Prelude.{◌≡◌, ◌≤◌, IfOk, length};
 ghost use Rattle.mta_edge.specs.Causes.{Rose};
 
-use crate::again::again;
+use crate::interrupts::again;
 use mta_edge::{Disk, Failed};
 use std::fs::{File, Files, OpenOptions};
 use std::io::{self, ErrorKind};

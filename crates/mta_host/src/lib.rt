@@ -1,11 +1,11 @@
 //! The adapters: the real file, streams, clock and connections. They tell nothing of what they hold.
 #![tactic(auto)]
 
-mod again;
 mod calling;
 mod clock;
 mod file_disk;
 mod host;
+mod interrupts;
 mod listening;
 mod notes;
 mod patience;
@@ -14,10 +14,10 @@ mod tcp_link;
 mod tcp_station;
 mod unit;
 
-pub use again::again;
 pub use clock::SystemClock;
 pub use file_disk::FileDisk;
 pub use host::Host;
+pub use interrupts::again;
 pub use notes::Place;
 pub use patience::{
     ANSWER_SECONDS, CALLS, LEAST_OCTETS, LONGEST_PAUSE_SECONDS, OPENING_OCTETS, OPENING_SECONDS,

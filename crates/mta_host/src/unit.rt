@@ -99,7 +99,7 @@ impl Pace {
 
     fn pass(&mut self, octets: &[u8]) {
         let mut rest = octets;
-        while !rest.is_empty() {
+        'units: while !rest.is_empty() {
             let count = if self.left > 0 {
                 self.skip(rest.len())
             } else {

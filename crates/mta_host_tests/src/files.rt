@@ -2,6 +2,7 @@
 
 use mta_edge::{Clock, Disk, Failed, Sink, Source};
 use mta_host::{FileDisk, Octets as Stream, Reading, SystemClock, Writing, again};
+use std::cell::Cell;
 use std::fs::{self, File};
 use std::io::{self, Empty, ErrorKind, Read, Write};
 use std::os::unix::fs::PermissionsExt;
@@ -109,13 +110,25 @@ fn interrupted_calls_are_made_again(rt: HostRuntime) -> Result<(), Fail> {
     assert_eq!(rt; sink.put(b"ab"), Err(Failed));
     assert_eq!(rt; sink.put(b"ab"), Ok(1));
     assert_eq!(rt; sink.put(b""), Ok(0));
-    let mut calls = Uneven {
-        kinds: kinds.to_vec(rt.alloc())?,
-    };
+    Ok(())
+}
+
+// A call that a signal interrupts twice.
+#[test]
+fn a_call_that_is_interrupted_is_made_again(rt: HostRuntime) -> Result<(), Fail> {
+    let made = Cell::new(0u8);
+    let answer = again(|| {
+        made.set(made.get().saturating_add(1));
+        if made.get() < 3 {
+            return Err(ErrorKind::Interrupted.into());
+        }
+        Ok(made.get())
+    });
+    assert_eq!(rt; answer?, 3);
+    let refused: io::Result<u8> = again(|| Err(ErrorKind::BrokenPipe.into()));
     assert_eq!(rt;
-        again(|| calls.next()).map_err(|error| error.kind()),
+        refused.map_err(|error| error.kind()),
         Err(ErrorKind::BrokenPipe)
     );
-    assert_eq!(rt; again(|| calls.next())?, 1);
     Ok(())
 }

@@ -1,14 +1,11 @@
 //! Calls of the system that are made again where a signal interrupts them.
 
-ghost use Rattle.std.specs.Prelude.{◌≡◌, ¬_, IfErr};
-ghost use Rattle.std.specs.IoError.{error_kind};
-ghost use Rattle.std.specs.declared.io.kind.ErrorKind as kinds;
-
 use std::io::{self, ErrorKind};
 
 /// What the call answers, made again for as long as a signal interrupts it.
-pub fn again<T: Drop, F: FnMut() -> io::Result<T>>(mut call: F) -> io::Result<T>
+pub fn again<T: Drop, F: Fn() -> io::Result<T>>(call: F) -> io::Result<T>
     requires { F.IsAlwaysCallable call }
+    ensures { F.post call result }
 {
     for _ in 0..u64::MAX {
         match call() {
@@ -16,5 +13,5 @@ pub fn again<T: Drop, F: FnMut() -> io::Result<T>>(mut call: F) -> io::Result<T>
             answer => return answer,
         }
     }
-    Err(ErrorKind::Interrupted.into())
+    call()
 }
