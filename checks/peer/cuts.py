@@ -22,7 +22,8 @@ from relay import carry  # of contrib, where agent.py has Python look too
 EACH = 5  # messages of an agent
 BEHIND = 12  # sessions without a cut
 PAIRS = (("twa", 1, 1, 64, 8), ("twa", 4, 8, 1, 3), ("twa", 0, 3, 1, 3), ("monologue", 1, 3, 2, 2))
-ALIKE = 12  # pairs of each of these, since they wait a second behind a session in which nothing was sent
+ALIKE = 12  # pairs of each of these, since they wait a second behind a session in which nothing was sent, and ever
+#             longer behind those that were cut before the peer answered
 TABLES = """domain C=GB;A={own}
 name {own}
 peer {peer} to-{peer} to-{own} {mode} {size} {window}
@@ -42,7 +43,7 @@ class Couple:
         os.mkdir(folder)
         self.mode, self.port = mode, free_port()
         self.listener = socket.create_server(("127.0.0.1", 0))
-        self.listener.settimeout(60)
+        self.listener.settimeout(120)
         how = {"mode": mode, "size": size, "window": window}
         self.calls = Agent(mta, f"{folder}/calls", TABLES.format(own="ONE", peer="TWO", **how))
         how |= {"size": other_size, "window": other_window}

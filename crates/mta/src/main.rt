@@ -11,7 +11,7 @@
 #![tactic(auto)]
 
 use mta_ber::{Memory, Word};
-use mta_host::{FileDisk, Octets, Patience, Reading, SystemClock, TcpStation, Writing};
+use mta_host::{FileDisk, Octets, Patience, Place, Reading, SystemClock, TcpStation, Writing};
 use mta_links::Role;
 use mta_run::{Stop, run, tell};
 use mta_words::{StationWord, Words};
@@ -50,20 +50,23 @@ fn port_of(port: u32) -> u16 {
     u16::try_from(port).unwrap_or(u16::MAX)
 }
 
-// The station of a word.
+// The station of a word, which writes what it does to its place.
 fn station_of<'a>(
     rt: &'a HostRuntime,
     word: &StationWord,
+    place: Place<'a>,
 ) -> Result<TcpStation<'a, HostRuntime>, Memory> {
     let patience = Patience::usual();
-    match word {
-        StationWord::In { port } => Ok(TcpStation::listening(rt, port_of(*port), patience)),
+    let mut station = match word {
+        StationWord::In { port } => TcpStation::listening(rt, port_of(*port), patience),
         StationWord::Out { peer, host, port } => {
             let role = Role::Out(peer.copy(rt.alloc())?);
             let host = host_of(rt.alloc(), host.as_slice())?;
-            Ok(TcpStation::calling(rt, role, host, port_of(*port), patience))
+            TcpStation::calling(rt, role, host, port_of(*port), patience)
         }
-    }
+    };
+    station.set_place(place);
+    Ok(station)
 }
 
 // The stations that the words name: those of `serve`, and none of another command.
@@ -79,8 +82,14 @@ fn stations_of<'a>(
         },
     ) = Words::read(rt.alloc(), words)?
     {
-        for word in named.as_slice() {
-            stations.push(station_of(rt, word)?)?;
+        let all = u32::try_from(named.as_slice().len()).unwrap_or(u32::MAX);
+        for (number, word) in (1..=all).zip(named.as_slice()) {
+            let place = Place {
+                path: "mta.stations",
+                station: number,
+                stations: all,
+            };
+            stations.push(station_of(rt, word, place)?)?;
         }
     }
     Ok(stations)

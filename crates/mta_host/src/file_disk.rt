@@ -11,10 +11,14 @@
 ghost use Rattle.std.specs.Prelude.{◌≡◌, ◌≤◌, IfOk, length};
 ghost use Rattle.mta_edge.specs.Causes.{Rose};
 
+use crate::interrupts::again;
 use mta_edge::{Disk, Failed};
 use std::fs::{File, Files, OpenOptions};
 use std::io::{self, ErrorKind};
-use std::os::unix::fs::FileExt;
+use std::os::unix::fs::{FileExt, OpenOptionsExt};
+
+// Of a file that is made: only its user reads and writes it, since the steps hold the tables with their passwords.
+const MODE: u32 = 0o600;
 
 /// A disk in a file, which is opened at the first call, and made where it is absent. From then on no other process
 /// has it: the call waits for one that does. Every call fails where the file could not be opened.
@@ -50,10 +54,12 @@ impl<'a, R: Files<File = File>> FileDisk<'a, R> {
             .read(true)
             .write(true)
             .create(true)
+            .mode(MODE)
             .open(self.files, self.path)?;
-        file.lock()?;
+        again(|| file.lock())?;
         if file.metadata()?.len() == 0 {
-            File::open(self.files, self.folder)?.sync_all()?;
+            let folder = File::open(self.files, self.folder)?;
+            again(|| folder.sync_all())?;
         }
         Ok(file)
     }
@@ -136,7 +142,7 @@ impl<R: Files<File = File>> Disk for FileDisk<'_, R> {
     fn cut(&mut self, size: u64) -> Result<(), Failed> {
         self.ask();
         if let Some(file) = &self.file {
-            if let Ok(()) = file.set_len(size) {
+            if let Ok(()) = again(|| file.set_len(size)) {
                 return Ok(());
             }
         }
@@ -146,7 +152,7 @@ impl<R: Files<File = File>> Disk for FileDisk<'_, R> {
     fn sync(&mut self) -> Result<(), Failed> {
         self.ask();
         if let Some(file) = &self.file {
-            if let Ok(()) = file.sync_data() {
+            if let Ok(()) = again(|| file.sync_data()) {
                 return Ok(());
             }
         }

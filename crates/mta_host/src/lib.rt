@@ -1,14 +1,28 @@
 //! The adapters: the real file, streams, clock and connections. They tell nothing of what they hold.
 #![tactic(auto)]
 
+mod calling;
 mod clock;
 mod file_disk;
+mod host;
+mod interrupts;
+mod listening;
+mod notes;
 mod patience;
 mod streams;
-mod tcp;
+mod tcp_link;
+mod tcp_station;
+mod unit;
 
 pub use clock::SystemClock;
 pub use file_disk::FileDisk;
-pub use patience::{ANSWER_SECONDS, CALLS, PAUSE_SECONDS, Patience, SILENCE_SECONDS};
+pub use host::Host;
+pub use interrupts::again;
+pub use notes::Place;
+pub use patience::{
+    ANSWER_SECONDS, CALLS, LEAST_OCTETS, LONGEST_PAUSE_SECONDS, OPENING_OCTETS, OPENING_SECONDS,
+    PAUSE_SECONDS, PLACES, Patience, SILENCE_SECONDS,
+};
 pub use streams::{Octets, Reading, Writing};
-pub use tcp::{TcpLink, TcpStation};
+pub use tcp_link::{TcpLink, Went};
+pub use tcp_station::TcpStation;

@@ -1,9 +1,11 @@
 //! The adapters over real files, streams that stop and start, and the real clock.
 
 use mta_edge::{Clock, Disk, Failed, Sink, Source};
-use mta_host::{FileDisk, Octets as Stream, Reading, SystemClock, Writing};
+use mta_host::{FileDisk, Octets as Stream, Reading, SystemClock, Writing, again};
+use std::cell::Cell;
 use std::fs::{self, File};
 use std::io::{self, Empty, ErrorKind, Read, Write};
+use std::os::unix::fs::PermissionsExt;
 use std::test::Fail;
 
 #[test]
@@ -18,6 +20,8 @@ fn a_file_is_a_disk(rt: HostRuntime) -> Result<(), Fail> {
     assert_eq!(rt; disk.cut(3), Ok(()));
     assert_eq!(rt; disk.read(1, &mut buffer), Ok(2));
     assert_eq!(rt; buffer, *b"bc\0\0");
+    let mode = fs::metadata(&rt, "disk.try")?.permissions().mode();
+    assert_eq!(rt; mode & 0o777, 0o600);
     fs::remove_file(&rt, "disk.try")?;
     Ok(())
 }
@@ -106,5 +110,25 @@ fn interrupted_calls_are_made_again(rt: HostRuntime) -> Result<(), Fail> {
     assert_eq!(rt; sink.put(b"ab"), Err(Failed));
     assert_eq!(rt; sink.put(b"ab"), Ok(1));
     assert_eq!(rt; sink.put(b""), Ok(0));
+    Ok(())
+}
+
+// A call that a signal interrupts twice.
+#[test]
+fn a_call_that_is_interrupted_is_made_again(rt: HostRuntime) -> Result<(), Fail> {
+    let made = Cell::new(0u8);
+    let answer = again(|| {
+        made.set(made.get().saturating_add(1));
+        if made.get() < 3 {
+            return Err(ErrorKind::Interrupted.into());
+        }
+        Ok(made.get())
+    });
+    assert_eq!(rt; answer?, 3);
+    let refused: io::Result<u8> = again(|| Err(ErrorKind::BrokenPipe.into()));
+    assert_eq!(rt;
+        refused.map_err(|error| error.kind()),
+        Err(ErrorKind::BrokenPipe)
+    );
     Ok(())
 }

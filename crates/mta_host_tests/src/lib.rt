@@ -4,4 +4,8 @@
 #[cfg(test)]
 mod files;
 #[cfg(test)]
-mod tests;
+mod links;
+#[cfg(test)]
+mod peers;
+#[cfg(test)]
+mod stations;

@@ -1,0 +1,142 @@
+//! Links over the loopback. A peer is a plain connection of the test's own.
+
+use crate::peers::{UNIT, called, listening, short};
+use mta_edge::Failed;
+use mta_host::TcpStation;
+use mta_links::{Link, Station};
+use std::io::{Read, Write};
+use std::test::Fail;
+use std::thread;
+use std::time::Duration;
+
+#[test]
+fn a_peer_gives_octet_by_octet_and_closes(rt: HostRuntime) -> Result<(), Fail> {
+    let mut station = listening(&rt);
+    let (mut peer, mut link) = called(&rt, &mut station)?;
+    let mut buffer = [0u8; 2];
+    for octet in [1, 2, 3] {
+        assert_eq!(rt; peer.write(&[octet])?, 1);
+        assert_eq!(rt; link.get(&mut buffer), Ok(1));
+        assert_eq!(rt; buffer[0], octet);
+    }
+    drop(peer);
+    assert_eq!(rt; link.get(&mut buffer), Ok(0));
+    assert_eq!(rt; link.get(&mut buffer), Ok(0));
+    drop(link);
+    Ok(())
+}
+
+// What was put is unread when the peer goes, so the connection is reset.
+#[test]
+fn a_peer_resets(rt: HostRuntime) -> Result<(), Fail> {
+    let mut station = listening(&rt);
+    let (peer, mut link) = called(&rt, &mut station)?;
+    assert_eq!(rt; link.put(&[7; 16]), Ok(16));
+    drop(peer);
+    assert_eq!(rt; link.get(&mut [0u8; 1]), Err(Failed));
+    assert_eq!(rt; link.put(&[7]), Err(Failed));
+    Ok(())
+}
+
+#[test]
+fn a_peer_gives_nothing(rt: HostRuntime) -> Result<(), Fail> {
+    let mut station = listening(&rt);
+    let (_peer, mut link) = called(&rt, &mut station)?;
+    assert_eq!(rt; link.get(&mut [0u8; 1]), Err(Failed));
+    Ok(())
+}
+
+// An octet comes every 20 ms, so the peer is never silent for 200 ms, and gives 10 octets in this time.
+#[test]
+fn a_peer_gives_a_unit_too_slowly(rt: HostRuntime) -> Result<(), Fail> {
+    let mut patience = short();
+    patience.silence = Duration::from_millis(200);
+    let mut station = TcpStation::listening(&rt, 0, patience);
+    let (mut peer, mut link) = called(&rt, &mut station)?;
+    peer.write_all(&[0, 0, 100, 0, 5])?;
+    let mut buffer = [0u8; 16];
+    let mut count = 0;
+    for _ in 0..100 {
+        if link.get(&mut buffer).is_err() {
+            break;
+        }
+        count += 1;
+        thread::sleep(&rt, Duration::from_millis(20));
+        peer.write_all(&[7])?;
+    }
+    assert!(rt; 4 < count && count < 20, "{count} octets came");
+    assert_eq!(rt; link.get(&mut buffer), Err(Failed));
+    Ok(())
+}
+
+// As slow, but each unit has six octets and is whole in time.
+#[test]
+fn a_peer_gives_short_units_slowly(rt: HostRuntime) -> Result<(), Fail> {
+    let mut patience = short();
+    patience.silence = Duration::from_millis(200);
+    let mut station = TcpStation::listening(&rt, 0, patience);
+    let (mut peer, mut link) = called(&rt, &mut station)?;
+    let mut buffer = [0u8; 16];
+    for _ in 0..8 {
+        for octet in UNIT {
+            peer.write_all(&[octet])?;
+            assert_eq!(rt; link.get(&mut buffer), Ok(1));
+            thread::sleep(&rt, Duration::from_millis(10));
+        }
+    }
+    Ok(())
+}
+
+// 1,024 octets come in each 200 ms, so a long unit takes as long as it takes.
+#[test]
+fn a_peer_gives_a_long_unit_fast_enough(rt: HostRuntime) -> Result<(), Fail> {
+    let mut patience = short();
+    patience.silence = Duration::from_millis(200);
+    let mut station = TcpStation::listening(&rt, 0, patience);
+    let (mut peer, mut link) = called(&rt, &mut station)?;
+    peer.write_all(&[0, 1, 0, 0, 5])?;
+    let mut buffer = [0u8; 4096];
+    assert_eq!(rt; link.get(&mut buffer), Ok(5));
+    for _ in 0..14 {
+        peer.write_all(&[7; 1024])?;
+        assert_eq!(rt; link.get(&mut buffer), Ok(1024));
+        thread::sleep(&rt, Duration::from_millis(50));
+    }
+    Ok(())
+}
+
+// The link takes what the system keeps for the connection, and then fails.
+#[test]
+fn a_peer_takes_nothing(rt: HostRuntime) -> Result<(), Fail> {
+    let mut station = listening(&rt);
+    let (_peer, mut link) = called(&rt, &mut station)?;
+    let piece = [7u8; 65_536];
+    for _ in 0..1000 {
+        if link.put(&piece).is_err() {
+            return Ok(());
+        }
+    }
+    Err("64,000 KiB were taken".into())
+}
+
+#[test]
+fn a_long_piece_is_taken_by_one_call(rt: HostRuntime) -> Result<(), Fail> {
+    let mut station = listening(&rt);
+    let (mut peer, mut link) = called(&rt, &mut station)?;
+    assert_eq!(rt; link.put(&[7; 65_536]), Ok(65_536));
+    drop(link);
+    let mut read = Vec::new(rt.alloc());
+    assert_eq!(rt; peer.read_to_end(&mut read)?, 65_536);
+    assert!(rt; read.iter().all(|octet| *octet == 7));
+    Ok(())
+}
+
+// A link that comes back is closed, so its peer reads to the end.
+#[test]
+fn a_link_that_comes_back_is_closed(rt: HostRuntime) -> Result<(), Fail> {
+    let mut station = listening(&rt);
+    let (mut peer, link) = called(&rt, &mut station)?;
+    station.back(link);
+    assert_eq!(rt; peer.read(&mut [0u8; 1])?, 0);
+    Ok(())
+}
