@@ -1,6 +1,7 @@
 #!/usr/bin/env bash
-# The documents are true where a program can tell: each name that they cite exists, the manual pages are in order, and
-# the text blocks of README.md and docs/MANUAL.md are what the program prints. Run it at the top of the repository.
+# The documents are true as far as a program can see: each name that they cite exists, the manual pages are in order, one
+# version stands everywhere, and the text blocks of README.md, docs/MANUAL.md and the pages are what the program prints.
+# Run it at the top of the repository.
 set -u
 cd "$(dirname "$0")/.." || exit 2
 wrong=0
@@ -16,13 +17,17 @@ else
 fi
 if command -v man >/dev/null; then
   for page in man/*; do
-    said=$(man -l "$page" 2>&1 >/dev/null)
+    said=$(MANROFFOPT=-ww man --warnings=w -l "$page" 2>&1 >/dev/null)
     [ -z "$said" ] || { echo "man -l $page: $said"; wrong=1; }
   done
   echo "$(ls man | wc -l) manual pages looked at with man"
 else
   echo "skipped: man is not on the PATH"
 fi
+version=$(sed -n '1s/.*(\(.*\)).*/\1/p' packaging/debian/changelog)
+for document in README.md docs/MANUAL.md man/*; do
+  grep -qF "version $version" "$document" || { echo "$document does not name version $version"; wrong=1; }
+done
 . checks/program.bash
 program
 python3 checks/texts.py "$mta" || wrong=1

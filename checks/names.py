@@ -36,7 +36,7 @@ def plain(text):
 def is_there(path, crate):
     own = [f"crates/{crate}/", f"crates/{crate}/src/", f"crates/{crate}/specs/"]
     each = ["crates/*/", "crates/*/src/", "crates/*/specs/", "crates/*/proofs/"]
-    found = [f"{place}{path}" for place in ["", "crates/", "samples/", "docs/", "checks/", *own, *each]]
+    found = [f"{place}{path}" for place in ["", "crates/", "samples/", "docs/", "checks/", "contrib/", *own, *each]]
     return any(glob.glob(it.rstrip("/")) for it in found)
 
 
@@ -105,7 +105,7 @@ def wrong_links(document):
 
 def main():
     words = set()
-    for path in [*sources(), "crates.txt", *glob.glob("checks/*"), *glob.glob("crates/*/must-fail/*.edit")]:
+    for path in [*sources(), "crates.txt", *glob.glob("checks/*"), *glob.glob("contrib/*"), *glob.glob("crates/*/must-fail/*.edit")]:
         if os.path.isfile(path):
             words.update(WORD.findall(text_of(path)))
             words.add(os.path.splitext(os.path.basename(path))[0])

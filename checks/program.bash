@@ -1,10 +1,15 @@
 # Sourced by the checks that run programs of the repository.
 
+# whether the program $1 is absent or a source is newer
+is_old() {
+  [ ! -x "$1" ] || [ -n "$(find crates -path '*/out' -prune -o -name '*.rt' -newer "$1" -print -quit)" ]
+}
+
 # `built NAME` leaves the program of a crate at crates/NAME/out/NAME: the one that the gate left there, or a new one
 # where a source is newer. Some of them want words and end with another status without, so the status says nothing.
 built() {
   local program=crates/$1/out/$1 log
-  if [ ! -x "$program" ] || [ -n "$(find crates -path '*/out' -prune -o -name '*.rt' -newer "$program" -print -quit)" ]; then
+  if is_old "$program"; then
     rm -f "$program"
     log=$(mktemp)
     (cd "crates/$1" && rt run </dev/null) >"$log" 2>&1 || true
@@ -14,7 +19,9 @@ built() {
 }
 
 # `program TOOL..` leaves, with a word and status 0, where a tool is missing. Else it sets `mta`, the program's path,
-# and `made`, a folder that goes when the check ends.
+# and `made`, a folder that goes when the check ends. The program is the proved one that the gate left; where that is
+# absent or old, the unproved one of ./demo, which is built in a minute or two, and this is said. A script that takes
+# times sets `timed=yes` and has the proved one, built if need be.
 program() {
   local tool
   for tool in rt "$@"; do
@@ -23,5 +30,11 @@ program() {
   made=$(mktemp -d)
   trap 'rm -rf "$made"' EXIT
   mta=$PWD/crates/mta/out/mta
-  built mta
+  if [ "${timed:-no}" = no ] && is_old "$mta"; then
+    mta=$PWD/out/unproved/mta
+    if is_old "$mta"; then python3 checks/unproved.py "$mta" || exit 1; fi
+    echo "by the unproved program, $mta"
+  else
+    built mta
+  fi
 }

@@ -7,6 +7,7 @@
 # something else. `the_program TOOL..` is `program` of checks/program.bash, or the program in MTA. `on_disk NAME` is
 # that with python3, and sets `folder` to one under /var/tmp that goes when the script ends. `decoder` sets `asn1c` to
 # the decoder that asn1c makes of checks/asn1c_speed.asn1, or to nothing where a tool is missing, and says so.
+timed=yes
 . checks/program.bash
 export PYTHONDONTWRITEBYTECODE=1
 

@@ -13,7 +13,7 @@ for name in submit journal relay open dues; do
   [ -e "$out/$name.dat" ] || { echo "== checks/${name}_speed.sh"; SPEED_OUT=$out bash "checks/${name}_speed.sh"; }
 done
 
-# draws the columns behind the first of $1.dat: TITLE, what stands below and beside, further lines, a title a column
+# draws the columns after the first of $1.dat: TITLE, what stands below and beside, further lines, a title a column
 curve() {
   local file=$1 title=$2 below=$3 beside=$4 more=$5 column=2 plots=""
   shift 5
@@ -23,13 +23,13 @@ curve() {
     column=$((column + 1))
   done
   gnuplot <<PLOT || echo "not drawn: $file"
-set terminal svg size 640,400 font 'sans-serif,13' background 'white'
+set terminal svg noenhanced size 860,400 font 'sans-serif,13' background 'white'
 set output '$out/$file.svg'
 set title '$title'
 set xlabel '$below'
 set ylabel '$beside'
 set grid
-set key below
+set key outside right top
 set logscale x
 $more
 plot $plots
@@ -42,7 +42,7 @@ curve journal 'An append beside plain writes' 'octets of a body' 'microseconds' 
 curve relay 'Messages of 10 KiB handed over' 'associations or connections' 'messages a second' 'set xtics (1, 4, 16); set yrange [0:*]' \
   'mta' 'Postfix to Postfix' 'smtp-source to Postfix'
 curve open 'Opening a spool' 'items' 'seconds of a processor' 'set logscale y' \
-  'delivered' 'the same, read and decoded by asn1c' 'waiting' 'the same, read and decoded by asn1c'
+  'delivered' 'delivered, by asn1c' 'waiting' 'waiting, by asn1c'
 curve memory 'Memory of a spool as a part of the octets of its file' 'octets of content' 'part' 'set yrange [0:*]' \
   'delivered' 'waiting'
 curve dues 'One call beside items that wait for another peer' 'items' 'microseconds' 'set logscale y; set yrange [0.01:1000]' \

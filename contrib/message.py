@@ -1,55 +1,98 @@
 #!/usr/bin/env python3
-"""Makes a message for `mta submit`: message.py [--report] FROM TO IDENTIFIER < CONTENT > APDU.
+"""Makes an interpersonal message for `mta submit`, of a text on standard input and perhaps files.
 
-FROM and TO are O/R names with the parts C, A, P (or none) and S, as C=GB;A=GOLD;S=BELL, IDENTIFIER is 1 to 32 printable
-characters, and what is on standard input becomes the content, of type 22. With --report the delivery is reported too; a
-non-delivery always is.
+FROM and TO are O/R names in the text form of mta.tables(5), as C=GB;A=GOLD;S=BELL. IDENTIFIER is 1 to 32 printable
+characters: the message's own in the originator's domain, so never use one twice. The text is ASCII; other texts go as
+a file (--attach). The APDU is written to standard output.
 """
+import argparse
+import os
+import re
 import sys
 
+sys.path.insert(0, os.path.join(os.path.dirname(os.path.realpath(__file__)), "lib"))
+import p1  # noqa: E402
+import p22  # noqa: E402
 
-def element(tag, octets):
-    """An element of BER, in definite form."""
-    size = len(octets)
-    length = bytes([size]) if size < 128 else size.to_bytes((size.bit_length() + 7) // 8, "big")
-    return bytes([tag]) + (b"" if size < 128 else bytes([0x80 + len(length)])) + length + octets
-
-
-def domain_of(parts):
-    return (element(0x61, element(0x13, parts["C"])) + element(0x62, element(0x13, parts["A"])))
-
-
-def parts_of(name):
-    parts = dict(part.split("=", 1) for part in name.split(";"))
-    if not {"C", "A", "S"} <= set(parts) <= {"C", "A", "P", "S"}:
-        sys.exit(f"message.py: a name has the parts C, A, S and perhaps P here: {name}")
-    return {key: value.encode("ascii") for key, value in parts.items()}
-
-
-def name_of(parts):
-    private = element(0xA2, element(0x13, parts["P"])) if "P" in parts else b""
-    return element(0x60, element(0x30, domain_of(parts) + private + element(0xA5, element(0x80, parts["S"]))))
+LONGEST_IDENTIFIER = 32
 
 
 def message(sender, recipient, identifier, content, report=False):
-    sender, recipient = parts_of(sender), parts_of(recipient)
-    private = element(0x13, sender["P"]) if "P" in sender else b""
-    identifier = element(0x64, element(0x63, domain_of(sender) + private) + element(0x16, identifier.encode("ascii")))
-    # responsible, originating-MTA non-delivery report, and the originator's report: of both, or of non-delivery alone
-    indicators = element(0x81, b"\x00" + (b"\xb0" if report else b"\xa8"))
-    fields = element(0x31, name_of(recipient) + element(0x80, b"\x01") + indicators)
-    # content type 22, and no trace: nobody relayed it yet
-    envelope = name_of(sender) + identifier + element(0x46, b"\x16") + element(0x69, b"") + element(0xA2, fields)
-    return element(0xA0, element(0x31, envelope) + element(0x04, content))
+    """A message to one recipient with these octets as its content, of type 22."""
+    return p1.message_octets(p1.name_from(sender), [p1.name_from(recipient)], identifier, content, report=report)
+
+
+def name(text):
+    try:
+        return p1.name_from(text)
+    except p1.BadName as why:
+        raise argparse.ArgumentTypeError(why) from None
+
+
+def identifier(text):
+    if not 1 <= len(text) <= LONGEST_IDENTIFIER or not text.isascii() or not text.isprintable():
+        raise argparse.ArgumentTypeError(f"an identifier has 1 to {LONGEST_IDENTIFIER} printable characters: {text!r}")
+    return text
+
+
+def moment(text):
+    if not re.fullmatch(r"\d{12}Z", text):
+        raise argparse.ArgumentTypeError(f"a moment is YYMMDDhhmmssZ, and not {text!r}")
+    return text
+
+
+def words():
+    it = argparse.ArgumentParser(prog="message.py", description=__doc__,
+                                 formatter_class=argparse.RawDescriptionHelpFormatter)
+    it.add_argument("sender", metavar="FROM", type=name)
+    it.add_argument("to", metavar="TO", type=name, nargs="+")
+    it.add_argument("identifier", metavar="IDENTIFIER", type=identifier)
+    it.add_argument("--copy", metavar="NAME", type=name, action="append", default=[],
+                    help="another recipient, who is named as one of a copy")
+    it.add_argument("--subject", metavar="TEXT", default="", help="1 to 128 characters of ASCII")
+    it.add_argument("--attach", metavar="FILE", action="append", default=[], help="a file that goes with the text")
+    it.add_argument("--report", action="store_true",
+                    help="ask for a report of each delivery; a non-delivery is always reported")
+    it.add_argument("--priority", choices=sorted(p1.PRIORITIES.values()), default="normal")
+    it.add_argument("--deferred", metavar="MOMENT", type=moment, help="not to be delivered before, as YYMMDDhhmmssZ")
+    it.add_argument("--latest", metavar="MOMENT", type=moment, help="latest delivery time, as YYMMDDhhmmssZ")
+    it.add_argument("--raw", metavar="TYPE", type=int,
+                    help="standard input is the content as it is, of this content type (0 to 32767)")
+    return it
+
+
+def content_of(said, standard_input):
+    if said.raw is not None:
+        return standard_input
+    subject = said.subject
+    if len(subject) > p22.LONGEST_SUBJECT or not subject.isascii() or not subject.isprintable():
+        sys.exit(f"message.py: a subject has at most {p22.LONGEST_SUBJECT} characters of ASCII")
+    if not standard_input.isascii():
+        sys.exit("message.py: the text is not ASCII; give it as a file, by --attach")
+    files = []
+    for path in said.attach:
+        with open(path, "rb") as file:
+            files.append((os.path.basename(path).encode("ascii", "replace").decode("ascii"), file.read()))
+    text = standard_input.decode("ascii")
+    # X.420 has a PrintableString there
+    own = "".join(it if it in p1.PRINTABLE else "-" for it in said.identifier)
+    return p22.content_of(said.sender, said.to, said.copy, own, subject, text, files)
 
 
 def main():
-    words = sys.argv[1:]
-    report = words[:1] == ["--report"]
-    words = words[report:]
-    if len(words) != 3:
-        sys.exit("usage: message.py [--report] FROM TO IDENTIFIER < CONTENT > APDU")
-    sys.stdout.buffer.write(message(*words, sys.stdin.buffer.read(), report))
+    said = words().parse_args()
+    kind = p22.CONTENT_TYPE if said.raw is None else said.raw
+    if not 0 <= kind <= 32767:
+        sys.exit("message.py: a content type is 0 to 32767")
+    try:
+        content = content_of(said, sys.stdin.buffer.read())
+    except OSError as why:
+        sys.exit(f"message.py: {why}")
+    octets = p1.message_octets(said.sender, said.to + said.copy, said.identifier, content, kind, said.report,
+                               said.priority, said.deferred, said.latest)
+    if len(octets) > p1.LONGEST:
+        sys.exit(f"message.py: the APDU has {len(octets)} octets, and mta takes {p1.LONGEST}")
+    sys.stdout.buffer.write(octets)
 
 
 if __name__ == "__main__":

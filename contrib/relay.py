@@ -25,7 +25,7 @@ def shut(connection):
 
 
 def carry(source, to, limit=None, end=shut):
-    """Carries octets one way, up to the limit; behind it both connections are ended."""
+    """Carries octets one way, up to the limit; after it both connections are ended."""
     went = 0
     try:
         while octets := source.recv(65536):
@@ -45,7 +45,7 @@ def main():
     file, port = sys.argv[1], int(sys.argv[2])
     limit = int(sys.argv[3]) if len(sys.argv) > 3 else None
     with socket.create_server(("127.0.0.1", 0)) as listener:
-        listener.settimeout(60)  # a caller that never comes keeps nobody waiting
+        listener.settimeout(600)  # a caller that never comes keeps nobody waiting
         with open(f"{file}.new", "w") as it:
             it.write(f"{listener.getsockname()[1]}\n")
         os.replace(f"{file}.new", file)

@@ -1,4 +1,4 @@
--- A dissector for Wireshark of associations as docs/PROTOCOL.md has them: every unit, and behind each End the
+-- A dissector for Wireshark of associations as docs/PROTOCOL.md has them: every unit, and after each End the
 -- message that its pieces spell, which goes to Wireshark's own dissector of P1. Pieces are joined over all
 -- connections of a lane.
 
@@ -336,7 +336,7 @@ function association.dissector(tvb, pinfo, root)
   return tvb:len()
 end
 
--- A connection whose first unit is an Open is known by it: a short name as IA5String and a SEQUENCE behind it.
+-- A connection whose first unit is an Open is known by it: a short name as IA5String and a SEQUENCE after it.
 local function is_open(tvb, pinfo, root)
   if tvb:len() < 9 or tvb(0, 4):uint() > 4096 then return false end
   if tvb(4, 1):uint() ~= 1 or tvb(5, 1):uint() ~= 0x16 then return false end

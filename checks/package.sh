@@ -1,0 +1,31 @@
+#!/usr/bin/env bash
+# Builds the package for Debian and puts its files into a folder: the program runs from there, each of its commands has a
+# page, and lintian finds nothing in it, where that is installed. Run it at the top of the repository.
+set -u
+cd "$(dirname "$0")/.." || exit 2
+. checks/program.bash
+program dpkg-buildpackage dh dpkg-deb
+wrong=0
+packaging/build.sh --program "$mta" "$made/package" >"$made/said" || { echo "the package is not built"; exit 1; }
+package=$(ls "$made"/package/*.deb)
+dpkg-deb -x "$package" "$made/root" || exit 1
+cp samples/mta.tables "$made/mta.tables"
+got=$(cd "$made" && root/usr/bin/mta submit <"$OLDPWD/samples/message.ber")
+[ "$got" = "accepted 1" ] || { echo "the installed program: $got"; wrong=1; }
+"$made/root/usr/bin/mta-log" "$made" >"$made/log" || { echo "the installed mta-log ended with $?"; wrong=1; }
+grep -q " deliver item 1 " "$made/log" || { echo "the installed mta-log: $(cat "$made/log")"; wrong=1; }
+for command in "$made"/root/usr/bin/*; do
+  name=$(basename "$command")
+  [ -e "$made/root/usr/share/man/man1/$name.1.gz" ] || { echo "$name has no page"; wrong=1; }
+done
+for file in lib/systemd/system/mta@.service usr/lib/sysusers.d/mta.conf usr/lib/tmpfiles.d/mta.conf; do
+  [ -e "$made/root/$file" ] || { echo "no $file in the package"; wrong=1; }
+done
+if command -v lintian >/dev/null; then
+  said=$(lintian --fail-on error,warning "$package" 2>/dev/null) || wrong=1
+  [ -z "$said" ] || echo "$said"
+else
+  echo "skipped: lintian is not on the PATH"
+fi
+echo "$(basename "$package") is built, and its files run from a folder"
+exit "$wrong"
