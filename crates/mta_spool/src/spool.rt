@@ -54,6 +54,7 @@ pub enum Turned {
 }
 
 /// A spool on one disk, which takes its moments from one clock.
+#[derive(Drop)]
 pub struct Spool<D: Disk + Drop, C: Clock + Drop> {
     pub(crate) alloc: Global,
     pub(crate) journal: Journal<D>,
@@ -62,20 +63,6 @@ pub struct Spool<D: Disk + Drop, C: Clock + Drop> {
     // The steps that were made since it was opened, and what it was opened with: for clauses alone.
     pub(crate) entries: Entries,
     pub(crate) opened: AtOpening<D, C>,
-}
-
-// Written out, since a derived one is opened anew, field by field, at each place where a value is let go.
-impl<D: Disk + Drop, C: Clock + Drop> Drop for Spool<D, C> {
-    fn drop(self) {
-        let Spool {
-            alloc: _,
-            journal: _,
-            clock: _,
-            replay: _,
-            entries: _,
-            opened: _,
-        } = self;
-    }
 }
 
 impl<D: Disk + Drop, C: Clock + Drop> Model for Spool<D, C> {
