@@ -138,7 +138,7 @@ loop-sessions-preserved g c =
         | then-is_closed w ↦ omega (arith, i.few, w.closed-is)
         | else-is_closed w ↦ omega (arith, i.few, w.closed-is)
       ];
-      most = room;
+      most = omega (arith, room);
       served = (
         i.served.0 ++ record {
           station = c.back.new.self;
