@@ -43,12 +43,23 @@ impl<'a, R: Host> Origin<'a, R> {
 }
 
 /// A station whose links are connections. Its `next` never answers that no link is left.
-#[derive(Drop)]
 pub struct TcpStation<'a, R> {
     role: Role,
     origin: Origin<'a, R>,
     out: u64,
     faults: u64,
+}
+
+// Written out, since a derived one is opened anew, field by field, at each place where a value is let go.
+impl<'a, R> Drop for TcpStation<'a, R> {
+    fn drop(self) {
+        let TcpStation {
+            role: _,
+            origin: _,
+            out: _,
+            faults: _,
+        } = self;
+    }
 }
 
 impl<'a, R> Model for TcpStation<'a, R> {
