@@ -7,5 +7,3 @@ mod files;
 mod links;
 #[cfg(test)]
 mod peers;
-#[cfg(test)]
-mod stations;

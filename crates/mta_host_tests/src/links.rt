@@ -46,30 +46,7 @@ fn a_peer_gives_nothing(rt: HostRuntime) -> Result<(), Fail> {
     Ok(())
 }
 
-// An octet comes every 20 ms, so the peer is never silent for 200 ms, and gives 10 octets in this time.
-#[test]
-fn a_peer_gives_a_unit_too_slowly(rt: HostRuntime) -> Result<(), Fail> {
-    let mut patience = short();
-    patience.silence = Duration::from_millis(200);
-    let mut station = TcpStation::listening(&rt, 0, patience);
-    let (mut peer, mut link) = called(&rt, &mut station)?;
-    peer.write_all(&[0, 0, 100, 0, 5])?;
-    let mut buffer = [0u8; 16];
-    let mut count = 0;
-    for _ in 0..100 {
-        if link.get(&mut buffer).is_err() {
-            break;
-        }
-        count += 1;
-        thread::sleep(&rt, Duration::from_millis(20));
-        peer.write_all(&[7])?;
-    }
-    assert!(rt; 4 < count && count < 20, "{count} octets came");
-    assert_eq!(rt; link.get(&mut buffer), Err(Failed));
-    Ok(())
-}
-
-// As slow, but each unit has six octets and is whole in time.
+// A peer that gives an octet each 10 milliseconds, of units of six octets, which are whole in time.
 #[test]
 fn a_peer_gives_short_units_slowly(rt: HostRuntime) -> Result<(), Fail> {
     let mut patience = short();
@@ -128,15 +105,5 @@ fn a_long_piece_is_taken_by_one_call(rt: HostRuntime) -> Result<(), Fail> {
     let mut read = Vec::new(rt.alloc());
     assert_eq!(rt; peer.read_to_end(&mut read)?, 65_536);
     assert!(rt; read.iter().all(|octet| *octet == 7));
-    Ok(())
-}
-
-// A link that comes back is closed, so its peer reads to the end.
-#[test]
-fn a_link_that_comes_back_is_closed(rt: HostRuntime) -> Result<(), Fail> {
-    let mut station = listening(&rt);
-    let (mut peer, link) = called(&rt, &mut station)?;
-    station.back(link);
-    assert_eq!(rt; peer.read(&mut [0u8; 1])?, 0);
     Ok(())
 }
