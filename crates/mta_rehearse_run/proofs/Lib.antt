@@ -1,9 +1,0 @@
-pub mod Different
-pub mod Ends
-pub mod LoopTraces
-pub mod Names
-pub mod OneWalk
-pub mod Parts
-pub mod Paths
-pub mod Statuses
-pub mod Told
