@@ -1,8 +1,8 @@
 """APDUs of P1 (X.411) and O/R names (X.402): what the tools beside `mta` read of them, and messages written."""
 from functools import cached_property
 
-import ber
-from ber import APPLICATION, CONTEXT, NUMERIC_STRING, PRINTABLE_STRING, UNIVERSAL, element, sequence, set_of
+import x690 as ber
+from x690 import APPLICATION, CONTEXT, NUMERIC_STRING, PRINTABLE_STRING, UNIVERSAL, element, sequence, set_of
 
 KINDS = {0: "message", 1: "report", 2: "probe"}
 PRIORITIES = {0: "normal", 1: "non-urgent", 2: "urgent"}

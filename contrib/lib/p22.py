@@ -1,7 +1,7 @@
 """Interpersonal messages (X.420, content type 22): a heading, a text part and files, written and read."""
-import ber
+import x690 as ber
 import p1
-from ber import APPLICATION, CONTEXT, UNIVERSAL, element, object_identifier, sequence, set_of, tagged
+from x690 import APPLICATION, CONTEXT, UNIVERSAL, element, object_identifier, sequence, set_of, tagged
 
 CONTENT_TYPE = 22
 LONGEST_SUBJECT = 128

@@ -4,7 +4,7 @@ import os
 import signal
 import sys
 
-import ber
+import x690 as ber
 import journal
 import state
 
