@@ -8,6 +8,7 @@ mod disk;
 mod dues;
 mod journal;
 mod message;
+mod rehearse;
 mod rules;
 mod shared;
 mod tables;
@@ -17,7 +18,9 @@ use anyhow::Result;
 use std::env;
 
 fn usage(rt: &impl Print) -> Result<()> {
-    println!(rt; "usage: mta_bench apdu|ber|dues|journal|rules|shared|tables|units WORDS")?;
+    println!(rt;
+        "usage: mta_bench apdu|ber|dues|journal|rehearse|rules|shared|tables|units WORDS"
+    )?;
     Ok(())
 }
 
@@ -34,6 +37,7 @@ fn main(rt: HostRuntime) -> Result<()> {
         "ber" => ber::timed(&rt, words),
         "dues" => dues::timed(&rt, words),
         "journal" => journal::timed(&rt, words),
+        "rehearse" => rehearse::timed(&rt, words),
         "rules" => rules::timed(&rt, words),
         "shared" => shared::timed(&rt, words),
         "tables" => tables::timed(&rt, words),

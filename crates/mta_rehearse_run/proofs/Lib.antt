@@ -1,0 +1,14 @@
+pub mod Called
+pub mod Checked
+pub mod Different
+pub mod Ends
+pub mod LongTexts
+pub mod LoopTraces
+pub mod Names
+pub mod OneWalk
+pub mod Outcomes
+pub mod Parts
+pub mod Paths
+pub mod Statuses
+pub mod Texts
+pub mod Told

@@ -1,0 +1,12 @@
+pub mod Agents
+pub mod Asked
+pub mod Laws
+pub mod Network
+pub mod Output
+pub mod Ran
+pub mod Rehearsal
+pub mod Stops
+pub mod Traces
+pub mod Turns
+pub mod WalkText
+pub mod Walks
