@@ -1,7 +1,7 @@
 #!/usr/bin/env bash
-# docs/p1.asn1 is a module that asn1c compiles, and the decoder that it makes of it reads the samples. Left out are those
-# in indefinite lengths, where asn1c's decoder takes no strings in segments of the forms that X.690 has for them, and
-# one whose parts that mta keeps unread have other types than the standard's. Run it at the top of the repository.
+# docs/p1.asn1 is a module that asn1c compiles, and the decoder that it makes of it reads the samples. Left out are
+# those in indefinite lengths, where asn1c's decoder takes no strings in segments of the forms that X.690 has for them,
+# and one whose parts that mta keeps unread have other types than the standard's. Run it at the top of the repository.
 set -u
 cd "$(dirname "$0")/.." || exit 2
 top=$PWD

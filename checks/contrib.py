@@ -4,6 +4,7 @@
 What is wanted is what `mta spool` and `mta read` print, what was handed over, and the standards' layouts as Wireshark
 has them.
 """
+import contextlib
 import json
 import os
 import re
@@ -12,6 +13,7 @@ import socket
 import subprocess
 import sys
 import time
+from concurrent.futures import ThreadPoolExecutor
 
 TOP = os.path.dirname(os.path.dirname(os.path.abspath(__file__)))
 CONTRIB = f"{TOP}/contrib"
@@ -22,6 +24,7 @@ import p22  # noqa: E402
 import state  # noqa: E402
 
 MTA, MADE = os.path.abspath(sys.argv[1]), sys.argv[2]
+AT_ONCE = 4  # tools that are tried side by side
 FULL_NAME = ("C=GB;A=GOLD;P=X Y;O=WORKS;OU=NORTH;OU=LAB 2;S=BELL;G=ALEX;I=A;Q=JR;CN=ALEX BELL;X121=123;TID=T;UID=9;"
              "DDA:RFC-822=a(a)b.c")
 
@@ -88,6 +91,35 @@ def meet(caller, peer, called, limit=None):
     if limit:
         relay.wait(60)
     return said
+
+
+@contextlib.contextmanager
+def serving(folder, *stations):
+    """An agent that serves a million sessions at these stations."""
+    it = subprocess.Popen([MTA, "serve", "1000000", *stations], cwd=folder, stdout=subprocess.DEVNULL)
+    try:
+        yield it
+    finally:
+        it.kill()
+        it.wait()
+
+
+def until(what, seconds=30):
+    """Waits until the call answers something."""
+    end = time.monotonic() + seconds
+    while not what():
+        if time.monotonic() > end:
+            raise Wrong(f"not within {seconds} s")
+        time.sleep(0.05)
+
+
+def of_manual(pattern):
+    """What the group of a pattern is in the manual, which has it."""
+    with open(f"{TOP}/docs/MANUAL.md", encoding="utf-8") as file:
+        found = re.search(pattern, file.read(), re.S)
+    if not found:
+        raise Wrong(f"docs/MANUAL.md has no {pattern}")
+    return found[1]
 
 
 # ---- what the steps leave
@@ -166,9 +198,9 @@ def histories():
                                              f"S{time.time_ns() % 10 ** 9:09d}"))
         meet(gold, "SILVER-1", silver)
     # one that breaks on its way, is seen so at both ends, and goes on
-    long = tool("message.py", "--raw", "22", bell, "C=US;A=SILVER;S=MORSE", "LONG", octets=bytes(20000))
+    long = tool("message.py", "--raw", "22", bell, "C=US;A=SILVER;S=MORSE", "LONG", octets=bytes(5000))
     mta(gold, "submit", octets=long)
-    meet(gold, "SILVER-1", silver, 12000)
+    meet(gold, "SILVER-1", silver, 3000)
     lines = [lane_line(it) for folder in (gold, silver) for it in same_queue(folder).lanes if it.is_open]
     if not any(" send sending " in it for it in lines) or not any(" receive partial " in it for it in lines):
         raise Wrong(f"no lane shows the break: {lines}")
@@ -207,28 +239,26 @@ def try_log(gold, silver):
 def try_follow(gold, silver):
     """Steps are seen while the agent serves, and has the lock."""
     port = a_port()
-    serving = subprocess.Popen([MTA, "serve", "3", f"in:{port}"], cwd=silver, stdout=subprocess.DEVNULL)
-    words = [f"{CONTRIB}/mta-log", "--follow", "--brief", silver]
-    log = subprocess.Popen(words, stdout=subprocess.PIPE, text=True)
-    try:
-        agent("gold", *GOLD)
-        mta(gold, "submit", octets=message("C=GB;A=GOLD;S=BELL", "C=US;A=SILVER;S=MORSE", "LIVE"))
-        mta(gold, "serve", "1", f"out:SILVER-1:127.0.0.1:{port}")
-        steps = []
-        for line in log.stdout:
-            steps.append(line)
-            if " deliver " in line and "/LIVE " in line:
-                break
-        if not re.search(r" complete lane \d+ in GOLD-1 .*/LIVE .*to C=US;A=SILVER;S=MORSE", "".join(steps)):
-            raise Wrong(f"mta-log --follow has\n{''.join(steps)}")
-        if serving.poll() is not None:
-            raise Wrong("the agent had ended")
-        try_live(silver, port)
-    finally:
-        log.kill()
-        log.wait()
-        serving.kill()
-        serving.wait()
+    with serving(silver, f"in:{port}") as serves:
+        words = [f"{CONTRIB}/mta-log", "--follow", "--brief", silver]
+        log = subprocess.Popen(words, stdout=subprocess.PIPE, text=True)
+        try:
+            agent("gold", *GOLD)
+            mta(gold, "submit", octets=message("C=GB;A=GOLD;S=BELL", "C=US;A=SILVER;S=MORSE", "LIVE"))
+            mta(gold, "serve", "1", f"out:SILVER-1:127.0.0.1:{port}")
+            steps = []
+            for line in log.stdout:
+                steps.append(line)
+                if " deliver " in line and "/LIVE " in line:
+                    break
+            if not re.search(r" complete lane \d+ in GOLD-1 .*/LIVE .*to C=US;A=SILVER;S=MORSE", "".join(steps)):
+                raise Wrong(f"mta-log --follow has\n{''.join(steps)}")
+            if serves.poll() is not None:
+                raise Wrong("the agent had ended")
+            try_live(silver, port)
+        finally:
+            log.kill()
+            log.wait()
 
 
 def try_live(silver, port):
@@ -262,6 +292,38 @@ def try_check():
         text = file.read()
     counts = re.findall(r'^mta_(?:pending|deferred)_recipients\{agent="waiting"\} (\d+)$', text, re.M)
     want("metrics", counts, ["2", "1"])
+
+
+def stations_of(folder):
+    try:
+        with open(f"{folder}/mta.stations", encoding="utf-8") as file:
+            return file.read()
+    except FileNotFoundError:
+        return ""
+
+
+def try_stations():
+    """mta.stations, of an agent that is well, and of one whose port another has and whose peer is not there."""
+    well, ill, port, dead = agent("well", *GOLD), agent("ill", *GOLD), a_port(), a_port()
+    mta(ill, "submit", octets=message("C=GB;A=GOLD;S=BELL", "C=FR;A=X;S=Y", "ILL"))
+    for words in (["watch.sh", ill], ["check-mta", "--stations", ill]):
+        tool(*words, status=2 if words[0] == "watch.sh" else 3)
+    with serving(well, f"in:{port}"):
+        until(lambda: " since 0 " not in stations_of(well) and stations_of(well))
+        want("watch.sh of an agent that is well", tool("watch.sh", well), b"")
+        said = tool("check-mta", "--stations", well).decode()
+        if not said.startswith("MTA OK: "):
+            raise Wrong(f"check-mta --stations of an agent that is well: {said}")
+        with serving(ill, f"in:{port}", f"out:NOBODY:127.0.0.1:{dead}"):
+            until(lambda: " error 98 " in stations_of(ill) and " error 111 " in stations_of(ill))
+            lines = tool("watch.sh", ill, status=1).decode().splitlines()
+            said = tool("check-mta", "--stations", ill, status=2).decode()
+    if [re.sub(r" at \d+: .*", "", it) for it in lines] != [f"station 1 in {port} does not listen,",
+                                                           f"station 2 out 127.0.0.1:{dead} is not reached,"]:
+        raise Wrong(f"watch.sh: {lines}")
+    for line in lines:
+        if line not in said:
+            raise Wrong(f"check-mta --stations has no {line!r}: {said}")
 
 
 def try_apdu(gold):
@@ -300,6 +362,51 @@ def try_pending():
     want("the new mailbox", mta(new, "read", "watt"), "")
     full = sample("message-indefinite.ber")
     want("an indefinite message", p1.apdu_of(p1.without_responsibility(full, {1})).recipients[0].bits[0], "0")
+
+
+def try_restore():
+    """A copy that is put in the place of a spool, as the manual says: what was sent since is sent again, and numbers
+    are given again. What was pending in the copy can be taken out of it in place of that."""
+    gold, silver = agent("restored", *GOLD), agent("peer", *SILVER)
+    mta(gold, "submit", octets=message("C=GB;A=GOLD;S=BELL", "C=US;A=SILVER;S=MORSE", "AGAIN"))
+    shutil.copy(f"{gold}/mta.spool", f"{MADE}/copy.spool")
+    meet(gold, "SILVER-1", silver)
+    mta(gold, "submit", octets=message("C=GB;A=GOLD;S=BELL", "C=GB;A=GOLD;S=WATT", "GONE"))
+    shutil.copy(f"{MADE}/copy.spool", f"{gold}/mta.spool")
+    want("the number behind a restored spool", mta(gold, "submit", octets=sample("message.ber")), "accepted 2\n")
+    meet(gold, "SILVER-1", silver)
+    want("messages", re.findall("^message .*", mta(silver, "read", "morse"), re.M), ["message C=GB;A=GOLD/AGAIN"] * 2)
+    want("what was accepted since", "GONE" in mta(gold, "spool"), False)
+    said = tool("mta-apdu", "--pending", f"{MADE}/of-copy", f"{MADE}/copy.spool").decode()
+    want("what was pending", said, "item 1 message C=GB;A=GOLD/AGAIN pending 1\n")
+
+
+def try_direct():
+    """The manual's command that reads a spool past the memory of the system."""
+    folder, other = agent("direct", *GOLD), f"{MADE}/direct-copy"
+    mta(folder, "submit", octets=sample("message.ber"))
+    os.makedirs(other)
+    words = of_manual(r"`(dd if=mta\.spool [^`]*)`").replace("/other", other).split()
+    said = subprocess.run(words, cwd=folder, capture_output=True, text=True)
+    if "Invalid argument" in said.stderr:
+        print("skipped: the file system has no direct reads")
+        return
+    want("a copy that was read directly", mta(other, "spool"), mta(folder, "spool"))
+
+
+def try_readme():
+    """The block of contrib/README.md, as it stands: the last command prints the report."""
+    with open(f"{CONTRIB}/README.md", encoding="utf-8") as file:
+        block = "".join(re.findall(r"^    (.*\n)", file.read().split("The three of `sample`", 1)[1], re.M))
+    place = f"{MADE}/readme"
+    os.makedirs(f"{place}/out")
+    os.symlink(CONTRIB, f"{place}/contrib")
+    path = f"{os.path.dirname(MTA)}:{os.environ['PATH']}"
+    said = ran(["bash", "-e", "-c", block + "kill $!\n"], place, env={**os.environ, "PATH": path}, timeout=120).decode()
+    message_is, report_is = "message C=GB;A=GOLD/N0001", "subject C=GB;A=GOLD/N0001"
+    for line in ("accepted 1", "station 1 sessions 1 closed 1", message_is, report_is):
+        if line not in said.splitlines():
+            raise Wrong(f"the block of contrib/README.md does not print {line!r}:\n{said}")
 
 
 def record(kind, *values):
@@ -473,15 +580,26 @@ def try_submit():
     want("deliveries", len(re.findall(r"^delivered", mta(hub, "read", "watt"), re.M)), 4)
 
 
+def tried(name, call):
+    began = time.monotonic()
+    call()
+    print(f"{name}: as it has to be, after {time.monotonic() - began:.1f} s", flush=True)
+
+
 def main():
-    gold, silver = histories()
-    tools = (("mta-log", lambda: try_log(gold, silver)), ("mta-log --follow", lambda: try_follow(gold, silver)),
-             ("check-mta", try_check), ("mta-apdu", lambda: try_apdu(gold)), ("mta-apdu --pending", try_pending),
-             ("mta-apdu, in doubt", try_doubt),
-             ("message.py", try_message), ("tables-check.py", try_tables), ("submit.sh", try_submit))
-    for name, call in tools:
-        call()
-        print(f"{name}: as it has to be")
+    made = []
+    tried("two agents with every kind of step", lambda: made.extend(histories()))
+    gold, silver = made
+    tried("mta-log", lambda: try_log(gold, silver))
+    tried("mta-log --follow", lambda: try_follow(gold, silver))
+    tools = (("check-mta", try_check), ("mta.stations", try_stations), ("mta-apdu", lambda: try_apdu(gold)),
+             ("mta-apdu --pending", try_pending), ("mta-apdu, in doubt", try_doubt), ("a restored spool", try_restore),
+             ("a direct copy", try_direct), ("message.py", try_message), ("tables-check.py", try_tables),
+             ("submit.sh", try_submit), ("contrib/README.md", try_readme))
+    # each of these has files of its own
+    with ThreadPoolExecutor(AT_ONCE) as pool:
+        for job in [pool.submit(tried, *it) for it in tools]:
+            job.result()
 
 
 try:

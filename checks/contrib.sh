@@ -1,12 +1,13 @@
 #!/usr/bin/env bash
-# The tools of contrib: what they say of spools is what `mta spool` and `mta read` print, what they make is read by `mta`
-# and by Wireshark's dissector, and install.sh puts everything in place and takes it out. Run it at the top of the
-# repository.
+# The tools of contrib: what they say of spools is what `mta spool` and `mta read` print, what they make is read by
+# `mta` and by Wireshark's dissector, and install.sh puts everything in place and takes it out. Run it at the top of
+# the repository.
 set -u
 cd "$(dirname "$0")/.." || exit 2
 . checks/program.bash
 program python3
 wrong=0
 PYTHONDONTWRITEBYTECODE=1 python3 checks/contrib.py "$mta" "$made" || wrong=1
+found mta_rehearse
 bash checks/install.bash "$mta" "$made" || wrong=1
 exit "$wrong"

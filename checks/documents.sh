@@ -1,7 +1,7 @@
 #!/usr/bin/env bash
-# The documents are true as far as a program can see: each name that they cite exists, the manual pages are in order, one
-# version stands everywhere, and the text blocks of README.md, docs/MANUAL.md and the pages are what the program prints.
-# Run it at the top of the repository.
+# The documents are true as far as a program can see: each name that they cite exists, the manual pages are in order,
+# one version stands everywhere, and the text blocks of README.md, docs/MANUAL.md and the pages are what the programs
+# print. Run it at the top of the repository.
 set -u
 cd "$(dirname "$0")/.." || exit 2
 wrong=0
@@ -30,5 +30,6 @@ for document in README.md docs/MANUAL.md man/*; do
 done
 . checks/program.bash
 program
-python3 checks/texts.py "$mta" || wrong=1
+found mta_rehearse
+python3 checks/texts.py "$mta" "$found" || wrong=1
 exit "$wrong"

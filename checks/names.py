@@ -105,7 +105,8 @@ def wrong_links(document):
 
 def main():
     words = set()
-    for path in [*sources(), "crates.txt", *glob.glob("checks/*"), *glob.glob("contrib/*"), *glob.glob("crates/*/must-fail/*.edit")]:
+    beside = [it for place in ("checks/*", "contrib/*", "crates/*/must-fail/*.edit") for it in glob.glob(place)]
+    for path in [*sources(), "crates.txt", *beside]:
         if os.path.isfile(path):
             words.update(WORD.findall(text_of(path)))
             words.add(os.path.splitext(os.path.basename(path))[0])

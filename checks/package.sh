@@ -1,10 +1,11 @@
 #!/usr/bin/env bash
-# Builds the package for Debian and puts its files into a folder: the program runs from there, each of its commands has a
-# page, and lintian finds nothing in it, where that is installed. Run it at the top of the repository.
+# Builds the package for Debian and puts its files into a folder: the program runs from there, each of its commands has
+# a page, and lintian finds nothing in it, where that is installed. Run it at the top of the repository.
 set -u
 cd "$(dirname "$0")/.." || exit 2
 . checks/program.bash
 program dpkg-buildpackage dh dpkg-deb
+found mta_rehearse
 wrong=0
 packaging/build.sh --program "$mta" "$made/package" >"$made/said" || { echo "the package is not built"; exit 1; }
 package=$(ls "$made"/package/*.deb)
@@ -14,6 +15,9 @@ got=$(cd "$made" && root/usr/bin/mta submit <"$OLDPWD/samples/message.ber")
 [ "$got" = "accepted 1" ] || { echo "the installed program: $got"; wrong=1; }
 "$made/root/usr/bin/mta-log" "$made" >"$made/log" || { echo "the installed mta-log ended with $?"; wrong=1; }
 grep -q " deliver item 1 " "$made/log" || { echo "the installed mta-log: $(cat "$made/log")"; wrong=1; }
+cp samples/network.tables "$made/mta.tables"
+got=$(cd "$made" && root/usr/bin/mta_rehearse GOLD-1 'C=GB;A=EAST;S=MORSE' | tail -n 1)
+[ "$got" = "at EAST mailbox morse" ] || { echo "the installed mta_rehearse: $got"; wrong=1; }
 for command in "$made"/root/usr/bin/*; do
   name=$(basename "$command")
   [ -e "$made/root/usr/share/man/man1/$name.1.gz" ] || { echo "$name has no page"; wrong=1; }

@@ -18,10 +18,23 @@ built() {
   fi
 }
 
-# `program TOOL..` leaves, with a word and status 0, where a tool is missing. Else it sets `mta`, the program's path,
-# and `made`, a folder that goes when the check ends. The program is the proved one that the gate left; where that is
-# absent or old, the unproved one of ./demo, which is built in a minute or two, and this is said. A script that takes
-# times sets `timed=yes` and has the proved one, built if need be.
+# `found NAME` sets `found` to the path of a program: the proved one that the gate left; where that is absent or old,
+# the unproved one of ./demo, which is built in a minute or two. It says which. A script that takes times sets
+# `timed=yes` and has the proved one, built if need be.
+found() {
+  found=$PWD/crates/$1/out/$1
+  if [ "${timed:-no}" = no ] && is_old "$found"; then
+    found=$PWD/out/unproved/$1
+    if is_old "$found"; then python3 checks/unproved.py "$found" "$1" || exit 1; fi
+    echo "by the unproved program, $found"
+  else
+    built "$1"
+    [ "${timed:-no}" = yes ] || echo "by the proved program, $found"
+  fi
+}
+
+# `program TOOL..` leaves, with a word and status 0, where a tool is missing. Else it sets `mta`, the program's path as
+# `found` has it, and `made`, a folder that goes when the check ends.
 program() {
   local tool
   for tool in rt "$@"; do
@@ -29,12 +42,6 @@ program() {
   done
   made=$(mktemp -d)
   trap 'rm -rf "$made"' EXIT
-  mta=$PWD/crates/mta/out/mta
-  if [ "${timed:-no}" = no ] && is_old "$mta"; then
-    mta=$PWD/out/unproved/mta
-    if is_old "$mta"; then python3 checks/unproved.py "$mta" || exit 1; fi
-    echo "by the unproved program, $mta"
-  else
-    built mta
-  fi
+  found mta
+  mta=$found
 }

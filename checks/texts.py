@@ -1,29 +1,33 @@
 #!/usr/bin/env python3
-"""Compares the text blocks of README.md, docs/MANUAL.md and the pages of man/ with what the program prints:
-checks/texts.py MTA, with MTA the program's path.
+"""Runs the command blocks of README.md, docs/MANUAL.md, docs/PROTOCOL.md and the pages of man/, and compares what they
+print: checks/texts.py MTA MTA_REHEARSE, with the programs' paths.
 
 A block marked `console` has commands after `$ `, which go on after `> `, and what they print; the blocks of a document
-are run one after the other, in a folder with the samples, with the tools of contrib on the PATH under the names that
-contrib/install.sh gives them. A block marked `sh` is run as it stands, but for the line that calls ./demo, beside a
-folder samples/, and the block marked `text` after it is what it prints. YYMMDDhhmmssZ stands for any moment, and
+are run one after the other, beside a folder samples/, with the tools of contrib on the PATH under the names that
+contrib/install.sh gives them. A block marked `sh` is run as it stands, but for a line that calls ./demo, beside a
+folder samples/; a block marked `text` right after it is what it prints. YYMMDDhhmmssZ stands for any moment, and
 YYYY-MM-DDThh:mm:ssZ for one in ISO 8601. A block marked `tables` is a text of tables, which `submit` has to take. A
-literal display of a page is a console block where it has commands, and else a text of tables; one that names a place of
-its own (`/var/lib`, `.example`) is only shown.
+block of PROTOCOL.md without a mark that calls a program of checks/ has to end with status 0. A literal display of a
+page is a console block where it has commands, and else a text of tables. What a page shows of agents in /var/lib, or of
+other hosts, is run with the agents of contrib/sample, which have these names, and with this host.
 """
+import contextlib
 import os
 import re
 import shutil
+import signal
 import subprocess
 import sys
 import tempfile
 
 TOP = os.path.dirname(os.path.dirname(os.path.abspath(__file__)))
 MARK = "== next block =="
+LONGEST = 300  # seconds that a script may take
 
 
 def blocks(document):
     with open(f"{TOP}/{document}", encoding="utf-8") as file:
-        return re.findall(r"^```(\w+)\n(.*?)^```$", file.read(), re.M | re.S)
+        return re.findall(r"^```(\w*)\n(.*?)^```$", file.read(), re.M | re.S)
 
 
 def tools(folder):
@@ -35,11 +39,22 @@ def tools(folder):
         os.symlink(f"{TOP}/contrib/{file}", f"{folder}/{name}")
 
 
-def ran(script, folder, mta):
+def ran(script, folder, mta, **more):
     path = f"{os.path.dirname(mta)}:{BESIDE}:{os.environ['PATH']}"
-    how = {"env": {**os.environ, "PATH": path}, "stdin": subprocess.DEVNULL, "timeout": 1200}
-    said = subprocess.run(["bash", "-c", script], cwd=folder, capture_output=True, text=True, **how)
-    return said.stdout + said.stderr
+    how = {"env": {**os.environ, "PATH": path, **more}, "stdin": subprocess.DEVNULL, "start_new_session": True}
+    with tempfile.TemporaryFile("w+") as out, tempfile.TemporaryFile("w+") as err:
+        it = subprocess.Popen(["bash", "-c", script], cwd=folder, stdout=out, stderr=err, **how)
+        try:
+            it.wait(LONGEST)
+        except subprocess.TimeoutExpired:
+            err.write(f"no end within {LONGEST} s\n")
+        # what it began ends with it
+        with contextlib.suppress(ProcessLookupError):
+            os.killpg(it.pid, signal.SIGKILL)
+        it.wait()
+        out.seek(0)
+        err.seek(0)
+        return out.read() + err.read()
 
 
 def differs(document, wanted, got):
@@ -58,25 +73,40 @@ def split(block):
     return "".join(commands), "".join(it for it in lines if not it.startswith(("$ ", "> ")))
 
 
+def beside_samples(folder):
+    shutil.copytree(f"{TOP}/samples", f"{folder}/samples")
+    return folder
+
+
 def consoles(document, mta, made):
     found = [split(block) for kind, block in blocks(document) if kind == "console"]
-    folder = f"{made}/console"
-    shutil.copytree(f"{TOP}/samples", folder)
     script = "".join(f"{commands}echo '{MARK}'\n" for commands, _ in found)
-    got = ran(script, folder, mta).split(f"{MARK}\n")
+    got = ran(script, beside_samples(f"{made}/console"), mta).split(f"{MARK}\n")
     return sum(differs(document, wanted, said) for (_, wanted), said in zip(found, got)), len(found)
 
 
 def scripts(document, mta, made):
-    found, wrong = blocks(document), 0
-    pairs = [(a[1], b[1]) for a, b in zip(found, found[1:]) if a[0] == "sh" and b[0] == "text"]
-    for at, (script, wanted) in enumerate(pairs):
-        folder = f"{made}/script{at}"
-        shutil.copytree(f"{TOP}/samples", f"{folder}/samples")
+    """The `sh` blocks. One that installs is followed by a question where the commands are."""
+    found, wrong, count = blocks(document), 0, 0
+    for at, (kind, script) in enumerate(found):
+        if kind != "sh":
+            continue
+        count += 1
+        script = re.sub(r"^\./demo.*$", "", script, flags=re.M)
+        folder = beside_samples(f"{made}/script{at}")
+        if "contrib/install.sh" in script:
+            script = script.replace("contrib/install.sh", f"{TOP}/contrib/install.sh --program {mta}")
+            script += f"echo '{MARK}'\ntype -p mta mta-log mta-message\nmta-ipm --help | head -n 1\n"
+            got = ran(script, folder, mta, HOME=f"{made}/home{at}").rpartition(f"{MARK}\n")[2]
+            place = f"{made}/home{at}/mta/bin"
+            wanted = f"{place}/mta\n{place}/mta-log\n{place}/mta-message\nusage: mta-ipm [-h] [--folder FOLDER]\n"
+            wrong += differs(document, wanted, got)
+            continue
         os.makedirs(f"{folder}/out/unproved")
         shutil.copy(mta, f"{folder}/out/unproved/mta")
-        wrong += differs(document, wanted, ran(re.sub(r"^\./demo.*$", "", script, flags=re.M), folder, mta))
-    return wrong, len(pairs)
+        follows = found[at + 1] if at + 1 < len(found) else ("", "")
+        wrong += differs(document, follows[1] if follows[0] == "text" else "", ran(script, folder, mta))
+    return wrong, count
 
 
 def tables(document, mta, made):
@@ -90,19 +120,51 @@ def tables(document, mta, made):
     return wrong, len(found)
 
 
+def programs(document, mta, made):
+    found, wrong = [block for kind, block in blocks(document) if kind == "" and "python3 checks/" in block], 0
+    for at, block in enumerate(found):
+        folder = f"{made}/programs{at}"
+        os.mkdir(folder)
+        os.symlink(f"{TOP}/checks", f"{folder}/checks")
+        # what goes on in the background has to listen before the next line calls it
+        script = re.sub(r" &\n", " &\nsleep 2\n", block)
+        got = ran(f"set -e\n{script}wait\necho '{MARK}'\n", folder, mta)
+        if MARK not in got:
+            print(f"{document} has\n{block}which prints\n{got}")
+            wrong += 1
+    return wrong, len(found)
+
+
 def displays(page):
     """The literal displays of a manual page."""
     with open(f"{TOP}/{page}", encoding="utf-8") as file:
         found = re.findall(r"^\.Bd -literal[^\n]*\n(.*?)^\.Ed$", file.read(), re.M | re.S)
-    return [it.replace("\\&", "").replace("\\e", "\\") for it in found if "/var/lib" not in it and ".example" not in it]
+    return [it.replace("\\&", "").replace("\\e", "\\") for it in found]
+
+
+def with_agents(commands, folder):
+    """The commands with agents of contrib/sample in the folder: one that goes on is stopped, each `mta serve` is called
+    in the folder of the agent whose it is, and other hosts are this one."""
+    shutil.copytree(f"{TOP}/contrib/sample", f"{folder}/lib", dirs_exist_ok=True)
+    lines = commands.replace("/var/lib/mta", "lib").replace("gold.example", "127.0.0.1").splitlines()
+    script = "(cd lib/GOLD; mta submit) < samples/message.ber > /dev/null\n"
+    for line in lines:
+        if "--follow" in line:
+            line = f"timeout 3 {line} | grep -q ' deliver item 1 ' && echo it follows || echo status $?"
+        elif line.startswith("mta serve 1000000 "):
+            line = f"(cd lib/GOLD; exec timeout 20 {line}) &"
+        elif line.startswith("mta serve "):
+            line = f"(cd lib/SILVER; {line})"
+        script += f"{line}\n"
+    return script + "kill %1 2> /dev/null\n"
 
 
 def page_blocks(page, mta, made):
-    """The displays of a page, each in a folder with the samples: a command is one line of its own there."""
+    """The displays of a page, each beside a copy of the samples: a command is one line of its own there."""
     wrong = 0
     for at, block in enumerate(displays(page)):
-        folder = f"{made}/display{at}"
-        shutil.copytree(f"{TOP}/samples", folder)
+        folder = beside_samples(f"{made}/display{at}")
+        shutil.copytree(f"{TOP}/samples", folder, dirs_exist_ok=True)
         if "$ " not in block:
             with open(f"{folder}/mta.tables", "w", encoding="utf-8") as file:
                 file.write(block)
@@ -111,8 +173,12 @@ def page_blocks(page, mta, made):
         with open(f"{folder}/plan.pdf", "wb") as file:
             file.write(b"a plan")
         commands, wanted = split(re.sub(r"\\\n +", "", block))
-        got = ran("mta submit < message.ber > /dev/null\n" * ("mta.spool" in commands or "mta-content" in commands) + commands,
-                  folder, mta)
+        if "/var/lib" in commands or ".example" in commands:
+            commands = with_agents(commands, folder)
+            wanted = wanted or "it follows\n"
+        elif "mta.spool" in commands or "mta-content" in commands:
+            commands = "mta submit < message.ber > /dev/null\n" + commands
+        got = ran(commands, folder, mta)
         # a page shows what the first command prints, or nothing
         wrong += differs(page, wanted, got) if wanted else 0
         if "status" in got or "No such file" in got or "not found" in got:
@@ -127,19 +193,18 @@ BESIDE = ""  # the folder of the tools
 def main():
     global BESIDE
     mta, wrong, count = os.path.abspath(sys.argv[1]), 0, 0
+    jobs = [(it, (consoles, scripts, tables, programs)) for it in ("README.md", "docs/MANUAL.md", "docs/PROTOCOL.md")]
+    jobs += [(f"man/{page}", (page_blocks,)) for page in sorted(os.listdir(f"{TOP}/man"))]
     with tempfile.TemporaryDirectory() as beside:
         BESIDE = beside
         tools(beside)
-        for document in ("README.md", "docs/MANUAL.md"):
+        os.symlink(os.path.abspath(sys.argv[2]), f"{beside}/mta_rehearse")
+        for document, kinds in jobs:
             with tempfile.TemporaryDirectory() as made:
-                for kind in (consoles, scripts, tables):
+                for kind in kinds:
                     bad, all_of_it = kind(document, mta, made)
                     wrong, count = wrong + bad, count + all_of_it
-        for page in sorted(os.listdir(f"{TOP}/man")):
-            with tempfile.TemporaryDirectory() as made:
-                bad, all_of_it = page_blocks(f"man/{page}", mta, made)
-                wrong, count = wrong + bad, count + all_of_it
-    print(f"{count} blocks compared, {wrong} differ")
+    print(f"{count} blocks run and compared, {wrong} differ")
     sys.exit(wrong > 0)
 
 

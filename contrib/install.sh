@@ -1,10 +1,10 @@
 #!/usr/bin/env bash
 # Puts mta in place, or takes it out again: contrib/install.sh [--remove] [--program FILE] [PREFIX], /usr/local where no
-# PREFIX is named. It installs the program, the tools beside it, the manual pages, the completion for bash, the units for
-# systemd, the documents and the samples. FILE is the program; else it is the proved one that `rt ci` leaves at
-# crates/mta/out/mta or, where that is absent, the unproved one that ./demo leaves at out/unproved/mta. With DESTDIR in
-# the environment all goes below that folder, as for a package. --remove leaves what an agent has: /var/lib/mta, /etc/mta
-# and the user.
+# PREFIX is named. It installs the programs mta and mta_rehearse, the tools beside them, the manual pages, the
+# completion for bash, the units for systemd, the documents and the samples. FILE is the program mta, and mta_rehearse
+# the one beside it; else each is the proved one that `rt ci` leaves at crates/NAME/out/NAME or, where that is absent,
+# the unproved one that ./demo leaves at out/unproved/NAME. With DESTDIR in the environment all goes below that folder,
+# as for a package. --remove leaves what an agent has: /var/lib/mta, /etc/mta and the user.
 set -eu
 top=$(cd "$(dirname "$0")/.." && pwd)
 remove=no program="" prefix=/usr/local
@@ -21,10 +21,10 @@ done
 case $prefix in /*) ;; *) echo "install.sh: PREFIX is a path from the root, and not $prefix" >&2; exit 1 ;; esac
 root=${DESTDIR:-}$prefix
 share=$prefix/share/mta
-units="mta@.service mta-call@.service mta-call@.timer mta-failed@.service"
+units="mta@.service mta-call@.service mta-call@.timer mta-watch@.service mta-watch@.timer mta-failed@.service"
 # the tools as commands, each with its file
 tools="mta-log=mta-log mta-look=mta-look mta-apdu=mta-apdu mta-content=mta-content mta-ipm=mta-ipm check-mta=check-mta
-  mta-message=message.py mta-tables-check=tables-check.py mta-submit=submit.sh"
+  mta-message=message.py mta-tables-check=tables-check.py mta-submit=submit.sh mta-watch=watch.sh"
 
 if [ "$remove" = yes ]; then
   for tool in $tools; do rm -f "$root/bin/${tool%%=*}" "$root/share/man/man1/${tool%%=*}.1"; done
@@ -32,16 +32,22 @@ if [ "$remove" = yes ]; then
   for page in "$top"/man/*; do rm -f "$root/share/man/man${page##*.}/$(basename "$page")"; done
   for name in mta mta-look mta-log; do rm -f "$root/share/bash-completion/completions/$name"; done
   rm -rf "$root/share/mta" "$root/share/doc/mta"
-  rm -f "$root/bin/mta" "$root/lib/sysusers.d/mta.conf" "$root/lib/tmpfiles.d/mta.conf"
+  rm -f "$root/bin/mta" "$root/bin/mta_rehearse" "$root/lib/sysusers.d/mta.conf" "$root/lib/tmpfiles.d/mta.conf"
   echo "mta is taken out of $prefix; /var/lib/mta, /etc/mta and the user mta are left"
   exit 0
 fi
 
-if [ -z "$program" ]; then
-  program=$top/crates/mta/out/mta
-  [ -x "$program" ] || program=$top/out/unproved/mta
-fi
-[ -x "$program" ] || { echo "install.sh: no program; ./demo builds one without proofs, rt ci a proved one" >&2; exit 1; }
+# prints the path of the program $1
+found() {
+  for file in ${program:+"$(dirname "$program")/$1"} "$top/crates/$1/out/$1" "$top/out/unproved/$1"; do
+    [ -x "$file" ] && [ ! -d "$file" ] && { echo "$file"; return; }
+  done
+  echo "install.sh: no program $1; ./demo builds one without proofs, rt ci a proved one" >&2
+  exit 1
+}
+rehearse=$(found mta_rehearse)
+[ -n "$program" ] || program=$(found mta)
+[ -x "$program" ] || { echo "install.sh: $program is no program" >&2; exit 1; }
 
 # the file $2 as $1 below the prefix, with mode $3
 put() { install -D -m "${3:-644}" "$2" "$root/$1"; }
@@ -53,9 +59,8 @@ put_filled() {
 }
 
 put bin/mta "$program" 755
-for file in mta-log mta-look mta-apdu mta-content mta-ipm check-mta message.py tables-check.py submit.sh; do
-  put "share/mta/$file" "$top/contrib/$file" 755
-done
+put bin/mta_rehearse "$rehearse" 755
+for tool in $tools; do put "share/mta/${tool#*=}" "$top/contrib/${tool#*=}" 755; done
 for file in "$top"/contrib/lib/*.py; do put "share/mta/lib/$(basename "$file")" "$file"; done
 put share/mta/mta-why "$top/contrib/systemd/mta-why" 755
 for tool in $tools; do
@@ -73,9 +78,14 @@ for file in README.md docs/MANUAL.md docs/PROTOCOL.md docs/PROVED.md docs/p1.asn
   put "share/doc/mta/$(basename "$file")" "$top/$file"
 done
 for file in "$top"/samples/*; do put "share/doc/mta/samples/$(basename "$file")" "$file"; done
-for name in GOLD POST SILVER; do put "share/doc/mta/sample/$name/mta.tables" "$top/contrib/sample/$name/mta.tables"; done
+for name in GOLD POST SILVER; do
+  put "share/doc/mta/sample/$name/mta.tables" "$top/contrib/sample/$name/mta.tables"
+done
 
 if [ -z "${DESTDIR:-}" ]; then
-  echo "mta is in $prefix. For agents under systemd, once: systemd-sysusers; systemd-tmpfiles --create; and"
-  echo "systemctl daemon-reload. $prefix/share/doc/mta/MANUAL.md, \"Serving\", goes on from there."
+  echo "mta is in $prefix, its documents are in $prefix/share/doc/mta."
+  case $prefix in
+    /usr | /usr/local) echo "For agents under systemd go on with MANUAL.md there, \"Serving\"." ;;
+    *) echo "Its commands are found after: PATH=$prefix/bin:\$PATH" ;;
+  esac
 fi

@@ -42,7 +42,7 @@ def moment(text):
 
 
 def words():
-    it = argparse.ArgumentParser(prog="message.py", description=__doc__,
+    it = argparse.ArgumentParser(prog=os.path.basename(sys.argv[0]), description=__doc__,
                                  formatter_class=argparse.RawDescriptionHelpFormatter)
     it.add_argument("sender", metavar="FROM", type=name)
     it.add_argument("to", metavar="TO", type=name, nargs="+")

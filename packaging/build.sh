@@ -1,21 +1,28 @@
 #!/usr/bin/env bash
-# Builds the package for Debian of a program that is built: packaging/build.sh [--program FILE] [FOLDER], into FOLDER
-# (out/package). FILE is the program; else it is the proved one that `rt ci` leaves at crates/mta/out/mta or, where that
-# is absent, the unproved one that ./demo leaves at out/unproved/mta. It needs dpkg-dev and debhelper.
+# Builds the package for Debian of programs that are built: packaging/build.sh [--program FILE] [FOLDER], into FOLDER
+# (out/package). FILE is the program mta, and mta_rehearse the one beside it; else each is the proved one that `rt ci`
+# leaves at crates/NAME/out/NAME or, where that is absent, the unproved one that ./demo leaves at out/unproved/NAME. It
+# needs dpkg-dev and debhelper.
 set -eu
 top=$(cd "$(dirname "$0")/.." && pwd)
 program=""
-if [ "${1:-}" = --help ]; then sed -n '2,5s/^# //p' "$0"; exit 0; fi
+if [ "${1:-}" = --help ]; then sed -n '2,6s/^# //p' "$0"; exit 0; fi
 if [ "${1:-}" = --program ]; then program=$2; shift 2; fi
 to=${1:-$top/out/package}
 for tool in dpkg-buildpackage dh; do
   command -v "$tool" >/dev/null || { echo "build.sh: $tool is not on the PATH (dpkg-dev, debhelper)" >&2; exit 2; }
 done
-if [ -z "$program" ]; then
-  program=$top/crates/mta/out/mta
-  [ -x "$program" ] || program=$top/out/unproved/mta
-fi
-[ -x "$program" ] || { echo "build.sh: no program; ./demo builds one without proofs, rt ci a proved one" >&2; exit 1; }
+# prints the path of the program $1
+found() {
+  for file in ${program:+"$(dirname "$program")/$1"} "$top/crates/$1/out/$1" "$top/out/unproved/$1"; do
+    [ -x "$file" ] && [ ! -d "$file" ] && { echo "$file"; return; }
+  done
+  echo "build.sh: no program $1; ./demo builds one without proofs, rt ci a proved one" >&2
+  exit 1
+}
+rehearse=$(found mta_rehearse)
+[ -n "$program" ] || program=$(found mta)
+[ -x "$program" ] || { echo "build.sh: $program is no program" >&2; exit 1; }
 version=$(sed -n '1s/.*(\(.*\)).*/\1/p' "$top/packaging/debian/changelog")
 made=$(mktemp -d)
 trap 'rm -rf "$made"' EXIT
@@ -25,6 +32,7 @@ cp -r "$top/contrib" "$top/man" "$top/docs" "$top/samples" "$top/README.md" "$so
 cp -r "$top/packaging/debian" "$source/debian"
 find "$source" -name __pycache__ -prune -exec rm -rf {} +
 cp "$program" "$source/mta"
+cp "$rehearse" "$source/mta_rehearse"
 (cd "$source" && dpkg-buildpackage --build=binary --no-sign) >"$made/log" 2>&1 || { cat "$made/log" >&2; exit 1; }
 cp "$made"/mta_*.deb "$to/"
 echo "$to/$(basename "$made"/mta_*.deb), of $program"

@@ -51,8 +51,9 @@ class Agent:
     def submit(self, octets):
         return self.run("submit", given=octets)
 
-    def serve(self, *words):
-        self.serving = subprocess.Popen([self.mta, "serve", *words], cwd=self.folder, stdin=subprocess.DEVNULL,
+    def serve(self, *words, under=()):
+        """Begins `serve`, by the command `under` where one is given."""
+        self.serving = subprocess.Popen([*under, self.mta, "serve", *words], cwd=self.folder, stdin=subprocess.DEVNULL,
                                         stdout=subprocess.PIPE, text=True)
         self.serving_ones.append(self.serving)
 

@@ -6,6 +6,7 @@ that cuts a session somewhere, in either direction, orderly or by a reset; betwe
 and started again. In the end each message is in the other's mailbox once, and the reports that were asked for are there
 too.
 """
+import functools
 import os
 import random
 import socket
@@ -18,6 +19,7 @@ import apdu
 from agent import Agent, connect, free_port, message
 from pairs import Wrong
 from relay import carry  # of contrib, where agent.py has Python look too
+from together import all_at_once
 
 EACH = 5  # messages of an agent
 BEHIND = 12  # sessions without a cut
@@ -113,22 +115,16 @@ class Couple:
 def main():
     mta, folder = sys.argv[1:3]
     seconds = float(sys.argv[3]) if len(sys.argv) > 3 else 30
-    done, wrong = [], []
+    done = []
 
     def ran(number):
         how = PAIRS[number % len(PAIRS)]
-        try:
-            couple = Couple(mta, f"{folder}/{number}", *how)
-            couple.run(seconds)
-            done.append((how, couple))
-        except Exception as why:
-            wrong.append(f"{how}: {why!r}")
+        couple = Couple(mta, f"{folder}/{number}", *how)
+        couple.run(seconds)
+        done.append((how, couple))
 
-    running = [threading.Thread(target=ran, args=(number,)) for number in range(ALIKE * len(PAIRS))]
-    for it in running:
-        it.start()
-    for it in running:
-        it.join()
+    wrong = all_at_once((f"{PAIRS[number % len(PAIRS)]}", functools.partial(ran, number))
+                        for number in range(ALIKE * len(PAIRS)))
     Agent.end()
     for how in PAIRS:
         those = [couple for its, couple in done if its == how]

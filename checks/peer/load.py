@@ -6,16 +6,17 @@ the other side, which go by the hub over two-way lanes. While they go, processes
 again, the hub more often than the others, and copies of the hub's spool are looked at. In the end each message is
 delivered in exactly one mailbox, once there, and sent everywhere else.
 """
+import functools
 import os
 import random
 import re
 import sys
-import threading
 import time
 
 import apdu
 from agent import Agent, free_port, message
 from pairs import Wrong
+from together import all_at_once
 
 SIDE = 8  # agents of a side
 EACH = 6  # messages of an agent
@@ -113,19 +114,14 @@ class World:
             raise Wrong("\n".join(wrong))
 
 
-def all_at_once(does, those):
-    running = [threading.Thread(target=does, args=(it,)) for it in those]
-    for it in running:
-        it.start()
-    for it in running:
-        it.join()
-
-
 def main():
     mta, folder = sys.argv[1:3]
     seconds = float(sys.argv[3]) if len(sys.argv) > 3 else 25
     world = World(mta, folder)
-    all_at_once(world.load, world.leaves)
+    wrong = all_at_once((name(*leaf), functools.partial(world.load, leaf)) for leaf in world.leaves)
+    if wrong:
+        print(*wrong, sep="\n")
+        return 1
     everybody = ["hub", *world.leaves]
     for it in everybody:
         world.start(it)

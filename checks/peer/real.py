@@ -5,10 +5,10 @@ The peer calls an agent that serves, and is called by one, monologue and two-way
 association, and puts wrong units. Behind all of it each message is in the other end exactly once, and known to have
 been sent.
 """
+import functools
 import itertools
 import socket
 import sys
-import threading
 import time
 
 import apdu
@@ -20,6 +20,7 @@ from pairs import Wrong
 from record import Memory, Record
 from responder import Responder
 from session import Values
+from together import all_at_once
 from units import MONOLOGUE, TWO_WAY
 
 MODES = {"monologue": MONOLOGUE, "twa": TWO_WAY}
@@ -194,21 +195,10 @@ def puts_wrong(mta, folder, command, mode):
 def main():
     mta, folder = sys.argv[1:]
     start = time.monotonic()
-    wrong = []
-
-    def ran(number, does, *more):
-        try:
-            does(mta, f"{folder}/{number}", *more)
-        except Exception as why:
-            wrong.append(f"{does.__name__} {more}: {why!r}\n{why}")
-
-    jobs = [(calls,)] + [(listens, mode) for mode in MODES]
-    jobs += [(puts_wrong, command, mode) for command in ("call", "listen") for mode in MODES]
-    running = [threading.Thread(target=ran, args=(number, *job)) for number, job in enumerate(jobs)]
-    for it in running:
-        it.start()
-    for it in running:
-        it.join()
+    ways = [(calls,)] + [(listens, mode) for mode in MODES]
+    ways += [(puts_wrong, command, mode) for command in ("call", "listen") for mode in MODES]
+    wrong = all_at_once((f"{does.__name__} {more}", functools.partial(does, mta, f"{folder}/{number}", *more))
+                        for number, (does, *more) in enumerate(ways))
     Agent.end()
     print(*wrong, sep="\n" if wrong else "", end="")
     print(f"after {time.monotonic() - start:.0f} seconds", flush=True)

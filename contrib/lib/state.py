@@ -188,7 +188,9 @@ class State:
     def passed_to(self, report):
         """To whom a report to a list is passed back: where a report on the message goes that the list expanded."""
         for it in self.items:
-            if it is not None and it.origin != "own" and it.apdu.kind == "message" and it.apdu.identifier == report.subject:
+            if it is None or it.origin == "own":
+                continue
+            if it.apdu.kind == "message" and it.apdu.identifier == report.subject:
                 for who, status in zip(it.apdu.recipients, it.statuses):
                     if status and status[0] == "expanded" and who.name.normal() == report.originator.normal():
                         return self.destination(it.apdu) or report.originator

@@ -17,6 +17,8 @@ def spool_path(word):
 
 
 def parser(name, text, **more):
+    # a tool is installed under another name here and there
+    name = os.path.basename(sys.argv[0]) or name
     return argparse.ArgumentParser(prog=name, description=text, formatter_class=argparse.RawDescriptionHelpFormatter,
                                    **more)
 
