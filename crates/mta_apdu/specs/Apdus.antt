@@ -1,5 +1,7 @@
--- APDUs (X.411, MTS-APDU): a message under [0], a report under [1] or a probe under [2], of at most 2,097,152 octets, and nothing behind it.
-use Rattle.std.specs.Prelude.{◌≡◌, ℕ, ◌+◌, ◌≤◌, Bool, true, List, [], ◌∷◌, length, Option, Some, None, Result, Ok, nat_le, if◌then◌else◌}
+-- APDUs (X.411, MTS-APDU): a message under [0], a report under [1] or a probe under [2], of at most 2,097,152 octets,
+-- and nothing behind it.
+use Rattle.std.specs.Prelude.{◌≡◌, ℕ, ◌+◌, ◌≤◌, Bool, true, List, [], ◌∷◌, length, Option}
+use Rattle.std.specs.Prelude.{Some, None, Result, Ok, nat_le, if◌then◌else◌}
 use Rattle.std.specs.Borrow.{Bor}
 use Rattle.mta_ber.specs.declared.fault.Fault.{Fault}
 use Rattle.mta_ber.specs.declared.fault.Kind.TheVariants.{BadTag, TooLong, Trailing}
@@ -92,7 +94,8 @@ SpellsKind OfMessage depth tag content v = Puts (SpellsMessage depth tag content
 SpellsKind OfReport depth tag content v = Puts (SpellsReport depth tag content) report v
 SpellsKind OfProbe depth tag content v = Puts (SpellsProbe depth tag content) probe v
 
--- The octets are one element, of the tag of its choice. The outermost level of a probe is 2, since no SEQUENCE is around its envelope.
+-- The octets are one element, of the tag of its choice. The outermost level of a probe is 2, since no SEQUENCE is
+-- around its envelope.
 pub record SpellsWhole (bytes : List ℕ) (v : ApduValue) : Type 0 where
   pub tag : Tag
   pub content : List ℕ

@@ -14,8 +14,8 @@ IsWholeApdu (message v) = IsWholeEnvelope v.envelope × IsOfKind false v.envelop
 IsWholeApdu (probe v) = IsWholeEnvelope v × IsOfKind true v
 IsWholeApdu (report v) = IsWholeReport v
 
--- what an APDU keeps unread stands in the level of its place: the envelope of a message is in a SEQUENCE, the envelope of a probe is in
--- the level 2 by itself, and a report is in the level 1
+-- what an APDU keeps unread stands in the level of its place: the envelope of a message is in a SEQUENCE, the envelope
+-- of a probe is in the level 2 by itself, and a report is in the level 1
 abbrev pub KeepsApdu : ApduValue → Type 0
 KeepsApdu (message v) = KeepsEnvelope 2 v.envelope
 KeepsApdu (probe v) = KeepsEnvelope 2 v

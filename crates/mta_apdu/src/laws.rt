@@ -4,8 +4,8 @@ ghost use Rattle.mta_apdu.specs.Laws.{ApdusAreReadAgain, ReadApdusAreKept, ReadA
 ghost use Rattle.mta_apdu.specs.Laws.{StoredApdusAreReadAgain, StoredApdusAreKept, SubmittedApdusAreStored};
 ghost use Rattle.mta_apdu.specs.Laws.{NoApduBeginsAnother};
 
-/// An APDU that is written is read again as the same value, where its canonical octets are at most 2,097,152 (X.411, MTS-APDU). The content of a
-/// message is then in one piece. What is kept unread stands in the level of its place.
+/// An APDU that is written is read again as the same value, where its canonical octets are at most 2,097,152 (X.411,
+/// MTS-APDU). The content of a message is then in one piece. What is kept unread stands in the level of its place.
 pub fn apdus_are_read_again()
     ensures { ApdusAreReadAgain }
 {}

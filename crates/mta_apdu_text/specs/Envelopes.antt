@@ -6,7 +6,9 @@ use Rattle.mta_envelope.specs.declared.envelope.EnvelopeFields.{EnvelopeFields}
 use Rattle.mta_envelope.specs.declared.priority.Priority.{Priority}
 use Rattle.mta_envelope.specs.declared.priority.Priority.TheVariants.{Normal, NonUrgent, Urgent}
 use Rattle.mta_envelope.specs.Messages.{MessageValue}
-use Rattle.mta_apdu_text.specs.Lines.{line_if, id_line, name_line, content_type_line, content_id_line, indicators_line, deferred_line, length_line, size_line, trace_lines, extension_lines, recipient_line, content_line}
+use Rattle.mta_apdu_text.specs.Lines.{line_if, id_line, name_line, content_type_line, content_id_line}
+use Rattle.mta_apdu_text.specs.Lines.{indicators_line, deferred_line, length_line, size_line, trace_lines}
+use Rattle.mta_apdu_text.specs.Lines.{extension_lines, recipient_line, content_line}
 
 abbrev pub priority_text : Priority → List ℕ
 priority_text Normal = codes "normal"

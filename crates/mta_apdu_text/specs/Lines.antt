@@ -13,7 +13,8 @@ use Rattle.mta_fields.specs.declared.supplied.Action.TheVariants.{Relayed, Rerou
 use Rattle.mta_fields.specs.declared.trace.TraceFields.{TraceFields}
 use Rattle.mta_envelope_common.specs.declared.kind.ContentKind.{ContentKind}
 use Rattle.mta_envelope_common.specs.declared.kind.ContentKind.TheVariants.{Number, Oid}
-use Rattle.mta_apdu_text.specs.Pieces.{hex_text, bit_digit, bits_text, escaped_text, moment_text, domain_text, id_text, word_if}
+use Rattle.mta_apdu_text.specs.Pieces.{hex_text, bit_digit, bits_text, escaped_text}
+use Rattle.mta_apdu_text.specs.Pieces.{moment_text, domain_text, id_text, word_if}
 
 -- the line of a part that may be absent
 abbrev pub line_if : {A : Type 0} → (A → List ℕ) → Option A → List ℕ

@@ -2,7 +2,8 @@
 
 ghost use Rattle.std.specs.Prelude.{◌≡◌, ◌++◌, OnOk, codes};
 ghost use Rattle.mta_envelope.specs.Messages.{message_value};
-ghost use Rattle.mta_apdu_text.specs.Envelopes.{priority_text, priority_line, recipient_lines, front_lines, back_lines, message_text, probe_text};
+ghost use Rattle.mta_apdu_text.specs.Envelopes.{priority_text, priority_line, recipient_lines, front_lines};
+ghost use Rattle.mta_apdu_text.specs.Envelopes.{back_lines, message_text, probe_text};
 
 use crate::lines::{
     put_content_id_line, put_content_line, put_content_type_line, put_deferred_line,

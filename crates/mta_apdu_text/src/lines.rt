@@ -2,7 +2,10 @@
 
 ghost use Rattle.std.specs.Prelude.{◌≡◌, ◌++◌, OnOk, Option};
 ghost use Rattle.std.specs.List.{flat_map};
-ghost use Rattle.mta_apdu_text.specs.Lines.{line_if, id_line, name_line, content_kind_text, content_type_line, content_id_line, indicators_line, deferred_line, length_line, size_line, action_text, trace_line, trace_lines, ext_kind_text, criticality_text, extension_line, extension_lines, recipient_line, content_line};
+ghost use Rattle.mta_apdu_text.specs.Lines.{line_if, id_line, name_line, content_kind_text, content_type_line};
+ghost use Rattle.mta_apdu_text.specs.Lines.{content_id_line, indicators_line, deferred_line, length_line, size_line};
+ghost use Rattle.mta_apdu_text.specs.Lines.{action_text, trace_line, trace_lines, ext_kind_text, criticality_text};
+ghost use Rattle.mta_apdu_text.specs.Lines.{extension_line, extension_lines, recipient_line, content_line};
 
 use crate::pieces::{
     bit_digit, put_bits, put_domain, put_escaped, put_hex, put_id, put_moment, put_name,

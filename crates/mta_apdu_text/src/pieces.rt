@@ -4,7 +4,9 @@ ghost use Rattle.std.specs.Prelude.{◌≡◌, ◌<◌, ◌≤◌, ◌++◌, dro
 ghost use Rattle.mta_ber.specs.Canon.{Begins};
 ghost use Rattle.mta_ber.specs.Times.{last_moment};
 ghost use Rattle.mta_name_text.specs.Forms.{text_form};
-ghost use Rattle.mta_apdu_text.specs.Pieces.{hex_digit, hex_octet, hex_text, bit_digit, bits_text, escaped, escaped_text, printed_moment, moment_text, prmd_text, domain_text, id_text, word_if};
+ghost use Rattle.mta_apdu_text.specs.Pieces.{hex_digit, hex_octet, hex_text, bit_digit, bits_text};
+ghost use Rattle.mta_apdu_text.specs.Pieces.{escaped, escaped_text, printed_moment, moment_text};
+ghost use Rattle.mta_apdu_text.specs.Pieces.{prmd_text, domain_text, id_text, word_if};
 
 use itoa::Buffer;
 use mta_ber::{Bits, LAST_MOMENT, Memory, Octets, Tag, Writer, put_utc};
@@ -120,7 +122,8 @@ fn behind_header(octets: &[u8]) -> &[u8]
     }
 }
 
-/// A moment as YYMMDDhhmmssZ. Moments are seconds from 1950-01-01 00:00:00 UTC; one past the last second of 2049 is printed as that.
+/// A moment as YYMMDDhhmmssZ. Moments are seconds from 1950-01-01 00:00:00 UTC; one past the last second of 2049 is
+/// printed as that.
 pub fn put_moment(alloc: Global, out: &mut Octets, moment: u64) -> Result<(), Memory>
     ensures ok { OnOk result (out.new ≡ out.old ++ moment_text moment) }
     ensures err { OnErr result (out.new ≡ out.old) }

@@ -1,7 +1,8 @@
 //! The lines of recipients of whom is reported.
 
 ghost use Rattle.std.specs.Prelude.{◌≡◌, ◌++◌, OnOk};
-ghost use Rattle.mta_apdu_text.specs.Reporteds.{delivery_text, diagnostic_text, failure_text, outcome_text, arrival_text, reported_line, reported_lines};
+ghost use Rattle.mta_apdu_text.specs.Reporteds.{delivery_text, diagnostic_text, failure_text, outcome_text};
+ghost use Rattle.mta_apdu_text.specs.Reporteds.{arrival_text, reported_line, reported_lines};
 
 use crate::pieces::{put_bits, put_moment, put_name, put_number};
 use mta_ber::{Memory, Octets};

@@ -1,5 +1,6 @@
 -- BIT STRING contents (X.690, 8.6).
-use Rattle.std.specs.Prelude.{ℕ, ◌+◌, ◌-◌, ◌*◌, ◌/◌, ◌%◌, ◌^◌, Bool, true, List, [], ◌∷◌, length, Result, Ok, nat_lt, ◌==◌, if◌then◌else◌, ◌&&◌, ◌||◌, not, max}
+use Rattle.std.specs.Prelude.{ℕ, ◌+◌, ◌-◌, ◌*◌, ◌/◌, ◌%◌, ◌^◌, Bool, true, List, [], ◌∷◌, length}
+use Rattle.std.specs.Prelude.{Result, Ok, nat_lt, ◌==◌, if◌then◌else◌, ◌&&◌, ◌||◌, not, max}
 use Rattle.mta_ber.specs.declared.fault.Fault.{Fault}
 use Rattle.mta_ber.specs.declared.fault.Kind.TheVariants.{BadInt}
 use Rattle.mta_ber.specs.Head.{◌>>=◌, fault, base}
@@ -33,8 +34,8 @@ too_many = record { count = 65; word = 0 }
 abbrev pub at_most_64 : BitString → BitString
 at_most_64 b = if nat_lt 64 b.count then too_many else b
 
--- the first octet of a piece says how many bits of its last one are unused: at most 7, none where there is no other octet, and
--- none where a piece may follow
+-- the first octet of a piece says how many bits of its last one are unused: at most 7, none where there is no other
+-- octet, and none where a piece may follow
 abbrev pub good_unused : Bool → ℕ → List ℕ → Bool
 good_unused last unused octets = nat_lt unused 8 && ((unused == 0) || (last && not (is_empty octets)))
 

@@ -1,5 +1,6 @@
 -- The one spelling that is written: definite minimal lengths, primitive strings, SETs in the order of their tags.
-use Rattle.std.specs.Prelude.{◌≡◌, take, ℕ, zero, suc, ◌+◌, ◌*◌, ◌/◌, ◌%◌, ◌<◌, ◌^◌, true, false, List, [], ◌∷◌, ◌++◌, length, Option, Some, None, nat_lt, if◌then◌else◌}
+use Rattle.std.specs.Prelude.{◌≡◌, take, ℕ, zero, suc, ◌+◌, ◌*◌, ◌/◌, ◌%◌, ◌<◌, ◌^◌, true, false, List}
+use Rattle.std.specs.Prelude.{[], ◌∷◌, ◌++◌, length, Option, Some, None, nat_lt, if◌then◌else◌}
 use Rattle.std.specs.Int.{w64, to_be_bytes}
 use Rattle.mta_ber.specs.declared.tag.Tag.{Tag}
 
@@ -43,7 +44,8 @@ abbrev pub optional : {A : Type 0} → (A → List ℕ) → Option A → List �
 optional write None = []
 optional write (Some x) = write x
 
--- what is put: the frames that are begun, the innermost first, each with what stood before it, and what is put in the innermost
+-- what is put: the frames that are begun, the innermost first, each with what stood before it, and what is put in the
+-- innermost
 pub record Written : Type 0 where
   pub frames : List (Tag × List ℕ)
   pub octets : List ℕ

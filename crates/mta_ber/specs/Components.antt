@@ -4,8 +4,8 @@ use Rattle.std.specs.List.{concat}
 use Rattle.mta_ber.specs.declared.tag.Tag.{Tag}
 use Rattle.mta_ber.specs.Spelling.{Stands}
 
--- what a component of a tag, with these contents and these octets of its own, makes of what was read before it, in the level of the
--- component
+-- what a component of a tag, with these contents and these octets of its own, makes of what was read before it, in the
+-- level of the component
 abbrev pub Makes : Type 0 → Type 1
 Makes S = ℕ → S → Tag → List ℕ → List ℕ → S → Type 0
 

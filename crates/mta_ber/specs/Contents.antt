@@ -1,5 +1,6 @@
 -- The canonical contents of integers, bit strings and times.
-use Rattle.std.specs.Prelude.{ℕ, zero, suc, ◌+◌, ◌-◌, ◌*◌, ◌/◌, ◌%◌, ◌^◌, Bool, false, List, [], ◌∷◌, nat_lt, nat_le, ◌==◌, if◌then◌else◌, ◌&&◌, ◌||◌, ℤ, pos}
+use Rattle.std.specs.Prelude.{ℕ, zero, suc, ◌+◌, ◌-◌, ◌*◌, ◌/◌, ◌%◌, ◌^◌, Bool, false, List, []}
+use Rattle.std.specs.Prelude.{◌∷◌, nat_lt, nat_le, ◌==◌, if◌then◌else◌, ◌&&◌, ◌||◌, ℤ, pos}
 use Rattle.std.specs.Int.{w64, to_be_bytes, bytes_high_first, cast_unsigned}
 use Rattle.jiff_core.specs.Calendar.{days_in_month}
 use Rattle.mta_ber.specs.declared.tag.Tag.{Tag}

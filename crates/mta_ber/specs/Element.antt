@@ -1,5 +1,6 @@
 -- Elements: where an indefinite content ends, and the parts that a reader is lent.
-use Rattle.std.specs.Prelude.{◌≡◌, ℕ, zero, suc, ◌+◌, ◌-◌, Bool, true, false, List, [], ◌∷◌, length, take, drop, Option, Some, None, Result, Ok, ◌==◌, if◌then◌else◌, ◌&&◌}
+use Rattle.std.specs.Prelude.{◌≡◌, ℕ, zero, suc, ◌+◌, ◌-◌, Bool, true, false, List, [], ◌∷◌, length}
+use Rattle.std.specs.Prelude.{take, drop, Option, Some, None, Result, Ok, ◌==◌, if◌then◌else◌, ◌&&◌}
 use Rattle.mta_ber.specs.declared.fault.Fault.{Fault}
 use Rattle.mta_ber.specs.declared.fault.Kind.TheVariants.{Truncated, BadTag}
 use Rattle.mta_ber.specs.declared.tag.Tag.{Tag}
@@ -47,7 +48,8 @@ unfoldable pub run : ℕ → Extent
 run zero marked at bytes = fault at Truncated
 run (suc left) marked at bytes = row (run left) (17 - left) (suc (length bytes)) marked at bytes
 
--- an element as it is lent: its tag, offset and level, the offset of its content, the content, what follows, and its own octets
+-- an element as it is lent: its tag, offset and level, the offset of its content, the content, what follows, and its
+-- own octets
 pub record Part : Type 0 where
   pub tag : Tag
   pub at : ℕ

@@ -16,7 +16,8 @@ pub record SpellsExplicit {A : Type 0} (spells : Spells A) (depth : ℕ) (constr
   pub stands : Stands (depth + 1) tag inside content
   pub spelled : spells (depth + 1) tag inside content x
 
--- an element stands at the front of the content of an explicit tag, which begins at `start`, in the level below the tag's own
+-- an element stands at the front of the content of an explicit tag, which begins at `start`, in the level below the
+-- tag's own
 pub record StandsInside (start depth : ℕ) (constructed : Bool) (content : List ℕ) (p : Part) : Type 0 where
   pub is_constructed : constructed ≡ true
   pub standing : Standing start (depth + 1) p content

@@ -1,5 +1,6 @@
 -- INTEGER and ENUMERATED contents: two's complement, at least one octet, the first nine bits never all equal.
-use Rattle.std.specs.Prelude.{◌≡◌, ◌≤◌, ℕ, ℤ, pos, negsuc, ◌-◌, Bool, true, false, List, [], ◌∷◌, length, map, Result, Ok, nat_lt, nat_le, int_lt, slice_index, ◌==◌, if◌then◌else◌, ◌&&◌, ◌||◌, not}
+use Rattle.std.specs.Prelude.{◌≡◌, ◌≤◌, ℕ, ℤ, pos, negsuc, ◌-◌, Bool, true, false, List, [], ◌∷◌, length, map, Result}
+use Rattle.std.specs.Prelude.{Ok, nat_lt, nat_le, int_lt, slice_index, ◌==◌, if◌then◌else◌, ◌&&◌, ◌||◌, not}
 use Rattle.mta_ber.specs.declared.fault.Fault.{Fault}
 use Rattle.mta_ber.specs.declared.fault.Kind.TheVariants.{BadTag, BadInt}
 use Rattle.mta_ber.specs.Head.{fault, base}
@@ -22,7 +23,8 @@ int_in at constructed low high content =
     else if not (is_short content) || nat_lt 8 (length content) || not (in_range low high (signed content)) then fault at BadInt
     else Ok (signed content)
 
--- a primitive content that spells a number of a range: at most eight octets of two's complement, the first nine bits not all equal
+-- a primitive content that spells a number of a range: at most eight octets of two's complement, the first nine bits
+-- not all equal
 pub record SpellsInteger (low high : ℤ) (constructed : Bool) (content : List ℕ) (n : ℤ) : Type 0 where
   pub primitive : constructed ≡ false
   pub short : is_short content ≡ true

@@ -1,5 +1,6 @@
 -- Object identifiers (X.690, 8.19): at least one contents octet, the last with its top bit clear.
-use Rattle.std.specs.Prelude.{◌≡◌, ℕ, ◌-◌, ◌≤◌, Bool, false, List, [], ◌∷◌, length, slice_index, Result, Ok, nat_lt, if◌then◌else◌, ◌&&◌}
+use Rattle.std.specs.Prelude.{◌≡◌, ℕ, ◌-◌, ◌≤◌, Bool, false, List, [], ◌∷◌, length}
+use Rattle.std.specs.Prelude.{slice_index, Result, Ok, nat_lt, if◌then◌else◌, ◌&&◌}
 use Rattle.std.specs.List.{concat}
 use Rattle.mta_ber.specs.declared.fault.Fault.{Fault}
 use Rattle.mta_ber.specs.declared.fault.Kind.TheVariants.{BadTag, BadText}

@@ -1,5 +1,6 @@
 -- Reading the parts of a constructed content one after the other.
-use Rattle.std.specs.Prelude.{◌≡◌, ℕ, zero, suc, ◌+◌, ◌-◌, Bool, List, [], ◌∷◌, length, Option, Some, None, Result, Ok, Err, is_some, nat_lt, nat_le, ◌==◌, if◌then◌else◌, ◌&&◌}
+use Rattle.std.specs.Prelude.{◌≡◌, ℕ, zero, suc, ◌+◌, ◌-◌, Bool, List, [], ◌∷◌, length, Option, Some, None}
+use Rattle.std.specs.Prelude.{Result, Ok, Err, is_some, nat_lt, nat_le, ◌==◌, if◌then◌else◌, ◌&&◌}
 use Rattle.mta_ber.specs.declared.fault.Fault.{Fault}
 use Rattle.mta_ber.specs.declared.fault.Kind.TheVariants.{BadTag, Missing, Twice}
 use Rattle.mta_ber.specs.declared.fault.ReadFault.{ReadFault}
@@ -29,8 +30,8 @@ is_tag class number tag = (tag.class == class) && (tag.number == number)
 abbrev pub once : {A : Type 0} → Option A → ℕ → Result A Fault → Result A Fault
 once held at read = if is_some held then fault at Twice else read
 
--- a component of a SEQUENCE stands at a place among the components: behind the last one read, and where `needed`, the place of
--- the last required one before it, was reached
+-- a component of a SEQUENCE stands at a place among the components: behind the last one read, and where `needed`, the
+-- place of the last required one before it, was reached
 abbrev pub may_follow : ℕ → ℕ → ℕ → ℕ → Result (Unit {0}) Fault
 may_follow last needed place at = if nat_lt last place && nat_le needed last then Ok tt else fault at BadTag
 

@@ -1,5 +1,6 @@
 -- Which contents octets spell a string (X.690, 8.6, 8.7 and 8.23), by cases: apart from reading.
-use Rattle.std.specs.Prelude.{◌≡◌, ℕ, zero, suc, ◌-◌, ◌*◌, ◌/◌, ◌<◌, ◌≤◌, ◌^◌, ◌⊎◌, Bool, true, false, List, [], ◌∷◌, ◌++◌, length, ◌&&◌}
+use Rattle.std.specs.Prelude.{◌≡◌, ℕ, zero, suc, ◌-◌, ◌*◌, ◌/◌, ◌<◌, ◌≤◌, ◌^◌, ◌⊎◌}
+use Rattle.std.specs.Prelude.{Bool, true, false, List, [], ◌∷◌, ◌++◌, length, ◌&&◌}
 use Rattle.std.specs.List.{concat}
 use Rattle.mta_ber.specs.declared.tag.Tag.{Tag}
 use Rattle.mta_ber.specs.declared.text.TextClass.{TextClass}
@@ -53,8 +54,8 @@ pub record SpellsText (class : TextClass) (low high depth : ℕ) (constructed : 
 
 -- ---- bits
 
--- a piece says first how many bits of its last octet are unused: at most 7, none where there is no other octet, and none where a
--- piece follows; more than 64 bits are too many, however many
+-- a piece says first how many bits of its last octet are unused: at most 7, none where there is no other octet, and
+-- none where a piece follows; more than 64 bits are too many, however many
 pub record AddsBits (last : Bool) (before : BitString) (content : List ℕ) (after : BitString) : Type 0 where
   pub unused : ℕ
   pub octets : List ℕ

@@ -1,5 +1,6 @@
 -- Which octets spell an element, by cases (X.690): apart from reading and from writing.
-use Rattle.std.specs.Prelude.{◌≡◌, ◌≢◌, ℕ, zero, suc, IfSome, IfNone, ◌+◌, ◌-◌, ◌<◌, ◌≤◌, ◌⊎◌, Bool, true, false, List, [], ◌∷◌, ◌++◌, length, take, drop, slice_index, Option, Some, None}
+use Rattle.std.specs.Prelude.{◌≡◌, ◌≢◌, ℕ, zero, suc, IfSome, IfNone, ◌+◌, ◌-◌, ◌<◌, ◌≤◌, ◌⊎◌, Bool, true, false}
+use Rattle.std.specs.Prelude.{List, [], ◌∷◌, ◌++◌, length, take, drop, slice_index, Option, Some, None}
 use Rattle.mta_ber.specs.declared.tag.Tag.{Tag}
 use Rattle.mta_ber.specs.Head.{base}
 use Rattle.mta_ber.specs.Canon.{class_octet}
@@ -72,8 +73,8 @@ pub record Row (P : List ℕ → Type 0) (marked : Bool) (content : List ℕ) : 
   pub each : IsRow P marked elements
   pub joined : content ≡ concat elements
 
--- a content behind a header: a definite one has the length that the header says, and where it is constructed it is a row;
--- an indefinite one is a row
+-- a content behind a header: a definite one has the length that the header says, and where it is constructed it is a
+-- row; an indefinite one is a row
 abbrev pub IsContent : (List ℕ → Type 0) → Bool → Option ℕ → List ℕ → Type 0
 IsContent P constructed (Some n) content = (n ≡ length content) × (constructed ≡ true → Row P false content)
 IsContent P constructed None content = Row P true content
@@ -97,7 +98,8 @@ abbrev pub Whole : ℕ → List ℕ → Type 0
 Whole zero octets = ⊥
 Whole (suc left) octets = Encloses (Whole left) octets
 
--- an element of the level `depth` as it is lent: its header is sound, and where its length is indefinite, all that is in it
+-- an element of the level `depth` as it is lent: its header is sound, and where its length is indefinite, all that is
+-- in it
 pub record Stands (depth : ℕ) (t : Tag) (content octets : List ℕ) : Type 0 where
   pub count : Option ℕ
   pub header : List ℕ

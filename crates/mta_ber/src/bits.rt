@@ -1,8 +1,10 @@
 //! Bit strings (X.690, 8.6).
 
-ghost use Rattle.std.specs.Prelude.{◌≡◌, ◌↔◌, ◌+◌, ◌-◌, ◌*◌, ◌/◌, ◌^◌, ◌<◌, ◌≤◌, max, length, false, true, Ok, Err, IsTrue, Result, IfOk};
+ghost use Rattle.std.specs.Prelude.{◌≡◌, ◌↔◌, ◌+◌, ◌-◌, ◌*◌, ◌/◌, ◌^◌, ◌<◌, ◌≤◌, max, length};
+ghost use Rattle.std.specs.Prelude.{false, true, Ok, Err, IsTrue, Result, IfOk};
 ghost use Rattle.mta_ber.specs.Head.{base};
-ghost use Rattle.mta_ber.specs.Bits.{BitString, bit, padded, good_unused, bits_of, with_bits, at_most_64, bits_behind, bits_piece, bits_in, too_many, no_bits};
+ghost use Rattle.mta_ber.specs.Bits.{BitString, bit, padded, good_unused, bits_of, with_bits, at_most_64};
+ghost use Rattle.mta_ber.specs.Bits.{bits_behind, bits_piece, bits_in, too_many, no_bits};
 ghost use Rattle.mta_ber.specs.Segmented.{SpellsBits};
 ghost use Rattle.mta_ber.specs.Parts.{Leaves};
 ghost use Rattle.mta_ber.specs.Seen.{Gives, view};
@@ -182,7 +184,8 @@ impl View<'_> {
         }
     }
 
-    /// A bit string of at most 64 bits (X.690, 8.6). Segments have the tag of BIT STRING, and only the last one has unused bits.
+    /// A bit string of at most 64 bits (X.690, 8.6). Segments have the tag of BIT STRING, and only the last one has
+    /// unused bits.
     pub fn bits(&self) -> Result<Bits, Fault>
         ensures exact { result ≡ bits_in (view self.now) }
 

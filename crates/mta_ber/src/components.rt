@@ -35,8 +35,8 @@ pub fn is_constructed_tag(tag: Tag, class: u8, number: u32) -> bool
     is_tag_of(tag, class, number) && tag.constructed
 }
 
-/// Whether a component of a SEQUENCE may stand at a place behind the last one that was read (0 where there is none), where
-/// `needed` is the place of the last required component before it (0 where there is none). BadTag where not.
+/// Whether a component of a SEQUENCE may stand at a place behind the last one that was read (0 where there is none),
+/// where `needed` is the place of the last required component before it (0 where there is none). BadTag where not.
 pub fn check_order(last: u8, needed: u8, place: u8, at: u32) -> Result<(), ReadFault>
     ensures { Reads result (may_follow last needed place at) }
 {

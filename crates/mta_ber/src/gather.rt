@@ -42,7 +42,8 @@ fn is_last(last: bool, part: &View) -> bool
     }
 }
 
-/// Takes the primitive pieces of a string in the order of their octets. Segments have the universal tags `first` or `second`.
+/// Takes the primitive pieces of a string in the order of their octets. Segments have the universal tags `first` or
+/// `second`.
 #[tactic(auto, unfolding(crate::specs::Strings::gather))]
 pub fn gather_of<G: Gathers>(
     state: &mut G,

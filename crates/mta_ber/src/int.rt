@@ -1,6 +1,7 @@
 //! INTEGER and ENUMERATED contents.
 
-ghost use Rattle.std.specs.Prelude.{◌≡◌, ◌-◌, ◌<◌, ◌≤◌, length, map, false, true, IsTrue, MatchBool, slice_index, Ok, Err, IfOk, ℤ, ◌≤ℤ◌};
+ghost use Rattle.std.specs.Prelude.{◌≡◌, ◌-◌, ◌<◌, ◌≤◌, length, map, false, true, IsTrue};
+ghost use Rattle.std.specs.Prelude.{MatchBool, slice_index, Ok, Err, IfOk, ℤ, ◌≤ℤ◌};
 ghost use Rattle.mta_ber.specs.Head.{base};
 ghost use Rattle.mta_ber.specs.Int.{is_short, signed, int_in, SpellsInteger};
 
@@ -78,8 +79,8 @@ impl View<'_> {
         Ok(n)
     }
 
-    /// The number of an INTEGER or an ENUMERATED (X.690, 8.3 and 8.4), from `low` to `high`. BadTag where the element is
-    /// constructed, BadInt where the number is not minimal, longer than 8 octets or out of range.
+    /// The number of an INTEGER or an ENUMERATED (X.690, 8.3 and 8.4), from `low` to `high`. BadTag where the element
+    /// is constructed, BadInt where the number is not minimal, longer than 8 octets or out of range.
     pub fn int(&self, low: i64, high: i64) -> Result<i64, Fault>
         ensures exact { result ≡ int_in self.now.at self.now.tag.constructed low high self.now.content.now }
 

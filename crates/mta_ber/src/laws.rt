@@ -1,7 +1,9 @@
 //! Laws over values and octets.
 
 ghost use Rattle.mta_ber.specs.Spelling.{NoSpellingBeginsAnother};
-ghost use Rattle.mta_ber.specs.Laws.{ElementsAreReadAgain, NumbersAreReadAgain, BitsAreReadAgain, MomentsAreReadAgain, TextsAreReadAgain, OidsAreReadAgain, ExplicitTagsAreReadAgain};
+ghost use Rattle.mta_ber.specs.Laws.{ElementsAreReadAgain, NumbersAreReadAgain, BitsAreReadAgain};
+ghost use Rattle.mta_ber.specs.Laws.{MomentsAreReadAgain, TextsAreReadAgain, OidsAreReadAgain};
+ghost use Rattle.mta_ber.specs.Laws.{ExplicitTagsAreReadAgain};
 
 /// No spelling of an element begins another.
 pub fn no_spelling_begins_another()

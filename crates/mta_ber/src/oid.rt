@@ -26,8 +26,8 @@ fn ends_low(octets: &[u8]) -> bool
 }
 
 impl<'a> View<'a> {
-    /// The contents octets of an object identifier, lent. BadTag where the element is constructed, BadText where they are no
-    /// object identifier.
+    /// The contents octets of an object identifier, lent. BadTag where the element is constructed, BadText where they
+    /// are no object identifier.
     pub fn oid(&self) -> Result<&'a [u8], Fault>
         ensures exact { Gives (λ c. c.now) result (oid_in (view self.now)) }
 

@@ -3,7 +3,8 @@
 ghost use Rattle.std.specs.Prelude.{◌≡◌, ◌<◌, ◌≤◌, ◌+◌, ◌-◌, ◌*◌, ◌%◌, ◌^◌, ◌/◌, length, OnOk, OnErr, IfOk, pos, ◌≤ℤ◌};
 ghost use Rattle.std.specs.Int.{w64, bytes_high_first};
 ghost use Rattle.mta_ber.specs.Canon.{IsTag, appended, element};
-ghost use Rattle.mta_ber.specs.Contents.{as_primitive, is_redundant, shortest, int_content, canon_int, octet_count, unused_bits, bits_content, canon_bits, civil_of, utc_content, canon_utc};
+ghost use Rattle.mta_ber.specs.Contents.{as_primitive, is_redundant, shortest, int_content, canon_int, octet_count};
+ghost use Rattle.mta_ber.specs.Contents.{unused_bits, bits_content, canon_bits, civil_of, utc_content, canon_utc};
 ghost use Rattle.mta_ber.specs.Times.{last_moment};
 
 use crate::bits::Bits;
@@ -141,7 +142,8 @@ fn utc_content_of(moment: u64) -> [u8; 13]
     ]
 }
 
-/// Writes a UTCTime with seconds and Z (X.690, 11.8) under a tag: the moment of so many seconds from 1950-01-01 00:00:00 UTC.
+/// Writes a UTCTime with seconds and Z (X.690, 11.8) under a tag: the moment of so many seconds from 1950-01-01
+/// 00:00:00 UTC.
 pub fn put_utc(w: &mut Writer, tag: Tag, moment: u64) -> Result<(), Memory>
     requires tag { IsTag tag }
     requires moment { moment ≤ last_moment }

@@ -1,6 +1,7 @@
 //! Reading elements from the front.
 
-ghost use Rattle.std.specs.Prelude.{◌≡◌, ◌+◌, ◌-◌, ◌<◌, ◌≤◌, ◌^◌, length, drop, IfOk, OnOk, IfSome, IsTrue, IfNone, OnErr, IsOkAnd, IsSomeAnd, Ok, Err, true, [], ℕ, List, ◌++◌};
+ghost use Rattle.std.specs.Prelude.{◌≡◌, ◌+◌, ◌-◌, ◌<◌, ◌≤◌, ◌^◌, length, drop, IfOk, OnOk, IfSome, IsTrue};
+ghost use Rattle.std.specs.Prelude.{IfNone, OnErr, IsOkAnd, IsSomeAnd, Ok, Err, true, [], ℕ, List, ◌++◌};
 ghost use Rattle.mta_ber.specs.Element.{part, part_from, first, next_part, inner, alone, outermost, IsBehind};
 ghost use Rattle.mta_ber.specs.declared.tag.Tag.{Tag};
 ghost use Rattle.mta_ber.specs.declared.fault.Kind.TheVariants.{BadTag};
@@ -130,8 +131,9 @@ impl<'a> View<'a> {
         first_of(bytes, at)
     }
 
-    /// The one element inside an explicit tag (X.690, 8.14). BadTag where this element is primitive, and Truncated at the
-    /// offset of its content where that is empty. That nothing stands behind it is for `alone` to say, once it was read.
+    /// The one element inside an explicit tag (X.690, 8.14). BadTag where this element is primitive, and Truncated at
+    /// the offset of its content where that is empty. That nothing stands behind it is for `alone` to say, once it was
+    /// read.
     pub fn inner(&self) -> Result<View<'a>, Fault>
         // Which element it is, or which fault comes first.
         ensures exact { Gives view result (inner (view self.now)) }

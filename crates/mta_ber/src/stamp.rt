@@ -1,6 +1,7 @@
 //! The digits of a time.
 
-/// What the digits of a UTCTime say: a year of the century, a date, a time of day, and how far that is ahead of UTC or behind it.
+/// What the digits of a UTCTime say: a year of the century, a date, a time of day, and how far that is ahead of UTC or
+/// behind it.
 #[derive(Clone, Copy, Debug)]
 pub struct Stamp {
     pub year: u8,

@@ -1,11 +1,13 @@
 //! Reading octet and character strings.
 
-ghost use Rattle.std.specs.Prelude.{◌≡◌, ◌-◌, ◌++◌, [], List, ℕ, Ok, IfOk, IfSome, IsSomeAnd, true, false, Some, None, if◌then◌else◌};
+ghost use Rattle.std.specs.Prelude.{◌≡◌, ◌-◌, ◌++◌, [], List, ℕ, Ok, IfOk, IfSome, IsSomeAnd};
+ghost use Rattle.std.specs.Prelude.{true, false, Some, None, if◌then◌else◌};
 ghost use Rattle.std.specs.List.{list_all};
 ghost use Rattle.mta_ber.specs.Parts.{Leaves, Reads, IsReadAs};
 ghost use Rattle.mta_ber.specs.Segmented.{SpellsOctets, SpellsText};
 ghost use Rattle.mta_ber.specs.Seen.{view};
-ghost use Rattle.mta_ber.specs.Strings.{octets_piece, gather, joined_as, joined, own_number, text_in, in_class, class_number, IsText};
+ghost use Rattle.mta_ber.specs.Strings.{octets_piece, gather, joined_as, joined, own_number};
+ghost use Rattle.mta_ber.specs.Strings.{text_in, in_class, class_number, IsText};
 
 use crate::fault::{Fault, Kind, ReadFault};
 use crate::gather::{Gathers, gather_of};
@@ -98,8 +100,8 @@ impl<'a> View<'a> {
         Ok(out)
     }
 
-    /// The octets of an octet or character string, segments joined (X.690, 8.7). A segment has the tag of OCTET STRING, or
-    /// the element's own tag number where that is of the universal class.
+    /// The octets of an octet or character string, segments joined (X.690, 8.7). A segment has the tag of OCTET STRING,
+    /// or the element's own tag number where that is of the universal class.
     pub fn joined(&self, alloc: Global) -> Result<Octets, ReadFault>
         ensures exact { Reads result (joined (view self.now)) }
 
@@ -110,8 +112,8 @@ impl<'a> View<'a> {
         self.joined_by(alloc, own_number_of(self.tag))
     }
 
-    /// The characters of a string of a class and of `low` to `high` characters (X.690, 8.23). A segment has the tag of OCTET
-    /// STRING or the universal tag of the class.
+    /// The characters of a string of a class and of `low` to `high` characters (X.690, 8.23). A segment has the tag of
+    /// OCTET STRING or the universal tag of the class.
     pub fn text(
         &self,
         alloc: Global,

@@ -1,11 +1,14 @@
 //! UTCTime (X.690, 8.25).
 
-ghost use Rattle.std.specs.Prelude.{◌≡◌, ℕ, ◌-◌, ◌+◌, ◌++◌, ◌∷◌, ◌<◌, ◌≤◌, [], false, true, take, Ok, Some, None, IsTrue, IfSome, IfOk, pos, neg_ℤ, ◌+ℤ◌, ◌-ℤ◌, ◌*ℤ◌, if◌then◌else◌};
+ghost use Rattle.std.specs.Prelude.{◌≡◌, ℕ, ◌-◌, ◌+◌, ◌++◌, ◌∷◌, ◌<◌, ◌≤◌, [], false, true, take, Ok, Some, None};
+ghost use Rattle.std.specs.Prelude.{IsTrue, IfSome, IfOk, pos, neg_ℤ, ◌+ℤ◌, ◌-ℤ◌, ◌*ℤ◌, if◌then◌else◌};
 ghost use Rattle.mta_ber.specs.Moments.{SpellsMoment};
 ghost use Rattle.mta_ber.specs.Parts.{Leaves};
 ghost use Rattle.mta_ber.specs.Seen.{GivesSome, view};
 ghost use Rattle.mta_ber.specs.Strings.{gather};
-ghost use Rattle.mta_ber.specs.Times.{is_digit, two, seconds, offset, zone, stamp, is_good, stamp_seconds, moment_of_stamp, moment_of, utc_in, line_piece, line_in, kept, whole_year, is_date, is_clock, clock_seconds, day_number, last_moment};
+ghost use Rattle.mta_ber.specs.Times.{is_digit, two, seconds, offset, zone, stamp, is_good, stamp_seconds};
+ghost use Rattle.mta_ber.specs.Times.{moment_of_stamp, moment_of, utc_in, line_piece, line_in, kept, whole_year};
+ghost use Rattle.mta_ber.specs.Times.{is_date, is_clock, clock_seconds, day_number, last_moment};
 ghost use Rattle.jiff_core.specs.Calendar.{IsBetween};
 
 use crate::fault::{Fault, Kind, ReadFault};
@@ -278,8 +281,8 @@ impl View<'_> {
         }
     }
 
-    /// The moment of a UTCTime (X.690, 8.25), in seconds from 1950-01-01 00:00:00 UTC. A segment has the tag of OCTET STRING or of
-    /// UTCTime. BadTime where the text is none, or the moment is before 1950 or after 2049.
+    /// The moment of a UTCTime (X.690, 8.25), in seconds from 1950-01-01 00:00:00 UTC. A segment has the tag of OCTET
+    /// STRING or of UTCTime. BadTime where the text is none, or the moment is before 1950 or after 2049.
     pub fn utc(&self) -> Result<u64, Fault>
         ensures exact { result ≡ utc_in (view self.now) }
         ensures within { IfOk result (λ m. m ≤ last_moment) }

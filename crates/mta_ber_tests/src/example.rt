@@ -1,21 +1,25 @@
 //! The pattern of a reader, at a type of three components: what a crate above this one writes for a SET.
 //!
-//! 1. The value, `Note`, and what a reader has of it so far, `NoteParts`, with one `Option` a component (`src/note.rt`).
-//! 2. In `specs/Example.antt`, the step that a component makes, `note_step`; the reading function `note_in` over `components`; and
-//!    what a component makes where octets spell it, `MakesNote`, with the relation `SpellsNote` over `SpellsComponents`.
+//! 1. The value, `Note`, and what a reader has of it so far, `NoteParts`, with one `Option` a component
+//! (`src/note.rt`).
+//! 2. In `specs/Example.antt`, the step that a component makes, `note_step`; the reading function `note_in` over
+//! `components`; and    what a component makes where octets spell it, `MakesNote`, with the relation `SpellsNote` over
+//! `SpellsComponents`.
 //! 3. `Components` for `NoteParts`: the step in code. It needs no proof file.
-//! 4. `Note::read_parts` over `take_parts`: its clause says that it gives what `note_in` gives, and needs no proof file. `Note::read`
-//!    calls it, and adds the clauses `found` and `only`.
-//! 5. In `proofs/ExampleLaws.antt`, that a step answers exactly what a component makes, a few lines a component: `StepSound` by
-//!    `placed` and, of the component's own reader, the law that what is read is spelled (`text_sound`); `StepFull` by the law that
-//!    what is spelled is read (`text_full`). `parts_sound` and `parts_full` (`proofs/ComponentLaws.antt`) carry both over the loop,
-//!    and `proofs/note/Note/read/Answers.antt` cites the two laws of the whole type that come out.
+//! 4. `Note::read_parts` over `take_parts`: its clause says that it gives what `note_in` gives, and needs no proof
+//! file. `Note::read`    calls it, and adds the clauses `found` and `only`.
+//! 5. In `proofs/ExampleLaws.antt`, that a step answers exactly what a component makes, a few lines a component:
+//! `StepSound` by    `placed` and, of the component's own reader, the law that what is read is spelled (`text_sound`);
+//! `StepFull` by the law that    what is spelled is read (`text_full`). `parts_sound` and `parts_full`
+//! (`proofs/ComponentLaws.antt`) carry both over the loop,    and `proofs/note/Note/read/Answers.antt` cites the two
+//! laws of the whole type that come out.
 //!
-//! A SEQUENCE has the place of the last component beside the others, and its step asks `check_order` (`in_order`) in place of
-//! `once`, with the law `placed_in_order` in place of `placed`; all else is the same.
+//! A SEQUENCE has the place of the last component beside the others, and its step asks `check_order` (`in_order`) in
+//! place of `once`, with the law `placed_in_order` in place of `placed`; all else is the same.
 //!
-//! A component in an explicit tag is `inner`, then what reads the element inside, then `alone`, in this order. Its reading function
-//! is `explicit`, its relation `SpellsExplicit`, and its laws are `explicit_sound` and `explicit_full` (`proofs/ExplicitLaws.antt`).
+//! A component in an explicit tag is `inner`, then what reads the element inside, then `alone`, in this order. Its
+//! reading function is `explicit`, its relation `SpellsExplicit`, and its laws are `explicit_sound` and `explicit_full`
+//! (`proofs/ExplicitLaws.antt`).
 
 ghost use Rattle.std.specs.Prelude.{◌≡◌, IfOk};
 ghost use Rattle.mta_ber.specs.Parts.{Leaves, Reads, IsReadAs};

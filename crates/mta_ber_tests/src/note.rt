@@ -2,8 +2,8 @@
 
 use mta_ber::{Bits, Text};
 
-/// A SET of a title, `[0]` PrintableString of 1 to 20 characters, a count, `[1]` INTEGER of 0 to 100 that is 0 where it is
-/// absent, and flags, `[2]` BIT STRING, which may be absent.
+/// A SET of a title, `[0]` PrintableString of 1 to 20 characters, a count, `[1]` INTEGER of 0 to 100 that is 0 where it
+/// is absent, and flags, `[2]` BIT STRING, which may be absent.
 #[derive(Debug, Drop)]
 pub struct Note {
     pub title: Text,

@@ -33,7 +33,7 @@ module _ {D C : Type 0} (disks : DiskView D) (laws : DiskLaws disks) (clocks : C
       → k.first ≡ steps
   first_steps f steps was s = first_opened ∙ same_steps disks laws old spool o f steps was s
 
-  has_told : (f : List ℕ) → disks.content old ≡ Some f
+  pub has_told : (f : List ℕ) → disks.content old ≡ Some f
       → HasTold (base_of disks clocks spool) spool.opened.bodies
   has_told f was =
       ap (λ (x : Option (List ℕ)). spool.opened.bodies ∷ where_told x spool.opened.bodies)
@@ -150,8 +150,8 @@ module _ {D C : Type 0} (disks : DiskView D) (laws : DiskLaws disks) (clocks : C
         let x = fails.safe f was in
         subst (λ (y : List Step). Synced disks y final.entries torn_step old final.journal.disk)
         (first_steps f steps was s) (record {
-          since = since_of (base_of disks clocks spool);
-          from = (o.synced f was).from;
+          first = spool.opened.synced;
+          sync = o.sync;
           until = x.synced;
           images = x.each;
           now = x.now;

@@ -8,7 +8,7 @@ use Rattle.mta_edge.specs.Views.{DiskView, DiskLaws, StaysTold}
 use Rattle.mta_edge.specs.Causes.{Rose}
 use Rattle.mta_edge.specs.Crashes.{AtAnyMoment}
 use Rattle.mta_journal.specs.Bodies.{StandsFor as HoldsBodies}
-use Rattle.mta_journal.specs.Opening.{IsSame, BeforeOrSame, IsLeft, unsynced, synced}
+use Rattle.mta_journal.specs.Opening.{IsSame, BeforeOrSame, IsLeft, SameSince, unsynced, synced}
 use Rattle.mta_journal.specs.declared.why.OpenWhy.{OpenWhy}
 use Rattle.mta_records.specs.declared.step.Step.{Step}
 use Rattle.mta_records.specs.Body.{body_of}
@@ -80,24 +80,26 @@ module _ {D : Type 0} (disks : DiskView D) (laws : DiskLaws disks) where
       ⊎_elim {C = disks.may_leave old g ⊎ Reached steps [] g} (λ before. inl before)
       (λ same. inr (same_reached f g steps [] same s)) ((refusal.images f was).each g left)
 
+  same_now : (old new : D) (f : List ℕ) (ss : SameSince disks f old new) (g : List ℕ) → disks.may_leave new g → IsSame f g
+  same_now old new f ss g may = ss.same.same g (laws.counts_now new (disks.moment ss.first) g ss.same.until may)
+
   safe_refused : (old new : D) (f : List ℕ) (steps : List Step) → StandsFor f steps → AtAnyMoment disks
       (BeforeOrSame disks old f) old new → IsLeft disks f old new → IsSafe disks steps [] [] old new
   safe_refused old new f steps s images (unsynced same left) = inl (record { none = refl; reads = same; images = left })
   safe_refused old new f steps s images (synced ss) = inr (record {
-    since = ss.since;
-    from = ss.from;
-    until = ss.until;
-    images = λ g left. same_reached f g steps [] (ss.same g left) s;
-    now = λ g may. inl (with_none g steps
-        (same_stands f g steps (ss.same g (laws.counts_now new ss.since g ss.until may)) s));
+    first = ss.first;
+    sync = ss.sync;
+    until = ss.same.until;
+    images = λ g left. same_reached f g steps [] (ss.same.same g left) s;
+    now = λ g may. inl (with_none g steps (same_stands f g steps (same_now old new f ss g may) s));
   })
 
   reads_refused : (old new : D) (f g : List ℕ) (steps : List Step) → StandsFor f steps
       → disks.content old ≡ Some f → disks.content new ≡ Some g → IsLeft disks f old new → StandsFor g steps
   reads_refused old new f g steps s was now (unsynced same left) = subst (λ (x : List ℕ). StandsFor x steps)
       (some_same f g (sym was ∙ sym same ∙ now)) s
-  reads_refused old new f g steps s was now (synced ss) = same_stands f g steps
-      (ss.same g (laws.counts_now new ss.since g ss.until (laws.reads_image new g now))) s
+  reads_refused old new f g steps s was now (synced ss) =
+      same_stands f g steps (same_now old new f ss g (laws.reads_image new g now)) s
 
   -- what is no spool is as it was
   as_it_was : (old new : D) (why : OpenWhy) → HasRefused disks old new why → (f : List ℕ)
@@ -144,16 +146,16 @@ module _ {D C : Type 0} (disks : DiskView D) (laws : DiskLaws disks) (old : D) (
   synced_opened new added torn_step leaves f steps was s =
       let x = o.told f was in
       let l = leaves x.0 x.1 in
-      let ss = o.since f was in
-      let images = o.images f was in
+      let ss = o.synced f was in
+      let since = disks.moment spool.opened.synced in
       subst (λ (x : List Step). Synced disks x added torn_step old new.journal.disk) (same_steps f steps was s)
       (record {
-        since = ss.since;
-        from = ss.from;
+        first = spool.opened.synced;
+        sync = o.sync;
         until = omega (arith, ss.until, l.during.later);
         images = λ g left. ⊎_elim {C = Reached o.steps (added ++ torn_step) g}
             (λ first. same_reached f g o.steps (added ++ torn_step) (ss.same g first) (o.history f was))
-            (λ reached. reached) (l.during.since ss.since g ss.until left);
+            (λ reached. reached) (l.during.since since g ss.until left);
         now = l.now;
       })
 

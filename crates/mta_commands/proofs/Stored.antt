@@ -17,16 +17,27 @@ use Rattle.mta_journal.specs.Appending.{journal_limit}
 use Rattle.mta_machine.specs.Items.{numbered}
 use Rattle.mta_machine.specs.Machine.{last_tables}
 use Rattle.mta_histories.specs.Lanes.{State, empty}
+use Rattle.mta_histories.specs.Classes.{class_of}
 use Rattle.mta_histories.specs.History.{after_step}
 use Rattle.mta_spool.specs.Shown.{Shown}
 use Rattle.mta_spool.specs.Stands.{Stands, Appends, AtMoment, step_moment, need_of, fault_of, IsSpent, IsOfNoLane}
-use Rattle.mta_spool.specs.Stands.{IsOfNoRefusal}
+use Rattle.mta_spool.specs.Stands.{IsOfNoRefusal, last_number}
 use Rattle.mta_spool.specs.Turning.{IsRecorded, Records, IsUnchanged}
+use Rattle.mta_spool.proofs.Dues.{next_is_due}
+use Rattle.mta_spool.proofs.Numbers.{due_opens_none, last_item}
 use Rattle.mta_commands.specs.Submit.{AreInTurn, turn_after, Adds, IsNextStep, tables as next_tables}
-use Rattle.mta_commands.specs.Submit.{apdu as next_apdu, IsFullFor, IsSpentFor, IsRefusal, HasStored}
+use Rattle.mta_commands.specs.Submit.{apdu as next_apdu, due as next_due, IsFullFor, IsSpentFor, IsRefusal, HasStored}
 use Rattle.mta_commands.proofs.Same.{some_same, ok_same, err_same}
 use Rattle.mta_commands.proofs.Added.{after_append, turn_append, turn_after_append, turn_refused, adds_still}
 use Rattle.mta_commands.proofs.Added.{adds_one, adds_refused, adds_then, unchanged}
+
+-- it opens no lane
+last_of_next : (tells : ℕ → Type 0) (conf input : List ℕ) (added : List Step) (s : State) (step : Step)
+    → IsNextStep tells conf input added s step → last_number s (class_of step) ≡ length s.machine.items
+last_of_next tells conf input added s step (next_tables turn other) = refl
+last_of_next tells conf input added s step (next_apdu moment turn same timed) = refl
+last_of_next tells conf input added s step (next_due moment due turn timed next) =
+    sym (last_item s (class_of step) (due_opens_none (class_of step) (next_is_due s moment step next)))
 
 module _ {D C : Type 0} (disks : DiskView D) where
   -- ---- a step that was made or refused
@@ -90,7 +101,12 @@ module _ {D C : Type 0} (disks : DiskView D) where
       let is = unchanged disks step mid new (StepFaults.Spent last) (λ e. absurd cc) appends in
       let spent = appends.spent last refl in
       subst (λ (s : State). IsSpentFor tells conf input added s last) (sym is.1)
-      (record { step = step; next = next; last_is = spent.0; over = spent.1 })
+      (record {
+        step = step;
+        next = next;
+        last_is = spent.0 ∙ last_of_next tells conf input added mid.current step next;
+        over = spent.1;
+      })
   refusal tells conf input added step mid new before StepFaults.Disk le going next no_lane appends =
       let rose = appends.disk refl in omega (arith, rose, le)
   refusal tells conf input added step mid new before StepFaults.Ended le going next no_lane appends =

@@ -1,6 +1,7 @@
 -- What a crash leaves of the disk of a run. An image is the octets that a crash leaves.
 use Rattle.std.specs.Prelude.{◌≡◌, ◌⊎◌, ℕ, ◌≤◌, List, [], ◌++◌}
 use Rattle.mta_edge.specs.Views.{DiskView}
+use Rattle.mta_journal.specs.Opening.{IsSynced}
 use Rattle.mta_records.specs.declared.step.Step.{Step}
 use Rattle.mta_spool.specs.Crashing.{IsLeftWith, Reached}
 
@@ -11,13 +12,14 @@ pub record Unsynced {D : Type 0} (disks : DiskView D) (tried : List Step) (old n
   pub reads : disks.content new ≡ disks.content old
   pub images : (g : List ℕ) → disks.left_since new (disks.moment old) g → disks.may_leave old g
 
--- A sync has succeeded, at a moment of the call. Since then a crash leaves the history with a beginning of the steps,
--- and one now leaves it with all that were made.
+-- Opening's sync has succeeded, and was over when the disk was `first`: until then a crash left what one before the
+-- call might have left, and then nothing was pending. Since then a crash leaves the history with a beginning of the
+-- steps, and one now leaves it with all that were made.
 pub record Synced {D : Type 0} (disks : DiskView D) (steps added torn_step : List Step) (old new : D) : Type 0 where
-  pub since : ℕ
-  pub from : disks.moment old ≤ since
-  pub until : since ≤ disks.moment new
-  pub images : (g : List ℕ) → disks.left_since new since g → Reached steps (added ++ torn_step) g
+  pub first : D
+  pub sync : IsSynced disks old first
+  pub until : disks.moment first ≤ disks.moment new
+  pub images : (g : List ℕ) → disks.left_since new (disks.moment first) g → Reached steps (added ++ torn_step) g
   pub now : (g : List ℕ) → disks.may_leave new g → IsLeftWith steps added torn_step g
 
 -- what a crash leaves of the disk of a run

@@ -98,16 +98,17 @@ HasToldStations ends out (Err stop) = ((stop ≡ Stops.Memory) × (out.after ≡
     ⊎ ((stop ≡ Stops.Sink) × PrintsFront out (station_lines ends))
 
 -- The stop for the end of a worker that decides. Where it decides the last turns of the run went well, so the disk has
--- not failed, and an end that says so has no cause: it is told as want of memory. The last four decide nothing.
+-- not failed, and the tables name each peer that is called: an end that says otherwise has no cause, and is told as
+-- want of memory. The last three decide nothing.
 abbrev pub stop_of_halt : Halt → Stop
 stop_of_halt Halts.Disk = Stops.Memory
 stop_of_halt (Halts.Full size need) = Stops.Full size need
 stop_of_halt (Halts.Spent last) = Stops.Spent last
+stop_of_halt Halts.NoPeer = Stops.Memory
 stop_of_halt Halts.Memory = Stops.Memory
 stop_of_halt Halts.Limit = Stops.Memory
 stop_of_halt Halts.StationEnded = Stops.Memory
 stop_of_halt Halts.StationFailed = Stops.Memory
-stop_of_halt Halts.NoPeer = Stops.Memory
 
 -- Why a run ends whose last turns came to this, and whose workers came to these ends: for its own step that was
 -- refused, or for the end of a worker that decides.

@@ -85,8 +85,8 @@ pub fn stop_of_step(fault: StepFault) -> Stop
     }
 }
 
-/// Why a run ends for which a worker's end decides. Its last turns went well then, so the disk has not failed, and an
-/// end that says so is told as want of memory.
+/// Why a run ends for which a worker's end decides. Its last turns went well then, so the disk has not failed, and the
+/// tables name each peer that is called: an end that says otherwise is told as want of memory.
 pub fn stop_of_halt(halt: Halt) -> Stop
     requires { status_of halt ≢ None }
     ensures { result ≡ stop_of_halt halt }
@@ -95,10 +95,9 @@ pub fn stop_of_halt(halt: Halt) -> Stop
         Halt::Disk => Stop::Memory,
         Halt::Full { size, need } => Stop::Full { size, need },
         Halt::Spent { last } => Stop::Spent { last },
-        Halt::Memory => Stop::Memory,
+        Halt::NoPeer | Halt::Memory => Stop::Memory,
         Halt::Limit => unreachable!(),
         Halt::StationEnded => unreachable!(),
         Halt::StationFailed => unreachable!(),
-        Halt::NoPeer => unreachable!(),
     }
 }

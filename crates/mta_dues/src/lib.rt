@@ -1,6 +1,6 @@
 //! What is due in the state of a spool, and what goes to a peer next. Only those items are looked at that may have
-//! something due (`Agenda`), and those that stand in a line of the peer (`Lines`), so a look costs by how many there are
-//! of these, and by a logarithm by how many items there are.
+//! something due (`Agenda`), and those that stand in a line of the peer (`Lines`), so a look costs by how many there
+//! are of these, and by a logarithm by how many items there are.
 #![tactic(auto)]
 
 mod agenda;

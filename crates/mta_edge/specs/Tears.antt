@@ -1,5 +1,6 @@
 -- How a crash tears a call: one octal digit says how.
-use Rattle.std.specs.Prelude.{ℕ, ◌-◌, ◌/◌, ◌%◌, ◌≤◌, ◌≢◌, nat_le, if◌then◌else◌, List, [], ◌∷◌, ◌++◌, length, take, drop, map, replicate, slice_index_or}
+use Rattle.std.specs.Prelude.{ℕ, ◌-◌, ◌/◌, ◌%◌, ◌≤◌, ◌≢◌, nat_le, if◌then◌else◌, List, [], ◌∷◌}
+use Rattle.std.specs.Prelude.{◌++◌, length, take, drop, map, replicate, slice_index_or}
 use Rattle.mta_edge.specs.Outside.{written}
 use Rattle.mta_edge.specs.declared.tear.Tear.{Tear}
 use Rattle.mta_edge.specs.declared.tear.Tear.TheVariants.{Nothing, Whole, Half, Other, OtherHalf, Zeros, Ones, Late}

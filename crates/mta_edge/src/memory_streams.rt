@@ -1,6 +1,7 @@
 //! Sources, sinks and clocks in memory.
 
-ghost use Rattle.std.specs.Prelude.{◌≡◌, ◌⊎◌, ◌<◌, ◌≤◌, [], List, ℕ, Some, length, drop, take, is_err, false, OnOk, OnErr, IfOk, Contains, slice_index};
+ghost use Rattle.std.specs.Prelude.{◌≡◌, ◌⊎◌, ◌<◌, ◌≤◌, [], List, ℕ, Some, length, drop, take};
+ghost use Rattle.std.specs.Prelude.{is_err, false, OnOk, OnErr, IfOk, Contains, slice_index};
 ghost use Rattle.mta_edge.specs.Causes.{HasCause, Rose};
 ghost use Rattle.mta_edge.specs.Held.{memory_sink, memory_source};
 ghost use Rattle.mta_edge.specs.Numbers.{is_listed, one_more_call};

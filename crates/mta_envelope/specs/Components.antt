@@ -1,5 +1,5 @@
--- The components of the envelope of a message or a probe (X.411, MessageTransferEnvelope and ProbeTransferEnvelope). That of a probe has
--- no priority, and has a content length in place of a deferred delivery time.
+-- The components of the envelope of a message or a probe (X.411, MessageTransferEnvelope and ProbeTransferEnvelope).
+-- That of a probe has no priority, and has a content length in place of a deferred delivery time.
 use Rattle.std.specs.Prelude.{◌≡◌, ℕ, Bool, true, List, Option, Some, None, Result, Ok, ◌&&◌, not, if◌then◌else◌}
 use Rattle.mta_ber.specs.declared.fault.Fault.{Fault}
 use Rattle.mta_ber.specs.declared.fault.Kind.TheVariants.{BadTag}
@@ -29,7 +29,10 @@ use Rattle.mta_envelope_recipient.specs.declared.recipient.RecipientFields.{Reci
 use Rattle.mta_envelope_recipient.specs.Lists.{recipients_in, SpellsRecipients}
 use Rattle.mta_envelope.specs.declared.priority.Priority.{Priority}
 use Rattle.mta_envelope.specs.declared.parts.EnvelopePart.{EnvelopePart}
-use Rattle.mta_envelope.specs.declared.parts.EnvelopePart.TheVariants.{Originator, Identifier, InformationTypes, ContentType, MessagePriority, Indicators, TraceList, ContentIdentifier, Deferral, Length, Bilateral, RecipientList, ExtensionSet}
+use Rattle.mta_envelope.specs.declared.parts.EnvelopePart.TheVariants.{Originator, Identifier, InformationTypes}
+use Rattle.mta_envelope.specs.declared.parts.EnvelopePart.TheVariants.{ContentType, MessagePriority, Indicators}
+use Rattle.mta_envelope.specs.declared.parts.EnvelopePart.TheVariants.{TraceList, ContentIdentifier, Deferral, Length}
+use Rattle.mta_envelope.specs.declared.parts.EnvelopePart.TheVariants.{Bilateral, RecipientList, ExtensionSet}
 use Rattle.mta_envelope.specs.declared.parts.EnvelopeParts.{EnvelopeParts}
 use Rattle.mta_envelope.specs.Priorities.{priority_in, SpellsPriority}
 

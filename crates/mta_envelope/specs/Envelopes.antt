@@ -1,5 +1,6 @@
 -- The envelope of a message or a probe: a SET of its components in any order, each at most once.
-use Rattle.std.specs.Prelude.{◌≡◌, ℕ, pos, ◌≤◌, Bool, true, false, List, [], ◌∷◌, ◌++◌, length, Option, Some, None, IfSome, IsSome, is_some, Result, Ok, ◌==◌, ◌&&◌, if◌then◌else◌, unwrap_or}
+use Rattle.std.specs.Prelude.{◌≡◌, ℕ, pos, ◌≤◌, Bool, true, false, List, [], ◌∷◌, ◌++◌, length, Option, Some, None}
+use Rattle.std.specs.Prelude.{IfSome, IsSome, is_some, Result, Ok, ◌==◌, ◌&&◌, if◌then◌else◌, unwrap_or}
 use Rattle.mta_ber.specs.declared.fault.Fault.{Fault}
 use Rattle.mta_ber.specs.Bits.{BitString}
 use Rattle.mta_ber.specs.Canon.{constructed, primitive, optional}

@@ -1,5 +1,6 @@
 -- Laws of messages, probes and octets: what is written is read again, whatever follows it.
-use Rattle.std.specs.Prelude.{◌≡◌, ℕ, ◌+◌, ◌<◌, ◌≤◌, ◌^◌, Bool, true, false, List, ◌++◌, length, Option, IfSome, unwrap_or}
+use Rattle.std.specs.Prelude.{◌≡◌, ℕ, ◌+◌, ◌<◌, ◌≤◌, ◌^◌, Bool, true, false}
+use Rattle.std.specs.Prelude.{List, ◌++◌, length, Option, IfSome, unwrap_or}
 use Rattle.mta_ber.specs.Element.{first}
 use Rattle.mta_ber.specs.Head.{◌>>=◌}
 use Rattle.mta_ber.specs.Laws.{with_rest, beside}
@@ -29,8 +30,8 @@ pub record IsWholeEnvelope (v : EnvelopeFields) : Type 0 where
   pub recipients : Each IsWholeRecipient v.recipients
   pub trace : Each IsWholeTrace v.trace
 
--- what an envelope in the level `depth` keeps unread stands in the level of its place, and the extension fields say there what is
--- said
+-- what an envelope in the level `depth` keeps unread stands in the level of its place, and the extension fields say
+-- there what is said
 pub record KeepsEnvelope (depth : ℕ) (v : EnvelopeFields) : Type 0 where
   pub originator : KeepsName (depth + 1) v.originator
   pub eits : IfSome v.eits (IsRawAt (depth + 1) 1 5)
@@ -50,7 +51,8 @@ abbrev pub ProbesAreReadAgain : Type 0
 ProbesAreReadAgain = (v : EnvelopeFields) (more : List ℕ) (at : ℕ) → IsWholeEnvelope v → IsOfKind true v → KeepsEnvelope 2 v → length (canonical_probe v) < 2 ^ 64
     → (first at (canonical_probe v ++ more) >>= with_rest probe_in) ≡ beside v more
 
--- what an envelope that was read keeps stands in the level of its place, and the extension fields say there what is said
+-- what an envelope that was read keeps stands in the level of its place, and the extension fields say there what is
+-- said
 abbrev pub ReadEnvelopesAreKept : Type 0
 ReadEnvelopesAreKept = (probe : Bool) (depth : ℕ) (c : Bool) (content : List ℕ) (v : EnvelopeFields) → SpellsEnvelope probe depth c content v → depth + 7 ≤ 16 → KeepsEnvelope depth v × IsWholeEnvelope v
 

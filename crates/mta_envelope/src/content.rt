@@ -7,7 +7,8 @@ ghost use Rattle.mta_envelope.specs.Contents.{ReadsSeen, content_value, content_
 use mta_ber::{Kind, Octets, ReadFault, View, bad, is_tag_of};
 use std::alloc::Global;
 
-/// The octets of a content (X.411, Content): those of the input itself where they stand there in one piece, else the segments joined.
+/// The octets of a content (X.411, Content): those of the input itself where they stand there in one piece, else the
+/// segments joined.
 #[derive(Drop)]
 pub enum Content<'a> {
     Lent(&'a [u8]),

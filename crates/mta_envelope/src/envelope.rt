@@ -12,8 +12,8 @@ use mta_names::{OrName, Row, put_around};
 use std::alloc::Global;
 use std::marker::Model;
 
-/// What the envelope of a message or a probe has. What is absent is `None`, and what has a default is there. Moments are seconds from
-/// 1950-01-01 00:00:00 UTC, at most the last second of 2049.
+/// What the envelope of a message or a probe has. What is absent is `None`, and what has a default is there. Moments
+/// are seconds from 1950-01-01 00:00:00 UTC, at most the last second of 2049.
 pub struct EnvelopeFields {
     /// message-identifier, or probe-identifier.
     pub id: MtsId,
@@ -27,8 +27,8 @@ pub struct EnvelopeFields {
     pub content_id: Option<Text>,
     /// priority, normal by default; that of a probe is normal.
     pub priority: Priority,
-    /// per-message-indicators, 8 to 64 bits, 8 zero bits by default: disclosure-of-other-recipients 0, implicit-conversion-prohibited 1,
-    /// alternate-recipient-allowed 2, content-return-request 3.
+    /// per-message-indicators, 8 to 64 bits, 8 zero bits by default: disclosure-of-other-recipients 0,
+    /// implicit-conversion-prohibited 1, alternate-recipient-allowed 2, content-return-request 3.
     pub indicators: Bits,
     /// deferred-delivery-time, of a message alone.
     pub deferral: Option<u64>,
@@ -106,8 +106,8 @@ impl Envelope {
     ghost use Rattle.mta_envelope.specs.declared.envelope.EnvelopeFields.{EnvelopeFields};
     ghost use Rattle.mta_envelope.specs.Envelopes.{envelope_in, IsEnvelope, IsOfKind, SpellsEnvelope, envelope_content};
 
-    /// The envelope that an element spells, that of a probe or that of a message, whatever the tag of the element, which is for the caller
-    /// to check: a SET, its components in any order.
+    /// The envelope that an element spells, that of a probe or that of a message, whatever the tag of the element,
+    /// which is for the caller to check: a SET, its components in any order.
     pub fn read(alloc: Global, probe: bool, whole: &View) -> Result<Envelope, ReadFault>
         // Which envelope it is, or which fault comes first.
         ensures exact { Reads result (envelope_in probe (view whole.now)) }

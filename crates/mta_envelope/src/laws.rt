@@ -1,6 +1,8 @@
 //! Laws of messages, probes and octets.
 
-ghost use Rattle.mta_envelope.specs.Laws.{MessagesAreReadAgain, ProbesAreReadAgain, ReadEnvelopesAreKept, ReadMessagesAreReadAgain, ReadProbesAreReadAgain, NoMessageBeginsAnother, NoProbeBeginsAnother};
+ghost use Rattle.mta_envelope.specs.Laws.{MessagesAreReadAgain, ProbesAreReadAgain, ReadEnvelopesAreKept};
+ghost use Rattle.mta_envelope.specs.Laws.{ReadMessagesAreReadAgain, ReadProbesAreReadAgain, NoMessageBeginsAnother};
+ghost use Rattle.mta_envelope.specs.Laws.{NoProbeBeginsAnother};
 
 /// A message that is written is read again, whatever follows it. What is kept unread stands in the level of its place.
 pub fn messages_are_read_again()

@@ -1,4 +1,5 @@
-//! Messages and probes whole (X.411, Message and Probe): every spelling of them is read, the one canonical spelling is written.
+//! Messages and probes whole (X.411, Message and Probe): every spelling of them is read, the one canonical spelling is
+//! written.
 #![tactic(auto)]
 
 mod content;

@@ -3,8 +3,13 @@
 ghost use Rattle.std.specs.Prelude.{◌≡◌};
 ghost use Rattle.mta_ber.specs.Parts.{Leaves, Reads};
 ghost use Rattle.mta_ber.specs.Seen.{view};
-ghost use Rattle.mta_envelope.specs.declared.parts.EnvelopePart.TheVariants.{Originator, Identifier, InformationTypes, ContentType, MessagePriority, Indicators, TraceList, ContentIdentifier, Deferral, Length, Bilateral, RecipientList, ExtensionSet};
-ghost use Rattle.mta_envelope.specs.Components.{length_in, context_part_of, envelope_part_of, no_envelope, envelope_part_in, envelope_step};
+ghost use Rattle.mta_envelope.specs.declared.parts.EnvelopePart.TheVariants.{Originator, Identifier};
+ghost use Rattle.mta_envelope.specs.declared.parts.EnvelopePart.TheVariants.{InformationTypes, ContentType};
+ghost use Rattle.mta_envelope.specs.declared.parts.EnvelopePart.TheVariants.{MessagePriority, Indicators, TraceList};
+ghost use Rattle.mta_envelope.specs.declared.parts.EnvelopePart.TheVariants.{ContentIdentifier, Deferral, Length};
+ghost use Rattle.mta_envelope.specs.declared.parts.EnvelopePart.TheVariants.{Bilateral, RecipientList, ExtensionSet};
+ghost use Rattle.mta_envelope.specs.Components.{length_in, context_part_of, envelope_part_of};
+ghost use Rattle.mta_envelope.specs.Components.{no_envelope, envelope_part_in, envelope_step};
 
 use crate::priority::{Priority, read_priority};
 use mta_ber::{

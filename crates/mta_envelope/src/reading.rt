@@ -4,7 +4,8 @@ ghost use Rattle.std.specs.Prelude.{◌≡◌, [], unwrap_or, false};
 ghost use Rattle.mta_ber.specs.Parts.{Reads};
 ghost use Rattle.mta_ber.specs.Seen.{view};
 ghost use Rattle.mta_envelope_extensions.specs.declared.extensions.Extensions.{Extensions};
-ghost use Rattle.mta_envelope.specs.Envelopes.{told_or_none, history_or_none, indicators_or_none, priority_or_normal, has_required, HasRequired, IsEnvelopeOf, finished, envelope_in};
+ghost use Rattle.mta_envelope.specs.Envelopes.{told_or_none, history_or_none, indicators_or_none, priority_or_normal};
+ghost use Rattle.mta_envelope.specs.Envelopes.{has_required, HasRequired, IsEnvelopeOf, finished, envelope_in};
 
 use crate::envelope::EnvelopeFields;
 use crate::parts::{EnvelopeParts, no_parts};

@@ -1,11 +1,13 @@
-//! Writing an envelope in its one canonical spelling: the components in the order of their tags, and none that equals its default.
+//! Writing an envelope in its one canonical spelling: the components in the order of their tags, and none that equals
+//! its default.
 
 ghost use Rattle.std.specs.Prelude.{◌≡◌, ◌≤◌, IfOk, OnOk, IfSome};
 ghost use Rattle.mta_ber.specs.Canon.{appended, optional};
 ghost use Rattle.mta_ber.specs.Times.{last_moment};
 ghost use Rattle.mta_envelope_common.specs.ContentKinds.{kind_in_front, kind_in_place};
 ghost use Rattle.mta_envelope.specs.Components.{longest};
-ghost use Rattle.mta_envelope.specs.Envelopes.{IsEnvelope, canonical_or_none, canonical_deferral, canonical_length, envelope_front, envelope_middle, envelope_back, envelope_content};
+ghost use Rattle.mta_envelope.specs.Envelopes.{IsEnvelope, canonical_or_none, canonical_deferral, canonical_length};
+ghost use Rattle.mta_envelope.specs.Envelopes.{envelope_front, envelope_middle, envelope_back, envelope_content};
 
 use crate::envelope::EnvelopeFields;
 use crate::priority::put_priority;

@@ -44,7 +44,8 @@ abbrev pub canonical_content_kind : ContentKind → List ℕ
 canonical_content_kind (Number n) = canon_int (primitive 1 6) (pos n)
 canonical_content_kind (Oid o) = element (primitive 0 6) o
 
--- in a SET an object identifier stands in front of all components of other classes, and a number at the place of its tag
+-- in a SET an object identifier stands in front of all components of other classes, and a number at the place of its
+-- tag
 abbrev pub kind_in_front : ContentKind → List ℕ
 kind_in_front (Number n) = []
 kind_in_front (Oid o) = element (primitive 0 6) o

@@ -1,4 +1,5 @@
--- Indicators (X.411, PerMessageIndicators and PerRecipientIndicators): a list of 8 to 64 bits, of which those that are not written are 0.
+-- Indicators (X.411, PerMessageIndicators and PerRecipientIndicators): a list of 8 to 64 bits, of which those that are
+-- not written are 0.
 use Rattle.std.specs.Prelude.{◌≡◌, ℕ, ◌<◌, ◌≤◌, ◌^◌, Bool, List, Result, Ok}
 use Rattle.mta_ber.specs.declared.fault.Fault.{Fault}
 use Rattle.mta_ber.specs.declared.tag.Tag.{Tag}

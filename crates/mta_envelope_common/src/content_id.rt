@@ -4,14 +4,15 @@ ghost use Rattle.std.specs.Prelude.{◌≡◌, ℕ, List, IfOk, OnOk, OnErr};
 ghost use Rattle.mta_ber.specs.Canon.{appended, optional};
 ghost use Rattle.mta_ber.specs.Parts.{Reads, IsReadAs};
 ghost use Rattle.mta_ber.specs.Seen.{view};
-ghost use Rattle.mta_envelope_common.specs.ContentIdentifiers.{IsContentId, content_id_in, SpellsContentId, canonical_content_id};
+ghost use Rattle.mta_envelope_common.specs.ContentIdentifiers.{IsContentId, content_id_in, SpellsContentId};
+ghost use Rattle.mta_envelope_common.specs.ContentIdentifiers.{canonical_content_id};
 
 use mta_ber::{Memory, ReadFault, Text, TextClass, View, Writer};
 use mta_names::primitive;
 use std::alloc::Global;
 
-/// The content identifier that an element spells (X.411, ContentIdentifier), whatever its tag, which is `[APPLICATION 10]` and for the caller to
-/// check: a PrintableString of 1 to 16 characters.
+/// The content identifier that an element spells (X.411, ContentIdentifier), whatever its tag, which is `[APPLICATION
+/// 10]` and for the caller to check: a PrintableString of 1 to 16 characters.
 pub fn read_content_id(alloc: Global, part: &View) -> Result<Text, ReadFault>
     // Which identifier it is, or which fault comes first.
     ensures exact { Reads result (content_id_in (view part.now)) }

@@ -7,7 +7,8 @@ ghost use Rattle.mta_ber.specs.Parts.{Leaves, Reads, IsReadAs};
 ghost use Rattle.mta_ber.specs.Seen.{view};
 ghost use Rattle.mta_fields.specs.declared.extension.ExtFields.{ExtFields};
 ghost use Rattle.mta_fields.specs.ExtensionFields.{canonical_ext};
-ghost use Rattle.mta_envelope_common.specs.ExtensionLists.{ext_list_step, ext_list_in, SpellsExtList, canonical_ext_list};
+ghost use Rattle.mta_envelope_common.specs.ExtensionLists.{ext_list_step, ext_list_in, SpellsExtList};
+ghost use Rattle.mta_envelope_common.specs.ExtensionLists.{canonical_ext_list};
 
 use mta_ber::{Components, Kind, Memory, ReadFault, Tag, View, Writer, bad, is_tag_of, take_parts};
 use mta_fields::ExtField;
@@ -58,8 +59,8 @@ fn extensions_of(alloc: Global, whole: &View) -> Result<Row<ExtField>, ReadFault
     Ok(fields)
 }
 
-/// The extension fields that an element spells (X.411, Extensions), whatever its tag, which is for the caller to check: a SET OF extension fields
-/// in any number, kept in the order in which they stand.
+/// The extension fields that an element spells (X.411, Extensions), whatever its tag, which is for the caller to check:
+/// a SET OF extension fields in any number, kept in the order in which they stand.
 pub fn read_extensions(alloc: Global, part: &View) -> Result<Row<ExtField>, ReadFault>
     // Which fields they are, or which fault comes first.
     ensures exact { Reads result (ext_list_in (view part.now)) }

@@ -5,7 +5,8 @@ ghost use Rattle.mta_ber.specs.Bits.{BitString};
 ghost use Rattle.mta_ber.specs.Canon.{IsTag, appended};
 ghost use Rattle.mta_ber.specs.Contents.{canon_bits};
 ghost use Rattle.mta_ber.specs.Seen.{view};
-ghost use Rattle.mta_envelope_common.specs.Indicators.{IsIndicators, indicators_in, SpellsIndicators, canonical_indicators};
+ghost use Rattle.mta_envelope_common.specs.Indicators.{IsIndicators, indicators_in, SpellsIndicators};
+ghost use Rattle.mta_envelope_common.specs.Indicators.{canonical_indicators};
 
 use mta_ber::{Bits, Fault, Memory, Tag, View, Writer, put_bits};
 
@@ -16,8 +17,8 @@ fn indicators_of(part: &View) -> Result<Bits, Fault>
     Ok(bits.padded(8))
 }
 
-/// The indicators that an element spells, whatever its tag, which is for the caller to check: a bit string of at most 64 bits, padded with zeros to at
-/// least 8. BadInt where there are more than 64.
+/// The indicators that an element spells, whatever its tag, which is for the caller to check: a bit string of at most
+/// 64 bits, padded with zeros to at least 8. BadInt where there are more than 64.
 pub fn read_indicators(part: &View) -> Result<Bits, Fault>
     // Which indicators they are, or which fault comes first.
     ensures exact { result ≡ indicators_in (view part.now) }

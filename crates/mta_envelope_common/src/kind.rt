@@ -5,7 +5,8 @@ ghost use Rattle.mta_ber.specs.Canon.{appended, optional};
 ghost use Rattle.mta_ber.specs.Parts.{Reads, IsReadAs};
 ghost use Rattle.mta_ber.specs.Seen.{view};
 ghost use Rattle.mta_envelope_common.specs.declared.kind.ContentKind.{ContentKind};
-ghost use Rattle.mta_envelope_common.specs.ContentKinds.{is_content_kind, content_kind_in, SpellsContentKind, canonical_content_kind, kind_in_front, kind_in_place};
+ghost use Rattle.mta_envelope_common.specs.ContentKinds.{is_content_kind, content_kind_in, SpellsContentKind};
+ghost use Rattle.mta_envelope_common.specs.ContentKinds.{canonical_content_kind, kind_in_front, kind_in_place};
 
 use mta_ber::{
     Kind, Memory, ReadFault, Tag, View, Writer, bad, is_primitive_tag, is_tag_of, put_int,
@@ -42,7 +43,8 @@ fn content_kind_of(alloc: Global, part: &View) -> Result<ContentKind, ReadFault>
     }
 }
 
-/// The content type that an element spells: an INTEGER of 0 to 32,767 under `[APPLICATION 6]`, or an OBJECT IDENTIFIER. BadTag at any other tag.
+/// The content type that an element spells: an INTEGER of 0 to 32,767 under `[APPLICATION 6]`, or an OBJECT IDENTIFIER.
+/// BadTag at any other tag.
 pub fn read_content_kind(alloc: Global, part: &View) -> Result<ContentKind, ReadFault>
     // Which content type it is, or which fault comes first.
     ensures exact { Reads result (content_kind_in (view part.now)) }

@@ -1,5 +1,6 @@
-//! Fields that the envelopes of messages and probes and reports share (X.411): content types, traces, lists of extension fields, indicators
-//! and content identifiers. Every spelling of them is read, the one canonical spelling is written.
+//! Fields that the envelopes of messages and probes and reports share (X.411): content types, traces, lists of
+//! extension fields, indicators and content identifiers. Every spelling of them is read, the one canonical spelling is
+//! written.
 #![tactic(auto)]
 
 mod content_id;

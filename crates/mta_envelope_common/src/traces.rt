@@ -7,7 +7,8 @@ ghost use Rattle.mta_ber.specs.Parts.{Leaves, Reads, IsReadAs};
 ghost use Rattle.mta_ber.specs.Seen.{view};
 ghost use Rattle.mta_fields.specs.declared.trace.TraceFields.{TraceFields};
 ghost use Rattle.mta_fields.specs.TraceElements.{canonical_trace};
-ghost use Rattle.mta_envelope_common.specs.TraceLists.{trace_list_step, trace_list_in, SpellsTraceList, canonical_trace_list};
+ghost use Rattle.mta_envelope_common.specs.TraceLists.{trace_list_step, trace_list_in, SpellsTraceList};
+ghost use Rattle.mta_envelope_common.specs.TraceLists.{canonical_trace_list};
 
 use mta_ber::{Components, Kind, Memory, ReadFault, View, Writer, bad, is_tag_of, take_parts};
 use mta_fields::TraceElement;
@@ -61,8 +62,8 @@ fn trace_of(alloc: Global, whole: &View) -> Result<Row<TraceElement>, ReadFault>
     Ok(elements)
 }
 
-/// The trace that an element spells (X.411, TraceInformation), whatever its tag, which is `[APPLICATION 9]` and for the caller to check: 0 to
-/// 512 trace elements. BadSize at the trace where there are more.
+/// The trace that an element spells (X.411, TraceInformation), whatever its tag, which is `[APPLICATION 9]` and for the
+/// caller to check: 0 to 512 trace elements. BadSize at the trace where there are more.
 pub fn read_trace(alloc: Global, part: &View) -> Result<Row<TraceElement>, ReadFault>
     // Which trace it is, or which fault comes first.
     ensures exact { Reads result (trace_list_in (view part.now)) }

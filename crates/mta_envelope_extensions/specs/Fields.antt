@@ -1,6 +1,7 @@
--- One extension field of an envelope (X.411, ExtensionField): a SEQUENCE of a type, a criticality and a value. The value of a topic that
--- is read has to be there, and stands in one field alone.
-use Rattle.std.specs.Prelude.{◌≡◌, ℕ, ◌<◌, ◌≤◌, Bool, true, false, List, Option, Some, None, Result, Ok, ◌||◌, if◌then◌else◌}
+-- One extension field of an envelope (X.411, ExtensionField): a SEQUENCE of a type, a criticality and a value. The
+-- value of a topic that is read has to be there, and stands in one field alone.
+use Rattle.std.specs.Prelude.{◌≡◌, ℕ, ◌<◌, ◌≤◌, Bool, true, false, List, Option}
+use Rattle.std.specs.Prelude.{Some, None, Result, Ok, ◌||◌, if◌then◌else◌}
 use Rattle.mta_ber.specs.declared.fault.Fault.{Fault}
 use Rattle.mta_ber.specs.declared.fault.Kind.TheVariants.{BadTag, Missing, Twice}
 use Rattle.mta_ber.specs.declared.tag.Tag.{Tag}
@@ -16,7 +17,8 @@ use Rattle.mta_fields.specs.declared.extension.ExtKind.{ExtKind}
 use Rattle.mta_fields.specs.ExtensionFields.{null, kind_in, SpellsKind}
 use Rattle.mta_fields.specs.Traces.{bit_if}
 use Rattle.mta_envelope_extensions.specs.declared.value.Topic.{Topic}
-use Rattle.mta_envelope_extensions.specs.declared.value.Topic.TheVariants.{ExpansionHistory, LatestDelivery, ExpansionProhibited, Other}
+use Rattle.mta_envelope_extensions.specs.declared.value.Topic.TheVariants.{ExpansionHistory, LatestDelivery}
+use Rattle.mta_envelope_extensions.specs.declared.value.Topic.TheVariants.{ExpansionProhibited, Other}
 use Rattle.mta_envelope_extensions.specs.declared.value.Said.TheVariants.{Unread}
 use Rattle.mta_envelope_extensions.specs.declared.value.ExtValue.{ExtValue}
 use Rattle.mta_envelope_extensions.specs.declared.field.Held.{Held}
@@ -144,7 +146,8 @@ abbrev pub IsValue : Topic → Option ExtValue → ExtValue → Type 0
 IsValue topic (Some w) v = v ≡ w
 IsValue topic None v = IsNull topic v
 
--- a SEQUENCE of its components in their order; of the criticality the first three bits count, and the offset plays no part
+-- a SEQUENCE of its components in their order; of the criticality the first three bits count, and the offset plays no
+-- part
 pub record SpellsField (held : Held) (depth : ℕ) (constructed : Bool) (content : List ℕ) (t : Told) : Type 0 where
   pub is_constructed : constructed ≡ true
   pub at : ℕ

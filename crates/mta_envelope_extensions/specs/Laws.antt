@@ -10,10 +10,12 @@ use Rattle.mta_fields.specs.ExtensionFields.{IsExtField, canonical_ext}
 use Rattle.mta_fields.specs.Laws.{KeepsExtField}
 use Rattle.mta_envelope_extensions.specs.declared.extensions.Extensions.{Extensions}
 use Rattle.mta_envelope_extensions.specs.declared.value.Topic.{Topic}
-use Rattle.mta_envelope_extensions.specs.declared.value.Topic.TheVariants.{ExpansionHistory, LatestDelivery, ExpansionProhibited}
+use Rattle.mta_envelope_extensions.specs.declared.value.Topic.TheVariants.{ExpansionHistory, LatestDelivery}
+use Rattle.mta_envelope_extensions.specs.declared.value.Topic.TheVariants.{ExpansionProhibited}
 use Rattle.mta_envelope_extensions.specs.declared.value.Said.{Said}
 use Rattle.mta_envelope_extensions.specs.Topics.{SpellsSaid}
-use Rattle.mta_envelope_extensions.specs.Told.{SpellsExtensions, values_of, history_said, latest_said, prohibited_said, extensions_in}
+use Rattle.mta_envelope_extensions.specs.Told.{SpellsExtensions, values_of, history_said, latest_said}
+use Rattle.mta_envelope_extensions.specs.Told.{prohibited_said, extensions_in}
 
 -- the octets of a whole element say this in a level
 pub record IsSaidAt (depth : ℕ) (topic : Topic) (octets : List ℕ) (said : Said) : Type 0 where
@@ -27,7 +29,8 @@ SaysAt depth topic [] None = Unit {0}
 SaysAt depth topic (v ∷ []) (Some s) = IsSaidAt depth topic v s
 SaysAt depth topic _ _ = ⊥
 
--- fields whose values stand in the level of their place, in a field of the SET in the level `depth`, and say there what is said
+-- fields whose values stand in the level of their place, in a field of the SET in the level `depth`, and say there what
+-- is said
 pub record AreToldAt (depth : ℕ) (s : Extensions) : Type 0 where
   pub fields : Each IsExtField s.fields
   pub kept : Each (KeepsExtField (depth + 1)) s.fields

@@ -1,6 +1,7 @@
--- All extension fields of an envelope: a SET OF fields in any number, each kept as it stands. Of the topics that are read each stands
--- in one field at most, and what is said of a topic is what the value of that field says.
-use Rattle.std.specs.Prelude.{◌≡◌, ℕ, Bool, true, false, List, [], ◌∷◌, ◌++◌, Option, Some, None, is_some, Result, Ok, if◌then◌else◌}
+-- All extension fields of an envelope: a SET OF fields in any number, each kept as it stands. Of the topics that are
+-- read each stands in one field at most, and what is said of a topic is what the value of that field says.
+use Rattle.std.specs.Prelude.{◌≡◌, ℕ, Bool, true, false, List, [], ◌∷◌, ◌++◌, Option}
+use Rattle.std.specs.Prelude.{Some, None, is_some, Result, Ok, if◌then◌else◌}
 use Rattle.mta_ber.specs.declared.fault.Fault.{Fault}
 use Rattle.mta_ber.specs.declared.fault.Kind.TheVariants.{BadTag}
 use Rattle.mta_ber.specs.declared.tag.Tag.{Tag}
@@ -13,7 +14,8 @@ use Rattle.mta_names.specs.Strings.{Puts}
 use Rattle.mta_fields.specs.declared.expansion.ExpansionFields.{ExpansionFields}
 use Rattle.mta_fields.specs.declared.extension.ExtFields.{ExtFields}
 use Rattle.mta_envelope_extensions.specs.declared.value.Topic.{Topic}
-use Rattle.mta_envelope_extensions.specs.declared.value.Topic.TheVariants.{ExpansionHistory, LatestDelivery, ExpansionProhibited, Other}
+use Rattle.mta_envelope_extensions.specs.declared.value.Topic.TheVariants.{ExpansionHistory, LatestDelivery}
+use Rattle.mta_envelope_extensions.specs.declared.value.Topic.TheVariants.{ExpansionProhibited, Other}
 use Rattle.mta_envelope_extensions.specs.declared.value.Said.{Said}
 use Rattle.mta_envelope_extensions.specs.declared.value.Said.TheVariants.{History, Latest, Prohibited, Unread}
 use Rattle.mta_envelope_extensions.specs.declared.field.Held.{Held}

@@ -1,5 +1,5 @@
--- The extensions of an envelope of which a transfer agent makes use (X.411, clause 12): dl-expansion-history, latest-delivery-time and
--- dl-expansion-prohibited, and what their values say.
+-- The extensions of an envelope of which a transfer agent makes use (X.411, clause 12): dl-expansion-history,
+-- latest-delivery-time and dl-expansion-prohibited, and what their values say.
 use Rattle.std.specs.Prelude.{◌≡◌, ℕ, Bool, true, List, Result, Ok, ◌==◌, ◌||◌, if◌then◌else◌}
 use Rattle.mta_ber.specs.declared.fault.Fault.{Fault}
 use Rattle.mta_ber.specs.declared.fault.Kind.TheVariants.{BadTag}
@@ -19,7 +19,8 @@ use Rattle.mta_fields.specs.declared.extension.ExtKind.TheVariants.{Standard, Pr
 use Rattle.mta_fields.specs.Expansions.{expansion_in, SpellsExpansion}
 use Rattle.mta_fields.specs.Traces.{digit}
 use Rattle.mta_envelope_extensions.specs.declared.value.Topic.{Topic}
-use Rattle.mta_envelope_extensions.specs.declared.value.Topic.TheVariants.{ExpansionHistory, LatestDelivery, ExpansionProhibited, Other}
+use Rattle.mta_envelope_extensions.specs.declared.value.Topic.TheVariants.{ExpansionHistory, LatestDelivery}
+use Rattle.mta_envelope_extensions.specs.declared.value.Topic.TheVariants.{ExpansionProhibited, Other}
 use Rattle.mta_envelope_extensions.specs.declared.value.Said.{Said}
 use Rattle.mta_envelope_extensions.specs.declared.value.Said.TheVariants.{History, Latest, Prohibited, Unread}
 use Rattle.mta_envelope_extensions.specs.declared.value.ExtValue.{ExtValue}

@@ -39,7 +39,8 @@ impl Components for Expansions {
     }
 }
 
-/// One to 512 expansions (X.411, DLExpansionHistory), whatever the tag of the element. BadSize where there are none or more.
+/// One to 512 expansions (X.411, DLExpansionHistory), whatever the tag of the element. BadSize where there are none or
+/// more.
 #[tactic(auto, unfolding(crate::specs::Topics::history_in))]
 pub fn read_history(alloc: Global, whole: &View) -> Result<Row<Expansion>, ReadFault>
     ensures { Reads result (history_in (view whole.now)) }

@@ -5,7 +5,8 @@ ghost use Rattle.mta_ber.specs.Parts.{Leaves, Reads, IsReadAs};
 ghost use Rattle.mta_ber.specs.Seen.{view};
 ghost use Rattle.mta_fields.specs.ExtensionFields.{IsExtField};
 ghost use Rattle.mta_envelope_extensions.specs.declared.extensions.Extensions.{Extensions};
-ghost use Rattle.mta_envelope_extensions.specs.Told.{held_of, with_said, with_told, answer, extension_step, extensions_in, SpellsExtensions, AreTold};
+ghost use Rattle.mta_envelope_extensions.specs.Told.{held_of, with_said, with_told, answer, extension_step};
+ghost use Rattle.mta_envelope_extensions.specs.Told.{extensions_in, SpellsExtensions, AreTold};
 
 use crate::field::{Held, Told, read_field};
 use crate::value::Said;

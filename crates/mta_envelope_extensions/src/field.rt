@@ -7,7 +7,9 @@ ghost use Rattle.mta_ber.specs.Seen.{view};
 ghost use Rattle.mta_fields.specs.ExtensionFields.{plain_kind_in, kind_in, IsExtField};
 ghost use Rattle.mta_fields.specs.Traces.{bit_if};
 ghost use Rattle.mta_envelope_extensions.specs.Topics.{topic_of};
-ghost use Rattle.mta_envelope_extensions.specs.Fields.{is_held, field_part_of, field_place, field_needed, typed, type_in, valued, field_part_in, field_step, null_of, value_or, field_in};
+ghost use Rattle.mta_envelope_extensions.specs.Fields.{is_held, field_part_of, field_place, field_needed};
+ghost use Rattle.mta_envelope_extensions.specs.Fields.{typed, type_in, valued, field_part_in, field_step};
+ghost use Rattle.mta_envelope_extensions.specs.Fields.{null_of, value_or, field_in};
 
 use crate::value::{ExtValue, Said, Topic, read_value, topic_of};
 use mta_ber::{
@@ -41,8 +43,8 @@ pub enum FieldPart {
     FieldValue,
 }
 
-/// What stood before the field, the offset of the field, the place of the last component that was read, 0 where there is none, and
-/// the components so far.
+/// What stood before the field, the offset of the field, the place of the last component that was read, 0 where there
+/// is none, and the components so far.
 #[derive(Drop)]
 pub struct FieldParts {
     pub held: Held,
@@ -270,8 +272,8 @@ fn read_parts(alloc: Global, held: Held, whole: &View) -> Result<Told, ReadFault
     Ok(Told { field, said })
 }
 
-/// One field, where `held` says which of those that are read are there already. Twice at the field where it is one of these;
-/// Missing at the field where its value is to be read and absent.
+/// One field, where `held` says which of those that are read are there already. Twice at the field where it is one of
+/// these; Missing at the field where its value is to be read and absent.
 pub fn read_field(alloc: Global, held: Held, whole: &View) -> Result<Told, ReadFault>
     ensures exact { Reads result (field_in held (view whole.now)) }
     ensures field { IfOk result (λ t. IsExtField t.field) }

@@ -2,8 +2,8 @@
 
 ghost use Rattle.mta_envelope_extensions.specs.Laws.{EnvelopeExtensionsAreReadAgain, ReadEnvelopeExtensionsAreKept};
 
-/// The extension fields of an envelope that are written are read again, whatever follows them, and say the same. Their values stand in
-/// the level of their place.
+/// The extension fields of an envelope that are written are read again, whatever follows them, and say the same. Their
+/// values stand in the level of their place.
 pub fn envelope_extensions_are_read_again()
     ensures { EnvelopeExtensionsAreReadAgain }
 {}

@@ -1,5 +1,5 @@
-//! The extensions of a message's or a probe's envelope (X.411, clause 12): every field is kept, and of those of which a transfer
-//! agent makes use the value is read: dl-expansion-history, latest-delivery-time and dl-expansion-prohibited.
+//! The extensions of a message's or a probe's envelope (X.411, clause 12): every field is kept, and of those of which a
+//! transfer agent makes use the value is read: dl-expansion-history, latest-delivery-time and dl-expansion-prohibited.
 #![tactic(auto)]
 
 mod expansions;

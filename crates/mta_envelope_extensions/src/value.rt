@@ -4,7 +4,8 @@ ghost use Rattle.std.specs.Prelude.{◌≡◌};
 ghost use Rattle.mta_ber.specs.Element.{explicit};
 ghost use Rattle.mta_ber.specs.Parts.{Reads};
 ghost use Rattle.mta_ber.specs.Seen.{view};
-ghost use Rattle.mta_envelope_extensions.specs.Topics.{standard_topic, topic_of, said_history, said_latest, said_prohibited, said_in, value_said};
+ghost use Rattle.mta_envelope_extensions.specs.Topics.{standard_topic, topic_of, said_history, said_latest};
+ghost use Rattle.mta_envelope_extensions.specs.Topics.{said_prohibited, said_in, value_said};
 
 use crate::expansions::read_history;
 use mta_ber::{Kind, Octets, ReadFault, View, bad, is_tag_of};
@@ -30,7 +31,8 @@ pub enum Topic {
 pub enum Said {
     /// The expansions so far, 1 to 512 of them, the first one first.
     History(Row<Expansion>),
-    /// Until when the message may be delivered, in seconds from 1950-01-01 00:00:00 UTC, at most the last second of 2049.
+    /// Until when the message may be delivered, in seconds from 1950-01-01 00:00:00 UTC, at most the last second of
+    /// 2049.
     Latest(u64),
     /// Whether lists may not be expanded.
     Prohibited(bool),

@@ -1,6 +1,7 @@
--- Recipients (X.411, PerRecipientMessageTransferFields): a SET of a name, the number that the originator gave, indicators, an explicit
--- conversion and extensions.
-use Rattle.std.specs.Prelude.{◌≡◌, ℕ, pos, ◌≤◌, Bool, true, List, [], ◌++◌, Option, Some, None, IfSome, Result, Ok, if◌then◌else◌, unwrap_or}
+-- Recipients (X.411, PerRecipientMessageTransferFields): a SET of a name, the number that the originator gave,
+-- indicators, an explicit conversion and extensions.
+use Rattle.std.specs.Prelude.{◌≡◌, ℕ, pos, ◌≤◌, Bool, true, List, [], ◌++◌, Option, Some}
+use Rattle.std.specs.Prelude.{None, IfSome, Result, Ok, if◌then◌else◌, unwrap_or}
 use Rattle.mta_ber.specs.declared.fault.Fault.{Fault}
 use Rattle.mta_ber.specs.declared.fault.Kind.TheVariants.{BadTag}
 use Rattle.mta_ber.specs.declared.tag.Tag.{Tag}
@@ -22,7 +23,8 @@ use Rattle.mta_envelope_common.specs.ExtensionLists.{ext_list_in, SpellsExtList,
 use Rattle.mta_envelope_common.specs.Indicators.{IsIndicators, indicators_in, SpellsIndicators, canonical_indicators}
 use Rattle.mta_envelope_recipient.specs.declared.recipient.RecipientFields.{RecipientFields}
 use Rattle.mta_envelope_recipient.specs.declared.parts.RecipientPart.{RecipientPart}
-use Rattle.mta_envelope_recipient.specs.declared.parts.RecipientPart.TheVariants.{Addressee, Number, Indicators, Conversion, Extensions}
+use Rattle.mta_envelope_recipient.specs.declared.parts.RecipientPart.TheVariants.{Addressee, Number, Indicators}
+use Rattle.mta_envelope_recipient.specs.declared.parts.RecipientPart.TheVariants.{Conversion, Extensions}
 use Rattle.mta_envelope_recipient.specs.declared.parts.RecipientParts.{RecipientParts}
 
 pub record IsRecipient (v : RecipientFields) : Type 0 where

@@ -1,5 +1,5 @@
-//! The recipients of a message or a probe (X.411, PerRecipientMessageTransferFields and PerRecipientProbeTransferFields): every spelling of
-//! them is read, the one canonical spelling is written.
+//! The recipients of a message or a probe (X.411, PerRecipientMessageTransferFields and
+//! PerRecipientProbeTransferFields): every spelling of them is read, the one canonical spelling is written.
 #![tactic(auto)]
 
 mod laws;

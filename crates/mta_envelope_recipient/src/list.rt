@@ -7,7 +7,8 @@ ghost use Rattle.mta_ber.specs.Parts.{Leaves, Reads, IsReadAs};
 ghost use Rattle.mta_ber.specs.Seen.{view};
 ghost use Rattle.mta_envelope_recipient.specs.declared.recipient.RecipientFields.{RecipientFields};
 ghost use Rattle.mta_envelope_recipient.specs.Recipients.{canonical_recipient};
-ghost use Rattle.mta_envelope_recipient.specs.Lists.{recipients_step, recipients_in, SpellsRecipients, canonical_recipients};
+ghost use Rattle.mta_envelope_recipient.specs.Lists.{recipients_step, recipients_in, SpellsRecipients};
+ghost use Rattle.mta_envelope_recipient.specs.Lists.{canonical_recipients};
 
 use crate::recipient::Recipient;
 use mta_ber::{Components, Kind, Memory, ReadFault, View, Writer, bad, is_tag_of, take_parts};
@@ -62,8 +63,8 @@ fn read_items(alloc: Global, whole: &View) -> Result<Row<Recipient>, ReadFault>
     Ok(items)
 }
 
-/// The recipients that an element spells, whatever its tag, which is `[2]` and for the caller to check: a SEQUENCE of 1 to 32,767.
-/// BadSize at that element where there are none or more.
+/// The recipients that an element spells, whatever its tag, which is `[2]` and for the caller to check: a SEQUENCE of 1
+/// to 32,767. BadSize at that element where there are none or more.
 pub fn read_recipients(alloc: Global, whole: &View) -> Result<Row<Recipient>, ReadFault>
     // Which recipients they are, or which fault comes first.
     ensures exact { Reads result (recipients_in (view whole.now)) }

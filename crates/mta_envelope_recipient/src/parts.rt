@@ -3,7 +3,9 @@
 ghost use Rattle.std.specs.Prelude.{◌≡◌};
 ghost use Rattle.mta_ber.specs.Parts.{Leaves};
 ghost use Rattle.mta_ber.specs.Seen.{view};
-ghost use Rattle.mta_envelope_recipient.specs.declared.parts.RecipientPart.TheVariants.{Addressee, Number, Indicators, Conversion, Extensions};
+ghost use Rattle.mta_envelope_recipient.specs.declared.parts.RecipientPart.TheVariants.{Addressee, Number};
+ghost use Rattle.mta_envelope_recipient.specs.declared.parts.RecipientPart.TheVariants.{Indicators, Conversion};
+ghost use Rattle.mta_envelope_recipient.specs.declared.parts.RecipientPart.TheVariants.{Extensions};
 ghost use Rattle.mta_envelope_recipient.specs.Recipients.{recipient_part_of, recipient_part_in, recipient_step};
 
 use mta_ber::{

@@ -23,8 +23,8 @@ pub struct RecipientFields {
     pub name: OrName,
     /// originally-specified-recipient-number: 1 to 32,767.
     pub number: u32,
-    /// per-recipient-indicators, 8 to 64 bits: responsibility 0, originating-MTA-report 1, originating-MTA-non-delivery-report 2,
-    /// originator-report 3, originator-non-delivery-report 4.
+    /// per-recipient-indicators, 8 to 64 bits: responsibility 0, originating-MTA-report 1,
+    /// originating-MTA-non-delivery-report 2, originator-report 3, originator-non-delivery-report 4.
     pub indicators: Bits,
     /// explicit-conversion: the whole element, `[2]`.
     pub conversion: Option<Octets>,
@@ -126,7 +126,8 @@ impl Recipient {
     ghost use Rattle.mta_ber.specs.Parts.{Reads, IsReadAs};
     ghost use Rattle.mta_ber.specs.Seen.{view};
     ghost use Rattle.mta_envelope_recipient.specs.declared.recipient.RecipientFields.{RecipientFields};
-    ghost use Rattle.mta_envelope_recipient.specs.Recipients.{recipient_in, IsRecipient, SpellsRecipient, canonical_recipient};
+    ghost use Rattle.mta_envelope_recipient.specs.Recipients.{recipient_in, IsRecipient, SpellsRecipient};
+    ghost use Rattle.mta_envelope_recipient.specs.Recipients.{canonical_recipient};
 
     /// The recipient that an element spells, a SET. BadTag at an element of any other tag.
     pub fn read(alloc: Global, whole: &View) -> Result<Recipient, ReadFault>

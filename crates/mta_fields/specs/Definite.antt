@@ -1,5 +1,5 @@
--- Values and parts that fields keep unread, by their lengths. What is in one of a definite length is not looked into, so it stands
--- in every level up to 16; of one of an indefinite length the levels inside count too.
+-- Values and parts that fields keep unread, by their lengths. What is in one of a definite length is not looked into,
+-- so it stands in every level up to 16; of one of an indefinite length the levels inside count too.
 use Rattle.std.specs.Prelude.{◌≡◌, ℕ, ◌+◌, ◌≤◌, List, Some, None, IfSome}
 use Rattle.mta_names.specs.Definite.{FitsAt, FitsName}
 use Rattle.mta_names.specs.Laws.{IsReadAgain}
@@ -9,7 +9,8 @@ use Rattle.mta_fields.specs.declared.supplied.Supplied.{Supplied}
 use Rattle.mta_fields.specs.declared.trace.TraceFields.{TraceFields}
 use Rattle.mta_fields.specs.Expansions.{expansion_in, canonical_expansion}
 use Rattle.mta_fields.specs.ExtensionFields.{IsElement, IsExtField, ext_in, canonical_ext}
-use Rattle.mta_fields.specs.Laws.{IsElementAt, KeepsSupplied, KeepsTrace, KeepsExtField, KeepsExpansion, IsWholeSupplied, IsWholeTrace, IsWholeExpansion}
+use Rattle.mta_fields.specs.Laws.{IsElementAt, KeepsSupplied, KeepsTrace, KeepsExtField, KeepsExpansion}
+use Rattle.mta_fields.specs.Laws.{IsWholeSupplied, IsWholeTrace, IsWholeExpansion}
 use Rattle.mta_fields.specs.TraceElements.{trace_in, canonical_trace}
 use Rattle.mta_fields.specs.Traces.{supplied_in, canonical_supplied}
 
@@ -36,16 +37,24 @@ FitsExpansion depth v = FitsName (depth + 1) v.name
 -- ---- then all that is kept unread does
 
 abbrev pub SuppliedInformationThatFitsIsKept : Type 0
-SuppliedInformationThatFitsIsKept = (depth : ℕ) (v : Supplied) → IsWholeSupplied v → FitsSupplied depth v → depth + 1 ≤ 16 → KeepsSupplied depth v
+SuppliedInformationThatFitsIsKept =
+    (depth : ℕ) (v : Supplied) → IsWholeSupplied v → FitsSupplied depth v → depth + 1 ≤ 16
+    → KeepsSupplied depth v
 
 abbrev pub TraceElementsThatFitAreKept : Type 0
-TraceElementsThatFitAreKept = (depth : ℕ) (v : TraceFields) → IsWholeTrace v → FitsTrace depth v → depth + 2 ≤ 16 → KeepsTrace depth v
+TraceElementsThatFitAreKept =
+    (depth : ℕ) (v : TraceFields) → IsWholeTrace v → FitsTrace depth v → depth + 2 ≤ 16
+    → KeepsTrace depth v
 
 abbrev pub ExtensionFieldsThatFitAreKept : Type 0
-ExtensionFieldsThatFitAreKept = (depth : ℕ) (v : ExtFields) → IsExtField v → FitsExtField depth v → depth + 2 ≤ 16 → KeepsExtField depth v
+ExtensionFieldsThatFitAreKept =
+    (depth : ℕ) (v : ExtFields) → IsExtField v → FitsExtField depth v → depth + 2 ≤ 16
+    → KeepsExtField depth v
 
 abbrev pub ExpansionsThatFitAreKept : Type 0
-ExpansionsThatFitAreKept = (depth : ℕ) (v : ExpansionFields) → IsWholeExpansion v → FitsExpansion depth v → depth + 4 ≤ 16 → KeepsExpansion depth v
+ExpansionsThatFitAreKept =
+    (depth : ℕ) (v : ExpansionFields) → IsWholeExpansion v → FitsExpansion depth v → depth + 4 ≤ 16
+    → KeepsExpansion depth v
 
 -- ---- and it is read again where it is written
 

@@ -1,5 +1,7 @@
--- Domains (X.411, GlobalDomainIdentifier): a SEQUENCE of a country, an administration domain and a private domain that may be absent.
-use Rattle.std.specs.Prelude.{◌≡◌, ℕ, ◌<◌, ◌≤◌, Bool, true, List, ◌++◌, Option, Some, None, IfSome, Result, Ok, ◌||◌, ◌&&◌, if◌then◌else◌}
+-- Domains (X.411, GlobalDomainIdentifier): a SEQUENCE of a country, an administration domain and a private domain that
+-- may be absent.
+use Rattle.std.specs.Prelude.{◌≡◌, ℕ, ◌<◌, ◌≤◌, Bool, true, List, ◌++◌, Option, Some}
+use Rattle.std.specs.Prelude.{None, IfSome, Result, Ok, ◌||◌, ◌&&◌, if◌then◌else◌}
 use Rattle.std.specs.Option.{option_map}
 use Rattle.mta_ber.specs.declared.fault.Fault.{Fault}
 use Rattle.mta_ber.specs.declared.fault.Kind.TheVariants.{BadTag}
@@ -11,7 +13,8 @@ use Rattle.mta_ber.specs.Forms.{is_constructed_tag, components_under}
 use Rattle.mta_ber.specs.Head.{◌>>=◌, fault}
 use Rattle.mta_ber.specs.Parts.{is_tag, in_order, required}
 use Rattle.mta_names.specs.declared.attributes.Label.{Label}
-use Rattle.mta_names.specs.Labels.{country_in, label_in, label_choice, SpellsLabel, SpellsChoice, canonical_label, canonical_choice}
+use Rattle.mta_names.specs.Labels.{country_in, label_in, label_choice, SpellsLabel}
+use Rattle.mta_names.specs.Labels.{SpellsChoice, canonical_label, canonical_choice}
 use Rattle.mta_names.specs.Normal.{normal_label, is_same_labels, is_same_option}
 use Rattle.mta_names.specs.Strings.{Puts}
 use Rattle.mta_names.specs.Values.{IsCountry, IsLabel}

@@ -1,5 +1,6 @@
 -- MTS identifiers (X.411, MTSIdentifier): a SEQUENCE of a domain and a local identifier.
-use Rattle.std.specs.Prelude.{◌≡◌, ℕ, ◌<◌, ◌≤◌, Bool, true, List, ◌++◌, Option, Some, None, Result, Ok, ◌&&◌, if◌then◌else◌}
+use Rattle.std.specs.Prelude.{◌≡◌, ℕ, ◌<◌, ◌≤◌, Bool, true, List, ◌++◌, Option}
+use Rattle.std.specs.Prelude.{Some, None, Result, Ok, ◌&&◌, if◌then◌else◌}
 use Rattle.std.specs.Str.{bytes_eq}
 use Rattle.mta_ber.specs.declared.fault.Fault.{Fault}
 use Rattle.mta_ber.specs.declared.fault.Kind.TheVariants.{BadTag}

@@ -110,8 +110,8 @@ KeptExtensionFieldsAreKeptAbove = (depth above : ℕ) (v : ExtFields) → above 
 abbrev pub KeptExpansionsAreKeptAbove : Type 0
 KeptExpansionsAreKeptAbove = (depth above : ℕ) (v : ExpansionFields) → above ≤ depth → KeepsExpansion depth v → KeepsExpansion above v
 
--- so what was read is read again where it is written in the level where it was read, or above; an identifier keeps nothing unread,
--- so in each level
+-- so what was read is read again where it is written in the level where it was read, or above; an identifier keeps
+-- nothing unread, so in each level
 abbrev pub ReadMtsIdentifiersAreReadAgain : Type 0
 ReadMtsIdentifiersAreReadAgain = (depth other : ℕ) (tag : Tag) (content : List ℕ) (v : MtsIdFields)
     → SpellsMtsId depth tag content v → other + 3 ≤ 16 → IsReadAgain id_in other (canonical_id v) v

@@ -1,5 +1,6 @@
 -- Trace elements (X.411, TraceInformationElement): a SEQUENCE of a domain and a SET of what that domain did.
-use Rattle.std.specs.Prelude.{◌≡◌, ℕ, pos, ◌+◌, ◌*◌, ◌≤◌, Bool, true, false, List, [], ◌++◌, Option, Some, None, IfSome, Result, Ok, ◌==◌, ◌||◌, if◌then◌else◌}
+use Rattle.std.specs.Prelude.{◌≡◌, ℕ, pos, ◌+◌, ◌*◌, ◌≤◌, Bool, true, false, List, [], ◌++◌, Option}
+use Rattle.std.specs.Prelude.{Some, None, IfSome, Result, Ok, ◌==◌, ◌||◌, if◌then◌else◌}
 use Rattle.mta_ber.specs.declared.fault.Fault.{Fault}
 use Rattle.mta_ber.specs.declared.fault.Kind.TheVariants.{BadTag}
 use Rattle.mta_ber.specs.declared.tag.Tag.{Tag}
@@ -22,7 +23,8 @@ use Rattle.mta_fields.specs.declared.supplied.Action.{Action}
 use Rattle.mta_fields.specs.declared.supplied.Action.TheVariants.{Relayed, Rerouted}
 use Rattle.mta_fields.specs.declared.supplied.Supplied.{Supplied}
 use Rattle.mta_fields.specs.declared.supplied.SuppliedPart.{SuppliedPart}
-use Rattle.mta_fields.specs.declared.supplied.SuppliedPart.TheVariants.{Arrival, Deferred, Routing, Other, Attempted, Converted}
+use Rattle.mta_fields.specs.declared.supplied.SuppliedPart.TheVariants.{Arrival, Deferred, Routing, Other}
+use Rattle.mta_fields.specs.declared.supplied.SuppliedPart.TheVariants.{Attempted, Converted}
 use Rattle.mta_fields.specs.declared.supplied.SuppliedParts.{SuppliedParts}
 use Rattle.mta_fields.specs.Domains.{domain_in, SpellsDomain, canonical_domain}
 

@@ -3,7 +3,8 @@
 ghost use Rattle.std.specs.Prelude.{◌≡◌, IfOk};
 ghost use Rattle.mta_ber.specs.Parts.{Leaves, Reads};
 ghost use Rattle.mta_ber.specs.Seen.{view};
-ghost use Rattle.mta_fields.specs.Domains.{domain_part_of, domain_place, domain_needed, domain_part_in, domain_step, domain_in, domain_content, is_same_domain};
+ghost use Rattle.mta_fields.specs.Domains.{domain_part_of, domain_place, domain_needed, domain_part_in};
+ghost use Rattle.mta_fields.specs.Domains.{domain_step, domain_in, domain_content, is_same_domain};
 
 use crate::length::domain_length;
 use mta_ber::{
@@ -259,7 +260,8 @@ impl Domain {
         domain_length(&self.fields)
     }
 
-    /// Whether the two domains are the same, whatever they have of capital letters and spaces: their normal texts are equal.
+    /// Whether the two domains are the same, whatever they have of capital letters and spaces: their normal texts are
+    /// equal.
     pub fn same(&self, other: &Domain) -> bool
         ensures { IsTrue result ↔ IsSameDomain self.now other.now }
     {

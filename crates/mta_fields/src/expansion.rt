@@ -3,7 +3,8 @@
 ghost use Rattle.std.specs.Prelude.{◌≡◌};
 ghost use Rattle.mta_ber.specs.Parts.{Leaves, Reads};
 ghost use Rattle.mta_ber.specs.Seen.{view};
-ghost use Rattle.mta_fields.specs.Expansions.{expansion_part_of, expansion_place, expansion_needed, expansion_part_in, expansion_step, expansion_in};
+ghost use Rattle.mta_fields.specs.Expansions.{expansion_part_of, expansion_place, expansion_needed};
+ghost use Rattle.mta_fields.specs.Expansions.{expansion_part_in, expansion_step, expansion_in};
 
 use mta_ber::{
     Components, Kind, Memory, ReadFault, Tag, View, Writer, bad, check_order, element_length,

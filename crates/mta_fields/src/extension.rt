@@ -6,7 +6,10 @@ ghost use Rattle.mta_ber.specs.Canon.{appended};
 ghost use Rattle.mta_ber.specs.Element.{explicit};
 ghost use Rattle.mta_ber.specs.Parts.{Leaves, Reads};
 ghost use Rattle.mta_ber.specs.Seen.{view};
-ghost use Rattle.mta_fields.specs.ExtensionFields.{null, plain_kind_in, kind_in, whole_in, ext_part_of, ext_place, ext_needed, ext_part_in, ext_step, ext_in, three_bits, canonical_kind, canonical_criticality, canonical_value, ext_content};
+ghost use Rattle.mta_fields.specs.ExtensionFields.{null, plain_kind_in, kind_in, whole_in, ext_part_of, ext_place};
+ghost use Rattle.mta_fields.specs.ExtensionFields.{ext_needed, ext_part_in, ext_step, ext_in, three_bits};
+ghost use Rattle.mta_fields.specs.ExtensionFields.{canonical_kind, canonical_criticality, canonical_value};
+ghost use Rattle.mta_fields.specs.ExtensionFields.{ext_content};
 ghost use Rattle.mta_fields.specs.Traces.{bit_if};
 
 use crate::length::extension_length;

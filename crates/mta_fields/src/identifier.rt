@@ -211,8 +211,8 @@ impl MtsId {
         )
     }
 
-    /// Whether the two identifiers are the same: their domains are, whatever they have of capital letters and spaces, and their
-    /// local identifiers are equal octet by octet.
+    /// Whether the two identifiers are the same: their domains are, whatever they have of capital letters and spaces,
+    /// and their local identifiers are equal octet by octet.
     pub fn same(&self, other: &MtsId) -> bool
         ensures { IsTrue result ↔ IsSameId self.now other.now }
     {

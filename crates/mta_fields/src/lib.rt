@@ -1,5 +1,5 @@
-//! Fields of P1 that messages, probes and reports share (X.411): domains, MTS identifiers, trace elements, extension fields and
-//! expansions. Every spelling of them is read, the one canonical spelling is written.
+//! Fields of P1 that messages, probes and reports share (X.411): domains, MTS identifiers, trace elements, extension
+//! fields and expansions. Every spelling of them is read, the one canonical spelling is written.
 #![tactic(auto)]
 
 mod domain;

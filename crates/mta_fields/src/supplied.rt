@@ -6,7 +6,9 @@ ghost use Rattle.mta_ber.specs.Parts.{Leaves, Reads, once};
 ghost use Rattle.mta_ber.specs.Seen.{view};
 ghost use Rattle.mta_ber.specs.Times.{utc_in, last_moment};
 ghost use Rattle.mta_fields.specs.Domains.{canonical_domain};
-ghost use Rattle.mta_fields.specs.Traces.{IsSupplied, action_in, action_number, supplied_part_of, supplied_part_in, supplied_step, supplied_in, two_bits, bit_if, canonical_other, canonical_deferred, supplied_content, canonical_supplied};
+ghost use Rattle.mta_fields.specs.Traces.{IsSupplied, action_in, action_number, supplied_part_of, supplied_part_in};
+ghost use Rattle.mta_fields.specs.Traces.{supplied_step, supplied_in, two_bits, bit_if, canonical_other};
+ghost use Rattle.mta_fields.specs.Traces.{canonical_deferred, supplied_content, canonical_supplied};
 
 use crate::domain::Domain;
 use mta_ber::{

@@ -3,7 +3,8 @@
 ghost use Rattle.std.specs.Prelude.{◌≡◌};
 ghost use Rattle.mta_ber.specs.Parts.{Leaves, Reads};
 ghost use Rattle.mta_ber.specs.Seen.{view};
-ghost use Rattle.mta_fields.specs.TraceElements.{trace_part_of, trace_place, trace_needed, trace_part_in, trace_step, trace_in};
+ghost use Rattle.mta_fields.specs.TraceElements.{trace_part_of, trace_place, trace_needed};
+ghost use Rattle.mta_fields.specs.TraceElements.{trace_part_in, trace_step, trace_in};
 
 use crate::domain::Domain;
 use crate::length::supplied_length;

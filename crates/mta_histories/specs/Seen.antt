@@ -4,7 +4,8 @@
 use Rattle.std.specs.Prelude.{◌≡◌, ◌<◌, ℕ, ◌+◌, ◌*◌, Bool, true, List, [], ◌∷◌, length}
 use Rattle.std.specs.Prelude.{Option, Some, None}
 use Rattle.mta_transfer_rules.specs.Lanes.{Seen, On, Elsewhere, SeenStep, LaneOpen, LaneAgree, Bind, Start}
-use Rattle.mta_transfer_rules.specs.Lanes.{Confirm, To_end, Sent, Refused, Denied, Dropped, Abandon, Secure, Complete, Drop}
+use Rattle.mta_transfer_rules.specs.Lanes.{Confirm, To_end, Sent, Refused, Denied, Dropped}
+use Rattle.mta_transfer_rules.specs.Lanes.{Abandon, Secure, Complete, Drop}
 use Rattle.mta_transfer_rules.specs.Lanes.{CloseLane, Halves, Open, unopened, lane_in, LanesAllow}
 use Rattle.mta_records.specs.declared.lane.LaneRole.TheVariants.{Responder}
 use Rattle.mta_records.specs.declared.step.Step.{Step}

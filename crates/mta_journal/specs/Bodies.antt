@@ -36,7 +36,8 @@ pub record HasBodies (image : List ℕ) (bodies : List (List ℕ)) : Type 0 wher
 abbrev pub HasOrOneMore : List (List ℕ) → List ℕ → List ℕ → Type 0
 HasOrOneMore bodies body image = HasBodies image bodies ⊎ HasBodies image (bodies ++ body ∷ [])
 
--- The image stands for these bodies: at most nine octets for none, whatever they are, and a longer image for those it has.
+-- The image stands for these bodies: at most nine octets for none, whatever they are, and a longer image for those it
+-- has.
 abbrev pub StandsFor : List ℕ → List (List ℕ) → Type 0
 StandsFor image bodies = ((length image ≤ 9) × (bodies ≡ [])) ⊎ ((9 < length image) × HasBodies image bodies)
 

@@ -9,7 +9,8 @@ pub record DiffersAt (image : List ℕ) (at : ℕ) : Type 0 where
   pub same : take at image ≡ take at magic
   pub differs : slice_index image at ≢ slice_index magic at
 
--- The record behind an open gate passes the end of what follows the gate, with the next gate that belongs to it, or is too long.
+-- The record behind an open gate passes the end of what follows the gate, with the next gate that belongs to it, or is
+-- too long.
 abbrev pub IsFaulty : List ℕ → Type 0
 IsFaulty rest = (length rest < from_be_bytes w32 (take 4 rest) + 5) ⊎ (longest_body < from_be_bytes w32 (take 4 rest))
 

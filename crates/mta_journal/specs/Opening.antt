@@ -1,6 +1,7 @@
 -- What opening finds and leaves.
 use Rattle.std.specs.Prelude.{◌≡◌, ◌⊎◌, ◌+◌, ◌≤◌, ◌<◌, ℕ, List, ◌∷◌, ◌++◌, length, drop, Some, Result, IsErrOf}
 use Rattle.mta_edge.specs.Causes.{Rose}
+use Rattle.mta_edge.specs.Crashes.{AtAnyMoment, Settled}
 use Rattle.mta_edge.specs.Views.{DiskView}
 use Rattle.mta_edge.specs.Outside.{ContentGoes}
 use Rattle.mta_disk.specs.Records.{counted}
@@ -72,17 +73,18 @@ pub record IsSameFrom {D : Type 0} (model : DiskView D) (f : List ℕ) (old new 
   pub until : since ≤ model.moment new
   pub same : (g : List ℕ) → model.left_since new since g → IsSame f g
 
--- since a moment in the call, that of its first sync, a crash leaves the same
-pub record SameSince {D : Type 0} (model : DiskView D) (f : List ℕ) (old new : D) : Type 0 where
-  pub since : ℕ
-  pub from : model.moment old ≤ since
-  pub until : since ≤ model.moment new
-  pub same : (g : List ℕ) → model.left_since new since g → IsSame f g
+-- The first sync of a call was over when the disk was `first`. It read as before the call, nothing was pending, and
+-- until then a crash left what one before the call might have left.
+pub record IsSynced {D : Type 0} (model : DiskView D) (old first : D) : Type 0 where
+  pub reads : model.content first ≡ model.content old
+  pub settled : Settled model first
+  pub until : AtAnyMoment model (model.may_leave old) old first
 
--- at which moment that is need not be told
-pub same_since : {D : Type 0} (model : DiskView D) (f : List ℕ) (old new : D) (since : ℕ)
-    → IsSameFrom model f old new since → SameSince model f old new
-same_since model f old new since is = record { since = since; from = is.from; until = is.until; same = is.same }
+-- since the first sync of the call a crash leaves the same
+pub record SameSince {D : Type 0} (model : DiskView D) (f : List ℕ) (old new : D) : Type 0 where
+  pub first : D
+  pub sync : IsSynced model old first
+  pub same : IsSameFrom model f old new (model.moment first)
 
 -- What a crash leaves of a disk on which a journal is opened: where the first sync failed, what one before might have
 -- left, and since that sync the same.

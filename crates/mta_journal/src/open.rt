@@ -15,7 +15,7 @@ ghost use Rattle.mta_edge.specs.Views.{StaysTold, WhereTold};
 ghost use Rattle.mta_journal.specs.Bodies.{AreShort, StandsFor};
 ghost use Rattle.mta_journal.specs.Faults.{IsNoJournalAt};
 ghost use Rattle.mta_journal.specs.Opening.{BeforeOrSame, HasOpenCause, HasRefused, IsLeft, IsRefused, IsSame};
-ghost use Rattle.mta_journal.specs.Opening.{IsSameFrom, LongStays, OnNotSpool, Stored};
+ghost use Rattle.mta_journal.specs.Opening.{IsSameFrom, IsSynced, LongStays, OnNotSpool, Stored};
 
 use crate::journal::Journal;
 use crate::read::{Found, check_magic, read_bodies};
@@ -123,6 +123,7 @@ fn recover<D: Disk>(alloc: Global, disk: &mut D) -> Result<Recovered<D>, OpenWhy
     ensures images { CrashLeaves D.model (BeforeOrSame D.model disk.old) disk.old disk.new }
     ensures since { IfOk result (λ r. WhereTold D.model disk.old
         (λ f. IsSameFrom D.model f disk.old disk.new (D.model.moment r.synced.value))) }
+    ensures sync { IfOk result (λ r. IsSynced D.model disk.old r.synced.value) }
     ensures left { WhereTold D.model disk.old (λ f. IsLeft D.model f disk.old disk.new) }
 {
     disk.sync()?;
@@ -151,6 +152,7 @@ impl<D: Disk + Drop> Journal<D> {
         ensures images { IfOk result (λ o. CrashLeaves D.model (BeforeOrSame D.model disk) disk o.journal.disk) }
         ensures since { IfOk result (λ o. WhereTold D.model disk
             (λ f. IsSameFrom D.model f disk o.journal.disk (D.model.moment o.synced.value))) }
+        ensures sync { IfOk result (λ o. IsSynced D.model disk o.synced.value) }
         ensures refused { IfErr result (λ e. HasRefused D.model disk e.disk e.why) }
         ensures refused_told { IfErr result (λ e. StaysTold D.model disk e.disk) }
         ensures refused_kept { IfErr result (λ e. LongStays D.model disk e.disk) }

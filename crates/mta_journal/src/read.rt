@@ -4,7 +4,8 @@
 //! first open gate whose record passes the end or is too long. Each record is read by its head (gate
 //! and length) and then its body, so no announced length is believed. The disk is only read.
 
-ghost use Rattle.std.specs.Prelude.{◌≡◌, ◌++◌, [], ◌∷◌, ◌+◌, ◌≤◌, ◌<◌, length, take, drop, min, IfOk, OnOk, IfSome, IfNone};
+ghost use Rattle.std.specs.Prelude.{◌≡◌, ◌++◌, [], ◌∷◌, ◌+◌, ◌≤◌, ◌<◌, length, take};
+ghost use Rattle.std.specs.Prelude.{drop, min, IfOk, OnOk, IfSome, IfNone};
 ghost use Rattle.mta_edge.specs.Crashes.{Crash, Stays};
 ghost use Rattle.mta_edge.specs.Views.{WhereTold};
 ghost use Rattle.mta_journal.specs.Bodies.{magic, front, longest_body, AreShort, HasBodies};

@@ -6,8 +6,8 @@ use thiserror::Error;
 /// Why a disk was not opened.
 #[derive(Clone, Copy, Debug, PartialEq, Eq, Error)]
 pub enum OpenWhy {
-    /// The disk has more than nine octets and is no journal: the first octet of the eight that differs, or the first open
-    /// gate whose record passes the disk's end or is too long.
+    /// The disk has more than nine octets and is no journal: the first octet of the eight that differs, or the first
+    /// open gate whose record passes the disk's end or is too long.
     #[error("the disk is no journal at {at}")]
     NotSpool { at: u64 },
     /// The disk failed.

@@ -16,7 +16,7 @@ use Rattle.mta_session_list_laws.specs.Laws.{ListsAreGood, ListsMayStop}
 use Rattle.mta_shared.specs.Counts.{times}
 use Rattle.mta_worker_list_laws.specs.All.{all_of, AllParts, EachInTurn, roles_at, StationParts}
 use Rattle.mta_worker_list_laws.specs.Histories.{whole}
-use Rattle.mta_worker_list_laws.specs.Parts.{AreForNone, AreOfRole, AreSessions, IsOfRole, IsSession}
+use Rattle.mta_worker_list_laws.specs.Parts.{AreForNone, AreOfRole, AreSessions, IsOfRole, IsSession, plain}
 use Rattle.mta_worker_list_laws.specs.Roles.{WasOpenAs}
 use Rattle.mta_worker_list_laws.specs.Segments.{IsOne, OnLane, Segment}
 use Rattle.mta_worker_list_laws.proofs.Made.{part_is}
@@ -234,8 +234,15 @@ module _ {L : Type 0} (links : LinkView L) (spells : List ℕ → Bool) (first e
     within : (served : List Segment) → IsStation served all.by_station ⊎ (served ≡ []) → (s : Segment)
         → IsOne s served → IsOne s all.parts
     within served (inl i) s one =
-        subst (λ (zs : List Segment). IsOne s zs) (sym all.of_stations) (of_all served all.by_station s i one)
+        subst (λ (zs : List Segment). IsOne s zs) (sym all.of_stations) (inr (of_all served all.by_station s i one))
     within served (inr e) s one = absurd (subst (λ (zs : List Segment). IsOne s zs) e one)
+
+-- what was made behind all stations had no lane
+have_behind : (ss parts : List Segment) (behind : List ℕ) (lane : ℕ) → HaveLane ss parts lane
+    → HaveLane ss (plain behind ∷ parts) lane
+have_behind ss parts behind lane have s on (inl is) has lane_is =
+    let both : ◌≡◌ {A = Option OnLane} None (Some on) = sym (ap (λ (z : Segment). z.list) is) ∙ has in absurd cc
+have_behind ss parts behind lane have s on (inr one) has lane_is = have s on one has lane_is
 
 pub called_lanes_agree : ListsAreGood → ListsMayStop → SessionsAgree → OneStationAgrees → {L : Type 0}
     (links : LinkView L) → CalledLanesOfStationsAgree links
@@ -244,7 +251,8 @@ called_lanes_agree good may_stop whole_agree agree links spells first entries lo
     let st = the_station links spells first entries possible lane was (length first + low) all.by_station all.turns
     others in
     let have : HaveLane st.served all.parts lane =
-    subst (λ (ps : List Segment). HaveLane st.served ps lane) (sym all.of_stations) st.have in
+    subst (λ (ps : List Segment). HaveLane st.served ps lane) (sym all.of_stations)
+    (have_behind st.served (all_of all.by_station) all.behind lane st.have) in
     record {
       served = st.served;
       station = st.station;

@@ -559,7 +559,8 @@ lanes_agree good may_stop whole_agree agree links spells first entries low all t
           on_side good may_stop whole_agree agree links spells first entries low all tells possible lane size window ss
           one
           (λ s i.
-          subst (λ (zs : List Segment). IsOne s zs) (sym all.of_stations) (of_all ss all.by_station s station i)) have
+          subst (λ (zs : List Segment). IsOne s zs) (sym all.of_stations)
+          (inr (of_all ss all.by_station s station i))) have
           (each_began links spells first entries low all lane ss have told) values before added cut
           from_is initiator side,
     )

@@ -2,8 +2,11 @@
 
 ghost use Rattle.std.specs.Prelude.{◌≡◌, ◌≤◌, ◌<◌, MatchResult, Result, Ok, true, false};
 ghost use Rattle.mta_lane_send.specs.Pieces.{has_piece_after, piece_from, piece_to};
-ghost use Rattle.mta_lane_send.specs.Half.{Confirm, To_end, Sent, Refused, Dropped, FitsState, GoesOver, is_confirming, goes_on, is_ending, is_live, last_of, confirmed_of, settled, confirmed_at};
-ghost use Rattle.mta_lane_send.specs.Answers.{Refuses, Makes, ConfirmsUpTo, StartsWith, Abandons, PutsNext, AbortAnswers, recovery_of, recovered};
+ghost use Rattle.mta_lane_send.specs.Half.{Confirm, To_end, Sent, Refused, Dropped, FitsState};
+ghost use Rattle.mta_lane_send.specs.Half.{GoesOver, is_confirming, goes_on, is_ending, is_live};
+ghost use Rattle.mta_lane_send.specs.Half.{last_of, confirmed_of, settled, confirmed_at};
+ghost use Rattle.mta_lane_send.specs.Answers.{Refuses, Makes, ConfirmsUpTo, StartsWith, Abandons};
+ghost use Rattle.mta_lane_send.specs.Answers.{PutsNext, AbortAnswers, recovery_of, recovered};
 
 use crate::state::{NextData, OnLink, Recovery, SendFault, SendState, Settled};
 use std::marker::Model;

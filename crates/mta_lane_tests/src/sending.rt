@@ -142,3 +142,27 @@ fn given_up_while_it_is_sent(rt: HostRuntime) {
         })
     );
 }
+
+#[test]
+fn no_number_is_left(rt: HostRuntime) {
+    let last = u32::MAX;
+    let mut half = SendHalf::restore(1, 4, 3, SendState::Idle { last }, 0);
+    assert_eq!(rt;
+        half.start(1, OCTETS),
+        Err(SendFault::Spent {
+            last: 4_294_967_295
+        })
+    );
+
+    // another refusal comes first
+    let state = SendState::Sending {
+        activity: last,
+        confirmed: 0,
+    };
+    let mut half = SendHalf::restore(1, 4, 3, state, OCTETS);
+    assert_eq!(rt; half.start(1, OCTETS), Err(SendFault::Unexpected { state }));
+    assert_eq!(rt;
+        half.start(0, OCTETS),
+        Err(SendFault::Fenced { generation: 1 })
+    );
+}

@@ -1,22 +1,14 @@
 -- What a lane answers.
-use Rattle.std.specs.Prelude.{◌≡◌, ◌<◌, ◌&&◌, nat_le, ℕ, Bool, List, length, Result, Ok, Err}
+use Rattle.std.specs.Prelude.{◌&&◌, nat_le, ℕ, Bool, List, length}
 use Rattle.std.specs.List.{concat}
 use Rattle.mta_lane_recv.specs.Half.{takes_piece}
 use Rattle.mta_histories.specs.Lanes.{Lane, empty}
 use Rattle.mta_histories.specs.Classes.{LaneStep}
 use Rattle.mta_histories.specs.History.{LaneNeeds, longest_activity, longest_piece, with_piece}
-use Rattle.mta_lanes.specs.declared.lane.LaneFault.{LaneFault}
-use Rattle.mta_lanes.specs.declared.lane.LaneFault.TheVariants.{Fenced, Unexpected}
 
 -- what a step needs that looks at the lane alone
 abbrev pub OfLane : Lane → LaneStep → Type 0
 OfLane lane step = LaneNeeds empty lane step 0
-
--- a step of this generation is one of the lane; an older generation is fenced, and a later one is none that there was
-abbrev pub IsCurrent : {T : Type 0} → Lane → (generation : ℕ) → Result T LaneFault → Type 0
-IsCurrent lane g (Ok v) = g ≡ lane.generation
-IsCurrent lane g (Err (Fenced h)) = (h ≡ lane.generation) × (g < lane.generation)
-IsCurrent lane g (Err Unexpected) = lane.generation < g
 
 -- a piece is one octet at least, and no longer than the lane's pieces may be
 abbrev pub has_size : Lane → ℕ → Bool

@@ -9,7 +9,7 @@ ghost use Rattle.mta_lane_recv.specs.Half as recv;
 ghost use Rattle.mta_histories.specs.Lanes.{sender, receiver, total_of, is_for, holds, is_dropping};
 ghost use Rattle.mta_histories.specs.Classes.{agree, secure};
 ghost use Rattle.mta_histories.specs.History.{new_lane, sends, is_with, with_piece, longest_activity};
-ghost use Rattle.mta_lanes.specs.Lane.{OfLane, IsCurrent, has_size, has_room, takes};
+ghost use Rattle.mta_lanes.specs.Lane.{OfLane, has_size, has_room, takes};
 ghost use Rattle.mta_lanes.specs.Finds.{IsNamed};
 ghost use Rattle.std.specs.Option.{option_copied};
 
@@ -22,18 +22,6 @@ use mta_lane_send::SendState;
 use mta_records::{LaneRole, LaneValues, Reference};
 use std::alloc::Global;
 use std::marker::Model;
-use thiserror::Error;
-
-/// Why a step may not be made on a lane.
-#[derive(Clone, Copy, Debug, PartialEq, Eq, Error)]
-pub enum LaneFault {
-    /// The lane is of this later generation.
-    #[error("the lane is of generation {generation}")]
-    Fenced { generation: u64 },
-    /// The state of the lane does not allow the step.
-    #[error("the lane's state does not allow the step")]
-    Unexpected,
-}
 
 /// A lane that is open. Its checkpoint size is at most 64 units of 1,024 octets, and the pieces that came have at most
 /// 2,097,152 octets.
@@ -236,21 +224,6 @@ impl Lane {
             (LaneRole::Responder, LaneRole::Initiator) => false,
         };
         same_role && peer.as_slice() == self.peer.as_slice()
-    }
-
-    /// Whether a step of this generation is one of the lane as it is now.
-    pub fn check_generation(&self, generation: u64) -> Result<(), LaneFault>
-        ensures { IsCurrent self.now generation result }
-    {
-        if generation < self.generation {
-            return Err(LaneFault::Fenced {
-                generation: self.generation,
-            });
-        }
-        if generation > self.generation {
-            return Err(LaneFault::Unexpected);
-        }
-        Ok(())
     }
 
     /// Whether it is of this generation.

@@ -10,7 +10,7 @@ mod pieces;
 mod transfer;
 
 pub use change::LaneChange;
-pub use lane::{Lane, LaneFault};
+pub use lane::Lane;
 pub use lanes::Lanes;
 pub use pieces::{Pieces, Places};
 pub use transfer::Transfer;

@@ -1,4 +1,5 @@
--- The text form of a name: parts KEY=value, joined by semicolons, in the order of the keys. What is kept unread has no part.
+-- The text form of a name: parts KEY=value, joined by semicolons, in the order of the keys. What is kept unread has no
+-- part.
 use Rattle.std.specs.Prelude.{ℕ, List, [], ◌∷◌, ◌++◌, map, Option, Some, None}
 use Rattle.std.specs.List.{flat_map}
 use Rattle.std.specs.Option.{option_map}

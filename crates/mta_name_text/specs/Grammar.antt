@@ -1,5 +1,7 @@
--- Text forms of names and of patterns: parts KEY=value that follow one another in the order of the keys, joined by semicolons.
-use Rattle.std.specs.Prelude.{◌≡◌, ℕ, suc, ◌+◌, ◌-◌, ◌≤◌, ◌<◌, Bool, true, false, IsTrue, List, [], ◌∷◌, ◌++◌, length, map, take, nat_lt, nat_le, ◌==◌, ◌&&◌, ◌||◌, not, if◌then◌else◌}
+-- Text forms of names and of patterns: parts KEY=value that follow one another in the order of the keys, joined by
+-- semicolons.
+use Rattle.std.specs.Prelude.{◌≡◌, ℕ, suc, ◌+◌, ◌-◌, ◌≤◌, ◌<◌, Bool, true, false, IsTrue, List, [], ◌∷◌, ◌++◌}
+use Rattle.std.specs.Prelude.{length, map, take, nat_lt, nat_le, ◌==◌, ◌&&◌, ◌||◌, not, if◌then◌else◌}
 use Rattle.mta_ber.specs.Strings.{is_empty}
 use Rattle.mta_name_text.specs.declared.key.Key.{Key}
 use Rattle.mta_name_text.specs.declared.part.Part.{Part}
@@ -25,8 +27,9 @@ behind p k = record { last = place_of k; left = (if p.last == place_of k then p.
 abbrev pub is_again : Place → Key → Bool
 is_again p k = (p.last == place_of k) && nat_lt 0 p.left
 
--- a name has its parts in the order of the keys, with given name, initials and generation only behind a surname; a pattern has
--- country, administration domain, private domain, organization and units, and leaves out none before its last part
+-- a name has its parts in the order of the keys, with given name, initials and generation only behind a surname; a
+-- pattern has country, administration domain, private domain, organization and units, and leaves out none before its
+-- last part
 abbrev pub follows : Grammar → Place → Key → Bool
 follows Names p k = (nat_lt p.last (place_of k) || is_again p k) && (p.surname || not (needs_surname k))
 follows Patterns p k = ((p.last + 1 == place_of k) || is_again p k) && nat_le (place_of k) 5

@@ -2,7 +2,9 @@
 use Rattle.std.specs.Prelude.{ℕ, Bool, true, false, List, [], ◌∷◌, ◌++◌}
 use Rattle.mta_ber.specs.declared.text.TextClass.TheVariants.{Numeric, Printable}
 use Rattle.mta_name_text.specs.declared.key.Key.{Key}
-use Rattle.mta_name_text.specs.declared.key.Key.TheVariants.{Country, Admd, Prmd, Organization, Unit, Surname, Given, Initials, Generation, Common, Network, Terminal, User, Pair}
+use Rattle.mta_name_text.specs.declared.key.Key.TheVariants.{Country, Admd, Prmd, Organization, Unit}
+use Rattle.mta_name_text.specs.declared.key.Key.TheVariants.{Surname, Given, Initials, Generation, Common}
+use Rattle.mta_name_text.specs.declared.key.Key.TheVariants.{Network, Terminal, User, Pair}
 use Rattle.mta_name_text.specs.declared.shape.Shape.{Shape}
 use Rattle.mta_name_text.specs.declared.shape.Shape.TheVariants as Shapes
 use Rattle.mta_name_text.specs.Forms.{key_text}

@@ -1,5 +1,6 @@
 -- The name, and the pattern of a route, that the parts of a text form make.
-use Rattle.std.specs.Prelude.{◌≡◌, ℕ, ◌≤◌, false, IsTrue, List, [], ◌∷◌, ◌++◌, length, map, Option, Some, None, IfSome, Result, Ok, Err, ◌==◌}
+use Rattle.std.specs.Prelude.{◌≡◌, ℕ, ◌≤◌, false, IsTrue, List, [], ◌∷◌, ◌++◌, length}
+use Rattle.std.specs.Prelude.{map, Option, Some, None, IfSome, Result, Ok, Err, ◌==◌}
 use Rattle.std.specs.List.{list_all}
 use Rattle.mta_names.specs.declared.attributes.Attributes.{Attributes}
 use Rattle.mta_names.specs.declared.attributes.Label.{Label}
@@ -7,7 +8,8 @@ use Rattle.mta_names.specs.declared.attributes.PairFields.{PairFields}
 use Rattle.mta_names.specs.declared.attributes.PersonFields.{PersonFields}
 use Rattle.mta_names.specs.Values.{Each, IsName, nothing}
 use Rattle.mta_name_text.specs.declared.key.Key.{Key}
-use Rattle.mta_name_text.specs.declared.key.Key.TheVariants.{Country, Admd, Prmd, Organization, Unit, Surname, Given, Initials, Generation, Common, Network, Terminal, User}
+use Rattle.mta_name_text.specs.declared.key.Key.TheVariants.{Country, Admd, Prmd, Organization, Unit, Surname, Given}
+use Rattle.mta_name_text.specs.declared.key.Key.TheVariants.{Initials, Generation, Common, Network, Terminal, User}
 use Rattle.mta_name_text.specs.declared.key.Key.TheVariants as Keys
 use Rattle.mta_name_text.specs.declared.part.Part.{Part}
 use Rattle.mta_name_text.specs.declared.place.Grammar.TheVariants.{Names, Patterns}
@@ -84,8 +86,8 @@ made f (Err at) = Err at
 unfoldable pub name_of_text : List ℕ → Result Attributes ℕ
 name_of_text text = made name_of (parts_of_text Names text)
 
--- a name of which the text form says all: it has a part, nothing that is kept unread, no administration or private domain of
--- digits as NumericString, and no `=` in the type of a domain-defined attribute
+-- a name of which the text form says all: it has a part, nothing that is kept unread, no administration or private
+-- domain of digits as NumericString, and no `=` in the type of a domain-defined attribute
 pub record IsTold (n : Attributes) : Type 0 where
   pub name : IsName n
   pub some : 1 ≤ length (keyed_of n)

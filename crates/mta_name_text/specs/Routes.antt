@@ -8,7 +8,8 @@ use Rattle.mta_name_text.specs.Forms.{label_text}
 abbrev pub present : List ℕ → Option (List ℕ)
 present t = Some t
 
--- the attributes that routes go by, in their order: country, administration domain, private domain, organization, and the units
+-- the attributes that routes go by, in their order: country, administration domain, private domain, organization, and
+-- the units
 abbrev pub route_attributes : Attributes → List (Option (List ℕ))
 route_attributes n = option_map label_text n.country ∷ option_map label_text n.admd ∷ option_map label_text n.prmd ∷ n.organization ∷ map present n.units
 

@@ -10,7 +10,8 @@ use Rattle.mta_name_text.specs.declared.shape.Shape.TheVariants.{Country, Kind, 
 abbrev pub is_no_equals : ℕ → Bool
 is_no_equals c = not (c == 61)
 
--- a country has two letters or three digits, the type of a domain-defined attribute 1 to 8 characters of PrintableString but `=`
+-- a country has two letters or three digits, the type of a domain-defined attribute 1 to 8 characters of
+-- PrintableString but `=`
 unfoldable pub is_value : Shape → List ℕ → Bool
 is_value Country v = (list_all is_letter v && (length v == 2)) || (list_all is_digit v && (length v == 3))
 is_value Kind v = list_all is_no_equals v && list_all (in_class Printable) v && nat_le 1 (length v) && nat_le (length v) 8

@@ -5,7 +5,8 @@ ghost use Rattle.std.specs.List.{find, list_any};
 ghost use Rattle.std.specs.Str.{bytes_eq};
 ghost use Rattle.mta_name_text.specs.Grammar.{follows};
 ghost use Rattle.mta_name_text.specs.Keys.{lead};
-ghost use Rattle.mta_name_text.specs.Reading.{begins, is_front, named, nothing_read, opened, step_front, step_kind, end_value, more_value, step, finish, parts_of_text, Reads};
+ghost use Rattle.mta_name_text.specs.Reading.{begins, is_front, named, nothing_read, opened, step_front, step_kind};
+ghost use Rattle.mta_name_text.specs.Reading.{end_value, more_value, step, finish, parts_of_text, Reads};
 
 use crate::fault::NameFault;
 use crate::key::{Key, all_keys};

@@ -1,7 +1,8 @@
 //! Writing a name's text form.
 
 ghost use Rattle.std.specs.Prelude.{◌≡◌, OnOk, IfOk};
-ghost use Rattle.mta_name_text.specs.Forms.{followed, followed_all, keyed_if, labelled_if, units_keyed, person_keyed, pairs_keyed, text_form};
+ghost use Rattle.mta_name_text.specs.Forms.{followed, followed_all, keyed_if, labelled_if, units_keyed};
+ghost use Rattle.mta_name_text.specs.Forms.{person_keyed, pairs_keyed, text_form};
 
 use crate::key::Key;
 use mta_ber::{Memory, Octets, Text};
@@ -81,8 +82,8 @@ fn put_pairs(out: &mut Octets, pairs: &[Pair]) -> Result<(), Memory>
     Ok(())
 }
 
-/// The text form of a name: its parts in the order of the keys. What is kept unread is not printed, and a name without a part has
-/// the empty text.
+/// The text form of a name: its parts in the order of the keys. What is kept unread is not printed, and a name without
+/// a part has the empty text.
 pub fn name_text(alloc: Global, name: &OrName) -> Result<Text, Memory>
     ensures { IfOk result (λ t. t ≡ text_form name.now) }
 {

@@ -2,7 +2,8 @@
 
 ghost use Rattle.std.specs.Prelude.{◌≡◌};
 ghost use Rattle.mta_name_text.specs.Forms.{key_text};
-ghost use Rattle.mta_name_text.specs.Keys.{keys, place_of, repeats, is_surname, needs_surname, has_kind, lead, shape_of};
+ghost use Rattle.mta_name_text.specs.Keys.{keys, place_of, repeats, is_surname, needs_surname};
+ghost use Rattle.mta_name_text.specs.Keys.{has_kind, lead, shape_of};
 
 use crate::shape::Shape;
 use mta_ber::TextClass;
@@ -115,7 +116,8 @@ impl Key {
         }
     }
 
-    /// How many more parts of the key may follow the first: there are at most four units and four domain-defined attributes.
+    /// How many more parts of the key may follow the first: there are at most four units and four domain-defined
+    /// attributes.
     pub(crate) fn repeats(self) -> u8
         ensures { result ≡ repeats self }
     {

@@ -1,9 +1,10 @@
 //! Laws over names, patterns and their text forms, each the contract of a function that does nothing.
 
-ghost use Rattle.mta_name_text.specs.Laws.{NamesAreReadAgain, TextFormsAreWhatIsWritten, NameFormsAreWhatIsRead, NameFaultsAreFirst, PatternFormsAreWhatIsRead, PatternFaultsAreFirst};
+ghost use Rattle.mta_name_text.specs.Laws.{NamesAreReadAgain, TextFormsAreWhatIsWritten, NameFormsAreWhatIsRead};
+ghost use Rattle.mta_name_text.specs.Laws.{NameFaultsAreFirst, PatternFormsAreWhatIsRead, PatternFaultsAreFirst};
 
-/// A name with at least one part is read back equal from its text form, where it keeps nothing unread, has no domain of digits
-/// as NumericString, and has no `=` in the type of a domain-defined attribute.
+/// A name with at least one part is read back equal from its text form, where it keeps nothing unread, has no domain of
+/// digits as NumericString, and has no `=` in the type of a domain-defined attribute.
 pub fn names_are_read_again()
     ensures { NamesAreReadAgain }
 {}

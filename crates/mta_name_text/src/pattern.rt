@@ -4,9 +4,9 @@ use mta_ber::Text;
 use mta_names::Row;
 use std::marker::Model;
 
-/// A pattern of a route, seen by contracts as the list of its parts: a country, an administration domain, a private domain, an
-/// organization and at most four units, with none left out before the last part, each with the characters and the size
-/// that it has in a name.
+/// A pattern of a route, seen by contracts as the list of its parts: a country, an administration domain, a private
+/// domain, an organization and at most four units, with none left out before the last part, each with the characters
+/// and the size that it has in a name.
 #[derive(Drop)]
 pub struct Pattern {
     parts: Row<Text>,

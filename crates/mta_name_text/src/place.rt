@@ -10,13 +10,13 @@ use crate::key::Key;
 pub enum Grammar {
     /// A name: parts in the order of their keys, given name, initials and generation only behind a surname.
     Names,
-    /// A pattern of a route: country, administration domain, private domain, organization and units, none left out before the
-    /// last part.
+    /// A pattern of a route: country, administration domain, private domain, organization and units, none left out
+    /// before the last part.
     Patterns,
 }
 
-/// What stands before a part: the place of the last key, how many more parts of that key may follow, and whether there is a
-/// surname.
+/// What stands before a part: the place of the last key, how many more parts of that key may follow, and whether there
+/// is a surname.
 #[derive(Clone, Copy)]
 pub struct Place {
     pub last: u8,

@@ -37,8 +37,8 @@ fn pattern_values_of(alloc: Global, text: &[u8]) -> Result<Row<Text>, NameFault>
     Ok(values)
 }
 
-/// The name of a text form: parts KEY=value joined by semicolons, in the order C, A, P, O, OU (up to four), S, G, I, Q, CN, X121,
-/// TID, UID, DDA:type (up to four), at least one of them, and G, I and Q only behind S.
+/// The name of a text form: parts KEY=value joined by semicolons, in the order C, A, P, O, OU (up to four), S, G, I, Q,
+/// CN, X121, TID, UID, DDA:type (up to four), at least one of them, and G, I and Q only behind S.
 pub fn name_from_text(alloc: Global, text: &[u8]) -> Result<OrName, NameFault>
     ensures exact { Reads result (name_of_text text.now) }
 
@@ -58,8 +58,8 @@ pub fn name_from_text(alloc: Global, text: &[u8]) -> Result<OrName, NameFault>
     }
 }
 
-/// The pattern of a text form: parts C, A, P, O and OU (up to four), joined by semicolons, from C on with none left out before
-/// the last.
+/// The pattern of a text form: parts C, A, P, O and OU (up to four), joined by semicolons, from C on with none left out
+/// before the last.
 pub fn pattern_from_text(alloc: Global, text: &[u8]) -> Result<Pattern, NameFault>
     ensures exact { Reads result (pattern_of_text text.now) }
 

@@ -81,8 +81,8 @@ fn from_country(parts: &[Text], n: &Attributes) -> bool
     }
 }
 
-/// Whether each part of a pattern is in the name with equal normal text: the parts are a country, an administration domain, a
-/// private domain, an organization and units, and leave out none before their last.
+/// Whether each part of a pattern is in the name with equal normal text: the parts are a country, an administration
+/// domain, a private domain, an organization and units, and leave out none before their last.
 pub fn has_route(name: &OrName, pattern: &Pattern) -> bool
     ensures { IsTrue result ↔ HasRoute name.now pattern.now }
 {

@@ -1,5 +1,5 @@
--- Parts that are kept unread, by their lengths. What is in a part of a definite length is not looked into, so it stands in every
--- level up to 16; of one of an indefinite length the levels inside count too.
+-- Parts that are kept unread, by their lengths. What is in a part of a definite length is not looked into, so it stands
+-- in every level up to 16; of one of an indefinite length the levels inside count too.
 use Rattle.std.specs.Prelude.{◌≡◌, ℕ, ◌+◌, ◌≤◌, true, List, Some, None, IfSome}
 use Rattle.mta_ber.specs.declared.tag.Tag.{Tag}
 use Rattle.mta_ber.specs.Canon.{IsTag}
@@ -16,7 +16,8 @@ DefinitePartsStandEverywhere =
 
 -- a part stands in a level if its length is indefinite
 abbrev pub FitsAt : ℕ → ℕ → ℕ → List ℕ → Type 0
-FitsAt depth class number octets = (h : IsRaw class number octets) → h.stands.count ≡ None → IsRawAt depth class number octets
+FitsAt depth class number octets =
+    (h : IsRaw class number octets) → h.stands.count ≡ None → IsRawAt depth class number octets
 
 -- what a name in the level `depth` keeps unread in an indefinite length stands in the level of its place
 pub record FitsName (depth : ℕ) (n : Attributes) : Type 0 where

@@ -1,6 +1,7 @@
--- Extension attributes (X.411, ExtensionAttributes): a SET of SEQUENCEs of a type and a value, which stands in an explicit tag.
--- Type 1 is the common name; of the others the whole element of that tag is kept.
-use Rattle.std.specs.Prelude.{◌≡◌, ℕ, zero, suc, pos, ◌+◌, ◌≤◌, ◌⊎◌, Bool, true, false, List, [], ◌∷◌, ◌++◌, length, Option, Some, None, is_some, Result, Ok, ◌==◌, ◌&&◌, if◌then◌else◌}
+-- Extension attributes (X.411, ExtensionAttributes): a SET of SEQUENCEs of a type and a value, which stands in an
+-- explicit tag. Type 1 is the common name; of the others the whole element of that tag is kept.
+use Rattle.std.specs.Prelude.{◌≡◌, ℕ, zero, suc, pos, ◌+◌, ◌≤◌, ◌⊎◌, Bool, true, false, List, [], ◌∷◌, ◌++◌}
+use Rattle.std.specs.Prelude.{length, Option, Some, None, is_some, Result, Ok, ◌==◌, ◌&&◌, if◌then◌else◌}
 use Rattle.std.specs.List.{flat_map}
 use Rattle.mta_ber.specs.declared.fault.Fault.{Fault}
 use Rattle.mta_ber.specs.declared.fault.Kind.TheVariants.{BadTag, BadSize, Twice}

@@ -24,8 +24,8 @@ use Rattle.mta_names.specs.Values.{Each, IsCountry, IsLabel, IsPerson, IsPair, I
 use Rattle.mta_ber.specs.Strings.{IsText}
 use Rattle.mta_ber.specs.declared.text.TextClass.TheVariants.{Printable}
 
--- octets that are written in a level, whatever stands before and behind them, are read as the value; a length has at most eight
--- octets
+-- octets that are written in a level, whatever stands before and behind them, are read as the value; a length has at
+-- most eight octets
 abbrev pub IsReadAgain : {A : Type 0} → (Part → Result A Fault) → ℕ → List ℕ → A → Type 0
 IsReadAgain read depth octets v = length octets < 2 ^ 64 → (at : ℕ) (more : List ℕ) → (part at depth (octets ++ more) >>= with_rest read) ≡ beside v more
 
@@ -42,8 +42,8 @@ NoneBeginsAnother {A} spells = (depth : ℕ) (e e' x y : List ℕ) (v w : A) →
 
 -- ---- what is kept unread
 
--- the whole octets of one element of a tag in a level. An element of a definite length stands in every level that may be; in one
--- of an indefinite length the elements inside count too
+-- the whole octets of one element of a tag in a level. An element of a definite length stands in every level that may
+-- be; in one of an indefinite length the elements inside count too
 pub record IsRawAt (depth class number : ℕ) (octets : List ℕ) : Type 0 where
   pub tag : Tag
   pub content : List ℕ
@@ -54,8 +54,8 @@ pub record IsRawAt (depth class number : ℕ) (octets : List ℕ) : Type 0 where
 abbrev pub AreKeptAt : ℕ → List ExtraFields → Type 0
 AreKeptAt depth xs = Each (λ x. IsRawAt depth 2 1 x.raw) xs
 
--- what a name in the level `depth` keeps unread stands in the level of its place: the value of an attribute is in the attribute,
--- which is in the SET of them, which is in the name
+-- what a name in the level `depth` keeps unread stands in the level of its place: the value of an attribute is in the
+-- attribute, which is in the SET of them, which is in the name
 pub record KeepsName (depth : ℕ) (n : Attributes) : Type 0 where
   pub extras : AreKeptAt (depth + 3) n.extras
   pub directory : IfSome n.directory (IsRawAt (depth + 1) 2 0)

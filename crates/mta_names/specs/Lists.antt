@@ -1,5 +1,7 @@
--- Unit names (X.411, OrganizationalUnitNames) and domain-defined attributes (BuiltInDomainDefinedAttributes): lists of at least one item.
-use Rattle.std.specs.Prelude.{◌≡◌, ℕ, ◌≤◌, ◌⊎◌, Bool, true, List, [], ◌∷◌, ◌++◌, length, Some, None, is_some, Result, Ok, if◌then◌else◌}
+-- Unit names (X.411, OrganizationalUnitNames) and domain-defined attributes (BuiltInDomainDefinedAttributes): lists of
+-- at least one item.
+use Rattle.std.specs.Prelude.{◌≡◌, ℕ, ◌≤◌, ◌⊎◌, Bool, true, List, [], ◌∷◌, ◌++◌, length}
+use Rattle.std.specs.Prelude.{Some, None, is_some, Result, Ok, if◌then◌else◌}
 use Rattle.std.specs.List.{flat_map}
 use Rattle.mta_ber.specs.declared.fault.Fault.{Fault}
 use Rattle.mta_ber.specs.declared.fault.Kind.TheVariants.{BadTag}

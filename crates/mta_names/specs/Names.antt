@@ -1,5 +1,6 @@
 -- O/R names (X.411, ORName): a SEQUENCE of standard, domain-defined and extension attributes and a directory name.
-use Rattle.std.specs.Prelude.{◌≡◌, ℕ, ◌<◌, ◌≤◌, Bool, true, List, ◌++◌, Option, Some, None, Result, Ok, ◌==◌, if◌then◌else◌}
+use Rattle.std.specs.Prelude.{◌≡◌, ℕ, ◌<◌, ◌≤◌, Bool, true, List, ◌++◌, Option}
+use Rattle.std.specs.Prelude.{Some, None, Result, Ok, ◌==◌, if◌then◌else◌}
 use Rattle.mta_ber.specs.declared.fault.Fault.{Fault}
 use Rattle.mta_ber.specs.declared.fault.Kind.TheVariants.{BadTag, Missing}
 use Rattle.mta_ber.specs.declared.tag.Tag.{Tag}

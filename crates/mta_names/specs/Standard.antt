@@ -16,7 +16,8 @@ use Rattle.mta_names.specs.declared.attributes.Label.{Label}
 use Rattle.mta_names.specs.declared.attributes.PersonFields.{PersonFields}
 use Rattle.mta_names.specs.declared.standard.StandardParts.{StandardParts}
 use Rattle.mta_names.specs.declared.standard.StandardPart.{StandardPart}
-use Rattle.mta_names.specs.declared.standard.StandardPart.TheVariants.{Country, Admd, Network, Terminal, Prmd, Organization, User, Name, Units}
+use Rattle.mta_names.specs.declared.standard.StandardPart.TheVariants.{Country, Admd, Network, Terminal, Prmd}
+use Rattle.mta_names.specs.declared.standard.StandardPart.TheVariants.{Organization, User, Name, Units}
 use Rattle.mta_names.specs.Labels.{country_in, label_in, SpellsLabel, canonical_label}
 use Rattle.mta_names.specs.Lists.{units_in, SpellsUnits, canonical_units, listed}
 use Rattle.mta_names.specs.Persons.{person_in, SpellsPerson, canonical_person}

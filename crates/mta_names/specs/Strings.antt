@@ -1,5 +1,6 @@
 -- Reading a string of characters and of a size, a number in a range, and a list.
-use Rattle.std.specs.Prelude.{◌≡◌, ℕ, pos, Bool, true, List, [], ◌∷◌, ◌++◌, length, Result, Ok, if◌then◌else◌, not, unsigned_abs}
+use Rattle.std.specs.Prelude.{◌≡◌, ℕ, pos, Bool, true, List, [], ◌∷◌, ◌++◌, length}
+use Rattle.std.specs.Prelude.{Result, Ok, if◌then◌else◌, not, unsigned_abs}
 use Rattle.mta_ber.specs.declared.fault.Fault.{Fault}
 use Rattle.mta_ber.specs.declared.fault.Kind.TheVariants.{BadTag, BadText, BadSize}
 use Rattle.mta_ber.specs.declared.tag.Tag.{Tag}

@@ -41,8 +41,8 @@ impl OrName {
     ghost use Rattle.mta_names.specs.Names.{name_in, SpellsName, canonical_name};
     ghost use Rattle.mta_names.specs.Values.{IsName};
 
-    /// The name that an element spells (X.411, ORName), whatever its tag: `[APPLICATION 0]`, or an implicit tag in its place,
-    /// which is for the caller to check.
+    /// The name that an element spells (X.411, ORName), whatever its tag: `[APPLICATION 0]`, or an implicit tag in its
+    /// place, which is for the caller to check.
     pub fn read(alloc: Global, whole: &View) -> Result<OrName, ReadFault>
         // Which name it is, or which fault comes first.
         ensures exact { Reads result (name_in (view whole.now)) }

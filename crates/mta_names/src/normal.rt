@@ -1,7 +1,8 @@
 //! Comparing texts by their normal texts, without making them.
 
 ghost use Rattle.std.specs.Prelude.{◌≡◌, ◌≤◌, ◌<◌, ◌∷◌, [], false, length, MatchOption};
-ghost use Rattle.mta_names.specs.Normal.{folded, unspaced, squeezed, is_same_text, is_same_texts, is_same_value, is_same_label, is_same_person, is_same_persons, is_same_pair, is_same_pairs};
+ghost use Rattle.mta_names.specs.Normal.{folded, unspaced, squeezed, is_same_text, is_same_texts, is_same_value};
+ghost use Rattle.mta_names.specs.Normal.{is_same_label, is_same_person, is_same_persons, is_same_pair, is_same_pairs};
 
 use crate::attributes::{Label, Pair, Person};
 use mta_ber::Text;

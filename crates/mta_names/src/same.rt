@@ -14,8 +14,8 @@ use mta_ber::{Memory, Octets, Text};
 use std::alloc::Global;
 
 impl Attributes {
-    /// Whether the attributes are the same, whatever they have of capital letters and spaces (X.402, clause 18). A numeric and a
-    /// printable label of the same characters are equal, and what is kept unread is not compared.
+    /// Whether the attributes are the same, whatever they have of capital letters and spaces (X.402, clause 18). A
+    /// numeric and a printable label of the same characters are equal, and what is kept unread is not compared.
     #[tactic(auto, unfolding(crate::specs::Normal::is_same_name))]
     fn is_same(&self, other: &Attributes) -> bool
         ensures { result ≡ is_same_name self.now other.now }
@@ -35,8 +35,9 @@ impl Attributes {
 }
 
 impl OrName {
-    /// Whether the two names are the same, whatever they have of capital letters and spaces (X.402, clause 18): their normal
-    /// lists are equal. A numeric and a printable label of the same characters are equal, and what is kept unread is not compared.
+    /// Whether the two names are the same, whatever they have of capital letters and spaces (X.402, clause 18): their
+    /// normal lists are equal. A numeric and a printable label of the same characters are equal, and what is kept
+    /// unread is not compared.
     pub fn same(&self, other: &OrName) -> bool
         ensures { IsTrue result ↔ IsSameName self.now other.now }
     {

@@ -3,7 +3,8 @@
 ghost use Rattle.std.specs.Prelude.{◌≡◌};
 ghost use Rattle.mta_ber.specs.Parts.{Leaves, Reads};
 ghost use Rattle.mta_ber.specs.Seen.{view};
-ghost use Rattle.mta_names.specs.Standard.{standard_part_of, standard_place, standard_part_in, standard_step, standard_in};
+ghost use Rattle.mta_names.specs.Standard.{standard_part_of, standard_place, standard_part_in};
+ghost use Rattle.mta_names.specs.Standard.{standard_step, standard_in};
 ghost use Rattle.mta_names.specs.Values.{nothing};
 
 use crate::attributes::Attributes;

@@ -7,7 +7,8 @@ ghost use Rattle.mta_names.specs.Labels.{canonical_choice, canonical_label};
 ghost use Rattle.mta_names.specs.Lists.{canonical_printable, canonical_units, canonical_pair, canonical_pairs, listed};
 ghost use Rattle.mta_names.specs.Persons.{canonical_person};
 ghost use Rattle.mta_names.specs.Standard.{canonical_text, canonical_named, canonical_standard};
-ghost use Rattle.mta_names.specs.Extensions.{canonical_attribute, canonical_common, canonical_extra, canonical_extensions};
+ghost use Rattle.mta_names.specs.Extensions.{canonical_attribute, canonical_common};
+ghost use Rattle.mta_names.specs.Extensions.{canonical_extra, canonical_extensions};
 ghost use Rattle.mta_names.specs.Names.{kept, name_content, extensions_of};
 
 use crate::attributes::{Attributes, Extra, Label, Pair, Person};

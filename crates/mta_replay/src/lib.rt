@@ -1,6 +1,6 @@
-//! The state that a history leads to, as a value (`Replay`): steps are taken up where they are possible, and it tells what
-//! is due and what waits. What a step changes is found before its record is written, by a call for each kind of step, and
-//! there is nothing exactly where the step is not possible.
+//! The state that a history leads to, as a value (`Replay`): steps are taken up where they are possible, and it tells
+//! what is due and what waits. What a step changes is found before its record is written, by a call for each kind of
+//! step, and there is nothing exactly where the step is not possible.
 #![tactic(auto)]
 
 mod accept;

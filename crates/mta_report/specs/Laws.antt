@@ -26,8 +26,8 @@ pub record IsWholeReport (v : ReportFields) : Type 0 where
   pub recipients : Each IsWholeReported v.recipients
   pub report : IsReport v
 
--- what a report in the level `depth` keeps unread stands in the level of its place: the components of its envelope and of its
--- content are two levels below it, and the items of their lists three
+-- what a report in the level `depth` keeps unread stands in the level of its place: the components of its envelope and
+-- of its content are two levels below it, and the items of their lists three
 pub record KeepsReport (depth : ℕ) (v : ReportFields) : Type 0 where
   pub destination : KeepsName (depth + 2) v.destination
   pub trace : Each (KeepsTrace (depth + 3)) v.trace
@@ -48,8 +48,8 @@ abbrev pub WholeReportsAreReadAgain : Type 0
 WholeReportsAreReadAgain = (v : ReportFields) (more : List ℕ) (at : ℕ) → IsWholeReport v → KeepsReport 1 v → length (canonical_report v) < 2 ^ 64
     → (first at (canonical_report v ++ more) >>= with_rest report_in) ≡ beside v more
 
--- a report that was read keeps what it keeps in the level of its place, and is one; the value of an extension that was left out is NULL, which has
--- to have room
+-- a report that was read keeps what it keeps in the level of its place, and is one; the value of an extension that was
+-- left out is NULL, which has to have room
 abbrev pub ReadReportsAreKept : Type 0
 ReadReportsAreKept = (depth : ℕ) (tag : Tag) (content : List ℕ) (v : ReportFields)
     → SpellsReport depth tag content v → depth + 7 ≤ 16 → KeepsReport depth v × IsWholeReport v

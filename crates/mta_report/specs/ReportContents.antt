@@ -1,5 +1,6 @@
 -- The content of a report (X.411, ReportTransferContent): a SET.
-use Rattle.std.specs.Prelude.{◌≡◌, ℕ, Bool, true, false, List, [], ◌++◌, Option, Some, None, is_some, unwrap_or, Result, Ok, ◌&&◌, if◌then◌else◌}
+use Rattle.std.specs.Prelude.{◌≡◌, ℕ, Bool, true, false, List, [], ◌++◌, Option, Some, None}
+use Rattle.std.specs.Prelude.{is_some, unwrap_or, Result, Ok, ◌&&◌, if◌then◌else◌}
 use Rattle.mta_ber.specs.declared.fault.Fault.{Fault}
 use Rattle.mta_ber.specs.declared.fault.Kind.TheVariants.{BadTag, Twice}
 use Rattle.mta_ber.specs.declared.tag.Tag.{Tag}
@@ -17,10 +18,13 @@ use Rattle.mta_fields.specs.Identifiers.{id_in, SpellsMtsId, canonical_id}
 use Rattle.mta_fields.specs.Traces.{raw_in}
 use Rattle.mta_envelope_common.specs.declared.kind.ContentKind.{ContentKind}
 use Rattle.mta_envelope_common.specs.ContentIdentifiers.{content_id_in, SpellsContentId, canonical_content_id}
-use Rattle.mta_envelope_common.specs.ContentKinds.{is_content_kind, content_kind_in, SpellsContentKind, kind_in_front, kind_in_place}
+use Rattle.mta_envelope_common.specs.ContentKinds.{is_content_kind, content_kind_in, SpellsContentKind}
+use Rattle.mta_envelope_common.specs.ContentKinds.{kind_in_front, kind_in_place}
 use Rattle.mta_envelope_common.specs.ExtensionLists.{ext_list_in, SpellsExtList, canonical_ext_list}
 use Rattle.mta_report.specs.declared.content.ContentPart.{ContentPart}
-use Rattle.mta_report.specs.declared.content.ContentPart.TheVariants.{Subject, Eits, ContentType, SubjectTrace, ContentId, Recipients, Returned, Additional, Extensions}
+use Rattle.mta_report.specs.declared.content.ContentPart.TheVariants.{Subject, Eits, ContentType, SubjectTrace}
+use Rattle.mta_report.specs.declared.content.ContentPart.TheVariants.{ContentId, Recipients, Returned}
+use Rattle.mta_report.specs.declared.content.ContentPart.TheVariants.{Additional, Extensions}
 use Rattle.mta_report.specs.declared.content.ContentParts.{ContentParts}
 use Rattle.mta_report.specs.declared.content.ContentFields.{ContentFields}
 use Rattle.mta_report.specs.declared.fields.ReportFields.{ReportFields}
@@ -167,7 +171,8 @@ pub record SpellsContent (depth : ℕ) (constructed : Bool) (content : List ℕ)
   pub recipients_is : parts.recipients ≡ Some recipients
   pub value : v ≡ report_content subject recipients parts
 
--- ---- the one spelling that is written: a content type that is an object identifier stands in front, for its tag comes first
+-- ---- the one spelling that is written: a content type that is an object identifier stands in front, for its tag comes
+-- first
 
 abbrev pub content_content : ReportFields → List ℕ
 content_content v =

@@ -1,5 +1,6 @@
 -- The envelope of a report (X.411, ReportTransferEnvelope): a SET.
-use Rattle.std.specs.Prelude.{◌≡◌, ℕ, Bool, true, false, List, [], ◌++◌, Option, Some, None, is_some, unwrap_or, Result, Ok, ◌&&◌, if◌then◌else◌}
+use Rattle.std.specs.Prelude.{◌≡◌, ℕ, Bool, true, false, List, [], ◌++◌, Option, Some, None}
+use Rattle.std.specs.Prelude.{is_some, unwrap_or, Result, Ok, ◌&&◌, if◌then◌else◌}
 use Rattle.mta_ber.specs.declared.fault.Fault.{Fault}
 use Rattle.mta_ber.specs.declared.fault.Kind.TheVariants.{BadTag, Twice}
 use Rattle.mta_ber.specs.declared.tag.Tag.{Tag}

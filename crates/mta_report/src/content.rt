@@ -4,7 +4,9 @@ ghost use Rattle.std.specs.Prelude.{◌≡◌, OnOk, IfOk, OnErr, IsTrue, Ok, �
 ghost use Rattle.mta_ber.specs.Canon.{appended, optional};
 ghost use Rattle.mta_ber.specs.Parts.{Leaves, Reads};
 ghost use Rattle.mta_ber.specs.Seen.{view};
-ghost use Rattle.mta_report.specs.ReportContents.{content_part_of, content_held, content_part_in, content_step, content_complete, content_from, content_in, content_content, canonical_content};
+ghost use Rattle.mta_report.specs.ReportContents.{content_part_of, content_held, content_part_in};
+ghost use Rattle.mta_report.specs.ReportContents.{content_step, content_complete, content_from, content_in};
+ghost use Rattle.mta_report.specs.ReportContents.{content_content, canonical_content};
 
 use crate::fields::ReportFields;
 use mta_ber::{

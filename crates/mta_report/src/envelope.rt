@@ -4,7 +4,9 @@ ghost use Rattle.std.specs.Prelude.{◌≡◌, OnOk, IfOk, OnErr, IsTrue, Ok, �
 ghost use Rattle.mta_ber.specs.Canon.{appended, optional};
 ghost use Rattle.mta_ber.specs.Parts.{Leaves, Reads};
 ghost use Rattle.mta_ber.specs.Seen.{view};
-ghost use Rattle.mta_report.specs.ReportEnvelopes.{envelope_part_of, envelope_held, envelope_part_in, envelope_step, envelope_complete, envelope_from, envelope_in, envelope_content, canonical_envelope};
+ghost use Rattle.mta_report.specs.ReportEnvelopes.{envelope_part_of, envelope_held, envelope_part_in};
+ghost use Rattle.mta_report.specs.ReportEnvelopes.{envelope_step, envelope_complete, envelope_from, envelope_in};
+ghost use Rattle.mta_report.specs.ReportEnvelopes.{envelope_content, canonical_envelope};
 
 use crate::fields::ReportFields;
 use mta_ber::{

@@ -1,4 +1,5 @@
-//! Reports (X.411, ReportTransferEnvelope and ReportTransferContent): every spelling of them is read, the one canonical spelling is written.
+//! Reports (X.411, ReportTransferEnvelope and ReportTransferContent): every spelling of them is read, the one canonical
+//! spelling is written.
 #![tactic(auto)]
 
 mod content;

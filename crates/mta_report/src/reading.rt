@@ -4,7 +4,8 @@ ghost use Rattle.std.specs.Prelude.{◌≡◌, OnOk, IfOk, OnErr, IsTrue, Ok, �
 ghost use Rattle.mta_ber.specs.Canon.{appended, optional};
 ghost use Rattle.mta_ber.specs.Parts.{Leaves, Reads};
 ghost use Rattle.mta_ber.specs.Seen.{view};
-ghost use Rattle.mta_report.specs.Reports.{report_part_of, report_place, report_needed, report_part_in, report_step, report, report_complete, report_from, report_in};
+ghost use Rattle.mta_report.specs.Reports.{report_part_of, report_place, report_needed, report_part_in, report_step};
+ghost use Rattle.mta_report.specs.Reports.{report, report_complete, report_from, report_in};
 
 use crate::content::{ContentFields, read_content};
 use crate::envelope::{EnvelopeFields, read_envelope};

@@ -1,5 +1,6 @@
 -- A delivery that is reported (X.411, DeliveryReport): a SET of a time and a type of user.
-use Rattle.std.specs.Prelude.{◌≡◌, ℕ, pos, Bool, true, false, List, [], ◌++◌, Option, Some, None, is_some, unwrap_or, Result, Ok, ◌==◌, if◌then◌else◌}
+use Rattle.std.specs.Prelude.{◌≡◌, ℕ, pos, Bool, true, false, List, [], ◌++◌, Option, Some}
+use Rattle.std.specs.Prelude.{None, is_some, unwrap_or, Result, Ok, ◌==◌, if◌then◌else◌}
 use Rattle.mta_ber.specs.declared.fault.Fault.{Fault}
 use Rattle.mta_ber.specs.declared.fault.Kind.TheVariants.{BadTag, Twice}
 use Rattle.mta_ber.specs.declared.tag.Tag.{Tag}

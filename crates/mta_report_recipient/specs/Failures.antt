@@ -1,5 +1,6 @@
 -- A non-delivery that is reported (X.411, NonDeliveryReport): a SET of a reason and a diagnostic.
-use Rattle.std.specs.Prelude.{◌≡◌, ℕ, pos, Bool, true, false, List, ◌++◌, Option, Some, None, is_some, Result, Ok, if◌then◌else◌}
+use Rattle.std.specs.Prelude.{◌≡◌, ℕ, pos, Bool, true, false, List, ◌++◌, Option}
+use Rattle.std.specs.Prelude.{Some, None, is_some, Result, Ok, if◌then◌else◌}
 use Rattle.mta_ber.specs.declared.fault.Fault.{Fault}
 use Rattle.mta_ber.specs.declared.fault.Kind.TheVariants.{BadTag, Twice}
 use Rattle.mta_ber.specs.declared.tag.Tag.{Tag}

@@ -1,5 +1,7 @@
--- The last trace of a recipient (X.411, LastTraceInformation): a SET of an arrival time, converted types and what came of the message.
-use Rattle.std.specs.Prelude.{◌≡◌, ℕ, Bool, true, false, List, ◌++◌, Option, Some, None, is_some, Result, Ok, if◌then◌else◌}
+-- The last trace of a recipient (X.411, LastTraceInformation): a SET of an arrival time, converted types and what came
+-- of the message.
+use Rattle.std.specs.Prelude.{◌≡◌, ℕ, Bool, true, false, List, ◌++◌, Option, Some}
+use Rattle.std.specs.Prelude.{None, is_some, Result, Ok, if◌then◌else◌}
 use Rattle.mta_ber.specs.declared.fault.Fault.{Fault}
 use Rattle.mta_ber.specs.declared.fault.Kind.TheVariants.{BadTag, Twice}
 use Rattle.mta_ber.specs.declared.tag.Tag.{Tag}

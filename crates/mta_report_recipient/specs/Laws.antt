@@ -17,8 +17,8 @@ pub record IsWholeReported (v : ReportedFields) : Type 0 where
   pub intended : IfSome v.intended IsName
   pub extensions : Each IsExtField v.extensions
 
--- what a recipient in the level `depth` keeps unread stands in the level of its place: names and supplementary information are
--- components, converted types stand in the last trace, and extension fields in the SET of them
+-- what a recipient in the level `depth` keeps unread stands in the level of its place: names and supplementary
+-- information are components, converted types stand in the last trace, and extension fields in the SET of them
 pub record KeepsReported (depth : ℕ) (v : ReportedFields) : Type 0 where
   pub name : KeepsName (depth + 1) v.name
   pub converted : IfSome v.converted (IsRawAt (depth + 2) 1 5)
@@ -30,8 +30,8 @@ pub record KeepsReported (depth : ℕ) (v : ReportedFields) : Type 0 where
 abbrev pub RecipientsAreReadAgain : Type 0
 RecipientsAreReadAgain = (depth : ℕ) (v : ReportedFields) → IsWholeReported v → KeepsReported depth v → depth + 5 ≤ 16 → IsReadAgain reported_in depth (canonical_reported v) v
 
--- a recipient that was read keeps what it keeps in the level of its place, and is one; the value of an extension that was left out is NULL, which
--- has to have room
+-- a recipient that was read keeps what it keeps in the level of its place, and is one; the value of an extension that
+-- was left out is NULL, which has to have room
 abbrev pub ReadRecipientsAreKept : Type 0
 ReadRecipientsAreKept = (depth : ℕ) (tag : Tag) (content : List ℕ) (v : ReportedFields)
     → SpellsReported depth tag content v → depth + 4 ≤ 16 → KeepsReported depth v × IsWholeReported v

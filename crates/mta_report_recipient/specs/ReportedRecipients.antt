@@ -1,5 +1,7 @@
--- A recipient of whom is reported (X.411, PerRecipientReportTransferFields): a SET; and the SEQUENCE of 1 to 32,767 of them.
-use Rattle.std.specs.Prelude.{◌≡◌, ℕ, pos, Bool, true, false, List, [], ◌++◌, Option, Some, None, is_some, unwrap_or, Result, Ok, ◌&&◌, if◌then◌else◌}
+-- A recipient of whom is reported (X.411, PerRecipientReportTransferFields): a SET; and the SEQUENCE of 1 to 32,767 of
+-- them.
+use Rattle.std.specs.Prelude.{◌≡◌, ℕ, pos, Bool, true, false, List, [], ◌++◌, Option, Some}
+use Rattle.std.specs.Prelude.{None, is_some, unwrap_or, Result, Ok, ◌&&◌, if◌then◌else◌}
 use Rattle.std.specs.List.{flat_map}
 use Rattle.mta_ber.specs.declared.fault.Fault.{Fault}
 use Rattle.mta_ber.specs.declared.fault.Kind.TheVariants.{BadTag, Twice}
@@ -22,7 +24,8 @@ use Rattle.mta_fields.specs.Traces.{raw_in}
 use Rattle.mta_envelope_common.specs.ExtensionLists.{ext_list_in, SpellsExtList, canonical_ext_list}
 use Rattle.mta_envelope_common.specs.Indicators.{indicators_in, SpellsIndicators, canonical_indicators}
 use Rattle.mta_report_recipient.specs.declared.reported.ReportedPart.{ReportedPart}
-use Rattle.mta_report_recipient.specs.declared.reported.ReportedPart.TheVariants.{Actual, Number, Indicators, Last, Intended, Supplementary, Extensions}
+use Rattle.mta_report_recipient.specs.declared.reported.ReportedPart.TheVariants.{Actual, Number, Indicators, Last}
+use Rattle.mta_report_recipient.specs.declared.reported.ReportedPart.TheVariants.{Intended, Supplementary, Extensions}
 use Rattle.mta_report_recipient.specs.declared.reported.ReportedParts.{ReportedParts}
 use Rattle.mta_report_recipient.specs.declared.last.LastTrace.{LastTrace}
 use Rattle.mta_report_recipient.specs.declared.reported.ReportedFields.{ReportedFields}

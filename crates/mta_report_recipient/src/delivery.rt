@@ -4,7 +4,9 @@ ghost use Rattle.std.specs.Prelude.{◌≡◌, OnOk, OnErr, unwrap_or};
 ghost use Rattle.mta_ber.specs.Canon.{appended};
 ghost use Rattle.mta_ber.specs.Parts.{Leaves, Reads};
 ghost use Rattle.mta_ber.specs.Seen.{view};
-ghost use Rattle.mta_report_recipient.specs.Deliveries.{delivery_part_of, delivery_held, delivery_part_in, delivery_step, delivery_from, delivery_in, canonical_user, canonical_delivery};
+ghost use Rattle.mta_report_recipient.specs.Deliveries.{delivery_part_of, delivery_held, delivery_part_in};
+ghost use Rattle.mta_report_recipient.specs.Deliveries.{delivery_step, delivery_from, delivery_in, canonical_user};
+ghost use Rattle.mta_report_recipient.specs.Deliveries.{canonical_delivery};
 
 use crate::moment::{Moment, read_moment};
 use crate::outcome::Outcome;

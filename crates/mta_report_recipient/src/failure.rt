@@ -4,7 +4,9 @@ ghost use Rattle.std.specs.Prelude.{◌≡◌, OnOk, OnErr};
 ghost use Rattle.mta_ber.specs.Canon.{appended, optional};
 ghost use Rattle.mta_ber.specs.Parts.{Leaves, Reads};
 ghost use Rattle.mta_ber.specs.Seen.{view};
-ghost use Rattle.mta_report_recipient.specs.Failures.{failure_part_of, failure_held, failure_part_in, failure_step, failure_from, failure_in, canonical_diagnostic, canonical_failure};
+ghost use Rattle.mta_report_recipient.specs.Failures.{failure_part_of, failure_held, failure_part_in};
+ghost use Rattle.mta_report_recipient.specs.Failures.{failure_step, failure_from, failure_in, canonical_diagnostic};
+ghost use Rattle.mta_report_recipient.specs.Failures.{canonical_failure};
 
 use crate::outcome::Outcome;
 use mta_ber::{

@@ -6,7 +6,8 @@ ghost use Rattle.mta_ber.specs.Parts.{Leaves, Reads};
 ghost use Rattle.mta_ber.specs.Seen.{view};
 ghost use Rattle.std.specs.Prelude.{IfSome};
 ghost use Rattle.mta_report_recipient.specs.Values.{IsMoment};
-ghost use Rattle.mta_report_recipient.specs.LastTraces.{last_part_of, last_held, last_part_in, last_step, last_from, last_in, last_content, canonical_last};
+ghost use Rattle.mta_report_recipient.specs.LastTraces.{last_part_of, last_held, last_part_in, last_step};
+ghost use Rattle.mta_report_recipient.specs.LastTraces.{last_from, last_in, last_content, canonical_last};
 
 use crate::outcome::{Outcome, put_outcome, read_outcome};
 use mta_ber::{

@@ -9,7 +9,8 @@ ghost use Rattle.mta_report_recipient.specs.Deliveries.{canonical_user, canonica
 ghost use Rattle.mta_report_recipient.specs.Failures.{canonical_diagnostic, canonical_failure};
 ghost use Rattle.mta_report_recipient.specs.LastTraces.{canonical_last};
 ghost use Rattle.mta_report_recipient.specs.Outcomes.{canonical_choice, canonical_outcome};
-ghost use Rattle.mta_report_recipient.specs.ReportedRecipients.{canonical_intended, reported_content, canonical_reported};
+ghost use Rattle.mta_report_recipient.specs.ReportedRecipients.{canonical_intended, reported_content};
+ghost use Rattle.mta_report_recipient.specs.ReportedRecipients.{canonical_reported};
 ghost use Rattle.mta_report_recipient.specs.ReportedRecipients.{canonical_reported_list};
 ghost use Rattle.mta_report_recipient.specs.Values.{IsMoment, IsReported};
 

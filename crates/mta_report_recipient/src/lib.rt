@@ -1,5 +1,5 @@
-//! Recipients of whom is reported, and what came of a message for them (X.411, PerRecipientReportTransferFields): every spelling is read, the one
-//! canonical spelling is written.
+//! Recipients of whom is reported, and what came of a message for them (X.411, PerRecipientReportTransferFields): every
+//! spelling is read, the one canonical spelling is written.
 #![tactic(auto)]
 
 mod delivery;

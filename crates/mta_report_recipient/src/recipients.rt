@@ -5,7 +5,8 @@ ghost use Rattle.mta_ber.specs.Canon.{appended, optional};
 ghost use Rattle.mta_ber.specs.Parts.{Leaves, Reads};
 ghost use Rattle.mta_ber.specs.Seen.{view};
 ghost use Rattle.std.specs.List.{flat_map};
-ghost use Rattle.mta_report_recipient.specs.ReportedRecipients.{reported_list_step, reported_list_in, canonical_reported, canonical_reported_list};
+ghost use Rattle.mta_report_recipient.specs.ReportedRecipients.{reported_list_step, reported_list_in};
+ghost use Rattle.mta_report_recipient.specs.ReportedRecipients.{canonical_reported, canonical_reported_list};
 
 use crate::reported::Reported;
 use mta_ber::{Components, Kind, Memory, ReadFault, View, Writer, bad, is_tag_of, take_parts};

@@ -5,7 +5,9 @@ ghost use Rattle.mta_ber.specs.Canon.{appended, optional};
 ghost use Rattle.mta_ber.specs.Parts.{Leaves, Reads};
 ghost use Rattle.mta_ber.specs.Seen.{view};
 ghost use Rattle.mta_report_recipient.specs.Values.{IsReported};
-ghost use Rattle.mta_report_recipient.specs.ReportedRecipients.{reported_part_of, reported_held, reported_part_in, reported_step, reported_complete, reported_from, reported_in, canonical_intended, reported_content};
+ghost use Rattle.mta_report_recipient.specs.ReportedRecipients.{reported_part_of, reported_held, reported_part_in};
+ghost use Rattle.mta_report_recipient.specs.ReportedRecipients.{reported_step, reported_complete, reported_from};
+ghost use Rattle.mta_report_recipient.specs.ReportedRecipients.{reported_in, canonical_intended, reported_content};
 
 use crate::last::{LastTrace, put_last, read_last};
 use crate::length::components_length;

@@ -1,4 +1,5 @@
--- The bind of message transfer agents: NULL, or a SET of a name, credentials and perhaps a security context, which is passed over.
+-- The bind of message transfer agents: NULL, or a SET of a name, credentials and perhaps a security context, which is
+-- passed over.
 use Rattle.std.specs.Prelude.{ℕ, Bool, true, false, List, Some, None, is_some, Result, Ok, if◌then◌else◌}
 use Rattle.mta_ber.specs.declared.fault.Fault.{Fault}
 use Rattle.mta_ber.specs.declared.fault.Kind.TheVariants.{BadTag, BadSize, Twice}

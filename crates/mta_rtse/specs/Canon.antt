@@ -1,5 +1,5 @@
--- The octets that are written: definite minimal lengths, SETs in the order of their tags, no component that equals its default, and
--- nothing that is passed over when it is read. A password is written as IA5String.
+-- The octets that are written: definite minimal lengths, SETs in the order of their tags, no component that equals its
+-- default, and nothing that is passed over when it is read. A password is written as IA5String.
 use Rattle.std.specs.Prelude.{ℕ, pos, Bool, List, [], ◌++◌, ◌==◌, if◌then◌else◌}
 use Rattle.mta_ber.specs.declared.tag.Tag.{Tag}
 use Rattle.mta_ber.specs.Canon.{element, primitive, constructed, optional}

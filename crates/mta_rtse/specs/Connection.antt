@@ -1,4 +1,5 @@
--- Connection data (X.228): `[0]` around what an association is opened with, or under `[1]` the reference of one to recover.
+-- Connection data (X.228): `[0]` around what an association is opened with, or under `[1]` the reference of one to
+-- recover.
 use Rattle.std.specs.Prelude.{ℕ, Result, Ok, if◌then◌else◌}
 use Rattle.mta_ber.specs.declared.fault.Fault.{Fault}
 use Rattle.mta_ber.specs.declared.fault.Kind.TheVariants.{BadTag}

@@ -1,4 +1,5 @@
--- Session connection identifiers (X.228): a calling reference, a common reference and perhaps an additional one, in this order.
+-- Session connection identifiers (X.228): a calling reference, a common reference and perhaps an additional one, in
+-- this order.
 use Rattle.std.specs.Prelude.{Some, None, Result, Ok, if◌then◌else◌}
 use Rattle.mta_ber.specs.declared.fault.Fault.{Fault}
 use Rattle.mta_ber.specs.declared.fault.Kind.TheVariants.{BadTag}

@@ -1,5 +1,5 @@
--- RTORQ (X.228): a SET of the checkpoint size, the window, the dialogue mode, connection data and an application protocol, which is
--- passed over.
+-- RTORQ (X.228): a SET of the checkpoint size, the window, the dialogue mode, connection data and an application
+-- protocol, which is passed over.
 use Rattle.std.specs.Prelude.{ℕ, true, false, Some, None, is_some, unwrap_or, Result, Ok, if◌then◌else◌}
 use Rattle.mta_ber.specs.declared.fault.Fault.{Fault}
 use Rattle.mta_ber.specs.declared.fault.Kind.TheVariants.{BadTag}

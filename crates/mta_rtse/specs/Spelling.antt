@@ -1,5 +1,6 @@
 -- Which elements spell the protocol data units (X.228), built from the values: apart from reading.
-use Rattle.std.specs.Prelude.{◌≡◌, ℕ, pos, ◌≤◌, ◌<◌, ◌⊎◌, Bool, true, false, List, [], length, Some, is_some, unwrap_or, if◌then◌else◌}
+use Rattle.std.specs.Prelude.{◌≡◌, ℕ, pos, ◌≤◌, ◌<◌, ◌⊎◌, Bool, true, false, List}
+use Rattle.std.specs.Prelude.{[], length, Some, is_some, unwrap_or, if◌then◌else◌}
 use Rattle.mta_ber.specs.declared.tag.Tag.{Tag}
 use Rattle.mta_ber.specs.declared.text.TextClass.TheVariants.{Ia5}
 use Rattle.mta_ber.specs.Forms.{is_primitive_tag, is_constructed_tag}

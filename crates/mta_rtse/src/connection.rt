@@ -3,7 +3,8 @@
 ghost use Rattle.std.specs.Prelude.{◌≡◌};
 ghost use Rattle.mta_ber.specs.Parts.{Reads};
 ghost use Rattle.mta_ber.specs.Seen.{view};
-ghost use Rattle.mta_rtse.specs.Connection.{explicit_open_in, recover_in, connection_in, request_in, answer_of, answer_in};
+ghost use Rattle.mta_rtse.specs.Connection.{explicit_open_in, recover_in, connection_in};
+ghost use Rattle.mta_rtse.specs.Connection.{request_in, answer_of, answer_in};
 
 use crate::bind::read_open;
 use crate::identifier::read_reference;
@@ -29,7 +30,8 @@ fn read_recover(alloc: Global, part: &View) -> Result<Request, ReadFault>
     Ok(Request::Recover(reference))
 }
 
-/// Connection data (X.228): `[0]` around what an association is opened with, or under `[1]` the reference of one to recover.
+/// Connection data (X.228): `[0]` around what an association is opened with, or under `[1]` the reference of one to
+/// recover.
 #[tactic(auto, unfolding(crate::specs::Connection::connection_in))]
 fn read_connection(alloc: Global, part: &View) -> Result<Request, ReadFault>
     ensures { Reads result (connection_in (view part.now)) }

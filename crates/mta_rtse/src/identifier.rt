@@ -51,8 +51,8 @@ impl Components for ReferenceParts {
     }
 }
 
-/// The reference of a SEQUENCE of a calling reference, OCTET STRING, a common reference, UTCTime, and an additional reference, `[0]`,
-/// which may be absent (X.228, SessionConnectionIdentifier).
+/// The reference of a SEQUENCE of a calling reference, OCTET STRING, a common reference, UTCTime, and an additional
+/// reference, `[0]`, which may be absent (X.228, SessionConnectionIdentifier).
 pub fn read_reference(alloc: Global, whole: &View) -> Result<Reference, ReadFault>
     ensures exact { Reads result (reference_in (view whole.now)) }
 

@@ -1,5 +1,5 @@
-//! The protocol data units of Reliable Transfer (X.228), with the bind of message transfer agents: what their elements spell, and
-//! the octets that are written of them.
+//! The protocol data units of Reliable Transfer (X.228), with the bind of message transfer agents: what their elements
+//! spell, and the octets that are written of them.
 #![tactic(auto)]
 
 mod answer;

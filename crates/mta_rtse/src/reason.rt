@@ -10,7 +10,8 @@ use crate::values::read_number;
 use mta_ber::{Components, Kind, ReadFault, View, bad, is_primitive_tag, is_tag_of, take_parts};
 use std::alloc::Global;
 
-/// The components so far: the reason, and whether components `[1]` and `[2]` were passed over. Only where `aborts` may `[2]` stand.
+/// The components so far: the reason, and whether components `[1]` and `[2]` were passed over. Only where `aborts` may
+/// `[2]` stand.
 #[derive(Drop)]
 pub struct ReasonParts {
     pub aborts: bool,

@@ -3,8 +3,8 @@
 use mta_ber::{Octets, Word};
 use mta_records::Reference;
 
-/// What an initiator asks for: an association of an agent that says nothing of itself, one of an agent with a name and a password of
-/// at most 62 octets, or a broken association again.
+/// What an initiator asks for: an association of an agent that says nothing of itself, one of an agent with a name and
+/// a password of at most 62 octets, or a broken association again.
 #[derive(Drop)]
 pub enum Request {
     Null,
@@ -19,8 +19,8 @@ pub enum Answer {
     Recover(Reference),
 }
 
-/// RTORQ: the checkpoint size in units of 1,024 octets (0: no checkpoints) and the window that the initiator proposes, whether it asks
-/// for two-way alternate dialogue, and its request.
+/// RTORQ: the checkpoint size in units of 1,024 octets (0: no checkpoints) and the window that the initiator proposes,
+/// whether it asks for two-way alternate dialogue, and its request.
 #[derive(Drop)]
 pub struct OpenRequest {
     pub checkpoint: u32,

@@ -5,7 +5,9 @@ ghost use Rattle.std.specs.Prelude.{◌≡◌, ◌<◌, OnOk, OnErr, Option};
 ghost use Rattle.std.specs.Option.{option_copied};
 ghost use Rattle.mta_ber.specs.Canon.{IsTag, appended, element, optional, primitive, constructed};
 ghost use Rattle.mta_ber.specs.Contents.{canon_int};
-ghost use Rattle.mta_rtse.specs.Canon.{canon_reference, canon_bind, canon_null, canon_request_data, canon_answer_data, canon_unless, canon_flag, canon_rtorq, canon_rtoac, canon_reason, HasIdentifier};
+ghost use Rattle.mta_rtse.specs.Canon.{canon_reference, canon_bind, canon_null, canon_request_data};
+ghost use Rattle.mta_rtse.specs.Canon.{canon_answer_data, canon_unless, canon_flag, canon_rtorq};
+ghost use Rattle.mta_rtse.specs.Canon.{canon_rtoac, canon_reason, HasIdentifier};
 ghost use Rattle.mta_rtse.specs.Spelling.{request_of};
 ghost use Rattle.mta_records.specs.Reference.{IsIdentifier};
 

@@ -1,5 +1,5 @@
-//! How many octets the copies for peers have, told without writing them: no call here takes memory. Each answers 2^64
-//! - 1 where there are as many octets or more.
+//! How many octets the copies for peers have, told without writing them: no call here takes memory. Each answers
+//! 2^64 - 1 where there are as many octets or more.
 
 ghost use Rattle.std.specs.Prelude.{◌≡◌, ◌++◌, ◌∷◌, [], ◌≤◌, false, IfSome};
 ghost use Rattle.std.specs.List.{flat_map};

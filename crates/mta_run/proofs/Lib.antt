@@ -1,6 +1,7 @@
 pub mod Statuses
 pub mod RanFields
 pub mod Made
+pub mod BehindWorkers
 pub mod SpoolServed
 pub mod ServedWorkers
 pub mod ServedAll

@@ -17,7 +17,7 @@ use Rattle.mta_histories.specs.History.{after, IsHistory}
 use Rattle.mta_histories.specs.History.{after as after_steps}
 use Rattle.mta_images.specs.Image.{AreRecords, size_of, StandsFor}
 use Rattle.mta_session.specs.declared.limits.Limits.{Limits}
-use Rattle.mta_spool.specs.Bases.{base_of, Keeps, where_listed}
+use Rattle.mta_spool.specs.Bases.{base_of, HasTold, Keeps, where_listed}
 use Rattle.mta_spool.specs.Opening.{HasOpened}
 use Rattle.mta_spool.specs.Shown.{Shown}
 use Rattle.mta_spool.specs.Stands.{step_moment}
@@ -51,7 +51,8 @@ use Rattle.mta_commands.specs.Submit.{AreInTurn, AreOwn, HasSettled, stop_of_ste
 use Rattle.mta_commands.specs.Words.{roles_named, Serves}
 use Rattle.mta_commands.proofs.Added.{after_append, front_in_turn, own_more as own_known}
 use Rattle.mta_commands.proofs.Beginning.{own_more, settled_why}
-use Rattle.mta_commands.proofs.DiskServed.{disk_served, fails_behind, fails_kept, FailsIn, first_steps, risen}
+use Rattle.mta_commands.proofs.DiskServed.{disk_served, fails_behind, fails_kept, FailsIn, first_steps, has_told}
+use Rattle.mta_commands.proofs.DiskServed.{risen}
 use Rattle.mta_commands.proofs.DiskStands.{same_steps}
 use Rattle.mta_commands.proofs.HandedOn.{printed_map}
 use Rattle.mta_commands.proofs.Provenance.{late_append, more_of_call, own_front, own_timed, recorded_behind}
@@ -59,6 +60,7 @@ use Rattle.mta_commands.proofs.Provenance.{timed_append}
 use Rattle.mta_commands.proofs.Same.{err_same}
 use Rattle.mta_commands.proofs.ServedSpool.{among, tells_back}
 use Rattle.mta_commands.proofs.Words.{serves_adds, serves_opens}
+use Rattle.mta_run.proofs.BehindWorkers.{behind_for_none}
 use Rattle.mta_run.proofs.EndsAsMany.{ends_as_many}
 use Rattle.mta_run.proofs.Made.{made_late, made_timed}
 
@@ -337,37 +339,63 @@ module _ {D C I : Type 0} (h : Handed D C I) (serves : Serves h.words) (laws : D
         subst (λ (y : List Step). IsRecorded (after_steps (steps ++ y)) c) (sym whole)
         (recorded_behind c steps front (grown.0 ++ b.back) late (own.recorded c told f steps was s))
 
+    bodies : ForOpened h (λ first. spool.opened.bodies ≡ map body_of first)
+    bodies f steps was s = o.bodies ∙ ap (map body_of) (same_steps h.disks laws h.disk.before spool o f steps was s)
+
     found : IsBaseOf h (base_of h.disks h.clocks spool)
     found = record {
-      found = λ f steps was s.
-          o.bodies ∙ ap (map body_of) (same_steps h.disks laws h.disk.before spool o f steps was s);
+      found = bodies;
+      told = λ f steps was s. subst (HasTold (base_of h.disks h.clocks spool)) (bodies f steps was s)
+          (has_told h.disks laws h.clocks h.disk.before spool o joined kj f was);
+      synced = spool.opened.synced;
+      sync = o.sync;
+      since = refl;
       count = ap (λ (d : D). h.disks.faults d) o.disk;
       listed = ap (λ (c : C). where_listed (h.clocks.moments c)) handed_clock;
     }
 
-    entries_are : ForOpened h (λ first. AreEntries (base_of h.disks h.clocks spool) first joined.entries)
+    -- ---- the sessions, in all that the run added
+
+    all_added : final.entries ≡ ((front ++ grown.0) ++ b.back)
+    all_added = b.entries ∙ ap (λ (y : List Step). y ++ b.back) (sym grown.1)
+
+    entries_are : ForOpened h
+        (λ first. AreEntries (base_of h.disks h.clocks spool) first ((front ++ grown.0) ++ b.back))
     entries_are f steps was s = record {
       found = sym (found.found f steps was s);
-      each = subst (λ (y : List Step). AreRecords (y ++ joined.entries)) (firsts_joined f steps was s) kj.each;
-      possible = subst (λ (y : List Step). IsHistory (y ++ joined.entries)) (firsts_joined f steps was s) kj.history;
+      each = subst (λ (y : List Step). AreRecords (y ++ ((front ++ grown.0) ++ b.back))) (firsts f steps was s)
+          (subst (λ (y : List Step). AreRecords (k.first ++ y)) all_added k.each);
+      possible = subst (λ (y : List Step). IsHistory (y ++ ((front ++ grown.0) ++ b.back))) (firsts f steps was s)
+          (subst (λ (y : List Step). IsHistory (k.first ++ y)) all_added k.history);
     }
 
-    sessions_joined : ForOpened h (λ first. SessionsServed links first joined.entries (length front))
-    sessions_joined f steps was s =
-        let e = entries_are f steps was s in
-        let x = known.agree is_apdu steps front joined.entries limits before after ends
-        (base_of h.disks h.clocks spool) known.tells e did in
-        record {
-          parts = x.0;
-          good = x.1;
-          agree = x.2;
-          lanes = known.lanes is_apdu steps joined.entries (length front) x.0 known.tells e.possible;
-          called =
-              known.called is_apdu steps joined.entries (length front) x.0 known.tells e.possible
-              (subst CallOthers (sym x.3) apart);
-        }
+    -- what came behind the workers was due
+    back_own : (steps back torn_step : List Step) → ComesBehind h joined.entries back torn_step
+        → (f : List ℕ) → h.disks.content h.disk.before ≡ Some f → StandsFor f steps
+        → AreOwn Tells [] [] (after_steps (steps ++ (front ++ grown.0))) back
+    back_own steps back torn_step (Went_on due) f was s =
+        subst (λ (y : List Step). AreOwn Tells [] [] (after_steps (steps ++ y)) back) (sym grown.1)
+        (own_front Tells [] [] (after_steps (steps ++ joined.entries)) back torn_step (due.1 f steps was s))
+    back_own steps back torn_step (Had_failed failed none) f was s =
+        subst (AreOwn Tells [] [] (after_steps (steps ++ (front ++ grown.0)))) (sym none) tt
 
-    sessions_are : ForOpened h (λ first. SessionsServed links first (front ++ grown.0) (length front))
+    sessions_are : ForOpened h (λ first. SessionsServed h.disks h.clocks links stations limits before theirs.dealt
+        theirs.done first (front ++ (grown.0 ++ b.back)) (length front))
     sessions_are f steps was s =
-        subst (λ (y : List Step). SessionsServed links steps y (length front)) (sym grown.1)
-        (sessions_joined f steps was s)
+        let e = entries_are f steps was s in
+        let x = known.agree is_apdu steps front (front ++ grown.0) b.back limits before after ends
+        (base_of h.disks h.clocks spool) known.tells e
+        (behind_for_none Tells steps (front ++ grown.0) b.back
+        (back_own steps b.back b.torn_step b.last f was s)) theirs in
+        subst (λ (y : List Step). SessionsServed h.disks h.clocks links stations limits before theirs.dealt theirs.done
+        steps y (length front)) (append_assoc front grown.0 b.back) (record {
+          parts = x.0;
+          roles = x.4;
+          of_links = x.1;
+          good = x.2;
+          agree = x.3;
+          lanes = known.lanes is_apdu steps ((front ++ grown.0) ++ b.back) (length front) x.0 known.tells e.possible;
+          called =
+              known.called is_apdu steps ((front ++ grown.0) ++ b.back) (length front) x.0 known.tells e.possible
+              (subst CallOthers (sym x.4) apart);
+        })

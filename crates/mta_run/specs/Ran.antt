@@ -54,7 +54,7 @@ pub record EndedWell {D C I : Type 0} (h : Handed D C I) (opening : Opening) (en
       → ForOpened h (λ steps. mailbox_named (after steps) name ≢ None)
   -- with `submit` and `serve` nothing is due
   pub settled : AddsSteps h.words → ForOpened h (λ steps. IsSettled (h.clocks.tells h.clock) (steps ++ added))
-  -- with `serve` each worker gave its links back, or its station ended, failed, or calls a peer that is not named
+  -- with `serve` each worker gave its links back, or its station ended or failed
   pub undecided : IsUndecided (halts_of ends)
   -- with `submit` and `serve` the tables recorded last are those that were read
   pub recorded : AddsSteps h.words

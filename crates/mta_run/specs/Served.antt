@@ -11,7 +11,8 @@ use Rattle.mta_tables.specs.Tables.{TablesValue}
 use Rattle.mta_histories.specs.History.{after}
 use Rattle.mta_session.specs.declared.limits.Limits.{Limits}
 use Rattle.mta_shared.specs.declared.history.Base.{Base}
-use Rattle.mta_spool.specs.Bases.{base_of, count_of, found_of, Keeps, where_listed}
+use Rattle.mta_journal.specs.Opening.{IsSynced}
+use Rattle.mta_spool.specs.Bases.{base_of, count_of, found_of, HasTold, Keeps, since_of, where_listed}
 use Rattle.mta_spool.specs.Shown.{Shown}
 use Rattle.mta_stations.specs.declared.end.WorkerEnd.{WorkerEnd}
 use Rattle.mta_stations.specs.Peers.{IsNamed, IsUnnamed}
@@ -56,10 +57,15 @@ pub data HasTablesFor {I : Type 0} (sources : SourceView I) (old new : I) (roles
 
 -- ---- the stations
 
--- the base that the workers share is of what the run was handed: the bodies that opening found, how often the disk had
--- failed, and the moments that the clock lists, where it does
+-- The base that the workers share is of what the run was handed: the bodies that opening found, which the disk told;
+-- the moment at which opening's sync was over, with the disk as that left it; how often the disk had failed; and the
+-- moments that the clock lists, where it does.
 pub record IsBaseOf {D C I : Type 0} (h : Handed D C I) (base : Base) : Type 0 where
   pub found : ForOpened h (λ first. found_of base ≡ map body_of first)
+  pub told : ForOpened h (λ first. HasTold base (map body_of first))
+  pub synced : D
+  pub sync : IsSynced h.disks h.disk.before synced
+  pub since : since_of base ≡ h.disks.moment synced
   pub count : count_of base ≡ h.disks.faults h.disk.before
   pub listed : base.lists ≡ where_listed (h.clocks.moments h.clock)
 
@@ -77,7 +83,7 @@ pub data ComesBehind {D C I : Type 0} (h : Handed D C I) (before back torn_step 
 
 -- What is known of the stations. No worker worked, and they are as they were; or each had a worker of its own, over one
 -- history under one lock, which goes on from what the run itself had added before them, and the sessions that they
--- served have good lists.
+-- served have good lists in the whole history.
 pub data StationsLeft {D C I L S : Type 0} (h : Handed D C I) (links : LinkView L) (stations : StationView S)
     (sessions : ℕ) (before after : List S) (opening : Opening) (ends : List WorkerEnd)
     (added torn_step : List Step) : Type 0 where
@@ -87,8 +93,9 @@ pub data StationsLeft {D C I L S : Type 0} (h : Handed D C I) (links : LinkView 
   Worked : Serves h.words → (limits : Limits) (front workers back : List Step) (base : Base) → AreLimits sessions limits
       → opening ≡ opened → added ≡ front ++ (workers ++ back)
       → IsBaseOf h base → AreOfRun h front
-      → AreWorkers h.disks h.clocks links stations limits before after ends front base (front ++ workers)
-      → ForOpened h (λ first. SessionsServed links first (front ++ workers) (length front))
+      → (all : AreWorkers h.disks h.clocks links stations limits before after ends front base (front ++ workers))
+      → ForOpened h (λ first. SessionsServed h.disks h.clocks links stations limits before all.dealt all.done first
+      (front ++ (workers ++ back)) (length front))
       → ComesBehind h (front ++ workers) back torn_step
       → StationsLeft h links stations sessions before after opening ends added torn_step
 

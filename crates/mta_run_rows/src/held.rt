@@ -1,16 +1,29 @@
-//! What is handed in to a run.
+//! What is handed in to a run, and what the links of its stations were put.
 
+use crate::names::Names;
 use anyhow::{Result, bail};
 use mta_rows::{Fields, lines_of, octets_of};
 use std::alloc::{AllocError, Global};
 
-/// What is handed in, and the first call that fails of the input, the output and the disk, or 0.
+/// A station with one link: its role, what the peer gives, and whether the link is held.
+#[derive(Drop)]
+pub struct Given {
+    pub role: String,
+    pub octets: Vec<u8>,
+    pub is_held: bool,
+}
+
+/// What is handed in, the first call that fails of the input, the output and the disk, or 0, and what the link of each
+/// station was put last.
 #[derive(Drop)]
 pub struct Held {
     pub case: String,
+    pub names: Names,
     pub tables: Vec<u8>,
     pub input: Vec<u8>,
     pub disk: Vec<u8>,
+    pub stations: Vec<Given>,
+    pub puts: Vec<Vec<u8>>,
     pub moment: u64,
     pub input_fails: u64,
     pub output_fails: u64,
@@ -28,13 +41,28 @@ fn put_again(octets: &mut Vec<u8>, piece: &[u8], count: u64) -> Result<(), Alloc
     Ok(())
 }
 
+/// Octets in hexadecimal, one space between two.
+fn pairs(alloc: Global, octets: &[u8]) -> Result<String, AllocError> {
+    let mut text = String::new(alloc);
+    for octet in octets {
+        if !text.is_empty() {
+            text.push(' ')?;
+        }
+        text.push_str(format!(in alloc; "{octet:02X}")?.as_str())?;
+    }
+    Ok(text)
+}
+
 impl Held {
     pub fn new(alloc: Global) -> Held {
         Held {
             case: String::new(alloc),
+            names: Names::new(alloc),
             tables: Vec::new(alloc),
             input: Vec::new(alloc),
             disk: Vec::new(alloc),
+            stations: Vec::new(alloc),
+            puts: Vec::new(alloc),
             moment: 0,
             input_fails: 0,
             output_fails: 0,
@@ -45,6 +73,8 @@ impl Held {
     fn begin(&mut self, alloc: Global, name: &str) -> Result<(), AllocError> {
         self.case = String::from_str(alloc, name)?;
         self.disk = Vec::new(alloc);
+        self.stations = Vec::new(alloc);
+        self.puts = Vec::new(alloc);
         self.input_fails = 0;
         self.output_fails = 0;
         self.disk_fails = 0;
@@ -75,18 +105,58 @@ impl Held {
         Ok(put_again(&mut self.disk, piece.as_slice(), count)?)
     }
 
+    fn name(&mut self, alloc: Global, mut fields: Fields<'_>) -> Result<()> {
+        let name = fields.take();
+        let octets = self.names.octets(alloc, fields.take())?;
+        Ok(self.names.add(alloc, name, octets)?)
+    }
+
+    fn give(&mut self, alloc: Global, mut fields: Fields<'_>, is_held: bool) -> Result<()> {
+        let role = String::from_str(alloc, fields.take())?;
+        let octets = self.names.octets(alloc, fields.take())?;
+        self.stations.push(Given {
+            role,
+            octets,
+            is_held,
+        })?;
+        Ok(())
+    }
+
     /// Takes what a row hands in: whether it hands in something.
     pub fn take(&mut self, alloc: Global, asked: &str, fields: Fields<'_>) -> Result<bool> {
         match asked {
             "case" => self.begin(alloc, fields.rest)?,
+            "name" => self.name(alloc, fields)?,
             "tables" => self.tables = lines_of(alloc, fields.rest)?,
-            "input" => self.input = octets_of(alloc, fields.rest)?,
+            "input" => self.input = self.names.octets(alloc, fields.rest)?,
             "clock" => self.moment = number(fields.rest),
             "fails" => self.fail(fields)?,
             "disk" => self.put(alloc, fields)?,
             "disk-text" => self.put_text(alloc, fields)?,
+            "station" => self.give(alloc, fields, false)?,
+            "held-station" => self.give(alloc, fields, true)?,
             _ => return Ok(false),
         }
         Ok(true)
+    }
+
+    // What the link of the station of this number was put, from 1.
+    fn put_of(&self, station: &str) -> Result<&[u8]> {
+        let place = number(station).saturating_sub(1) as usize;
+        match self.puts.get(place) {
+            Some(octets) => Ok(octets.as_slice()),
+            None => bail!("no such station"),
+        }
+    }
+
+    /// What the link of the station of this number was put, from 1: as it is wanted, or else in hexadecimal.
+    pub fn was_put(&self, alloc: Global, wanted: &str, station: &str) -> Result<String> {
+        let octets = self.names.octets(alloc, wanted)?;
+        let put = self.put_of(station)?;
+        if octets.as_slice() == put {
+            Ok(String::from_str(alloc, wanted)?)
+        } else {
+            Ok(pairs(alloc, put)?)
+        }
     }
 }

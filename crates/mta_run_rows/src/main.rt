@@ -2,29 +2,37 @@
 //! disk. Reads rows from its input, each with fields behind tabs. Tells of each row that wants something whether it
 //! was answered so, under the name of its case.
 //!
-//! These rows want nothing. `case NAME` begins a case, with an empty disk and nothing that fails; tables, input and
-//! clock stay until another is said. `tables TEXT`, where each line ends with `|`; `input OCTETS`, in hexadecimal;
+//! Octets are words of hexadecimal digits or names, one space between two. `name NAME OCTETS` gives octets a name.
+//!
+//! These rows want nothing. `case NAME` begins a case, with an empty disk, no station and nothing that fails; tables,
+//! input, clock and names stay until another is said. `tables TEXT`, where each line ends with `|`; `input OCTETS`;
 //! `clock MOMENT`; `fails PLACE CALL`, the place being `input`, `output` or `disk` and the first call 1; `disk COUNT
-//! OCTETS` and `disk-text COUNT TEXT`, which put octets or a text behind what the disk holds, so many times.
+//! OCTETS` and `disk-text COUNT TEXT`, which put octets or a text behind what the disk holds, so many times. `station
+//! ROLE OCTETS` hands in one more station for the next run, `in` or `out PEER`: it has one link, whose peer gives these
+//! octets and no more. `held-station` is the same, but its link gives nothing before another station's link has come
+//! back.
 //!
-//! In these a field behind the first says what is wanted. `run` runs the words behind it, over the disk as it is, and
-//! is answered the status and what was printed. `large` is the same over a disk that is changed in place, which
-//! nothing makes fail. `holds` is answered what the disk holds, and `records` records the tables in the spool that the
-//! disk holds, and is answered how many items it has. `stops` runs `submit`, stops it at each of its device calls by
-//! each of eight choices of what a crash leaves, and runs `spool` over the image: at the end it has to be answered as
-//! the first field behind says, and before as that or as one of the others.
+//! In these a field behind the first says what is wanted. `run` runs the words behind it, over the disk as it is and
+//! without stations, and is answered the status and what was printed. `run-in-place` is the same over a disk that is
+//! changed in place, which nothing makes fail, and with the stations that were handed in. `put` is answered what the
+//! link of the station of this number was put then. `holds` is answered what the disk holds, and `records` records the
+//! tables in the spool that the disk holds, and is answered how many items it has. `stops` runs `submit`, stops it at
+//! each of its device calls by each of eight choices of what a crash leaves, and runs `spool` over the image: at the
+//! end it has to be answered as the first field behind says, and before as that or as one of the others.
 //!
-//! The rows were worked out by hand from the manual, the format of the journal and X.411.
+//! The rows were worked out by hand from the manual, the format of the journal, the protocol of a lane and X.411.
 #![tactic(auto)]
 
 mod given;
 mod held;
+mod names;
 mod runs;
 mod spool;
+mod stations;
 mod stops;
 
 use crate::held::Held;
-use crate::runs::{large, run_words};
+use crate::runs::{run_in_place, run_words};
 use crate::spool::records;
 use crate::stops::stops;
 use anyhow::{Result, bail};
@@ -38,11 +46,13 @@ fn answer_of<R: Threads + Wait + Sync>(
     alloc: Global,
     held: &mut Held,
     asked: &str,
+    wanted: &str,
     fields: Fields<'_>,
 ) -> Result<String> {
     match asked {
         "run" => run_words(rt, alloc, held, fields.rest),
-        "large" => large(rt, alloc, held, fields.rest),
+        "run-in-place" => run_in_place(rt, alloc, held, fields.rest),
+        "put" => held.was_put(alloc, wanted, fields.rest),
         "holds" => Ok(shown(alloc, held.disk.as_slice())?),
         "records" => records(alloc, held),
         "stops" => stops(rt, alloc, held, fields),
@@ -62,7 +72,7 @@ fn try_row<R: Print + Threads + Wait + Sync>(
         return Ok(());
     }
     let wanted = fields.take();
-    let answered = answer_of(rt, alloc, held, asked, fields)?;
+    let answered = answer_of(rt, alloc, held, asked, wanted, fields)?;
     let about = if asked == "stops" { "" } else { fields.rest };
     let case = held.case.as_str();
     let name = format!(in alloc; "{case}: {asked}")?;

@@ -571,6 +571,7 @@ lists_good sends spells history one u calls lane size window l allow is values o
     record {
       begun = ordered.begun;
       stands = ordered.stands;
+      never_fall = ordered.never_fall;
       sending = puts.good;
       receiving = record {
         plain = gets.plain;

@@ -8,6 +8,7 @@ pub mod Turns
 pub mod TurnsUnits
 pub mod TurnsReplies
 pub mod TurnsCalls
+pub mod Rising
 pub mod Ordering
 pub mod Handing
 pub mod Received

@@ -55,6 +55,7 @@ use Rattle.mta_session_list_laws.proofs.FindingCalls.{FindKeeps, FoundSo, Behind
 use Rattle.mta_session_list_laws.proofs.FindingLaw as finding
 use Rattle.mta_session_list_laws.proofs.FindingLaw.{come_finds, gen_next}
 use Rattle.mta_session_list_laws.proofs.LostLists.{lost_rises, lost_stands, lost_turns, lost_refuses}
+use Rattle.mta_session_list_laws.proofs.Rising.{lost_never_falls, never_with}
 use Rattle.mta_session_list_laws.proofs.LostHalves.{tail_receives, tail_sends, abort_behind, tail_finds}
 
 -- ---- the receiving half, call by call
@@ -335,6 +336,8 @@ good_at g spells history allow lane size window at values initiator a cs t u ste
       begun = slice_get_within history at _ is;
       stands = insertion.stand history lane ys (at + 1) e rises
           (lost_stands spells history lane cs (at + 1) a u.phase y true_ lost.stands);
+      never_fall = never_with history lane ys (at + 1) (at + 1) e
+          (lost_never_falls spells history cs (at + 1) (at + 1) a u.phase y (omega arith) true_ lost.stands);
       sending = record {
         plain = law.all_plain lane ws;
         last_end = send_all e (sending_events lane ws);

@@ -27,6 +27,7 @@ use Rattle.mta_session_list_laws.specs.Lists.{HasAt, step_for, step_by, Initiate
 use Rattle.mta_session_list_laws.specs.Laws.{IsOrdered, ListsAreOrdered}
 use Rattle.mta_session_list_laws.proofs.Insertion.{places, stand, turns, refusals}
 use Rattle.mta_session_list_laws.proofs.Standing.{calls_rise, calls_stand}
+use Rattle.mta_session_list_laws.proofs.Rising.{calls_never_fall, never_with}
 use Rattle.mta_session_list_laws.proofs.Waiting.{Ready, ready_next, does_at}
 use Rattle.mta_session_list_laws.proofs.Refusing.{calls_refuse}
 use Rattle.mta_session_list_laws.proofs.Turns.{Holds, TurnGoes}
@@ -87,6 +88,8 @@ list_ordered spells history lane size window at initiator cs a t u step opening 
     record {
       begun = slice_get_within history at _ is;
       stands = stand history lane (list_of a cs) (at + 1) e rises (calls_stand spells history lane cs (at + 1) a true_);
+      never_fall = never_with history lane (list_of a cs) (at + 1) (at + 1) e
+          (calls_never_fall spells history cs (at + 1) (at + 1) a (omega arith) true_);
       turn = turns history lane (list_of a cs) (at + 1) e x.Before_accept
           (calls_turn cs a t u x.Before_accept k p h run);
       refuses = refusals history lane (list_of a cs) (at + 1) e (calls_refuse cs a t u k run);

@@ -17,7 +17,8 @@ use Rattle.mta_session.specs.declared.event.Action.TheVariants as action
 use Rattle.mta_session.specs.Wanted.{Wanted, Aborts}
 use Rattle.mta_session_laws.specs.Turning.{called_for}
 use Rattle.mta_session_laws.specs.Runs.{Turn}
-use Rattle.mta_transfer_laws.specs.Sessions.{SessionEvent, Got, Refused, Put, Made, Looked, Look, Finds, At_sending, No_batch}
+use Rattle.mta_transfer_laws.specs.Sessions.{SessionEvent, Got, Refused, Put, Made, Looked}
+use Rattle.mta_transfer_laws.specs.Sessions.{Look, Finds, At_sending, No_batch}
 use Rattle.mta_transfer_laws.specs.Sessions.{Elsewhere}
 
 -- One call of a session, and the length of the history once its event was made.

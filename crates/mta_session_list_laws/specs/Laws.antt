@@ -7,9 +7,12 @@ use Rattle.mta_transfer_rules.specs.Lanes.{SeenStep, Seen, On, lane_in, LanesAll
 use Rattle.mta_transfer_rules.specs.Receiving as r
 use Rattle.mta_transfer_rules.specs.Receiving.{RecvEnd}
 use Rattle.mta_transfer_laws.specs.Receivings.{end_on_link, ArePlain, AreTrue}
-use Rattle.mta_transfer_laws.specs.Sessions.{SessionEvent, seen_after, PlacesAbandons, StepsStand, Turn, KeepsTurn, RefusesLast}
-use Rattle.mta_transfer_laws.specs.Sessions.{Got, Refused, Made, receiving_event, receiving_events, recv_all, IsGoodSession}
-use Rattle.mta_transfer_laws.specs.Sessions.{SessionList, Before_accept, SendOwesNothing, sending_event, sending_list, send_all}
+use Rattle.mta_transfer_laws.specs.Sessions.{SessionEvent, seen_after, PlacesAbandons, NeverFall}
+use Rattle.mta_transfer_laws.specs.Sessions.{StepsStand, Turn, KeepsTurn, RefusesLast}
+use Rattle.mta_transfer_laws.specs.Sessions.{Got, Refused, Made, receiving_event, receiving_events}
+use Rattle.mta_transfer_laws.specs.Sessions.{recv_all, IsGoodSession}
+use Rattle.mta_transfer_laws.specs.Sessions.{SessionList, Before_accept, SendOwesNothing}
+use Rattle.mta_transfer_laws.specs.Sessions.{sending_event, sending_list, send_all}
 use Rattle.mta_transfer_laws.specs.Sessions.{turn_after}
 use Rattle.mta_transfer_laws.specs.Sendings.{IsGoodSending}
 use Rattle.mta_session.specs.declared.event.Action.TheVariants as action
@@ -63,11 +66,12 @@ AbandonsKeepReceived =
 -- ---- lists of calls
 
 -- What is asked of a session's list beside the rules of its two halves: the step that it begins with and its own stand
--- in the history, it keeps the turn, behind a unit that is not taken there is an Abort at most, and each Abandon of
--- another pass has its place.
+-- in the history, one behind the other, it keeps the turn, behind a unit that is not taken there is an Abort at most,
+-- and each Abandon of another pass has its place.
 pub record IsOrdered (history : List Seen) (lane size window : ℕ) (initiator : Bool) (l : SessionList) : Type 0 where
   pub begun : l.at < length history
   pub stands : StepsStand history l.events
+  pub never_fall : NeverFall (l.at + 1) l.events
   pub turn : KeepsTurn Before_accept l.events
   pub refuses : RefusesLast l.events
   pub placed : PlacesAbandons history lane (l.at + 1) (end_begun history lane size window l.at initiator) l.events

@@ -1,5 +1,6 @@
 -- A session that is carried on, call after call.
-use Rattle.std.proofs.Common.{◌≡◌, ℕ, ◌≤◌, true, false, Option, None, Result, Ok, Err, OnErr, List, [], ◌∷◌, ◌++◌, take, refl, sym, ap, subst, ◌∙◌, arith, append_assoc, append-nil}
+use Rattle.std.proofs.Common.{◌≡◌, ℕ, ◌≤◌, true, false, Option, None, Result, Ok, Err, OnErr, List, [], ◌∷◌, ◌++◌, take}
+use Rattle.std.proofs.Common.{refl, sym, ap, subst, ◌∙◌, arith, append_assoc, append-nil}
 use Rattle.mta_edge.specs.Causes.{Rose}
 use Rattle.mta_links.specs.Links.{LinkView, Talk, Leads}
 use Rattle.mta_units.specs.declared.unit.Unit.{Unit as AnyUnit}
@@ -21,7 +22,9 @@ use Rattle.mta_session_laws.specs.Runs.{Turn, IsTurn}
 use Rattle.mta_session_laws.specs.Whole.{AreCalls}
 use Rattle.mta_session_laws.specs.Writing.{TellsWritable, PutsMayBeWritten}
 use Rattle.mta_session_laws.specs.Order.{awaits, is_putting, is_reading, ActionsAreAwaited}
-use Rattle.mta_session_run.specs.Running.{HasPut, HasGot, HasDone, IsRead, units_of, IsCalled, HasTold, PutFor, is_cut, Runs, Not_yet, Goes_on, IsRun, HasRun, HasStopped, IsShort, IsUndone, Not_done, Not_told, Not_put, Exchanged, action_of, RunsAreCalls}
+use Rattle.mta_session_run.specs.Running.{HasPut, HasGot, HasDone, IsRead, units_of, IsCalled, HasTold, PutFor, is_cut}
+use Rattle.mta_session_run.specs.Running.{Runs, Not_yet, Goes_on, IsRun, HasRun, HasStopped, IsShort, IsUndone}
+use Rattle.mta_session_run.specs.Running.{Not_done, Not_told, Not_put, AllDone, Exchanged, action_of, RunsAreCalls}
 use Rattle.mta_session_run.specs.declared.came.Came.{Came}
 use Rattle.mta_session_run.specs.declared.link.Done.{Done}
 use Rattle.mta_session_run.specs.declared.link.Done.TheVariants as done
@@ -174,6 +177,40 @@ runs_later failed gone t a xs us os u b f Not_yet = Not_yet
 runs_later failed gone t a xs us os u b f (Goes_on ys vs ps w d e c v piece r turn put cut) =
     Goes_on ys vs ps w d e c v piece (runs_later failed gone t a ys vs ps w d f r) turn put (λ i. f (cut i))
 
+-- what was wanted behind these calls
+abbrev pub last_of : Action → List Turn → Action
+last_of a [] = a
+last_of a (x ∷ xs) = last_of x.action xs
+
+last_more : (xs : List Turn) (a : Action) (x : Turn) → last_of a (xs ++ x ∷ []) ≡ x.action
+last_more [] a x = refl
+last_more (y ∷ ys) a x = last_more ys y.action x
+
+runs_last : (failed : Type 0) (t : State) (a : Action) (xs : List Turn) (us : List AnyUnit) (os : List ℕ) (u : State)
+    (b : Action) → Runs failed t a xs us os u b → last_of a xs ≡ b
+runs_last failed t a xs us os u b Not_yet = refl
+runs_last failed t a xs us os u b (Goes_on ys vs ps w d e c v piece r turn put cut) =
+    last_more ys a (record { before = w; event = e; action = c; after = v })
+
+-- what came of one action more
+pub done_more : {L : Type 0} → (model : LinkView L) (xs : List Turn) (a b : Action) (old : L) (fed : Feed) (mid : L)
+    (half : Feed) (x : Turn) (new : L) (feed : Feed) → last_of a xs ≡ b → AllDone model a xs old fed mid half
+    → HasDone model b mid half x.event new feed → model.faults mid ≤ model.faults new
+    → AllDone model a (xs ++ x ∷ []) old fed new feed
+done_more {L} model [] a b old fed mid half x new feed e d h m =
+    let here : HasDone model b old half x.event new feed =
+    subst (λ (z : L). HasDone model b z half x.event new feed) d.0 h in
+    let there : HasDone model b old fed x.event new feed =
+    subst (λ (z : Feed). HasDone model b old z x.event new feed) d.1 here in (
+      new,
+      feed,
+      subst (λ (z : Action). HasDone model z old fed x.event new feed) (sym e) there,
+      subst (λ (z : L). model.faults z ≤ model.faults new) d.0 m,
+      (refl, refl),
+    )
+done_more model (y ∷ ys) a b old fed mid half x new feed e d h m =
+    (d.0, d.1, d.2, d.3, done_more model ys y.action b d.0 d.1 mid half x new feed e d.4 h m)
+
 rose_after : (a b c : ℕ) → b ≤ c → Rose a b → Rose a c
 rose_after a b c l r = omega (arith, l, r)
 
@@ -189,6 +226,7 @@ not_yet model t a old fed = record {
   carried = λ since us os c.
       subst (λ (x : List AnyUnit). Leads (Carried x (os ++ []) fed) since (model.talk old)) (sym (append-nil us))
       (subst (λ (x : List ℕ). Leads (Carried us x fed) since (model.talk old)) (sym (append-nil os)) c);
+  done = (refl, refl);
 }
 
 pub one_more : {L : Type 0} → (model : LinkView L) (t : State) (a : Action) (old : L) (fed : Feed) (u : State) (b : Action) (mid : L) (half : Feed) (e : Event) (c : Action) (v : State) (new : L) (feed : Feed) →
@@ -208,6 +246,9 @@ one_more model t a old fed u b mid half e c v new feed r h turn l m =
           subst (λ (x : List AnyUnit). Leads (Carried x (os ++ (r.octets ++ k.0)) feed) since (model.talk new)) (append_assoc us r.units (units_of e))
           (subst (λ (x : List ℕ). Leads (Carried ((us ++ r.units) ++ units_of e) x feed) since (model.talk new)) (append_assoc os r.octets k.0)
           (k.3 since (us ++ r.units) (os ++ r.octets) (r.carried since us os y)));
+      done =
+          done_more model r.turns a b old fed mid half (record { before = u; event = e; action = c; after = v })
+          new feed (runs_last _ t a r.turns r.units r.octets u b r.runs) r.done h m;
     }
 
 -- the calls of a session, and one more
@@ -240,6 +281,7 @@ stopped model t a old fed u b mid half new r m why = record {
   mid = mid;
   mid_fed = half;
   carried = r.carried;
+  done = r.done;
   short = why;
 }
 

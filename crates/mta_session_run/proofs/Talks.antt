@@ -161,11 +161,14 @@ part_front bytes rest a b p = (p.0, p.2)
 rose_before : (a b c : ℕ) → a ≤ b → Rose b c → Rose a c
 rose_before a b c l r = first_of (omega (arith, l, r), grind (arith, common_steps))
 
-over_before : {L : Type 0} → (model : LinkView L) (a b : ℕ) (link : L) (feed : Feed) → a ≤ b → IsOver model b link feed → IsOver model a link feed
-over_before model a b link feed l (inl r) = inl (rose_before a b (model.faults link) l r)
-over_before model a b link feed l (inr r) = inr r
+over_before : {L : Type 0} → (model : LinkView L) (a b : ℕ) (link : L) → a ≤ b
+    → IsOver model b link → IsOver model a link
+over_before model a b link l (inl r) = inl (rose_before a b (model.faults link) l r)
+over_before model a b link l (inr r) = inr r
 
-pub fill_ends : {L : Type 0} → (model : LinkView L) (a b : ℕ) (more : Bool) (mid new : Feed) (link : L) → a ≤ b → more ≡ false → IsCutOff mid.left → FedBy more mid new → (more ≡ false → IsOver model b link new) → IsCutOff new.left × IsOver model a link new
+pub fill_ends : {L : Type 0} → (model : LinkView L) (a b : ℕ) (more : Bool) (mid new : Feed) (link : L)
+    → a ≤ b → more ≡ false → IsCutOff mid.left → FedBy more mid new → (more ≡ false → IsOver model b link)
+    → IsCutOff new.left × IsOver model a link
 fill_ends model a b true mid new link l n cut fed over = cc
 fill_ends model a b false mid new link l n cut fed over =
-    (subst (λ (z : Feed). IsCutOff z.left) (sym fed) cut, over_before model a b link new l (over refl))
+    (subst (λ (z : Feed). IsCutOff z.left) (sym fed) cut, over_before model a b link l (over refl))

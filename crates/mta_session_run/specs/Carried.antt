@@ -1,5 +1,5 @@
 -- What a link has carried since a moment: the units read of what it gave, and the octets put.
-use Rattle.std.specs.Prelude.{◌≡◌, ◌⊎◌, ◌<◌, ◌≤◌, ◌+◌, ◌^◌, ℕ, Bool, true, false}
+use Rattle.std.specs.Prelude.{◌≡◌, ◌⊎◌, ◌<◌, ◌+◌, ◌^◌, ℕ, Bool, true, false}
 use Rattle.std.specs.Prelude.{Option, Some, List, [], ◌∷◌, ◌++◌, length, take}
 use Rattle.mta_edge.specs.Causes.{Rose}
 use Rattle.mta_links.specs.Links.{LinkView, Talk, Leads}
@@ -36,13 +36,9 @@ FedBy false old new = new ≡ old
 abbrev pub IsAtEnd : {L : Type 0} → LinkView L → L → Type 0
 IsAtEnd model link = (g : Talk) → model.talk link ≡ Some g → g.left ≡ []
 
--- as many octets have come as can be counted, but for one buffer
-abbrev pub IsFull : Feed → Type 0
-IsFull feed = 2 ^ 64 ≤ feed.at + length feed.left + 4096
-
--- Why no more comes.
-abbrev pub IsOver : {L : Type 0} → LinkView L → (before : ℕ) → L → Feed → Type 0
-IsOver model before link feed = Rose before (model.faults link) ⊎ (IsAtEnd model link ⊎ IsFull feed)
+-- Why no more comes: the link failed, or its input was read to its end.
+abbrev pub IsOver : {L : Type 0} → LinkView L → (before : ℕ) → L → Type 0
+IsOver model before link = Rose before (model.faults link) ⊎ IsAtEnd model link
 
 abbrev pub and_heard : List AnyUnit → Heard → List AnyUnit
 and_heard us (heard.Unit u) = us ++ u ∷ []
@@ -53,7 +49,7 @@ and_heard us heard.Over = us
 abbrev pub Ends : {L : Type 0} → LinkView L → (before : ℕ) → Heard → L → Feed → Type 0
 Ends model before (heard.Unit u) link feed = Unit {0}
 Ends model before heard.Bad link feed = (k : BadUnit) × HasFault k feed.left
-Ends model before heard.Over link feed = IsCutOff feed.left × IsOver model before link feed
+Ends model before heard.Over link feed = IsCutOff feed.left × IsOver model before link
 
 -- a link took these octets
 pub record PutsAll (octets : List ℕ) (f g : Talk) : Type 0 where

@@ -1,11 +1,13 @@
 -- A session that is run over a link: its calls, the units that it got, and the octets that were put for it.
-use Rattle.std.specs.Prelude.{◌≡◌, ◌<◌, ℕ, Bool, true, false, Option, List, []}
+use Rattle.std.specs.Prelude.{◌≡◌, ◌<◌, ◌≤◌, ℕ, Bool, true, false, Option, List, []}
 use Rattle.std.specs.Prelude.{◌∷◌, ◌++◌, take}
 use Rattle.mta_edge.specs.Causes.{Rose}
 use Rattle.mta_links.specs.Links.{LinkView, Talk, Leads}
 use Rattle.mta_units.specs.declared.unit.Unit.{Unit as AnyUnit}
 use Rattle.mta_units.specs.Feed.{Feed}
 use Rattle.mta_units.specs.Canon.{unit_octets}
+use Rattle.mta_units.specs.Spelling.{HasFault, IsCutOff}
+use Rattle.mta_units.specs.declared.front.BadUnit.{BadUnit}
 use Rattle.mta_session_run.specs.Carried.{Carried, Fronted, IsOver, PutsAll, PutsFront}
 use Rattle.mta_session.specs.declared.event.Event.{Event}
 use Rattle.mta_session.specs.declared.event.Event.TheVariants as event
@@ -36,11 +38,12 @@ abbrev pub units_of : Event → List AnyUnit
 units_of (event.Unit u) = u ∷ []
 units_of _ = []
 
--- a unit, octets that are none, or that the link is over
+-- A unit; or octets that are none, by a fault that stands in them; or that the link is over, and what was got and not
+-- taken is cut off.
 abbrev pub IsRead : {L : Type 0} → LinkView L → (before : ℕ) → Event → L → Feed → Type 0
 IsRead model before (event.Unit u) link feed = Unit {0}
-IsRead model before event.BadUnit link feed = Unit {0}
-IsRead model before event.Over link feed = IsOver model before link feed
+IsRead model before event.BadUnit link feed = (k : BadUnit) × HasFault k feed.left
+IsRead model before event.Over link feed = IsCutOff feed.left × IsOver model before link
 IsRead model before _ link feed = ⊥
 
 pub record HasGot {L : Type 0} (model : LinkView L) (old : L) (fed : Feed) (e : Event) (new : L)
@@ -120,7 +123,16 @@ pub data Runs (failed : Type 0) (t : State) (a : Action) : List Turn → List An
       Runs failed t a (xs ++ record { before = u; event = e; action = c; after = v } ∷ []) (us ++ units_of e)
       (octets ++ piece) v c
 
--- What a session that was carried on has done: its calls, the units that it got of the link, the octets that were put.
+-- What came of each action at the link, one after the other: this was told of it in these calls, and the link's count
+-- of faults did not fall.
+abbrev pub AllDone : {L : Type 0} → LinkView L → Action → List Turn → L → Feed → L → Feed → Type 0
+AllDone model a [] old fed new feed = (new ≡ old) × (feed ≡ fed)
+AllDone {L = L} model a (x ∷ xs) old fed new feed =
+    (mid : L) × (half : Feed) × HasDone model a old fed x.event mid half × (model.faults old ≤ model.faults mid)
+    × AllDone model x.action xs mid half new feed
+
+-- What a session that was carried on has done: its calls, the units that it got of the link, the octets that were put,
+-- and what came of each action there.
 pub record IsRun {L : Type 0} (model : LinkView L) (t : State) (a : Action) (old : L) (fed : Feed) (u : State)
     (b : Action) (new : L) (feed : Feed) : Type 0 where
   pub turns : List Turn
@@ -130,6 +142,7 @@ pub record IsRun {L : Type 0} (model : LinkView L) (t : State) (a : Action) (old
   pub carried : (since : Option Talk) (us : List AnyUnit) (os : List ℕ)
       → Leads (Carried us os fed) since (model.talk old) →
       Leads (Carried (us ++ units) (os ++ octets) feed) since (model.talk new)
+  pub done : AllDone model a turns old fed new feed
 
 pub record HasRun {L : Type 0} (model : LinkView L) (t : State) (a : Action) (old : L) (fed : Feed) (c : Came)
     (u : State) (new : L) (feed : Feed) : Type 0 where
@@ -157,6 +170,7 @@ pub record HasStopped {L : Type 0} (model : LinkView L) (t : State) (a : Action)
   pub carried : (since : Option Talk) (us : List AnyUnit) (os : List ℕ)
       → Leads (Carried us os fed) since (model.talk old) →
       Leads (Carried (us ++ units) (os ++ octets) mid_fed) since (model.talk mid)
+  pub done : AllDone model a turns old fed mid mid_fed
   pub short : IsShort model u last mid mid_fed new
 
 -- What was carried on are calls of the session, one after the other.

@@ -30,7 +30,8 @@ fn read_next(frames: &mut Frames) -> Result<Next, Memory>
     frames.next()
 }
 
-/// Moves octets that come over the link into the frames. False where no more come.
+/// Moves octets that come over the link into the frames. False where no more come. Where 2^64 octets have come, less
+/// 4,097, they are as many as the frames can count: it is want of memory then.
 fn fill<L: Link>(link: &mut L, frames: &mut Frames) -> Result<bool, Memory>
     ensures carried { (since : Option Talk) (us : List AnyUnit) (octets : List ℕ) →
         Leads (Carried us octets frames.old) since (L.model.talk link.old) →
@@ -40,12 +41,12 @@ fn fill<L: Link>(link: &mut L, frames: &mut Frames) -> Result<bool, Memory>
         OnErr result (Leads (Fronted us octets) since (L.model.talk link.new)) }
     ensures fed { IfOk result (λ more. FedBy more frames.old frames.new) }
     ensures over { IfOk result (λ more. more ≡ false →
-        IsOver L.model (L.model.faults link.old) link.new frames.new) }
+        IsOver L.model (L.model.faults link.old) link.new) }
     ensures later { L.model.faults link.old ≤ L.model.faults link.new }
 {
     let mut buffer = [0u8; 4096];
     if frames.room() < 4096 {
-        return Ok(false);
+        return Err(Memory);
     }
     let Ok(count) = link.get(&mut buffer) else {
         return Ok(false);
@@ -60,7 +61,8 @@ fn fill<L: Link>(link: &mut L, frames: &mut Frames) -> Result<bool, Memory>
 /// The next unit that comes. With what was not taken, the units answered so far are all that the link gave; after want
 /// of memory they stand at the front of it.
 ///
-/// `Over` comes only where the link failed, or its input was read to the end, or 2^64 octets have come, less 4,097.
+/// `Over` comes only where the link failed, or its input was read to the end. More than 2^64 octets, less 4,097, are as
+/// if there were no memory for them.
 pub fn get_unit<L: Link>(link: &mut L, frames: &mut Frames) -> Result<Heard, Memory>
     ensures carried { (since : Option Talk) (us : List AnyUnit) (octets : List ℕ) →
         Leads (Carried us octets frames.old) since (L.model.talk link.old) →

@@ -1,9 +1,11 @@
-//! Where threads sleep until their turn. Nothing here is part of what is proved of the lock: it only says when to look again.
+//! Where threads sleep until their turn. Nothing here is part of what is proved of the lock: it only says when to look
+//! again.
 use std::array;
 use std::sync::Wait;
 use std::sync::atomic::{AtomicU64, Ordering};
 
-/// The bells of one lock. A ticket's bell is its remainder by this number, so that up to so many waiting threads are woken one at a time.
+/// The bells of one lock. A ticket's bell is its remainder by this number, so that up to so many waiting threads are
+/// woken one at a time.
 const BELLS: u64 = 64;
 
 /// Rung when the turn of one of its tickets comes.

@@ -5,6 +5,7 @@ pub mod Keeping
 pub mod Lengths
 pub mod Looking
 pub mod Making
+pub mod Numbers
 pub mod OnLanes
 pub mod Openings
 pub mod Refused

@@ -23,7 +23,7 @@ use Rattle.mta_histories.specs.Classes.{class_of}
 use Rattle.mta_spool.specs.Making.{step_fault}
 use Rattle.mta_spool.specs.Refusals.{IsOfLane, IsRefused}
 use Rattle.mta_spool.proofs.Refused.{not_refused, refusal_of_lane, one_refusal}
-use Rattle.mta_spool.specs.Stands.{IsHeld, IsOfNoRefusal, IsOneOf, IsSpent, MayHave, Makes, need_of}
+use Rattle.mta_spool.specs.Stands.{IsHeld, IsOfNoRefusal, IsOneOf, IsSpent, last_number, MayHave, Makes, need_of}
 
 -- an image that holds the bodies of a history stands for it
 image_of : (g : List ℕ) (steps : List Step) → HasBodies g (map body_of steps) → AreRecords steps → IsHistory steps → StandsFor g steps
@@ -263,7 +263,7 @@ module _ {D : Type 0} (model : DiskView D) (step : Step) where
 
   -- too few numbers were left
   pub is_spent : {made : List Step} (last : ℕ) (old new : JournalShown D) (s s' : State) → new ≡ old → s' ≡ s
-      → old.ended ≡ false → last ≡ length s.machine.items → IsSpent s step → IsOfNoRefusal s step
+      → old.ended ≡ false → last ≡ last_number s (class_of step) → IsSpent s step → IsOfNoRefusal s step
       → Makes model step old s made new s' made (Some (StepFaults.Spent last))
   is_spent last old new s s' same kept going count spent lane = record {
     entries = refl;

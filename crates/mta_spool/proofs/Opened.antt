@@ -86,29 +86,25 @@ few_with role peer lanes most each =
 -- ---- what is needed, and what is written down
 
 module _ (s : State) (role : LaneRole) (peer : List ℕ) (name : Identifier) (size window : ℕ) where
-  -- four tests tell whether a lane may be opened, if not too many are open
-  pub may_open : (a b c d : Bool) → (a ≡ true) ↔ NamesPeer (numbered s.machine.tables (last_tables s.machine)) peer
+  -- three tests tell whether a lane may be opened, if not too many are open
+  pub may_open : (a b c : Bool) → (a ≡ true) ↔ NamesPeer (numbered s.machine.tables (last_tables s.machine)) peer
       → (b ≡ true) ↔ EachLane (IsOther role peer name) s.lanes.open_lanes
-      → (c ≡ true) ↔ (s.lanes.count + 1 < 2 ^ 32)
-      → (d ≡ true) ↔ ((size ≤ 64) × ((1 ≤ window) × (window ≤ 8)))
-      → ((a && (b && (c && d))) ≡ true) ↔ MayOpen s role peer name size window
-  may_open a b c d named new number fits = (
+      → (c ≡ true) ↔ ((size ≤ 64) × ((1 ≤ window) × (window ≤ 8)))
+      → ((a && (b && c)) ≡ true) ↔ MayOpen s role peer name size window
+  may_open a b c named new fits = (
     λ all.
-        let first = and_parts a (b && (c && d)) all in
-        let second = and_parts b (c && d) first.1 in
-        let third = and_parts c d second.1 in
-        let values = fits.0 third.1 in
+        let first = and_parts a (b && c) all in
+        let second = and_parts b c first.1 in
+        let values = fits.0 second.1 in
         record {
           named = named.0 first.0;
           new = new.0 second.0;
-          number = number.0 third.0;
           checkpoint_fits = values.0;
           window_fits = values.1;
         },
     λ may.
-        both-true a (b && (c && d)) (named.1 may.named)
-        (both-true b (c && d) (new.1 may.new)
-        (both-true c d (number.1 may.number) (fits.1 (may.checkpoint_fits, may.window_fits)))),
+        both-true a (b && c) (named.1 may.named)
+        (both-true b c (new.1 may.new) (fits.1 (may.checkpoint_fits, may.window_fits))),
   )
 
   module _ (twa : Bool) (moment : ℕ) (may : MayOpen s role peer name size window) where

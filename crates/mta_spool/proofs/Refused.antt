@@ -76,7 +76,6 @@ allowed s (opens role peer name twa size window) moment (Faults.BusyLanes count)
 allowed s (opens role peer name twa size window) moment Faults.Unexpected needs is = is (record {
   named = needs.named;
   new = needs.new;
-  number = needs.number;
   checkpoint_fits = needs.checkpoint_fits;
   window_fits = needs.window_fits;
 })

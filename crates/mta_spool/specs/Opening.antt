@@ -3,7 +3,7 @@ use Rattle.std.specs.Prelude.{◌≡◌, ℕ, ◌≤◌, List, [], map}
 use Rattle.mta_edge.specs.Causes.{Rose}
 use Rattle.mta_edge.specs.Views.{DiskView, StaysTold, WhereTold}
 use Rattle.mta_edge.specs.Crashes.{AtAnyMoment}
-use Rattle.mta_journal.specs.Opening.{BeforeOrSame, IsLeft, IsSameFrom, LongStays, SameSince}
+use Rattle.mta_journal.specs.Opening.{BeforeOrSame, IsLeft, IsSameFrom, IsSynced, LongStays}
 use Rattle.mta_journal.specs.declared.why.OpenWhy.{OpenWhy}
 use Rattle.mta_journal.specs.declared.why.OpenWhy.TheVariants as Whys
 use Rattle.mta_records.specs.declared.step.Step.{Step}
@@ -24,8 +24,8 @@ pub record HasOpened {D C : Type 0} (model : DiskView D) (old : D) (spool : Show
   pub later : model.faults old ≤ model.faults spool.journal.disk
   pub told : StaysTold model old spool.journal.disk
   pub images : OpensSafely model old spool.journal.disk
-  -- since a moment of the call, that of its first sync, a crash leaves the same
-  pub since : WhereTold model old (λ f. SameSince model f old spool.journal.disk)
+  -- the disk as the call's first sync left it, and that since then a crash leaves the same
+  pub sync : IsSynced model old spool.opened.synced
   pub synced : WhereTold model old (λ f. IsSameFrom model f old spool.journal.disk (model.moment spool.opened.synced))
   -- no step was made yet, and what it was opened with is known
   pub none : spool.entries ≡ []

@@ -56,7 +56,6 @@ pub record MayOpen (s : State) (role : LaneRole) (peer : List ℕ) (name : Ident
   pub named : NamesPeer (numbered s.machine.tables (last_tables s.machine)) peer
   pub new : EachLane (λ lane. lane.role ≡ role → lane.peer ≡ peer → lane.reference ≡ name → ⊥)
       s.lanes.open_lanes
-  pub number : s.lanes.count + 1 < 2 ^ 32
   pub checkpoint_fits : size ≤ 64
   pub window_fits : (1 ≤ window) × (window ≤ 8)
 

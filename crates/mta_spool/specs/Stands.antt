@@ -12,7 +12,7 @@ use Rattle.mta_records.specs.declared.fault.StepFault.TheVariants as StepFaults
 use Rattle.mta_records.specs.declared.step.Step.{Step}
 use Rattle.mta_records.specs.Body.{body_of}
 use Rattle.mta_histories.specs.Lanes.{State}
-use Rattle.mta_histories.specs.Classes.{class_of}
+use Rattle.mta_histories.specs.Classes.{class_of, Class, opens}
 use Rattle.mta_histories.specs.History.{after, after_step, IsHistory, IsPossible, when}
 use Rattle.mta_histories.specs.Numbers.{numbers_needed}
 use Rattle.mta_images.specs.Image.{AreRecords, StandsFor}
@@ -49,9 +49,18 @@ pub record AtMoment {C : Type 0} (model : ClockView C) (clock : C) (last : ℕ) 
 abbrev pub TellsFewer : {C : Type 0} → ClockView C → C → C → Type 0
 TellsFewer model old new = (m : ℕ) → model.tells new m → model.tells old m
 
--- fewer numbers of items are left than the step needs
+-- the last number that was given of those of which a step needs some: of lanes where it opens one, else of items
+abbrev pub last_number : State → Class → ℕ
+last_number s (opens role peer name twa size window) = s.lanes.count
+last_number s c = length s.machine.items
+
+-- fewer of them are left than it needs
+abbrev pub LacksNumbers : State → Class → Type 0
+LacksNumbers s (opens role peer name twa size window) = 2 ^ 32 ≤ s.lanes.count + 1
+LacksNumbers s c = 2 ^ 32 ≤ length s.machine.items + numbers_needed s c
+
 abbrev pub IsSpent : State → Step → Type 0
-IsSpent s step = 2 ^ 32 ≤ length s.machine.items + numbers_needed s (class_of step)
+IsSpent s step = LacksNumbers s (class_of step)
 
 -- with this many items fewer numbers are left than are needed
 abbrev pub IsSpentFor : (count needed : ℕ) → StepFault → Type 0
@@ -129,9 +138,10 @@ pub record Makes {D : Type 0} (model : DiskView D) (step : Step) (old : JournalS
   pub ended : (fault ≡ Some StepFaults.Ended) ↔ (old.ended ≡ true)
   pub marked : fault ≡ Some StepFaults.Disk → new.ended ≡ true
   -- Spent comes exactly where too few numbers are left, the spool has not ended and no refusal for a lane stands
-  pub spent : (last : ℕ) → fault ≡ Some (StepFaults.Spent last) → (last ≡ length s.machine.items) × IsSpent s step
+  pub spent : (last : ℕ) → fault ≡ Some (StepFaults.Spent last)
+      → (last ≡ last_number s (class_of step)) × IsSpent s step
   pub spent_where : old.ended ≡ false → IsOfNoRefusal s step → IsSpent s step
-      → fault ≡ Some (StepFaults.Spent (length s.machine.items))
+      → fault ≡ Some (StepFaults.Spent (last_number s (class_of step)))
   -- Full comes exactly where the record would pass the limit, numbers are left, and there was memory for it
   pub full : (size need : ℕ) → fault ≡ Some (StepFaults.Full size need)
       → (size ≡ old.size) × (need ≡ need_of step) × (journal_limit < size + need)

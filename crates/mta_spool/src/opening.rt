@@ -66,13 +66,6 @@ impl<D: Disk + Drop, C: Clock + Drop> Spool<D, C> {
         }
     }
 
-    // Whether a number of a lane is left.
-    fn has_number(&self) -> bool
-        ensures { IsTrue result ↔ (self.now.current.lanes.count + 1 < 2 ^ 32) }
-    {
-        self.replay.kept.lanes.count < u32::MAX
-    }
-
     // Whether a lane may be opened, if not too many of the role are open with the peer.
     #[tactic(auto, using(crate::proofs::Opened::may_open_laws))]
     fn may_open(
@@ -87,7 +80,6 @@ impl<D: Disk + Drop, C: Clock + Drop> Spool<D, C> {
     {
         self.names_peer(peer)
             && self.is_new(role, peer, reference)
-            && self.has_number()
             && may_be_values(checkpoint, window)
     }
 
@@ -130,7 +122,10 @@ impl<D: Disk + Drop, C: Clock + Drop> Spool<D, C> {
             return Err(StepFault::BusyLanes { count });
         }
         reference_fits(&reference);
-        let number = self.replay.kept.lanes.count + 1;
+        let last = self.replay.kept.lanes.count;
+        let Some(number) = last.checked_add(1) else {
+            return Err(StepFault::Spent { last: last as u64 });
+        };
         let peer = peer.copy(self.alloc)?;
         self.make(Step::LaneOpen {
             role,
@@ -150,8 +145,8 @@ impl<D: Disk + Drop, C: Clock + Drop> Spool<D, C> {
     ///
     /// # Errors
     /// `Unexpected` where the tables recorded last do not name the peer, where an open lane has this peer, role and
-    /// reference, where a value is outside its range, or where no number of a lane is left; `BusyLanes` where 64 lanes
-    /// of the role are open with the peer.
+    /// reference, or where a value is outside its range; `BusyLanes` where 64 lanes of the role are open with the peer;
+    /// `Spent` where no number of a lane is left.
     pub fn lane_open(
         &mut self,
         role: LaneRole,

@@ -1,6 +1,6 @@
 //! The state of a spool in memory, without disk and clock: what a history leads to (`Kept`), what a step changes of it
-//! (`Change`), and what is asked of the rules of X.411 under the tables of one text (`Rules`). Each step of the machine of
-//! recipients (X.411, clause 14) is one change of `Parts`, which takes no memory where room was found before.
+//! (`Change`), and what is asked of the rules of X.411 under the tables of one text (`Rules`). Each step of the machine
+//! of recipients (X.411, clause 14) is one change of `Parts`, which takes no memory where room was found before.
 #![tactic(auto)]
 
 mod change;

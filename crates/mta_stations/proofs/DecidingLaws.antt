@@ -14,7 +14,7 @@ by_status : (P : Option ℕ → Type 0) → P None → P (Some 4) → P (Some 5)
 by_status P n d r m Halts.Limit = n
 by_status P n d r m Halts.StationEnded = n
 by_status P n d r m Halts.StationFailed = n
-by_status P n d r m Halts.NoPeer = n
+by_status P n d r m Halts.NoPeer = m
 by_status P n d r m Halts.Disk = d
 by_status P n d r m (Halts.Full size need) = r
 by_status P n d r m (Halts.Spent last) = r

@@ -11,16 +11,17 @@ use Rattle.mta_stations.specs.declared.end.WorkerEnd.{WorkerEnd}
 abbrev pub halts_of : List WorkerEnd → List Halt
 halts_of ends = map (λ e. e.halt) ends
 
--- The status of a run that ends for it. A worker that gave its links back, whose station ended or failed, or whose
--- station calls a peer of whom nothing is known, is told by its counts alone.
+-- The status of a run that ends for it. A worker that gave its links back, or whose station ended or failed, is told by
+-- its counts alone. A run names no peer to a worker whom the tables do not name: an end that says so has no cause
+-- there, and is told as want of memory.
 abbrev pub status_of : Halt → Option ℕ
 status_of Halts.Limit = None
 status_of Halts.StationEnded = None
 status_of Halts.StationFailed = None
-status_of Halts.NoPeer = None
 status_of Halts.Disk = Some 4
 status_of (Halts.Full size need) = Some 5
 status_of (Halts.Spent last) = Some 5
+status_of Halts.NoPeer = Some 7
 status_of Halts.Memory = Some 7
 
 -- ---- which decides

@@ -10,10 +10,10 @@ fn status_of(halt: Halt) -> Option<u8>
     ensures { result ≡ status_of halt }
 {
     match halt {
-        Halt::Limit | Halt::StationEnded | Halt::StationFailed | Halt::NoPeer => None,
+        Halt::Limit | Halt::StationEnded | Halt::StationFailed => None,
         Halt::Disk => Some(4),
         Halt::Full { .. } | Halt::Spent { .. } => Some(5),
-        Halt::Memory => Some(7),
+        Halt::NoPeer | Halt::Memory => Some(7),
     }
 }
 
@@ -26,9 +26,9 @@ fn first_of(status: u8, ends: &[WorkerEnd]) -> Option<Halt>
         .find(|halt| status_of(*halt) == Some(status))
 }
 
-/// Why the run of these workers ends; nothing where each gave its links back, or its station ended, failed, or calls a
-/// peer that the tables do not name any more. A fault of the disk is before want of room or of numbers, and that before
-/// want of memory; of several alike the one of the lowest station decides.
+/// Why the run of these workers ends; nothing where each gave its links back, or its station ended or failed. A fault
+/// of the disk is before want of room or of numbers, and that before want of memory, with which a peer stands that is not
+/// named; of several alike the one of the lowest station decides.
 pub fn deciding(ends: &[WorkerEnd]) -> Option<Halt>
     ensures found { IfSome result (Decides (halts_of ends.now)) }
     ensures none { IfNone result (IsUndecided (halts_of ends.now)) }

@@ -35,6 +35,7 @@ module _ (proposal : OpenUnit) (size window : ℕ) (answer : Answer) where
   drops = record {
     begun = omega arith;
     stands = (refl, (refl, (refl, (omega arith, (omega arith, (refl, tt))))));
+    never_fall = (omega arith, (omega arith, (tt, (omega arith, (omega arith, (omega arith, tt))))));
     sending = record {
       plain = (tt, (tt, (tt, (tt, (tt, (tt, (tt, (tt, (tt, (tt, tt))))))))));
       last_end = record { state = state.Idle 1; octets = three; size = 2; window = 1; accepted = true; stage = s.Quiet; heard = None };
@@ -60,6 +61,7 @@ module _ (proposal : OpenUnit) (size window : ℕ) (answer : Answer) where
   crosses = record {
     begun = omega arith;
     stands = (refl, tt);
+    never_fall = (omega arith, tt);
     sending = record {
       plain = (tt, (tt, tt));
       last_end = record {
@@ -102,6 +104,7 @@ module _ (proposal : OpenUnit) (size window : ℕ) (answer : Answer) where
   unclosed = record {
     begun = omega arith;
     stands = (refl, (omega arith, (omega arith, tt)));
+    never_fall = (omega arith, (omega arith, (omega arith, tt)));
     sending = record { plain = (tt, tt); last_end = agreed_end; allowed = (tt, refl) };
     receiving = record {
       plain = tt;

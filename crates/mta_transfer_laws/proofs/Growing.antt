@@ -60,6 +60,7 @@ grow spells history more lane size window initiator l g =
     record {
       begun = (let le : length history ≤ length (history ++ more) = longer history more in omega (arith, g.begun, le));
       stands = stand history more l.events g.stands;
+      never_fall = g.never_fall;
       sending = record {
         plain = g.sending.plain;
         last_end = g.sending.last_end;

@@ -49,6 +49,7 @@ module _ (proposal : OpenUnit) (size window : ℕ) (answer : Answer) where
   good_first = record {
     begun = omega arith;
     stands = (refl, (refl, (refl, (refl, tt))));
+    never_fall = (omega arith, (omega arith, (omega arith, (omega arith, tt))));
     sending = record {
       plain = (tt, (tt, (tt, (tt, (tt, (tt, (tt, (tt, (tt, (tt, tt))))))))));
       last_end = record { state = state.Ending 1 1; octets = three; size = 2; window = 1; accepted = true; stage = s.End_put 1 2; heard = None };
@@ -65,6 +66,7 @@ module _ (proposal : OpenUnit) (size window : ℕ) (answer : Answer) where
   good_second = record {
     begun = omega arith;
     stands = (refl, (omega arith, (refl, tt)));
+    never_fall = (omega arith, (omega arith, (omega arith, tt)));
     sending = record {
       plain = (tt, (tt, (tt, (tt, (tt, (tt, (tt, tt)))))));
       last_end = record { state = state.Idle 1; octets = three; size = 2; window = 1; accepted = true; stage = s.Quiet; heard = None };

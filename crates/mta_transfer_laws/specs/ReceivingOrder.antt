@@ -6,7 +6,8 @@ use Rattle.mta_transfer_rules.specs.Receiving.{RecvEvent}
 use Rattle.mta_transfer_rules.specs.Lanes.{Seen}
 use Rattle.mta_transfer_laws.specs.History.{half_of, half_steps}
 use Rattle.mta_transfer_laws.specs.Receivings.{HalfStep, Binds, Makes, receiving_step, StepsInOrder}
-use Rattle.mta_transfer_laws.specs.Sessions.{SessionList, SessionEvent, Made, StepsStand, receiving_event, receiving_list}
+use Rattle.mta_transfer_laws.specs.Sessions.{SessionList, SessionEvent, Made, StepsStand}
+use Rattle.mta_transfer_laws.specs.Sessions.{receiving_event, receiving_list}
 
 -- a step of the half with its position in the history
 pub record Placed : Type 0 where

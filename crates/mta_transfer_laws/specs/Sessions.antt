@@ -244,6 +244,22 @@ StepsStand history (Made p j step ∷ es) = StandsAt history p (On j step) × St
 StepsStand history (Looked n look ∷ es) = (n ≤ length history) × StepsStand history es
 StepsStand history (e ∷ es) = StepsStand history es
 
+-- Positions and lengths never fall. An Abandon is another pass's, and stands where its half sees it: it may have its
+-- position before that of a step of the other half.
+abbrev pub IsNext : (from position : ℕ) → SeenStep → Type 0
+IsNext from p (h.Abandon k) = Unit {0}
+IsNext from p step = from ≤ p
+
+abbrev pub risen_to : (from position : ℕ) → SeenStep → ℕ
+risen_to from p (h.Abandon k) = from
+risen_to from p step = p + 1
+
+abbrev pub NeverFall : (from : ℕ) → List SessionEvent → Type 0
+NeverFall from [] = Unit {0}
+NeverFall from (Made p j step ∷ es) = IsNext from p step × NeverFall (risen_to from p step) es
+NeverFall from (Looked n look ∷ es) = (from ≤ n) × NeverFall n es
+NeverFall from (e ∷ es) = NeverFall from es
+
 -- Where an Abandon of another pass stands: right before the first look or step of the half whose history has it
 -- ---------
 
@@ -286,6 +302,7 @@ pub record IsGoodSession (spells : List ℕ → Bool) (history : List Seen) (lan
     (initiator : Bool) (l : SessionList) : Type 0 where
   pub begun : l.at < length history
   pub stands : StepsStand history l.events
+  pub never_fall : NeverFall (l.at + 1) l.events
   pub sending : IsGoodSending history lane size window (not initiator) (sending_list lane l)
   pub receiving : IsGoodReceiving spells history lane (receiving_list lane l)
   pub turn : KeepsTurn Before_accept l.events

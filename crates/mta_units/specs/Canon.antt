@@ -6,7 +6,8 @@ use Rattle.mta_ber.specs.declared.text.TextClass.TheVariants.{Ia5}
 use Rattle.mta_ber.specs.Contents.{canon_int}
 use Rattle.mta_ber.specs.Strings.{IsText}
 use Rattle.mta_records.specs.Reference.{IsIdentifier}
-use Rattle.mta_rtse.specs.Canon.{canon_reference, canon_rtorq, canon_rtoac, canon_reason, IsWritableRequest, HasIdentifier, IsReadAgain}
+use Rattle.mta_rtse.specs.Canon.{canon_reference, canon_rtorq, canon_rtoac, canon_reason}
+use Rattle.mta_rtse.specs.Canon.{IsWritableRequest, HasIdentifier, IsReadAgain}
 use Rattle.mta_rtse.specs.declared.types.Answer.{Answer}
 use Rattle.mta_rtse.specs.Spelling.{request_of}
 use Rattle.mta_units.specs.declared.kind.UnitKind.{UnitKind}
@@ -82,8 +83,8 @@ pub record IsWritableOpen (o : OpenUnit) : Type 0 where
 abbrev pub longest_piece : ℕ
 longest_piece = 2097152
 
--- what can be written: names of 1 to 32 characters of IA5String, passwords and pieces that are no longer than they may be, and kinds
--- of faults that there are
+-- what can be written: names of 1 to 32 characters of IA5String, passwords and pieces that are no longer than they may
+-- be, and kinds of faults that there are
 abbrev pub IsWritable : AnyUnit → Type 0
 IsWritable (unit.Open o) = IsWritableOpen o
 IsWritable (unit.Accept checkpoint window answer) = IsWritableRequest (request_of answer)

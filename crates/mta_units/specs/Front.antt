@@ -1,6 +1,7 @@
--- What stands at the front of a stream of units: a unit is four octets of its body's length, the most significant first, its kind octet
--- and its body.
-use Rattle.std.specs.Prelude.{◌≡◌, ℕ, Bool, false, not, List, [], ◌∷◌, length, take, drop, Option, Some, None, nat_lt, if◌then◌else◌}
+-- What stands at the front of a stream of units: a unit is four octets of its body's length, the most significant
+-- first, its kind octet and its body.
+use Rattle.std.specs.Prelude.{◌≡◌, ℕ, Bool, false, not, List, [], ◌∷◌, length, take}
+use Rattle.std.specs.Prelude.{drop, Option, Some, None, nat_lt, if◌then◌else◌}
 use Rattle.std.specs.Int.{w32, from_be_bytes}
 use Rattle.mta_units.specs.declared.front.BadUnit.{BadUnit}
 use Rattle.mta_units.specs.declared.front.BadUnit.TheVariants as bad

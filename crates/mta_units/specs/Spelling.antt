@@ -1,4 +1,5 @@
--- Which octets spell a unit, built from the values, and what a stream of units that is not at its end shows: apart from reading.
+-- Which octets spell a unit, built from the values, and what a stream of units that is not at its end shows: apart from
+-- reading.
 use Rattle.std.specs.Prelude.{◌≡◌, ℕ, ◌^◌, ◌<◌, ◌≤◌, ◌⊎◌, true, List, [], ◌∷◌, ◌++◌, length}
 use Rattle.mta_ber.specs.declared.tag.Tag.{Tag}
 use Rattle.mta_ber.specs.Element.{outermost}
@@ -9,7 +10,8 @@ use Rattle.mta_ber.specs.Spelling.{Stands}
 use Rattle.mta_ber.specs.Explicit.{Spells}
 use Rattle.mta_rtse.specs.declared.types.OpenRequest.{OpenRequest}
 use Rattle.mta_rtse.specs.declared.types.Answer.{Answer}
-use Rattle.mta_rtse.specs.Spelling.{SpellsNumber, SpellsWord, SpellsReference, SpellsRtorq, SpellsRtoac, SpellsRtorj, SpellsRtab}
+use Rattle.mta_rtse.specs.Spelling.{SpellsNumber, SpellsWord, SpellsReference, SpellsRtorq}
+use Rattle.mta_rtse.specs.Spelling.{SpellsRtoac, SpellsRtorj, SpellsRtab}
 use Rattle.mta_units.specs.declared.front.BadUnit.{BadUnit}
 use Rattle.mta_units.specs.declared.front.BadUnit.TheVariants as bad
 use Rattle.mta_units.specs.declared.kind.UnitKind.{UnitKind}

@@ -4,7 +4,9 @@ ghost use Rattle.std.specs.Prelude.{◌≡◌, ◌<◌, ◌^◌, true, length};
 ghost use Rattle.mta_ber.specs.Parts.{Reads};
 ghost use Rattle.mta_ber.specs.Seen.{view};
 ghost use Rattle.mta_units.specs.Kind.{is_fixed};
-ghost use Rattle.mta_units.specs.Body.{tagged, ended, only_in, name_in, tagged_reference_in, open_in, accept_in, reject_in, rttr_in, piece_in, rttp_in, please_in, abort_in, fixed_in, other_in, body_in, TookNone};
+ghost use Rattle.mta_units.specs.Body.{tagged, ended, only_in, name_in, tagged_reference_in, open_in};
+ghost use Rattle.mta_units.specs.Body.{accept_in, reject_in, rttr_in, piece_in, rttp_in, please_in};
+ghost use Rattle.mta_units.specs.Body.{abort_in, fixed_in, other_in, body_in, TookNone};
 ghost use Rattle.mta_rtse.specs.Request.{rtorq_in};
 
 use crate::fixed::{bad_size, read_exception, read_nothing, read_number, read_pair};

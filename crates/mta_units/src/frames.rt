@@ -58,7 +58,8 @@ fn forget(octets: &mut Vec<u8>, taken: usize) -> usize
 }
 
 impl Frames {
-    ghost use Rattle.std.specs.Prelude.{◌≡◌, ◌+◌, ◌++◌, ◌<◌, ◌≤◌, ◌^◌, false, List, [], ℕ, length, drop, OnOk, OnErr, IfOk, IsOk, IsSome};
+    ghost use Rattle.std.specs.Prelude.{◌≡◌, ◌+◌, ◌++◌, ◌<◌, ◌≤◌, ◌^◌, false, List, [], ℕ};
+    ghost use Rattle.std.specs.Prelude.{length, drop, OnOk, OnErr, IfOk, IsOk, IsSome};
     ghost use Rattle.mta_units.specs.Front.{front, may_take_memory};
     ghost use Rattle.mta_ber.specs.Octet.{IsOctets};
     ghost use Rattle.mta_units.specs.declared.front.BadUnit.{BadUnit as TheBadUnit};
@@ -127,8 +128,8 @@ impl Frames {
         }
     }
 
-    /// What comes next: the next unit; that a whole unit has not come yet, and no fault; or why none comes from an offset of the
-    /// stream on, which is answered for good.
+    /// What comes next: the next unit; that a whole unit has not come yet, and no fault; or why none comes from an
+    /// offset of the stream on, which is answered for good.
     pub fn next(&mut self) -> Result<Next, Memory>
         ensures exact { IfOk result (λ n. Goes self.old n self.new) }
         ensures err { OnErr result (self.new ≡ self.old) }
@@ -137,8 +138,8 @@ impl Frames {
         ensures memory { may_take_memory (front self.old.left) ≡ false → IsOk result }
         ensures found { IsSome self.old.bad → IsOk result }
 
-        // The units answered so far, with what was not taken, are all that was fed; and what is left begins with no unit where
-        // none is answered.
+        // The units answered so far, with what was not taken, are all that was fed; and what is left begins with no
+        // unit where none is answered.
         ensures reading { (us : List AnyUnit) (stream : List ℕ) → HasRead us stream self.old → IfOk result (λ n. HasRead (and_next us n) stream self.new) }
         ensures says { IfOk result (λ n. Says n self.new) }
 

@@ -8,7 +8,8 @@ use crate::kind::UnitKind;
 /// The most octets of a body: those of a piece of 2,097,152 octets with their header.
 pub const LONGEST_BODY: u32 = 2_097_157;
 
-/// Why no unit stands in a stream: its length is above the limit, its kind octet is no kind's, or its body is none of that kind.
+/// Why no unit stands in a stream: its length is above the limit, its kind octet is no kind's, or its body is none of
+/// that kind.
 #[derive(Clone, Copy, Debug)]
 pub enum BadUnit {
     Length,
@@ -51,7 +52,8 @@ fn kind_of(size: u32, octets: &[u8]) -> Front<'_>
     }
 }
 
-/// What stands at the front of octets. The length is checked once its four octets are there, and the kind once its octet is.
+/// What stands at the front of octets. The length is checked once its four octets are there, and the kind once its
+/// octet is.
 pub fn front_of(octets: &[u8]) -> Front<'_>
     ensures exact { IsFront result (front octets.now) }
 {

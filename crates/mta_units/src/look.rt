@@ -10,7 +10,8 @@ use crate::unit::Unit;
 use mta_ber::{Memory, ReadFault};
 use std::alloc::Global;
 
-/// What is seen at the front: too few octets for a whole unit and no fault, a fault, or a unit and how many octets it has.
+/// What is seen at the front: too few octets for a whole unit and no fault, a fault, or a unit and how many octets it
+/// has.
 #[derive(Drop)]
 pub enum Look {
     Cut,

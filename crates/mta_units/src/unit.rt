@@ -4,8 +4,8 @@ use mta_ber::{Octets, Word};
 use mta_records::Reference;
 use mta_rtse::{Answer, Request};
 
-/// What an initiator opens a link with: its name, the reference that it makes, the checkpoint size in units of 1,024 octets and the
-/// window that it proposes, whether it asks for two-way alternate dialogue, and its request.
+/// What an initiator opens a link with: its name, the reference that it makes, the checkpoint size in units of 1,024
+/// octets and the window that it proposes, whether it asks for two-way alternate dialogue, and its request.
 #[derive(Drop)]
 pub struct OpenUnit {
     pub name: Word,
@@ -16,8 +16,8 @@ pub struct OpenUnit {
     pub request: Request,
 }
 
-/// A unit. Activities and checkpoints are numbered; reasons are those of X.228; the kind and the place of an exception are those of
-/// the fault in the octets that were transferred.
+/// A unit. Activities and checkpoints are numbered; reasons are those of X.228; the kind and the place of an exception
+/// are those of the fault in the octets that were transferred.
 #[derive(Drop)]
 pub enum Unit {
     Open(OpenUnit),

@@ -4,7 +4,8 @@ ghost use Rattle.std.specs.Prelude.{◌≡◌, ◌≤◌, ◌<◌, ◌-◌, ◌^
 ghost use Rattle.mta_ber.specs.Canon.{appended, constructed, primitive};
 ghost use Rattle.mta_ber.specs.Contents.{canon_int};
 ghost use Rattle.mta_units.specs.Kind.{kind_number};
-ghost use Rattle.mta_units.specs.Canon.{kind_of, number_octets, open_octets, body_octets, unit_octets, IsWritable, HoldsReferences, HasReferences};
+ghost use Rattle.mta_units.specs.Canon.{kind_of, number_octets, open_octets, body_octets, unit_octets};
+ghost use Rattle.mta_units.specs.Canon.{IsWritable, HoldsReferences, HasReferences};
 
 use crate::kind::UnitKind;
 use crate::unit::{OpenUnit, Unit};

@@ -67,7 +67,7 @@ module _ {D C L : Type 0} (disks : DiskView D) (clocks : ClockView C) (links : L
 
   pub called_often : (n : ℕ) (p q : Held Step) (old new : L) (served : Served)
       → HasClosed disks clocks links peer units n p q → n ≡ most_closings → new ≡ old
-      → served ≡ none_begun Halts.NoPeer → HasCalled disks clocks links peer units p old new q served
+      → served ≡ none_begun Halts.Memory → HasCalled disks clocks links peer units p old new q served
   called_often n p q old new served h most same is = Too_often h.0 h.1 (h.2 ∙ most) same is
 
   -- it stands as it was called over a link that is the same

@@ -31,7 +31,7 @@ use Rattle.mta_worker.specs.Turns.{HasLooked, IsLostLooking, WantsNoLook}
 
 -- why a worker ends whose step before a session was refused
 abbrev pub halt_before : StepFault → Halt
-halt_before fault = unwrap_or (halt_of fault) Halts.NoPeer
+halt_before fault = unwrap_or (halt_of fault) Halts.Memory
 
 -- The question that a lane is opened, bound or closed by, and what it is told then.
 abbrev pub asks_next : Next → Option Ask

@@ -96,7 +96,7 @@ module _ {D C L : Type 0} (disks : DiskView D) (clocks : ClockView C) (links : L
         → GivesUp links lost (has_turned u.phase) noted old new served → HasCalled peer units p old new q served
     -- other associations open lanes with the peer as fast as they are closed
     Too_often : (ms : List (Held Step)) → Closings peer units p ms q → length ms ≡ most_closings → new ≡ old
-        → served ≡ none_begun Halts.NoPeer → HasCalled peer units p old new q served
+        → served ≡ none_begun Halts.Memory → HasCalled peer units p old new q served
 
   abbrev pub IsLinkServed : Role → (units : ℕ) → Held Step → L → L → Held Step → Served → Type 0
   IsLinkServed role.In units p old new q served = HasListened units p old new q served

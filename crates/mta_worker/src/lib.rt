@@ -1,6 +1,6 @@
 //! A worker serves one session after another on the links of a station, over a spool that it shares with other workers
-//! under a lock. Workers run side by side, each with a station of its own. What a session proposes to its peer comes from
-//! the tables.
+//! under a lock. Workers run side by side, each with a station of its own. What a session proposes to its peer comes
+//! from the tables.
 #![tactic(auto)]
 
 mod answering;

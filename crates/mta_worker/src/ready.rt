@@ -37,12 +37,12 @@ pub enum Ready {
     Begins(Session, Result<Action, Lost>),
 }
 
-// Why the worker ends whose step before a session was refused: for want of room, numbers or memory, for the disk, or
-// since there is no such peer any more.
+// Why the worker ends whose step before a session was refused: for want of room, numbers or memory, or for the disk.
+// For its lane none is refused that is made in the turn in which it was chosen: that is told as want of memory.
 fn halt_before(fault: StepFault) -> Halt
     ensures { result ≡ halt_before fault }
 {
-    halt_of(fault).unwrap_or(Halt::NoPeer)
+    halt_of(fault).unwrap_or(Halt::Memory)
 }
 
 // The first call of a new session, and the looks behind it.

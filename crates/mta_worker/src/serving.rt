@@ -96,7 +96,7 @@ fn call<R: Wait, D: Disk + Drop, C: Clock + Drop, L: Link>(
             },
         }
     }
-    none_begun(Halt::NoPeer)
+    none_begun(Halt::Memory)
 }
 
 // The agent's own name, in the tables recorded last; none where none are recorded.

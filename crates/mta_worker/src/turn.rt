@@ -1,5 +1,5 @@
-//! Within one turn of the lock, which the caller took (`session.rt`): one call of the spool for a session, and the looks
-//! behind it.
+//! Within one turn of the lock, which the caller took (`session.rt`): one call of the spool for a session, and the
+//! looks behind it.
 
 ghost use Rattle.std.specs.Prelude.{◌≡◌, ◌≤◌, ◌<◌, ◌↔◌, IfErr, IfNone, IfOk, IfSome, IsTrue};
 ghost use Rattle.mta_shared.specs.Rule.{Grows};

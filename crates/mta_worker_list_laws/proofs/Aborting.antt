@@ -14,7 +14,7 @@ use Rattle.mta_transfer_laws.specs.Sessions as x
 use Rattle.mta_transfer_laws.specs.Sessions.{EndsSo, Got, IsGoodSession, KeepsTurn, Looked, Made, PlacesAbandons, Put, recv_all}
 use Rattle.mta_transfer_laws.specs.Sessions.{receiving_event, receiving_events, Refused, RefusesLast, Rests, seen_after}
 use Rattle.mta_transfer_laws.specs.Sessions.{send_all, sending_event, sending_events}
-use Rattle.mta_transfer_laws.specs.Sessions.{SessionEvent, SessionList, StepsStand, turn_after}
+use Rattle.mta_transfer_laws.specs.Sessions.{NeverFall, risen_to, SessionEvent, SessionList, StepsStand, turn_after}
 use Rattle.mta_transfer_laws.specs.Sessions.{TurnAllows}
 use Rattle.mta_session_list_laws.specs.Abandons.{abandon_at, abandoned_upto, given_up, has_before, with_abandons}
 use Rattle.mta_session_list_laws.specs.Laws.{IsIn, OwnsPieces}
@@ -62,6 +62,14 @@ stands_more history (Looked n look ∷ ys) k = (k.0, stands_more history ys k.1)
 stands_more history (Got a ∷ ys) k = stands_more history ys k
 stands_more history (Refused a ∷ ys) k = stands_more history ys k
 stands_more history (Put a ∷ ys) k = stands_more history ys k
+
+never_more : (from : ℕ) (ys : List SessionEvent) → NeverFall from ys → NeverFall from (ys ++ abort ∷ [])
+never_more from [] k = tt
+never_more from (Made p j step ∷ ys) k = (k.0, never_more (risen_to from p step) ys k.1)
+never_more from (Looked n look ∷ ys) k = (k.0, never_more n ys k.1)
+never_more from (Got a ∷ ys) k = never_more from ys k
+never_more from (Refused a ∷ ys) k = never_more from ys k
+never_more from (Put a ∷ ys) k = never_more from ys k
 
 sent_more : (lane : ℕ) (ys : List SessionEvent) → sending_events lane (ys ++ abort ∷ []) ≡ sending_events lane ys
 sent_more lane [] = refl
@@ -141,6 +149,7 @@ module _ (spells : List ℕ → Bool) (history : List Seen) (lane size window : 
   abort_behind l g allowed refuses = record {
     begun = g.begun;
     stands = stands_more history l.events g.stands;
+    never_fall = never_more (l.at + 1) l.events g.never_fall;
     sending =
         subst (λ (es : List SendEvent). IsGoodSending history lane size window (not initiator)
         (record { at = l.at; events = es })) (sym (sent_more lane l.events)) g.sending;

@@ -53,13 +53,14 @@ module _ {L : Type 0} (links : LinkView L) (good : ListsAreGood) (may_stop : Lis
 
 pub ends_agree : ListsAreGood → ListsMayStop → SessionsAgree → {D C L S : Type 0} (disks : DiskView D)
     (clocks : ClockView C) (links : LinkView L) (stations : StationView S) → EndsAgree disks clocks links stations
-ends_agree good may_stop agree disks clocks links stations spells first front entries limits before after ends base
-    tells based w =
-    let all = all_are_good good may_stop disks clocks links stations spells first front entries limits before after ends
-    base tells based w in (
+ends_agree good may_stop agree disks clocks links stations spells first front entries back limits before after ends base
+    tells based none w =
+    let all = all_are_good good may_stop disks clocks links stations spells first front entries back limits before after
+    ends base tells based none w in (
       all.0,
       all.1,
-      parts_agree links good may_stop agree spells first entries (length front)
-          ((lanes_see_histories (first ++ entries) based.possible).allowed spells tells.of_apdus) all.0,
       all.2,
+      parts_agree links good may_stop agree spells first (entries ++ back) (length front)
+          ((lanes_see_histories (first ++ (entries ++ back)) based.possible).allowed spells tells.of_apdus) all.0,
+      all.3,
     )

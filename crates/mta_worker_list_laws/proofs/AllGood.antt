@@ -4,25 +4,29 @@ use Rattle.std.proofs.Common.{inl, inr}
 use Rattle.std.proofs.Common.{◌++◌, true, refl, subst, arith}
 use Rattle.mta_edge.specs.Views.{ClockView, DiskView}
 use Rattle.mta_links.specs.Links.{LinkView, StationView}
-use Rattle.mta_transfer_rules.specs.Lanes.{LanesAllow, Seen}
+use Rattle.mta_units.specs.declared.unit.Unit.TheVariants.{EndAck}
+use Rattle.mta_transfer_rules.specs.Lanes.{lane_in, LanesAllow, Seen}
 use Rattle.mta_histories.proofs.Seeing.{lanes_see_histories}
 use Rattle.mta_records.specs.declared.step.Step.{Step}
 use Rattle.mta_session.specs.State.{is_initiator, State}
 use Rattle.mta_session.specs.declared.event.Action.{Action}
 use Rattle.mta_session.specs.declared.event.Event.{Event}
 use Rattle.mta_session.specs.declared.event.Event.TheVariants as event
+use Rattle.mta_transfer_laws.specs.Acknowledged.{HasPut, IsCompleteIn}
 use Rattle.mta_transfer_laws.specs.Sessions.{IsGoodSession, SessionList}
+use Rattle.mta_transfer_laws.proofs.Kept.{end_acks-kept}
 use Rattle.mta_session_list_laws.specs.Calls.{Call}
 use Rattle.mta_session_list_laws.specs.Laws.{ListsAreGood, ListsMayStop}
 use Rattle.mta_session_list_laws.specs.Lists.{AreValues, completed}
 use Rattle.mta_session_list_laws.specs.Lost.{abort_of, stopped}
-use Rattle.mta_worker_list_laws.specs.All.{AllAreGood, AllParts, AreGood, IsGoodPart, IsGoodWhere}
+use Rattle.mta_worker_list_laws.specs.All.{AllAreGood, AllParts, AreGood, IsGoodWhere}
 use Rattle.mta_worker_list_laws.specs.Begun.{Ended, IsOver, Stopped, Untold}
 use Rattle.mta_worker_list_laws.specs.Good.{IsListOver, IsStopped}
 use Rattle.mta_worker_list_laws.specs.Histories.{place, whole}
-use Rattle.mta_worker_list_laws.specs.Parts.{AreForNone, AreSessions, IsSession}
+use Rattle.mta_worker_list_laws.specs.Parts.{IsSession}
 use Rattle.mta_worker_list_laws.specs.Segments.{Begins, BeginsIn, IsOne, ListsAs, OnLane, Segment, told_over}
 use Rattle.mta_worker_list_laws.proofs.All.{all_have_parts}
+use Rattle.mta_worker_list_laws.proofs.Apart.{opening_apart, put_with, session_apart}
 use Rattle.mta_worker_list_laws.proofs.Segments.{has_in, is_segment}
 use Rattle.mta_worker_list_laws.proofs.Whole.{segments_are_good}
 
@@ -73,39 +77,49 @@ module _ {L : Type 0} (links : LinkView L) (good : ListsAreGood) (may_stop : Lis
       x.ran.begins x.ran.done.over on listed.0 m size window allow all.all i x.of_it e (begins_later s on i e)
       x.ran.done.leads listed.1 listed.2 listed.3 over values
 
+  -- a list of such a session, with what came of its last action, has an EndAck only with its Complete step
+  kept : (s : Segment) (x : IsSession links spells first entries s) (on : OnLane) → IsOne s all.parts
+      → s.list ≡ Some on → (listed : ListsAs spells history x.new x.calls (told_over x.ran.done.over) (Some on))
+      → (m : SessionList) (k : ℕ) → IsListOver x.calls listed.0 x.ran.done.over m → HasPut (EndAck k) m.events
+      → IsCompleteIn history on.lane k
+  kept s x on i e listed m k over put =
+      let size : ℕ = (lane_in on.lane history).size in
+      let window : ℕ = (lane_in on.lane history).window in
+      end_acks-kept spells history on.lane size window (is_initiator x.new.side)
+      (completed history on.lane size window (is_initiator x.new.side) m)
+      (one_is_good s x on i e listed m size window over (λ agreed. (refl, refl))) k
+      (put_with history on.lane (EndAck k) m.events (m.at + 1) _ put)
+
   list_good : (s : Segment) (x : IsSession links spells first entries s) (o : Option OnLane) → IsOne s all.parts
       → s.list ≡ o → ListsAs spells history x.new x.calls (told_over x.ran.done.over) o → IsGoodWhere x o
-  list_good s x None i e listed = listed
+  list_good s x None i e listed = record {
+    responds = listed.0;
+    none = listed.1;
+    apart = session_apart spells history x.ran.begins x.calls x.ran.done.over x.ran.done.leads listed.0 listed.1;
+  }
   list_good s x (Some on) i e listed = record {
     list = listed.0;
     is_list = listed.1;
+    apart = opening_apart spells history x.new x.ran.done.last x.calls on.lane listed.0 listed.1
+        x.ran.done.leads.calls_are;
     behind = list_behind spells history (place first x.ran.done.mid) (place first x.over) x.ran.done.last
         x.ran.done.wanted x.calls listed.0 x.ran.done.over;
+    kept = kept s x on i e listed;
     good = one_is_good s x on i e listed;
   }
 
-  part_good : (s : Segment) (o : AreForNone history (length first) s ⊎ IsSession links spells first entries s)
-      → IsOne s all.parts → IsGoodPart o
-  part_good s (inl none) i = tt
-  part_good s (inr x) i = list_good s x s.list i refl x.of_it.list
-
-  each_good : (ss : List Segment) (are : AreSessions links spells first entries ss)
-      → ((s : Segment) → IsOne s ss → IsOne s all.parts) → AreGood links spells first entries ss are
-  each_good [] are within = tt
-  each_good (s ∷ ss) are within =
-      (part_good s are.0 (within s (inl refl)), each_good ss are.1 (λ z i. within z (inr i)))
-
-  pub parts_are_good : AreGood links spells first entries all.parts all.sessions
-  parts_are_good = each_good all.parts all.sessions (λ s i. i)
+  pub parts_are_good : AreGood links spells first entries all.parts
+  parts_are_good s x i = list_good s x s.list i refl x.of_it.list
 
 pub all_are_good : ListsAreGood → ListsMayStop → {D C L S : Type 0} (disks : DiskView D) (clocks : ClockView C)
     (links : LinkView L) (stations : StationView S) → AllAreGood disks clocks links stations
-all_are_good good may_stop disks clocks links stations spells first front entries limits before after ends base tells
-    based w =
-    let all = all_have_parts disks clocks links stations spells first front entries limits before after ends base tells
-    based w in (
+all_are_good good may_stop disks clocks links stations spells first front entries back limits before after ends base
+    tells based none w =
+    let all = all_have_parts disks clocks links stations spells first front entries back limits before after ends base
+    tells based none w in (
       all.0,
-      parts_are_good links good may_stop spells first entries (length front)
-          ((lanes_see_histories _ based.possible).allowed spells tells.of_apdus) all.0,
       all.1,
+      parts_are_good links good may_stop spells first (entries ++ back) (length front)
+          ((lanes_see_histories _ based.possible).allowed spells tells.of_apdus) all.0,
+      all.2,
     )

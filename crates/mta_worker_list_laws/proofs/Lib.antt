@@ -37,6 +37,7 @@ pub mod Worked
 pub mod Workers
 pub mod All
 pub mod Made
+pub mod Apart
 pub mod AllGood
 pub mod Agreeing
 pub mod Sides

@@ -37,7 +37,7 @@ begun_lane l g m (h.Bind j) b = sym b.0
 begun_lane l g m step b = absurd b
 
 -- a session whose list has begun is told of no such step
-held_none : (p : Phase) (t : State) (v : x.Turn) (e : Event) (u : State) → Holds p t v → IsSome (step_by p e u) → ⊥
+pub held_none : (p : Phase) (t : State) (v : x.Turn) (e : Event) (u : State) → Holds p t v → IsSome (step_by p e u) → ⊥
 held_none (phase.AsksNewLane again) t v e u holds i = holds
 held_none phase.AsksBind t v e u holds i = holds
 held_none p t v e u holds i = i

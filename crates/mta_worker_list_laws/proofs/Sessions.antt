@@ -141,7 +141,7 @@ begins_none n m g j step b piece = b
 
 -- ---- a responder without its lane
 
-first_none : (own : List ℕ) (units : ℕ) (e : Event) (a : Action) (new : State)
+pub first_none : (own : List ℕ) (units : ℕ) (e : Event) (a : Action) (new : State)
     → Answers (new_responder own units) e → Follows (new_responder own units) e a new → has_none new.phase ≡ true
 first_none own units event.Go a new i f = ap (λ (z : State). has_none z.phase) f.1
 first_none own units any2 a new i f = absurd (never i)

@@ -45,10 +45,10 @@ has_none (phase.PutsLast e) = true
 has_none (phase.Ended e) = true
 has_none p = false
 
--- what is wanted leads to such a phase
-abbrev Unlisted : Wanted → Type 0
+-- what is wanted leads to such a phase, and puts nothing but Reject or Abort
+abbrev pub Unlisted : Wanted → Type 0
 Unlisted (Asks a u) = has_none u.phase ≡ true
-Unlisted (Puts x u) = has_none u.phase ≡ true
+Unlisted (Puts x u) = ⊥
 Unlisted (Reads u) = has_none u.phase ≡ true
 Unlisted (Goes_on u) = ⊥
 Unlisted (Excepts u found) = ⊥
@@ -59,7 +59,7 @@ Unlisted Never = Unit {0}
 
 does_unlisted : (t : State) (w : Wanted) (a : Action) (new : State) → Unlisted w → Does t w a new
     → has_none new.phase ≡ true
-does_unlisted t (Puts x u) a new i d = ap (λ (z : State). has_none z.phase) d.1 ∙ i
+does_unlisted t (Puts x u) a new i d = absurd i
 does_unlisted t (Asks q u) a new i d = ap (λ (z : State). has_none z.phase) d.1 ∙ i
 does_unlisted t (Reads u) a new i d = ap (λ (z : State). has_none z.phase) d.1 ∙ i
 does_unlisted t (Goes_on u) a new i d = absurd i
@@ -187,7 +187,7 @@ over_so : (p : Phase) (t : State) → Unlisted (wanted_in p t event.Over)
 over_so (phase.PutsLast e) t = tt
 over_so p t = tt
 
-wanted_so : (p : Phase) (t : State) (e : Event) (new : State) → has_none p ≡ true → step_by p e new ≡ None
+pub wanted_so : (p : Phase) (t : State) (e : Event) (new : State) → has_none p ≡ true → step_by p e new ≡ None
     → Unlisted (wanted_in p t e)
 wanted_so p t event.Go new i none = put_so p t i
 wanted_so p t (event.Unit x) new i none =

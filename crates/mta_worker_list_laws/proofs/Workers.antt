@@ -47,7 +47,8 @@ use Rattle.mta_worker_list_laws.specs.Histories.{AreEntries, place, TellsApdus, 
 use Rattle.mta_worker_list_laws.specs.Linked.{Began, IsRun, None_began}
 use Rattle.mta_worker_list_laws.specs.Parts.{AreForNone, AreOfRole, AreParts, AreSessions, BeginsBetween, IsForNone}
 use Rattle.mta_worker_list_laws.specs.Parts.{IsSession, plain}
-use Rattle.mta_worker_list_laws.specs.Parts.{StandInTurn, StandsFrom, WorkersHaveParts}
+use Rattle.mta_worker_list_laws.specs.Parts.{LinkParts, StandInTurn, StandsFrom}
+use Rattle.mta_worker_list_laws.specs.OfLinks.{AllForNone, AreOfLink, AreOfLinks, AreOfWorker, WorkersHaveParts}
 use Rattle.mta_worker_list_laws.specs.Segments.{AreSegments, Begins, IsOwnStep, IsSegment, OnLane, owned, Segment}
 use Rattle.mta_worker_list_laws.proofs.Annotating.{seen_behind}
 use Rattle.mta_worker_list_laws.proofs.Going.{goes_base, state_then, turn_base, turn_grows}
@@ -193,7 +194,7 @@ module _ {D C L S : Type 0} (disks : DiskView D) (clocks : ClockView C) (links :
   of_role_more [] ys a b t u = u
   of_role_more (x ∷ xs) ys a b t u = (t.0, of_role_more xs ys a.1 b t.1 u)
 
-  no_parts : (p q : Held Step) → q.own ≡ p.own → IsPrefix p.seen q.seen → Parts p q
+  abbrev no_parts : (p q : Held Step) → q.own ≡ p.own → IsPrefix p.seen q.seen → Parts p q
   no_parts p q e f = record {
     parts = [];
     are = tt;
@@ -203,7 +204,7 @@ module _ {D C L S : Type 0} (disks : DiskView D) (clocks : ClockView C) (links :
     turns = seen_more p q f;
   }
 
-  parts_more : (p m q : Held Step) → Parts p m → Parts m q → Parts p q
+  abbrev parts_more : (p m q : Held Step) → Parts p m → Parts m q → Parts p q
   parts_more p m q a b = record {
     parts = a.parts ++ b.parts;
     are = segments_more history (length first) a.parts b.parts a.are b.are;
@@ -216,6 +217,21 @@ module _ {D C L S : Type 0} (disks : DiskView D) (clocks : ClockView C) (links :
     turns = turns_more (place first p) (place first m) (place first q) a.parts b.parts a.sessions b.sessions a.turns
         b.turns;
   }
+
+  -- parts that were made for no session
+  abbrev ForNone : Held Step → Held Step → Type 0
+  ForNone p q = (a : Parts p q) × AllForNone history (length first) a.parts
+
+  none_more : (xs ys : List Segment) → AllForNone history (length first) xs → AllForNone history (length first) ys
+      → AllForNone history (length first) (xs ++ ys)
+  none_more [] ys a b = b
+  none_more (x ∷ xs) ys a b = (a.0, none_more xs ys a.1 b)
+
+  none_then : (p m q : Held Step) → ForNone p m → ForNone m q → ForNone p q
+  none_then p m q a b = (parts_more p m q a.0 b.0, none_more a.0.parts b.0.parts a.1 b.1)
+
+  no_dues : (p q : Held Step) → q.own ≡ p.own → IsPrefix p.seen q.seen → ForNone p q
+  no_dues p q e f = (no_parts p q e f, tt)
 
   -- each entry of a session stands where it began or behind
   begins_later : (p : Held Step) (s : Segment) (x : IsSession links spells first entries s)
@@ -281,6 +297,19 @@ module _ {D C L S : Type 0} (disks : DiskView D) (clocks : ClockView C) (links :
         );
       }
 
+  -- they are those of the link
+  link_parts_are : (old new : L) (p q : Held Step) (served : Served) (f : IsPrefix p.seen q.seen)
+      (run : IsRun links spells first entries theirs old new p q served)
+      → (link_parts old new p q served f run).parts
+      ≡ (links_have_parts links spells first entries theirs old new p q served run).parts
+  unfolding link_parts
+  link_parts_are old new p q served f (None_began closings are none owns same) =
+      sym (links_have_parts links spells first entries theirs old new p q served
+      (None_began closings are none owns same)).of_it
+  link_parts_are old new p q served f (Began closings t begun calls ran of_role are owns later after) =
+      sym (links_have_parts links spells first entries theirs old new p q served
+      (Began closings t begun calls ran of_role are owns later after)).of_it.1
+
   -- ---- what is due
 
   base_on : (done : Shown D C → Shown D C → Type 0) (p q : Held Step) → AreEntries p.base first entries
@@ -299,7 +328,7 @@ module _ {D C L S : Type 0} (disks : DiskView D) (clocks : ClockView C) (links :
 
   one_due : (step : Step) (p m : Held Step) → AreEntries p.base first entries
       → InTurn disks clocks (λ s t. TurnsOnce disks clocks s (Ok (Did step)) t) p m → IsPrefix m.seen entries
-      → Parts p m
+      → ForNone p m
   one_due step p m are i f =
       let old : Shown D C = i.before in
       let made : i.after.entries ≡ old.entries ++ step ∷ [] = i.did.at.1.entries in
@@ -324,37 +353,37 @@ module _ {D C L S : Type 0} (disks : DiskView D) (clocks : ClockView C) (links :
       ap (λ (n : ℕ). slice_get history n) (sym (length-append first old.entries))
       ∙ ap (λ (xs : List Step). slice_get (annotated xs) (length (first ++ old.entries))) all
       ∙ seen_behind (first ++ old.entries) step behind.0 in
-      record {
-        parts = plain (length old.entries ∷ []) ∷ [];
-        are = (
-          record {
-            begins = tt;
-            lists = λ k lane g other hit get piece. absurd (
-                let place : k ≡ length old.entries = one_hit k (length old.entries) hit in
-                let same = some_same _ _ (sym there ∙ ap (λ (n : ℕ). slice_get history (length first + n)) (sym place)
-                ∙ get) in
-                due_plain (after (first ++ old.entries)) old.current _ _ lane g step other i.did.at.0 same piece);
-            once = λ k lane g hit begins. tt;
-          },
-          tt,
-        );
-        sessions = (
-          inl (record {
-            none = refl;
-            entries = λ k x hit get.
-                let place : k ≡ length old.entries = one_hit k (length old.entries) hit in
-                let same = some_same _ _ (sym there ∙ ap (λ (n : ℕ). slice_get history (length first + n)) (sym place)
-                ∙ get) in
-                subst IsForNone same
-                (due_for_none (after (first ++ old.entries)) old.current _
-                (when (after (first ++ old.entries)) step) step i.did.at.0);
-          }),
-          tt,
-        );
-        of_role = (tt, tt);
-        owns = owned_now ∙ ap (λ (n : ℕ). p.own ++ row (length old.entries) n) one;
-        turns = (place first m, seen_more p m (due_grows step p m i), omega arith);
-      }
+      let for_none : AreForNone history (length first) (plain (length old.entries ∷ [])) = record {
+        none = refl;
+        entries = λ k x hit get.
+            let place : k ≡ length old.entries = one_hit k (length old.entries) hit in
+            let same = some_same _ _ (sym there ∙ ap (λ (n : ℕ). slice_get history (length first + n)) (sym place)
+            ∙ get) in
+            subst IsForNone same
+            (due_for_none (after (first ++ old.entries)) old.current _
+            (when (after (first ++ old.entries)) step) step i.did.at.0);
+      } in (
+        record {
+          parts = plain (length old.entries ∷ []) ∷ [];
+          are = (
+            record {
+              begins = tt;
+              lists = λ k lane g other hit get piece. absurd (
+                  let place : k ≡ length old.entries = one_hit k (length old.entries) hit in
+                  let same = some_same _ _ (sym there
+                  ∙ ap (λ (n : ℕ). slice_get history (length first + n)) (sym place) ∙ get) in
+                  due_plain (after (first ++ old.entries)) old.current _ _ lane g step other i.did.at.0 same piece);
+              once = λ k lane g hit begins. tt;
+            },
+            tt,
+          );
+          sessions = (inl for_none, tt);
+          of_role = (tt, tt);
+          owns = owned_now ∙ ap (λ (n : ℕ). p.own ++ row (length old.entries) n) one;
+          turns = (place first m, seen_more p m (due_grows step p m i), omega arith);
+        },
+        (for_none, tt),
+      )
 
   dues_grow : (p : Held Step) (ms : List (Held Step)) (q : Held Step) → Dues disks clocks p ms q
       → IsPrefix p.seen q.seen
@@ -369,11 +398,11 @@ module _ {D C L S : Type 0} (disks : DiskView D) (clocks : ClockView C) (links :
       dues_base m ms q (base_on (λ s t. TurnsOnce disks clocks s (Ok (Did d.0.0)) t) p m are d.0.1) d.1
 
   all_dues : (p : Held Step) (ms : List (Held Step)) (q : Held Step) → AreEntries p.base first entries
-      → Dues disks clocks p ms q → IsPrefix q.seen entries → Parts p q
-  all_dues p [] q are d f = no_parts p q (ap (λ (h : Held Step). h.own) d) (dues_grow p [] q d)
+      → Dues disks clocks p ms q → IsPrefix q.seen entries → ForNone p q
+  all_dues p [] q are d f = no_dues p q (ap (λ (h : Held Step). h.own) d) (dues_grow p [] q d)
   all_dues p (m ∷ ms) q are d f =
       let here : IsPrefix m.seen entries = prefix_trans m.seen q.seen entries (dues_grow m ms q d.1) f in
-      parts_more p m q (one_due d.0.0 p m are d.0.1 here)
+      none_then p m q (one_due d.0.0 p m are d.0.1 here)
       (all_dues m ms q (base_on (λ s t. TurnsOnce disks clocks s (Ok (Did d.0.0)) t) p m are d.0.1) d.1 f)
 
   quiet_same : (moment : ℕ) (s t : Shown D C) → TurnsOnce disks clocks s (Ok (Quiet moment)) t → t.entries ≡ s.entries
@@ -397,21 +426,21 @@ module _ {D C L S : Type 0} (disks : DiskView D) (clocks : ClockView C) (links :
   quiet_owns done p q i e = still_owns disks clocks links spells tells first entries done p q i e
 
   settled_parts : (p q : Held Step) (halt : Option Halt) → AreEntries p.base first entries
-      → HasSettled disks clocks p q halt → IsPrefix q.seen entries → Parts p q
+      → HasSettled disks clocks p q halt → IsPrefix q.seen entries → ForNone p q
   settled_parts p q halt are (Is_quiet ms mid moment d i) f =
       let done = λ (s t : Shown D C). TurnsOnce disks clocks s (Ok (Quiet moment)) t in
       let e : i.after.entries ≡ i.before.entries = quiet_same moment i.before i.after i.did in
       let front : IsPrefix mid.seen entries =
       prefix_trans mid.seen q.seen entries (still_grows done mid q i e) f in
-      parts_more p mid q (all_dues p ms mid are d front)
-      (no_parts mid q (quiet_owns done mid q i e) (still_grows done mid q i e))
+      none_then p mid q (all_dues p ms mid are d front)
+      (no_dues mid q (quiet_owns done mid q i e) (still_grows done mid q i e))
   settled_parts p q halt are (Is_refused ms mid fault d i) f =
       let done = λ (s t : Shown D C). TurnsOnce disks clocks s (Err fault) t in
       let e : i.after.entries ≡ i.before.entries = refused_same fault i.before i.after i.did in
       let front : IsPrefix mid.seen entries =
       prefix_trans mid.seen q.seen entries (still_grows done mid q i e) f in
-      parts_more p mid q (all_dues p ms mid are d front)
-      (no_parts mid q (quiet_owns done mid q i e) (still_grows done mid q i e))
+      none_then p mid q (all_dues p ms mid are d front)
+      (no_dues mid q (quiet_owns done mid q i e) (still_grows done mid q i e))
 
   settled_grows : (p q : Held Step) (halt : Option Halt) → HasSettled disks clocks p q halt → IsPrefix p.seen q.seen
   settled_grows p q halt (Is_quiet ms mid moment d i) =
@@ -437,10 +466,10 @@ module _ {D C L S : Type 0} (disks : DiskView D) (clocks : ClockView C) (links :
       subst (λ (z : Held Step). IsPrefix p.seen z.seen) (sym b.0) (prefix_self p.seen)
 
   behind_parts : (p : Held Step) (why : Option Halt) (q : Held Step) (halt : Option Halt)
-      → AreEntries p.base first entries → Behind disks clocks p why q halt → IsPrefix q.seen entries → Parts p q
+      → AreEntries p.base first entries → Behind disks clocks p why q halt → IsPrefix q.seen entries → ForNone p q
   behind_parts p None q halt are b f = settled_parts p q halt are b f
   behind_parts p (Some why) q halt are b f =
-      no_parts p q (ap (λ (h : Held Step). h.own) b.0) (behind_grows p (Some why) q halt b)
+      no_dues p q (ap (λ (h : Held Step). h.own) b.0) (behind_grows p (Some why) q halt b)
 
   behind_base : (p : Held Step) (why : Option Halt) (q : Held Step) (halt : Option Halt)
       → AreEntries p.base first entries → Behind disks clocks p why q halt → AreEntries q.base first entries
@@ -542,18 +571,33 @@ module _ {D C L S : Type 0} (disks : DiskView D) (clocks : ClockView C) (links :
   base_of p q are e = subst (λ (b : Base). AreEntries b first entries) (sym e) are
 
   serves_parts : (limits : Limits) (x y : AtStation S) (halt : Option Halt) → AreEntries x.pass.base first entries
-      → stations.role x.station ≡ theirs → Serves disks clocks links stations limits x y halt
-      → IsPrefix y.pass.seen entries → Parts x.pass y.pass
+      → stations.role x.station ≡ theirs → (s : Serves disks clocks links stations limits x y halt)
+      → IsPrefix y.pass.seen entries
+      → (b : Parts x.pass y.pass) × AreOfLink disks clocks links stations spells first entries theirs s b.parts
   serves_parts limits x y halt are e s f =
       let g = link_grown (stations.role s.given) limits.units x.pass s.link s.left s.mid s.served s.session in
       let front : IsPrefix s.mid.seen entries =
       prefix_trans s.mid.seen y.pass.seen entries (behind_grows s.mid s.served.halt y.pass halt s.behind) f in
-      parts_more x.pass s.mid y.pass
-      (link_parts s.link s.left x.pass s.mid s.served g.seen
-      (subst (λ (r : Role). IsRun links spells first entries r s.link s.left x.pass s.mid s.served) (s.kept ∙ e)
-      (links_are_run disks clocks links spells first entries (stations.role s.given) limits.units x.pass s.link s.left s.mid
-      s.served tells are s.session front)))
-      (behind_parts s.mid s.served.halt y.pass halt (base_of x.pass s.mid are g.base) s.behind f)
+      let run : IsRun links spells first entries theirs s.link s.left x.pass s.mid s.served =
+      subst (λ (r : Role). IsRun links spells first entries r s.link s.left x.pass s.mid s.served) (s.kept ∙ e)
+      (links_are_run disks clocks links spells first entries (stations.role s.given) limits.units x.pass s.link s.left
+      s.mid s.served tells are s.session front) in
+      let one : Parts x.pass s.mid = link_parts s.link s.left x.pass s.mid s.served g.seen run in
+      let dues : ForNone s.mid y.pass =
+      behind_parts s.mid s.served.halt y.pass halt (base_of x.pass s.mid are g.base) s.behind f in
+      let all : Parts x.pass y.pass = parts_more x.pass s.mid y.pass one dues.0 in (
+        all,
+        record {
+          role = s.kept ∙ e;
+          run = run;
+          parts = links_have_parts links spells first entries theirs s.link s.left x.pass s.mid s.served run;
+          dues = dues.0.parts;
+          none = dues.1;
+          are = ap (λ (ss : List Segment). ss ++ dues.0.parts)
+              (link_parts_are s.link s.left x.pass s.mid s.served g.seen run);
+          owns = all.owns;
+        },
+      )
 
   serves_grows : (limits : Limits) (x y : AtStation S) (halt : Option Halt)
       → Serves disks clocks links stations limits x y halt → IsPrefix x.pass.seen y.pass.seen
@@ -589,25 +633,32 @@ module _ {D C L S : Type 0} (disks : DiskView D) (clocks : ClockView C) (links :
 
   all_parts : (limits : Limits) (x : AtStation S) (zs : List (AtStation S)) (y : AtStation S)
       → AreEntries x.pass.base first entries → stations.role x.station ≡ theirs
-      → AllServed disks clocks links stations limits x zs y → IsPrefix y.pass.seen entries → Parts x.pass y.pass
+      → (a : AllServed disks clocks links stations limits x zs y) → IsPrefix y.pass.seen entries
+      → (b : Parts x.pass y.pass)
+      × AreOfLinks disks clocks links stations spells first entries theirs limits x zs y a b.parts
   all_parts limits x [] y are e a f =
-      no_parts x.pass y.pass (ap (λ (z : AtStation S). z.pass.own) a) (all_grow limits x [] y a)
+      (no_parts x.pass y.pass (ap (λ (z : AtStation S). z.pass.own) a) (all_grow limits x [] y a), refl)
   all_parts limits x (z ∷ zs) y are e a f =
       let front : IsPrefix z.pass.seen entries =
       prefix_trans z.pass.seen y.pass.seen entries (all_grow limits z zs y a.1) f in
-      parts_more x.pass z.pass y.pass (serves_parts limits x z None are e a.0 front)
-      (all_parts limits z zs y (serves_base limits x z None are a.0) (a.0.role ∙ e) a.1 f)
+      let here = serves_parts limits x z None are e a.0 front in
+      let more = all_parts limits z zs y (serves_base limits x z None are a.0) (a.0.role ∙ e) a.1 f in
+      (parts_more x.pass z.pass y.pass here.0 more.0, (here.0.parts, more.0.parts, refl, here.1, more.1))
 
   up_to : (limits : Limits) (x : AtStation S) (zs : List (AtStation S)) (y : AtStation S) (q : Held Step)
       → AreEntries x.pass.base first entries → stations.role x.station ≡ theirs
-      → AllServed disks clocks links stations limits x zs y → q ≡ y.pass → IsPrefix q.seen entries → Parts x.pass q
+      → (a : AllServed disks clocks links stations limits x zs y) → q ≡ y.pass → IsPrefix q.seen entries
+      → (b : Parts x.pass q)
+      × AreOfLinks disks clocks links stations spells first entries theirs limits x zs y a b.parts
   up_to limits x zs y q are at a e f =
-      subst (λ (h : Held Step). Parts x.pass h) (sym e)
+      subst (λ (h : Held Step). (b : Parts x.pass h)
+      × AreOfLinks disks clocks links stations spells first entries theirs limits x zs y a b.parts) (sym e)
       (all_parts limits x zs y are at a (subst (λ (h : Held Step). IsPrefix h.seen entries) e f))
 
   pub worked_parts : (limits : Limits) (x : AtStation S) (last : S) (q : Held Step) (end : WorkerEnd)
       → AreEntries x.pass.base first entries → stations.role x.station ≡ theirs
-      → HasWorked disks clocks links stations limits x last q end → IsPrefix q.seen entries → Parts x.pass q
+      → (did : HasWorked disks clocks links stations limits x last q end) → IsPrefix q.seen entries
+      → (b : Parts x.pass q) × AreOfWorker disks clocks links stations spells first entries theirs did b.parts
   worked_parts limits x last q end are at (At_limit zs y a le is e) f = up_to limits x zs y q are at a e f
   worked_parts limits x last q end are at (No_link zs y a next e) f = up_to limits x zs y q are at a e f
   worked_parts limits x last q end are at (Station_failed zs y a rose served e) f =
@@ -616,10 +667,16 @@ module _ {D C L S : Type 0} (disks : DiskView D) (clocks : ClockView C) (links :
       let front : IsPrefix z.pass.seen entries = subst (λ (h : Held Step). IsPrefix h.seen entries) e f in
       let before : IsPrefix y.pass.seen entries =
       prefix_trans y.pass.seen z.pass.seen entries (serves_grows limits y z (Some halt) s) front in
-      subst (λ (h : Held Step). Parts x.pass h) (sym e)
-      (parts_more x.pass y.pass z.pass (all_parts limits x zs y are at a before)
-      (serves_parts limits y z (Some halt) (all_base limits x zs y are a)
-      (all_roles limits x zs y a ∙ at) s front))
+      let served = all_parts limits x zs y are at a before in
+      let last_one = serves_parts limits y z (Some halt) (all_base limits x zs y are a)
+      (all_roles limits x zs y a ∙ at) s front in
+      subst (λ (h : Held Step). (b : Parts x.pass h) × ((seen : List Segment) × (here : List Segment)
+      × (b.parts ≡ seen ++ here)
+      × AreOfLinks disks clocks links stations spells first entries theirs limits x zs y a seen
+      × AreOfLink disks clocks links stations spells first entries theirs s here)) (sym e) (
+        parts_more x.pass y.pass z.pass served.0 last_one.0,
+        (served.0.parts, last_one.0.parts, refl, served.1, last_one.1),
+      )
 
 pub workers_have_parts : {D C L S : Type 0} (disks : DiskView D) (clocks : ClockView C) (links : LinkView L)
     (stations : StationView S) → WorkersHaveParts disks clocks links stations

@@ -9,13 +9,14 @@ use Rattle.mta_transfer_laws.specs.Sessions.{SessionList}
 use Rattle.mta_session.specs.State.{is_initiator}
 use Rattle.mta_session.specs.declared.limits.Limits.{Limits}
 use Rattle.mta_session_list_laws.specs.Lists.{AreValues, completed}
+use Rattle.mta_shared.specs.Counts.{row}
 use Rattle.mta_shared.specs.declared.history.Base.{Base}
 use Rattle.mta_stations.specs.declared.end.WorkerEnd.{WorkerEnd}
 use Rattle.mta_worker.specs.Wholes.{AreWorkers}
-use Rattle.mta_worker_list_laws.specs.All.{AllParts, AreGood, roles_of}
+use Rattle.mta_worker_list_laws.specs.All.{AllParts, AreGood, AreOfStations, roles_of}
 use Rattle.mta_worker_list_laws.specs.Good.{IsListOver}
 use Rattle.mta_worker_list_laws.specs.Histories.{AreEntries, TellsApdus, whole}
-use Rattle.mta_worker_list_laws.specs.Parts.{IsSession}
+use Rattle.mta_worker_list_laws.specs.Parts.{AreForNone, IsSession, plain}
 use Rattle.mta_worker_list_laws.specs.Segments.{IsOne, ListsAs, OnLane, Segment, told_over}
 
 -- It is the list of a session of these parts that had the lane, as an initiator or not: with what came of its last
@@ -55,11 +56,14 @@ PartsAgree links spells first entries parts =
 module _ {D C L S : Type 0} (disks : DiskView D) (clocks : ClockView C) (links : LinkView L)
     (stations : StationView S) where
   -- The lists of the sessions that workers served are good, and the ends agree. The stations are those of the workers.
+  -- Behind the workers there may be entries that are made for no session.
   abbrev pub EndsAgree : Type 0
   EndsAgree =
-      (spells : List ℕ → Bool) (first front entries : List Step) (limits : Limits) (before after : List S)
-      (ends : List WorkerEnd) (base : Base) → TellsApdus spells → AreEntries base first entries
-      → AreWorkers disks clocks links stations limits before after ends front base entries
-      → (all : AllParts links spells first entries (length front))
-      × AreGood links spells first entries all.parts all.sessions × PartsAgree links spells first entries all.parts
-      × (roles_of all ≡ map stations.role before)
+      (spells : List ℕ → Bool) (first front entries back : List Step) (limits : Limits) (before after : List S)
+      (ends : List WorkerEnd) (base : Base) → TellsApdus spells → AreEntries base first (entries ++ back)
+      → AreForNone (whole first (entries ++ back)) (length first) (plain (row (length entries) (length back)))
+      → (w : AreWorkers disks clocks links stations limits before after ends front base entries)
+      → (all : AllParts links spells first (entries ++ back) (length front))
+      × AreOfStations disks clocks links stations spells first (entries ++ back) limits w.dealt w.done all.by_station
+      × AreGood links spells first (entries ++ back) all.parts
+      × PartsAgree links spells first (entries ++ back) all.parts × (roles_of all ≡ map stations.role before)

@@ -6,6 +6,8 @@ pub mod Linked
 pub mod Good
 pub mod Segments
 pub mod Parts
+pub mod OfLinks
+pub mod Apart
 pub mod Examples
 pub mod All
 pub mod Agreeing

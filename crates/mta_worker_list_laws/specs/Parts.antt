@@ -2,22 +2,17 @@
 use Rattle.std.specs.Prelude.{◌≡◌, ◌⊎◌, ◌<◌, ◌≤◌, ℕ, ◌+◌, Bool, List, [], ◌∷◌, ◌++◌}
 use Rattle.std.specs.Prelude.{length, slice_get, Option, None, Some}
 use mathlib.Core.Logic.{inl, inr}
-use mathlib.Core.List.{IsPrefix}
-use Rattle.mta_edge.specs.Views.{ClockView, DiskView}
-use Rattle.mta_links.specs.Links.{LinkView, StationView}
+use Rattle.mta_links.specs.Links.{LinkView}
 use Rattle.mta_links.specs.declared.role.Role.{Role}
 use Rattle.mta_transfer_rules.specs.Lanes.{Abandon, CloseLane, Elsewhere, On, Seen}
 use Rattle.mta_records.specs.declared.step.Step.{Step}
 use Rattle.mta_session.specs.State.{State}
-use Rattle.mta_session.specs.declared.limits.Limits.{Limits}
 use Rattle.mta_session_list_laws.specs.Calls.{Call}
 use Rattle.mta_shared.specs.Counts.{times}
 use Rattle.mta_shared.specs.Held.{Held}
-use Rattle.mta_stations.specs.declared.end.WorkerEnd.{WorkerEnd}
-use Rattle.mta_worker.specs.Working.{AtStation, HasWorked}
 use Rattle.mta_worker.specs.declared.session.Served.{Served}
 use Rattle.mta_worker_list_laws.specs.Begun.{HasRun}
-use Rattle.mta_worker_list_laws.specs.Histories.{AreEntries, place, TellsApdus, whole}
+use Rattle.mta_worker_list_laws.specs.Histories.{place, whole}
 use Rattle.mta_worker_list_laws.specs.Linked.{Began, IsRun, None_began}
 use Rattle.mta_worker_list_laws.specs.Segments.{AreSegments, IsOf, OnLane, owned, Segment}
 
@@ -127,13 +122,3 @@ pub record AreParts {L : Type 0} (links : LinkView L) (spells : List ℕ → Boo
   pub of_role : AreOfRole links spells first entries role parts sessions
   pub owns : q.own ≡ p.own ++ owned parts
   pub turns : StandInTurn links spells first entries (place first p) (place first q) parts sessions
-
-module _ {D C L S : Type 0} (disks : DiskView D) (clocks : ClockView C) (links : LinkView L)
-    (stations : StationView S) where
-  -- All entries that a worker made are in such parts.
-  abbrev pub WorkersHaveParts : Type 0
-  WorkersHaveParts =
-      (spells : List ℕ → Bool) (first entries : List Step) (limits : Limits) (x : AtStation S) (last : S)
-      (q : Held Step) (end : WorkerEnd) → TellsApdus spells → AreEntries x.pass.base first entries
-      → HasWorked disks clocks links stations limits x last q end → IsPrefix q.seen entries
-      → AreParts links spells first entries (stations.role x.station) x.pass q

@@ -6,7 +6,8 @@ ghost use Rattle.mta_worker_list_laws.specs.Examples.{TakesOne};
 ghost use Rattle.mta_worker_list_laws.specs.Good.{SessionsAreGood, SessionsHaveLists};
 ghost use Rattle.mta_worker_list_laws.specs.Histories.{is_apdu, TellsApdus};
 ghost use Rattle.mta_worker_list_laws.specs.Linked.{LinksAreRun};
-ghost use Rattle.mta_worker_list_laws.specs.Parts.{LinksHaveParts, WorkersHaveParts};
+ghost use Rattle.mta_worker_list_laws.specs.OfLinks.{WorkersHaveParts};
+ghost use Rattle.mta_worker_list_laws.specs.Parts.{LinksHaveParts};
 ghost use Rattle.mta_worker_list_laws.specs.Segments.{ListsOwnSteps, SegmentsAreGood, SessionsAreSegments};
 ghost use Rattle.mta_worker_list_laws.specs.Sides.{SidesAgree};
 ghost use Rattle.mta_worker_list_laws.specs.Stations.{StationsAgree};
@@ -73,8 +74,8 @@ pub fn worked_row()
     ensures { TakesOne }
 {}
 
-/// All entries that a worker made are in such parts of the history, each of a session that ran over a link of its
-/// station, or made for none.
+/// All entries that a worker made are in such parts of the history, link by link: each is of the session that ran over
+/// that link of its station, or was made for none.
 pub fn workers_have_parts<D: Disk + Drop, C: Clock + Drop, L: Link, S: Station>()
     ensures { WorkersHaveParts D.model C.model L.model S.model }
 {}

@@ -32,14 +32,19 @@ pub fn link(alloc: Global, given: &Given) -> Result<MemLink> {
     Ok(MemLink::new(alloc, input, [given.fails].to_vec(alloc)?))
 }
 
+/// The name of a peer.
+pub fn word_of(alloc: Global, text: &str) -> Result<Word> {
+    match Word::from_octets(octets(alloc, text.as_bytes())?) {
+        Some(word) => Ok(word),
+        None => Err(anyhow!("no name")),
+    }
+}
+
 // The role that a row names.
 fn role_of(alloc: Global, text: &str) -> Result<Role> {
-    let Some((_, peer)) = text.split_once(' ') else {
-        return Ok(Role::In);
-    };
-    match Word::from_octets(octets(alloc, peer.as_bytes())?) {
-        Some(peer) => Ok(Role::Out(peer)),
-        None => Err(anyhow!("no name")),
+    match text.split_once(' ') {
+        None => Ok(Role::In),
+        Some((_, peer)) => Ok(Role::Out(word_of(alloc, peer)?)),
     }
 }
 

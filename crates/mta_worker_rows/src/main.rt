@@ -16,6 +16,10 @@
 //! given: behind it stands `in`, or `out PEER`. It is answered how many links came back, how many of them were
 //! closed, and why it ended. `put` is answered what the link of this number was put.
 //!
+//! `batch` is answered the lowest item with recipients for the peer behind it, and all these, and `waiting` the items
+//! that wait for it. `start RECIPIENTS ITEM LANE` starts the next activity of a lane of generation 1, where `3-5`
+//! stands for three recipients. It is answered its number and how many octets it has, or why it was refused.
+//!
 //! `overtakes` has two sessions of responders over one spool. The first is carried on up to its question of this name,
 //! and then the second is carried on to its end, and then the first. It is answered what the question was, and how
 //! both ended.
@@ -29,6 +33,7 @@
 //! The rows were worked out by hand from the protocol of a lane, the format of the journal and X.411.
 #![tactic(auto)]
 
+mod asked;
 mod faults;
 mod given;
 mod held;
@@ -37,6 +42,7 @@ mod overtaking;
 mod spools;
 mod works;
 
+use crate::asked::{batch, start, waiting};
 use crate::faults::{failing, stops};
 use crate::held::Held;
 use crate::overtaking::overtakes;
@@ -61,6 +67,9 @@ fn answer_of<R: Wait>(
         "mailbox" => mailbox(alloc, held, fields.rest),
         "works" => works(rt, alloc, held, fields.rest),
         "put" => held.put(alloc, fields.rest),
+        "batch" => batch(alloc, held, fields.rest),
+        "waiting" => waiting(alloc, held, fields.rest),
+        "start" => start(alloc, held, fields),
         "overtakes" => overtakes(alloc, held, fields.rest),
         "failing" => failing(rt, alloc, held, fields),
         "stops" => stops(rt, alloc, held, fields),

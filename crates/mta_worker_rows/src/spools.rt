@@ -14,7 +14,8 @@ use std::alloc::Global;
 // More steps than are due in a row.
 const MOST_STEPS: u32 = 1000;
 
-fn spool_of(alloc: Global, held: &Held) -> Result<Spool<SafeDisk, MemClock>> {
+/// The spool that the disk holds.
+pub fn spool_of(alloc: Global, held: &Held) -> Result<Spool<SafeDisk, MemClock>> {
     opened(alloc, held, safe_disk(alloc, held.disk.as_slice())?)
 }
 

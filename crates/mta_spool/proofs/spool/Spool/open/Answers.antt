@@ -1,5 +1,5 @@
 use Rattle.std.proofs.Common.{Global, List, ℕ, Vec, sym, ap, ◌∙◌}
-use Rattle.mta_journal.specs.Opening.{synced, same_since}
+use Rattle.mta_journal.specs.Opening.{synced}
 use Rattle.mta_state.specs.Kept.{state_of}
 use Rattle.mta_spool.proofs.Keeping.{keeps_opened}
 use Rattle.mta_spool.proofs.Openings.{stands_opened, history_opened, replay_refused, open_refused}
@@ -23,8 +23,7 @@ returns-in-Ok-replay-clause-opened g c =
       later = c.in-Ok.ensures.later;
       told = c.in-Ok.ensures.told;
       images = c.in-Ok.ensures.images;
-      since = λ f told. same_since g.D.Disk.model f c.args.disk c.in-Ok.opened.journal.disk
-          (g.D.Disk.model.moment c.in-Ok.opened.synced.value) (c.in-Ok.ensures.since f told);
+      sync = c.in-Ok.ensures.sync;
       synced = c.in-Ok.ensures.since;
       none = c.new-entries.ensures;
       disk = c.of-handed.ensures;
@@ -41,7 +40,10 @@ returns-in-Err-replay-clause-refused g c =
     rw c.end.ensures
     (replay_refused g.D.Disk.model c.args.disk c.in-Ok.opened.journal.disk c.in-Ok.ensures.later c.in-Ok.ensures.kept c.in-Ok.ensures.told c.in-Ok.ensures.images
     (λ f told.
-    synced (same_since g.D.Disk.model f c.args.disk c.in-Ok.opened.journal.disk
-    (g.D.Disk.model.moment c.in-Ok.opened.synced.value) (c.in-Ok.ensures.since f told)))
+    synced (record {
+      first = c.in-Ok.opened.synced.value;
+      sync = c.in-Ok.ensures.sync;
+      same = c.in-Ok.ensures.since f told;
+    }))
     c.in-Ok.opened.bodies.items c.in-Err-replay.why c.in-Ok.ensures.stands
     c.in-Err-replay.ensures.stopped)
