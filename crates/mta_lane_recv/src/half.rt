@@ -1,17 +1,28 @@
 //! The receiving half of a lane.
 
 ghost use Rattle.std.specs.Prelude.{◌≡◌, ◌<◌};
-ghost use Rattle.mta_lane_recv.specs.Half.{Secure, Complete, is_done, takes_piece, IsOfHigh};
-ghost use Rattle.mta_lane_recv.specs.Answers.{StartAnswers, StepAnswers, ResumeAnswers, DiscardAnswers, Admits, Takes};
+ghost use Rattle.mta_lane_recv.specs.Half.{Secure, Complete, Drop as DropStep, IsOfHigh};
+ghost use Rattle.mta_lane_recv.specs.Half.{is_possible, made, may_start, longest_piece};
 
-use crate::state::{Fresh, Last, RecvFault};
+use crate::state::Last;
 use std::marker::Model;
 
 /// The most octets of one activity.
 pub const LIMIT: u32 = 2_097_152;
 
+/// The most octets of a piece. `checkpoint` is in units of 1,024 octets, and with 0 an activity is one piece.
+pub fn longest_piece(checkpoint: u32) -> u64
+    ensures { result ≡ longest_piece checkpoint }
+{
+    if checkpoint == 0 {
+        u64::from(LIMIT)
+    } else {
+        1024 * u64::from(checkpoint)
+    }
+}
+
 /// The receiving half of a lane: its generation, and what stands durably.
-#[derive(Drop)]
+#[derive(Clone, Copy, Drop)]
 pub struct RecvHalf {
     generation: u64,
     high: u32,
@@ -25,6 +36,8 @@ impl Model for RecvHalf {
 
     ghost view = { λ h. record { generation = h.generation; high = h.high; last = h.last } };
 
+    ghost inverse = { λ h. record { generation = h.generation; high = h.high; last = h.last } };
+
     ghost invariant = { λ h. IsOfHigh h.high h.last };
 }
 
@@ -35,11 +48,7 @@ impl RecvHalf {
     pub fn new(generation: u64) -> RecvHalf
         ensures { result ≡ record { generation = generation; high = 0; last = last.None } }
     {
-        RecvHalf {
-            generation,
-            high: 0,
-            last: Last::None,
-        }
+        RecvHalf::restore(generation, 0, Last::None)
     }
 
     /// A half in this state. A part, or what is done, is of the highest activity.
@@ -71,175 +80,57 @@ impl RecvHalf {
 
     /// What stands.
     pub fn last(&self) -> Last
-        ensures { result ≡ self.now.last }
+        ensures exact { result ≡ self.now.last }
+        ensures of_high { IsOfHigh self.now.high result }
     {
         self.last
     }
 
-    /// Start: whether the activity may start. Unexpected unless it is above the highest and no part stands.
-    pub fn on_start(&self, generation: u64, activity: u32) -> Result<(), RecvFault>
-        ensures { StartAnswers self.now generation activity result }
+    /// Whether the activity may start: it is above the highest, and no part stands.
+    pub fn may_start(&self, activity: u32) -> bool
+        ensures { result ≡ may_start self.now activity }
     {
-        self.admit(generation)?;
+        self.high < activity && !self.last.is_partial()
+    }
+
+    /// Whether this piece begins a new activity, goes on from what stands, or replaces a part of it.
+    pub fn takes_piece(&self, activity: u32, number: u32) -> bool
+        ensures secures { result ≡ is_possible self.now (Secure activity number) }
+        ensures completes { result ≡ is_possible self.now (Complete activity number) }
+    {
         match self.last {
-            Last::Partial { .. } => Err(RecvFault::Unexpected { last: self.last }),
-            _ => {
-                if activity > self.high {
-                    Ok(())
-                } else {
-                    Err(RecvFault::Unexpected { last: self.last })
-                }
-            }
+            Last::None => self.high < activity && number == 1,
+            Last::Partial {
+                activity: part,
+                pieces,
+            } => activity == part && 1 <= number && number - 1 <= pieces,
+            Last::Done { .. } => self.high < activity && number == 1,
         }
     }
 
-    /// Sync behind piece `number`: the piece stands from now on, and no piece above it. `length` is the
-    /// octet count of the pieces 1 to `number`. Again where the activity is done.
-    ///
-    /// Unexpected unless the piece begins a new activity, goes on from the part that stands or replaces
-    /// a piece of it; TooLong where it would be New and `length` is above the limit.
-    pub fn on_sync(
-        &mut self,
-        generation: u64,
-        activity: u32,
-        number: u32,
-        length: u32,
-    ) -> Result<Fresh, RecvFault>
-        ensures { StepAnswers self.old generation activity length (Secure activity number) result self.new }
+    /// A piece stands from now on, and no piece above it.
+    pub fn secure(&mut self, activity: u32, number: u32)
+        ensures { self.new ≡ made self.old (Secure activity number) }
     {
-        self.admit(generation)?;
-        if is_done(self.last, activity) {
-            return Ok(Fresh::Again);
-        }
-        self.takes(activity, number, length)?;
         self.high = activity;
         self.last = Last::Partial {
             activity,
             pieces: number,
         };
-        Ok(Fresh::New)
     }
 
-    /// End behind piece `number`, the last: the activity is done. The answers are those of `on_sync`.
-    pub fn on_end(
-        &mut self,
-        generation: u64,
-        activity: u32,
-        number: u32,
-        length: u32,
-    ) -> Result<Fresh, RecvFault>
-        ensures { StepAnswers self.old generation activity length (Complete activity number) result self.new }
+    /// The activity is done: its last piece has come.
+    pub fn complete(&mut self, activity: u32)
+        ensures { self.new ≡ record self.old { high = activity; last = last.Done activity } }
     {
-        self.admit(generation)?;
-        if is_done(self.last, activity) {
-            return Ok(Fresh::Again);
-        }
-        self.takes(activity, number, length)?;
         self.high = activity;
         self.last = Last::Done { activity };
-        Ok(Fresh::New)
     }
 
-    /// Resume: the activity goes on behind piece `number`. Again where it is done.
-    ///
-    /// Unrecognized where nothing of the activity stands; Unexpected where `number` is 0 or above the
-    /// pieces that stand.
-    pub fn on_resume(&self, generation: u64, activity: u32, number: u32) -> Result<Fresh, RecvFault>
-        ensures { ResumeAnswers self.now generation activity number result }
+    /// What stands is given up.
+    pub fn drop_part(&mut self)
+        ensures { self.new ≡ record self.old { last = last.None } }
     {
-        self.admit(generation)?;
-        match self.last {
-            Last::Done { activity: done } if done == activity => {
-                if number == 0 {
-                    Err(RecvFault::Unexpected { last: self.last })
-                } else {
-                    Ok(Fresh::Again)
-                }
-            }
-            Last::Partial {
-                activity: part,
-                pieces,
-            } if part == activity => {
-                if number == 0 || number > pieces {
-                    Err(RecvFault::Unexpected { last: self.last })
-                } else {
-                    Ok(Fresh::New)
-                }
-            }
-            _ => Err(RecvFault::Unrecognized {
-                activity,
-                last: self.last,
-            }),
-        }
-    }
-
-    /// Discard: a part of the activity is dropped, and the answer says whether one stood.
-    ///
-    /// Completed where the activity is done.
-    pub fn on_discard(&mut self, generation: u64, activity: u32) -> Result<bool, RecvFault>
-        ensures { DiscardAnswers self.old generation activity result self.new }
-    {
-        self.admit(generation)?;
-        match self.last {
-            Last::Done { activity: done } if done == activity => {
-                Err(RecvFault::Completed { activity })
-            }
-            Last::Partial { activity: part, .. } if part == activity => {
-                self.last = Last::None;
-                Ok(true)
-            }
-            _ => Ok(false),
-        }
-    }
-
-    /// Whether a call of this generation is one of the half's own.
-    fn admit(&self, generation: u64) -> Result<(), RecvFault>
-        ensures { Admits self.now generation result }
-    {
-        if generation < self.generation {
-            Err(RecvFault::Fenced {
-                generation: self.generation,
-            })
-        } else if generation > self.generation {
-            Err(RecvFault::Unexpected { last: self.last })
-        } else {
-            Ok(())
-        }
-    }
-
-    /// Whether this piece is taken, and its octets are within the limit.
-    fn takes(&self, activity: u32, number: u32, length: u32) -> Result<(), RecvFault>
-        ensures { Takes self.now activity number length result }
-    {
-        if !takes_piece(self.high, self.last, activity, number) {
-            Err(RecvFault::Unexpected { last: self.last })
-        } else if length > LIMIT {
-            Err(RecvFault::TooLong { length })
-        } else {
-            Ok(())
-        }
-    }
-}
-
-/// Whether the activity is done.
-fn is_done(last: Last, activity: u32) -> bool
-    ensures { result ≡ is_done last activity }
-{
-    match last {
-        Last::Done { activity: done } => activity == done,
-        _ => false,
-    }
-}
-
-/// Whether this piece begins a new activity, goes on from what stands, or replaces a part of it.
-fn takes_piece(high: u32, last: Last, activity: u32, number: u32) -> bool
-    ensures { result ≡ takes_piece high last activity number }
-{
-    match last {
-        Last::Partial {
-            activity: part,
-            pieces,
-        } => activity == part && 1 <= number && number - 1 <= pieces,
-        _ => high < activity && number == 1,
+        self.last = Last::None;
     }
 }

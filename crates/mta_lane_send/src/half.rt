@@ -1,25 +1,19 @@
 //! The sending half of a lane.
 
-ghost use Rattle.std.specs.Prelude.{◌≡◌, ◌≤◌, ◌<◌, MatchResult, Result, Ok, true, false};
+ghost use Rattle.std.specs.Prelude.{◌≡◌, ◌≤◌, ◌<◌, ◌+◌, ◌^◌, true};
 ghost use Rattle.mta_lane_send.specs.Pieces.{has_piece_after, piece_from, piece_to};
-ghost use Rattle.mta_lane_send.specs.Half.{Confirm, To_end, Sent, Refused, Dropped, FitsState};
-ghost use Rattle.mta_lane_send.specs.Half.{GoesOver, is_confirming, goes_on, is_ending, is_live};
-ghost use Rattle.mta_lane_send.specs.Half.{last_of, confirmed_of, settled, confirmed_at};
-ghost use Rattle.mta_lane_send.specs.Answers.{Refuses, Makes, ConfirmsUpTo, StartsWith, Abandons};
-ghost use Rattle.mta_lane_send.specs.Answers.{PutsNext, AbortAnswers, recovery_of, recovered};
+ghost use Rattle.mta_lane_send.specs.Half.{Start, Confirm, To_end, Abandon, FitsState, GoesOver};
+ghost use Rattle.mta_lane_send.specs.Half.{is_idle, last_of, is_possible, made, settled, is_confirming};
+ghost use Rattle.mta_lane_send.specs.Link.{PutsNext, sync_put, end_put, resume_answered, recovery_of, recovered};
 
-use crate::state::{NextData, OnLink, Recovery, SendFault, SendState, Settled};
+use crate::state::{NextData, OnLink, Recovery, SendState};
 use std::marker::Model;
 
-/// Abort reason unrecognizedActivity (X.228).
-const UNRECOGNIZED_ACTIVITY: u32 = 2;
-/// Abort reason transferCompleted (X.228).
-const TRANSFER_COMPLETED: u32 = 7;
 /// Octets in a unit of the checkpoint size.
 const UNIT: u64 = 1024;
 
 /// The sending half of a lane: its durable state, and what it put on the current link.
-#[derive(Drop)]
+#[derive(Clone, Copy, Drop)]
 pub struct SendHalf {
     generation: u64,
     checkpoint: u32,
@@ -35,9 +29,26 @@ impl Model for SendHalf {
 
     ghost Value = { Sender };
 
-    ghost view = { λ h. record { generation = h.generation; checkpoint = h.checkpoint; window = h.window; state = h.state; total = h.total; on_link = h.on_link } };
+    ghost view = { λ h. record {
+      generation = h.generation;
+      checkpoint = h.checkpoint;
+      window = h.window;
+      state = h.state;
+      total = h.total;
+      on_link = h.on_link;
+    } };
 
-    ghost invariant = { λ h. (h.checkpoint ≤ 64) × (1 ≤ h.window) × (h.window ≤ 8) × FitsState h.checkpoint h.state h.total × FitsLink h.checkpoint h.state h.total h.on_link };
+    ghost inverse = { λ h. record {
+      generation = h.generation;
+      checkpoint = h.checkpoint;
+      window = h.window;
+      state = h.state;
+      total = h.total;
+      on_link = h.on_link;
+    } };
+
+    ghost invariant = { λ h. (h.checkpoint ≤ 64) × (1 ≤ h.window) × (h.window ≤ 8)
+        × FitsState h.checkpoint h.state h.total × FitsLink h.checkpoint h.total h.on_link };
 }
 
 impl SendHalf {
@@ -50,16 +61,22 @@ impl SendHalf {
         requires size { checkpoint ≤ 64 }
         requires some { 1 ≤ window }
         requires few { window ≤ 8 }
-        ensures { result ≡ record { generation = generation; checkpoint = checkpoint; window = window; state = state.Idle 0; total = 0; on_link = link.Nothing } }
+        ensures { result ≡ record {
+          generation = generation;
+          checkpoint = checkpoint;
+          window = window;
+          state = state.Idle 0;
+          total = 0;
+          on_link = link.Nothing;
+        } }
     {
-        SendHalf {
+        SendHalf::restore(
             generation,
             checkpoint,
             window,
-            state: SendState::Idle { last: 0 },
-            total: 0,
-            on_link: OnLink::Nothing,
-        }
+            SendState::Idle { last: 0 },
+            0,
+        )
     }
 
     /// A half in this state with nothing put on a link. `total` is the octet count of its activity, 0 in Idle.
@@ -74,7 +91,14 @@ impl SendHalf {
         requires some { 1 ≤ window }
         requires few { window ≤ 8 }
         requires fits { FitsState checkpoint state total }
-        ensures { result ≡ record { generation = generation; checkpoint = checkpoint; window = window; state = state; total = total; on_link = link.Nothing } }
+        ensures { result ≡ record {
+          generation = generation;
+          checkpoint = checkpoint;
+          window = window;
+          state = state;
+          total = total;
+          on_link = link.Nothing;
+        } }
     {
         SendHalf {
             generation,
@@ -86,161 +110,56 @@ impl SendHalf {
         }
     }
 
+    /// The generation of the lane.
+    pub fn generation(&self) -> u64
+        ensures { result ≡ self.now.generation }
+    {
+        self.generation
+    }
+
+    /// The checkpoint size, in units of 1,024 octets, 0 to 64.
+    pub fn checkpoint(&self) -> u32
+        ensures exact { result ≡ self.now.checkpoint }
+        ensures range { result ≤ 64 }
+    {
+        self.checkpoint
+    }
+
+    /// The window, 1 to 8 Syncs.
+    pub fn window(&self) -> u32
+        ensures exact { result ≡ self.now.window }
+        ensures some { 1 ≤ result }
+        ensures few { result ≤ 8 }
+    {
+        self.window
+    }
+
     /// The durable state.
     pub fn state(&self) -> SendState
-        ensures { result ≡ self.now.state }
+        ensures exact { result ≡ self.now.state }
+        ensures fits { FitsState self.now.checkpoint result self.now.total }
     {
         self.state
     }
 
-    /// The peer holds the pieces 1 to `number` of the activity.
-    ///
-    /// Unexpected unless the activity is in Sending or Ending and `number` is above what is confirmed and
-    /// below the number of pieces.
-    pub fn confirm(&mut self, generation: u64, activity: u32, number: u32) -> Result<(), SendFault>
-        ensures { Makes self.old generation (Confirm activity number) result self.new }
+    /// What was put on the current link.
+    pub fn on_link(&self) -> OnLink
+        ensures { result ≡ self.now.on_link }
     {
-        self.admit(generation)?;
-        if !(goes_on(self.state, activity)
-            && confirmed_of(self.state) < number
-            && self.has_piece_after(number))
-        {
-            return Err(SendFault::Unexpected { state: self.state });
-        }
-        self.state = confirmed_at(self.state, number);
-        Ok(())
+        self.on_link
     }
 
-    /// Starts an activity of `total` octets and gives its number. The transfer goes on over the current link.
-    ///
-    /// Unexpected unless Idle; Spent where no number is left.
-    pub fn start(&mut self, generation: u64, total: u32) -> Result<u32, SendFault>
-        requires { 1 ≤ total }
-        ensures { StartsWith self.old generation total result self.new }
+    /// Both ends hold to these values from now on.
+    pub fn agree(&mut self, checkpoint: u32, window: u32)
+        requires size { checkpoint ≤ 64 }
+        requires some { 1 ≤ window }
+        requires few { window ≤ 8 }
+        requires idle { is_idle self.old.state ≡ true }
+        ensures { self.new ≡ record self.old { checkpoint = checkpoint; window = window; on_link = link.Nothing } }
     {
-        self.admit(generation)?;
-        let SendState::Idle { last } = self.state else {
-            return Err(SendFault::Unexpected { state: self.state });
-        };
-        if last == u32::MAX {
-            return Err(SendFault::Spent { last: last as u64 });
-        }
-        let activity = last + 1;
-        self.state = SendState::Sending {
-            activity,
-            confirmed: 0,
-        };
-        self.total = total;
-        self.on_link = OnLink::Pieces { number: 0 };
-        Ok(activity)
-    }
-
-    /// What is put next of the transfer that goes on over the current link.
-    pub fn next_data(&mut self) -> NextData
-        requires { GoesOver self.old.on_link }
-        ensures { PutsNext self.old result self.new }
-    {
-        let OnLink::Pieces { number: put } = self.on_link else {
-            unreachable!();
-        };
-        if !self.has_piece_after(put) {
-            return NextData::AllPut;
-        }
-        if put as u64 >= confirmed_of(self.state) as u64 + self.window as u64 {
-            return NextData::Wait;
-        }
-        let (from, to) = self.range(put);
-        let number = put + 1;
-        self.on_link = OnLink::Pieces { number };
-        NextData::Piece {
-            number,
-            from,
-            to,
-            last: !self.has_piece_after(number),
-        }
-    }
-
-    /// SyncAck: the peer holds the pieces 1 to `number` of the activity under way.
-    ///
-    /// Unexpected unless `number` is above what is confirmed and at most the last Sync put on this link.
-    pub fn on_sync_ack(&mut self, generation: u64, number: u32) -> Result<(), SendFault>
-        ensures { ConfirmsUpTo self.old generation number result self.new }
-    {
-        self.admit(generation)?;
-        if !self.is_confirming(number) {
-            return Err(SendFault::Unexpected { state: self.state });
-        }
-        self.state = confirmed_at(self.state, number);
-        Ok(())
-    }
-
-    /// End may be put from now on. Unexpected unless Sending.
-    pub fn ending(&mut self, generation: u64) -> Result<(), SendFault>
-        ensures { Makes self.old generation (To_end (last_of self.old.state)) result self.new }
-    {
-        self.admit(generation)?;
-        let SendState::Sending {
-            activity,
-            confirmed,
-        } = self.state
-        else {
-            return Err(SendFault::Unexpected { state: self.state });
-        };
-        self.state = SendState::Ending {
-            activity,
-            confirmed,
-        };
-        Ok(())
-    }
-
-    /// EndAck: the activity is sent. Unexpected unless Ending of this activity.
-    pub fn on_end_ack(&mut self, generation: u64, activity: u32) -> Result<(), SendFault>
-        ensures { Makes self.old generation (Sent activity) result self.new }
-    {
-        self.admit(generation)?;
-        if !is_ending(self.state, activity) {
-            return Err(SendFault::Unexpected { state: self.state });
-        }
-        self.settle();
-        Ok(())
-    }
-
-    /// DiscardAck: the activity is dropped. Unexpected unless this activity is under way.
-    pub fn on_discard_ack(&mut self, generation: u64, activity: u32) -> Result<(), SendFault>
-        ensures { Makes self.old generation (Dropped activity) result self.new }
-    {
-        self.admit(generation)?;
-        if !is_live(self.state, activity) {
-            return Err(SendFault::Unexpected { state: self.state });
-        }
-        self.settle();
-        Ok(())
-    }
-
-    /// Exception: the activity under way is refused. Unexpected in Idle.
-    pub fn on_exception(&mut self, generation: u64) -> Result<(), SendFault>
-        ensures { Makes self.old generation (Refused (last_of self.old.state)) result self.new }
-    {
-        self.admit(generation)?;
-        if let SendState::Idle { .. } = self.state {
-            return Err(SendFault::Unexpected { state: self.state });
-        }
-        self.settle();
-        Ok(())
-    }
-
-    /// Abort: transferCompleted in answer to a Discard in Ending settles the activity as sent, and is
-    /// unexpected elsewhere; unrecognizedActivity settles what is under way as denied; another reason
-    /// settles nothing.
-    pub fn on_abort(&mut self, generation: u64, reason: u32) -> Result<Settled, SendFault>
-        ensures { AbortAnswers self.old generation reason result self.new }
-    {
-        self.admit(generation)?;
-        match reason {
-            TRANSFER_COMPLETED => self.completed(),
-            UNRECOGNIZED_ACTIVITY => Ok(self.denied()),
-            _ => Ok(Settled::Nothing),
-        }
+        self.checkpoint = checkpoint;
+        self.window = window;
+        self.on_link = OnLink::Nothing;
     }
 
     /// A new link, of a greater generation: nothing is put on it yet.
@@ -252,8 +171,166 @@ impl SendHalf {
         self.on_link = OnLink::Nothing;
     }
 
-    /// The unit that is put first on a link after a break. After ResumeAt the transfer goes on over the
-    /// link, right behind the last piece that the peer confirmed.
+    /// The next activity is started, of `total` octets.
+    pub fn start(&mut self, total: u32)
+        requires some { 1 ≤ total }
+        requires possible { is_possible self.old (Start total) ≡ true }
+        requires left { last_of self.old.state + 1 < 2 ^ 32 }
+        ensures { self.new ≡ made self.old (Start total) }
+    {
+        self.state = SendState::Sending {
+            activity: self.state.last() + 1,
+            confirmed: 0,
+        };
+        self.total = total;
+        self.on_link = OnLink::Pieces { number: 0 };
+    }
+
+    /// Whether there is a piece behind the first `number`.
+    pub fn has_piece_after(&self, number: u32) -> bool
+        ensures { result ≡ has_piece_after self.now.checkpoint self.now.total number }
+    {
+        if self.checkpoint == 0 {
+            number == 0
+        } else {
+            UNIT * self.checkpoint as u64 * (number as u64) < self.total as u64
+        }
+    }
+
+    /// Whether the peer may hold the pieces 1 to `number` of the activity from now on: it goes on, and `number` is
+    /// above what is confirmed and below the number of pieces.
+    pub fn may_confirm(&self, activity: u32, number: u32) -> bool
+        ensures { result ≡ is_possible self.now (Confirm activity number) }
+    {
+        self.state.goes_on(activity)
+            && self.state.confirmed() < number
+            && self.has_piece_after(number)
+    }
+
+    /// The peer holds the pieces 1 to `number` of the activity.
+    pub fn confirm(&mut self, activity: u32, number: u32)
+        requires { is_possible self.old (Confirm activity number) ≡ true }
+        ensures { self.new ≡ made self.old (Confirm activity number) }
+    {
+        self.state = match self.state {
+            SendState::Sending { activity, .. } => SendState::Sending {
+                activity,
+                confirmed: number,
+            },
+            SendState::Ending { activity, .. } => SendState::Ending {
+                activity,
+                confirmed: number,
+            },
+            other => other,
+        };
+    }
+
+    /// End of the activity, which is in Sending, may be put from now on.
+    pub fn ending(&mut self, activity: u32)
+        requires { is_possible self.old (To_end activity) ≡ true }
+        ensures { self.new ≡ made self.old (To_end activity) }
+    {
+        self.state = SendState::Ending {
+            activity,
+            confirmed: self.state.confirmed(),
+        };
+    }
+
+    /// The activity under way is settled: sent, refused, denied or dropped.
+    pub fn settle(&mut self)
+        ensures { self.new ≡ settled self.old }
+    {
+        self.state = SendState::Idle {
+            last: self.state.last(),
+        };
+        self.total = 0;
+        self.on_link = OnLink::Nothing;
+    }
+
+    /// The activity is given up.
+    pub fn abandon(&mut self, activity: u32)
+        ensures { self.new ≡ made self.old (Abandon activity) }
+    {
+        self.state = SendState::Dropping { activity };
+    }
+
+    /// What is put next of the transfer that goes on over the current link, behind what is put.
+    pub fn next_data(&mut self) -> NextData
+        requires { GoesOver self.old.on_link }
+        ensures { PutsNext self.old result self.new }
+    {
+        let OnLink::Pieces { number: put } = self.on_link else {
+            unreachable!();
+        };
+        if put as u64 >= self.state.confirmed() as u64 + self.window as u64 {
+            return NextData::Wait;
+        }
+        let (from, to) = self.range(put);
+        let number = put + 1;
+        let last = !self.has_piece_after(number);
+        self.on_link = if last {
+            OnLink::LastPiece { number }
+        } else {
+            OnLink::SyncDue { number }
+        };
+        NextData::Piece {
+            number,
+            from,
+            to,
+            last,
+        }
+    }
+
+    /// The Sync behind the piece that was put last is put.
+    pub fn put_sync(&mut self)
+        ensures { self.new ≡ record self.old { on_link = sync_put self.old.on_link } }
+    {
+        if let OnLink::SyncDue { number } = self.on_link {
+            self.on_link = OnLink::Pieces { number };
+        }
+    }
+
+    /// End behind the last piece is put.
+    pub fn put_end(&mut self)
+        ensures { self.new ≡ record self.old { on_link = end_put self.old.on_link } }
+    {
+        if let OnLink::LastPiece { number } = self.on_link {
+            self.on_link = OnLink::End { number };
+        }
+    }
+
+    /// Discard is put.
+    pub fn put_discard(&mut self)
+        ensures { self.new ≡ record self.old { on_link = link.Discard } }
+    {
+        self.on_link = OnLink::Discard;
+    }
+
+    /// Resume is answered: the transfer goes on over the link.
+    pub fn on_resume_ack(&mut self)
+        ensures { self.new ≡ record self.old { on_link = resume_answered self.old.on_link } }
+    {
+        if let OnLink::Resume { number } = self.on_link {
+            self.on_link = OnLink::Pieces { number };
+        }
+    }
+
+    /// Whether a SyncAck of this number confirms a Sync that was put on this link and is not confirmed.
+    pub fn is_confirming(&self, number: u32) -> bool
+        ensures { result ≡ is_confirming self.now number }
+    {
+        let synced = match self.on_link {
+            OnLink::Pieces { number } => number,
+            OnLink::SyncDue { number } | OnLink::LastPiece { number } | OnLink::End { number } => {
+                number.saturating_sub(1)
+            }
+            _ => 0,
+        };
+        self.state.goes_on(self.state.last()) && self.state.confirmed() < number && number <= synced
+    }
+
+    /// The unit that is put first on a link after a break, which is put now: Resume right behind the last piece that
+    /// the peer confirmed, or else Discard.
     pub fn recover(&mut self) -> Recovery
         ensures unit { result ≡ recovery_of self.old.state }
         ensures after { self.new ≡ recovered self.old result }
@@ -275,7 +352,7 @@ impl SendHalf {
                     self.on_link = OnLink::Discard;
                     Recovery::DiscardIt { activity }
                 } else {
-                    self.on_link = OnLink::Pieces { number: confirmed };
+                    self.on_link = OnLink::Resume { number: confirmed };
                     Recovery::ResumeAt {
                         activity,
                         number: confirmed,
@@ -287,76 +364,6 @@ impl SendHalf {
                 Recovery::DiscardIt { activity }
             }
         }
-    }
-
-    /// Gives the activity up, and gives its number. Unexpected unless Sending: once End may be put, the
-    /// peer may have completed it.
-    pub fn abandon(&mut self) -> Result<u32, SendFault>
-        ensures { Abandons self.old result self.new }
-    {
-        let SendState::Sending { activity, .. } = self.state else {
-            return Err(SendFault::Unexpected { state: self.state });
-        };
-        self.state = SendState::Dropping { activity };
-        self.on_link = OnLink::Nothing;
-        Ok(activity)
-    }
-
-    /// Whether a call of this generation is one of the half's own.
-    fn admit(&self, generation: u64) -> Result<(), SendFault>
-        ensures { MatchResult result (λ _. generation ≡ self.now.generation) (λ f. (generation ≡ self.now.generation → ⊥) × Refuses self.now generation true f self.now) }
-    {
-        if generation < self.generation {
-            Err(SendFault::Fenced {
-                generation: self.generation,
-            })
-        } else if generation > self.generation {
-            Err(SendFault::Unexpected { state: self.state })
-        } else {
-            Ok(())
-        }
-    }
-
-    /// Whether there is a piece behind the first `number`.
-    fn has_piece_after(&self, number: u32) -> bool
-        ensures { result ≡ has_piece_after self.now.checkpoint self.now.total number }
-    {
-        if self.checkpoint == 0 {
-            number == 0
-        } else {
-            UNIT * self.checkpoint as u64 * (number as u64) < self.total as u64
-        }
-    }
-
-    /// Whether a SyncAck of this number confirms a Sync that was put and is not confirmed.
-    fn is_confirming(&self, number: u32) -> bool
-        ensures { result ≡ is_confirming self.now number }
-    {
-        let put = match self.on_link {
-            OnLink::Pieces { number: put } => put,
-            _ => 0,
-        };
-        let synced = if self.has_piece_after(put) {
-            put
-        } else {
-            put.saturating_sub(1)
-        };
-        let going = match self.state {
-            SendState::Sending { .. } | SendState::Ending { .. } => true,
-            _ => false,
-        };
-        going && confirmed_of(self.state) < number && number <= synced
-    }
-
-    /// Settles the activity under way.
-    fn settle(&mut self)
-        ensures { self.new ≡ settled self.old }
-    {
-        self.state = SendState::Idle {
-            last: last_of(self.state),
-        };
-        self.total = 0;
-        self.on_link = OnLink::Nothing;
     }
 
     /// Where piece `put` + 1 begins and ends.
@@ -373,103 +380,5 @@ impl SendHalf {
             (self.total as u64).min(from + size)
         };
         (from as u32, to as u32)
-    }
-
-    /// Abort transferCompleted of this generation.
-    fn completed(&mut self) -> Result<Settled, SendFault>
-        ensures { AbortAnswers self.old self.old.generation 7 result self.new }
-    {
-        match (self.on_link, self.state) {
-            (OnLink::Discard, SendState::Ending { .. }) => {
-                self.settle();
-                Ok(Settled::Sent)
-            }
-            _ => Err(SendFault::Unexpected { state: self.state }),
-        }
-    }
-
-    /// Abort unrecognizedActivity of this generation.
-    fn denied(&mut self) -> Settled
-        ensures { AbortAnswers self.old self.old.generation 2 (Ok result) self.new }
-    {
-        if let SendState::Idle { .. } = self.state {
-            Settled::Nothing
-        } else {
-            self.settle();
-            Settled::Denied
-        }
-    }
-}
-
-/// What the peer has confirmed of the activity under way.
-fn confirmed_of(state: SendState) -> u32
-    ensures { result ≡ confirmed_of state }
-{
-    match state {
-        SendState::Sending { confirmed, .. } | SendState::Ending { confirmed, .. } => confirmed,
-        _ => 0,
-    }
-}
-
-/// The number of the last activity started.
-fn last_of(state: SendState) -> u32
-    ensures { result ≡ last_of state }
-{
-    match state {
-        SendState::Idle { last } => last,
-        SendState::Sending { activity, .. }
-        | SendState::Ending { activity, .. }
-        | SendState::Dropping { activity } => activity,
-    }
-}
-
-/// Whether the activity is in Sending or Ending.
-fn goes_on(state: SendState, activity: u32) -> bool
-    ensures { result ≡ goes_on state activity }
-{
-    match state {
-        SendState::Sending { activity: live, .. } | SendState::Ending { activity: live, .. } => {
-            activity == live
-        }
-        _ => false,
-    }
-}
-
-/// Whether the activity is in Ending.
-fn is_ending(state: SendState, activity: u32) -> bool
-    ensures { result ≡ is_ending state activity }
-{
-    match state {
-        SendState::Ending { activity: live, .. } => activity == live,
-        _ => false,
-    }
-}
-
-/// Whether the activity is not settled.
-fn is_live(state: SendState, activity: u32) -> bool
-    ensures { result ≡ is_live state activity }
-{
-    match state {
-        SendState::Idle { .. } => false,
-        SendState::Sending { activity: live, .. }
-        | SendState::Ending { activity: live, .. }
-        | SendState::Dropping { activity: live } => activity == live,
-    }
-}
-
-/// The state once the peer has confirmed so many pieces.
-fn confirmed_at(state: SendState, number: u32) -> SendState
-    ensures { result ≡ confirmed_at state number }
-{
-    match state {
-        SendState::Sending { activity, .. } => SendState::Sending {
-            activity,
-            confirmed: number,
-        },
-        SendState::Ending { activity, .. } => SendState::Ending {
-            activity,
-            confirmed: number,
-        },
-        other => other,
     }
 }

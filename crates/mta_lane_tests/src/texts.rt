@@ -1,11 +1,14 @@
 //! Octets of APDUs, statuses and lanes, and what is printed of them.
 
-ghost use Rattle.std.specs.Prelude.{◌≡◌, ◌≤◌, IfOk, []};
+ghost use Rattle.std.specs.Prelude.{◌≡◌, ◌≤◌, IfOk, [], length};
 ghost use Rattle.mta_lane_send.specs.declared.state.SendState.TheVariants.{Idle};
+ghost use Rattle.mta_lane_recv.specs.declared.state.Last.TheVariants as Last;
+ghost use Rattle.mta_records.specs.declared.lane.LaneRole.TheVariants.{Responder};
+ghost use Rattle.mta_histories.specs.History.{is_role};
 
 use mta_apdu::Apdu;
 use mta_ber::{Memory, Octets, Word};
-use mta_lanes::{Lane, Pieces, Transfer};
+use mta_lanes::{Lane, LaneChange, Pieces, Transfer};
 use mta_machine::{Item, MailboxLine, Origin, Status, Statuses};
 use mta_records::{LaneRole, Outgoing, Recipients, Reference};
 use mta_show::{show_apdu, show_mailbox, show_queue};
@@ -135,7 +138,7 @@ recipient 1 passed 500101001640Z C=GB;A=GOLD;S=BELL
 /// Lanes with their halves in each state.
 const LANES: &str = "lane 1 out EAST generation 1 size 4 window 1 send idle 1 receive none
 lane 2 in WEST generation 2 size 0 window 8 send sending 1 0 receive done 3
-lane 3 out EAST generation 1 size 64 window 8 send ending 1 2 receive none
+lane 3 out EAST generation 1 size 1 window 8 send ending 1 2 receive none
 lane 4 in EAST generation 1 size 4 window 3 send dropping 1 receive partial 5 1
 ";
 
@@ -144,7 +147,9 @@ fn word(alloc: Global, text: &[u8]) -> Result<Word, Fail> {
     Ok(word)
 }
 
-fn shared(alloc: Global, octets: &[u8]) -> Result<Arc<Octets, Global>, Memory> {
+fn shared(alloc: Global, octets: &[u8]) -> Result<Arc<Octets, Global>, Memory>
+    ensures { IfOk result (λ shared. shared.value ≡ octets.now) }
+{
     match Arc::new(alloc, Octets::from_slice(alloc, octets)?) {
         Ok(octets) => Ok(octets),
         Err(_) => Err(Memory),
@@ -298,18 +303,23 @@ fn lane(
     size: u32,
     window: u32,
 ) -> Result<Lane, Memory>
-    requires { size ≤ 64 }
-    ensures { IfOk result (λ lane. (lane.sending ≡ Idle 0) × (lane.pieces ≡ []) × (lane.generation ≡ 1)) }
+    requires size { size ≤ 64 }
+    requires window { (1 ≤ window) × (window ≤ 8) }
+    ensures { IfOk result (λ lane. (lane.role ≡ role) × (lane.checkpoint ≡ size) × (lane.window ≡ window)
+        × (lane.agreed ≡ is_role Responder role) × (lane.sending ≡ Idle 0) × (lane.pieces ≡ [])
+        × (lane.generation ≡ 1) × (lane.high ≡ 0) × (lane.last ≡ Last.None)) }
 {
     let reference = Reference::new(Octets::new(alloc), 0, None);
-    let pieces = Pieces::new(alloc)?;
+    let pieces = Pieces::new(alloc);
     Ok(Lane::open(number, role, peer, reference, false, size, window, pieces))
 }
 
-/// What an activity of two octets transfers.
-fn transfer(alloc: Global) -> Result<Transfer, Memory> {
-    let rest = shared(alloc, b"Hi")?;
-    let outgoing = Outgoing::new(1, Octets::new(alloc), rest, 0, 0);
+/// What an activity of 3,000 octets transfers.
+fn transfer(alloc: Global) -> Result<Transfer, Memory>
+    ensures { IfOk result (λ t. length t.octets ≡ 3000) }
+{
+    let rest = shared(alloc, &[0; 3_000])?;
+    let outgoing = Outgoing::new(1, Octets::new(alloc), rest, 0, 3_000);
     let recipients = Recipients::from_vec(Vec::new(alloc));
     Ok(Transfer::new(1, recipients, 0, 1, outgoing))
 }
@@ -317,38 +327,53 @@ fn transfer(alloc: Global) -> Result<Transfer, Memory> {
 /// An activity was sent.
 fn sent_lane(alloc: Global) -> Result<Lane, Fail> {
     let mut lane = lane(alloc, 1, LaneRole::Initiator, word(alloc, b"EAST")?, 4, 3)?;
-    lane.agree(4, 1);
-    lane.start(transfer(alloc)?);
-    lane.end(1);
-    lane.settle();
+    lane.make(LaneChange::Agree {
+        checkpoint: 4,
+        window: 1,
+    });
+    lane.make(LaneChange::Start(transfer(alloc)?));
+    lane.make(LaneChange::ToEnd { activity: 1 });
+    lane.make(LaneChange::Settle);
     Ok(lane)
 }
 
 /// One is sent, and one has come.
 fn recovered_lane(alloc: Global) -> Result<Lane, Fail> {
     let mut lane = lane(alloc, 2, LaneRole::Responder, word(alloc, b"WEST")?, 0, 8)?;
-    lane.bind();
-    lane.start(transfer(alloc)?);
-    lane.complete(3);
+    lane.make(LaneChange::Bind);
+    lane.make(LaneChange::Start(transfer(alloc)?));
+    lane.make(LaneChange::Complete { activity: 3 });
     Ok(lane)
 }
 
 /// The peer may complete one.
 fn ending_lane(alloc: Global) -> Result<Lane, Fail> {
-    let mut lane = lane(alloc, 3, LaneRole::Initiator, word(alloc, b"EAST")?, 64, 8)?;
-    lane.start(transfer(alloc)?);
-    lane.confirm(1, 2);
-    lane.end(1);
+    let mut lane = lane(alloc, 3, LaneRole::Initiator, word(alloc, b"EAST")?, 1, 8)?;
+    lane.make(LaneChange::Agree {
+        checkpoint: 1,
+        window: 8,
+    });
+    lane.make(LaneChange::Start(transfer(alloc)?));
+    lane.make(LaneChange::Confirm {
+        activity: 1,
+        number: 2,
+    });
+    lane.make(LaneChange::ToEnd { activity: 1 });
     Ok(lane)
 }
 
 /// One is given up, and one has come in part.
 fn dropping_lane(alloc: Global) -> Result<Lane, Fail> {
     let mut lane = lane(alloc, 4, LaneRole::Responder, word(alloc, b"EAST")?, 4, 3)?;
-    let places = lane.places(alloc)?;
-    lane.secure(5, 1, Octets::new(alloc), places);
-    lane.start(transfer(alloc)?);
-    lane.abandon(1);
+    let places = lane.places(alloc, 1, &[])?;
+    lane.make(LaneChange::Secure {
+        activity: 5,
+        number: 1,
+        piece: Octets::new(alloc),
+        places,
+    });
+    lane.make(LaneChange::Start(transfer(alloc)?));
+    lane.make(LaneChange::Abandon { activity: 1 });
     Ok(lane)
 }
 

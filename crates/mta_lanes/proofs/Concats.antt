@@ -1,8 +1,6 @@
 -- How many octets pieces have.
-use Rattle.std.proofs.Common.{◌≡◌, ◌≤◌, ◌<◌, ◌+◌, ℕ, zero, suc, List, [], ◌∷◌, ◌++◌}
-use Rattle.std.proofs.Common.{length, take, refl, sym, ap, ◌∙◌, arith, length-append, append-nil, append_assoc}
-use Rattle.std.proofs.Common.{get_or}
-use Rattle.std.proofs.lemmas.List.{take_more}
+use Rattle.std.proofs.Common.{◌≡◌, ◌≤◌, ◌+◌, ℕ, zero, suc, List, [], ◌∷◌, ◌++◌}
+use Rattle.std.proofs.Common.{length, take, sym, ap, ◌∙◌, arith, length-append, append-nil, append_assoc}
 use Rattle.std.specs.List.{concat}
 
 -- a piece behind others
@@ -21,17 +19,8 @@ front_shorter (suc n) (x ∷ xs) =
     let more = front_shorter n xs in
     rw (length-append x (concat (take n xs))) (rw (length-append x (concat xs)) (omega (arith, more)))
 
--- a piece more is counted
-pub one_more : (xs : List (List ℕ)) (i : ℕ) (d : List ℕ) → i < length xs
-    → length (concat (take (i + 1) xs)) ≡ length (concat (take i xs)) + length (get_or xs i d)
-one_more xs i d p = rw (take_more xs i d p) (length_behind (take i xs) (get_or xs i d))
-
 -- the octets of a piece more
 pub joined_behind : (xs : List (List ℕ)) (piece : List ℕ) → concat (xs ++ piece ∷ []) ≡ concat xs ++ piece
 joined_behind [] piece = append-nil piece
 joined_behind (x ∷ xs) piece =
     ap (λ (more : List ℕ). x ++ more) (joined_behind xs piece) ∙ sym (append_assoc x (concat xs) piece)
-
-pub joined_more : (xs : List (List ℕ)) (i : ℕ) (d : List ℕ) → i < length xs
-    → concat (take (i + 1) xs) ≡ concat (take i xs) ++ get_or xs i d
-joined_more xs i d p = rw (take_more xs i d p) (joined_behind (take i xs) (get_or xs i d))

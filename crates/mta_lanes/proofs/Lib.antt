@@ -1,3 +1,4 @@
 pub mod Concats
+pub mod Cuts
 pub mod Holding
 pub mod Numbering

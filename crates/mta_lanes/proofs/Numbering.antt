@@ -1,5 +1,5 @@
 -- The place of a lane among those that are open.
-use Rattle.std.proofs.Common.{◌≡◌, ◌≤◌, ◌<◌, ◌+◌, ℕ, zero, suc, Bool, true, false, cond, eqb}
+use Rattle.std.proofs.Common.{◌≡◌, ◌<◌, ◌+◌, ℕ, zero, suc, Bool, true, false, cond, eqb}
 use Rattle.std.proofs.Common.{List, [], ◌∷◌, Some, None, length, set, get_or, refl, sym, ap, subst, ◌∙◌}
 use Rattle.std.proofs.Common.{arith, Option}
 use Rattle.std.specs.List.{find, remove, position, position_from}
@@ -87,7 +87,7 @@ same_number : (lane : Lane) (c : LaneChange) → lane.number ≡ (changed lane c
 same_number lane (change.Agree checkpoint window) = refl
 same_number lane change.Bind = refl
 same_number lane (change.Start transfer) = refl
-same_number lane (change.Confirm n) = refl
+same_number lane (change.Confirm k n) = refl
 same_number lane (change.ToEnd k) = refl
 same_number lane change.Settle = refl
 same_number lane (change.Abandon k) = refl

@@ -4,7 +4,8 @@ use Rattle.mta_records.specs.Reference.{Identifier}
 use Rattle.mta_lane_send.specs.Half.{is_idle}
 use Rattle.mta_records.specs.declared.lane.LaneRole.{LaneRole}
 use Rattle.mta_histories.specs.Lanes.{Lane, Lanes}
-use Rattle.mta_histories.specs.History.{is_with}
+use Rattle.std.specs.List.{concat}
+use Rattle.mta_histories.specs.History.{is_with, with_piece}
 use Rattle.mta_lanes.specs.declared.lanes.Lanes.{Lanes as OpenLanes}
 
 -- the lanes that are kept
@@ -27,3 +28,8 @@ IsOfReference (Some reference) lane = reference ≡ lane.reference
 -- the lane is with the peer in the role, and of the reference, where one is asked for
 abbrev pub IsNamed : LaneRole → List ℕ → Option Identifier → Lane → Type 0
 IsNamed role peer reference lane = (is_with role peer lane ≡ true) × IsOfReference reference lane
+
+-- these are the octets of the pieces of a lane before one, and of that one, where there is the lane
+abbrev pub AreJoinedOn : Option Lane → (number : ℕ) → List ℕ → List ℕ → Type 0
+AreJoinedOn None number piece octets = ⊥
+AreJoinedOn (Some lane) number piece octets = octets ≡ concat (with_piece lane.pieces number piece)

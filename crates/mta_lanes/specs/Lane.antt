@@ -1,8 +1,9 @@
 -- What a lane answers.
-use Rattle.std.specs.Prelude.{◌&&◌, nat_le, ℕ, Bool, List, length}
+use Rattle.std.specs.Prelude.{◌≡◌, ◌≤◌, ◌<◌, ◌+◌, ◌^◌, ◌&&◌, nat_le, ℕ, Bool, true, List, length}
 use Rattle.std.specs.List.{concat}
+use Rattle.mta_lane_send.specs.Half.{is_idle, last_of}
 use Rattle.mta_lane_recv.specs.Half.{takes_piece}
-use Rattle.mta_histories.specs.Lanes.{Lane, empty}
+use Rattle.mta_histories.specs.Lanes.{Lane, Transfer, empty}
 use Rattle.mta_histories.specs.Classes.{LaneStep}
 use Rattle.mta_histories.specs.History.{LaneNeeds, longest_activity, longest_piece, with_piece}
 
@@ -22,3 +23,9 @@ has_room lane n piece = nat_le (length (concat (with_piece lane.pieces n piece))
 abbrev pub takes : Lane → (activity number : ℕ) → List ℕ → Bool
 takes lane k n piece =
     lane.agreed && takes_piece lane.high lane.last k n && has_size lane (length piece) && has_room lane n piece
+
+-- an activity with this transfer may be started: the lane is agreed and transfers nothing, and there are octets
+abbrev pub MayStart : Lane → Transfer → Type 0
+MayStart lane transfer =
+    (lane.agreed ≡ true) × (is_idle lane.sending ≡ true) × (1 ≤ length transfer.octets)
+    × (last_of lane.sending + 1 < 2 ^ 32)

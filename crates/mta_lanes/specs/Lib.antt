@@ -1,3 +1,4 @@
 pub mod Changes
 pub mod Finds
 pub mod Lane
+pub mod Pieces

@@ -21,7 +21,10 @@ pub enum LaneChange {
     /// The next activity is started.
     Start(Transfer),
     /// The peer has confirmed so many pieces.
-    Confirm(u32),
+    Confirm {
+        activity: u32,
+        number: u32,
+    },
     /// From now on the peer may complete the activity.
     ToEnd {
         activity: u32,
@@ -57,7 +60,7 @@ impl Lane {
             LaneChange::Agree { checkpoint, window } => self.agree(checkpoint, window),
             LaneChange::Bind => self.bind(),
             LaneChange::Start(transfer) => self.start(transfer),
-            LaneChange::Confirm(number) => self.confirm(0, number),
+            LaneChange::Confirm { activity, number } => self.confirm(activity, number),
             LaneChange::ToEnd { activity } => self.end(activity),
             LaneChange::Settle => self.settle(),
             LaneChange::Abandon { activity } => self.abandon(activity),

@@ -5,23 +5,25 @@ ghost use Rattle.std.specs.Prelude.{IsTrue, IfOk, ◌-◌, length, take, true, [
 ghost use Rattle.std.specs.List.{concat};
 ghost use Rattle.mta_lane_send.specs.Half.{is_idle, is_sending, last_of, is_possible as sends_step};
 ghost use Rattle.mta_lane_send.specs.Half as send;
+ghost use Rattle.mta_lane_recv.specs.Half.{takes_piece};
 ghost use Rattle.mta_lane_recv.specs.Half as recv;
-ghost use Rattle.mta_histories.specs.Lanes.{sender, receiver, total_of, is_for, holds, is_dropping};
+ghost use Rattle.mta_histories.specs.Lanes.{sender, receiver, is_for, is_transferring, holds};
 ghost use Rattle.mta_histories.specs.Classes.{agree, secure};
-ghost use Rattle.mta_histories.specs.History.{new_lane, sends, is_with, with_piece, longest_activity};
-ghost use Rattle.mta_lanes.specs.Lane.{OfLane, has_size, has_room, takes};
+ghost use Rattle.mta_histories.specs.History.{new_lane, Sends, sends, is_with, with_piece, longest_activity};
+ghost use Rattle.mta_lanes.specs.Lane.{OfLane, MayStart, has_size, has_room, takes};
 ghost use Rattle.mta_lanes.specs.Finds.{IsNamed};
+ghost use Rattle.mta_lanes.specs.Pieces.{HasPlace};
 ghost use Rattle.std.specs.Option.{option_copied};
 
-use crate::half;
 use crate::pieces::{Pieces, Places};
 use crate::transfer::Transfer;
 use mta_ber::{Memory, Octets, Word};
-use mta_lane_recv::Last;
-use mta_lane_send::SendState;
+use mta_lane_recv::{Last, RecvHalf, longest_piece};
+use mta_lane_send::{SendHalf, SendState};
 use mta_records::{LaneRole, LaneValues, Reference};
 use std::alloc::Global;
 use std::marker::Model;
+use std::sync::Arc;
 
 /// A lane that is open. Its checkpoint size is at most 64 units of 1,024 octets, and the pieces that came have at most
 /// 2,097,152 octets.
@@ -30,15 +32,11 @@ pub struct Lane {
     role: LaneRole,
     peer: Word,
     reference: Reference,
-    checkpoint: u32,
-    window: u32,
     twa: bool,
     agreed: bool,
-    generation: u64,
-    sending: SendState,
+    sending: SendHalf,
     transfer: Option<Transfer>,
-    high: u32,
-    last: Last,
+    receiving: RecvHalf,
     pieces: Pieces,
 }
 
@@ -50,25 +48,22 @@ impl Drop for Lane {
             role: _,
             peer: _,
             reference: _,
-            checkpoint: _,
-            window: _,
             twa: _,
             agreed: _,
-            generation: _,
             sending: _,
             transfer: _,
-            high: _,
-            last: _,
+            receiving: _,
             pieces: _,
         } = self;
     }
 }
 
 impl Model for Lane {
-    ghost use Rattle.std.specs.Prelude.{◌≤◌, length};
+    ghost use Rattle.std.specs.Prelude.{◌≡◌, ◌≤◌, false, true, length};
     ghost use Rattle.std.specs.List.{concat};
+    ghost use Rattle.mta_lane_send.specs.Half.{is_idle};
     ghost use Rattle.mta_histories.specs.History.{longest_activity};
-    ghost use Rattle.mta_histories.specs.Lanes.{Lane as LaneValue};
+    ghost use Rattle.mta_histories.specs.Lanes.{Lane as LaneValue, total_of};
 
     ghost Value = { LaneValue };
 
@@ -77,28 +72,22 @@ impl Model for Lane {
       role = l.role;
       peer = l.peer;
       reference = l.reference;
-      checkpoint = l.checkpoint;
-      window = l.window;
+      checkpoint = l.sending.checkpoint;
+      window = l.sending.window;
       twa = l.twa;
       agreed = l.agreed;
-      generation = l.generation;
-      sending = l.sending;
+      generation = l.sending.generation;
+      sending = l.sending.state;
       transfer = l.transfer;
-      high = l.high;
-      last = l.last;
+      high = l.receiving.high;
+      last = l.receiving.last;
       pieces = l.pieces;
     } };
 
-    ghost invariant = { λ l. (l.checkpoint ≤ 64) × (length (concat l.pieces) ≤ longest_activity) };
-}
-
-fn total_of(transfer: &Option<Transfer>) -> u32
-    ensures { result ≡ total_of transfer.now }
-{
-    match transfer {
-        Some(transfer) => transfer.total(),
-        None => 0,
-    }
+    ghost invariant = { λ l. (l.receiving.generation ≡ l.sending.generation)
+        × (l.sending.total ≡ total_of l.transfer)
+        × (l.agreed ≡ false → is_idle l.sending.state ≡ true)
+        × (length (concat l.pieces) ≤ longest_activity) };
 }
 
 fn is_for(transfer: &Option<Transfer>, item: u32, recipient: u32) -> bool
@@ -108,18 +97,6 @@ fn is_for(transfer: &Option<Transfer>, item: u32, recipient: u32) -> bool
         Some(transfer) => transfer.is_for(item, recipient),
         None => false,
     }
-}
-
-// The octets of pieces, one behind the other.
-#[tactic(auto, using(crate::proofs::Concats::joined_more))]
-fn joined_octets(alloc: Global, pieces: &[Octets]) -> Result<Octets, Memory>
-    ensures { IfOk result (λ octets. octets ≡ concat pieces.now) }
-{
-    let mut octets = Octets::new(alloc);
-    for piece in pieces {
-        octets.extend(piece.as_slice())?;
-    }
-    Ok(octets)
 }
 
 impl Lane {
@@ -135,6 +112,7 @@ impl Lane {
         pieces: Pieces,
     ) -> Lane
         requires checkpoint { checkpoint ≤ 64 }
+        requires window { (1 ≤ window) × (window ≤ 8) }
         requires pieces { pieces ≡ [] }
         ensures { result ≡ new_lane number role peer reference twa checkpoint window }
     {
@@ -147,15 +125,11 @@ impl Lane {
             role,
             peer,
             reference,
-            checkpoint,
-            window,
             twa,
             agreed,
-            generation: 1,
-            sending: SendState::Idle { last: 0 },
+            sending: SendHalf::new(1, checkpoint, window),
             transfer: None,
-            high: 0,
-            last: Last::None,
+            receiving: RecvHalf::new(1),
             pieces,
         }
     }
@@ -178,14 +152,14 @@ impl Lane {
     pub fn generation(&self) -> u64
         ensures { result ≡ self.now.generation }
     {
-        self.generation
+        self.sending.generation()
     }
 
     /// The state of its sending half.
     pub fn sending(&self) -> SendState
         ensures { result ≡ self.now.sending }
     {
-        self.sending
+        self.sending.state()
     }
 
     /// The highest activity that left a mark in its receiving half, and what stands of it.
@@ -193,7 +167,7 @@ impl Lane {
         ensures high { result.0 ≡ self.now.high }
         ensures last { result.1 ≡ self.now.last }
     {
-        (self.high, self.last)
+        (self.receiving.high(), self.receiving.last())
     }
 
     /// Its values.
@@ -206,8 +180,8 @@ impl Lane {
         } }
     {
         LaneValues {
-            checkpoint: self.checkpoint,
-            window: self.window,
+            checkpoint: self.sending.checkpoint(),
+            window: self.sending.window(),
             twa: self.twa,
             agreed: self.agreed,
         }
@@ -230,14 +204,14 @@ impl Lane {
     pub fn is_of(&self, generation: u64) -> bool
         ensures { result ≡ (generation == self.now.generation) }
     {
-        generation == self.generation
+        generation == self.generation()
     }
 
     /// Whether this is the generation behind its own.
     pub fn is_before(&self, generation: u64) -> bool
         ensures { result ≡ (generation == self.now.generation + 1) }
     {
-        generation > 0 && generation - 1 == self.generation
+        generation > 0 && generation - 1 == self.generation()
     }
 
     /// Whether these values may be agreed.
@@ -251,67 +225,67 @@ impl Lane {
         };
         initiates
             && !self.agreed
-            && checkpoint <= self.checkpoint
+            && checkpoint <= self.sending.checkpoint()
             && 1 <= window
-            && window <= self.window
+            && window <= self.sending.window()
     }
 
     /// These values are agreed.
-    pub fn agree(&mut self, checkpoint: u32, window: u32)
-        requires { checkpoint ≤ 64 }
+    pub(crate) fn agree(&mut self, checkpoint: u32, window: u32)
+        requires { OfLane self.old (agree checkpoint window) }
         ensures { self.new ≡ record self.old { checkpoint = checkpoint; window = window; agreed = true } }
     {
-        self.checkpoint = checkpoint;
-        self.window = window;
+        let _size = self.sending.checkpoint();
+        let _most = self.sending.window();
+        self.sending.agree(checkpoint, window);
         self.agreed = true;
     }
 
     /// The next generation begins.
-    pub fn bind(&mut self)
+    pub(crate) fn bind(&mut self)
         requires { self.old.generation + 1 < 2 ^ 64 }
         ensures { self.new ≡ record self.old { generation = self.old.generation + 1 } }
     {
-        self.generation += 1;
+        let next = self.generation() + 1;
+        self.sending.bind(next);
+        self.receiving.bind(next);
     }
 
     /// Whether a Confirm may be made.
     pub fn may_confirm(&self, activity: u32, number: u32) -> bool
         ensures { result ≡ sends_step (sender self.now) (send.Confirm activity number) }
     {
-        half::goes_on(self.sending, activity)
-            && half::confirmed_of(self.sending) < number
-            && half::has_piece_after(self.checkpoint, total_of(&self.transfer), number)
+        self.sending.may_confirm(activity, number)
     }
 
     /// The peer has confirmed the activity up to this checkpoint.
-    pub fn confirm(&mut self, activity: u32, number: u32)
+    pub(crate) fn confirm(&mut self, activity: u32, number: u32)
+        requires { Sends self.old (send.Confirm activity number) }
         ensures { self.new ≡ record self.old { sending = sends self.old (send.Confirm activity number) } }
     {
-        self.sending = half::confirmed_at(self.sending, number);
+        self.sending.confirm(activity, number);
     }
 
     /// Whether an Ending may be made.
     pub fn may_end(&self, activity: u32) -> bool
         ensures { result ≡ sends_step (sender self.now) (send.To_end activity) }
     {
-        half::is_sending(self.sending, activity)
+        self.sending.state().is_sending(activity)
     }
 
     /// From now on the peer may complete the activity.
-    pub fn end(&mut self, activity: u32)
+    pub(crate) fn end(&mut self, activity: u32)
+        requires { Sends self.old (send.To_end activity) }
         ensures { self.new ≡ record self.old { sending = sends self.old (send.To_end activity) } }
     {
-        self.sending = SendState::Ending {
-            activity,
-            confirmed: half::confirmed_of(self.sending),
-        };
+        self.sending.ending(activity);
     }
 
     /// Whether a Sent may be made.
     pub fn may_be_sent(&self, activity: u32) -> bool
         ensures { result ≡ sends_step (sender self.now) (send.Sent activity) }
     {
-        half::is_ending(self.sending, activity)
+        self.sending.state().is_ending(activity)
     }
 
     /// Whether a Refused, a Denied or a Dropped may be made.
@@ -320,16 +294,14 @@ impl Lane {
         ensures denied { result ≡ sends_step (sender self.now) (send.Denied activity) }
         ensures dropped { result ≡ sends_step (sender self.now) (send.Dropped activity) }
     {
-        half::is_live(self.sending, activity)
+        self.sending.state().is_live(activity)
     }
 
     /// The activity under way is settled: sent, refused, denied or dropped.
-    pub fn settle(&mut self)
+    pub(crate) fn settle(&mut self)
         ensures { self.new ≡ record self.old { sending = sends self.old (send.Sent 0); transfer = None } }
     {
-        self.sending = SendState::Idle {
-            last: half::last_of(self.sending),
-        };
+        self.sending.settle();
         self.transfer = None;
     }
 
@@ -337,25 +309,23 @@ impl Lane {
     pub fn may_abandon(&self, activity: u32) -> bool
         ensures { result ≡ sends_step (sender self.now) (send.Abandon activity) }
     {
-        half::is_sending(self.sending, activity)
+        self.sending.state().is_sending(activity)
     }
 
     /// The activity is given up.
-    pub fn abandon(&mut self, activity: u32)
+    pub(crate) fn abandon(&mut self, activity: u32)
+        requires { Sends self.old (send.Abandon activity) }
         ensures { self.new ≡ record self.old { sending = sends self.old (send.Abandon activity) } }
     {
-        self.sending = SendState::Dropping { activity };
+        self.sending.abandon(activity);
     }
 
     /// An activity is started with this transfer.
-    pub fn start(&mut self, transfer: Transfer)
-        requires { last_of self.old.sending + 1 < 2 ^ 32 }
+    pub(crate) fn start(&mut self, transfer: Transfer)
+        requires { MayStart self.old transfer }
         ensures { self.new ≡ record self.old { sending = sends self.old (send.Start 0); transfer = Some transfer } }
     {
-        self.sending = SendState::Sending {
-            activity: half::last_of(self.sending) + 1,
-            confirmed: 0,
-        };
+        self.sending.start(transfer.total());
         self.transfer = Some(transfer);
     }
 
@@ -363,14 +333,14 @@ impl Lane {
     pub fn may_drop(&self, activity: u32) -> bool
         ensures { result ≡ recv.is_possible (receiver self.now) (recv.Drop activity) }
     {
-        half::is_partial_of(self.last, activity)
+        self.receiving.last().is_partial_of(activity)
     }
 
     /// The pieces that came are given up.
-    pub fn drop_pieces(&mut self)
+    pub(crate) fn drop_pieces(&mut self)
         ensures { self.new ≡ record self.old { last = Last.None; pieces = [] } }
     {
-        self.last = Last::None;
+        self.receiving.drop_part();
         self.pieces.clear();
     }
 
@@ -378,7 +348,7 @@ impl Lane {
     fn has_size(&self, octets: u64) -> bool
         ensures { result ≡ has_size self.now octets }
     {
-        1 <= octets && octets <= half::longest_piece(self.checkpoint)
+        1 <= octets && octets <= longest_piece(self.sending.checkpoint())
     }
 
     // Whether the octets of the pieces before one, and of that one, are not too many.
@@ -390,12 +360,19 @@ impl Lane {
         piece.len() <= 2_097_152 && before + piece.len() as u64 <= 2_097_152
     }
 
+    /// Whether the piece begins a new activity, goes on from what stands, or replaces a part of it.
+    pub fn takes_piece(&self, activity: u32, number: u32) -> bool
+        ensures { result ≡ takes_piece self.now.high self.now.last activity number }
+    {
+        self.receiving.takes_piece(activity, number)
+    }
+
     /// Whether the receiving half takes a piece.
     pub fn may_take(&self, activity: u32, number: u32, piece: &[u8]) -> bool
         ensures { result ≡ takes self.now activity number piece.now }
     {
         self.agreed
-            && half::takes_piece(self.high, self.last, activity, number)
+            && self.takes_piece(activity, number)
             && self.has_size(piece.len() as u64)
             && self.has_room(number, piece)
     }
@@ -407,11 +384,12 @@ impl Lane {
         self.may_take(activity, number, piece)
     }
 
-    /// Places for the pieces that stand and for one more.
-    pub fn places(&self, alloc: Global) -> Result<Places, Memory>
-        ensures { IfOk result (λ places. length self.now.pieces + 2 ≤ places) }
+    /// Room for a piece, in place of that piece and all behind it.
+    pub fn places(&self, alloc: Global, number: u32, piece: &[u8]) -> Result<Places, Memory>
+        ensures { IfOk result (HasPlace self.now.pieces number piece.now) }
     {
-        self.pieces.places(alloc)
+        self.pieces
+            .places(alloc, number.saturating_sub(1) as usize, piece)
     }
 
     /// The octets of the pieces before one, and of that one.
@@ -420,9 +398,19 @@ impl Lane {
         ensures { IfOk result (λ octets. octets ≡ concat (with_piece self.now.pieces number piece.now)) }
     {
         let before = self.pieces.first(number.saturating_sub(1) as usize);
-        let mut octets = joined_octets(alloc, before)?;
+        let mut octets = Octets::from_slice(alloc, before)?;
         octets.extend(piece)?;
         Ok(octets)
+    }
+
+    /// The octets of the pieces before one, and of that one, to be read and then held by an item too. Where it is the
+    /// next piece no octet that stands is copied. The lane stays as it is.
+    #[tactic(auto, using(crate::proofs::Concats::joined_behind))]
+    pub fn share(&mut self, number: u32, piece: &[u8]) -> Result<Arc<Octets, Global>, Memory>
+        ensures same { self.new ≡ self.old }
+        ensures ok { IfOk result (λ octets. octets.value ≡ concat (with_piece self.old.pieces number piece.now)) }
+    {
+        self.pieces.share(number.saturating_sub(1) as usize, piece)
     }
 
     /// How many pieces stand.
@@ -432,10 +420,9 @@ impl Lane {
         self.pieces.len()
     }
 
-    /// A piece stands from now on, in place of that piece and all behind it. Two places more than there are pieces are
-    /// handed in.
-    pub fn secure(&mut self, activity: u32, number: u32, piece: Octets, places: Places)
-        requires places { length self.old.pieces + 2 ≤ places }
+    /// A piece stands from now on, in place of that piece and all behind it, in room that was found for it.
+    pub(crate) fn secure(&mut self, activity: u32, number: u32, piece: Octets, places: Places)
+        requires places { HasPlace self.old.pieces number piece places }
         requires within { length (concat (with_piece self.old.pieces number piece)) ≤ longest_activity }
         ensures { self.new ≡ record self.old {
           high = activity;
@@ -445,19 +432,14 @@ impl Lane {
     {
         self.pieces
             .put(number.saturating_sub(1) as usize, piece, places);
-        self.high = activity;
-        self.last = Last::Partial {
-            activity,
-            pieces: number,
-        };
+        self.receiving.secure(activity, number);
     }
 
     /// All of the activity has come.
-    pub fn complete(&mut self, activity: u32)
+    pub(crate) fn complete(&mut self, activity: u32)
         ensures { self.new ≡ record self.old { high = activity; last = Last.Done activity; pieces = [] } }
     {
-        self.high = activity;
-        self.last = Last::Done { activity };
+        self.receiving.complete(activity);
         self.pieces.clear();
     }
 
@@ -482,18 +464,26 @@ impl Lane {
         self.transfer.as_ref()
     }
 
+    // Whether an activity is under way that may still be completed.
+    fn is_transferring(&self) -> bool
+        ensures { result ≡ is_transferring self.now.sending }
+    {
+        let state = self.sending.state();
+        state.goes_on(state.last())
+    }
+
     /// Whether the activity under way may still be completed, and is for this recipient of the item.
     pub fn holds(&self, item: u32, recipient: u32) -> bool
         ensures { result ≡ holds item recipient self.now }
     {
-        half::is_transferring(self.sending) && is_for(&self.transfer, item, recipient)
+        self.is_transferring() && is_for(&self.transfer, item, recipient)
     }
 
     /// The number of the activity under way, or else of the last one; 0 before the first.
     pub fn activity(&self) -> u32
         ensures { result ≡ last_of self.now.sending }
     {
-        half::last_of(self.sending)
+        self.sending.state().last()
     }
 
     /// Whether the activity under way may still be given up, and is for this recipient of the item.
@@ -501,8 +491,7 @@ impl Lane {
         ensures { result
             ≡ (is_sending self.now.sending (last_of self.now.sending) && is_for item recipient self.now.transfer) }
     {
-        half::is_sending(self.sending, half::last_of(self.sending))
-            && is_for(&self.transfer, item, recipient)
+        self.sending.state().is_sending(self.activity()) && is_for(&self.transfer, item, recipient)
     }
 
     /// Whether it is with this peer, in this role, and of this reference, where one is asked for.
@@ -520,6 +509,6 @@ impl Lane {
     pub fn may_close(&self) -> bool
         ensures { result ≡ is_idle self.now.sending }
     {
-        half::is_idle(self.sending)
+        self.sending.state().is_idle()
     }
 }

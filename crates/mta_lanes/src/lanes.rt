@@ -1,19 +1,20 @@
 //! The lanes of a spool.
 
 ghost use Rattle.std.specs.Prelude.{◌≡◌, ◌+◌, ◌≤◌, ◌<◌, ◌∷◌, ◌++◌, [], length, count_by};
-ghost use Rattle.std.specs.Prelude.{IfSome, IsTrue, ◌↔◌, ◌^◌, OnOk, vec_len, vec_capacity};
+ghost use Rattle.std.specs.Prelude.{IfOk, IfSome, None, IsTrue, ◌↔◌, ◌^◌, OnOk, vec_len, vec_capacity};
 ghost use Rattle.std.specs.List.{find, list_any, position};
 ghost use Rattle.std.specs.Option.{option_copied};
 ghost use Rattle.mta_histories.specs.Lanes.{lane_at, without_lane, activities_of, holds};
 ghost use Rattle.mta_histories.specs.History.{is_with};
 ghost use Rattle.mta_lanes.specs.Changes.{MayChangeAt, put_changed};
-ghost use Rattle.mta_lanes.specs.Finds.{has_number, is_spare, lanes_of};
+ghost use Rattle.mta_lanes.specs.Finds.{has_number, is_spare, lanes_of, AreJoinedOn};
 
 use crate::change::LaneChange;
 use crate::lane::Lane;
-use mta_ber::{Memory, Word};
+use mta_ber::{Memory, Octets, Word};
 use mta_records::LaneRole;
 use std::alloc::Global;
+use std::sync::Arc;
 
 /// How many lanes were opened, and those that are open, by ascending numbers.
 #[derive(Drop)]
@@ -109,6 +110,28 @@ impl Lanes {
     {
         self.open_lanes.push_reserved(lane);
         self.count += 1;
+    }
+
+    /// The octets of the pieces before one on the open lane of this number, and of that one, to be read and then held
+    /// by an item too: none where the lane is not open. Where it is the next piece no octet that stands is copied. The
+    /// lanes stay as they are.
+    pub fn share(
+        &mut self,
+        lane: u32,
+        number: u32,
+        piece: &[u8],
+    ) -> Result<Option<Arc<Octets, Global>>, Memory>
+        ensures same { lanes_of self.new ≡ lanes_of self.old }
+        ensures ok { IfOk result (λ shared. IfSome shared (λ octets.
+            AreJoinedOn (lane_at lane self.old.open_lanes.items) number piece.now octets.value)) }
+        ensures none { IfOk result (λ shared. shared ≡ None → lane_at lane self.old.open_lanes.items ≡ None) }
+    {
+        let Some(place) = place_of(self.open_lanes.as_slice(), lane) else {
+            return Ok(None);
+        };
+        let opened = &mut self.open_lanes[place];
+        let octets = opened.share(number, piece)?;
+        Ok(Some(octets))
     }
 
     /// Makes a change of the open lane of this number.

@@ -3,7 +3,6 @@
 #![tactic(auto)]
 
 mod change;
-mod half;
 mod lane;
 mod lanes;
 mod pieces;

@@ -276,6 +276,10 @@ module _ (k : Kept) (n activity moment : ℕ) where
       → is_transferring lane.sending ≡ true
   abandon_goes_on lane may = sending_goes_on lane.sending activity may.needs.0
 
+  pub abandon_may : (lane : Lane) → IsOpenFor (state_of k) n None (abandon activity) moment lane
+      → MayChange lane (lane_change.Abandon activity)
+  abandon_may lane may = may.needs.0
+
 pub ruleset fail_laws = (a_transfer, an_item, stored_at, fail_none, fail_made)
 
 pub ruleset refused_laws = (refused_quietly, refused_fails, refused_goes_on)
@@ -290,4 +294,4 @@ pub ruleset prepare_refused_laws = (not_refused, refused_changes)
 
 pub ruleset prepare_denied_laws = (not_denied, denied_changes)
 
-pub ruleset prepare_abandon_laws = (not_abandoned, abandon_changes, abandon_goes_on)
+pub ruleset prepare_abandon_laws = (not_abandoned, abandon_changes, abandon_goes_on, abandon_may)

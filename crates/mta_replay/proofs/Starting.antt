@@ -19,6 +19,7 @@ use Rattle.mta_histories.specs.Lanes.{Lane, State, Transfer, lane_at}
 use Rattle.mta_histories.specs.Classes.{start}
 use Rattle.mta_histories.specs.History.{CanStart, copied, octets_of, transfer_of}
 use Rattle.mta_histories.specs.Due.{IsToRelay}
+use Rattle.mta_histories.proofs.Keeps.{start-octets}
 use Rattle.mta_lanes.specs.declared.change.LaneChange.TheVariants as lane_change
 use Rattle.mta_dues.proofs.Ascending.{named_more}
 use Rattle.mta_state.specs.declared.kept.Kept.{Kept}
@@ -235,8 +236,13 @@ module _ (k : Kept) (n g activity i : ℕ) (rs : List ℕ) (moment : ℕ) where
               after = ap (λ (t : Transfer). started lane t) is;
               stays = refl;
               may =
-                  let next = may.startable.next in
-                  omega (arith, next, small);
+                  let next = may.startable.next in (
+                    may.startable.agreed,
+                    may.startable.idle,
+                    subst (λ (t : Transfer). 1 ≤ length t.octets) (sym is)
+                        (start-octets (state_of k) lane activity i rs moment can_start),
+                    omega (arith, next, small),
+                  );
               timely = may.timely;
               numbers = few;
             })

@@ -80,12 +80,12 @@ fn next_lane(
 ) -> Result<Lane, Memory>
     requires count { kept.now.lanes.count + 1 < 2 ^ 32 }
     requires checkpoint { checkpoint ≤ 64 }
+    requires window { (1 ≤ window) × (window ≤ 8) }
     ensures { IfOk result (λ lane. lane
         ≡ new_lane (kept.now.lanes.count + 1) role peer.now reference.now twa checkpoint window) }
 {
     let peer = peer.copy(alloc)?;
     let reference = reference.copy(alloc)?;
-    let pieces = Pieces::new(alloc)?;
     Ok(Lane::open(
         kept.lanes.count + 1,
         role,
@@ -94,7 +94,7 @@ fn next_lane(
         twa,
         checkpoint,
         window,
-        pieces,
+        Pieces::new(alloc),
     ))
 }
 

@@ -1,3 +1,4 @@
+pub mod Halves
 pub mod Little
 pub mod Stepping
 pub mod Work

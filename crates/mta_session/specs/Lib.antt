@@ -2,6 +2,7 @@ pub mod Fits
 pub mod Follows
 pub mod Groups
 pub mod Holding
+pub mod Link
 pub mod Rank
 pub mod Receiving
 pub mod RecvFits

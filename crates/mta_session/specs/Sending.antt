@@ -1,46 +1,14 @@
 -- The sending end of a session's lane, as the rules of sending ends see it, and what the units that it gets call for.
-use Rattle.std.specs.Prelude.{ℕ, ◌*◌, ◌&&◌, ◌==◌, nat_lt, nat_le, not, if◌then◌else◌, Bool, true}
-use Rattle.std.specs.Prelude.{false, Option, Some, None, List, []}
+use Rattle.std.specs.Prelude.{ℕ, ◌&&◌, ◌==◌, nat_lt, nat_le, not, if◌then◌else◌, Bool, true}
+use Rattle.std.specs.Prelude.{false, Option, Some, None}
 use Rattle.mta_units.specs.declared.unit.Unit.{Unit as AnyUnit}
 use Rattle.mta_units.specs.declared.unit.Unit.TheVariants as unit
 use Rattle.mta_lane_send.specs.Half.{goes_on, is_ending, is_live, is_idle, last_of, confirmed_of}
 use Rattle.mta_transfer_rules.specs.Units as u
 use Rattle.mta_transfer_rules.specs.Sending as s
 use Rattle.mta_transfer_rules.specs.Sending.{SendEnd, SendStage, is_dropping, synced, is_discarded, stage_got}
-use Rattle.mta_records.specs.Outgoing.{Carried}
 use Rattle.mta_session.specs.declared.phase.OwnStep.{OwnStep}
 use Rattle.mta_session.specs.declared.phase.OwnStep.TheVariants as own
-use Rattle.mta_session.specs.declared.sending.PutStage.{PutStage}
-use Rattle.mta_session.specs.declared.sending.PutStage.TheVariants as stage
-use Rattle.mta_session.specs.declared.sending.SendLink.{SendLink}
-
-abbrev pub stage_of : PutStage → SendStage
-stage_of stage.Quiet = s.Quiet
-stage_of stage.Opened = s.Opened
-stage_of (stage.Started k) = s.Started k
-stage_of (stage.Next k n) = s.Next k n
-stage_of (stage.SyncNext k n) = s.Sync_next k n
-stage_of (stage.LastPut k n) = s.Last_put k n
-stage_of (stage.EndPut k n) = s.End_put k n
-stage_of (stage.ResumePut k n) = s.Resume_put k n
-stage_of (stage.DiscardPut k) = s.Discard_put k
-
-abbrev pub octets_of : Option Carried → List ℕ
-octets_of None = []
-octets_of (Some o) = o.octets
-
--- What a unit got calls for is asked for at once, so nothing heard is kept.
-abbrev pub send_end : (checkpoint window : ℕ) → SendLink → SendEnd
-send_end checkpoint window l =
-    record {
-      state = l.state;
-      octets = octets_of l.outgoing;
-      size = 1024 * checkpoint;
-      window = window;
-      accepted = l.accepted;
-      stage = stage_of l.stage;
-      heard = None;
-    }
 
 -- What a holder of the turn makes of a unit -------------------------------------------------
 

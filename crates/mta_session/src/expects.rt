@@ -8,7 +8,6 @@ ghost use Rattle.mta_session.specs.Fits.{ValuesFit};
 
 use crate::ask::Reply;
 use crate::event::Event;
-use crate::got_with_turn::{is_idle, last_of};
 use crate::machine::Machine;
 use crate::peer::Peer;
 use crate::phase::{OwnStep, Phase};
@@ -116,7 +115,7 @@ impl Machine {
     {
         match told {
             None => false,
-            Some(state) => self.agreed || is_idle(state),
+            Some(state) => self.agreed || state.is_idle(),
         }
     }
 
@@ -126,7 +125,7 @@ impl Machine {
         match told {
             Err(_) => true,
             Ok(outgoing) => {
-                let next = last_of(self.send.state) as u64 + 1;
+                let next = self.send.state().last() as u64 + 1;
                 let total = outgoing.total();
                 outgoing.activity as u64 == next && 1 <= total && total <= LONGEST_ACTIVITY
             }
@@ -179,7 +178,7 @@ impl Machine {
         ensures { IsTrue result ↔ RepliesTo (Phase.AsksResumed state) self.now reply.now }
     {
         match reply {
-            Reply::Resumed(told) => resumed_fits(self.checkpoint, state, told),
+            Reply::Resumed(told) => resumed_fits(self.send.half().checkpoint(), state, told),
             _ => false,
         }
     }

@@ -27,8 +27,6 @@ pub struct Machine {
     pub line: Option<Peer>,
     pub lane: u32,
     pub generation: u64,
-    pub checkpoint: u32,
-    pub window: u32,
     pub twa: bool,
     pub agreed: bool,
     pub ours: bool,
@@ -49,8 +47,6 @@ impl Drop for Machine {
             line: _,
             lane: _,
             generation: _,
-            checkpoint: _,
-            window: _,
             twa: _,
             agreed: _,
             ours: _,
@@ -63,7 +59,7 @@ impl Drop for Machine {
 
 impl Model for Machine {
     ghost use Rattle.mta_session.specs.State.{State};
-    ghost use Rattle.mta_session.specs.Sending.{send_end};
+    ghost use Rattle.mta_session.specs.Link.{send_end};
     ghost use Rattle.mta_session.specs.Receiving.{recv_end};
 
     ghost Value = { State };
@@ -76,13 +72,13 @@ impl Model for Machine {
       line = m.line;
       lane = m.lane;
       generation = m.generation;
-      checkpoint = m.checkpoint;
-      window = m.window;
+      checkpoint = m.send.half.checkpoint;
+      window = m.send.half.window;
       twa = m.twa;
       agreed = m.agreed;
       ours = m.ours;
       please = m.please;
-      send = send_end m.checkpoint m.window m.send;
+      send = send_end m.send;
       recv = recv_end m.recv;
     } };
 }
@@ -92,7 +88,7 @@ impl Machine {
     pub fn let_go(&mut self)
         ensures { self.new ≡ let_go self.old }
     {
-        self.send.outgoing = None;
+        self.send.let_go();
         self.recv.stage = Stage::Free;
     }
 

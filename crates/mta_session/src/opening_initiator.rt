@@ -12,7 +12,6 @@ ghost use Rattle.mta_session.specs.Fits.{Fits, FitsAt, IsReady, HasPlan, StepsAs
 
 use crate::ask::Ask;
 use crate::event::{Action, SessionEnd, Side};
-use crate::got_with_turn::{is_idle, last_of};
 use crate::machine::Machine;
 use crate::password::is_same_password;
 use crate::phase::Phase;
@@ -70,8 +69,8 @@ impl Machine {
         Ok(Action::Put(Unit::Open(OpenUnit {
             name,
             reference,
-            checkpoint: self.checkpoint,
-            window: self.window,
+            checkpoint: self.send.half().checkpoint(),
+            window: self.send.half().window(),
             twa: self.twa,
             request,
         })))
@@ -104,16 +103,16 @@ impl Machine {
         requires plan { HasPlan self.old.side }
         ensures { StepsAs self.old (starts self.old) 51 result self.new }
     {
-        let (agreed, ours, accepted) = (self.agreed, self.ours, self.send.accepted);
+        let (agreed, ours, accepted) = (self.agreed, self.ours, self.send.is_accepted());
         self.agreed = true;
         self.ours = true;
-        self.send.accepted = true;
+        self.send.accept(true);
         match self.hold() {
             Ok(action) => Ok(action),
             Err(memory) => {
                 self.agreed = agreed;
                 self.ours = ours;
-                self.send.accepted = accepted;
+                self.send.accept(accepted);
                 Err(memory)
             }
         }
@@ -122,10 +121,11 @@ impl Machine {
     fn is_refused_value(&self, checkpoint: u32, window: u32) -> bool
         ensures { result ≡ is_refused_value self.now checkpoint window }
     {
-        self.checkpoint < checkpoint
-            || self.window < window
+        let half = self.send.half();
+        half.checkpoint() < checkpoint
+            || half.window() < window
             || window == 0
-            || (self.agreed && !(checkpoint == self.checkpoint && window == self.window))
+            || (self.agreed && !(checkpoint == half.checkpoint() && window == half.window()))
     }
 
     /// The values that the responder answers.
@@ -140,8 +140,7 @@ impl Machine {
         if self.agreed {
             return self.start_lane();
         }
-        self.checkpoint = checkpoint;
-        self.window = window;
+        self.send.agree(checkpoint, window);
         self.phase = Phase::AsksAgree;
         Ok(Action::Ask(Ask::LaneAgree {
             lane: self.lane,
@@ -194,13 +193,13 @@ impl Machine {
             unreachable!();
         };
         let recovering = plan.recovering;
-        if reason == 1 && !is_idle(self.send.state) {
+        if reason == 1 && !self.send.state().is_idle() {
             self.let_go();
             self.phase = Phase::AsksDenied;
             Action::Ask(Ask::Denied {
                 lane: self.lane,
                 generation: self.generation,
-                activity: last_of(self.send.state),
+                activity: self.send.state().last(),
             })
         } else if reason == 1 || !recovering {
             self.ask_close(Phase::AsksLast {

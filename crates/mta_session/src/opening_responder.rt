@@ -211,16 +211,17 @@ impl Machine {
         let (Some(open), Some(line)) = (&self.opened, &self.line) else {
             unreachable!();
         };
-        self.checkpoint = agreed_checkpoint(open.checkpoint, line.checkpoint);
-        self.window = agreed_window(open.window, line.window);
+        let checkpoint = agreed_checkpoint(open.checkpoint, line.checkpoint);
+        let window = agreed_window(open.window, line.window);
+        self.send.agree(checkpoint, window);
         self.twa = open.twa;
         self.lane = lane;
         self.generation = 1;
         self.agreed = true;
         self.phase = Phase::PutsAccept;
         Ok(Action::Put(Unit::Accept {
-            checkpoint: self.checkpoint,
-            window: self.window,
+            checkpoint,
+            window,
             answer,
         }))
     }
@@ -299,8 +300,7 @@ impl Machine {
         };
         self.twa = values.twa;
         self.agreed = values.agreed;
-        self.checkpoint = values.checkpoint;
-        self.window = values.window;
+        self.send.agree(values.checkpoint, values.window);
         self.phase = Phase::AsksRecovery;
         Action::Ask(Ask::Recovery { lane: self.lane })
     }

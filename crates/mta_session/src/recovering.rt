@@ -2,34 +2,20 @@
 
 ghost use Rattle.std.specs.Prelude.{◌≡◌, false};
 ghost use Rattle.mta_session.specs.State.{is_initiator};
-ghost use Rattle.mta_transfer_rules.specs.Sending.{stage_on_link};
-ghost use Rattle.mta_session.specs.Sending.{stage_of};
 ghost use Rattle.mta_session.specs.Wanted.{accepts, answers_link, after_accept, on_receiving, on_resumed};
 ghost use Rattle.mta_session.specs.Fits.{AgreedFor, FitsAt, StepsAs, IsReady, HasLink, IsTold, ResumedFits};
 
 use crate::ask::Ask;
 use crate::event::Action;
-use crate::got_with_turn::is_idle;
 use crate::machine::Machine;
 use crate::phase::Phase;
 use crate::receiving::{RecvLink, Stage};
-use crate::sending::PutStage;
 use mta_ber::Memory;
-use mta_lane_recv::Last;
+use mta_lane_recv::{Last, RecvHalf};
 use mta_lane_send::SendState;
 use mta_records::Outgoing;
 use mta_units::Unit;
 use std::mem;
-
-/// What is put of this half on a link where nothing was put yet.
-fn stage_on_link(state: SendState) -> PutStage
-    ensures { stage_of result ≡ stage_on_link state }
-{
-    match state {
-        SendState::Idle { .. } => PutStage::Quiet,
-        _ => PutStage::Opened,
-    }
-}
 
 impl Machine {
     /// Accept, for the lane as it is.
@@ -43,8 +29,8 @@ impl Machine {
         let answer = self.answer_for()?;
         self.phase = Phase::PutsAccept;
         Ok(Action::Put(Unit::Accept {
-            checkpoint: self.checkpoint,
-            window: self.window,
+            checkpoint: self.send.half().checkpoint(),
+            window: self.send.half().window(),
             answer,
         }))
     }
@@ -77,27 +63,23 @@ impl Machine {
             unreachable!();
         };
         let receiving = RecvLink {
-            high,
-            last,
+            half: RecvHalf::restore(self.generation, high, last),
             stage: Stage::Free,
             from: 0,
             acked: 0,
         };
         let before = mem::replace(&mut self.recv, receiving);
-        let sending = self.send.state;
-        if !is_idle(state) {
+        if !state.is_idle() {
             self.phase = Phase::AsksResumed { state };
             return Ok(Action::Ask(Ask::Resumed { lane: self.lane }));
         }
-        self.send.state = state;
-        self.send.stage = stage_on_link(state);
-        self.send.outgoing = None;
+        let sending = self.send.at_rest(self.generation, state);
+        let blank = mem::replace(&mut self.send, sending);
         match self.answer_link() {
             Ok(action) => Ok(action),
             Err(memory) => {
                 self.recv = before;
-                self.send.state = sending;
-                self.send.stage = PutStage::Quiet;
+                self.send = blank;
                 Err(memory)
             }
         }
@@ -117,16 +99,12 @@ impl Machine {
             Err(_) => Ok(self.abort(0)),
             Ok(None) => unreachable!(),
             Ok(Some(outgoing)) => {
-                let sending = self.send.state;
-                self.send.state = state;
-                self.send.stage = stage_on_link(state);
-                self.send.outgoing = Some(outgoing);
+                let sending = self.send.resumed(self.generation, state, outgoing);
+                let blank = mem::replace(&mut self.send, sending);
                 match self.answer_link() {
                     Ok(action) => Ok(action),
                     Err(memory) => {
-                        self.send.state = sending;
-                        self.send.stage = PutStage::Quiet;
-                        self.send.outgoing = None;
+                        self.send = blank;
                         Err(memory)
                     }
                 }
@@ -142,7 +120,7 @@ impl Machine {
         if !self.twa {
             return Ok(self.answer());
         }
-        if !is_idle(self.send.state) {
+        if !self.send.state().is_idle() {
             return Ok(self.put_please());
         }
         let peer = self.peer()?;

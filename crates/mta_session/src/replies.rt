@@ -1,10 +1,10 @@
 //! What the spool answers on an open session.
 
-ghost use Rattle.std.specs.Prelude.{◌≡◌, true, []};
+ghost use Rattle.std.specs.Prelude.{◌≡◌, ◌&&◌, true, []};
 ghost use Rattle.mta_session.specs.Rank.{FallsBelow, rank_of_step};
 ghost use Rattle.mta_lane_send.specs.Half.{is_sending};
 ghost use Rattle.mta_transfer_rules.specs.Sending as s;
-ghost use Rattle.mta_session.specs.Sending.{stage_of};
+ghost use Rattle.mta_session.specs.Link.{stage_of, lets_go};
 ghost use Rattle.mta_session.specs.Wanted.{Goes_on, abort_of, kind_octet, is_cut, after_step, on_batch, on_due};
 ghost use Rattle.mta_session.specs.Wanted.{on_start, on_still_idle, on_step, on_state, on_secured, on_completed};
 ghost use Rattle.mta_session.specs.Wanted.{on_dropped};
@@ -13,14 +13,11 @@ ghost use Rattle.mta_session.specs.Fits.{Fits, FitsAt, IsLive, HoldsFree, StepsA
 
 use crate::ask::Ask;
 use crate::event::Action;
-use crate::got_with_turn::last_of;
 use crate::machine::Machine;
 use crate::phase::{Found, OwnStep, Phase};
 use crate::receiving::Stage;
-use crate::sending::PutStage;
 use mta_ber::{Kind, Memory};
-use mta_lane_recv::Last;
-use mta_lane_send::SendState;
+use mta_lane_send::{OnLink, SendState};
 use mta_records::{Batch, CompleteFault, Outgoing, StepFault};
 use mta_units::Unit;
 
@@ -54,32 +51,22 @@ fn kind_octet(kind: Kind) -> u8
     }
 }
 
-/// Whether the activity is sent, and End may not be put yet.
-fn is_sending(state: SendState, activity: u32) -> bool
-    ensures { result ≡ is_sending state activity }
+/// Whether Discard of an activity may be put behind what is put.
+fn lets_go(on_link: OnLink) -> bool
+    ensures { result ≡ lets_go on_link }
 {
-    match state {
-        SendState::Sending {
-            activity: live,
-            confirmed: _,
-        } => activity == live,
-        _ => false,
+    match on_link {
+        OnLink::End { .. } | OnLink::Discard => false,
+        _ => true,
     }
 }
 
-/// Whether an activity that is given up may be discarded on this link.
-fn is_cut(stage: PutStage, activity: u32) -> bool
-    ensures { result ≡ is_cut (stage_of stage) activity }
+/// Whether the activity is in Sending, and may be discarded on this link where it is given up.
+#[tactic(auto, using(crate::proofs::Halves::cut_is))]
+fn may_discard(state: SendState, on_link: OnLink, activity: u32) -> bool
+    ensures { result ≡ (is_sending state activity && is_cut (stage_of state on_link) activity) }
 {
-    match stage {
-        PutStage::Quiet | PutStage::EndPut { .. } | PutStage::DiscardPut { .. } => false,
-        PutStage::Opened => true,
-        PutStage::Started { activity: put }
-        | PutStage::Next { activity: put, .. }
-        | PutStage::SyncNext { activity: put, .. }
-        | PutStage::LastPut { activity: put, .. }
-        | PutStage::ResumePut { activity: put, .. } => activity == put,
-    }
+    state.is_sending(activity) && lets_go(on_link)
 }
 
 impl Machine {
@@ -141,15 +128,7 @@ impl Machine {
         match started {
             Ok(outgoing) => {
                 let activity = outgoing.activity;
-                self.send.outgoing = Some(outgoing);
-                self.send.state = SendState::Sending {
-                    activity,
-                    confirmed: 0,
-                };
-                self.send.stage = PutStage::Next {
-                    activity,
-                    number: 0,
-                };
+                self.send.start(outgoing);
                 self.phase = Phase::Puts;
                 Action::Put(Unit::Start { activity })
             }
@@ -163,7 +142,7 @@ impl Machine {
         requires { FitsAt Phase.AsksStillIdle self.old }
         ensures { StepsAs self.old (on_still_idle self.old told) 45 result self.new }
     {
-        let still = match (self.send.state, told) {
+        let still = match (self.send.state(), told) {
             (SendState::Idle { last }, Some(SendState::Idle { last: told })) => told == last,
             _ => false,
         };
@@ -185,22 +164,12 @@ impl Machine {
             (Goes_on (record self.old { send = after_step self.old.send (OwnStep.Confirm number) }))
             52 result self.new }
     {
-        let state = self.send.state;
-        self.send.state = match state {
-            SendState::Sending { activity, .. } => SendState::Sending {
-                activity,
-                confirmed: number,
-            },
-            SendState::Ending { activity, .. } => SendState::Ending {
-                activity,
-                confirmed: number,
-            },
-            other => other,
-        };
+        let half = self.send.half();
+        self.send.confirm(number);
         match self.hold() {
             Ok(action) => Ok(action),
             Err(memory) => {
-                self.send.state = state;
+                self.send.put_back(half);
                 Err(memory)
             }
         }
@@ -211,21 +180,12 @@ impl Machine {
         ensures { StepsAs self.old (Goes_on (record self.old { send = after_step self.old.send OwnStep.Ending })) 9
             result self.new }
     {
-        let state = self.send.state;
-        if let SendState::Sending {
-            activity,
-            confirmed,
-        } = state
-        {
-            self.send.state = SendState::Ending {
-                activity,
-                confirmed,
-            };
-        }
+        let half = self.send.half();
+        self.send.ending();
         match self.hold() {
             Ok(action) => Ok(action),
             Err(memory) => {
-                self.send.state = state;
+                self.send.put_back(half);
                 Err(memory)
             }
         }
@@ -241,11 +201,7 @@ impl Machine {
             52 result self.new }
     {
         let peer = self.peer()?;
-        self.send.state = SendState::Idle {
-            last: last_of(self.send.state),
-        };
-        self.send.stage = PutStage::Quiet;
-        self.send.outgoing = None;
+        self.send.settle();
         self.phase = Phase::AsksBatch;
         Ok(Action::Ask(Ask::BatchFor { peer }))
     }
@@ -273,15 +229,15 @@ impl Machine {
         let Some(SendState::Dropping { activity }) = told else {
             return Ok(self.abort(4));
         };
-        if !(is_sending(self.send.state, activity) && is_cut(self.send.stage, activity)) {
+        let half = self.send.half();
+        if !may_discard(half.state(), half.on_link(), activity) {
             return Ok(self.abort(4));
         }
-        let state = self.send.state;
-        self.send.state = SendState::Dropping { activity };
+        self.send.abandon();
         match self.hold() {
             Ok(action) => Ok(action),
             Err(memory) => {
-                self.send.state = state;
+                self.send.put_back(half);
                 Err(memory)
             }
         }
@@ -300,11 +256,7 @@ impl Machine {
     {
         match made {
             Ok(()) => {
-                self.recv.high = activity;
-                self.recv.last = Last::Partial {
-                    activity,
-                    pieces: number,
-                };
+                self.recv.half.secure(activity, number);
                 self.recv.stage = Stage::Next { activity, number };
                 self.answer()
             }
@@ -332,8 +284,7 @@ impl Machine {
     {
         match made {
             Ok(_) => {
-                self.recv.high = activity;
-                self.recv.last = Last::Done { activity };
+                self.recv.half.complete(activity);
                 self.answer()
             }
             Err(CompleteFault::Bad(fault)) => self.except(
@@ -360,7 +311,7 @@ impl Machine {
     {
         match made {
             Ok(()) => {
-                self.recv.last = Last::None;
+                self.recv.half.drop_part();
                 match found {
                     Some(found) => self.except(activity, found),
                     None => self.answer(),

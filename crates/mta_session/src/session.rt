@@ -11,9 +11,9 @@ use crate::limits::Limits;
 use crate::machine::Machine;
 use crate::phase::Phase;
 use crate::receiving::{RecvLink, Stage};
-use crate::sending::{PutStage, SendLink};
+use crate::sending::SendLink;
 use mta_ber::{Memory, Word};
-use mta_lane_recv::Last;
+use mta_lane_recv::RecvHalf;
 use mta_lane_send::SendState;
 use std::alloc::Global;
 use std::marker::Model;
@@ -48,21 +48,13 @@ fn new_machine(alloc: Global, side: Side, units: u32) -> Machine
         line: None,
         lane: 0,
         generation: 0,
-        checkpoint: 0,
-        window: 0,
         twa: false,
         agreed: false,
         ours: false,
         please: false,
-        send: SendLink {
-            state: SendState::Idle { last: 0 },
-            stage: PutStage::Quiet,
-            accepted: true,
-            outgoing: None,
-        },
+        send: SendLink::new(0, 0, 1, true),
         recv: RecvLink {
-            high: 0,
-            last: Last::None,
+            half: RecvHalf::new(0),
             stage: Stage::Free,
             from: 0,
             acked: 0,
@@ -81,10 +73,8 @@ impl Session {
         let mut machine = new_machine(alloc, Side::Initiator(plan), limits.units);
         machine.lane = lane;
         machine.generation = generation;
-        machine.checkpoint = checkpoint;
-        machine.window = window;
         machine.twa = twa;
-        machine.send.accepted = false;
+        machine.send = SendLink::new(generation, checkpoint, window, false);
         Session { machine }
     }
 
@@ -117,7 +107,7 @@ impl Session {
     pub fn sending(&self) -> SendState
         ensures { result ≡ self.now.send.state }
     {
-        self.machine.send.state
+        self.machine.send.state()
     }
 
     /// Whether it comes to its end: of its own it puts its last unit now, or none any more.

@@ -9,9 +9,8 @@ ghost use Rattle.std.specs.List.{concat};
 ghost use Rattle.mta_ber.specs.Times.{last_moment};
 ghost use Rattle.mta_apdu.specs.Apdus.{apdu_of};
 ghost use Rattle.mta_histories.specs.Classes.{complete, secure};
-ghost use Rattle.mta_histories.specs.History.{IsOnLane, longest_piece, with_piece};
+ghost use Rattle.mta_histories.specs.History.{IsOnLane, with_piece};
 ghost use Rattle.mta_histories.specs.Lanes.{lane_at};
-ghost use Rattle.mta_lane_recv.specs.Half.{takes_piece};
 ghost use Rattle.mta_lane_recv.specs.Half as recv;
 ghost use Rattle.mta_spool.specs.Receiving.{HasFault, HasFaultOn, IsBad, IsExpected, IsMemoryOrSpent, IsNoApdu};
 ghost use Rattle.mta_spool.specs.Receiving.{IsTooLong};
@@ -22,7 +21,7 @@ use crate::spool::Spool;
 use mta_apdu::Apdu;
 use mta_ber::{Fault, Kind, Memory, Octets, ReadFault};
 use mta_edge::{Clock, Disk};
-use mta_lane_recv::Last;
+use mta_lane_recv::longest_piece;
 use mta_lanes::Lane;
 use mta_records::{CompleteFault, Step, StepFault};
 use std::alloc::Global;
@@ -30,41 +29,15 @@ use std::alloc::Global;
 // The most octets of an activity.
 const LONGEST_ACTIVITY: u32 = 2_097_152;
 
-// The most octets of a piece. `checkpoint` is in units of 1,024 octets, and with 0 an activity is one piece.
-fn longest_piece(checkpoint: u32) -> u64
-    ensures { result ≡ longest_piece checkpoint }
-{
-    if checkpoint == 0 {
-        u64::from(LONGEST_ACTIVITY)
-    } else {
-        1024 * u64::from(checkpoint)
-    }
-}
-
-// Whether the piece begins a new activity, goes on from what stands, or replaces a part of it.
-fn takes_piece(high: u32, last: Last, activity: u32, number: u32) -> bool
-    ensures { result ≡ takes_piece high last activity number }
-{
-    match last {
-        Last::None => high < activity && number == 1,
-        Last::Partial {
-            activity: standing,
-            pieces,
-        } => activity == standing && 1 <= number && u64::from(number) <= u64::from(pieces) + 1,
-        Last::Done { .. } => high < activity && number == 1,
-    }
-}
-
 // Whether the lane takes the piece, whatever its octets spell with those before.
 fn expects(opened: &Lane, generation: u64, activity: u32, number: u32, piece: &[u8]) -> bool
     ensures { IsTrue result
         ↔ (generation ≡ opened.now.generation) × ExpectsPiece opened.now (recv.Secure activity number) piece.now }
 {
     let values = opened.values();
-    let (high, last) = opened.receiving();
     opened.is_of(generation)
         && values.agreed
-        && takes_piece(high, last, activity, number)
+        && opened.takes_piece(activity, number)
         && 1 <= piece.len()
         && piece.len() as u64 <= longest_piece(values.checkpoint)
 }

@@ -4,6 +4,7 @@ use Rattle.mta_records.specs.declared.step.Step.TheVariants as steps
 use Rattle.mta_histories.specs.Lanes.{Lane, lane_at}
 use Rattle.mta_histories.specs.Classes.{secure}
 use Rattle.mta_lanes.specs.declared.change.LaneChange.TheVariants as lane_change
+use Rattle.mta_lanes.specs.Pieces.{HasPlace, Room}
 use Rattle.mta_state.specs.declared.kept.Kept.{Kept}
 use Rattle.mta_state.specs.declared.change.Change.TheVariants as change
 use Rattle.mta_state.specs.Kept.{state_of}
@@ -11,9 +12,9 @@ use Rattle.mta_state.specs.Prepared.{Prepares, Allows}
 use Rattle.mta_state.proofs.OnLane.{on_lane_change, not_open, not_allowed}
 
 module _ (k : Kept) (n g activity number : ℕ) (piece : List ℕ) where
-  pub secure_changes : (places : ℕ) (lane : Lane) → length k.parts.items.items < 2 ^ 32
+  pub secure_changes : (places : Room) (lane : Lane) → length k.parts.items.items < 2 ^ 32
       → Some lane ≡ lane_at n k.lanes.open_lanes.items → Allows lane (Some g) (secure activity number piece)
-      → length lane.pieces + 2 ≤ places
+      → HasPlace lane.pieces number piece places
       → Prepares (state_of k) (steps.Secure n g activity number piece)
       (Some (change.OnLane n (lane_change.Secure activity number piece places) None))
   secure_changes places lane few found allows room =

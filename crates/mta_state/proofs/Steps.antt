@@ -28,7 +28,7 @@ module _ (k : Kept) (n g : ℕ) (few : length k.parts.items.items < 2 ^ 32) wher
         quiet = refl;
         after = refl;
         stays = refl;
-        may = fits;
+        may = on.needs;
         timely = omega arith;
         numbers = few;
       })
@@ -63,10 +63,10 @@ module _ (k : Kept) (n g : ℕ) (few : length k.parts.items.items < 2 ^ 32) wher
   pub confirm_changes : (activity checkpoint : ℕ)
       → IsOnLane (state_of k) n (Some g) (confirm activity checkpoint) k.moment
       → Prepares (state_of k) (steps.Confirm n g activity checkpoint) (Some (change.OnLane n
-      (lane_change.Confirm checkpoint) None))
+      (lane_change.Confirm activity checkpoint) None))
   confirm_changes activity checkpoint on =
       on_lane_change (state_of k) (steps.Confirm n g activity checkpoint) n (Some g)
-      (confirm activity checkpoint) on.lane (lane_change.Confirm checkpoint)
+      (confirm activity checkpoint) on.lane (lane_change.Confirm activity checkpoint)
       (record {
         class_is = refl;
         found = on.lane_is;
@@ -75,7 +75,7 @@ module _ (k : Kept) (n g : ℕ) (few : length k.parts.items.items < 2 ^ 32) wher
         quiet = refl;
         after = refl;
         stays = refl;
-        may = tt;
+        may = on.needs;
         timely = omega arith;
         numbers = few;
       })
@@ -98,7 +98,7 @@ module _ (k : Kept) (n g : ℕ) (few : length k.parts.items.items < 2 ^ 32) wher
         quiet = refl;
         after = refl;
         stays = refl;
-        may = tt;
+        may = on.needs;
         timely = omega arith;
         numbers = few;
       })

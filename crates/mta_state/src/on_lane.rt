@@ -146,7 +146,10 @@ impl Kept {
         }
         Some(Change::OnLane {
             lane,
-            change: LaneChange::Confirm(checkpoint),
+            change: LaneChange::Confirm {
+                activity,
+                number: checkpoint,
+            },
             moment: None,
         })
     }

@@ -58,7 +58,7 @@ impl Kept {
         if !allows_secure(open, generation, activity, number, piece.as_slice()) {
             return Ok(None);
         }
-        let places = open.places(alloc)?;
+        let places = open.places(alloc, number, piece.as_slice())?;
         Ok(Some(Change::OnLane {
             lane,
             change: LaneChange::Secure {

@@ -1,4 +1,4 @@
-use Rattle.std.proofs.Common.{◌≡◌, List, Option, Some, None, sym, ap, subst, ◌∙◌}
+use Rattle.std.proofs.Common.{◌≡◌, List, Some, None, sym, ap, subst, ◌∙◌}
 use Rattle.std.specs.List.{position}
 use Rattle.mta_histories.specs.Lanes.{Lane}
 use Rattle.mta_lanes.specs.Finds.{has_number}
