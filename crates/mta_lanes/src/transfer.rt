@@ -1,10 +1,12 @@
 //! What an activity transfers.
 
-ghost use Rattle.std.specs.Prelude.{◌≡◌, length, Some};
+ghost use Rattle.std.specs.Prelude.{◌≡◌, IfOk, length, Some};
 ghost use Rattle.mta_machine.specs.Items.{names};
 ghost use Rattle.mta_histories.specs.Lanes.{is_for};
 
+use mta_ber::Memory;
 use mta_records::{Outgoing, Recipients};
+use std::alloc::Global;
 use std::marker::Model;
 
 /// What an activity transfers: an item to recipients, when that was decided, in seconds since 1950-01-01 00:00:00 UTC,
@@ -123,5 +125,12 @@ impl Transfer {
         ensures { result ≡ length self.now.octets }
     {
         self.outgoing.total()
+    }
+
+    /// The octets as the activity of this number, for a session to put. The content is shared.
+    pub fn share(&self, alloc: Global, activity: u32) -> Result<Outgoing, Memory>
+        ensures { IfOk result (λ o. o ≡ record { activity = activity; octets = self.now.octets }) }
+    {
+        self.outgoing.share(alloc, activity)
     }
 }

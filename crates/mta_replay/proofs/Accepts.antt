@@ -7,7 +7,9 @@ use Rattle.mta_machine.specs.Items.{ItemValue}
 use Rattle.mta_machine.specs.Machine.{accepted_item}
 use Rattle.mta_machine.specs.Rules.{is_tables_text}
 use Rattle.mta_histories.specs.Lanes.{State}
-use Rattle.mta_state.specs.Reading.{IsAccepted}
+use Rattle.mta_ber.specs.declared.fault.Fault.{Fault}
+use Rattle.mta_ber.specs.declared.fault.ReadFault.TheVariants as ReadFaults
+use Rattle.mta_state.specs.Reading.{IsAccepted, IsFaultOf}
 use Rattle.mta_state.specs.declared.change.Change.TheVariants as change
 use Rattle.mta_state.specs.declared.rest.Rest.{Rest}
 use Rattle.mta_state.specs.Asked.{IsRestOf}
@@ -69,6 +71,10 @@ pub no_apdu : (s : State) (moment : ℕ) (apdu : List ℕ) → IsAccepted apdu O
     → Prepares s (step.Accept moment apdu) None
 no_apdu s moment apdu never possible = never possible.as_machine.0
 
+pub bad_apdu : (s : State) (moment : ℕ) (apdu : List ℕ) (fault : Fault) → IsFaultOf apdu (ReadFaults.Bad fault)
+    → Prepares s (step.Accept moment apdu) None
+bad_apdu s moment apdu fault bad = no_apdu s moment apdu bad.0
+
 -- what is found of the item is found of that of the octets
 pub found_of : (text : List ℕ) (moment : ℕ) (apdu : List ℕ) (item : ItemValue) (rest : Option Rest)
     → IsAccepted apdu Origins.Submitted moment (Some item) → IsRestOf text item moment rest
@@ -76,4 +82,4 @@ pub found_of : (text : List ℕ) (moment : ℕ) (apdu : List ℕ) (item : ItemVa
 found_of text moment apdu item rest is found =
     subst (λ (x : ItemValue). IsRestOf text x moment rest) is.1 found
 
-pub ruleset accept_laws = (accept_change, may_not_accept, no_apdu)
+pub ruleset accept_laws = (accept_change, may_not_accept, no_apdu, bad_apdu)

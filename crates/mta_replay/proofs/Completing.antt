@@ -12,9 +12,12 @@ use Rattle.mta_machine.specs.Machine.{accepted_item}
 use Rattle.mta_histories.specs.Lanes.{Lane}
 use Rattle.mta_histories.specs.Classes.{secure, complete}
 use Rattle.mta_histories.specs.History.{TakesPiece, lane_steps, with_piece}
-use Rattle.mta_state.specs.Reading.{IsAccepted}
+use Rattle.mta_ber.specs.declared.fault.Fault.{Fault}
+use Rattle.mta_ber.specs.declared.fault.ReadFault.TheVariants as ReadFaults
+use Rattle.mta_state.specs.Reading.{IsFaultOf, IsItemOf}
 use Rattle.mta_lanes.specs.declared.change.LaneChange.TheVariants as lane_change
 use Rattle.mta_state.specs.declared.kept.Kept.{Kept}
+use Rattle.mta_state.specs.declared.change.Change.{Change}
 use Rattle.mta_state.specs.declared.change.Change.TheVariants as change
 use Rattle.mta_state.specs.Kept.{state_of, with_item, lanes_changed}
 use Rattle.mta_state.specs.Prepared.{Prepares}
@@ -77,18 +80,18 @@ module _ (k : Kept) (n g activity number : ℕ) (piece : List ℕ) (moment : ℕ
           none (omega (arith, few, same, long))
 
       -- nor where the pieces spell no APDU
-      pub not_spelled : IsAccepted (concat (with_piece lane.pieces number piece)) Origins.Lane moment None
+      pub not_spelled : (fault : Fault) → IsFaultOf (concat (with_piece lane.pieces number piece)) (ReadFaults.Bad fault)
           → Prepares (state_of k) (steps.Complete n g activity number piece moment) None
-      not_spelled never =
+      not_spelled fault bad =
           not_prepared (state_of k) (steps.Complete n g activity number piece moment) n (Some g)
           (complete activity number piece) moment refl refl
           (λ other other_may.
           let same : other ≡ lane = same_Some other lane (sym other_may.found ∙ may.found) in
-          never (subst (λ (l : Lane). IsApdu (concat (with_piece l.pieces number piece))) same
+          bad.0 (subst (λ (l : Lane). IsApdu (concat (with_piece l.pieces number piece))) same
           other_may.needs.1))
 
       completes : (item : ItemValue)
-          → IsAccepted (concat (with_piece lane.pieces number piece)) Origins.Lane moment (Some item)
+          → IsItemOf (concat (with_piece lane.pieces number piece)) Origins.Lane moment item
           → IsOpenFor (state_of k) n (Some g) (complete activity number piece) moment lane
       completes item accepted = record {
         found = may.found;
@@ -98,7 +101,7 @@ module _ (k : Kept) (n g activity number : ℕ) (piece : List ℕ) (moment : ℕ
       }
 
       makes : (item : ItemValue)
-          → IsAccepted (concat (with_piece lane.pieces number piece)) Origins.Lane moment (Some item)
+          → IsItemOf (concat (with_piece lane.pieces number piece)) Origins.Lane moment item
           → length k.parts.items.items + 1 < 2 ^ 32
           → Makes (state_of k) (lane_steps lane (complete activity number piece) moment) n
           (lane_change.Complete activity) moment (Some (change.Complete n activity item moment))
@@ -112,15 +115,24 @@ module _ (k : Kept) (n g activity number : ℕ) (piece : List ℕ) (moment : ℕ
             omega (arith, long, few);
       }
 
-      pub complete_changes : (item : ItemValue)
-          → IsAccepted (concat (with_piece lane.pieces number piece)) Origins.Lane moment (Some item)
+      change_is : (item : ItemValue)
+          → IsItemOf (concat (with_piece lane.pieces number piece)) Origins.Lane moment item
           → length k.parts.items.items + 1 < 2 ^ 32
           → Prepares (state_of k) (steps.Complete n g activity number piece moment)
           (Some (change.Complete n activity item moment))
-      complete_changes item accepted few =
+      change_is item accepted few =
           prepared (state_of k) (steps.Complete n g activity number piece moment) n (Some g)
           (complete activity number piece) moment refl refl lane (lane_change.Complete activity)
           (completes item accepted) refl refl (Some (change.Complete n activity item moment))
           (makes item accepted few)
+
+      pub complete_changes : (item : ItemValue) (made : Change)
+          → IsItemOf (concat (with_piece lane.pieces number piece)) Origins.Lane moment item
+          → made ≡ change.Complete n activity item moment → length k.parts.items.items + 1 < 2 ^ 32
+          → Prepares (state_of k) (steps.Complete n g activity number piece moment) (Some made)
+      complete_changes item made accepted is few =
+          subst (λ (c : Change). Prepares (state_of k) (steps.Complete n g activity number piece moment) (Some c))
+          (sym is)
+          (change_is item accepted few)
 
 pub ruleset complete_laws = (not_taken, no_number, not_spelled, complete_changes)

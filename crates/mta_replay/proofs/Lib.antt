@@ -19,3 +19,4 @@ pub mod Opening
 pub mod Reports
 pub mod Sendings
 pub mod Starting
+pub mod Readiness

@@ -16,6 +16,7 @@ use Rattle.mta_histories.specs.Kept.{IsKept}
 use Rattle.mta_histories.specs.Due.{IsDue, IsQuiet, IsToRelay, IsNoBatch, HasQueue}
 use Rattle.mta_histories.proofs.LaneLists.{each-at}
 use Rattle.mta_replay.specs.Ready.{recorded_by}
+use Rattle.mta_replay.specs.Starting.{TransfersNext}
 
 none-at : (m : Machine) → m.tables ≡ [] → numbered m.tables (last_tables m) ≡ None
 none-at m is = ap (λ (ts : List (List ℕ)). numbered ts (length ts)) is
@@ -90,3 +91,9 @@ nothing_is_relayed s peer moment is i r relayed =
 pub nothing_waits : (s : State) (peer : List ℕ) → s.machine.tables ≡ [] → HasQueue s peer None
 nothing_waits s peer is text there =
     absurd (not-both (numbered s.machine.tables (last_tables s.machine)) text (none-at s.machine is) there)
+
+pub nothing_transfers : (s : State) (n g i : ℕ) (rs : List ℕ) (moment : ℕ) → s.machine.tables ≡ []
+    → TransfersNext s n g i rs moment None
+nothing_transfers s n g i rs moment is =
+    λ may.
+    not-both (numbered s.machine.tables (last_tables s.machine)) may.can.text (none-at s.machine is) may.can.text_is

@@ -23,29 +23,31 @@ use Rattle.mta_histories.proofs.Keeps.{start-octets}
 use Rattle.mta_lanes.specs.declared.change.LaneChange.TheVariants as lane_change
 use Rattle.mta_dues.proofs.Ascending.{named_more}
 use Rattle.mta_state.specs.declared.kept.Kept.{Kept}
+use Rattle.mta_state.specs.declared.change.Change.{Change}
 use Rattle.mta_state.specs.declared.change.Change.TheVariants as change
 use Rattle.mta_state.specs.Asked.{Relays}
 use Rattle.mta_state.specs.Kept.{state_of}
-use Rattle.mta_state.specs.Prepared.{Prepares}
+use Rattle.mta_state.specs.Prepared.{IsChangeOf, Prepares}
 use Rattle.mta_state.proofs.OnLane.{on_lane_change}
-use Rattle.mta_replay.specs.Starting.{AreToRelay, FreeFor, IsFreeFor, IsStartable, OneOf}
+use Rattle.mta_replay.specs.Starting.{AreToRelay, FreeFor, IsFreeFor, IsNextOn, IsStartable, MayStartNext, OneOf}
+use Rattle.mta_replay.specs.Starting.{TransfersNext}
 
 -- ---- the lane
 
-module _ (s : State) (n g k moment : ℕ) where
-  pub no_lane : None ≡ lane_at n s.lanes.open_lanes → FreeFor s n g k moment None
+module _ (s : State) (n g moment : ℕ) where
+  pub no_lane : None ≡ lane_at n s.lanes.open_lanes → FreeFor s n g moment None
   no_lane none lane may = let both : None ≡ Some lane = none ∙ may.found in absurd cc
 
   pub not_free : (lane : Lane) (b : Bool) → Some lane ≡ lane_at n s.lanes.open_lanes
-      → (b ≡ true) ↔ IsStartable lane g k → (moment < s.moment) ⊎ (b ≡ false) → FreeFor s n g k moment None
+      → (b ≡ true) ↔ IsStartable lane g → (moment < s.moment) ⊎ (b ≡ false) → FreeFor s n g moment None
   not_free lane b found same (inl early) other may = let timely = may.timely in absurd (omega (arith, early, timely))
   not_free lane b found same (inr isnt) other may =
       let here : other ≡ lane = same_Some other lane (sym may.found ∙ sym found) in
-      let does : b ≡ true = same.1 (subst (λ (l : Lane). IsStartable l g k) here may.startable) in
+      let does : b ≡ true = same.1 (subst (λ (l : Lane). IsStartable l g) here may.startable) in
       absurd cc
 
   pub is_free : (lane : Lane) (b : Bool) → Some lane ≡ lane_at n s.lanes.open_lanes
-      → (b ≡ true) ↔ IsStartable lane g k → s.moment ≤ moment → b ≡ true → FreeFor s n g k moment (Some lane)
+      → (b ≡ true) ↔ IsStartable lane g → s.moment ≤ moment → b ≡ true → FreeFor s n g moment (Some lane)
   is_free lane b found same timely does =
       record { found = sym found; startable = same.0 does; timely = timely }
 
@@ -139,46 +141,35 @@ transfer_is m i rs moment tables text item octets text_is item_is copy count =
     made : ℕ → List ℕ → Transfer
     made t o = record { item = i; recipients = rs; moment = moment; tables = t; octets = o }
 
--- ---- the change
+-- ---- whether the next one may be started
 
-module _ (k : Kept) (n g activity i : ℕ) (rs : List ℕ) (moment : ℕ) where
-  pub no_start_open : FreeFor (state_of k) n g activity moment None
-      → Prepares (state_of k) (steps.Start n g activity i rs moment) None
-  no_start_open never =
-      λ possible.
-      let on = possible.allowed in
-      never on.lane (record {
-        found = on.lane_is;
-        startable = record {
-          current = same_Some g on.lane.generation on.current;
-          agreed = on.needs.agreed;
-          idle = on.needs.idle;
-          next = on.needs.next;
-        };
-        timely = possible.timely;
+module _ (k : Kept) (n g i : ℕ) (rs : List ℕ) (moment : ℕ) where
+  pub no_transfer_open : FreeFor (state_of k) n g moment None → TransfersNext (state_of k) n g i rs moment None
+  no_transfer_open never =
+      λ may.
+      never may.lane (record {
+        found = may.lane_is;
+        startable = record { current = may.current; agreed = may.can.agreed; idle = may.can.idle };
+        timely = may.timely;
       })
 
-  pub no_start_item : None ≡ numbered k.parts.items.items i
-      → Prepares (state_of k) (steps.Start n g activity i rs moment) None
-  no_start_item none =
-      λ possible.
-      let both : None ≡ Some possible.allowed.needs.item = none ∙ possible.allowed.needs.item_is in absurd cc
+  pub no_transfer_item : None ≡ numbered k.parts.items.items i → TransfersNext (state_of k) n g i rs moment None
+  no_transfer_item none =
+      λ may. let both : None ≡ Some may.can.item = none ∙ may.can.item_is in absurd cc
 
-  module _ (lane : Lane) (may : IsFreeFor (state_of k) n g activity moment lane) where
-    pub no_start_recipients : (peer : List ℕ) → peer ≡ lane.peer
-        → OneOf (state_of k) peer moment i rs None
-        → Prepares (state_of k) (steps.Start n g activity i rs moment) None
-    no_start_recipients peer is never =
-        λ possible.
-        let on = possible.allowed in
-        let here : on.lane ≡ lane = same_Some on.lane lane (sym on.lane_is ∙ may.found) in
-        let peers : on.lane.peer ≡ peer = ap (λ (l : Lane). l.peer) here ∙ sym is in
+  module _ (lane : Lane) (may : IsFreeFor (state_of k) n g moment lane) where
+    pub no_transfer_recipients : (peer : List ℕ) → peer ≡ lane.peer
+        → OneOf (state_of k) peer moment i rs None → TransfersNext (state_of k) n g i rs moment None
+    no_transfer_recipients peer is never =
+        λ next.
+        let here : next.lane ≡ lane = same_Some next.lane lane (sym next.lane_is ∙ may.found) in
+        let peers : next.lane.peer ≡ peer = ap (λ (l : Lane). l.peer) here ∙ sym is in
         never (record {
-          some_recipients = on.needs.some_recipients;
-          different = on.needs.different;
+          some_recipients = next.can.some_recipients;
+          different = next.can.different;
           each = λ r named. record {
-            waiting = record { pending = on.needs.pending r named; free = on.needs.free r named };
-            relayed = on.needs.relayed r named ∙ ap (λ (p : List ℕ). Some p) peers;
+            waiting = record { pending = next.can.pending r named; free = next.can.free r named };
+            relayed = next.can.relayed r named ∙ ap (λ (p : List ℕ). Some p) peers;
           };
         })
 
@@ -201,57 +192,114 @@ module _ (k : Kept) (n g activity i : ℕ) (rs : List ℕ) (moment : ℕ) where
             copies_are_made text item.octets item.arrival one moment (Verdicts.Relay one_relays.0) rs moment
             one_relays.1
 
-        can_start : CanStart (state_of k) lane activity i rs moment
-        can_start = record {
-          agreed = may.startable.agreed;
-          idle = may.startable.idle;
-          next = may.startable.next;
-          some_recipients = goes.0.some_recipients;
-          different = goes.0.different;
-          pending = λ r named. (goes.0.each r named).waiting.pending;
-          free = λ r named. (goes.0.each r named).waiting.free;
-          relayed = λ r named. (goes.0.each r named).relayed ∙ ap (λ (p : List ℕ). Some p) peer_is;
-          text = text;
-          text_is = text_is;
-          item = item;
-          item_is = sym item_is;
-          copy = copy_made.0;
-          copy_is = copy_made.1;
+        may_start : MayStartNext (state_of k) n g i rs moment
+        may_start = record {
+          lane = lane;
+          lane_is = may.found;
+          current = may.startable.current;
+          timely = may.timely;
+          can = record {
+            agreed = may.startable.agreed;
+            idle = may.startable.idle;
+            next = refl;
+            some_recipients = goes.0.some_recipients;
+            different = goes.0.different;
+            pending = λ r named. (goes.0.each r named).waiting.pending;
+            free = λ r named. (goes.0.each r named).waiting.free;
+            relayed = λ r named. (goes.0.each r named).relayed ∙ ap (λ (p : List ℕ). Some p) peer_is;
+            text = text;
+            text_is = text_is;
+            item = item;
+            item_is = sym item_is;
+            copy = copy_made.0;
+            copy_is = copy_made.1;
+          };
         }
 
-        pub start_changes : (transfer : Transfer) → transfer ≡ transfer_of (state_of k).machine i rs moment
-            → activity < 2 ^ 32
-            → length k.parts.items.items < 2 ^ 32
-            → Prepares (state_of k) (steps.Start n g activity i rs moment)
-            (Some (change.OnLane n (lane_change.Start transfer) (Some moment)))
-        start_changes transfer is small few =
-            on_lane_change (state_of k) (steps.Start n g activity i rs moment) n (Some g) (start activity i rs) lane
-            (lane_change.Start transfer)
-            (record {
-              class_is = refl;
-              found = may.found;
-              current = ap (λ (x : ℕ). Some x) may.startable.current;
-              needs = can_start;
-              quiet = refl;
-              after = ap (λ (t : Transfer). started lane t) is;
-              stays = refl;
-              may =
-                  let next = may.startable.next in (
-                    may.startable.agreed,
-                    may.startable.idle,
-                    subst (λ (t : Transfer). 1 ≤ length t.octets) (sym is)
-                        (start-octets (state_of k) lane activity i rs moment can_start),
-                    omega (arith, next, small),
-                  );
-              timely = may.timely;
-              numbers = few;
-            })
-          where
-            started : Lane → Transfer → Lane
-            started l t = record l {
-              sending = Sending (last_of l.sending + 1) 0;
-              transfer = Some t;
-            }
+        pub transfers_next : (transfer : Transfer) → transfer ≡ transfer_of (state_of k).machine i rs moment
+            → TransfersNext (state_of k) n g i rs moment (Some transfer)
+        transfers_next transfer is = (may_start, is)
+
+-- ---- the change
+
+-- what may be started may be started as the next number
+can_start_as : (s : State) (lane : Lane) (k h i : ℕ) (rs : List ℕ) (moment : ℕ) → k ≡ h → CanStart s lane k i rs moment
+    → CanStart s lane h i rs moment
+can_start_as s lane k h i rs moment same can = subst (λ (x : ℕ). CanStart s lane x i rs moment) same can
+
+-- what the Start of an activity of the next number changes
+pub start_is_change : (s : State) (n g activity i : ℕ) (rs : List ℕ) (moment : ℕ) (transfer : Transfer)
+    → MayStartNext s n g i rs moment → IsNextOn (lane_at n s.lanes.open_lanes) activity
+    → transfer ≡ transfer_of s.machine i rs moment → activity < 2 ^ 32 → length s.machine.items < 2 ^ 32
+    → IsChangeOf s (steps.Start n g activity i rs moment)
+    (change.OnLane n (lane_change.Start transfer) (Some moment))
+start_is_change s n g activity i rs moment transfer may next is small few =
+    on_lane_change s (steps.Start n g activity i rs moment) n (Some g) (start activity i rs) lane
+    (lane_change.Start transfer)
+    (record {
+      class_is = refl;
+      found = may.lane_is;
+      current = ap (λ (x : ℕ). Some x) may.current;
+      needs = can_start_as s lane (last_of lane.sending + 1) activity i rs moment (sym here) may.can;
+      quiet = refl;
+      after = ap (λ (t : Transfer). started lane t) is;
+      stays = refl;
+      may = (
+        may.can.agreed,
+        may.can.idle,
+        subst (λ (t : Transfer). 1 ≤ length t.octets) (sym is)
+            (start-octets s lane (last_of lane.sending + 1) i rs moment may.can),
+        omega (arith, here, small),
+      );
+      timely = may.timely;
+      numbers = few;
+    })
+  where
+    lane : Lane
+    lane = may.lane
+
+    here : activity ≡ last_of may.lane.sending + 1
+    here = subst (λ (o : Option Lane). IsNextOn o activity) may.lane_is next
+
+    started : Lane → Transfer → Lane
+    started l t = record l {
+      sending = Sending (last_of l.sending + 1) 0;
+      transfer = Some t;
+    }
+
+module _ (k : Kept) (n g activity i : ℕ) (rs : List ℕ) (moment : ℕ) where
+  pub no_start_number : (b : Bool) → (b ≡ true) ↔ IsNextOn (lane_at n k.lanes.open_lanes.items) activity → b ≡ false
+      → Prepares (state_of k) (steps.Start n g activity i rs moment) None
+  no_start_number b same isnt =
+      λ possible.
+      let on = possible.allowed in
+      let next : IsNextOn (lane_at n k.lanes.open_lanes.items) activity =
+      subst (λ (o : Option Lane). IsNextOn o activity) (sym on.lane_is) on.needs.next in
+      let does : b ≡ true = same.1 next in
+      absurd cc
+
+  pub no_start : TransfersNext (state_of k) n g i rs moment None
+      → Prepares (state_of k) (steps.Start n g activity i rs moment) None
+  no_start never =
+      λ possible.
+      let on = possible.allowed in
+      never (record {
+        lane = on.lane;
+        lane_is = on.lane_is;
+        current = same_Some g on.lane.generation on.current;
+        timely = possible.timely;
+        can = can_start_as (state_of k) on.lane activity (last_of on.lane.sending + 1) i rs moment on.needs.next on.needs;
+      })
+
+  pub start_changes : (b : Bool) (transfer : Transfer) (made : Change)
+      → (b ≡ true) ↔ IsNextOn (lane_at n k.lanes.open_lanes.items) activity → b ≡ true
+      → TransfersNext (state_of k) n g i rs moment (Some transfer)
+      → made ≡ change.OnLane n (lane_change.Start transfer) (Some moment)
+      → activity < 2 ^ 32 → length k.parts.items.items < 2 ^ 32
+      → Prepares (state_of k) (steps.Start n g activity i rs moment) (Some made)
+  start_changes b transfer made same does may is small few =
+      subst (λ (c : Change). IsChangeOf (state_of k) (steps.Start n g activity i rs moment) c) (sym is)
+      (start_is_change (state_of k) n g activity i rs moment transfer may.0 (same.0 does) may.1 small few)
 
 pub ruleset idle_laws = (no_lane, not_free, is_free)
 
@@ -259,4 +307,6 @@ pub ruleset each_laws = (relays_at_start, relays_further, relays_not, relays_all
 
 pub ruleset one_laws = (nobody_goes, twice_goes, some_stays, first_goes)
 
-pub ruleset start_laws = (no_start_open, no_start_item, no_start_recipients, one_relays, start_changes)
+pub ruleset transfer_laws = (no_transfer_open, no_transfer_item, no_transfer_recipients, one_relays, transfers_next)
+
+pub ruleset start_laws = (no_start_number, no_start, start_changes)

@@ -2,26 +2,45 @@
 use Rattle.std.specs.Prelude.{◌≡◌, ◌≢◌, ◌≤◌, ℕ, ◌+◌, true, List, [], Option, Some, None}
 use Rattle.mta_lane_send.specs.Half.{is_idle, last_of}
 use Rattle.mta_machine.specs.Items.{names, AreDifferent}
-use Rattle.mta_histories.specs.Lanes.{Lane, State, lane_at}
+use Rattle.mta_histories.specs.Lanes.{Lane, State, Transfer, lane_at}
+use Rattle.mta_histories.specs.History.{CanStart, transfer_of}
 use Rattle.mta_histories.specs.Due.{IsToRelay}
 
--- the next activity of the lane is this one, and may be started
-pub record IsStartable (lane : Lane) (generation k : ℕ) : Type 0 where
+-- the next activity of the lane may be started, whatever its number
+pub record IsStartable (lane : Lane) (generation : ℕ) : Type 0 where
   pub current : generation ≡ lane.generation
   pub agreed : lane.agreed ≡ true
   pub idle : is_idle lane.sending ≡ true
-  pub next : k ≡ last_of lane.sending + 1
 
 -- it may be started at a moment on this open lane
-pub record IsFreeFor (s : State) (n generation k moment : ℕ) (lane : Lane) : Type 0 where
+pub record IsFreeFor (s : State) (n generation moment : ℕ) (lane : Lane) : Type 0 where
   pub found : lane_at n s.lanes.open_lanes ≡ Some lane
-  pub startable : IsStartable lane generation k
+  pub startable : IsStartable lane generation
   pub timely : s.moment ≤ moment
 
 -- the open lane on which it may be started, or none
-abbrev pub FreeFor : State → (n generation k moment : ℕ) → Option Lane → Type 0
-FreeFor s n generation k moment None = (lane : Lane) → IsFreeFor s n generation k moment lane → ⊥
-FreeFor s n generation k moment (Some lane) = IsFreeFor s n generation k moment lane
+abbrev pub FreeFor : State → (n generation moment : ℕ) → Option Lane → Type 0
+FreeFor s n generation moment None = (lane : Lane) → IsFreeFor s n generation moment lane → ⊥
+FreeFor s n generation moment (Some lane) = IsFreeFor s n generation moment lane
+
+-- the next activity of the lane has this number
+abbrev pub IsNextOn : Option Lane → ℕ → Type 0
+IsNextOn None k = ⊥
+IsNextOn (Some lane) k = k ≡ last_of lane.sending + 1
+
+-- The next activity of this lane may be started at a moment for these recipients of the item, whatever its number.
+pub record MayStartNext (s : State) (n generation i : ℕ) (rs : List ℕ) (moment : ℕ) : Type 0 where
+  pub lane : Lane
+  pub lane_is : lane_at n s.lanes.open_lanes ≡ Some lane
+  pub current : generation ≡ lane.generation
+  pub timely : s.moment ≤ moment
+  pub can : CanStart s lane (last_of lane.sending + 1) i rs moment
+
+-- what it transfers; none exactly where it may not be started
+abbrev pub TransfersNext : State → (n generation i : ℕ) → List ℕ → (moment : ℕ) → Option Transfer → Type 0
+TransfersNext s n generation i rs moment None = MayStartNext s n generation i rs moment → ⊥
+TransfersNext s n generation i rs moment (Some transfer) =
+    MayStartNext s n generation i rs moment × (transfer ≡ transfer_of s.machine i rs moment)
 
 -- each of the numbers is at most this one
 abbrev pub AreUpTo : ℕ → List ℕ → Type 0

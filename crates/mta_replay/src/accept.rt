@@ -14,7 +14,7 @@ ghost use Rattle.mta_state.specs.Prepared.{Prepares};
 ghost use Rattle.mta_replay.specs.declared.accept.Arrival.{Arrival};
 ghost use Rattle.mta_replay.specs.Settleable.{MayAccept};
 
-use mta_ber::{Memory, Octets};
+use mta_ber::{Memory, Octets, ReadFault};
 use mta_machine::Origin;
 use mta_state::{Change, Kept, Rest, Rules, Submitted, accepted_item};
 use std::alloc::Global;
@@ -64,9 +64,10 @@ pub fn prepare_accept(
     if !may_accept(kept, moment) {
         return Ok(None);
     }
-    match accepted_item(alloc, apdu, Origin::Submitted, moment)? {
-        None => Ok(None),
-        Some(item) => Ok(Some(Change::Accept { item, moment })),
+    match accepted_item(alloc, apdu, Origin::Submitted, moment) {
+        Ok(item) => Ok(Some(Change::Accept { item, moment })),
+        Err(ReadFault::Bad(_)) => Ok(None),
+        Err(ReadFault::Memory) => Err(Memory),
     }
 }
 

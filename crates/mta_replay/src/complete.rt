@@ -1,18 +1,19 @@
 //! An activity of the peer that is complete (X.228, activity management).
 
-ghost use Rattle.std.specs.Prelude.{◌≡◌, ◌<◌, ◌+◌, ◌^◌, ◌↔◌, IfOk, IsTrue, Some, length};
+ghost use Rattle.std.specs.Prelude.{◌≡◌, ◌<◌, ◌+◌, ◌^◌, ◌↔◌, IfErr, IfOk, IsTrue, Some, length};
 ghost use Rattle.std.specs.Option.{option_copied};
 ghost use Rattle.std.specs.List.{concat};
 ghost use Rattle.mta_histories.specs.Classes.{secure};
 ghost use Rattle.mta_histories.specs.History.{with_piece};
-ghost use Rattle.mta_state.specs.Reading.{IsAccepted};
+ghost use Rattle.mta_state.specs.Reading.{IsFaultOf, IsItemOf};
+ghost use Rattle.mta_state.specs.declared.change.Change.TheVariants as Changes;
 ghost use Rattle.mta_machine.specs.declared.item.Origin.TheVariants as Origins;
 ghost use Rattle.mta_records.specs.declared.step.Step.TheVariants as Steps;
 ghost use Rattle.mta_state.specs.Kept.{state_of};
 ghost use Rattle.mta_state.specs.Prepared.{Prepares};
 ghost use Rattle.mta_replay.specs.Changes.{OpenFor};
 
-use mta_ber::Memory;
+use mta_ber::{Memory, ReadFault};
 use mta_lanes::Lane;
 use mta_machine::{Item, Origin};
 use mta_state::{Change, Kept, accepted_item};
@@ -51,19 +52,36 @@ fn taking_lane<'a>(
     Some(opened)
 }
 
-// The item of the pieces and one more; none where they spell no APDU.
-fn joined_item(
+/// The item that the pieces before this one become with this one, which has come at a moment in seconds since 1950-01-01
+/// 00:00:00 UTC. Pieces are numbered from 1.
+///
+/// # Errors
+/// `Bad` with the first fault exactly where they spell no APDU; `Memory`.
+pub fn joined_item(
     alloc: Global,
     opened: &Lane,
     number: u32,
     piece: &[u8],
     moment: u64,
-) -> Result<Option<Item>, Memory>
-    ensures { let octets = concat (with_piece opened.now.pieces number piece.now) in
-        IfOk result (IsAccepted octets Origins.Lane moment) }
+) -> Result<Item, ReadFault>
+    ensures item { let octets = concat (with_piece opened.now.pieces number piece.now) in
+        IfOk result (IsItemOf octets Origins.Lane moment) }
+    ensures bad { IfErr result (IsFaultOf (concat (with_piece opened.now.pieces number piece.now))) }
 {
     let octets = opened.joined(alloc, number, piece)?;
     accepted_item(alloc, octets, Origin::Lane, moment)
+}
+
+/// What a Complete changes whose octets became this item.
+pub fn complete_change(lane: u32, activity: u32, item: Item, moment: u64) -> Change
+    ensures { result ≡ Changes.Complete lane activity item moment }
+{
+    Change::Complete {
+        lane,
+        activity,
+        item,
+        moment,
+    }
 }
 
 /// What a Complete changes: the pieces that stand before this one, and this one, spell an APDU, which is the next item.
@@ -89,13 +107,9 @@ pub fn prepare_complete(
     if !has_number_left(kept) {
         return Ok(None);
     }
-    match joined_item(alloc, opened, number, piece, moment)? {
-        None => Ok(None),
-        Some(item) => Ok(Some(Change::Complete {
-            lane,
-            activity,
-            item,
-            moment,
-        })),
+    match joined_item(alloc, opened, number, piece, moment) {
+        Ok(item) => Ok(Some(complete_change(lane, activity, item, moment))),
+        Err(ReadFault::Bad(_)) => Ok(None),
+        Err(ReadFault::Memory) => Err(Memory),
     }
 }

@@ -1,14 +1,18 @@
-//! What is due in the state, and what waits in it.
+//! What is due in the state, what waits in it, and what an activity of it would transfer.
 
-ghost use Rattle.std.specs.Prelude.{◌≡◌, IfOk};
+ghost use Rattle.std.specs.Prelude.{◌≡◌, ◌≤◌, IfOk};
+ghost use Rattle.mta_ber.specs.Times.{last_moment};
 ghost use Rattle.mta_histories.specs.Due.{HasQueue};
 ghost use Rattle.mta_dues.specs.Answers.{IsBatchOf, IsNextOf};
 ghost use Rattle.mta_state.specs.Kept.{state_of};
 ghost use Rattle.mta_replay.specs.Sound.{IsSound};
+ghost use Rattle.mta_replay.specs.Starting.{TransfersNext};
 
 use crate::replay::Replay;
+use crate::start::transfer_next;
 use mta_ber::{Memory, Word};
 use mta_dues::{batch_for, due_step, waiting};
+use mta_lanes::Transfer;
 use mta_records::{Batch, Recipients, Step};
 use mta_state::Rules;
 use std::alloc::Global;
@@ -66,6 +70,38 @@ impl<R: Rules + Drop> Replay<R> {
         match &self.rules {
             None => Ok(None),
             Some(force) => waiting(alloc, &force.rules, &self.kept, &force.index, peer),
+        }
+    }
+
+    /// What the next activity of a lane transfers, at a moment in seconds since 1950-01-01 00:00:00 UTC: the copy of the
+    /// item for these recipients. None exactly where it may not be started, whatever its number.
+    #[tactic(auto, using(crate::proofs::Nothing::nothing_transfers))]
+    pub fn transfer_next(
+        &self,
+        alloc: Global,
+        lane: u32,
+        generation: u64,
+        item: u32,
+        recipients: &Recipients,
+        moment: u64,
+    ) -> Result<Option<Transfer>, Memory>
+        requires sound { IsSound R.text self.now.kept self.now.rules }
+        requires fits { moment ≤ last_moment }
+        ensures { IfOk result
+            (TransfersNext (state_of self.now.kept) lane generation item recipients.now moment) }
+    {
+        match &self.rules {
+            None => Ok(None),
+            Some(force) => transfer_next(
+                alloc,
+                &force.rules,
+                &self.kept,
+                lane,
+                generation,
+                item,
+                recipients,
+                moment,
+            ),
         }
     }
 }

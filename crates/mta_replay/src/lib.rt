@@ -23,11 +23,11 @@ mod settling;
 mod start;
 
 pub use accept::{Arrival, prepare_accept, prepare_arrival, prepare_tables};
-pub use complete::prepare_complete;
+pub use complete::{complete_change, joined_item, prepare_complete};
 pub use deliver::{prepare_affirm, prepare_deliver, prepare_expand};
 pub use law::tables_come_first;
 pub use open::prepare_open;
 pub use outcome::{prepare_abandon, prepare_denied, prepare_refused, prepare_sent};
 pub use replay::{InForce, NotMade, Ready, Replay};
 pub use report::{prepare_back, prepare_discard, prepare_report};
-pub use start::prepare_start;
+pub use start::{prepare_start, start_change, transfer_next};

@@ -8,7 +8,7 @@ ghost use Rattle.mta_histories.specs.Classes.{class_of};
 ghost use Rattle.mta_histories.specs.History.{IsPossible};
 ghost use Rattle.mta_histories.specs.Kept.{IsKept};
 ghost use Rattle.mta_state.specs.Asked.{IsStored, IsTextOf};
-ghost use Rattle.mta_state.specs.Kept.{state_of, HasRoomFor};
+ghost use Rattle.mta_state.specs.Kept.{state_of};
 ghost use Rattle.mta_state.specs.Prepared.{Prepares};
 ghost use Rattle.mta_replay.specs.Ready.{IsReady, recorded_by};
 ghost use Rattle.mta_replay.specs.Sound.{IsSound};
@@ -255,21 +255,5 @@ impl<R: Rules + Drop> Replay<R> {
             Some(ready) => Ok(ready),
             None => unreachable!(),
         }
-    }
-
-    /// What a step changes that is possible, with room for it.
-    pub fn hold(&mut self, alloc: Global, step: Step) -> Result<Ready<R>, Memory>
-        requires sound { IsSound R.text self.old.kept self.old.rules }
-        requires fields { HasFields step }
-        requires possible { IsPossible (state_of self.old.kept) step }
-        ensures same { state_of self.new.kept ≡ state_of self.old.kept }
-        ensures sound { IsSound R.text self.new.kept self.new.rules }
-        ensures ready { IfOk result (λ ready.
-            IsReady R.text (state_of self.old.kept) step ready.change ready.rules) }
-        ensures room { IfOk result (λ ready. HasRoomFor self.new.kept ready.change) }
-    {
-        let ready = self.ready(alloc, step)?;
-        self.reserve(&ready)?;
-        Ok(ready)
     }
 }

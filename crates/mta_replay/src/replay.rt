@@ -4,7 +4,7 @@
 //! memory is refused; `commit` makes the change and cannot fail. Between the last two the spool writes the step's
 //! record down; replaying a history does not.
 
-ghost use Rattle.std.specs.Prelude.{◌≡◌, ◌≤◌, ◌<◌, ℕ, List, IfOk, IfSome, IfNone, OnErr, OnOk, Some};
+ghost use Rattle.std.specs.Prelude.{◌≡◌, ◌≤◌, ◌<◌, ℕ, List, IfOk, IfSome, IfNone, None, OnErr, OnOk, Some};
 ghost use Rattle.std.specs.Option.{option_map};
 ghost use Rattle.mta_ber.specs.Times.{last_moment};
 ghost use Rattle.mta_machine.specs.declared.item.Origin.TheVariants as Origins;
@@ -13,15 +13,16 @@ ghost use Rattle.mta_machine.specs.Machine.{accepted_item};
 ghost use Rattle.mta_records.specs.declared.step.Step.{Step};
 ghost use Rattle.mta_records.specs.declared.step.Step.TheVariants as Steps;
 ghost use Rattle.mta_records.specs.Body.{HasFields};
-ghost use Rattle.mta_histories.specs.Lanes.{empty};
+ghost use Rattle.mta_histories.specs.Classes.{class_of};
+ghost use Rattle.mta_histories.specs.Lanes.{State, empty};
 ghost use Rattle.mta_histories.specs.History.{after_step};
 ghost use Rattle.mta_state.specs.Asked.{IsRestOf};
 ghost use Rattle.mta_state.specs.Kept.{state_of, CanChange, HasRoomFor};
-ghost use Rattle.mta_state.specs.Prepared.{Prepares};
+ghost use Rattle.mta_state.specs.Prepared.{IsChangeOf, Prepares};
 ghost use Rattle.mta_replay.specs.declared.accept.Arrival.{Arrival};
 ghost use Rattle.mta_dues.specs.Index.{IsIndexed};
 ghost use Rattle.mta_replay.specs.Found.{IsFound, IsFoundLast};
-ghost use Rattle.mta_replay.specs.Ready.{IsReady, TakesUp};
+ghost use Rattle.mta_replay.specs.Ready.{IsReady, TakesUp, recorded_by};
 ghost use Rattle.mta_replay.specs.Sound.{IsSound};
 
 use crate::accept::{Arrival, prepare_arrival};
@@ -127,6 +128,18 @@ pub struct Ready<R: Rules + Drop> {
 }
 
 impl<R: Rules + Drop> Ready<R> {
+    /// What a step changes that records no tables.
+    #[tactic(auto, using(crate::proofs::Readiness::ready_alone))]
+    pub fn of_change(change: Change) -> Ready<R>
+        ensures { (s : State) (step : Step) → recorded_by (class_of step) ≡ None → IsChangeOf s step change
+            → IsReady R.text s step result.change result.rules }
+    {
+        Ready {
+            change,
+            rules: None,
+        }
+    }
+
     /// Lets it go.
     pub fn discard(self) {}
 }

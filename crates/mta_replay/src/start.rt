@@ -12,7 +12,10 @@ ghost use Rattle.mta_records.specs.declared.step.Step.TheVariants as Steps;
 ghost use Rattle.mta_state.specs.Asked.{IsStored, IsTextOf, Relays};
 ghost use Rattle.mta_state.specs.Kept.{state_of};
 ghost use Rattle.mta_state.specs.Prepared.{Prepares};
-ghost use Rattle.mta_replay.specs.Starting.{AreToRelay, FreeFor, IsStartable, OneOf};
+ghost use Rattle.mta_lanes.specs.declared.change.LaneChange.TheVariants as LaneChanges;
+ghost use Rattle.mta_state.specs.declared.change.Change.TheVariants as Changes;
+ghost use Rattle.mta_histories.specs.Lanes.{lane_at};
+ghost use Rattle.mta_replay.specs.Starting.{AreToRelay, FreeFor, IsNextOn, IsStartable, OneOf, TransfersNext};
 
 use crate::different::are_different;
 use mta_ber::Memory;
@@ -23,26 +26,22 @@ use mta_records::Recipients;
 use mta_state::{Change, Kept, Rules};
 use std::alloc::Global;
 
-// Whether the next activity of the lane is this one, and may be started.
-fn may_start(opened: &Lane, generation: u64, activity: u32) -> bool
-    ensures { IsTrue result ↔ IsStartable opened.now generation activity }
+// Whether the next activity of the lane may be started, whatever its number.
+fn may_start(opened: &Lane, generation: u64) -> bool
+    ensures { IsTrue result ↔ IsStartable opened.now generation }
 {
-    opened.is_of(generation)
-        && opened.values().agreed
-        && opened.may_close()
-        && 0 < activity
-        && activity - 1 == opened.activity()
+    opened.is_of(generation) && opened.values().agreed && opened.may_close()
 }
 
-// The open lane on which the activity may be started.
+// The open lane on which the next activity may be started.
 #[tactic(auto, using(crate::proofs::Starting::idle_laws))]
-fn idle_lane(kept: &Kept, lane: u32, generation: u64, activity: u32, moment: u64) -> Option<&Lane>
-    ensures { FreeFor (state_of kept.now) lane generation activity moment (option_copied result) }
+fn idle_lane(kept: &Kept, lane: u32, generation: u64, moment: u64) -> Option<&Lane>
+    ensures { FreeFor (state_of kept.now) lane generation moment (option_copied result) }
 {
     let Some(opened) = kept.lanes.get(lane) else {
         return None;
     };
-    if moment < kept.moment || !may_start(opened, generation, activity) {
+    if moment < kept.moment || !may_start(opened, generation) {
         return None;
     }
     Some(opened)
@@ -141,6 +140,64 @@ fn transfer_for<R: Rules>(
     Ok(Transfer::new(number, recipients, moment, tables as u32, outgoing))
 }
 
+/// What the next activity of a lane transfers, under the rules of the tables recorded last: the copy of the item for
+/// these recipients. None exactly where it may not be started, whatever its number. Items and recipients are numbered
+/// from 1, and `moment` is in seconds since 1950-01-01 00:00:00 UTC.
+#[tactic(auto, using(crate::proofs::Starting::transfer_laws))]
+pub fn transfer_next<R: Rules>(
+    alloc: Global,
+    rules: &R,
+    kept: &Kept,
+    lane: u32,
+    generation: u64,
+    item: u32,
+    recipients: &Recipients,
+    moment: u64,
+) -> Result<Option<Transfer>, Memory>
+    requires text { IsTextOf kept.now (R.text rules.now) }
+    requires stored { All IsStored kept.now.parts.items.items }
+    requires fits { moment ≤ last_moment }
+    ensures { IfOk result (TransfersNext (state_of kept.now) lane generation item recipients.now moment) }
+{
+    let Some(opened) = idle_lane(kept, lane, generation, moment) else {
+        return Ok(None);
+    };
+    let Some(stored) = kept.parts.item(item) else {
+        return Ok(None);
+    };
+    let numbers = recipients.as_slice();
+    let peer = opened.peer().as_slice();
+    let Some(one) = one_of(alloc, rules, kept, item, stored, numbers, peer, moment)? else {
+        return Ok(None);
+    };
+    let activity = opened.activity().saturating_add(1);
+    let transfer = transfer_for(
+        alloc, rules, kept, activity, item, stored, recipients, one, moment,
+    )?;
+    Ok(Some(transfer))
+}
+
+/// What the Start of an activity of a lane changes, which transfers this.
+pub fn start_change(lane: u32, transfer: Transfer, moment: u64) -> Change
+    ensures { result ≡ Changes.OnLane lane (LaneChanges.Start transfer) (Some moment) }
+{
+    Change::OnLane {
+        lane,
+        change: LaneChange::Start(transfer),
+        moment: Some(moment),
+    }
+}
+
+// Whether the next activity of a lane has this number.
+fn is_next(kept: &Kept, lane: u32, activity: u32) -> bool
+    ensures { IsTrue result ↔ IsNextOn (lane_at lane kept.now.lanes.open_lanes.items) activity }
+{
+    match kept.lanes.get(lane) {
+        Some(opened) => 0 < activity && activity - 1 == opened.activity(),
+        None => false,
+    }
+}
+
 /// What a Start changes, under the rules of the tables recorded last: the activity under way transfers the copy of the
 /// item for these recipients. None exactly where it is not possible. Items and recipients are numbered from 1, and
 /// `moment` is in seconds since 1950-01-01 00:00:00 UTC.
@@ -163,23 +220,14 @@ pub fn prepare_start<R: Rules>(
     ensures { IfOk result (Prepares (state_of kept.now)
         (Steps.Start lane generation activity item recipients.now moment)) }
 {
-    let Some(opened) = idle_lane(kept, lane, generation, activity, moment) else {
+    if !is_next(kept, lane, activity) {
         return Ok(None);
-    };
-    let Some(stored) = kept.parts.item(item) else {
-        return Ok(None);
-    };
-    let numbers = recipients.as_slice();
-    let peer = opened.peer().as_slice();
-    let Some(one) = one_of(alloc, rules, kept, item, stored, numbers, peer, moment)? else {
-        return Ok(None);
-    };
-    let transfer = transfer_for(
-        alloc, rules, kept, activity, item, stored, recipients, one, moment,
+    }
+    let found = transfer_next(
+        alloc, rules, kept, lane, generation, item, recipients, moment,
     )?;
-    Ok(Some(Change::OnLane {
-        lane,
-        change: LaneChange::Start(transfer),
-        moment: Some(moment),
-    }))
+    match found {
+        None => Ok(None),
+        Some(transfer) => Ok(Some(start_change(lane, transfer, moment))),
+    }
 }

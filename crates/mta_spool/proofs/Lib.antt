@@ -17,3 +17,4 @@ pub mod PeerWords
 pub mod Started
 pub mod TablesKept
 pub mod Pieces
+pub mod Order

@@ -14,6 +14,7 @@ use Rattle.mta_histories.specs.Classes.{records, accepts, settles, opens, on_lan
 use Rattle.mta_histories.specs.History.{StepNeeds, LaneNeeds, MachineNeeds, IsOnLane, IsPossible, when}
 use Rattle.mta_histories.specs.Numbers.{numbers_on, numbers_needed}
 use Rattle.mta_histories.proofs.Needed.{numbers_suffice}
+use Rattle.mta_replay.specs.Ready.{recorded_by}
 use Rattle.mta_spool.specs.Refusals.{IsFenced, LaneExpects, IsRefused}
 use Rattle.mta_edge.specs.Views.{DiskView}
 use Rattle.mta_journal.specs.Shown.{Shown as JournalShown}
@@ -63,6 +64,11 @@ plain-quiet close quiet = tt
 pub quiet_is_plain : (n g : ℕ) (c : Class) → IsQuietOn n g c → IsPlainOn n g c
 quiet_is_plain n g (on_lane m h ls) quiet = (quiet.0, quiet.1, plain-quiet ls quiet.2)
 quiet_is_plain n g any2 quiet = absurd quiet
+
+-- it records no tables
+pub quiet_records_none : (n g : ℕ) (c : Class) → IsQuietOn n g c → recorded_by c ≡ None
+quiet_records_none n g (on_lane m h ls) quiet = refl
+quiet_records_none n g any2 quiet = absurd quiet
 
 none-open : (lane : Lane) (ls : LaneStep) → IsQuiet ls → 0 ≡ numbers_on (Some lane) ls
 none-open lane (agree checkpoint window) quiet = refl

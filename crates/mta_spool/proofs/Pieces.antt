@@ -19,10 +19,13 @@ use Rattle.mta_records.specs.declared.fault.StepFault.TheVariants as Faults
 use Rattle.mta_apdu.specs.Apdus.{ApduValue, apdu_of}
 use Rattle.mta_apdu.proofs.ApduLaws.{apdu_full}
 use Rattle.mta_machine.specs.Apdu.{IsApdu}
+use Rattle.mta_machine.specs.Items.{ItemValue}
+use Rattle.mta_ber.specs.declared.fault.ReadFault.TheVariants as ReadFaults
 use Rattle.mta_lane_recv.specs.Half as recv
 use Rattle.mta_histories.specs.Lanes.{Lane, State, lane_at}
 use Rattle.mta_histories.specs.Classes.{LaneStep, secure, complete, on_lane, class_of}
-use Rattle.mta_histories.specs.History.{IsOfGeneration, IsOnLane, IsPossible, longest_activity, with_piece, when}
+use Rattle.mta_histories.specs.History.{IsOfGeneration, IsOnLane, IsPossible, TakesPiece, longest_activity}
+use Rattle.mta_histories.specs.History.{with_piece, when}
 use Rattle.mta_histories.specs.Numbers.{numbers_on, numbers_needed}
 use Rattle.mta_records.specs.Body.{body_of, lane_octets, activity_octets, numbered_activity_octets}
 use Rattle.mta_records.specs.Fields.{string}
@@ -30,8 +33,15 @@ use Rattle.mta_records.specs.Form.{number_octets}
 use Rattle.mta_journal.specs.Bodies.{longest_body}
 use Rattle.mta_journal.specs.Shown.{Shown as JournalShown}
 use Rattle.mta_lanes.proofs.Concats.{length_behind}
+use Rattle.mta_state.specs.declared.kept.Kept.{Kept}
+use Rattle.mta_state.specs.declared.change.Change.{Change}
+use Rattle.mta_state.specs.declared.change.Change.TheVariants as change
+use Rattle.mta_state.specs.Kept.{state_of}
+use Rattle.mta_state.specs.Prepared.{IsChangeOf}
+use Rattle.mta_replay.proofs.Completing.{complete_changes}
 use Rattle.mta_spool.specs.OnLanes.{refusal_on}
-use Rattle.mta_spool.specs.Receiving.{HasFaultOn, IsBad, IsExpected, IsNoApdu, IsTooLong, Receives, step_fault_of}
+use Rattle.mta_spool.specs.Receiving.{IsBad, IsExpected, IsFaultOn, IsItemOn, IsNoApdu, IsTooLong, Receives}
+use Rattle.mta_spool.specs.Receiving.{step_fault_of}
 use Rattle.mta_spool.specs.Refusals.{ExpectsPiece, IsFenced, IsRefused, LaneExpects}
 use Rattle.mta_spool.specs.Shown.{AtOpening, Shown}
 use Rattle.mta_spool.specs.Stands.{Appends, IsSpent, Makes}
@@ -212,27 +222,30 @@ module _ (s : State) (n g activity number : ℕ) (piece : List ℕ) (moment : �
 
   -- ---- octets that spell no APDU
 
-  has_fault : (o : Option Lane) (lane : Lane) (found : Option Fault) → o ≡ Some lane → HasFaultOn o number piece found
-      → HasFaultOn (Some lane) number piece found
-  has_fault o lane found is has = subst (λ (x : Option Lane). HasFaultOn x number piece found) is has
+  on_lane_there : (o : Option Lane) (lane : Lane) (P : Option Lane → Type 0) → o ≡ Some lane → P o → P (Some lane)
+  on_lane_there o lane P is has = subst P is has
 
   pub is_no_apdu : (f : Fault) → IsExpected s n g (complete activity number piece) moment
-      → HasFaultOn (lane_at n s.lanes.open_lanes) number piece (Some f)
+      → IsFaultOn (lane_at n s.lanes.open_lanes) number piece (ReadFaults.Bad f)
       → IsBad s n g (complete activity number piece) moment (IsNoApdu number piece f)
   is_no_apdu f is has = record {
     lane = is.lane;
     lane_is = is.lane_is;
     current = is.current;
     expected = is.expected;
-    wrong = has_fault (lane_at n s.lanes.open_lanes) is.lane (Some f) is.lane_is has;
+    wrong =
+        let bad = on_lane_there (lane_at n s.lanes.open_lanes) is.lane
+        (λ (o : Option Lane). IsFaultOn o number piece (ReadFaults.Bad f)) is.lane_is has in
+        bad.1;
   }
 
-  pub may_complete : IsExpected s n g (complete activity number piece) moment
-      → HasFaultOn (lane_at n s.lanes.open_lanes) number piece None
+  pub may_complete : (item : ItemValue) → IsExpected s n g (complete activity number piece) moment
+      → IsItemOn (lane_at n s.lanes.open_lanes) number piece moment item
       → IsOnLane s n (Some g) (complete activity number piece) moment
-  may_complete is has =
-      let apdu : IsApdu (concat (with_piece is.lane.pieces number piece)) =
-      has_fault (lane_at n s.lanes.open_lanes) is.lane None is.lane_is has in
+  may_complete item is has =
+      let made = on_lane_there (lane_at n s.lanes.open_lanes) is.lane
+      (λ (o : Option Lane). IsItemOn o number piece moment item) is.lane_is has in
+      let apdu : IsApdu (concat (with_piece is.lane.pieces number piece)) = made.0 in
       record {
         lane = is.lane;
         lane_is = is.lane_is;
@@ -263,12 +276,18 @@ module _ (s : State) (n g activity number : ℕ) (piece : List ℕ) (moment : �
 
   -- the octets have one first fault
   pub one_fault : (f h : Fault) → IsExpected s n g (complete activity number piece) moment
-      → HasFaultOn (lane_at n s.lanes.open_lanes) number piece (Some f)
+      → IsFaultOn (lane_at n s.lanes.open_lanes) number piece (ReadFaults.Bad f)
       → IsBad s n g (complete activity number piece) moment (IsNoApdu number piece h) → h ≡ f
   one_fault f h is has bad =
-      let wrong : apdu_of (concat (with_piece bad.lane.pieces number piece)) ≡ Err f =
-      has_fault (lane_at n s.lanes.open_lanes) bad.lane (Some f) bad.lane_is has in
+      let there = on_lane_there (lane_at n s.lanes.open_lanes) bad.lane
+      (λ (o : Option Lane). IsFaultOn o number piece (ReadFaults.Bad f)) bad.lane_is has in
+      let wrong : apdu_of (concat (with_piece bad.lane.pieces number piece)) ≡ Err f = there.1 in
       let both : ◌≡◌ {A = Result ApduValue Fault} (Err h) (Err f) = sym bad.wrong ∙ wrong in cc
+
+  -- a lane that takes a piece is open
+  pub expected_open : IsExpected s n g (complete activity number piece) moment → lane_at n s.lanes.open_lanes ≡ None → ⊥
+  expected_open is none =
+      let both : ◌≡◌ {A = Option Lane} None (Some is.lane) = sym none ∙ is.lane_is in cc
 
   pub bad_complete : (f : Fault) → IsBad s n g (complete activity number piece) moment (IsNoApdu number piece f)
       → IsExpected s n g (complete activity number piece) moment
@@ -423,3 +442,33 @@ receives_along model step Bad old mid new result same receives =
     (subst (λ (s : State). ReceivesBy model step Bad old.clock old.opened new result old.journal s mid.entries) same.1
     (subst (λ (j : JournalShown _). ReceivesBy model step Bad old.clock old.opened new result j mid.current mid.entries)
     same.0 (record { appends = receives.appends; bad = receives.bad; bad_where = receives.bad_where })))
+
+-- ---- what a Complete changes
+
+-- a lane that takes a piece as the last one takes it as any other
+secures_too : (lane : Lane) (k n : ℕ) (piece : List ℕ) → TakesPiece lane (recv.Complete k n) n piece
+    → TakesPiece lane (recv.Secure k n) n piece
+secures_too lane k n piece takes = record {
+  agreed = takes.agreed;
+  taken = takes.taken;
+  some_octets = takes.some_octets;
+  short = takes.short;
+  within = takes.within;
+}
+
+pub complete_is_change : (k : Kept) (n g activity number : ℕ) (piece : List ℕ) (moment : ℕ) (item : ItemValue)
+    (made : Change) → IsOnLane (state_of k) n (Some g) (complete activity number piece) moment → k.moment ≤ moment
+    → IsItemOn (lane_at n k.lanes.open_lanes.items) number piece moment item
+    → made ≡ change.Complete n activity item moment → length k.parts.items.items + 1 < 2 ^ 32
+    → IsChangeOf (state_of k) (steps.Complete n g activity number piece moment) made
+complete_is_change k n g activity number piece moment item made on timely is same few =
+    complete_changes k n g activity number piece moment on.lane
+    (record {
+      found = on.lane_is;
+      current = on.current;
+      needs = secures_too on.lane activity number piece on.needs.0;
+      timely = timely;
+    })
+    item made
+    (subst (λ (o : Option Lane). IsItemOn o number piece moment item) on.lane_is is)
+    same few

@@ -14,3 +14,4 @@ pub mod Looking
 pub mod Receiving
 pub mod Starting
 pub mod Opened
+pub mod Order

@@ -11,7 +11,10 @@ use Rattle.mta_records.specs.declared.fault.StepFault.TheVariants as StepFaults
 use Rattle.mta_records.specs.declared.fault.CompleteFault.{CompleteFault}
 use Rattle.mta_records.specs.declared.fault.CompleteFault.TheVariants as CompleteFaults
 use Rattle.mta_apdu.specs.Apdus.{apdu_of}
-use Rattle.mta_machine.specs.Apdu.{IsApdu}
+use Rattle.mta_ber.specs.declared.fault.ReadFault.{ReadFault}
+use Rattle.mta_machine.specs.declared.item.Origin.TheVariants as Origins
+use Rattle.mta_machine.specs.Items.{ItemValue}
+use Rattle.mta_state.specs.Reading.{IsFaultOf, IsItemOf}
 use Rattle.mta_histories.specs.Lanes.{Lane, State, lane_at}
 use Rattle.mta_histories.specs.Classes.{LaneStep}
 use Rattle.mta_histories.specs.History.{longest_activity, with_piece}
@@ -30,14 +33,16 @@ IsTooLong number piece fault lane =
 abbrev pub IsNoApdu : (number : ℕ) → List ℕ → Fault → Lane → Type 0
 IsNoApdu number piece fault lane = apdu_of (concat (with_piece lane.pieces number piece)) ≡ Err fault
 
--- the octets spell an APDU, or this is their first fault
-abbrev pub HasFault : List ℕ → Option Fault → Type 0
-HasFault octets None = IsApdu octets
-HasFault octets (Some fault) = apdu_of octets ≡ Err fault
+-- the octets of the lane's pieces up to this one spell an APDU, and this is the item that they become at a moment
+abbrev pub IsItemOn : Option Lane → (number : ℕ) → List ℕ → (moment : ℕ) → ItemValue → Type 0
+IsItemOn None number piece moment item = ⊥
+IsItemOn (Some lane) number piece moment item =
+    IsItemOf (concat (with_piece lane.pieces number piece)) Origins.Lane moment item
 
-abbrev pub HasFaultOn : Option Lane → (number : ℕ) → List ℕ → Option Fault → Type 0
-HasFaultOn None number piece found = Unit {0}
-HasFaultOn (Some lane) number piece found = HasFault (concat (with_piece lane.pieces number piece)) found
+-- they spell none, and this is their first fault
+abbrev pub IsFaultOn : Option Lane → (number : ℕ) → List ℕ → ReadFault → Type 0
+IsFaultOn None number piece fault = ⊥
+IsFaultOn (Some lane) number piece fault = IsFaultOf (concat (with_piece lane.pieces number piece)) fault
 
 -- the lane is open, of this generation, and takes the piece, whatever the octets spell
 pub record IsExpected (s : State) (n generation : ℕ) (step : LaneStep) (moment : ℕ) : Type 0 where

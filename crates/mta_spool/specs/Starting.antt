@@ -1,16 +1,13 @@
 -- An activity that is started or goes on.
-use Rattle.std.specs.Prelude.{◌≡◌, ℕ, ◌+◌, ◌-◌, ◌^◌, ◌==◌, ◌&&◌, nat_lt, true, false, List, Option, None, Some}
-use Rattle.std.specs.Prelude.{Result, Err, if◌then◌else◌}
+use Rattle.std.specs.Prelude.{◌≡◌, ℕ, ◌+◌, ◌-◌, ◌^◌, true, false, List, Option, None, Some, Result, Err}
 use Rattle.mta_records.specs.declared.fault.StepFault.{StepFault}
 use Rattle.mta_records.specs.declared.fault.StepFault.TheVariants as Faults
 use Rattle.mta_records.specs.Outgoing.{Carried}
 use Rattle.mta_lane_send.specs.Half.{is_idle, last_of}
-use Rattle.mta_records.specs.declared.step.Step.{Step}
-use Rattle.mta_machine.specs.Items.{ItemValue, names}
-use Rattle.mta_machine.specs.Rules.{outgoing_copy, verdict_of}
+use Rattle.mta_histories.specs.Classes.{on_lane, start}
 use Rattle.mta_histories.specs.Lanes.{Transfer, Lane, State, lane_at}
-use Rattle.mta_histories.specs.History.{CanStart, IsPossible}
-use Rattle.mta_state.specs.Asked.{Relays}
+use Rattle.mta_replay.specs.Starting.{MayStartNext}
+use Rattle.mta_spool.specs.Refusals.{IsRefused}
 use Rattle.mta_spool.specs.Shown.{Shown}
 use Rattle.mta_spool.specs.Turning.{IsUnchanged}
 
@@ -32,44 +29,19 @@ IsResumed (Some lane) None = is_idle lane.sending ≡ true
 IsResumed (Some lane) (Some outgoing) =
     (is_idle lane.sending ≡ false) × Carries lane.transfer (last_of lane.sending) outgoing
 
--- why no activity is started on the lane, where each number was given: the refusals for a lane come first
-abbrev pub refusal_past_last : Option Lane → (number generation : ℕ) → StepFault
-refusal_past_last None n g = Faults.NoLane n
-refusal_past_last (Some lane) n g =
-    if nat_lt g lane.generation then Faults.Fenced lane.generation
-    else if (g == lane.generation) && lane.agreed && is_idle lane.sending then Faults.Spent (2 ^ 32 - 1)
-    else Faults.Unexpected
+-- Why no activity is started on a lane on which each number was given: a refusal for the lane, or where it might be
+-- started the want of a number; or there was no memory to find that out.
+abbrev pub IsPastLast : State → (n generation i : ℕ) → List ℕ → (moment : ℕ) → StepFault → Type 0
+IsPastLast s n g i rs moment (Faults.Spent last) = (last ≡ 2 ^ 32 - 1) × MayStartNext s n g i rs moment
+IsPastLast s n g i rs moment Faults.Memory = Unit {0}
+IsPastLast s n g i rs moment fault =
+    IsRefused s (on_lane n (Some g) (start (next_activity (lane_at n s.lanes.open_lanes)) i rs)) moment fault
 
--- no number of an activity is left on the lane
-abbrev pub StartsPastLast : {D C T : Type 0} → (number generation : ℕ) → Shown D C → Shown D C → Result T StepFault
-    → Type 0
-StartsPastLast n g old new result =
-    IsUnchanged old new
-    × (result
-    ≡ (if old.journal.ended then Err Faults.Ended
-    else Err (refusal_past_last (lane_at n old.current.lanes.open_lanes) n g)))
-
--- an activity of this number may be started on some lane, for these recipients of the item
-abbrev pub MayStart : State → (k i : ℕ) → List ℕ → (moment : ℕ) → Type 0
-MayStart s k i rs moment = (lane : Lane) × CanStart s lane k i rs moment
-
--- the verdict on each of these recipients of the item relays
-abbrev pub AreRelayed : (text : List ℕ) → ItemValue → List ℕ → (moment : ℕ) → Type 0
-AreRelayed text item rs moment =
-    (r : ℕ) → names rs r ≡ true → Relays (verdict_of text item.octets item.arrival r moment)
-
--- it is the copy of an item for these recipients, as the activity of this number
-abbrev pub IsCopy : (text : List ℕ) → ItemValue → List ℕ → (moment k : ℕ) → Option Carried → Type 0
-IsCopy text item rs moment k None = ⊥
-IsCopy text item rs moment k (Some outgoing) =
-    (outgoing.activity ≡ k) × (Some outgoing.octets ≡ outgoing_copy text item.octets item.arrival rs moment)
-
--- it carries what is transferred as the activity of this number
-abbrev pub IsCarried : Transfer → ℕ → Option Carried → Type 0
-IsCarried t k None = ⊥
-IsCarried t k (Some outgoing) = Carries (Some t) k outgoing
-
--- what a step transfers as the activity of this number, where it is possible; none where it is not
-abbrev pub StartsAs : State → Step → Transfer → ℕ → Option Carried → Type 0
-StartsAs s step t k None = IsPossible s step → ⊥
-StartsAs s step t k (Some outgoing) = IsPossible s step × Carries (Some t) k outgoing
+-- no number of an activity is left on the lane, and all is as it was
+pub record StartsPastLast {D C T : Type 0} (n generation i : ℕ) (rs : List ℕ) (moment : ℕ) (old new : Shown D C)
+    (result : Result T StepFault) : Type 0 where
+  pub same : IsUnchanged old new
+  pub fault : StepFault
+  pub refused : result ≡ Err fault
+  pub ended : old.journal.ended ≡ true → fault ≡ Faults.Ended
+  pub why : old.journal.ended ≡ false → IsPastLast old.current n generation i rs moment fault

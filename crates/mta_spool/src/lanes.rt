@@ -4,9 +4,9 @@
 //! call makes its step where the lane allows it (`make_on_lane`), and answers as `spool.rt` says.
 //!
 //! # Errors
-//! In this order: `Ended` where an earlier step answered `Disk`; `NoLane` where no lane of this number is open;
-//! `Fenced` where it was bound again since; `Unexpected` where it does not allow the step; `Spent`, `Memory`, `Full`,
-//! `Disk`.
+//! In the order of `specs/Order.antt`: `Ended` where an earlier step answered `Disk`; `NoLane` where no lane of this
+//! number is open; `Fenced` where it was bound again since; `Unexpected` where it does not allow the step; `Spent`,
+//! `Memory`, `Full`, `Disk`.
 
 ghost use Rattle.std.specs.Prelude.{◌≡◌, ◌≤◌, Some, IsTrue, ◌↔◌};
 ghost use Rattle.mta_records.specs.Body.{HasFields};
@@ -17,6 +17,8 @@ use crate::spool::Spool;
 use mta_edge::{Clock, Disk};
 use mta_lanes::{Lane, Lanes};
 use mta_records::{Step, StepFault};
+use mta_replay::Ready;
+use mta_state::Change;
 
 // Why a step of this generation is refused that the lane of this number does not allow.
 fn refusal_of(opened: &Lane, lane: u32, generation: u64) -> StepFault
@@ -47,6 +49,7 @@ impl<D: Disk + Drop, C: Clock + Drop> Spool<D, C> {
     ghost use Rattle.mta_histories.specs.Classes.{class_of};
     ghost use Rattle.mta_histories.specs.History.{StepNeeds, when};
     ghost use Rattle.mta_histories.specs.Numbers.{numbers_needed};
+    ghost use Rattle.mta_state.specs.Prepared.{Prepares};
     ghost use Rattle.mta_spool.specs.OnLanes.{IsBrief, IsPlainOn, IsQuietOn};
     ghost use Rattle.mta_spool.specs.Stands.{Appends, fault_of};
 
@@ -80,25 +83,31 @@ impl<D: Disk + Drop, C: Clock + Drop> Spool<D, C> {
         self.make(step)
     }
 
-    // Makes a step on a lane that makes no items, where the lane allows it.
+    // Makes a step on a lane that makes no items, where the lane allows it: `change` is what it changes then.
     pub(crate) fn make_quietly(
         &mut self,
         lane: u32,
         generation: u64,
-        allowed: bool,
-        step: Step,
+        change: Option<Change>,
+        step: &Step,
     ) -> Result<(), StepFault>
-        requires quiet { IsQuietOn lane generation (class_of step) }
-        requires brief { IsBrief step }
-        requires fields { HasFields step }
-        requires timely { self.old.current.moment ≤ when self.old.current step }
-        requires exact { IsTrue allowed ↔ StepNeeds self.old.current (class_of step) (when self.old.current step) }
-        ensures made { Appends D.model step self.old self.new (fault_of result) }
+        requires quiet { IsQuietOn lane generation (class_of step.now) }
+        requires brief { IsBrief step.now }
+        requires fields { HasFields step.now }
+        requires timely { self.old.current.moment ≤ when self.old.current step.now }
+        requires prepared { Prepares self.old.current step.now change }
+        ensures made { Appends D.model step.now self.old self.new (fault_of result) }
         ensures clock { self.new.clock ≡ self.old.clock }
         ensures opened { self.new.opened ≡ self.old.opened }
         ensures keeps { KeepsOn D.model C.model self.old self.new }
     {
-        self.make_on_lane(lane, generation, allowed, 0, step)
+        if self.journal.is_ended() {
+            return Err(StepFault::Ended);
+        }
+        match change {
+            None => Err(refusal_on(&self.replay.kept.lanes, lane, generation)),
+            Some(change) => self.make_ready(step, Ready::of_change(change)),
+        }
     }
 
     /// Both ends of an initiator's lane hold to these values from now on: `checkpoint` in units of 1,024 octets, up to
@@ -116,17 +125,17 @@ impl<D: Disk + Drop, C: Clock + Drop> Spool<D, C> {
         ensures opened { self.new.opened ≡ self.old.opened }
         ensures keeps { KeepsOn D.model C.model self.old self.new }
     {
-        let allowed = self
+        let change = self
             .replay
             .kept
-            .may_agree(lane, generation, checkpoint, window);
+            .prepare_agree(lane, generation, checkpoint, window);
         let step = Step::LaneAgree {
             lane,
             generation,
             checkpoint,
             window,
         };
-        self.make_quietly(lane, generation, allowed, step)
+        self.make_quietly(lane, generation, change, &step)
     }
 
     /// The peer has confirmed the pieces of an activity up to this one, from 1.
@@ -143,17 +152,17 @@ impl<D: Disk + Drop, C: Clock + Drop> Spool<D, C> {
         ensures opened { self.new.opened ≡ self.old.opened }
         ensures keeps { KeepsOn D.model C.model self.old self.new }
     {
-        let allowed = self
+        let change = self
             .replay
             .kept
-            .may_confirm(lane, generation, activity, number);
+            .prepare_confirm(lane, generation, activity, number);
         let step = Step::Confirm {
             lane,
             generation,
             activity,
             checkpoint: number,
         };
-        self.make_quietly(lane, generation, allowed, step)
+        self.make_quietly(lane, generation, change, &step)
     }
 
     /// From now on the peer may complete the activity.
@@ -164,13 +173,13 @@ impl<D: Disk + Drop, C: Clock + Drop> Spool<D, C> {
         ensures opened { self.new.opened ≡ self.old.opened }
         ensures keeps { KeepsOn D.model C.model self.old self.new }
     {
-        let allowed = self.replay.kept.may_end(lane, generation, activity);
+        let change = self.replay.kept.prepare_end(lane, generation, activity);
         let step = Step::Ending {
             lane,
             generation,
             activity,
         };
-        self.make_quietly(lane, generation, allowed, step)
+        self.make_quietly(lane, generation, change, &step)
     }
 
     /// The peer has discarded the activity, whose recipients are free again.
@@ -181,13 +190,13 @@ impl<D: Disk + Drop, C: Clock + Drop> Spool<D, C> {
         ensures opened { self.new.opened ≡ self.old.opened }
         ensures keeps { KeepsOn D.model C.model self.old self.new }
     {
-        let allowed = self.replay.kept.may_drop(lane, generation, activity);
+        let change = self.replay.kept.prepare_drop(lane, generation, activity);
         let step = Step::Dropped {
             lane,
             generation,
             activity,
         };
-        self.make_quietly(lane, generation, allowed, step)
+        self.make_quietly(lane, generation, change, &step)
     }
 
     /// The pieces that came of an activity of the peer are given up.
@@ -202,13 +211,13 @@ impl<D: Disk + Drop, C: Clock + Drop> Spool<D, C> {
         ensures opened { self.new.opened ≡ self.old.opened }
         ensures keeps { KeepsOn D.model C.model self.old self.new }
     {
-        let allowed = self.replay.kept.may_give_up(lane, generation, activity);
+        let change = self.replay.kept.prepare_give_up(lane, generation, activity);
         let step = Step::Drop {
             lane,
             generation,
             activity,
         };
-        self.make_quietly(lane, generation, allowed, step)
+        self.make_quietly(lane, generation, change, &step)
     }
 
     /// The lane is closed, where no activity of this end is under way.
@@ -218,8 +227,8 @@ impl<D: Disk + Drop, C: Clock + Drop> Spool<D, C> {
         ensures opened { self.new.opened ≡ self.old.opened }
         ensures keeps { KeepsOn D.model C.model self.old self.new }
     {
-        let allowed = self.replay.kept.may_close(lane, generation);
+        let change = self.replay.kept.prepare_close(lane, generation);
         let step = Step::CloseLane { lane, generation };
-        self.make_quietly(lane, generation, allowed, step)
+        self.make_quietly(lane, generation, change, &step)
     }
 }

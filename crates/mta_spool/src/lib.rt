@@ -7,6 +7,7 @@ mod due;
 mod entries;
 mod historied;
 mod lanes;
+mod law;
 mod looks;
 mod make;
 mod open;
@@ -17,6 +18,7 @@ mod settling;
 mod spool;
 mod starting;
 
+pub use law::first_cause_is_told;
 pub use mta_journal::{JOURNAL_LIMIT, OpenWhy};
 pub use mta_machine::{Item, MailboxLine, Origin, Status, Statuses};
 pub use mta_records::{CompleteFault, Step, StepFault};

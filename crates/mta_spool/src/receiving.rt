@@ -4,27 +4,25 @@
 //! They are refused as the steps of `lanes.rt` are, and with `Bad` before `Spent` where the lane takes the piece, but
 //! the octets up to it are too many, or at a `complete` spell no APDU.
 
-ghost use Rattle.std.specs.Prelude.{◌≡◌, ◌≤◌, ◌<◌, ◌+◌, ◌^◌, ◌↔◌, ℕ, Some, Err, IsTrue, IfOk, IfErr, false, length};
-ghost use Rattle.std.specs.List.{concat};
+ghost use Rattle.std.specs.Prelude.{◌≡◌, ◌≤◌, ◌<◌, ◌+◌, ◌^◌, ◌↔◌, ◌≢◌, ℕ, None, Some, Err, IsTrue, IfOk, IfErr, false, length};
 ghost use Rattle.mta_ber.specs.Times.{last_moment};
-ghost use Rattle.mta_apdu.specs.Apdus.{apdu_of};
 ghost use Rattle.mta_histories.specs.Classes.{complete, secure};
-ghost use Rattle.mta_histories.specs.History.{IsOnLane, with_piece};
+ghost use Rattle.mta_histories.specs.History.{IsOnLane};
 ghost use Rattle.mta_histories.specs.Lanes.{lane_at};
 ghost use Rattle.mta_lane_recv.specs.Half as recv;
-ghost use Rattle.mta_spool.specs.Receiving.{HasFault, HasFaultOn, IsBad, IsExpected, IsMemoryOrSpent, IsNoApdu};
+ghost use Rattle.mta_spool.specs.Receiving.{IsBad, IsExpected, IsFaultOn, IsItemOn, IsMemoryOrSpent, IsNoApdu};
 ghost use Rattle.mta_spool.specs.Receiving.{IsTooLong};
 ghost use Rattle.mta_spool.specs.Refusals.{ExpectsPiece};
 
 use crate::lanes::refusal_on;
 use crate::spool::Spool;
-use mta_apdu::Apdu;
-use mta_ber::{Fault, Kind, Memory, Octets, ReadFault};
+use mta_ber::{Fault, Kind, Octets, ReadFault};
 use mta_edge::{Clock, Disk};
 use mta_lane_recv::longest_piece;
 use mta_lanes::Lane;
+use mta_machine::Item;
 use mta_records::{CompleteFault, Step, StepFault};
-use std::alloc::Global;
+use mta_replay::{Ready, complete_change, joined_item};
 
 // The most octets of an activity.
 const LONGEST_ACTIVITY: u32 = 2_097_152;
@@ -40,27 +38,6 @@ fn expects(opened: &Lane, generation: u64, activity: u32, number: u32, piece: &[
         && opened.takes_piece(activity, number)
         && 1 <= piece.len()
         && piece.len() as u64 <= longest_piece(values.checkpoint)
-}
-
-// The first fault of the octets up to the piece; none where they spell an APDU.
-fn fault_of_apdu(
-    alloc: Global,
-    opened: &Lane,
-    number: u32,
-    piece: &[u8],
-) -> Result<Option<Fault>, Memory>
-    ensures { let octets = concat (with_piece opened.now.pieces number piece.now) in
-        IfOk result (HasFault octets) }
-{
-    let octets = opened.joined(alloc, number, piece)?;
-    match Apdu::read(alloc, octets.as_slice()) {
-        Ok(read) => {
-            read.discard();
-            Ok(None)
-        }
-        Err(ReadFault::Bad(fault)) => Ok(Some(fault)),
-        Err(ReadFault::Memory) => Err(Memory),
-    }
 }
 
 impl<D: Disk + Drop, C: Clock + Drop> Spool<D, C> {
@@ -166,17 +143,20 @@ impl<D: Disk + Drop, C: Clock + Drop> Spool<D, C> {
         }
     }
 
-    // The first fault of the octets up to a piece of an open lane; none where they spell an APDU.
-    fn fault_of_pieces(&self, lane: u32, number: u32, piece: &[u8]) -> Result<Option<Fault>, Memory>
-        ensures { IfOk result (HasFaultOn (lane_at lane self.now.current.lanes.open_lanes) number piece.now) }
+    // The item that the pieces up to this one become, which the open lane takes; or their first fault.
+    fn joined(&self, lane: u32, number: u32, piece: &[u8], moment: u64) -> Result<Item, ReadFault>
+        requires { lane_at lane self.now.current.lanes.open_lanes ≢ None }
+        ensures item { IfOk result
+            (IsItemOn (lane_at lane self.now.current.lanes.open_lanes) number piece.now moment) }
+        ensures bad { IfErr result (IsFaultOn (lane_at lane self.now.current.lanes.open_lanes) number piece.now) }
     {
         match self.replay.kept.lanes.get(lane) {
-            Some(opened) => fault_of_apdu(self.alloc, opened, number, piece),
-            None => Ok(None),
+            Some(opened) => joined_item(self.alloc, opened, number, piece, moment),
+            None => unreachable!(),
         }
     }
 
-    // Makes the item of an activity whose last piece this is, which the lane takes.
+    // Makes this item of an activity whose last piece this is, which the lane takes.
     fn make_complete(
         &mut self,
         moment: u64,
@@ -185,12 +165,14 @@ impl<D: Disk + Drop, C: Clock + Drop> Spool<D, C> {
         activity: u32,
         number: u32,
         piece: &[u8],
+        item: Item,
     ) -> Result<u32, StepFault>
         requires going { self.old.journal.ended ≡ false }
         requires timely { self.old.current.moment ≤ moment }
         requires fits { moment ≤ last_moment }
         requires allowed { IsOnLane self.old.current lane (Some generation) (complete activity number piece.now)
             moment }
+        requires item { IsItemOn (lane_at lane self.old.current.lanes.open_lanes) number piece.now moment item }
         ensures made { Appends D.model (Steps.Complete lane generation activity number piece.now moment) self.old
             self.new (fault_of result) }
         ensures number { IfOk result (λ n. n ≡ length self.old.current.machine.items + 1) }
@@ -199,17 +181,19 @@ impl<D: Disk + Drop, C: Clock + Drop> Spool<D, C> {
         ensures keeps { KeepsOn D.model C.model self.old self.new }
     {
         self.check_numbers(2)?;
-        let item = self.items().len() as u32 + 1;
+        let count = self.items().len() as u32 + 1;
         let piece = Octets::from_slice(self.alloc, piece)?;
-        self.make(Step::Complete {
+        let step = Step::Complete {
             lane,
             generation,
             activity,
             number,
             piece,
             moment,
-        })?;
-        Ok(item)
+        };
+        let ready = Ready::of_change(complete_change(lane, activity, item, moment));
+        self.make_ready(&step, ready)?;
+        Ok(count)
     }
 
     // Takes the last piece of an activity of the peer, at a moment.
@@ -240,13 +224,13 @@ impl<D: Disk + Drop, C: Clock + Drop> Spool<D, C> {
             let fault = refusal_on(&self.replay.kept.lanes, lane, generation);
             return Err(CompleteFault::Step(fault));
         }
-        match self.fault_of_pieces(lane, number, piece) {
-            Ok(None) => {}
-            Ok(Some(fault)) => return Err(CompleteFault::Bad(fault)),
-            Err(Memory) => return Err(CompleteFault::Step(self.no_memory())),
-        }
-        match self.make_complete(moment, lane, generation, activity, number, piece) {
-            Ok(item) => Ok(item),
+        let item = match self.joined(lane, number, piece, moment) {
+            Ok(item) => item,
+            Err(ReadFault::Bad(fault)) => return Err(CompleteFault::Bad(fault)),
+            Err(ReadFault::Memory) => return Err(CompleteFault::Step(self.no_memory())),
+        };
+        match self.make_complete(moment, lane, generation, activity, number, piece, item) {
+            Ok(number) => Ok(number),
             Err(fault) => Err(CompleteFault::Step(fault)),
         }
     }

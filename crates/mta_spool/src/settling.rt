@@ -6,7 +6,7 @@
 
 ghost use Rattle.std.specs.Prelude.{◌≡◌, ◌≤◌, ℕ, Some, IsTrue, ◌↔◌};
 ghost use Rattle.mta_ber.specs.Times.{last_moment};
-ghost use Rattle.mta_histories.specs.Classes.{settle, was_denied, was_refused, was_sent};
+ghost use Rattle.mta_histories.specs.Classes.{settle, was_denied, was_refused};
 ghost use Rattle.mta_histories.specs.History.{IsOnLane};
 ghost use Rattle.mta_histories.specs.Lanes.{lane_at};
 ghost use Rattle.mta_histories.specs.Numbers.{numbers_on};
@@ -18,13 +18,8 @@ use crate::spool::Spool;
 use mta_edge::{Clock, Disk};
 use mta_lanes::Lane;
 use mta_records::{Step, StepFault};
+use mta_replay::prepare_sent;
 use mta_state::Kept;
-
-fn allows_sent(opened: &Lane, generation: u64, activity: u32) -> bool
-    ensures { IsTrue result ↔ Allows opened.now (Some generation) (settle was_sent activity) }
-{
-    opened.is_of(generation) && opened.may_be_sent(activity)
-}
 
 fn allows_failure(opened: &Lane, generation: u64, activity: u32) -> bool
     ensures refused { (kind : ℕ)
@@ -32,17 +27,6 @@ fn allows_failure(opened: &Lane, generation: u64, activity: u32) -> bool
     ensures denied { IsTrue result ↔ Allows opened.now (Some generation) (settle was_denied activity) }
 {
     opened.is_of(generation) && opened.may_settle(activity)
-}
-
-// Whether a Sent may be made, at whatever moment.
-fn may_be_sent(kept: &Kept, lane: u32, generation: u64, activity: u32) -> bool
-    ensures { (moment : ℕ) → IsTrue result
-        ↔ IsOnLane (state_of kept.now) lane (Some generation) (settle was_sent activity) moment }
-{
-    match kept.lanes.get(lane) {
-        Some(opened) => allows_sent(opened, generation, activity),
-        None => false,
-    }
 }
 
 // Whether a Refused or a Denied may be made, at whatever moment.
@@ -79,14 +63,18 @@ impl<D: Disk + Drop, C: Clock + Drop> Spool<D, C> {
         ensures opened { self.new.opened ≡ self.old.opened }
         ensures keeps { KeepsOn D.model C.model self.old self.new }
     {
-        let allowed = may_be_sent(&self.replay.kept, lane, generation, activity);
+        if self.journal.is_ended() {
+            return Err(StepFault::Ended);
+        }
+        let kept = &self.replay.kept;
+        let change = prepare_sent(self.alloc, kept, lane, generation, activity, moment)?;
         let step = Step::Sent {
             lane,
             generation,
             activity,
             moment,
         };
-        self.make_quietly(lane, generation, allowed, step)
+        self.make_quietly(lane, generation, change, &step)
     }
 
     /// The peer has completed the activity in Ending, and its recipients are Sent.

@@ -17,19 +17,21 @@ ghost use Rattle.mta_machine.specs.Apdu.{IsApdu};
 ghost use Rattle.mta_machine.specs.Items.{numbered};
 ghost use Rattle.mta_machine.specs.Machine.{last_tables};
 ghost use Rattle.mta_histories.specs.History.{IsPossible};
+ghost use Rattle.mta_table_rules.specs.Text.{text_of};
+ghost use Rattle.mta_replay.specs.Ready.{IsReady};
 ghost use Rattle.mta_spool.specs.Turning.{IsLastRecorded, IsRecorded};
 
 use crate::at_opening::AtOpening;
 use crate::due::{numbers_needed, same};
 use crate::entries::Entries;
-use crate::make::make;
+use crate::make::{make, make_ready};
 use mta_ber::{Memory, Octets};
 use mta_edge::{Clock, Disk};
 use mta_journal::Journal;
 use mta_lanes::Lane;
 use mta_machine::{Item, MailboxLine};
 use mta_records::{Step, StepFault};
-use mta_replay::Replay;
+use mta_replay::{Ready, Replay};
 use mta_table_rules::TableRules;
 use mta_tables::Tables;
 use std::alloc::Global;
@@ -118,6 +120,32 @@ impl<D: Disk + Drop, C: Clock + Drop> Spool<D, C> {
             &mut self.replay,
             &mut self.entries,
             step,
+        )
+    }
+
+    // Makes a step of which it was found what it changes.
+    pub(crate) fn make_ready(
+        &mut self,
+        step: &Step,
+        ready: Ready<TableRules>,
+    ) -> Result<(), StepFault>
+        requires going { self.old.journal.ended ≡ false }
+        requires fields { HasFields step.now }
+        requires short { length (body_of step.now) ≤ longest_body }
+        requires ready { IsReady text_of self.old.current step.now ready.change ready.rules }
+        requires numbers { IsSpent self.old.current step.now → ⊥ }
+        ensures made { Appends D.model step.now self.old self.new (fault_of result) }
+        ensures clock { self.new.clock ≡ self.old.clock }
+        ensures opened { self.new.opened ≡ self.old.opened }
+        ensures keeps { KeepsOn D.model C.model self.old self.new }
+    {
+        make_ready(
+            self.alloc,
+            &mut self.journal,
+            &mut self.replay,
+            &mut self.entries,
+            step,
+            ready,
         )
     }
 

@@ -1,4 +1,4 @@
-//! What the steps change that look at their lane alone. Each has a test, whether it may be made, and what it changes.
+//! What the steps change that look at their lane alone.
 
 ghost use Rattle.std.specs.Prelude.{◌≡◌, ◌≤◌, ◌<◌, ◌^◌, ◌↔◌, IsTrue, length, Some, None};
 ghost use Rattle.std.specs.Prelude.{IfOk};
@@ -57,8 +57,8 @@ fn allows_close(lane: &Lane, generation: u64) -> bool
 }
 
 impl Kept {
-    /// Whether a LaneAgree may be made.
-    pub fn may_agree(&self, lane: u32, generation: u64, checkpoint: u32, window: u32) -> bool
+    // Whether a LaneAgree may be made.
+    fn may_agree(&self, lane: u32, generation: u64, checkpoint: u32, window: u32) -> bool
         ensures exact { IsTrue result
             ↔ IsOnLane (state_of self.now) lane (Some generation) (agree checkpoint window) self.now.moment }
         ensures fits { IsTrue result → checkpoint ≤ 64 }
@@ -91,8 +91,8 @@ impl Kept {
         })
     }
 
-    /// Whether a Bind may be made.
-    pub fn may_bind(&self, lane: u32, generation: u64) -> bool
+    // Whether a Bind may be made.
+    fn may_bind(&self, lane: u32, generation: u64) -> bool
         ensures { IsTrue result
             ↔ IsOnLane (state_of self.now) lane (Some generation) bind self.now.moment }
     {
@@ -118,8 +118,8 @@ impl Kept {
         })
     }
 
-    /// Whether a Confirm may be made.
-    pub fn may_confirm(&self, lane: u32, generation: u64, activity: u32, checkpoint: u32) -> bool
+    // Whether a Confirm may be made.
+    fn may_confirm(&self, lane: u32, generation: u64, activity: u32, checkpoint: u32) -> bool
         ensures { IsTrue result
             ↔ IsOnLane (state_of self.now) lane (Some generation) (confirm activity checkpoint) self.now.moment }
     {
@@ -154,8 +154,8 @@ impl Kept {
         })
     }
 
-    /// Whether a Ending may be made.
-    pub fn may_end(&self, lane: u32, generation: u64, activity: u32) -> bool
+    // Whether a Ending may be made.
+    fn may_end(&self, lane: u32, generation: u64, activity: u32) -> bool
         ensures { IsTrue result
             ↔ IsOnLane (state_of self.now) lane (Some generation) (to_end activity) self.now.moment }
     {
@@ -181,8 +181,8 @@ impl Kept {
         })
     }
 
-    /// Whether a Dropped may be made.
-    pub fn may_drop(&self, lane: u32, generation: u64, activity: u32) -> bool
+    // Whether a Dropped may be made.
+    fn may_drop(&self, lane: u32, generation: u64, activity: u32) -> bool
         ensures { IsTrue result
             ↔ IsOnLane (state_of self.now) lane (Some generation) (settle was_dropped activity) self.now.moment }
     {
@@ -208,8 +208,8 @@ impl Kept {
         })
     }
 
-    /// Whether a Drop may be made.
-    pub fn may_give_up(&self, lane: u32, generation: u64, activity: u32) -> bool
+    // Whether a Drop may be made.
+    fn may_give_up(&self, lane: u32, generation: u64, activity: u32) -> bool
         ensures { IsTrue result
             ↔ IsOnLane (state_of self.now) lane (Some generation) (drop_pieces activity) self.now.moment }
     {
@@ -235,8 +235,8 @@ impl Kept {
         })
     }
 
-    /// Whether a CloseLane may be made.
-    pub fn may_close(&self, lane: u32, generation: u64) -> bool
+    // Whether a CloseLane may be made.
+    fn may_close(&self, lane: u32, generation: u64) -> bool
         ensures { IsTrue result
             ↔ IsOnLane (state_of self.now) lane (Some generation) close self.now.moment }
     {

@@ -1,9 +1,9 @@
 //! What is read of the octets of items.
 
-ghost use Rattle.std.specs.Prelude.{◌≡◌, IfOk, Some};
+ghost use Rattle.std.specs.Prelude.{◌≡◌, IfErr, IfOk, Some};
 ghost use Rattle.mta_apdu.specs.Apdus.{apdu_value};
 ghost use Rattle.mta_machine.specs.Apdu.{is_report, value_of};
-ghost use Rattle.mta_state.specs.Reading.{AreAccepted, IsAccepted};
+ghost use Rattle.mta_state.specs.Reading.{AreAccepted, IsFaultOf, IsItemOf};
 
 use mta_apdu::Apdu;
 use mta_ber::{Memory, Octets, ReadFault};
@@ -36,36 +36,40 @@ pub fn is_report(alloc: Global, octets: &[u8]) -> Result<bool, Memory>
     }
 }
 
-// The statuses of the recipients of an APDU that may be submitted or received; none where the octets spell none.
-fn statuses_of(alloc: Global, octets: &[u8]) -> Result<Option<Statuses>, Memory>
-    ensures { IfOk result (AreAccepted octets.now) }
+// The statuses of the recipients of an APDU that may be submitted or received, or the first fault of its octets.
+fn statuses_of(alloc: Global, octets: &[u8]) -> Result<Statuses, ReadFault>
+    ensures accepted { IfOk result (AreAccepted octets.now) }
+    ensures bad { IfErr result (IsFaultOf octets.now) }
 {
     match Apdu::read(alloc, octets) {
-        Err(ReadFault::Bad(_)) => Ok(None),
-        Err(ReadFault::Memory) => Err(Memory),
+        Err(fault) => Err(fault),
         Ok(read) => {
             let statuses = Statuses::of_apdu(alloc, &read);
             read.discard();
             match statuses {
-                Ok(statuses) => Ok(Some(statuses)),
-                Err(_) => Err(Memory),
+                Ok(statuses) => Ok(statuses),
+                Err(_) => Err(ReadFault::Memory),
             }
         }
     }
 }
 
-/// The item of octets that were submitted or received at a moment; none where they spell no APDU.
+/// The item of octets that were submitted or received at a moment.
+///
+/// # Errors
+/// `Bad` with the first fault exactly where they spell no APDU; `Memory`.
 pub fn accepted_item(
     alloc: Global,
     octets: Octets,
     origin: Origin,
     moment: u64,
-) -> Result<Option<Item>, Memory>
-    ensures { IfOk result (IsAccepted octets origin moment) }
+) -> Result<Item, ReadFault>
+    ensures item { IfOk result (IsItemOf octets origin moment) }
+    ensures bad { IfErr result (IsFaultOf octets) }
 {
-    let Some(statuses) = statuses_of(alloc, octets.as_slice())? else {
-        return Ok(None);
-    };
-    let shared = Arc::new(alloc, octets)?;
-    Ok(Some(Item::new(shared, moment, origin, statuses)))
+    let statuses = statuses_of(alloc, octets.as_slice())?;
+    match Arc::new(alloc, octets) {
+        Ok(shared) => Ok(Item::new(shared, moment, origin, statuses)),
+        Err(_) => Err(ReadFault::Memory),
+    }
 }

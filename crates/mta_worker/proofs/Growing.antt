@@ -65,7 +65,7 @@ module _ {D C : Type 0} (disks : DiskView D) (clocks : ClockView C) where
       → BeginsNow disks clocks lane g item rs old x new → Grows old.entries new.entries
   begins lane g item rs old new x b =
       elim (cases_lt (next_activity (lane_at lane (lanes_of old))) (2 ^ 32))
-      [ inl l ↦ appended _ old new (fault_of x) (b.0 l).at | inr h ↦ unchanged old new (b.1 h).0 ]
+      [ inl l ↦ appended _ old new (fault_of x) (b.0 l).at | inr h ↦ unchanged old new (b.1 h).at.same ]
 
   refuses : (lane g k kind : ℕ) (old new : Shown D C) (x : Result (Unit {0}) StepFault)
       → Refuses disks clocks lane g k kind old x new → Grows old.entries new.entries

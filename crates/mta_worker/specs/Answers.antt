@@ -54,7 +54,8 @@ module _ {D C : Type 0} (disks : DiskView D) (clocks : ClockView C) where
   BeginsNow lane generation item rs old x new =
       let next = next_activity (lane_at lane (lanes_of old)) in
       (next < 2 ^ 32 → MakesNow (step.Start lane generation next item rs) old (fault_of x) new)
-      × (2 ^ 32 ≤ next → StartsPastLast lane generation old new x)
+      × (2 ^ 32 ≤ next → AtMoment clocks old.clock old.current.moment
+      (λ m. StartsPastLast lane generation item rs m old new x))
       × IfOk x (λ o. IsResumed (lane_at lane (lanes_of new)) (Some o))
 
   -- Refused names a kind of fault that there is, or makes no step.

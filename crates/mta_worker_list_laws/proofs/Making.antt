@@ -54,6 +54,9 @@ pub past_last : {T : Type 0} (x : T) (b : Bool) (e f : StepFault) → Ok x ≡ c
 past_last x true e f is = cc
 past_last x false e f is = cc
 
+pub not_begun_past : {T : Type 0} (x : T) (f : StepFault) → Ok x ≡ Err f → ⊥
+not_begun_past x f is = cc
+
 pub is_kind : (kind : ℕ) → IsKind kind ⊎ (IsKind kind → ⊥)
 is_kind kind =
     elim (cases_lt kind 1) [
@@ -162,7 +165,7 @@ module _ {D C : Type 0} (disks : DiskView D) (clocks : ClockView C) where
       elim (cases_lt (next_activity (lane_at lane (lanes_of old))) (2 ^ 32)) [
         | inl l ↦ begun_at lane g (next_activity (lane_at lane (lanes_of old))) i _ rs o x old new (b.0 l).at
             (may _ (b.0 l).at.entries) b.2 is
-        | inr past ↦ absurd (past_last o old.journal.ended _ _ (b.1 past).1)
+        | inr past ↦ absurd (not_begun_past o (b.1 past).at.fault (b.1 past).at.refused)
       ]
 
   pub not_begun : (lane g i : ℕ) (rs : List ℕ) (fault : StepFault) (old new : Shown D C)
@@ -170,5 +173,5 @@ module _ {D C : Type 0} (disks : DiskView D) (clocks : ClockView C) where
   not_begun lane g i rs fault old new b =
       elim (cases_lt (next_activity (lane_at lane (lanes_of old))) (2 ^ 32)) [
         | inl l ↦ refused disks clocks _ fault old new (b.0 l).at
-        | inr past ↦ unchanged old new (b.1 past).0
+        | inr past ↦ unchanged old new (b.1 past).at.same
       ]

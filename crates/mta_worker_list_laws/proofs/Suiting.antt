@@ -51,7 +51,7 @@ use Rattle.mta_worker.specs.Lines.{line_now}
 use Rattle.mta_worker.specs.Turns.{Replied, StartsElsewhere}
 use Rattle.mta_worker_list_laws.proofs.Calm.{is_looking}
 use Rattle.mta_worker_list_laws.proofs.Known.{carried_total, put_then}
-use Rattle.mta_worker_list_laws.proofs.Making.{past_last, WasPossible}
+use Rattle.mta_worker_list_laws.proofs.Making.{not_begun_past, WasPossible}
 
 -- ---- of the kind that is asked for
 
@@ -244,7 +244,7 @@ module _ {D C : Type 0} (disks : DiskView D) (clocks : ClockView C) where
       elim (cases_lt (next_activity (lane_at lane (lanes_of old))) (2 ^ 32)) [
         | inl l ↦ started_fits t lane g (next_activity (lane_at lane (lanes_of old))) i _ rs o old new on none
             (b.0 l).at (may _ (b.0 l).at.entries) kept b.2
-        | inr past ↦ absurd (past_last o old.journal.ended _ _ (b.1 past).1)
+        | inr past ↦ absurd (not_begun_past o (b.1 past).at.fault (b.1 past).at.refused)
       ]
 
   start_fits : (t : Session) (q : Ask) (old new : Shown D C) (x : Reply) → IsStart t q

@@ -90,7 +90,7 @@ module _ {D C : Type 0} (disks : DiskView D) (clocks : ClockView C) where
       elim (cases_lt (next_activity (lane_at lane (lanes_of old))) (2 ^ 32)) [
         | inl l ↦ now (step.Start lane g (next_activity (lane_at lane (lanes_of old))) item rs) old new (fault_of x)
             (λ m t. (tt, t)) (b.0 l)
-        | inr past ↦ unchanged old new (b.1 past).0
+        | inr past ↦ unchanged old new (b.1 past).at.same
       ]
 
   refuses : (lane g k kind : ℕ) (old new : Shown D C) (x : Result (Unit {0}) StepFault)

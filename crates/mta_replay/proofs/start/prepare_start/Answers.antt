@@ -1,21 +1,8 @@
-use Rattle.std.proofs.Common.{◌∙◌, ℕ, List, Option, Some, subst}
-use Rattle.mta_state.specs.Kept.{state_of}
-use Rattle.mta_replay.specs.Starting.{OneOf}
 use Rattle.mta_replay.proofs.Starting.{start_changes}
 use Rattle.mta_replay.proofs.start.prepare_start.Goals as goal
 
-pub returns : goal.returns
-returns g c =
+pub returns-in-Some : goal.returns-in-Some
+returns-in-Some g c =
     start_changes c.args.kept.now c.args.lane c.args.generation c.args.activity c.args.item c.args.recipients.now
-    c.args.moment c.in-Some.opened.now c.in-Some.ensures c.as_slice-peer.result.now
-    (g.R.Rules.text c.args.rules.now) c.in-Some-item.stored.now c.in-Some-2.one
-    (c.as_slice-peer.ensures.exact ∙ c.peer.ensures) c.requires.text c.in-Some-item.ensures
-    (subst
-    (λ (xs : List ℕ).
-    OneOf (state_of c.args.kept.now) c.as_slice-peer.result.now c.args.moment c.args.item xs (Some c.in-Some-2.one))
-    c.as_slice-numbers.ensures
-    (subst
-    (λ (o : Option ℕ).
-    OneOf (state_of c.args.kept.now) c.as_slice-peer.result.now c.args.moment c.args.item
-    c.as_slice-numbers.result.now o) c.in-Some-2.is c.in_ok-one.ensures))
-    c.in_ok-transfer.transfer c.in_ok-transfer.ensures c.ranges.activity.fits c.requires.numbers
+    c.args.moment c.is_next.result c.in-Some.transfer c.start_change.result c.is_next.ensures c.if-not-is_next.false
+    (rw c.in-Some.is at c.in_ok-found.ensures) c.start_change.ensures c.ranges.activity.fits c.requires.numbers

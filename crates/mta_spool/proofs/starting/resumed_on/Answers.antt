@@ -1,4 +1,5 @@
-use Rattle.std.proofs.Common.{sym, ◌∙◌}
+use Rattle.std.proofs.Common.{ap, sym, ◌∙◌}
+use Rattle.mta_records.specs.Outgoing.{Carried}
 use Rattle.mta_spool.proofs.Started.{carried_on, nothing_idle}
 use Rattle.mta_spool.proofs.starting.resumed_on.Goals as goal
 
@@ -11,4 +12,5 @@ pub returns : goal.returns
 returns c =
     carried_on c.args.opened.now c.in-Some.transfer.now c.in_ok-outgoing.outgoing c.in-Some.ensures
     (sym c.may_close.ensures ∙ c.if-may_close.false)
-    (c.in_ok-outgoing.ensures.activity ∙ c.activity.ensures) c.in_ok-outgoing.ensures.octets
+    (ap (λ (o : Carried). o.activity) c.in_ok-outgoing.ensures ∙ c.activity.ensures)
+    (ap (λ (o : Carried). o.octets) c.in_ok-outgoing.ensures)

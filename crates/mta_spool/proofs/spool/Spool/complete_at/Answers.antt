@@ -7,7 +7,7 @@ use Rattle.mta_histories.specs.Classes.{class_of, complete}
 use Rattle.mta_histories.specs.History.{when}
 use Rattle.mta_histories.specs.Lanes.{lane_at}
 use Rattle.mta_spool.specs.OnLanes.{refusal_on}
-use Rattle.mta_spool.specs.Receiving.{HasFaultOn, IsBad, IsExpected, IsNoApdu}
+use Rattle.mta_spool.specs.Receiving.{IsBad, IsExpected, IsNoApdu}
 use Rattle.mta_spool.specs.Refusals.{IsRefused}
 use Rattle.mta_spool.specs.Shown.{Shown}
 use Rattle.mta_spool.proofs.Pieces.{bad_complete, complete_refused, lane_receives, may_complete, not_no_apdu}
@@ -41,16 +41,14 @@ returns-then-not-expects_piece-clause-receives g c =
     (subst (λ (f : StepFault). IsRefused s (class_of step) (when s step) f) (sym fault)
     (complete_refused s c.args.lane c.args.generation c.args.activity c.args.number piece moment never))
 
-pub returns-in-Ok-clause-receives : goal.returns-in-Ok-clause-receives
-returns-in-Ok-clause-receives g c =
+pub returns-in-Ok-make_complete-clause-receives : goal.returns-in-Ok-make_complete-clause-receives
+returns-in-Ok-make_complete-clause-receives g c =
     let s = c.args.self.now.current in
     let piece = c.args.piece.now in
     let moment = c.args.moment in
     let iff = c.expects_piece.ensures.completes moment in
-    let apdu = subst (λ (o : Option Fault). HasFaultOn (lane_at c.args.lane s.lanes.open_lanes) c.args.number piece o)
-    c.in-Ok-None.field-0-is c.in-Ok-None.ensures in
     let on = may_complete s c.args.lane c.args.generation c.args.activity c.args.number piece moment
-    (iff.0 c.if-not-expects_piece.false) apdu in
+    c.in-Ok.item (iff.0 c.if-not-expects_piece.false) c.in-Ok.ensures.item in
     step_receives g.D.Disk.model
     (steps.Complete c.args.lane c.args.generation c.args.activity c.args.number piece moment)
     (λ f.
@@ -58,18 +56,16 @@ returns-in-Ok-clause-receives g c =
     (IsNoApdu c.args.number piece f))
     c.args.self.now c.make_complete.new.self
     (λ f bad. not_no_apdu s c.args.lane c.args.generation c.args.activity c.args.number piece moment on f bad)
-    (Ok c.in-Ok.item) None refl c.in-Ok.ensures.made
+    (Ok c.in-Ok-make_complete.number) None refl c.in-Ok-make_complete.ensures.made
 
-pub returns-in-Err-make_complete-clause-receives : goal.returns-in-Err-make_complete-clause-receives
-returns-in-Err-make_complete-clause-receives g c =
+pub returns-in-Err-clause-receives : goal.returns-in-Err-clause-receives
+returns-in-Err-clause-receives g c =
     let s = c.args.self.now.current in
     let piece = c.args.piece.now in
     let moment = c.args.moment in
     let iff = c.expects_piece.ensures.completes moment in
-    let apdu = subst (λ (o : Option Fault). HasFaultOn (lane_at c.args.lane s.lanes.open_lanes) c.args.number piece o)
-    c.in-Ok-None.field-0-is c.in-Ok-None.ensures in
     let on = may_complete s c.args.lane c.args.generation c.args.activity c.args.number piece moment
-    (iff.0 c.if-not-expects_piece.false) apdu in
+    c.in-Ok.item (iff.0 c.if-not-expects_piece.false) c.in-Ok.ensures.item in
     step_receives g.D.Disk.model
     (steps.Complete c.args.lane c.args.generation c.args.activity c.args.number piece moment)
     (λ f.
@@ -77,5 +73,5 @@ returns-in-Err-make_complete-clause-receives g c =
     (IsNoApdu c.args.number piece f))
     c.args.self.now c.make_complete.new.self
     (λ f bad. not_no_apdu s c.args.lane c.args.generation c.args.activity c.args.number piece moment on f bad)
-    (Err (CompleteFaults.Step c.in-Err-make_complete.fault)) (Some c.in-Err-make_complete.fault) refl
-    c.in-Err-make_complete.ensures.made
+    (Err (CompleteFaults.Step c.in-Err.fault)) (Some c.in-Err.fault) refl
+    c.in-Err.ensures.made

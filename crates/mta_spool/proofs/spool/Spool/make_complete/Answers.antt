@@ -1,12 +1,42 @@
-use Rattle.std.proofs.Common.{◌≤◌, List, ℕ, length, sym, ap, subst, arith}
+use Rattle.std.proofs.Common.{◌≡◌, ◌≤◌, ◌+◌, ◌<◌, ◌^◌, List, ℕ, Some, false, length, refl, sym, ap, subst, ◌∙◌, arith}
+use Rattle.std.proofs.lemmas.Result.{err_from_is_err_and}
 use Rattle.mta_records.specs.Body.{body_of}
+use Rattle.mta_records.specs.declared.step.Step.{Step}
 use Rattle.mta_records.specs.declared.step.Step.TheVariants as steps
 use Rattle.mta_journal.specs.Bodies.{longest_body}
-use Rattle.mta_spool.proofs.Pieces.{completed_fits, short_complete}
+use Rattle.mta_histories.specs.Classes.{complete}
+use Rattle.mta_histories.specs.History.{IsOnLane}
+use Rattle.mta_histories.specs.Lanes.{State, lane_at}
+use Rattle.mta_state.specs.Kept.{state_of}
+use Rattle.mta_state.specs.Prepared.{IsChangeOf}
+use Rattle.mta_replay.specs.Ready.{IsReady}
+use Rattle.mta_table_rules.specs.Text.{text_of}
+use Rattle.mta_spool.specs.Receiving.{IsItemOn}
+use Rattle.mta_spool.specs.Shown.{Shown}
+use Rattle.mta_spool.proofs.Making.{no_memory}
+use Rattle.mta_spool.proofs.Pieces.{complete_is_change, complete_numbers, complete_possible, completed_fits}
+use Rattle.mta_spool.proofs.Pieces.{expected_on, short_complete}
+use Rattle.mta_spool.proofs.Refused.{not_refused}
 use Rattle.mta_spool.proofs.spool.Spool.make_complete.Goals as goal
 
-pub make-requires-clause-fields : goal.make-requires-clause-fields
-make-requires-clause-fields g c =
+pub returns-in_err-piece-clause-made : goal.returns-in_err-piece-clause-made
+returns-in_err-piece-clause-made g c =
+    let p = err_from_is_err_and c.from_residual-in_err-piece.result c.from_residual-in_err-piece.ensures.1 in
+    let s = c.args.self.now.current in
+    let step = steps.Complete c.args.lane c.args.generation c.args.activity c.args.number c.args.piece.now
+    c.args.moment in
+    let left = c.in_ok-check_numbers.ensures.left in
+    let possible = complete_possible s c.args.lane c.args.generation c.args.activity c.args.number c.args.piece.now
+    c.args.moment c.requires.allowed c.requires.timely left in
+    rw (p.1, p.2)
+    (no_memory g.D.Disk.model step c.args.self.now.journal c.args.self.now.journal s s refl refl c.requires.going
+    (complete_numbers s c.args.lane c.args.generation c.args.activity c.args.number c.args.piece.now c.args.moment
+    (expected_on s c.args.lane c.args.generation c.args.activity c.args.number c.args.piece.now c.args.moment
+    c.requires.allowed) left)
+    (λ f is. not_refused s step f possible is))
+
+pub make_ready-requires-clause-fields : goal.make_ready-requires-clause-fields
+make_ready-requires-clause-fields g c =
     let s = c.args.self.now.current in
     let fits = completed_fits s c.args.lane c.args.generation c.args.activity c.args.number c.args.moment
     c.args.piece.now c.requires.allowed in (
@@ -14,8 +44,8 @@ make-requires-clause-fields g c =
       (omega (arith, fits, ap length c.in_ok-piece.ensures), c.requires.fits),
     )
 
-pub make-requires-clause-short : goal.make-requires-clause-short
-make-requires-clause-short g c =
+pub make_ready-requires-clause-short : goal.make_ready-requires-clause-short
+make_ready-requires-clause-short g c =
     let s = c.args.self.now.current in
     subst
     (λ (p : List ℕ).
@@ -25,3 +55,29 @@ make-requires-clause-short g c =
     (short_complete c.args.lane c.args.generation c.args.activity c.args.number c.args.piece.now
     (completed_fits s c.args.lane c.args.generation c.args.activity c.args.number c.args.moment c.args.piece.now
     c.requires.allowed) c.args.moment)
+
+pub make_ready-requires-clause-ready : goal.make_ready-requires-clause-ready
+make_ready-requires-clause-ready g c =
+    let s = c.args.self.now.current in
+    let k = c.self.inside.replay.kept in
+    let current = ap (λ (v : Shown _ _). v.current) c.self.view_is in
+    let left = c.in_ok-check_numbers.ensures.left in
+    let is = complete_is_change k c.args.lane c.args.generation c.args.activity c.args.number c.args.piece.now
+    c.args.moment c.args.item c.complete_change.result
+    (subst (λ (x : State). IsOnLane x c.args.lane (Some c.args.generation)
+    (complete c.args.activity c.args.number c.args.piece.now) c.args.moment) (sym current) c.requires.allowed)
+    (omega (arith, c.requires.timely, ap (λ (v : State). v.moment) current))
+    (subst (λ (x : State). IsItemOn (lane_at c.args.lane x.lanes.open_lanes) c.args.number c.args.piece.now
+    c.args.moment c.args.item) (sym current) c.requires.item)
+    c.complete_change.ensures
+    (omega (arith, left, ap (λ (v : State). length v.machine.items) current)) in
+    let ready = c.of_change-ready.ensures s
+    (steps.Complete c.args.lane c.args.generation c.args.activity c.args.number c.args.piece.now c.args.moment) refl
+    (subst (λ (x : State). IsChangeOf x
+    (steps.Complete c.args.lane c.args.generation c.args.activity c.args.number c.args.piece.now c.args.moment)
+    c.complete_change.result) current is) in
+    subst
+    (λ (p : List ℕ). IsReady text_of s
+    (steps.Complete c.args.lane c.args.generation c.args.activity c.args.number p c.args.moment)
+    c.of_change-ready.result.change c.of_change-ready.result.rules)
+    (sym c.in_ok-piece.ensures) ready
