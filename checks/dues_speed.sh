@@ -8,7 +8,5 @@ set -u
 cd "$(dirname "$0")/.." || exit 2
 . checks/speed.bash
 command -v python3 >/dev/null || { echo "skipped: python3 is not on the PATH"; exit 0; }
-made=$(mktemp -d)
-trap 'rm -rf "$made"' EXIT
 bench
 python3 checks/dues_speed.py "$program" "${@:-1000 10000 100000}"

@@ -3,8 +3,6 @@
 # tables alone. User time, all in one run on this machine. Run it at the top of the repository.
 set -eu
 cd "$(dirname "$0")/.."
-made=$(mktemp -d)
-trap 'rm -rf "$made"' EXIT
 . checks/speed.bash
 bench
 

@@ -4,8 +4,6 @@
 # head. User and system time, all in one run on this machine. Run it at the top of the repository.
 set -eu
 cd "$(dirname "$0")/.."
-made=$(mktemp -d)
-trap 'rm -rf "$made"' EXIT
 . checks/speed.bash
 bench
 prints "first-to-mailbox: passed on 2000000 times

@@ -37,17 +37,7 @@ if [ "$remove" = yes ]; then
   exit 0
 fi
 
-# prints the path of the program $1
-found() {
-  for file in ${program:+"$(dirname "$program")/$1"} "$top/crates/$1/out/$1" "$top/out/unproved/$1"; do
-    [ -x "$file" ] && [ ! -d "$file" ] && { echo "$file"; return; }
-  done
-  echo "install.sh: no program $1; ./demo builds one without proofs, rt ci a proved one" >&2
-  exit 1
-}
-rehearse=$(found mta_rehearse)
-[ -n "$program" ] || program=$(found mta)
-[ -x "$program" ] || { echo "install.sh: $program is no program" >&2; exit 1; }
+. "$top/contrib/programs.bash"
 
 # the file $2 as $1 below the prefix, with mode $3
 put() { install -D -m "${3:-644}" "$2" "$root/$1"; }

@@ -12,17 +12,7 @@ to=${1:-$top/out/package}
 for tool in dpkg-buildpackage dh; do
   command -v "$tool" >/dev/null || { echo "build.sh: $tool is not on the PATH (dpkg-dev, debhelper)" >&2; exit 2; }
 done
-# prints the path of the program $1
-found() {
-  for file in ${program:+"$(dirname "$program")/$1"} "$top/crates/$1/out/$1" "$top/out/unproved/$1"; do
-    [ -x "$file" ] && [ ! -d "$file" ] && { echo "$file"; return; }
-  done
-  echo "build.sh: no program $1; ./demo builds one without proofs, rt ci a proved one" >&2
-  exit 1
-}
-rehearse=$(found mta_rehearse)
-[ -n "$program" ] || program=$(found mta)
-[ -x "$program" ] || { echo "build.sh: $program is no program" >&2; exit 1; }
+. "$top/contrib/programs.bash"
 version=$(sed -n '1s/.*(\(.*\)).*/\1/p' "$top/packaging/debian/changelog")
 made=$(mktemp -d)
 trap 'rm -rf "$made"' EXIT

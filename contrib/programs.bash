@@ -1,0 +1,15 @@
+# Sourced by install.sh and by packaging/build.sh, with the top of the repository in `top` and the program mta, or
+# nothing, in `program`: sets `program` and `rehearse` to the programs that are put in place.
+
+# prints the path of the program $1
+found() {
+  local file
+  for file in ${program:+"$(dirname "$program")/$1"} "$top/crates/$1/out/$1" "$top/out/unproved/$1"; do
+    [ -x "$file" ] && [ ! -d "$file" ] && { echo "$file"; return; }
+  done
+  echo "$(basename "$0"): no program $1; ./demo builds one without proofs, rt ci a proved one" >&2
+  exit 1
+}
+rehearse=$(found mta_rehearse)
+[ -n "$program" ] || program=$(found mta)
+[ -x "$program" ] || { echo "$(basename "$0"): $program is no program" >&2; exit 1; }
