@@ -56,7 +56,7 @@ fn asked(mut words: Args<Global>) -> Option<Words> {
 }
 
 /// The octets behind their number, in four octets.
-fn put_counted(out: &mut Vec<u8>, octets: &[u8]) -> Result<()> {
+pub fn put_counted(out: &mut Vec<u8>, octets: &[u8]) -> Result<()> {
     let Ok(count) = u32::try_from(octets.len()) else {
         return Err(anyhow!("too many octets"));
     };
@@ -65,7 +65,8 @@ fn put_counted(out: &mut Vec<u8>, octets: &[u8]) -> Result<()> {
     Ok(())
 }
 
-fn put_record(journal: &mut Vec<u8>, body: &[u8]) -> Result<()> {
+/// A record of the journal with this body.
+pub fn put_record(journal: &mut Vec<u8>, body: &[u8]) -> Result<()> {
     journal.push(1)?;
     put_counted(journal, body)
 }

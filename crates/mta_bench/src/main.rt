@@ -8,6 +8,7 @@ mod disk;
 mod dues;
 mod journal;
 mod message;
+mod recipients;
 mod rehearse;
 mod rules;
 mod shared;
@@ -19,7 +20,7 @@ use std::env;
 
 fn usage(rt: &impl Print) -> Result<()> {
     println!(rt;
-        "usage: mta_bench apdu|ber|dues|journal|rehearse|rules|shared|tables|units WORDS"
+        "usage: mta_bench apdu|ber|dues|journal|recipients|rehearse|rules|shared|tables|units WORDS"
     )?;
     Ok(())
 }
@@ -37,6 +38,7 @@ fn main(rt: HostRuntime) -> Result<()> {
         "ber" => ber::timed(&rt, words),
         "dues" => dues::timed(&rt, words),
         "journal" => journal::timed(&rt, words),
+        "recipients" => recipients::timed(&rt, words),
         "rehearse" => rehearse::timed(&rt, words),
         "rules" => rules::timed(&rt, words),
         "shared" => shared::timed(&rt, words),

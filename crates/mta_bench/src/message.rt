@@ -12,7 +12,7 @@ const FIELDS: [u8; 56] = [
 ];
 
 /// A recipient: C=GB;A=GOLD;S=WATT, number 1, indicators 10101000.
-const RECIPIENT: [u8; 35] = [
+pub const RECIPIENT: [u8; 35] = [
     0x31, 0x21, 0x60, 0x18, 0x30, 0x16, 0x61, 0x04, 0x13, 0x02, 71, 66, 0x62, 0x06, 0x13, 0x04, 71,
     79, 76, 68, 0xA5, 0x06, 0x80, 0x04, 87, 65, 84, 84, 0x80, 0x01, 0x01, 0x81, 0x02, 0x00, 0xA8,
 ];
@@ -52,9 +52,14 @@ fn recipients(alloc: Global, count: u32) -> Result<Octets, Memory> {
 /// A message of so many recipients with this content.
 pub fn message(alloc: Global, count: u32, content: &[u8]) -> Result<Octets, Memory> {
     let list = recipients(alloc, count)?;
+    message_to(alloc, list.as_slice(), content)
+}
+
+/// A message to these recipients with this content.
+pub fn message_to(alloc: Global, recipients: &[u8], content: &[u8]) -> Result<Octets, Memory> {
     let mut envelope = Writer::new(alloc);
     envelope.put_raw(&FIELDS)?;
-    envelope.put(RECIPIENT_LIST, list.as_slice())?;
+    envelope.put(RECIPIENT_LIST, recipients)?;
     let mut inside = Writer::new(alloc);
     inside.put(ENVELOPE, envelope.as_slice())?;
     inside.put(CONTENT, content)?;

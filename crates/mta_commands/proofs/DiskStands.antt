@@ -80,7 +80,8 @@ module _ {D : Type 0} (disks : DiskView D) (laws : DiskLaws disks) where
       ⊎_elim {C = disks.may_leave old g ⊎ Reached steps [] g} (λ before. inl before)
       (λ same. inr (same_reached f g steps [] same s)) ((refusal.images f was).each g left)
 
-  same_now : (old new : D) (f : List ℕ) (ss : SameSince disks f old new) (g : List ℕ) → disks.may_leave new g → IsSame f g
+  same_now : (old new : D) (f : List ℕ) (ss : SameSince disks f old new) (g : List ℕ) → disks.may_leave new g
+      → IsSame f g
   same_now old new f ss g may = ss.same.same g (laws.counts_now new (disks.moment ss.first) g ss.same.until may)
 
   safe_refused : (old new : D) (f : List ℕ) (steps : List Step) → StandsFor f steps → AtAnyMoment disks

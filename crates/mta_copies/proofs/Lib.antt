@@ -5,3 +5,4 @@ pub mod Copied
 pub mod Responsible
 pub mod Wholes
 pub mod ReportParts
+pub mod Flags

@@ -1,6 +1,7 @@
 //! Copies of messages, probes and reports: equal values of their parts, and the copies that go to peers.
 #![tactic(auto)]
 
+mod chosen;
 mod envelope;
 mod fields;
 mod header;

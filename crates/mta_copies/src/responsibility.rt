@@ -3,8 +3,9 @@
 ghost use Rattle.std.specs.Prelude.{◌≡◌, ◌≤◌, length, IfOk};
 ghost use Rattle.mta_envelope_common.specs.Indicators.{IsIndicators};
 ghost use Rattle.mta_procedures.specs.Bits.{weight, with_responsibility};
-ghost use Rattle.mta_procedures.specs.Copies.{is_chosen, responsible_for, responsible_if};
+ghost use Rattle.mta_procedures.specs.Copies.{responsible_for, responsible_if};
 
+use crate::chosen::chosen_flags;
 use crate::fields::copied_fields;
 use mta_ber::{Bits, Memory};
 use mta_envelope_recipient::{Recipient, RecipientFields};
@@ -56,12 +57,6 @@ fn responsible_if(
     }))
 }
 
-fn is_chosen(chosen: &[u32], position: u32) -> bool
-    ensures { result ≡ is_chosen chosen.now position }
-{
-    chosen.iter().any(|place| *place == position)
-}
-
 /// The recipients, with responsibility for those at the chosen positions alone, counted from 1.
 pub fn responsible_for(
     alloc: Global,
@@ -71,13 +66,13 @@ pub fn responsible_for(
     requires { length recipients.now ≤ 32767 }
     ensures { IfOk result (λ r. r ≡ responsible_for chosen.now recipients.now) }
 {
+    let flags = chosen_flags(alloc, chosen, recipients.len())?;
     let mut row: Row<Recipient> = Row::new(alloc);
-    let mut position: u32 = 1;
+    let mut place: usize = 0;
     for recipient in recipients {
-        let responsible = is_chosen(chosen, position);
-        let copy = responsible_if(alloc, recipient, responsible)?;
+        let copy = responsible_if(alloc, recipient, flags[place])?;
         row.push(copy)?;
-        position += 1;
+        place += 1;
     }
     Ok(row)
 }

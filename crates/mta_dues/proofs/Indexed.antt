@@ -2,6 +2,7 @@
 use Rattle.std.proofs.Common.{inl, inr, ◌≡◌, ◌≢◌, ◌≤◌, ◌<◌, ◌+◌, ℕ, true, false, List, Option, Some, None}
 use Rattle.std.proofs.Common.{refl, sym, ap, subst, ◌∙◌, arith}
 use Rattle.std.proofs.lemmas.Bool.{cases_eq}
+use Rattle.std.proofs.lemmas.Option.{same_Some}
 use Rattle.std.specs.BTreeSet.{BTreeSet}
 use Rattle.mta_machine.specs.Items.{ItemValue, Machine, numbered, has_status, is_pending}
 use Rattle.mta_machine.specs.Rules.{peer_word, route_word, verdict_of}
@@ -13,15 +14,22 @@ use Rattle.mta_idle_laws.proofs.Stays.{idle_until_next, verdicts_stay}
 use Rattle.mta_dues.specs.Agendas.{AgendaValue, is_active, IsAside, IsLetGo, IsPutOff, KeepsAll, Rests}
 use Rattle.mta_dues.specs.Lines.{KeepsLines, Leaves, stands, StandsAll}
 use Rattle.mta_state.specs.Asked.{AreRelays, AreRoutes}
+use Rattle.mta_state.specs.Readings.{IsDecodedOf}
+use Rattle.mta_dues.specs.declared.hand.Hand.{Hand}
 use Rattle.mta_dues.specs.declared.index.Index.{Index}
-use Rattle.mta_dues.specs.Index.{HasPending, IndexesStay, IsAtRestIn, IsIndexed, IsLeft, IsListedIn, IsReadyIn}
-use Rattle.mta_dues.specs.Index.{IsRoutedIn}
+use Rattle.mta_dues.specs.Index.{HasPending, IndexesStay, IsAtHand, IsAtRestIn, IsIndexed, IsLeft, IsListedIn}
+use Rattle.mta_dues.specs.Index.{IsOfHand, IsReadyIn, IsRoutedIn}
+
+-- the same is at hand
+same_hand : (items : List ItemValue) (old new : Index) → new.hand ≡ old.hand → IsAtHand items old.hand
+    → IsAtHand items new.hand
+same_hand items old new same is = subst (λ (o : Option Hand). IsAtHand items o) (sym same) is
 
 -- an agenda that keeps what rests, and lines with more
 kept_with : (text : List ℕ) (items : List ItemValue) (old new : Index) → KeepsAll old.agenda new.agenda
-    → KeepsLines old.ready new.ready → KeepsLines old.routed new.routed → IsIndexed text items old
-    → IsIndexed text items new
-kept_with text items old new agenda ready routed indexed = record {
+    → KeepsLines old.ready new.ready → KeepsLines old.routed new.routed → new.hand ≡ old.hand
+    → IsIndexed text items old → IsIndexed text items new
+kept_with text items old new agenda ready routed hand indexed = record {
   rests = λ i moment r.
       let was = indexed.rests i moment (agenda.rests i moment r) in
       record {
@@ -41,6 +49,7 @@ kept_with text items old new agenda ready routed indexed = record {
             let found = was.routed q peer pending is in
             (found.0, found.1, routed found.0 i found.2);
       };
+  hand = same_hand items old new hand indexed.hand;
 }
 
 keeps_same : (old new : AgendaValue) → new ≡ old → KeepsAll old new
@@ -51,18 +60,24 @@ keeps_same old new same = record {
 
 -- an agenda that keeps what rests
 pub kept : (text : List ℕ) (items : List ItemValue) (old new : Index) → KeepsAll old.agenda new.agenda
-    → new.ready ≡ old.ready → new.routed ≡ old.routed → IsIndexed text items old → IsIndexed text items new
-kept text items old new agenda ready routed indexed =
+    → new.ready ≡ old.ready → new.routed ≡ old.routed → new.hand ≡ old.hand → IsIndexed text items old
+    → IsIndexed text items new
+kept text items old new agenda ready routed hand indexed =
     kept_with text items old new agenda
     (λ place i is. ap (λ (lines : List (BTreeSet ℕ)). stands lines place i) ready ∙ is)
-    (λ place i is. ap (λ (lines : List (BTreeSet ℕ)). stands lines place i) routed ∙ is) indexed
+    (λ place i is. ap (λ (lines : List (BTreeSet ℕ)). stands lines place i) routed ∙ is) hand indexed
+
+pub with_agenda : (text : List ℕ) (items : List ItemValue) (old : Index) (agenda : AgendaValue)
+    → KeepsAll old.agenda agenda → IsIndexed text items old → IsIndexed text items (record old { agenda = agenda })
+with_agenda text items old agenda keeps indexed =
+    kept text items old (record old { agenda = agenda }) keeps refl refl refl indexed
 
 -- lines with more
 pub lined : (text : List ℕ) (items : List ItemValue) (old new : Index) → new.agenda ≡ old.agenda
-    → KeepsLines old.ready new.ready → KeepsLines old.routed new.routed → IsIndexed text items old
-    → IsIndexed text items new
-lined text items old new agenda ready routed indexed =
-    kept_with text items old new (keeps_same old.agenda new.agenda agenda) ready routed indexed
+    → KeepsLines old.ready new.ready → KeepsLines old.routed new.routed → new.hand ≡ old.hand
+    → IsIndexed text items old → IsIndexed text items new
+lined text items old new agenda ready routed hand indexed =
+    kept_with text items old new (keeps_same old.agenda new.agenda agenda) ready routed hand indexed
 
 -- an active item stands in no line
 pub left : (text : List ℕ) (items : List ItemValue) (old new : Index) (number : ℕ)
@@ -90,6 +105,7 @@ left text items old new number active gone indexed = record {
             let found = was.routed q peer pending is in
             (found.0, found.1, gone.routed found.0 i (apart i before) found.2);
       };
+  hand = same_hand items old new gone.hand indexed.hand;
 } where
   apart : (i : ℕ) → IsAside old.agenda i → i ≢ number
   apart i a same =
@@ -101,11 +117,11 @@ left text items old new number active gone indexed = record {
 with_one : (text : List ℕ) (items : List ItemValue) (old new : Index) (number : ℕ)
     → ((i : ℕ) → i ≢ number → IsAside new.agenda i → IsAside old.agenda i)
     → ((i moment : ℕ) → i ≢ number → Rests new.agenda i moment → Rests old.agenda i moment)
-    → new.ready ≡ old.ready → new.routed ≡ old.routed
+    → new.ready ≡ old.ready → new.routed ≡ old.routed → new.hand ≡ old.hand
     → ((moment : ℕ) → Rests new.agenda number moment → IsAtRestIn text items new number moment)
     → (IsAside new.agenda number → IsListedIn text items new number)
     → IsIndexed text items old → IsIndexed text items new
-with_one text items old new number aside rests ready routed one listed indexed = record {
+with_one text items old new number aside rests ready routed hand one listed indexed = record {
   rests = λ i moment r. elim (cases_eq i number) [
     | inl same ↦
         subst (λ (j : ℕ). IsAtRestIn text items new j moment) (sym same)
@@ -118,6 +134,7 @@ with_one text items old new number aside rests ready routed one listed indexed =
         (listed (subst (λ (j : ℕ). IsAside new.agenda j) same a))
     | inr apart ↦ in_lines i (indexed.listed i (aside i apart a))
   ];
+  hand = same_hand items old new hand indexed.hand;
 } where
   at_rest : (i moment : ℕ) → IsAtRestIn text items old i moment → IsAtRestIn text items new i moment
   at_rest i moment was = record {
@@ -147,9 +164,10 @@ with_one text items old new number aside rests ready routed one listed indexed =
 -- an item of which nobody is pending rests for good
 pub let_go : (text : List ℕ) (items : List ItemValue) (old new : Index) (number : ℕ) (item : ItemValue)
     → (HasPending item → ⊥) → numbered items number ≡ Some item → IsLetGo old.agenda new.agenda number
-    → new.ready ≡ old.ready → new.routed ≡ old.routed → IsIndexed text items old → IsIndexed text items new
-let_go text items old new number item none item_is go ready routed indexed =
-    with_one text items old new number go.others.aside go.others.rests ready routed
+    → new.ready ≡ old.ready → new.routed ≡ old.routed → new.hand ≡ old.hand → IsIndexed text items old
+    → IsIndexed text items new
+let_go text items old new number item none item_is go ready routed hand indexed =
+    with_one text items old new number go.others.aside go.others.rests ready routed hand
     (λ moment r. record {
       item = item;
       item_is = item_is;
@@ -168,9 +186,9 @@ pub put_off : (text : List ℕ) (items : List ItemValue) (old new : Index) (numb
     (moment until : ℕ) → IsIdleUntil text item moment (Some until) → numbered items number ≡ Some item
     → IsReadyIn text item old.ready number moment → IsRoutedIn text item old.routed number
     → IsPutOff old.agenda new.agenda number moment until → new.ready ≡ old.ready → new.routed ≡ old.routed
-    → IsIndexed text items old → IsIndexed text items new
-put_off text items old new number item moment until idle item_is is_ready is_routed off ready routed indexed =
-    with_one text items old new number off.others.aside off.others.rests ready routed
+    → new.hand ≡ old.hand → IsIndexed text items old → IsIndexed text items new
+put_off text items old new number item moment until idle item_is is_ready is_routed off ready routed hand indexed =
+    with_one text items old new number off.others.aside off.others.rests ready routed hand
     (λ n r.
     let within = off.within n r in
     record {
@@ -206,13 +224,61 @@ change_later text item moment until idle =
 
 -- nothing is known of any item
 pub fresh : (text : List ℕ) (items : List ItemValue) (index : Index) → index.agenda.known ≡ 0
-    → IsIndexed text items index
-fresh text items index none = record {
+    → index.hand ≡ None → IsIndexed text items index
+fresh text items index none nothing = record {
   rests = λ i moment r. absurd (never i r.aside);
   listed = λ i a. absurd (never i a);
+  hand = subst (λ (o : Option Hand). IsAtHand items o) (sym nothing) tt;
 } where
   never : (i : ℕ) → IsAside index.agenda i → ⊥
   never i a = let from = a.from in let known = a.known in omega (arith, from, known, none)
+
+-- ---- what is at hand
+
+-- another is at hand, or none
+handed : (text : List ℕ) (items : List ItemValue) (old new : Index) → new.agenda ≡ old.agenda
+    → new.ready ≡ old.ready → new.routed ≡ old.routed → IsAtHand items new.hand → IsIndexed text items old
+    → IsIndexed text items new
+handed text items old new agenda ready routed hand indexed =
+    let emptied : Index = record { agenda = new.agenda; ready = new.ready; routed = new.routed; hand = old.hand } in
+    let was = kept text items old emptied (keeps_same old.agenda new.agenda agenda) ready routed refl indexed in
+    record {
+      rests = λ i moment r.
+          let at = was.rests i moment r in
+          record { item = at.item; item_is = at.item_is; idle = at.idle; ready = at.ready };
+      listed = λ i a.
+          let at = was.listed i a in record { item = at.item; item_is = at.item_is; routed = at.routed };
+      hand = hand;
+    }
+
+pub nothing_at_hand : (text : List ℕ) (items : List ItemValue) (old new : Index) → new.agenda ≡ old.agenda
+    → new.ready ≡ old.ready → new.routed ≡ old.routed → new.hand ≡ None → IsIndexed text items old
+    → IsIndexed text items new
+nothing_at_hand text items old new agenda ready routed none indexed =
+    handed text items old new agenda ready routed (subst (λ (o : Option Hand). IsAtHand items o) (sym none) tt)
+    indexed
+
+pub one_at_hand : (text : List ℕ) (items : List ItemValue) (old new : Index) (hand : Hand) (item : ItemValue)
+    → new.agenda ≡ old.agenda → new.ready ≡ old.ready → new.routed ≡ old.routed → new.hand ≡ Some hand
+    → numbered items hand.number ≡ Some item → IsDecodedOf item.octets hand.decoded
+    → IsIndexed text items old → IsIndexed text items new
+one_at_hand text items old new hand item agenda ready routed one item_is decoded indexed =
+    handed text items old new agenda ready routed
+    (subst (λ (o : Option Hand). IsAtHand items o) (sym one)
+    (record { item = item; item_is = item_is; decoded = decoded }))
+    indexed
+
+-- what is at hand is of the item that has its number
+pub of_hand : (text : List ℕ) (items : List ItemValue) (index : Index) (number : ℕ) (item : ItemValue)
+    → IsIndexed text items index → numbered items number ≡ Some item → IsOfHand item number index.hand
+of_hand text items index number item indexed item_is = by_hand index.hand indexed.hand
+  where
+    by_hand : (o : Option Hand) → IsAtHand items o → IsOfHand item number o
+    by_hand None is = tt
+    by_hand (Some hand) is = λ same.
+        let one : is.item ≡ item =
+        same_Some is.item item (sym is.item_is ∙ ap (λ (n : ℕ). numbered items n) same ∙ item_is) in
+        subst (λ (x : ItemValue). IsDecodedOf x.octets hand.decoded) one is.decoded
 
 -- ---- lines of peers
 
@@ -253,4 +319,14 @@ indexes_stay text m steps index indexed = record {
             was.routed q peer (on.later.pending q pending)
             (sym (ap (λ (o : List ℕ). route_word text o q) on.later.octets) ∙ is);
       };
-}
+  hand = by_hand index.hand indexed.hand;
+} where
+  by_hand : (o : Option Hand) → IsAtHand m.items o → IsAtHand (machine_run m steps).items o
+  by_hand None is = tt
+  by_hand (Some hand) is =
+      let on = items_go_on m steps hand.number is.item is.item_is in
+      record {
+        item = on.item;
+        item_is = on.item_is;
+        decoded = subst (λ (octets : List ℕ). IsDecodedOf octets hand.decoded) (sym on.later.octets) is.decoded;
+      }

@@ -4,17 +4,15 @@ use Rattle.std.proofs.Common.{arith}
 use Rattle.std.proofs.lemmas.Bool.{cases_lt}
 use Rattle.std.proofs.lemmas.Option.{slice_get_past}
 use Rattle.mta_machine.specs.declared.item.Status.{Status}
-use Rattle.mta_machine.specs.Items.{ItemValue, numbered, has_status, is_pending}
+use Rattle.mta_machine.specs.Items.{AreSettled, ItemValue, numbered, has_status, is_pending}
 use Rattle.mta_dues.specs.Index.{HasPending, NonePendingUpTo}
 
 past : (ss : List (Option Status)) (r : ℕ) → length ss < r → has_status is_pending (numbered ss r) ≡ false
 past ss zero above = refl
 past ss (suc k) above = ap (has_status is_pending) (slice_get_past ss k (omega (arith, above)))
 
--- no recipient is numbered 0
-pub none_pending_at_first : (item : ItemValue) → NonePendingUpTo item 0
-none_pending_at_first item zero low = refl
-none_pending_at_first item (suc r) low = absurd (omega (arith, low))
+pub none_pending_settled : (item : ItemValue) (n : ℕ) → AreSettled item.statuses n → NonePendingUpTo item n
+none_pending_settled item n settled = settled.none
 
 pub none_pending_further : (item : ItemValue) (n : ℕ) → NonePendingUpTo item n
     → has_status is_pending (numbered item.statuses (n + 1)) ≡ false → NonePendingUpTo item (n + 1)
@@ -32,4 +30,4 @@ none_pending item most few none has = elim (cases_lt most has.0) [
   | inr below ↦ (let never = none has.0 below in let does = has.1 in absurd cc)
 ]
 
-pub ruleset pending_laws = (none_pending_at_first, none_pending_further, none_pending)
+pub ruleset pending_laws = (none_pending_settled, none_pending_further, none_pending)

@@ -5,11 +5,13 @@ use Rattle.std.proofs.Common.{◌∙◌, arith}
 use Rattle.std.specs.Prelude.{◌⊎◌, ◌↔◌}
 use Rattle.std.proofs.lemmas.Bool.{cases_lt}
 use Rattle.std.proofs.lemmas.Option.{same_Some}
-use Rattle.mta_machine.specs.Items.{ItemValue, Machine, names, numbered, is_pending_at}
+use Rattle.std.specs.Prelude.{option_and_then}
+use Rattle.mta_machine.specs.Items.{ItemValue, Machine, has_status, is_pending, names, numbered, is_pending_at}
 use Rattle.mta_machine.specs.Rules.{names_peer, route_word}
 use Rattle.mta_machine.specs.Machine.{last_tables}
 use Rattle.mta_histories.specs.Lanes.{State, activities_of}
 use Rattle.mta_histories.specs.Due.{IsAscending, IsRoutedTo, IsQueue, HasQueue, routed}
+use Rattle.mta_dues.specs.Index.{HasPending}
 use Rattle.mta_dues.specs.Next.{IsBefore}
 use Rattle.mta_dues.specs.Answers.{HasRouted, NoneRoutedUpTo, AreQueuedUpTo}
 use Rattle.mta_dues.proofs.Ascending.{named_before, named_last, named_more, ascends}
@@ -43,6 +45,22 @@ not_routed s i r peer (inl never) = (λ e. absurd cc, λ to. let does = to.waiti
 not_routed s i r peer (inr busy) = (λ e. absurd cc, λ to. absurd (busy to.waiting.free))
 
 -- ---- the recipients of an item
+
+-- who is pending is so of the item
+pub pending_of : (m : Machine) (i r : ℕ) (item : ItemValue) → numbered m.items i ≡ Some item
+    → is_pending_at m i r ≡ true → has_status is_pending (numbered item.statuses r) ≡ true
+pending_of m i r item is does =
+    let at_r : Option ItemValue → Bool =
+    λ o. has_status is_pending (option_and_then (λ (x : ItemValue). numbered x.statuses r) o) in
+    sym (ap at_r is) ∙ does
+
+-- nobody waits of an item of which nobody is pending
+pub unrouted_unpending : (s : State) (peer : List ℕ) (i : ℕ) (item : ItemValue)
+    → numbered s.machine.items i ≡ Some item → (HasPending item → ⊥) → (false ≡ true) ↔ HasRouted s peer i
+unrouted_unpending s peer i item is none = (
+  λ e. absurd cc,
+  λ has. absurd (none (has.0, pending_of s.machine i has.0 item is has.1.waiting.pending)),
+)
 
 none_of_none : (s : State) (peer : List ℕ) (i r : ℕ) → is_pending_at s.machine i r ≡ false
     → IsRoutedTo s peer i r → ⊥

@@ -17,8 +17,8 @@ use Rattle.mta_machine.specs.Items.{ItemValue, Machine, names, numbered, is_pend
 use Rattle.mta_machine.specs.Rules.{is_expired}
 use Rattle.mta_machine.specs.Machine.{last_tables, verdict_at, verdict_on}
 use Rattle.mta_histories.specs.Lanes.{Lane, State, Transfer, lane_at, is_transferring, is_for, holds, activities_of}
-use Rattle.mta_histories.specs.History.{HasExpired, IsExpiredOn}
-use Rattle.mta_histories.specs.Due.{IsDue, IsDueByVerdict, IsDueByExpiry, step_of}
+use Rattle.mta_histories.specs.History.{HasExpired}
+use Rattle.mta_histories.specs.Due.{IsDue, IsDueByVerdict, IsDueByExpiry}
 use Rattle.mta_histories.specs.Kept.{IsKept, AreNumbered, pending_count}
 use Rattle.mta_dues.specs.Answers.{IsDueOf, is_sending_for, step_by}
 

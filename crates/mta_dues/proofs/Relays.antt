@@ -10,9 +10,11 @@ use Rattle.mta_machine.specs.Rules.{verdict_of}
 use Rattle.mta_machine.specs.Machine.{last_tables, relay_by, relay_on, relay_at}
 use Rattle.mta_histories.specs.Lanes.{State, activities_of}
 use Rattle.mta_histories.specs.Due.{IsAscending, IsToRelay, IsBatch, IsNoBatch}
+use Rattle.mta_dues.specs.Index.{HasPending}
 use Rattle.mta_dues.specs.Next.{IsBefore}
 use Rattle.mta_dues.specs.Answers.{AreRelayedUpTo, AreRelayed, NoneRelayedUpTo, IsBatchOf}
 use Rattle.mta_dues.proofs.Ascending.{named_before, named_last, named_more, ascends}
+use Rattle.mta_dues.proofs.Queues.{pending_of}
 use Rattle.mta_dues.proofs.Scans.{cases_le, past, not_there, no_such}
 
 -- ---- one recipient
@@ -49,6 +51,17 @@ not_waiting s i r moment peer (inr busy) = (λ e. absurd cc, λ to. absurd (busy
 none_of_none : (s : State) (peer : List ℕ) (moment i r : ℕ) → is_pending_at s.machine i r ≡ false
     → IsToRelay s peer moment i r → ⊥
 none_of_none s peer moment i r never to = let does = to.waiting.pending in absurd cc
+
+-- nobody is to be relayed of an item of which nobody is pending
+pub unrelayed_unpending : (s : State) (peer : List ℕ) (moment i : ℕ) (item : ItemValue)
+    → numbered s.machine.items i ≡ Some item → (HasPending item → ⊥) → AreRelayed s peer moment i []
+unrelayed_unpending s peer moment i item is none = record {
+  ascending = tt;
+  each = λ r. (
+    λ e. absurd cc,
+    λ to. absurd (none (r, pending_of s.machine i r item is to.waiting.pending)),
+  );
+}
 
 pub relays_at_first : (s : State) (peer : List ℕ) (moment i : ℕ) (item : ItemValue)
     → numbered s.machine.items i ≡ Some item → AreRelayedUpTo s peer moment i 0 []

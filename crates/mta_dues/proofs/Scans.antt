@@ -1,13 +1,14 @@
 -- What is due, found in turn.
-use Rattle.std.proofs.Common.{inl, inr, ◌≡◌, ◌≤◌, ◌<◌, ◌+◌, ℕ, zero, suc, Bool, true, false}
-use Rattle.std.proofs.Common.{List, [], ◌∷◌, Option, Some, None, length, refl, sym, ap, subst, ◌∙◌, arith}
+use Rattle.std.proofs.Common.{inl, inr, ◌≡◌, ◌≤◌, ◌<◌, ◌+◌, ℕ, zero, suc, Bool, false}
+use Rattle.std.proofs.Common.{List, Option, Some, None, length, refl, sym, ap, subst, ◌∙◌, arith}
 use Rattle.std.specs.Prelude.{◌⊎◌}
 use Rattle.std.proofs.lemmas.Bool.{cases_lt, cases_eq}
 use Rattle.std.proofs.lemmas.Option.{slice_get_past}
-use Rattle.mta_machine.specs.Items.{ItemValue, Machine, numbered, is_pending_at}
+use Rattle.std.specs.Prelude.{option_and_then}
+use Rattle.mta_machine.specs.Items.{AreSettled, ItemValue, Machine, numbered, has_status, is_pending, is_pending_at}
 use Rattle.mta_histories.specs.Lanes.{State}
 use Rattle.mta_histories.specs.Kept.{IsKept}
-use Rattle.mta_histories.specs.Due.{IsDue, IsNext, IsQuiet, IsLowest}
+use Rattle.mta_histories.specs.Due.{IsDue}
 use Rattle.mta_records.specs.declared.step.Step.{Step}
 use Rattle.mta_dues.specs.Next.{IsBefore}
 use Rattle.mta_dues.specs.Answers.{IsDueOf, IsFirstIn, IsFirstOf, IsNextOf, NoneDueUpTo, NothingDueUpTo}
@@ -30,12 +31,12 @@ pub no_such : (m : Machine) (i r : ℕ) (item : ItemValue) → numbered m.items 
 no_such m i r item is none = rw is (rw none refl)
 
 -- no recipient is numbered 0
-pub none_at_first : (s : State) (i moment : ℕ) (item : ItemValue) → IsKept s
-    → numbered s.machine.items i ≡ Some item → NoneDueUpTo s i 0 moment
-none_at_first s i moment item kept is r due low d =
-    let zero_is : r ≡ 0 = omega (arith, low) in
-    let none : numbered item.statuses r ≡ None = rw zero_is refl in
-    not_pending s i r moment kept (no_such s.machine i r item is none) due d
+pub none_settled : (s : State) (i n moment : ℕ) (item : ItemValue) → IsKept s
+    → numbered s.machine.items i ≡ Some item → AreSettled item.statuses n → NoneDueUpTo s i n moment
+none_settled s i n moment item kept is settled r due low d =
+    let at_r : Option ItemValue → Bool =
+    λ o. has_status is_pending (option_and_then (λ (x : ItemValue). numbered x.statuses r) o) in
+    not_pending s i r moment kept (ap at_r is ∙ settled.none r low) due d
 
 pub none_further : (s : State) (i r moment : ℕ) → NoneDueUpTo s i r moment → IsDueOf s i (r + 1) moment None
     → NoneDueUpTo s i (r + 1) moment
@@ -132,4 +133,4 @@ first_item s after number moment due before between first = record {
   lowest = λ j q other d. by_place s after number j q moment due other first before between d (cases_le j after);
 }
 
-pub ruleset recipient_laws = (none_at_first, none_further, no_recipient, first_recipient)
+pub ruleset recipient_laws = (none_settled, none_further, no_recipient, first_recipient)

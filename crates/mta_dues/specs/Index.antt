@@ -1,13 +1,15 @@
 -- What is known of which items need not be looked at, and of which items wait for which peer.
-use Rattle.std.specs.Prelude.{◌≡◌, ℕ, ◌≤◌, ◌<◌, true, false, List, Option, Some}
+use Rattle.std.specs.Prelude.{◌≡◌, ℕ, ◌≤◌, ◌<◌, true, false, List, Option, Some, None}
 use Rattle.std.specs.BTreeSet.{BTreeSet}
 use Rattle.mta_machine.specs.Items.{ItemValue, Machine, numbered, has_status, is_pending}
 use Rattle.mta_machine.specs.Rules.{peer_word, route_word, verdict_of}
 use Rattle.mta_machine.specs.Machine.{MachineStep, machine_run, relay_by}
 use Rattle.mta_idle_laws.specs.Idle.{IsIdle}
 use Rattle.mta_dues.specs.Agendas.{AgendaValue, is_active, IsAside, Rests}
-use Rattle.mta_dues.specs.Lines.{KeepsLines, Leaves, stands}
+use Rattle.mta_dues.specs.Lines.{Leaves, stands}
 use Rattle.mta_dues.specs.Next.{IsAbove, IsBefore}
+use Rattle.mta_state.specs.Readings.{IsDecodedOf}
+use Rattle.mta_dues.specs.declared.hand.Hand.{Hand}
 use Rattle.mta_dues.specs.declared.index.Index.{Index}
 
 -- ---- who is pending
@@ -55,10 +57,27 @@ pub record IsListedIn (text : List ℕ) (items : List ItemValue) (index : Index)
   pub item_is : numbered items i ≡ Some item
   pub routed : IsRoutedIn text item index.routed i
 
--- what need not be looked at at a moment is idle then, and it stands in the lines of its peers
+-- what is at hand is what the item of its number was read as
+pub record IsDecodedIn (items : List ItemValue) (hand : Hand) : Type 0 where
+  pub item : ItemValue
+  pub item_is : numbered items hand.number ≡ Some item
+  pub decoded : IsDecodedOf item.octets hand.decoded
+
+abbrev pub IsAtHand : List ItemValue → Option Hand → Type 0
+IsAtHand items None = Unit {0}
+IsAtHand items (Some hand) = IsDecodedIn items hand
+
+-- where the reading at hand is of this number, it is that of the item
+abbrev pub IsOfHand : ItemValue → ℕ → Option Hand → Type 0
+IsOfHand item number None = Unit {0}
+IsOfHand item number (Some hand) = hand.number ≡ number → IsDecodedOf item.octets hand.decoded
+
+-- what need not be looked at at a moment is idle then, and it stands in the lines of its peers; and what is at hand is
+-- a reading of an item
 pub record IsIndexed (text : List ℕ) (items : List ItemValue) (index : Index) : Type 0 where
   pub rests : (i moment : ℕ) → Rests index.agenda i moment → IsAtRestIn text items index i moment
   pub listed : (i : ℕ) → IsAside index.agenda i → IsListedIn text items index i
+  pub hand : IsAtHand items index.hand
 
 -- what is known of items stays true whatever steps are made
 abbrev pub IndexesStay : Type 0
@@ -69,6 +88,7 @@ IndexesStay =
 -- the number may stand in lines no more
 pub record IsLeft (old new : Index) (number : ℕ) : Type 0 where
   pub agenda : new.agenda ≡ old.agenda
+  pub hand : new.hand ≡ old.hand
   pub ready : Leaves old.ready new.ready number
   pub routed : Leaves old.routed new.routed number
 

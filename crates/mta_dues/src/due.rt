@@ -10,6 +10,7 @@ ghost use Rattle.mta_histories.specs.Kept.{IsKept};
 ghost use Rattle.mta_state.specs.Parts.{machine_of};
 ghost use Rattle.mta_state.specs.Kept.{state_of};
 ghost use Rattle.mta_state.specs.Asked.{IsTextOf};
+ghost use Rattle.mta_state.specs.Readings.{IsReadingOf};
 ghost use Rattle.mta_dues.specs.Answers.{IsDueOf, is_sending_for, step_by};
 
 use mta_ber::Memory;
@@ -17,7 +18,7 @@ use mta_lanes::{Lane, Lanes};
 use mta_machine::Item;
 use mta_procedures::Verdict;
 use mta_records::Step;
-use mta_state::{Kept, Rules, verdict_on};
+use mta_state::{Kept, Reading, Rules, verdict_on};
 use std::alloc::Global;
 
 // The step that a verdict calls for at once.
@@ -74,32 +75,33 @@ fn sending_for(lanes: &Lanes, item: u32, recipient: u32) -> Option<&Lane>
 // What is due of a recipient who is in an activity.
 #[tactic(auto, using(crate::proofs::Recipients::in_activity_laws))]
 fn due_in_activity<R: Rules>(
-    alloc: Global,
     rules: &R,
     kept: &Kept,
     number: u32,
     item: &Item,
+    reading: &Reading<'_>,
     recipient: u32,
     moment: u64,
-) -> Result<Option<Step>, Memory>
+) -> Option<Step>
     requires text { IsTextOf kept.now (R.text rules.now) }
     requires kept { IsKept (state_of kept.now) }
     requires item { numbered kept.now.parts.items.items number ≡ Some item.now }
     requires arrived { item.now.arrival ≤ last_moment }
+    requires reading { IsReadingOf item.now.octets reading.now }
     requires busy { activities_of kept.now.lanes.open_lanes.items number recipient ≢ 0 }
-    ensures { IfOk result (IsDueOf (state_of kept.now) number recipient moment) }
+    ensures { IsDueOf (state_of kept.now) number recipient moment result }
 {
     match sending_for(&kept.lanes, number, recipient) {
-        None => Ok(None),
+        None => None,
         Some(lane) => {
-            if rules.has_expired(alloc, item.octets(), item.arrival(), moment)? {
-                Ok(Some(Step::Abandon {
+            if rules.has_expired(item, reading, moment) {
+                Some(Step::Abandon {
                     lane: lane.number(),
                     activity: lane.activity(),
                     moment,
-                }))
+                })
             } else {
-                Ok(None)
+                None
             }
         }
     }
@@ -113,18 +115,20 @@ fn due_while_free<R: Rules>(
     kept: &Kept,
     number: u32,
     item: &Item,
+    reading: &Reading<'_>,
     recipient: u32,
     moment: u64,
 ) -> Result<Option<Step>, Memory>
     requires text { IsTextOf kept.now (R.text rules.now) }
     requires item { numbered kept.now.parts.items.items number ≡ Some item.now }
     requires arrived { item.now.arrival ≤ last_moment }
+    requires reading { IsReadingOf item.now.octets reading.now }
     requires pending { is_pending_at (machine_of kept.now.parts) number recipient ≡ true }
     requires free { activities_of kept.now.lanes.open_lanes.items number recipient ≡ 0 }
     ensures { IfOk result (IsDueOf (state_of kept.now) number recipient moment) }
 {
     let items = kept.parts.items.as_slice();
-    let verdict = verdict_on(alloc, rules, items, item, recipient, moment)?;
+    let verdict = verdict_on(alloc, rules, items, item, reading, recipient, moment)?;
     Ok(step_by(verdict, number, recipient, moment))
 }
 
@@ -136,6 +140,7 @@ pub fn due_of<R: Rules>(
     kept: &Kept,
     number: u32,
     item: &Item,
+    reading: &Reading<'_>,
     recipient: u32,
     moment: u64,
 ) -> Result<Option<Step>, Memory>
@@ -143,6 +148,7 @@ pub fn due_of<R: Rules>(
     requires kept { IsKept (state_of kept.now) }
     requires item { numbered kept.now.parts.items.items number ≡ Some item.now }
     requires arrived { item.now.arrival ≤ last_moment }
+    requires reading { IsReadingOf item.now.octets reading.now }
     ensures { IfOk result (IsDueOf (state_of kept.now) number recipient moment) }
 {
     let pending = kept.parts.is_pending(number, recipient);
@@ -150,8 +156,8 @@ pub fn due_of<R: Rules>(
         return Ok(None);
     }
     if kept.lanes.is_free(number, recipient) {
-        due_while_free(alloc, rules, kept, number, item, recipient, moment)
+        due_while_free(alloc, rules, kept, number, item, reading, recipient, moment)
     } else {
-        due_in_activity(alloc, rules, kept, number, item, recipient, moment)
+        Ok(due_in_activity(rules, kept, number, item, reading, recipient, moment))
     }
 }

@@ -6,40 +6,43 @@ ghost use Rattle.mta_machine.specs.Items.{numbered};
 ghost use Rattle.mta_histories.specs.Due.{HasQueue, IsQueue, IsRoutedTo};
 ghost use Rattle.mta_state.specs.Kept.{state_of};
 ghost use Rattle.mta_state.specs.Asked.{IsStored, IsTextOf};
+ghost use Rattle.mta_state.specs.Readings.{IsReadingOf};
 ghost use Rattle.mta_dues.specs.Answers.{HasRouted};
 ghost use Rattle.mta_dues.specs.Index.{IsIndexed, IsNextWaiting};
 
 use crate::index::Index;
 use crate::lined::next_for;
 use crate::next::lowest;
+use crate::rest::has_pending;
 use mta_ber::{Memory, Word};
 use mta_machine::Item;
 use mta_records::Recipients;
-use mta_state::{Kept, Rules};
+use mta_state::{Kept, Reading, Rules};
 use std::alloc::Global;
 
 // Whether a recipient of an item is pending, in no activity, and has a name whose best route leads to the peer.
 #[tactic(auto, using(crate::proofs::Queues::is_routed, crate::proofs::Queues::not_routed))]
 fn is_routed<R: Rules>(
-    alloc: Global,
     rules: &R,
     kept: &Kept,
     number: u32,
     item: &Item,
+    reading: &Reading<'_>,
     recipient: u32,
     peer: &[u8],
-) -> Result<bool, Memory>
+) -> bool
     requires text { IsTextOf kept.now (R.text rules.now) }
     requires item { numbered kept.now.parts.items.items number ≡ Some item.now }
-    ensures { IfOk result (λ b. IsTrue b ↔ IsRoutedTo (state_of kept.now) peer.now number recipient) }
+    requires reading { IsReadingOf item.now.octets reading.now }
+    ensures { IsTrue result ↔ IsRoutedTo (state_of kept.now) peer.now number recipient }
 {
     if !kept.parts.is_pending(number, recipient) || !kept.lanes.is_free(number, recipient) {
-        return Ok(false);
+        return false;
     }
-    rules.routes_to(alloc, item.octets(), recipient, peer)
+    rules.routes_to(item, reading, recipient, peer)
 }
 
-// Whether some recipient of an item waits for the peer.
+// Whether some recipient of an item waits for the peer. The item is read once, where somebody is pending.
 #[tactic(auto, using(crate::proofs::Queues::routed_laws))]
 fn has_routed<R: Rules>(
     alloc: Global,
@@ -54,11 +57,16 @@ fn has_routed<R: Rules>(
     requires stored { IsStored item.now }
     ensures { IfOk result (λ b. IsTrue b ↔ HasRouted (state_of kept.now) peer.now number) }
 {
+    let pending = has_pending(item);
+    if !pending {
+        return Ok(false);
+    }
+    let reading = Reading::read(alloc, item)?;
     let count = item.statuses().len() as u32;
     let mut recipient: u32 = 0;
     while recipient < count {
         recipient += 1;
-        if is_routed(alloc, rules, kept, number, item, recipient, peer)? {
+        if is_routed(rules, kept, number, item, &reading, recipient, peer) {
             return Ok(true);
         }
     }

@@ -10,18 +10,19 @@ ghost use Rattle.mta_machine.specs.Machine.{relay_by};
 ghost use Rattle.mta_histories.specs.Due.{IsToRelay};
 ghost use Rattle.mta_state.specs.Kept.{state_of};
 ghost use Rattle.mta_state.specs.Asked.{IsStored, IsTextOf};
+ghost use Rattle.mta_state.specs.Readings.{IsReadingOf};
 ghost use Rattle.mta_dues.specs.Agendas.{IsAllCalled};
 ghost use Rattle.mta_dues.specs.Answers.{AreRelayed, IsBatchOf};
 ghost use Rattle.mta_dues.specs.Index.{IsIndexed};
 
 use crate::index::Index;
 use crate::lined::next_for;
-use crate::rest::pass_over;
+use crate::rest::{has_pending, pass_over};
 use mta_ber::{Memory, Word};
 use mta_machine::Item;
 use mta_procedures::Verdict;
 use mta_records::{Batch, Recipients};
-use mta_state::{Kept, Rules};
+use mta_state::{Kept, Reading, Rules};
 use std::alloc::Global;
 
 // Whether a verdict relays to the peer.
@@ -45,6 +46,7 @@ pub fn is_to_relay<R: Rules>(
     kept: &Kept,
     number: u32,
     item: &Item,
+    reading: &Reading<'_>,
     recipient: u32,
     peer: &[u8],
     moment: u64,
@@ -52,16 +54,17 @@ pub fn is_to_relay<R: Rules>(
     requires text { IsTextOf kept.now (R.text rules.now) }
     requires item { numbered kept.now.parts.items.items number ≡ Some item.now }
     requires arrived { item.now.arrival ≤ last_moment }
+    requires reading { IsReadingOf item.now.octets reading.now }
     ensures { IfOk result (λ b. IsTrue b ↔ IsToRelay (state_of kept.now) peer.now moment number recipient) }
 {
     if !kept.parts.is_pending(number, recipient) || !kept.lanes.is_free(number, recipient) {
         return Ok(false);
     }
-    let verdict = rules.verdict(alloc, item.octets(), item.arrival(), recipient, moment)?;
+    let verdict = rules.verdict(alloc, item, reading, recipient, moment)?;
     Ok(relays_to(rules, verdict, peer))
 }
 
-// The recipients of an item that are to be relayed to the peer.
+// The recipients of an item that are to be relayed to the peer. The item is read once, where somebody is pending.
 #[tactic(auto, using(crate::proofs::Relays::relay_laws))]
 fn recipients_for<R: Rules>(
     alloc: Global,
@@ -77,12 +80,19 @@ fn recipients_for<R: Rules>(
     requires stored { IsStored item.now }
     ensures { IfOk result (λ rs. AreRelayed (state_of kept.now) peer.now moment number rs.items) }
 {
+    let pending = has_pending(item);
+    if !pending {
+        return Ok(Vec::new(alloc));
+    }
+    let reading = Reading::read(alloc, item)?;
     let count = item.statuses().len() as u32;
     let mut recipients: Vec<u32> = Vec::new(alloc);
     let mut recipient: u32 = 0;
     while recipient < count {
         recipient += 1;
-        if is_to_relay(alloc, rules, kept, number, item, recipient, peer, moment)? {
+        if is_to_relay(
+            alloc, rules, kept, number, item, &reading, recipient, peer, moment,
+        )? {
             recipients.push(recipient)?;
         }
     }
@@ -154,7 +164,6 @@ fn first_batch<R: Rules>(
 
 /// The lowest item with recipients to relay to the peer, and all those; none where there is no such item. Items are
 /// looked at only that are active, or stand in a line of the peer.
-#[tactic(auto, using(crate::proofs::Indexed::kept))]
 pub fn batch_for<R: Rules>(
     alloc: Global,
     rules: &R,

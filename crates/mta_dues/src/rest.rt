@@ -1,28 +1,29 @@
 //! Items that rest, since nothing is due of them for a while.
 
-ghost use Rattle.std.specs.Prelude.{◌≡◌, ◌<◌, ◌↔◌, ℕ, IfOk, IsTrue, List, OnOk, Some, true};
+ghost use Rattle.std.specs.Prelude.{◌≡◌, ◌<◌, ◌↔◌, ℕ, IfOk, IsTrue, List, OnOk, Some, true, false};
 ghost use Rattle.std.specs.List.{All};
 ghost use Rattle.mta_machine.specs.Items.{ItemValue, numbered};
 ghost use Rattle.mta_idle_laws.specs.Idle.{IsIdle};
 ghost use Rattle.mta_dues.specs.Agendas.{is_active, IsAllCalled};
 ghost use Rattle.mta_dues.specs.Lines.{KeepsLines, StandsAll};
 ghost use Rattle.mta_state.specs.Asked.{IsStored, RestsAs};
+ghost use Rattle.mta_state.specs.Readings.{IsReadingOf};
 ghost use Rattle.mta_dues.specs.Index.{HasPending, IsIndexed};
 
 use crate::index::Index;
 use mta_ber::Memory;
 use mta_machine::Item;
-use mta_state::{Kept, Rest, Rules, is_pending};
+use mta_state::{Kept, Reading, Rest, Rules, is_pending};
 use std::alloc::Global;
 
 // Whether some recipient of an item is pending.
 #[tactic(auto, using(crate::proofs::Pending::pending_laws))]
-fn has_pending(item: &Item) -> bool
+pub(crate) fn has_pending(item: &Item) -> bool
     requires stored { IsStored item.now }
     ensures { IsTrue result ↔ HasPending item.now }
 {
     let count = item.statuses().len() as u32;
-    let mut recipient: u32 = 0;
+    let mut recipient = item.settled() as u32;
     while recipient < count {
         recipient += 1;
         if is_pending(item, recipient) {
@@ -35,6 +36,7 @@ fn has_pending(item: &Item) -> bool
 // The item stands in the lines of the peers to whom its pending recipients go.
 fn line_up(alloc: Global, index: &mut Index, number: u32, found: &Rest) -> Result<(), Memory>
     ensures agenda { index.new.agenda ≡ index.old.agenda }
+    ensures hand { index.new.hand ≡ index.old.hand }
     ensures ready { KeepsLines index.old.ready index.new.ready }
     ensures routed { KeepsLines index.old.routed index.new.routed }
     ensures is_ready { OnOk result (StandsAll index.new.ready found.now.relays.items number) }
@@ -67,17 +69,39 @@ fn put_to_rest(
     Ok(())
 }
 
-/// Whether an active item is idle at a moment. It rests then: until its verdicts may change, or for good where nobody
-/// is pending. Where there is no memory to note it the item stays active.
+/// Whether nobody of an active item is pending. It rests for good then, and is not read.
+pub(crate) fn rests_for_good(index: &mut Index, number: u32, item: &Item) -> bool
+    requires stored { IsStored item.now }
+    requires active { is_active index.old.agenda number ≡ true }
+    ensures idle { result ≡ true → (text : List ℕ) (moment : ℕ) → IsIdle text item.now moment }
+    ensures indexed { (text : List ℕ) (items : List ItemValue) → numbered items number ≡ Some item.now
+        → IsIndexed text items index.old → IsIndexed text items index.new }
+    ensures called { (count moment : ℕ) → IsAllCalled index.old.agenda count moment
+        → IsAllCalled index.new.agenda count moment }
+    ensures same { result ≡ false → index.new ≡ index.old }
+{
+    let pending = has_pending(item);
+    if pending {
+        return false;
+    }
+    index.leave(number);
+    index.agenda.let_go(number);
+    true
+}
+
+/// Whether an active item is idle at a moment. It rests then, until its verdicts may change. Where there is no memory
+/// to note it the item stays active.
 pub fn rest<R: Rules>(
     alloc: Global,
     rules: &R,
     index: &mut Index,
     number: u32,
     item: &Item,
+    reading: &Reading<'_>,
     moment: u64,
 ) -> Result<bool, Memory>
     requires stored { IsStored item.now }
+    requires reading { IsReadingOf item.now.octets reading.now }
     requires active { is_active index.old.agenda number ≡ true }
     ensures idle { IfOk result (λ b. b ≡ true → IsIdle (R.text rules.now) item.now moment) }
     ensures indexed { (items : List ItemValue) → numbered items number ≡ Some item.now
@@ -85,13 +109,7 @@ pub fn rest<R: Rules>(
     ensures called { (count : ℕ) → IsAllCalled index.old.agenda count moment
         → IsAllCalled index.new.agenda count moment }
 {
-    let pending = has_pending(item);
-    if !pending {
-        index.leave(number);
-        index.agenda.let_go(number);
-        return Ok(true);
-    }
-    match rules.rest(alloc, item, moment)? {
+    match rules.rest(alloc, item, reading, moment)? {
         None => Ok(false),
         Some(found) => {
             index.leave(number);

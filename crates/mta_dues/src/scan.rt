@@ -7,16 +7,17 @@ ghost use Rattle.mta_histories.specs.Kept.{IsKept};
 ghost use Rattle.mta_dues.specs.Agendas.{is_active, IsAllCalled};
 ghost use Rattle.mta_state.specs.Kept.{state_of};
 ghost use Rattle.mta_state.specs.Asked.{IsStored, IsTextOf};
+ghost use Rattle.mta_state.specs.Readings.{IsReadingOf};
 ghost use Rattle.mta_dues.specs.Answers.{IsFirstOf, IsNextOf};
 ghost use Rattle.mta_dues.specs.Index.{IsIndexed};
 
 use crate::due::due_of;
 use crate::index::Index;
-use crate::rest::rest;
+use crate::rest::{rest, rests_for_good};
 use mta_ber::Memory;
 use mta_machine::Item;
 use mta_records::Step;
-use mta_state::{Kept, Rules};
+use mta_state::{Kept, Reading, Rules};
 use std::alloc::Global;
 
 // What is due of the lowest recipient of an item.
@@ -27,19 +28,21 @@ fn first_of<R: Rules>(
     kept: &Kept,
     number: u32,
     item: &Item,
+    reading: &Reading<'_>,
     moment: u64,
 ) -> Result<Option<Step>, Memory>
     requires text { IsTextOf kept.now (R.text rules.now) }
     requires kept { IsKept (state_of kept.now) }
     requires item { numbered kept.now.parts.items.items number ≡ Some item.now }
     requires stored { IsStored item.now }
+    requires reading { IsReadingOf item.now.octets reading.now }
     ensures { IfOk result (IsFirstOf (state_of kept.now) number moment) }
 {
     let count = item.statuses().len() as u32;
-    let mut recipient: u32 = 0;
+    let mut recipient = item.settled() as u32;
     while recipient < count {
         recipient += 1;
-        match due_of(alloc, rules, kept, number, item, recipient, moment)? {
+        match due_of(alloc, rules, kept, number, item, reading, recipient, moment)? {
             None => {}
             Some(due) => return Ok(Some(due)),
         }
@@ -47,8 +50,39 @@ fn first_of<R: Rules>(
     Ok(None)
 }
 
-// What is due of the lowest recipient of an active item, which rests where it is idle.
+// What is due of the lowest recipient of an active item that was read, which rests where it is idle.
 #[tactic(auto, using(crate::proofs::Passed::look_laws))]
+fn look_at<R: Rules>(
+    alloc: Global,
+    rules: &R,
+    kept: &Kept,
+    index: &mut Index,
+    number: u32,
+    item: &Item,
+    reading: &Reading<'_>,
+    moment: u64,
+) -> Result<Option<Step>, Memory>
+    requires text { IsTextOf kept.now (R.text rules.now) }
+    requires kept { IsKept (state_of kept.now) }
+    requires item { numbered kept.now.parts.items.items number ≡ Some item.now }
+    requires stored { IsStored item.now }
+    requires reading { IsReadingOf item.now.octets reading.now }
+    requires active { is_active index.old.agenda number ≡ true }
+    requires indexed { IsIndexed (R.text rules.now) kept.now.parts.items.items index.old }
+    ensures first { IfOk result (IsFirstOf (state_of kept.now) number moment) }
+    ensures indexed { IsIndexed (R.text rules.now) kept.now.parts.items.items index.new }
+    ensures called { (count : ℕ) → IsAllCalled index.old.agenda count moment
+        → IsAllCalled index.new.agenda count moment }
+{
+    if rest(alloc, rules, index, number, item, reading, moment)? {
+        return Ok(None);
+    }
+    first_of(alloc, rules, kept, number, item, reading, moment)
+}
+
+// What is due of the lowest recipient of an active item, which is read once for all of them, and whose reading is at
+// hand then. It rests where it is idle.
+#[tactic(auto, using(crate::proofs::Passed::look_laws, crate::proofs::Indexed::of_hand))]
 fn look<R: Rules>(
     alloc: Global,
     rules: &R,
@@ -70,10 +104,13 @@ fn look<R: Rules>(
     let Some(item) = kept.parts.item(number) else {
         return Ok(None);
     };
-    if rest(alloc, rules, index, number, item, moment)? {
+    if rests_for_good(index, number, item) {
         return Ok(None);
     }
-    first_of(alloc, rules, kept, number, item, moment)
+    let reading = index.take(alloc, number, item)?;
+    let found = look_at(alloc, rules, kept, index, number, item, &reading, moment);
+    index.keep(number, reading);
+    found
 }
 
 // The due step of the lowest active item and recipient at a moment: none where nothing is due.
@@ -105,7 +142,6 @@ fn first_due<R: Rules>(
 
 /// The due step of the lowest item and recipient at a moment: none where nothing is due. Items are looked at only that
 /// are active, and rest where they are idle.
-#[tactic(auto, using(crate::proofs::Indexed::kept))]
 pub fn due_step<R: Rules>(
     alloc: Global,
     rules: &R,

@@ -1,6 +1,6 @@
 -- Items, the statuses of their recipients, and the state of the machine of recipients (X.411 clause 14).
-use Rattle.std.specs.Prelude.{◌≡◌, ℕ, zero, suc, ◌==◌, Bool, true, false, List, [], ◌∷◌, map, Option}
-use Rattle.std.specs.Prelude.{Some, None, slice_get, slice_set, option_and_then, if◌then◌else◌}
+use Rattle.std.specs.Prelude.{◌≡◌, ◌≤◌, ℕ, zero, suc, ◌==◌, Bool, true, false, List, [], ◌∷◌, map, length}
+use Rattle.std.specs.Prelude.{Option, Some, None, slice_get, slice_set, option_and_then, if◌then◌else◌}
 use Rattle.std.specs.List.{list_any}
 use Rattle.mta_apdu.specs.Apdus.{ApduValue}
 use Rattle.mta_machine.specs.Apdu.{responsible_in}
@@ -92,6 +92,11 @@ abbrev pub has_status : (Status → Bool) → Option (Option Status) → Bool
 has_status test None = false
 has_status test (Some None) = false
 has_status test (Some (Some s)) = test s
+
+-- none of the recipients up to this number is pending
+pub record AreSettled (statuses : List (Option Status)) (most : ℕ) : Type 0 where
+  pub within : most ≤ length statuses
+  pub none : (r : ℕ) → r ≤ most → has_status is_pending (numbered statuses r) ≡ false
 
 -- this agent is responsible for the recipient, who is not discharged
 abbrev pub is_pending_at : Machine → ℕ → ℕ → Bool

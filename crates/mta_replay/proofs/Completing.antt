@@ -80,7 +80,8 @@ module _ (k : Kept) (n g activity number : ℕ) (piece : List ℕ) (moment : ℕ
           none (omega (arith, few, same, long))
 
       -- nor where the pieces spell no APDU
-      pub not_spelled : (fault : Fault) → IsFaultOf (concat (with_piece lane.pieces number piece)) (ReadFaults.Bad fault)
+      pub not_spelled : (fault : Fault)
+          → IsFaultOf (concat (with_piece lane.pieces number piece)) (ReadFaults.Bad fault)
           → Prepares (state_of k) (steps.Complete n g activity number piece moment) None
       not_spelled fault bad =
           not_prepared (state_of k) (steps.Complete n g activity number piece moment) n (Some g)

@@ -20,3 +20,4 @@ pub mod Reports
 pub mod Sendings
 pub mod Starting
 pub mod Readiness
+pub mod Hands

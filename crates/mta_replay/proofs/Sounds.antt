@@ -202,9 +202,9 @@ module _ {R : Type 0} (text : R → List ℕ) where
   indexed-after s step (Some f) None unknown indexed =
       indexes_stay (text f.rules) s.machine (class_steps s (class_of step) (when s step)) f.index indexed
   indexed-after s step None (Some f) unknown indexed =
-      fresh (text f.rules) (after_step s step).machine.items f.index unknown
+      fresh (text f.rules) (after_step s step).machine.items f.index unknown.0 unknown.1
   indexed-after s step (Some other) (Some f) unknown indexed =
-      fresh (text f.rules) (after_step s step).machine.items f.index unknown
+      fresh (text f.rules) (after_step s step).machine.items f.index unknown.0 unknown.1
 
   pub sound_after : (kept new : Kept) (old ready : Option (InForce R)) (step : Step) (change : Change)
       → IsSound text kept old → HasFields step → IsReady text (state_of kept) step change ready

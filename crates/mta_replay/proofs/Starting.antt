@@ -288,7 +288,9 @@ module _ (k : Kept) (n g activity i : ℕ) (rs : List ℕ) (moment : ℕ) where
         lane_is = on.lane_is;
         current = same_Some g on.lane.generation on.current;
         timely = possible.timely;
-        can = can_start_as (state_of k) on.lane activity (last_of on.lane.sending + 1) i rs moment on.needs.next on.needs;
+        can =
+            let next = last_of on.lane.sending + 1 in
+            can_start_as (state_of k) on.lane activity next i rs moment on.needs.next on.needs;
       })
 
   pub start_changes : (b : Bool) (transfer : Transfer) (made : Change)

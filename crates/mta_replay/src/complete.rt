@@ -52,8 +52,8 @@ fn taking_lane<'a>(
     Some(opened)
 }
 
-/// The item that the pieces before this one become with this one, which has come at a moment in seconds since 1950-01-01
-/// 00:00:00 UTC. Pieces are numbered from 1.
+/// The item that the pieces before this one become with this one, which has come at a moment in seconds since
+/// 1950-01-01 00:00:00 UTC. Pieces are numbered from 1.
 ///
 /// # Errors
 /// `Bad` with the first fault exactly where they spell no APDU; `Memory`.

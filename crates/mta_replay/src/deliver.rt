@@ -12,6 +12,8 @@ ghost use Rattle.mta_records.specs.declared.step.Step.TheVariants as Steps;
 ghost use Rattle.mta_state.specs.Asked.{IsDeliveryOf, IsStored, IsTextOf};
 ghost use Rattle.mta_state.specs.Kept.{state_of};
 ghost use Rattle.mta_state.specs.Prepared.{Prepares};
+ghost use Rattle.mta_state.specs.Readings.{IsReadingOf};
+ghost use Rattle.mta_replay.specs.Ready.{IsReadAt};
 ghost use Rattle.mta_replay.specs.Settleable.{IsReady, IsReadyToExpand, MaySettle};
 
 use crate::ready::{may_settle, ready_verdict};
@@ -19,7 +21,7 @@ use crate::settling::{next_number, settling_change};
 use mta_ber::Memory;
 use mta_machine::{Item, MailboxLine, Status};
 use mta_procedures::Verdict;
-use mta_state::{Change, Delivery, Kept, Made, Rules};
+use mta_state::{Change, Delivery, Kept, Made, Reading, Rules};
 use std::alloc::Global;
 
 // The delivery of an item to the mailbox at a place of the tables.
@@ -52,16 +54,18 @@ fn made_of_affirmation<R: Rules>(
     rules: &R,
     kept: &Kept,
     item: &Item,
+    reading: &Reading<'_>,
     recipient: u32,
     moment: u64,
 ) -> Result<Made, Memory>
     requires arrived { item.now.arrival ≤ last_moment }
+    requires reading { IsReadingOf item.now.octets reading.now }
     requires fits { moment ≤ last_moment }
     ensures { let m = machine_of kept.now.parts in
         let about = made_by m item.now (R.text rules.now) recipient delivered moment in
         IfOk result (λ made. made_items made ≡ map (own_item moment) about) }
 {
-    let first = rules.delivery_report(alloc, next_number(kept), item, recipient, moment)?;
+    let first = rules.delivery_report(alloc, next_number(kept), item, reading, recipient, moment)?;
     Ok(Made {
         first,
         second: None,
@@ -103,11 +107,13 @@ pub fn prepare_deliver<R: Rules>(
     rules: &R,
     kept: &Kept,
     item: u32,
+    reading: &Reading<'_>,
     recipient: u32,
     moment: u64,
 ) -> Result<Option<Change>, Memory>
     requires text { IsTextOf kept.now (R.text rules.now) }
     requires stored { All IsStored kept.now.parts.items.items }
+    requires reading { IsReadAt kept.now.parts.items.items item reading.now }
     requires fits { moment ≤ last_moment }
     ensures { IfOk result (Prepares (state_of kept.now) (Steps.Deliver item recipient moment)) }
 {
@@ -117,7 +123,7 @@ pub fn prepare_deliver<R: Rules>(
     if !may_settle(kept, item, recipient, moment) {
         return Ok(None);
     }
-    match rules.delivery(alloc, next_number(kept), found, recipient, moment)? {
+    match rules.delivery(alloc, next_number(kept), found, reading, recipient, moment)? {
         Some(told) => delivery(alloc, rules, kept, item, found, recipient, told, moment),
         None => Ok(None),
     }
@@ -130,17 +136,19 @@ fn affirmation<R: Rules>(
     kept: &Kept,
     number: u32,
     item: &Item,
+    reading: &Reading<'_>,
     recipient: u32,
     moment: u64,
 ) -> Result<Option<Change>, Memory>
     requires text { IsTextOf kept.now (R.text rules.now) }
     requires item { numbered kept.now.parts.items.items number ≡ Some item.now }
     requires arrived { item.now.arrival ≤ last_moment }
+    requires reading { IsReadingOf item.now.octets reading.now }
     requires fits { moment ≤ last_moment }
     requires ready { IsReady (state_of kept.now) number recipient moment Verdicts.Affirm }
     ensures { IfOk result (Prepares (state_of kept.now) (Steps.Affirm number recipient moment)) }
 {
-    let made = made_of_affirmation(alloc, rules, kept, item, recipient, moment)?;
+    let made = made_of_affirmation(alloc, rules, kept, item, reading, recipient, moment)?;
     let status = Status::Affirmed(moment);
     Ok(settling_change(kept, number, recipient, status, made, None, moment))
 }
@@ -153,19 +161,23 @@ pub fn prepare_affirm<R: Rules>(
     rules: &R,
     kept: &Kept,
     item: u32,
+    reading: &Reading<'_>,
     recipient: u32,
     moment: u64,
 ) -> Result<Option<Change>, Memory>
     requires text { IsTextOf kept.now (R.text rules.now) }
     requires stored { All IsStored kept.now.parts.items.items }
+    requires reading { IsReadAt kept.now.parts.items.items item reading.now }
     requires fits { moment ≤ last_moment }
     ensures { IfOk result (Prepares (state_of kept.now) (Steps.Affirm item recipient moment)) }
 {
     let Some(found) = kept.parts.item(item) else {
         return Ok(None);
     };
-    match ready_verdict(alloc, rules, kept, item, found, recipient, moment)? {
-        Some(Verdict::Affirm) => affirmation(alloc, rules, kept, item, found, recipient, moment),
+    match ready_verdict(alloc, rules, kept, item, found, reading, recipient, moment)? {
+        Some(Verdict::Affirm) => affirmation(
+            alloc, rules, kept, item, found, reading, recipient, moment,
+        ),
         _ => Ok(None),
     }
 }
@@ -177,18 +189,20 @@ fn list_expansion<R: Rules>(
     kept: &Kept,
     number: u32,
     item: &Item,
+    reading: &Reading<'_>,
     recipient: u32,
     moment: u64,
 ) -> Result<Option<Change>, Memory>
     requires text { IsTextOf kept.now (R.text rules.now) }
     requires item { numbered kept.now.parts.items.items number ≡ Some item.now }
     requires arrived { item.now.arrival ≤ last_moment }
+    requires reading { IsReadingOf item.now.octets reading.now }
     requires numbers { length kept.now.parts.items.items < 2 ^ 32 }
     requires fits { moment ≤ last_moment }
     requires ready { IsReadyToExpand (state_of kept.now) number recipient moment }
     ensures { IfOk result (Prepares (state_of kept.now) (Steps.Expand number recipient moment)) }
 {
-    let made = rules.expansion(alloc, next_number(kept), item, recipient, moment)?;
+    let made = rules.expansion(alloc, next_number(kept), item, reading, recipient, moment)?;
     let status = Status::Expanded(moment);
     Ok(settling_change(kept, number, recipient, status, made, None, moment))
 }
@@ -201,11 +215,13 @@ pub fn prepare_expand<R: Rules>(
     rules: &R,
     kept: &Kept,
     item: u32,
+    reading: &Reading<'_>,
     recipient: u32,
     moment: u64,
 ) -> Result<Option<Change>, Memory>
     requires text { IsTextOf kept.now (R.text rules.now) }
     requires stored { All IsStored kept.now.parts.items.items }
+    requires reading { IsReadAt kept.now.parts.items.items item reading.now }
     requires numbers { length kept.now.parts.items.items < 2 ^ 32 }
     requires fits { moment ≤ last_moment }
     ensures { IfOk result (Prepares (state_of kept.now) (Steps.Expand item recipient moment)) }
@@ -213,9 +229,9 @@ pub fn prepare_expand<R: Rules>(
     let Some(found) = kept.parts.item(item) else {
         return Ok(None);
     };
-    match ready_verdict(alloc, rules, kept, item, found, recipient, moment)? {
+    match ready_verdict(alloc, rules, kept, item, found, reading, recipient, moment)? {
         Some(Verdict::Expand(_)) => list_expansion(
-            alloc, rules, kept, item, found, recipient, moment,
+            alloc, rules, kept, item, found, reading, recipient, moment,
         ),
         _ => Ok(None),
     }

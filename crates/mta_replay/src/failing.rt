@@ -9,12 +9,14 @@ ghost use Rattle.mta_machine.specs.Items.{numbered};
 ghost use Rattle.mta_machine.specs.Machine.{own_item};
 ghost use Rattle.mta_state.specs.Parts.{machine_of};
 ghost use Rattle.mta_state.specs.Asked.{IsTextOf};
+ghost use Rattle.mta_state.specs.Readings.{IsReadingOf};
 ghost use Rattle.mta_replay.specs.Failures.{failure_of, report_of, FailAll, Fails};
 
 use crate::failure::Failure;
+use crate::ready::is_report;
 use mta_ber::Memory;
 use mta_machine::Item;
-use mta_state::{Kept, Rules, Settlement, is_report};
+use mta_state::{Kept, Reading, Rules, Settlement};
 use std::alloc::Global;
 
 // The report on a recipient, as the item behind so many.
@@ -23,18 +25,22 @@ fn report_on<R: Rules>(
     rules: &R,
     count: u32,
     item: &Item,
+    reading: &Reading<'_>,
     recipient: u32,
     failure: Failure,
     moment: u64,
 ) -> Result<Option<Item>, Memory>
-    requires { item.now.arrival ≤ last_moment }
+    requires arrived { item.now.arrival ≤ last_moment }
+    requires reading { IsReadingOf item.now.octets reading.now }
     ensures { let about = report_of (R.text rules.now) count item.now recipient (failure_of failure) in
         IfOk result (λ made. made ≡ option_map (own_item moment) about) }
 {
     let number = u64::from(count) + 1;
     let reason = failure.reason();
     let diagnostic = failure.diagnostic();
-    rules.non_delivery_report(alloc, number, item, recipient, reason, diagnostic, moment)
+    rules.non_delivery_report(
+        alloc, number, item, reading, recipient, reason, diagnostic, moment,
+    )
 }
 
 // How a recipient is discharged where there are so many items; none where the number of the report is too great.
@@ -45,15 +51,19 @@ fn failed_one<R: Rules>(
     of_report: bool,
     count: u32,
     item: &Item,
+    reading: &Reading<'_>,
     recipient: u32,
     failure: Failure,
     moment: u64,
 ) -> Result<Option<Settlement>, Memory>
     requires arrived { item.now.arrival ≤ last_moment }
+    requires reading { IsReadingOf item.now.octets reading.now }
     requires kind { of_report ≡ is_report (value_of item.now.octets) }
     ensures { IfOk result (Fails (R.text rules.now) count item.now recipient (failure_of failure) moment) }
 {
-    let made = report_on(alloc, rules, count, item, recipient, failure, moment)?;
+    let made = report_on(
+        alloc, rules, count, item, reading, recipient, failure, moment,
+    )?;
     if count == u32::MAX && made.is_some() {
         return Ok(None);
     }
@@ -72,7 +82,8 @@ fn made_by(settlement: &Settlement) -> u32
     u32::from(settlement.made.is_some())
 }
 
-/// How the recipients of an item are discharged, in their order; none where the number of a report is too great.
+/// How the recipients of an item, which is read once for all of them, are discharged, in their order; none where the
+/// number of a report is too great.
 #[tactic(auto, using(crate::proofs::FailedOnes::failing_laws))]
 pub(crate) fn failed_all<R: Rules>(
     alloc: Global,
@@ -91,12 +102,13 @@ pub(crate) fn failed_all<R: Rules>(
     ensures { IfOk result
         (FailAll (machine_of kept.now.parts) number recipients.now (failure_of failure) moment) }
 {
-    let of_report = is_report(alloc, item.octets())?;
+    let reading = Reading::read(alloc, item)?;
+    let of_report = is_report(item, &reading);
     let mut count = kept.parts.items.len() as u32;
     let mut settlements = Vec::new(alloc);
     for recipient in recipients {
         let Some(settlement) = failed_one(
-            alloc, rules, of_report, count, item, *recipient, failure, moment,
+            alloc, rules, of_report, count, item, &reading, *recipient, failure, moment,
         )?
         else {
             return Ok(None);

@@ -73,8 +73,8 @@ impl<R: Rules + Drop> Replay<R> {
         }
     }
 
-    /// What the next activity of a lane transfers, at a moment in seconds since 1950-01-01 00:00:00 UTC: the copy of the
-    /// item for these recipients. None exactly where it may not be started, whatever its number.
+    /// What the next activity of a lane transfers, at a moment in seconds since 1950-01-01 00:00:00 UTC: the copy of
+    /// the item for these recipients. None exactly where it may not be started, whatever its number.
     #[tactic(auto, using(crate::proofs::Nothing::nothing_transfers))]
     pub fn transfer_next(
         &self,

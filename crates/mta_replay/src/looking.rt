@@ -12,7 +12,7 @@ ghost use Rattle.mta_replay.specs.Changes.{OpenFor};
 
 use mta_ber::Memory;
 use mta_lanes::Lane;
-use mta_state::{Kept, Rules};
+use mta_state::{Kept, Reading, Rules};
 use std::alloc::Global;
 
 /// The open lane whose activity is in Ending.
@@ -75,7 +75,10 @@ fn has_expired<R: Rules>(
         return Ok(false);
     };
     match kept.parts.item(transfer.item()) {
-        Some(item) => rules.has_expired(alloc, item.octets(), item.arrival(), moment),
+        Some(item) => {
+            let reading = Reading::read(alloc, item)?;
+            Ok(rules.has_expired(item, &reading, moment))
+        }
         None => Ok(false),
     }
 }

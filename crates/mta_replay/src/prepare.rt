@@ -1,6 +1,6 @@
 //! What each kind of step changes.
 
-ghost use Rattle.std.specs.Prelude.{◌≡◌, ◌<◌, ◌^◌, IfOk, IfSome, IfNone, None, length};
+ghost use Rattle.std.specs.Prelude.{◌≡◌, ◌<◌, ◌^◌, ℕ, List, IfOk, IfSome, IfNone, None, Some, length};
 ghost use Rattle.std.specs.List.{All};
 ghost use Rattle.mta_records.specs.Body.{HasFields};
 ghost use Rattle.mta_records.specs.declared.step.Step.TheVariants as Steps;
@@ -10,7 +10,10 @@ ghost use Rattle.mta_histories.specs.Kept.{IsKept};
 ghost use Rattle.mta_state.specs.Asked.{IsStored, IsTextOf};
 ghost use Rattle.mta_state.specs.Kept.{state_of};
 ghost use Rattle.mta_state.specs.Prepared.{Prepares};
-ghost use Rattle.mta_replay.specs.Ready.{IsReady, recorded_by};
+ghost use Rattle.mta_machine.specs.Items.{ItemValue, numbered};
+ghost use Rattle.mta_dues.specs.Index.{IsIndexed, IsOfHand};
+ghost use Rattle.mta_state.specs.Readings.{IsReadingOf};
+ghost use Rattle.mta_replay.specs.Ready.{IsReadAt, IsReady, recorded_by, settled_by};
 ghost use Rattle.mta_replay.specs.Sound.{IsSound};
 
 use crate::accept::{prepare_accept, prepare_tables};
@@ -22,8 +25,10 @@ use crate::replay::{InForce, Ready, Replay};
 use crate::report::{prepare_back, prepare_discard, prepare_report};
 use crate::start::prepare_start;
 use mta_ber::{Memory, Octets};
+use mta_dues::Index;
+use mta_machine::Item;
 use mta_records::Step;
-use mta_state::{Change, Kept, Rules};
+use mta_state::{Change, Kept, Reading, Rules};
 use std::alloc::Global;
 
 // What recording a text of tables changes.
@@ -49,11 +54,77 @@ fn ready_tables<R: Rules + Drop>(
     }
 }
 
+// The number of the item of which a step settles a recipient; 0 where it settles none.
+fn settled_by(step: &Step) -> u32
+    ensures { result ≡ settled_by (class_of step.now) }
+{
+    match step {
+        Step::Deliver { item, .. }
+        | Step::Expand { item, .. }
+        | Step::Report { item, .. }
+        | Step::Affirm { item, .. }
+        | Step::Discard { item, .. }
+        | Step::Back { item, .. } => *item,
+        _ => 0,
+    }
+}
+
+// The reading of the item of a number, where there is one.
+fn read_at(alloc: Global, kept: &Kept, number: u32) -> Result<Reading<'_>, Memory>
+    ensures { IfOk result (IsReadAt kept.now.parts.items.items number) }
+{
+    match kept.parts.item(number) {
+        None => Ok(Reading::nothing()),
+        Some(item) => Reading::read(alloc, item),
+    }
+}
+
+// The reading of the item of a number, where there is one: what is at hand, or of its octets.
+fn take_at<'a>(
+    alloc: Global,
+    kept: &'a Kept,
+    index: &mut Index,
+    number: u32,
+) -> Result<Reading<'a>, Memory>
+    requires { (item : ItemValue) → numbered kept.now.parts.items.items number ≡ Some item
+        → IsOfHand item number index.old.hand }
+    ensures reading { IfOk result (IsReadAt kept.now.parts.items.items number) }
+    ensures indexed { (text : List ℕ) (items : List ItemValue) → IsIndexed text items index.old
+        → IsIndexed text items index.new }
+{
+    match kept.parts.item(number) {
+        None => Ok(Reading::nothing()),
+        Some(item) => index.take(alloc, number, item),
+    }
+}
+
+// The reading of this item is at hand.
+fn keep_of(index: &mut Index, number: u32, item: &Item, reading: Reading<'_>)
+    requires { IsReadingOf item.now.octets reading }
+    ensures { (text : List ℕ) (items : List ItemValue) → numbered items number ≡ Some item.now
+        → IsIndexed text items index.old → IsIndexed text items index.new }
+{
+    index.keep(number, reading);
+}
+
+// The reading of the item of a number, where there is one, is at hand.
+fn keep_at(kept: &Kept, index: &mut Index, number: u32, reading: Reading<'_>)
+    requires { IsReadAt kept.now.parts.items.items number reading }
+    ensures { (text : List ℕ) → IsIndexed text kept.now.parts.items.items index.old
+        → IsIndexed text kept.now.parts.items.items index.new }
+{
+    match kept.parts.item(number) {
+        None => reading.discard(),
+        Some(item) => keep_of(index, number, item, reading),
+    }
+}
+
 // What a step changes that records no tables, under the rules of the tables recorded last.
 fn prepare_under<R: Rules>(
     alloc: Global,
     rules: &R,
     kept: &Kept,
+    reading: &Reading<'_>,
     step: Step,
 ) -> Result<Option<Change>, Memory>
     requires text { IsTextOf kept.now (R.text rules.now) }
@@ -62,6 +133,7 @@ fn prepare_under<R: Rules>(
     requires numbers { length kept.now.parts.items.items < 2 ^ 32 }
     requires fields { HasFields step }
     requires other { recorded_by (class_of step) ≡ None }
+    requires reading { IsReadAt kept.now.parts.items.items (settled_by (class_of step)) reading.now }
     ensures { IfOk result (Prepares (state_of kept.now) step) }
 {
     match step {
@@ -71,32 +143,32 @@ fn prepare_under<R: Rules>(
             item,
             recipient,
             moment,
-        } => prepare_deliver(alloc, rules, kept, item, recipient, moment),
+        } => prepare_deliver(alloc, rules, kept, item, reading, recipient, moment),
         Step::Expand {
             item,
             recipient,
             moment,
-        } => prepare_expand(alloc, rules, kept, item, recipient, moment),
+        } => prepare_expand(alloc, rules, kept, item, reading, recipient, moment),
         Step::Report {
             item,
             recipient,
             moment,
-        } => prepare_report(alloc, rules, kept, item, recipient, moment),
+        } => prepare_report(alloc, rules, kept, item, reading, recipient, moment),
         Step::Affirm {
             item,
             recipient,
             moment,
-        } => prepare_affirm(alloc, rules, kept, item, recipient, moment),
+        } => prepare_affirm(alloc, rules, kept, item, reading, recipient, moment),
         Step::Discard {
             item,
             recipient,
             moment,
-        } => prepare_discard(alloc, rules, kept, item, recipient, moment),
+        } => prepare_discard(alloc, rules, kept, item, reading, recipient, moment),
         Step::Back {
             item,
             recipient,
             moment,
-        } => prepare_back(alloc, rules, kept, item, recipient, moment),
+        } => prepare_back(alloc, rules, kept, item, reading, recipient, moment),
         Step::LaneOpen {
             role,
             peer,
@@ -206,7 +278,97 @@ fn prepare_under<R: Rules>(
     }
 }
 
+// What a step changes that records no tables. The item of which it settles a recipient is not read where its reading is
+// at hand, and its reading is at hand then.
+fn change_at_hand<R: Rules + Drop>(
+    alloc: Global,
+    kept: &Kept,
+    force: &mut InForce<R>,
+    step: Step,
+) -> Result<Option<Change>, Memory>
+    requires text { IsTextOf kept.now (R.text force.old.rules) }
+    requires of_history { IsKept (state_of kept.now) }
+    requires stored { All IsStored kept.now.parts.items.items }
+    requires numbers { length kept.now.parts.items.items < 2 ^ 32 }
+    requires fields { HasFields step }
+    requires other { recorded_by (class_of step) ≡ None }
+    requires indexed { IsIndexed (R.text force.old.rules) kept.now.parts.items.items force.old.index }
+    ensures change { IfOk result (Prepares (state_of kept.now) step) }
+    ensures rules { force.new.rules ≡ force.old.rules }
+    ensures indexed { IsIndexed (R.text force.old.rules) kept.now.parts.items.items force.new.index }
+{
+    let number = settled_by(&step);
+    let reading = take_at(alloc, kept, &mut force.index, number)?;
+    let change = prepare_under(alloc, &force.rules, kept, &reading, step);
+    keep_at(kept, &mut force.index, number, reading);
+    change
+}
+
+// The same, as it is ready.
+fn ready_with<R: Rules + Drop>(
+    alloc: Global,
+    kept: &Kept,
+    force: &mut InForce<R>,
+    step: Step,
+) -> Result<Option<Ready<R>>, Memory>
+    requires text { IsTextOf kept.now (R.text force.old.rules) }
+    requires of_history { IsKept (state_of kept.now) }
+    requires stored { All IsStored kept.now.parts.items.items }
+    requires numbers { length kept.now.parts.items.items < 2 ^ 32 }
+    requires fields { HasFields step }
+    requires other { recorded_by (class_of step) ≡ None }
+    requires indexed { IsIndexed (R.text force.old.rules) kept.now.parts.items.items force.old.index }
+    ensures ready { IfOk result (λ found. IfSome found (λ ready.
+        IsReady R.text (state_of kept.now) step ready.change ready.rules)) }
+    ensures none { IfOk result (λ found. IfNone found (IsPossible (state_of kept.now) step → ⊥)) }
+    ensures rules { force.new.rules ≡ force.old.rules }
+    ensures indexed { IsIndexed (R.text force.old.rules) kept.now.parts.items.items force.new.index }
+{
+    match change_at_hand(alloc, kept, force, step)? {
+        None => Ok(None),
+        Some(change) => Ok(Some(Ready {
+            change,
+            rules: None,
+        })),
+    }
+}
+
 impl<R: Rules + Drop> Replay<R> {
+    // What a step changes that records no tables, with what is at hand.
+    #[tactic(auto, using(crate::proofs::Sounds::sound_with))]
+    fn ready_at_hand(&mut self, alloc: Global, step: Step) -> Result<Option<Ready<R>>, Memory>
+        requires sound { IsSound R.text self.old.kept self.old.rules }
+        requires fields { HasFields step }
+        requires other { recorded_by (class_of step) ≡ None }
+        ensures same { self.new.kept ≡ self.old.kept }
+        ensures sound { IsSound R.text self.new.kept self.new.rules }
+        ensures ready { IfOk result (λ found. IfSome found (λ ready.
+            IsReady R.text (state_of self.old.kept) step ready.change ready.rules)) }
+        ensures none { IfOk result (λ found. IfNone found (IsPossible (state_of self.old.kept) step → ⊥)) }
+    {
+        match &mut self.rules {
+            None => Ok(None),
+            Some(force) => ready_with(alloc, &self.kept, force, step),
+        }
+    }
+
+    /// What a step changes; none exactly where it is not possible. It is `prepare`, but the item of which the step
+    /// settles a recipient is not read again where it was looked at last, and its reading is kept for the next step.
+    pub fn prepare_at_hand(&mut self, alloc: Global, step: Step) -> Result<Option<Ready<R>>, Memory>
+        requires sound { IsSound R.text self.old.kept self.old.rules }
+        requires fields { HasFields step }
+        ensures same { self.new.kept ≡ self.old.kept }
+        ensures sound { IsSound R.text self.new.kept self.new.rules }
+        ensures ready { IfOk result (λ found. IfSome found (λ ready.
+            IsReady R.text (state_of self.old.kept) step ready.change ready.rules)) }
+        ensures none { IfOk result (λ found. IfNone found (IsPossible (state_of self.old.kept) step → ⊥)) }
+    {
+        match step {
+            Step::Tables { text } => ready_tables(alloc, &self.kept, text),
+            step => self.ready_at_hand(alloc, step),
+        }
+    }
+
     // What a step changes that records no tables.
     #[tactic(auto, using(crate::proofs::Nothing::nothing_but_tables))]
     fn ready_under(&self, alloc: Global, step: Step) -> Result<Option<Ready<R>>, Memory>
@@ -220,7 +382,9 @@ impl<R: Rules + Drop> Replay<R> {
         let Some(force) = &self.rules else {
             return Ok(None);
         };
-        match prepare_under(alloc, &force.rules, &self.kept, step)? {
+        let number = settled_by(&step);
+        let reading = read_at(alloc, &self.kept, number)?;
+        match prepare_under(alloc, &force.rules, &self.kept, &reading, step)? {
             None => Ok(None),
             Some(change) => Ok(Some(Ready {
                 change,
@@ -244,14 +408,16 @@ impl<R: Rules + Drop> Replay<R> {
     }
 
     /// What a step changes that is possible.
-    pub fn ready(&self, alloc: Global, step: Step) -> Result<Ready<R>, Memory>
-        requires sound { IsSound R.text self.now.kept self.now.rules }
+    pub fn ready(&mut self, alloc: Global, step: Step) -> Result<Ready<R>, Memory>
+        requires sound { IsSound R.text self.old.kept self.old.rules }
         requires fields { HasFields step }
-        requires possible { IsPossible (state_of self.now.kept) step }
-        ensures { IfOk result (λ ready.
-            IsReady R.text (state_of self.now.kept) step ready.change ready.rules) }
+        requires possible { IsPossible (state_of self.old.kept) step }
+        ensures same { self.new.kept ≡ self.old.kept }
+        ensures sound { IsSound R.text self.new.kept self.new.rules }
+        ensures ready { IfOk result (λ ready.
+            IsReady R.text (state_of self.old.kept) step ready.change ready.rules) }
     {
-        match self.prepare(alloc, step)? {
+        match self.prepare_at_hand(alloc, step)? {
             Some(ready) => Ok(ready),
             None => unreachable!(),
         }

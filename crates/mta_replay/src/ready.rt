@@ -2,15 +2,17 @@
 
 ghost use Rattle.std.specs.Prelude.{◌≡◌, ◌≤◌, ◌↔◌, IfOk, IsTrue, Some};
 ghost use Rattle.mta_ber.specs.Times.{last_moment};
+ghost use Rattle.mta_machine.specs.Apdu.{is_report, value_of};
 ghost use Rattle.mta_machine.specs.Items.{numbered};
 ghost use Rattle.mta_state.specs.Asked.{CodesAreCodes, IsTextOf};
 ghost use Rattle.mta_state.specs.Kept.{state_of};
+ghost use Rattle.mta_state.specs.Readings.{IsReadingOf};
 ghost use Rattle.mta_replay.specs.Settleable.{IsReadyBy, MaySettle};
 
 use mta_ber::Memory;
 use mta_machine::Item;
 use mta_procedures::Verdict;
-use mta_state::{Kept, Rules, verdict_on};
+use mta_state::{Kept, Reading, Rules, verdict_on};
 use std::alloc::Global;
 
 /// Whether a recipient is pending and in no activity, and the moment is not before the last one.
@@ -32,12 +34,14 @@ pub fn ready_verdict<R: Rules>(
     kept: &Kept,
     number: u32,
     item: &Item,
+    reading: &Reading<'_>,
     recipient: u32,
     moment: u64,
 ) -> Result<Option<Verdict>, Memory>
     requires text { IsTextOf kept.now (R.text rules.now) }
     requires item { numbered kept.now.parts.items.items number ≡ Some item.now }
     requires arrived { item.now.arrival ≤ last_moment }
+    requires reading { IsReadingOf item.now.octets reading.now }
     ensures ready { IfOk result (IsReadyBy (state_of kept.now) number recipient moment) }
     ensures codes { IfOk result CodesAreCodes }
 {
@@ -45,5 +49,13 @@ pub fn ready_verdict<R: Rules>(
         return Ok(None);
     }
     let items = kept.parts.items.as_slice();
-    verdict_on(alloc, rules, items, item, recipient, moment)
+    verdict_on(alloc, rules, items, item, reading, recipient, moment)
+}
+
+/// Whether an item is a report.
+pub(crate) fn is_report(item: &Item, reading: &Reading<'_>) -> bool
+    requires { IsReadingOf item.now.octets reading.now }
+    ensures { result ≡ is_report (value_of item.now.octets) }
+{
+    reading.is_report()
 }

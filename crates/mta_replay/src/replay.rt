@@ -64,7 +64,8 @@ impl<R: Rules + Drop> InForce<R> {
     /// Rules under which nothing is known of any item yet. It takes no memory.
     pub fn new(alloc: Global, rules: R) -> InForce<R>
         ensures rules { result.rules ≡ rules }
-        ensures fresh { result.index.agenda.known ≡ 0 }
+        ensures known { result.index.agenda.known ≡ 0 }
+        ensures hand { result.index.hand ≡ None }
     {
         InForce {
             rules,
@@ -265,7 +266,7 @@ impl<R: Rules + Drop> Replay<R> {
         ensures kept { OnErr result (state_of self.new.kept ≡ state_of self.old.kept) }
         ensures sound { IsSound R.text self.new.kept self.new.rules }
     {
-        let Some(ready) = self.prepare(alloc, step)? else {
+        let Some(ready) = self.prepare_at_hand(alloc, step)? else {
             return Err(NotMade::Impossible);
         };
         self.reserve(&ready)?;

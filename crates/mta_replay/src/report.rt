@@ -13,35 +13,38 @@ ghost use Rattle.mta_records.specs.declared.step.Step.TheVariants as Steps;
 ghost use Rattle.mta_state.specs.Asked.{IsStored, IsTextOf};
 ghost use Rattle.mta_state.specs.Kept.{state_of};
 ghost use Rattle.mta_state.specs.Prepared.{Prepares};
+ghost use Rattle.mta_state.specs.Readings.{IsReadingOf};
+ghost use Rattle.mta_replay.specs.Ready.{IsReadAt};
 ghost use Rattle.mta_replay.specs.Settleable.{IsReady};
 
-use crate::ready::ready_verdict;
+use crate::ready::{is_report, ready_verdict};
 use crate::settling::{next_number, settling_change};
 use mta_ber::Memory;
 use mta_machine::{Item, Status};
 use mta_procedures::Verdict;
-use mta_state::{Change, Kept, Made, Rules, is_report};
+use mta_state::{Change, Kept, Made, Reading, Rules};
 use std::alloc::Global;
 
 // The status of a recipient who is not delivered to. A report that is not delivered goes no further.
 fn status_of_failure(
-    alloc: Global,
     item: &Item,
+    reading: &Reading<'_>,
     reason: u32,
     diagnostic: u32,
     moment: u64,
-) -> Result<Status, Memory>
+) -> Status
+    requires { IsReadingOf item.now.octets reading.now }
     ensures { let of_report = is_report (value_of item.now.octets) in
-        IfOk result (λ s. s ≡ status_after of_report (not_delivered reason diagnostic) moment) }
+        result ≡ status_after of_report (not_delivered reason diagnostic) moment }
 {
-    if is_report(alloc, item.octets())? {
-        return Ok(Status::Discarded(moment));
+    if is_report(item, reading) {
+        return Status::Discarded(moment);
     }
-    Ok(Status::Reported {
+    Status::Reported {
         moment,
         reason,
         diagnostic: Some(diagnostic),
-    })
+    }
 }
 
 // The non-delivery report on a recipient, where there is one.
@@ -50,12 +53,14 @@ fn made_of_failure<R: Rules>(
     rules: &R,
     kept: &Kept,
     item: &Item,
+    reading: &Reading<'_>,
     recipient: u32,
     reason: u32,
     diagnostic: u32,
     moment: u64,
 ) -> Result<Made, Memory>
     requires arrived { item.now.arrival ≤ last_moment }
+    requires reading { IsReadingOf item.now.octets reading.now }
     requires reason { IsCode reason }
     requires diagnostic { IsCode diagnostic }
     ensures { let m = machine_of kept.now.parts in
@@ -64,7 +69,9 @@ fn made_of_failure<R: Rules>(
 {
     let number = next_number(kept);
     let told = Some(diagnostic);
-    let first = rules.non_delivery_report(alloc, number, item, recipient, reason, told, moment)?;
+    let first = rules.non_delivery_report(
+        alloc, number, item, reading, recipient, reason, told, moment,
+    )?;
     Ok(Made {
         first,
         second: None,
@@ -78,6 +85,7 @@ fn failure<R: Rules>(
     kept: &Kept,
     number: u32,
     item: &Item,
+    reading: &Reading<'_>,
     recipient: u32,
     reason: u32,
     diagnostic: u32,
@@ -86,14 +94,15 @@ fn failure<R: Rules>(
     requires text { IsTextOf kept.now (R.text rules.now) }
     requires item { numbered kept.now.parts.items.items number ≡ Some item.now }
     requires arrived { item.now.arrival ≤ last_moment }
+    requires reading { IsReadingOf item.now.octets reading.now }
     requires reason { IsCode reason }
     requires diagnostic { IsCode diagnostic }
     requires ready { IsReady (state_of kept.now) number recipient moment (Verdicts.NonDeliver reason diagnostic) }
     ensures { IfOk result (Prepares (state_of kept.now) (Steps.Report number recipient moment)) }
 {
-    let status = status_of_failure(alloc, item, reason, diagnostic, moment)?;
+    let status = status_of_failure(item, reading, reason, diagnostic, moment);
     let made = made_of_failure(
-        alloc, rules, kept, item, recipient, reason, diagnostic, moment,
+        alloc, rules, kept, item, reading, recipient, reason, diagnostic, moment,
     )?;
     Ok(settling_change(kept, number, recipient, status, made, None, moment))
 }
@@ -106,19 +115,21 @@ pub fn prepare_report<R: Rules>(
     rules: &R,
     kept: &Kept,
     item: u32,
+    reading: &Reading<'_>,
     recipient: u32,
     moment: u64,
 ) -> Result<Option<Change>, Memory>
     requires text { IsTextOf kept.now (R.text rules.now) }
     requires stored { All IsStored kept.now.parts.items.items }
+    requires reading { IsReadAt kept.now.parts.items.items item reading.now }
     ensures { IfOk result (Prepares (state_of kept.now) (Steps.Report item recipient moment)) }
 {
     let Some(found) = kept.parts.item(item) else {
         return Ok(None);
     };
-    match ready_verdict(alloc, rules, kept, item, found, recipient, moment)? {
+    match ready_verdict(alloc, rules, kept, item, found, reading, recipient, moment)? {
         Some(Verdict::NonDeliver { reason, diagnostic }) => failure(
-            alloc, rules, kept, item, found, recipient, reason, diagnostic, moment,
+            alloc, rules, kept, item, found, reading, recipient, reason, diagnostic, moment,
         ),
         _ => Ok(None),
     }
@@ -145,17 +156,19 @@ pub fn prepare_discard<R: Rules>(
     rules: &R,
     kept: &Kept,
     item: u32,
+    reading: &Reading<'_>,
     recipient: u32,
     moment: u64,
 ) -> Result<Option<Change>, Memory>
     requires text { IsTextOf kept.now (R.text rules.now) }
     requires stored { All IsStored kept.now.parts.items.items }
+    requires reading { IsReadAt kept.now.parts.items.items item reading.now }
     ensures { IfOk result (Prepares (state_of kept.now) (Steps.Discard item recipient moment)) }
 {
     let Some(found) = kept.parts.item(item) else {
         return Ok(None);
     };
-    match ready_verdict(alloc, rules, kept, item, found, recipient, moment)? {
+    match ready_verdict(alloc, rules, kept, item, found, reading, recipient, moment)? {
         Some(Verdict::Discard) => Ok(no_further(kept, item, recipient, moment)),
         _ => Ok(None),
     }
@@ -168,17 +181,19 @@ fn passing_back<R: Rules>(
     kept: &Kept,
     number: u32,
     item: &Item,
+    reading: &Reading<'_>,
     recipient: u32,
     moment: u64,
 ) -> Result<Option<Change>, Memory>
     requires text { IsTextOf kept.now (R.text rules.now) }
     requires item { numbered kept.now.parts.items.items number ≡ Some item.now }
     requires arrived { item.now.arrival ≤ last_moment }
+    requires reading { IsReadingOf item.now.octets reading.now }
     requires ready { IsReady (state_of kept.now) number recipient moment Verdicts.Back }
     ensures { IfOk result (Prepares (state_of kept.now) (Steps.Back number recipient moment)) }
 {
     let items = kept.parts.items.as_slice();
-    let first = rules.passed_back(alloc, items, item, recipient, moment)?;
+    let first = rules.passed_back(alloc, items, item, reading, recipient, moment)?;
     let made = Made {
         first,
         second: None,
@@ -195,18 +210,22 @@ pub fn prepare_back<R: Rules>(
     rules: &R,
     kept: &Kept,
     item: u32,
+    reading: &Reading<'_>,
     recipient: u32,
     moment: u64,
 ) -> Result<Option<Change>, Memory>
     requires text { IsTextOf kept.now (R.text rules.now) }
     requires stored { All IsStored kept.now.parts.items.items }
+    requires reading { IsReadAt kept.now.parts.items.items item reading.now }
     ensures { IfOk result (Prepares (state_of kept.now) (Steps.Back item recipient moment)) }
 {
     let Some(found) = kept.parts.item(item) else {
         return Ok(None);
     };
-    match ready_verdict(alloc, rules, kept, item, found, recipient, moment)? {
-        Some(Verdict::Back) => passing_back(alloc, rules, kept, item, found, recipient, moment),
+    match ready_verdict(alloc, rules, kept, item, found, reading, recipient, moment)? {
+        Some(Verdict::Back) => passing_back(
+            alloc, rules, kept, item, found, reading, recipient, moment,
+        ),
         _ => Ok(None),
     }
 }

@@ -16,6 +16,7 @@ ghost use Rattle.mta_lanes.specs.declared.change.LaneChange.TheVariants as LaneC
 ghost use Rattle.mta_state.specs.declared.change.Change.TheVariants as Changes;
 ghost use Rattle.mta_histories.specs.Lanes.{lane_at};
 ghost use Rattle.mta_replay.specs.Starting.{AreToRelay, FreeFor, IsNextOn, IsStartable, OneOf, TransfersNext};
+ghost use Rattle.mta_state.specs.Readings.{IsReadingOf};
 
 use crate::different::are_different;
 use mta_ber::Memory;
@@ -23,7 +24,7 @@ use mta_dues::is_to_relay;
 use mta_lanes::{Lane, LaneChange, Transfer};
 use mta_machine::Item;
 use mta_records::Recipients;
-use mta_state::{Change, Kept, Rules};
+use mta_state::{Change, Kept, Reading, Rules};
 use std::alloc::Global;
 
 // Whether the next activity of the lane may be started, whatever its number.
@@ -55,6 +56,7 @@ fn all_relay<R: Rules>(
     kept: &Kept,
     number: u32,
     item: &Item,
+    reading: &Reading<'_>,
     recipients: &[u32],
     peer: &[u8],
     moment: u64,
@@ -62,11 +64,14 @@ fn all_relay<R: Rules>(
     requires text { IsTextOf kept.now (R.text rules.now) }
     requires item { numbered kept.now.parts.items.items number ≡ Some item.now }
     requires arrived { item.now.arrival ≤ last_moment }
+    requires reading { IsReadingOf item.now.octets reading.now }
     ensures { IfOk result (λ b. IsTrue b
         ↔ AreToRelay (state_of kept.now) peer.now moment number recipients.now) }
 {
     for recipient in recipients {
-        if !is_to_relay(alloc, rules, kept, number, item, *recipient, peer, moment)? {
+        if !is_to_relay(
+            alloc, rules, kept, number, item, reading, *recipient, peer, moment,
+        )? {
             return Ok(false);
         }
     }
@@ -81,6 +86,7 @@ fn one_of<R: Rules>(
     kept: &Kept,
     number: u32,
     item: &Item,
+    reading: &Reading<'_>,
     recipients: &[u32],
     peer: &[u8],
     moment: u64,
@@ -88,6 +94,7 @@ fn one_of<R: Rules>(
     requires text { IsTextOf kept.now (R.text rules.now) }
     requires item { numbered kept.now.parts.items.items number ≡ Some item.now }
     requires arrived { item.now.arrival ≤ last_moment }
+    requires reading { IsReadingOf item.now.octets reading.now }
     ensures { IfOk result (OneOf (state_of kept.now) peer.now moment number recipients.now) }
 {
     let [first, ..] = recipients else {
@@ -96,7 +103,9 @@ fn one_of<R: Rules>(
     if !are_different(recipients) {
         return Ok(None);
     }
-    if all_relay(alloc, rules, kept, number, item, recipients, peer, moment)? {
+    if all_relay(
+        alloc, rules, kept, number, item, reading, recipients, peer, moment,
+    )? {
         Ok(Some(*first))
     } else {
         Ok(None)
@@ -113,6 +122,7 @@ fn transfer_for<R: Rules>(
     activity: u32,
     number: u32,
     item: &Item,
+    reading: &Reading<'_>,
     recipients: &Recipients,
     recipient: u32,
     moment: u64,
@@ -120,6 +130,7 @@ fn transfer_for<R: Rules>(
     requires text { IsTextOf kept.now (R.text rules.now) }
     requires item { numbered kept.now.parts.items.items number ≡ Some item.now }
     requires arrived { item.now.arrival ≤ last_moment }
+    requires reading { IsReadingOf item.now.octets reading.now }
     requires fits { moment ≤ last_moment }
     requires relayed { Relays (verdict_of (R.text rules.now) item.now.octets item.now.arrival recipient moment) }
     ensures { IfOk result (λ t. t ≡ transfer_of (machine_of kept.now.parts) number recipients.now moment) }
@@ -132,6 +143,7 @@ fn transfer_for<R: Rules>(
         alloc,
         activity,
         item,
+        reading,
         recipients.as_slice(),
         recipient,
         moment,
@@ -167,12 +179,16 @@ pub fn transfer_next<R: Rules>(
     };
     let numbers = recipients.as_slice();
     let peer = opened.peer().as_slice();
-    let Some(one) = one_of(alloc, rules, kept, item, stored, numbers, peer, moment)? else {
+    let reading = Reading::read(alloc, stored)?;
+    let Some(one) = one_of(
+        alloc, rules, kept, item, stored, &reading, numbers, peer, moment,
+    )?
+    else {
         return Ok(None);
     };
     let activity = opened.activity().saturating_add(1);
     let transfer = transfer_for(
-        alloc, rules, kept, activity, item, stored, recipients, one, moment,
+        alloc, rules, kept, activity, item, stored, &reading, recipients, one, moment,
     )?;
     Ok(Some(transfer))
 }

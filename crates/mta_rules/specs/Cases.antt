@@ -12,7 +12,8 @@ use Rattle.mta_report.specs.declared.fields.ReportFields.{ReportFields}
 use Rattle.mta_tables.specs.declared.hop.Hop.{Hop}
 use Rattle.mta_tables.specs.declared.hop.Hop.TheVariants as Hops
 use Rattle.mta_tables.specs.Tables.{TablesValue}
-use Rattle.mta_procedures.specs.Copies.{is_long}
+use Rattle.mta_envelope.specs.Envelopes.{envelope_back}
+use Rattle.mta_procedures.specs.Copies.{is_long, outgoing_envelope}
 use Rattle.mta_procedures.specs.Facts.{Facts, of_list, is_unwanted}
 use Rattle.mta_procedures.specs.Histories.{is_in_history, has_full_history}
 use Rattle.mta_procedures.specs.Situations.{Situation, report_terms, is_expired}
@@ -68,3 +69,7 @@ pub record IsOfReport (s : Situation) (p : ReportFields) (hop : Hop) (copy : ℕ
 abbrev pub IsCopyLength : Hop → List ℕ → ℕ → Type 0
 IsCopyLength (Hops.Peer place) copy n = n ≡ octet_length copy
 IsCopyLength _ copy n = Unit {0}
+
+-- how many octets the components of a copy have from the deferred delivery time on, whenever and wherever it is made
+abbrev pub IsBackOf : EnvelopeFields → ℕ → Type 0
+IsBackOf e n = (s : Situation) → n ≡ octet_length (envelope_back (outgoing_envelope s e []))

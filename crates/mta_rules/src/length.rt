@@ -23,6 +23,7 @@ ghost use Rattle.mta_procedures.specs.Copies.{deferred_time, responsible_for, ou
 ghost use Rattle.mta_procedures.specs.Copies.{outgoing_message, outgoing_probe, outgoing_report};
 ghost use Rattle.mta_procedures.specs.Situations.{situation};
 ghost use Rattle.mta_procedures.specs.Traces.{own_trace};
+ghost use Rattle.mta_rules.specs.Cases.{IsBackOf};
 
 use mta_ber::{
     Bits, bits_length, element_length, int_length, length_of_both, slice_length, utc_length,
@@ -176,12 +177,12 @@ fn copied_recipients_length(v: &EnvelopeFields) -> u64
     recipients_length(&v.recipients)
 }
 
-/// How many octets the components have from the deferred delivery time on.
+/// How many octets the components of a copy have from the deferred delivery time on: recipients and extension fields
+/// are among them, so that this alone costs by how many there are. It is the same under all tables and at each moment.
 #[tactic(auto, unfolding(mta_envelope::specs::Envelopes::envelope_back))]
-fn back_length(tables: &Tables, arrival: u64, moment: u64, v: &EnvelopeFields) -> u64
+pub fn back_length(v: &EnvelopeFields) -> u64
     requires { IsEnvelope v.now }
-    ensures { let s = situation tables.now arrival moment in
-        result ≡ octet_length (envelope_back (outgoing_envelope s v.now [])) }
+    ensures { IsBackOf v.now result }
 {
     let length = length_of_both(deferral_length(v.deferral), content_length_length(v.length));
     let bilateral = length_of_both(length, raw_length(&v.bilateral));
@@ -194,34 +195,48 @@ fn back_length(tables: &Tables, arrival: u64, moment: u64, v: &EnvelopeFields) -
 
 /// How many contents octets the envelope of a copy has.
 #[tactic(auto, unfolding(mta_envelope::specs::Envelopes::envelope_content))]
-fn envelope_length(tables: &Tables, arrival: u64, moment: u64, v: &EnvelopeFields) -> u64
-    requires { IsEnvelope v.now }
+fn envelope_length(tables: &Tables, arrival: u64, moment: u64, v: &EnvelopeFields, back: u64) -> u64
+    requires { IsBackOf v.now back }
     ensures { let s = situation tables.now arrival moment in
         result ≡ octet_length (envelope_content (outgoing_envelope s v.now [])) }
 {
     let front = front_length(tables, arrival, moment, v);
     let middle = length_of_both(front, middle_length(tables, arrival, moment, v));
-    length_of_both(middle, back_length(tables, arrival, moment, v))
+    length_of_both(middle, back)
 }
 
-/// How many octets the copies of a message have.
-pub fn message_copy_length(tables: &Tables, arrival: u64, moment: u64, message: &Message) -> u64
+/// How many octets the copies of a message have, where that was counted which costs by the recipients.
+pub fn message_copy_length(
+    tables: &Tables,
+    arrival: u64,
+    moment: u64,
+    message: &Message,
+    back: u64,
+) -> u64
+    requires { IsBackOf message.now.envelope back }
     ensures { let s = situation tables.now arrival moment in
         result ≡ octet_length (outgoing_message s (message_value message.now) []) }
 {
     let content = slice_length(message.content.as_slice());
-    let envelope = envelope_length(tables, arrival, moment, message.envelope.fields());
+    let envelope = envelope_length(tables, arrival, moment, message.envelope.fields(), back);
     let set = element_length(constructed(0, 17), envelope);
     let both = length_of_both(set, element_length(primitive(0, 4), content));
     element_length(constructed(2, 0), both)
 }
 
-/// How many octets the copies of a probe have.
+/// How many octets the copies of a probe have, where that was counted which costs by the recipients.
 #[tactic(auto, using(crate::proofs::Wholes::probe_is))]
-pub fn probe_copy_length(tables: &Tables, arrival: u64, moment: u64, probe: &Probe) -> u64
+pub fn probe_copy_length(
+    tables: &Tables,
+    arrival: u64,
+    moment: u64,
+    probe: &Probe,
+    back: u64,
+) -> u64
+    requires { IsBackOf probe.now.envelope back }
     ensures { result ≡ octet_length (outgoing_probe (situation tables.now arrival moment) probe.now.envelope []) }
 {
-    let envelope = envelope_length(tables, arrival, moment, probe.envelope.fields());
+    let envelope = envelope_length(tables, arrival, moment, probe.envelope.fields(), back);
     element_length(constructed(2, 2), envelope)
 }
 

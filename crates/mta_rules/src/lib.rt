@@ -13,6 +13,7 @@ mod verdict;
 mod walk;
 
 pub use identifier::put_digits;
+pub use length::back_length;
 pub use list::is_in_history;
 pub use looks::{expiry, is_expired};
 pub use mta_copies::{outgoing_head, outgoing_message, outgoing_probe, outgoing_report};

@@ -8,10 +8,10 @@ ghost use Rattle.mta_procedures.specs.Copies.{outgoing_message, outgoing_probe, 
 ghost use Rattle.mta_procedures.specs.Situations.{situation};
 ghost use Rattle.mta_procedures.specs.Verdicts.{place_of, message_column, probe_column, report_column};
 ghost use Rattle.mta_procedures.specs.Verdicts.{verdict_of_message, verdict_of_probe, verdict_of_report};
-ghost use Rattle.mta_rules.specs.Cases.{IsCopyLength};
+ghost use Rattle.mta_rules.specs.Cases.{IsBackOf, IsCopyLength};
 
 use crate::case::{case_of, case_of_report};
-use crate::length::{message_copy_length, probe_copy_length, report_copy_length};
+use crate::length::{back_length, message_copy_length, probe_copy_length, report_copy_length};
 use mta_envelope::{Message, Probe};
 use mta_envelope_recipient::RecipientFields;
 use mta_names::OrName;
@@ -116,21 +116,37 @@ fn deferral_or_zero(deferral: Option<u64>) -> u64
 }
 
 /// The length of the copy, where the name leads to a peer; 0 elsewhere, where it is not asked for.
-fn message_length(tables: &Tables, arrival: u64, moment: u64, message: &Message, hop: Hop) -> u64
+fn message_length(
+    tables: &Tables,
+    arrival: u64,
+    moment: u64,
+    message: &Message,
+    back: u64,
+    hop: Hop,
+) -> u64
+    requires { IsBackOf message.now.envelope back }
     ensures { let s = situation tables.now arrival moment in
         IsCopyLength hop (outgoing_message s (message_value message.now) []) result }
 {
     match hop {
-        Hop::Peer(_) => message_copy_length(tables, arrival, moment, message),
+        Hop::Peer(_) => message_copy_length(tables, arrival, moment, message, back),
         Hop::Local(_) | Hop::List(_) | Hop::None => 0,
     }
 }
 
-fn probe_length(tables: &Tables, arrival: u64, moment: u64, probe: &Probe, hop: Hop) -> u64
+fn probe_length(
+    tables: &Tables,
+    arrival: u64,
+    moment: u64,
+    probe: &Probe,
+    back: u64,
+    hop: Hop,
+) -> u64
+    requires { IsBackOf probe.now.envelope back }
     ensures { IsCopyLength hop (outgoing_probe (situation tables.now arrival moment) probe.now.envelope []) result }
 {
     match hop {
-        Hop::Peer(_) => probe_copy_length(tables, arrival, moment, probe),
+        Hop::Peer(_) => probe_copy_length(tables, arrival, moment, probe, back),
         Hop::Local(_) | Hop::List(_) | Hop::None => 0,
     }
 }
@@ -144,24 +160,26 @@ fn report_length(tables: &Tables, arrival: u64, moment: u64, report: &Report, ho
     }
 }
 
-/// What is done with a recipient of a message that is lent, where the members' copy would have so many octets. It
-/// takes no memory.
+/// What is done with a recipient of a message that is lent, where the members' copy would have so many octets, and
+/// `back` is what `back_length` counted. It takes no memory.
 #[tactic(auto, unfolding(mta_procedures::specs::Verdicts::verdict_of_message), using(crate::proofs::Copies::steps))]
 pub fn verdict_on_message(
     tables: &Tables,
     arrival: u64,
     message: &Message,
+    back: u64,
     recipient: &RecipientFields,
     members_length: u64,
     moment: u64,
 ) -> Verdict
-    requires { arrival ≤ last_moment }
+    requires arrival { arrival ≤ last_moment }
+    requires back { IsBackOf message.now.envelope back }
     ensures { let s = situation tables.now arrival moment in
         result ≡ verdict_of_message s (message_value message.now) recipient.now members_length }
 {
     let envelope = message.envelope.fields();
     let hop = tables.route(&recipient.name);
-    let copy = message_length(tables, arrival, moment, message, hop);
+    let copy = message_length(tables, arrival, moment, message, back, hop);
     let case = case_of(
         tables,
         arrival,
@@ -175,20 +193,23 @@ pub fn verdict_on_message(
     for_message(hop, deferral_or_zero(envelope.deferral), case)
 }
 
-/// What is done with a recipient of a probe that is lent. It takes no memory.
+/// What is done with a recipient of a probe that is lent, where `back` is what `back_length` counted. It takes no
+/// memory.
 #[tactic(auto, unfolding(mta_procedures::specs::Verdicts::verdict_of_probe), using(crate::proofs::Copies::steps))]
 pub fn verdict_on_probe(
     tables: &Tables,
     arrival: u64,
     probe: &Probe,
+    back: u64,
     recipient: &RecipientFields,
     moment: u64,
 ) -> Verdict
-    requires { arrival ≤ last_moment }
+    requires arrival { arrival ≤ last_moment }
+    requires back { IsBackOf probe.now.envelope back }
     ensures { result ≡ verdict_of_probe (situation tables.now arrival moment) probe.now.envelope recipient.now }
 {
     let hop = tables.route(&recipient.name);
-    let copy = probe_length(tables, arrival, moment, probe, hop);
+    let copy = probe_length(tables, arrival, moment, probe, back, hop);
     let envelope = probe.envelope.fields();
     let case = case_of(tables, arrival, moment, envelope, recipient, hop, 0, copy);
     for_probe(hop, case)
@@ -214,7 +235,16 @@ pub fn verdict_message(
 {
     let recipients = message.envelope.fields().recipients.as_slice();
     let chosen = recipients[recipient as usize - 1].fields();
-    verdict_on_message(tables, arrival, message, chosen, members_length, moment)
+    let back = back_length(message.envelope.fields());
+    verdict_on_message(
+        tables,
+        arrival,
+        message,
+        back,
+        chosen,
+        members_length,
+        moment,
+    )
 }
 
 /// What is done with the recipient at a position, from 1, of a probe that arrived at a moment, as it is looked at at
@@ -234,7 +264,8 @@ pub fn verdict_probe(
 {
     let recipients = probe.envelope.fields().recipients.as_slice();
     let chosen = recipients[recipient as usize - 1].fields();
-    verdict_on_probe(tables, arrival, probe, chosen, moment)
+    let back = back_length(probe.envelope.fields());
+    verdict_on_probe(tables, arrival, probe, back, chosen, moment)
 }
 
 /// What is done with a report that arrived at a moment, as it is looked at at another. Where it comes to a list,

@@ -28,6 +28,7 @@ module _ (s : State) where
   lacks_items (opens role peer name twa size window) none few = absurd none
   lacks_items any none few = few
 
-  pub has_items : (c : Class) → OpensNone c → length s.machine.items + numbers_needed s c < 2 ^ 32 → LacksNumbers s c → ⊥
+  pub has_items : (c : Class) → OpensNone c → length s.machine.items + numbers_needed s c < 2 ^ 32
+      → LacksNumbers s c → ⊥
   has_items (opens role peer name twa size window) none left lacks = none
   has_items any none left lacks = omega (arith, left, lacks)

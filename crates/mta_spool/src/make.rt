@@ -1,8 +1,8 @@
 //! Making a step: its record on the disk, and then the state in memory.
 //!
-//! In comes a step that is possible, and with `make_ready` what it changes. Its record is written down, what it changes
-//! is found (`ready`), and room for that (`reserve`); the journal appends the record (two syncs), and `commit` makes the
-//! change, which cannot fail.
+//! In comes a step that is possible, and with `make_ready` what it changes. Its record is written down, what it
+//! changes is found (`ready`), and room for that (`reserve`); the journal appends the record (two syncs), and `commit`
+//! makes the change, which cannot fail.
 //!
 //! Whatever is refused, the state in memory is as it was: want of memory comes before the disk is called, and a record
 //! that is not written is not shown. A crash at any moment leaves the history with the step or without it (`Makes` in

@@ -4,7 +4,8 @@
 //! They are refused as the steps of `lanes.rt` are, and with `Bad` before `Spent` where the lane takes the piece, but
 //! the octets up to it are too many, or at a `complete` spell no APDU.
 
-ghost use Rattle.std.specs.Prelude.{◌≡◌, ◌≤◌, ◌<◌, ◌+◌, ◌^◌, ◌↔◌, ◌≢◌, ℕ, None, Some, Err, IsTrue, IfOk, IfErr, false, length};
+ghost use Rattle.std.specs.Prelude.{◌≡◌, ◌≤◌, ◌<◌, ◌+◌, ◌^◌, ◌↔◌, ◌≢◌, ℕ, None, Some, Err};
+ghost use Rattle.std.specs.Prelude.{IsTrue, IfOk, IfErr, false, length};
 ghost use Rattle.mta_ber.specs.Times.{last_moment};
 ghost use Rattle.mta_histories.specs.Classes.{complete, secure};
 ghost use Rattle.mta_histories.specs.History.{IsOnLane};

@@ -1,7 +1,8 @@
 //! An activity is started, or goes on after a break (X.228, activity management): its number and its octets.
 //!
-//! `start` takes what `batch_for` answered. It finds what the Start transfers before it makes the step, and shares it, so
-//! that nothing can be refused afterwards. `resumed` lends nothing: a session holds the octets while the spool goes on.
+//! `start` takes what `batch_for` answered. It finds what the Start transfers before it makes the step, and shares it,
+//! so that nothing can be refused afterwards. `resumed` lends nothing: a session holds the octets while the spool goes
+//! on.
 
 ghost use Rattle.std.specs.Prelude.{◌≡◌, ◌≤◌, ◌<◌, ◌+◌, ◌^◌, IfOk, IfSome, IfNone, Some, None};
 ghost use Rattle.std.specs.Prelude.{false, length};
@@ -187,8 +188,8 @@ impl<D: Disk + Drop, C: Clock + Drop> Spool<D, C> {
     ///
     /// # Errors
     /// As the steps of `lanes.rt`: `Unexpected` also where a recipient is no longer pending, is in an activity, or goes
-    /// elsewhere by now, or where one stands twice; `Spent` where the activity may be started, and no number is left for
-    /// it on the lane.
+    /// elsewhere by now, or where one stands twice; `Spent` where the activity may be started, and no number is left
+    /// for it on the lane.
     pub fn start(
         &mut self,
         lane: u32,

@@ -6,3 +6,5 @@ pub mod Tests
 pub mod Turns
 pub mod Few
 pub mod Stored
+pub mod Placed
+pub mod Decodings

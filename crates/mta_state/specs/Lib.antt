@@ -5,3 +5,4 @@ pub mod Settling
 pub mod Settled
 pub mod Parts
 pub mod Reading
+pub mod Readings

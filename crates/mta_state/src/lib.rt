@@ -4,11 +4,13 @@
 #![tactic(auto)]
 
 mod change;
+mod decoded;
 mod delivery;
 mod kept;
 mod on_lane;
 mod parts;
 mod reading;
+mod readings;
 mod rest;
 mod rules;
 mod secure;
@@ -16,10 +18,12 @@ mod settle;
 mod verdict;
 
 pub use change::{Change, Settlement};
+pub use decoded::Decoded;
 pub use delivery::Delivery;
 pub use kept::Kept;
 pub use parts::{Made, Parts};
-pub use reading::{accepted_item, is_report};
+pub use reading::accepted_item;
+pub use readings::{Reading, back_of};
 pub use rest::{Rest, Submitted};
 pub use rules::Rules;
 pub use settle::is_pending;

@@ -1,8 +1,6 @@
 //! What is read of the octets of items.
 
-ghost use Rattle.std.specs.Prelude.{◌≡◌, IfErr, IfOk, Some};
-ghost use Rattle.mta_apdu.specs.Apdus.{apdu_value};
-ghost use Rattle.mta_machine.specs.Apdu.{is_report, value_of};
+ghost use Rattle.std.specs.Prelude.{IfErr, IfOk};
 ghost use Rattle.mta_state.specs.Reading.{AreAccepted, IsFaultOf, IsItemOf};
 
 use mta_apdu::Apdu;
@@ -10,31 +8,6 @@ use mta_ber::{Memory, Octets, ReadFault};
 use mta_machine::{Item, Origin, Statuses};
 use std::alloc::Global;
 use std::sync::Arc;
-
-fn is_of_report(apdu: &Apdu<'_>) -> bool
-    ensures { result ≡ is_report (Some (apdu_value apdu.now)) }
-{
-    match apdu {
-        Apdu::Message(_) => false,
-        Apdu::Probe(_) => false,
-        Apdu::Report(_) => true,
-    }
-}
-
-/// Whether octets that are kept spell a report.
-pub fn is_report(alloc: Global, octets: &[u8]) -> Result<bool, Memory>
-    ensures { IfOk result (λ b. b ≡ is_report (value_of octets.now)) }
-{
-    match Apdu::read_stored(alloc, octets) {
-        Err(ReadFault::Bad(_)) => Ok(false),
-        Err(ReadFault::Memory) => Err(Memory),
-        Ok(read) => {
-            let reports = is_of_report(&read);
-            read.discard();
-            Ok(reports)
-        }
-    }
-}
 
 // The statuses of the recipients of an APDU that may be submitted or received, or the first fault of its octets.
 fn statuses_of(alloc: Global, octets: &[u8]) -> Result<Statuses, ReadFault>

@@ -14,9 +14,11 @@ ghost use Rattle.mta_state.specs.Parts.{made_items};
 ghost use Rattle.mta_state.specs.Reading.{IsAccepted};
 ghost use Rattle.mta_state.specs.declared.rest.Submitted.{Submitted};
 ghost use Rattle.mta_state.specs.Asked.{AreUnder, CodesAreCodes, Expands, IsDeliveryOf, IsRestOf, Passes, Relays};
+ghost use Rattle.mta_state.specs.Readings.{IsReadingOf};
 
 use crate::delivery::Delivery;
 use crate::parts::Made;
+use crate::readings::Reading;
 use crate::rest::{Rest, Submitted};
 use mta_ber::{Memory, Octets, Word};
 use mta_machine::Item;
@@ -25,7 +27,8 @@ use mta_records::Outgoing;
 use std::alloc::Global;
 
 /// The rules of X.411, clause 14, under the tables of one text. Moments are seconds since 1950-01-01 00:00:00 UTC, and
-/// recipients are numbered from 1.
+/// recipients are numbered from 1. What is asked of an item takes the reading of its octets, which is made once for all
+/// its recipients.
 pub trait Rules {
     /// The text of the tables.
     ghost text: { Self → List ℕ };
@@ -34,37 +37,41 @@ pub trait Rules {
     fn under(alloc: Global, octets: &[u8]) -> Result<Option<Self>, Memory>
         ensures { IfOk result (AreUnder text octets.now) };
 
-    /// The verdict on a recipient of an APDU that arrived at a moment, looked at at another; none where the octets are
-    /// those of no APDU, or where it has no such recipient. A report that comes to a list has the verdict Back here.
+    /// The verdict on a recipient of an item, looked at at a moment; none where its octets are those of no APDU, or
+    /// where it has no such recipient. A report that comes to a list has the verdict Back here.
     fn verdict(
         &self,
         alloc: Global,
-        octets: &[u8],
-        arrival: u64,
+        item: &Item,
+        reading: &Reading<'_>,
         recipient: u32,
         moment: u64,
     ) -> Result<Option<Verdict>, Memory>
-        requires { arrival ≤ last_moment }
-        ensures exact { IfOk result (λ v. v ≡ verdict_of (text self.now) octets.now arrival recipient moment) }
+        requires arrived { item.now.arrival ≤ last_moment }
+        requires reading { IsReadingOf item.now.octets reading.now }
+        ensures exact { IfOk result
+            (λ v. v ≡ verdict_of (text self.now) item.now.octets item.now.arrival recipient moment) }
         ensures codes { IfOk result CodesAreCodes };
 
-    /// Whether an APDU that arrived at a moment has waited for its hold time.
-    fn has_expired(
-        &self,
-        alloc: Global,
-        octets: &[u8],
-        arrival: u64,
-        moment: u64,
-    ) -> Result<bool, Memory>
-        requires { arrival ≤ last_moment }
-        ensures { IfOk result (λ b. b ≡ is_expired (text self.now) octets.now arrival moment) };
+    /// Whether an item has waited for its hold time at a moment.
+    fn has_expired(&self, item: &Item, reading: &Reading<'_>, moment: u64) -> bool
+        requires arrived { item.now.arrival ≤ last_moment }
+        requires reading { IsReadingOf item.now.octets reading.now }
+        ensures { result ≡ is_expired (text self.now) item.now.octets item.now.arrival moment };
 
     /// What is found of an item where nothing is called for at once of those of its recipients who are pending: the
     /// next moment behind this one at which a verdict may change, which is the end of the deferral or else of the hold
     /// time, and the peers to whom they go. None where something is called for, where the item has waited for its hold
     /// time, or where its octets are those of no APDU.
-    fn rest(&self, alloc: Global, item: &Item, moment: u64) -> Result<Option<Rest>, Memory>
+    fn rest(
+        &self,
+        alloc: Global,
+        item: &Item,
+        reading: &Reading<'_>,
+        moment: u64,
+    ) -> Result<Option<Rest>, Memory>
         requires arrived { item.now.arrival ≤ last_moment }
+        requires reading { IsReadingOf item.now.octets reading.now }
         requires few { length item.now.statuses < 2 ^ 32 }
         ensures { IfOk result (IsRestOf (text self.now) item.now moment) };
 
@@ -82,19 +89,20 @@ pub trait Rules {
         ensures rest { IfOk result (λ found. IfSome found (λ s. IsRestOf (text self.now) s.item moment s.rest)) };
 
     /// Whether a report that comes to a list can be passed back, among these items.
-    fn passes_back(&self, alloc: Global, items: &[Item], item: &Item) -> Result<bool, Memory>
+    fn passes_back(
+        &self,
+        alloc: Global,
+        items: &[Item],
+        item: &Item,
+        reading: &Reading<'_>,
+    ) -> Result<bool, Memory>
+        requires { IsReadingOf item.now.octets reading.now }
         ensures { IfOk result (λ b. b ≡ is_some (passed_back (text self.now) items.now item.now)) };
 
     /// Whether the best route of a recipient's name leads to this peer.
-    fn routes_to(
-        &self,
-        alloc: Global,
-        octets: &[u8],
-        recipient: u32,
-        peer: &[u8],
-    ) -> Result<bool, Memory>
-        ensures { let route = route_word (text self.now) octets.now recipient in
-            IfOk result (λ b. IsTrue b ↔ (route ≡ Some peer.now)) };
+    fn routes_to(&self, item: &Item, reading: &Reading<'_>, recipient: u32, peer: &[u8]) -> bool
+        requires { IsReadingOf item.now.octets reading.now }
+        ensures { IsTrue result ↔ (route_word (text self.now) item.now.octets recipient ≡ Some peer.now) };
 
     /// Whether the tables have a peer of this word.
     fn names_peer(&self, word: &[u8]) -> bool
@@ -115,10 +123,12 @@ pub trait Rules {
         alloc: Global,
         number: u64,
         item: &Item,
+        reading: &Reading<'_>,
         recipient: u32,
         moment: u64,
     ) -> Result<Option<Delivery>, Memory>
         requires arrived { item.now.arrival ≤ last_moment }
+        requires reading { IsReadingOf item.now.octets reading.now }
         requires fits { moment ≤ last_moment }
         ensures { IfOk result (IsDeliveryOf (text self.now) number item.now recipient moment) };
 
@@ -129,10 +139,12 @@ pub trait Rules {
         alloc: Global,
         number: u64,
         item: &Item,
+        reading: &Reading<'_>,
         recipient: u32,
         moment: u64,
     ) -> Result<Option<Item>, Memory>
         requires arrived { item.now.arrival ≤ last_moment }
+        requires reading { IsReadingOf item.now.octets reading.now }
         requires fits { moment ≤ last_moment }
         ensures { IfOk result (λ made. made
             ≡ option_map (own_item moment) (delivery_report (text self.now) number item.now recipient moment)) };
@@ -144,12 +156,14 @@ pub trait Rules {
         alloc: Global,
         number: u64,
         item: &Item,
+        reading: &Reading<'_>,
         recipient: u32,
         reason: u32,
         diagnostic: Option<u32>,
         moment: u64,
     ) -> Result<Option<Item>, Memory>
         requires arrived { item.now.arrival ≤ last_moment }
+        requires reading { IsReadingOf item.now.octets reading.now }
         requires reason { IsCode reason }
         requires diagnostic { IfSome diagnostic IsCode }
         ensures { let about = non_delivery_report (text self.now) number item.now recipient reason diagnostic in
@@ -162,11 +176,13 @@ pub trait Rules {
         alloc: Global,
         number: u64,
         item: &Item,
+        reading: &Reading<'_>,
         recipient: u32,
         moment: u64,
     ) -> Result<Made, Memory>
         requires number { number ≤ 2 ^ 32 }
         requires arrived { item.now.arrival ≤ last_moment }
+        requires reading { IsReadingOf item.now.octets reading.now }
         requires fits { moment ≤ last_moment }
         requires list { Expands (verdict_of (text self.now) item.now.octets item.now.arrival recipient moment) }
         ensures { IfOk result (λ made. made_items made
@@ -179,10 +195,12 @@ pub trait Rules {
         alloc: Global,
         items: &[Item],
         item: &Item,
+        reading: &Reading<'_>,
         recipient: u32,
         moment: u64,
     ) -> Result<Option<Item>, Memory>
         requires arrived { item.now.arrival ≤ last_moment }
+        requires reading { IsReadingOf item.now.octets reading.now }
         requires passed { Passes (verdict_of (text self.now) item.now.octets item.now.arrival recipient moment) }
         ensures { IfOk result (λ made. made
             ≡ option_map (own_item moment) (passed_back (text self.now) items.now item.now)) };
@@ -193,11 +211,13 @@ pub trait Rules {
         alloc: Global,
         activity: u32,
         item: &Item,
+        reading: &Reading<'_>,
         recipients: &[u32],
         recipient: u32,
         moment: u64,
     ) -> Result<Outgoing, Memory>
         requires arrived { item.now.arrival ≤ last_moment }
+        requires reading { IsReadingOf item.now.octets reading.now }
         requires fits { moment ≤ last_moment }
         requires relayed { Relays (verdict_of (text self.now) item.now.octets item.now.arrival recipient moment) }
         ensures copy { IfOk result (λ out. Some out.octets

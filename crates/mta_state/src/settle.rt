@@ -7,21 +7,6 @@ ghost use Rattle.mta_state.specs.Settled.{put_settled, with_settled};
 
 use mta_machine::{Item, Status};
 
-fn is_pending_status(status: &Status) -> bool
-    ensures { result ≡ is_pending status.now }
-{
-    match status {
-        Status::Pending => true,
-        Status::Delivered(_) => false,
-        Status::Expanded(_) => false,
-        Status::Sent { .. } => false,
-        Status::Reported { .. } => false,
-        Status::Affirmed(_) => false,
-        Status::Discarded(_) => false,
-        Status::Passed(_) => false,
-    }
-}
-
 fn status_of(statuses: &[Option<Status>], recipient: u32) -> Option<&Option<Status>>
     ensures { option_copied result ≡ numbered statuses.now recipient }
 {
@@ -36,7 +21,7 @@ pub fn is_pending(item: &Item, recipient: u32) -> bool
     ensures { result ≡ has_status is_pending (numbered item.now.statuses recipient) }
 {
     match status_of(item.statuses(), recipient) {
-        Some(Some(status)) => is_pending_status(status),
+        Some(Some(status)) => status.is_pending(),
         _ => false,
     }
 }

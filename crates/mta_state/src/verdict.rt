@@ -4,7 +4,9 @@ ghost use Rattle.std.specs.Prelude.{◌≡◌, ◌≤◌, IfOk, Some};
 ghost use Rattle.mta_ber.specs.Times.{last_moment};
 ghost use Rattle.mta_machine.specs.Machine.{verdict_on};
 ghost use Rattle.mta_state.specs.Asked.{CodesAreCodes};
+ghost use Rattle.mta_state.specs.Readings.{IsReadingOf};
 
+use crate::readings::Reading;
 use crate::rules::Rules;
 use mta_ber::Memory;
 use mta_machine::Item;
@@ -18,18 +20,20 @@ pub fn verdict_on<R: Rules>(
     rules: &R,
     items: &[Item],
     item: &Item,
+    reading: &Reading<'_>,
     recipient: u32,
     moment: u64,
 ) -> Result<Option<Verdict>, Memory>
-    requires { item.now.arrival ≤ last_moment }
+    requires arrived { item.now.arrival ≤ last_moment }
+    requires reading { IsReadingOf item.now.octets reading.now }
     ensures exact { let text = Some (R.text rules.now) in
         IfOk result (λ v. v ≡ verdict_on items.now text (Some item.now) recipient moment) }
     ensures codes { IfOk result CodesAreCodes }
 {
-    let verdict = rules.verdict(alloc, item.octets(), item.arrival(), recipient, moment)?;
+    let verdict = rules.verdict(alloc, item, reading, recipient, moment)?;
     match verdict {
         Some(Verdict::Back) => {
-            if rules.passes_back(alloc, items, item)? {
+            if rules.passes_back(alloc, items, item, reading)? {
                 Ok(Some(Verdict::Back))
             } else {
                 Ok(Some(Verdict::Discard))

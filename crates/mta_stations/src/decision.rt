@@ -27,8 +27,8 @@ fn first_of(status: u8, ends: &[WorkerEnd]) -> Option<Halt>
 }
 
 /// Why the run of these workers ends; nothing where each gave its links back, or its station ended or failed. A fault
-/// of the disk is before want of room or of numbers, and that before want of memory, with which a peer stands that is not
-/// named; of several alike the one of the lowest station decides.
+/// of the disk is before want of room or of numbers, and that before want of memory, with which a peer stands that is
+/// not named; of several alike the one of the lowest station decides.
 pub fn deciding(ends: &[WorkerEnd]) -> Option<Halt>
     ensures found { IfSome result (Decides (halts_of ends.now)) }
     ensures none { IfNone result (IsUndecided (halts_of ends.now)) }

@@ -7,7 +7,7 @@ use Rattle.mta_apdu.specs.Apdus.{ApduValue}
 use Rattle.mta_tables.specs.Tables.{TablesValue}
 use Rattle.mta_machine.specs.declared.item.Status.{Status}
 use Rattle.mta_machine.specs.Apdu.{value_of}
-use Rattle.mta_machine.specs.Items.{ItemValue, numbered, has_status, is_pending}
+use Rattle.mta_machine.specs.Items.{AreSettled, ItemValue, numbered, has_status, is_pending}
 use Rattle.mta_machine.specs.Rules.{tables_value}
 use Rattle.mta_idle_laws.specs.Idle.{calls_at_once, IsIdleUntil}
 use Rattle.mta_idle_laws.specs.Next.{next_change, next_under}
@@ -20,10 +20,9 @@ past : (ss : List (Option Status)) (r : ℕ) → length ss < r → has_status is
 past ss zero above = refl
 past ss (suc k) above = ap (has_status is_pending) (slice_get_past ss k (omega (arith, above)))
 
--- no recipient is numbered 0
-pub wait_at_first : (t : TablesValue) (v : ApduValue) (item : ItemValue) (moment : ℕ) → WaitUpTo t v item 0 moment
-wait_at_first t v item moment zero low pending = absurd cc
-wait_at_first t v item moment (suc r) low pending = absurd (omega (arith, low))
+pub wait_settled : (t : TablesValue) (v : ApduValue) (item : ItemValue) (n moment : ℕ)
+    → AreSettled item.statuses n → WaitUpTo t v item n moment
+wait_settled t v item n moment settled r low pending = let never = settled.none r low in absurd cc
 
 pub wait_further : (t : TablesValue) (v : ApduValue) (item : ItemValue) (n moment : ℕ) → WaitUpTo t v item n moment
     → WaitsUnder t v item (n + 1) moment → WaitUpTo t v item (n + 1) moment

@@ -8,7 +8,7 @@ use Rattle.mta_apdu.specs.Apdus.{ApduValue}
 use Rattle.mta_tables.specs.Tables.{TablesValue}
 use Rattle.mta_machine.specs.declared.item.Status.{Status}
 use Rattle.mta_machine.specs.Apdu.{value_of}
-use Rattle.mta_machine.specs.Items.{ItemValue, numbered, names, has_status, is_pending}
+use Rattle.mta_machine.specs.Items.{AreSettled, ItemValue, numbered, names, has_status, is_pending}
 use Rattle.mta_machine.specs.Machine.{relay_by}
 use Rattle.mta_machine.specs.Rules.{peer_at, peer_word, route_under, route_word, tables_value, verdict_of}
 use Rattle.mta_state.specs.Asked.{AreLed, AreRelays, AreRoutes}
@@ -37,10 +37,8 @@ past ss (suc k) above = ap (has_status is_pending) (slice_get_past ss k (omega (
 -- ---- recipients in turn
 
 module _ (at : ℕ → Option (List ℕ)) (item : ItemValue) (to : ℕ → Option (List ℕ)) where
-  -- no recipient is numbered 0
-  pub led_at_first : AreLedUpTo at item to 0 []
-  led_at_first zero peer low pending is = absurd cc
-  led_at_first (suc r) peer low pending is = absurd (omega (arith, low))
+  pub led_settled : (n : ℕ) → AreSettled item.statuses n → AreLedUpTo at item to n []
+  led_settled n settled r peer low pending is = let never = settled.none r low in absurd cc
 
   led_here : (places : List ℕ) (place : Option ℕ) (r : ℕ) (peer : List ℕ) → option_and_then at place ≡ to r
       → to r ≡ Some peer

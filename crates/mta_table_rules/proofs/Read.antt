@@ -2,9 +2,7 @@
 use Rattle.std.proofs.Common.{◌≡◌, ℕ, List, Option, Some, None, sym, ap, ◌∙◌}
 use Rattle.std.proofs.Common.{Result, Ok, Err}
 use Rattle.std.specs.Prelude.{IfOk, is_some, option_and_then}
-use Rattle.std.specs.Option.{option_map}
-use Rattle.mta_apdu.specs.declared.apdu.Apdu.{Apdu}
-use Rattle.mta_apdu.specs.Apdus.{ApduValue, apdu_value}
+use Rattle.mta_apdu.specs.Apdus.{ApduValue}
 use Rattle.mta_tables.specs.Tables.{TablesValue, peer_of}
 use Rattle.mta_procedures.specs.Reports as reports
 use Rattle.mta_machine.specs.Apdu.{value_of}
@@ -30,11 +28,6 @@ none_read : {A : Type 0} (to : Option TablesValue) (vo : Option ApduValue) (t : 
 none_read to vo t give e h =
     ap (λ (o : Option TablesValue). read_both o vo give) e
     ∙ ap (λ (o : Option ApduValue). read_both (Some t) o give) h
-
--- what was read of octets that are others
-pub kept_is : (octets other : List ℕ) (o p : Option Apdu) → other ≡ octets
-    → value_of other ≡ option_map apdu_value o → o ≡ p → value_of octets ≡ option_map apdu_value p
-kept_is octets other o p e h k = ap value_of (sym e) ∙ h ∙ ap (λ (x : Option Apdu). option_map apdu_value x) k
 
 -- ---- the words of tables
 

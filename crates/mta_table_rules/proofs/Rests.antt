@@ -4,7 +4,7 @@ use Rattle.std.specs.Prelude.{option_to_list}
 use Rattle.mta_apdu.specs.Apdus.{ApduValue}
 use Rattle.mta_tables.specs.Tables.{TablesValue}
 use Rattle.mta_machine.specs.Apdu.{value_of}
-use Rattle.mta_machine.specs.Items.{ItemValue}
+use Rattle.mta_machine.specs.Items.{AreSettled, ItemValue}
 use Rattle.mta_machine.specs.Rules.{peer_at, peer_word, route_under, tables_value}
 use Rattle.mta_idle_laws.specs.Next.{next_under}
 use Rattle.mta_state.specs.Asked.{IsRestOf}
@@ -12,18 +12,17 @@ use Rattle.mta_state.specs.declared.rest.Rest.{Rest}
 use Rattle.mta_table_rules.specs.declared.rest.Places.{Places}
 use Rattle.mta_table_rules.specs.Led.{AreLedUpTo, relay_under}
 use Rattle.mta_table_rules.specs.Rests.{GoUpTo, IsLookAt, IsRestUnder}
-use Rattle.mta_table_rules.proofs.IdleItems.{all_up_to, idle_is, wait_at_first, wait_further}
-use Rattle.mta_table_rules.proofs.Led.{all_led, led_at_first, led_further, relays_are, routes_are}
+use Rattle.mta_table_rules.proofs.IdleItems.{all_up_to, idle_is, wait_settled, wait_further}
+use Rattle.mta_table_rules.proofs.Led.{all_led, led_settled, led_further, relays_are, routes_are}
 
 -- ---- recipients in turn
 
 module _ (t : TablesValue) (v : ApduValue) (item : ItemValue) (moment : ℕ) where
-  -- no recipient is numbered 0
-  pub go_at_first : GoUpTo t v item 0 moment [] []
-  go_at_first = record {
-    wait = wait_at_first t v item moment;
-    routed = led_at_first (peer_at t) item (route_under t v);
-    relayed = led_at_first (peer_word t.text) item (relay_under t v item.arrival moment);
+  pub go_settled : (n : ℕ) → AreSettled item.statuses n → GoUpTo t v item n moment [] []
+  go_settled n settled = record {
+    wait = wait_settled t v item n moment settled;
+    routed = led_settled (peer_at t) item (route_under t v) n settled;
+    relayed = led_settled (peer_word t.text) item (relay_under t v item.arrival moment) n settled;
   }
 
   pub go_further : (n : ℕ) (routes relays routes_now relays_now : List ℕ) (places : Places)
@@ -67,4 +66,4 @@ rest_is t item v moment (Some rest) e h is = record {
   relays = relays_are t item v moment rest.relays.items e h is.relayed;
 }
 
-pub ruleset resting_laws = (go_at_first, go_further, not_idle, all_go)
+pub ruleset resting_laws = (go_settled, go_further, not_idle, all_go)

@@ -1,5 +1,5 @@
 -- What is asked of copies for peers.
-use Rattle.std.specs.Prelude.{◌≡◌, ℕ, ◌-◌, ◌<◌, ◌≤◌, List, length, take, drop, Option, Some, None}
+use Rattle.std.specs.Prelude.{ℕ, ◌<◌, ◌≤◌, List, length, Option, Some, None}
 use Rattle.mta_fields.specs.declared.trace.TraceFields.{TraceFields}
 use Rattle.mta_envelope.specs.declared.place.Place.{Place}
 use Rattle.mta_envelope.specs.Contents.{octets_of}
@@ -10,12 +10,7 @@ use Rattle.mta_tables.specs.Tables.{TablesValue}
 use Rattle.mta_procedures.specs.Copies.{longest_copy}
 use Rattle.mta_procedures.specs.Traces.{longest_trace}
 use Rattle.mta_machine.specs.Rules.{copy_under}
-
--- the octets are those of `whole` from `from` up to `to`
-pub record IsCut (whole octets : List ℕ) (from to : ℕ) : Type 0 where
-  pub order : from ≤ to
-  pub within : to ≤ length whole
-  pub cut : take (to - from) (drop from whole) ≡ octets
+use Rattle.mta_state.specs.Readings.{IsCut}
 
 -- at a place, where one is told
 abbrev pub IsCutAt : List ℕ → List ℕ → Option Place → Type 0

@@ -8,9 +8,10 @@ ghost use Rattle.mta_apdu.specs.Apdus.{apdu_value};
 ghost use Rattle.mta_apdu.specs.Apdus as apdus;
 ghost use Rattle.mta_machine.specs.Rules.{copy_under, outgoing_copy, verdict_of, verdict_under};
 ghost use Rattle.mta_state.specs.Asked.{Relays};
-ghost use Rattle.mta_table_rules.specs.Copied.{HasCopy, IsCut, IsCutAt, IsCutIn};
+ghost use Rattle.mta_state.specs.Readings.{IsCut, IsReadingOf};
+ghost use Rattle.mta_table_rules.specs.Copied.{HasCopy, IsCutAt, IsCutIn};
 
-use crate::reading::{read_kept, text_reads};
+use crate::reading::text_reads;
 use mta_apdu::Apdu;
 use mta_ber::{Memory, Octets};
 use mta_copies::{outgoing_head, outgoing_probe, outgoing_report};
@@ -18,6 +19,7 @@ use mta_envelope::{Message, Place, Probe};
 use mta_machine::Item;
 use mta_records::Outgoing;
 use mta_report::Report;
+use mta_state::Reading;
 use mta_tables::Tables;
 use std::alloc::Global;
 use std::sync::Arc;
@@ -180,11 +182,13 @@ pub fn outgoing_copy(
     tables: &Tables,
     activity: u32,
     item: &Item,
+    reading: &Reading<'_>,
     recipients: &[u32],
     recipient: u32,
     moment: u64,
 ) -> Result<Outgoing, Memory>
     requires arrived { item.now.arrival ≤ last_moment }
+    requires reading { IsReadingOf item.now.octets reading.now }
     requires fits { moment ≤ last_moment }
     requires relayed { Relays (verdict_of tables.now.text item.now.octets item.now.arrival recipient moment) }
     ensures copy { IfOk result (λ out. Some out.octets
@@ -192,10 +196,8 @@ pub fn outgoing_copy(
     ensures activity { IfOk result (λ out. out.activity ≡ activity) }
 {
     text_reads(tables);
-    let Some(apdu) = read_kept(alloc, item.octets())? else {
+    let Some(apdu) = &reading.apdu else {
         unreachable!();
     };
-    let copy = copy_under(alloc, tables, activity, item, &apdu, recipients, moment);
-    apdu.discard();
-    copy
+    copy_under(alloc, tables, activity, item, apdu, recipients, moment)
 }

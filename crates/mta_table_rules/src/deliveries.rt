@@ -8,15 +8,16 @@ ghost use Rattle.mta_procedures.specs.Reports.{delivery_report};
 ghost use Rattle.mta_machine.specs.Machine.{own_item};
 ghost use Rattle.mta_machine.specs.Rules.{report_on, verdict_under};
 ghost use Rattle.mta_state.specs.Asked.{Delivers, IsDeliveryOf};
+ghost use Rattle.mta_state.specs.Readings.{IsCounted, IsReadingOf};
 
-use crate::reading::{read_kept, text_reads};
+use crate::reading::text_reads;
 use crate::reports::{delivery_report_in, report_item};
 use crate::verdicts::verdict_under;
 use mta_apdu::Apdu;
 use mta_ber::Memory;
 use mta_machine::Item;
 use mta_procedures::Verdict;
-use mta_state::Delivery;
+use mta_state::{Delivery, Reading};
 use mta_tables::Tables;
 use std::alloc::Global;
 
@@ -27,17 +28,19 @@ fn delivery_under(
     number: u64,
     arrival: u64,
     apdu: &Apdu<'_>,
+    back: u64,
     recipient: u32,
     moment: u64,
 ) -> Result<Option<Delivery>, Memory>
     requires arrived { arrival ≤ last_moment }
+    requires back { IsCounted apdu.now back }
     requires fits { moment ≤ last_moment }
     ensures { let v = apdu_value apdu.now in
         let made = report_on (λ e x. delivery_report tables.now number arrival e x moment) recipient v in
         IfOk result (Delivers (verdict_under tables.now v arrival recipient moment)
         (option_map (own_item moment) made)) }
 {
-    let verdict = verdict_under(alloc, tables, apdu, arrival, recipient, moment)?;
+    let verdict = verdict_under(alloc, tables, apdu, back, arrival, recipient, moment)?;
     let Some(Verdict::Deliver(place)) = verdict else {
         return Ok(None);
     };
@@ -53,19 +56,28 @@ pub fn delivery(
     tables: &Tables,
     number: u64,
     item: &Item,
+    reading: &Reading<'_>,
     recipient: u32,
     moment: u64,
 ) -> Result<Option<Delivery>, Memory>
     requires arrived { item.now.arrival ≤ last_moment }
+    requires reading { IsReadingOf item.now.octets reading.now }
     requires fits { moment ≤ last_moment }
     ensures { IfOk result (IsDeliveryOf tables.now.text number item.now recipient moment) }
 {
     text_reads(tables);
     let arrival = item.arrival();
-    let Some(apdu) = read_kept(alloc, item.octets())? else {
+    let Some(apdu) = &reading.apdu else {
         return Ok(None);
     };
-    let told = delivery_under(alloc, tables, number, arrival, &apdu, recipient, moment);
-    apdu.discard();
-    told
+    delivery_under(
+        alloc,
+        tables,
+        number,
+        arrival,
+        apdu,
+        reading.back,
+        recipient,
+        moment,
+    )
 }

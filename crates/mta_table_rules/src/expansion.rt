@@ -18,9 +18,10 @@ ghost use Rattle.mta_machine.specs.Rules.{expanded_for, expanded_to, expansion, 
 ghost use Rattle.mta_machine.specs.Rules.{verdict_under, with_list_report};
 ghost use Rattle.mta_state.specs.Parts.{made_items};
 ghost use Rattle.mta_state.specs.Asked.{Expands};
+ghost use Rattle.mta_state.specs.Readings.{IsReadingOf};
 ghost use Rattle.mta_table_rules.specs.Counts.{HasRoom};
 
-use crate::reading::{own_item, read_kept, recipient_of, text_reads};
+use crate::reading::{own_item, recipient_of, text_reads};
 use crate::reports::{asks_report, report_item};
 use mta_apdu::Apdu;
 use mta_ber::Memory;
@@ -33,7 +34,7 @@ use mta_procedures::DL;
 use mta_report::Report;
 use mta_report_recipient::{Moment, Outcome};
 use mta_rules::{is_in_history, report_on};
-use mta_state::Made;
+use mta_state::{Made, Reading};
 use mta_tables::{Hop, MailList, Tables};
 use std::alloc::Global;
 
@@ -263,11 +264,13 @@ pub fn expansion_items(
     tables: &Tables,
     number: u64,
     item: &Item,
+    reading: &Reading<'_>,
     recipient: u32,
     moment: u64,
 ) -> Result<Made, Memory>
     requires number { number ≤ 2 ^ 32 }
     requires arrived { item.now.arrival ≤ last_moment }
+    requires reading { IsReadingOf item.now.octets reading.now }
     requires fits { moment ≤ last_moment }
     requires list { Expands (verdict_of tables.now.text item.now.octets item.now.arrival recipient moment) }
     ensures { IfOk result (λ made. made_items made
@@ -275,10 +278,8 @@ pub fn expansion_items(
 {
     text_reads(tables);
     let arrival = item.arrival();
-    let Some(apdu) = read_kept(alloc, item.octets())? else {
+    let Some(apdu) = &reading.apdu else {
         return Ok(nothing());
     };
-    let made = expanded_in(alloc, tables, number, arrival, &apdu, recipient, moment);
-    apdu.discard();
-    made
+    expanded_in(alloc, tables, number, arrival, apdu, recipient, moment)
 }

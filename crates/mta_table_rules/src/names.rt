@@ -1,20 +1,22 @@
 //! Where names lead, and the words of peers and mailboxes.
 
-ghost use Rattle.std.specs.Prelude.{◌≡◌, ◌↔◌, IsTrue, IfOk, Some, is_some};
+ghost use Rattle.std.specs.Prelude.{◌≡◌, ◌↔◌, IsTrue, Some, is_some};
 ghost use Rattle.std.specs.Option.{option_copied, option_map};
 ghost use Rattle.mta_apdu.specs.Apdus.{apdu_value};
 ghost use Rattle.mta_machine.specs.Items.{numbered};
 ghost use Rattle.mta_machine.specs.Rules.{mailbox_at, mailbox_word, name_of, names_in, names_peer, peer_at};
 ghost use Rattle.mta_machine.specs.Rules.{peer_on, peer_word, route_under, route_word};
+ghost use Rattle.mta_state.specs.Readings.{IsReadingOf};
 
-use crate::reading::{read_kept, recipient_of, text_reads};
+use crate::reading::{recipient_of, text_reads};
 use mta_apdu::Apdu;
-use mta_ber::{Memory, Word};
+use mta_ber::Word;
 use mta_envelope::Envelope;
 use mta_envelope_recipient::Recipient;
+use mta_machine::Item;
 use mta_names::OrName;
+use mta_state::Reading;
 use mta_tables::{Hop, Tables};
-use std::alloc::Global;
 
 fn name_among(recipients: &[Recipient], number: u32) -> Option<&OrName>
     ensures { option_copied result ≡ option_map name_of (numbered recipients.now number) }
@@ -73,22 +75,20 @@ fn routes_under(tables: &Tables, apdu: &Apdu<'_>, recipient: u32, peer: &[u8]) -
 
 /// Whether the best route of a recipient's name leads to the peer of a word.
 pub fn routes_to(
-    alloc: Global,
     tables: &Tables,
-    octets: &[u8],
+    item: &Item,
+    reading: &Reading<'_>,
     recipient: u32,
     peer: &[u8],
-) -> Result<bool, Memory>
-    ensures { let route = route_word tables.now.text octets.now recipient in
-        IfOk result (λ b. IsTrue b ↔ (route ≡ Some peer.now)) }
+) -> bool
+    requires { IsReadingOf item.now.octets reading.now }
+    ensures { IsTrue result ↔ (route_word tables.now.text item.now.octets recipient ≡ Some peer.now) }
 {
     text_reads(tables);
-    let Some(apdu) = read_kept(alloc, octets)? else {
-        return Ok(false);
+    let Some(apdu) = &reading.apdu else {
+        return false;
     };
-    let routes = routes_under(tables, &apdu, recipient, peer);
-    apdu.discard();
-    Ok(routes)
+    routes_under(tables, apdu, recipient, peer)
 }
 
 /// Whether the tables have a peer of this word.

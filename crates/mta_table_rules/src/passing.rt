@@ -19,6 +19,7 @@ ghost use Rattle.mta_machine.specs.Rules.{accepted_as, accepted_in, accepted_of,
 ghost use Rattle.mta_machine.specs.Rules.{passed_under, verdict_of};
 ghost use Rattle.mta_machine.specs.Rules as rules;
 ghost use Rattle.mta_state.specs.Asked.{Passes};
+ghost use Rattle.mta_state.specs.Readings.{IsReadingOf};
 ghost use Rattle.mta_table_rules.specs.Copied.{trace_in};
 
 use crate::reading::{read_kept, text_reads};
@@ -34,6 +35,7 @@ use mta_machine::{Item, Origin, Status};
 use mta_names::OrName;
 use mta_report::Report;
 use mta_rules::{list_named, report_walk};
+use mta_state::Reading;
 use mta_tables::{MailList, Tables};
 use std::alloc::Global;
 
@@ -235,16 +237,16 @@ pub fn passes_back(
     tables: &Tables,
     items: &[Item],
     item: &Item,
+    reading: &Reading<'_>,
 ) -> Result<bool, Memory>
+    requires { IsReadingOf item.now.octets reading.now }
     ensures { IfOk result (λ b. b ≡ is_some (rules.passed_back tables.now.text items.now item.now)) }
 {
     text_reads(tables);
-    let Some(apdu) = read_kept(alloc, item.octets())? else {
+    let Some(apdu) = &reading.apdu else {
         return Ok(false);
     };
-    let passes = passes_under(alloc, tables, item.origin(), item.arrival(), &apdu, items);
-    apdu.discard();
-    passes
+    passes_under(alloc, tables, item.origin(), item.arrival(), apdu, items)
 }
 
 /// The report with another destination, and an own element more in its trace.
@@ -311,19 +313,20 @@ pub fn passed_item(
     tables: &Tables,
     items: &[Item],
     item: &Item,
+    reading: &Reading<'_>,
     recipient: u32,
     moment: u64,
 ) -> Result<Option<Item>, Memory>
     requires arrived { item.now.arrival ≤ last_moment }
+    requires reading { IsReadingOf item.now.octets reading.now }
     requires passed { Passes (verdict_of tables.now.text item.now.octets item.now.arrival recipient moment) }
     ensures { IfOk result (λ made. made
         ≡ option_map (own_item moment) (rules.passed_back tables.now.text items.now item.now)) }
 {
     text_reads(tables);
-    let Some(apdu) = read_kept(alloc, item.octets())? else {
+    let Some(apdu) = &reading.apdu else {
         return Ok(None);
     };
-    let made = passed_under(alloc, tables, item.origin(), item.arrival(), &apdu, items);
-    apdu.discard();
-    report_item(alloc, made?, moment)
+    let made = passed_under(alloc, tables, item.origin(), item.arrival(), apdu, items)?;
+    report_item(alloc, made, moment)
 }

@@ -11,8 +11,9 @@ ghost use Rattle.mta_procedures.specs.Reports.{delivery_report, non_delivery_rep
 ghost use Rattle.mta_machine.specs.Machine.{own_item};
 ghost use Rattle.mta_machine.specs.Rules.{envelope_in, report_on};
 ghost use Rattle.mta_machine.specs.Rules as rules;
+ghost use Rattle.mta_state.specs.Readings.{IsReadingOf};
 
-use crate::reading::{own_item, read_kept, recipient_of, text_reads};
+use crate::reading::{own_item, recipient_of, text_reads};
 use mta_apdu::Apdu;
 use mta_ber::Memory;
 use mta_envelope::Envelope;
@@ -23,6 +24,7 @@ use mta_procedures::{DL, PUBLIC};
 use mta_report::Report;
 use mta_report_recipient::{Moment, Outcome};
 use mta_rules::report_on;
+use mta_state::Reading;
 use mta_tables::{Hop, Tables};
 use std::alloc::Global;
 
@@ -188,22 +190,23 @@ pub fn delivery_item(
     tables: &Tables,
     number: u64,
     item: &Item,
+    reading: &Reading<'_>,
     recipient: u32,
     moment: u64,
 ) -> Result<Option<Item>, Memory>
     requires arrived { item.now.arrival ≤ last_moment }
+    requires reading { IsReadingOf item.now.octets reading.now }
     requires fits { moment ≤ last_moment }
     ensures { IfOk result (λ made. made
         ≡ option_map (own_item moment) (rules.delivery_report tables.now.text number item.now recipient moment)) }
 {
     text_reads(tables);
     let arrival = item.arrival();
-    let Some(apdu) = read_kept(alloc, item.octets())? else {
+    let Some(apdu) = &reading.apdu else {
         return Ok(None);
     };
-    let made = delivery_report_in(alloc, tables, number, arrival, &apdu, recipient, moment);
-    apdu.discard();
-    report_item(alloc, made?, moment)
+    let made = delivery_report_in(alloc, tables, number, arrival, apdu, recipient, moment)?;
+    report_item(alloc, made, moment)
 }
 
 /// The item that is the non-delivery report on a recipient of an item, made at a moment as the item of a number; none
@@ -213,12 +216,14 @@ pub fn non_delivery_item(
     tables: &Tables,
     number: u64,
     item: &Item,
+    reading: &Reading<'_>,
     recipient: u32,
     reason: u32,
     diagnostic: Option<u32>,
     moment: u64,
 ) -> Result<Option<Item>, Memory>
     requires arrived { item.now.arrival ≤ last_moment }
+    requires reading { IsReadingOf item.now.octets reading.now }
     requires reason { IsCode reason }
     requires diagnostic { IfSome diagnostic IsCode }
     ensures { let about = rules.non_delivery_report tables.now.text number item.now recipient reason diagnostic in
@@ -226,12 +231,11 @@ pub fn non_delivery_item(
 {
     text_reads(tables);
     let arrival = item.arrival();
-    let Some(apdu) = read_kept(alloc, item.octets())? else {
+    let Some(apdu) = &reading.apdu else {
         return Ok(None);
     };
     let made = non_delivery_report_in(
-        alloc, tables, number, arrival, &apdu, recipient, reason, diagnostic,
-    );
-    apdu.discard();
-    report_item(alloc, made?, moment)
+        alloc, tables, number, arrival, apdu, recipient, reason, diagnostic,
+    )?;
+    report_item(alloc, made, moment)
 }

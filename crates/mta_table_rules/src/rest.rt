@@ -4,16 +4,17 @@ ghost use Rattle.std.specs.Prelude.{◌≡◌, ◌≤◌, ◌<◌, ◌^◌, ◌+
 ghost use Rattle.mta_apdu.specs.Apdus.{apdu_value};
 ghost use Rattle.mta_ber.specs.Times.{last_moment};
 ghost use Rattle.mta_state.specs.Asked.{IsRestOf};
+ghost use Rattle.mta_state.specs.Readings.{IsCounted, IsReadingOf};
 ghost use Rattle.mta_table_rules.specs.Rests.{IsLookAt, IsRestUnder};
 
 use crate::idle::{calls_at_once, next_under};
-use crate::reading::{read_kept, text_reads};
+use crate::reading::text_reads;
 use crate::routes::{place_of_relay, place_of_route};
 use crate::verdicts::verdict_under;
 use mta_apdu::Apdu;
 use mta_ber::Memory;
 use mta_machine::Item;
-use mta_state::{Rest, is_pending};
+use mta_state::{Reading, Rest, is_pending};
 use mta_tables::Tables;
 use std::alloc::Global;
 
@@ -31,11 +32,13 @@ fn look_at(
     alloc: Global,
     tables: &Tables,
     apdu: &Apdu<'_>,
+    back: u64,
     item: &Item,
     recipient: u32,
     moment: u64,
 ) -> Result<Option<Places>, Memory>
     requires arrived { item.now.arrival ≤ last_moment }
+    requires back { IsCounted apdu.now back }
     ensures { IfOk result (IsLookAt tables.now (apdu_value apdu.now) item.now recipient moment) }
 {
     let pending = is_pending(item, recipient);
@@ -45,7 +48,7 @@ fn look_at(
             relay: None,
         }));
     }
-    let verdict = verdict_under(alloc, tables, apdu, item.arrival(), recipient, moment)?;
+    let verdict = verdict_under(alloc, tables, apdu, back, item.arrival(), recipient, moment)?;
     let calls = calls_at_once(verdict);
     if calls {
         return Ok(None);
@@ -71,10 +74,12 @@ pub fn rest_under(
     alloc: Global,
     tables: &Tables,
     apdu: &Apdu<'_>,
+    back: u64,
     item: &Item,
     moment: u64,
 ) -> Result<Option<Rest>, Memory>
     requires arrived { item.now.arrival ≤ last_moment }
+    requires back { IsCounted apdu.now back }
     requires few { length item.now.statuses < 2 ^ 32 }
     ensures { IfOk result (IsRestUnder tables.now (apdu_value apdu.now) item.now moment) }
 {
@@ -84,10 +89,10 @@ pub fn rest_under(
     let count = item.statuses().len() as u32;
     let mut routes: Vec<u32> = Vec::new(alloc);
     let mut relays: Vec<u32> = Vec::new(alloc);
-    let mut recipient: u32 = 0;
+    let mut recipient = item.settled() as u32;
     while recipient < count {
         recipient += 1;
-        let Some(places) = look_at(alloc, tables, apdu, item, recipient, moment)? else {
+        let Some(places) = look_at(alloc, tables, apdu, back, item, recipient, moment)? else {
             return Ok(None);
         };
         add(&mut routes, places.route)?;
@@ -106,17 +111,17 @@ pub fn rest(
     alloc: Global,
     tables: &Tables,
     item: &Item,
+    reading: &Reading<'_>,
     moment: u64,
 ) -> Result<Option<Rest>, Memory>
     requires arrived { item.now.arrival ≤ last_moment }
+    requires reading { IsReadingOf item.now.octets reading.now }
     requires few { length item.now.statuses < 2 ^ 32 }
     ensures { IfOk result (IsRestOf tables.now.text item.now moment) }
 {
     text_reads(tables);
-    let Some(apdu) = read_kept(alloc, item.octets())? else {
+    let Some(apdu) = &reading.apdu else {
         return Ok(None);
     };
-    let rest = rest_under(alloc, tables, &apdu, item, moment);
-    apdu.discard();
-    rest
+    rest_under(alloc, tables, apdu, reading.back, item, moment)
 }

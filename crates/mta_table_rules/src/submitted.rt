@@ -15,7 +15,7 @@ use crate::rest::rest_under;
 use mta_apdu::Apdu;
 use mta_ber::{Memory, Octets, ReadFault};
 use mta_machine::{Item, Origin, Statuses};
-use mta_state::Submitted;
+use mta_state::{Submitted, back_of};
 use mta_tables::Tables;
 use std::alloc::Global;
 use std::sync::Arc;
@@ -36,7 +36,8 @@ fn submitted_as(
     text_reads(tables);
     let statuses = Statuses::of_apdu(alloc, apdu)?;
     let item = Item::new(octets, moment, Origin::Submitted, statuses);
-    let rest = rest_under(alloc, tables, apdu, &item, moment)?;
+    let back = back_of(apdu);
+    let rest = rest_under(alloc, tables, apdu, back, &item, moment)?;
     Ok(Submitted { item, rest })
 }
 

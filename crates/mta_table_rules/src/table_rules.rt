@@ -14,7 +14,7 @@ use mta_ber::{Memory, Octets, Word};
 use mta_machine::Item;
 use mta_procedures::Verdict;
 use mta_records::Outgoing;
-use mta_state::{Delivery, Made, Rest, Rules, Submitted};
+use mta_state::{Delivery, Made, Reading, Rest, Rules, Submitted};
 use mta_tables::{Tables, TablesFault};
 use std::alloc::Global;
 use std::marker::Model;
@@ -73,26 +73,26 @@ impl Rules for TableRules {
     fn verdict(
         &self,
         alloc: Global,
-        octets: &[u8],
-        arrival: u64,
+        item: &Item,
+        reading: &Reading<'_>,
         recipient: u32,
         moment: u64,
     ) -> Result<Option<Verdict>, Memory> {
-        verdict(alloc, &self.tables, octets, arrival, recipient, moment)
+        verdict(alloc, &self.tables, item, reading, recipient, moment)
     }
 
-    fn has_expired(
+    fn has_expired(&self, item: &Item, reading: &Reading<'_>, moment: u64) -> bool {
+        has_expired(&self.tables, item, reading, moment)
+    }
+
+    fn rest(
         &self,
         alloc: Global,
-        octets: &[u8],
-        arrival: u64,
+        item: &Item,
+        reading: &Reading<'_>,
         moment: u64,
-    ) -> Result<bool, Memory> {
-        has_expired(alloc, &self.tables, octets, arrival, moment)
-    }
-
-    fn rest(&self, alloc: Global, item: &Item, moment: u64) -> Result<Option<Rest>, Memory> {
-        rest(alloc, &self.tables, item, moment)
+    ) -> Result<Option<Rest>, Memory> {
+        rest(alloc, &self.tables, item, reading, moment)
     }
 
     fn submitted(
@@ -104,18 +104,18 @@ impl Rules for TableRules {
         submitted(alloc, &self.tables, octets, moment)
     }
 
-    fn passes_back(&self, alloc: Global, items: &[Item], item: &Item) -> Result<bool, Memory> {
-        passes_back(alloc, &self.tables, items, item)
-    }
-
-    fn routes_to(
+    fn passes_back(
         &self,
         alloc: Global,
-        octets: &[u8],
-        recipient: u32,
-        peer: &[u8],
+        items: &[Item],
+        item: &Item,
+        reading: &Reading<'_>,
     ) -> Result<bool, Memory> {
-        routes_to(alloc, &self.tables, octets, recipient, peer)
+        passes_back(alloc, &self.tables, items, item, reading)
+    }
+
+    fn routes_to(&self, item: &Item, reading: &Reading<'_>, recipient: u32, peer: &[u8]) -> bool {
+        routes_to(&self.tables, item, reading, recipient, peer)
     }
 
     fn names_peer(&self, word: &[u8]) -> bool {
@@ -135,10 +135,19 @@ impl Rules for TableRules {
         alloc: Global,
         number: u64,
         item: &Item,
+        reading: &Reading<'_>,
         recipient: u32,
         moment: u64,
     ) -> Result<Option<Delivery>, Memory> {
-        delivery(alloc, &self.tables, number, item, recipient, moment)
+        delivery(
+            alloc,
+            &self.tables,
+            number,
+            item,
+            reading,
+            recipient,
+            moment,
+        )
     }
 
     fn delivery_report(
@@ -146,10 +155,19 @@ impl Rules for TableRules {
         alloc: Global,
         number: u64,
         item: &Item,
+        reading: &Reading<'_>,
         recipient: u32,
         moment: u64,
     ) -> Result<Option<Item>, Memory> {
-        delivery_item(alloc, &self.tables, number, item, recipient, moment)
+        delivery_item(
+            alloc,
+            &self.tables,
+            number,
+            item,
+            reading,
+            recipient,
+            moment,
+        )
     }
 
     fn non_delivery_report(
@@ -157,6 +175,7 @@ impl Rules for TableRules {
         alloc: Global,
         number: u64,
         item: &Item,
+        reading: &Reading<'_>,
         recipient: u32,
         reason: u32,
         diagnostic: Option<u32>,
@@ -167,6 +186,7 @@ impl Rules for TableRules {
             &self.tables,
             number,
             item,
+            reading,
             recipient,
             reason,
             diagnostic,
@@ -179,10 +199,19 @@ impl Rules for TableRules {
         alloc: Global,
         number: u64,
         item: &Item,
+        reading: &Reading<'_>,
         recipient: u32,
         moment: u64,
     ) -> Result<Made, Memory> {
-        expansion_items(alloc, &self.tables, number, item, recipient, moment)
+        expansion_items(
+            alloc,
+            &self.tables,
+            number,
+            item,
+            reading,
+            recipient,
+            moment,
+        )
     }
 
     fn passed_back(
@@ -190,10 +219,11 @@ impl Rules for TableRules {
         alloc: Global,
         items: &[Item],
         item: &Item,
+        reading: &Reading<'_>,
         recipient: u32,
         moment: u64,
     ) -> Result<Option<Item>, Memory> {
-        passed_item(alloc, &self.tables, items, item, recipient, moment)
+        passed_item(alloc, &self.tables, items, item, reading, recipient, moment)
     }
 
     fn outgoing_copy(
@@ -201,6 +231,7 @@ impl Rules for TableRules {
         alloc: Global,
         activity: u32,
         item: &Item,
+        reading: &Reading<'_>,
         recipients: &[u32],
         recipient: u32,
         moment: u64,
@@ -210,6 +241,7 @@ impl Rules for TableRules {
             &self.tables,
             activity,
             item,
+            reading,
             recipients,
             recipient,
             moment,

@@ -19,16 +19,20 @@ ghost use Rattle.mta_machine.specs.Items.{numbered};
 ghost use Rattle.mta_machine.specs.Rules.{expired_under, is_expired, verdict_of, verdict_under};
 ghost use Rattle.mta_table_rules.specs.Counts.{CountsAsLength};
 ghost use Rattle.mta_state.specs.Asked.{CodesAreCodes};
+ghost use Rattle.mta_state.specs.Readings.{IsCounted, IsReadingOf};
+ghost use Rattle.mta_rules.specs.Cases.{IsBackOf};
 
-use crate::reading::{read_kept, recipient_of, text_reads};
+use crate::reading::{recipient_of, text_reads};
 use mta_apdu::Apdu;
 use mta_ber::Memory;
 use mta_envelope::{Envelope, Message, Priority, Probe};
 use mta_envelope_recipient::RecipientFields;
 use mta_lists::expand;
+use mta_machine::Item;
 use mta_procedures::Verdict;
 use mta_report::Report;
 use mta_rules::{is_expired, verdict_on_message, verdict_on_probe, verdict_report};
+use mta_state::Reading;
 use mta_tables::{Hop, Tables};
 use std::alloc::Global;
 
@@ -95,11 +99,13 @@ fn of_message(
     alloc: Global,
     tables: &Tables,
     message: &Message<'_>,
+    back: u64,
     arrival: u64,
     recipient: u32,
     moment: u64,
 ) -> Result<Option<Verdict>, Memory>
-    requires { arrival ≤ last_moment }
+    requires arrival { arrival ≤ last_moment }
+    requires back { IsBackOf message.now.envelope back }
     ensures { let s = situation tables.now arrival moment in
         let recipients = message.now.envelope.recipients in
         IfOk result (λ v. v
@@ -111,25 +117,27 @@ fn of_message(
     };
     let who = found.fields();
     let members = members_length(alloc, tables, arrival, message, recipient, who)?;
-    let verdict = verdict_on_message(tables, arrival, message, who, members, moment);
+    let verdict = verdict_on_message(tables, arrival, message, back, who, members, moment);
     Ok(Some(verdict))
 }
 
 fn of_probe(
     tables: &Tables,
     probe: &Probe,
+    back: u64,
     arrival: u64,
     recipient: u32,
     moment: u64,
 ) -> Option<Verdict>
-    requires { arrival ≤ last_moment }
+    requires arrival { arrival ≤ last_moment }
+    requires back { IsBackOf probe.now.envelope back }
     ensures { let s = situation tables.now arrival moment in
         result
         ≡ option_map (verdict_of_probe s probe.now.envelope) (numbered probe.now.envelope.recipients recipient) }
 {
     let recipients = probe.envelope.fields().recipients.as_slice();
     let found = recipient_of(recipients, recipient)?;
-    Some(verdict_on_probe(tables, arrival, probe, found.fields(), moment))
+    Some(verdict_on_probe(tables, arrival, probe, back, found.fields(), moment))
 }
 
 /// A report that comes to a list has the verdict Back.
@@ -150,46 +158,59 @@ fn of_report(
     Some(verdict_report(tables, arrival, report, Some(back), moment))
 }
 
-/// The verdict on a recipient of an APDU that was read.
+/// The verdict on a recipient of an APDU that was read, where that was counted which is counted once for all.
 pub fn verdict_under(
     alloc: Global,
     tables: &Tables,
     apdu: &Apdu<'_>,
+    back: u64,
     arrival: u64,
     recipient: u32,
     moment: u64,
 ) -> Result<Option<Verdict>, Memory>
-    requires { arrival ≤ last_moment }
+    requires arrival { arrival ≤ last_moment }
+    requires back { IsCounted apdu.now back }
     ensures { IfOk result (λ v. v ≡ verdict_under tables.now (apdu_value apdu.now) arrival recipient moment) }
 {
     match apdu {
-        Apdu::Message(message) => of_message(alloc, tables, message, arrival, recipient, moment),
-        Apdu::Probe(probe) => Ok(of_probe(tables, probe, arrival, recipient, moment)),
+        Apdu::Message(message) => {
+            of_message(alloc, tables, message, back, arrival, recipient, moment)
+        }
+        Apdu::Probe(probe) => Ok(of_probe(tables, probe, back, arrival, recipient, moment)),
         Apdu::Report(report) => Ok(of_report(tables, report, arrival, recipient, moment)),
     }
 }
 
-/// The verdict on a recipient of an APDU that arrived at a moment, looked at at another; none where the octets are
-/// those of no APDU, or where it has no such recipient.
+/// The verdict on a recipient of an item, looked at at a moment; none where its octets are those of no APDU, or where
+/// it has no such recipient.
 pub fn verdict(
     alloc: Global,
     tables: &Tables,
-    octets: &[u8],
-    arrival: u64,
+    item: &Item,
+    reading: &Reading<'_>,
     recipient: u32,
     moment: u64,
 ) -> Result<Option<Verdict>, Memory>
-    requires { arrival ≤ last_moment }
-    ensures exact { IfOk result (λ v. v ≡ verdict_of tables.now.text octets.now arrival recipient moment) }
+    requires arrived { item.now.arrival ≤ last_moment }
+    requires reading { IsReadingOf item.now.octets reading.now }
+    ensures exact { IfOk result
+        (λ v. v ≡ verdict_of tables.now.text item.now.octets item.now.arrival recipient moment) }
     ensures codes { IfOk result CodesAreCodes }
 {
     text_reads(tables);
-    let Some(apdu) = read_kept(alloc, octets)? else {
+    let arrival = item.arrival();
+    let Some(apdu) = &reading.apdu else {
         return Ok(None);
     };
-    let verdict = verdict_under(alloc, tables, &apdu, arrival, recipient, moment);
-    apdu.discard();
-    verdict
+    verdict_under(
+        alloc,
+        tables,
+        apdu,
+        reading.back,
+        arrival,
+        recipient,
+        moment,
+    )
 }
 
 fn envelope_expired(tables: &Tables, envelope: &Envelope, arrival: u64, moment: u64) -> bool
@@ -211,22 +232,16 @@ fn expired_under(tables: &Tables, apdu: &Apdu<'_>, arrival: u64, moment: u64) ->
     }
 }
 
-/// Whether an APDU that arrived at a moment has waited for its hold time.
-pub fn has_expired(
-    alloc: Global,
-    tables: &Tables,
-    octets: &[u8],
-    arrival: u64,
-    moment: u64,
-) -> Result<bool, Memory>
-    requires { arrival ≤ last_moment }
-    ensures { IfOk result (λ b. b ≡ is_expired tables.now.text octets.now arrival moment) }
+/// Whether an item has waited for its hold time at a moment.
+pub fn has_expired(tables: &Tables, item: &Item, reading: &Reading<'_>, moment: u64) -> bool
+    requires arrived { item.now.arrival ≤ last_moment }
+    requires reading { IsReadingOf item.now.octets reading.now }
+    ensures { result ≡ is_expired tables.now.text item.now.octets item.now.arrival moment }
 {
     text_reads(tables);
-    let Some(apdu) = read_kept(alloc, octets)? else {
-        return Ok(false);
+    let arrival = item.arrival();
+    let Some(apdu) = &reading.apdu else {
+        return false;
     };
-    let expired = expired_under(tables, &apdu, arrival, moment);
-    apdu.discard();
-    Ok(expired)
+    expired_under(tables, apdu, arrival, moment)
 }

@@ -1,4 +1,5 @@
-use Rattle.std.proofs.Common.{◌≡◌, ◌+◌, ◌<◌, List, [], ◌∷◌, ◌++◌, length, ap, ◌∙◌, arith}
+use Rattle.std.proofs.Common.{◌≡◌, ◌+◌, ◌<◌, ℕ, Bool, false, List, [], ◌∷◌, ◌++◌, length, get_or, ap, ◌∙◌, arith}
+use Rattle.std.proofs.lemmas.List.{get_or_default}
 use Rattle.mta_envelope_recipient.specs.declared.recipient.RecipientFields.{RecipientFields}
 use Rattle.mta_procedures.specs.Copies.{is_chosen, responsible_if}
 use Rattle.mta_copies.proofs.Responsible.{chosen_more}
@@ -12,8 +13,14 @@ loop-recipient-preserved c =
     let r : RecipientFields = c.recipient-item.result in
     let row : List RecipientFields = c.loop-recipient.row in
     let below : i < length rs = omega arith in
-    let flag : c.is_chosen-responsible.result ≡ is_chosen chosen (i + 1) =
-    c.is_chosen-responsible.ensures ∙ ap (is_chosen chosen) c.loop-recipient.invariant.1 in
+    let flags : List Bool = c.in_ok-flags.flags.items in
+    let as_many : length flags ≡ length rs = c.in_ok-flags.ensures.as_many in
+    let flag : c.index.result.now ≡ is_chosen chosen (i + 1) =
+    c.index.ensures
+    ∙ get_or_default flags c.loop-recipient.place c.index.result.now false
+    (omega (arith, below, as_many, c.loop-recipient.invariant.1))
+    ∙ ap (λ (n : ℕ). get_or flags n false) c.loop-recipient.invariant.1
+    ∙ c.in_ok-flags.ensures.each i (omega (arith, below, as_many)) in
     let item : c.in_ok-copy.copy ≡ responsible_if (is_chosen chosen (i + 1)) r =
     c.in_ok-copy.ensures ∙ ap (λ b. responsible_if b r) flag in
     let next : c.push.new.self ≡ row ++ responsible_if (is_chosen chosen (i + 1)) r ∷ [] =

@@ -1,11 +1,20 @@
 use Rattle.std.proofs.Common.{◌≡◌, ◌+◌, ℕ, List, length, sym, ap, subst, arith}
 use Rattle.mta_state.specs.Kept.{state_of}
-use Rattle.mta_dues.specs.Answers.{AreRelayedUpTo}
-use Rattle.mta_dues.proofs.Relays.{relays_further, relays_one_more, all_relays}
+use Rattle.mta_dues.specs.Answers.{AreRelayed, AreRelayedUpTo}
+use Rattle.mta_dues.proofs.Relays.{relays_further, relays_one_more, all_relays, unrelayed_unpending}
 use Rattle.mta_dues.proofs.relay.recipients_for.Goals as goal
 
-pub loop-recipient-preserved-in-Continue-branch-2 : goal.loop-recipient-preserved-in-Continue-branch-2
-loop-recipient-preserved-in-Continue-branch-2 g c = record {
+pub returns-then-not-pending : goal.returns-then-not-pending
+returns-then-not-pending g c =
+    subst
+    (λ (xs : List ℕ). AreRelayed (state_of c.args.kept.now) c.args.peer.now c.args.moment c.args.number xs)
+    (sym c.new.ensures.items)
+    (unrelayed_unpending (state_of c.args.kept.now) c.args.peer.now c.args.moment c.args.number c.args.item.now
+    c.requires.item
+    (λ has. let does = c.has_pending-pending.ensures.1 has in let never = c.if-not-pending.true in absurd cc))
+
+pub loop-recipient-preserved-in-Continue-branch-3 : goal.loop-recipient-preserved-in-Continue-branch-3
+loop-recipient-preserved-in-Continue-branch-3 g c = record {
   within = omega (arith, c.loop-recipient-test.true);
   are = subst
       (λ (xs : List ℕ).

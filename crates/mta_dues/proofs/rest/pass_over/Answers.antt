@@ -10,12 +10,13 @@ pub returns-then-not-pending-clause-indexed : goal.returns-then-not-pending-clau
 returns-then-not-pending-clause-indexed c = λ text indexed.
     let items = c.args.kept.now.parts.items.items in
     let gone = c.leave.new.self in
-    let new : Index = record { agenda = c.let_go.new.self; ready = gone.ready; routed = gone.routed } in
+    let new : Index =
+    record { agenda = c.let_go.new.self; ready = gone.ready; routed = gone.routed; hand = gone.hand } in
     let item_is : numbered items c.args.number ≡ Some c.in-Some.item.now =
     sym c.item.ensures ∙ ap (λ o. option_copied o) c.in-Some.is in
     let_go text items gone new c.args.number c.in-Some.item.now
     (λ has. let does = c.has_pending-pending.ensures.1 has in let never = c.if-not-pending.true in absurd cc) item_is
-    c.let_go.ensures refl refl
+    c.let_go.ensures refl refl refl
     (left text items c.args.index.now gone c.args.number
     (sym c.is_active.ensures ∙ c.if-is_active.true) c.leave.ensures indexed)
 

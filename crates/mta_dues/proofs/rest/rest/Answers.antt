@@ -1,26 +1,9 @@
-use Rattle.std.proofs.Common.{◌≡◌, ℕ, List, Option, Some, true, false, refl, sym, subst, arith}
+use Rattle.std.proofs.Common.{Option, subst, arith}
 use Rattle.mta_idle_laws.proofs.Stays.{idle_until_next}
-use Rattle.mta_dues.specs.Agendas.{AgendaValue, IsAllCalled}
 use Rattle.mta_state.specs.Asked.{IsRestOf}
 use Rattle.mta_state.specs.declared.rest.Rest.{Rest}
-use Rattle.mta_dues.specs.declared.index.Index.{Index}
-use Rattle.mta_dues.proofs.Indexed.{change_later, left, let_go}
+use Rattle.mta_dues.proofs.Indexed.{change_later, left}
 use Rattle.mta_dues.proofs.rest.rest.Goals as goal
-
-pub returns-then-not-pending-clause-indexed : goal.returns-then-not-pending-clause-indexed
-returns-then-not-pending-clause-indexed g c = λ items is indexed.
-    let text = g.R.Rules.text c.args.rules.now in
-    let gone = c.leave.new.self in
-    let new : Index = record { agenda = c.let_go.new.self; ready = gone.ready; routed = gone.routed } in
-    let_go text items gone new c.args.number c.args.item.now
-    (λ has. let does = c.has_pending-pending.ensures.1 has in let never = c.if-not-pending.true in absurd cc) is
-    c.let_go.ensures refl refl
-    (left text items c.args.index.now gone c.args.number c.requires.active c.leave.ensures indexed)
-
-pub returns-then-not-pending-clause-called : goal.returns-then-not-pending-clause-called
-returns-then-not-pending-clause-called g c = λ count all.
-    c.let_go.ensures.called count c.args.moment
-    (subst (λ (a : AgendaValue). IsAllCalled a count c.args.moment) (sym c.leave.ensures.agenda) all)
 
 pub put_to_rest-requires-clause-later : goal.put_to_rest-requires-clause-later
 put_to_rest-requires-clause-later g c =
@@ -36,8 +19,8 @@ returns-in_err-put_to_rest-in-Some-clause-indexed g c = λ items is indexed.
     let rests = subst (λ (o : Option Rest). IsRestOf text c.args.item.now c.args.moment o) c.in-Some.is
     c.in_ok-rest.ensures in
     c.put_to_rest.ensures.indexed text items c.args.item.now is rests
-    (left text items c.args.index.now c.leave-in-Some.new.self c.args.number c.requires.active
-    c.leave-in-Some.ensures indexed)
+    (left text items c.args.index.now c.leave.new.self c.args.number c.requires.active
+    c.leave.ensures indexed)
 
 pub returns-in_ok-put_to_rest-in-Some-clause-idle : goal.returns-in_ok-put_to_rest-in-Some-clause-idle
 returns-in_ok-put_to_rest-in-Some-clause-idle g c = λ e.
@@ -54,5 +37,5 @@ returns-in_ok-put_to_rest-in-Some-clause-indexed g c = λ items is indexed.
     let rests = subst (λ (o : Option Rest). IsRestOf text c.args.item.now c.args.moment o) c.in-Some.is
     c.in_ok-rest.ensures in
     c.put_to_rest.ensures.indexed text items c.args.item.now is rests
-    (left text items c.args.index.now c.leave-in-Some.new.self c.args.number c.requires.active
-    c.leave-in-Some.ensures indexed)
+    (left text items c.args.index.now c.leave.new.self c.args.number c.requires.active
+    c.leave.ensures indexed)

@@ -1,16 +1,55 @@
-use Rattle.std.proofs.Common.{sym}
+use Rattle.std.proofs.Common.{sym, subst}
 use Rattle.mta_state.specs.Kept.{state_of}
+use Rattle.mta_dues.specs.Agendas.{AgendaValue, IsAllCalled}
 use Rattle.mta_dues.proofs.Idle.{nothing_of_idle}
 use Rattle.mta_dues.proofs.Passed.{stored_at}
 use Rattle.mta_dues.proofs.scan.look.Goals as goal
 
-pub returns-then-branch-clause-first : goal.returns-then-branch-clause-first
-returns-then-branch-clause-first g c =
-    nothing_of_idle (state_of c.args.kept.now) c.args.number c.args.moment (g.R.Rules.text c.args.rules.now)
-    c.in-Some.item.now c.requires.kept c.requires.text (sym c.in-Some.ensures)
-    (c.in_ok-rest.ensures.idle c.if-branch.true)
-
-pub first_of-requires-clause-stored : goal.first_of-requires-clause-stored
-first_of-requires-clause-stored g c =
+pub rests_for_good-requires-clause-stored : goal.rests_for_good-requires-clause-stored
+rests_for_good-requires-clause-stored g c =
     stored_at c.args.kept.now.parts.items.items c.args.number c.in-Some.item.now c.requires.stored
     (sym c.in-Some.ensures)
+
+pub returns-then-rests_for_good-clause-first : goal.returns-then-rests_for_good-clause-first
+returns-then-rests_for_good-clause-first g c =
+    nothing_of_idle (state_of c.args.kept.now) c.args.number c.args.moment (g.R.Rules.text c.args.rules.now)
+    c.in-Some.item.now c.requires.kept c.requires.text (sym c.in-Some.ensures)
+    (c.rests_for_good.ensures.idle c.if-rests_for_good.true (g.R.Rules.text c.args.rules.now) c.args.moment)
+
+pub returns-then-rests_for_good-clause-indexed : goal.returns-then-rests_for_good-clause-indexed
+returns-then-rests_for_good-clause-indexed g c =
+    c.rests_for_good.ensures.indexed (g.R.Rules.text c.args.rules.now) c.args.kept.now.parts.items.items
+    (sym c.in-Some.ensures) c.requires.indexed
+
+pub returns-then-rests_for_good-clause-called : goal.returns-then-rests_for_good-clause-called
+returns-then-rests_for_good-clause-called g c = λ count all.
+    c.rests_for_good.ensures.called count c.args.moment all
+
+pub returns-in_err-reading-clause-indexed : goal.returns-in_err-reading-clause-indexed
+returns-in_err-reading-clause-indexed g c =
+    c.take.ensures.indexed (g.R.Rules.text c.args.rules.now) c.args.kept.now.parts.items.items
+    (c.rests_for_good.ensures.indexed (g.R.Rules.text c.args.rules.now) c.args.kept.now.parts.items.items
+    (sym c.in-Some.ensures) c.requires.indexed)
+
+pub look_at-found-requires-clause-stored : goal.look_at-found-requires-clause-stored
+look_at-found-requires-clause-stored g c =
+    stored_at c.args.kept.now.parts.items.items c.args.number c.in-Some.item.now c.requires.stored
+    (sym c.in-Some.ensures)
+
+pub look_at-found-requires-clause-indexed : goal.look_at-found-requires-clause-indexed
+look_at-found-requires-clause-indexed g c =
+    c.take.ensures.indexed (g.R.Rules.text c.args.rules.now) c.args.kept.now.parts.items.items
+    (c.rests_for_good.ensures.indexed (g.R.Rules.text c.args.rules.now) c.args.kept.now.parts.items.items
+    (sym c.in-Some.ensures) c.requires.indexed)
+
+pub returns-clause-indexed : goal.returns-clause-indexed
+returns-clause-indexed g c =
+    c.keep.ensures.indexed (g.R.Rules.text c.args.rules.now) c.args.kept.now.parts.items.items c.in-Some.item.now
+    (sym c.in-Some.ensures) c.in_ok-reading.ensures.reading c.look_at-found.ensures.indexed
+
+pub returns-clause-called : goal.returns-clause-called
+returns-clause-called g c = λ count all.
+    subst (λ (a : AgendaValue). IsAllCalled a count c.args.moment) (sym c.keep.ensures.agenda)
+    (c.look_at-found.ensures.called count
+    (subst (λ (a : AgendaValue). IsAllCalled a count c.args.moment) (sym c.take.ensures.agenda)
+    (c.rests_for_good.ensures.called count c.args.moment all)))

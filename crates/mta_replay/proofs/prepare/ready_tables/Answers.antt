@@ -12,5 +12,5 @@ returns-in-Some-prepare_tables-clause-ready g c =
       is_change = c.in-Some-prepare_tables.ensures (state_of c.args.kept.now) c.requires.numbers;
       under = ap (λ (t : List ℕ). Some t)
           (ap g.R.Rules.text c.new.ensures.rules ∙ (under.0 ∙ c.as_slice.ensures));
-      fresh = c.new.ensures.fresh;
+      fresh = (c.new.ensures.known, c.new.ensures.hand);
     }

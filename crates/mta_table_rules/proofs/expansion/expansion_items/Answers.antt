@@ -4,25 +4,24 @@ use Rattle.mta_state.specs.Parts.{made_items}
 use Rattle.mta_machine.specs.Machine.{own_item}
 use Rattle.mta_machine.specs.Rules.{expansion, expansion_under, verdict_under}
 use Rattle.mta_state.specs.Asked.{Expands}
-use Rattle.mta_table_rules.proofs.Read.{expansion_is, if_ok_so, kept_is, verdict_is}
+use Rattle.mta_state.proofs.Decodings.{reading_is}
+use Rattle.mta_table_rules.proofs.Read.{expansion_is, if_ok_so, verdict_is}
 use Rattle.mta_table_rules.proofs.expansion.expansion_items.Goals as goal
 
 pub returns-in_default : goal.returns-in_default
 returns-in_default c =
     let none = expansion_is c.args.tables.now c.args.number c.args.item.now None c.args.recipient c.args.moment
     c.text_reads.ensures
-    (kept_is c.args.item.now.octets c.octets.result.now c.in_ok-apdu.field-0 None c.octets.ensures
-    c.in_ok-apdu.ensures.value c.in_default.is) in
+    (reading_is c.args.item.now.octets c.args.reading.now None c.requires.reading c.in_default.is) in
     ap made_items c.nothing.ensures ∙ ap (λ (xs : List ApduValue). map (own_item c.args.moment) xs) (sym none)
 
-pub expanded_in-made-requires-clause-list : goal.expanded_in-made-requires-clause-list
-expanded_in-made-requires-clause-list c =
+pub expanded_in-requires-clause-list : goal.expanded_in-requires-clause-list
+expanded_in-requires-clause-list c =
     let t = c.args.tables.now in
     let item = c.args.item.now in
     let v : ApduValue = apdu_value c.in-Some.apdu in
     let same = verdict_is t item.octets v item.arrival c.args.recipient c.args.moment c.text_reads.ensures
-    (kept_is item.octets c.octets.result.now c.in_ok-apdu.field-0 (Some c.in-Some.apdu) c.octets.ensures
-    c.in_ok-apdu.ensures.value c.in-Some.is) in
+    (reading_is item.octets c.args.reading.now (Some c.in-Some.apdu) c.requires.reading c.in-Some.is) in
     subst Expands (same ∙ ap (λ n. verdict_under t v n c.args.recipient c.args.moment) (sym c.arrival-arrival.ensures))
     c.requires.list
 
@@ -32,9 +31,8 @@ returns c =
     let item = c.args.item.now in
     let v : ApduValue = apdu_value c.in-Some.apdu in
     let same = expansion_is t c.args.number item (Some v) c.args.recipient c.args.moment c.text_reads.ensures
-    (kept_is item.octets c.octets.result.now c.in_ok-apdu.field-0 (Some c.in-Some.apdu) c.octets.ensures
-    c.in_ok-apdu.ensures.value c.in-Some.is) in
-    if_ok_so c.expanded_in-made.result
+    (reading_is item.octets c.args.reading.now (Some c.in-Some.apdu) c.requires.reading c.in-Some.is) in
+    if_ok_so c.expanded_in.result
     (λ made. made_items made ≡ map (own_item c.args.moment)
     (expansion_under (Some t) c.args.number c.arrival-arrival.result (Some v) c.args.recipient c.args.moment))
     (λ made. made_items made ≡ map (own_item c.args.moment)
@@ -43,4 +41,4 @@ returns c =
     ∙ ap (λ n. map (own_item c.args.moment)
     (expansion_under (Some t) c.args.number n (Some v) c.args.recipient c.args.moment)) c.arrival-arrival.ensures
     ∙ ap (λ (xs : List ApduValue). map (own_item c.args.moment) xs) (sym same))
-    c.expanded_in-made.ensures
+    c.expanded_in.ensures

@@ -3,15 +3,15 @@ use Rattle.std.specs.Prelude.{is_some}
 use Rattle.mta_apdu.specs.Apdus.{ApduValue, apdu_value}
 use Rattle.mta_machine.specs.declared.item.Origin.{Origin}
 use Rattle.mta_machine.specs.Rules.{passed_back, passed_under}
-use Rattle.mta_table_rules.proofs.Read.{if_ok_so, kept_is, none_passed, passed_is}
+use Rattle.mta_state.proofs.Decodings.{reading_is}
+use Rattle.mta_table_rules.proofs.Read.{if_ok_so, none_passed, passed_is}
 use Rattle.mta_table_rules.proofs.passing.passes_back.Goals as goal
 
 pub returns-in_default : goal.returns-in_default
 returns-in_default c =
     ap (λ (o : Option ApduValue). is_some o)
     (sym (none_passed c.args.tables.now c.args.items.now c.args.item.now c.text_reads.ensures
-    (kept_is c.args.item.now.octets c.octets.result.now c.in_ok-apdu.field-0 None c.octets.ensures
-    c.in_ok-apdu.ensures.value c.in_default.is)))
+    (reading_is c.args.item.now.octets c.args.reading.now None c.requires c.in_default.is)))
 
 pub returns : goal.returns
 returns c =
@@ -20,12 +20,11 @@ returns c =
     let items = c.args.items.now in
     let v : ApduValue = apdu_value c.in-Some.apdu in
     let same = passed_is t items item v c.text_reads.ensures
-    (kept_is item.octets c.octets.result.now c.in_ok-apdu.field-0 (Some c.in-Some.apdu) c.octets.ensures
-    c.in_ok-apdu.ensures.value c.in-Some.is) in
-    if_ok_so c.passes_under-passes.result
+    (reading_is item.octets c.args.reading.now (Some c.in-Some.apdu) c.requires c.in-Some.is) in
+    if_ok_so c.passes_under.result
     (λ b. b ≡ is_some (passed_under items c.origin.result c.arrival.result t v))
     (λ b. b ≡ is_some (passed_back t.text items item))
     (λ b e. e ∙ ap (λ (o : Origin). is_some (passed_under items o c.arrival.result t v)) c.origin.ensures
     ∙ ap (λ (n : ℕ). is_some (passed_under items item.origin n t v)) c.arrival.ensures
     ∙ ap (λ (o : Option ApduValue). is_some o) (sym same))
-    c.passes_under-passes.ensures
+    c.passes_under.ensures

@@ -1,16 +1,22 @@
-use Rattle.std.proofs.Common.{Some, None, sym, ap, ◌∙◌}
-use Rattle.std.specs.Option.{option_map}
+use Rattle.std.proofs.Common.{ℕ, Some, None, sym, ap, ◌∙◌}
 use Rattle.mta_apdu.specs.Apdus.{apdu_value}
+use Rattle.mta_machine.specs.Rules.{expired_under}
+use Rattle.mta_state.proofs.Decodings.{reading_is}
 use Rattle.mta_table_rules.proofs.Read.{expired_is}
 use Rattle.mta_table_rules.proofs.verdicts.has_expired.Goals as goal
 
 pub returns-in_default : goal.returns-in_default
 returns-in_default c =
-    sym (expired_is c.args.tables.now c.args.octets.now None c.args.arrival c.args.moment c.text_reads.ensures
-    (c.in_ok-apdu.ensures.value ∙ ap (option_map apdu_value) c.in_default.is))
+    let item = c.args.item.now in
+    sym (expired_is c.args.tables.now item.octets None item.arrival c.args.moment c.text_reads.ensures
+    (reading_is item.octets c.args.reading.now None c.requires.reading c.in_default.is))
 
 pub returns : goal.returns
 returns c =
-    c.expired_under-expired.ensures
-    ∙ sym (expired_is c.args.tables.now c.args.octets.now (Some (apdu_value c.in-Some.apdu)) c.args.arrival
-    c.args.moment c.text_reads.ensures (c.in_ok-apdu.ensures.value ∙ ap (option_map apdu_value) c.in-Some.is))
+    let item = c.args.item.now in
+    let t = c.args.tables.now in
+    let v = apdu_value c.in-Some.apdu in
+    c.expired_under.ensures
+    ∙ ap (λ (n : ℕ). expired_under (Some t) (Some v) n c.args.moment) c.arrival-arrival.ensures
+    ∙ sym (expired_is t item.octets (Some v) item.arrival c.args.moment c.text_reads.ensures
+    (reading_is item.octets c.args.reading.now (Some c.in-Some.apdu) c.requires.reading c.in-Some.is))

@@ -1,8 +1,10 @@
-use Rattle.std.proofs.Common.{Option, subst}
+use Rattle.std.proofs.Common.{◌≡◌, ℕ, length, Option, Some, refl, sym, subst, arith}
+use Rattle.mta_machine.specs.Items.{numbered}
 use Rattle.mta_state.specs.Parts.{machine_of}
 use Rattle.mta_replay.specs.declared.replay.InForce.{InForce}
-use Rattle.mta_replay.specs.Sound.{AreLast}
+use Rattle.mta_replay.specs.Sound.{AreLast, IsSound}
 use Rattle.mta_replay.proofs.Founds.{found_later}
+use Rattle.mta_replay.proofs.Sounds.{sound_with}
 use Rattle.mta_replay.proofs.replay.Replay.note.Goals as goal
 
 pub note_in-requires : goal.note_in-requires
@@ -14,3 +16,19 @@ note_in-requires g c =
       later = found_later kept (g.R.Rules.text c.in-Some.force.rules) c.args.moment c.args.rest last
           c.requires.found;
     }
+
+pub returns-in-Some-clause-sound : goal.returns-in-Some-clause-sound
+returns-in-Some-clause-sound g c =
+    let kept = c.args.self.now.kept in
+    let force : InForce g.row.R.Denot = c.in-Some.force in
+    let new : InForce g.row.R.Denot = record { rules = force.rules; index = c.note_in.new.index } in
+    let text = g.R.Rules.text force.rules in
+    let items = kept.parts.items.items in
+    let sound : IsSound g.R.Rules.text kept (Some force) =
+    subst (λ (o : Option (InForce g.row.R.Denot)). IsSound g.R.Rules.text kept o) c.in-Some.is c.requires.sound in
+    let found = c.requires.found in
+    let count : c.len-count.result ≡ length items = omega (arith, c.len-count.ensures, kept.parts.items.ok.0) in
+    let at : numbered items c.len-count.result ≡ Some found.item =
+    subst (λ (n : ℕ). numbered items n ≡ Some found.item) (sym count) found.item_is in
+    sound_with g.R.Rules.text kept force new refl
+    (c.note_in.ensures text items found.item at (found.found text sound.last) sound.indexed) sound

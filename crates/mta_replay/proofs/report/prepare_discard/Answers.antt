@@ -1,0 +1,5 @@
+use Rattle.std.proofs.Common.{sym}
+use Rattle.mta_replay.proofs.report.prepare_discard.Goals as goal
+
+pub ready_verdict-requires-clause-reading : goal.ready_verdict-requires-clause-reading
+ready_verdict-requires-clause-reading g c = c.requires.reading c.in-Some.found.now (sym c.in-Some.ensures)
