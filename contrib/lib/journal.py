@@ -1,6 +1,7 @@
 """The journal of a spool, as mta.spool(5) lays it out, read without its lock while `mta` may append to it.
 
-A record counts once its gate is open, and what stands before a gate does not change any more. So whoever reads from
+A spool has two areas, or one where it is older, and one of them is current. A record counts once its gate is open, and
+what stands before a gate does not change any more while its area is current. So whoever reads the current area from
 front to back, up to the first closed gate, has a beginning of the history.
 """
 import calendar
@@ -8,9 +9,10 @@ import os
 import time
 
 MAGIC = b"MTASPL01"
-FIRST_GATE = 8
-MOST = 268435456  # octets of a spool
-LONGEST_BODY = 4194304
+AREAS = MAGIC + bytes([1, 0, 0, 0, 10, 255])  # how a spool of two areas begins
+ONLY_GATE, FIRST_GATE = 8, 23  # where the records begin in the only area, and in the first of two
+MOST = 536870912  # octets of a spool
+LONGEST_BODY, LONGEST_FIRST = 4194304, 268435456
 OPEN = 1
 FROM_1950 = calendar.timegm((1950, 1, 1, 0, 0, 0))
 
@@ -79,10 +81,11 @@ def step_of(body):
 
 
 class Journal:
-    """The records of a spool's file, from the first one on. `at` is the place of the next gate."""
+    """The records of a spool's file, from the first one on. `at` is the place of the next gate, and `first` that of the
+    first one in the current area."""
 
     def __init__(self, path):
-        self.path, self.file, self.at = path, None, FIRST_GATE
+        self.path, self.file, self.at, self.first = path, None, ONLY_GATE, ONLY_GATE
 
     def is_open(self):
         """Opens the file where it is there and has its first octets."""
@@ -104,17 +107,35 @@ class Journal:
             self.file.close()
             self.file = None
 
+    def first_gate(self):
+        """Where the current area begins."""
+        head = os.pread(self.file.fileno(), FIRST_GATE + 1, 0)
+        if len(head) <= FIRST_GATE or not head.startswith(AREAS):
+            return ONLY_GATE
+        selector, high = head[len(AREAS)], head[len(AREAS) + 1:FIRST_GATE]
+        return int.from_bytes(high, "big") if selector == 1 else FIRST_GATE
+
+    def find_area(self):
+        """Finds the current area. Where records of another one were read already, they are not those of the spool."""
+        first = self.first_gate()
+        if first == self.first:
+            return
+        if self.at != self.first:
+            raise NotASpool(f"{self.path} was written anew")
+        self.first = self.at = first
+
     def records(self):
         """The bodies from here to the first closed gate, each with the place of its gate."""
         if not self.is_open():
             return
+        self.find_area()
         self.file.seek(self.at)
         while True:
             gate = self.file.read(1)
             if gate != bytes([OPEN]):
                 return
             size = number_at(self.file.read(4), 0, 4)
-            if size > LONGEST_BODY:
+            if size > (LONGEST_FIRST if self.at == self.first else LONGEST_BODY):
                 raise NotASpool(f"not a spool at {self.at}")
             body = self.file.read(size)
             if len(body) < size:

@@ -37,6 +37,19 @@ fn asked(mut words: Args<Global>) -> Option<Words> {
     })
 }
 
+// Appends a body, in the only area or in the first of two.
+fn append(journal: &mut Journal<FileDisk>, body: &[u8]) -> Result<()>
+    requires { length body.now ≤ 4194304 }
+{
+    if journal.first() == 8 {
+        return journal.append(body).map_err(|_| anyhow!("not appended"));
+    }
+    if journal.first() == 23 {
+        return journal.append(body).map_err(|_| anyhow!("not appended"));
+    }
+    Err(anyhow!("the second area is current"))
+}
+
 fn append_all(alloc: Global, file: File, body: &[u8], count: u32) -> Result<()>
     requires { length body.now ≤ 4194304 }
 {
@@ -50,9 +63,7 @@ fn append_all(alloc: Global, file: File, body: &[u8], count: u32) -> Result<()>
         synced: _,
     } = opened;
     for _ in 0..count {
-        if journal.append(body).is_err() {
-            return Err(anyhow!("not appended"));
-        }
+        append(&mut journal, body)?;
     }
     Ok(())
 }

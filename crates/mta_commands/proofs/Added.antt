@@ -203,6 +203,7 @@ module _ {D C : Type 0} (disks : DiskView D) where
     one = omega arith;
     later = omega (arith, ap (λ (j : JournalShown D). disks.faults j.disk) is.0);
     told = λ f told. (f, ap (λ (j : JournalShown D). disks.content j.disk) is.0 ∙ told);
+    place = ap (λ (j : JournalShown D). j.first) is.0;
     entries = is.2 ∙ sym (append-nil old.entries);
     history = λ steps s. subst IsHistory (sym (append-nil steps)) s.history;
     own = λ steps s. tt;
@@ -220,6 +221,7 @@ module _ {D C : Type 0} (disks : DiskView D) where
     one = omega arith;
     later = appends.later;
     told = appends.told;
+    place = appends.place;
     entries = appends.entries;
     history = λ steps s. (appends.done refl steps s).history;
     own = λ steps s. (own steps s, tt);
@@ -238,6 +240,7 @@ module _ {D C : Type 0} (disks : DiskView D) where
     one = omega arith;
     later = appends.later;
     told = appends.told;
+    place = appends.place;
     entries = appends.entries ∙ sym (append-nil old.entries);
     history = λ steps s. possible-more empty steps step s.history ((appends.crash (inr refl)).possible steps s);
     own = λ steps s. (own steps s, tt);
@@ -302,6 +305,7 @@ module _ {D C : Type 0} (disks : DiskView D) where
         one = q.one;
         later = q.later;
         told = q.told;
+        place = q.place;
         entries =
             q.entries;
         history = q.history;
@@ -322,6 +326,7 @@ module _ {D C : Type 0} (disks : DiskView D) where
         one = q.one;
         later = omega (arith, p.later, q.later);
         told = λ f told. let x = p.told f told in q.told x.0 x.1;
+        place = q.place ∙ p.place;
         entries = q.entries ∙ (ap (λ (x : List Step). x ++ b) p.entries ∙ append_assoc old.entries a b);
         history = λ steps s. subst IsHistory
             (append_assoc steps a (b ++ torn_step) ∙ ap (λ (x : List Step). steps ++ x) whole)
@@ -350,6 +355,7 @@ module _ {D C : Type 0} (disks : DiskView D) where
         one = p.one;
         later = p.later;
         told = p.told;
+        place = p.place;
         entries = p.entries;
         history = p.history;
         own = λ steps s. own_more tells other conf input (after steps) (a ++ torn_step) more
@@ -368,6 +374,7 @@ module _ {D C : Type 0} (disks : DiskView D) where
             p.one;
         later = p.later;
         told = p.told;
+        place = p.place;
         entries = p.entries;
         history = p.history;
         own = p.own;

@@ -1,53 +1,26 @@
 -- What a run leaves of its disk, from what opening and working leave.
-use Rattle.std.proofs.Common.{inl, inr, ⊎_elim, ◌≡◌, ℕ, ◌≤◌, ◌<◌, List, [], ◌++◌, length, map}
+use Rattle.std.proofs.Common.{inl, inr, ⊎_elim, ◌≡◌, ℕ, ◌≤◌, List, [], ◌++◌, length}
 use Rattle.std.proofs.Common.{Some, refl, sym}
 use Rattle.std.proofs.Common.{subst, ◌∙◌, arith}
 use Rattle.std.specs.Prelude.{◌⊎◌}
-use Rattle.std.proofs.lemmas.Bool.{cases_lt}
 use Rattle.mta_edge.specs.Views.{DiskView, DiskLaws, StaysTold}
 use Rattle.mta_edge.specs.Causes.{Rose}
 use Rattle.mta_edge.specs.Crashes.{AtAnyMoment}
-use Rattle.mta_journal.specs.Bodies.{StandsFor as HoldsBodies}
-use Rattle.mta_journal.specs.Opening.{IsSame, BeforeOrSame, IsLeft, SameSince, unsynced, synced}
 use Rattle.mta_journal.specs.declared.why.OpenWhy.{OpenWhy}
 use Rattle.mta_records.specs.declared.step.Step.{Step}
-use Rattle.mta_records.specs.Body.{body_of}
 use Rattle.mta_images.specs.Image.{StandsFor}
 use Rattle.mta_images.proofs.Unique.{one_history}
-use Rattle.mta_spool.specs.Opening.{HasOpened, HasRefused}
+use Rattle.mta_spool.specs.Opening.{HasOpened, HasRefused, IsSame, BeforeOrSame, IsLeft, SameSince, unsynced, synced}
 use Rattle.mta_spool.specs.Shown.{Shown}
 use Rattle.mta_commands.specs.Images.{Synced, IsSafe, IsSafeBefore}
 use Rattle.mta_spool.specs.Crashing.{Reached, Leaves}
 use Rattle.mta_commands.specs.DiskLeft.{uncalled, refused, opened, IsAsItWas, DiskLeft}
 use Rattle.mta_spool.proofs.Crashing.{with_none, still}
+use Rattle.mta_spool.proofs.Openings.{same_octets, same_stands}
 use Rattle.mta_commands.proofs.Same.{some_same}
-
--- a disk that stands for nothing has more than nine octets
-no_history_long : (f : List ℕ) → ((steps : List Step) → StandsFor f steps → ⊥) → 9 < length f
-no_history_long f none =
-    elim (cases_lt 9 (length f)) [
-      | inl long ↦ long
-      | inr short ↦ absurd (none [] (record { bodies = inl (short, refl); each = tt; history = tt }))
-    ]
-
-same_bodies : (f g : List ℕ) (bodies : List (List ℕ)) → length f ≤ 9 → length g ≤ 9 → HoldsBodies f bodies
-    → HoldsBodies g bodies
-same_bodies f g bodies short small (inl s) = inl (small, s.1)
-same_bodies f g bodies short small (inr s) = absurd (omega (arith, short, s.0))
-
--- what is the same for opening stands for the same history
-same_stands : (f g : List ℕ) (steps : List Step) → IsSame f g → StandsFor f steps → StandsFor g steps
-same_stands f g steps (inl same) s = subst (λ (x : List ℕ). StandsFor x steps) (sym same) s
-same_stands f g steps (inr short) s = record
-    { bodies = same_bodies f g (map body_of steps) short.0 short.1 s.bodies; each = s.each; history = s.history }
 
 same_reached : (f g : List ℕ) (steps tried : List Step) → IsSame f g → StandsFor f steps → Reached steps tried g
 same_reached f g steps tried same s = (0, with_none g steps (same_stands f g steps same s))
-
--- one that is long is the same only where it has the same octets
-same_long : (f g : List ℕ) → 9 < length f → IsSame f g → g ≡ f
-same_long f g long (inl same) = same
-same_long f g long (inr short) = absurd (omega (arith, short.0))
 
 module _ {D : Type 0} (disks : DiskView D) (laws : DiskLaws disks) where
   -- ---- the disk was not called
@@ -107,11 +80,10 @@ module _ {D : Type 0} (disks : DiskView D) (laws : DiskLaws disks) where
       → disks.content old ≡ Some f → ((steps : List Step) → StandsFor f steps → ⊥)
       → IsAsItWas disks f old new
   as_it_was old new why refusal f was none =
-      let long = no_history_long f none in
       record {
-        reads = refusal.kept f was long;
+        reads = refusal.kept f was none;
         images = λ g left. ⊎_elim {C = disks.may_leave old g ⊎ (g ≡ f)} (λ before. inl before)
-            (λ same. inr (same_long f g long same)) ((refusal.images f was).each g left);
+            (λ same. inr (same_octets f g none same)) ((refusal.images f was).each g left);
       }
 
   pub disk_refused : (old new : D) (why : OpenWhy) → HasRefused disks old new why

@@ -10,7 +10,7 @@ use Rattle.mta_records.specs.declared.fault.StepFault.TheVariants as StepFaults
 use Rattle.mta_tables.specs.Tables.{TablesValue, tables_of}
 use Rattle.mta_histories.specs.Lanes.{State}
 use Rattle.mta_histories.specs.History.{after, IsHistory}
-use Rattle.mta_images.specs.Image.{size_of}
+use Rattle.mta_images.specs.Image.{OpensAt, size_of}
 use Rattle.mta_spool.specs.Bases.{base_of, Keeps, where_listed}
 use Rattle.mta_spool.specs.Opening.{HasOpened}
 use Rattle.mta_spool.specs.Shown.{Shown}
@@ -148,15 +148,21 @@ module _ {D C I : Type 0} (h : Handed D C I) (serves : Serves h.words) (laws : D
 
     -- a step of them was refused
     full_cause : (added : List Step) (size need : ℕ) (final : Shown D C)
-        → final.current ≡ after (o.steps ++ added) → final.journal.size ≡ size_of (o.steps ++ added)
+        → final.current ≡ after (o.steps ++ added) → final.journal.size ≡ size_of final.journal.first (o.steps ++ added)
+        → final.journal.first ≡ spool.journal.first
         → ((c : List ℕ) → h.sources.left h.conf.before ≡ Some c → IsOwnFull Tells c final.current
         final.journal.size size need) → Cause h [] added opened (Stops.Full size need)
-    full_cause added size need final is large why =
-        full_serving size need serves inputs (λ c e f steps was s.
-        subst (λ (y : List Step). IsOwnFull Tells c (after (y ++ added)) (size_of (y ++ added)) size need)
-        (same_steps h.disks laws h.disk.before spool o f steps was s)
-        (subst (λ (n : ℕ). IsOwnFull Tells c (after (o.steps ++ added)) n size need) large
-        (subst (λ (x : State). IsOwnFull Tells c x final.journal.size size need) is (why c e))))
+    full_cause added size need final is large place why =
+        full_serving size need serves inputs (λ c e f steps was s. (
+          final.journal.first,
+          subst (OpensAt f) (sym place) (o.place f was),
+          subst
+              (λ (y : List Step).
+              IsOwnFull Tells c (after (y ++ added)) (size_of final.journal.first (y ++ added)) size need)
+              (same_steps h.disks laws h.disk.before spool o f steps was s)
+              (subst (λ (n : ℕ). IsOwnFull Tells c (after (o.steps ++ added)) n size need) large
+              (subst (λ (x : State). IsOwnFull Tells c x final.journal.size size need) is (why c e))),
+        ))
 
     pub begun_cause : (fault : StepFault) → result ≡ Err fault → h.disk.after ≡ mid.journal.disk
         → Cause h [] b.added opened (stop_of_step fault)
@@ -172,7 +178,7 @@ module _ {D C I : Type 0} (h : Handed D C I) (serves : Serves h.words) (laws : D
             → Cause h [] b.added opened (stop_of_step f)
         by_fault (StepFaults.Full size need) w r =
             let there = stands (StepFaults.Full size need) w (λ x. absurd cc) in
-            full_cause b.added size need mid there.state_is there.holds.size (λ c told.
+            full_cause b.added size need mid there.state_is there.holds.size b.adds.place (λ c told.
             subst (λ (x : List ℕ). IsOwnFull Tells x mid.current mid.journal.size size need) (read.read.0 c told)
             (own_more (h.clocks.tells spool.clock) Tells tables.text mid.current mid.journal.size (⊥) (⊥)
             (StepFaults.Full size need) from_first (λ x. x) r))

@@ -94,7 +94,7 @@ module _ {D C : Type 0} (disks : DiskView D) (laws : DiskLaws disks) (clocks : C
   less_room mid new step going here appends =
       let now = appends.done refl here.0 here.1 in
       let fit = fits disks step mid new appends going in
-      omega (arith, fit, here.1.holds.size, now.holds.size, size-more here.0 step)
+      omega (arith, fit, here.1.holds.size, now.holds.size, size-more mid.journal.first here.0 step, appends.place)
 
   -- nothing is due any more
   pub settled : (old mid new : Shown D C) (added : List Step) (told : ℕ) → Settling disks clocks old mid added

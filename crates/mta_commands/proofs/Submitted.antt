@@ -12,7 +12,7 @@ use Rattle.mta_machine.specs.Apdu.{IsApdu}
 use Rattle.mta_histories.specs.Lanes.{State}
 use Rattle.mta_histories.specs.Due.{IsQuiet}
 use Rattle.mta_histories.specs.History.{IsHistory, after}
-use Rattle.mta_images.specs.Image.{size_of, StandsFor}
+use Rattle.mta_images.specs.Image.{OpensAt, size_of, StandsFor}
 use Rattle.mta_spool.specs.Opening.{HasOpened, HasRefused}
 use Rattle.mta_spool.specs.Shown.{Shown}
 use Rattle.mta_spool.specs.Stands.{Stands, step_moment}
@@ -23,7 +23,7 @@ use Rattle.mta_commands.specs.declared.stop.Stop.{Stop}
 use Rattle.mta_commands.specs.declared.stop.Stop.TheVariants as Stops
 use Rattle.mta_words.specs.declared.words.Words.TheVariants as Say
 use Rattle.mta_commands.specs.Words.{AddsSteps, ReadsTables, ReadsApdu, OpensDisk, Serves}
-use Rattle.mta_commands.specs.Handed.{Handed, handed, ForTables, ForOpened, DiskFailed, InputsRead}
+use Rattle.mta_commands.specs.Handed.{Handed, handed, ForDisk, ForTables, ForOpened, DiskFailed, InputsRead}
 use Rattle.mta_commands.specs.Inputs.{IsReadAsTables, AreTablesRead, HasTables, IsInputStop}
 use Rattle.mta_commands.specs.Inputs.{HasInput, HasInputs, no_tables, no_apdu, both}
 use Rattle.mta_commands.specs.Output.{Output, HasPrinted, stopped}
@@ -147,18 +147,24 @@ module _ {D C I : Type 0} (h : Handed D C I) (is : h.words ≡ Some Say.Submit) 
   full_cause : (new : Shown D C) (base added : List Step) (used need : ℕ) → Stands h.disks new (base ++ added)
       → ((f : List ℕ) (steps : List Step) → h.disks.content h.disk.before ≡ Some f → StandsFor f steps
       → base ≡ steps)
+      → ForDisk h (λ f. OpensAt f new.journal.first)
       → IsFullFor (h.clocks.tells h.clock) x.tables.text x.apdu added new.current new.journal.size used need
       → Cause h [] added opened (Stops.Full used need)
-  full_cause new base added used need there same r = cause_full used need is inputs_read (λ c e i w f steps was s.
-      subst (λ (y : List Step). IsFullFor (h.clocks.tells h.clock) c i added (after (y ++ added))
-      (size_of (y ++ added)) used need) (same f steps was s)
-      (subst (λ (n : ℕ). IsFullFor (h.clocks.tells h.clock) c i added (after (base ++ added)) n used need)
-      there.holds.size
-      (subst (λ (y : State). IsFullFor (h.clocks.tells h.clock) c i added y new.journal.size used need) there.state_is
-      (subst (λ (y : List ℕ). IsFullFor (h.clocks.tells h.clock) c y added new.current new.journal.size used need)
-      (behind.read.0 i w)
-      (subst (λ (y : List ℕ). IsFullFor (h.clocks.tells h.clock) y x.apdu added new.current new.journal.size used
-      need) (read.read.0 c e) r)))))
+  full_cause new base added used need there same opens r =
+      cause_full used need is inputs_read (λ c e i w f steps was s. (
+        new.journal.first,
+        opens f was,
+        subst (λ (y : List Step). IsFullFor (h.clocks.tells h.clock) c i added (after (y ++ added))
+            (size_of new.journal.first (y ++ added)) used need) (same f steps was s)
+            (subst (λ (n : ℕ). IsFullFor (h.clocks.tells h.clock) c i added (after (base ++ added)) n used need)
+            there.holds.size
+            (subst (λ (y : State). IsFullFor (h.clocks.tells h.clock) c i added y new.journal.size used need)
+            there.state_is
+            (subst (λ (y : List ℕ). IsFullFor (h.clocks.tells h.clock) c y added new.current new.journal.size used need)
+            (behind.read.0 i w)
+            (subst (λ (y : List ℕ). IsFullFor (h.clocks.tells h.clock) y x.apdu added new.current new.journal.size used
+            need) (read.read.0 c e) r)))),
+      ))
 
   spent_cause : (new : Shown D C) (base added : List Step) (last : ℕ) → Stands h.disks new (base ++ added)
       → ((f : List ℕ) (steps : List Step) → h.disks.content h.disk.before ≡ Some f → StandsFor f steps
@@ -175,16 +181,16 @@ module _ {D C I : Type 0} (h : Handed D C I) (is : h.words ≡ Some Say.Submit) 
   work_cause : (new : Shown D C) (base added : List Step) (failed : Type 0) (stop : Stop)
       → ((stop ≡ Stops.Disk → ⊥) → Stands h.disks new (base ++ added))
       → ((f : List ℕ) (steps : List Step) → h.disks.content h.disk.before ≡ Some f → StandsFor f steps
-      → base ≡ steps) → (failed → DiskFailed h)
+      → base ≡ steps) → ForDisk h (λ f. OpensAt f new.journal.first) → (failed → DiskFailed h)
       → IsWorkStop (h.clocks.tells h.clock) x.tables.text x.apdu added new.current new.journal.size failed stop
       → Cause h [] added opened stop
-  work_cause new base added failed _ there same risen (full used need r) = full_cause new base added used need
+  work_cause new base added failed _ there same opens risen (full used need r) = full_cause new base added used need
+      (there (λ e. absurd cc)) same opens r
+  work_cause new base added failed _ there same opens risen (spent last r) = spent_cause new base added last
       (there (λ e. absurd cc)) same r
-  work_cause new base added failed _ there same risen (spent last r) = spent_cause new base added last
-      (there (λ e. absurd cc)) same r
-  work_cause new base added failed _ there same risen (disk r) =
+  work_cause new base added failed _ there same opens risen (disk r) =
       cause_disk (subst AddsSteps (sym is) tt) inputs_read (risen r)
-  work_cause new base added failed _ there same risen memory = cause_memory opened
+  work_cause new base added failed _ there same opens risen memory = cause_memory opened
 
   work_text : (spool : Shown D C) (base added : List Step) (text : List ℕ) → Stands h.disks spool base
       → ((f : List ℕ) (steps : List Step) → h.disks.content h.disk.before ≡ Some f → StandsFor f steps
@@ -198,12 +204,13 @@ module _ {D C I : Type 0} (h : Handed D C I) (is : h.words ≡ Some Say.Submit) 
       → Stands h.disks spool base
       → ((f : List ℕ) (steps : List Step) → h.disks.content h.disk.before ≡ Some f → StandsFor f steps
       → base ≡ steps)
+      → ForDisk h (λ f. OpensAt f spool.journal.first)
       → (Rose (h.disks.faults spool.journal.disk) (h.disks.faults new.journal.disk) → DiskFailed h)
       → (has : HasWorked h.disks (h.clocks.tells h.clock) x.tables.text x.apdu out spool new result)
       → DiskLeft h.disks h.disk.before h.disk.after opened has.added has.torn_step
       → ForOpened h (λ steps. IsSafeBefore h.disks steps (has.added ++ has.torn_step) h.disk.before h.disk.after)
       → HasEnded h NoneWorked out result
-  submit_worked out result spool new base stands same risen has left before = record {
+  submit_worked out result spool new base stands same opens risen has left before = record {
     opening = opened;
     ends = [];
     added = has.added;
@@ -215,7 +222,8 @@ module _ {D C I : Type 0} (h : Handed D C I) (is : h.words ≡ Some Say.Submit) 
     printed = printed_map out result
         (λ stop e why. work_cause new base has.added
         (Rose (h.disks.faults spool.journal.disk) (h.disks.faults new.journal.disk)) stop
-        (λ other. has.adds.stands (λ w. other (err_same stop Stops.Disk (sym e ∙ w))) base stands) same risen why)
+        (λ other. has.adds.stands (λ w. other (err_same stop Stops.Disk (sym e ∙ w))) base stands) same
+        (λ f was. subst (OpensAt f) (sym has.adds.place) (opens f was)) risen why)
         (λ t line. work_text spool base has.added t stands same line) has.printed;
     history = λ f steps was s. subst (λ (y : List Step). IsHistory (y ++ (has.added ++ has.torn_step)))
         (same f steps was s) (has.adds.history base stands);
@@ -316,7 +324,7 @@ module _ {D C I : Type 0} (disks : DiskView D) (laws : DiskLaws disks) (clocks :
       let b = both_read sources conf conf_after input input_after x inputs in
       submit_worked (handed disks clocks sources (Some Say.Submit) conf conf_after input input_after old
       new.journal.disk clock) refl x b.0 b.1 out result spool new o.steps o.stands
-      (same_steps disks laws old spool o) risen has
+      (same_steps disks laws old spool o) o.place risen has
       (disk_opened disks laws old spool o new has.added has.torn_step has.adds.later has.adds.told has.adds.one
       (λ calm. has.adds.calm
       (λ e. calm (risen (work_failed disks (clocks.tells clock) x.tables.text x.apdu out spool new result has

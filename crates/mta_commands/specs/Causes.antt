@@ -13,7 +13,7 @@ use Rattle.mta_machine.specs.Rules.{tables_value}
 use Rattle.mta_machine.specs.Machine.{last_tables}
 use Rattle.mta_histories.specs.Lanes.{State}
 use Rattle.mta_histories.specs.History.{after}
-use Rattle.mta_images.specs.Image.{size_of, NoSpoolAt}
+use Rattle.mta_images.specs.Image.{HasSize, NoSpoolAt}
 use Rattle.mta_show.specs.Queue.{queue_text}
 use Rattle.mta_show.specs.Mailbox.{mailbox_text}
 use Rattle.mta_stations.specs.declared.end.Halt.{Halt}
@@ -26,7 +26,7 @@ use Rattle.mta_commands.specs.declared.stop.Stop.TheVariants as Stops
 use Rattle.mta_words.specs.declared.words.Words.TheVariants as Say
 use Rattle.mta_commands.specs.Words.{AddsSteps, ReadsTables, ReadsApdu, OpensDisk, IsUnbuilt, roles_named, Serves}
 use Rattle.mta_commands.specs.Handed.{Handed, ForTables, ForInput, ForDisk, ForOpened, SourceFailed, DiskFailed}
-use Rattle.mta_commands.specs.Handed.{InputsRead}
+use Rattle.mta_commands.specs.Handed.{ForOpenedDisk, InputsRead}
 use Rattle.mta_commands.specs.Inputs.{IsReadAsTables, HasFault}
 use Rattle.mta_commands.specs.Lines.{accepted_line}
 use Rattle.mta_commands.specs.DiskLeft.{Opening, uncalled, refused, opened}
@@ -93,8 +93,8 @@ pub data Cause {D C I : Type 0} (h : Handed D C I) (ends : List WorkerEnd) (adde
   not_opened : OpensDisk h.words → InputsRead h → DiskFailed h → Cause h ends added refused Stops.Disk
   disk : AddsSteps h.words → InputsRead h → DiskFailed h → Cause h ends added opened Stops.Disk
   full : (size need : ℕ) → h.words ≡ Some Say.Submit → InputsRead h
-      → ForTables h (λ c. ForInput h (λ i. ForOpened h (λ steps.
-      IsFullFor (h.clocks.tells h.clock) c i added (after (steps ++ added)) (size_of (steps ++ added)) size need)))
+      → ForTables h (λ c. ForInput h (λ i. ForOpenedDisk h (λ f steps. HasSize f (steps ++ added) (λ used.
+      IsFullFor (h.clocks.tells h.clock) c i added (after (steps ++ added)) used size need))))
       → Cause h ends added opened (Stops.Full size need)
   spent : (last : ℕ) → h.words ≡ Some Say.Submit → InputsRead h
       → ForTables h (λ c. ForInput h (λ i. ForOpened h (λ steps.
@@ -106,8 +106,8 @@ pub data Cause {D C I : Type 0} (h : Handed D C I) (ends : List WorkerEnd) (adde
   no_peer : (name : List ℕ) → Serves h.words → ForTables h (λ c. (t : TablesValue) × (tables_of c ≡ Ok t)
       × IsUnnamed t (roles_named h.words) name) → Cause h ends added uncalled (Stops.NoPeer name)
   full_serving : (size need : ℕ) → Serves h.words → InputsRead h
-      → ForTables h (λ c. ForOpened h (λ steps.
-      IsOwnFull (h.clocks.tells h.clock) c (after (steps ++ added)) (size_of (steps ++ added)) size need))
+      → ForTables h (λ c. ForOpenedDisk h (λ f steps. HasSize f (steps ++ added) (λ used.
+      IsOwnFull (h.clocks.tells h.clock) c (after (steps ++ added)) used size need)))
       → Cause h ends added opened (Stops.Full size need)
   spent_serving : (last : ℕ) → Serves h.words → InputsRead h
       → ForTables h

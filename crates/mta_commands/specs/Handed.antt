@@ -59,6 +59,11 @@ module _ {D C I : Type 0} (h : Handed D C I) where
   ForOpened P =
       (f : List ℕ) (steps : List Step) → h.disks.content h.disk.before ≡ Some f → StandsFor f steps → P steps
 
+  -- what holds of those octets and that history
+  abbrev pub ForOpenedDisk : (List ℕ → List Step → Type 0) → Type 0
+  ForOpenedDisk P =
+      (f : List ℕ) (steps : List Step) → h.disks.content h.disk.before ≡ Some f → StandsFor f steps → P f steps
+
   -- ---- faults
 
   -- a source that the command reads failed

@@ -160,6 +160,7 @@ pub record Adds {D C : Type 0} (disks : DiskView D) (tells : ℕ → Type 0) (co
   pub one : length torn_step ≤ 1
   pub later : disks.faults old.journal.disk ≤ disks.faults new.journal.disk
   pub told : StaysTold disks old.journal.disk new.journal.disk
+  pub place : new.journal.first ≡ old.journal.first
   pub entries : new.entries ≡ old.entries ++ added
   pub history : (steps : List Step) → Stands disks old steps → IsHistory (steps ++ (added ++ torn_step))
   pub own : (steps : List Step) → Stands disks old steps

@@ -13,7 +13,7 @@ ghost use Rattle.mta_edge.specs.Crashes.{CrashLeaves, Settled};
 ghost use Rattle.mta_edge.specs.Outside.{ContentGoes, Torn, Within, written};
 ghost use Rattle.mta_edge.specs.Views.{StaysTold};
 ghost use Rattle.mta_disk.specs.Answers.{HasPutCause};
-ghost use Rattle.mta_disk.specs.Records.{IsLiftedAt, IsPutAt, counted};
+ghost use Rattle.mta_disk.specs.Records.{IsFramedAt, IsLiftedAt, IsPutAt, frame_of};
 
 use mta_edge::{Disk, Failed, Memory, Octets};
 use std::alloc::Global;
@@ -68,16 +68,34 @@ pub fn write_synced<D: Disk>(disk: &mut D, at: u64, bytes: &[u8]) -> Result<(), 
     Ok(())
 }
 
-// The body's length, the body and a closed gate.
+/// What is written of a body behind its gate: its length, the body and a closed gate.
 #[tactic(auto, unfolding(crate::specs::Records::counted))]
-fn closed_record(alloc: Global, body: &[u8]) -> Result<Octets, Memory>
+pub fn frame_of(alloc: Global, body: &[u8]) -> Result<Octets, Memory>
     requires { length body.now < 2 ^ 32 }
-    ensures { IfOk result (λ o. o ≡ counted body.now ++ 0 ∷ []) }
+    ensures { IfOk result (λ o. o ≡ frame_of body.now) }
 {
     let mut record = Octets::from_slice(alloc, &(body.len() as u32).to_be_bytes())?;
     record.extend(body)?;
     record.extend(&[0])?;
     Ok(record)
+}
+
+/// Writes a frame behind the gate at `gate`, and syncs. The octet at `gate` and all before it stand in every image that
+/// a crash leaves.
+///
+/// # Errors
+/// The disk failed.
+pub fn put_frame<D: Disk>(disk: &mut D, gate: u64, frame: &[u8]) -> Result<(), Failed>
+    requires within { Within (gate + 1) (D.model.content disk.old) }
+    requires room { gate + 1 < 2 ^ 64 }
+    requires settled { Settled D.model disk.old }
+    ensures put { OnOk result (ContentGoes D.model (IsFramedAt gate frame.now) disk.old disk.new) }
+    ensures settled { OnOk result (Settled D.model disk.new) }
+    ensures told { StaysTold D.model disk.old disk.new }
+    ensures images { CrashLeaves D.model (Torn (gate + 1) (length frame.now)) disk.old disk.new }
+    ensures cause { HasCause (D.model.faults disk.old) (D.model.faults disk.new) result }
+{
+    write_synced(disk, gate + 1, frame)
 }
 
 /// Writes the body's length, the body and the next gate, which is closed, behind the gate at `gate`, and syncs. The
@@ -102,8 +120,8 @@ pub fn put_closed<D: Disk>(
     ensures memory { IsErrOf result PutFault.Memory → disk.new ≡ disk.old }
     ensures cause { HasPutCause (D.model.faults disk.old) (D.model.faults disk.new) result }
 {
-    let record = closed_record(alloc, body)?;
-    write_synced(disk, gate + 1, record.as_slice())?;
+    let frame = frame_of(alloc, body)?;
+    put_frame(disk, gate, frame.as_slice())?;
     Ok(())
 }
 

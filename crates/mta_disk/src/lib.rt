@@ -2,8 +2,12 @@
 //! closed gate, which is lifted when the record is safe.
 #![tactic(auto)]
 
+mod areas;
+mod cut;
 mod gate;
 mod read;
 
-pub use gate::{PutFault, lift_gate, put_closed, write_synced};
+pub use areas::{choose, point_high, shut};
+pub use cut::cut_to;
+pub use gate::{PutFault, frame_of, lift_gate, put_closed, put_frame, write_synced};
 pub use read::{ReadAtFault, read_at};

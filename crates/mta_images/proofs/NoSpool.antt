@@ -1,14 +1,14 @@
 -- An image that is no spool stands for no history, and is none at one place only.
-use Rattle.std.proofs.Common.{◌≡◌, ℕ, List, [], ◌∷◌, ◌++◌, length, map, drop, refl, sym, ap, subst}
+use Rattle.std.proofs.Common.{◌≡◌, ℕ, ◌+◌, List, [], ◌∷◌, ◌++◌, length, map, drop, refl, sym, ap, subst}
 use Rattle.std.proofs.Common.{◌∙◌, inl, inr}
-use Rattle.mta_journal.specs.Bodies.{front}
-use Rattle.mta_journal.proofs.Unique.{one_list, not_both, one_place}
+use Rattle.mta_journal.specs.Bodies.{records, StandsFor as HoldsBodies}
+use Rattle.mta_journal.proofs.Unique.{one_area, one_list, not_both, one_place}
 use Rattle.mta_records.specs.declared.step.Step.{Step}
 use Rattle.mta_records.specs.Body.{body_of, HasFields}
 use Rattle.mta_records.proofs.Records.{body_same}
 use Rattle.mta_histories.specs.Lanes.{State, empty}
 use Rattle.mta_histories.specs.History.{IsPossible, ArePossible, after_from, after_step}
-use Rattle.mta_images.specs.Image.{AreRecords, StandsFor, StopsAt, NoSpoolAt, OnePlace}
+use Rattle.mta_images.specs.Image.{AreRecords, HasStop, StandsFor, StopsAt, NoSpoolAt, OnePlace}
 
 -- a history whose bodies begin with those of another, and then this one, has a possible step of this body
 step_there : (s : State) (steps others : List Step) (body : List ℕ) (bodies : List (List ℕ)) → AreRecords steps
@@ -24,12 +24,17 @@ step_there s (t ∷ steps) (o ∷ others) body bodies each each' possible e =
     step_there (after_step s t) steps others body bodies each.1 each'.1
     (subst (λ (x : Step). ArePossible (after_step s x) others) same possible.1) rest
 
+-- an image that has bodies holds them
+holds : (image : List ℕ) (at : ℕ) (there : HasStop image at) → HoldsBodies image there.bodies
+holds image at there = inr (there.long, (there.first, there.has))
+
 pub no_history : (image : List ℕ) (at : ℕ) (steps : List Step) → NoSpoolAt image at → StandsFor image steps
     → ⊥
 no_history image at steps (inl no_journal) stands = not_both image (map body_of steps) at stands.bodies no_journal
 no_history image at steps (inr there) stands =
-    let stops = there.2 in
-    let same : there.0 ≡ map body_of steps = one_list image there.0 (map body_of steps) there.1 stands.bodies in
+    let stops = there.stops in
+    let same : there.bodies ≡ map body_of steps =
+    one_list image there.bodies (map body_of steps) (holds image at there) stands.bodies in
     let found = step_there empty stops.steps steps stops.body stops.more stops.each stands.each stands.history
     (sym same ∙ stops.bodies_are) in
     stops.none found.0 found.1 found.2 found.3
@@ -61,17 +66,20 @@ same_stop s (t ∷ steps) (o ∷ others) body body' more more' each each' possib
     (subst (λ (x : Step). HasNone (after_from (after_step s x) others) body') same none') in
     cc
 
-stops_once : (bodies : List (List ℕ)) (at other : ℕ) → StopsAt bodies at → StopsAt bodies other → at ≡ other
-stops_once bodies at other a b =
+stops_once : (first : ℕ) (bodies : List (List ℕ)) (at other : ℕ) → StopsAt first bodies at → StopsAt first bodies other
+    → at ≡ other
+stops_once first bodies at other a b =
     let same : a.steps ≡ b.steps =
     same_stop empty a.steps b.steps a.body b.body a.more b.more a.each b.each a.history b.history
     (sym a.bodies_are ∙ b.bodies_are) a.none b.none in
-    a.place ∙ ap (λ (steps : List Step). length (front (map body_of steps))) same ∙ sym b.place
+    a.place ∙ ap (λ (steps : List Step). first + length (records (map body_of steps))) same ∙ sym b.place
 
 pub one_stop : OnePlace
 one_stop image at other (inl a) (inl b) = one_place image at other a b
-one_stop image at other (inl a) (inr b) = absurd (not_both image b.0 at b.1 a)
-one_stop image at other (inr a) (inl b) = absurd (not_both image a.0 other a.1 b)
+one_stop image at other (inl a) (inr b) = absurd (not_both image b.bodies at (holds image other b) a)
+one_stop image at other (inr a) (inl b) = absurd (not_both image a.bodies other (holds image at a) b)
 one_stop image at other (inr a) (inr b) =
-    stops_once a.0 at other a.2
-    (subst (λ (bodies : List (List ℕ)). StopsAt bodies other) (one_list image b.0 a.0 b.1 a.1) b.2)
+    let same = one_area image a.first b.first a.bodies b.bodies a.has b.has in
+    stops_once a.first a.bodies at other a.stops
+    (subst (λ (first : ℕ). StopsAt first a.bodies other) (sym same.0)
+    (subst (λ (bodies : List (List ℕ)). StopsAt b.first bodies other) (sym same.1) b.stops))

@@ -1,6 +1,6 @@
 -- Which history an image of the disk stands for.
-use Rattle.std.specs.Prelude.{◌≡◌, ◌⊎◌, ℕ, ◌+◌, List, [], ◌∷◌, ◌++◌, length, map}
-use Rattle.mta_journal.specs.Bodies.{front, StandsFor as HoldsBodies}
+use Rattle.std.specs.Prelude.{◌≡◌, ◌⊎◌, ℕ, ◌+◌, ◌<◌, List, [], ◌∷◌, ◌++◌, length, map}
+use Rattle.mta_journal.specs.Bodies.{records, HasBodiesAt, StandsFor as HoldsBodies}
 use Rattle.mta_journal.specs.Faults.{IsNoJournalAt}
 use Rattle.mta_records.specs.declared.step.Step.{Step}
 use Rattle.mta_records.specs.Body.{body_of, HasFields}
@@ -11,9 +11,26 @@ abbrev pub AreRecords : List Step → Type 0
 AreRecords [] = Unit {0}
 AreRecords (step ∷ steps) = HasFields step × AreRecords steps
 
--- the octets of a journal of these steps, up to its closed gate and with it
-abbrev pub size_of : List Step → ℕ
-size_of steps = length (front (map body_of steps)) + 1
+-- the octets of a journal of these steps whose current area begins at this gate, up to its closed gate and with it
+abbrev pub size_of : ℕ → List Step → ℕ
+size_of first steps = first + length (records (map body_of steps)) + 1
+
+-- the image has bodies in the only area
+pub record HasOnlyArea (image : List ℕ) : Type 0 where
+  pub body : List ℕ
+  pub bodies : List (List ℕ)
+  pub has : HasBodiesAt 8 (body ∷ bodies) image
+
+-- The records of a spool that is opened on a disk of this image stand from this gate on: from gate 8 where the image
+-- has
+-- bodies in the only area, and else from gate 23, with which the first of two areas begins.
+pub data OpensAt (image : List ℕ) (gate : ℕ) : Type 0 where
+  in_only : gate ≡ 8 → HasOnlyArea image → OpensAt image gate
+  in_first : gate ≡ 23 → (HasOnlyArea image → ⊥) → OpensAt image gate
+
+-- P holds of the octets that a journal of these steps has which is opened on a disk of this image
+abbrev pub HasSize : List ℕ → List Step → (ℕ → Type 0) → Type 0
+HasSize image steps P = (gate : ℕ) × OpensAt image gate × P (size_of gate steps)
 
 -- The image stands for this history: as a journal it stands for the bodies of its steps.
 pub record StandsFor (image : List ℕ) (steps : List Step) : Type 0 where
@@ -30,9 +47,9 @@ abbrev pub IsNoStep : List Step → List ℕ → Type 0
 IsNoStep steps body =
     (step : Step) → HasFields step → body_of step ≡ body → IsPossible (after steps) step → ⊥
 
--- The bodies begin with those of a history, behind which the next body is that of no step which is possible there.
--- This is the offset of its gate.
-pub record StopsAt (bodies : List (List ℕ)) (at : ℕ) : Type 0 where
+-- The bodies, whose records stand from this gate on, begin with those of a history, behind which the next body is that
+-- of no step which is possible there. This is the offset of its gate.
+pub record StopsAt (first : ℕ) (bodies : List (List ℕ)) (at : ℕ) : Type 0 where
   pub steps : List Step
   pub body : List ℕ
   pub more : List (List ℕ)
@@ -40,13 +57,19 @@ pub record StopsAt (bodies : List (List ℕ)) (at : ℕ) : Type 0 where
   pub each : AreRecords steps
   pub history : IsHistory steps
   pub none : IsNoStep steps body
-  pub place : at ≡ length (front (map body_of steps))
+  pub place : at ≡ first + length (records (map body_of steps))
 
--- The image is no spool, and this is the offset: it is no journal there, or the bodies that it holds stop there.
+-- the image has bodies, from this gate on, which stop there
+pub record HasStop (image : List ℕ) (at : ℕ) : Type 0 where
+  pub long : 9 < length image
+  pub first : ℕ
+  pub bodies : List (List ℕ)
+  pub has : HasBodiesAt first bodies image
+  pub stops : StopsAt first bodies at
+
+-- The image is no spool, and this is the offset: it is no journal there, or the bodies that it has stop there.
 abbrev pub NoSpoolAt : List ℕ → ℕ → Type 0
-NoSpoolAt image at =
-    IsNoJournalAt image at
-    ⊎ ((bodies : List (List ℕ)) × HoldsBodies image bodies × StopsAt bodies at)
+NoSpoolAt image at = IsNoJournalAt image at ⊎ HasStop image at
 
 -- such an image stands for no history
 abbrev pub NoSpoolHasNoHistory : Type 0

@@ -1,7 +1,11 @@
-pub mod Bodies
+pub mod Unique
+pub mod Stages
+pub mod PartsLaws
+pub mod Rewriting
 pub mod Appended
 pub mod Answered
 pub mod Reading
 pub mod Walked
-pub mod Emptied
-pub mod Unique
+pub mod AreasFound
+pub mod BegunAreas
+pub mod OpenedDisk

@@ -1,43 +1,46 @@
-//! A journal, and how it grows by a body.
+//! A journal, how it grows by a body, and how it is written anew.
 //!
-//! In comes a body of at most `LONGEST_BODY` octets, from a step of the spool. `append` puts it behind
-//! the closed gate at the end, syncs, opens the gate, and syncs (`mta_disk`): four calls of the disk.
-//! Out goes Ok with the body durable, or `Full`, `Ended`, `Disk` or `Memory`; after all but `Disk` the
-//! journal is as it was, and after `Disk` it takes no more.
+//! In comes a body from a step of the spool: of at most `LONGEST_BODY` octets, or `LONGEST_FIRST` where
+//! it is the first of its area. `append` puts it behind the closed gate at the end, syncs, opens the
+//! gate, and syncs (`mta_disk`): four calls of the disk. `compact` puts one body in the place of all,
+//! and `settle` ends what a stopped `compact` began (`parts.rt`). Out goes Ok with the body durable, or
+//! `Full`, `Ended`, `Disk` or `Memory`; after all but `Disk` the journal is as it was, and after `Disk`
+//! it takes no more.
 //!
-//! A crash at any moment leaves the bodies that it held, or those and this one: the gate is closed on
-//! the disk before anything stands behind it, so a torn record is never read.
+//! A crash at any moment of `append` leaves the bodies that the journal held, or those and this one: the
+//! gate is closed on the disk before anything stands behind it, so a torn record is never read. One of
+//! `compact` leaves the bodies that it held, or the one; one of `settle` those that it held.
 
-ghost use Rattle.std.specs.Prelude.{◌≡◌, ◌+◌, ◌≤◌, ◌<◌, ◌^◌, length, OnOk, IsErrOf};
+ghost use Rattle.std.specs.Prelude.{◌≡◌, ◌+◌, ◌*◌, ◌≤◌, ◌<◌, ◌^◌, length, OnOk, IsErrOf};
 ghost use Rattle.mta_edge.specs.Crashes.{Settled};
 ghost use Rattle.mta_edge.specs.Outside.{ContentGoes, Within};
 ghost use Rattle.mta_edge.specs.Views.{StaysTold};
 ghost use Rattle.mta_disk.specs.Answers.{HasPutCause};
-ghost use Rattle.mta_journal.specs.Appending.{CrashLeavesBehind, PutsBehind, need_of};
-ghost use Rattle.mta_journal.specs.Bodies.{longest_body};
+ghost use Rattle.mta_journal.specs.Appending.{CrashLeavesBehind, IsShortEnough, PutsBehind, journal_limit};
+ghost use Rattle.mta_journal.specs.Bodies.{need_of};
+ghost use Rattle.mta_journal.specs.Shown.{IsPlain};
 
-use mta_disk::{PutFault, lift_gate, put_closed};
-use mta_edge::Disk;
+use crate::parts::{move_down, replace};
+use mta_disk::{PutFault, frame_of, lift_gate, put_closed};
+use mta_edge::{Disk, Octets};
 use std::alloc::Global;
 use std::marker::Model;
+use std::mem;
 use thiserror::Error;
 
-/// The most octets of a body.
-pub const LONGEST_BODY: u32 = 4_194_304;
-
 /// The most octets of a journal.
-pub const JOURNAL_LIMIT: u64 = 268_435_456;
+pub const JOURNAL_LIMIT: u64 = 536_870_912;
 
-/// Why a body was not appended.
+/// Why a body was not appended, or a journal not written anew.
 #[derive(Clone, Copy, Debug, PartialEq, Eq, Error)]
 pub enum AppendFault {
     /// So many octets are used, and the record needs so many more.
     #[error("the journal has {size} octets and the record needs {need}")]
     Full { size: u64, need: u64 },
-    /// The disk failed. The journal takes no more bodies; a crash leaves it with this one or without.
+    /// The disk failed. The journal takes no more bodies; a crash leaves it with what the call was to do, or without.
     #[error("the disk failed")]
     Disk,
-    /// An earlier append answered `Disk`.
+    /// An earlier call answered `Disk`.
     #[error("the journal has ended")]
     Ended,
     /// Memory was refused, before the disk was called.
@@ -50,9 +53,14 @@ pub enum AppendFault {
 pub struct Journal<D: Disk + Drop> {
     pub(crate) alloc: Global,
     pub(crate) disk: D,
+    // The first gate of the current area.
+    pub(crate) first: u64,
     // The offset behind the closed gate.
     pub(crate) size: u64,
     pub(crate) ended: bool,
+    // Where the second area is current: what stands behind its first gate, up to the closed one and with it. So
+    // `settle` takes no memory and does not read.
+    pub(crate) frame: Option<Octets>,
 }
 
 impl<D: Disk + Drop> Model for Journal<D> {
@@ -60,15 +68,15 @@ impl<D: Disk + Drop> Model for Journal<D> {
 
     ghost Value = { Shown D };
 
-    ghost view = { λ j. record { disk = j.disk; size = j.size; ended = j.ended } };
+    ghost view = { λ j. record { disk = j.disk; first = j.first; size = j.size; ended = j.ended } };
 
-    ghost invariant = { λ j. IsSound D.model j.disk j.size j.ended };
+    ghost invariant = { λ j. IsSound D.model j.disk j.first j.size j.ended j.frame };
 }
 
 // Puts a body in its record behind the closed gate at `gate`, and then opens that gate.
 fn put_record<D: Disk>(alloc: Global, disk: &mut D, gate: u64, body: &[u8]) -> Result<(), PutFault>
     requires within { Within (gate + 1) (D.model.content disk.old) }
-    requires short { length body.now ≤ longest_body }
+    requires fits { length body.now < 2 ^ 32 }
     requires room { gate + length body.now + 6 < 2 ^ 64 }
     requires settled { Settled D.model disk.old }
     ensures put { OnOk result (PutsBehind D.model gate body.now disk.old disk.new) }
@@ -87,13 +95,15 @@ fn put_record<D: Disk>(alloc: Global, disk: &mut D, gate: u64, body: &[u8]) -> R
 impl<D: Disk + Drop> Journal<D> {
     ghost use Rattle.mta_journal.specs.Appending.{Appends};
 
-    /// Appends a body. At `Ok` it is on the disk, and each crash from then on leaves it there.
+    /// Appends a body, in the only area or in the first of two. At `Ok` it is on the disk, and each crash from then on
+    /// leaves it there.
     ///
     /// # Errors
-    /// `Ended` exactly where an earlier append answered `Disk`, `Full` exactly where the record would pass
+    /// `Ended` exactly where an earlier call answered `Disk`, `Full` exactly where the record would pass
     /// `JOURNAL_LIMIT`, `Disk` only where the disk failed. After all but `Disk` the journal is as it was.
     pub fn append(&mut self, body: &[u8]) -> Result<(), AppendFault>
-        requires { length body.now ≤ longest_body }
+        requires plain { IsPlain self.old.first }
+        requires short { IsShortEnough self.old.first self.old.size body.now }
         ensures { Appends D.model body.now self.old self.new result }
     {
         if self.ended {
@@ -118,15 +128,84 @@ impl<D: Disk + Drop> Journal<D> {
             }
         }
     }
+}
 
-    /// The octets used, up to the closed gate and with it.
+impl<D: Disk + Drop> Journal<D> {
+    ghost use Rattle.mta_journal.specs.Compacting.{Compacts, Settles};
+
+    /// Moves the record of the second area into the first, where the second is current, as a stop in `compact` can
+    /// leave it. Where another area is current nothing is done.
+    ///
+    /// # Errors
+    /// `Ended` exactly where an earlier call answered `Disk`, `Disk` only where the disk failed. No memory is taken.
+    pub fn settle(&mut self) -> Result<(), AppendFault>
+        ensures { Settles D.model self.old self.new result }
+    {
+        if self.ended {
+            return Err(AppendFault::Ended);
+        }
+        match mem::replace(&mut self.frame, None) {
+            None => Ok(()),
+            Some(frame) => match move_down(&mut self.disk, frame.as_slice()) {
+                Ok(()) => {
+                    self.first = 23;
+                    self.size = 24 + frame.len() as u64;
+                    Ok(())
+                }
+                Err(_) => {
+                    self.ended = true;
+                    Err(AppendFault::Disk)
+                }
+            },
+        }
+    }
+
+    /// Puts this body in the place of all that the journal holds, where the first of two areas is current.
+    ///
+    /// # Errors
+    /// `Ended` exactly where an earlier call answered `Disk`, `Disk` only where the disk failed. `Memory` comes before
+    /// the disk is called, and the journal is as it was.
+    pub fn compact(&mut self, body: &[u8]) -> Result<(), AppendFault>
+        requires first { self.old.first ≡ 23 }
+        requires bound { self.old.size < 2 ^ 63 }
+        requires shorter { 2 * (24 + need_of body.now) ≤ self.old.size }
+        requires limit { 2 * (24 + need_of body.now) ≤ journal_limit }
+        ensures { Compacts D.model body.now self.old self.new result }
+    {
+        if self.ended {
+            return Err(AppendFault::Ended);
+        }
+        let frame = match frame_of(self.alloc, body) {
+            Ok(frame) => frame,
+            Err(_) => return Err(AppendFault::Memory),
+        };
+        match replace(&mut self.disk, self.size, frame.as_slice()) {
+            Ok(()) => {
+                self.size = 24 + frame.len() as u64;
+                Ok(())
+            }
+            Err(_) => {
+                self.ended = true;
+                Err(AppendFault::Disk)
+            }
+        }
+    }
+
+    /// The octets used, up to the closed gate and with it: the offset behind that gate.
     pub fn size(&self) -> u64
         ensures { result ≡ self.now.size }
     {
         self.size
     }
 
-    /// Whether an append answered that the disk failed.
+    /// The offset of the first gate of the current area.
+    pub fn first(&self) -> u64
+        ensures { result ≡ self.now.first }
+    {
+        self.first
+    }
+
+    /// Whether a call answered that the disk failed.
     pub fn is_ended(&self) -> bool
         ensures { result ≡ self.now.ended }
     {
@@ -140,8 +219,10 @@ impl<D: Disk + Drop> Journal<D> {
         let Journal {
             alloc: _,
             disk,
+            first: _,
             size: _,
             ended: _,
+            frame: _,
         } = self;
         disk
     }

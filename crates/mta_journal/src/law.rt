@@ -1,11 +1,16 @@
 //! Laws of the definitions.
 
-ghost use Rattle.mta_journal.specs.Bodies.{OneList};
+ghost use Rattle.mta_journal.specs.Bodies.{OneArea, OneList};
 ghost use Rattle.mta_journal.specs.Faults.{NotBoth, OnePlace};
 
 /// One image of the disk stands for one list of bodies.
 pub fn one_list()
     ensures { OneList }
+{}
+
+/// And they stand in one place.
+pub fn one_area()
+    ensures { OneArea }
 {}
 
 /// No image stands for bodies and is no journal.

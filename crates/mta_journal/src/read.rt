@@ -1,19 +1,19 @@
-//! Reading the records of a journal.
+//! Reading the records of an area.
 //!
-//! In come a disk and its size; out go the bodies up to the first closed gate, or the place of the
-//! first open gate whose record passes the end or is too long. Each record is read by its head (gate
-//! and length) and then its body, so no announced length is believed. The disk is only read.
+//! In come a disk, its size and the area's first gate; out go the bodies up to the first closed gate, or
+//! the place of the first open gate whose record passes the end or is too long. Of each record the first
+//! octets are read in one piece, with the body where it is short, and else the body behind its length, so
+//! no announced length is believed. The disk is only read.
 
-ghost use Rattle.std.specs.Prelude.{◌≡◌, ◌++◌, [], ◌∷◌, ◌+◌, ◌≤◌, ◌<◌, length, take};
+ghost use Rattle.std.specs.Prelude.{◌≡◌, ◌++◌, [], ◌∷◌, ◌+◌, ◌^◌, ◌≤◌, ◌<◌, length, take};
 ghost use Rattle.std.specs.Prelude.{drop, min, IfOk, OnOk, IfSome, IfNone};
 ghost use Rattle.mta_edge.specs.Crashes.{Crash, Stays};
 ghost use Rattle.mta_edge.specs.Views.{WhereTold};
-ghost use Rattle.mta_journal.specs.Bodies.{magic, front, longest_body, AreShort, HasBodies};
+ghost use Rattle.mta_journal.specs.Bodies.{magic, records, longest_first, AreWithin, HasRecords};
 ghost use Rattle.mta_journal.specs.Faults.{DiffersAt, FaultyAt};
 ghost use Rattle.mta_journal.specs.Heads.{SaysHead};
-ghost use Rattle.mta_journal.specs.Opening.{HasOpenCause, OnNotSpool, StandsAt, ClosedAt, BrokenAt};
+ghost use Rattle.mta_journal.specs.Opening.{HasNotOne, HasOpenCause, OnNotSpool, StandsAt, ClosedAt, BrokenAt};
 
-use crate::journal::LONGEST_BODY;
 use crate::why::OpenWhy;
 use mta_disk::{ReadAtFault, read_at};
 use mta_edge::{Disk, Memory, Octets};
@@ -22,7 +22,16 @@ use std::alloc::Global;
 // The octets `MTASPL01`.
 const MAGIC: [u8; 8] = *b"MTASPL01";
 
-/// What stands on a disk: the octets used, and the bodies.
+/// The most octets of a body that is not the first of its area.
+pub const LONGEST_BODY: u32 = 4_194_304;
+
+/// The most octets of the first body of an area.
+pub const LONGEST_FIRST: u32 = 268_435_456;
+
+// How many octets of a record are read at first.
+const PIECE: u64 = 512;
+
+/// What stands in an area: the octets used, and the bodies.
 #[derive(Drop)]
 pub struct Found {
     pub size: u64,
@@ -39,8 +48,8 @@ pub enum Head {
     Open { length: u32 },
 }
 
-// The octets from `at` on. A disk that ends before is no journal at `place`.
-fn read<D: Disk>(
+/// The octets from `at` on. A disk that ends before is no journal at `place`.
+pub fn read<D: Disk>(
     alloc: Global,
     disk: &mut D,
     at: u64,
@@ -93,11 +102,21 @@ pub fn check_magic<D: Disk>(alloc: Global, disk: &mut D) -> Result<(), OpenWhy>
     }
 }
 
+// The first five octets of a piece, or all where it has fewer.
+fn first_five(piece: &[u8]) -> &[u8]
+    ensures { result.now ≡ take 5 piece.now }
+{
+    if piece.len() < 5 {
+        return piece;
+    }
+    &piece[..5]
+}
+
 // What the first five octets of a record say, or all that are left.
-fn head_of(head: &[u8], left: u64) -> Head
+fn head_of(head: &[u8], left: u64, most: u32) -> Head
     requires some { 0 < left }
     requires length { length head.now ≡ min left 5 }
-    ensures { SaysHead head.now left result }
+    ensures { SaysHead most head.now left result }
 {
     if head[0] != 1 {
         return Head::Closed;
@@ -106,10 +125,37 @@ fn head_of(head: &[u8], left: u64) -> Head
         return Head::Broken;
     }
     let length = u32::from_be_bytes([head[1], head[2], head[3], head[4]]);
-    if length > LONGEST_BODY || left < length as u64 + 6 {
+    if length > most || left < length as u64 + 6 {
         return Head::Broken;
     }
     Head::Open { length }
+}
+
+// The body of so many octets in the record behind the gate at `gate`, of which a piece was read: from the piece where
+// it
+// has the body, and else from the disk.
+fn body_of<D: Disk>(
+    alloc: Global,
+    disk: &mut D,
+    gate: u64,
+    piece: &[u8],
+    count: u32,
+) -> Result<Octets, OpenWhy>
+    requires room { gate + count + 5 < 2 ^ 64 }
+    requires piece { WhereTold D.model disk.old (λ f. piece.now ≡ take (length piece.now) (drop gate f)) }
+    ensures octets { IfOk result (λ o. WhereTold D.model disk.old (λ f. o ≡ take count (drop (gate + 5) f))) }
+    ensures whole { IfOk result (λ o. length o ≡ count) }
+    ensures short { OnNotSpool result (λ p. WhereTold D.model disk.old (λ f. length (drop (gate + 5) f) < count)) }
+    ensures content { D.model.content disk.new ≡ D.model.content disk.old }
+    ensures cause { HasOpenCause (D.model.faults disk.old) (D.model.faults disk.new) result }
+    ensures crash { Crash D.model Stays disk.old disk.new }
+{
+    let end = count as usize + 5;
+    if end <= piece.len() {
+        let body = Octets::from_slice(alloc, &piece[5..end])?;
+        return Ok(body);
+    }
+    read(alloc, disk, gate + 5, count, gate)
 }
 
 // The body in the record behind the gate at `gate`, or none where that gate is closed.
@@ -118,46 +164,54 @@ fn read_body<D: Disk>(
     disk: &mut D,
     gate: u64,
     size: u64,
+    most: u32,
 ) -> Result<Option<Octets>, OpenWhy>
     requires inside { gate < size }
     requires size { WhereTold D.model disk.old (λ f. size ≡ length f) }
-    ensures body { IfOk result (λ o. IfSome o (λ b. WhereTold D.model disk.old (StandsAt gate b))) }
-    ensures fits { IfOk result (λ o. IfSome o (λ b. (length b ≤ longest_body) × (gate + length b + 5 < size))) }
+    ensures body { IfOk result (λ o. IfSome o (λ b. WhereTold D.model disk.old (StandsAt most gate b))) }
+    ensures fits { IfOk result (λ o. IfSome o (λ b. (length b ≤ most) × (gate + length b + 5 < size))) }
     ensures closed { IfOk result (λ o. IfNone o (WhereTold D.model disk.old (ClosedAt gate))) }
-    ensures broken { OnNotSpool result (λ p. WhereTold D.model disk.old (λ f. (p ≡ gate) × BrokenAt gate f)) }
+    ensures broken { OnNotSpool result (λ p. WhereTold D.model disk.old (λ f. (p ≡ gate) × BrokenAt most gate f)) }
     ensures content { D.model.content disk.new ≡ D.model.content disk.old }
     ensures cause { HasOpenCause (D.model.faults disk.old) (D.model.faults disk.new) result }
     ensures crash { Crash D.model Stays disk.old disk.new }
 {
     let left = size - gate;
-    let head = read(alloc, disk, gate, left.min(5) as u32, gate)?;
-    match head_of(head.as_slice(), left) {
+    let piece = read(alloc, disk, gate, left.min(PIECE) as u32, gate)?;
+    let piece = piece.as_slice();
+    match head_of(first_five(piece), left, most) {
         Head::Closed => Ok(None),
         Head::Broken => Err(OpenWhy::NotSpool { at: gate }),
         Head::Open { length } => {
-            let body = read(alloc, disk, gate + 5, length, gate)?;
+            let body = body_of(alloc, disk, gate, piece, length)?;
             Ok(Some(body))
         }
     }
 }
 
-/// Reads the records of a disk of this size, which begins as a journal does, up to the first closed gate.
-pub fn read_bodies<D: Disk>(alloc: Global, disk: &mut D, size: u64) -> Result<Found, OpenWhy>
-    requires long { 9 < size }
+/// Reads the records of a disk of this size from a gate on, up to the first closed one.
+pub fn read_bodies<D: Disk>(
+    alloc: Global,
+    disk: &mut D,
+    first: u64,
+    size: u64,
+) -> Result<Found, OpenWhy>
+    requires long { first < size }
     requires size { WhereTold D.model disk.old (λ f. size ≡ length f) }
-    requires magic { WhereTold D.model disk.old (λ f. take 8 f ≡ magic) }
-    ensures found { IfOk result (λ r. WhereTold D.model disk.old (λ f. HasBodies f r.bodies.items)) }
-    ensures size { IfOk result (λ r. r.size ≡ length (front r.bodies.items) + 1) }
-    ensures short { IfOk result (λ r. AreShort r.bodies.items) }
-    ensures broken { OnNotSpool result (λ p. WhereTold D.model disk.old (λ f. FaultyAt f p)) }
+    ensures found { IfOk result (λ r. WhereTold D.model disk.old (λ f. HasRecords first r.bodies.items f)) }
+    ensures size { IfOk result (λ r. r.size ≡ first + length (records r.bodies.items) + 1) }
+    ensures within { IfOk result (λ r. r.size ≤ size) }
+    ensures short { IfOk result (λ r. AreWithin longest_first r.bodies.items) }
+    ensures broken { OnNotSpool result (λ p. WhereTold D.model disk.old (λ f. FaultyAt first f p)) }
     ensures content { D.model.content disk.new ≡ D.model.content disk.old }
     ensures cause { HasOpenCause (D.model.faults disk.old) (D.model.faults disk.new) result }
     ensures crash { Crash D.model Stays disk.old disk.new }
 {
     let mut bodies = Vec::new(alloc);
-    let mut gate: u64 = 8;
+    let mut gate: u64 = first;
+    let mut most = LONGEST_FIRST;
     'records: loop {
-        match read_body(alloc, disk, gate, size)? {
+        match read_body(alloc, disk, gate, size, most)? {
             None => {
                 return Ok(Found {
                     size: gate + 1,
@@ -166,6 +220,7 @@ pub fn read_bodies<D: Disk>(alloc: Global, disk: &mut D, size: u64) -> Result<Fo
             }
             Some(body) => {
                 gate += body.len() as u64 + 5;
+                most = LONGEST_BODY;
                 keep(&mut bodies, body)?;
             }
         }
@@ -178,4 +233,33 @@ fn keep(bodies: &mut Vec<Octets>, body: Octets) -> Result<(), Memory>
 {
     bodies.push(body)?;
     Ok(())
+}
+
+/// Reads the one record of a disk of this size from a gate on. Where it is not one open record, the disk is no journal
+/// at that gate.
+pub fn read_one<D: Disk>(
+    alloc: Global,
+    disk: &mut D,
+    gate: u64,
+    size: u64,
+) -> Result<Octets, OpenWhy>
+    requires inside { gate < size }
+    requires size { WhereTold D.model disk.old (λ f. size ≡ length f) }
+    ensures one { IfOk result (λ b. WhereTold D.model disk.old (λ f. HasRecords gate (b ∷ []) f)) }
+    ensures fits { IfOk result (λ b. (length b ≤ longest_first) × (gate + length b + 5 < size)) }
+    ensures not_one { OnNotSpool result (λ p. WhereTold D.model disk.old (λ f. (p ≡ gate) × HasNotOne gate f)) }
+    ensures content { D.model.content disk.new ≡ D.model.content disk.old }
+    ensures cause { HasOpenCause (D.model.faults disk.old) (D.model.faults disk.new) result }
+    ensures crash { Crash D.model Stays disk.old disk.new }
+{
+    match read_body(alloc, disk, gate, size, LONGEST_FIRST)? {
+        None => Err(OpenWhy::NotSpool { at: gate }),
+        Some(body) => {
+            let next = read(alloc, disk, gate + 5 + body.len() as u64, 1, gate)?;
+            if next.as_slice()[0] == 1 {
+                return Err(OpenWhy::NotSpool { at: gate });
+            }
+            Ok(body)
+        }
+    }
 }

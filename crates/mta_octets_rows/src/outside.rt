@@ -3,11 +3,12 @@
 //! each row whether it was answered so.
 //!
 //! The rows `source`, `sink`, `disk`, `clock` and those of the same names with `safe-` before them have nothing to be
-//! answered: they make what is asked from there on. `streams.rt`, `disks.rt` and `journals.rt` in `outside` have what
-//! is asked.
+//! answered: they make what is asked from there on. `streams.rt`, `disks.rt`, `journals.rt` and `areas.rt` in
+//! `outside` have what is asked.
 //!
 //! The rows were worked out by hand; the octets of journals are those of the format, written out.
 
+mod areas;
 pub mod disks;
 mod journals;
 mod large;

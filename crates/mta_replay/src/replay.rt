@@ -28,6 +28,7 @@ ghost use Rattle.mta_replay.specs.Sound.{IsSound};
 use crate::accept::{Arrival, prepare_arrival};
 use mta_ber::{Memory, Octets};
 use mta_dues::{Index, note};
+use mta_lanes::Lanes;
 use mta_records::Step;
 use mta_state::{Change, Kept, Rest, Rules};
 use std::alloc::Global;
@@ -289,5 +290,12 @@ impl<R: Rules + Drop> Replay<R> {
             Step::Accept { moment, apdu } => self.take_in(alloc, moment, apdu),
             step => self.take_up(alloc, step),
         }
+    }
+
+    /// The lanes after the steps that were taken up, lent.
+    pub fn lanes(&self) -> &Lanes
+        ensures { result.now ≡ self.now.kept.lanes }
+    {
+        &self.kept.lanes
     }
 }

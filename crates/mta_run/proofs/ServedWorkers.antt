@@ -15,7 +15,7 @@ use Rattle.mta_histories.specs.Lanes.{empty, State}
 use Rattle.mta_histories.specs.Due.{IsQuiet}
 use Rattle.mta_histories.specs.History.{after, IsHistory}
 use Rattle.mta_histories.specs.History.{after as after_steps}
-use Rattle.mta_images.specs.Image.{AreRecords, size_of, StandsFor}
+use Rattle.mta_images.specs.Image.{AreRecords, OpensAt, size_of, StandsFor}
 use Rattle.mta_session.specs.declared.limits.Limits.{Limits}
 use Rattle.mta_spool.specs.Bases.{base_of, HasTold, Keeps, where_listed}
 use Rattle.mta_spool.specs.Opening.{HasOpened}
@@ -197,14 +197,19 @@ module _ {D C I : Type 0} (h : Handed D C I) (serves : Serves h.words) (laws : D
           → Wherefore f → Why (stop_of_step f)
       by_fault (StepFaults.Full size need) y r =
           let there = k.stands (known (StepFaults.Full size need) y (λ e. absurd cc)) in
-          full_serving size need serves inputs (λ c told f steps was s.
-          subst (λ (z : List Step). IsOwnFull Tells c (after (z ++ final.entries)) (size_of (z ++ final.entries)) size
-          need)
-          (firsts f steps was s)
-          (subst (λ (n : ℕ). IsOwnFull Tells c (after (k.first ++ final.entries)) n size need) there.holds.size
-          (subst (λ (z : State). IsOwnFull Tells c z final.journal.size size need) k.state
-          (own_more (h.clocks.tells joined.clock) Tells c final.current final.journal.size (⊥) (⊥)
-          (StepFaults.Full size need) from_joined (λ z. z) (r c)))))
+          full_serving size need serves inputs (λ c told f steps was s. (
+            final.journal.first,
+            subst (OpensAt f) (sym (k.place ∙ o.first)) (o.place f was),
+            subst
+                (λ (z : List Step).
+                IsOwnFull Tells c (after (z ++ final.entries)) (size_of final.journal.first (z ++ final.entries)) size
+                need)
+                (firsts f steps was s)
+                (subst (λ (n : ℕ). IsOwnFull Tells c (after (k.first ++ final.entries)) n size need) there.holds.size
+                (subst (λ (z : State). IsOwnFull Tells c z final.journal.size size need) k.state
+                (own_more (h.clocks.tells joined.clock) Tells c final.current final.journal.size (⊥) (⊥)
+                (StepFaults.Full size need) from_joined (λ z. z) (r c)))),
+          ))
       by_fault (StepFaults.Spent last) y r =
           spent_serving last serves inputs (λ c told f steps was s.
           subst (λ (z : List Step). IsOwnSpent Tells c (after (z ++ final.entries)) last) (firsts f steps was s)
@@ -351,6 +356,7 @@ module _ {D C I : Type 0} (h : Handed D C I) (serves : Serves h.words) (laws : D
       sync = o.sync;
       since = refl;
       count = ap (λ (d : D). h.disks.faults d) o.disk;
+      place = λ f was. subst (OpensAt f) (sym o.first) (o.place f was);
       listed = ap (λ (c : C). where_listed (h.clocks.moments c)) handed_clock;
     }
 

@@ -20,7 +20,7 @@ use Rattle.mta_commands.specs.Submit.{stop_of_step}
 module _ {D C : Type 0} (disks : DiskView D) (clocks : ClockView C) (old new : Shown D C) where
   abbrev based : AtOpening D C → Base
   based o = record {
-    numbers = disks.faults o.disk ∷ disks.moment o.synced ∷ [];
+    numbers = disks.faults o.disk ∷ disks.moment o.synced ∷ o.first ∷ [];
     lists = where_listed (clocks.moments o.clock);
     octets = o.bodies ∷ where_told (disks.content o.disk) o.bodies;
   }

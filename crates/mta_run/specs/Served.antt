@@ -12,7 +12,8 @@ use Rattle.mta_histories.specs.History.{after}
 use Rattle.mta_session.specs.declared.limits.Limits.{Limits}
 use Rattle.mta_shared.specs.declared.history.Base.{Base}
 use Rattle.mta_journal.specs.Opening.{IsSynced}
-use Rattle.mta_spool.specs.Bases.{base_of, count_of, found_of, HasTold, Keeps, since_of, where_listed}
+use Rattle.mta_images.specs.Image.{OpensAt}
+use Rattle.mta_spool.specs.Bases.{base_of, count_of, found_of, gate_of, HasTold, Keeps, since_of, where_listed}
 use Rattle.mta_spool.specs.Shown.{Shown}
 use Rattle.mta_stations.specs.declared.end.WorkerEnd.{WorkerEnd}
 use Rattle.mta_stations.specs.Peers.{IsNamed, IsUnnamed}
@@ -25,7 +26,7 @@ use Rattle.mta_commands.specs.declared.stop.Stop.{Stop}
 use Rattle.mta_commands.specs.declared.stop.Stop.TheVariants as Stops
 use Rattle.mta_commands.specs.DiskLeft.{Opening, opened}
 use Rattle.mta_commands.specs.Command.{HasEnded}
-use Rattle.mta_commands.specs.Handed.{DiskFailed, ForOpened, Handed, handed}
+use Rattle.mta_commands.specs.Handed.{DiskFailed, ForDisk, ForOpened, Handed, handed}
 use Rattle.mta_commands.specs.Inputs.{HasTables}
 use Rattle.mta_commands.specs.Output.{Output}
 use Rattle.mta_commands.specs.Provenance.{AreOfRun}
@@ -58,8 +59,8 @@ pub data HasTablesFor {I : Type 0} (sources : SourceView I) (old new : I) (roles
 -- ---- the stations
 
 -- The base that the workers share is of what the run was handed: the bodies that opening found, which the disk told;
--- the moment at which opening's sync was over, with the disk as that left it; how often the disk had failed; and the
--- moments that the clock lists, where it does.
+-- the moment at which opening's sync was over, with the disk as that left it; how often the disk had failed; the gate
+-- from which on the records stand; and the moments that the clock lists, where it does.
 pub record IsBaseOf {D C I : Type 0} (h : Handed D C I) (base : Base) : Type 0 where
   pub found : ForOpened h (λ first. found_of base ≡ map body_of first)
   pub told : ForOpened h (λ first. HasTold base (map body_of first))
@@ -67,6 +68,7 @@ pub record IsBaseOf {D C I : Type 0} (h : Handed D C I) (base : Base) : Type 0 w
   pub sync : IsSynced h.disks h.disk.before synced
   pub since : since_of base ≡ h.disks.moment synced
   pub count : count_of base ≡ h.disks.faults h.disk.before
+  pub place : ForDisk h (λ f. OpensAt f (gate_of base))
   pub listed : base.lists ≡ where_listed (h.clocks.moments h.clock)
 
 -- the steps behind them are of what had come due

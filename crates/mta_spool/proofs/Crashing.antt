@@ -9,7 +9,7 @@ use Rattle.mta_disk.proofs.Writing.{settled_once}
 use Rattle.mta_journal.specs.Shown.{Shown as JournalShown}
 use Rattle.mta_records.specs.declared.step.Step.{Step}
 use Rattle.mta_journal.specs.Bodies.{HasBodies}
-use Rattle.mta_journal.proofs.Bodies.{stands_for}
+use Rattle.mta_journal.proofs.OpenedDisk.{stands_for}
 use Rattle.mta_records.specs.Body.{body_of}
 use Rattle.mta_histories.specs.History.{IsHistory}
 use Rattle.mta_images.specs.Image.{AreRecords, StandsFor}
@@ -56,7 +56,7 @@ reached_as steps a b g e r = subst (λ (x : List Step). Reached steps x g) e r
 image_of : (g : List ℕ) (steps : List Step) → HasBodies g (map body_of steps) → AreRecords steps → IsHistory steps
     → StandsFor g steps
 image_of g steps has each history =
-    record { bodies = stands_for g (map body_of steps) has; each = each; history = history }
+    record { bodies = stands_for has.0 g (map body_of steps) has.1; each = each; history = history }
 
 -- ---- calls
 
@@ -66,7 +66,8 @@ module _ {D C : Type 0} (disks : DiskView D) where
       → disks.content old.journal.disk ≡ Some f → (steps : List Step) → Stands disks old steps
       → Leaves disks steps [] [] old.journal.disk new.journal.disk
   still laws old new same f told steps s =
-      let here : StandsFor f (steps ++ []) = with_none f steps (image_of f steps (s.holds.file f told) s.each s.history)
+      let here : StandsFor f (steps ++ []) =
+      with_none f steps (image_of f steps (old.journal.first, s.holds.file f told) s.each s.history)
       in
       subst (λ (j : JournalShown D). Leaves disks steps [] [] old.journal.disk j.disk) (sym same) (record {
         during = settled_once disks laws (Reached steps []) old.journal.disk f s.holds.settled told (0, here);
@@ -88,7 +89,8 @@ module _ {D C : Type 0} (disks : DiskView D) where
     made stays now =
         let there = stays f told in
         let here : StandsFor there.0 (steps ++ step ∷ []) =
-        image_of there.0 (steps ++ step ∷ []) (now.holds.file there.0 there.1) now.each now.history in
+        image_of there.0 (steps ++ step ∷ []) (new.journal.first, now.holds.file there.0 there.1) now.each
+        now.history in
         record {
           during = during-one;
           now = λ g may.

@@ -4,7 +4,6 @@ use Rattle.std.proofs.Common.{Contains, Option, None, Some, refl, sym, ap, subst
 use Rattle.std.proofs.lemmas.List.{append-nil}
 use Rattle.mta_edge.specs.Views.{ClockLaws, ClockView, DiskLaws, DiskView, IsAmong}
 use Rattle.mta_journal.specs.Shown.{Shown as JournalShown}
-use Rattle.mta_journal.specs.Opening.{IsSame}
 use Rattle.mta_records.specs.declared.step.Step.{Step}
 use Rattle.mta_records.specs.declared.fault.StepFault.{StepFault}
 use Rattle.mta_records.specs.declared.fault.StepFault.TheVariants as Faults
@@ -14,7 +13,6 @@ use Rattle.mta_histories.specs.Lanes.{State, empty}
 use Rattle.mta_histories.specs.History.{IsHistory, after}
 use Rattle.mta_histories.proofs.Runs.{possible-more}
 use Rattle.mta_images.specs.Image.{AreRecords, StandsFor}
-use Rattle.mta_journal.specs.Bodies.{StandsFor as HoldsBodies}
 use Rattle.mta_shared.specs.declared.history.Base.{Base}
 use Rattle.mta_spool.specs.Bases.{Keeps, KeepsOn, StaysSafe, base_of, found_of, since_of, where_listed}
 use Rattle.mta_spool.specs.Bases.{where_told}
@@ -24,6 +22,7 @@ use Rattle.mta_spool.specs.Shown.{AtOpening, Shown}
 use Rattle.mta_spool.specs.Stands.{Appends, IsHeld, Stands, TellsFewer}
 use Rattle.mta_spool.specs.Turning.{IsUnchanged}
 use Rattle.mta_spool.proofs.Crashing.{made, reached_as, reached_first, reached_second, torn}
+use Rattle.mta_spool.proofs.Openings.{same_stands}
 
 -- no step was torn
 none-tried : (first entries : List Step) → IsHistory (first ++ entries) → IsHistory (first ++ (entries ++ []))
@@ -50,6 +49,7 @@ module _ {D C : Type 0} (disks : DiskView D) (clocks : ClockView C) where
   moved clock other opened more base j s a fewer keeps = record {
     count = keeps.count;
     ended = keeps.ended;
+    place = keeps.place;
     clock = λ moments found m told. keeps.clock moments found m (fewer m told);
     first = keeps.first;
     found = keeps.found;
@@ -135,6 +135,7 @@ module _ {D C : Type 0} (disks : DiskView D) (clocks : ClockView C) where
         record {
           count = omega (arith, keeps.count, a.later);
           ended = λ e. let on : new.journal.ended ≡ false = a.going refl in absurd cc;
+          place = a.place ∙ keeps.place;
           clock = λ moments found m told. keeps.clock moments found m (fewer-same old new clock m told);
           first = keeps.first;
           found = keeps.found;
@@ -201,6 +202,7 @@ module _ {D C : Type 0} (disks : DiskView D) (clocks : ClockView C) where
         record {
           count = omega (arith, keeps.count, a.later);
           ended = λ e. omega (arith, keeps.count, a.disk refl);
+          place = a.place ∙ keeps.place;
           clock = λ moments found m told. keeps.clock moments found m (fewer-same old new clock m told);
           first = keeps.first;
           found = keeps.found;
@@ -245,17 +247,6 @@ module _ {D C : Type 0} (disks : DiskView D) (clocks : ClockView C) where
 
 -- ---- it was opened
 
-same_stands : (f g : List ℕ) (steps : List Step) → IsSame f g → StandsFor f steps → StandsFor g steps
-same_stands f g steps (inl same) stands = subst (λ (x : List ℕ). StandsFor x steps) (sym same) stands
-same_stands f g steps (inr short) stands = record {
-  bodies = inl (short.1, none_in (map body_of steps) stands.bodies);
-  each = stands.each;
-  history = stands.history;
-} where
-  none_in : (bodies : List (List ℕ)) → HoldsBodies f bodies → bodies ≡ []
-  none_in bodies (inl holds) = holds.1
-  none_in bodies (inr holds) = absurd (omega (arith, short.0, holds.0))
-
 found-is : (told : Option (List ℕ)) (found bodies : List (List ℕ))
     → ◌≡◌ {A = List (List (List ℕ))} (found ∷ where_told told found) (found ∷ bodies ∷ [])
     → (f : List ℕ) × (told ≡ Some f) × (found ≡ bodies)
@@ -298,6 +289,7 @@ module _ {D C : Type 0} (disks : DiskView D) (clocks : ClockView C) (laws : Disk
       record {
         count = omega (arith, o.later, ap (λ (d : D). disks.faults d) o.disk);
         ended = λ e. let going : spool.journal.ended ≡ false = o.stands.holds.going in absurd cc;
+        place = sym o.first;
         clock = λ moments found m told.
             among-listed (clocks.moments spool.opened.clock) moments m found
             ((clock_laws.listed spool.opened.clock m).0 (subst (λ (c : C). clocks.tells c m) clock told));

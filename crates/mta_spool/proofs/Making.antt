@@ -9,7 +9,7 @@ use Rattle.mta_journal.specs.Shown.{Shown as JournalShown, Holds}
 use Rattle.mta_journal.specs.Appending.{Appends as JournalAppends}
 use Rattle.mta_journal.specs.declared.journal.AppendFault.{AppendFault}
 use Rattle.mta_journal.specs.declared.journal.AppendFault.TheVariants as AppendFaults
-use Rattle.mta_journal.proofs.Bodies.{stands_for}
+use Rattle.mta_journal.proofs.OpenedDisk.{stands_for}
 use Rattle.mta_records.specs.declared.step.Step.{Step}
 use Rattle.mta_records.specs.declared.fault.StepFault.{StepFault}
 use Rattle.mta_records.specs.declared.fault.StepFault.TheVariants as StepFaults
@@ -26,8 +26,13 @@ use Rattle.mta_spool.proofs.Refused.{not_refused, refusal_of_lane, one_refusal}
 use Rattle.mta_spool.specs.Stands.{IsHeld, IsOfNoRefusal, IsOneOf, IsSpent, last_number, MayHave, Makes, need_of}
 
 -- an image that holds the bodies of a history stands for it
-image_of : (g : List ℕ) (steps : List Step) → HasBodies g (map body_of steps) → AreRecords steps → IsHistory steps → StandsFor g steps
-image_of g steps has each history = record { bodies = stands_for g (map body_of steps) has; each = each; history = history }
+image_of : (g : List ℕ) (steps : List Step) → HasBodies g (map body_of steps) → AreRecords steps → IsHistory steps
+    → StandsFor g steps
+image_of g steps has each history = record {
+  bodies = stands_for has.0 g (map body_of steps) has.1;
+  each = each;
+  history = history;
+}
 
 -- with one body more it stands for the step of that body too
 one_of : (g : List ℕ) (steps : List Step) (step : Step) → AreRecords steps → IsHistory steps → HasFields step
@@ -48,12 +53,14 @@ lane-of x f e of = subst IsOfLane (some-is x f e) of
 
 module _ {D : Type 0} (model : DiskView D) (step : Step) where
   -- behind the history that is held the step is possible
-  possible_there : (journal : JournalShown D) (s : State) (steps : List Step) → IsPossible s step → IsHeld model journal s steps
+  possible_there : (journal : JournalShown D) (s : State) (steps : List Step) → IsPossible s step
+      → IsHeld model journal s steps
       → IsPossible (after steps) step
   possible_there journal s steps possible held = subst (λ (x : State). IsPossible x step) held.state_is possible
 
   held_more : (old new : JournalShown D) (s s' : State) (steps : List Step) → IsHeld model old s steps
-      → Holds model new (map body_of steps ++ body_of step ∷ []) → HasFields step → IsPossible s step → s' ≡ after_step s step
+      → Holds model new (map body_of steps ++ body_of step ∷ []) → HasFields step → IsPossible s step → s'
+      ≡ after_step s step
       → IsHeld model new s' (steps ++ step ∷ [])
   held_more old new s s' steps held holds fields possible made = record {
     holds = subst (Holds model new) (sym (map-more steps step)) holds;
@@ -67,7 +74,8 @@ module _ {D : Type 0} (model : DiskView D) (step : Step) where
   HasTried old new = (f : List ℕ) → model.content old.disk ≡ Some f → (bodies : List (List ℕ)) → Holds model old bodies
       → AtAnyMoment model (HasOrOneMore bodies (body_of step)) old.disk new.disk
 
-  tried : DiskLaws model → (old new : JournalShown D) (s : State) → HasFields step → IsPossible s step → HasTried old new
+  tried : DiskLaws model → (old new : JournalShown D) (s : State) → HasFields step → IsPossible s step
+      → HasTried old new
       → MayHave model step old s new
   tried laws old new s fields possible images = record {
     possible = λ steps held. possible_there old s steps possible held;
@@ -84,15 +92,18 @@ module _ {D : Type 0} (model : DiskView D) (step : Step) where
         (images f told (map body_of steps) held.holds)
 
   -- the body was appended and the change made
-  pub made : DiskLaws model → (old new : JournalShown D) (s s' : State) → JournalAppends {T = Unit {0}} model (body_of step) old new (Ok tt)
+  pub made : DiskLaws model → (old new : JournalShown D) (s s' : State)
+      → JournalAppends {T = Unit {0}} model (body_of step) old new (Ok tt)
       → old.ended ≡ false → HasFields step → IsPossible s step → (IsSpent s step → ⊥) → s' ≡ after_step s step
       → (a : List Step) → Makes model step old s a new s' (a ++ step ∷ []) None
   made laws old new s s' a going fields possible numbers change entries = record {
     entries = refl;
+    place = a.place;
     still = λ some. absurd (some refl);
     row = λ f e of. absurd cc;
     row_where = λ on f is. absurd (not_refused s step f possible is);
-    done = λ ok steps held. held_more old new s s' steps held (a.done refl (map body_of steps) held.holds) fields possible change;
+    done = λ ok steps held. held_more old new s s' steps held (a.done refl (map body_of steps) held.holds) fields
+        possible change;
     changed = λ ok. change;
     going = λ ok. a.going refl;
     told = a.told;
@@ -110,11 +121,13 @@ module _ {D : Type 0} (model : DiskView D) (step : Step) where
 
   -- the journal refused the body, and the state is as it was
   pub refused : DiskLaws model → (fault : AppendFault) (old new : JournalShown D) (s s' : State)
-      → JournalAppends {T = Unit {0}} model (body_of step) old new (Err fault) → old.ended ≡ false → HasFields step → IsPossible s step
+      → JournalAppends {T = Unit {0}} model (body_of step) old new (Err fault) → old.ended ≡ false → HasFields step
+      → IsPossible s step
       → (IsSpent s step → ⊥) → s' ≡ s → (b : List Step)
       → Makes model step old s b new s' b (Some (step_fault fault))
   refused laws (AppendFaults.Full size need) old new s s' a going fields possible numbers same made = record {
     entries = refl;
+    place = a.place;
     still = λ some. same;
     row = λ f e of. absurd (of-lane (StepFaults.Full size need) f e of);
     row_where = λ on f is. absurd (not_refused s step f possible is);
@@ -137,10 +150,12 @@ module _ {D : Type 0} (model : DiskView D) (step : Step) where
         (n_is ∙ f.0, m_is ∙ f.1, omega (arith, f.2, n_is, m_is));
     full_where = λ on no left long.
         let f = a.full size need refl in
-        let e : AppendFaults.Full size need ≡ AppendFaults.Full old.size (need_of step) = cc in inl (ap (λ (x : AppendFault). Some (step_fault x)) e);
+        let e : AppendFaults.Full size need
+        ≡ AppendFaults.Full old.size (need_of step) = cc in inl (ap (λ (x : AppendFault). Some (step_fault x)) e);
   }
   refused laws AppendFaults.Disk old new s s' a going fields possible numbers same made = record {
     entries = refl;
+    place = a.place;
     still = λ some. same;
     row = λ f e of. absurd (of-lane StepFaults.Disk f e of);
     row_where = λ on f is. absurd (not_refused s step f possible is);
@@ -163,6 +178,7 @@ module _ {D : Type 0} (model : DiskView D) (step : Step) where
       let is_ended = a.ended.0 refl in absurd cc
   refused laws AppendFaults.Memory old new s s' a going fields possible numbers same made = record {
     entries = refl;
+    place = a.place;
     still = λ some. same;
     row = λ f e of. absurd (of-lane StepFaults.Memory f e of);
     row_where = λ on f is. absurd (not_refused s step f possible is);
@@ -194,6 +210,7 @@ module _ {D : Type 0} (model : DiskView D) (step : Step) where
       → Makes model step old s made new s' made (Some StepFaults.Memory)
   no_memory old new s s' same kept going numbers lane = record {
     entries = refl;
+    place = ap (λ (j : JournalShown D). j.first) same;
     still = λ some. kept;
     row = λ f e of. absurd (of-lane StepFaults.Memory f e of);
     row_where = λ on f is. absurd (lane f is);
@@ -218,6 +235,7 @@ module _ {D : Type 0} (model : DiskView D) (step : Step) where
       → old.ended ≡ false → (IsSpent s step → ⊥) → Makes model step old s made new s' made (Some StepFaults.Memory)
   no_memory_to_look old new s s' same kept going numbers = record {
     entries = refl;
+    place = ap (λ (j : JournalShown D). j.first) same;
     still = λ some. kept;
     row = λ f e of. absurd (of-lane StepFaults.Memory f e of);
     row_where = λ on f is. inr refl;
@@ -242,6 +260,7 @@ module _ {D : Type 0} (model : DiskView D) (step : Step) where
       → Makes model step old s made new s' made (Some StepFaults.Ended)
   is_ended old new s s' same kept ended = record {
     entries = refl;
+    place = ap (λ (j : JournalShown D). j.first) same;
     still = λ some. kept;
     row = λ f e of. absurd (of-lane StepFaults.Ended f e of);
     row_where = λ on f is. absurd cc;
@@ -267,6 +286,7 @@ module _ {D : Type 0} (model : DiskView D) (step : Step) where
       → Makes model step old s made new s' made (Some (StepFaults.Spent last))
   is_spent last old new s s' same kept going count spent lane = record {
     entries = refl;
+    place = ap (λ (j : JournalShown D). j.first) same;
     still = λ some. kept;
     row = λ f e of. absurd (of-lane (StepFaults.Spent last) f e of);
     row_where = λ on f is. absurd (lane f is);
@@ -294,6 +314,7 @@ module _ {D : Type 0} (model : DiskView D) (step : Step) where
       let of = refusal_of_lane s (class_of step) (when s step) f refusal in
       record {
         entries = refl;
+        place = ap (λ (j : JournalShown D). j.first) same;
         still = λ some. kept;
         row = λ h e is. subst (λ (x : StepFault). IsRefused s (class_of step) (when s step) x) (some-is f h e) refusal;
         row_where = λ on h other.

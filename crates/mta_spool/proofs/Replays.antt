@@ -1,5 +1,6 @@
 -- Steps that are taken up one after the other.
-use Rattle.std.proofs.Common.{◌≡◌, ℕ, zero, suc, ◌+◌, ◌≤◌, ◌<◌, List, [], ◌∷◌, ◌++◌, length, map, take, Result, Err, IsErrOf, refl, sym, ap, subst, ◌∙◌, append_assoc, arith}
+use Rattle.std.proofs.Common.{◌≡◌, ℕ, zero, suc, ◌+◌, ◌≤◌, List, [], ◌∷◌, ◌++◌, length, map, take, Result, Err, IsErrOf}
+use Rattle.std.proofs.Common.{refl, sym, ap, subst, ◌∙◌, append_assoc, arith}
 use Rattle.std.specs.Prelude.{IsOk}
 use Rattle.std.specs.List.{flat_map}
 use Rattle.std.proofs.lemmas.List.{append-nil, length-append}
@@ -7,7 +8,7 @@ use Rattle.mta_records.specs.declared.step.Step.{Step}
 use Rattle.mta_records.specs.Body.{body_of}
 use Rattle.mta_histories.specs.Lanes.{State, empty}
 use Rattle.mta_histories.specs.History.{IsPossible, after_step}
-use Rattle.mta_journal.specs.Bodies.{longest_body, magic, front, open_record, AreShort}
+use Rattle.mta_journal.specs.Bodies.{longest_body, longest_first, open_record, records, AreWithin}
 use Rattle.mta_images.specs.Image.{StopsAt, size_of}
 use Rattle.mta_histories.proofs.Runs.{after_from-more, possible-more}
 use Rattle.mta_images.proofs.Bodies.{map-more, are-records-more, size-more}
@@ -18,59 +19,71 @@ use Rattle.mta_spool.specs.Replaying.{HasReplayed, HasStopped, HasTaken, IsRepla
 -- ---- a row of bodies
 
 -- a step more was taken up
-pub replay_more : (bodies : List (List ℕ)) (body : List ℕ) (old new : State) (result : Result (Unit {0}) NotMade) (steps : List Step) → IsReplay bodies old steps → HasTaken body old new result → IsOk result
-    → (more : List Step) × IsReplay (bodies ++ body ∷ []) new more × (size_of more ≡ size_of steps + (length body + 5))
-replay_more bodies body old new result steps is taken ok =
+pub replay_more : (first : ℕ) (bodies : List (List ℕ)) (body : List ℕ) (old new : State)
+    (result : Result (Unit {0}) NotMade) (steps : List Step) → IsReplay bodies old steps → HasTaken body old new result
+    → IsOk result
+    → (more : List Step) × IsReplay (bodies ++ body ∷ []) new more
+    × (size_of first more ≡ size_of first steps + (length body + 5))
+replay_more first bodies body old new result steps is taken ok =
     let t = taken.made ok in
     let step = t.0 in (
       steps ++ step ∷ [],
       record {
-        bodies_are = map-more steps step ∙ ap (λ (b : List ℕ). map body_of steps ++ b ∷ []) t.2 ∙ ap (λ (bs : List (List ℕ)). bs ++ body ∷ []) is.bodies_are;
+        bodies_are = map-more steps step ∙ ap (λ (b : List ℕ). map body_of steps ++ b ∷ []) t.2
+            ∙ ap (λ (bs : List (List ℕ)). bs ++ body ∷ []) is.bodies_are;
         each = are-records-more steps step is.each t.1;
         history = possible-more empty steps step is.history (subst (λ (s : State). IsPossible s step) is.state_is t.3);
         state_is = t.4 ∙ ap (λ (s : State). after_step s step) is.state_is ∙ sym (after_from-more empty steps step);
       },
-      size-more steps step ∙ ap (λ (b : List ℕ). size_of steps + (length b + 5)) t.2,
+      size-more first steps step ∙ ap (λ (b : List ℕ). size_of first steps + (length b + 5)) t.2,
     )
 
 -- no step of the body is possible
-pub replay_stops : (bodies : List (List ℕ)) (body : List ℕ) (more all : List (List ℕ)) (old new : State) (result : Result (Unit {0}) NotMade) (steps : List Step) (at : ℕ) → IsReplay bodies old steps → all ≡ bodies ++ body ∷ more
-    → HasTaken body old new result → IsErrOf result NotMades.Impossible → at + 1 ≡ size_of steps → StopsAt all at
-replay_stops bodies body more all old new result steps at is whole taken wrong place = record {
+pub replay_stops : (first : ℕ) (bodies : List (List ℕ)) (body : List ℕ) (more all : List (List ℕ)) (old new : State)
+    (result : Result (Unit {0}) NotMade) (steps : List Step) (at : ℕ) → IsReplay bodies old steps → all ≡ bodies ++ body
+    ∷ more
+    → HasTaken body old new result → IsErrOf result NotMades.Impossible → at + 1 ≡ size_of first steps
+    → StopsAt first all at
+replay_stops first bodies body more all old new result steps at is whole taken wrong place = record {
   steps = steps;
   body = body;
   more = more;
   bodies_are = whole ∙ ap (λ (bs : List (List ℕ)). bs ++ body ∷ more) (sym is.bodies_are);
   each = is.each;
   history = is.history;
-  none = λ step fields e possible. taken.impossible wrong step fields e (subst (λ (s : State). IsPossible s step) (sym is.state_is) possible);
+  none = λ step fields e possible. taken.impossible wrong step fields e
+      (subst (λ (s : State). IsPossible s step) (sym is.state_is) possible);
   place = omega (arith, place);
 }
 
 -- so it is no spool from there on, or there was no memory
-pub replay_stopped : (bodies : List (List ℕ)) (body : List ℕ) (more all : List (List ℕ)) (old new : State)
+pub replay_stopped : (first : ℕ) (bodies : List (List ℕ)) (body : List ℕ) (more all : List (List ℕ)) (old new : State)
     (why : NotMade) (steps : List Step) (at : ℕ) → IsReplay bodies old steps → all ≡ bodies ++ body ∷ more
-    → HasTaken {T = Unit {0}} body old new (Err why) → at + 1 ≡ size_of steps → HasStopped all (open_why why at)
-replay_stopped bodies body more all old new NotMades.Impossible steps at is whole taken place =
-    replay_stops bodies body more all old new (Err NotMades.Impossible) steps at is whole taken refl place
-replay_stopped bodies body more all old new NotMades.Memory steps at is whole taken place = tt
+    → HasTaken {T = Unit {0}} body old new (Err why) → at + 1 ≡ size_of first steps
+    → HasStopped first all (open_why why at)
+replay_stopped first bodies body more all old new NotMades.Impossible steps at is whole taken place =
+    replay_stops first bodies body more all old new (Err NotMades.Impossible) steps at is whole taken refl place
+replay_stopped first bodies body more all old new NotMades.Memory steps at is whole taken place = tt
 
 -- ---- how far a row of bodies reaches
 
-flat_take : (bodies : List (List ℕ)) (i : ℕ) → length (flat_map open_record (take i bodies)) ≤ length (flat_map open_record bodies)
+flat_take : (bodies : List (List ℕ)) (i : ℕ) → length (flat_map open_record (take i bodies))
+    ≤ length (flat_map open_record bodies)
 flat_take [] zero = omega arith
 flat_take [] (suc i) = omega arith
 flat_take (b ∷ bodies) zero = omega arith
-flat_take (b ∷ bodies) (suc i) = omega (arith, flat_take bodies i, length-append (open_record b) (flat_map open_record (take i bodies)), length-append (open_record b) (flat_map open_record bodies))
+flat_take (b ∷ bodies) (suc i) = omega (
+  arith,
+  flat_take bodies i,
+  length-append (open_record b) (flat_map open_record (take i bodies)),
+  length-append (open_record b) (flat_map open_record bodies),
+)
 
 -- the records so far are no longer than all
-pub front_fits : (bodies : List (List ℕ)) (i : ℕ) (steps : List Step) → map body_of steps ≡ take i bodies → size_of steps ≤ length (front bodies) + 1
-front_fits bodies i steps e =
-    omega (arith, ap (λ (bs : List (List ℕ)). length (front bs)) e, length-append magic (flat_map open_record (take i bodies)), length-append magic (flat_map open_record bodies), flat_take bodies i)
-
-pub size-none : size_of [] ≡ 9
-unfolding magic
-size-none = refl
+pub records_fit : (first : ℕ) (bodies : List (List ℕ)) (i : ℕ) (steps : List Step) → map body_of steps ≡ take i bodies
+    → size_of first steps ≤ first + length (records bodies) + 1
+records_fit first bodies i steps e =
+    omega (arith, ap (λ (bs : List (List ℕ)). length (records bs)) e, flat_take bodies i)
 
 -- the state after no step
 pub empty_replay : (state : State) → state ≡ empty → IsReplay [] state []
@@ -78,40 +91,42 @@ empty_replay state is = record { bodies_are = refl; each = tt; history = tt; sta
 
 -- ---- a row of bodies of which the first are taken up
 
--- what is taken up of a row, and what is left of it
-pub record IsUnderWay (bodies rest : List (List ℕ)) (state : State) (at : ℕ) : Type 0 where
+-- what is taken up of a row whose records stand from this gate on, and what is left of it
+pub record IsUnderWay (first : ℕ) (bodies rest : List (List ℕ)) (state : State) (at : ℕ) : Type 0 where
   pub done : List (List ℕ)
   pub steps : List Step
   pub are : bodies ≡ done ++ rest
   pub replayed : IsReplay done state steps
-  pub place : at + 1 ≡ size_of steps
+  pub place : at + 1 ≡ size_of first steps
 
-pub under_way_at_first : (bodies rest : List (List ℕ)) (state : State) → rest ≡ bodies → state ≡ empty
-    → IsUnderWay bodies rest state 8
-under_way_at_first bodies rest state same first = record {
+pub under_way_at_first : (first : ℕ) (bodies rest : List (List ℕ)) (state : State) → rest ≡ bodies → state ≡ empty
+    → IsUnderWay first bodies rest state first
+under_way_at_first first bodies rest state same none = record {
   done = [];
   steps = [];
   are = sym same;
-  replayed = empty_replay state first;
-  place = sym size-none;
+  replayed = empty_replay state none;
+  place = omega arith;
 }
 
-first_short : (done : List (List ℕ)) (body : List ℕ) (rest : List (List ℕ)) → AreShort (done ++ body ∷ rest)
-    → length body ≤ longest_body
-first_short [] body rest short = short.0
-first_short (b ∷ done) body rest short = first_short done body rest short.1
+first_short : (most : ℕ) → longest_body ≤ most → (done : List (List ℕ)) (body : List ℕ) (rest : List (List ℕ))
+    → AreWithin most (done ++ body ∷ rest) → length body ≤ most
+first_short most le [] body rest short = short.0
+first_short most le (b ∷ done) body rest short =
+    omega (arith, le, first_short longest_body (omega arith) done body rest short.1)
 
-pub next_short : (bodies was rest : List (List ℕ)) (body : List ℕ) (state : State) (at : ℕ) → AreShort bodies
-    → IsUnderWay bodies was state at → was ≡ body ∷ rest → length body ≤ longest_body
-next_short bodies was rest body state at short way is =
-    first_short way.done body rest
-    (subst AreShort (way.are ∙ ap (λ (xs : List (List ℕ)). way.done ++ xs) is) short)
+pub next_short : (first : ℕ) (bodies was rest : List (List ℕ)) (body : List ℕ) (state : State) (at : ℕ)
+    → AreWithin longest_first bodies → IsUnderWay first bodies was state at → was ≡ body ∷ rest
+    → length body ≤ longest_first
+next_short first bodies was rest body state at short way is =
+    first_short longest_first (omega arith) way.done body rest
+    (subst (AreWithin longest_first) (way.are ∙ ap (λ (xs : List (List ℕ)). way.done ++ xs) is) short)
 
-pub under_way_further : (bodies was rest : List (List ℕ)) (body : List ℕ) (old new : State)
-    (result : Result (Unit {0}) NotMade) (at more : ℕ) → IsUnderWay bodies was old at → was ≡ body ∷ rest
-    → HasTaken body old new result → IsOk result → more ≡ at + (length body + 5) → IsUnderWay bodies rest new more
-under_way_further bodies was rest body old new result at more way is taken ok same =
-    let next = replay_more way.done body old new result way.steps way.replayed taken ok in
+pub under_way_further : (first : ℕ) (bodies was rest : List (List ℕ)) (body : List ℕ) (old new : State)
+    (result : Result (Unit {0}) NotMade) (at more : ℕ) → IsUnderWay first bodies was old at → was ≡ body ∷ rest
+    → HasTaken body old new result → IsOk result → more ≡ at + (length body + 5) → IsUnderWay first bodies rest new more
+under_way_further first bodies was rest body old new result at more way is taken ok same =
+    let next = replay_more first way.done body old new result way.steps way.replayed taken ok in
     record {
       done = way.done ++ body ∷ [];
       steps = next.0;
@@ -120,11 +135,12 @@ under_way_further bodies was rest body old new result at more way is taken ok sa
       place = (let size = next.2 in let place = way.place in omega (arith, same, size, place));
     }
 
-pub way_fits : (bodies rest : List (List ℕ)) (state : State) (at : ℕ) → IsUnderWay bodies rest state at
-    → at ≤ length (front bodies)
-way_fits bodies rest state at way =
+pub way_fits : (first : ℕ) (bodies rest : List (List ℕ)) (state : State) (at : ℕ)
+    → IsUnderWay first bodies rest state at
+    → at ≤ first + length (records bodies)
+way_fits first bodies rest state at way =
     let place = way.place in
-    let fits = front_fits bodies (length way.done) way.steps (way.replayed.bodies_are ∙ sym taken) in
+    let fits = records_fit first bodies (length way.done) way.steps (way.replayed.bodies_are ∙ sym taken) in
     omega (arith, place, fits)
   where
     take-front : (xs ys : List (List ℕ)) → take (length xs) (xs ++ ys) ≡ xs
@@ -134,16 +150,17 @@ way_fits bodies rest state at way =
     taken : take (length way.done) bodies ≡ way.done
     taken = ap (take (length way.done)) way.are ∙ take-front way.done rest
 
-pub way_stopped : (bodies was rest : List (List ℕ)) (body : List ℕ) (old new : State) (why : NotMade) (at : ℕ)
-    → IsUnderWay bodies was old at → was ≡ body ∷ rest → HasTaken {T = Unit {0}} body old new (Err why)
-    → HasStopped bodies (open_why why at)
-way_stopped bodies was rest body old new why at way is taken =
-    replay_stopped way.done body rest bodies old new why way.steps at way.replayed
+pub way_stopped : (first : ℕ) (bodies was rest : List (List ℕ)) (body : List ℕ) (old new : State) (why : NotMade)
+    (at : ℕ)
+    → IsUnderWay first bodies was old at → was ≡ body ∷ rest → HasTaken {T = Unit {0}} body old new (Err why)
+    → HasStopped first bodies (open_why why at)
+way_stopped first bodies was rest body old new why at way is taken =
+    replay_stopped first way.done body rest bodies old new why way.steps at way.replayed
     (way.are ∙ ap (λ (xs : List (List ℕ)). way.done ++ xs) is) taken way.place
 
-pub way_ended : (bodies rest : List (List ℕ)) (state : State) (at : ℕ) → IsUnderWay bodies rest state at
-    → rest ≡ [] → HasReplayed bodies state
-way_ended bodies rest state at way none =
+pub way_ended : (first : ℕ) (bodies rest : List (List ℕ)) (state : State) (at : ℕ)
+    → IsUnderWay first bodies rest state at → rest ≡ [] → HasReplayed bodies state
+way_ended first bodies rest state at way none =
     (way.steps, subst (λ (bs : List (List ℕ)). IsReplay bs state way.steps) (sym whole) way.replayed)
   where
     whole : bodies ≡ way.done

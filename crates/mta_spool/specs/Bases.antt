@@ -30,6 +30,10 @@ count_of base = slice_index base.numbers 0
 abbrev pub since_of : Base → ℕ
 since_of base = slice_index base.numbers 1
 
+-- the first gate of the records
+abbrev pub gate_of : Base → ℕ
+gate_of base = slice_index base.numbers 2
+
 abbrev pub first_of : List (List (List ℕ)) → List (List ℕ)
 first_of [] = []
 first_of (bodies ∷ more) = bodies
@@ -61,7 +65,7 @@ module _ {D C : Type 0} (disks : DiskView D) (clocks : ClockView C) where
   -- what a lock's passes share of a spool
   abbrev pub base_of : Shown D C → Base
   base_of spool = record {
-    numbers = disks.faults spool.opened.disk ∷ disks.moment spool.opened.synced ∷ [];
+    numbers = disks.faults spool.opened.disk ∷ disks.moment spool.opened.synced ∷ spool.opened.first ∷ [];
     lists = where_listed (clocks.moments spool.opened.clock);
     octets = spool.opened.bodies ∷ where_told (disks.content spool.opened.disk) spool.opened.bodies;
   }
@@ -71,6 +75,8 @@ module _ {D C : Type 0} (disks : DiskView D) (clocks : ClockView C) where
     -- its disk's count is not below the base's, and above it, or at its type's end, where a step has answered Disk
     pub count : count_of base ≤ disks.faults spool.journal.disk
     pub ended : spool.journal.ended ≡ true → Rose (count_of base) (disks.faults spool.journal.disk)
+    -- its records stand from the base's gate on
+    pub place : spool.journal.first ≡ gate_of base
     -- its clock tells only moments of the base
     pub clock : (moments : List ℕ) → HasListed base moments → (m : ℕ) → clocks.tells spool.clock m
         → Contains moments m

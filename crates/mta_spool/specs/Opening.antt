@@ -1,16 +1,58 @@
 -- What opening finds and leaves.
-use Rattle.std.specs.Prelude.{◌≡◌, ℕ, ◌≤◌, List, [], map}
+use Rattle.std.specs.Prelude.{◌≡◌, ◌⊎◌, ℕ, ◌≤◌, List, [], map, Some}
 use Rattle.mta_edge.specs.Causes.{Rose}
 use Rattle.mta_edge.specs.Views.{DiskView, StaysTold, WhereTold}
 use Rattle.mta_edge.specs.Crashes.{AtAnyMoment}
-use Rattle.mta_journal.specs.Opening.{BeforeOrSame, IsLeft, IsSameFrom, IsSynced, LongStays}
+use Rattle.mta_journal.specs.Opening.{IsSynced, KeepsFilled}
+use Rattle.mta_journal.specs.declared.journal.AppendFault.{AppendFault}
+use Rattle.mta_journal.specs.declared.journal.AppendFault.TheVariants as AppendFaults
 use Rattle.mta_journal.specs.declared.why.OpenWhy.{OpenWhy}
 use Rattle.mta_journal.specs.declared.why.OpenWhy.TheVariants as Whys
 use Rattle.mta_records.specs.declared.step.Step.{Step}
 use Rattle.mta_records.specs.Body.{body_of}
-use Rattle.mta_images.specs.Image.{StandsFor, NoSpoolAt}
+use Rattle.mta_images.specs.Image.{StandsFor, NoSpoolAt, OpensAt}
 use Rattle.mta_spool.specs.Shown.{Shown}
 use Rattle.mta_spool.specs.Stands.{Stands}
+
+-- it is the same image, or both stand for one history
+abbrev pub IsSame : List ℕ → List ℕ → Type 0
+IsSame f g = (g ≡ f) ⊎ ((steps : List Step) × StandsFor f steps × StandsFor g steps)
+
+-- a crash while the disk is opened leaves what one before might have left, or the same
+abbrev pub BeforeOrSame : {D : Type 0} → DiskView D → D → List ℕ → List ℕ → Type 0
+BeforeOrSame model old f g = model.may_leave old g ⊎ IsSame f g
+
+-- since this moment of the call a crash leaves the same
+pub record IsSameFrom {D : Type 0} (model : DiskView D) (f : List ℕ) (old new : D) (since : ℕ) : Type 0 where
+  pub from : model.moment old ≤ since
+  pub until : since ≤ model.moment new
+  pub same : (g : List ℕ) → model.left_since new since g → IsSame f g
+
+-- since the first sync of the call a crash leaves the same
+pub record SameSince {D : Type 0} (model : DiskView D) (f : List ℕ) (old new : D) : Type 0 where
+  pub first : D
+  pub sync : IsSynced model old first
+  pub same : IsSameFrom model f old new (model.moment first)
+
+-- What a crash leaves of a disk on which a spool is opened: where the first sync failed, what one before might have
+-- left, and since that sync the same.
+pub data IsLeft {D : Type 0} (model : DiskView D) (f : List ℕ) (old new : D) : Type 0 where
+  unsynced : model.content new ≡ model.content old
+      → ((g : List ℕ) → model.left_since new (model.moment old) g → model.may_leave old g) → IsLeft model f old new
+  synced : SameSince model f old new → IsLeft model f old new
+
+-- what opening answers where the record of the second area was not moved: the other two faults never come
+abbrev pub settle_why : AppendFault → OpenWhy
+settle_why (AppendFaults.Full size need) = Whys.Memory
+settle_why AppendFaults.Disk = Whys.Disk
+settle_why AppendFaults.Ended = Whys.Memory
+settle_why AppendFaults.Memory = Whys.Memory
+
+-- a disk that stands for no history is as it was
+abbrev pub StaysOther : {D : Type 0} → DiskView D → D → D → Type 0
+StaysOther model old new =
+    (f : List ℕ) → model.content old ≡ Some f → ((steps : List Step) → StandsFor f steps → ⊥)
+    → model.content new ≡ Some f
 
 -- at any moment of opening a crash leaves what one before might have left, or the same
 abbrev pub OpensSafely : {D : Type 0} → DiskView D → D → D → Type 0
@@ -21,6 +63,8 @@ pub record HasOpened {D C : Type 0} (model : DiskView D) (old : D) (spool : Show
   pub steps : List Step
   pub stands : Stands model spool steps
   pub history : WhereTold model old (λ f. StandsFor f steps)
+  -- its records stand where those of that disk do, but for one that a stop has left in the second area
+  pub place : WhereTold model old (λ f. OpensAt f spool.journal.first)
   pub later : model.faults old ≤ model.faults spool.journal.disk
   pub told : StaysTold model old spool.journal.disk
   pub images : OpensSafely model old spool.journal.disk
@@ -30,6 +74,7 @@ pub record HasOpened {D C : Type 0} (model : DiskView D) (old : D) (spool : Show
   -- no step was made yet, and what it was opened with is known
   pub none : spool.entries ≡ []
   pub disk : spool.opened.disk ≡ old
+  pub first : spool.opened.first ≡ spool.journal.first
   pub bodies : spool.opened.bodies ≡ map body_of steps
 
 -- The disk was refused.
@@ -38,8 +83,9 @@ pub record HasRefused {D : Type 0} (model : DiskView D) (old new : D) (why : Ope
   pub disk : why ≡ Whys.Disk → Rose (model.faults old) (model.faults new)
   -- it is no spool, and from where on
   pub not_spool : (at : ℕ) → why ≡ Whys.NotSpool at → WhereTold model old (λ f. NoSpoolAt f at)
-  -- one of more than nine octets is as it was
-  pub kept : LongStays model old new
+  -- one that stands for no history is as it was, and one that has records too where the disk has not failed
+  pub kept : StaysOther model old new
+  pub filled : (why ≡ Whys.Disk → ⊥) → KeepsFilled model old new
   pub told : StaysTold model old new
   pub images : OpensSafely model old new
   -- where its first sync failed a crash leaves what one before might have left, and since that sync the same

@@ -28,11 +28,12 @@ pub record IsReplay (bodies : List (List ℕ)) (state : State) (steps : List Ste
 abbrev pub HasReplayed : List (List ℕ) → State → Type 0
 HasReplayed bodies state = (steps : List Step) × IsReplay bodies state steps
 
--- the bodies are those of no history from a place on, or there was no memory for what they say
-abbrev pub HasStopped : List (List ℕ) → OpenWhy → Type 0
-HasStopped bodies (Whys.NotSpool at) = StopsAt bodies at
-HasStopped bodies Whys.Disk = ⊥
-HasStopped bodies Whys.Memory = Unit {0}
+-- the bodies, whose records stand from this gate on, are those of no history from a place on, or there was no memory
+-- for what they say
+abbrev pub HasStopped : ℕ → List (List ℕ) → OpenWhy → Type 0
+HasStopped first bodies (Whys.NotSpool at) = StopsAt first bodies at
+HasStopped first bodies Whys.Disk = ⊥
+HasStopped first bodies Whys.Memory = Unit {0}
 
 -- why a body was not taken up whose gate is at this offset
 abbrev pub open_why : NotMade → ℕ → OpenWhy

@@ -6,7 +6,8 @@ use Rattle.mta_edge.specs.Causes.{Rose}
 use Rattle.mta_edge.specs.Views.{ClockView, DiskView, StaysTold}
 use Rattle.mta_edge.specs.Crashes.{AtAnyMoment}
 use Rattle.mta_journal.specs.Shown.{Shown as JournalShown, Holds}
-use Rattle.mta_journal.specs.Appending.{journal_limit, need_of as need_of_body}
+use Rattle.mta_journal.specs.Appending.{journal_limit}
+use Rattle.mta_journal.specs.Bodies.{need_of as need_of_body}
 use Rattle.mta_records.specs.declared.fault.StepFault.{StepFault}
 use Rattle.mta_records.specs.declared.fault.StepFault.TheVariants as StepFaults
 use Rattle.mta_records.specs.declared.step.Step.{Step}
@@ -123,6 +124,8 @@ pub record Makes {D : Type 0} (model : DiskView D) (step : Step) (old : JournalS
   pub going : fault ≡ None → new.ended ≡ false
   -- it stands behind the steps that were made before
   pub entries : made' ≡ entries_after made step fault
+  -- the records stand from the same gate on
+  pub place : new.first ≡ old.first
   -- where it is refused, also for the disk, the state in memory is as it was
   pub still : fault ≢ None → s' ≡ s
   -- the disk tells what it holds where it told it

@@ -11,6 +11,7 @@ pub struct AtOpening<D, C> {
     pub clock: Snapshot<C>,
     /// The disk as the first sync left it.
     pub synced: Snapshot<D>,
-    /// The bodies of the records that stood on it.
+    /// The bodies of the records that stood on it, and their first gate when it was opened.
     pub bodies: Snapshot<Vec<Octets>>,
+    pub first: Snapshot<u64>,
 }

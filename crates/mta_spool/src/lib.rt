@@ -22,6 +22,7 @@ pub use law::first_cause_is_told;
 pub use mta_journal::{JOURNAL_LIMIT, OpenWhy};
 pub use mta_machine::{Item, MailboxLine, Origin, Status, Statuses};
 pub use mta_records::{CompleteFault, Step, StepFault};
+pub use mta_replay::{NotMade, Replay};
 pub use mta_tables::Tables;
 pub use open::SpoolOpen;
 pub use spool::{Spool, Turned};

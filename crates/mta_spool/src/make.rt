@@ -12,6 +12,7 @@ ghost use Rattle.std.specs.Prelude.{◌≡◌, ◌≤◌, ◌++◌, ◌∷◌, [
 ghost use Rattle.mta_records.specs.declared.step.Step.{Step};
 ghost use Rattle.mta_records.specs.Body.{HasFields, body_of};
 ghost use Rattle.mta_journal.specs.Bodies.{longest_body};
+ghost use Rattle.mta_journal.specs.Shown.{IsPlain};
 ghost use Rattle.mta_histories.specs.History.{IsPossible};
 ghost use Rattle.mta_state.specs.Kept.{CanChange, state_of};
 ghost use Rattle.mta_table_rules.specs.Text.{text_of};
@@ -49,6 +50,7 @@ fn keep<D: Disk + Drop>(
     ready: Ready<TableRules>,
 ) -> Result<(), StepFault>
     requires going { journal.old.ended ≡ false }
+    requires plain { IsPlain journal.old.first }
     requires short { length body.now ≤ longest_body }
     requires sound { IsSound text_of replay.old.kept replay.old.rules }
     requires can { CanChange (state_of replay.old.kept) ready.change }
@@ -89,6 +91,7 @@ pub fn make_ready<D: Disk + Drop>(
     ready: Ready<TableRules>,
 ) -> Result<(), StepFault>
     requires going { journal.old.ended ≡ false }
+    requires plain { IsPlain journal.old.first }
     requires fields { HasFields step.now }
     requires short { length (body_of step.now) ≤ longest_body }
     requires sound { IsSound text_of replay.old.kept replay.old.rules }
@@ -115,6 +118,7 @@ pub fn make<D: Disk + Drop>(
     step: Step,
 ) -> Result<(), StepFault>
     requires going { journal.old.ended ≡ false }
+    requires plain { IsPlain journal.old.first }
     requires fields { HasFields step }
     requires short { length (body_of step) ≤ longest_body }
     requires sound { IsSound text_of replay.old.kept replay.old.rules }

@@ -1,11 +1,12 @@
 //! Replaying the bodies of a journal: the state in memory after them.
 //!
-//! Each body is read as a step (`read_record`), which is taken up where it is possible after those before it, as a
-//! step that is made is, without the journal, and is freed then. Out goes the state, or the place of the first body
-//! that is no such step, or want of memory. The disk is not called.
+//! In come the bodies and the offset of the first one's gate. Each body is read as a step (`read_record`), which is
+//! taken up where it is possible after those before it, as a step that is made is, without the journal, and is freed
+//! then. Out goes the state, or the place of the first body that is no such step, or want of memory. The disk is not
+//! called.
 
 ghost use Rattle.std.specs.Prelude.{◌≡◌, ◌<◌, ◌+◌, ◌^◌, length, IfErr, IfOk};
-ghost use Rattle.mta_journal.specs.Bodies.{AreShort, front};
+ghost use Rattle.mta_journal.specs.Bodies.{AreWithin, longest_first, records};
 ghost use Rattle.mta_state.specs.Kept.{state_of};
 ghost use Rattle.mta_table_rules.specs.Text.{text_of};
 ghost use Rattle.mta_replay.specs.Sound.{IsSound};
@@ -42,17 +43,17 @@ fn open_why(why: NotMade, at: u64) -> OpenWhy
     }
 }
 
-/// The state after the steps of these bodies, or the offset of the gate of the first body that is that of no possible
-/// step. Each body is freed once its step is taken up.
-pub fn replay(alloc: Global, bodies: Vec<Octets>) -> Result<Replay<TableRules>, OpenWhy>
-    requires short { AreShort bodies.items }
-    requires fits { length (front bodies.items) + 1 < 2 ^ 64 }
+/// The state after the steps of these bodies, whose records stand from the gate at `first` on, or the offset of the
+/// gate of the first body that is that of no possible step. Each body is freed once its step is taken up.
+pub fn replay(alloc: Global, first: u64, bodies: Vec<Octets>) -> Result<Replay<TableRules>, OpenWhy>
+    requires short { AreWithin longest_first bodies.items }
+    requires fits { first + length (records bodies.items) + 1 < 2 ^ 64 }
     ensures replayed { IfOk result (λ r. HasReplayed bodies.items (state_of r.kept)) }
-    ensures stopped { IfErr result (HasStopped bodies.items) }
+    ensures stopped { IfErr result (HasStopped first bodies.items) }
     ensures sound { IfOk result (λ r. IsSound text_of r.kept r.rules) }
 {
     let mut replay = Replay::new(alloc);
-    let mut at = 8;
+    let mut at = first;
     let mut rest = bodies.into_iter();
     while let Some(body) = rest.next() {
         match take_up(&mut replay, alloc, body.as_slice()) {

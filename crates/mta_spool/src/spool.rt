@@ -70,8 +70,7 @@ pub struct Spool<D: Disk + Drop, C: Clock + Drop> {
 impl<D: Disk + Drop, C: Clock + Drop> Model for Spool<D, C> {
     ghost use Rattle.mta_state.specs.Kept.{state_of};
     ghost use Rattle.mta_table_rules.specs.Text.{text_of};
-    ghost use Rattle.mta_replay.specs.Sound.{IsSound};
-    ghost use Rattle.mta_spool.specs.Shown.{Shown};
+    ghost use Rattle.mta_spool.specs.Shown.{IsSoundAt, Shown};
 
     ghost Value = { Shown D C };
 
@@ -85,10 +84,11 @@ impl<D: Disk + Drop, C: Clock + Drop> Model for Spool<D, C> {
         clock = s.opened.clock.value;
         synced = s.opened.synced.value;
         bodies = s.opened.bodies.value.items;
+        first = s.opened.first.value;
       };
     } };
 
-    ghost invariant = { λ s. IsSound text_of s.replay.kept s.replay.rules };
+    ghost invariant = { λ s. IsSoundAt text_of s.replay.kept s.replay.rules s.journal.first };
 }
 
 impl<D: Disk + Drop, C: Clock + Drop> Spool<D, C> {

@@ -22,7 +22,17 @@ use Rattle.mta_shared.specs.contracts.lock.Shared as shared
 use Rattle.mta_shared.specs.declared.history.Historied as historied
 use Rattle.atomic_table.proofs.shared.Shared.TheSendSync as cells
 use Rattle.atomic_table.proofs.send_lease.SendLease.TheSendSync as lease
+use Rattle.mta_fields.specs.contracts.domain.Domain as domain
+use Rattle.mta_fields.specs.contracts.identifier.MtsId as identifier
+use Rattle.mta_fields.specs.contracts.expansion.Expansion as expansion
+use Rattle.mta_fields.specs.contracts.trace.TraceElement as trace
+use Rattle.mta_fields.specs.contracts.extension.ExtField as extension
+use Rattle.mta_envelope_recipient.specs.contracts.recipient.Recipient as recipient
+use Rattle.mta_envelope.specs.contracts.envelope.Envelope as envelope
+use Rattle.mta_report_recipient.specs.contracts.reported.Reported as reported
+use Rattle.mta_report.specs.contracts.report.Report as report
 use Rattle.mta_dues.specs.contracts.agenda.Agenda as agenda
+use Rattle.mta_dues.specs.contracts.hand.Hand as hand
 use Rattle.mta_dues.specs.contracts.lines.Lines as lines
 use Rattle.mta_dues.specs.contracts.index.Index as index
 use Rattle.mta_state.specs.contracts.kept.Kept as kept
@@ -65,11 +75,41 @@ agenda_send = search (crosses, sets, sendable) depth 80 fits 100000
 lines_send : IsSend lines.the_row
 lines_send = search (crosses, sets, sendable) depth 80 fits 100000
 
+domain_send : IsSend domain.the_row
+domain_send = search (crosses, sendable) depth 80 fits 100000
+
+identifier_send : IsSend identifier.the_row
+identifier_send = let s0 = domain_send in search (crosses, sendable) depth 80 fits 100000
+
+expansion_send : IsSend expansion.the_row
+expansion_send = let s0 = name_send in search (crosses, sendable) depth 80 fits 100000
+
+trace_send : IsSend trace.the_row
+trace_send = let s0 = domain_send in search (crosses, sendable) depth 80 fits 100000
+
+extension_send : IsSend extension.the_row
+extension_send = search (crosses, sendable) depth 80 fits 100000
+
+recipient_send : IsSend recipient.the_row
+recipient_send = let s0 = name_send in let s1 = extension_send in search (crosses, sendable) depth 80 fits 100000
+
+envelope_send : IsSend envelope.the_row
+envelope_send = let s0 = identifier_send in let s1 = name_send in let s2 = recipient_send in let s3 = trace_send in let s4 = extension_send in let s5 = expansion_send in search (crosses, sendable) depth 80 fits 100000
+
+reported_send : IsSend reported.the_row
+reported_send = let s0 = name_send in let s1 = extension_send in let s2 = trace_send in let s3 = domain_send in search (crosses, sendable) depth 80 fits 100000
+
+report_send : IsSend report.the_row
+report_send = let s0 = identifier_send in let s1 = name_send in let s2 = reported_send in let s3 = trace_send in let s4 = extension_send in let s5 = expansion_send in let s6 = domain_send in search (crosses, sendable) depth 80 fits 100000
+
+hand_send : IsSend hand.the_field.row
+hand_send = let a = envelope_send in let b = report_send in search (crosses, sendable) depth 80 fits 100000
+
 index_send : IsSend index.the_field.row
-index_send = let a = agenda_send in let b = lines_send in
+index_send = let a = agenda_send in let b = lines_send in let h = hand_send in
     struct_send (shape index.the_type) (
       search sendable depth 20,
-      (search sendable depth 20, (search sendable depth 20, tt)),
+      (search sendable depth 20, (search sendable depth 20, (search (crosses, sendable) depth 80 fits 100000, tt))),
     )
 
 kept_send : IsSend kept.the_field.row

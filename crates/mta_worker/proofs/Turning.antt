@@ -98,6 +98,10 @@ module _ {D C : Type 0} (disks : DiskView D) (clocks : ClockView C) where
     left = i.left;
   }
 
+-- what grew since the lock was taken grew since the pass saw it
+pub grows_from : (p b : Held Step) (xs ys : List Step) → b ≡ record p { seen = xs } → Grows xs ys → Grows b.seen ys
+grows_from p b xs ys taken grows = subst (λ (h : Held Step). Grows h.seen ys) (sym taken) grows
+
 -- what a turn leaves of a pass
 pub worked_turn : (p b q : Held Step) (xs ys : List Step) → p.rests ≡ true → IsPrefix p.seen xs
     → b ≡ record p { seen = xs } → Grows xs ys → q ≡ grown ys b → Worked p q

@@ -4,10 +4,9 @@ use Rattle.std.proofs.Common.{◌++◌, length, map, None, Some}
 use Rattle.std.proofs.Common.{Result, Ok, Err, Bool, true, false, inl, inr, refl, sym, ap, subst, arith}
 use Rattle.std.proofs.Common.{length-append}
 use Rattle.std.proofs.lemmas.Bool.{cases_lt}
-use Rattle.std.specs.List.{flat_map}
 use Rattle.mta_edge.specs.Views.{ClockView, DiskView}
 use Rattle.mta_journal.specs.Appending.{journal_limit}
-use Rattle.mta_journal.specs.Bodies.{magic, open_record}
+use Rattle.mta_journal.specs.Bodies.{open_record, records}
 use Rattle.mta_images.specs.Image.{size_of}
 use Rattle.mta_images.proofs.Bodies.{size-more}
 use Rattle.mta_records.specs.declared.step.Step.{Step}
@@ -27,19 +26,16 @@ use Rattle.mta_worker.specs.Serving.{InTurn}
 use Rattle.mta_worker.specs.Working.{TurnsOnce}
 
 -- what every step needs at least
-count_in_front : (steps : List Step) → length steps ≤ length (flat_map open_record (map body_of steps))
-count_in_front [] = omega arith
-count_in_front (s ∷ steps) =
-    let rest : List ℕ = flat_map open_record (map body_of steps) in
+count_in_records : (steps : List Step) → length steps ≤ length (records (map body_of steps))
+count_in_records [] = omega arith
+count_in_records (s ∷ steps) =
+    let rest : List ℕ = records (map body_of steps) in
     let e : length (open_record (body_of s) ++ rest) ≡ length (open_record (body_of s)) + length rest =
     length-append (open_record (body_of s)) rest in
-    omega (arith, e, count_in_front steps)
+    omega (arith, e, count_in_records steps)
 
-count_in_size : (steps : List Step) → length steps ≤ size_of steps
-count_in_size steps =
-    let rest : List ℕ = flat_map open_record (map body_of steps) in
-    let e : length (magic ++ rest) ≡ length magic + length rest = length-append magic rest in
-    omega (arith, e, count_in_front steps)
+count_in_size : (first : ℕ) (steps : List Step) → length steps ≤ size_of first steps
+count_in_size first steps = omega (arith, count_in_records steps)
 
 module _ {D C : Type 0} (disks : DiskView D) (clocks : ClockView C) where
   turns_grow : (m : ℕ) (old new : Shown D C) (x : Result Turned StepFault) → Turns disks m old new x
@@ -103,8 +99,8 @@ module _ {D C : Type 0} (disks : DiskView D) (clocks : ClockView C) where
       → length old.entries + 1 ≤ journal_limit
   few first step old new appends going stands =
       let fit = fits step old new appends going in
-      let more = size-more (first ++ old.entries) step in
-      let count = count_in_size ((first ++ old.entries) ++ step ∷ []) in
+      let more = size-more old.journal.first (first ++ old.entries) step in
+      let count = count_in_size old.journal.first ((first ++ old.entries) ++ step ∷ []) in
       let one : length ((first ++ old.entries) ++ step ∷ []) ≡ length (first ++ old.entries) + 1 =
       length-append (first ++ old.entries) (step ∷ []) in
       let both : length (first ++ old.entries) ≡ length first + length old.entries =

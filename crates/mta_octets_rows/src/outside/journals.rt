@@ -4,18 +4,34 @@
 //!
 //! `stops` opens octets which have the body `07 08`, and appends `09`. Every image that a crash leaves at any call has
 //! the first body, and once the append has answered both. Each image that lacks the second is opened and appended to
-//! again, and its images are looked at in the same way. The answer is what the disk holds.
+//! again, and its images are looked at in the same way. The answer is what the disk holds. What is asked of journals of
+//! two areas is in `areas.rt`.
 
+use crate::outside::areas::areas_answer;
 use crate::outside::large::large;
 use crate::outside::numbers::{number, numbers, octets};
 use anyhow::{Result, anyhow, bail};
 use mta_edge::{MemDisk, Octets};
-use mta_journal::{Journal, Opened};
+use mta_journal::{AppendFault, Journal, Opened};
 use mta_rows::{Fields, octets_of, shown};
 use std::alloc::{AllocError, Global};
 
 /// No body of a row is longer.
 const LONGEST: usize = 4_096;
+
+/// What an append answers. The only area or the first of two is current.
+pub fn append(journal: &mut Journal<MemDisk>, body: &[u8]) -> Result<Result<(), AppendFault>> {
+    if body.len() > LONGEST {
+        bail!("a long body");
+    }
+    if journal.first() == 8 {
+        return Ok(journal.append(body));
+    }
+    if journal.first() == 23 {
+        return Ok(journal.append(body));
+    }
+    bail!("the second area is current")
+}
 
 /// What appending the body of each further field answers, each with a space behind it.
 fn appended(
@@ -29,10 +45,7 @@ fn appended(
             break;
         }
         let body = octets_of(alloc, fields.take())?;
-        if body.len() > LONGEST {
-            bail!("a long body");
-        }
-        let answer = journal.append(body.as_slice());
+        let answer = append(journal, body.as_slice())?;
         said.push_str(format!(in alloc; "{answer:?} ")?.as_str())?;
     }
     Ok(said)
@@ -65,7 +78,8 @@ fn journal(alloc: Global, mut fields: Fields<'_>) -> Result<String> {
     }
 }
 
-fn opened(alloc: Global, octets: &[u8]) -> Result<Opened<MemDisk>> {
+/// A journal that is opened over octets on a disk of which no call fails.
+pub fn opened(alloc: Global, octets: &[u8]) -> Result<Opened<MemDisk>> {
     let octets = Octets::from_slice(alloc, octets).map_err(|_| anyhow!("no memory"))?;
     match Journal::open(alloc, MemDisk::new(alloc, octets, Vec::new(alloc))) {
         Ok(opened) => Ok(opened),
@@ -108,7 +122,7 @@ fn stopped(alloc: Global, octets: &[u8]) -> Result<MemDisk> {
         bodies: _,
         synced: _,
     } = opened(alloc, octets)?;
-    if journal.append(&[9]).is_err() {
+    if append(&mut journal, &[9])?.is_err() {
         bail!("not appended");
     }
     let disk = journal.end();
@@ -148,6 +162,9 @@ fn large_of(alloc: Global, mut fields: Fields<'_>) -> Result<String, AllocError>
 
 /// What the row is answered, where it asks of a journal or a large disk.
 pub fn journal_answer(alloc: Global, asked: &str, fields: Fields<'_>) -> Result<String> {
+    if let Some(said) = areas_answer(alloc, asked, fields)? {
+        return Ok(said);
+    }
     match asked {
         "journal" => journal(alloc, fields),
         "stops" => stops(alloc, fields.rest),

@@ -1,15 +1,15 @@
-use Rattle.std.proofs.Common.{◌≡◌, ◌-◌, ◌≤◌, ◌<◌, take, length}
+use Rattle.std.proofs.Common.{◌≡◌, ◌-◌, ◌≤◌, ◌<◌, ◌++◌, drop}
 use Rattle.mta_edge.specs.Views.{WhereTold}
 use Rattle.mta_edge.specs.Crashes.{Crash, Stays}
-use Rattle.mta_journal.specs.Bodies.{front, AreShort}
+use Rattle.mta_journal.specs.Bodies.{records}
+use Rattle.mta_journal.proofs.Walked.{Read}
 use Rattle.mta_journal.proofs.read.read_bodies.Given as goal
 
 abbrev pub invariant-records : goal.invariant-records
 invariant-records g l = record {
   inside : l.gate < l.size;
-  place : l.gate ≡ length (front l.bodies.items);
-  each : AreShort l.bodies.items;
-  read : WhereTold g.D.Disk.model l.fn.disk (λ f. take l.gate f ≡ front l.bodies.items);
+  so_far : Read l.first l.gate l.most l.bodies.items;
+  read : WhereTold g.D.Disk.model l.fn.disk (λ f. drop l.first f ≡ records l.bodies.items ++ drop l.gate f);
   content : g.D.Disk.model.content l.disk ≡ g.D.Disk.model.content l.fn.disk;
   later : g.D.Disk.model.faults l.fn.disk ≤ g.D.Disk.model.faults l.disk;
   crash : Crash g.D.Disk.model Stays l.fn.disk l.disk;

@@ -1,4 +1,4 @@
-use Rattle.std.proofs.Common.{◌≡◌, List, ℕ, None, Ok, Err, sym, ap, subst, ◌∙◌}
+use Rattle.std.proofs.Common.{◌≡◌, inl, List, ℕ, None, Ok, Err, sym, ap, subst, ◌∙◌}
 use Rattle.mta_journal.specs.Appending.{Appends as JournalAppends}
 use Rattle.mta_records.specs.declared.step.Step.{Step}
 use Rattle.mta_histories.specs.Lanes.{State}
@@ -9,6 +9,9 @@ use Rattle.mta_replay.specs.Ready.{IsReady}
 use Rattle.mta_spool.specs.Stands.{Makes}
 use Rattle.mta_spool.proofs.Making.{made, refused}
 use Rattle.mta_spool.proofs.make.keep.Goals as goal
+
+pub append-requires-clause-short : goal.append-requires-clause-short
+append-requires-clause-short g c = inl c.requires.short
 
 pub returns-in-Ok-append-clause-made : goal.returns-in-Ok-append-clause-made
 returns-in-Ok-append-clause-made g c = λ step fields body longer ready numbers.

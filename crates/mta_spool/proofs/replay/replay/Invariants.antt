@@ -8,7 +8,7 @@ use Rattle.mta_spool.proofs.replay.replay.Given as goal
 abbrev pub invariant-loop-body : goal.invariant-loop-body
 invariant-loop-body l = record {
   sound : IsSound text_of l.replay.kept l.replay.rules;
-  way : IsUnderWay l.fn.bodies.items (into_iter_items l.rest) (state_of l.replay.kept) l.at;
+  way : IsUnderWay l.fn.first l.fn.bodies.items (into_iter_items l.rest) (state_of l.replay.kept) l.at;
 }
 
 abbrev pub decreases-loop-body : goal.decreases-loop-body

@@ -19,4 +19,4 @@ returns-in_default-clause-appends g c =
 
 pub bind_open-requires-clause-few : goal.bind_open-requires-clause-few
 bind_open-requires-clause-few g c =
-    omega (arith, c.self.invariant.numbers, ap (λ (v : Shown _ _). length v.current.machine.items) c.self.view_is)
+    omega (arith, c.self.invariant.sound.numbers, ap (λ (v : Shown _ _). length v.current.machine.items) c.self.view_is)

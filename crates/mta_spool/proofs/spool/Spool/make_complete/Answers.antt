@@ -4,7 +4,7 @@ use Rattle.mta_records.specs.Body.{body_of}
 use Rattle.mta_records.specs.declared.step.Step.{Step}
 use Rattle.mta_records.specs.declared.step.Step.TheVariants as steps
 use Rattle.mta_journal.specs.Bodies.{longest_body}
-use Rattle.mta_histories.specs.Classes.{complete}
+use Rattle.mta_histories.specs.Classes.{class_of, complete}
 use Rattle.mta_histories.specs.History.{IsOnLane}
 use Rattle.mta_histories.specs.Lanes.{State, lane_at}
 use Rattle.mta_state.specs.Kept.{state_of}
@@ -13,11 +13,27 @@ use Rattle.mta_replay.specs.Ready.{IsReady}
 use Rattle.mta_table_rules.specs.Text.{text_of}
 use Rattle.mta_spool.specs.Receiving.{IsItemOn}
 use Rattle.mta_spool.specs.Shown.{Shown}
-use Rattle.mta_spool.proofs.Making.{no_memory}
-use Rattle.mta_spool.proofs.Pieces.{complete_is_change, complete_numbers, complete_possible, completed_fits}
+use Rattle.mta_spool.proofs.Making.{is_spent, no_memory}
+use Rattle.mta_spool.proofs.Pieces.{complete_is_change, complete_numbers, complete_possible, complete_spent}
+use Rattle.mta_spool.proofs.Pieces.{completed_fits}
 use Rattle.mta_spool.proofs.Pieces.{expected_on, short_complete}
-use Rattle.mta_spool.proofs.Refused.{not_refused}
+use Rattle.mta_spool.proofs.Refused.{allowed, not_refused}
 use Rattle.mta_spool.proofs.spool.Spool.make_complete.Goals as goal
+
+pub returns-in_err-check_numbers-clause-made : goal.returns-in_err-check_numbers-clause-made
+returns-in_err-check_numbers-clause-made g c =
+    let p = err_from_is_err_and c.from_residual.result c.from_residual.ensures.1 in
+    let s = c.args.self.now.current in
+    let step = steps.Complete c.args.lane c.args.generation c.args.activity c.args.number c.args.piece.now
+    c.args.moment in
+    let spent = c.in_err-check_numbers.ensures.spent in
+    rw (p.1, p.2, spent.0)
+    (is_spent g.D.Disk.model step (length s.machine.items) c.args.self.now.journal c.args.self.now.journal s s refl
+    refl c.requires.going refl
+    (complete_spent s c.args.lane c.args.generation c.args.activity c.args.number c.args.piece.now c.args.moment
+    (expected_on s c.args.lane c.args.generation c.args.activity c.args.number c.args.piece.now c.args.moment
+    c.requires.allowed) spent.1)
+    (λ f is. allowed s (class_of step) c.args.moment f c.requires.allowed is))
 
 pub returns-in_err-piece-clause-made : goal.returns-in_err-piece-clause-made
 returns-in_err-piece-clause-made g c =

@@ -18,6 +18,6 @@ make-requires-clause-possible g c =
     let needed : c.numbers_needed-needed.result ≡ numbers_needed c.args.self.now.current (class_of c.args.step) =
     c.numbers_needed-needed.ensures ∙ ap (λ (s : State). numbers_needed s (class_of c.args.step)) current in
     next_is_possible c.args.self.now.current c.args.moment c.args.step
-    (subst IsKept current c.self.invariant.of_history) c.requires.timely c.requires.next
+    (subst IsKept current c.self.invariant.sound.of_history) c.requires.timely c.requires.next
     (subst (λ (k : ℕ). length c.args.self.now.current.machine.items + k < 2 ^ 32) needed
     c.in_ok-check_numbers.ensures.left)

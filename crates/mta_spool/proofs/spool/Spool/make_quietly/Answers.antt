@@ -22,7 +22,11 @@ returns-in-None-clause-made g c =
     let step = c.args.step.now in
     let plain = quiet_is_plain c.args.lane c.args.generation (class_of step) c.requires.quiet in
     let few : length s.machine.items < 2 ^ 32 =
-    omega (arith, c.self.invariant.numbers, ap (λ (v : Shown _ _). length v.current.machine.items) c.self.view_is) in
+    omega (
+      arith,
+      c.self.invariant.sound.numbers,
+      ap (λ (v : Shown _ _). length v.current.machine.items) c.self.view_is,
+    ) in
     let none = quiet_needs_none s c.args.lane c.args.generation (class_of step) c.requires.quiet in
     let never = subst (λ (o : Option Change). Prepares s step o) c.in-None.is c.requires.prepared in
     let going = sym (ap (λ (v : Shown _ _). v.journal.ended) c.self.view_is) ∙ sym c.is_ended.ensures
@@ -57,7 +61,11 @@ make_ready-requires-clause-numbers g c =
     let step = c.args.step.now in
     let plain = quiet_is_plain c.args.lane c.args.generation (class_of step) c.requires.quiet in
     let few : length s.machine.items < 2 ^ 32 =
-    omega (arith, c.self.invariant.numbers, ap (λ (v : Shown _ _). length v.current.machine.items) c.self.view_is) in
+    omega (
+      arith,
+      c.self.invariant.sound.numbers,
+      ap (λ (v : Shown _ _). length v.current.machine.items) c.self.view_is,
+    ) in
     let none = quiet_needs_none s c.args.lane c.args.generation (class_of step) c.requires.quiet in
     has_items s (class_of step) (plain_opens_none c.args.lane c.args.generation (class_of step) plain)
     (omega (arith, few, none))

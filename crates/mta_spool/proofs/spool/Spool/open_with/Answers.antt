@@ -8,6 +8,6 @@ overflow_cast-result g c =
       arith,
       c.count_with.ensures,
       few_with c.args.role c.args.peer.now c.self.inside.replay.kept.lanes.open_lanes.items
-          c.self.inside.replay.kept.lanes.count c.self.invariant.of_history.numbered_lanes,
+          c.self.inside.replay.kept.lanes.count c.self.invariant.sound.of_history.numbered_lanes,
       c.count_fits.ensures,
     )

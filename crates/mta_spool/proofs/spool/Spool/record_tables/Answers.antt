@@ -27,6 +27,10 @@ make-requires-clause-short g c =
 pub make-requires-clause-possible : goal.make-requires-clause-possible
 make-requires-clause-possible g c =
     let n : length c.args.self.now.current.machine.items < 2 ^ 32 =
-    omega (arith, c.self.invariant.numbers, ap (λ (v : Shown _ _). length v.current.machine.items) c.self.view_is) in
+    omega (
+      arith,
+      c.self.invariant.sound.numbers,
+      ap (λ (v : Shown _ _). length v.current.machine.items) c.self.view_is,
+    ) in
     tables_possible c.args.self.now.current c.in_ok-text.text c.args.tables.now
     (ap tables_of c.in_ok-text.ensures ∙ c.text.ensures.read) n

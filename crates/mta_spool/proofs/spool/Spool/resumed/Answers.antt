@@ -10,7 +10,7 @@ use Rattle.mta_spool.proofs.spool.Spool.resumed.Goals as goal
 pub resumed_on-requires : goal.resumed_on-requires
 resumed_on-requires g c =
     filled_at (state_of c.self.inside.replay.kept) c.args.lane c.in-Some.opened.now
-    c.self.invariant.of_history.filled c.in-Some.ensures
+    c.self.invariant.sound.of_history.filled c.in-Some.ensures
 
 pub returns-in-Some : goal.returns-in-Some
 returns-in-Some g c =

@@ -20,7 +20,11 @@ make_ready-requires-clause-ready g c =
     let step = steps.Start c.args.lane c.args.generation c.args.activity c.args.batch.now.item
     c.args.batch.now.recipients c.args.moment in
     let few : length s.machine.items < 2 ^ 32 =
-    omega (arith, c.self.invariant.numbers, ap (λ (v : Shown _ _). length v.current.machine.items) c.self.view_is) in
+    omega (
+      arith,
+      c.self.invariant.sound.numbers,
+      ap (λ (v : Shown _ _). length v.current.machine.items) c.self.view_is,
+    ) in
     let is = start_is_change s c.args.lane c.args.generation c.args.activity c.args.batch.now.item
     c.args.batch.now.recipients c.args.moment c.args.transfer c.requires.transfers.0 c.requires.next
     c.requires.transfers.1 c.ranges.activity.fits few in
@@ -36,7 +40,11 @@ returns-clause-outgoing g c =
     let step = steps.Start c.args.lane c.args.generation c.args.activity c.args.batch.now.item
     c.args.batch.now.recipients c.args.moment in
     let few : length s.machine.items < 2 ^ 32 =
-    omega (arith, c.self.invariant.numbers, ap (λ (v : Shown _ _). length v.current.machine.items) c.self.view_is) in
+    omega (
+      arith,
+      c.self.invariant.sound.numbers,
+      ap (λ (v : Shown _ _). length v.current.machine.items) c.self.view_is,
+    ) in
     let is = start_is_change s c.args.lane c.args.generation c.args.activity c.args.batch.now.item
     c.args.batch.now.recipients c.args.moment c.args.transfer c.requires.transfers.0 c.requires.next
     c.requires.transfers.1 c.ranges.activity.fits few in
