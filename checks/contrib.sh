@@ -9,5 +9,6 @@ program python3
 wrong=0
 PYTHONDONTWRITEBYTECODE=1 python3 checks/contrib.py "$mta" "$made" || wrong=1
 found mta_rehearse
+found mta_audit
 bash checks/install.bash "$mta" "$made" || wrong=1
 exit "$wrong"

@@ -31,5 +31,7 @@ done
 . checks/program.bash
 program
 found mta_rehearse
-python3 checks/texts.py "$mta" "$found" || wrong=1
+rehearse=$found
+found mta_audit
+python3 checks/texts.py "$mta" "$rehearse" "$found" || wrong=1
 exit "$wrong"

@@ -8,8 +8,8 @@ DESTDIR=$root contrib/install.sh --program "$mta" /usr || exit 1
 for tool in "$root"/usr/bin/*; do
   name=$(basename "$tool")
   [ -e "$root/usr/share/man/man1/$name.1" ] || fails "$name has no page"
-  # no word of these two begins with -
-  case $name in mta | mta_rehearse) continue ;; esac
+  # no word of these three begins with -
+  case $name in mta | mta_rehearse | mta_audit) continue ;; esac
   "$tool" --help >/dev/null || fails "$name --help ended with $?"
 done
 grep -rq '@BIN@\|@LIB@' "$root/usr/lib" && fails "a unit names no place"

@@ -6,6 +6,7 @@ cd "$(dirname "$0")/.." || exit 2
 . checks/program.bash
 program dpkg-buildpackage dh dpkg-deb
 found mta_rehearse
+found mta_audit
 wrong=0
 packaging/build.sh --program "$mta" "$made/package" >"$made/said" || { echo "the package is not built"; exit 1; }
 package=$(ls "$made"/package/*.deb)
@@ -18,6 +19,8 @@ grep -q " deliver item 1 " "$made/log" || { echo "the installed mta-log: $(cat "
 cp samples/network.tables "$made/mta.tables"
 got=$(cd "$made" && root/usr/bin/mta_rehearse GOLD-1 'C=GB;A=EAST;S=MORSE' | tail -n 1)
 [ "$got" = "at EAST mailbox morse" ] || { echo "the installed mta_rehearse: $got"; wrong=1; }
+got=$(cd "$made" && cp mta.spool copy.spool && root/usr/bin/mta_audit mta.spool copy.spool; echo "status $?")
+[ "$got" = "status 0" ] || { echo "the installed mta_audit: $got"; wrong=1; }
 for command in "$made"/root/usr/bin/*; do
   name=$(basename "$command")
   [ -e "$made/root/usr/share/man/man1/$name.1.gz" ] || { echo "$name has no page"; wrong=1; }

@@ -1,6 +1,6 @@
 #!/usr/bin/env python3
 """Runs the command blocks of README.md, docs/MANUAL.md, docs/PROTOCOL.md and the pages of man/, and compares what they
-print: checks/texts.py MTA MTA_REHEARSE, with the programs' paths.
+print: checks/texts.py MTA MTA_REHEARSE MTA_AUDIT, with the programs' paths.
 
 A block marked `console` has commands after `$ `, which go on after `> `, and what they print; the blocks of a document
 are run one after the other, beside a folder samples/, with the tools of contrib on the PATH under the names that
@@ -199,6 +199,7 @@ def main():
         BESIDE = beside
         tools(beside)
         os.symlink(os.path.abspath(sys.argv[2]), f"{beside}/mta_rehearse")
+        os.symlink(os.path.abspath(sys.argv[3]), f"{beside}/mta_audit")
         for document, kinds in jobs:
             with tempfile.TemporaryDirectory() as made:
                 for kind in kinds:

@@ -1,11 +1,13 @@
 #!/usr/bin/env bash
 # Words outside the grammar, among them one that is not UTF-8: the usage line, status 1, and no file is made. A command
 # that is not built: its line, status 11, and no file. Stations without tables, and one that calls a peer whom the
-# tables do not name: status 8, status 10, and no file. Run it at the top of the repository.
+# tables do not name: status 8, status 10, and no file. Words of `mta_audit` that are not two files: its usage line.
+# Run it at the top of the repository.
 set -u
 cd "$(dirname "$0")/.." || exit 2
 . checks/program.bash
 program
+found mta_audit
 cd "$made" || exit 2
 usage="usage: mta submit or serve SESSIONS STATION... or spool or read MAILBOX or decode or drill N"
 for words in "" "serve" "serve 1 in:0" "drill 0" "--help" "read -x" "submit twice" $'\xff' $'read \xff'; do
@@ -28,5 +30,21 @@ asks "drill 3" 11 "not built"
 asks "serve 1 out:EAST:localhost:1002" 8 "source fault"
 printf 'domain C=GB;A=GOLD\nname GOLD-1\npeer WEST a b twa 4 3\n' >mta.tables
 asks "serve 1 out:WEST:localhost:1002 out:EAST:localhost:1002" 10 "no such peer EAST"
+for words in "" "a" "a b c" "a a" "a ./a" "$made/a ../${made##*/}/a" $'\xff a'; do
+  # shellcheck disable=SC2086
+  got=$(timeout 20 "$found" $words)
+  status=$?
+  [ "$status" -eq 1 ] && [ "$got" = "usage: mta_audit FIRST SECOND" ] || { echo "$words: status $status: $got"; exit 1; }
+  [ ! -e a ] || { echo "$words: a file was made"; exit 1; }
+done
+printf 'MTASPL01\0' >a
+ln a b
+ln -s a c
+for words in "a a" "a ./a" "a b" "c b"; do
+  # shellcheck disable=SC2086
+  got=$(timeout 20 "$found" $words)
+  status=$?
+  [ "$status" -eq 1 ] && [ "$got" = "usage: mta_audit FIRST SECOND" ] || { echo "$words: status $status: $got"; exit 1; }
+done
 echo "words outside the grammar are told the usage line; a command that is not built, and stations that the tables do"
-echo "not allow, are told so"
+echo "not allow, are told so; two words that name one file are no words of mta_audit"

@@ -1,10 +1,10 @@
 #!/usr/bin/env bash
 # Puts mta in place, or takes it out again: contrib/install.sh [--remove] [--program FILE] [PREFIX], /usr/local where no
-# PREFIX is named. It installs the programs mta and mta_rehearse, the tools beside them, the manual pages, the
-# completion for bash, the units for systemd, the documents and the samples. FILE is the program mta, and mta_rehearse
-# the one beside it; else each is the proved one that `rt ci` leaves at crates/NAME/out/NAME or, where that is absent,
-# the unproved one that ./demo leaves at out/unproved/NAME. With DESTDIR in the environment all goes below that folder,
-# as for a package. --remove leaves what an agent has: /var/lib/mta, /etc/mta and the user.
+# PREFIX is named. It installs the programs mta, mta_rehearse and mta_audit, the tools beside them, the manual pages,
+# the completion for bash, the units for systemd, the documents and the samples. FILE is the program mta, and the other
+# two are those beside it; else each is the proved one that `rt ci` leaves at crates/NAME/out/NAME or, where that is
+# absent, the unproved one that ./demo leaves at out/unproved/NAME. With DESTDIR in the environment all goes below that
+# folder, as for a package. --remove leaves what an agent has: /var/lib/mta, /etc/mta and the user.
 set -eu
 top=$(cd "$(dirname "$0")/.." && pwd)
 remove=no program="" prefix=/usr/local
@@ -32,7 +32,8 @@ if [ "$remove" = yes ]; then
   for page in "$top"/man/*; do rm -f "$root/share/man/man${page##*.}/$(basename "$page")"; done
   for name in mta mta-look mta-log; do rm -f "$root/share/bash-completion/completions/$name"; done
   rm -rf "$root/share/mta" "$root/share/doc/mta"
-  rm -f "$root/bin/mta" "$root/bin/mta_rehearse" "$root/lib/sysusers.d/mta.conf" "$root/lib/tmpfiles.d/mta.conf"
+  rm -f "$root/bin/mta" "$root/bin/mta_rehearse" "$root/bin/mta_audit"
+  rm -f "$root/lib/sysusers.d/mta.conf" "$root/lib/tmpfiles.d/mta.conf"
   echo "mta is taken out of $prefix; /var/lib/mta, /etc/mta and the user mta are left"
   exit 0
 fi
@@ -50,6 +51,7 @@ put_filled() {
 
 put bin/mta "$program" 755
 put bin/mta_rehearse "$rehearse" 755
+put bin/mta_audit "$audit" 755
 for tool in $tools; do put "share/mta/${tool#*=}" "$top/contrib/${tool#*=}" 755; done
 for file in "$top"/contrib/lib/*.py; do put "share/mta/lib/$(basename "$file")" "$file"; done
 put share/mta/mta-why "$top/contrib/systemd/mta-why" 755

@@ -1,15 +1,17 @@
 #!/usr/bin/env python3
-"""A hub of 16 stations under load, and kills of processes: load.py MTA FOLDER [SECONDS].
+"""A hub of 16 stations under load, and kills of processes: load.py MTA MTA_AUDIT FOLDER [SECONDS].
 
 Eight agents call the hub, each at a station of its own, and the hub calls eight others. Each has messages for agents on
 the other side, which go by the hub over two-way lanes. While they go, processes are stopped by SIGKILL and started
 again, the hub more often than the others, and copies of the hub's spool are looked at. In the end each message is
-delivered in exactly one mailbox, once there, and sent everywhere else.
+delivered in exactly one mailbox, once there, and sent everywhere else, and an audit of the hub's spool with each other
+one says that all that was sent was completed, once.
 """
 import functools
 import os
 import random
 import re
+import subprocess
 import sys
 import time
 
@@ -113,10 +115,24 @@ class World:
         if wrong:
             raise Wrong("\n".join(wrong))
 
+    def audit(self, program):
+        """The hub's spool, audited with that of each leaf: each message was sent on two lanes."""
+        sent, line = 0, re.compile(r"(?:first|second) lane \d+ (?:out|in) sent (\d+) completed \1 agree")
+        for leaf in self.leaves.values():
+            words = [program, f"{self.hub.folder}/mta.spool", f"{leaf.folder}/mta.spool"]
+            ended = subprocess.run(words, capture_output=True, text=True, check=False)
+            found = [line.fullmatch(it) for it in ended.stdout.splitlines()]
+            if ended.returncode or None in found:
+                raise Wrong(f"{' '.join(words)} ended with {ended.returncode}:\n{ended.stdout}")
+            sent += sum(int(it[1]) for it in found)
+        if sent != 2 * len(self.there):
+            raise Wrong(f"the audits have {sent} activities of {len(self.there)} messages")
+        return sent
+
 
 def main():
-    mta, folder = sys.argv[1:3]
-    seconds = float(sys.argv[3]) if len(sys.argv) > 3 else 25
+    mta, audit, folder = sys.argv[1:4]
+    seconds = float(sys.argv[4]) if len(sys.argv) > 4 else 25
     world = World(mta, folder)
     wrong = all_at_once((name(*leaf), functools.partial(world.load, leaf)) for leaf in world.leaves)
     if wrong:
@@ -125,7 +141,7 @@ def main():
     everybody = ["hub", *world.leaves]
     for it in everybody:
         world.start(it)
-    kills, items, end = 0, 0, time.monotonic() + seconds
+    kills, items, sent, end = 0, 0, 0, time.monotonic() + seconds
     try:
         while time.monotonic() < end:
             time.sleep(random.uniform(0.05, 1.0))
@@ -140,6 +156,7 @@ def main():
         for it in everybody:
             world.kill(it)
         world.check()
+        sent = world.audit(audit)
     except Wrong as why:
         print(f"wrong: {why}")
         return 1
@@ -148,6 +165,7 @@ def main():
     print(f"{2 * SIDE} stations, {kills} kills: each of {len(world.there)} messages is in one mailbox, once, and sent "
           "everywhere else", flush=True)
     print(f"{kills} copies of the hub's spool, made while it served: each opens, the last one with {items} items")
+    print(f"audits of the hub's spool with each other one: {sent} activities were sent, and completed once")
     print(f"the hub's spool has {os.path.getsize(world.hub.folder + '/mta.spool')} octets", flush=True)
     return 0
 

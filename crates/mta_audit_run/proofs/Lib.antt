@@ -1,0 +1,11 @@
+mod Changing
+mod Compared
+mod Halves
+mod Kept
+mod Lists
+mod Noted
+mod Own
+mod Pieces
+mod Sides
+mod Statuses
+mod Texts

@@ -1,0 +1,17 @@
+pub mod Account
+pub mod Accounts
+pub mod Audit
+pub mod Halves
+pub mod Held
+pub mod Kept
+pub mod Last
+pub mod Lines
+pub mod Opened
+pub mod Outcome
+pub mod Output
+pub mod Partners
+pub mod Ran
+pub mod Second
+pub mod Sides
+pub mod Stops
+pub mod Texts

@@ -1,0 +1,158 @@
+//! One of the two spools, as an audit sees it: what its bodies tell, one after the other.
+//!
+//! Each body is read as a step, which is taken up where it is possible, as opening a spool does, and what it tells of a
+//! lane's activities is noted. Of the octets of activities those are kept that were sent and those that were completed,
+//! which are the items' but for the heads of what was sent. All else of the spool is let go.
+
+ghost use Rattle.std.specs.Prelude.{◌≡◌, ◌<◌, ◌+◌, ◌^◌, length, IfErr, IfOk, Some};
+ghost use Rattle.mta_journal.specs.Bodies.{AreWithin, longest_first, records};
+ghost use Rattle.mta_records.specs.Body.{HasFields};
+ghost use Rattle.std.specs.Option.{option_map};
+ghost use Rattle.mta_machine.specs.Rules.{tables_value};
+ghost use Rattle.mta_state.specs.Kept.{state_of};
+ghost use Rattle.mta_table_rules.specs.Text.{text_of};
+ghost use Rattle.mta_replay.specs.Sound.{IsSound};
+ghost use Rattle.mta_spool.specs.Replaying.{HasStopped, open_why};
+ghost use Rattle.mta_audit_run.specs.Audit.{own_by, own_in};
+ghost use Rattle.mta_audit_run.specs.Sides.{HasNoted, HasTold, IsSide, IsSideAt};
+
+use crate::account::Account;
+use crate::accounts::{note, note_endings};
+use crate::told::told_by;
+use mta_ber::{Memory, Octets, Word};
+use mta_journal::OpenWhy;
+use mta_records::{RecordFault, Step, read_record};
+use mta_replay::{NotMade, Replay};
+use mta_table_rules::TableRules;
+use mta_tables::Tables;
+use std::alloc::Global;
+
+/// One of the two spools: the agent's own name by the tables recorded last, where some were, and its lanes.
+#[derive(Drop)]
+pub struct Side {
+    pub own: Option<Word>,
+    pub accounts: Vec<Account>,
+}
+
+// Takes up a step where it is possible, and notes what it tells.
+#[tactic(auto, using(crate::proofs::Noted::told_laws))]
+fn take_step(
+    alloc: Global,
+    replay: &mut Replay<TableRules>,
+    accounts: &mut Vec<Account>,
+    step: Step,
+) -> Result<(), NotMade>
+    requires sound { IsSound text_of replay.old.kept replay.old.rules }
+    requires fields { HasFields step }
+    ensures told { HasTold step (state_of replay.old.kept) accounts.old.items (state_of replay.new.kept)
+        accounts.new.items result }
+    ensures sound { IsSound text_of replay.new.kept replay.new.rules }
+{
+    let told = told_by(alloc, &replay.kept.lanes, &step)?;
+    replay.add(alloc, step)?;
+    note(alloc, accounts, told, replay.kept.parts.items.as_slice())?;
+    Ok(())
+}
+
+// Takes up the step of a body, where it has one that is possible, and notes what it tells.
+fn take_up(
+    alloc: Global,
+    replay: &mut Replay<TableRules>,
+    accounts: &mut Vec<Account>,
+    body: &[u8],
+) -> Result<(), NotMade>
+    requires fits { length body.now < 2 ^ 32 }
+    requires sound { IsSound text_of replay.old.kept replay.old.rules }
+    ensures noted { HasNoted body.now (state_of replay.old.kept) accounts.old.items (state_of replay.new.kept)
+        accounts.new.items result }
+    ensures sound { IsSound text_of replay.new.kept replay.new.rules }
+{
+    match read_record(alloc, body) {
+        Ok(step) => take_step(alloc, replay, accounts, step),
+        Err(RecordFault::BadRecord { .. }) => Err(NotMade::Impossible),
+        Err(RecordFault::Memory) => Err(NotMade::Memory),
+    }
+}
+
+// Why a body was not taken up whose gate is at this offset.
+fn open_why(why: NotMade, at: u64) -> OpenWhy
+    ensures { result ≡ open_why why at }
+{
+    match why {
+        NotMade::Impossible => OpenWhy::NotSpool { at },
+        NotMade::Memory => OpenWhy::Memory,
+    }
+}
+
+// The text of tables reads as them.
+#[tactic(auto, unfolding(mta_machine::specs::Rules::tables_value))]
+fn text_reads(tables: &Tables)
+    ensures { tables_value tables.now.text ≡ Some tables.now }
+{
+    let _text = tables.text();
+}
+
+// The agent's own name by its tables.
+fn own_name(alloc: Global, tables: &Tables) -> Result<Word, Memory>
+    ensures { IfOk result (λ own. Some own ≡ option_map own_in (tables_value tables.now.text)) }
+{
+    text_reads(tables);
+    tables.own().copy(alloc)
+}
+
+// The agent's own name.
+#[tactic(auto, using(crate::proofs::Own::own_laws))]
+fn own_of(alloc: Global, replay: &Replay<TableRules>) -> Result<Option<Word>, Memory>
+    requires { IsSound text_of replay.now.kept replay.now.rules }
+    ensures { IfOk result (λ own. own ≡ own_by (state_of replay.now.kept).machine) }
+{
+    match &replay.rules {
+        Some(force) => {
+            let own = own_name(alloc, force.rules.tables())?;
+            Ok(Some(own))
+        }
+        None => Ok(None),
+    }
+}
+
+// The spool whose history leads to this state.
+fn side_of(
+    alloc: Global,
+    replay: Replay<TableRules>,
+    mut accounts: Vec<Account>,
+) -> Result<Side, Memory>
+    requires { IsSound text_of replay.kept replay.rules }
+    ensures { IfOk result (IsSideAt (state_of replay.kept) accounts.items) }
+{
+    let own = own_of(alloc, &replay)?;
+    note_endings(alloc, &mut accounts, replay.lanes().open_lanes.as_slice())?;
+    Ok(Side { own, accounts })
+}
+
+/// The spool of these bodies, whose records stand from the gate at `first` on, or the offset of the gate of the first
+/// body that is that of no possible step. Each body is freed once its step is taken up.
+#[tactic(auto, using(crate::proofs::Sides::way_ended))]
+pub fn side_of_bodies(alloc: Global, first: u64, bodies: Vec<Octets>) -> Result<Side, OpenWhy>
+    requires short { AreWithin longest_first bodies.items }
+    requires fits { first + length (records bodies.items) + 1 < 2 ^ 64 }
+    ensures side { IfOk result (IsSide bodies.items) }
+    ensures stopped { IfErr result (HasStopped first bodies.items) }
+{
+    let mut replay = Replay::new(alloc);
+    let mut accounts = Vec::new(alloc);
+    let mut at = first;
+    let mut rest = bodies.into_iter();
+    while let Some(body) = rest.next() {
+        match take_up(alloc, &mut replay, &mut accounts, body.as_slice()) {
+            Ok(()) => at += body.len() as u64 + 5,
+            Err(why) => {
+                replay.discard();
+                return Err(open_why(why, at));
+            }
+        }
+    }
+    match side_of(alloc, replay, accounts) {
+        Ok(side) => Ok(side),
+        Err(Memory) => Err(OpenWhy::Memory),
+    }
+}

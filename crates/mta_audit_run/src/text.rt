@@ -1,0 +1,193 @@
+//! The lines of an audit.
+
+ghost use Rattle.std.specs.Prelude.{◌≡◌, ◌<◌, ◌+◌, ◌++◌, ◌∷◌, [], ◌&&◌, IfOk, OnOk};
+ghost use Rattle.std.specs.Fmt.{decimal};
+ghost use Rattle.std.specs.Option.{option_copied};
+ghost use Rattle.mta_audit_run.specs.Lines.{agree_text, completed_text, counts_text, lane_lines, lane_text};
+ghost use Rattle.mta_audit_run.specs.Lines.{line, lines_from, sent_text, spool_text};
+ghost use Rattle.mta_audit_run.specs.Lines.{verdict_text, way_in, way_out};
+ghost use Rattle.mta_audit_run.specs.Partners.{in_half, out_half, partners};
+ghost use Rattle.mta_audit_run.specs.Texts.{Puts};
+
+use crate::account::Account;
+use crate::half::{Half, in_half, out_half};
+use crate::partners::is_to;
+use crate::stop::Spool;
+use crate::verdict::{Verdict, agrees, verdict_of};
+use itoa::Buffer;
+use mta_ber::{Memory, Octets, Word};
+use std::alloc::Global;
+
+/// Puts a number in decimal digits.
+pub fn put_number(text: &mut Octets, number: u64) -> Result<(), Memory>
+    ensures { OnOk result (text.new ≡ text.old ++ decimal number) }
+{
+    let mut buffer = Buffer::new();
+    text.extend(buffer.format(number).as_bytes())
+}
+
+/// The word of a spool.
+pub fn spool_text(spool: Spool) -> &'static [u8]
+    ensures { result.now ≡ spool_text spool }
+{
+    match spool {
+        Spool::First => b"first",
+        Spool::Second => b"second",
+    }
+}
+
+// Puts the number of a lane.
+#[tactic(auto, unfolding(crate::specs::Lines::lane_text))]
+fn put_lane_number(text: &mut Octets, number: u64) -> Result<(), Memory>
+    ensures { OnOk result (text.new ≡ text.old ++ lane_text number) }
+{
+    text.extend(b" lane ")?;
+    put_number(text, number)
+}
+
+// Puts how many activities were sent.
+#[tactic(auto, unfolding(crate::specs::Lines::sent_text))]
+fn put_sent(text: &mut Octets, count: u64) -> Result<(), Memory>
+    ensures { OnOk result (text.new ≡ text.old ++ sent_text count) }
+{
+    text.extend(b"sent ")?;
+    put_number(text, count)
+}
+
+// Puts how many activities were completed.
+#[tactic(auto, unfolding(crate::specs::Lines::completed_text))]
+fn put_completed(text: &mut Octets, count: u64) -> Result<(), Memory>
+    ensures { OnOk result (text.new ≡ text.old ++ completed_text count) }
+{
+    text.extend(b" completed ")?;
+    put_number(text, count)
+}
+
+// Puts that they agree.
+#[tactic(auto, unfolding(crate::specs::Lines::agree_text))]
+fn put_agree(text: &mut Octets) -> Result<(), Memory>
+    ensures { OnOk result (text.new ≡ text.old ++ agree_text) }
+{
+    text.extend(b" agree\n")
+}
+
+// Puts how many activities were sent and completed, where they agree.
+fn put_counts(text: &mut Octets, sent: u64, completed: u64) -> Result<(), Memory>
+    ensures { OnOk result (text.new ≡ text.old ++ counts_text sent completed) }
+{
+    put_sent(text, sent)?;
+    put_completed(text, completed)?;
+    put_agree(text)
+}
+
+// Puts what is said of a half.
+fn put_verdict(text: &mut Octets, half: &Half, verdict: Verdict) -> Result<(), Memory>
+    ensures { OnOk result (text.new ≡ text.old ++ verdict_text half.now verdict) }
+{
+    match verdict {
+        Verdict::Agrees => { put_counts(text, half.sent.len() as u64, half.completed.len() as u64) }
+        Verdict::Differs { at } => {
+            text.extend(b"differs at ")?;
+            put_number(text, at)?;
+            text.extend(b"\n")
+        }
+    }
+}
+
+// Puts the line of a half, and answers whether it agrees.
+fn put_line(
+    text: &mut Octets,
+    spool: Spool,
+    lane: u64,
+    way: &[u8],
+    half: &Half,
+) -> Result<bool, Memory>
+    ensures { IfOk result (Puts (line spool lane way.now half.now ∷ []) text.old text.new) }
+{
+    let verdict = verdict_of(half);
+    text.extend(spool_text(spool))?;
+    put_lane_number(text, lane)?;
+    text.extend(way)?;
+    put_verdict(text, half, verdict)?;
+    Ok(agrees(verdict))
+}
+
+/// Whether both hold.
+pub fn both(one: bool, other: bool) -> bool
+    ensures { result ≡ (one && other) }
+{
+    one && other
+}
+
+// Puts the lines of an initiator's lane to the other spool's agent, and answers whether both agree.
+fn put_halves(
+    alloc: Global,
+    text: &mut Octets,
+    spool: Spool,
+    lane: u64,
+    own: Option<&Word>,
+    account: &Account,
+    others: &[Account],
+) -> Result<bool, Memory>
+    ensures { let ends = partners (option_copied own.entry) account.now.reference others.now in
+        IfOk result (Puts (line spool lane way_out (out_half account.now ends)
+        ∷ line spool lane way_in (in_half account.now ends) ∷ []) text.old text.new) }
+{
+    let out = out_half(alloc, account, own, others)?;
+    let out_agrees = put_line(text, spool, lane, b" out ", &out)?;
+    let back = in_half(alloc, account, own, others)?;
+    let back_agrees = put_line(text, spool, lane, b" in ", &back)?;
+    Ok(both(out_agrees, back_agrees))
+}
+
+// Puts the lines of a lane, where it is an initiator's to the other spool's agent, and answers whether they agree.
+fn put_lane(
+    alloc: Global,
+    text: &mut Octets,
+    spool: Spool,
+    lane: u64,
+    own: Option<&Word>,
+    other: Option<&Word>,
+    account: &Account,
+    others: &[Account],
+) -> Result<bool, Memory>
+    ensures { IfOk result (Puts (lane_lines spool (option_copied own.entry) (option_copied other.entry) others.now lane
+        account.now) text.old text.new) }
+{
+    if !is_to(other, account) {
+        return Ok(true);
+    }
+    put_halves(alloc, text, spool, lane, own, account, others)
+}
+
+/// Puts the lines of the lanes of a spool that are an initiator's to the other spool's agent, and answers whether all
+/// agree.
+pub fn put_lanes(
+    alloc: Global,
+    text: &mut Octets,
+    spool: Spool,
+    own: Option<&Word>,
+    other: Option<&Word>,
+    accounts: &[Account],
+    others: &[Account],
+) -> Result<bool, Memory>
+    ensures { IfOk result (Puts (lines_from spool (option_copied own.entry) (option_copied other.entry) others.now 1
+        accounts.now) text.old text.new) }
+{
+    let mut all = true;
+    for place in 0..accounts.len() {
+        let lane = place as u64 + 1;
+        let agree = put_lane(
+            alloc,
+            text,
+            spool,
+            lane,
+            own,
+            other,
+            &accounts[place],
+            others,
+        )?;
+        all = both(all, agree);
+    }
+    Ok(all)
+}
