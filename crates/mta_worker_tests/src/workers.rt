@@ -166,10 +166,10 @@ fn was_put<'a, R>(stop: &'a Stop<'_, R>) -> &'a [u8] {
     }
 }
 
-// How many records the octets of a journal have, which the first open gate begins.
+// How many records the first of a journal's two areas has, which begins at octet 23.
 fn records(octets: &[u8]) -> u32 {
     let mut count: u32 = 0;
-    let mut rest = octets.get(8..).unwrap_or(&[]);
+    let mut rest = octets.get(23..).unwrap_or(&[]);
     for _ in 0..100 {
         let [1, a, b, c, d, after @ ..] = rest else {
             return count;
