@@ -101,8 +101,8 @@ def main():
             took, held = best([audit, "first/mta.spool", "second/mta.spool"], f"{folder}/both")
             opening, larger = sum(it[0] for it in ends), max(it[1] for it in ends)
             print(f"{count} activities, {what}: {took:.2f} s and {held / 1e6:.0f} MB; as a multiple of opening both "
-                  f"{took / opening:.2f} (wished: at most 3), of the larger spool's memory {held / larger:.2f} (wished: "
-                  f"at most 2.2)", flush=True)
+                  f"{took / opening:.2f} (wished: at most 3), of the larger spool's memory {held / larger:.2f} "
+                  f"(wished: at most 2.2)", flush=True)
 
 
 main()

@@ -30,11 +30,19 @@ asks "drill 3" 11 "not built"
 asks "serve 1 out:EAST:localhost:1002" 8 "source fault"
 printf 'domain C=GB;A=GOLD\nname GOLD-1\npeer WEST a b twa 4 3\n' >mta.tables
 asks "serve 1 out:WEST:localhost:1002 out:EAST:localhost:1002" 10 "no such peer EAST"
+# mta_audit says of these words that they are none of its
+are_refused() {
+  local got status
+  got=$(timeout 20 "$found" "$@")
+  status=$?
+  [ "$status" -eq 1 ] && [ "$got" = "usage: mta_audit FIRST SECOND" ] && return
+  echo "$*: status $status: $got"
+  exit 1
+}
+
 for words in "" "a" "a b c" "a a" "a ./a" "$made/a ../${made##*/}/a" $'\xff a'; do
   # shellcheck disable=SC2086
-  got=$(timeout 20 "$found" $words)
-  status=$?
-  [ "$status" -eq 1 ] && [ "$got" = "usage: mta_audit FIRST SECOND" ] || { echo "$words: status $status: $got"; exit 1; }
+  are_refused $words
   [ ! -e a ] || { echo "$words: a file was made"; exit 1; }
 done
 printf 'MTASPL01\0' >a
@@ -42,9 +50,7 @@ ln a b
 ln -s a c
 for words in "a a" "a ./a" "a b" "c b"; do
   # shellcheck disable=SC2086
-  got=$(timeout 20 "$found" $words)
-  status=$?
-  [ "$status" -eq 1 ] && [ "$got" = "usage: mta_audit FIRST SECOND" ] || { echo "$words: status $status: $got"; exit 1; }
+  are_refused $words
 done
 echo "words outside the grammar are told the usage line; a command that is not built, and stations that the tables do"
 echo "not allow, are told so; two words that name one file are no words of mta_audit"
