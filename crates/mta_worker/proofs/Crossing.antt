@@ -75,35 +75,39 @@ agenda_send = search (crosses, sets, sendable) depth 80 fits 100000
 lines_send : IsSend lines.the_row
 lines_send = search (crosses, sets, sendable) depth 80 fits 100000
 
+-- what an APDU is read as
+
 domain_send : IsSend domain.the_row
 domain_send = search (crosses, sendable) depth 80 fits 100000
 
 identifier_send : IsSend identifier.the_row
-identifier_send = let s0 = domain_send in search (crosses, sendable) depth 80 fits 100000
+identifier_send = search (domain_send, crosses, sendable) depth 80 fits 100000
 
 expansion_send : IsSend expansion.the_row
-expansion_send = let s0 = name_send in search (crosses, sendable) depth 80 fits 100000
+expansion_send = search (name_send, crosses, sendable) depth 80 fits 100000
 
 trace_send : IsSend trace.the_row
-trace_send = let s0 = domain_send in search (crosses, sendable) depth 80 fits 100000
+trace_send = search (domain_send, crosses, sendable) depth 80 fits 100000
 
 extension_send : IsSend extension.the_row
 extension_send = search (crosses, sendable) depth 80 fits 100000
 
+ruleset fields = (domain_send, name_send, identifier_send, expansion_send, trace_send, extension_send)
+
 recipient_send : IsSend recipient.the_row
-recipient_send = let s0 = name_send in let s1 = extension_send in search (crosses, sendable) depth 80 fits 100000
+recipient_send = search (fields, crosses, sendable) depth 80 fits 100000
 
 envelope_send : IsSend envelope.the_row
-envelope_send = let s0 = identifier_send in let s1 = name_send in let s2 = recipient_send in let s3 = trace_send in let s4 = extension_send in let s5 = expansion_send in search (crosses, sendable) depth 80 fits 100000
+envelope_send = search (recipient_send, fields, crosses, sendable) depth 80 fits 100000
 
 reported_send : IsSend reported.the_row
-reported_send = let s0 = name_send in let s1 = extension_send in let s2 = trace_send in let s3 = domain_send in search (crosses, sendable) depth 80 fits 100000
+reported_send = search (fields, crosses, sendable) depth 80 fits 100000
 
 report_send : IsSend report.the_row
-report_send = let s0 = identifier_send in let s1 = name_send in let s2 = reported_send in let s3 = trace_send in let s4 = extension_send in let s5 = expansion_send in let s6 = domain_send in search (crosses, sendable) depth 80 fits 100000
+report_send = search (reported_send, fields, crosses, sendable) depth 80 fits 100000
 
 hand_send : IsSend hand.the_field.row
-hand_send = let a = envelope_send in let b = report_send in search (crosses, sendable) depth 80 fits 100000
+hand_send = search (envelope_send, report_send, crosses, sendable) depth 80 fits 100000
 
 index_send : IsSend index.the_field.row
 index_send = let a = agenda_send in let b = lines_send in let h = hand_send in

@@ -16,8 +16,8 @@ loop-body-init c = record {
 pub take_up-requires-clause-fits : goal.take_up-requires-clause-fits
 take_up-requires-clause-fits c =
     let short = way_short c.args.first c.args.bodies.items (into_iter_items c.loop-body.rest)
-    (into_iter_items c.next.new.self) c.in-Some.body (state_of c.loop-body.replay.kept) c.loop-body.accounts.items c.loop-body.at c.requires.short
-    c.loop-body.invariant.way c.in-Some.ensures.cases.0 in
+    (into_iter_items c.next.new.self) c.in-Some.body (state_of c.loop-body.replay.kept) c.loop-body.accounts.items
+    c.loop-body.at c.requires.short c.loop-body.invariant.way c.in-Some.ensures.cases.0 in
     omega (arith, short, ap length c.as_slice.ensures)
 
 pub overflow_add-at-in-Ok : goal.overflow_add-at-in-Ok
