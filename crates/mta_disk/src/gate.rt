@@ -2,7 +2,8 @@
 //!
 //! `put_closed` writes length, body and a closed gate behind the gate at `gate`, and syncs; `lift_gate`
 //! writes 1 on that gate, and syncs. Each takes octets from the journal and gives Ok with all of it
-//! durable, or `Disk`; want of memory comes before the first call.
+//! durable, or `Disk`; want of memory comes before the first call. A body of more than `LONGEST_COPIED`
+//! octets is not copied behind its length, but written where it stands (`long.rt`).
 //!
 //! A crash at any moment of the first leaves that gate and all before it as they were; one in the
 //! second leaves all but that one octet.
@@ -15,9 +16,14 @@ ghost use Rattle.mta_edge.specs.Views.{StaysTold};
 ghost use Rattle.mta_disk.specs.Answers.{HasPutCause};
 ghost use Rattle.mta_disk.specs.Records.{IsFramedAt, IsLiftedAt, IsPutAt, frame_of};
 
+use crate::long::put_long;
 use mta_edge::{Disk, Failed, Memory, Octets};
 use std::alloc::Global;
 use thiserror::Error;
+
+// The most octets of a body that is copied behind its length, so that one write puts the record. To copy as many costs
+// about what the two calls of the system do that a longer one takes more.
+const LONGEST_COPIED: usize = 16_384;
 
 /// Why a record was not put.
 #[derive(Clone, Copy, Debug, PartialEq, Eq, Error)]
@@ -99,7 +105,8 @@ pub fn put_frame<D: Disk>(disk: &mut D, gate: u64, frame: &[u8]) -> Result<(), F
 }
 
 /// Writes the body's length, the body and the next gate, which is closed, behind the gate at `gate`, and syncs. The
-/// octet at `gate` and all before it stand in every image that a crash leaves.
+/// octet at `gate` and all before it stand in every image that a crash leaves. A body of more than `LONGEST_COPIED`
+/// octets takes no memory.
 ///
 /// # Errors
 /// `Disk` where it failed, `Memory` before it is called.
@@ -120,6 +127,10 @@ pub fn put_closed<D: Disk>(
     ensures memory { IsErrOf result PutFault.Memory → disk.new ≡ disk.old }
     ensures cause { HasPutCause (D.model.faults disk.old) (D.model.faults disk.new) result }
 {
+    if body.len() > LONGEST_COPIED {
+        put_long(disk, gate, body)?;
+        return Ok(());
+    }
     let frame = frame_of(alloc, body)?;
     put_frame(disk, gate, frame.as_slice())?;
     Ok(())

@@ -5,6 +5,7 @@
 mod areas;
 mod cut;
 mod gate;
+mod long;
 mod read;
 
 pub use areas::{choose, point_high, shut};

@@ -2,10 +2,11 @@
 //!
 //! In comes a body from a step of the spool: of at most `LONGEST_BODY` octets, or `LONGEST_FIRST` where
 //! it is the first of its area. `append` puts it behind the closed gate at the end, syncs, opens the
-//! gate, and syncs (`mta_disk`): four calls of the disk. `compact` puts one body in the place of all,
-//! and `settle` ends what a stopped `compact` began (`parts.rt`). Out goes Ok with the body durable, or
-//! `Full`, `Ended`, `Disk` or `Memory`; after all but `Disk` the journal is as it was, and after `Disk`
-//! it takes no more.
+//! gate, and syncs (`mta_disk`): four calls of the disk, or six where the body is long, since then its
+//! length and the gate behind it are written beside it, and it is not copied. `compact` puts one body in
+//! the place of all, and `settle` ends what a stopped `compact` began (`parts.rt`). Out goes Ok with the
+//! body durable, or `Full`, `Ended`, `Disk` or `Memory`; after all but `Disk` the journal is as it was,
+//! and after `Disk` it takes no more.
 //!
 //! A crash at any moment of `append` leaves the bodies that the journal held, or those and this one: the
 //! gate is closed on the disk before anything stands behind it, so a torn record is never read. One of
