@@ -7,7 +7,7 @@ use Rattle.mta_envelope.specs.declared.priority.Priority.{Priority}
 use Rattle.mta_envelope.specs.declared.priority.Priority.TheVariants.{Normal, NonUrgent, Urgent}
 use Rattle.mta_envelope.specs.Messages.{MessageValue}
 use Rattle.mta_apdu_text.specs.Lines.{line_if, id_line, name_line, content_type_line, content_id_line}
-use Rattle.mta_apdu_text.specs.Lines.{indicators_line, deferred_line, length_line, size_line, trace_lines}
+use Rattle.mta_apdu_text.specs.Lines.{indicators_line, moment_line, length_line, size_line, trace_lines}
 use Rattle.mta_apdu_text.specs.Lines.{extension_lines, recipient_line, content_line}
 
 abbrev pub priority_text : Priority → List ℕ
@@ -33,10 +33,16 @@ front_lines word e = id_line word e.id ++ (name_line (codes "originator ") e.ori
 unfoldable pub back_lines : EnvelopeFields → List ℕ
 back_lines e = line_if (size_line (codes "types ")) e.eits ++ (line_if (size_line (codes "bilateral ")) e.bilateral ++ (trace_lines e.trace ++ (extension_lines e.extensions ++ recipient_lines e.recipients)))
 
+-- the deferred delivery time, which no probe has, and the latest delivery time of extension 5
+unfoldable pub time_lines : EnvelopeFields → List ℕ
+time_lines e = line_if (moment_line (codes "deferred ")) e.deferral ++ line_if (moment_line (codes "latest ")) e.latest
+
 unfoldable pub message_text : MessageValue → List ℕ
 message_text m =
     front_lines (codes "message ") m.envelope
-    ++ (priority_line m.envelope.priority ++ (indicators_line m.envelope.indicators ++ (line_if deferred_line m.envelope.deferral ++ (back_lines m.envelope ++ content_line m.content.octets))))
+    ++ (priority_line m.envelope.priority ++ (indicators_line m.envelope.indicators ++ (time_lines m.envelope ++ (back_lines m.envelope ++ content_line m.content.octets))))
 
 unfoldable pub probe_text : EnvelopeFields → List ℕ
-probe_text e = front_lines (codes "probe ") e ++ (indicators_line e.indicators ++ (line_if length_line e.length ++ back_lines e))
+probe_text e =
+    front_lines (codes "probe ") e
+    ++ (indicators_line e.indicators ++ (time_lines e ++ (line_if length_line e.length ++ back_lines e)))

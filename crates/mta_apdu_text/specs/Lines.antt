@@ -42,8 +42,9 @@ content_id_line t = codes "content-identifier " ++ (escaped_text t ++ 10 ∷ [])
 unfoldable pub indicators_line : BitString → List ℕ
 indicators_line b = codes "indicators " ++ (bits_text b ++ 10 ∷ [])
 
-unfoldable pub deferred_line : ℕ → List ℕ
-deferred_line moment = codes "deferred " ++ (moment_text moment ++ 10 ∷ [])
+-- deferred or latest, and the deferred or the latest delivery time
+unfoldable pub moment_line : List ℕ → ℕ → List ℕ
+moment_line word moment = word ++ (moment_text moment ++ 10 ∷ [])
 
 unfoldable pub length_line : ℕ → List ℕ
 length_line n = codes "length " ++ (decimal n ++ 10 ∷ [])

@@ -3,12 +3,12 @@
 ghost use Rattle.std.specs.Prelude.{◌≡◌, ◌++◌, OnOk, codes};
 ghost use Rattle.mta_envelope.specs.Messages.{message_value};
 ghost use Rattle.mta_apdu_text.specs.Envelopes.{priority_text, priority_line, recipient_lines, front_lines};
-ghost use Rattle.mta_apdu_text.specs.Envelopes.{back_lines, message_text, probe_text};
+ghost use Rattle.mta_apdu_text.specs.Envelopes.{back_lines, message_text, probe_text, time_lines};
 
 use crate::lines::{
-    put_content_id_line, put_content_line, put_content_type_line, put_deferred_line,
-    put_extension_lines, put_id_line, put_indicators_line, put_length_line, put_name_line,
-    put_recipient_line, put_size_line, put_trace_lines,
+    put_content_id_line, put_content_line, put_content_type_line, put_extension_lines, put_id_line,
+    put_indicators_line, put_length_line, put_moment_line, put_name_line, put_recipient_line,
+    put_size_line, put_trace_lines,
 };
 use mta_ber::{Memory, Octets};
 use mta_envelope::{EnvelopeFields, Message, Priority, Probe};
@@ -77,6 +77,15 @@ fn put_back_lines(alloc: Global, out: &mut Octets, envelope: &EnvelopeFields) ->
     put_recipient_lines(alloc, out, envelope.recipients.as_slice())
 }
 
+/// The deferred delivery time, and the latest one of extension 5.
+#[tactic(auto, unfolding(crate::specs::Envelopes::time_lines))]
+fn put_time_lines(alloc: Global, out: &mut Octets, envelope: &EnvelopeFields) -> Result<(), Memory>
+    ensures { OnOk result (out.new ≡ out.old ++ time_lines envelope.now) }
+{
+    put_moment_line(alloc, out, b"deferred ", envelope.deferral)?;
+    put_moment_line(alloc, out, b"latest ", envelope.latest)
+}
+
 /// The lines of a message.
 #[tactic(auto, unfolding(crate::specs::Envelopes::message_text))]
 pub fn put_message(alloc: Global, out: &mut Octets, message: &Message) -> Result<(), Memory>
@@ -86,7 +95,7 @@ pub fn put_message(alloc: Global, out: &mut Octets, message: &Message) -> Result
     put_front_lines(alloc, out, b"message ", envelope)?;
     put_priority_line(out, envelope.priority)?;
     put_indicators_line(out, envelope.indicators)?;
-    put_deferred_line(alloc, out, envelope.deferral)?;
+    put_time_lines(alloc, out, envelope)?;
     put_back_lines(alloc, out, envelope)?;
     put_content_line(out, message.content.as_slice())
 }
@@ -99,6 +108,7 @@ pub fn put_probe(alloc: Global, out: &mut Octets, probe: &Probe) -> Result<(), M
     let envelope = probe.envelope.fields();
     put_front_lines(alloc, out, b"probe ", envelope)?;
     put_indicators_line(out, envelope.indicators)?;
+    put_time_lines(alloc, out, envelope)?;
     put_length_line(out, envelope.length)?;
     put_back_lines(alloc, out, envelope)
 }

@@ -3,7 +3,7 @@
 ghost use Rattle.std.specs.Prelude.{◌≡◌, ◌++◌, OnOk, Option};
 ghost use Rattle.std.specs.List.{flat_map};
 ghost use Rattle.mta_apdu_text.specs.Lines.{line_if, id_line, name_line, content_kind_text, content_type_line};
-ghost use Rattle.mta_apdu_text.specs.Lines.{content_id_line, indicators_line, deferred_line, length_line, size_line};
+ghost use Rattle.mta_apdu_text.specs.Lines.{content_id_line, indicators_line, moment_line, length_line, size_line};
 ghost use Rattle.mta_apdu_text.specs.Lines.{action_text, trace_line, trace_lines, ext_kind_text, criticality_text};
 ghost use Rattle.mta_apdu_text.specs.Lines.{extension_line, extension_lines, recipient_line, content_line};
 
@@ -89,19 +89,20 @@ pub fn put_indicators_line(out: &mut Octets, indicators: Bits) -> Result<(), Mem
     out.extend(b"\n")
 }
 
-/// A deferred delivery time, where there is one.
-#[tactic(auto, unfolding(crate::specs::Lines::deferred_line))]
-pub fn put_deferred_line(
+/// A deferred or a latest delivery time, where there is one.
+#[tactic(auto, unfolding(crate::specs::Lines::moment_line))]
+pub fn put_moment_line(
     alloc: Global,
     out: &mut Octets,
-    deferral: Option<u64>,
+    word: &[u8],
+    moment: Option<u64>,
 ) -> Result<(), Memory>
-    ensures { OnOk result (out.new ≡ out.old ++ line_if deferred_line deferral) }
+    ensures { OnOk result (out.new ≡ out.old ++ line_if (moment_line word.now) moment) }
 {
-    match deferral {
+    match moment {
         None => Ok(()),
         Some(moment) => {
-            out.extend(b"deferred ")?;
+            out.extend(word)?;
             put_moment(alloc, out, moment)?;
             out.extend(b"\n")
         }

@@ -17,18 +17,19 @@ use Rattle.mta_machine.specs.Machine.{verdict_at, relay_on}
 use Rattle.mta_machine.proofs.Once.{discharges-cons}
 use Rattle.mta_machine.proofs.Later.{pending-stays, AreAt, moment-within, fail-at}
 use Rattle.mta_machine.proofs.Copies.{copies_fit}
-use Rattle.mta_machine.proofs.Decided.{relay-stays, recorded-stays, relay-verdict}
+use Rattle.mta_machine.proofs.Decided.{relay-stays, recorded-stays, relay-verdict, format-grows}
 use Rattle.mta_histories.specs.Lanes.{Transfer, Lane, State, empty, lane_at, put_lane, without_lane, holds}
 use Rattle.mta_histories.specs.Lanes.{activities_of, IsFree, total_of}
 use Rattle.mta_histories.specs.Classes.{was_sent, was_refused, was_denied, was_dropped, LaneStep, agree, bind, start}
 use Rattle.mta_histories.specs.Classes.{confirm, to_end, settle, abandon, secure, complete, drop_pieces, close, Class}
-use Rattle.mta_histories.specs.Classes.{records, accepts, settles, opens, on_lane, class_of}
+use Rattle.mta_histories.specs.Classes.{begins, sets_format, records, accepts, settles, opens, on_lane, class_of}
 use Rattle.mta_histories.specs.History.{longest_activity, is_role, LaneNeeds, StepNeeds, NamesPeer, CanStart}
 use Rattle.mta_histories.specs.History.{lane_steps, on_lane_steps, class_steps, lane_after, on_lane_after, lanes_after}
 use Rattle.mta_histories.specs.History.{copied, octets_of, transfer_of, new_lane, discharge_by, when, after_step}
-use Rattle.mta_histories.specs.History.{after_from, ArePossible, failures, sendings, failure_of_kind}
+use Rattle.mta_histories.specs.History.{machine_left, after_from, ArePossible, failures, sendings, failure_of_kind}
 use Rattle.mta_histories.specs.Kept.{IsWhole, IsFilled, IsDroppedReported, IsDecidedFor, IsDecided, pending_count}
 use Rattle.mta_histories.specs.Kept.{IsKept}
+use Rattle.mta_histories.specs.Sound.{machine_begun, lanes_begun}
 use Rattle.mta_histories.specs.Laws.{StepsKeep, HistoriesKeep}
 use Rattle.mta_histories.proofs.LaneLists.{each-at, each-put, each-without, each-more, each-weaker, bit_of, count-more}
 use Rattle.mta_histories.proofs.LaneLists.{count-put, count-without, numbered-put, numbered-without, numbered-more}
@@ -61,13 +62,16 @@ start-fits s lane k i rs moment can =
     copy-octets (numbered s.machine.tables (last_tables s.machine))
     (numbered s.machine.items i) rs moment can.text can.item can.text_is can.item_is ∙ ap octets_of can.copy_is in
     let one = some-first rs can.some_recipients in
-    let relayed : relay_on (Some can.text) (Some can.item) one.0 moment ≡ Some lane.peer =
-    sym (ap (λ (o : Option (List ℕ)). relay_on o (numbered s.machine.items i) one.0 moment) can.text_is ∙ ap
-    (λ (o : Option ItemValue). relay_on (Some can.text) o one.0 moment) can.item_is) ∙ can.relayed one.0 one.1 in
+    let relayed : relay_on s.machine.format (Some can.text) (Some can.item) one.0 moment ≡ Some lane.peer =
+    sym (ap (λ (o : Option (List ℕ)). relay_on s.machine.format o (numbered s.machine.items i) one.0 moment)
+    can.text_is
+    ∙ ap (λ (o : Option ItemValue). relay_on s.machine.format (Some can.text) o one.0 moment) can.item_is)
+    ∙ can.relayed one.0 one.1 in
     let relays = relay-verdict can.text
-    (verdict_of can.text can.item.octets can.item.arrival one.0 moment) lane.peer relayed in
+    (verdict_of s.machine.format can.text can.item.octets can.item.arrival one.0 moment) lane.peer relayed in
     subst (λ (o : List ℕ). (1 ≤ length o) × (length o ≤ longest_activity)) (sym same)
-    (copies_fit can.text can.item.octets can.item.arrival one.0 relays.0 moment rs moment can.copy relays.1 can.copy_is)
+    (copies_fit s.machine.format can.text can.item.octets can.item.arrival one.0 relays.0 moment rs moment can.copy
+    relays.1 can.copy_is)
 
 pub start-octets : (s : State) (lane : Lane) (k i : ℕ) (rs : List ℕ) (moment : ℕ)
     → CanStart s lane k i rs moment → 1 ≤ length (transfer_of s.machine i rs moment).octets
@@ -283,8 +287,8 @@ new-filled number role peer reference twa checkpoint window = record {
 }
 
 decided-stays : (m : Machine) (steps : List MachineStep) (before now : ℕ) (lane : Lane) → before ≤ now
-    → IsDecided m before lane → IsDecided (machine_run m steps) now lane
-decided-stays m steps before now lane le was moves = by_transfer lane.transfer (was moves)
+    → IsRun m steps → IsDecided m before lane → IsDecided (machine_run m steps) now lane
+decided-stays m steps before now lane le run was moves = by_transfer lane.transfer (was moves)
   where
     by_transfer : (o : Option Transfer) → IsDecidedFor m before lane.peer o
         → IsDecidedFor (machine_run m steps) now lane.peer o
@@ -294,34 +298,36 @@ decided-stays m steps before now lane le was moves = by_transfer lane.transfer (
       d.1,
       omega
           (arith, d.2, le),
-      λ r named. relay-stays m steps t.tables t.item r t.moment lane.peer (d.3 r named),
+      omega (arith, d.3, format-grows m steps run),
+      λ r named. relay-stays m steps t.format t.tables t.item r t.moment lane.peer (d.4 r named),
     )
 
 decided-after : (s : State) (lane : Lane) (step : LaneStep) (moment : ℕ) → LaneNeeds s lane step moment
-    → s.moment ≤ moment → IsDecided s.machine s.moment lane
+    → s.moment ≤ moment → IsRun s.machine (lane_steps lane step moment) → IsDecided s.machine s.moment lane
     → IsDecided (machine_run s.machine (lane_steps lane step moment)) moment (lane_after s lane step moment)
-decided-after s lane (agree checkpoint window) moment needs timely was =
-    decided-stays s.machine [] s.moment moment lane timely was
-decided-after s lane bind moment needs timely was = decided-stays s.machine [] s.moment moment lane timely was
-decided-after s lane (start k i rs) moment needs timely was =
-    λ moves. (needs.some_recipients, needs.different, omega arith, needs.relayed)
-decided-after s lane (confirm k n) moment needs timely was =
-    λ moves. decided-stays s.machine [] s.moment moment lane timely was
+decided-after s lane (agree checkpoint window) moment needs timely run was =
+    decided-stays s.machine [] s.moment moment lane timely tt was
+decided-after s lane bind moment needs timely run was = decided-stays s.machine [] s.moment moment lane timely tt was
+decided-after s lane (start k i rs) moment needs timely run was =
+    λ moves. (needs.some_recipients, needs.different, omega arith, omega arith, needs.relayed)
+decided-after s lane (confirm k n) moment needs timely run was =
+    λ moves. decided-stays s.machine [] s.moment moment lane timely tt was
     (sym (confirmed-transferring lane.sending n) ∙ moves)
-decided-after s lane (to_end k) moment needs timely was =
-    λ moves. decided-stays s.machine [] s.moment moment lane timely was (sending-transferring lane.sending k needs)
-decided-after s lane (settle was_sent k) moment needs timely was = λ moves. absurd (true≢false (sym moves))
-decided-after s lane (settle (was_refused kind) k) moment needs timely was = λ moves. absurd (true≢false (sym moves))
-decided-after s lane (settle was_denied k) moment needs timely was = λ moves. absurd (true≢false (sym moves))
-decided-after s lane (settle was_dropped k) moment needs timely was = λ moves. absurd (true≢false (sym moves))
-decided-after s lane (abandon k) moment needs timely was = λ moves. absurd (true≢false (sym moves))
-decided-after s lane (secure k n piece) moment needs timely was =
-    decided-stays s.machine [] s.moment moment lane timely was
-decided-after s lane (complete k n piece) moment needs timely was =
-    decided-stays s.machine (lane_steps lane (complete k n piece) moment) s.moment moment lane timely was
-decided-after s lane (drop_pieces k) moment needs timely was =
-    decided-stays s.machine [] s.moment moment lane timely was
-decided-after s lane close moment needs timely was = decided-stays s.machine [] s.moment moment lane timely was
+decided-after s lane (to_end k) moment needs timely run was =
+    λ moves. decided-stays s.machine [] s.moment moment lane timely tt was (sending-transferring lane.sending k needs)
+decided-after s lane (settle was_sent k) moment needs timely run was = λ moves. absurd (true≢false (sym moves))
+decided-after s lane (settle (was_refused kind) k) moment needs timely run was =
+    λ moves. absurd (true≢false (sym moves))
+decided-after s lane (settle was_denied k) moment needs timely run was = λ moves. absurd (true≢false (sym moves))
+decided-after s lane (settle was_dropped k) moment needs timely run was = λ moves. absurd (true≢false (sym moves))
+decided-after s lane (abandon k) moment needs timely run was = λ moves. absurd (true≢false (sym moves))
+decided-after s lane (secure k n piece) moment needs timely run was =
+    decided-stays s.machine [] s.moment moment lane timely tt was
+decided-after s lane (complete k n piece) moment needs timely run was =
+    decided-stays s.machine (lane_steps lane (complete k n piece) moment) s.moment moment lane timely run was
+decided-after s lane (drop_pieces k) moment needs timely run was =
+    decided-stays s.machine [] s.moment moment lane timely tt was
+decided-after s lane close moment needs timely run was = decided-stays s.machine [] s.moment moment lane timely tt was
 
 -- ---- moments
 
@@ -398,6 +404,7 @@ put-kept : (s : State) (n : ℕ) (lane : Lane) (step : LaneStep) (moment : ℕ)
       machine = machine_run s.machine (lane_steps lane step moment);
       lanes = record s.lanes { open_lanes = put_lane (lane_after s lane step moment) s.lanes.open_lanes };
       moment = moment;
+      begun = true;
     })
 put-kept s n lane step moment found same kept needs run timely = record {
   in_time = moment-within s.machine (lane_steps lane step moment) moment (lane-at lane step moment)
@@ -422,11 +429,11 @@ put-kept s n lane step moment found same kept needs run timely = record {
       (each-at IsFilled s.lanes.open_lanes n lane found kept.filled)) kept.filled;
   decided = each-put (IsDecided (machine_run s.machine (lane_steps lane step moment)) moment)
       (lane_after s lane step moment) s.lanes.open_lanes
-      (decided-after s lane step moment needs timely
+      (decided-after s lane step moment needs timely run
       (each-at (IsDecided s.machine s.moment) s.lanes.open_lanes n lane found kept.decided))
       (each-weaker (IsDecided s.machine s.moment)
       (IsDecided (machine_run s.machine (lane_steps lane step moment)) moment) s.lanes.open_lanes
-      (λ l. decided-stays s.machine (lane_steps lane step moment) s.moment moment l timely) kept.decided);
+      (λ l. decided-stays s.machine (lane_steps lane step moment) s.moment moment l timely run) kept.decided);
   recorded = each-put (λ l. (machine_run s.machine (lane_steps lane step moment)).tables ≢ [])
       (lane_after s lane step moment) s.lanes.open_lanes
       (recorded-stays s.machine (lane_steps lane step moment)
@@ -434,6 +441,7 @@ put-kept s n lane step moment found same kept needs run timely = record {
       (each-weaker (λ l. s.machine.tables ≢ [])
       (λ l. (machine_run s.machine (lane_steps lane step moment)).tables ≢ []) s.lanes.open_lanes
       (λ l. recorded-stays s.machine (lane_steps lane step moment)) kept.recorded);
+  at_first = λ e. absurd (true≢false e);
 } where
   there : lane_at (lane_after s lane step moment).number s.lanes.open_lanes ≡ Some lane
   there = subst (λ (k : ℕ). lane_at k s.lanes.open_lanes ≡ Some lane)
@@ -445,6 +453,7 @@ close-kept : (s : State) (n : ℕ) (lane : Lane) (moment : ℕ) → lane_at n s.
       machine = s.machine;
       lanes = record s.lanes { open_lanes = without_lane lane.number s.lanes.open_lanes };
       moment = moment;
+      begun = true;
     })
 close-kept s n lane moment found kept timely = record {
   in_time = omega (arith, kept.in_time, timely);
@@ -456,8 +465,9 @@ close-kept s n lane moment found kept timely = record {
   filled = each-without IsFilled lane.number s.lanes.open_lanes kept.filled;
   decided = each-without (IsDecided s.machine moment) lane.number s.lanes.open_lanes
       (each-weaker (IsDecided s.machine s.moment) (IsDecided s.machine moment) s.lanes.open_lanes
-      (λ l. decided-stays s.machine [] s.moment moment l timely) kept.decided);
+      (λ l. decided-stays s.machine [] s.moment moment l timely tt) kept.decided);
   recorded = each-without (λ l. s.machine.tables ≢ []) lane.number s.lanes.open_lanes kept.recorded;
+  at_first = λ e. absurd (true≢false e);
 } where
   there : lane_at lane.number s.lanes.open_lanes ≡ Some lane
   there = subst (λ (k : ℕ). lane_at k s.lanes.open_lanes ≡ Some lane)
@@ -470,6 +480,7 @@ on-lane-kept : (s : State) (n : ℕ) (lane : Lane) (step : LaneStep) (moment : �
       machine = machine_run s.machine (lane_steps lane step moment);
       lanes = record s.lanes { open_lanes = on_lane_after s (Some lane) step moment };
       moment = moment;
+      begun = true;
     })
 on-lane-kept s n lane (agree checkpoint window) moment found kept needs run timely =
     put-kept s n lane (agree checkpoint window) moment found refl kept needs run timely
@@ -499,7 +510,7 @@ on-lane-kept s n lane close moment found kept needs run timely = close-kept s n 
 beside-kept : (s : State) (steps : List MachineStep) (moment : ℕ) → IsKept s → IsRun s.machine steps
     → AreAt moment steps → s.moment ≤ moment
     → ((i r : ℕ) → (discharges steps i r ≡ 0) ⊎ IsFree s i r)
-    → IsKept (record { machine = machine_run s.machine steps; lanes = s.lanes; moment = moment })
+    → IsKept (record { machine = machine_run s.machine steps; lanes = s.lanes; moment = moment; begun = true })
 beside-kept s steps moment kept run at timely apart = record {
   in_time = moment-within s.machine steps moment at (omega (arith, kept.in_time, timely));
   numbered_lanes = kept.numbered_lanes;
@@ -511,10 +522,11 @@ beside-kept s steps moment kept run at timely apart = record {
   filled = kept.filled;
   decided = each-weaker (IsDecided s.machine s.moment)
       (IsDecided (machine_run s.machine steps) moment) s.lanes.open_lanes
-      (λ l. decided-stays s.machine steps s.moment moment l timely) kept.decided;
+      (λ l. decided-stays s.machine steps s.moment moment l timely run) kept.decided;
   recorded = each-weaker (λ l. s.machine.tables ≢ [])
       (λ l. (machine_run s.machine steps).tables ≢ []) s.lanes.open_lanes
       (λ l. recorded-stays s.machine steps) kept.recorded;
+  at_first = λ e. absurd (true≢false e);
 } where
   by_case : (i r : ℕ) → (discharges steps i r ≡ 0) ⊎ IsFree s i r
       → activities_of s.lanes.open_lanes i r ≤ pending_count (machine_run s.machine steps) i r
@@ -545,10 +557,20 @@ peer-recorded (t ∷ ts) peer named = λ e. absurd cc
 class-kept : (s : State) (c : Class) (moment : ℕ) → IsKept s → StepNeeds s c moment
     → IsRun s.machine (class_steps s c moment) → s.moment ≤ moment
     → IsKept (record {
-      machine = machine_run s.machine (class_steps s c moment);
+      machine = machine_left s c moment;
       lanes = lanes_after s c moment;
       moment = moment;
+      begun = true;
     })
+class-kept s (begins t) moment kept needs run timely =
+    subst (λ (n : ℕ). IsKept (record {
+      machine = machine_begun t;
+      lanes = lanes_begun t;
+      moment = n;
+      begun = true;
+    })) (sym needs.now) needs.kept
+class-kept s sets_format moment kept needs run timely =
+    beside-kept s (class_steps s sets_format moment) moment kept run tt timely (λ i r. inl refl)
 class-kept s (records text) moment kept needs run timely =
     beside-kept s (class_steps s (records text) moment) moment kept run tt timely (λ i r. inl refl)
 class-kept s (accepts octets) moment kept needs run timely =
@@ -586,10 +608,11 @@ class-kept s (opens role peer reference twa checkpoint window) moment kept needs
       (new_lane (s.lanes.count + 1) role peer reference twa checkpoint window)
       (λ moves. absurd (true≢false (sym moves)))
       (each-weaker (IsDecided s.machine s.moment) (IsDecided s.machine moment) s.lanes.open_lanes
-      (λ l. decided-stays s.machine [] s.moment moment l timely) kept.decided);
+      (λ l. decided-stays s.machine [] s.moment moment l timely tt) kept.decided);
   recorded = each-more (λ l. s.machine.tables ≢ []) s.lanes.open_lanes
       (new_lane (s.lanes.count + 1) role peer reference twa checkpoint window)
       (peer-recorded s.machine.tables peer needs.named) kept.recorded;
+  at_first = λ e. absurd (true≢false e);
 }
 class-kept s (on_lane n g step) moment kept needs run timely =
     subst (λ (o : Option Lane). IsRun s.machine (on_lane_steps o step moment)
@@ -597,6 +620,7 @@ class-kept s (on_lane n g step) moment kept needs run timely =
       machine = machine_run s.machine (on_lane_steps o step moment);
       lanes = record s.lanes { open_lanes = on_lane_after s o step moment };
       moment = moment;
+      begun = true;
     }))
     (sym needs.lane_is) (λ r. on-lane-kept s n needs.lane step moment needs.lane_is kept needs.needs r timely) run
 
@@ -614,6 +638,7 @@ empty_kept = record {
   filled = tt;
   decided = tt;
   recorded = tt;
+  at_first = λ e. refl;
 }
 
 keep-along : (s : State) (steps : List Step) → IsKept s → ArePossible s steps → IsKept (after_from s steps)

@@ -10,3 +10,10 @@ pub mod Dues
 pub mod Shown
 pub mod Seeing
 pub mod Needed
+pub mod Compacting
+pub mod SoundItems
+pub mod CompactionKept
+pub mod CompactionPossible
+pub mod SoundMachine
+pub mod SoundLanes
+pub mod SoundStays

@@ -5,6 +5,8 @@ use Rattle.std.proofs.Common.{Some, None, refl, sym, ap, subst, ◌∙◌, arith
 use Rattle.std.specs.Prelude.{◌⊎◌, ◌&&◌}
 use Rattle.std.specs.List.{concat}
 use Rattle.std.proofs.lemmas.Bool.{cases_Bool, eqb-true, eq-eqb, ne_eqb, and_parts, cond-true, cond-false, ltb-true}
+use Rattle.std.specs.Prelude.{map}
+use Rattle.std.proofs.lemmas.Bool.{leb-true, leb-false, eqb-false}
 use Rattle.std.proofs.lemmas.Bool.{lt-leb, cases_lt, true≢false}
 use Rattle.std.proofs.lemmas.List.{append-nil, append_assoc}
 use Rattle.mta_lane_send.specs.declared.state.SendState.{SendState}
@@ -18,16 +20,20 @@ use Rattle.mta_histories.specs.Lanes.{Transfer, Lane, Lanes, State, empty, lane_
 use Rattle.mta_histories.specs.Lanes.{total_of}
 use Rattle.mta_histories.specs.Classes.{was_sent, was_refused, was_denied, was_dropped, LaneStep, agree, bind}
 use Rattle.mta_histories.specs.Classes.{start, confirm, to_end, settle, abandon, secure, complete, drop_pieces, close}
-use Rattle.mta_histories.specs.Classes.{Class, records, accepts, settles, opens, on_lane, class_of}
+use Rattle.mta_records.specs.State.{SnapshotValue}
+use Rattle.mta_histories.specs.Classes.{Class, begins, sets_format, records, accepts, settles, opens, on_lane, class_of}
 use Rattle.mta_histories.specs.History.{LaneNeeds, StepNeeds, IsOfGeneration, with_piece, transfer_of}
 use Rattle.mta_histories.specs.History.{lane_after, on_lane_after, lanes_after, new_lane, when, after_step, after_from}
-use Rattle.mta_histories.specs.History.{after, ArePossible}
+use Rattle.mta_histories.specs.History.{after, ArePossible, state_left, IsHistory}
+use Rattle.mta_histories.specs.Sound.{lanes_begun}
+use Rattle.mta_histories.proofs.Runs.{not-begun-again}
 use Rattle.mta_histories.specs.Kept.{IsKept, AreNumbered}
 use Rattle.mta_transfer_rules.specs.Lanes.{On, SeenStep, LaneOpen, CloseLane, Halves, Closed}
 use Rattle.mta_transfer_rules.specs.Lanes.{unopened, Allows, halves_after, of_lane, of_lane_all}
-use Rattle.mta_transfer_rules.specs.Lanes.{halves_run, AreAllowed}
+use Rattle.mta_transfer_rules.specs.Lanes.{halves_run, AreAllowed, Seen, Elsewhere, Begins, closed_before, lane_begun}
+use Rattle.mta_transfer_rules.specs.Lanes.{lane_at_first, lane_in}
 use Rattle.mta_histories.specs.Seen.{told, checkpoint_unit, seen_by, seen_of, annotated_from, annotated, transferred}
-use Rattle.mta_histories.specs.Seen.{halves_of, LanesSeeHistories}
+use Rattle.mta_histories.specs.Seen.{halves_of, numbered_halves, LanesSeeHistories}
 use Rattle.mta_histories.proofs.LaneLists.{each-weaker, number-at, number-within, number-above}
 use Rattle.mta_histories.proofs.Falls.{each-found}
 use Rattle.mta_histories.proofs.Keeps.{start-octets, steps_keep, empty_kept, histories_keep}
@@ -407,15 +413,17 @@ on-lane-led spells ok s n m lane g close moment h kept found current needs shown
 
 class-led : (spells : List ℕ → Bool) → ((octets : List ℕ) → IsApdu octets → spells octets ≡ true)
     → (s : State) (c : Class) (moment n : ℕ) (h : Halves) → IsKept s → StepNeeds s c moment
-    → IsShown s.lanes n h
+    → ((t : SnapshotValue) → c ≡ begins t → ⊥) → IsShown s.lanes n h
     → IsLed spells (lanes_after s c moment) n h (of_lane n (seen_of s c moment))
-class-led spells ok s (records text) moment n h kept needs shown = elsewhere spells s.lanes n h shown
-class-led spells ok s (accepts octets) moment n h kept needs shown = elsewhere spells s.lanes n h shown
-class-led spells ok s (settles how i r) moment n h kept needs shown = elsewhere spells s.lanes n h shown
-class-led spells ok s (opens role peer reference twa checkpoint window) moment n h kept needs shown =
+class-led spells ok s (begins t) moment n h kept needs other shown = absurd (other t refl)
+class-led spells ok s sets_format moment n h kept needs other shown = elsewhere spells s.lanes n h shown
+class-led spells ok s (records text) moment n h kept needs other shown = elsewhere spells s.lanes n h shown
+class-led spells ok s (accepts octets) moment n h kept needs other shown = elsewhere spells s.lanes n h shown
+class-led spells ok s (settles how i r) moment n h kept needs other shown = elsewhere spells s.lanes n h shown
+class-led spells ok s (opens role peer reference twa checkpoint window) moment n h kept needs other shown =
     opened-led spells s (new_lane
     (s.lanes.count + 1) role peer reference twa checkpoint window) _ _ window n h kept refl refl shown
-class-led spells ok s (on_lane m g step) moment n h kept needs shown =
+class-led spells ok s (on_lane m g step) moment n h kept needs other shown =
     subst (λ (o : Option Lane). IsLed spells (record s.lanes {
       open_lanes = on_lane_after s o step moment;
     }) n h (of_lane n (On m (seen_by s (told g) step moment)))) (sym needs.lane_is)
@@ -433,20 +441,33 @@ halves_run-append : (h : Halves) (xs ys : List SeenStep) → halves_run h (xs ++
 halves_run-append h [] ys = refl
 halves_run-append h (x ∷ xs) ys = halves_run-append (halves_after h x) xs ys
 
+-- a step that is no snapshot, and what follows it
+abbrev Along : (List ℕ → Bool) → State → Class → ℕ → List Step → ℕ → Halves → Type 0
+Along spells s c moment steps n h =
+    IsLed spells (after_from (state_left s c moment) steps).lanes n h
+    (of_lane n (seen_of s c moment) ++ of_lane_all n (annotated_from (state_left s c moment) steps))
+
+led-then : (spells : List ℕ → Bool) (after_all : Lanes) (n : ℕ) (h : Halves) (here behind : List SeenStep)
+    → AreAllowed spells h here → IsLed spells after_all n (halves_run h here) behind
+    → IsLed spells after_all n h (here ++ behind)
+led-then spells after_all n h here behind first rest = (
+  allowed-append spells h here behind first rest.0,
+  subst (IsShown after_all n) (sym (halves_run-append h here behind)) rest.1,
+)
+
 led-along : (spells : List ℕ → Bool) → ((octets : List ℕ) → IsApdu octets → spells octets ≡ true)
-    → (s : State) (steps : List Step) (n : ℕ) (h : Halves) → IsKept s → ArePossible s steps
+    → (s : State) (steps : List Step) (n : ℕ) (h : Halves) → IsKept s → s.begun ≡ true → ArePossible s steps
     → IsShown s.lanes n h
     → IsLed spells (after_from s steps).lanes n h (of_lane_all n (annotated_from s steps))
-led-along spells ok s [] n h kept possible shown = (tt, shown)
-led-along spells ok s (step ∷ steps) n h kept possible shown =
-    let one = class-led spells ok s (class_of step) (when s step) n h kept possible.0.allowed shown in
+led-along spells ok s [] n h kept begun possible shown = (tt, shown)
+led-along spells ok s (step ∷ steps) n h kept begun possible shown =
+    let one = class-led spells ok s (class_of step) (when s step) n h kept possible.0.allowed
+    (not-begun-again s (class_of step) (when s step) begun possible.0.allowed) shown in
     let here : List SeenStep = of_lane n (seen_of s (class_of step) (when s step)) in
-    let rest = led-along spells ok (after_step s step) steps n (halves_run h here)
-    (steps_keep s step kept possible.0) possible.1 one.1 in
-    let behind : List SeenStep = of_lane_all n (annotated_from (after_step s step) steps) in (
-      allowed-append spells h here behind one.0 rest.0,
-      subst (IsShown (after_from (after_step s step) steps).lanes n) (sym (halves_run-append h here behind)) rest.1,
-    )
+    led-then spells (after_from (after_step s step) steps).lanes n h here
+    (of_lane_all n (annotated_from (after_step s step) steps)) one.0
+    (led-along spells ok (after_step s step) steps n (halves_run h here) (steps_keep s step kept possible.0) refl
+    possible.1 one.1)
 
 as-many : (s : State) (steps : List Step) → length (annotated_from s steps) ≡ length steps
 as-many s [] = refl
@@ -458,23 +479,113 @@ at-first n = inr (λ some. omega (arith, some), refl)
 every-test : (octets : List ℕ) → IsApdu octets → true ≡ true
 every-test octets is = refl
 
+-- the halves with which a history begins show the lanes of its snapshot
+abbrev BegunAs : Option Lane → ℕ → ℕ → Halves → Type 0
+BegunAs None count n h = ((1 ≤ n) × (n ≤ count) × (h.phase ≡ Closed)) ⊎ ((1 ≤ n → count < n) × (h ≡ unopened))
+BegunAs (Some lane) count n h = h ≡ halves_of lane
+
+-- the open lane of a number among those of a snapshot
+begun-lane : (lanes : List Lane) (count n : ℕ)
+    → BegunAs (lane_at n lanes) count n (lane_begun count (map numbered_halves lanes) n)
+begun-lane [] count n = by_test (nat_le 1 n) refl
+  where
+    by_count : (b : Bool) → nat_le n count ≡ b → 1 ≤ n
+        → BegunAs None count n (cond b closed_before unopened)
+    by_count true e some = inl (some, leb-true n count e, refl)
+    by_count false e some = inr (λ _. leb-false n count e, refl)
+
+    by_test : (b : Bool) → nat_le 1 n ≡ b
+        → BegunAs None count n (cond b (cond (nat_le n count) closed_before unopened) unopened)
+    by_test true e = by_count (nat_le n count) refl (leb-true 1 n e)
+    by_test false e = inr (λ some. absurd (omega (arith, some, leb-false 1 n e)), refl)
+begun-lane (l ∷ lanes) count n = by_test (eqb n l.number) refl (begun-lane lanes count n)
+  where
+    by_test : (b : Bool) → eqb n l.number ≡ b
+        → BegunAs (lane_at n lanes) count n (lane_begun count (map numbered_halves lanes) n)
+        → BegunAs (cond b (Some l) (lane_at n lanes)) count n
+        (cond (eqb l.number n) (halves_of l) (lane_begun count (map numbered_halves lanes) n))
+    by_test true e rest =
+        subst (λ (b : Bool). (cond b (halves_of l) (lane_begun count (map numbered_halves lanes) n)) ≡ halves_of l)
+        (sym (eq-eqb l.number n (sym (eqb-true n l.number e)))) refl
+    by_test false e rest =
+        subst (λ (b : Bool). BegunAs (lane_at n lanes) count n
+        (cond b (halves_of l) (lane_begun count (map numbered_halves lanes) n)))
+        (sym (ne_eqb l.number n (λ f. eqb-false n l.number e (sym f)))) rest
+
+begun-shown : (t : SnapshotValue) (n : ℕ) (h : Halves) (o : Option Lane) → BegunAs o t.lane_count n h
+    → Shows (lanes_begun t) n o h
+begun-shown t n h None e = e
+begun-shown t n h (Some lane) e = e
+
+no-snapshot : (spells : List ℕ → Bool) → ((octets : List ℕ) → IsApdu octets → spells octets ≡ true)
+    → (c : Class) (moment : ℕ) (steps : List Step) (n : ℕ) → StepNeeds empty c moment
+    → ((t : SnapshotValue) → c ≡ begins t → ⊥)
+    → IsKept (state_left empty c moment) → ArePossible (state_left empty c moment) steps
+    → Along spells empty c moment steps n unopened
+no-snapshot spells ok c moment steps n needs other kept possible =
+    let one = class-led spells ok empty c moment n unopened empty_kept needs other (at-first n) in
+    let here : List SeenStep = of_lane n (seen_of empty c moment) in
+    led-then spells (after_from (state_left empty c moment) steps).lanes n unopened here
+    (of_lane_all n (annotated_from (state_left empty c moment) steps)) one.0
+    (led-along spells ok (state_left empty c moment) steps n (halves_run unopened here) kept refl possible one.1)
+
+-- where a history begins, and what follows it
+first-led : (spells : List ℕ → Bool) → ((octets : List ℕ) → IsApdu octets → spells octets ≡ true)
+    → (c : Class) (moment : ℕ) (steps : List Step) (n : ℕ) → StepNeeds empty c moment
+    → IsKept (state_left empty c moment) → ArePossible (state_left empty c moment) steps
+    → Along spells empty c moment steps n (lane_at_first n (seen_of empty c moment ∷ []))
+first-led spells ok (begins t) moment steps n needs kept possible =
+    led-along spells ok (state_left empty (begins t) moment) steps n
+    (lane_begun t.lane_count (map numbered_halves t.lanes) n) kept refl possible
+    (begun-shown t n (lane_begun t.lane_count (map numbered_halves t.lanes) n) (lane_at n t.lanes)
+    (begun-lane t.lanes t.lane_count n))
+first-led spells ok sets_format moment steps n needs kept possible =
+    no-snapshot spells ok sets_format moment steps n needs (λ t e. absurd cc) kept possible
+first-led spells ok (records text) moment steps n needs kept possible =
+    no-snapshot spells ok (records text) moment steps n needs (λ t e. absurd cc) kept possible
+first-led spells ok (accepts octets) moment steps n needs kept possible =
+    no-snapshot spells ok (accepts octets) moment steps n needs (λ t e. absurd cc) kept possible
+first-led spells ok (settles how i r) moment steps n needs kept possible =
+    no-snapshot spells ok (settles how i r) moment steps n needs (λ t e. absurd cc) kept possible
+first-led spells ok (opens role peer reference twa checkpoint window) moment steps n needs kept possible =
+    no-snapshot spells ok (opens role peer reference twa checkpoint window) moment steps n needs (λ t e. absurd cc)
+    kept possible
+first-led spells ok (on_lane m g step) moment steps n needs kept possible =
+    no-snapshot spells ok (on_lane m g step) moment steps n needs (λ t e. absurd cc) kept possible
+
+-- at first each lane is as the first step has it, whatever follows
+first-only : (n : ℕ) (x : Seen) (xs : List Seen) → lane_at_first n (x ∷ xs) ≡ lane_at_first n (x ∷ [])
+first-only n (On j step) xs = refl
+first-only n Elsewhere xs = refl
+first-only n (Begins count lanes) xs = refl
+
+history-led : (spells : List ℕ → Bool) → ((octets : List ℕ) → IsApdu octets → spells octets ≡ true)
+    → (steps : List Step) (n : ℕ) → IsHistory steps
+    → IsLed spells (after steps).lanes n (lane_at_first n (annotated steps)) (of_lane_all n (annotated steps))
+history-led spells ok [] n history = (tt, at-first n)
+history-led spells ok (step ∷ steps) n history =
+    subst (λ (h : Halves). IsLed spells (after (step ∷ steps)).lanes n h (of_lane_all n (annotated (step ∷ steps))))
+    (sym (first-only n (seen_of empty (class_of step) (when empty step))
+    (annotated_from (after_step empty step) steps)))
+    (first-led spells ok (class_of step) (when empty step) steps n history.0.allowed
+    (steps_keep empty step empty_kept history.0) history.1)
+
 pub lanes_see_histories : LanesSeeHistories
 lanes_see_histories steps history = record {
   as_many = as-many empty steps;
   opened =
       each-weaker (λ l. lane_at l.number (after steps).lanes.open_lanes ≡ Some l)
-      (λ l. halves_run unopened (of_lane_all l.number (annotated steps)) ≡ halves_of l)
+      (λ l. lane_in l.number (annotated steps) ≡ halves_of l)
       (after steps).lanes.open_lanes
       (λ l found. subst (λ (o : Option Lane). Shows (after steps).lanes l.number o
-      (halves_run unopened (of_lane_all l.number (annotated steps)))) found (shown l.number))
+      (lane_in l.number (annotated steps))) found (shown l.number))
       (each-found 0 (after steps).lanes.open_lanes (after steps).lanes.count kept.numbered_lanes);
-  new = λ n above. new-shown (after steps).lanes n
-      (halves_run unopened (of_lane_all n (annotated steps))) kept.numbered_lanes above (shown n);
-  allowed = λ spells ok n. (led-along spells ok empty steps n unopened empty_kept history (at-first n)).0;
+  new = λ n above. new-shown (after steps).lanes n (lane_in n (annotated steps)) kept.numbered_lanes above (shown n);
+  allowed = λ spells ok n. (history-led spells ok steps n history).0;
 }
   where
     kept : IsKept (after steps)
     kept = histories_keep steps history
 
-    shown : (n : ℕ) → IsShown (after steps).lanes n (halves_run unopened (of_lane_all n (annotated steps)))
-    shown n = (led-along (λ octets. true) every-test empty steps n unopened empty_kept history (at-first n)).1
+    shown : (n : ℕ) → IsShown (after steps).lanes n (lane_in n (annotated steps))
+    shown n = (history-led (λ octets. true) every-test steps n history).1

@@ -7,10 +7,13 @@ use Rattle.mta_records.specs.declared.step.Step.{Step}
 use Rattle.mta_histories.specs.Lanes.{Lane, Lanes, State, empty, lane_at, put_lane, without_lane, EachLane}
 use Rattle.mta_histories.specs.Classes.{was_sent, was_refused, was_denied, was_dropped, LaneStep, agree, bind, start}
 use Rattle.mta_histories.specs.Classes.{confirm, to_end, settle, abandon, secure, complete, drop_pieces, close, Class}
-use Rattle.mta_histories.specs.Classes.{records, accepts, settles, opens, on_lane, class_of}
+use Rattle.mta_histories.specs.Classes.{begins, sets_format, records, accepts, settles, opens, on_lane, class_of}
+use Rattle.mta_records.specs.State.{SnapshotValue}
+use Rattle.mta_histories.specs.Sound.{lanes_begun}
+use Rattle.mta_histories.proofs.Falls.{each-found}
 use Rattle.mta_histories.specs.History.{LaneNeeds, StepNeeds, lane_after, on_lane_after, lanes_after, new_lane, when}
 use Rattle.mta_histories.specs.History.{after_step, after_from, ArePossible}
-use Rattle.mta_histories.specs.Kept.{IsKept, AreNumbered, started_in, started_by, highest_started}
+use Rattle.mta_histories.specs.Kept.{IsKept, AreNumbered, started_in, started_by, last_among, highest_started}
 use Rattle.mta_histories.specs.Laws.{LastIsHighestStarted}
 use Rattle.mta_histories.proofs.LaneLists.{each-at, each-without, each-more, each-weaker, number-at, number-within}
 use Rattle.mta_histories.proofs.Halves.{confirmed-last, sending-last}
@@ -150,8 +153,67 @@ with-none h lanes t = record {
   none = λ n above. omega (arith, t.none n above);
 }
 
+-- the lanes of a snapshot
+among-each : (above : ℕ) (lanes : List Lane) (most : ℕ) → AreNumbered above lanes most
+    → EachLane (λ l. last_among l.number lanes ≡ last_of l.sending) lanes
+among-each above lanes most a =
+    each-weaker (λ l. lane_at l.number lanes ≡ Some l) (λ l. last_among l.number lanes ≡ last_of l.sending) lanes
+    (λ l found. among lanes l.number l found) (each-found above lanes most a)
+  where
+    among : (all : List Lane) (n : ℕ) (l : Lane) → lane_at n all ≡ Some l → last_among n all ≡ last_of l.sending
+    among [] n l e = absurd cc
+    among (x ∷ all) n l e = by_test (eqb n x.number) e (among all n l)
+      where
+        by_test : (b : Bool) → cond b (Some x) (lane_at n all) ≡ Some l
+            → (lane_at n all ≡ Some l → last_among n all ≡ last_of l.sending)
+            → cond b (last_of x.sending) (last_among n all) ≡ last_of l.sending
+        by_test true f later = ap (λ (y : Lane). last_of y.sending) (some-same x l f)
+          where
+            some-same : (a c : Lane) → Some a ≡ Some c → a ≡ c
+            some-same a c g = cc
+        by_test false f later = later f
+
+among-none : (above : ℕ) (lanes : List Lane) (most n : ℕ) → AreNumbered above lanes most → most < n
+    → last_among n lanes ≡ 0
+among-none above [] most n a past = refl
+among-none above (l ∷ lanes) most n a past =
+    ap (λ (b : Bool). cond b (last_of l.sending) (last_among n lanes))
+    (ne_eqb n l.number (λ e. omega (arith, past, e, number-most l.number lanes most a.1)))
+    ∙ among-none l.number lanes most n a.1 past
+  where
+    number-most : (low : ℕ) (rest : List Lane) (top : ℕ) → AreNumbered low rest top → low ≤ top
+    number-most low [] top b = b
+    number-most low (x ∷ rest) top b = omega (arith, b.0, number-most x.number rest top b.1)
+
+begun-tracks : (h : ℕ → ℕ) (s : State) (t : SnapshotValue) → s ≡ empty → AreNumbered 0 t.lanes t.lane_count
+    → Tracks h s.lanes → Tracks (λ n. max (h n) (last_among n t.lanes)) (lanes_begun t)
+begun-tracks h s t none numbered tracks = record {
+  each = above-zero (λ l. last_of l.sending ≡ max (h l.number) (last_among l.number t.lanes)) 0 t.lanes t.lane_count
+      numbered
+      (each-weaker (λ l. last_among l.number t.lanes ≡ last_of l.sending)
+      (λ l. 0 < l.number → last_of l.sending ≡ max (h l.number) (last_among l.number t.lanes)) t.lanes
+      (λ l e above. omega (arith, e, tracks.none l.number (omega (arith, count, above))))
+      (among-each 0 t.lanes t.lane_count numbered));
+  none = λ n above. omega (
+    arith,
+    among-none 0 t.lanes t.lane_count n numbered above,
+    tracks.none n (omega (arith, count, above)),
+  );
+} where
+  count : s.lanes.count ≡ 0
+  count = ap (λ (x : State). x.lanes.count) none
+
+  above-zero : (P : Lane → Type 0) (low : ℕ) (lanes : List Lane) (most : ℕ) → AreNumbered low lanes most
+      → EachLane (λ l. 0 < l.number → P l) lanes → EachLane P lanes
+  above-zero P low [] most a each = tt
+  above-zero P low (l ∷ lanes) most a each =
+      (each.0 (omega (arith, a.0)), above-zero P l.number lanes most a.1 each.1)
+
 class-tracks : (h : ℕ → ℕ) (s : State) (c : Class) (moment : ℕ) → IsKept s → StepNeeds s c moment
     → Tracks h s.lanes → Tracks (λ n. max (h n) (started_by n c)) (lanes_after s c moment)
+class-tracks h s (begins b) moment kept needs t =
+    begun-tracks h s b (kept.at_first needs.first) needs.kept.numbered_lanes t
+class-tracks h s sets_format moment kept needs t = with-none h s.lanes t
 class-tracks h s (records text) moment kept needs t = with-none h s.lanes t
 class-tracks h s (accepts octets) moment kept needs t = with-none h s.lanes t
 class-tracks h s (settles how i r) moment kept needs t = with-none h s.lanes t

@@ -2,7 +2,7 @@
 -- leaves.
 use Rattle.std.specs.Prelude.{◌≡◌, ◌≢◌, ℕ, ◌+◌, ◌-◌, ◌*◌, ◌<◌, ◌≤◌, ◌^◌}
 use Rattle.std.specs.Prelude.{◌==◌, ◌&&◌, Bool, true, false, List, [], ◌∷◌, ◌++◌, length, take, map}
-use Rattle.std.specs.Prelude.{count_by, bytes_eq, Option, Some, None, if◌then◌else◌}
+use Rattle.std.specs.Prelude.{count_by, Option, Some, None, if◌then◌else◌}
 use Rattle.std.specs.List.{concat}
 use Rattle.mta_records.specs.Reference.{Identifier}
 use Rattle.mta_lane_send.specs.declared.state.SendState.{SendState}
@@ -16,21 +16,25 @@ use Rattle.mta_records.specs.declared.lane.LaneRole.{LaneRole}
 use Rattle.mta_records.specs.declared.lane.LaneRole.TheVariants.{Initiator, Responder}
 use Rattle.mta_records.specs.declared.step.Step.{Step}
 use Rattle.mta_machine.specs.Apdu.{IsApdu}
-use Rattle.mta_machine.specs.declared.item.Origin.TheVariants as Origins
+use Rattle.mta_records.specs.declared.state.Origin.TheVariants as Origins
 use Rattle.mta_procedures.specs.declared.verdict.Verdict.{Verdict}
 use Rattle.mta_procedures.specs.declared.verdict.Verdict.TheVariants as Verdicts
 use Rattle.mta_machine.specs.Items.{ItemValue, Machine, numbered, names, AreDifferent}
 use Rattle.mta_machine.specs.Rules.{Failure, too_long, violated, denied, expired, is_tables_text, names_peer}
 use Rattle.mta_machine.specs.Rules.{is_expired, outgoing_copy}
-use Rattle.mta_machine.specs.Machine.{MachineStep, set_tables, accept, discharge, Discharge, delivered, expanded}
+use Rattle.mta_machine.specs.Machine.{MachineStep, set_tables, set_format, Course, accept, discharge, Discharge}
+use Rattle.mta_machine.specs.Machine.{delivered, expanded}
 use Rattle.mta_machine.specs.Machine.{affirmed, not_delivered, failed, discarded, passed, sent, last_tables, verdict_at}
 use Rattle.mta_machine.specs.Machine.{relay_at, ArePending, Needs, machine_run}
 use Rattle.mta_histories.specs.Lanes.{Transfer, Lane, Lanes, State, empty, lane_at, put_lane, without_lane, EachLane}
 use Rattle.mta_histories.specs.Lanes.{sender, receiver, is_dropping, IsFree}
+use Rattle.mta_histories.specs.Sound.{CanBegin, machine_begun, lanes_begun, state_begun}
+pub use Rattle.mta_histories.specs.Limits.{longest_activity, longest_piece, octets_of, copied, is_role, most_lanes}
+pub use Rattle.mta_histories.specs.Limits.{is_with}
 use Rattle.mta_histories.specs.Classes.{Settling, deliver, expand, report, affirm, discard, back, Outcome, was_sent}
 use Rattle.mta_histories.specs.Classes.{was_refused, was_denied, was_dropped, LaneStep, agree, bind, start, confirm}
 use Rattle.mta_histories.specs.Classes.{to_end, settle, abandon, secure, complete, drop_pieces, close, Class, records}
-use Rattle.mta_histories.specs.Classes.{accepts, settles, opens, on_lane, class_of, moment_of}
+use Rattle.mta_histories.specs.Classes.{begins, sets_format, accepts, settles, opens, on_lane, class_of, moment_of}
 
 -- ---- the half step in a step on a lane (X.228 clause 7)
 
@@ -57,14 +61,6 @@ Receives lane step = recv.is_possible (receiver lane) step ≡ true
 abbrev pub with_piece : List (List ℕ) → ℕ → List ℕ → List (List ℕ)
 with_piece pieces n piece = take (n - 1) pieces ++ piece ∷ []
 
--- the most octets of an activity
-abbrev pub longest_activity : ℕ
-longest_activity = 2097152
-
--- the most octets of a piece, by the agreed checkpoint size in units of 1,024 octets
-abbrev pub longest_piece : ℕ → ℕ
-longest_piece checkpoint = if checkpoint == 0 then longest_activity else 1024 * checkpoint
-
 -- the receiving half takes this piece
 pub record TakesPiece (lane : Lane) (step : RecvStep) (n : ℕ) (piece : List ℕ) : Type 0 where
   pub agreed : lane.agreed ≡ true
@@ -76,7 +72,7 @@ pub record TakesPiece (lane : Lane) (step : RecvStep) (n : ℕ) (piece : List �
 -- ---- starting an activity
 
 -- A new activity: the recipients are different, pending and free, each with a verdict that relays to the lane's peer
--- under the tables recorded last, and there is an outgoing copy for them.
+-- under the tables recorded last in the format of now, and there is an outgoing copy for them.
 pub record CanStart (s : State) (lane : Lane) (k i : ℕ) (rs : List ℕ) (moment : ℕ) : Type 0 where
   pub agreed : lane.agreed ≡ true
   pub idle : is_idle lane.sending ≡ true
@@ -86,22 +82,13 @@ pub record CanStart (s : State) (lane : Lane) (k i : ℕ) (rs : List ℕ) (momen
   pub pending : ArePending s.machine i rs
   pub free : (r : ℕ) → names rs r ≡ true → IsFree s i r
   pub relayed : (r : ℕ) → names rs r ≡ true
-      → relay_at s.machine (last_tables s.machine) i r moment ≡ Some lane.peer
+      → relay_at s.machine s.machine.format (last_tables s.machine) i r moment ≡ Some lane.peer
   pub text : List ℕ
   pub text_is : numbered s.machine.tables (last_tables s.machine) ≡ Some text
   pub item : ItemValue
   pub item_is : numbered s.machine.items i ≡ Some item
   pub copy : List ℕ
   pub copy_is : outgoing_copy text item.octets item.arrival rs moment ≡ Some copy
-
-abbrev pub octets_of : Option (List ℕ) → List ℕ
-octets_of None = []
-octets_of (Some octets) = octets
-
-abbrev pub copied : Option (List ℕ) → Option ItemValue → List ℕ → ℕ → List ℕ
-copied None item rs moment = []
-copied (Some text) None rs moment = []
-copied (Some text) (Some item) rs moment = octets_of (outgoing_copy text item.octets item.arrival rs moment)
 
 -- what an activity for these recipients transfers
 abbrev pub transfer_of : Machine → ℕ → List ℕ → ℕ → Transfer
@@ -110,23 +97,11 @@ transfer_of m i rs moment = record {
   recipients = rs;
   moment = moment;
   tables = last_tables m;
+  format = m.format;
   octets = copied (numbered m.tables (last_tables m)) (numbered m.items i) rs moment;
 }
 
 -- ---- lanes that are opened
-
-abbrev pub is_role : LaneRole → LaneRole → Bool
-is_role Initiator Initiator = true
-is_role Initiator Responder = false
-is_role Responder Initiator = false
-is_role Responder Responder = true
-
--- the most open lanes of a role with one peer
-abbrev pub most_lanes : ℕ
-most_lanes = 64
-
-abbrev pub is_with : LaneRole → List ℕ → Lane → Bool
-is_with role peer lane = is_role role lane.role && bytes_eq peer lane.peer
 
 abbrev pub NamesPeer : Option (List ℕ) → List ℕ → Type 0
 NamesPeer None peer = ⊥
@@ -166,14 +141,14 @@ new_lane number role peer reference twa checkpoint window = record {
 -- ---- what a step needs
 
 -- the item of the activity has expired under the tables recorded last
-abbrev pub IsExpiredOn : Option (List ℕ) → Option ItemValue → ℕ → Type 0
-IsExpiredOn None item moment = ⊥
-IsExpiredOn (Some text) None moment = ⊥
-IsExpiredOn (Some text) (Some item) moment = is_expired text item.octets item.arrival moment ≡ true
+abbrev pub IsExpiredOn : (format : ℕ) → Option (List ℕ) → Option ItemValue → ℕ → Type 0
+IsExpiredOn format None item moment = ⊥
+IsExpiredOn format (Some text) None moment = ⊥
+IsExpiredOn format (Some text) (Some item) moment = is_expired format text item.octets item.arrival moment ≡ true
 
 abbrev pub HasExpired : Machine → Option Transfer → ℕ → Type 0
 HasExpired m None moment = ⊥
-HasExpired m (Some t) moment = IsExpiredOn (numbered m.tables (last_tables m)) (numbered m.items t.item) moment
+HasExpired m (Some t) moment = IsExpiredOn m.format (numbered m.tables (last_tables m)) (numbered m.items t.item) moment
 
 -- The generation that a step tells is the lane's. A Bind tells the next one, and an Abandon tells none.
 abbrev pub IsOfGeneration : Lane → Option ℕ → LaneStep → Type 0
@@ -207,6 +182,8 @@ pub record IsOnLane (s : State) (n : ℕ) (generation : Option ℕ) (step : Lane
 
 -- What a step needs beside what it needs of the machine.
 abbrev pub StepNeeds : State → Class → ℕ → Type 0
+StepNeeds s (begins t) moment = CanBegin s t moment
+StepNeeds s sets_format moment = Unit {0}
 StepNeeds s (records text) moment = is_tables_text text ≡ true
 StepNeeds s (accepts octets) moment = Unit {0}
 StepNeeds s (settles how i r) moment = IsFree s i r
@@ -244,7 +221,7 @@ failures failure moment (Some t) = map (λ r. discharge t.item (r ∷ []) (faile
 -- the recipients of an activity that was sent, all at once
 abbrev pub sendings : List ℕ → ℕ → Option Transfer → List MachineStep
 sendings peer moment None = []
-sendings peer moment (Some t) = discharge t.item t.recipients (sent peer t.tables t.moment) moment ∷ []
+sendings peer moment (Some t) = discharge t.item t.recipients (sent peer t.tables t.moment t.format) moment ∷ []
 
 -- the fault of an Exception of kind 11 is that there are too many octets
 abbrev pub failure_of_kind : ℕ → Failure
@@ -276,6 +253,8 @@ on_lane_steps None step moment = []
 on_lane_steps (Some lane) step moment = lane_steps lane step moment
 
 abbrev pub class_steps : State → Class → ℕ → List MachineStep
+class_steps s (begins t) moment = []
+class_steps s sets_format moment = set_format ∷ []
 class_steps s (records text) moment = set_tables text ∷ []
 class_steps s (accepts octets) moment = accept octets Origins.Submitted moment ∷ []
 class_steps s (settles how i r) moment =
@@ -326,6 +305,8 @@ on_lane_after s (Some lane) close moment = without_lane lane.number s.lanes.open
 on_lane_after s (Some lane) step moment = put_lane (lane_after s lane step moment) s.lanes.open_lanes
 
 abbrev pub lanes_after : State → Class → ℕ → Lanes
+lanes_after s (begins t) moment = lanes_begun t
+lanes_after s sets_format moment = s.lanes
 lanes_after s (records text) moment = s.lanes
 lanes_after s (accepts octets) moment = s.lanes
 lanes_after s (settles how i r) moment = s.lanes
@@ -352,16 +333,27 @@ when s step = later s.moment (moment_of step)
 abbrev pub machine_steps : State → Step → List MachineStep
 machine_steps s step = class_steps s (class_of step) (when s step)
 
-abbrev pub after_step : State → Step → State
-after_step s step = record {
-  machine = machine_run s.machine (machine_steps s step);
-  lanes = lanes_after s (class_of step) (when s step);
-  moment = when s step;
+-- the machine after a step: of a snapshot it is the one that it has
+abbrev pub machine_left : State → Class → ℕ → Machine
+machine_left s (begins t) moment = machine_begun t
+machine_left s c moment = machine_run s.machine (class_steps s c moment)
+
+abbrev pub state_left : State → Class → ℕ → State
+state_left s c moment = record {
+  machine = machine_left s c moment;
+  lanes = lanes_after s c moment;
+  moment = moment;
+  begun = true;
 }
+
+abbrev pub after_step : State → Step → State
+after_step s step = state_left s (class_of step) (when s step)
 
 -- What the machine needs of a step beside the lanes. Of a step on a lane it needs no more than the lane does
 -- (`LanesAskEnough`).
 abbrev pub MachineNeeds : State → Class → ℕ → Type 0
+MachineNeeds s (begins t) moment = Unit {0}
+MachineNeeds s sets_format moment = Needs s.machine set_format
 MachineNeeds s (records text) moment = Unit {0}
 MachineNeeds s (accepts octets) moment = Needs s.machine (accept octets Origins.Submitted moment)
 MachineNeeds s (settles how i r) moment =
@@ -375,7 +367,7 @@ pub record IsPossible (s : State) (step : Step) : Type 0 where
   pub allowed : StepNeeds s (class_of step) (when s step)
   pub as_machine : MachineNeeds s (class_of step) (when s step)
   pub timely : s.moment ≤ when s step
-  pub numbers : length (machine_run s.machine (machine_steps s step)).items < 2 ^ 32
+  pub numbers : length (after_step s step).machine.items < 2 ^ 32
 
 abbrev pub after_from : State → List Step → State
 after_from s [] = s
@@ -398,5 +390,15 @@ abbrev pub project_from : State → List Step → List MachineStep
 project_from s [] = []
 project_from s (step ∷ steps) = machine_steps s step ++ project_from (after_step s step) steps
 
-abbrev pub project : List Step → List MachineStep
-project steps = project_from empty steps
+-- where a history begins: with the snapshot that stands first, or else with nothing
+abbrev pub begun_with : Class → State
+begun_with (begins t) = state_begun t
+begun_with c = empty
+
+abbrev pub start_of : List Step → State
+start_of [] = empty
+start_of (step ∷ steps) = begun_with (class_of step)
+
+-- what a history is for the machine
+abbrev pub project : List Step → Course
+project steps = record { start = (start_of steps).machine; steps = project_from empty steps }

@@ -2,17 +2,17 @@
 -- transfers. Which of them are possible, and what they leave of the lane's halves (X.228 clause 7), is said of lanes in
 -- `mta_transfer_rules`.
 use Rattle.std.specs.Prelude.{◌≡◌, ◌<◌, ℕ, ◌+◌, ◌*◌, Bool, true, List, [], ◌∷◌, length}
-use Rattle.std.specs.Prelude.{Option, Some, None}
-use Rattle.mta_transfer_rules.specs.Lanes.{Seen, On, Elsewhere, SeenStep, LaneOpen, LaneAgree, Bind, Start}
-use Rattle.mta_transfer_rules.specs.Lanes.{Confirm, To_end, Sent, Refused, Denied, Dropped}
-use Rattle.mta_transfer_rules.specs.Lanes.{Abandon, Secure, Complete, Drop}
+use Rattle.std.specs.Prelude.{Option, Some, None, map}
+use Rattle.mta_transfer_rules.specs.Lanes.{Seen, On, Elsewhere, Begins, SeenStep, LaneOpen, LaneAgree, Bind, Start}
+use Rattle.mta_transfer_rules.specs.Lanes.{Confirm, To_end, Sent, Refused, Denied, Dropped, Abandon, Secure, Complete}
+use Rattle.mta_transfer_rules.specs.Lanes.{Drop}
 use Rattle.mta_transfer_rules.specs.Lanes.{CloseLane, Halves, Open, unopened, lane_in, LanesAllow}
 use Rattle.mta_records.specs.declared.lane.LaneRole.TheVariants.{Responder}
 use Rattle.mta_records.specs.declared.step.Step.{Step}
 use Rattle.mta_machine.specs.Apdu.{IsApdu}
 use Rattle.mta_histories.specs.Classes.{Outcome, was_sent, was_refused, was_denied, was_dropped, LaneStep, agree, bind}
 use Rattle.mta_histories.specs.Classes.{start, confirm, to_end, settle, abandon, secure, complete, drop_pieces, close}
-use Rattle.mta_histories.specs.Classes.{Class, records, accepts, settles, opens, on_lane, class_of}
+use Rattle.mta_histories.specs.Classes.{Class, begins, sets_format, records, accepts, settles, opens, on_lane, class_of}
 use Rattle.mta_histories.specs.Lanes.{Transfer, Lane, State, empty, EachLane}
 use Rattle.mta_histories.specs.History.{is_role, transfer_of, when, after_step, after, IsHistory}
 
@@ -47,22 +47,6 @@ seen_by s g (complete k n piece) moment = Complete g k n piece
 seen_by s g (drop_pieces k) moment = Drop g k
 seen_by s g close moment = CloseLane g
 
-abbrev pub seen_of : State → Class → ℕ → Seen
-seen_of s (records text) moment = Elsewhere
-seen_of s (accepts octets) moment = Elsewhere
-seen_of s (settles how i r) moment = Elsewhere
-seen_of s (opens role peer reference twa checkpoint window) moment =
-    On (s.lanes.count + 1) (LaneOpen (is_role Responder role) (checkpoint_unit * checkpoint) window)
-seen_of s (on_lane n generation step) moment = On n (seen_by s (told generation) step moment)
-
--- the steps of a history, each as its lane sees it in the state before it
-abbrev pub annotated_from : State → List Step → List Seen
-annotated_from s [] = []
-annotated_from s (step ∷ steps) = seen_of s (class_of step) (when s step) ∷ annotated_from (after_step s step) steps
-
-abbrev pub annotated : List Step → List Seen
-annotated steps = annotated_from empty steps
-
 -- ---- lanes
 
 abbrev pub transferred : Option Transfer → List ℕ
@@ -83,6 +67,30 @@ halves_of lane = record {
   last = lane.last;
   pieces = lane.pieces;
 }
+
+-- an open lane with its number
+abbrev pub numbered_halves : Lane → ℕ × Halves
+numbered_halves lane = (lane.number, halves_of lane)
+
+-- ---- histories
+
+abbrev pub seen_of : State → Class → ℕ → Seen
+seen_of s (begins t) moment = Begins t.lane_count (map numbered_halves t.lanes)
+seen_of s sets_format moment = Elsewhere
+seen_of s (records text) moment = Elsewhere
+seen_of s (accepts octets) moment = Elsewhere
+seen_of s (settles how i r) moment = Elsewhere
+seen_of s (opens role peer reference twa checkpoint window) moment =
+    On (s.lanes.count + 1) (LaneOpen (is_role Responder role) (checkpoint_unit * checkpoint) window)
+seen_of s (on_lane n generation step) moment = On n (seen_by s (told generation) step moment)
+
+-- the steps of a history, each as its lane sees it in the state before it
+abbrev pub annotated_from : State → List Step → List Seen
+annotated_from s [] = []
+annotated_from s (step ∷ steps) = seen_of s (class_of step) (when s step) ∷ annotated_from (after_step s step) steps
+
+abbrev pub annotated : List Step → List Seen
+annotated steps = annotated_from empty steps
 
 -- ---- the law
 

@@ -5,6 +5,9 @@ ghost use Rattle.mta_histories.specs.Laws.{NumbersNeverFall, LanesAskEnough, Las
 ghost use Rattle.mta_histories.specs.Laws.{SettlingStepsAreDue, BatchesMayStart, HistoriesGrow};
 ghost use Rattle.mta_histories.specs.Numbers.{NumbersSuffice};
 ghost use Rattle.mta_histories.specs.Seen.{LanesSeeHistories};
+ghost use Rattle.mta_histories.specs.Compact.{NamedItemsKeepTheirOctets, SnapshotsShowTheSame};
+ghost use Rattle.mta_histories.specs.Items.{ItemsStaySound, SoundStays};
+ghost use Rattle.mta_histories.specs.Compaction.{CompactionKeeps, CompactionIsSound, CompactionIsPossible};
 
 /// What the steps of a history are for the machine of recipients is a run of it.
 pub fn histories_are_runs()
@@ -72,4 +75,29 @@ pub fn lanes_see_histories()
 /// No step makes more items than it needs numbers.
 pub fn numbers_suffice()
     ensures { NumbersSuffice }
+{}
+
+/// In the snapshot of a state an item is the same but for the content of a message, and one that a delivery names keeps
+/// its octets.
+pub fn snapshots_show_the_same()
+    ensures shown { SnapshotsShowTheSame }
+    ensures named { NamedItemsKeepTheirOctets }
+{}
+
+/// Items that may be recorded in a snapshot stay so, and so does the state, where what is made is written so that it is
+/// read again.
+pub fn sound_stays()
+    ensures items { ItemsStaySound }
+    ensures states { SoundStays }
+{}
+
+/// What every step keeps holds of the state that the snapshot of a state is, and that one is sound.
+pub fn compaction_keeps()
+    ensures kept { CompactionKeeps }
+    ensures sound { CompactionIsSound }
+{}
+
+/// A history may begin with the snapshot of a state that is kept and sound.
+pub fn compaction_is_possible()
+    ensures { CompactionIsPossible }
 {}

@@ -5,7 +5,8 @@
 mod law;
 
 pub use law::{
-    batches_may_start, due_steps_are_possible, each_recipient_once, histories_are_runs,
-    histories_grow, histories_keep, lanes_ask_enough, lanes_see_histories, last_is_highest_started,
-    numbers_never_fall, numbers_suffice, settling_steps_are_due, steps_keep,
+    batches_may_start, compaction_is_possible, compaction_keeps, due_steps_are_possible,
+    each_recipient_once, histories_are_runs, histories_grow, histories_keep, lanes_ask_enough,
+    lanes_see_histories, last_is_highest_started, numbers_never_fall, numbers_suffice,
+    settling_steps_are_due, snapshots_show_the_same, sound_stays, steps_keep,
 };

@@ -3,13 +3,14 @@ use Rattle.std.proofs.Common.{◌≡◌, ℕ, Bool, true, false, cond, eqb, List
 use Rattle.std.proofs.Common.{refl, sym, ap, subst, ◌∙◌, inl, inr}
 use Rattle.std.proofs.lemmas.Bool.{cases_Bool, eqb-true}
 use Rattle.std.proofs.lemmas.Option.{same_Some}
-use Rattle.mta_machine.specs.declared.item.Status.{Status}
+use Rattle.mta_records.specs.declared.state.Status.{Status}
 use Rattle.mta_machine.specs.Apdu.{value_of, is_report}
 use Rattle.mta_machine.specs.Items.{ItemValue, Machine, numbered, set_numbered, names, has_status, is_pending}
 use Rattle.mta_machine.specs.Rules.{Failure, is_expired, verdict_of}
 use Rattle.mta_machine.specs.Machine.{Discharge, delivered, expanded, affirmed, not_delivered, failed, discarded}
 use Rattle.mta_machine.specs.Machine.{passed}
-use Rattle.mta_machine.specs.Machine.{sent, MachineStep, set_tables, accept, discharge, machine_after, machine_run}
+use Rattle.mta_machine.specs.Machine.{sent, MachineStep, set_tables, set_format, accept, discharge, machine_after}
+use Rattle.mta_machine.specs.Machine.{machine_run}
 use Rattle.mta_machine.specs.Machine.{items_after, discharged_item, status_after, with_statuses}
 use Rattle.mta_machine.proofs.Numbered.{set-same, set-other, numbered-front}
 use Rattle.mta_machine.proofs.Steps.{with-other, with-none, with-named}
@@ -29,7 +30,7 @@ not_pending true (failed failure) moment = refl
 not_pending false (failed failure) moment = refl
 not_pending b discarded moment = refl
 not_pending b passed moment = refl
-not_pending b (sent peer tables decided) moment = refl
+not_pending b (sent peer tables decided format) moment = refl
 
 was_pending : (ss : List (Option Status)) (rs : List ℕ) (s : Status) (r : ℕ) → is_pending s ≡ false
     → has_status is_pending (numbered (with_statuses ss rs s) r) ≡ true
@@ -74,25 +75,25 @@ later_trans a b c one two = record {
 -- ---- what is idle stays so
 
 -- the verdict on a recipient of an item is the one later
-pub verdict_later : (text : List ℕ) (old new : ItemValue) (r moment : ℕ) → IsLater old new
-    → verdict_of text new.octets new.arrival r moment ≡ verdict_of text old.octets old.arrival r moment
-verdict_later text old new r moment later =
-    ap (λ (o : List ℕ). verdict_of text o new.arrival r moment) later.octets
-    ∙ ap (λ (a : ℕ). verdict_of text old.octets a r moment) later.arrival
+pub verdict_later : (format : ℕ) (text : List ℕ) (old new : ItemValue) (r moment : ℕ) → IsLater old new
+    → verdict_of format text new.octets new.arrival r moment ≡ verdict_of format text old.octets old.arrival r moment
+verdict_later format text old new r moment later =
+    ap (λ (o : List ℕ). verdict_of format text o new.arrival r moment) later.octets
+    ∙ ap (λ (a : ℕ). verdict_of format text old.octets a r moment) later.arrival
 
-expired_later : (text : List ℕ) (old new : ItemValue) (moment : ℕ) → IsLater old new
-    → is_expired text new.octets new.arrival moment ≡ is_expired text old.octets old.arrival moment
-expired_later text old new moment later =
-    ap (λ (o : List ℕ). is_expired text o new.arrival moment) later.octets
-    ∙ ap (λ (a : ℕ). is_expired text old.octets a moment) later.arrival
+expired_later : (format : ℕ) (text : List ℕ) (old new : ItemValue) (moment : ℕ) → IsLater old new
+    → is_expired format text new.octets new.arrival moment ≡ is_expired format text old.octets old.arrival moment
+expired_later format text old new moment later =
+    ap (λ (o : List ℕ). is_expired format text o new.arrival moment) later.octets
+    ∙ ap (λ (a : ℕ). is_expired format text old.octets a moment) later.arrival
 
-pub idle_later : (text : List ℕ) (old new : ItemValue) (moment : ℕ) → IsLater old new → IsIdle text old moment
-    → IsIdle text new moment
-idle_later text old new moment later idle r pending =
+pub idle_later : (format : ℕ) (text : List ℕ) (old new : ItemValue) (moment : ℕ) → IsLater old new
+    → IsIdle format text old moment → IsIdle format text new moment
+idle_later format text old new moment later idle r pending =
     let before = idle r (later.pending r pending) in
     record {
-      waits = ap calls_at_once (verdict_later text old new r moment later) ∙ before.waits;
-      unexpired = expired_later text old new moment later ∙ before.unexpired;
+      waits = ap calls_at_once (verdict_later format text old new r moment later) ∙ before.waits;
+      unexpired = expired_later format text old new moment later ∙ before.unexpired;
     }
 
 -- ---- items
@@ -129,6 +130,7 @@ put_back items was new j i item there later on = elim (cases_Bool (eqb i j)) [
 goes_on_one : (m : Machine) (step : MachineStep) (i : ℕ) (item : ItemValue) → GoesOn m.items i item
     → GoesOn (machine_after m step).items i item
 goes_on_one m (set_tables other) i item on = on
+goes_on_one m set_format i item on = on
 goes_on_one m (accept octets origin when) i item on = in_front m.items _ i item on
 goes_on_one m (discharge j rs how when) i item on = by_item (numbered m.items j) refl
   where

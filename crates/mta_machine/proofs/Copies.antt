@@ -36,60 +36,62 @@ mapped-is f (Some x) v e = (x, some-same (f x) v e)
 abbrev Fits : List ℕ → Type 0
 Fits octets = (1 ≤ length octets) × (length octets ≤ 2097152)
 
-under-fits : (t : TablesValue) (v : ApduValue) (arrival r place d : ℕ) (rs : List ℕ) (moment : ℕ)
-    → verdict_under t v arrival r d ≡ Some (Verdicts.Relay place) → Fits (copy_under t v arrival rs moment)
-under-fits t (message v) arrival r place d rs moment e =
-    let x = mapped-is (verdict_on_message (situation t arrival d) v) (numbered v.envelope.recipients r)
+under-fits : (format : ℕ) (t : TablesValue) (v : ApduValue) (arrival r place d : ℕ) (rs : List ℕ) (moment : ℕ)
+    → verdict_under format t v arrival r d ≡ Some (Verdicts.Relay place) → Fits (copy_under t v arrival rs moment)
+under-fits format t (message v) arrival r place d rs moment e =
+    let x = mapped-is (verdict_on_message format (situation t arrival d) v) (numbered v.envelope.recipients r)
     (Verdicts.Relay place) e in
-    let relayed = relayed_messages (situation t arrival d) (situation t arrival moment) v x.0
+    let relayed = relayed_messages format (situation t arrival d) (situation t arrival moment) v x.0
     (length_for_members (situation t arrival d) v x.0) place rs refl refl x.1 in
     (relayed.some, relayed.few)
-under-fits t (probe v) arrival r place d rs moment e =
-    let x = mapped-is (verdict_of_probe (situation t arrival d) v) (numbered v.recipients r) (Verdicts.Relay place) e in
-    let relayed = relayed_probes (situation t arrival d) (situation t arrival moment) v x.0 place rs refl refl x.1 in
+under-fits format t (probe v) arrival r place d rs moment e =
+    let x = mapped-is (verdict_of_probe format (situation t arrival d) v) (numbered v.recipients r)
+    (Verdicts.Relay place) e in
+    let relayed = relayed_probes format (situation t arrival d) (situation t arrival moment) v x.0 place rs refl refl
+    x.1 in
     (relayed.some, relayed.few)
-under-fits t (report v) arrival r place d rs moment e =
+under-fits format t (report v) arrival r place d rs moment e =
     let x = mapped-is (λ (n : Attributes). verdict_of_report (situation t arrival d) v true)
     (numbered (v.destination ∷ []) r) (Verdicts.Relay place) e in
     let relayed = relayed_reports (situation t arrival d) (situation t arrival moment) v true place refl refl x.1 in
     (relayed.some, relayed.few)
 
-copies-fit : (a : Option TablesValue) (b : Option ApduValue) (arrival r place d : ℕ) (rs : List ℕ) (moment : ℕ)
-    (copy : List ℕ)
-    → read_both a b (λ t v. verdict_under t v arrival r d) ≡ Some (Verdicts.Relay place)
+copies-fit : (format : ℕ) (a : Option TablesValue) (b : Option ApduValue) (arrival r place d : ℕ) (rs : List ℕ)
+    (moment : ℕ) (copy : List ℕ)
+    → read_both a b (λ t v. verdict_under format t v arrival r d) ≡ Some (Verdicts.Relay place)
     → read_both a b (λ t v. Some (copy_under t v arrival rs moment)) ≡ Some copy → Fits copy
-copies-fit None b arrival r place d rs moment copy relayed e = absurd cc
-copies-fit (Some t) None arrival r place d rs moment copy relayed e = absurd cc
-copies-fit (Some t) (Some v) arrival r place d rs moment copy relayed e =
+copies-fit format None b arrival r place d rs moment copy relayed e = absurd cc
+copies-fit format (Some t) None arrival r place d rs moment copy relayed e = absurd cc
+copies-fit format (Some t) (Some v) arrival r place d rs moment copy relayed e =
     let same : copy_under t v arrival rs moment ≡ copy = some-same (copy_under t v arrival rs moment) copy e in
-    subst Fits same (under-fits t v arrival r place d rs moment relayed)
+    subst Fits same (under-fits format t v arrival r place d rs moment relayed)
   where
     some-same : {C : Type 0} (a b : C) → Some a ≡ Some b → a ≡ b
     some-same a b e = cc
 
 -- the copy for a peer to whom the verdict relays has an octet, and not too many
-pub copies_fit : (text octets : List ℕ) (arrival r place d : ℕ) (rs : List ℕ) (moment : ℕ) (copy : List ℕ)
-    → verdict_of text octets arrival r d ≡ Some (Verdicts.Relay place)
+pub copies_fit : (format : ℕ) (text octets : List ℕ) (arrival r place d : ℕ) (rs : List ℕ) (moment : ℕ) (copy : List ℕ)
+    → verdict_of format text octets arrival r d ≡ Some (Verdicts.Relay place)
     → outgoing_copy text octets arrival rs moment ≡ Some copy → (1 ≤ length copy)
     × (length copy ≤ 2097152)
 unfolding outgoing_copy verdict_of
-copies_fit text octets arrival r place d rs moment copy relayed e =
-    copies-fit (tables_value text) (value_of octets) arrival r place d rs moment copy relayed e
+copies_fit format text octets arrival r place d rs moment copy relayed e =
+    copies-fit format (tables_value text) (value_of octets) arrival r place d rs moment copy relayed e
 
-copies-are : (a : Option TablesValue) (b : Option ApduValue) (arrival r d : ℕ) (v : Verdict) (rs : List ℕ)
-    (moment : ℕ) → read_both a b (λ t x. verdict_under t x arrival r d) ≡ Some v
+copies-are : (format : ℕ) (a : Option TablesValue) (b : Option ApduValue) (arrival r d : ℕ) (v : Verdict) (rs : List ℕ)
+    (moment : ℕ) → read_both a b (λ t x. verdict_under format t x arrival r d) ≡ Some v
     → (copy : List ℕ) × (read_both a b (λ t x. Some (copy_under t x arrival rs moment)) ≡ Some copy)
-copies-are None b arrival r d v rs moment e = absurd cc
-copies-are (Some t) None arrival r d v rs moment e = absurd cc
-copies-are (Some t) (Some x) arrival r d v rs moment e = (copy_under t x arrival rs moment, refl)
+copies-are format None b arrival r d v rs moment e = absurd cc
+copies-are format (Some t) None arrival r d v rs moment e = absurd cc
+copies-are format (Some t) (Some x) arrival r d v rs moment e = (copy_under t x arrival rs moment, refl)
 
 -- where there is a verdict there is a copy
-pub copies_are_made : (text octets : List ℕ) (arrival r d : ℕ) (v : Verdict) (rs : List ℕ) (moment : ℕ)
-    → verdict_of text octets arrival r d ≡ Some v
+pub copies_are_made : (format : ℕ) (text octets : List ℕ) (arrival r d : ℕ) (v : Verdict) (rs : List ℕ) (moment : ℕ)
+    → verdict_of format text octets arrival r d ≡ Some v
     → (copy : List ℕ) × (outgoing_copy text octets arrival rs moment ≡ Some copy)
 unfolding outgoing_copy verdict_of
-copies_are_made text octets arrival r d v rs moment e =
-    copies-are (tables_value text) (value_of octets) arrival r d v rs moment e
+copies_are_made format text octets arrival r d v rs moment e =
+    copies-are format (tables_value text) (value_of octets) arrival r d v rs moment e
 
 -- ---- expansions
 

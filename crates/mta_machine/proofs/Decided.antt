@@ -8,7 +8,8 @@ use Rattle.mta_procedures.specs.declared.verdict.Verdict.TheVariants as Verdicts
 use Rattle.mta_machine.specs.Items.{ItemValue, Machine, numbered, set_numbered, names, AreDifferent, has_status}
 use Rattle.mta_machine.specs.Items.{is_pending}
 use Rattle.mta_machine.specs.Rules.{Failure, verdict_of}
-use Rattle.mta_machine.specs.Machine.{failed, MachineStep, set_tables, accept, discharge, machine_after, machine_run}
+use Rattle.mta_machine.specs.Machine.{failed, MachineStep, set_tables, set_format, accept, discharge, machine_after}
+use Rattle.mta_machine.specs.Machine.{machine_run, Needs}
 use Rattle.mta_machine.specs.Machine.{IsRun, ArePending, relay_at, relay_on, relay_by, items_after, discharged_item}
 use Rattle.mta_machine.proofs.Numbered.{set-same, set-other, numbered-front}
 use Rattle.mta_machine.proofs.Steps.{stays}
@@ -41,9 +42,10 @@ replaced-stays items j i old new item there same e = elim (cases_Bool (eqb i j))
     some-same : (a b : ItemValue) → Some a ≡ Some b → a ≡ b
     some-same a b f = cc
 
-item-stays : (m : Machine) (step : MachineStep) (i : ℕ) (item : ItemValue) → numbered m.items i ≡ Some item
+pub item-stays : (m : Machine) (step : MachineStep) (i : ℕ) (item : ItemValue) → numbered m.items i ≡ Some item
     → Stays (machine_after m step).items i item
 item-stays m (set_tables text) i item e = (item, e, record { octets = refl; arrival = refl })
+item-stays m set_format i item e = (item, e, record { octets = refl; arrival = refl })
 item-stays m (accept octets origin moment) i item e =
     (item, numbered-front m.items _ i item e, record { octets = refl; arrival = refl })
 item-stays m (discharge j rs how moment) i item e = by_item (numbered m.items j) refl
@@ -57,19 +59,20 @@ item-stays m (discharge j rs how moment) i item e = by_item (numbered m.items j)
         }) e in
         (r.0, numbered-front (set_numbered m.items j (discharged_item old rs how moment)) _ i r.0 r.1, r.2)
 
-tables-stay : (m : Machine) (step : MachineStep) (t : ℕ) (text : List ℕ) → numbered m.tables t ≡ Some text
+pub tables-stay : (m : Machine) (step : MachineStep) (t : ℕ) (text : List ℕ) → numbered m.tables t ≡ Some text
     → numbered (machine_after m step).tables t ≡ Some text
 tables-stay m (set_tables new) t text e = numbered-front m.tables _ t text e
+tables-stay m set_format t text e = e
 tables-stay m (accept octets origin moment) t text e = e
 tables-stay m (discharge j rs how moment) t text e = e
 
-pub relayed-on : (a : Option (List ℕ)) (b : Option ItemValue) (r d : ℕ) (peer : List ℕ)
-    → relay_on a b r d ≡ Some peer
+pub relayed-on : (format : ℕ) (a : Option (List ℕ)) (b : Option ItemValue) (r d : ℕ) (peer : List ℕ)
+    → relay_on format a b r d ≡ Some peer
     → (text : List ℕ) × (item : ItemValue) × (a ≡ Some text) × (b ≡ Some item)
-    × (relay_by text (verdict_of text item.octets item.arrival r d) ≡ Some peer)
-relayed-on None b r d peer e = absurd cc
-relayed-on (Some text) None r d peer e = absurd cc
-relayed-on (Some text) (Some item) r d peer e = (text, item, refl, refl, e)
+    × (relay_by text (verdict_of format text item.octets item.arrival r d) ≡ Some peer)
+relayed-on format None b r d peer e = absurd cc
+relayed-on format (Some text) None r d peer e = absurd cc
+relayed-on format (Some text) (Some item) r d peer e = (text, item, refl, refl, e)
 
 -- who relays has the verdict to relay
 pub relay-verdict : (text : List ℕ) (v : Option Verdict) (peer : List ℕ) → relay_by text v ≡ Some peer
@@ -84,27 +87,28 @@ relay-verdict text (Some (Verdicts.Hold until)) peer e = absurd cc
 relay-verdict text (Some Verdicts.Back) peer e = absurd cc
 relay-verdict text (Some Verdicts.Discard) peer e = absurd cc
 
-relay-same : (text : List ℕ) (old now : ItemValue) (r d : ℕ) → IsSameApdu old now
-    → relay_on (Some text) (Some now) r d ≡ relay_on (Some text) (Some old) r d
-relay-same text old now r d same =
-    ap (λ (o : List ℕ). relay_by text (verdict_of text o now.arrival r d)) same.octets ∙ ap
-    (λ (a : ℕ). relay_by text (verdict_of text old.octets a r d)) same.arrival
+relay-same : (format : ℕ) (text : List ℕ) (old now : ItemValue) (r d : ℕ) → IsSameApdu old now
+    → relay_on format (Some text) (Some now) r d ≡ relay_on format (Some text) (Some old) r d
+relay-same format text old now r d same =
+    ap (λ (o : List ℕ). relay_by text (verdict_of format text o now.arrival r d)) same.octets ∙ ap
+    (λ (a : ℕ). relay_by text (verdict_of format text old.octets a r d)) same.arrival
 
-relay-stays-one : (m : Machine) (step : MachineStep) (t i r d : ℕ) (peer : List ℕ)
-    → relay_at m t i r d ≡ Some peer → relay_at (machine_after m step) t i r d ≡ Some peer
-relay-stays-one m step t i r d peer e =
-    let f = relayed-on (numbered m.tables t) (numbered m.items i) r d peer e in
+relay-stays-one : (m : Machine) (step : MachineStep) (format t i r d : ℕ) (peer : List ℕ)
+    → relay_at m format t i r d ≡ Some peer → relay_at (machine_after m step) format t i r d ≡ Some peer
+relay-stays-one m step format t i r d peer e =
+    let f = relayed-on format (numbered m.tables t) (numbered m.items i) r d peer e in
     let s = item-stays m step i f.1 f.3 in
-    ap (λ (a : Option (List ℕ)). relay_on a (numbered (machine_after m step).items i) r d)
+    ap (λ (a : Option (List ℕ)). relay_on format a (numbered (machine_after m step).items i) r d)
     (tables-stay m step t f.0 f.2)
-    ∙ (ap (λ (b : Option ItemValue). relay_on (Some f.0) b r d) s.1 ∙ (relay-same f.0 f.1 s.0 r d s.2 ∙ f.4))
+    ∙ (ap (λ (b : Option ItemValue). relay_on format (Some f.0) b r d) s.1
+    ∙ (relay-same format f.0 f.1 s.0 r d s.2 ∙ f.4))
 
 -- a verdict that relays stays one
-pub relay-stays : (m : Machine) (steps : List MachineStep) (t i r d : ℕ) (peer : List ℕ)
-    → relay_at m t i r d ≡ Some peer → relay_at (machine_run m steps) t i r d ≡ Some peer
-relay-stays m [] t i r d peer e = e
-relay-stays m (step ∷ steps) t i r d peer e =
-    relay-stays (machine_after m step) steps t i r d peer (relay-stays-one m step t i r d peer e)
+pub relay-stays : (m : Machine) (steps : List MachineStep) (format t i r d : ℕ) (peer : List ℕ)
+    → relay_at m format t i r d ≡ Some peer → relay_at (machine_run m steps) format t i r d ≡ Some peer
+relay-stays m [] format t i r d peer e = e
+relay-stays m (step ∷ steps) format t i r d peer e =
+    relay-stays (machine_after m step) steps format t i r d peer (relay-stays-one m step format t i r d peer e)
 
 -- tables that were recorded stay
 pub recorded-stays : (m : Machine) (steps : List MachineStep) → m.tables ≢ []
@@ -116,6 +120,7 @@ recorded-stays m (set_tables text ∷ steps) some =
     behind : (ts : List (List ℕ)) → ts ++ text ∷ [] ≢ []
     behind [] e = absurd cc
     behind (t ∷ ts) e = absurd cc
+recorded-stays m (set_format ∷ steps) some = recorded-stays (machine_after m set_format) steps some
 recorded-stays m (accept octets origin moment ∷ steps) some =
     recorded-stays (machine_after m (accept octets origin moment)) steps some
 recorded-stays m (discharge i rs how moment ∷ steps) some =
@@ -163,3 +168,17 @@ fail-run m failure moment i (q ∷ rs) pending different timely = (
                 subst (λ (n : ℕ). names rs n ≡ true) e named in let clash : false ≡ true =
                 sym different.0 ∙ both in absurd cc
         differs (inr isnt) = isnt
+
+-- ---- formats
+
+format-grows-one : (m : Machine) (step : MachineStep) → Needs m step → m.format ≤ (machine_after m step).format
+format-grows-one m (set_tables text) needs = omega arith
+format-grows-one m set_format needs = omega (arith, needs)
+format-grows-one m (accept octets origin moment) needs = omega arith
+format-grows-one m (discharge i rs how moment) needs = omega arith
+
+-- the format never falls
+pub format-grows : (m : Machine) (steps : List MachineStep) → IsRun m steps → m.format ≤ (machine_run m steps).format
+format-grows m [] run = omega arith
+format-grows m (step ∷ steps) run =
+    omega (arith, format-grows-one m step run.0, format-grows (machine_after m step) steps run.1)

@@ -5,13 +5,14 @@ use Rattle.std.proofs.Common.{inl, inr, length-append}
 use Rattle.std.specs.Prelude.{◌&&◌, ◌||◌}
 use Rattle.std.proofs.Math.ListN.{length-set}
 use Rattle.std.proofs.lemmas.Bool.{cases_Bool}
-use Rattle.mta_machine.specs.declared.item.Status.{Status}
-use Rattle.mta_machine.specs.declared.item.Status.TheVariants.{Pending, Delivered, Expanded, Sent, Reported, Affirmed}
-use Rattle.mta_machine.specs.declared.item.Status.TheVariants.{Discarded, Passed}
+use Rattle.mta_records.specs.declared.state.Status.{Status}
+use Rattle.mta_records.specs.declared.state.Status.TheVariants.{Pending, Delivered, Expanded, Sent, Reported, Affirmed}
+use Rattle.mta_records.specs.declared.state.Status.TheVariants.{Discarded, Passed}
 use Rattle.mta_machine.specs.Items.{ItemValue, Machine, numbered, set_numbered, names, status_at, is_pending}
 use Rattle.mta_machine.specs.Items.{is_pending_at, is_reported, is_reported_at, has_status}
 use Rattle.mta_machine.specs.Rules.{Failure}
-use Rattle.mta_machine.specs.Machine.{failed, MachineStep, set_tables, accept, discharge, machine_after, machine_run}
+use Rattle.mta_machine.specs.Machine.{failed, MachineStep, set_tables, set_format, accept, discharge, machine_after}
+use Rattle.mta_machine.specs.Machine.{machine_run}
 use Rattle.mta_machine.specs.Machine.{IsRun, discharges, discharges_one, status_after, items_after, discharged_item}
 use Rattle.mta_machine.proofs.Steps.{settled_count, stays, becomes}
 use Rattle.mta_machine.proofs.Once.{run-counts, discharges-cons, pending-is}
@@ -159,6 +160,7 @@ further xs ys more e = omega (arith, length-append ys more)
 
 items-grow-one : (m : Machine) (step : MachineStep) → length m.items ≤ length (machine_after m step).items
 items-grow-one m (set_tables text) = omega arith
+items-grow-one m set_format = omega arith
 items-grow-one m (accept octets origin moment) = grow m.items _
 items-grow-one m (discharge i rs how moment) = by_item (numbered m.items i)
   where
@@ -178,6 +180,7 @@ items-grow m (step ∷ steps) = omega (arith, items-grow-one m step, items-grow 
 abbrev pub AreAt : ℕ → List MachineStep → Type 0
 AreAt moment [] = Unit {0}
 AreAt moment (set_tables text ∷ steps) = AreAt moment steps
+AreAt moment (set_format ∷ steps) = AreAt moment steps
 AreAt moment (accept octets origin t ∷ steps) = (t ≡ moment) × AreAt moment steps
 AreAt moment (discharge i rs how t ∷ steps) = (t ≡ moment) × AreAt moment steps
 
@@ -186,6 +189,7 @@ pub moment-within : (m : Machine) (steps : List MachineStep) (moment : ℕ) → 
 moment-within m [] moment at le = le
 moment-within m (set_tables text ∷ steps) moment at le =
     moment-within (machine_after m (set_tables text)) steps moment at le
+moment-within m (set_format ∷ steps) moment at le = moment-within (machine_after m set_format) steps moment at le
 moment-within m (accept octets origin t ∷ steps) moment at le =
     moment-within (machine_after m (accept octets origin t)) steps moment at.1 (omega (arith, at.0))
 moment-within m (discharge i rs how t ∷ steps) moment at le =

@@ -4,7 +4,7 @@ use Rattle.std.proofs.Common.{refl, sym, subst, ap, ◌∙◌, arith, inl, inr, 
 use Rattle.std.specs.Prelude.{◌⊎◌, slice_get}
 use Rattle.std.proofs.lemmas.Bool.{cases_eq, ne_eqb}
 use Rattle.std.proofs.lemmas.List.{length-set}
-use Rattle.mta_machine.specs.declared.item.Status.{Status}
+use Rattle.mta_records.specs.declared.state.Status.{Status}
 use Rattle.mta_machine.specs.Items.{AreSettled, has_status, is_pending, numbered, set_numbered}
 use Rattle.mta_machine.proofs.Numbered.{set-same, set-other, set-none}
 

@@ -1,8 +1,9 @@
 -- What the octets of an item spell (X.411, MTS-APDU), and for which recipients this agent is responsible.
-use Rattle.std.specs.Prelude.{Bool, true, false, List, [], ◌∷◌, map, ℕ, Option, Some, None, Result, Ok, Err}
+use Rattle.std.specs.Prelude.{◌≡◌, Bool, true, false, List, [], ◌∷◌, map, ℕ, Option, Some, None, Result, Ok, Err}
 use Rattle.mta_ber.specs.Bits.{bit}
 use Rattle.mta_envelope_recipient.specs.declared.recipient.RecipientFields.{RecipientFields}
 use Rattle.mta_apdu.specs.Apdus.{ApduValue, message, probe, report, stored_of, SpellsApdu}
+use Rattle.mta_apdu.specs.Laws.{IsWholeApdu, KeepsApdu}
 
 -- the value where one is read
 abbrev pub value_read : {A E : Type 0} → Result A E → Option A
@@ -17,6 +18,13 @@ value_of octets = value_read (stored_of octets)
 -- the octets spell an APDU that may be submitted or received
 abbrev pub IsApdu : List ℕ → Type 0
 IsApdu octets = (v : ApduValue) × SpellsApdu octets v
+
+-- Octets that are kept spell this APDU: it is what they are read as, all its parts are in their ranges, and what it
+-- keeps unread stands in the level of its place.
+pub record IsStoredAs (octets : List ℕ) (v : ApduValue) : Type 0 where
+  pub read : value_of octets ≡ Some v
+  pub whole : IsWholeApdu v
+  pub kept : KeepsApdu v
 
 -- bit 0 of the indicators is the responsibility
 abbrev pub is_responsible : RecipientFields → Bool

@@ -4,11 +4,11 @@ use Rattle.std.specs.Prelude.{Option, Some, None, slice_get, slice_set, option_a
 use Rattle.std.specs.List.{list_any}
 use Rattle.mta_apdu.specs.Apdus.{ApduValue}
 use Rattle.mta_machine.specs.Apdu.{responsible_in}
-use Rattle.mta_machine.specs.declared.item.Origin.{Origin}
-use Rattle.mta_machine.specs.declared.item.Status.{Status}
-use Rattle.mta_machine.specs.declared.item.Status.TheVariants.{Pending, Delivered, Expanded, Sent, Reported, Affirmed}
-use Rattle.mta_machine.specs.declared.item.Status.TheVariants.{Discarded, Passed}
-use Rattle.mta_machine.specs.declared.item.MailboxLine.{MailboxLine}
+use Rattle.mta_records.specs.declared.state.Origin.{Origin}
+use Rattle.mta_records.specs.declared.state.Status.{Status}
+use Rattle.mta_records.specs.declared.state.Status.TheVariants.{Pending, Delivered, Expanded, Sent, Reported, Affirmed}
+use Rattle.mta_records.specs.declared.state.Status.TheVariants.{Discarded, Passed}
+use Rattle.mta_records.specs.declared.state.MailboxLine.{MailboxLine}
 
 -- an APDU that was accepted or made, when, from where, and one status for each recipient for whom this agent is
 -- responsible
@@ -18,15 +18,17 @@ pub record ItemValue : Type 0 where
   pub origin : Origin
   pub statuses : List (Option Status)
 
--- the texts of tables that were recorded, the items and the deliveries, each in their order, and the last moment
+-- the format, the texts of tables that were recorded, the items and the deliveries, each in their order, and the last
+-- moment
 pub record Machine : Type 0 where
+  pub format : ℕ
   pub tables : List (List ℕ)
   pub items : List ItemValue
   pub mailboxes : List MailboxLine
   pub moment : ℕ
 
 abbrev pub at_start : Machine
-at_start = record { tables = []; items = []; mailboxes = []; moment = 0 }
+at_start = record { format = 1; tables = []; items = []; mailboxes = []; moment = 0 }
 
 -- what has a number in a list that is counted from 1
 abbrev pub numbered : {A : Type 0} → List A → ℕ → Option A

@@ -4,16 +4,17 @@ use Rattle.std.specs.Prelude.{List, [], ◌∷◌, ◌++◌, length, count_by, m
 use Rattle.std.specs.Prelude.{option_to_list, if◌then◌else◌}
 use Rattle.mta_apdu.specs.Apdus.{ApduValue, canonical_apdu}
 use Rattle.mta_machine.specs.Apdu.{IsApdu, value_of, is_report}
-use Rattle.mta_machine.specs.declared.item.Origin.{Origin}
-use Rattle.mta_machine.specs.declared.item.Origin.TheVariants as Origins
-use Rattle.mta_machine.specs.declared.item.Status.{Status}
-use Rattle.mta_machine.specs.declared.item.Status.TheVariants.{Delivered, Expanded, Sent, Reported, Affirmed, Discarded}
-use Rattle.mta_machine.specs.declared.item.Status.TheVariants.{Passed}
-use Rattle.mta_machine.specs.declared.item.MailboxLine.{MailboxLine}
+use Rattle.mta_records.specs.declared.state.Origin.{Origin}
+use Rattle.mta_records.specs.declared.state.Origin.TheVariants as Origins
+use Rattle.mta_records.specs.declared.state.Status.{Status}
+use Rattle.mta_records.specs.declared.state.Status.TheVariants.{Delivered, Expanded, Sent, Reported, Affirmed}
+use Rattle.mta_records.specs.declared.state.Status.TheVariants.{Discarded}
+use Rattle.mta_records.specs.declared.state.Status.TheVariants.{Passed}
+use Rattle.mta_records.specs.declared.state.MailboxLine.{MailboxLine}
 use Rattle.mta_procedures.specs.declared.verdict.Verdict.{Verdict}
 use Rattle.mta_procedures.specs.declared.verdict.Verdict.TheVariants as Verdicts
 use Rattle.mta_machine.specs.Items.{ItemValue, Machine, numbered, set_numbered, names, AreDifferent, statuses_of}
-use Rattle.mta_machine.specs.Items.{statuses_read, is_pending_at}
+use Rattle.mta_machine.specs.Items.{statuses_read, is_pending, is_pending_at, status_at}
 use Rattle.mta_machine.specs.Rules.{Failure, reason_of, diagnostic_of, peer_word, mailbox_word, verdict_of}
 use Rattle.mta_machine.specs.Rules.{delivery_report, non_delivery_report, expansion, passed_back}
 
@@ -28,11 +29,13 @@ pub data Discharge : Type 0 where
   failed : Failure → Discharge  -- the outcome of an activity
   discarded : Discharge
   passed : Discharge
-  sent : (peer : List ℕ) (tables decided : ℕ) → Discharge  -- decided under these tables, at an earlier moment
+  -- decided under these tables, at an earlier moment, in this format
+  sent : (peer : List ℕ) (tables decided format : ℕ) → Discharge
 
 -- What the machine does. Tables, items and recipients are numbered from 1.
 pub data MachineStep : Type 0 where
   set_tables : (text : List ℕ) → MachineStep
+  set_format : MachineStep
   accept : (octets : List ℕ) (origin : Origin) (moment : ℕ) → MachineStep
   discharge : (item : ℕ) (recipients : List ℕ) (how : Discharge) (moment : ℕ) → MachineStep
 
@@ -50,19 +53,19 @@ settled None Verdicts.Back = Verdicts.Discard
 settled (Some v) Verdicts.Back = Verdicts.Back
 settled back Verdicts.Discard = Verdicts.Discard
 
-abbrev pub verdict_on : List ItemValue → Option (List ℕ) → Option ItemValue → ℕ → ℕ → Option Verdict
-verdict_on items None item r moment = None
-verdict_on items (Some text) None r moment = None
-verdict_on items (Some text) (Some item) r moment =
-    option_map (settled (passed_back text items item)) (verdict_of text item.octets item.arrival r moment)
+abbrev pub verdict_on : (format : ℕ) → List ItemValue → Option (List ℕ) → Option ItemValue → ℕ → ℕ → Option Verdict
+verdict_on format items None item r moment = None
+verdict_on format items (Some text) None r moment = None
+verdict_on format items (Some text) (Some item) r moment =
+    option_map (settled (passed_back text items item)) (verdict_of format text item.octets item.arrival r moment)
 
 -- the number of the tables recorded last
 abbrev pub last_tables : Machine → ℕ
 last_tables m = length m.tables
 
--- the verdict on a recipient of an item at a moment, under the tables recorded last
+-- the verdict on a recipient of an item at a moment, under the tables recorded last and in the machine's format
 abbrev pub verdict_at : Machine → ℕ → ℕ → ℕ → Option Verdict
-verdict_at m i r moment = verdict_on m.items (numbered m.tables (last_tables m)) (numbered m.items i) r moment
+verdict_at m i r moment = verdict_on m.format m.items (numbered m.tables (last_tables m)) (numbered m.items i) r moment
 
 abbrev pub relay_by : List ℕ → Option Verdict → Option (List ℕ)
 relay_by text None = None
@@ -75,14 +78,15 @@ relay_by text (Some (Verdicts.Hold moment)) = None
 relay_by text (Some Verdicts.Back) = None
 relay_by text (Some Verdicts.Discard) = None
 
-abbrev pub relay_on : Option (List ℕ) → Option ItemValue → ℕ → ℕ → Option (List ℕ)
-relay_on None item r moment = None
-relay_on (Some text) None r moment = None
-relay_on (Some text) (Some item) r moment = relay_by text (verdict_of text item.octets item.arrival r moment)
+abbrev pub relay_on : (format : ℕ) → Option (List ℕ) → Option ItemValue → ℕ → ℕ → Option (List ℕ)
+relay_on format None item r moment = None
+relay_on format (Some text) None r moment = None
+relay_on format (Some text) (Some item) r moment =
+    relay_by text (verdict_of format text item.octets item.arrival r moment)
 
--- the peer to which the verdict under the tables of this number relays
-abbrev pub relay_at : Machine → (tables i r moment : ℕ) → Option (List ℕ)
-relay_at m tables i r moment = relay_on (numbered m.tables tables) (numbered m.items i) r moment
+-- the peer to which the verdict in a format under the tables of this number relays
+abbrev pub relay_at : Machine → (format tables i r moment : ℕ) → Option (List ℕ)
+relay_at m format tables i r moment = relay_on format (numbered m.tables tables) (numbered m.items i) r moment
 
 -- ---- what a step needs
 
@@ -103,12 +107,13 @@ IsJustified m i rs (not_delivered reason diagnostic) moment =
 IsJustified m i rs (failed failure) moment = (r : ℕ) × (rs ≡ r ∷ [])
 IsJustified m i rs discarded moment = HasVerdict m i rs moment Verdicts.Discard
 IsJustified m i rs passed moment = HasVerdict m i rs moment Verdicts.Back
-IsJustified m i rs (sent peer tables decided) moment =
-    (rs ≢ []) × (decided ≤ moment)
-    × ((r : ℕ) → names rs r ≡ true → relay_at m tables i r decided ≡ Some peer)
+IsJustified m i rs (sent peer tables decided format) moment =
+    (rs ≢ []) × (decided ≤ moment) × (format ≤ m.format)
+    × ((r : ℕ) → names rs r ≡ true → relay_at m format tables i r decided ≡ Some peer)
 
 abbrev pub Needs : Machine → MachineStep → Type 0
 Needs m (set_tables text) = Unit {0}
+Needs m set_format = m.format ≡ 1
 Needs m (accept octets origin moment) = IsApdu octets × (m.tables ≢ []) × (m.moment ≤ moment)
 Needs m (discharge i rs how moment) =
     ArePending m i rs × AreDifferent rs × IsJustified m i rs how moment × (m.moment ≤ moment)
@@ -126,7 +131,7 @@ status_after of_report (failed failure) moment =
     if of_report then Discarded moment else Reported moment (reason_of failure) (diagnostic_of failure)
 status_after of_report discarded moment = Discarded moment
 status_after of_report passed moment = Passed moment
-status_after of_report (sent peer tables decided) moment = Sent moment peer
+status_after of_report (sent peer tables decided format) moment = Sent moment peer
 
 abbrev pub with_statuses : List (Option Status) → List ℕ → Status → List (Option Status)
 with_statuses statuses [] s = statuses
@@ -155,7 +160,7 @@ made_by m item text r (failed failure) moment =
     (non_delivery_report text (length m.items + 1) item r (reason_of failure) (diagnostic_of failure))
 made_by m item text r discarded moment = []
 made_by m item text r passed moment = option_to_list (passed_back text m.items item)
-made_by m item text r (sent peer tables decided) moment = []
+made_by m item text r (sent peer tables decided format) moment = []
 
 abbrev pub made_for : Machine → ItemValue → Option (List ℕ) → List ℕ → Discharge → ℕ → List ApduValue
 made_for m item None rs how moment = []
@@ -171,7 +176,7 @@ most_made (not_delivered reason diagnostic) = 1
 most_made (failed failure) = 1
 most_made discarded = 0
 most_made passed = 1
-most_made (sent peer tables decided) = 0
+most_made (sent peer tables decided format) = 0
 
 -- an item that was submitted or transferred
 abbrev pub accepted_item : List ℕ → Origin → ℕ → ItemValue
@@ -218,7 +223,7 @@ lines_of m i (r ∷ rs) (not_delivered reason diagnostic) moment = []
 lines_of m i (r ∷ rs) (failed failure) moment = []
 lines_of m i (r ∷ rs) discarded moment = []
 lines_of m i (r ∷ rs) passed moment = []
-lines_of m i (r ∷ rs) (sent peer tables decided) moment = []
+lines_of m i (r ∷ rs) (sent peer tables decided format) moment = []
 
 abbrev pub items_after : Machine → Option ItemValue → ℕ → List ℕ → Discharge → ℕ → List ItemValue
 items_after m None i rs how moment = m.items
@@ -228,6 +233,7 @@ items_after m (Some item) i rs how moment =
 
 abbrev pub machine_after : Machine → MachineStep → Machine
 machine_after m (set_tables text) = record m { tables = m.tables ++ text ∷ [] }
+machine_after m set_format = record m { format = 2 }
 machine_after m (accept octets origin moment) = record m {
   items = m.items ++ accepted_item octets origin moment ∷ [];
   moment = moment;
@@ -252,9 +258,27 @@ IsRun m (step ∷ steps) = Needs m step × IsRun (machine_after m step) steps
 -- the step discharges this recipient
 abbrev pub discharges_one : ℕ → ℕ → MachineStep → Bool
 discharges_one i r (set_tables text) = false
+discharges_one i r set_format = false
 discharges_one i r (accept octets origin moment) = false
 discharges_one i r (discharge j rs how moment) = (i == j) && names rs r
 
--- how often a recipient is discharged
+-- how often steps discharge a recipient
 abbrev pub discharges : List MachineStep → ℕ → ℕ → ℕ
 discharges steps i r = count_by (discharges_one i r) steps
+
+-- ---- courses
+
+-- where the machine begins, and its steps
+pub record Course : Type 0 where
+  pub start : Machine
+  pub steps : List MachineStep
+
+-- 1 for a recipient who was discharged before the machine began
+abbrev pub discharged_before : Option (Option Status) → ℕ
+discharged_before None = 0
+discharged_before (Some None) = 0
+discharged_before (Some (Some s)) = if is_pending s then 0 else 1
+
+-- how often a recipient was discharged
+abbrev pub discharges_in : Course → ℕ → ℕ → ℕ
+discharges_in c i r = discharged_before (status_at c.start i r) + discharges c.steps i r

@@ -23,16 +23,17 @@ use Rattle.mta_procedures.specs.Copies.{outgoing_message, outgoing_probe, outgoi
 use Rattle.mta_procedures.specs.Facts.{list_at}
 use Rattle.mta_procedures.specs.Members.{members_copy}
 use Rattle.mta_procedures.specs.Reports as reports
-use Rattle.mta_procedures.specs.Situations.{Situation, situation, Terms, terms_of, report_terms}
+use Rattle.mta_procedures.specs.declared.terms.Terms.{Terms}
+use Rattle.mta_procedures.specs.Situations.{situation, terms_of, report_terms}
 use Rattle.mta_procedures.specs.Situations as situations
 use Rattle.mta_procedures.specs.Verdicts.{verdict_on_message, verdict_of_probe, verdict_of_report}
 use Rattle.mta_procedures.specs.Walks.{Accepted, passed_to}
 use Rattle.mta_procedures.specs.Walks as walks
-use Rattle.mta_machine.specs.declared.item.Origin.{Origin}
-use Rattle.mta_machine.specs.declared.item.Origin.TheVariants as Origins
-use Rattle.mta_machine.specs.declared.item.Status.{Status}
-use Rattle.mta_machine.specs.declared.item.Status.TheVariants.{Pending, Delivered, Expanded, Sent, Reported, Affirmed}
-use Rattle.mta_machine.specs.declared.item.Status.TheVariants.{Discarded, Passed}
+use Rattle.mta_records.specs.declared.state.Origin.{Origin}
+use Rattle.mta_records.specs.declared.state.Origin.TheVariants as Origins
+use Rattle.mta_records.specs.declared.state.Status.{Status}
+use Rattle.mta_records.specs.declared.state.Status.TheVariants.{Pending, Delivered, Expanded, Sent, Reported, Affirmed}
+use Rattle.mta_records.specs.declared.state.Status.TheVariants.{Discarded, Passed}
 use Rattle.mta_machine.specs.Apdu.{value_read, value_of}
 use Rattle.mta_machine.specs.Items.{ItemValue, numbered}
 
@@ -110,36 +111,38 @@ route_word text octets r = read_both (tables_value text) (value_of octets) (λ t
 
 -- ---- verdicts
 
-abbrev pub verdict_under : TablesValue → ApduValue → (arrival r moment : ℕ) → Option Verdict
-verdict_under t (message v) arrival r moment =
-    option_map (verdict_on_message (situation t arrival moment) v) (numbered v.envelope.recipients r)
-verdict_under t (probe v) arrival r moment =
-    option_map (verdict_of_probe (situation t arrival moment) v) (numbered v.recipients r)
-verdict_under t (report v) arrival r moment =
+abbrev pub verdict_under : (format : ℕ) → TablesValue → ApduValue → (arrival r moment : ℕ) → Option Verdict
+verdict_under format t (message v) arrival r moment =
+    option_map (verdict_on_message format (situation t arrival moment) v) (numbered v.envelope.recipients r)
+verdict_under format t (probe v) arrival r moment =
+    option_map (verdict_of_probe format (situation t arrival moment) v) (numbered v.recipients r)
+verdict_under format t (report v) arrival r moment =
     option_map (λ (n : Attributes). verdict_of_report (situation t arrival moment) v true)
     (numbered (v.destination ∷ []) r)
 
--- What becomes of a recipient of an APDU that arrived at a moment, looked at at another, under these tables. A report
--- that comes to a list has the verdict Back here; whether it can be passed back is `passed_back`. So this rests on
--- nothing that changes later.
-unfoldable pub verdict_of : (text octets : List ℕ) (arrival r moment : ℕ) → Option Verdict
-verdict_of text octets arrival r moment =
-    read_both (tables_value text) (value_of octets) (λ t v. verdict_under t v arrival r moment)
+-- What becomes in a format of a recipient of an APDU that arrived at a moment, looked at at another, under these
+-- tables. A report that comes to a list has the verdict Back here; whether it can be passed back is `passed_back`. So
+-- this rests on nothing that changes later.
+unfoldable pub verdict_of : (format : ℕ) (text octets : List ℕ) (arrival r moment : ℕ) → Option Verdict
+verdict_of format text octets arrival r moment =
+    read_both (tables_value text) (value_of octets) (λ t v. verdict_under format t v arrival r moment)
 
--- what an APDU says of its time
-abbrev pub terms_in : ApduValue → Terms
-terms_in (message v) = terms_of v.envelope
-terms_in (probe v) = terms_of v
-terms_in (report v) = report_terms
+-- what an APDU says of its time, as far as that counts in a format
+abbrev pub terms_in : (format : ℕ) → ApduValue → Terms
+terms_in format (message v) = terms_of format v.envelope
+terms_in format (probe v) = terms_of format v
+terms_in format (report v) = report_terms
 
-abbrev pub expired_under : Option TablesValue → Option ApduValue → (arrival moment : ℕ) → Bool
-expired_under None v arrival moment = false
-expired_under (Some t) None arrival moment = false
-expired_under (Some t) (Some v) arrival moment = situations.is_expired (situation t arrival moment) (terms_in v)
+abbrev pub expired_under : (format : ℕ) → Option TablesValue → Option ApduValue → (arrival moment : ℕ) → Bool
+expired_under format None v arrival moment = false
+expired_under format (Some t) None arrival moment = false
+expired_under format (Some t) (Some v) arrival moment =
+    situations.is_expired (situation t arrival moment) (terms_in format v)
 
--- the APDU has waited for its hold time under these tables
-unfoldable pub is_expired : (text octets : List ℕ) (arrival moment : ℕ) → Bool
-is_expired text octets arrival moment = expired_under (tables_value text) (value_of octets) arrival moment
+-- the APDU has waited for its hold time under these tables, or in format 2 until its latest delivery time
+unfoldable pub is_expired : (format : ℕ) (text octets : List ℕ) (arrival moment : ℕ) → Bool
+is_expired format text octets arrival moment =
+    expired_under format (tables_value text) (value_of octets) arrival moment
 
 -- ---- what is made. Where an APDU's identifier has the number of its item, that number is an argument.
 

@@ -4,5 +4,6 @@
 mod item;
 mod law;
 
-pub use item::{Item, MailboxLine, Origin, Status, Statuses};
+pub use item::{Item, Statuses, is_pending_status};
 pub use law::each_recipient_once;
+pub use mta_records::{MailboxLine, Origin, Status};

@@ -46,11 +46,12 @@ of_reports hop back any2 = tt
 
 pub messages_have_theirs : MessagesHaveTheirVerdicts
 unfolding verdict_of_message
-messages_have_theirs s m r members = of_messages (best_hop s.tables r.name) (unwrap_or m.envelope.deferral 0) (first_case (facts_of_message s m r members))
+messages_have_theirs format s m r members =
+    of_messages (best_hop s.tables r.name) (unwrap_or m.envelope.deferral 0) (first_case (facts_of_message format s m r members))
 
 pub probes_have_theirs : ProbesHaveTheirVerdicts
 unfolding verdict_of_probe
-probes_have_theirs s e r = of_probes (best_hop s.tables r.name) (first_case (facts_of_probe s e r))
+probes_have_theirs format s e r = of_probes (best_hop s.tables r.name) (first_case (facts_of_probe format s e r))
 
 pub no_reports_on_reports : ReportsMakeNoReports
 unfolding verdict_of_report
@@ -79,8 +80,8 @@ at_mailbox f place h =
 
 pub messages_at_mailboxes : DeliveredMessagesAreAtMailboxes
 unfolding verdict_of_message
-messages_at_mailboxes s m r members place e =
-    let f = facts_of_message s m r members in
+messages_at_mailboxes format s m r members place e =
+    let f = facts_of_message format s m r members in
     at_mailbox f place (message_delivered (best_hop s.tables r.name) (unwrap_or m.envelope.deferral 0) place (first_case f) e)
 
 pub reports_at_mailboxes : DeliveredReportsAreAtMailboxes
@@ -164,8 +165,8 @@ no_long_members f (once e) none =
 
 pub expanded_have_room : ExpandedMessagesHaveRoom
 unfolding verdict_of_message
-expanded_have_room s m r members place h =
-    let f = facts_of_message s m r members in
+expanded_have_room format s m r members place h =
+    let f = facts_of_message format s m r members in
     let k = message_expanded (best_hop s.tables r.name) (unwrap_or m.envelope.deferral 0) place (first_case f) h in
     record {
       leads = list_is f.hop (leads_to_one f k.0) ∙ ap (λ p. Hops.List p) k.1;

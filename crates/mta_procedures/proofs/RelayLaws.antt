@@ -116,8 +116,8 @@ some_octets n content = let long = element_long (constructed 2 n) content in ome
 
 pub relayed_messages : RelayedMessagesHaveCopies
 unfolding verdict_of_message outgoing_message canonical_message
-relayed_messages s t m r members place chosen tables arrival h =
-    let f = facts_of_message s m r members in
+relayed_messages format s t m r members place chosen tables arrival h =
+    let f = facts_of_message format s m r members in
     let k = message_relayed (best_hop s.tables r.name) (unwrap_or m.envelope.deferral 0) place (first_case f) h in
     let same = messages_long t s m chosen [] (sym tables) (sym arrival) in
     let few = short_copy (length (outgoing_message s m [])) (is_short f k.0) in
@@ -130,8 +130,8 @@ relayed_messages s t m r members place chosen tables arrival h =
 
 pub relayed_probes : RelayedProbesHaveCopies
 unfolding verdict_of_probe outgoing_probe canonical_probe
-relayed_probes s t e r place chosen tables arrival h =
-    let f = facts_of_probe s e r in
+relayed_probes format s t e r place chosen tables arrival h =
+    let f = facts_of_probe format s e r in
     let k = probe_relayed (best_hop s.tables r.name) place (first_case f) h in
     let same = probes_long t s e chosen [] (sym tables) (sym arrival) in
     let few = short_copy (length (outgoing_probe s e [])) (is_short f k.0) in

@@ -47,12 +47,12 @@ IsOfReports _ = ⊥
 
 abbrev pub MessagesHaveTheirVerdicts : Type 0
 MessagesHaveTheirVerdicts =
-    (s : Situation) (m : MessageValue) (r : RecipientFields) (members : ℕ)
-    → IsOfMessages (verdict_of_message s m r members)
+    (format : ℕ) (s : Situation) (m : MessageValue) (r : RecipientFields) (members : ℕ)
+    → IsOfMessages (verdict_of_message format s m r members)
 
 abbrev pub ProbesHaveTheirVerdicts : Type 0
 ProbesHaveTheirVerdicts =
-    (s : Situation) (e : EnvelopeFields) (r : RecipientFields) → IsOfProbes (verdict_of_probe s e r)
+    (format : ℕ) (s : Situation) (e : EnvelopeFields) (r : RecipientFields) → IsOfProbes (verdict_of_probe format s e r)
 
 abbrev pub ReportsMakeNoReports : Type 0
 ReportsMakeNoReports = (s : Situation) (p : ReportFields) (back : Bool) → IsOfReports (verdict_of_report s p back)
@@ -61,8 +61,8 @@ ReportsMakeNoReports = (s : Situation) (p : ReportFields) (back : Bool) → IsOf
 
 abbrev pub DeliveredMessagesAreAtMailboxes : Type 0
 DeliveredMessagesAreAtMailboxes =
-    (s : Situation) (m : MessageValue) (r : RecipientFields) (members place : ℕ)
-    → verdict_of_message s m r members ≡ Deliver place → best_hop s.tables r.name ≡ Hops.Local place
+    (format : ℕ) (s : Situation) (m : MessageValue) (r : RecipientFields) (members place : ℕ)
+    → verdict_of_message format s m r members ≡ Deliver place → best_hop s.tables r.name ≡ Hops.Local place
 
 abbrev pub DeliveredReportsAreAtMailboxes : Type 0
 DeliveredReportsAreAtMailboxes =
@@ -87,8 +87,8 @@ pub record IsExpanded (s : Situation) (m : MessageValue) (hop : Hop) (members pl
 
 abbrev pub ExpandedMessagesHaveRoom : Type 0
 ExpandedMessagesHaveRoom =
-    (s : Situation) (m : MessageValue) (r : RecipientFields) (members place : ℕ)
-    → verdict_of_message s m r members ≡ Expand place → IsExpanded s m (best_hop s.tables r.name) members place
+    (format : ℕ) (s : Situation) (m : MessageValue) (r : RecipientFields) (members place : ℕ)
+    → verdict_of_message format s m r members ≡ Expand place → IsExpanded s m (best_hop s.tables r.name) members place
 
 -- ---- reports that are made
 

@@ -43,14 +43,15 @@ of_list t hop is = option_map_or is (list_at t hop) false
 abbrev pub is_unwanted : EnvelopeFields → MailList → Bool
 is_unwanted e l = not (may_post l (poster e))
 
--- what an envelope and a recipient say, for a hop, a length of the members' copy and a length of the copy for a peer
-abbrev pub envelope_facts : Situation → EnvelopeFields → RecipientFields → Hop → ℕ → ℕ → Facts
-envelope_facts s e r hop members copy = record {
+-- what an envelope and a recipient say in a format, for a hop, a length of the members' copy and a length of the copy
+-- for a peer
+abbrev pub envelope_facts : (format : ℕ) → Situation → EnvelopeFields → RecipientFields → Hop → ℕ → ℕ → Facts
+envelope_facts format s e r hop members copy = record {
   hop = hop;
   looped = has_looped s e.trace;
   critical = has_critical hop e r;
-  expired = is_expired s (terms_of e);
-  deferred = is_deferred s (terms_of e);
+  expired = is_expired s (terms_of format e);
+  deferred = is_deferred s (terms_of format e);
   in_history = of_list s.tables hop (λ l. is_in_history l e);
   prohibited = e.dl_prohibited;
   not_permitted = of_list s.tables hop (is_unwanted e);
@@ -59,15 +60,16 @@ envelope_facts s e r hop members copy = record {
   long_copy = is_long copy;
 }
 
-abbrev pub facts_of_message : Situation → MessageValue → RecipientFields → ℕ → Facts
-facts_of_message s m r members =
-    envelope_facts s m.envelope r (best_hop s.tables r.name) members (length (outgoing_message s m []))
+abbrev pub facts_of_message : (format : ℕ) → Situation → MessageValue → RecipientFields → ℕ → Facts
+facts_of_message format s m r members =
+    envelope_facts format s m.envelope r (best_hop s.tables r.name) members (length (outgoing_message s m []))
 
 -- a probe has no members' copy
-abbrev pub facts_of_probe : Situation → EnvelopeFields → RecipientFields → Facts
-facts_of_probe s e r = envelope_facts s e r (best_hop s.tables r.name) 0 (length (outgoing_probe s e []))
+abbrev pub facts_of_probe : (format : ℕ) → Situation → EnvelopeFields → RecipientFields → Facts
+facts_of_probe format s e r = envelope_facts format s e r (best_hop s.tables r.name) 0 (length (outgoing_probe s e []))
 
--- a report has one recipient, its destination; it has no deferral and no history, and none of its extensions counts
+-- a report has one recipient, its destination; it has no deferral, no latest delivery time and no history, and none of
+-- its extensions counts, so it is the same in each format
 abbrev pub facts_of_report : Situation → ReportFields → Facts
 facts_of_report s p = record {
   hop = best_hop s.tables p.destination;

@@ -24,14 +24,14 @@ pub record IsRelayed (place : ℕ) (hop : Hop) (trace : List TraceFields) (octet
 -- each copy of the item can be sent, for whichever recipients and at whichever moment under the same tables
 abbrev pub RelayedMessagesHaveCopies : Type 0
 RelayedMessagesHaveCopies =
-    (s t : Situation) (m : MessageValue) (r : RecipientFields) (members place : ℕ) (chosen : List ℕ)
-    → s.tables ≡ t.tables → s.arrival ≡ t.arrival → verdict_of_message s m r members ≡ Relay place
+    (format : ℕ) (s t : Situation) (m : MessageValue) (r : RecipientFields) (members place : ℕ) (chosen : List ℕ)
+    → s.tables ≡ t.tables → s.arrival ≡ t.arrival → verdict_of_message format s m r members ≡ Relay place
     → IsRelayed place (best_hop s.tables r.name) m.envelope.trace (outgoing_message t m chosen)
 
 abbrev pub RelayedProbesHaveCopies : Type 0
 RelayedProbesHaveCopies =
-    (s t : Situation) (e : EnvelopeFields) (r : RecipientFields) (place : ℕ) (chosen : List ℕ)
-    → s.tables ≡ t.tables → s.arrival ≡ t.arrival → verdict_of_probe s e r ≡ Relay place
+    (format : ℕ) (s t : Situation) (e : EnvelopeFields) (r : RecipientFields) (place : ℕ) (chosen : List ℕ)
+    → s.tables ≡ t.tables → s.arrival ≡ t.arrival → verdict_of_probe format s e r ≡ Relay place
     → IsRelayed place (best_hop s.tables r.name) e.trace (outgoing_probe t e chosen)
 
 abbrev pub RelayedReportsHaveCopies : Type 0

@@ -25,6 +25,7 @@ use Rattle.mta_tables.specs.declared.entry.Target.TheVariants as Targets
 use Rattle.mta_tables.specs.declared.hop.Hop.TheVariants as Hops
 use Rattle.mta_tables.specs.Tables.{TablesValue}
 use Rattle.mta_tables.specs.Hops.{best_hop}
+use Rattle.mta_procedures.specs.declared.verdict.Verdict.{Verdict}
 use Rattle.mta_procedures.specs.declared.verdict.Verdict.TheVariants.{Deliver, Expand, Affirm, NonDeliver, Hold}
 use Rattle.mta_procedures.specs.declared.verdict.Verdict.TheVariants.{Discard}
 use Rattle.mta_procedures.specs.Copies.{outgoing_envelope, outgoing_message, responsible_for}
@@ -177,7 +178,7 @@ sample_report = record {
 
 -- under tables that know nobody the name is unrecognised, and the second item is the report of it, which goes nowhere
 pub record SampleIsReported : Type 0 where
-  pub verdict : verdict_of_message at_once sample (to watt 1) 0 ≡ NonDeliver 1 0
+  pub verdict : verdict_of_message 1 at_once sample (to watt 1) 0 ≡ NonDeliver 1 0
   pub report : report_of bare 2 0 sample.envelope (to watt 1) (NonDelivery 1 (Some 0)) ≡ Some sample_report
   pub no_further : verdict_of_report at_once sample_report false ≡ Discard
 
@@ -230,11 +231,11 @@ expanded_twice =
 
 -- a message to A is expanded, and so is the copy to B; the copy back to A is expanded to no members
 pub record ListsEnd : Type 0 where
-  pub first : verdict_on_message (at_lists (list_a ∷ list_b ∷ [])) posted to_a ≡ Expand 0
+  pub first : verdict_on_message 1 (at_lists (list_a ∷ list_b ∷ [])) posted to_a ≡ Expand 0
   pub first_copy : members_copy (at_lists (list_a ∷ list_b ∷ [])) list_a posted to_a ≡ Some expanded_once
-  pub second : verdict_on_message (at_lists (list_a ∷ list_b ∷ [])) expanded_once to_b ≡ Expand 1
+  pub second : verdict_on_message 1 (at_lists (list_a ∷ list_b ∷ [])) expanded_once to_b ≡ Expand 1
   pub second_copy : members_copy (at_lists (list_a ∷ list_b ∷ [])) list_b expanded_once to_b ≡ Some expanded_twice
-  pub third : verdict_on_message (at_lists (list_a ∷ list_b ∷ [])) expanded_twice to_a ≡ Expand 0
+  pub third : verdict_on_message 1 (at_lists (list_a ∷ list_b ∷ [])) expanded_twice to_a ≡ Expand 0
   pub no_third_copy : members_copy (at_lists (list_a ∷ list_b ∷ [])) list_a expanded_twice to_a ≡ None
 
 -- with bit 3 set too: 10111000
@@ -269,7 +270,7 @@ crew_report = expansion_report (with_lists (crew ∷ [])) 3 0 to_the_crew.envelo
 pub record CrewKeepsReports : Type 0 where
   pub list_report : option_map destination_of crew_report ≡ Some bell
   pub of_type_3 : option_map outcomes_of crew_report ≡ Some (Delivery 0 3 ∷ [])
-  pub delivered : verdict_of_message (at_lists (crew ∷ [])) for_the_crew (asking (to watt 1)) 0 ≡ Deliver 0
+  pub delivered : verdict_of_message 1 (at_lists (crew ∷ [])) for_the_crew (asking (to watt 1)) 0 ≡ Deliver 0
   pub no_report : delivery_report (with_lists (crew ∷ [])) 4 0 for_the_crew.envelope (asking (to watt 1)) 0 ≡ None
 
 -- ---- times
@@ -282,16 +283,50 @@ at moment = record { tables = with_lists []; arrival = 0; moment = moment }
 
 -- a message that is deferred to 1,000 is held until then, and expires a day behind it
 pub record DeferredIsHeld : Type 0 where
-  pub held : verdict_of_message (at 999) deferred (to watt 1) 0 ≡ Hold 1000
-  pub due : verdict_of_message (at 1000) deferred (to watt 1) 0 ≡ Deliver 0
-  pub last : verdict_of_message (at 87399) deferred (to watt 1) 0 ≡ Deliver 0
-  pub expired : verdict_of_message (at 87400) deferred (to watt 1) 0 ≡ NonDeliver 0 5
+  pub held : verdict_of_message 1 (at 999) deferred (to watt 1) 0 ≡ Hold 1000
+  pub due : verdict_of_message 1 (at 1000) deferred (to watt 1) 0 ≡ Deliver 0
+  pub last : verdict_of_message 1 (at 87399) deferred (to watt 1) 0 ≡ Deliver 0
+  pub expired : verdict_of_message 1 (at 87400) deferred (to watt 1) 0 ≡ NonDeliver 0 5
+
+-- the same with a latest delivery time, and a deferral or none
+abbrev pub latest_at : Option ℕ → ℕ → MessageValue
+latest_at deferral latest =
+    message_as (record (envelope_to (to watt 1 ∷ [])) { deferral = deferral; latest = Some latest })
+    (content_as false [])
+
+abbrev pub verdict_in : (format : ℕ) → Option ℕ → (latest moment : ℕ) → Verdict
+verdict_in format deferral latest moment =
+    verdict_of_message format (at moment) (latest_at deferral latest) (to watt 1) 0
+
+-- In format 2 a message with the latest delivery time 1,000 expires then, whether it is deferred to an earlier moment,
+-- to that one or to a later one; one that is later than the end of its hold time changes nothing.
+pub record LatestCounts : Type 0 where
+  pub before : verdict_in 2 None 1000 999 ≡ Deliver 0
+  pub expired : verdict_in 2 None 1000 1000 ≡ NonDeliver 0 5
+  pub held_in_front : verdict_in 2 (Some 500) 1000 499 ≡ Hold 500
+  pub due_in_front : verdict_in 2 (Some 500) 1000 999 ≡ Deliver 0
+  pub expired_behind : verdict_in 2 (Some 500) 1000 1000 ≡ NonDeliver 0 5
+  pub held_up_to : verdict_in 2 (Some 1000) 1000 999 ≡ Hold 1000
+  pub expired_at : verdict_in 2 (Some 1000) 1000 1000 ≡ NonDeliver 0 5
+  pub held_before : verdict_in 2 (Some 2000) 1000 999 ≡ Hold 2000
+  pub expired_before : verdict_in 2 (Some 2000) 1000 1500 ≡ NonDeliver 0 5
+  pub held_time : verdict_in 2 None 90000 86399 ≡ Deliver 0
+  pub held_no_longer : verdict_in 2 None 90000 86400 ≡ NonDeliver 0 5
+
+-- in format 1 it does not count
+pub record LatestDoesNotCount : Type 0 where
+  pub due : verdict_in 1 None 1000 1000 ≡ Deliver 0
+  pub held : verdict_in 1 (Some 2000) 1000 1500 ≡ Hold 2000
+  pub expired : verdict_in 1 None 1000 86400 ≡ NonDeliver 0 5
 
 -- ---- probes
 
--- a probe to a mailbox is affirmed
-abbrev pub SampleIsAffirmed : Type 0
-SampleIsAffirmed = verdict_of_probe (at 0) sample.envelope (to watt 1) ≡ Affirm
+-- a probe to a mailbox is affirmed, and one whose latest delivery time has passed is not
+pub record SampleIsAffirmed : Type 0 where
+  pub affirmed : verdict_of_probe 1 (at 0) sample.envelope (to watt 1) ≡ Affirm
+  pub in_time : verdict_of_probe 2 (at 999) (latest_at None 1000).envelope (to watt 1) ≡ Affirm
+  pub late : verdict_of_probe 2 (at 1000) (latest_at None 1000).envelope (to watt 1) ≡ NonDeliver 0 5
+  pub in_format_1 : verdict_of_probe 1 (at 1000) (latest_at None 1000).envelope (to watt 1) ≡ Affirm
 
 -- ---- routes
 

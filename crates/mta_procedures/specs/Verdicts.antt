@@ -128,24 +128,24 @@ report_column hop back _ = Discard
 
 -- ---- verdicts
 
--- of a recipient of a message, where the members' copy would have so many octets
-unfoldable pub verdict_of_message : Situation → MessageValue → RecipientFields → ℕ → Verdict
-verdict_of_message s m r members =
+-- of a recipient of a message in a format, where the members' copy would have so many octets
+unfoldable pub verdict_of_message : (format : ℕ) → Situation → MessageValue → RecipientFields → ℕ → Verdict
+verdict_of_message format s m r members =
     message_column (best_hop s.tables r.name) (unwrap_or m.envelope.deferral 0)
-    (first_case (facts_of_message s m r members))
+    (first_case (facts_of_message format s m r members))
 
 -- how many octets the members' copy has, where the name leads to a list
 abbrev pub length_for_members : Situation → MessageValue → RecipientFields → ℕ
 length_for_members s m r = option_map_or (λ l. members_length s l m r) (list_at s.tables (best_hop s.tables r.name)) 0
 
 -- of a recipient of a message, all told
-abbrev pub verdict_on_message : Situation → MessageValue → RecipientFields → Verdict
-verdict_on_message s m r = verdict_of_message s m r (length_for_members s m r)
+abbrev pub verdict_on_message : (format : ℕ) → Situation → MessageValue → RecipientFields → Verdict
+verdict_on_message format s m r = verdict_of_message format s m r (length_for_members s m r)
 
-unfoldable pub verdict_of_probe : Situation → EnvelopeFields → RecipientFields → Verdict
-verdict_of_probe s e r = probe_column (best_hop s.tables r.name) (first_case (facts_of_probe s e r))
+unfoldable pub verdict_of_probe : (format : ℕ) → Situation → EnvelopeFields → RecipientFields → Verdict
+verdict_of_probe format s e r = probe_column (best_hop s.tables r.name) (first_case (facts_of_probe format s e r))
 
--- of a report, where it is known whether there is someone to whom it can go back
+-- of a report, where it is known whether there is someone to whom it can go back; it is the same in each format
 unfoldable pub verdict_of_report : Situation → ReportFields → Bool → Verdict
 verdict_of_report s p back = report_column (best_hop s.tables p.destination) back (first_case (facts_of_report s p))
 

@@ -7,6 +7,7 @@ mod codes;
 mod ends;
 mod laws;
 mod rows;
+mod terms;
 mod verdict;
 
 pub use case::Case;
@@ -27,7 +28,8 @@ pub use laws::{
 };
 pub use rows::{
     lists_end, the_chosen_are_responsible, the_crew_keeps_reports, the_deferred_is_held,
-    the_longest_route_is_taken, the_sample_is_affirmed, the_sample_is_copied,
-    the_sample_is_reported,
+    the_latest_delivery_counts, the_longest_route_is_taken, the_sample_is_affirmed,
+    the_sample_is_copied, the_sample_is_reported,
 };
+pub use terms::Terms;
 pub use verdict::Verdict;

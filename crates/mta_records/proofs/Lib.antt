@@ -2,6 +2,12 @@ pub mod Appending
 pub mod Cutting
 pub mod FieldForms
 pub mod Forms
+pub mod LaneNames
+pub mod Lengths
+pub mod Listed
+pub mod MoreForms
 pub mod Records
+pub mod SnapshotForms
 pub mod Splits
 pub mod Values
+pub mod Written

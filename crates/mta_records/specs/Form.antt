@@ -1,6 +1,6 @@
 -- Forms: how values are spelled as octets, one behind the other, and read again from the front of octets. A fault is
 -- told by the number of octets that are left where the faulty field begins.
-use Rattle.std.specs.Prelude.{ℕ, ◌<◌, ◌^◌, zero, suc, Bool, true, false, List, [], ◌∷◌, ◌++◌}
+use Rattle.std.specs.Prelude.{◌≡◌, ◌==◌, find, ℕ, ◌<◌, ◌^◌, zero, suc, Bool, true, false, List, [], ◌∷◌, ◌++◌}
 use Rattle.std.specs.Prelude.{length, take, drop, flat_map, Option, Some, None, IfSome, Result, Ok, Err, nat_lt}
 use Rattle.std.specs.Prelude.{if◌then◌else◌}
 use Rattle.std.specs.List.{AllByRecursion}
@@ -98,10 +98,16 @@ values_at at zero octets = Ok ([], octets)
 values_at at (suc count) octets = at octets >>= λ x. values_at at count x.1 >>= λ xs. Ok (x.0 ∷ xs.0, xs.1)
 
 -- their number, and the values; each of them is a field
+abbrev pub listed_at : {A : Type 0} → (List ℕ → Result (A × List ℕ) ℕ) → List ℕ → Result (List A × List ℕ) ℕ
+listed_at at octets = number_at w32 octets >>= λ count. values_at at count.0 count.1
+
+abbrev pub listed : {A : Type 0} → (A → List ℕ) → List A → List ℕ
+listed spelled xs = number_octets w32 (length xs) ++ flat_map spelled xs
+
 abbrev pub list_of : {A : Type 0} → Form A → Form (List A)
 list_of f = record {
-  at = λ octets. number_at w32 octets >>= λ count. values_at f.at count.0 count.1;
-  spelled = λ xs. number_octets w32 (length xs) ++ flat_map f.spelled xs;
+  at = listed_at f.at;
+  spelled = listed f.spelled;
   Fits = λ xs. (length xs < 2 ^ 32) × AllByRecursion f.Fits xs;
 }
 
@@ -112,3 +118,40 @@ as_a_whole left (Err inside) = Err left
 
 abbrev pub one_field : {A : Type 0} → Form A → Form A
 one_field f = record { at = λ octets. as_a_whole (length octets) (f.at octets); spelled = f.spelled; Fits = f.Fits }
+
+-- no octets, which stand for one value
+abbrev pub nothing_for : {A : Type 0} → A → Form A
+nothing_for x = record { at = λ octets. Ok (x, octets); spelled = λ _. []; Fits = λ y. y ≡ x }
+
+-- a field in which nothing else stands than this
+abbrev pub blanked : ℕ → Bool → List ℕ → Result (Unit {0} × List ℕ) ℕ
+blanked left true octets = Ok (tt, octets)
+blanked left false octets = Err left
+
+abbrev pub nothing_but : {A : Type 0} → Form A → A → (A → Bool) → Form (Unit {0})
+nothing_but f blank is_blank = record {
+  at = λ octets. f.at octets >>= λ x. blanked (length octets) (is_blank x.0) x.1;
+  spelled = λ _. f.spelled blank;
+  Fits = λ _. Unit {0};
+}
+
+-- the values that are made of other values
+abbrev pub variant : {A B : Type 0} → Form A → (A → B) → (B → A) → Form B
+variant f make parts = record {
+  at = λ octets. f.at octets >>= λ x. Ok (make x.0, x.1);
+  spelled = λ y. f.spelled (parts y);
+  Fits = λ y. f.Fits (parts y) × (make (parts y) ≡ y);
+}
+
+-- a key, and a value of the form that goes with the key
+abbrev pub keyed : {K A : Type 0} → Form K → (K → Form A) → (A → K) → Form A
+keyed f g key = record {
+  at = λ octets. f.at octets >>= λ k. (g k.0).at k.1;
+  spelled = λ x. f.spelled (key x) ++ (g (key x)).spelled x;
+  Fits = λ x. f.Fits (key x) × (g (key x)).Fits x;
+}
+
+-- one octet, which stands for one of these
+abbrev pub one_listed : {K : Type 0} → List K → (K → ℕ) → Form K
+one_listed all octet =
+    standing_for an_octet (λ o. find (λ k. octet k == o) all) octet (λ _. Unit {0})

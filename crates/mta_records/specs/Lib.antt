@@ -3,7 +3,11 @@ pub mod Body
 pub mod Fields
 pub mod Form
 pub mod Kind
+pub mod LaneName
 pub mod Outgoing
 pub mod Reading
 pub mod Reference
+pub mod Sizes
+pub mod Snapshots
+pub mod State
 pub mod Words

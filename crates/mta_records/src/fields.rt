@@ -49,7 +49,7 @@ impl<T: Drop> From<AllocFailed<T>> for Short {
 }
 
 #[tactic(auto, unfolding(crate::specs::Form::octet_at))]
-fn octet_of(octets: &[u8]) -> Result<(u8, &[u8]), Short>
+pub fn octet_of(octets: &[u8]) -> Result<(u8, &[u8]), Short>
     ensures { Gives (λ x. (x.0, x.1.now)) result (an_octet.at octets.now) }
 {
     match octets {
@@ -100,7 +100,8 @@ pub fn moment_of(octets: &[u8]) -> Result<(u64, &[u8]), Short>
 
 #[tactic(auto, unfolding(crate::specs::Fields::string_at))]
 pub fn string_of(octets: &[u8]) -> Result<(&[u8], &[u8]), Short>
-    ensures { Gives (λ x. (x.0.now, x.1.now)) result (a_string.at octets.now) }
+    ensures exact { Gives (λ x. (x.0.now, x.1.now)) result (a_string.at octets.now) }
+    ensures fits { IfOk result (λ x. length x.0.now < 2 ^ 32) }
 {
     let (size, rest) = number_of(octets)?;
     let size = size as usize;

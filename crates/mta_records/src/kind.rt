@@ -29,6 +29,8 @@ pub enum RecordKind {
     Complete = 21,
     Drop = 22,
     CloseLane = 23,
+    Snapshot = 24,
+    Format = 25,
 }
 
 impl RecordKind {
@@ -67,6 +69,8 @@ impl RecordKind {
             21 => Some(RecordKind::Complete),
             22 => Some(RecordKind::Drop),
             23 => Some(RecordKind::CloseLane),
+            24 => Some(RecordKind::Snapshot),
+            25 => Some(RecordKind::Format),
             _ => None,
         }
     }

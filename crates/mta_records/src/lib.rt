@@ -3,12 +3,19 @@
 
 mod fault;
 mod fields;
+mod items;
 mod kind;
 mod lane;
+mod lane_records;
 mod laws;
+mod lists;
 mod outgoing;
 mod reading;
 mod reference;
+mod sizes;
+mod snapshot;
+mod snapshots;
+mod state;
 mod step;
 mod writing;
 
@@ -19,5 +26,7 @@ pub use laws::{a_body_is_of_one_step, a_record_is_read_again};
 pub use outgoing::Outgoing;
 pub use reading::read_record;
 pub use reference::Reference;
+pub use snapshot::{ItemRecord, LaneRecord, Snapshot, TransferRecord};
+pub use state::{MailboxLine, Origin, Status};
 pub use step::Step;
 pub use writing::write_record;

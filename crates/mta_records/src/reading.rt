@@ -3,7 +3,8 @@
 ghost use Rattle.std.specs.Prelude.{◌≡◌, ◌<◌, ◌^◌, length, IfOk, Ok};
 ghost use Rattle.mta_records.specs.declared.kind.RecordKind.{RecordKind};
 ghost use Rattle.mta_records.specs.declared.step.Step.{Step};
-ghost use Rattle.mta_records.specs.Body.{two_numbers_and_moment, a_lane, an_activity, a_numbered_activity, a_lane_name};
+ghost use Rattle.mta_records.specs.Body.{two_numbers_and_moment, a_lane, an_activity, a_numbered_activity};
+ghost use Rattle.mta_records.specs.LaneName.{a_lane_name};
 ghost use Rattle.mta_records.specs.Body.{body_of, HasFields};
 ghost use Rattle.mta_records.specs.Answered.{Gives};
 ghost use Rattle.mta_records.specs.Reading.{Reads, fields_at, step_at, record_of};
@@ -16,6 +17,7 @@ use crate::fields::{
 use crate::kind::RecordKind;
 use crate::lane::LaneRole;
 use crate::reference::Reference;
+use crate::snapshots::snapshot_of;
 use crate::step::Step;
 use mta_ber::{Octets, Word};
 use std::alloc::Global;
@@ -57,8 +59,11 @@ fn numbered_activity_of(octets: &[u8]) -> Result<((u32, u64, u32, u32), &[u8]), 
     Ok(((lane, generation, activity, number), rest))
 }
 
-#[tactic(auto, unfolding(crate::specs::Body::lane_name_at))]
-fn lane_name_of(alloc: Global, octets: &[u8]) -> Result<((LaneRole, Word, Reference), &[u8]), Short>
+#[tactic(auto, unfolding(crate::specs::LaneName::lane_name_at))]
+pub fn lane_name_of(
+    alloc: Global,
+    octets: &[u8],
+) -> Result<((LaneRole, Word, Reference), &[u8]), Short>
     ensures { Gives (λ x. ((x.0.0, (x.0.1, x.0.2)), x.1.now)) result (a_lane_name.at octets.now) }
 {
     let (role, rest) = role_of(octets)?;
@@ -384,6 +389,25 @@ fn close_lane_of(octets: &[u8]) -> Result<(Step, &[u8]), Short>
     Ok((step, rest))
 }
 
+#[tactic(auto, unfolding(crate::specs::Reading::fields_at))]
+fn begin_of(alloc: Global, octets: &[u8]) -> Result<(Step, &[u8]), Short>
+    ensures { Gives (λ x. (x.0, x.1.now)) result (fields_at RecordKind.Snapshot octets.now) }
+{
+    let (state, rest) = snapshot_of(alloc, octets)?;
+    Ok((Step::Snapshot { state }, rest))
+}
+
+#[tactic(auto, unfolding(crate::specs::Reading::fields_at))]
+fn format_of(octets: &[u8]) -> Result<(Step, &[u8]), Short>
+    ensures { Gives (λ x. (x.0, x.1.now)) result (fields_at RecordKind.Format octets.now) }
+{
+    let (version, rest) = number_of(octets)?;
+    if version != 2 {
+        return Err(Short::Left(octets.len()));
+    }
+    Ok((Step::Format { version }, rest))
+}
+
 fn fields_of(alloc: Global, kind: RecordKind, octets: &[u8]) -> Result<(Step, &[u8]), Short>
     ensures { Gives (λ x. (x.0, x.1.now)) result (fields_at kind octets.now) }
 {
@@ -411,6 +435,8 @@ fn fields_of(alloc: Global, kind: RecordKind, octets: &[u8]) -> Result<(Step, &[
         RecordKind::Complete => complete_of(alloc, octets),
         RecordKind::Drop => drop_of(octets),
         RecordKind::CloseLane => close_lane_of(octets),
+        RecordKind::Snapshot => begin_of(alloc, octets),
+        RecordKind::Format => format_of(octets),
     }
 }
 

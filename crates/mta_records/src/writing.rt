@@ -1,8 +1,9 @@
 //! Writing records.
 
-ghost use Rattle.std.specs.Prelude.{◌≡◌, ◌++◌, ◌≤◌, ◌<◌, ◌^◌, length, IfOk, OnOk};
+ghost use Rattle.std.specs.Prelude.{◌≡◌, ◌++◌, ◌≤◌, ◌<◌, ◌^◌, [], length, IfOk, OnOk};
 ghost use Rattle.mta_records.specs.declared.step.Step.{Step};
-ghost use Rattle.mta_records.specs.Body.{two_numbers_and_moment, a_lane, an_activity, a_numbered_activity, a_lane_name};
+ghost use Rattle.mta_records.specs.Body.{two_numbers_and_moment, a_lane, an_activity, a_numbered_activity};
+ghost use Rattle.mta_records.specs.LaneName.{a_lane_name};
 ghost use Rattle.mta_records.specs.Body.{kind_of, fields_of, body_of, HasFields};
 ghost use Rattle.mta_records.specs.Fields.{a_number, a_long_number, a_string, a_fault_kind, a_truth, a_role};
 ghost use Rattle.mta_records.specs.Fields.{an_additional, a_reference, some_numbers};
@@ -11,18 +12,19 @@ ghost use Rattle.std.specs.Option.{option_copied};
 
 use crate::lane::LaneRole;
 use crate::reference::Reference;
+use crate::snapshots::put_snapshot;
 use crate::step::Step;
 use mta_ber::{Memory, Octets, Word};
 use std::alloc::Global;
 
-fn put_octet(out: &mut Octets, octet: u8) -> Result<(), Memory>
+pub fn put_octet(out: &mut Octets, octet: u8) -> Result<(), Memory>
     ensures { OnOk result (out.new ≡ out.old ++ an_octet.spelled octet) }
 {
     out.extend(&[octet])
 }
 
 #[tactic(auto, unfolding(crate::specs::Form::number_octets))]
-fn put_number(out: &mut Octets, number: u32) -> Result<(), Memory>
+pub fn put_number(out: &mut Octets, number: u32) -> Result<(), Memory>
     ensures { OnOk result (out.new ≡ out.old ++ a_number.spelled number) }
 {
     out.extend(&number.to_be_bytes())
@@ -30,14 +32,14 @@ fn put_number(out: &mut Octets, number: u32) -> Result<(), Memory>
 
 /// A number of eight octets, or a moment.
 #[tactic(auto, unfolding(crate::specs::Form::number_octets))]
-fn put_long_number(out: &mut Octets, number: u64) -> Result<(), Memory>
+pub fn put_long_number(out: &mut Octets, number: u64) -> Result<(), Memory>
     ensures { OnOk result (out.new ≡ out.old ++ a_long_number.spelled number) }
 {
     out.extend(&number.to_be_bytes())
 }
 
 #[tactic(auto, unfolding(crate::specs::Fields::string))]
-fn put_string(out: &mut Octets, octets: &[u8]) -> Result<(), Memory>
+pub fn put_string(out: &mut Octets, octets: &[u8]) -> Result<(), Memory>
     requires { length octets.now < 2 ^ 32 }
     ensures { OnOk result (out.new ≡ out.old ++ a_string.spelled octets.now) }
 {
@@ -45,7 +47,7 @@ fn put_string(out: &mut Octets, octets: &[u8]) -> Result<(), Memory>
     out.extend(octets)
 }
 
-fn put_truth(out: &mut Octets, truth: bool) -> Result<(), Memory>
+pub fn put_truth(out: &mut Octets, truth: bool) -> Result<(), Memory>
     ensures { OnOk result (out.new ≡ out.old ++ a_truth.spelled truth) }
 {
     put_octet(out, if truth { 1 } else { 0 })
@@ -61,7 +63,7 @@ fn put_role(out: &mut Octets, role: LaneRole) -> Result<(), Memory>
 }
 
 #[tactic(auto, unfolding(crate::specs::Fields::numbers))]
-fn put_numbers(out: &mut Octets, numbers: &[u32]) -> Result<(), Memory>
+pub fn put_numbers(out: &mut Octets, numbers: &[u32]) -> Result<(), Memory>
     requires { length numbers.now < 2 ^ 32 }
     ensures { OnOk result (out.new ≡ out.old ++ some_numbers.spelled numbers.now) }
 {
@@ -130,8 +132,8 @@ fn put_numbered_activity(
     put_number(out, number)
 }
 
-#[tactic(auto, unfolding(crate::specs::Body::lane_name_octets))]
-fn put_lane_name(
+#[tactic(auto, unfolding(crate::specs::LaneName::lane_name_octets))]
+pub fn put_lane_name(
     out: &mut Octets,
     role: LaneRole,
     peer: &Word,
@@ -425,6 +427,21 @@ fn put_fields(out: &mut Octets, step: &Step) -> Result<(), Memory>
                 *moment,
             )
         }
+        Step::Snapshot { state } => put_snapshot(out, state),
+        Step::Format { version } => put_number(out, *version),
+    }
+}
+
+/// An empty buffer, which has room for the whole body of a snapshot.
+fn buffer_for(alloc: Global, step: &Step) -> Result<Octets, Memory>
+    ensures { IfOk result (λ o. o ≡ []) }
+{
+    match step {
+        Step::Snapshot { state } => {
+            let room = Vec::with_capacity(alloc, state.size().saturating_add(1) as usize)?;
+            Ok(Octets::from_vec(room))
+        }
+        _ => Ok(Octets::new(alloc)),
     }
 }
 
@@ -433,7 +450,7 @@ pub fn write_record(alloc: Global, step: &Step) -> Result<Octets, Memory>
     requires { HasFields step.now }
     ensures { IfOk result (λ body. body ≡ body_of step.now) }
 {
-    let mut body = Octets::new(alloc);
+    let mut body = buffer_for(alloc, step)?;
     put_octet(&mut body, step.kind().octet())?;
     put_fields(&mut body, step)?;
     Ok(body)

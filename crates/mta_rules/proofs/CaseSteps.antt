@@ -152,9 +152,9 @@ at_list t e place members copy f l i h = record {
   long_members = i.long_members;
 }
 
-pub facts_at : (s : Situation) (e : EnvelopeFields) (r : RecipientFields) (hop : Hop) (members copy : ℕ)
-    → IsAtHop s.tables e hop members copy (envelope_facts s e r hop members copy)
-facts_at s e r hop members copy =
+pub facts_at : (format : ℕ) (s : Situation) (e : EnvelopeFields) (r : RecipientFields) (hop : Hop) (members copy : ℕ)
+    → IsAtHop s.tables e hop members copy (envelope_facts format s e r hop members copy)
+facts_at format s e r hop members copy =
     record {
       hop_is = refl;
       in_history = refl;

@@ -17,40 +17,40 @@ use Rattle.mta_procedures.specs.Verdicts.{verdict_of_message, verdict_of_probe, 
 use Rattle.mta_rules.specs.Cases.{IsCopyLength, IsOfReport}
 use Rattle.mta_rules.proofs.Copies.{copy_counts, report_copy_counts}
 
-pub message_verdict : (s : Situation) (m : MessageValue) (r : RecipientFields) (members : ℕ) (e : EnvelopeFields)
-    (hop : Hop) (copy d : ℕ) (k : Case) (v : Verdict) → e ≡ m.envelope → hop ≡ best_hop s.tables r.name
+pub message_verdict : (format : ℕ) (s : Situation) (m : MessageValue) (r : RecipientFields) (members : ℕ)
+    (e : EnvelopeFields) (hop : Hop) (copy d : ℕ) (k : Case) (v : Verdict) → e ≡ m.envelope → hop ≡ best_hop s.tables r.name
     → IsCopyLength hop (outgoing_message s m []) copy → d ≡ unwrap_or e.deferral 0
-    → k ≡ first_case (envelope_facts s e r hop members copy) → v ≡ message_column hop d k
-    → v ≡ verdict_of_message s m r members
+    → k ≡ first_case (envelope_facts format s e r hop members copy) → v ≡ message_column hop d k
+    → v ≡ verdict_of_message format s m r members
 unfolding verdict_of_message
-message_verdict s m r members e hop copy d k v is-envelope is-hop is-copy is-deferral is-case is-verdict =
-    let first : k ≡ first_case (facts_of_message s m r members) =
+message_verdict format s m r members e hop copy d k v is-envelope is-hop is-copy is-deferral is-case is-verdict =
+    let first : k ≡ first_case (facts_of_message format s m r members) =
     is-case
-    ∙ ap (λ (w : EnvelopeFields). first_case (envelope_facts s w r hop members copy)) is-envelope
-    ∙ copy_counts s m.envelope r hop members (outgoing_message s m []) copy is-copy
-    ∙ ap (λ h. first_case (envelope_facts s m.envelope r h members (length (outgoing_message s m [])))) is-hop in
+    ∙ ap (λ (w : EnvelopeFields). first_case (envelope_facts format s w r hop members copy)) is-envelope
+    ∙ copy_counts format s m.envelope r hop members (outgoing_message s m []) copy is-copy
+    ∙ ap (λ h. first_case (envelope_facts format s m.envelope r h members (length (outgoing_message s m [])))) is-hop in
     let deferral : d ≡ unwrap_or m.envelope.deferral 0 =
     is-deferral ∙ ap (λ (w : EnvelopeFields). unwrap_or w.deferral 0) is-envelope in
     is-verdict
     ∙ ap (λ x. message_column hop d x) first
-    ∙ ap (λ x. message_column hop x (first_case (facts_of_message s m r members))) deferral
-    ∙ ap (λ h. message_column h (unwrap_or m.envelope.deferral 0) (first_case (facts_of_message s m r members)))
+    ∙ ap (λ x. message_column hop x (first_case (facts_of_message format s m r members))) deferral
+    ∙ ap (λ h. message_column h (unwrap_or m.envelope.deferral 0) (first_case (facts_of_message format s m r members)))
     is-hop
 
-pub probe_verdict : (s : Situation) (p : EnvelopeFields) (r : RecipientFields) (e : EnvelopeFields) (hop : Hop)
-    (copy : ℕ) (k : Case) (v : Verdict) → e ≡ p → hop ≡ best_hop s.tables r.name
-    → IsCopyLength hop (outgoing_probe s p []) copy → k ≡ first_case (envelope_facts s e r hop 0 copy)
-    → v ≡ probe_column hop k → v ≡ verdict_of_probe s p r
+pub probe_verdict : (format : ℕ) (s : Situation) (p : EnvelopeFields) (r : RecipientFields) (e : EnvelopeFields)
+    (hop : Hop) (copy : ℕ) (k : Case) (v : Verdict) → e ≡ p → hop ≡ best_hop s.tables r.name
+    → IsCopyLength hop (outgoing_probe s p []) copy → k ≡ first_case (envelope_facts format s e r hop 0 copy)
+    → v ≡ probe_column hop k → v ≡ verdict_of_probe format s p r
 unfolding verdict_of_probe
-probe_verdict s p r e hop copy k v is-envelope is-hop is-copy is-case is-verdict =
-    let first : k ≡ first_case (facts_of_probe s p r) =
+probe_verdict format s p r e hop copy k v is-envelope is-hop is-copy is-case is-verdict =
+    let first : k ≡ first_case (facts_of_probe format s p r) =
     is-case
-    ∙ ap (λ (w : EnvelopeFields). first_case (envelope_facts s w r hop 0 copy)) is-envelope
-    ∙ copy_counts s p r hop 0 (outgoing_probe s p []) copy is-copy
-    ∙ ap (λ h. first_case (envelope_facts s p r h 0 (length (outgoing_probe s p [])))) is-hop in
+    ∙ ap (λ (w : EnvelopeFields). first_case (envelope_facts format s w r hop 0 copy)) is-envelope
+    ∙ copy_counts format s p r hop 0 (outgoing_probe s p []) copy is-copy
+    ∙ ap (λ h. first_case (envelope_facts format s p r h 0 (length (outgoing_probe s p [])))) is-hop in
     is-verdict
     ∙ ap (λ x. probe_column hop x) first
-    ∙ ap (λ h. probe_column h (first_case (facts_of_probe s p r))) is-hop
+    ∙ ap (λ h. probe_column h (first_case (facts_of_probe format s p r))) is-hop
 
 pub report_verdict : (s : Situation) (p q : ReportFields) (hop : Hop) (copy : ℕ) (k : Case) (b back : Bool)
     (v : Verdict) → q ≡ p → hop ≡ best_hop s.tables q.destination

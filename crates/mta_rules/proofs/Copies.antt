@@ -30,16 +30,16 @@ long_so octets n e = elim (cases_lt longest_copy (length octets)) [
 abbrev with_long : Facts → Bool → Facts
 with_long f b = record f { long_copy = b }
 
-pub copy_counts : (s : Situation) (e : EnvelopeFields) (r : RecipientFields) (hop : Hop) (members : ℕ)
+pub copy_counts : (format : ℕ) (s : Situation) (e : EnvelopeFields) (r : RecipientFields) (hop : Hop) (members : ℕ)
     (octets : List ℕ) (n : ℕ) → IsCopyLength hop octets n
-    → first_case (envelope_facts s e r hop members n) ≡ first_case
-    (envelope_facts s e r hop members (length octets))
+    → first_case (envelope_facts format s e r hop members n) ≡ first_case
+    (envelope_facts format s e r hop members (length octets))
 unfolding first_case
-copy_counts s e r (Hops.Peer place) members octets n h =
-    ap (λ b. first_case (with_long (envelope_facts s e r (Hops.Peer place) members 0) b)) (long_so octets n h)
-copy_counts s e r (Hops.Local place) members octets n h = refl
-copy_counts s e r (Hops.List place) members octets n h = refl
-copy_counts s e r Hops.None members octets n h = refl
+copy_counts format s e r (Hops.Peer place) members octets n h =
+    ap (λ b. first_case (with_long (envelope_facts format s e r (Hops.Peer place) members 0) b)) (long_so octets n h)
+copy_counts format s e r (Hops.Local place) members octets n h = refl
+copy_counts format s e r (Hops.List place) members octets n h = refl
+copy_counts format s e r Hops.None members octets n h = refl
 
 -- what a report says, for a hop and a length of the copy
 abbrev report_facts : Situation → ReportFields → Hop → ℕ → Facts

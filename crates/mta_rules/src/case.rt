@@ -8,8 +8,8 @@ ghost use Rattle.mta_procedures.specs.Verdicts.{first_case, leads_nowhere};
 ghost use Rattle.mta_rules.specs.Cases.{IsHopOf, later_case, IsAtList, IsAtHop, IsOfReport};
 
 use crate::list::{has_full_history, is_in_history, is_unwanted};
-use crate::looks::{has_critical, has_looped, is_deferred, is_expired};
-use mta_envelope::{EnvelopeFields, Priority};
+use crate::looks::{has_critical, has_looped, is_deferred, is_expired, report_terms, terms_of};
+use mta_envelope::EnvelopeFields;
 use mta_envelope_recipient::RecipientFields;
 use mta_procedures::Case;
 use mta_report::ReportFields;
@@ -76,9 +76,10 @@ fn leads_nowhere(hop: Hop) -> bool
     }
 }
 
-/// The case of a recipient of a message or a probe.
+/// The case of a recipient of a message or a probe in a format.
 #[tactic(auto, using(crate::proofs::CaseSteps::case_steps))]
 pub fn case_of(
+    format: u32,
     tables: &Tables,
     arrival: u64,
     moment: u64,
@@ -92,29 +93,18 @@ pub fn case_of(
     requires deferral { IfSome envelope.now.deferral (λ d. d ≤ last_moment) }
     requires hop { IsHopOf tables.now hop }
     ensures { let s = situation tables.now arrival moment in
-        result ≡ first_case (envelope_facts s envelope.now recipient.now hop members copy) }
+        result ≡ first_case (envelope_facts format s envelope.now recipient.now hop members copy) }
 {
+    let terms = terms_of(format, envelope);
     if has_looped(tables, envelope.trace.as_slice(), arrival, moment) {
         Case::Looped
     } else if has_critical(hop, envelope, recipient) {
         Case::CriticalExtension
     } else if leads_nowhere(hop) {
         Case::NoRoute
-    } else if is_expired(
-        tables,
-        arrival,
-        moment,
-        envelope.priority,
-        envelope.deferral,
-    ) {
+    } else if is_expired(tables, arrival, moment, terms) {
         Case::Expired
-    } else if is_deferred(
-        tables,
-        arrival,
-        moment,
-        envelope.priority,
-        envelope.deferral,
-    ) {
+    } else if is_deferred(tables, arrival, moment, terms) {
         Case::Deferred
     } else {
         case_at_hop(tables, envelope, hop, members, copy)
@@ -139,7 +129,7 @@ pub fn case_of_report(
         Case::Looped
     } else if leads_nowhere(hop) {
         Case::NoRoute
-    } else if is_expired(tables, arrival, moment, Priority::Normal, None) {
+    } else if is_expired(tables, arrival, moment, report_terms()) {
         Case::Expired
     } else {
         match hop {

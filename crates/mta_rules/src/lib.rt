@@ -15,7 +15,7 @@ mod walk;
 pub use identifier::put_digits;
 pub use length::back_length;
 pub use list::is_in_history;
-pub use looks::{expiry, is_expired};
+pub use looks::{expiry, is_deferred, is_expired, report_terms, terms_of};
 pub use mta_copies::{outgoing_head, outgoing_message, outgoing_probe, outgoing_report};
 pub use mta_procedures::Verdict;
 pub use report::{make_report, report_on};

@@ -4,12 +4,14 @@ ghost use Rattle.std.specs.Prelude.{◌≡◌, ◌==◌, ◌≤◌, IfSome, max,
 ghost use Rattle.std.specs.List.{list_any};
 ghost use Rattle.mta_ber.specs.Times.{last_moment};
 ghost use Rattle.mta_procedures.specs.Criticals.{honoured_numbers, is_honoured, is_here, is_critical, has_critical};
-ghost use Rattle.mta_procedures.specs.Situations.{expiry, situation, hold_of, is_expired, is_deferred};
+ghost use Rattle.mta_procedures.specs.Situations.{situation, hold_of, held_until, earlier, expiry};
+ghost use Rattle.mta_procedures.specs.Situations.{is_expired, is_deferred, latest_in, terms_of, report_terms};
 ghost use Rattle.mta_procedures.specs.Traces.{is_of_domain, comes_back, has_looped};
 
 use mta_envelope::{EnvelopeFields, Priority};
 use mta_envelope_recipient::RecipientFields;
 use mta_fields::{Domain, ExtField, ExtKind, TraceElement};
+use mta_procedures::Terms;
 use mta_tables::{Hop, Tables};
 
 fn is_of_domain(own: &Domain, element: &TraceElement) -> bool
@@ -114,44 +116,77 @@ fn later_of(arrival: u64, deferral: Option<u64>) -> u64
     }
 }
 
-/// When an item of these terms expires.
-pub fn expiry(tables: &Tables, arrival: u64, priority: Priority, deferral: Option<u64>) -> u64
+/// The greater of the arrival and the deferral, and the hold time of the priority.
+fn held_until(tables: &Tables, arrival: u64, terms: Terms) -> u64
     requires within { arrival ≤ last_moment }
-    requires deferred { IfSome deferral (λ d. d ≤ last_moment) }
-    ensures { let s = situation tables.now arrival arrival in
-        result ≡ expiry s (record { priority = priority; deferral = deferral }) }
+    requires deferred { IfSome terms.deferral (λ d. d ≤ last_moment) }
+    ensures { result ≡ held_until (situation tables.now arrival arrival) terms }
 {
-    later_of(arrival, deferral) + hold_of(tables, priority)
+    later_of(arrival, terms.deferral) + hold_of(tables, terms.priority)
+}
+
+/// The moment, or the latest delivery time where that is less.
+fn earlier(moment: u64, latest: Option<u64>) -> u64
+    ensures { result ≡ earlier moment latest }
+{
+    match latest {
+        Some(latest) => moment.min(latest),
+        None => moment,
+    }
+}
+
+/// The latest delivery time, which counts in format 2 alone.
+fn latest_in(format: u32, envelope: &EnvelopeFields) -> Option<u64>
+    ensures { result ≡ latest_in format envelope.now }
+{
+    if format == 2 { envelope.latest } else { None }
+}
+
+/// What an envelope says of its time, as far as that counts in a format.
+pub fn terms_of(format: u32, envelope: &EnvelopeFields) -> Terms
+    ensures { result ≡ terms_of format envelope.now }
+{
+    Terms {
+        priority: envelope.priority,
+        deferral: envelope.deferral,
+        latest: latest_in(format, envelope),
+    }
+}
+
+/// Those of a report, which are the same in each format.
+pub fn report_terms() -> Terms
+    ensures { result ≡ report_terms }
+{
+    Terms {
+        priority: Priority::Normal,
+        deferral: None,
+        latest: None,
+    }
+}
+
+/// When an item of these terms expires.
+pub fn expiry(tables: &Tables, arrival: u64, terms: Terms) -> u64
+    requires within { arrival ≤ last_moment }
+    requires deferred { IfSome terms.deferral (λ d. d ≤ last_moment) }
+    ensures { result ≡ expiry (situation tables.now arrival arrival) terms }
+{
+    earlier(held_until(tables, arrival, terms), terms.latest)
 }
 
 /// Whether an item of these terms has expired.
-pub fn is_expired(
-    tables: &Tables,
-    arrival: u64,
-    moment: u64,
-    priority: Priority,
-    deferral: Option<u64>,
-) -> bool
+pub fn is_expired(tables: &Tables, arrival: u64, moment: u64, terms: Terms) -> bool
     requires within { arrival ≤ last_moment }
-    requires deferred { IfSome deferral (λ d. d ≤ last_moment) }
-    ensures { let s = situation tables.now arrival moment in
-        result ≡ is_expired s (record { priority = priority; deferral = deferral }) }
+    requires deferred { IfSome terms.deferral (λ d. d ≤ last_moment) }
+    ensures { result ≡ is_expired (situation tables.now arrival moment) terms }
 {
-    expiry(tables, arrival, priority, deferral) <= moment
+    expiry(tables, arrival, terms) <= moment
 }
 
 /// Whether the deferral is still to come.
-pub fn is_deferred(
-    tables: &Tables,
-    arrival: u64,
-    moment: u64,
-    priority: Priority,
-    deferral: Option<u64>,
-) -> bool
-    ensures { let s = situation tables.now arrival moment in
-        result ≡ is_deferred s (record { priority = priority; deferral = deferral }) }
+pub fn is_deferred(tables: &Tables, arrival: u64, moment: u64, terms: Terms) -> bool
+    ensures { result ≡ is_deferred (situation tables.now arrival moment) terms }
 {
-    match deferral {
+    match terms.deferral {
         Some(deferral) => moment < deferral,
         None => false,
     }

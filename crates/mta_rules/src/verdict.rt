@@ -160,10 +160,11 @@ fn report_length(tables: &Tables, arrival: u64, moment: u64, report: &Report, ho
     }
 }
 
-/// What is done with a recipient of a message that is lent, where the members' copy would have so many octets, and
-/// `back` is what `back_length` counted. It takes no memory.
+/// What is done in a format with a recipient of a message that is lent, where the members' copy would have so many
+/// octets, and `back` is what `back_length` counted. It takes no memory.
 #[tactic(auto, unfolding(mta_procedures::specs::Verdicts::verdict_of_message), using(crate::proofs::Copies::steps))]
 pub fn verdict_on_message(
+    format: u32,
     tables: &Tables,
     arrival: u64,
     message: &Message,
@@ -175,12 +176,13 @@ pub fn verdict_on_message(
     requires arrival { arrival ≤ last_moment }
     requires back { IsBackOf message.now.envelope back }
     ensures { let s = situation tables.now arrival moment in
-        result ≡ verdict_of_message s (message_value message.now) recipient.now members_length }
+        result ≡ verdict_of_message format s (message_value message.now) recipient.now members_length }
 {
     let envelope = message.envelope.fields();
     let hop = tables.route(&recipient.name);
     let copy = message_length(tables, arrival, moment, message, back, hop);
     let case = case_of(
+        format,
         tables,
         arrival,
         moment,
@@ -193,10 +195,11 @@ pub fn verdict_on_message(
     for_message(hop, deferral_or_zero(envelope.deferral), case)
 }
 
-/// What is done with a recipient of a probe that is lent, where `back` is what `back_length` counted. It takes no
-/// memory.
+/// What is done in a format with a recipient of a probe that is lent, where `back` is what `back_length` counted. It
+/// takes no memory.
 #[tactic(auto, unfolding(mta_procedures::specs::Verdicts::verdict_of_probe), using(crate::proofs::Copies::steps))]
 pub fn verdict_on_probe(
+    format: u32,
     tables: &Tables,
     arrival: u64,
     probe: &Probe,
@@ -206,19 +209,24 @@ pub fn verdict_on_probe(
 ) -> Verdict
     requires arrival { arrival ≤ last_moment }
     requires back { IsBackOf probe.now.envelope back }
-    ensures { result ≡ verdict_of_probe (situation tables.now arrival moment) probe.now.envelope recipient.now }
+    ensures { let s = situation tables.now arrival moment in
+        result ≡ verdict_of_probe format s probe.now.envelope recipient.now }
 {
     let hop = tables.route(&recipient.name);
     let copy = probe_length(tables, arrival, moment, probe, back, hop);
     let envelope = probe.envelope.fields();
-    let case = case_of(tables, arrival, moment, envelope, recipient, hop, 0, copy);
+    let case = case_of(
+        format, tables, arrival, moment, envelope, recipient, hop, 0, copy,
+    );
     for_probe(hop, case)
 }
 
-/// What is done with the recipient at a position, from 1, of a message that arrived at a moment, as it is looked at
-/// at another. Both are seconds from 1950-01-01 00:00:00 UTC, at most the last second of 2049. The members' copy
-/// would have `members_length` octets, which counts where the recipient is a list. It takes no memory.
+/// What is done in a format, 1 or 2, with the recipient at a position, from 1, of a message that arrived at a moment,
+/// as it is looked at at another. In format 2 the latest delivery time counts. Both moments are seconds from 1950-01-01
+/// 00:00:00 UTC, at most the last second of 2049. The members' copy would have `members_length` octets, which counts
+/// where the recipient is a list. It takes no memory.
 pub fn verdict_message(
+    format: u32,
     tables: &Tables,
     arrival: u64,
     message: &Message,
@@ -231,12 +239,13 @@ pub fn verdict_message(
     requires arrival { arrival ≤ last_moment }
     ensures { (r : RecipientFields) → slice_get message.now.envelope.recipients (recipient - 1) ≡ Some r
         → result
-        ≡ verdict_of_message (situation tables.now arrival moment) (message_value message.now) r members_length }
+        ≡ verdict_of_message format (situation tables.now arrival moment) (message_value message.now) r members_length }
 {
     let recipients = message.envelope.fields().recipients.as_slice();
     let chosen = recipients[recipient as usize - 1].fields();
     let back = back_length(message.envelope.fields());
     verdict_on_message(
+        format,
         tables,
         arrival,
         message,
@@ -247,9 +256,10 @@ pub fn verdict_message(
     )
 }
 
-/// What is done with the recipient at a position, from 1, of a probe that arrived at a moment, as it is looked at at
-/// another. It takes no memory.
+/// What is done in a format with the recipient at a position, from 1, of a probe that arrived at a moment, as it is
+/// looked at at another. It takes no memory.
 pub fn verdict_probe(
+    format: u32,
     tables: &Tables,
     arrival: u64,
     probe: &Probe,
@@ -260,18 +270,19 @@ pub fn verdict_probe(
     requires few { recipient ≤ length probe.now.envelope.recipients }
     requires arrival { arrival ≤ last_moment }
     ensures { (r : RecipientFields) → slice_get probe.now.envelope.recipients (recipient - 1) ≡ Some r
-        → result ≡ verdict_of_probe (situation tables.now arrival moment) probe.now.envelope r }
+        → result ≡ verdict_of_probe format (situation tables.now arrival moment) probe.now.envelope r }
 {
     let recipients = probe.envelope.fields().recipients.as_slice();
     let chosen = recipients[recipient as usize - 1].fields();
     let back = back_length(probe.envelope.fields());
-    verdict_on_probe(tables, arrival, probe, back, chosen, moment)
+    verdict_on_probe(format, tables, arrival, probe, back, chosen, moment)
 }
 
-/// What is done with a report that arrived at a moment, as it is looked at at another. Where it comes to a list,
-/// `back` is to whom it can go back. It takes no memory.
+/// What is done with a report that arrived at a moment, as it is looked at at another; in each format it is the same.
+/// Where the report comes to a list, `back` is to whom it can go back. It takes no memory.
 #[tactic(auto, unfolding(mta_procedures::specs::Verdicts::verdict_of_report), using(crate::proofs::Copies::told))]
 pub fn verdict_report(
+    _format: u32,
     tables: &Tables,
     arrival: u64,
     report: &Report,

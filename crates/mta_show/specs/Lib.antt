@@ -3,3 +3,4 @@ pub mod Statuses
 pub mod Lanes
 pub mod Queue
 pub mod Mailbox
+pub mod Compacted

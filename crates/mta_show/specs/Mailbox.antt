@@ -8,7 +8,7 @@ use Rattle.mta_apdu.specs.Apdus.{ApduValue, stored_of}
 use Rattle.mta_apdu_text.specs.Pieces.{moment_text}
 use Rattle.mta_apdu_text.specs.Apdus.{apdu_text}
 use Rattle.mta_machine.specs.Items.{ItemValue}
-use Rattle.mta_machine.specs.declared.item.MailboxLine.{MailboxLine}
+use Rattle.mta_records.specs.declared.state.MailboxLine.{MailboxLine}
 
 abbrev pub is_for : List ℕ → MailboxLine → Bool
 is_for word line = bytes_eq line.mailbox word

@@ -1,6 +1,6 @@
 -- The text of the queue: the items, numbered from 1, and what became of each recipient for whom this agent is
 -- responsible; then the lanes that are open.
-use Rattle.std.specs.Prelude.{ℕ, ◌+◌, List, [], ◌∷◌, ◌++◌, Option, Some, None, unwrap_or, Result, Ok, Err}
+use Rattle.std.specs.Prelude.{ℕ, ◌+◌, List, [], ◌∷◌, ◌++◌, Option, None, unwrap_or, Result, Ok, Err}
 use Rattle.std.specs.Prelude.{slice_get, codes, decimal}
 use Rattle.mta_ber.specs.declared.fault.Fault.{Fault}
 use Rattle.mta_fields.specs.declared.identifier.MtsIdFields.{MtsIdFields}
@@ -8,7 +8,7 @@ use Rattle.mta_envelope_recipient.specs.declared.recipient.RecipientFields.{Reci
 use Rattle.mta_apdu.specs.Apdus.{ApduValue, message, probe, report, stored_of}
 use Rattle.mta_apdu_text.specs.Pieces.{moment_text, id_text}
 use Rattle.mta_machine.specs.Items.{ItemValue}
-use Rattle.mta_machine.specs.declared.item.Status.{Status}
+use Rattle.mta_records.specs.declared.state.Status.{Status}
 use Rattle.mta_histories.specs.Lanes.{Lane}
 use Rattle.mta_show.specs.Statuses.{status_line_if}
 use Rattle.mta_show.specs.Lanes.{lane_lines}

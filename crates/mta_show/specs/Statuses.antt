@@ -4,9 +4,9 @@ use Rattle.mta_names.specs.declared.attributes.Attributes.{Attributes}
 use Rattle.mta_name_text.specs.Forms.{text_form}
 use Rattle.mta_apdu_text.specs.Pieces.{moment_text}
 use Rattle.mta_apdu_text.specs.Reporteds.{diagnostic_text}
-use Rattle.mta_machine.specs.declared.item.Status.{Status}
-use Rattle.mta_machine.specs.declared.item.Status.TheVariants.{Pending, Delivered, Expanded, Sent, Reported, Affirmed}
-use Rattle.mta_machine.specs.declared.item.Status.TheVariants.{Discarded, Passed}
+use Rattle.mta_records.specs.declared.state.Status.{Status}
+use Rattle.mta_records.specs.declared.state.Status.TheVariants.{Pending, Delivered, Expanded, Sent, Reported, Affirmed}
+use Rattle.mta_records.specs.declared.state.Status.TheVariants.{Discarded, Passed}
 
 -- a word, with the space behind it, and when it came to be so
 unfoldable pub timed_text : List ℕ → ℕ → List ℕ

@@ -2,10 +2,12 @@
 #![tactic(auto)]
 
 mod lanes;
+mod law;
 mod mailbox;
 mod queue;
 mod status;
 
+pub use law::snapshots_print_the_same;
 pub use mailbox::show_mailbox;
 pub use mta_apdu_text::show_apdu;
 pub use queue::show_queue;

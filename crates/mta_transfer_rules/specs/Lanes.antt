@@ -1,6 +1,6 @@
 -- A lane as a history has it: the steps that concern it, each with the octets that a Start transfers; which of them are
 -- possible, and what they leave of the lane's values and of its two halves (X.228 clause 7).
-use Rattle.std.specs.Prelude.{◌≡◌, ◌<◌, ◌≤◌, ℕ, ◌+◌, ◌-◌, ◌==◌, if◌then◌else◌, Bool}
+use Rattle.std.specs.Prelude.{◌≡◌, ◌<◌, ◌≤◌, ℕ, ◌+◌, ◌-◌, ◌==◌, if◌then◌else◌, Bool, nat_le}
 use Rattle.std.specs.Prelude.{true, false}
 use Rattle.std.specs.Prelude.{List, [], ◌∷◌, ◌++◌, length, take}
 use Rattle.mta_lane_send.specs.declared.state.SendState.{SendState}
@@ -30,11 +30,6 @@ pub data SeenStep : Type 0 where
   Complete : (generation activity number : ℕ) (piece : List ℕ) → SeenStep
   Drop : (generation activity : ℕ) → SeenStep
   CloseLane : (generation : ℕ) → SeenStep
-
--- a step of the spool: on the lane of a number, or on none
-pub data Seen : Type 0 where
-  On : (lane : ℕ) → SeenStep → Seen
-  Elsewhere : Seen
 
 -- ---- lanes
 
@@ -70,6 +65,22 @@ unopened = record {
   last = last.None;
   pieces = [];
 }
+
+-- a step of the spool: on the lane of a number; on none; or the snapshot with which a history begins: how many lanes
+-- were opened before it, and those that are open, each with its number
+pub data Seen : Type 0 where
+  On : (lane : ℕ) → SeenStep → Seen
+  Elsewhere : Seen
+  Begins : (count : ℕ) (lanes : List (ℕ × Halves)) → Seen
+
+-- the halves of a lane that was opened before a snapshot and is in it no more
+abbrev pub closed_before : Halves
+closed_before = record unopened { phase = Closed }
+
+-- the lane of this number in a snapshot: as it stands there; closed, where so many were opened; else not opened
+abbrev pub lane_begun : (count : ℕ) → List (ℕ × Halves) → (lane : ℕ) → Halves
+lane_begun count [] i = if nat_le 1 i then (if nat_le i count then closed_before else unopened) else unopened
+lane_begun count (l ∷ lanes) i = if l.0 == i then l.1 else lane_begun count lanes i
 
 -- ---- which step is possible, and what it leaves
 
@@ -135,6 +146,7 @@ halves_after l (CloseLane g) = record l { phase = Closed }
 abbrev pub of_lane : (lane : ℕ) → Seen → List SeenStep
 of_lane i (On j step) = if j == i then step ∷ [] else []
 of_lane i Elsewhere = []
+of_lane i (Begins count lanes) = []
 
 abbrev pub of_lane_all : (lane : ℕ) → List Seen → List SeenStep
 of_lane_all i [] = []
@@ -148,10 +160,18 @@ abbrev pub AreAllowed : (spells : List ℕ → Bool) → Halves → List SeenSte
 AreAllowed spells l [] = Unit {0}
 AreAllowed spells l (step ∷ steps) = Allows spells l step × AreAllowed spells (halves_after l step) steps
 
+-- The lane of this number where a history begins: as the snapshot has it with which it begins, or else not opened. A
+-- snapshot that stands elsewhere would say nothing; there is none (`IsPossible` of histories).
+abbrev pub lane_at_first : (lane : ℕ) → List Seen → Halves
+lane_at_first i [] = unopened
+lane_at_first i (On j step ∷ steps) = unopened
+lane_at_first i (Elsewhere ∷ steps) = unopened
+lane_at_first i (Begins count lanes ∷ steps) = lane_begun count lanes i
+
 -- the lane of this number after a history
 abbrev pub lane_in : (lane : ℕ) → List Seen → Halves
-lane_in i steps = halves_run unopened (of_lane_all i steps)
+lane_in i steps = halves_run (lane_at_first i steps) (of_lane_all i steps)
 
 -- every lane allows its steps, one behind the other
 abbrev pub LanesAllow : (spells : List ℕ → Bool) → List Seen → Type 0
-LanesAllow spells steps = (lane : ℕ) → AreAllowed spells unopened (of_lane_all lane steps)
+LanesAllow spells steps = (lane : ℕ) → AreAllowed spells (lane_at_first lane steps) (of_lane_all lane steps)

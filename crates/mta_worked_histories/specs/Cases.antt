@@ -8,7 +8,7 @@ use Rattle.mta_lane_send.specs.declared.state.SendState.{SendState}
 use Rattle.mta_lane_send.specs.declared.state.SendState.TheVariants.{Idle, Sending}
 use Rattle.mta_apdu.specs.Apdus.{message, canonical_apdu}
 use Rattle.mta_procedures.specs.Rows.{sample, posted}
-use Rattle.mta_machine.specs.declared.item.Status.TheVariants.{Pending, Expanded, Sent, Reported, Discarded}
+use Rattle.mta_records.specs.declared.state.Status.TheVariants.{Pending, Expanded, Sent, Reported, Discarded}
 use Rattle.mta_machine.specs.Items.{status_at}
 use Rattle.mta_histories.specs.Lanes.{Lane, lane_at, total_of}
 use Rattle.mta_histories.specs.History.{IsHistory, IsPossible, after}

@@ -1,5 +1,6 @@
 //! Verdicts. The numbers are the arrival and the moment; then, of a message, the position of a recipient and the
-//! length of the members' copy, of a probe that position, and of a report 1 where it can go back.
+//! length of the members' copy, of a probe that position, and of a report 1 where it can go back; and then the format,
+//! where that is not 1.
 
 use crate::rules::answer::Answer;
 use mta_apdu::Apdu;
@@ -9,8 +10,16 @@ use mta_report::Report;
 use mta_rules::{verdict_message, verdict_probe, verdict_report};
 use mta_tables::Tables;
 
+/// The format that stands behind the other numbers.
+fn format_of(last: &[u32]) -> u32 {
+    match last.first() {
+        Some(format) => *format,
+        None => 1,
+    }
+}
+
 fn on_message(tables: &Tables, message: &Message, numbers: &[u32]) -> Answer {
-    let [arrival, moment, position, members] = numbers else {
+    let [arrival, moment, position, members, last @ ..] = numbers else {
         return Answer::NotAsked;
     };
     let arrival = u64::from(*arrival);
@@ -19,11 +28,12 @@ fn on_message(tables: &Tables, message: &Message, numbers: &[u32]) -> Answer {
         return Answer::NotAsked;
     }
     let (members, moment) = (u64::from(*members), u64::from(*moment));
-    Answer::Verdict(verdict_message(tables, arrival, message, *position, members, moment))
+    let format = format_of(last);
+    Answer::Verdict(verdict_message(format, tables, arrival, message, *position, members, moment))
 }
 
 fn on_probe(tables: &Tables, probe: &Probe, numbers: &[u32]) -> Answer {
-    let [arrival, moment, position] = numbers else {
+    let [arrival, moment, position, last @ ..] = numbers else {
         return Answer::NotAsked;
     };
     let arrival = u64::from(*arrival);
@@ -32,11 +42,12 @@ fn on_probe(tables: &Tables, probe: &Probe, numbers: &[u32]) -> Answer {
         return Answer::NotAsked;
     }
     let moment = u64::from(*moment);
-    Answer::Verdict(verdict_probe(tables, arrival, probe, *position, moment))
+    let format = format_of(last);
+    Answer::Verdict(verdict_probe(format, tables, arrival, probe, *position, moment))
 }
 
 fn on_report(tables: &Tables, report: &Report, numbers: &[u32]) -> Answer {
-    let [arrival, moment, back] = numbers else {
+    let [arrival, moment, back, last @ ..] = numbers else {
         return Answer::NotAsked;
     };
     let arrival = u64::from(*arrival);
@@ -46,7 +57,8 @@ fn on_report(tables: &Tables, report: &Report, numbers: &[u32]) -> Answer {
     let name = &report.fields().destination;
     let back = if *back == 1 { Some(name) } else { None };
     let moment = u64::from(*moment);
-    Answer::Verdict(verdict_report(tables, arrival, report, back, moment))
+    let format = format_of(last);
+    Answer::Verdict(verdict_report(format, tables, arrival, report, back, moment))
 }
 
 /// What is done under these tables.

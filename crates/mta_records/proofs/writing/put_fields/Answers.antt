@@ -1,7 +1,8 @@
 use Rattle.std.proofs.Common.{◌≡◌, ◌++◌, List, ℕ, sym, ap, subst, ◌∙◌, inl, inr}
 use Rattle.mta_records.specs.declared.step.Step.{Step}
 use Rattle.mta_records.specs.declared.step.Step.TheVariants.{Accept, Start, Sent, Secure, Complete}
-use Rattle.mta_records.specs.Body.{lane_name_octets, two_and_moment_octets, fields_of, HasFields}
+use Rattle.mta_records.specs.Body.{two_and_moment_octets, fields_of, HasFields}
+use Rattle.mta_records.specs.LaneName.{lane_name_octets}
 use Rattle.mta_records.specs.Fields.{a_truth}
 use Rattle.mta_records.proofs.Appending.{short, with_fields, last_of_two}
 use Rattle.mta_records.proofs.writing.put_fields.Goals as goal
@@ -30,6 +31,9 @@ pub put_complete-requires : goal.put_complete-requires
 put_complete-requires c =
     let fits = subst (λ (s : Step). HasFields s) c.in-Complete.is c.requires in
     short c.as_slice-in-Complete.result.now c.in-Complete.piece c.as_slice-in-Complete.ensures fits.1.0
+
+pub put_snapshot-requires : goal.put_snapshot-requires
+put_snapshot-requires c = subst (λ (s : Step). HasFields s) c.in-Snapshot.is c.requires
 
 pub returns-in-Accept : goal.returns-in-Accept
 returns-in-Accept c =
@@ -81,3 +85,8 @@ returns-in-Sent c =
     ] in
     with_fields c.put_timed_activity.result c.args.out.now c.put_timed_activity.new.out _ _
     same c.put_timed_activity.ensures
+
+pub returns-in-Snapshot : goal.returns-in-Snapshot
+returns-in-Snapshot c =
+    with_fields c.put_snapshot.result c.args.out.now c.put_snapshot.new.out _ _
+    (sym (ap fields_of c.in-Snapshot.is)) c.put_snapshot.ensures

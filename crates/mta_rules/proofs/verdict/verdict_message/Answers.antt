@@ -12,7 +12,7 @@ use Rattle.mta_rules.proofs.verdict.verdict_message.Goals as goal
 pub returns : goal.returns
 returns c =
     let of : RecipientFields → Verdict =
-    λ r. verdict_of_message (situation c.args.tables.now c.args.arrival c.args.moment)
+    λ r. verdict_of_message c.args.format (situation c.args.tables.now c.args.arrival c.args.moment)
     (message_value c.args.message.now) r c.args.members_length in
     let all = c.args.message.now.envelope.recipients in
     let chosen = c.fields-chosen.result.now in

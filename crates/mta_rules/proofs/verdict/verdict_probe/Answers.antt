@@ -11,7 +11,8 @@ use Rattle.mta_rules.proofs.verdict.verdict_probe.Goals as goal
 pub returns : goal.returns
 returns c =
     let of : RecipientFields → Verdict =
-    λ r. verdict_of_probe (situation c.args.tables.now c.args.arrival c.args.moment) c.args.probe.now.envelope r in
+    λ r. verdict_of_probe c.args.format (situation c.args.tables.now c.args.arrival c.args.moment)
+    c.args.probe.now.envelope r in
     let all = c.args.probe.now.envelope.recipients in
     let chosen = c.fields-chosen.result.now in
     λ (r : RecipientFields) (h : slice_get all (c.args.recipient - 1) ≡ Some r).

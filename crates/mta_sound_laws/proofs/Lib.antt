@@ -1,0 +1,10 @@
+pub mod Codes
+pub mod Read
+pub mod Domains
+pub mod Destinations
+pub mod Reports
+pub mod Passed
+pub mod Lengths
+pub mod Expansions
+pub mod Made
+pub mod Stays

@@ -1,0 +1,6 @@
+//! Laws of soundness: the state after a history whose steps are records may be recorded in a snapshot.
+#![tactic(auto)]
+
+mod law;
+
+pub use law::recorded_steps_stay_sound;
