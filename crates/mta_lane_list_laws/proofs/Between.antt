@@ -13,8 +13,9 @@ use Rattle.mta_transfer_laws.specs.ReceivingOrder as received
 use Rattle.mta_transfer_laws.specs.Sendings as sendings
 use Rattle.mta_transfer_laws.specs.Sessions as x
 use Rattle.mta_transfer_laws.specs.Sessions.{Got, Look, Looked, Made, Put, receiving_step_of, Refused, seen_after}
-use Rattle.mta_transfer_laws.specs.Sessions.{send_all, sending_event, sending_step_of, SessionEvent, SessionList, step_seen}
-use Rattle.mta_session.specs.Wanted.{Wanted, Aborts, Rejects, Ends, Puts, Asks, Reads, Goes_on, Excepts, Never}
+use Rattle.mta_transfer_laws.specs.Sessions.{send_all, sending_event, sending_step_of, SessionEvent, SessionList}
+use Rattle.mta_transfer_laws.specs.Sessions.{step_seen}
+use Rattle.mta_session.specs.Wanted.{Wanted, Aborts}
 use Rattle.mta_session.specs.declared.ask.Ask.{Ask}
 use Rattle.mta_session.specs.declared.ask.Reply.{Reply}
 use Rattle.mta_session.specs.declared.event.Action.{Action}

@@ -1,11 +1,10 @@
 -- The two ends of each lane agree that this agent opened: the station that calls its peer had all its sessions.
-use Rattle.std.proofs.Common.{◌≡◌, ◌⊎◌, ◌<◌, ◌≤◌, ℕ, ◌+◌, ◌==◌, Bool, true, false, Option, Some, None, List, [], ◌∷◌}
+use Rattle.std.proofs.Common.{◌≡◌, ◌⊎◌, ◌<◌, ℕ, ◌+◌, ◌==◌, Bool, true, false, Option, Some, None, List, [], ◌∷◌}
 use Rattle.std.proofs.Common.{◌++◌, length, refl, sym, ap, subst, ◌∙◌, inl, inr, arith}
 use Rattle.std.proofs.lemmas.Bool.{eqb-false, eqb-true}
 use Rattle.mta_links.specs.Links.{LinkView}
 use Rattle.mta_links.specs.declared.role.Role.{Role}
 use Rattle.mta_links.specs.declared.role.Role.TheVariants as Roles
-use Rattle.mta_transfer_rules.specs.Lanes.{Seen}
 use Rattle.mta_records.specs.declared.lane.LaneRole.TheVariants.{Initiator, Responder}
 use Rattle.mta_records.specs.declared.step.Step.{Step}
 use Rattle.mta_histories.specs.History.{IsHistory}

@@ -13,9 +13,9 @@ use Rattle.mta_transfer_rules.specs.Sending as s
 use Rattle.mta_transfer_rules.specs.Sending.{SendEvent}
 use Rattle.mta_records.specs.declared.step.Step.{Step}
 use Rattle.mta_histories.specs.History.{IsHistory}
-use Rattle.mta_histories.proofs.Seeing.{lanes_see_histories}
 use Rattle.mta_lane_match_laws.specs.Generations.{Begins as BeginsHere, BeginsAt}
 use Rattle.mta_transfer_laws.specs.Clause.{OneStationAgrees}
+use Rattle.mta_transfer_laws.specs.History.{IsOfLanes}
 use Rattle.mta_transfer_laws.specs.Covering as sent
 use Rattle.mta_transfer_laws.specs.ReceivingOrder as received
 use Rattle.mta_transfer_laws.specs.Receivings as receiving
@@ -34,6 +34,7 @@ use Rattle.mta_worker_list_laws.proofs.Agreeing.{each_good}
 use Rattle.mta_worker_list_laws.proofs.All.{place_below}
 use Rattle.mta_worker_list_laws.proofs.Annotating.{length_seen}
 use Rattle.mta_worker_list_laws.proofs.Segments.{is_segment, maker, Maker}
+use Rattle.mta_worker_list_laws.proofs.Annotating.{of_lanes}
 use Rattle.mta_lane_list_laws.specs.Lanes.{AreOnSide, EachBegan, HaveLane, HaveSteps, IsOnSide, IsStation}
 use Rattle.mta_lane_list_laws.proofs.Sides.{side_of}
 use Rattle.mta_lane_list_laws.proofs.Told.{each_began}
@@ -227,12 +228,14 @@ sent_here : (lane p : ℕ) (x : Option Seen) (y : sending.HalfStep) → sent.ste
     → OnHalf sending.sending_step lane p x y
 sent_here lane p None y e = cc
 sent_here lane p (Some Elsewhere) y e = cc
+sent_here lane p (Some (h.Begins count lanes)) y e = cc
 sent_here lane p (Some (On j step)) y e = on_half sending.sending_step lane p j step y (j == lane) refl e
 
 received_here : (lane p : ℕ) (x : Option Seen) (y : receiving.HalfStep) → received.step_here lane p x ≡ y ∷ []
     → OnHalf receiving.receiving_step lane p x y
 received_here lane p None y e = cc
 received_here lane p (Some Elsewhere) y e = cc
+received_here lane p (Some (h.Begins count lanes)) y e = cc
 received_here lane p (Some (On j step)) y e = on_half receiving.receiving_step lane p j step y (j == lane) refl e
 
 -- where a generation begins, both halves have it so
@@ -507,7 +510,7 @@ on_side good may_stop whole_agree agree links spells first entries low all tells
       built.lists,
       built.are,
       agree spells before added lane size window initiator built.lists
-          (subst (LanesAllow spells) (sym cut) allow)
+          (subst (LanesAllow spells) (sym cut) allow.allowed)
           (subst (λ (xs : List Seen). EachGood spells xs lane size window initiator built.lists) (sym cut) goods)
           (subst (λ (xs : List Seen). sent.Owns xs (length before) lane built.lists) (sym cut)
           (subst (λ (k : ℕ). sent.Owns history k lane built.lists) (sym from_is) sent_owns))
@@ -521,8 +524,8 @@ on_side good may_stop whole_agree agree links spells first entries low all tells
     n : ℕ
     n = length first + low
 
-    allow : LanesAllow spells (whole first entries)
-    allow = (lanes_see_histories (first ++ entries) possible).allowed spells tells.of_apdus
+    allow : IsOfLanes spells (whole first entries)
+    allow = of_lanes spells (first ++ entries) tells possible
 
     built : Built links spells first entries low all lane size window initiator n ss
     built = build links spells first entries low all lane size window initiator n one.upto ss one.sessions one.turns

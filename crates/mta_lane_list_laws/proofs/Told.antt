@@ -1,5 +1,5 @@
 -- Each generation of a lane began with a session that has a list, where each was told of its LaneOpen or Bind step.
-use Rattle.std.proofs.Common.{◌≡◌, ◌<◌, ◌≤◌, ℕ, ◌+◌, ◌-◌, Bool, Option, None, Some, List, ◌++◌, length, slice_get, refl}
+use Rattle.std.proofs.Common.{◌≡◌, ◌<◌, ℕ, ◌+◌, ◌-◌, Bool, Option, None, Some, List, length, refl}
 use Rattle.std.proofs.Common.{sym, ap, subst, ◌∙◌, arith}
 use Rattle.mta_links.specs.Links.{LinkView}
 use Rattle.mta_transfer_rules.specs.Lanes as h
@@ -38,7 +38,8 @@ module _ {L : Type 0} (links : LinkView L) (spells : List ℕ → Bool) (first e
   history = whole first entries
 
   by_list : (p k g : ℕ) (s : Segment) → IsOne s all.parts → 0 < times k s.own
-      → BeginsAt history (length first + k) lane g → length first + k ≡ p → (o : Option OnLane) → s.list ≡ o → IsBegunAt o (length first + k) lane
+      → BeginsAt history (length first + k) lane g → length first + k ≡ p → (o : Option OnLane) → s.list ≡ o
+      → IsBegunAt o (length first + k) lane
       → (r : Segment) × IsOne r ss × BeganAt r lane p
   by_list p k g s one hit b at None e once = absurd (told s k g one e hit b)
   by_list p k g s one hit b at (Some on) e once = (

@@ -2,7 +2,7 @@
 use Rattle.std.proofs.Common.{◌≡◌, ℕ, ◌+◌, ◌≤◌, true, List, Option, Some, refl, rules, sym, ap, subst, ◌∙◌}
 use Rattle.std.specs.Prelude.{length}
 use Rattle.mta_lane_send.specs.declared.state.SendState.{SendState}
-use Rattle.mta_lane_send.specs.declared.state.SendState.TheVariants.{Idle, Sending, Ending, Dropping}
+use Rattle.mta_lane_send.specs.declared.state.SendState.TheVariants.{Idle}
 use Rattle.mta_lane_send.specs.Half.{last_of, is_idle}
 use Rattle.mta_records.specs.Outgoing.{Carried}
 use Rattle.mta_histories.specs.Lanes.{Lane, lane_at, put_lane, EachLane}

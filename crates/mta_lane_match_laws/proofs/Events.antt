@@ -23,7 +23,8 @@ use Rattle.mta_session.specs.declared.phase.Phase.TheVariants as phase
 use Rattle.mta_session.specs.declared.phase.OwnStep.{OwnStep}
 use Rattle.mta_session.specs.declared.ask.Reply.{Reply}
 use Rattle.mta_lane_match_laws.specs.Matches.{Known, known, follows_lane}
-use Rattle.mta_lane_match_laws.specs.Calls.{Pieces, KnowsAs, HeardAs, HeardKeeps, TakenAs, TakenKeeps, EventsKnow, learned_of}
+use Rattle.mta_lane_match_laws.specs.Calls.{Pieces, KnowsAs, HeardAs, HeardKeeps, TakenAs, TakenKeeps, EventsKnow}
+use Rattle.mta_lane_match_laws.specs.Calls.{learned_of}
 use Rattle.mta_lane_match_laws.specs.Calls.{learned_of_unit, proposed}
 
 if_knows : (k : Known) (b : Bool) (w v : Wanted) → KnowsAs k w → KnowsAs k v → KnowsAs k (if b then w else v)

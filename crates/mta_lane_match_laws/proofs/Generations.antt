@@ -2,9 +2,12 @@
 use Rattle.std.proofs.Common.{◌≡◌, ℕ, zero, suc, ◌≤◌, Bool, true, false, cond, eqb, List, [], ◌∷◌, ◌++◌, Some, None}
 use Rattle.std.proofs.Common.{refl, sym, ap, subst, ◌∙◌, arith}
 use Rattle.std.proofs.lemmas.Bool.{eqb-false}
-use Rattle.mta_transfer_rules.specs.Lanes.{SeenStep, Seen, On, Elsewhere, LaneOpen, LaneAgree, Bind, Start, Confirm, To_end, Sent}
-use Rattle.mta_transfer_rules.specs.Lanes.{Refused, Denied, Dropped, Abandon, Secure, Complete, Drop, CloseLane, Unopened, Open}
-use Rattle.mta_transfer_rules.specs.Lanes.{Halves, unopened, Allows, halves_after, of_lane_all, AreAllowed}
+use Rattle.mta_transfer_rules.specs.Lanes as h
+use Rattle.mta_transfer_rules.specs.Lanes.{SeenStep, Seen, On, Elsewhere, LaneOpen, LaneAgree, Bind, Start, Confirm}
+use Rattle.mta_transfer_rules.specs.Lanes.{To_end, Sent}
+use Rattle.mta_transfer_rules.specs.Lanes.{Refused, Denied, Dropped, Abandon, Secure, Complete, Drop, CloseLane}
+use Rattle.mta_transfer_rules.specs.Lanes.{Unopened, Open}
+use Rattle.mta_transfer_rules.specs.Lanes.{Halves, Allows, halves_after, of_lane_all, lane_at_first, AreAllowed}
 use Rattle.mta_lane_match_laws.specs.Generations.{Begins, BeginsAt, GenerationsBeginOnce}
 
 module _ (spells : List ℕ → Bool) (n g : ℕ) where
@@ -70,8 +73,10 @@ module _ (spells : List ℕ → Bool) (n g : ℕ) where
       → (p : ℕ) → BeginsAt xs p n g → ⊥
   none_later l [] may past p b = absurd (let none : None ≡ Some b.0 = b.1 in cc)
   none_later l (Elsewhere ∷ xs) may past zero b = first_is Elsewhere xs b
+  none_later l (h.Begins count lanes ∷ xs) may past zero b = first_is (h.Begins count lanes) xs b
   none_later l (On m step ∷ xs) may past zero b = not_first l m step xs may past (first_is (On m step) xs b)
   none_later l (Elsewhere ∷ xs) may past (suc p) b = none_later l xs may past p b
+  none_later l (h.Begins count lanes ∷ xs) may past (suc p) b = none_later l xs may past p b
   none_later l (On m step ∷ xs) may past (suc p) b =
       let more = rest_past l step (of_lane_all n xs) (eqb m n) may past in
       none_later more.0 xs more.1 more.2 p b
@@ -88,13 +93,17 @@ module _ (spells : List ℕ → Bool) (n g : ℕ) where
   once l [] may p q a b = absurd (let none : None ≡ Some a.0 = a.1 in cc)
   once l (x ∷ xs) may zero zero a b = refl
   once l (Elsewhere ∷ xs) may zero (suc q) a b = absurd (first_is Elsewhere xs a)
+  once l (h.Begins count lanes ∷ xs) may zero (suc q) a b = absurd (first_is (h.Begins count lanes) xs a)
   once l (On m step ∷ xs) may zero (suc q) a b = absurd (no_other l m step xs may (first_is (On m step) xs a) q b)
   once l (Elsewhere ∷ xs) may (suc p) zero a b = absurd (first_is Elsewhere xs b)
+  once l (h.Begins count lanes ∷ xs) may (suc p) zero a b = absurd (first_is (h.Begins count lanes) xs b)
   once l (On m step ∷ xs) may (suc p) zero a b = absurd (no_other l m step xs may (first_is (On m step) xs b) p a)
   once l (Elsewhere ∷ xs) may (suc p) (suc q) a b = ap (λ (k : ℕ). suc k) (once l xs may p q a b)
+  once l (h.Begins count lanes ∷ xs) may (suc p) (suc q) a b = ap (λ (k : ℕ). suc k) (once l xs may p q a b)
   once l (On m step ∷ xs) may (suc p) (suc q) a b =
       let more = rest l step (of_lane_all n xs) (eqb m n) may in
       ap (λ (k : ℕ). suc k) (once more.0 xs more.1 p q a b)
 
 pub generations_begin_once : GenerationsBeginOnce
-generations_begin_once spells history p q n g may a b = once spells n g unopened history (may n) p q a b
+generations_begin_once spells history p q n g may a b =
+    once spells n g (lane_at_first n history) history (may n) p q a b

@@ -20,7 +20,7 @@ use Rattle.mta_session.specs.Receiving.{taken, is_free}
 use Rattle.mta_session.specs.Sending.{heard}
 use Rattle.mta_session.specs.Follows.{Part, Of_sender, Of_receiver, Of_neither, part_of, PutsFor, AsksFor, GoesOn}
 use Rattle.mta_session.specs.Follows.{ExceptsFor, Does, FollowsAt, counted}
-use Rattle.mta_session.specs.Wanted.{Wanted, Aborts, Rejects, Ends, Puts, Asks, Reads, Goes_on, Excepts, Never, wanted}
+use Rattle.mta_session.specs.Wanted.{Wanted, Aborts, Puts, Asks, Reads, Goes_on, Excepts, Never, wanted}
 use Rattle.mta_session.specs.Wanted.{puts_accept, answer_for, on_lane_values, on_recovery, restored, answers_link}
 use Rattle.mta_session.specs.Wanted.{with_received, on_received, on_receiving, on_resumed, on_abort, goes_on_if}
 use Rattle.mta_session.specs.Wanted.{makes_or}

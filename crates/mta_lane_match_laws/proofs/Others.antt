@@ -3,19 +3,19 @@ use Rattle.std.proofs.Common.{◌≡◌, ℕ, ◌<◌, true, Option, Some, None,
 use Rattle.std.proofs.Common.{arith, inl, inr}
 use Rattle.std.proofs.lemmas.Bool.{eqb-true}
 use Rattle.mta_lane_send.specs.declared.state.SendState.{SendState}
-use Rattle.mta_lane_send.specs.declared.state.SendState.TheVariants.{Idle, Sending, Ending, Dropping}
+use Rattle.mta_lane_send.specs.declared.state.SendState.TheVariants.{Sending, Dropping}
 use Rattle.mta_lane_send.specs.Half.{is_sending}
 use Rattle.mta_histories.specs.Lanes.{Lane}
 use Rattle.mta_histories.specs.Lanes as spool
 use Rattle.mta_histories.specs.Classes.{LaneStep, agree, bind, start, confirm, to_end, settle, abandon, secure}
-use Rattle.mta_histories.specs.Classes.{complete, drop_pieces, close, Class, records, accepts, settles, opens}
+use Rattle.mta_histories.specs.Classes.{complete, drop_pieces, close, Class, begins}
 use Rattle.mta_histories.specs.Classes.{on_lane, class_of}
 use Rattle.mta_histories.specs.History.{IsOfGeneration, LaneNeeds, lane_after, after_step, when}
 use Rattle.mta_histories.specs.Laws.{StepsKeep}
 use Rattle.mta_lane_match_laws.specs.Matches.{Known, IsHalf, IsKnown, IsLaterOrKnown}
 use Rattle.mta_lane_match_laws.specs.Steps.{IsOthers, IsOthersOn, IsElsewhere}
 use Rattle.mta_lane_match_laws.specs.Laws.{OthersKeep, OthersKeepAll}
-use Rattle.mta_lane_match_laws.proofs.OneLane.{LeadsOn, step_keeps}
+use Rattle.mta_lane_match_laws.proofs.OneLane.{LeadsOn, BeginsWith, step_keeps}
 
 -- what is given up was in Sending, so the session has it there
 given_up : (known kept : SendState) (k : ℕ) → is_sending kept k ≡ true → IsHalf known kept → IsHalf known (Dropping k)
@@ -85,9 +85,14 @@ others_lead t s (on_lane n g step) moment other =
     (subst (λ (v : ℕ). IsOthersOn t.lane t.generation v g step) same other)
 others_lead t s any2 moment other = tt
 
+-- a snapshot is none of theirs
+others_begin : (t : Known) (c : Class) → IsOthers t.lane t.generation c → BeginsWith (IsLaterOrKnown t) t.lane c
+others_begin t (begins state) other = absurd other
+others_begin t any1 other = tt
+
 pub others_keep : OthersKeep
 others_keep t s step numbered possible others m =
-    step_keeps (IsLaterOrKnown t) t.lane s step numbered possible
+    step_keeps (IsLaterOrKnown t) t.lane s step numbered possible (others_begin t (class_of step) others)
     (others_lead t s (class_of step) (when s step) others) m
 
 pub others_keep_all : OthersKeep → StepsKeep → OthersKeepAll

@@ -25,7 +25,8 @@ use Rattle.mta_session.specs.declared.ask.Reply.TheVariants as reply
 use Rattle.mta_lane_match_laws.specs.Matches.{Known, known, IsValue, IsKnown, MatchesLane, Matches}
 use Rattle.mta_lane_match_laws.specs.Steps.{IsAsked, learned}
 use Rattle.mta_lane_match_laws.specs.Laws.{OwnStepsMatch}
-use Rattle.mta_lane_match_laws.specs.Calls.{Pieces, Makes, IsReplyOf, RepliesMatch, given_up, sending_of, proposed, learned_of}
+use Rattle.mta_lane_match_laws.specs.Calls.{Pieces, Makes, IsReplyOf, RepliesMatch, given_up, sending_of, proposed}
+use Rattle.mta_lane_match_laws.specs.Calls.{learned_of}
 use Rattle.mta_lane_match_laws.specs.Calls.{learned_of_unit, step_on}
 
 -- ---- a reply that tells of no step

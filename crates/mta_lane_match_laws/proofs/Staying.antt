@@ -3,14 +3,14 @@ use Rattle.std.proofs.Common.{◌≡◌, ℕ, ◌+◌, ◌≤◌, true, false, L
 use Rattle.std.proofs.Common.{◌∙◌, arith, eqb}
 use Rattle.std.proofs.lemmas.Bool.{eqb-true, ne_eqb}
 use Rattle.mta_lane_send.specs.declared.state.SendState.{SendState}
-use Rattle.mta_lane_send.specs.declared.state.SendState.TheVariants.{Idle, Sending, Ending, Dropping}
+use Rattle.mta_lane_send.specs.declared.state.SendState.TheVariants.{Idle, Sending, Dropping}
 use Rattle.mta_lane_send.specs.Half.{goes_on, is_sending, last_of, confirmed_at}
 use Rattle.mta_records.specs.declared.step.Step.{Step}
 use Rattle.mta_records.specs.declared.lane.LaneRole.{LaneRole}
 use Rattle.mta_histories.specs.Lanes.{Lane}
 use Rattle.mta_histories.specs.Lanes as spool
 use Rattle.mta_histories.specs.Classes.{LaneStep, agree, bind, start, confirm, to_end, settle, abandon, secure}
-use Rattle.mta_histories.specs.Classes.{complete, drop_pieces, close, Class, records, accepts, settles, opens}
+use Rattle.mta_histories.specs.Classes.{complete, drop_pieces, close, Class}
 use Rattle.mta_histories.specs.Classes.{on_lane, class_of}
 use Rattle.mta_histories.specs.Classes.{was_sent, was_refused, was_denied, was_dropped}
 use Rattle.mta_histories.specs.History.{LaneNeeds, lane_after, after_step, ArePossible, after_from, when}
@@ -18,7 +18,7 @@ use Rattle.mta_histories.specs.Kept.{IsKept}
 use Rattle.mta_histories.specs.Laws.{StepsKeep}
 use Rattle.mta_lane_match_laws.specs.Laws.{LanesKeepRoles, IsPast, GivenUpStays, IsDropping, IsNoAbandon, AreNoAbandon}
 use Rattle.mta_lane_match_laws.specs.Laws.{OnlyAbandonsDrop}
-use Rattle.mta_lane_match_laws.proofs.OneLane.{LeadsOn, Holds, step_keeps, steps_hold}
+use Rattle.mta_lane_match_laws.proofs.OneLane.{LeadsOn, Holds, begins_with, step_keeps, steps_hold}
 
 -- ---- roles
 
@@ -114,6 +114,7 @@ drops_hold keep n k s [] kept possible none holds = holds
 drops_hold keep n k s (step ∷ steps) kept possible none holds =
     drops_hold keep n k (after_step s step) steps (keep s step kept possible.0) possible.1 none.1
     (step_keeps (λ lane. IsDropping k lane → ⊥) n s step kept.numbered_lanes possible.0
+    (begins_with (λ lane. IsDropping k lane → ⊥) n s (class_of step) (when s step) kept possible.0.allowed holds.0)
     (no_abandon_leads n k s (class_of step) (when s step) none.0) holds)
 
 pub only_abandons_drop : StepsKeep → OnlyAbandonsDrop

@@ -5,8 +5,8 @@ use Rattle.mta_lane_send.specs.declared.state.SendState.TheVariants.{Idle, Sendi
 use Rattle.mta_lane_recv.specs.declared.state.Last.TheVariants as last
 use Rattle.mta_records.specs.declared.step.Step.{Step}
 use Rattle.mta_histories.specs.Classes.{LaneStep, agree, bind, start, confirm, to_end, settle, abandon, secure}
-use Rattle.mta_histories.specs.Classes.{complete, drop_pieces, close, Class, records, accepts, settles, opens, on_lane}
-use Rattle.mta_histories.specs.Classes.{class_of}
+use Rattle.mta_histories.specs.Classes.{complete, drop_pieces, close, Class, begins, sets_format, records}
+use Rattle.mta_histories.specs.Classes.{accepts, settles, opens, on_lane, class_of}
 use Rattle.mta_histories.specs.Lanes as spool
 use Rattle.mta_histories.specs.History.{transfer_of, with_piece}
 use Rattle.mta_lane_match_laws.specs.Matches.{Known}
@@ -31,8 +31,11 @@ IsOthersOn l h n g (secure k m piece) = IsElsewhere l h n g
 IsOthersOn l h n g (complete k m piece) = IsElsewhere l h n g
 IsOthersOn l h n g (drop_pieces k) = IsElsewhere l h n g
 
--- a step that others may make while a session has this lane in this generation
+-- A step that others may make while a session has this lane in this generation. A snapshot is none: a history begins
+-- with it.
 abbrev pub IsOthers : (lane generation : ℕ) → Class → Type 0
+IsOthers l h (begins state) = ⊥
+IsOthers l h sets_format = Unit {0}
 IsOthers l h (records text) = Unit {0}
 IsOthers l h (accepts octets) = Unit {0}
 IsOthers l h (settles how i r) = Unit {0}

@@ -3,8 +3,9 @@
 use Rattle.std.proofs.Common.{◌≡◌, ◌⊎◌, inl, inr, ℕ, ◌+◌, ◌<◌, ◌≤◌, Bool, Some, slice_get}
 use Rattle.std.proofs.Common.{List, [], ◌∷◌, length, sym, ap, ◌∙◌, arith}
 use Rattle.mta_transfer_rules.specs.Lanes as h
-use Rattle.mta_transfer_rules.specs.Lanes.{Halves, SeenStep, Seen, On, Unopened, Open, Closed, Allows, IsHeld, LanesAllow}
+use Rattle.mta_transfer_rules.specs.Lanes.{Halves, SeenStep, Seen, On, Unopened, Open, Closed, Allows, IsHeld}
 use Rattle.mta_transfer_rules.specs.Lanes.{halves_after}
+use Rattle.mta_transfer_laws.specs.History.{IsOfLanes}
 use Rattle.mta_transfer_laws.specs.Sessions as x
 use Rattle.mta_transfer_laws.specs.Sessions.{SessionEvent, Made, Looked, Got, Refused, Put, receiving_step_of}
 use Rattle.mta_units.specs.declared.unit.Unit.{Unit as AnyUnit}
@@ -55,19 +56,19 @@ held_pieces gen pieces l e k = by_generation k.1
     by_generation (inl lt) = absurd (omega (arith, lt, e))
     by_generation (inr k) = k.1
 
-module _ (spells : List ℕ → Bool) (history : List Seen) (lane : ℕ) (allow : LanesAllow spells history) (gen : ℕ) where
+module _ (spells : List ℕ → Bool) (history : List Seen) (lane : ℕ) (allow : IsOfLanes spells history) (gen : ℕ) where
   -- from one length up to another no such step is made
   abbrev pub NonePiece : (from upto : ℕ) → Type 0
   NonePiece from upto = (q : ℕ) (step : SeenStep) → from ≤ q → q < upto
       → slice_get history q ≡ Some (On lane step) → IsPiece gen step → ⊥
 
   pub tracks_between : (pieces : List (List ℕ)) (from upto : ℕ) → from ≤ upto → upto ≤ length history
-      → NonePiece from upto → Tracks gen pieces (lane_at spells history lane allow from)
-      → Tracks gen pieces (lane_at spells history lane allow upto)
+      → NonePiece from upto → Tracks gen pieces (lane_at spells history lane allow.allowed from)
+      → Tracks gen pieces (lane_at spells history lane allow.allowed upto)
   tracks_between pieces from upto a b none k =
-      between_keeps spells history lane allow (Tracks gen pieces) from upto a b
-      (λ q i j step e p. step_tracks spells gen pieces (lane_at spells history lane allow q) step
-      (step_allowed spells history lane allow q step e) (none q step i j e) p) k
+      between_keeps spells history lane allow.allowed (Tracks gen pieces) from upto a b
+      (λ q i j step e p. step_tracks spells gen pieces (lane_at spells history lane allow.allowed q) step
+      (step_allowed spells history lane allow.allowed q step e) (none q step i j e) p) k
 
   -- ---- in a list
 

@@ -1,16 +1,19 @@
 -- What a session finds of octets is so, call by call.
-use Rattle.std.proofs.Common.{◌≡◌, inl, inr, ℕ, suc, ◌+◌, ◌-◌, ◌≤◌, if◌then◌else◌, Bool, false}
+use Rattle.std.proofs.Common.{◌≡◌, inl, inr, ℕ, zero, suc, ◌+◌, ◌-◌, ◌≤◌, if◌then◌else◌, Bool, false}
 use Rattle.std.proofs.Common.{Option, Some, None, Result, Ok, Err, List, [], ◌∷◌, ◌++◌, take}
 use Rattle.std.proofs.Common.{refl, sym, ap, subst, ◌∙◌, arith}
 use Rattle.std.proofs.lemmas.Option.{slice_get_within}
 use Rattle.std.proofs.lemmas.Bool.{eq-eqb}
 use Rattle.mta_units.specs.declared.unit.Unit.{Unit as AnyUnit}
 use Rattle.mta_transfer_rules.specs.Lanes as h
-use Rattle.mta_transfer_rules.specs.Lanes.{Halves, SeenStep, Seen, On, Allows, IsHeld, LanesAllow, lane_in, halves_after}
+use Rattle.mta_transfer_rules.specs.Lanes.{Halves, SeenStep, Seen, On, Allows, IsHeld, lane_in, halves_after}
 use Rattle.mta_transfer_rules.specs.Pieces.{octets_with}
 use Rattle.mta_transfer_rules.specs.Receiving as r
 use Rattle.mta_transfer_rules.specs.Receiving.{RecvEnd, RecvEvent, RecvStep}
 use Rattle.mta_transfer_rules.specs.Units.{LaneUnit}
+use Rattle.mta_transfer_rules.specs.Lanes.{Unopened, Open}
+use Rattle.mta_transfer_laws.specs.History.{IsOfLanes}
+use Rattle.mta_transfer_laws.proofs.Histories.{upto-take}
 use Rattle.mta_world.specs.Steps.{pieces_after, IsFaulty, SpellsNothing}
 use Rattle.mta_records.specs.declared.fault.CompleteFault.{CompleteFault}
 use Rattle.mta_records.specs.declared.fault.CompleteFault.TheVariants as piece
@@ -27,13 +30,14 @@ use Rattle.mta_session.specs.declared.phase.OwnStep.TheVariants as own
 use Rattle.mta_session.specs.declared.phase.Phase.{Phase}
 use Rattle.mta_session.specs.declared.phase.Phase.TheVariants as phase
 use Rattle.mta_session.specs.State.{State}
-use Rattle.mta_session.specs.Wanted.{Wanted, Aborts, Rejects, Ends, Puts, Asks, Reads, Goes_on, Excepts, Never}
+use Rattle.mta_session.specs.Wanted.{Wanted, Aborts, Rejects}
 use Rattle.mta_session.specs.Fits.{RepliesTo}
 use Rattle.mta_session_laws.specs.Runs.{Turn}
 use Rattle.mta_session_laws.specs.Turning.{called_for, is_last_phase}
 use Rattle.mta_transfer_laws.specs.Receivings.{AreTrue, pieces_behind}
 use Rattle.mta_transfer_laws.specs.Sessions as x
-use Rattle.mta_transfer_laws.specs.Sessions.{SessionEvent, Made, Looked, Got, Refused, Put, receiving_event, receiving_step_of}
+use Rattle.mta_transfer_laws.specs.Sessions.{SessionEvent, Made, Looked, Got, Refused, Put, receiving_event}
+use Rattle.mta_transfer_laws.specs.Sessions.{receiving_step_of}
 use Rattle.mta_transfer_laws.specs.Sessions.{took_of, answers_of, transfer_unit, answer_unit, recv_all, found_by}
 use Rattle.mta_lane_match_laws.specs.Asks.{IsAskOf, handed_by}
 use Rattle.mta_session_list_laws.specs.Calls.{Call, StepOn, step_told, look_told, told_as, got_as, come_of, list_of}
@@ -78,7 +82,7 @@ got_true spells lane b pieces any4 y = took_true spells b pieces (transfer_unit 
 
 -- ---- positions
 
-module _ (spells : List ℕ → Bool) (history : List Seen) (lane : ℕ) (allow : LanesAllow spells history) (gen : ℕ) where
+module _ (spells : List ℕ → Bool) (history : List Seen) (lane : ℕ) (allow : IsOfLanes spells history) (gen : ℕ) where
   abbrev pub Behind : ℕ → List SessionEvent → Type 0
   Behind n ys = StandBehind spells history lane allow gen n ys
 
@@ -132,14 +136,14 @@ module _ (spells : List ℕ → Bool) (history : List Seen) (lane : ℕ) (allow 
 
 -- ---- a reply
 
-told_else : (spells : List ℕ → Bool) (history : List Seen) (lane : ℕ) (allow : LanesAllow spells history) (gen : ℕ)
+told_else : (spells : List ℕ → Bool) (history : List Seen) (lane : ℕ) (allow : IsOfLanes spells history) (gen : ℕ)
     (seen : ℕ) (o : Option StepOn) (look : x.Look) → QuietStep o
     → IsElse spells history lane allow gen (told_as seen o look)
 told_else spells history lane allow gen seen (Some z) look k =
     made_else spells history lane allow gen (seen - 1) z.lane z.step k
 told_else spells history lane allow gen seen None look k = looked_else spells history lane allow gen seen look
 
-pub got_as_else : (spells : List ℕ → Bool) (history : List Seen) (lane : ℕ) (allow : LanesAllow spells history) (gen :
+pub got_as_else : (spells : List ℕ → Bool) (history : List Seen) (lane : ℕ) (allow : IsOfLanes spells history) (gen :
     ℕ)
     (w : Wanted) (y : AnyUnit) → IsElse spells history lane allow gen (got_as w y)
 got_as_else spells history lane allow gen (Aborts reason) y = refused_else spells history lane allow gen y
@@ -166,11 +170,11 @@ drop_ask (phase.AsksLast e) t q z i f a = absurd (never (sym i))
 drop_ask (phase.AsksStep (own.Confirm m)) t q z i f a = absurd f
 drop_ask p t q z i f a = absurd f
 
-module _ (spells : List ℕ → Bool) (history : List Seen) (lane : ℕ) (allow : LanesAllow spells history) (gen : ℕ) where
+module _ (spells : List ℕ → Bool) (history : List Seen) (lane : ℕ) (allow : IsOfLanes spells history) (gen : ℕ) where
   -- the pieces that the list leaves, at a length of the history up to which it has each step
   pub record FoundSo (upto : ℕ) (pieces : List (List ℕ)) (n : ℕ) (rest : List SessionEvent) : Type 0 where
     pub before : n ≤ upto
-    pub tracks : Tracks gen pieces (lane_at spells history lane allow n)
+    pub tracks : Tracks gen pieces (lane_at spells history lane allow.allowed n)
     pub owned : Owned spells history lane allow gen n rest
 
   -- an event that is no step of the pieces
@@ -185,7 +189,12 @@ module _ (spells : List ℕ → Bool) (history : List Seen) (lane : ℕ) (allow 
         owned = owned_behind spells history lane allow gen n y rest other k.owned;
       }
 
-module _ (spells : List ℕ → Bool) (history : List Seen) (lane : ℕ) (allow : LanesAllow spells history) (gen : ℕ)
+-- a lane that is open was opened
+held_seen : (history : List Seen) (lane n : ℕ) → (lane_in lane (take n history)).phase ≡ Open → 1 ≤ n
+held_seen history lane zero e = absurd (let c : Unopened ≡ Open = e in cc)
+held_seen history lane (suc n) e = omega arith
+
+module _ (spells : List ℕ → Bool) (history : List Seen) (lane : ℕ) (allow : IsOfLanes spells history) (gen : ℕ)
     (l : Halves) (early : Type 0) (After_at : RecvEnd → Type 0) (Goes : Type 0) where
   abbrev pub So_far : (upto : ℕ) → List (List ℕ) → (n : ℕ) → List SessionEvent → Type 0
   So_far upto pieces n rest = FoundSo spells history lane allow gen upto pieces n rest
@@ -241,18 +250,18 @@ module _ (spells : List ℕ → Bool) (history : List Seen) (lane : ℕ) (allow 
         (let e : seen ≡ p + 1 = omega (arith, lt) in
         subst (λ z. Behind spells history lane allow gen z rest) e k.behind) in
         let inside = slice_get_within history p _ there.entry in
-        let tracks : Tracks gen pieces (lane_at spells history lane allow p) =
+        let tracks : Tracks gen pieces (lane_at spells history lane allow.allowed p) =
         tracks_between spells history lane allow gen pieces n p up (omega (arith, inside))
         (none_before_step spells history lane allow gen n p lane step rest found.owned behind) found.tracks in
-        let m : Halves = lane_at spells history lane allow p in
-        let now : gen ≡ m.generation = held m (step_allowed spells history lane allow p step there.entry) in
+        let m : Halves = lane_at spells history lane allow.allowed p in
+        let now : gen ≡ m.generation = held m (step_allowed spells history lane allow.allowed p step there.entry) in
         let same : m.pieces ≡ pieces = held_pieces gen pieces m now tracks in
         let e : suc p ≡ p + 1 = omega arith in
-        let leads : lane_at spells history lane allow (p + 1) ≡ halves_after m step =
-        ap (λ (z : ℕ). lane_at spells history lane allow z) (sym e)
-        ∙ step_leads spells history lane allow p step there.entry in
+        let leads : lane_at spells history lane allow.allowed (p + 1) ≡ halves_after m step =
+        ap (λ (z : ℕ). lane_at spells history lane allow.allowed z) (sym e)
+        ∙ step_leads spells history lane allow.allowed p step there.entry in
         let left = leaves m in
-        let tracked : Tracks gen (pieces_after pieces st) (lane_at spells history lane allow (p + 1)) =
+        let tracked : Tracks gen (pieces_after pieces st) (lane_at spells history lane allow.allowed (p + 1)) =
         subst (λ z. Tracks gen (pieces_after pieces st) z) (sym leads) (
           (λ u. tracks.0 (sym left.1 ∙ u)),
           inr (left.0 ∙ sym now, left.2 ∙ ap (λ (z : List (List ℕ)). pieces_after z st) same),
@@ -288,7 +297,10 @@ module _ (spells : List ℕ → Bool) (history : List Seen) (lane : ℕ) (allow 
         let tracks = tracks_between spells history lane allow gen pieces n seen up there.within
         (none_before_look spells history lane allow gen n seen (x.Finds j m o) rest found.owned k.behind)
         found.tracks in
-        let same = held_pieces gen pieces (lane_in lane (take seen history)) held.1 tracks in
+        let as_told : lane_at spells history lane allow.allowed seen ≡ lane_in lane (take seen history) =
+        upto-take history lane seen (held_seen history lane seen held.0) in
+        let same = held_pieces gen pieces (lane_in lane (take seen history)) held.1
+        (subst (Tracks gen pieces) as_told tracks) in
         subst (λ z. FindKeeps spells lane b pieces (told_as seen z (look_told q y) ∷ rest)) (sym told)
         (subst (λ z. FindKeeps spells lane b pieces (Looked seen z ∷ rest)) (sym looked) (
           (faulty same, tt),

@@ -5,11 +5,13 @@ use Rattle.std.proofs.Common.{refl, sym, ap, subst, ◌∙◌, arith}
 use Rattle.mta_units.specs.declared.unit.OpenUnit.{OpenUnit}
 use Rattle.mta_units.specs.declared.unit.Unit.{Unit as AnyUnit}
 use Rattle.mta_transfer_rules.specs.Lanes as h
-use Rattle.mta_transfer_rules.specs.Lanes.{Halves, SeenStep, Seen, On, Unopened, Open, LanesAllow, lane_in, halves_after}
+use Rattle.mta_transfer_rules.specs.Lanes.{Halves, SeenStep, Seen, On, Unopened, Open, lane_in, halves_after}
 use Rattle.mta_transfer_rules.specs.Lanes.{unopened}
 use Rattle.mta_transfer_rules.specs.Receiving as r
 use Rattle.mta_transfer_rules.specs.Receiving.{RecvEnd, RecvEvent}
 use Rattle.mta_transfer_rules.specs.Sending.{SendEnd}
+use Rattle.mta_transfer_laws.specs.History.{IsOfLanes}
+use Rattle.mta_transfer_laws.proofs.Histories.{upto-take}
 use Rattle.mta_session.specs.declared.ask.Ask.{Ask}
 use Rattle.mta_session.specs.declared.ask.Reply.{Reply}
 use Rattle.mta_session.specs.declared.ask.Reply.TheVariants as reply
@@ -36,8 +38,10 @@ use Rattle.mta_session_laws.proofs.Opening.{wanted_in}
 use Rattle.mta_session_laws.proofs.Whole.{is_ended}
 use Rattle.mta_transfer_laws.specs.Receivings.{AreTrue, pieces_behind, end_on_link}
 use Rattle.mta_transfer_laws.specs.Sessions as x
-use Rattle.mta_transfer_laws.specs.Sessions.{SessionEvent, Made, Looked, Got, Refused, Put, receiving_event, receiving_events}
-use Rattle.mta_transfer_laws.specs.Sessions.{recv_all, send_all, sending_event, turn_after, answer_unit, answers_of, seen_after}
+use Rattle.mta_transfer_laws.specs.Sessions.{SessionEvent, Made, Looked, Got, Refused, Put, receiving_event}
+use Rattle.mta_transfer_laws.specs.Sessions.{receiving_events}
+use Rattle.mta_transfer_laws.specs.Sessions.{recv_all, send_all, sending_event, turn_after, answer_unit, answers_of}
+use Rattle.mta_transfer_laws.specs.Sessions.{seen_after}
 use Rattle.mta_transfer_laws.specs.Sessions.{Rests, RestsAt, SendOwesNothing}
 use Rattle.mta_lane_match_laws.proofs.Lanes.{lanes_stay}
 use Rattle.mta_lane_match_laws.specs.Calls.{has_lane}
@@ -56,14 +60,15 @@ use Rattle.mta_session_list_laws.proofs.Ordering.{is_some, later_calls, lists_or
 use Rattle.mta_session_list_laws.proofs.Answering.{reached_without}
 use Rattle.mta_session_list_laws.proofs.Receiving.{pending, run_allowed}
 use Rattle.mta_session_list_laws.proofs.ReceivingPhases.{After, first, RecvAt, waits_after}
-use Rattle.mta_session_list_laws.proofs.ReceivingLists.{Part, at_opening, in_open, at_last, at_none, part, none_here, Asked}
+use Rattle.mta_session_list_laws.proofs.ReceivingLists.{Part, at_opening, in_open, at_last, at_none, part, none_here}
+use Rattle.mta_session_list_laws.proofs.ReceivingLists.{Asked}
 use Rattle.mta_session_list_laws.proofs.ReceivingLists.{open_not_last, asked_next, is_early, Tells, RecvHere, heard}
 use Rattle.mta_session_list_laws.proofs.ReceivingLists.{last_heard}
 use Rattle.mta_session_list_laws.proofs.ReceivedLists.{any_silent, event_goes}
 use Rattle.mta_session_list_laws.proofs.ReceivedAll.{in_turn, tells, open_has, opening_has, opening_not_last, lane_next}
 use Rattle.mta_session_list_laws.proofs.ReceivingLaw.{planned, responds, run_front, lists_receive}
 use Rattle.mta_session_list_laws.proofs.SendingLaw.{accept_new}
-use Rattle.mta_session_list_laws.proofs.Finding.{put_else}
+use Rattle.mta_session_list_laws.proofs.Finding.{Tracks, put_else}
 use Rattle.mta_session_list_laws.proofs.FindingCalls.{pieces_all, FindKeeps, put_true, got_true, got_as_else, Behind}
 use Rattle.mta_session_list_laws.proofs.FindingCalls.{calls_behind, FoundSo, else_found, More, reply_finds}
 
@@ -74,7 +79,7 @@ not_last_before : (t : Turn) → IsTurn t → (b : Bool) → is_last_phase t.bef
 not_last_before t is true e i = absurd (never (sym i ∙ (any_silent t is e (is_ended t.before.phase) refl).last))
 not_last_before t is false e i = e
 
-module _ (spells : List ℕ → Bool) (history : List Seen) (lane : ℕ) (allow : LanesAllow spells history) (gen : ℕ)
+module _ (spells : List ℕ → Bool) (history : List Seen) (lane : ℕ) (allow : IsOfLanes spells history) (gen : ℕ)
     (l : Halves) (early later : Type 0) where
   abbrev pub So : (upto : ℕ) → List (List ℕ) → (n : ℕ) → List SessionEvent → Type 0
   So upto pieces n rest = FoundSo spells history lane allow gen upto pieces n rest
@@ -302,7 +307,7 @@ gen_next early one b a gen t is k f (at_last i) n =
     absurd (never (sym n ∙ (any_silent t is i (is_ended t.before.phase) refl).last))
 gen_next early one b a gen t is k f (at_none i) n = absurd (none_here early one t.before.phase t.before a b i k)
 
-module _ (spells : List ℕ → Bool) (history : List Seen) (lane : ℕ) (allow : LanesAllow spells history) (gen at : ℕ)
+module _ (spells : List ℕ → Bool) (history : List Seen) (lane : ℕ) (allow : IsOfLanes spells history) (gen at : ℕ)
   where
     abbrev half : Halves
     half = lane_in lane (take (at + 1) history)
@@ -406,15 +411,17 @@ keeps_true spells lane b pieces (y ∷ ys) k =
 
 -- ---- where a list begins
 
-module _ (spells : List ℕ → Bool) (history : List Seen) (at : ℕ) (allow : LanesAllow spells history) where
+module _ (spells : List ℕ → Bool) (history : List Seen) (at : ℕ) (allow : IsOfLanes spells history) where
   abbrev half_at : ℕ → Halves
   half_at lane = lane_in lane (take (at + 1) history)
 
   behind : (lane : ℕ) (step : SeenStep) → slice_get history at ≡ Some (On lane step)
-      → half_at lane ≡ halves_after (lane_at spells history lane allow at) step
+      → half_at lane ≡ halves_after (lane_at spells history lane allow.allowed at) step
   behind lane step is =
       let e : at + 1 ≡ suc at = omega arith in
-      ap (λ (n : ℕ). lane_in lane (take n history)) e ∙ step_leads spells history lane allow at step is
+      sym (upto-take history lane (at + 1) (omega arith))
+      ∙ ap (λ (n : ℕ). lane_at spells history lane allow.allowed n) e
+      ∙ step_leads spells history lane allow.allowed at step is
 
   -- the lane is open behind the step that begins the list, in this generation
   opened_so : (lane : ℕ) (a : Bool) (sz w : ℕ) → slice_get history at ≡ Some (On lane (h.LaneOpen a sz w))
@@ -432,7 +439,7 @@ module _ (spells : List ℕ → Bool) (history : List Seen) (at : ℕ) (allow : 
       → ((half_at lane).phase ≡ Unopened → ⊥) × ((half_at lane).generation ≡ g)
   bound_so lane g is =
       let there = behind lane (h.Bind g) is in
-      let may = step_allowed spells history lane allow at (h.Bind g) is in (
+      let may = step_allowed spells history lane allow.allowed at (h.Bind g) is in (
         (λ u. let c : Open ≡ Unopened = sym may.0 ∙ sym (ap (λ (z : Halves). z.phase) there) ∙ u in absurd (not_so c)),
         ap (λ (z : Halves). z.generation) there,
       )
@@ -491,7 +498,7 @@ module _ (spells : List ℕ → Bool) (history : List Seen) (at : ℕ) (allow : 
 
 -- ---- the laws
 
-finds : (spells : List ℕ → Bool) (history : List Seen) (allow : LanesAllow spells history)
+finds : (spells : List ℕ → Bool) (history : List Seen) (allow : IsOfLanes spells history)
     (lane size window at : ℕ) (initiator : Bool) (a : Action) (cs : List Call) (t u : State) (c : RecvEnd)
     (opening : List SessionEvent)
     → ((lane_in lane (take (at + 1) history)).phase ≡ Unopened → ⊥)
@@ -515,7 +522,8 @@ finds spells history allow lane size window at initiator a cs t u c opening open
     asked keeps (λ i. gen) put here
     (λ i. record {
       before = omega arith;
-      tracks = (open_, inr (refl, refl));
+      tracks = subst (Tracks l.generation l.pieces) (sym (upto-take history lane (at + 1) (omega arith)))
+          (open_, inr (refl, refl));
       owned = λ q step down is piece. in_without history lane l.generation (list_of a cs) (at + 1) e q step piece
           (owns q step (omega (arith, down)) is piece);
     })

@@ -5,7 +5,7 @@ use Rattle.std.proofs.lemmas.Bool.{eqb-true, eqb-false, eq-eqb}
 use Rattle.mta_lane_send.specs.Half.{is_sending, last_of}
 use Rattle.mta_transfer_rules.specs.Sending.{SendEnd}
 use Rattle.mta_transfer_rules.specs.Lanes as h
-use Rattle.mta_transfer_rules.specs.Lanes.{SeenStep, Seen, On, Elsewhere}
+use Rattle.mta_transfer_rules.specs.Lanes.{SeenStep, Seen, On, Elsewhere, Begins}
 use Rattle.mta_transfer_laws.specs.Sessions.{IsKept, IsSeen}
 use Rattle.mta_session_list_laws.specs.Abandons.{is_abandon, gives_up, given_up_in, abandoned_upto}
 
@@ -28,6 +28,7 @@ gives_up_is lane k (Some (On j step)) e =
     ap (λ (n : ℕ). Some (On n step)) (eqb-true j lane parts.0)
     ∙ ap (λ (z : SeenStep). Some (On lane z)) (abandon_is k step parts.1)
 gives_up_is lane k (Some Elsewhere) e = absurd (never e)
+gives_up_is lane k (Some (Begins count lanes)) e = absurd (never e)
 gives_up_is lane k None e = absurd (never e)
 
 both_so : (a b : Bool) → a ≡ true → b ≡ true → (a && b) ≡ true

@@ -11,11 +11,14 @@ use Rattle.mta_transfer_rules.specs.Receiving.{RecvEvent}
 use Rattle.mta_transfer_rules.specs.Lanes as h
 use Rattle.mta_transfer_rules.specs.Lanes.{SeenStep, Seen, On}
 use Rattle.mta_transfer_laws.specs.Sessions as x
-use Rattle.mta_transfer_laws.specs.Sessions.{SessionEvent, Looked, Made, Got, Refused, Put, sending_step_of, sending_event}
+use Rattle.mta_transfer_laws.specs.Sessions.{SessionEvent, Looked, Made, Got, Refused, Put, sending_step_of}
+use Rattle.mta_transfer_laws.specs.Sessions.{sending_event}
 use Rattle.mta_transfer_laws.specs.Sessions.{receiving_event, receiving_events, Turn, KeepsTurn, TurnAllows, turn_after}
-use Rattle.mta_transfer_laws.specs.Sessions.{RefusesLast, EndsSo, StepsStand, IsSeen, step_seen, StepSees, Sees, seen_after}
+use Rattle.mta_transfer_laws.specs.Sessions.{RefusesLast, EndsSo, StepsStand, IsSeen, step_seen, StepSees, Sees}
+use Rattle.mta_transfer_laws.specs.Sessions.{seen_after}
 use Rattle.mta_transfer_laws.specs.Sessions.{PlacesAbandons, send_all}
-use Rattle.mta_session_list_laws.specs.Abandons.{step_upto, has_before, abandoned_upto, abandon_at, given_up, with_abandons}
+use Rattle.mta_session_list_laws.specs.Abandons.{step_upto, has_before, abandoned_upto, abandon_at, given_up}
+use Rattle.mta_session_list_laws.specs.Abandons.{with_abandons}
 use Rattle.mta_session_list_laws.specs.Laws.{RisesBehind, Rises}
 use Rattle.mta_session_list_laws.proofs.Found.{never, Placed, kept, placed, placed_upto}
 

@@ -8,10 +8,12 @@ use Rattle.mta_lane_send.specs.declared.state.SendState.{SendState}
 use Rattle.mta_lane_send.specs.declared.state.SendState.TheVariants.{Idle, Sending, Ending, Dropping}
 use Rattle.mta_lane_send.specs.Half.{goes_on, is_sending, is_ending, is_live, last_of, confirmed_at}
 use Rattle.mta_transfer_rules.specs.Lanes as h
-use Rattle.mta_transfer_rules.specs.Lanes.{Halves, SeenStep, Seen, On, Elsewhere, unopened, Allows, AreAllowed, halves_after}
-use Rattle.mta_transfer_rules.specs.Lanes.{of_lane, of_lane_all, halves_run, lane_in, LanesAllow}
+use Rattle.mta_transfer_rules.specs.Lanes.{Halves, SeenStep, Seen, On, Elsewhere, Begins, Allows, AreAllowed}
+use Rattle.mta_transfer_rules.specs.Lanes.{halves_after}
+use Rattle.mta_transfer_rules.specs.Lanes.{of_lane, of_lane_all, halves_run, lane_at_first, LanesAllow}
+use Rattle.mta_transfer_laws.specs.History.{lane_upto}
 use Rattle.mta_transfer_laws.specs.Sessions.{IsKept}
-use Rattle.mta_transfer_laws.proofs.Histories.{of-append, lane-more, split}
+use Rattle.mta_transfer_laws.proofs.Histories.{of-append, upto-more, split}
 use Rattle.mta_session_list_laws.proofs.Found.{never}
 
 -- ---- a lane comes to drop an activity by its Abandon alone
@@ -113,21 +115,23 @@ front_allowed spells l (v ∷ vs) b may = (may.0, front_allowed spells (halves_a
 
 module _ (spells : List ℕ → Bool) (history : List Seen) (lane : ℕ) (allow : LanesAllow spells history) where
   abbrev pub lane_at : ℕ → Halves
-  lane_at n = lane_in lane (take n history)
+  lane_at n = lane_upto history lane (take n history)
 
   pub entry_allowed : (q : ℕ) (x : Seen) → slice_get history q ≡ Some x → AreAllowed spells (lane_at q) (of_lane lane x)
   entry_allowed q x e =
       let at = here history q x e in
-      let whole : AreAllowed spells unopened (of_lane_all lane (take q history) ++ of_lane_all lane (x ∷ at.0)) =
-      subst (λ (z : List SeenStep). AreAllowed spells unopened z) (of-append lane (take q history) (x ∷ at.0))
-      (subst (λ (z : List Seen). AreAllowed spells unopened (of_lane_all lane z)) at.1 (allow lane)) in
+      let first : Halves = lane_at_first lane history in
+      let whole : AreAllowed spells first (of_lane_all lane (take q history) ++ of_lane_all lane (x ∷ at.0)) =
+      subst (λ (z : List SeenStep). AreAllowed spells first z) (of-append lane (take q history) (x ∷ at.0))
+      (subst (λ (z : List Seen). AreAllowed spells first (of_lane_all lane z)) at.1 (allow lane)) in
       front_allowed spells (lane_at q) (of_lane lane x) (of_lane_all lane at.0)
-      (split spells unopened (of_lane_all lane (take q history)) (of_lane_all lane (x ∷ at.0)) whole)
+      (split spells first (of_lane_all lane (take q history)) (of_lane_all lane (x ∷ at.0)) whole)
 
   pub lane_next : (q : ℕ) (x : Seen) → slice_get history q ≡ Some x
       → lane_at (suc q) ≡ halves_run (lane_at q) (of_lane lane x)
   lane_next q x e =
-      ap (λ (z : List Seen). lane_in lane z) (here history q x e).2 ∙ lane-more lane (take q history) x
+      ap (λ (z : List Seen). lane_upto history lane z) (here history q x e).2
+      ∙ upto-more history lane (take q history) x
 
   pub own_is : (step : SeenStep) → of_lane lane (On lane step) ≡ step ∷ []
   own_is step = ap (λ (b : Bool). if b then step ∷ [] else []) (eq-eqb lane lane refl)
@@ -164,6 +168,7 @@ module _ (spells : List ℕ → Bool) (history : List Seen) (lane : ℕ) (allow 
     entry_keeps : (q : ℕ) (x : Seen) → slice_get history q ≡ Some x → KeepsAt q → P (lane_at q) → P (lane_at (suc q))
     entry_keeps q (On j step) e keeps p = other_keeps j step q (j == lane) refl e keeps p
     entry_keeps q Elsewhere e keeps p = subst P (sym (lane_next q Elsewhere e)) p
+    entry_keeps q (Begins count lanes) e keeps p = subst P (sym (lane_next q (Begins count lanes) e)) p
 
     pub span_keeps : (n from : ℕ) → from + n ≤ length history
         → ((q : ℕ) → from ≤ q → q < from + n → KeepsAt q) → P (lane_at from) → P (lane_at (from + n))

@@ -2,11 +2,12 @@
 use Rattle.std.proofs.Common.{◌≡◌, ◌⊎◌, inl, inr, ℕ, ◌≤◌, Bool, true, false, Option, Some, None}
 use Rattle.std.proofs.Common.{Ok, Err, List, [], ◌∷◌, ◌++◌, refl, sym, subst}
 use Rattle.mta_units.specs.declared.unit.Unit.TheVariants as unit
-use Rattle.mta_transfer_rules.specs.Lanes.{Halves, SeenStep, Seen, LanesAllow}
+use Rattle.mta_transfer_rules.specs.Lanes.{Halves, SeenStep, Seen}
 use Rattle.mta_transfer_rules.specs.Receiving as r
 use Rattle.mta_transfer_rules.specs.Receiving.{RecvEnd, RecvEvent}
 use Rattle.mta_transfer_rules.specs.Sending as s
 use Rattle.mta_transfer_rules.specs.Sending.{SendEnd}
+use Rattle.mta_transfer_laws.specs.History.{IsOfLanes}
 use Rattle.mta_records.specs.declared.fault.CompleteFault.TheVariants as piece
 use Rattle.mta_session.specs.declared.ask.Ask.{Ask}
 use Rattle.mta_session.specs.declared.ask.Reply.{Reply}
@@ -26,7 +27,8 @@ use Rattle.mta_session_laws.proofs.EventsRecv.{events_go}
 use Rattle.mta_session_laws.proofs.Whole.{in_phase_wanted}
 use Rattle.mta_transfer_laws.specs.Receivings.{AreTrue}
 use Rattle.mta_transfer_laws.specs.Sessions as x
-use Rattle.mta_transfer_laws.specs.Sessions.{SessionEvent, Got, Refused, Put, Made, Looked, Look, receiving_event, recv_all}
+use Rattle.mta_transfer_laws.specs.Sessions.{SessionEvent, Got, Refused, Put, Made, Looked, Look, receiving_event}
+use Rattle.mta_transfer_laws.specs.Sessions.{recv_all}
 use Rattle.mta_transfer_laws.specs.Sessions.{answer_unit, answers_of, send_all, SendOwesNothing, transfer_unit}
 use Rattle.mta_session_list_laws.specs.Calls.{StepOn, step_told, look_told, told_as}
 use Rattle.mta_session_list_laws.specs.Lost.{Lost, lost_of, abort_of}
@@ -39,8 +41,10 @@ use Rattle.mta_session_list_laws.proofs.Receiving.{run_allowed}
 use Rattle.mta_session_list_laws.proofs.ReceivingPhases.{RecvAt, first, at_open}
 use Rattle.mta_session_list_laws.proofs.ReceivingCalls.{told_is, reads_owing}
 use Rattle.mta_session_list_laws.proofs.ReceivingEnds.{opening_quiet, end_quiet}
-use Rattle.mta_session_list_laws.proofs.ReceivingLists.{RestsRecv, RecvKeeps, Part, at_opening, in_open, at_last, at_none}
-use Rattle.mta_session_list_laws.proofs.ReceivingLists.{part, none_here, opening_first, open_reads, open_not_last, Asked}
+use Rattle.mta_session_list_laws.proofs.ReceivingLists.{RestsRecv, RecvKeeps, Part, at_opening, in_open, at_last}
+use Rattle.mta_session_list_laws.proofs.ReceivingLists.{at_none}
+use Rattle.mta_session_list_laws.proofs.ReceivingLists.{part, none_here, opening_first, open_reads, open_not_last}
+use Rattle.mta_session_list_laws.proofs.ReceivingLists.{Asked}
 use Rattle.mta_session_list_laws.proofs.ReceivingLists.{last_reads}
 use Rattle.mta_session_list_laws.proofs.SendingGoes as send
 use Rattle.mta_session_list_laws.proofs.SendingPhases as sending
@@ -159,7 +163,7 @@ module _ (history : List Seen) (lane : ℕ) where
   abort_sends v from e true = (tt, tt, tt)
   abort_sends v from e false = tt
 
-module _ (g : EventsGo) (spells : List ℕ → Bool) (history : List Seen) (lane : ℕ) (allow : LanesAllow spells history)
+module _ (g : EventsGo) (spells : List ℕ → Bool) (history : List Seen) (lane : ℕ) (allow : IsOfLanes spells history)
     (l : Halves) (size window : ℕ) (accepted : Bool) (low : ℕ) (early : Type 0) where
   -- a session before the call that wants memory
   pub record LostSend (a : Action) (u : State) (b c : SendEnd) (behind from seen : ℕ) (v : x.Turn) : Type 0 where
@@ -238,7 +242,7 @@ module _ (g : EventsGo) (spells : List ℕ → Bool) (history : List Seen) (lane
 
 -- ---- what is found
 
-module _ (spells : List ℕ → Bool) (history : List Seen) (lane : ℕ) (allow : LanesAllow spells history) (gen : ℕ) where
+module _ (spells : List ℕ → Bool) (history : List Seen) (lane : ℕ) (allow : IsOfLanes spells history) (gen : ℕ) where
   abort_finds : (b : RecvEnd) (pieces : List (List ℕ)) (y : Bool) → FindKeeps spells lane b pieces (abort_of y)
   abort_finds b pieces true = (tt, tt)
   abort_finds b pieces false = tt

@@ -3,11 +3,14 @@ use Rattle.std.proofs.Common.{◌≡◌, inr, ℕ, ◌+◌, ◌≤◌, not, Bool
 use Rattle.std.proofs.Common.{subst}
 use Rattle.std.proofs.Common.{◌∙◌, arith, append_assoc}
 use Rattle.std.proofs.lemmas.Option.{slice_get_within}
-use Rattle.mta_transfer_rules.specs.Lanes.{Halves, Seen, Unopened, LanesAllow, lane_in}
+use Rattle.mta_transfer_rules.specs.Lanes.{Halves, Seen, Unopened, lane_in}
 use Rattle.mta_transfer_rules.specs.Receiving as r
 use Rattle.mta_transfer_rules.specs.Receiving.{RecvEnd}
 use Rattle.mta_transfer_rules.specs.Sending as s
 use Rattle.mta_transfer_rules.specs.Sending.{SendEnd}
+use Rattle.mta_transfer_laws.specs.History.{IsOfLanes}
+use Rattle.mta_transfer_laws.proofs.Histories.{upto-take}
+use Rattle.mta_session_list_laws.proofs.Finding.{Tracks}
 use Rattle.mta_session.specs.declared.event.Action.{Action}
 use Rattle.mta_session.specs.declared.event.Action.TheVariants as action
 use Rattle.mta_session.specs.declared.event.Event.{Event}
@@ -22,9 +25,11 @@ use Rattle.mta_session_laws.specs.Whole.{AreCalls}
 use Rattle.mta_session_laws.proofs.Opening.{wanted_in}
 use Rattle.mta_transfer_laws.specs.Receivings.{AreTrue, end_on_link}
 use Rattle.mta_transfer_laws.specs.Sessions as x
-use Rattle.mta_transfer_laws.specs.Sessions.{SessionEvent, SessionList, Made, Put, Refused, IsGoodSession, send_all, recv_all}
+use Rattle.mta_transfer_laws.specs.Sessions.{SessionEvent, SessionList, Made, Put, Refused, IsGoodSession, send_all}
+use Rattle.mta_transfer_laws.specs.Sessions.{recv_all}
 use Rattle.mta_transfer_laws.specs.Sessions.{sending_events, receiving_events}
-use Rattle.mta_session_list_laws.specs.Calls.{Call, StepOn, turns_of, step_told, look_told, list_of, event_of, action_of}
+use Rattle.mta_session_list_laws.specs.Calls.{Call, StepOn, turns_of, step_told, look_told, list_of, event_of}
+use Rattle.mta_session_list_laws.specs.Calls.{action_of}
 use Rattle.mta_session_list_laws.specs.Abandons.{with_abandons}
 use Rattle.mta_session_list_laws.specs.Laws.{OwnsPieces, ListsMayStop}
 use Rattle.mta_session_list_laws.specs.Lists.{HasAt, step_for, step_by, Initiates, Responds, end_begun, completed}
@@ -51,7 +56,8 @@ use Rattle.mta_session_list_laws.proofs.SendingOpening.{is_soon}
 use Rattle.mta_session_list_laws.proofs.SendingLooks.{SendKeeps, With, NotYet}
 use Rattle.mta_session_list_laws.proofs.SendingList.{come_sends}
 use Rattle.mta_session_list_laws.proofs.SendingLaw as law
-use Rattle.mta_session_list_laws.proofs.FindingCalls.{FindKeeps, FoundSo, Behind, behind_other, told_behind, come_behind}
+use Rattle.mta_session_list_laws.proofs.FindingCalls.{FindKeeps, FoundSo, Behind, behind_other, told_behind}
+use Rattle.mta_session_list_laws.proofs.FindingCalls.{come_behind}
 use Rattle.mta_session_list_laws.proofs.FindingLaw as finding
 use Rattle.mta_session_list_laws.proofs.FindingLaw.{come_finds, gen_next}
 use Rattle.mta_session_list_laws.proofs.LostLists.{lost_rises, lost_stands, lost_turns, lost_refuses}
@@ -111,7 +117,7 @@ module _ (spells : List ℕ → Bool) (history : List Seen) (lane at : ℕ) wher
 
 -- ---- the sending half
 
-module _ (g : EventsGo) (spells : List ℕ → Bool) (history : List Seen) (lane : ℕ) (allow : LanesAllow spells history)
+module _ (g : EventsGo) (spells : List ℕ → Bool) (history : List Seen) (lane : ℕ) (allow : IsOfLanes spells history)
     (size window : ℕ) (values : AreValues history lane size window) (accepted : Bool) (low : ℕ) where
   abbrev whole_half : Halves
   whole_half = lane_in lane (take low history)
@@ -196,7 +202,7 @@ module _ (g : EventsGo) (spells : List ℕ → Bool) (history : List Seen) (lane
 
 -- ---- what is found
 
-module _ (spells : List ℕ → Bool) (history : List Seen) (lane : ℕ) (allow : LanesAllow spells history) (gen : ℕ) where
+module _ (spells : List ℕ → Bool) (history : List Seen) (lane : ℕ) (allow : IsOfLanes spells history) (gen : ℕ) where
   behind_then : (cs : List Call) (from : ℕ) (a : Action) (tail : List SessionEvent)
       → AllComeTrue spells history from a cs
       → Behind spells history lane allow gen (seen_of from cs) tail
@@ -223,7 +229,7 @@ module _ (spells : List ℕ → Bool) (history : List Seen) (lane : ℕ) (allow 
   tail_behind from p (action.Ask q) y any4 is = abort_behind spells history lane allow gen from y.aborts
   tail_behind from p (action.Finish z) y e is = abort_behind spells history lane allow gen from y.aborts
 
-module _ (spells : List ℕ → Bool) (history : List Seen) (lane : ℕ) (allow : LanesAllow spells history) (gen at : ℕ)
+module _ (spells : List ℕ → Bool) (history : List Seen) (lane : ℕ) (allow : IsOfLanes spells history) (gen at : ℕ)
   where
     abbrev half_at : Halves
     half_at = lane_in lane (take (at + 1) history)
@@ -288,7 +294,7 @@ module _ (spells : List ℕ → Bool) (history : List Seen) (lane : ℕ) (allow 
 
 -- ---- all of it
 
-good_at : (g : EventsGo) (spells : List ℕ → Bool) (history : List Seen) (allow : LanesAllow spells history)
+good_at : (g : EventsGo) (spells : List ℕ → Bool) (history : List Seen) (allow : IsOfLanes spells history)
     (lane size window at : ℕ) (values : AreValues history lane size window) (initiator : Bool) (a : Action)
     (cs : List Call) (t u : State) (step : StepOn) (b : SendEnd) (c : RecvEnd) (y : Lost) (opening : List SessionEvent)
     → HasAt history at step → ((lane_in lane (take (at + 1) history)).phase ≡ Unopened → ⊥)
@@ -325,7 +331,8 @@ good_at g spells history allow lane size window at values initiator a cs t u ste
     (λ i. gen) got gets_at
     (λ i. record {
       before = omega arith;
-      tracks = (open_, inr (refl, refl));
+      tracks = subst (Tracks l.generation l.pieces) (sym (upto-take history lane (at + 1) (omega arith)))
+          (open_, inr (refl, refl));
       owned = λ q st down there piece. finding.in_without history lane l.generation ys (at + 1) e q st piece
           (owns q st (omega (arith, down)) there piece);
     })

@@ -16,13 +16,14 @@ use Rattle.mta_session.specs.declared.phase.Phase.{Phase}
 use Rattle.mta_session.specs.declared.phase.Phase.TheVariants as phase
 use Rattle.mta_session.specs.Groups.{has_turned}
 use Rattle.mta_session.specs.State.{State}
-use Rattle.mta_session.specs.Wanted.{Wanted, Aborts, Rejects, Ends, Puts, Asks, Reads, Goes_on, Excepts, Never}
+use Rattle.mta_session.specs.Wanted.{Wanted, Aborts}
 use Rattle.mta_session.specs.Follows.{Does, counted}
 use Rattle.mta_session_laws.specs.Runs.{IsTurn}
 use Rattle.mta_session_laws.specs.Turning.{called_for}
 use Rattle.mta_session_laws.specs.Whole.{AreCalls}
 use Rattle.mta_transfer_laws.specs.Sessions as x
-use Rattle.mta_transfer_laws.specs.Sessions.{SessionEvent, Got, Refused, Put, Made, Looked, KeepsTurn, TurnAllows, turn_after}
+use Rattle.mta_transfer_laws.specs.Sessions.{SessionEvent, Got, Refused, Put, Made, Looked, KeepsTurn, TurnAllows}
+use Rattle.mta_transfer_laws.specs.Sessions.{turn_after}
 use Rattle.mta_transfer_laws.specs.Sessions.{StepsStand, RefusesLast, EndsSo}
 use Rattle.mta_session_list_laws.specs.Calls.{Call, turns_of, step_told, look_told, got_as, come_of, list_of}
 use Rattle.mta_session_list_laws.specs.Calls.{event_of, action_of}

@@ -13,12 +13,14 @@ use Rattle.mta_session.specs.declared.ask.Ask.{Ask}
 use Rattle.mta_session.specs.declared.ask.Ask.TheVariants as ask
 use Rattle.mta_session.specs.declared.ask.Reply.{Reply}
 use Rattle.mta_session.specs.declared.ask.Reply.TheVariants as reply
-use Rattle.mta_session.specs.Wanted.{Wanted, Aborts, Rejects, Ends, Puts, Asks, Reads, Goes_on, Excepts, Never}
+use Rattle.mta_session.specs.Wanted.{Wanted, Aborts}
 use Rattle.mta_session.specs.Follows.{part_of_abort}
 use Rattle.mta_session_laws.specs.TurningRecv.{taken_as, unless_refused, with_put, with_unit}
 use Rattle.mta_transfer_laws.specs.Sessions as x
-use Rattle.mta_transfer_laws.specs.Sessions.{SessionEvent, Made, Looked, Look, transfer_unit, answer_unit, abort_unit, took_of}
-use Rattle.mta_transfer_laws.specs.Sessions.{answers_of, found_by, receiving_step_of, receiving_event, TurnAllows, IsNone}
+use Rattle.mta_transfer_laws.specs.Sessions.{SessionEvent, Made, Looked, Look, transfer_unit, answer_unit, abort_unit}
+use Rattle.mta_transfer_laws.specs.Sessions.{took_of}
+use Rattle.mta_transfer_laws.specs.Sessions.{answers_of, found_by, receiving_step_of, receiving_event, TurnAllows}
+use Rattle.mta_transfer_laws.specs.Sessions.{IsNone}
 use Rattle.mta_session_list_laws.specs.Calls.{StepOn, step_told, look_told, told_as, got_as, looked_at}
 use Rattle.mta_session_list_laws.proofs.Found.{never}
 use Rattle.mta_session_list_laws.proofs.Handing.{is_common}

@@ -13,7 +13,7 @@ use Rattle.mta_session.specs.declared.phase.Phase.{Phase}
 use Rattle.mta_session.specs.declared.phase.Phase.TheVariants as phase
 use Rattle.mta_session.specs.State.{State}
 use Rattle.mta_session.specs.Rank.{is_over}
-use Rattle.mta_session.specs.Wanted.{Wanted, Aborts, Rejects, Ends, Puts, Asks, Reads, Goes_on, Excepts, Never}
+use Rattle.mta_session.specs.Wanted.{Wanted, Aborts}
 use Rattle.mta_session.specs.Follows.{counted}
 use Rattle.mta_session.specs.Fits.{AnswersAt}
 use Rattle.mta_session_laws.specs.Runs.{Turn, IsTurn}
@@ -29,7 +29,8 @@ use Rattle.mta_session_list_laws.proofs.Receiving.{Allowed, run_allowed, pending
 use Rattle.mta_session_list_laws.proofs.ReceivingPhases.{at_open, After, first, waits_after}
 use Rattle.mta_session_list_laws.proofs.ReceivingCalls.{reads_owing, open_after}
 use Rattle.mta_session_list_laws.proofs.ReceivingEnds.{Silent, last_silent, silent_after}
-use Rattle.mta_session_list_laws.proofs.ReceivingLists.{RestsRecv, RecvKeeps, Part, at_opening, in_open, at_last, at_none}
+use Rattle.mta_session_list_laws.proofs.ReceivingLists.{RestsRecv, RecvKeeps, Part, at_opening, in_open, at_last}
+use Rattle.mta_session_list_laws.proofs.ReceivingLists.{at_none}
 use Rattle.mta_session_list_laws.proofs.ReceivingLists.{part, none_here, is_early, Tells, opening_wants, opening_first}
 use Rattle.mta_session_list_laws.proofs.ReceivingLists.{opening_going, heard, RecvHere, open_reads, open_heard}
 use Rattle.mta_session_list_laws.proofs.ReceivingLists.{opening_heard, last_reads, last_heard}

@@ -7,12 +7,13 @@ use Rattle.mta_lane_send.specs.Half.{last_of}
 use Rattle.mta_units.specs.declared.unit.OpenUnit.{OpenUnit}
 use Rattle.mta_transfer_rules.specs.Units.{LaneUnit}
 use Rattle.mta_transfer_rules.specs.Lanes as h
-use Rattle.mta_transfer_rules.specs.Lanes.{Halves, SeenStep, Seen, On, Unopened, Open, Closed, unopened, Allows, LanesAllow}
+use Rattle.mta_transfer_rules.specs.Lanes.{Halves, SeenStep, Seen, On, Unopened, Open, Closed, unopened, Allows}
 use Rattle.mta_transfer_rules.specs.Lanes.{halves_after}
 use Rattle.mta_transfer_rules.specs.Lanes.{lane_in}
 use Rattle.mta_transfer_rules.specs.Receiving as r
 use Rattle.mta_transfer_rules.specs.Receiving.{RecvEnd, RecvEvent}
 use Rattle.mta_transfer_rules.specs.Sending.{SendEnd}
+use Rattle.mta_transfer_laws.specs.History.{IsOfLanes}
 use Rattle.mta_session.specs.declared.ask.Reply.TheVariants as reply
 use Rattle.mta_session.specs.declared.event.Action.{Action}
 use Rattle.mta_session.specs.declared.event.Action.TheVariants as action
@@ -31,9 +32,11 @@ use Rattle.mta_session_laws.proofs.Opening.{wanted_in}
 use Rattle.mta_session_laws.proofs.Whole.{is_ended}
 use Rattle.mta_transfer_laws.specs.Receivings.{end_on_link, ArePlain}
 use Rattle.mta_transfer_laws.specs.Sessions as x
+use Rattle.mta_transfer_laws.proofs.Histories.{upto-take}
 use Rattle.mta_transfer_laws.specs.Sessions.{SessionEvent, Made, Looked, Got, Refused, Put, took_of, answers_of}
 use Rattle.mta_transfer_laws.specs.Sessions.{receiving_step_of}
-use Rattle.mta_transfer_laws.specs.Sessions.{transfer_unit, answer_unit, receiving_event, receiving_events, recv_all, seen_after}
+use Rattle.mta_transfer_laws.specs.Sessions.{transfer_unit, answer_unit, receiving_event, receiving_events, recv_all}
+use Rattle.mta_transfer_laws.specs.Sessions.{seen_after}
 use Rattle.mta_transfer_laws.specs.Sessions.{send_all, sending_event}
 use Rattle.mta_session_list_laws.specs.Calls.{Call, StepOn, turns_of, list_of}
 use Rattle.mta_session_list_laws.specs.Abandons.{has_before, abandoned_upto, abandon_at, given_up, with_abandons}
@@ -74,23 +77,24 @@ new_step spells l (h.Secure g k n o) p = opened_not (halves_after l (h.Secure g 
 new_step spells l (h.Complete g k n o) p = opened_not (halves_after l (h.Complete g k n o)) p.0.0
 new_step spells l (h.Drop g k) p = opened_not (halves_after l (h.Drop g k)) p.0.0
 
-module _ (spells : List ℕ → Bool) (history : List Seen) (lane : ℕ) (allow : LanesAllow spells history) where
+module _ (spells : List ℕ → Bool) (history : List Seen) (lane : ℕ) (allow : IsOfLanes spells history) where
   new_before : (at : ℕ) (a : Bool) (s w : ℕ) → HasAt history at (record { lane = lane; step = h.LaneOpen a s w })
-      → lane_at spells history lane allow at ≡ unopened
+      → lane_at spells history lane allow.allowed at ≡ unopened
   new_before at a s w is =
       let within = slice_get_within history at _ is in
-      between_keeps spells history lane allow IsNew 0 at (omega arith) (omega (arith, within))
-      (λ q i j step e k. new_step spells (lane_at spells history lane allow q) step
-      (step_allowed spells history lane allow q step e))
-      (λ u. refl) (step_allowed spells history lane allow at (h.LaneOpen a s w) is)
+      between_keeps spells history lane allow.allowed IsNew 0 at (omega arith) (omega (arith, within))
+      (λ q i j step e k. new_step spells (lane_at spells history lane allow.allowed q) step
+      (step_allowed spells history lane allow.allowed q step e))
+      (allow.begun lane) (step_allowed spells history lane allow.allowed at (h.LaneOpen a s w) is)
 
   -- a lane as it is opened
   pub opened_half : (at : ℕ) (a : Bool) (s w : ℕ) → HasAt history at (record { lane = lane; step = h.LaneOpen a s w })
       → lane_in lane (take (at + 1) history) ≡ halves_after unopened (h.LaneOpen a s w)
   opened_half at a s w is =
       let e : at + 1 ≡ suc at = omega arith in
-      ap (λ (n : ℕ). lane_in lane (take n history)) e
-      ∙ step_leads spells history lane allow at (h.LaneOpen a s w) is
+      sym (upto-take history lane (at + 1) (omega arith))
+      ∙ ap (λ (n : ℕ). lane_at spells history lane allow.allowed n) e
+      ∙ step_leads spells history lane allow.allowed at (h.LaneOpen a s w) is
       ∙ ap (λ (l : Halves). halves_after l (h.LaneOpen a s w)) (new_before at a s w is)
 
 abbrev fresh : RecvEnd
@@ -185,7 +189,7 @@ same_recv t None p lane = refl
 some_is : (y z : StepOn) → Some y ≡ Some z → y ≡ z
 some_is y z e = cc
 
-module _ (spells : List ℕ → Bool) (history : List Seen) (at : ℕ) (allow : LanesAllow spells history) where
+module _ (spells : List ℕ → Bool) (history : List Seen) (at : ℕ) (allow : IsOfLanes spells history) where
   abbrev pub now : Type 0
   now = at + 1 ≡ at + 1
 

@@ -34,7 +34,8 @@ use Rattle.mta_session_list_laws.proofs.Found.{never}
 use Rattle.mta_session_list_laws.proofs.Waiting.{goes_with, none_put, none_asked, put_answers, ask_answers}
 use Rattle.mta_session_list_laws.proofs.Receiving.{Allowed, HandsOn}
 use Rattle.mta_session_list_laws.proofs.ReceivingPhases.{NewRecv, RecvAt, first, RecvWaits, begin_waits, received_waits}
-use Rattle.mta_session_list_laws.proofs.ReceivingPhases.{link_waits, unit_waits, bad_waits, agreed_waits, accepted_waits}
+use Rattle.mta_session_list_laws.proofs.ReceivingPhases.{link_waits, unit_waits, bad_waits, agreed_waits}
+use Rattle.mta_session_list_laws.proofs.ReceivingPhases.{accepted_waits}
 use Rattle.mta_session_list_laws.proofs.ReceivingCalls.{heard_is, told_is, go_told, bad_told, over_told}
 use Rattle.mta_session_list_laws.proofs.ReceivingEnds.{end_quiet, is_opening, opening_quiet, answer_quiet}
 

@@ -10,7 +10,7 @@ use Rattle.mta_session.specs.declared.event.SessionEnd.{SessionEnd}
 use Rattle.mta_session.specs.declared.event.SessionEnd.TheVariants as end
 use Rattle.mta_session.specs.declared.phase.Phase.TheVariants as phase
 use Rattle.mta_session.specs.State.{State}
-use Rattle.mta_session.specs.Wanted.{Wanted, Aborts, Rejects, Ends, Puts, Asks, Reads, Goes_on, Excepts, Never}
+use Rattle.mta_session.specs.Wanted.{Wanted, Aborts, Ends}
 use Rattle.mta_session.specs.Wanted.{cut_short, wanted_of_go, wanted_of_over}
 use Rattle.mta_session.specs.Follows.{Does, FollowsAt, counted}
 use Rattle.mta_session.specs.Fits.{AnswersAt, answers_put}

@@ -1,6 +1,6 @@
 -- The sending half of a session's list where a question is answered: what the reply tells, with the Abandon of another
 -- pass that stands before it.
-use Rattle.std.proofs.Common.{◌≡◌, ◌⊎◌, inl, inr, ℕ, ◌+◌, ◌-◌, ◌<◌, ◌≤◌, ◌==◌, Bool, true}
+use Rattle.std.proofs.Common.{◌≡◌, ◌⊎◌, inl, inr, ℕ, zero, suc, ◌+◌, ◌-◌, ◌<◌, ◌≤◌, ◌==◌, Bool, true}
 use Rattle.std.proofs.Common.{false, Option, Some, None, Ok, Err, slice_get, List, [], ◌∷◌, length, take}
 use Rattle.std.proofs.Common.{refl, sym, ap, subst, ◌∙◌, arith}
 use Rattle.std.proofs.lemmas.Bool.{eqb-true}
@@ -8,10 +8,13 @@ use Rattle.mta_lane_send.specs.declared.state.SendState.{SendState}
 use Rattle.mta_lane_send.specs.declared.state.SendState.TheVariants as state
 use Rattle.mta_lane_send.specs.Half.{is_idle, is_sending, last_of}
 use Rattle.mta_transfer_rules.specs.Lanes as h
-use Rattle.mta_transfer_rules.specs.Lanes.{Halves, Seen, On, LanesAllow, lane_in}
+use Rattle.mta_transfer_rules.specs.Lanes.{Halves, Seen, On, lane_in}
 use Rattle.mta_transfer_rules.specs.Units.{LaneUnit}
 use Rattle.mta_transfer_rules.specs.Sending as s
 use Rattle.mta_transfer_rules.specs.Sending.{SendEnd, SendEvent}
+use Rattle.mta_transfer_laws.specs.History.{IsOfLanes}
+use Rattle.mta_transfer_laws.proofs.Histories.{upto-take}
+use Rattle.mta_session_list_laws.proofs.Lanes.{lane_at}
 use Rattle.mta_records.specs.Outgoing.{Carried}
 use Rattle.mta_records.specs.declared.fault.StepFault.{StepFault}
 use Rattle.mta_records.specs.declared.fault.StepFault.TheVariants as fault
@@ -49,7 +52,8 @@ use Rattle.mta_session_list_laws.proofs.SendingPhases.{SendAt, SendWaits, if_wai
 use Rattle.mta_session_list_laws.proofs.SendingPhases.{asks_state}
 use Rattle.mta_session_list_laws.proofs.SendingOpening.{SendTells, is_soon, opening_wants}
 use Rattle.mta_session_list_laws.proofs.SendingLooks.{SendKeeps, With, silent_keeps, look_keeps, NotYet}
-use Rattle.mta_session_list_laws.proofs.SendingLooks.{not_yet_seen, not_yet_given, not_yet_started, not_yet_own, own_seen}
+use Rattle.mta_session_list_laws.proofs.SendingLooks.{not_yet_seen, not_yet_given, not_yet_started, not_yet_own}
+use Rattle.mta_session_list_laws.proofs.SendingLooks.{own_seen}
 use Rattle.mta_session_list_laws.proofs.SendingLooks.{own_keeps, denied_keeps, sent_keeps, start_keeps, idle_none}
 use Rattle.mta_session_list_laws.proofs.SendingCalls.{left_calm}
 use Rattle.mta_session_list_laws.proofs.SendingTold.{Told, other_quiet, close_quiet, asks_else, else_quiet}
@@ -95,8 +99,13 @@ given_listed t hd o i =
     ap (λ (os : List ℕ). record (s.made (listed t.send hd o) s.Abandon) { octets = os })
     (kept_live t.send.state o t.send.octets (sending_live t.send.state (last_of t.send.state) i))
 
+-- a lane that drops an activity was opened
+some_seen : (history : List Seen) (lane n k : ℕ) → (lane_in lane (take n history)).state ≡ state.Dropping k → 1 ≤ n
+some_seen history lane zero k e = absurd (let c : state.Idle 0 ≡ state.Dropping k = e in cc)
+some_seen history lane (suc n) k e = omega arith
+
 -- (`After` is what is asked of the list's end behind a call)
-module _ (spells : List ℕ → Bool) (history : List Seen) (lane : ℕ) (allow : LanesAllow spells history)
+module _ (spells : List ℕ → Bool) (history : List Seen) (lane : ℕ) (allow : IsOfLanes spells history)
     (l : Halves) (size window : ℕ) (accepted : Bool) (low : ℕ) (early later : Type 0) (After : SendEnd → Type 0) where
   abbrev pub Yet : ℕ → SendEnd → Type 0
   Yet n e = NotYet spells history lane allow n e
@@ -388,9 +397,13 @@ module _ (spells : List ℕ → Bool) (history : List Seen) (lane : ℕ) (allow 
         → behind ≤ seen → Yet behind c → (lane_in lane (take seen history)).state ≡ told
         → c.state ≡ t.send.state → is_given_up t told ≡ true → ⊥
     none_given n told w b le yet is e i =
+        let given : told ≡ state.Dropping (last_of t.send.state) = given_told t told i in
+        let some : 1 ≤ seen = some_seen history lane seen (last_of t.send.state) (is ∙ given) in
+        let so : (lane_at spells history lane allow.allowed seen).state ≡ told =
+        ap (λ (z : Halves). z.state) (upto-take history lane seen some) ∙ is in
         not_yet_seen spells history lane allow behind seen c le b w yet
         (subst (λ z. is_sending z (last_of z) ≡ true) (sym e) (given_up t told i))
-        (is ∙ given_told t told i ∙ ap (λ (z : SendState). state.Dropping (last_of z)) (sym e))
+        (so ∙ given ∙ ap (λ (z : SendState). state.Dropping (last_of z)) (sym e))
 
     told_state : (q : Ask) (told : SendState) → Here q (reply.Recovery (Some told)) → q ≡ ask.Recovery t.lane
         → t.lane ≡ lane → (lane_in lane (take seen history)).state ≡ told

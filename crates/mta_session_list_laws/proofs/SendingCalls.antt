@@ -13,7 +13,7 @@ use Rattle.mta_session.specs.declared.event.Event.TheVariants as event
 use Rattle.mta_session.specs.declared.phase.Phase.{Phase}
 use Rattle.mta_session.specs.declared.phase.Phase.TheVariants as phase
 use Rattle.mta_session.specs.State.{State}
-use Rattle.mta_session.specs.Wanted.{Wanted, Aborts, Rejects, Ends, Puts, Asks, Reads, Goes_on, Excepts, Never}
+use Rattle.mta_session.specs.Wanted.{Wanted, Aborts}
 use Rattle.mta_session.specs.Follows.{Does, counted}
 use Rattle.mta_session.specs.Fits.{Answers}
 use Rattle.mta_session_laws.specs.Called.{heard_as}
@@ -25,7 +25,8 @@ use Rattle.mta_session_laws.proofs.Opening.{wanted_in}
 use Rattle.mta_session_laws.proofs.Whole.{in_phase_wanted}
 use Rattle.mta_session_laws.proofs.Ending.{Turned, open_way}
 use Rattle.mta_transfer_laws.specs.Sessions as x
-use Rattle.mta_transfer_laws.specs.Sessions.{SessionEvent, sending_event, gots_of, answer_unit, send_all, SendOwesNothing}
+use Rattle.mta_transfer_laws.specs.Sessions.{SessionEvent, sending_event, gots_of, answer_unit, send_all}
+use Rattle.mta_transfer_laws.specs.Sessions.{SendOwesNothing}
 use Rattle.mta_session_list_laws.specs.Calls.{got_as}
 use Rattle.mta_session_list_laws.specs.Sent.{without_other}
 use Rattle.mta_session_list_laws.proofs.Found.{never}

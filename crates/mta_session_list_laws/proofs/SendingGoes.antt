@@ -13,7 +13,7 @@ use Rattle.mta_session.specs.declared.event.Action.TheVariants as action
 use Rattle.mta_session.specs.declared.phase.Phase.{Phase}
 use Rattle.mta_session.specs.declared.phase.Phase.TheVariants as phase
 use Rattle.mta_session.specs.Sending.{step_of}
-use Rattle.mta_session.specs.Wanted.{Wanted, Aborts, Rejects, Ends, Puts, Asks, Reads, Goes_on, Excepts, Never}
+use Rattle.mta_session.specs.Wanted.{Wanted, Puts, Asks, Reads, Goes_on, Excepts}
 use Rattle.mta_session_laws.specs.Turning.{listed, MayFollow, Reaches, ReachesBy, SendGoes}
 use Rattle.mta_session_laws.specs.Turning.{with_unit, with_action}
 use Rattle.mta_session_laws.proofs.Ending.{abort_says_nothing}

@@ -11,9 +11,10 @@ use Rattle.mta_units.specs.declared.unit.OpenUnit.{OpenUnit}
 use Rattle.mta_units.specs.declared.unit.Unit.{Unit as AnyUnit}
 use Rattle.mta_transfer_rules.specs.Units.{LaneUnit}
 use Rattle.mta_transfer_rules.specs.Lanes as h
-use Rattle.mta_transfer_rules.specs.Lanes.{Halves, Seen, SeenStep, On, LanesAllow, lane_in, halves_after, unopened}
+use Rattle.mta_transfer_rules.specs.Lanes.{Halves, Seen, SeenStep, On, lane_in, halves_after, unopened}
 use Rattle.mta_transfer_rules.specs.Sending as s
 use Rattle.mta_transfer_rules.specs.Sending.{SendEnd, SendEvent}
+use Rattle.mta_transfer_laws.specs.History.{IsOfLanes}
 use Rattle.mta_session.specs.declared.ask.Ask.{Ask}
 use Rattle.mta_session.specs.declared.ask.Ask.TheVariants as ask
 use Rattle.mta_session.specs.declared.ask.Reply.{Reply}
@@ -39,11 +40,14 @@ use Rattle.mta_session_laws.specs.Whole.{AreCalls}
 use Rattle.mta_session_laws.proofs.Opening.{wanted_in}
 use Rattle.mta_session_laws.proofs.Whole.{is_ended}
 use Rattle.mta_session_laws.specs.Order.{is_asking}
+use Rattle.mta_transfer_laws.proofs.Histories.{upto-take}
 use Rattle.mta_transfer_laws.proofs.Values.{stay}
 use Rattle.mta_transfer_laws.specs.Sendings.{ArePlain}
 use Rattle.mta_transfer_laws.specs.Sessions as x
-use Rattle.mta_transfer_laws.specs.Sessions.{SessionEvent, Got, Refused, Put, Made, Looked, sending_event, sending_events}
-use Rattle.mta_transfer_laws.specs.Sessions.{sending_step_of, send_all, turn_after, gots_of, puts_of, answer_unit, transfer_unit}
+use Rattle.mta_transfer_laws.specs.Sessions.{SessionEvent, Got, Refused, Put, Made, Looked, sending_event}
+use Rattle.mta_transfer_laws.specs.Sessions.{sending_events}
+use Rattle.mta_transfer_laws.specs.Sessions.{sending_step_of, send_all, turn_after, gots_of, puts_of, answer_unit}
+use Rattle.mta_transfer_laws.specs.Sessions.{transfer_unit}
 use Rattle.mta_lane_match_laws.proofs.Lanes.{lanes_stay}
 use Rattle.mta_lane_match_laws.specs.Asks.{IsAskOf}
 use Rattle.mta_session_list_laws.specs.Calls.{Call, StepOn, turns_of, step_told, list_of}
@@ -90,7 +94,7 @@ module _ (spells : List ℕ → Bool) (history : List Seen) where
 
 -- ---- values
 
-module _ (spells : List ℕ → Bool) (history : List Seen) (lane : ℕ) (allow : LanesAllow spells history)
+module _ (spells : List ℕ → Bool) (history : List Seen) (lane : ℕ) (allow : IsOfLanes spells history)
     (size window : ℕ) (values : AreValues history lane size window) where
   -- a lane that is agreed has these values
   agreed_values : (n : ℕ) → (lane_in lane (take n history)).agreed ≡ true
@@ -98,7 +102,7 @@ module _ (spells : List ℕ → Bool) (history : List Seen) (lane : ℕ) (allow 
   agreed_values n agreed =
       let whole : take n history ++ drop n history ≡ history = take-append-drop n history in
       let stays = stay spells (take n history) (drop n history) lane
-      (subst (λ z. LanesAllow spells z) (sym whole) allow) agreed in
+      (subst (λ z. IsOfLanes spells z) (sym whole) allow) agreed in
       let there = values (ap (λ (z : List Seen). (lane_in lane z).agreed) (sym whole) ∙ stays.0) in (
         sym there.0 ∙ ap (λ (z : List Seen). (lane_in lane z).size) (sym whole) ∙ stays.1,
         sym there.1 ∙ ap (λ (z : List Seen). (lane_in lane z).window) (sym whole) ∙ stays.2,
@@ -110,11 +114,13 @@ module _ (spells : List ℕ → Bool) (history : List Seen) (lane : ℕ) (allow 
       × ((halves_after l step).window ≡ w))
       → (size ≡ sz) × (window ≡ w)
   agreed_by p sz w step is sets =
-      let leads = step_leads spells history lane allow p step is in
-      let set = sets (lane_at spells history lane allow p) in
-      let there = agreed_values (suc p) (ap (λ (z : Halves). z.agreed) leads ∙ set.0) in (
-        there.0 ∙ ap (λ (z : Halves). z.size) leads ∙ set.1,
-        there.1 ∙ ap (λ (z : Halves). z.window) leads ∙ set.2,
+      let leads = step_leads spells history lane allow.allowed p step is in
+      let set = sets (lane_at spells history lane allow.allowed p) in
+      let same : lane_in lane (take (suc p) history) ≡ halves_after (lane_at spells history lane allow.allowed p) step =
+      sym (upto-take history lane (suc p) (omega arith)) ∙ leads in
+      let there = agreed_values (suc p) (ap (λ (z : Halves). z.agreed) same ∙ set.0) in (
+        there.0 ∙ ap (λ (z : Halves). z.size) same ∙ set.1,
+        there.1 ∙ ap (λ (z : Halves). z.window) same ∙ set.2,
       )
 
 -- ---- what the spool told
@@ -141,7 +147,7 @@ never_with (action.Put u) p i k w = never w
 never_with (action.Finish y) (phase.Ended z) i k w = never i
 never_with (action.Finish y) p i k w = never w
 
-module _ (spells : List ℕ → Bool) (history : List Seen) (lane : ℕ) (allow : LanesAllow spells history)
+module _ (spells : List ℕ → Bool) (history : List Seen) (lane : ℕ) (allow : IsOfLanes spells history)
     (size window : ℕ) (values : AreValues history lane size window) (accepted : Bool) (low : ℕ) where
   abbrev half : Halves
   half = lane_in lane (take low history)
@@ -255,7 +261,7 @@ module _ (spells : List ℕ → Bool) (history : List Seen) (lane : ℕ) (allow 
 
 -- ---- all calls
 
-module _ (g : EventsGo) (spells : List ℕ → Bool) (history : List Seen) (lane : ℕ) (allow : LanesAllow spells history)
+module _ (g : EventsGo) (spells : List ℕ → Bool) (history : List Seen) (lane : ℕ) (allow : IsOfLanes spells history)
     (size window : ℕ) (values : AreValues history lane size window) (accepted : Bool) (low : ℕ) where
   abbrev whole : Halves
   whole = lane_in lane (take low history)
@@ -343,7 +349,7 @@ pub accept_new : (c v : State) (a : Option Answer) (act : Action) (new : State) 
 accept_new c v (Some a) act new d = d.1
 accept_new c v None act new d = elim d [ ]
 
-module _ (g : EventsGo) (spells : List ℕ → Bool) (history : List Seen) (at : ℕ) (allow : LanesAllow spells history)
+module _ (g : EventsGo) (spells : List ℕ → Bool) (history : List Seen) (at : ℕ) (allow : IsOfLanes spells history)
     (size window : ℕ) where
   abbrev half_at : ℕ → Halves
   half_at lane = lane_in lane (take (at + 1) history)
@@ -353,7 +359,10 @@ module _ (g : EventsGo) (spells : List ℕ → Bool) (history : List Seen) (at :
 
   pub begin_yet : (lane : ℕ) (accepted : Bool) → NotYet spells history lane allow (at + 1)
       (one (half_at lane) size window accepted)
-  begin_yet lane accepted i e = dropping_none (half_at lane).state (last_of (half_at lane).state) i e
+  begin_yet lane accepted i e =
+      let same : (lane_in lane (take (at + 1) history)).state ≡ state.Dropping (last_of (half_at lane).state) =
+      ap (λ (l : Halves). l.state) (sym (upto-take history lane (at + 1) (omega arith))) ∙ e in
+      dropping_none (half_at lane).state (last_of (half_at lane).state) i same
 
   -- an initiator's new lane
   pub planned : (p : InitiatorPlan) (units : ℕ) → HasAt history at (step_for p) → p.recovering ≡ false

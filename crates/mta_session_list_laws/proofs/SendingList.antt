@@ -3,10 +3,11 @@ use Rattle.std.proofs.Common.{◌≡◌, ℕ, ◌-◌, ◌≤◌, Bool, true, fa
 use Rattle.std.proofs.Common.{None, List, [], ◌∷◌, ◌++◌}
 use Rattle.std.proofs.Common.{refl, sym, ap, subst, ◌∙◌, arith}
 use Rattle.mta_units.specs.declared.unit.Unit.{Unit as AnyUnit}
-use Rattle.mta_transfer_rules.specs.Lanes.{Halves, Seen, LanesAllow}
+use Rattle.mta_transfer_rules.specs.Lanes.{Halves, Seen}
 use Rattle.mta_transfer_rules.specs.Units.{LaneUnit}
 use Rattle.mta_transfer_rules.specs.Sending as s
 use Rattle.mta_transfer_rules.specs.Sending.{SendEnd, SendEvent}
+use Rattle.mta_transfer_laws.specs.History.{IsOfLanes}
 use Rattle.mta_lane_send.specs.declared.state.SendState.TheVariants as state
 use Rattle.mta_lane_send.specs.Half.{is_sending, last_of}
 use Rattle.mta_session.specs.declared.event.SessionEnd.{SessionEnd}
@@ -19,14 +20,15 @@ use Rattle.mta_session.specs.declared.event.Event.TheVariants as event
 use Rattle.mta_session.specs.declared.phase.Phase.{Phase}
 use Rattle.mta_session.specs.declared.phase.Phase.TheVariants as phase
 use Rattle.mta_session.specs.State.{State}
-use Rattle.mta_session.specs.Wanted.{Wanted, Aborts, Rejects, Ends, Puts, Asks, Reads, Goes_on, Excepts, Never}
+use Rattle.mta_session.specs.Wanted.{Wanted, Aborts}
 use Rattle.mta_session.specs.Follows.{Does, counted}
 use Rattle.mta_session.specs.Fits.{FitsAt, AnswersAt}
 use Rattle.mta_session_laws.specs.Runs.{Turn, IsTurn}
 use Rattle.mta_session_laws.specs.Turning.{EventsGo, called_for, is_open, is_last_phase}
 use Rattle.mta_session_laws.proofs.Opening.{wanted_in}
 use Rattle.mta_transfer_laws.specs.Sessions as x
-use Rattle.mta_transfer_laws.specs.Sessions.{SessionEvent, Put, sending_event, answer_unit, gots_of, puts_of, transfer_unit}
+use Rattle.mta_transfer_laws.specs.Sessions.{SessionEvent, Put, sending_event, answer_unit, gots_of, puts_of}
+use Rattle.mta_transfer_laws.specs.Sessions.{transfer_unit}
 use Rattle.mta_transfer_laws.specs.Sessions.{send_all, turn_after, seen_after, SendOwesNothing}
 use Rattle.mta_session_list_laws.specs.Abandons.{has_before}
 use Rattle.mta_session_list_laws.specs.Calls.{step_told, look_told, told_as, got_as, come_of}
@@ -38,7 +40,8 @@ use Rattle.mta_session_list_laws.proofs.Waiting.{none_asked, does_at, is_finish}
 use Rattle.mta_session_list_laws.proofs.Turns.{Holds}
 use Rattle.mta_session_list_laws.proofs.TurnsUnits.{unit_goes, reads_list}
 use Rattle.mta_session_list_laws.proofs.TurnsReplies.{turned, Done}
-use Rattle.mta_session_list_laws.proofs.TurnsCalls.{Here, quiet_done, bad_done, over_done, done_by, reads_here, less_holds}
+use Rattle.mta_session_list_laws.proofs.TurnsCalls.{Here, quiet_done, bad_done, over_done, done_by, reads_here}
+use Rattle.mta_session_list_laws.proofs.TurnsCalls.{less_holds}
 use Rattle.mta_session_list_laws.proofs.ReceivingEnds.{is_opening}
 use Rattle.mta_session_list_laws.proofs.ReceivingLists.{Part, at_opening, in_open, at_last, at_none, part, is_unlisted}
 use Rattle.mta_session_list_laws.proofs.ReceivingLists.{Asked, opening_going}
@@ -115,7 +118,7 @@ got_silent : (lane : ℕ) (w : Wanted) (y : AnyUnit) (n : ℕ)
 got_silent lane (Aborts reason) y n = (refl, refl)
 got_silent lane any1 y n = (refl, refl)
 
-module _ (g : EventsGo) (spells : List ℕ → Bool) (history : List Seen) (lane : ℕ) (allow : LanesAllow spells history)
+module _ (g : EventsGo) (spells : List ℕ → Bool) (history : List Seen) (lane : ℕ) (allow : IsOfLanes spells history)
     (l : Halves) (size window : ℕ) (accepted : Bool) (low : ℕ) (early later : Type 0) where
   abbrev Yet_at : ℕ → SendEnd → Type 0
   Yet_at n e = NotYet spells history lane allow n e
@@ -123,7 +126,7 @@ module _ (g : EventsGo) (spells : List ℕ → Bool) (history : List Seen) (lane
   yet_same : (n : ℕ) (e f : SendEnd) → f.state ≡ e.state → Yet_at n e → Yet_at n f
   yet_same n e f q k =
       subst (λ z. is_sending z (last_of z) ≡ true
-      → (lane_at spells history lane allow n).state ≡ state.Dropping (last_of z) → ⊥) (sym q) k
+      → (lane_at spells history lane allow.allowed n).state ≡ state.Dropping (last_of z) → ⊥) (sym q) k
 
   abbrev After_at : SendEnd → Turn → Type 0
   After_at mid t = AfterSend l size window accepted later mid t.action t.after

@@ -12,19 +12,23 @@ use Rattle.mta_transfer_rules.specs.Units as u
 use Rattle.mta_transfer_rules.specs.Sending as s
 use Rattle.mta_transfer_rules.specs.Sending.{SendEnd, SendEvent, SendStep}
 use Rattle.mta_transfer_rules.specs.Lanes as h
-use Rattle.mta_transfer_rules.specs.Lanes.{Halves, SeenStep, Seen, On, LanesAllow, Allows, halves_after}
+use Rattle.mta_transfer_rules.specs.Lanes.{Halves, SeenStep, Seen, On, Allows, halves_after}
+use Rattle.mta_transfer_laws.specs.History.{IsOfLanes}
 use Rattle.mta_session.specs.declared.phase.OwnStep.{OwnStep}
 use Rattle.mta_session.specs.declared.phase.OwnStep.TheVariants as own
 use Rattle.mta_session.specs.State.{State}
 use Rattle.mta_session.specs.Sending.{step_of}
 use Rattle.mta_transfer_laws.specs.Sessions as x
-use Rattle.mta_transfer_laws.specs.Sessions.{SessionEvent, Got, Refused, Made, Looked, SendOwesNothing, turn_after, send_all}
+use Rattle.mta_transfer_laws.specs.Sessions.{SessionEvent, Got, Refused, Made, Looked, SendOwesNothing, turn_after}
+use Rattle.mta_transfer_laws.specs.Sessions.{send_all}
 use Rattle.mta_transfer_laws.specs.Sessions.{sending_event, sending_step_of, seen_after, step_seen, IsSeen}
 use Rattle.mta_transfer_laws.proofs.Unseen.{before-settling}
-use Rattle.mta_session_list_laws.specs.Abandons.{step_upto, has_before, abandoned_upto, abandon_at, given_up, with_abandons}
+use Rattle.mta_session_list_laws.specs.Abandons.{step_upto, has_before, abandoned_upto, abandon_at, given_up}
+use Rattle.mta_session_list_laws.specs.Abandons.{with_abandons}
 use Rattle.mta_session_list_laws.proofs.Found.{never, Placed, kept, placed, placed_upto}
 use Rattle.mta_session_list_laws.proofs.Insertion as insertion
-use Rattle.mta_session_list_laws.proofs.Lanes.{lane_at, step_allowed, step_leads, stays_undropped, none_confirms, none_ends}
+use Rattle.mta_session_list_laws.proofs.Lanes.{lane_at, step_allowed, step_leads, stays_undropped, none_confirms}
+use Rattle.mta_session_list_laws.proofs.Lanes.{none_ends}
 use Rattle.mta_session_list_laws.proofs.SendingGoes.{Allowed}
 
 -- ---- what is asked of a list
@@ -181,26 +185,28 @@ own_seen t own.Sent = h.Sent t.generation (last_of t.send.state)
 own_seen t own.Dropped = h.Dropped t.generation (last_of t.send.state)
 own_seen t (own.Refused kind) = h.Refused t.generation (last_of t.send.state)
 
-module _ (spells : List ℕ → Bool) (history : List Seen) (lane : ℕ) (allow : LanesAllow spells history) where
+module _ (spells : List ℕ → Bool) (history : List Seen) (lane : ℕ) (allow : IsOfLanes spells history) where
   -- what the list's end sends was not given up so far
   abbrev pub NotYet : ℕ → SendEnd → Type 0
   NotYet n e =
       is_sending e.state (last_of e.state) ≡ true
-      → (lane_at spells history lane allow n).state ≡ state.Dropping (last_of e.state) → ⊥
+      → (lane_at spells history lane allow.allowed n).state ≡ state.Dropping (last_of e.state) → ⊥
 
   pub not_yet_seen : (from n : ℕ) (e : SendEnd) → from ≤ n → n ≤ length history → IsSeen history lane from n e
       → NotYet from e → NotYet n e
   not_yet_seen from n e le within seen k i =
-      stays_undropped spells history lane allow (last_of e.state) from n le within (seen i) (k i)
+      stays_undropped spells history lane allow.allowed (last_of e.state) from n le within (seen i) (k i)
 
   pub not_yet_given : (n : ℕ) (e : SendEnd) → NotYet n (s.made e s.Abandon)
   not_yet_given n e i = absurd (never i)
 
   behind : (p : ℕ) (step : SeenStep) → slice_get history p ≡ Some (On lane step)
-      → lane_at spells history lane allow (p + 1) ≡ halves_after (lane_at spells history lane allow p) step
+      → lane_at spells history lane allow.allowed (p + 1)
+      ≡ halves_after (lane_at spells history lane allow.allowed p) step
   behind p step is =
       let e : p + 1 ≡ suc p = omega arith in
-      ap (λ (n : ℕ). lane_at spells history lane allow n) e ∙ step_leads spells history lane allow p step is
+      ap (λ (n : ℕ). lane_at spells history lane allow.allowed n) e
+      ∙ step_leads spells history lane allow.allowed p step is
 
   pub not_yet_started : (p g k : ℕ) (o : List ℕ) (e : SendEnd) → slice_get history p ≡ Some (On lane (h.Start g k o))
       → NotYet (p + 1) e
@@ -212,9 +218,9 @@ module _ (spells : List ℕ → Bool) (history : List Seen) (lane : ℕ) (allow 
   pub not_yet_own : (t : State) (step : OwnStep) (e : SendEnd) (p : ℕ)
       → slice_get history p ≡ Some (On lane (own_seen t step)) → NotYet (p + 1) (s.made e (step_of step))
   not_yet_own t (own.Confirm n) e p is i q =
-      confirmed_stays (lane_at spells history lane allow p).state (last_of t.send.state) n
+      confirmed_stays (lane_at spells history lane allow.allowed p).state (last_of t.send.state) n
       (last_of (s.made e (s.Confirm n)).state)
-      (step_allowed spells history lane allow p _ is).1
+      (step_allowed spells history lane allow.allowed p _ is).1
       (ap (λ (l : Halves). l.state) (sym (behind p _ is)) ∙ q)
   not_yet_own t any1 e p is i q = never i
 
@@ -240,11 +246,12 @@ module _ (spells : List ℕ → Bool) (history : List Seen) (lane : ℕ) (allow 
         m,
         k,
       ))
-      (λ w i b there. absurd (none_confirms spells history lane allow (last_of e.state) w p t.generation n there b
+      (λ w i b there. absurd (none_confirms spells history lane allow.allowed (last_of e.state) w p t.generation n there
+      b
       (subst (λ z. slice_get history p ≡ Some (On lane (h.Confirm t.generation (last_of z) n))) (sym q) is)))
   own_keeps v from p t own.Ending e rest q m le is k =
       step_keeps history lane v from p lane e (own_seen t own.Ending) s.To_end rest refl refl le (λ seen. (m, k))
-      (λ w i b there. absurd (none_ends spells history lane allow (last_of e.state) w p t.generation there b
+      (λ w i b there. absurd (none_ends spells history lane allow.allowed (last_of e.state) w p t.generation there b
       (subst (λ z. slice_get history p ≡ Some (On lane (h.To_end t.generation (last_of z)))) (sym q) is)))
   own_keeps v from p t own.Sent e rest q m le is k =
       step_keeps history lane v from p lane e (own_seen t own.Sent) s.Sent rest refl refl le (λ seen. (m, k))

@@ -24,7 +24,8 @@ use Rattle.mta_session.specs.Wanted.{ask_of, on_step, wanted_of_reply}
 use Rattle.mta_session.specs.Fits.{RepliesTo, AnswersStep}
 use Rattle.mta_session_laws.specs.Turning.{made_by}
 use Rattle.mta_transfer_laws.specs.Sessions as x
-use Rattle.mta_transfer_laws.specs.Sessions.{SessionEvent, Made, Looked, sending_event, sending_step_of, seen_after, step_seen}
+use Rattle.mta_transfer_laws.specs.Sessions.{SessionEvent, Made, Looked, sending_event, sending_step_of, seen_after}
+use Rattle.mta_transfer_laws.specs.Sessions.{step_seen}
 use Rattle.mta_transfer_laws.specs.Sessions.{turn_after}
 use Rattle.mta_lane_match_laws.specs.Asks.{IsAskOf, handed_by}
 use Rattle.mta_session_list_laws.specs.Abandons.{step_upto, has_before}

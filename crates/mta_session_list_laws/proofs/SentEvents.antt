@@ -21,7 +21,7 @@ use Rattle.mta_session.specs.declared.phase.OwnStep.{OwnStep}
 use Rattle.mta_session.specs.declared.phase.OwnStep.TheVariants as own
 use Rattle.mta_session.specs.declared.phase.Phase.TheVariants as phase
 use Rattle.mta_session.specs.State.{State}
-use Rattle.mta_session.specs.Wanted.{Wanted, Aborts, Rejects, Ends, Puts, Asks, Reads, Goes_on, Excepts, Never}
+use Rattle.mta_session.specs.Wanted.{Wanted, Aborts}
 use Rattle.mta_session.specs.Wanted.{as_holder, as_listener, ask_of, within}
 use Rattle.mta_session.specs.Fits.{AnswersStep}
 use Rattle.mta_session.specs.Follows.{counted}
@@ -29,7 +29,8 @@ use Rattle.mta_session_laws.specs.Called.{heard_as}
 use Rattle.mta_session_laws.specs.Turning as turning
 use Rattle.mta_session_laws.specs.Turning.{called_for, unless_refused, started_by, made_by, with_unit}
 use Rattle.mta_transfer_laws.specs.Sessions as x
-use Rattle.mta_transfer_laws.specs.Sessions.{gots_of, puts_of, answer_unit, transfer_unit, sending_event, sending_step_of}
+use Rattle.mta_transfer_laws.specs.Sessions.{gots_of, puts_of, answer_unit, transfer_unit, sending_event}
+use Rattle.mta_transfer_laws.specs.Sessions.{sending_step_of}
 use Rattle.mta_lane_match_laws.specs.Asks.{IsStart}
 use Rattle.mta_session_list_laws.specs.Calls.{step_told, look_told, told_as, got_as}
 use Rattle.mta_session_list_laws.specs.Sent.{without_other}

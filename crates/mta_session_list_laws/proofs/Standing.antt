@@ -10,11 +10,12 @@ use Rattle.mta_session.specs.declared.event.Event.TheVariants as event
 use Rattle.mta_session.specs.declared.event.Action.{Action}
 use Rattle.mta_session.specs.declared.event.Action.TheVariants as action
 use Rattle.mta_session.specs.declared.phase.Phase.{Phase}
-use Rattle.mta_session.specs.Wanted.{Wanted, Aborts, Rejects, Ends, Puts, Asks, Reads, Goes_on, Excepts, Never}
+use Rattle.mta_session.specs.Wanted.{Wanted, Aborts}
 use Rattle.mta_session_laws.specs.Turning.{called_for}
 use Rattle.mta_session_laws.specs.Runs.{Turn}
 use Rattle.mta_transfer_laws.specs.Sessions as x
-use Rattle.mta_transfer_laws.specs.Sessions.{SessionEvent, Looked, Made, Got, Refused, Put, Look, sending_event, step_seen}
+use Rattle.mta_transfer_laws.specs.Sessions.{SessionEvent, Looked, Made, Got, Refused, Put, Look, sending_event}
+use Rattle.mta_transfer_laws.specs.Sessions.{step_seen}
 use Rattle.mta_transfer_laws.specs.Sessions.{seen_after, StepsStand}
 use Rattle.mta_session_list_laws.specs.Calls.{Call, StepOn, step_told, look_told, told_as, got_as, come_of, list_of}
 use Rattle.mta_session_list_laws.specs.Abandons.{step_upto, has_before}

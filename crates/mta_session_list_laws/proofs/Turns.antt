@@ -10,7 +10,8 @@ use Rattle.mta_session.specs.declared.phase.Phase.TheVariants as phase
 use Rattle.mta_session.specs.State.{State, is_initiator}
 use Rattle.mta_session.specs.Wanted.{Wanted, Aborts, Rejects, Ends, Puts, Asks, Reads, Goes_on, Excepts, Never}
 use Rattle.mta_transfer_laws.specs.Sessions as x
-use Rattle.mta_transfer_laws.specs.Sessions.{SessionEvent, Got, Refused, Put, Turn, turn_put, turn_got, turn_after, TurnAllows}
+use Rattle.mta_transfer_laws.specs.Sessions.{SessionEvent, Got, Refused, Put, Turn, turn_put, turn_got, turn_after}
+use Rattle.mta_transfer_laws.specs.Sessions.{TurnAllows}
 use Rattle.mta_session_list_laws.specs.Calls.{got_as}
 use Rattle.mta_session_list_laws.proofs.Found.{never}
 

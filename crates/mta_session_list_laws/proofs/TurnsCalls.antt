@@ -24,7 +24,8 @@ use Rattle.mta_session_list_laws.proofs.Waiting.{goes_with, Ready, ready_next, g
 use Rattle.mta_session_list_laws.proofs.Waiting.{none_first, does_at, over_says}
 use Rattle.mta_session_list_laws.proofs.Turns.{Holds, TurnGoes, if_goes}
 use Rattle.mta_session_list_laws.proofs.TurnsUnits.{reads_list, reading_aborts, unit_goes}
-use Rattle.mta_session_list_laws.proofs.TurnsReplies.{reply_goes, go_goes, over_goes, PutAllowed, turned, Done, does_done}
+use Rattle.mta_session_list_laws.proofs.TurnsReplies.{reply_goes, go_goes, over_goes, PutAllowed, turned, Done}
+use Rattle.mta_session_list_laws.proofs.TurnsReplies.{does_done}
 
 -- a step or a look concerns no turn
 pub told_turns : (v : x.Turn) (seen : ℕ) (o : Option StepOn) (look : Look) (rest : List SessionEvent) → KeepsTurn v rest

@@ -28,7 +28,7 @@ use Rattle.mta_session.specs.declared.phase.OwnStep.TheVariants as own
 use Rattle.mta_session.specs.declared.phase.Phase.{Phase}
 use Rattle.mta_session.specs.declared.phase.Phase.TheVariants as phase
 use Rattle.mta_session.specs.State.{State, is_initiator}
-use Rattle.mta_session.specs.Wanted.{Wanted, Aborts, Rejects, Ends, Puts, Asks, Reads, Goes_on, Excepts, Never}
+use Rattle.mta_session.specs.Wanted.{Wanted, Ends, Puts, Asks, Reads, Goes_on, Excepts, Never}
 use Rattle.mta_session.specs.Wanted.{open_unit, abort_of, begins, answers_link, puts_accept, on_received, on_batch}
 use Rattle.mta_session.specs.Wanted.{on_due, on_start, on_still_idle, is_still, on_step, on_state, is_given_up}
 use Rattle.mta_session.specs.Wanted.{on_secured, on_completed, on_dropped, closed, after_accept, with_received}

@@ -3,7 +3,8 @@ use Rattle.std.specs.Prelude.{◌≡◌, ◌⊎◌, ◌<◌, ◌≤◌, ℕ, ◌
 use Rattle.std.specs.Prelude.{List, [], ◌∷◌, length, take}
 use Rattle.mta_transfer_rules.specs.Sending.{SendEnd}
 use Rattle.mta_transfer_rules.specs.Lanes as h
-use Rattle.mta_transfer_rules.specs.Lanes.{SeenStep, Seen, On, lane_in, LanesAllow}
+use Rattle.mta_transfer_rules.specs.Lanes.{SeenStep, Seen, On, lane_in}
+use Rattle.mta_transfer_laws.specs.History.{IsOfLanes}
 use Rattle.mta_transfer_rules.specs.Receiving as r
 use Rattle.mta_transfer_rules.specs.Receiving.{RecvEnd}
 use Rattle.mta_transfer_laws.specs.Receivings.{end_on_link, ArePlain, AreTrue}
@@ -107,7 +108,7 @@ pub record KeepsReceiving (history : List Seen) (lane : ℕ) (l : SessionList) :
 abbrev pub ListsReceive : Type 0
 ListsReceive =
     (spells : List ℕ → Bool) (history : List Seen) (first u : State) (calls : List Call) (lane size window : ℕ)
-    (l : SessionList) → LanesAllow spells history → IsListOf spells history first calls lane l
+    (l : SessionList) → IsOfLanes spells history → IsListOf spells history first calls lane l
     → AreCalls first (turns_of calls) u
     → KeepsReceiving history lane (completed history lane size window (is_initiator first.side) l)
 
@@ -133,7 +134,7 @@ pub record KeepsSending (history : List Seen) (lane size window : ℕ) (initiato
 abbrev pub ListsSend : Type 0
 ListsSend =
     (spells : List ℕ → Bool) (history : List Seen) (first u : State) (calls : List Call) (lane size window : ℕ)
-    (l : SessionList) → LanesAllow spells history → IsListOf spells history first calls lane l
+    (l : SessionList) → IsOfLanes spells history → IsListOf spells history first calls lane l
     → AreValues history lane size window → AreCalls first (turns_of calls) u
     → KeepsSending history lane size window (is_initiator first.side)
     (completed history lane size window (is_initiator first.side) l)
@@ -166,7 +167,7 @@ OpensFirst (side.Responder own) = Unit {0}
 abbrev pub ListsFind : Type 0
 ListsFind =
     (spells : List ℕ → Bool) (history : List Seen) (first u : State) (calls : List Call) (lane size window : ℕ)
-    (l : SessionList) → LanesAllow spells history → IsListOf spells history first calls lane l
+    (l : SessionList) → IsOfLanes spells history → IsListOf spells history first calls lane l
     → OpensFirst first.side
     → OwnsPieces history lane (completed history lane size window (is_initiator first.side) l)
     → AreCalls first (turns_of calls) u
@@ -180,7 +181,7 @@ ListsFind =
 abbrev pub ListsAreGood : Type 0
 ListsAreGood =
     (spells : List ℕ → Bool) (history : List Seen) (first u : State) (calls : List Call) (lane size window : ℕ)
-    (l : SessionList) → LanesAllow spells history → IsListOf spells history first calls lane l
+    (l : SessionList) → IsOfLanes spells history → IsListOf spells history first calls lane l
     → AreValues history lane size window → OpensFirst first.side
     → OwnsPieces history lane (completed history lane size window (is_initiator first.side) l)
     → AreCalls first (turns_of calls) u
@@ -191,7 +192,7 @@ ListsAreGood =
 abbrev pub ListsMayStop : Type 0
 ListsMayStop =
     (spells : List ℕ → Bool) (history : List Seen) (first u : State) (calls : List Call) (lane size window : ℕ)
-    (l : SessionList) (x : Lost) → LanesAllow spells history → IsListOf spells history first calls lane l
+    (l : SessionList) (x : Lost) → IsOfLanes spells history → IsListOf spells history first calls lane l
     → AreValues history lane size window → OpensFirst first.side
     → OwnsPieces history lane (completed history lane size window (is_initiator first.side) (stopped calls l x))
     → AreCalls first (turns_of calls) u

@@ -6,7 +6,8 @@ use Rattle.mta_transfer_rules.specs.Units as u
 use Rattle.mta_transfer_rules.specs.Sending as s
 use Rattle.mta_transfer_rules.specs.Sending.{SendEnd, SendEvent}
 use Rattle.mta_transfer_rules.specs.Lanes as h
-use Rattle.mta_transfer_rules.specs.Lanes.{Seen, On, lane_in, LanesAllow}
+use Rattle.mta_transfer_rules.specs.Lanes.{Seen, On, LanesAllow}
+use Rattle.mta_transfer_laws.specs.History.{lane_upto}
 use Rattle.mta_transfer_laws.specs.Sessions.{IsKept}
 
 -- ---- units that say nothing of a transfer
@@ -40,5 +41,5 @@ abbrev pub NoneDrops : Type 0
 NoneDrops =
     (spells : List ℕ → Bool) (history : List Seen) (lane k from upto : ℕ) → LanesAllow spells history → from ≤ upto
     → upto ≤ length history → IsKept history lane k from upto
-    → ((lane_in lane (take from history)).state ≡ Dropping k → ⊥)
-    → (lane_in lane (take upto history)).state ≡ Dropping k → ⊥
+    → ((lane_upto history lane (take from history)).state ≡ Dropping k → ⊥)
+    → (lane_upto history lane (take upto history)).state ≡ Dropping k → ⊥

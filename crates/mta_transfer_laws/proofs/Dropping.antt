@@ -38,14 +38,100 @@ module _ (proposal : OpenUnit) (size window : ℕ) (answer : Answer) where
     never_fall = (omega arith, (omega arith, (tt, (omega arith, (omega arith, (omega arith, tt))))));
     sending = record {
       plain = (tt, (tt, (tt, (tt, (tt, (tt, (tt, (tt, (tt, (tt, tt))))))))));
-      last_end = record { state = state.Idle 1; octets = three; size = 2; window = 1; accepted = true; stage = s.Quiet; heard = None };
-      allowed = (tt, ((refl, refl, omega arith), (((λ t. refl), (refl, refl)), (((λ t. refl), (1, 0, refl, refl, omega arith, refl)), (((λ t. refl), (1, refl, refl)), (tt, (refl, (((λ t. refl), inr (refl, refl)), (tt, ((u.DiscardAck 1, refl, refl), refl))))))))));
+      last_end = record {
+        state = state.Idle 1;
+        octets = three;
+        size = 2;
+        window = 1;
+        accepted = true;
+        stage = s.Quiet;
+        heard = None;
+      };
+      allowed = (
+        tt,
+        (
+          (refl, refl, omega arith),
+          (
+            ((λ t. refl), (refl, refl)),
+            (
+              ((λ t. refl), (1, 0, refl, refl, omega arith, refl)),
+              (
+                ((λ t. refl), (1, refl, refl)),
+                (tt, (refl, (((λ t. refl), inr (refl, refl)), (tt, ((u.DiscardAck 1, refl, refl), refl))))),
+              ),
+            ),
+          ),
+        ),
+      );
     };
-    receiving = record { plain = tt; last_end = record { high = 0; last = last.None; stage = r.Free; from = 0; acked = 0 }; allowed = refl; findings = tt };
+    receiving = record {
+      plain = tt;
+      last_end =
+          record { high = 0; last = last.None; stage = r.Free; from = 0; acked = 0 };
+      allowed = refl;
+      findings = tt;
+    };
     turn = (tt, (tt, (tt, (tt, (tt, (tt, (tt, (tt, (tt, (tt, (tt, (tt, (tt, (tt, tt))))))))))))));
-    rests = (tt, (((λ y st e c. none y e), tt), (tt, (tt, (tt, (tt, (tt, ((((λ e. next-quiet 1 1 e), ((λ y st e c. none y e), (refl, refl))), tt), (tt, (tt, (tt, (tt, ((((λ e. discard-quiet 1 e), ((λ y st e c. none y e), tt)), tt), (tt, tt))))))))))))));
+    rests = (
+      tt,
+      (
+        ((λ y st e c. none y e), tt),
+        (
+          tt,
+          (
+            tt,
+            (
+              tt,
+              (
+                tt,
+                (
+                  tt,
+                  (
+                    (((λ e. next-quiet 1 1 e), ((λ y st e c. none y e), (refl, refl))), tt),
+                    (tt, (tt, (tt, (tt, ((((λ e. discard-quiet 1 e), ((λ y st e c. none y e), tt)), tt), (tt, tt)))))),
+                  ),
+                ),
+              ),
+            ),
+          ),
+        ),
+      ),
+    );
     refuses = tt;
-    placed = (tt, (tt, (tt, ((omega arith, (λ i. absurd (let c : false ≡ true = i in cc))), (tt, (tt, (tt, (tt, ((omega arith, (λ i p a b e. absurd (omega (arith, a, b)))), ((omega arith, (λ i. absurd (let c : false ≡ true = i in cc))), ((omega arith, (λ i. absurd (let c : false ≡ true = i in cc))), (tt, (tt, ((omega arith, (λ i. absurd (let c : false ≡ true = i in cc))), tt))))))))))))));
+    placed = (
+      tt,
+      (
+        tt,
+        (
+          tt,
+          (
+            (omega arith, (λ i. absurd (let c : false ≡ true = i in cc))),
+            (
+              tt,
+              (
+                tt,
+                (
+                  tt,
+                  (
+                    tt,
+                    (
+                      (omega arith, (λ i p a b e. absurd (omega (arith, a, b)))),
+                      (
+                        (omega arith, (λ i. absurd (let c : false ≡ true = i in cc))),
+                        (
+                          (omega arith, (λ i. absurd (let c : false ≡ true = i in cc))),
+                          (tt, (tt, ((omega arith, (λ i. absurd (let c : false ≡ true = i in cc))), tt))),
+                        ),
+                      ),
+                    ),
+                  ),
+                ),
+              ),
+            ),
+          ),
+        ),
+      ),
+    );
   }
 
   -- the look of length 4 has the Abandon at 3

@@ -5,10 +5,12 @@ use Rattle.mta_world.specs.World.{World, recv_end}
 use Rattle.mta_world.specs.Steps as step
 use Rattle.mta_world.specs.Steps.{WorldStep, IsWorldRun, receiver_took}
 use Rattle.mta_transfer_laws.specs.Events as x
-use Rattle.mta_transfer_laws.specs.Events.{WorldEvent, after, after_all, behind, FitsLinks, SenderAllows, ReceiverAllows, AllFit, SenderKeepsRules, ReceiverKeepsRules, EventsAreARun}
+use Rattle.mta_transfer_laws.specs.Events.{WorldEvent, after, after_all, behind, FitsLinks, SenderAllows}
+use Rattle.mta_transfer_laws.specs.Events.{ReceiverAllows, AllFit, SenderKeepsRules, ReceiverKeepsRules, EventsAreARun}
 
 module _ (spells : List ℕ → Bool) where
-  stepped : (w : World) (event : WorldEvent) → FitsLinks w event → SenderAllows w event → ReceiverAllows spells w event → WorldStep spells w (after w event)
+  stepped : (w : World) (event : WorldEvent) → FitsLinks w event → SenderAllows w event → ReceiverAllows spells w event
+      → WorldStep spells w (after w event)
   stepped w (x.Sender_opens i) f a b = step.Sender_opens f.0
   stepped w (x.Receiver_opens i) f a b = step.Receiver_opens f.0
   stepped w (x.Sender_joins i) f a b = step.Sender_joins i f.0 f.1 f.2
@@ -33,4 +35,5 @@ module _ (spells : List ℕ → Bool) where
 
 pub runs : EventsAreARun
 runs spells w [] run f a b = run
-runs spells w (e ∷ es) run f a b = runs spells (after w e) es (step.Goes_on run (stepped spells w e f.0 a.0 b.0)) f.1 a.1 b.1
+runs spells w (e ∷ es) run f a b = runs spells (after w e) es (step.Goes_on run (stepped spells w e f.0 a.0 b.0)) f.1
+    a.1 b.1

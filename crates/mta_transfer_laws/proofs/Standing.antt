@@ -16,5 +16,7 @@ sends link ls steps (out.Then {ls = ms} {steps = ys} l d) =
 pub receives : into.OwnEventsStand
 receives link ls steps into.Ends_here = ([], into.Ends)
 receives link ls steps (into.Then {ls = ms} {steps = ys} l d) =
-    let g : (own : List into.OwnEvent) × into.InOrder ms own ys = receives link ms ys d in
-    (into.Joins (link l.at) ∷ (map (λ (e : RecvEvent). into.Does (link l.at) e) l.events ++ g.0), into.Stands (link l.at) l g.1)
+    let g : (own : List into.OwnEvent) × into.InOrder ms own ys = receives link ms ys d in (
+      into.Joins (link l.at) ∷ (map (λ (e : RecvEvent). into.Does (link l.at) e) l.events ++ g.0),
+      into.Stands (link l.at) l g.1,
+    )

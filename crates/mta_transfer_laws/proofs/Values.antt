@@ -1,9 +1,10 @@
 -- The agreed values of a lane stay.
 use Rattle.std.proofs.Common.{◌≡◌, ℕ, Bool, true, false, List, [], ◌∷◌, ◌++◌, refl, sym, ◌∙◌, ap, subst}
-use Rattle.mta_transfer_rules.specs.Lanes.{Halves, SeenStep, Seen, Phase, Unopened, Open, Closed, unopened, Allows, AreAllowed, halves_after, of_lane_all, halves_run, lane_in}
-use Rattle.mta_transfer_laws.specs.History.{AgreedValuesStay}
+use Rattle.mta_transfer_rules.specs.Lanes.{Halves, SeenStep, Seen, Phase, Unopened, Open, Closed, Allows, AreAllowed}
+use Rattle.mta_transfer_rules.specs.Lanes.{halves_after, of_lane_all, halves_run, lane_at_first, lane_in}
+use Rattle.mta_transfer_laws.specs.History.{AgreedValuesStay, IsOfLanes, lane_upto}
 use Rattle.mta_transfer_rules.specs.Lanes as h
-use Rattle.mta_transfer_laws.proofs.Histories.{split, of-append, lane-append}
+use Rattle.mta_transfer_laws.proofs.Histories.{split, of-append, upto-append, first-only}
 
 -- a lane that was never opened has agreed to nothing
 abbrev Fits : Halves → Type 0
@@ -28,27 +29,53 @@ module _ (spells : List ℕ → Bool) where
   abbrev Stays : Halves → Halves → Type 0
   Stays l m = (m.agreed ≡ true) × (m.size ≡ l.size) × (m.window ≡ l.window)
 
-  stays-step : (l : Halves) (step : SeenStep) → Fits l → l.agreed ≡ true → Allows spells l step → Stays l (halves_after l step)
+  stays-step : (l : Halves) (step : SeenStep) → Fits l → l.agreed ≡ true → Allows spells l step
+      → Stays l (halves_after l step)
   stays-step l (h.LaneOpen a s w) f e p = absurd (let c : true ≡ false = sym e ∙ f p in cc)
   stays-step l (h.LaneAgree s w) f e p = absurd (let c : true ≡ false = sym e ∙ p.1 in cc)
   stays-step l _ f e p = (e, refl, refl)
 
-  stays-all : (steps : List SeenStep) (l : Halves) → Fits l → l.agreed ≡ true → AreAllowed spells l steps → Stays l (halves_run l steps)
+  stays-all : (steps : List SeenStep) (l : Halves) → Fits l → l.agreed ≡ true → AreAllowed spells l steps
+      → Stays l (halves_run l steps)
   stays-all [] l f e p = (e, refl, refl)
   stays-all (x ∷ xs) l f e p =
       let a : Stays l (halves_after l x) = stays-step l x f e p.0 in
-      let b : Stays (halves_after l x) (halves_run (halves_after l x) xs) = stays-all xs (halves_after l x) (fits-step l x p.0) a.0 p.1 in
+      let b : Stays (halves_after l x) (halves_run (halves_after l x) xs) =
+      stays-all xs (halves_after l x) (fits-step l x p.0) a.0 p.1 in
       (b.0, b.1 ∙ a.1, b.2 ∙ a.2)
 
-front-possible : (spells : List ℕ → Bool) (l : Halves) (a b : List SeenStep) → AreAllowed spells l (a ++ b) → AreAllowed spells l a
+front-possible : (spells : List ℕ → Bool) (l : Halves) (a b : List SeenStep) → AreAllowed spells l (a ++ b)
+    → AreAllowed spells l a
 front-possible spells l [] b g = tt
 front-possible spells l (x ∷ xs) b g = (g.0, front-possible spells (halves_after l x) xs b g.1)
 
+-- where the front is not empty
+front-not-first : (spells : List ℕ → Bool) (history more : List Seen) (lane : ℕ) → IsOfLanes spells (history ++ more)
+    → lane_upto (history ++ more) lane history ≡ lane_in lane history → (lane_in lane history).agreed ≡ true
+    → ((lane_in lane (history ++ more)).agreed ≡ true)
+    × ((lane_in lane (history ++ more)).size ≡ (lane_in lane history).size)
+    × ((lane_in lane (history ++ more)).window ≡ (lane_in lane history).window)
+front-not-first spells history more lane possible same agreed =
+    let first : Halves = lane_at_first lane (history ++ more) in
+    let there : Halves = lane_upto (history ++ more) lane history in
+    let p : AreAllowed spells first (of_lane_all lane history ++ of_lane_all lane more) =
+    subst (λ (z : List SeenStep). AreAllowed spells first z) (of-append lane history more) (possible.allowed lane) in
+    let new : Fits first = λ u. ap (λ (l : Halves). l.agreed) (possible.begun lane u) in
+    let f : Fits there =
+    fits-all spells (of_lane_all lane history) first new
+    (front-possible spells first (of_lane_all lane history) (of_lane_all lane more) p) in
+    let s : Stays spells there (halves_run there (of_lane_all lane more)) =
+    stays-all spells (of_lane_all lane more) there f (ap (λ (l : Halves). l.agreed) same ∙ agreed)
+    (split spells first (of_lane_all lane history) (of_lane_all lane more) p) in
+    let e : lane_in lane (history ++ more) ≡ halves_run there (of_lane_all lane more) =
+    upto-append (history ++ more) lane history more in (
+      ap (λ (z : Halves). z.agreed) e ∙ s.0,
+      ap (λ (z : Halves). z.size) e ∙ s.1 ∙ ap (λ (z : Halves). z.size) same,
+      ap (λ (z : Halves). z.window) e ∙ s.2 ∙ ap (λ (z : Halves). z.window) same,
+    )
+
 pub stay : AgreedValuesStay
-stay spells history more lane possible agreed =
-    let p : AreAllowed spells unopened (of_lane_all lane history ++ of_lane_all lane more) = subst (λ (z : List SeenStep). AreAllowed spells unopened z) (of-append lane history more) (possible lane) in
-    let f : Fits (lane_in lane history) = fits-all spells (of_lane_all lane history) unopened (λ u. refl) (front-possible spells unopened (of_lane_all lane history) (of_lane_all lane more) p) in
-    let s : Stays spells (lane_in lane history) (halves_run (lane_in lane history) (of_lane_all lane more)) =
-    stays-all spells (of_lane_all lane more) (lane_in lane history) f agreed (split spells unopened (of_lane_all lane history) (of_lane_all lane more) p) in
-    let e : lane_in lane (history ++ more) ≡ halves_run (lane_in lane history) (of_lane_all lane more) = lane-append lane history more in
-    (ap (λ (z : Halves). z.agreed) e ∙ s.0, ap (λ (z : Halves). z.size) e ∙ s.1, ap (λ (z : Halves). z.window) e ∙ s.2)
+stay spells [] more lane possible agreed = absurd (let c : false ≡ true = agreed in cc)
+stay spells (x ∷ xs) more lane possible agreed =
+    front-not-first spells (x ∷ xs) more lane possible
+    (ap (λ (l : Halves). halves_run l (of_lane_all lane (x ∷ xs))) (first-only lane x (xs ++ more) xs)) agreed

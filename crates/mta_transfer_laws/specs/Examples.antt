@@ -14,11 +14,14 @@ use Rattle.mta_world.specs.World.{World, first_world}
 use Rattle.mta_transfer_laws.specs.Events as x
 use Rattle.mta_transfer_laws.specs.Events.{WorldEvent, after_all}
 use Rattle.mta_transfer_rules.specs.Lanes as h
-use Rattle.mta_transfer_rules.specs.Lanes.{Seen, On, LanesAllow}
+use Rattle.mta_transfer_rules.specs.Lanes.{Seen, On, Halves, LanesAllow}
+use Rattle.mta_lane_recv.specs.declared.state.Last.TheVariants as last
 use Rattle.mta_transfer_laws.specs.Covering as sent
 use Rattle.mta_transfer_laws.specs.ReceivingOrder as received
 use Rattle.mta_transfer_laws.specs.Sessions.{SessionList, Got, Put, Made, Looked, No_batch, At_sending, Elsewhere}
 use Rattle.mta_transfer_laws.specs.Sessions.{IsGoodSession}
+use Rattle.mta_transfer_laws.specs.History.{IsOfLanes}
+use Rattle.mta_transfer_laws.specs.Acknowledged.{HasPut, IsCompleteIn}
 use Rattle.mta_transfer_laws.specs.Run.{EachGood, SendsIn}
 
 abbrev pub three : List ℕ
@@ -65,6 +68,22 @@ agreed_lane = On 0 (h.LaneOpen false 2 1) ∷ On 0 (h.LaneAgree 2 1) ∷ []
 -- a responder's lane on which an activity is started
 abbrev pub crossed_lane : List Seen
 crossed_lane = On 0 (h.LaneOpen true 2 1) ∷ On 0 (h.Start 1 1 three) ∷ []
+
+-- a responder's lane that has completed an activity
+abbrev pub done_lane : Halves
+done_lane = record h.unopened {
+  phase = h.Open;
+  generation = 1;
+  agreed = true;
+  size = 2;
+  window = 1;
+  high = 1;
+  last = last.Done 1;
+}
+
+-- a snapshot that has it, and its next generation
+abbrev pub done_before : List Seen
+done_before = h.Begins 1 ((1, done_lane) ∷ []) ∷ On 1 (h.Bind 2) ∷ []
 
 -- ---- the lists, whatever the Open proposes and the Accept agrees
 
@@ -178,3 +197,20 @@ module _ (proposal : OpenUnit) (size window : ℕ) (answer : Answer) where
 
   abbrev pub AnUnclosedLaneIsGood : Type 0
   AnUnclosedLaneIsGood = IsGoodSession (λ o. true) agreed_lane 0 2 1 true unclosed_session
+
+  -- The EndAck was lost. The activity is resumed behind a snapshot in which it is done, and its EndAck is put again.
+  abbrev pub again_session : SessionList
+  again_session = record {
+    opening = [];
+    at = 1;
+    events =
+        Put accepted ∷ Got (Resume 1 1) ∷ Put (ResumeAck 1 1) ∷ Got (Piece (3 ∷ [])) ∷ Got (End 1) ∷ Put (EndAck 1) ∷
+        [];
+  }
+
+  -- So an EndAck may have no Complete step in a history that begins with a snapshot.
+  pub record AnEndAckIsPutAgain : Type 0 where
+    pub possible : IsOfLanes (λ o. true) done_before
+    pub good : IsGoodSession (λ o. true) done_before 1 2 1 false again_session
+    pub put : HasPut (EndAck 1) again_session.events
+    pub none : IsCompleteIn done_before 1 1 → ⊥

@@ -8,7 +8,7 @@ use Rattle.mta_world.specs.Steps.{pieces_after, IsFaulty}
 use Rattle.mta_transfer_laws.specs.Events.{WorldEvent}
 use Rattle.mta_transfer_laws.specs.Events as x
 use Rattle.mta_transfer_rules.specs.Lanes.{Halves, SeenStep, Seen, lane_in}
-use Rattle.mta_transfer_laws.specs.History.{half_steps}
+use Rattle.mta_transfer_laws.specs.History.{half_steps, lane_upto}
 use Rattle.mta_transfer_rules.specs.Lanes as h
 
 -- The part of one session list that concerns the receiving half: the position of its LaneOpen or Bind step in the
@@ -127,7 +127,7 @@ pub record IsReceivingOf (w : World) (l : Halves) : Type 0 where
 -- premises are those on the links and on the other end alone.
 pub record ReceivesOnRun (spells : List ℕ → Bool) (before added : List Seen) (lane : ℕ)
     (lists : List ReceivingList) (w : World) (events : List WorldEvent) : Type 0 where
-  pub begins : IsReceivingOf w (lane_in lane before)
+  pub begins : IsReceivingOf w (lane_upto (before ++ added) lane before)
   pub order : InOrder lists (own_events events) (half_steps receiving_step lane (length before) added)
   pub fits : x.AllFit w events
   pub other : x.SenderKeepsRules w events

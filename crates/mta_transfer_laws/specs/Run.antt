@@ -4,8 +4,8 @@ use Rattle.mta_world.specs.World.{World}
 use Rattle.mta_world.specs.Steps.{IsWorldRun}
 use Rattle.mta_world.specs.Agrees.{Agrees}
 use Rattle.mta_transfer_laws.specs.Events.{WorldEvent, after_all, AllFit, SenderKeepsRules, ReceiverKeepsRules}
-use Rattle.mta_transfer_rules.specs.Lanes.{Seen, lane_in, LanesAllow}
-use Rattle.mta_transfer_laws.specs.History.{half_steps}
+use Rattle.mta_transfer_rules.specs.Lanes.{Seen, LanesAllow}
+use Rattle.mta_transfer_laws.specs.History.{half_steps, lane_upto}
 use Rattle.mta_transfer_laws.specs.Sessions.{SessionList, IsGoodSession, sending_list, receiving_list}
 use Rattle.mta_transfer_laws.specs.Sendings as sending
 use Rattle.mta_transfer_laws.specs.Receivings as receiving
@@ -17,13 +17,14 @@ EachGood spells history lane size window initiator [] = Unit {0}
 EachGood spells history lane size window initiator (l ∷ ls) =
     IsGoodSession spells history lane size window initiator l × EachGood spells history lane size window initiator ls
 
--- This agent's end is the sending end. The world had come to its half before the call; in these events its steps are
+-- This agent's end is the sending end. The world had come to its half before the call, as the
+-- history has it there, or the snapshot with which it begins; in these events its steps are
 -- those that were added, in order, and its units those of the session lists, at their places; the other end keeps its
 -- rules, and units are queued, taken and lost as links allow.
 pub record SendsIn (spells : List ℕ → Bool) (before added : List Seen) (lane size window : ℕ) (initiator : Bool)
     (sessions : List SessionList) (w : World) (events : List WorldEvent) : Type 0 where
   pub run : IsWorldRun spells w
-  pub begins : sending.IsSendingOf w (lane_in lane before)
+  pub begins : sending.IsSendingOf w (lane_upto (before ++ added) lane before)
   pub size_agreed : w.size ≡ size
   pub window_agreed : w.window ≡ window
   pub role : w.sender_opens ≡ initiator
@@ -36,7 +37,7 @@ pub record SendsIn (spells : List ℕ → Bool) (before added : List Seen) (lane
 pub record ReceivesIn (spells : List ℕ → Bool) (before added : List Seen) (lane : ℕ)
     (sessions : List SessionList) (w : World) (events : List WorldEvent) : Type 0 where
   pub run : IsWorldRun spells w
-  pub begins : receiving.IsReceivingOf w (lane_in lane before)
+  pub begins : receiving.IsReceivingOf w (lane_upto (before ++ added) lane before)
   pub order : receiving.InOrder (map (receiving_list lane) sessions) (receiving.own_events events)
       (half_steps receiving.receiving_step lane (length before) added)
   pub fits : AllFit w events

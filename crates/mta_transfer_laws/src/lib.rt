@@ -12,7 +12,7 @@ ghost use Rattle.mta_transfer_laws.specs.Sendings as sends;
 ghost use Rattle.mta_transfer_laws.specs.Receivings as receives;
 ghost use Rattle.mta_transfer_laws.specs.Examples.{TwoSessionsSend, ASessionDrops, ALateAbandonIsNotGood};
 ghost use Rattle.mta_transfer_laws.specs.Examples.{AnUnconfirmedSyncIsNotGood, ACrossedCloseIsGood};
-ghost use Rattle.mta_transfer_laws.specs.Examples.{AnUnclosedLaneIsGood};
+ghost use Rattle.mta_transfer_laws.specs.Examples.{AnUnclosedLaneIsGood, AnEndAckIsPutAgain};
 ghost use Rattle.mta_transfer_laws.specs.Clause.{OneStationAgrees};
 ghost use Rattle.mta_transfer_laws.specs.ReceivingOrder.{OwningKeepsReceivingOrder};
 ghost use Rattle.mta_transfer_laws.specs.History.{AgreedValuesStay};
@@ -70,7 +70,8 @@ pub fn good_sessions_grow()
     ensures { GoodSessionsGrow }
 {}
 
-/// An EndAck that a good session put has its Complete step in the history.
+/// An EndAck that a good session put has its Complete step in the history, or the history begins with a snapshot in
+/// which its activity is the last one that was completed.
 pub fn end_acks_are_kept()
     ensures { EndAcksAreKept }
 {}
@@ -104,6 +105,7 @@ pub fn one_station_agrees()
 /// A list with an Abandon of another pass is good where the Abandon stands before the look that has it; a list with the
 /// Abandon behind it, and one that takes a unit with a Confirm due, are not. A responder's list in which Close crossed
 /// its Please, and Give follows, is good, and so is an initiator's that puts an Abort behind CloseAck.
+/// Behind a snapshot in which an activity is done its EndAck is put again.
 pub fn examples_of_lists()
     ensures dropping { (o : OpenUnit) (size window : ℕ) (a : Answer) → ASessionDrops o size window a }
     ensures late { (o : OpenUnit) (size window : ℕ) (a : Answer) → ALateAbandonIsNotGood o size window a }
@@ -111,4 +113,5 @@ pub fn examples_of_lists()
         → AnUnconfirmedSyncIsNotGood o size window a }
     ensures crossed { (o : OpenUnit) (size window : ℕ) (a : Answer) → ACrossedCloseIsGood o size window a }
     ensures unclosed { (o : OpenUnit) (size window : ℕ) (a : Answer) → AnUnclosedLaneIsGood o size window a }
+    ensures again { (o : OpenUnit) (size window : ℕ) (a : Answer) → AnEndAckIsPutAgain o size window a }
 {}

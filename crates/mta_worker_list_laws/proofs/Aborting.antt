@@ -11,7 +11,8 @@ use Rattle.mta_transfer_laws.specs.Receivings.{IsGoodReceiving}
 use Rattle.mta_transfer_laws.specs.Sendings as sendings
 use Rattle.mta_transfer_laws.specs.Sendings.{IsGoodSending}
 use Rattle.mta_transfer_laws.specs.Sessions as x
-use Rattle.mta_transfer_laws.specs.Sessions.{EndsSo, Got, IsGoodSession, KeepsTurn, Looked, Made, PlacesAbandons, Put, recv_all}
+use Rattle.mta_transfer_laws.specs.Sessions.{EndsSo, Got, IsGoodSession, KeepsTurn, Looked, Made, PlacesAbandons, Put}
+use Rattle.mta_transfer_laws.specs.Sessions.{recv_all}
 use Rattle.mta_transfer_laws.specs.Sessions.{receiving_event, receiving_events, Refused, RefusesLast, Rests, seen_after}
 use Rattle.mta_transfer_laws.specs.Sessions.{send_all, sending_event, sending_events}
 use Rattle.mta_transfer_laws.specs.Sessions.{NeverFall, risen_to, SessionEvent, SessionList, StepsStand, turn_after}

@@ -3,7 +3,7 @@ use Rattle.std.proofs.Common.{ℕ, Bool, List, [], ◌∷◌, ◌++◌, length, 
 use Rattle.mta_edge.specs.Views.{ClockView, DiskView}
 use Rattle.mta_links.specs.Links.{LinkView, StationView}
 use Rattle.mta_transfer_rules.specs.Lanes.{LanesAllow, Seen}
-use Rattle.mta_histories.proofs.Seeing.{lanes_see_histories}
+use Rattle.mta_transfer_laws.specs.History.{IsOfLanes}
 use Rattle.mta_records.specs.declared.step.Step.{Step}
 use Rattle.mta_transfer_laws.specs.Run.{EachGood, SessionsAgree}
 use Rattle.mta_transfer_laws.specs.Sessions.{IsGoodSession, SessionList}
@@ -14,9 +14,10 @@ use Rattle.mta_worker_list_laws.specs.Agreeing.{AreListsIn, EndsAgree, IsListIn,
 use Rattle.mta_worker_list_laws.specs.All.{AllParts}
 use Rattle.mta_worker_list_laws.specs.Histories.{whole}
 use Rattle.mta_worker_list_laws.proofs.AllGood.{all_are_good, one_is_good}
+use Rattle.mta_worker_list_laws.proofs.Annotating.{of_lanes}
 
 module _ {L : Type 0} (links : LinkView L) (good : ListsAreGood) (may_stop : ListsMayStop) (agree : SessionsAgree)
-    (spells : List ℕ → Bool) (first entries : List Step) (low : ℕ) (allow : LanesAllow spells (whole first entries))
+    (spells : List ℕ → Bool) (first entries : List Step) (low : ℕ) (allow : IsOfLanes spells (whole first entries))
     (all : AllParts links spells first entries low) where
   abbrev history : List Seen
   history = whole first entries
@@ -47,7 +48,7 @@ module _ {L : Type 0} (links : LinkView L) (good : ListsAreGood) (may_stop : Lis
   pub parts_agree : PartsAgree links spells first entries all.parts
   parts_agree before added lane size window initiator ls cut values are =
       agree spells before added lane size window initiator ls
-      (subst (λ (xs : List Seen). LanesAllow spells xs) (sym cut) allow)
+      (subst (λ (xs : List Seen). LanesAllow spells xs) (sym cut) allow.allowed)
       (subst (λ (xs : List Seen). EachGood spells xs lane size window initiator ls) (sym cut)
       (each_good lane size window initiator ls values are))
 
@@ -61,6 +62,6 @@ ends_agree good may_stop agree disks clocks links stations spells first front en
       all.1,
       all.2,
       parts_agree links good may_stop agree spells first (entries ++ back) (length front)
-          ((lanes_see_histories (first ++ (entries ++ back)) based.possible).allowed spells tells.of_apdus) all.0,
+          (of_lanes spells (first ++ (entries ++ back)) tells based.possible) all.0,
       all.3,
     )

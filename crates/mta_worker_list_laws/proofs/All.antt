@@ -1,7 +1,6 @@
 -- All entries that workers made are in parts of the history, no one in two.
 use Rattle.std.proofs.Common.{◌≡◌, ◌<◌, ◌≤◌, ℕ, zero, suc, ◌+◌, Bool, List, [], ◌∷◌, ◌++◌, length, Some}
 use Rattle.std.proofs.Common.{slice_index_or, All, inl, inr, map, reverse}
-use mathlib.Core.List.{IsPrefix}
 use Rattle.std.proofs.Common.{sym, ap, subst, refl, ◌∙◌, append_assoc, append-nil, arith, slice_get}
 use Rattle.std.proofs.lemmas.Bool.{cases_lt}
 use Rattle.std.proofs.lemmas.Grind.{reverse_onto}
@@ -19,7 +18,7 @@ use Rattle.mta_shared.proofs.Fronts.{prefix_trans}
 use Rattle.mta_shared.proofs.Sums.{row-add, times-append, times-row-above, times-row-in, times-row-le}
 use Rattle.mta_worker.specs.declared.jobs.Job.{Job}
 use Rattle.mta_worker.specs.Jobs.{JobDone, owned_by, SawFront, station_of}
-use Rattle.mta_worker_list_laws.specs.All.{all_of, AllHaveParts, AllParts, AreOfStations, EachInTurn, IsOfStation}
+use Rattle.mta_worker_list_laws.specs.All.{all_of, AllHaveParts, AllParts, EachInTurn, IsOfStation}
 use Rattle.mta_worker_list_laws.specs.All.{roles_at, StationParts}
 use Rattle.mta_worker_list_laws.specs.Histories.{AreEntries, place, TellsApdus, whole}
 use Rattle.mta_worker_list_laws.specs.OfLinks.{AreOfWorker}

@@ -1,18 +1,17 @@
 -- The session lists of all workers are good.
-use Rattle.std.proofs.Common.{◌≡◌, ◌⊎◌, ◌≤◌, ℕ, ◌+◌, ◌-◌, Bool, false, List, [], ◌∷◌, length, Option, None, Some}
-use Rattle.std.proofs.Common.{inl, inr}
+use Rattle.std.proofs.Common.{◌≡◌, ◌≤◌, ℕ, ◌+◌, ◌-◌, Bool, false, List, length, Option, None, Some}
 use Rattle.std.proofs.Common.{◌++◌, true, refl, subst, arith}
 use Rattle.mta_edge.specs.Views.{ClockView, DiskView}
 use Rattle.mta_links.specs.Links.{LinkView, StationView}
 use Rattle.mta_units.specs.declared.unit.Unit.TheVariants.{EndAck}
-use Rattle.mta_transfer_rules.specs.Lanes.{lane_in, LanesAllow, Seen}
-use Rattle.mta_histories.proofs.Seeing.{lanes_see_histories}
+use Rattle.mta_transfer_rules.specs.Lanes.{lane_in, Seen}
+use Rattle.mta_transfer_laws.specs.History.{IsOfLanes}
 use Rattle.mta_records.specs.declared.step.Step.{Step}
 use Rattle.mta_session.specs.State.{is_initiator, State}
 use Rattle.mta_session.specs.declared.event.Action.{Action}
 use Rattle.mta_session.specs.declared.event.Event.{Event}
 use Rattle.mta_session.specs.declared.event.Event.TheVariants as event
-use Rattle.mta_transfer_laws.specs.Acknowledged.{HasPut, IsCompleteIn}
+use Rattle.mta_transfer_laws.specs.Acknowledged.{HasPut, IsCompleted}
 use Rattle.mta_transfer_laws.specs.Sessions.{IsGoodSession, SessionList}
 use Rattle.mta_transfer_laws.proofs.Kept.{end_acks-kept}
 use Rattle.mta_session_list_laws.specs.Calls.{Call}
@@ -26,6 +25,7 @@ use Rattle.mta_worker_list_laws.specs.Histories.{place, whole}
 use Rattle.mta_worker_list_laws.specs.Parts.{IsSession}
 use Rattle.mta_worker_list_laws.specs.Segments.{Begins, BeginsIn, IsOne, ListsAs, OnLane, Segment, told_over}
 use Rattle.mta_worker_list_laws.proofs.All.{all_have_parts}
+use Rattle.mta_worker_list_laws.proofs.Annotating.{of_lanes}
 use Rattle.mta_worker_list_laws.proofs.Apart.{opening_apart, put_with, session_apart}
 use Rattle.mta_worker_list_laws.proofs.Segments.{has_in, is_segment}
 use Rattle.mta_worker_list_laws.proofs.Whole.{segments_are_good}
@@ -49,7 +49,7 @@ list_behind spells history mid upto u b calls l (Untold q x aborts is comes answ
     (stopped calls l (record { event = event.Reply x; seen = upto; aborts = aborts }), refl)
 
 module _ {L : Type 0} (links : LinkView L) (good : ListsAreGood) (may_stop : ListsMayStop) (spells : List ℕ → Bool)
-    (first entries : List Step) (low : ℕ) (allow : LanesAllow spells (whole first entries))
+    (first entries : List Step) (low : ℕ) (allow : IsOfLanes spells (whole first entries))
     (all : AllParts links spells first entries low) where
   abbrev history : List Seen
   history = whole first entries
@@ -77,11 +77,11 @@ module _ {L : Type 0} (links : LinkView L) (good : ListsAreGood) (may_stop : Lis
       x.ran.begins x.ran.done.over on listed.0 m size window allow all.all i x.of_it e (begins_later s on i e)
       x.ran.done.leads listed.1 listed.2 listed.3 over values
 
-  -- a list of such a session, with what came of its last action, has an EndAck only with its Complete step
+  -- a list of such a session, with what came of its last action, has an EndAck only where its activity was completed
   kept : (s : Segment) (x : IsSession links spells first entries s) (on : OnLane) → IsOne s all.parts
       → s.list ≡ Some on → (listed : ListsAs spells history x.new x.calls (told_over x.ran.done.over) (Some on))
       → (m : SessionList) (k : ℕ) → IsListOver x.calls listed.0 x.ran.done.over m → HasPut (EndAck k) m.events
-      → IsCompleteIn history on.lane k
+      → IsCompleted history on.lane k
   kept s x on i e listed m k over put =
       let size : ℕ = (lane_in on.lane history).size in
       let window : ℕ = (lane_in on.lane history).window in
@@ -120,6 +120,6 @@ all_are_good good may_stop disks clocks links stations spells first front entrie
       all.0,
       all.1,
       parts_are_good links good may_stop spells first (entries ++ back) (length front)
-          ((lanes_see_histories _ based.possible).allowed spells tells.of_apdus) all.0,
+          (of_lanes spells (first ++ (entries ++ back)) tells based.possible) all.0,
       all.2,
     )

@@ -1,12 +1,17 @@
 -- The steps of a history, as their lanes see them, and those of a beginning of it.
-use Rattle.std.proofs.Common.{◌≡◌, ℕ, suc, List, [], ◌∷◌, ◌++◌, length, take, Some, refl, sym, ap, ◌∙◌}
-use Rattle.std.specs.Prelude.{slice_get}
-use Rattle.mta_transfer_rules.specs.Lanes.{Seen}
+use Rattle.std.proofs.Common.{◌≡◌, ℕ, suc, ◌==◌, nat_le, cond, Bool, true, false, List, [], ◌∷◌, ◌++◌, length, take}
+use Rattle.std.proofs.Common.{Some}
+use Rattle.std.proofs.Common.{refl, sym, ap, ◌∙◌}
+use Rattle.std.specs.Prelude.{map, slice_get}
+use Rattle.mta_transfer_rules.specs.Lanes.{Seen, Unopened, Open, Closed, unopened, closed_before, lane_begun}
+use Rattle.mta_transfer_laws.specs.History.{BeginsNew, IsOfLanes}
 use Rattle.mta_records.specs.declared.step.Step.{Step}
-use Rattle.mta_histories.specs.Lanes.{State, empty}
-use Rattle.mta_histories.specs.Classes.{class_of}
+use Rattle.mta_histories.specs.Lanes.{Lane, State, empty}
+use Rattle.mta_histories.specs.Classes.{Class, begins, class_of}
 use Rattle.mta_histories.specs.History.{after, after_from, after_step, ArePossible, IsHistory, IsPossible, when}
-use Rattle.mta_histories.specs.Seen.{annotated, annotated_from, seen_of}
+use Rattle.mta_histories.specs.Seen.{annotated, annotated_from, halves_of, numbered_halves, seen_of}
+use Rattle.mta_histories.proofs.Seeing.{lanes_see_histories}
+use Rattle.mta_worker_list_laws.specs.Histories.{TellsApdus}
 
 -- ---- from any state on
 
@@ -83,3 +88,41 @@ seen_behind xs y ys =
     ∙ ap (λ (n : ℕ). slice_get (annotated xs ++ annotated_from (after xs) (y ∷ ys)) n) (sym (length_seen xs))
     ∙ at_behind (annotated xs) (seen_of (after xs) (class_of y) (when (after xs) y))
     (annotated_from (after_step (after xs) y) ys)
+
+-- ---- where a history begins
+
+-- a snapshot has open lanes alone
+begun_new : (lanes : List Lane) (count i : ℕ) → (lane_begun count (map numbered_halves lanes) i).phase ≡ Unopened
+    → lane_begun count (map numbered_halves lanes) i ≡ unopened
+begun_new [] count i = by_tests (nat_le 1 i) (nat_le i count)
+  where
+    by_tests : (b c : Bool) → (cond b (cond c closed_before unopened) unopened).phase ≡ Unopened
+        → cond b (cond c closed_before unopened) unopened ≡ unopened
+    by_tests true true e = absurd (let closed : Closed ≡ Unopened = e in cc)
+    by_tests true false e = refl
+    by_tests false c e = refl
+begun_new (l ∷ lanes) count i = by_test (l.number == i) (begun_new lanes count i)
+  where
+    by_test : (b : Bool) → ((lane_begun count (map numbered_halves lanes) i).phase ≡ Unopened
+        → lane_begun count (map numbered_halves lanes) i ≡ unopened)
+        → (cond b (halves_of l) (lane_begun count (map numbered_halves lanes) i)).phase ≡ Unopened
+        → cond b (halves_of l) (lane_begun count (map numbered_halves lanes) i) ≡ unopened
+    by_test true rest e = absurd (let opened : Open ≡ Unopened = e in cc)
+    by_test false rest e = rest e
+
+seen_new : (s : State) (c : Class) (moment : ℕ) (xs : List Seen) → BeginsNew (seen_of s c moment ∷ xs)
+seen_new s (begins t) moment xs = λ lane none. begun_new t.lanes t.lane_count lane none
+seen_new s any2 moment xs = λ lane none. refl
+
+-- so a lane that was not opened where a history begins is new
+pub begins_new : (xs : List Step) → BeginsNew (annotated xs)
+begins_new [] = λ lane none. refl
+begins_new (x ∷ xs) = seen_new empty (class_of x) (when empty x) (annotated_from (after_step empty x) xs)
+
+-- and every lane allows its steps
+pub of_lanes : (spells : List ℕ → Bool) (xs : List Step) → TellsApdus spells → IsHistory xs
+    → IsOfLanes spells (annotated xs)
+of_lanes spells xs tells history = record {
+  begun = begins_new xs;
+  allowed = (lanes_see_histories xs history).allowed spells tells.of_apdus;
+}

@@ -1,6 +1,6 @@
 -- A session without a lane puts Reject or Abort alone, and so does one before it has its lane.
 use Rattle.std.proofs.Common.{◌≡◌, ℕ, Bool, true, false, Option, None, Some, List, [], ◌∷◌, ◌++◌, append_assoc}
-use Rattle.std.proofs.Common.{inl, inr, refl, sym, ap, subst, ◌∙◌, arith}
+use Rattle.std.proofs.Common.{inl, inr, refl, sym, ap, subst, ◌∙◌}
 use Rattle.mta_units.specs.declared.unit.Unit.{Unit as AnyUnit}
 use Rattle.mta_transfer_rules.specs.Lanes.{Seen}
 use Rattle.mta_transfer_rules.specs.Sending.{SendEnd}
@@ -41,7 +41,7 @@ use Rattle.mta_worker_list_laws.proofs.Keeping.{Listed, listed_next, not_first}
 use Rattle.mta_worker_list_laws.proofs.Once.{held_none}
 use Rattle.mta_worker_list_laws.proofs.Sessions.{first_none}
 use Rattle.mta_worker_list_laws.proofs.Unlisted.{has_none, Unlisted, unlisted_next, wanted_so}
-use Rattle.mta_worker_list_laws.proofs.Waits.{Asked, asked_next}
+use Rattle.mta_worker_list_laws.proofs.Waits.{asked_next}
 
 abbrev IsApartAction : Action → Type 0
 IsApartAction (action.Put u) = IsApart u

@@ -47,15 +47,18 @@ use Rattle.mta_worker_list_laws.specs.Histories.{AreEntries, TellsApdus, place, 
 use Rattle.mta_worker_list_laws.specs.Leads.{AreCarried, entry_at, Leads, made_by, made_in}
 use Rattle.mta_worker_list_laws.proofs.Calm.{is_looking}
 use Rattle.mta_worker_list_laws.proofs.Joining.{carried_more, leads_more, no_calls, none_carried, owns_more}
-use Rattle.mta_worker_list_laws.proofs.Going.{answers_grow, goes_base, goes_grow, goes_led, Reaches, run_ran, state_then}
+use Rattle.mta_worker_list_laws.proofs.Going.{answers_grow, goes_base, goes_grow, goes_led, Reaches, run_ran}
+use Rattle.mta_worker_list_laws.proofs.Going.{state_then}
 use Rattle.mta_worker_list_laws.proofs.Going.{since_knows, turn_grows}
 use Rattle.mta_worker_list_laws.specs.Roles.{AreGiven, WasOpenAs, WhereBegun}
 use Rattle.mta_worker_list_laws.proofs.Calling.{look_begins, reply_theirs}
 use Rattle.mta_worker_list_laws.proofs.Given.{given_more, looks_given, reply_given}
 use Rattle.mta_worker_list_laws.proofs.Heard.{look_answered, looks_mind, Minds, reply_answers, reply_minds}
 use Rattle.mta_worker_list_laws.proofs.Known.{Knows}
-use Rattle.mta_worker_list_laws.proofs.Turns.{calls_at, IsQuiet, look_comes, look_tells, looks_lead, looks_quiet, one_call}
-use Rattle.mta_worker_list_laws.proofs.Turns.{history_then, quiet_first, reply_comes, reply_entries, reply_stands, Stands}
+use Rattle.mta_worker_list_laws.proofs.Turns.{calls_at, IsQuiet, look_comes, look_tells, looks_lead, looks_quiet}
+use Rattle.mta_worker_list_laws.proofs.Turns.{one_call}
+use Rattle.mta_worker_list_laws.proofs.Turns.{history_then, quiet_first, reply_comes, reply_entries, reply_stands}
+use Rattle.mta_worker_list_laws.proofs.Turns.{Stands}
 use Rattle.mta_worker_list_laws.proofs.Waits.{Waits}
 
 -- behind other calls

@@ -1,6 +1,7 @@
 -- Lists of sessions that workers served are good ones.
 use Rattle.std.proofs.Common.{◌≡◌, ◌⊎◌, ℕ, ◌+◌, Bool, true, false, List, [], ◌∷◌, inl, inr, refl, sym, subst, ◌∙◌}
-use Rattle.mta_transfer_rules.specs.Lanes.{Seen, LanesAllow}
+use Rattle.mta_transfer_rules.specs.Lanes.{Seen}
+use Rattle.mta_transfer_laws.specs.History.{IsOfLanes}
 use Rattle.mta_session.specs.Fits.{Answers, Fits}
 use Rattle.mta_session.specs.Groups.{has_turned}
 use Rattle.mta_session.specs.Session.{new_responder}
@@ -90,7 +91,7 @@ pub read_asks : (q : Ask) → action.Read ≡ action.Ask q → ⊥
 read_asks q e = cc
 
 module _ (whole : ListsAreGood) (may_stop : ListsMayStop) (spells : List ℕ → Bool) (history : List Seen) (t : State)
-    (calls : List Call) (lane : ℕ) (l : SessionList) (size window : ℕ) (allow : LanesAllow spells history)
+    (calls : List Call) (lane : ℕ) (l : SessionList) (size window : ℕ) (allow : IsOfLanes spells history)
     (is_list : IsListOf spells history t calls lane l) (values : AreValues history lane size window)
     (opens : OpensFirst t.side) where
   abbrev Owns : SessionList → Type 0

@@ -24,7 +24,8 @@ use Rattle.mta_lane_match_laws.proofs.Lanes.{lanes_stay}
 use Rattle.mta_session_list_laws.specs.Lists.{step_by}
 use Rattle.mta_session_list_laws.proofs.Found.{never}
 use Rattle.mta_session_list_laws.proofs.Turns.{Holds}
-use Rattle.mta_session_list_laws.proofs.TurnsCalls.{bad_done, done_by, Here, less_holds, over_done, quiet_done, reads_here}
+use Rattle.mta_session_list_laws.proofs.TurnsCalls.{bad_done, done_by, Here, less_holds, over_done, quiet_done}
+use Rattle.mta_session_list_laws.proofs.TurnsCalls.{reads_here}
 use Rattle.mta_session_list_laws.proofs.TurnsReplies.{Done, PutAllowed, turned}
 use Rattle.mta_session_list_laws.proofs.TurnsUnits.{reads_list, unit_goes}
 use Rattle.mta_session_list_laws.proofs.Waiting.{does_at, none_asked, none_put, Ready, ready_next}

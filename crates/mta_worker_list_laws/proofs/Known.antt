@@ -7,7 +7,7 @@ use Rattle.std.specs.Str.{bytes_eq}
 use Rattle.mta_lane_send.specs.Half.{FitsState}
 use Rattle.mta_lane_send.specs.Pieces.{has_piece_after}
 use Rattle.mta_lane_send.specs.declared.state.SendState.{SendState}
-use Rattle.mta_lane_send.specs.declared.state.SendState.TheVariants.{Dropping, Ending, Idle, Sending}
+use Rattle.mta_lane_send.specs.declared.state.SendState.TheVariants.{Ending, Sending}
 use Rattle.mta_records.specs.Outgoing.{Carried}
 use Rattle.mta_records.specs.Reference.{Identifier}
 use Rattle.mta_records.specs.declared.lane.LaneRole.{LaneRole}

@@ -22,7 +22,7 @@ use Rattle.mta_session_list_laws.proofs.Turns.{Holds}
 use Rattle.mta_session_list_laws.proofs.TurnsReplies.{turned}
 use Rattle.mta_shared.specs.Counts.{times}
 use Rattle.mta_shared.proofs.Sums.{times-append}
-use Rattle.mta_worker_list_laws.specs.Begun.{Ended, GiveNone, IsOver, made_over, Stopped, Untold}
+use Rattle.mta_worker_list_laws.specs.Begun.{GiveNone, IsOver, made_over, Untold}
 use Rattle.mta_worker_list_laws.specs.Leads.{made_by, made_in}
 use Rattle.mta_worker_list_laws.proofs.Beginning.{call_begins}
 use Rattle.mta_worker_list_laws.proofs.Keeping.{Listed, listed_next}

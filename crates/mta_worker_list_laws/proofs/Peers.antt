@@ -3,7 +3,7 @@ use Rattle.std.proofs.Common.{◌≡◌, ◌⊎◌, ℕ, ◌≤◌, List, [], �
 use Rattle.std.proofs.Common.{inl, inr, arith}
 use Rattle.mta_records.specs.declared.lane.LaneRole.TheVariants.{Initiator}
 use Rattle.mta_records.specs.declared.step.Step.{Step}
-use Rattle.mta_histories.specs.Classes.{accepts, Class, LaneStep, on_lane, opens, records, settles}
+use Rattle.mta_histories.specs.Classes.{Class, LaneStep, on_lane}
 use Rattle.mta_histories.specs.History.{after, after_from, lane_after, IsHistory}
 use Rattle.mta_histories.specs.Kept.{IsKept}
 use Rattle.mta_histories.specs.Lanes.{Lane, State as Spool, lane_at}

@@ -1,7 +1,6 @@
 -- The sessions of a lane that this agent opened were at stations that call its peer.
 use Rattle.std.proofs.Common.{◌≡◌, ℕ, Bool, true, false, List, ◌++◌, Option, Some, refl, sym, ap, subst, ◌∙◌, inl, inr}
 use Rattle.mta_links.specs.Links.{LinkView}
-use Rattle.mta_links.specs.declared.role.Role.{Role}
 use Rattle.mta_links.specs.declared.role.Role.TheVariants as Roles
 use Rattle.mta_records.specs.declared.lane.LaneRole.TheVariants.{Initiator, Responder}
 use Rattle.mta_records.specs.declared.step.Step.{Step}

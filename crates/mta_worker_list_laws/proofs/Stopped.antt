@@ -4,7 +4,8 @@ use Rattle.std.proofs.Common.{◌≡◌, ℕ, ◌+◌, Bool, true, false, List, 
 use Rattle.std.proofs.Common.{append_assoc, append-nil, Option, None, Some}
 use Rattle.mta_units.specs.declared.unit.Unit.{Unit as AnyUnit}
 use Rattle.mta_units.specs.declared.unit.Unit.TheVariants as unit
-use Rattle.mta_transfer_rules.specs.Lanes.{LanesAllow, Seen}
+use Rattle.mta_transfer_rules.specs.Lanes.{Seen}
+use Rattle.mta_transfer_laws.specs.History.{IsOfLanes}
 use Rattle.mta_session.specs.Fits.{Answers, AnswersAt, Fits, is_go}
 use Rattle.mta_session.specs.Groups.{has_turned}
 use Rattle.mta_session.specs.State.{is_initiator, State}
@@ -96,7 +97,7 @@ link_true spells history n p any4 e at = refl
 -- ---- the law
 
 module _ (whole : ListsAreGood) (may_stop : ListsMayStop) (spells : List ℕ → Bool) (history : List Seen) (t : State)
-    (lane : ℕ) (l : SessionList) (size window : ℕ) (allow : LanesAllow spells history)
+    (lane : ℕ) (l : SessionList) (size window : ℕ) (allow : IsOfLanes spells history)
     (values : AreValues history lane size window) (opens : OpensFirst t.side) where
   abbrev listed : SessionList → SessionList
   listed m = completed history lane size window (is_initiator t.side) m

@@ -351,7 +351,8 @@ module _ {D C : Type 0} (disks : DiskView D) (clocks : ClockView C) where
         pub quiet : IsQuiet (action.Ask q) calls
             (row (length old.entries) (length new.entries - length old.entries))
 
-    abbrev pub turn_leads : (q : Ask) (t : Session) (halt : Option Halt) (old new : Shown D C) (u : Session) (b : Action)
+    abbrev pub turn_leads : (q : Ask) (t : Session) (halt : Option Halt) (old new : Shown D C) (u : Session)
+        (b : Action)
         (halt' : Option Halt) (from : ℕ) → old.current ≡ after (first ++ old.entries) → IsPrefix new.entries entries
         → from ≤ upto old → is_looking t.phase ≡ false → HasAnswered disks clocks q old t halt new u b halt'
         → TurnLed q t old new from u b

@@ -1,5 +1,5 @@
 -- A session that has no list opened or bound no lane but one of its peer's.
-use Rattle.std.proofs.Common.{◌≡◌, ◌<◌, ◌≤◌, ℕ, ◌+◌, ◌-◌, Bool, false, List, [], ◌∷◌, ◌++◌, length, Option, None, Some}
+use Rattle.std.proofs.Common.{◌≡◌, ◌<◌, ◌≤◌, ℕ, ◌+◌, ◌-◌, Bool, false, List, [], ◌∷◌, ◌++◌, length, Option, None}
 use Rattle.std.proofs.Common.{Ok, refl, sym, ap, subst, ◌∙◌, append-nil, arith, slice_get, inl, inr}
 use Rattle.std.proofs.lemmas.Bool.{cases_lt}
 use Rattle.mta_transfer_rules.specs.Lanes.{Seen}
@@ -21,13 +21,12 @@ use Rattle.mta_session_list_laws.specs.Standing.{AllComeTrue, Stands, StandsAs}
 use Rattle.mta_session_list_laws.proofs.Found.{never}
 use Rattle.mta_shared.specs.Counts.{times}
 use Rattle.mta_shared.proofs.Sums.{times-append}
-use Rattle.mta_worker_list_laws.specs.Begun.{begun_by, Calls, Ended, GiveNone, IsGivenOver, IsNewAt, IsOver, Listens}
-use Rattle.mta_worker_list_laws.specs.Begun.{made_over, Stopped, Untold}
+use Rattle.mta_worker_list_laws.specs.Begun.{begun_by, Calls, GiveNone, IsGivenOver, IsNewAt, IsOver, Listens}
+use Rattle.mta_worker_list_laws.specs.Begun.{made_over, Untold}
 use Rattle.mta_worker_list_laws.specs.Histories.{place, whole}
 use Rattle.mta_worker_list_laws.specs.Leads.{entry_at, Leads, made_in}
-use Rattle.mta_worker_list_laws.specs.Parts.{IsSession}
 use Rattle.mta_worker_list_laws.specs.Roles.{WasOpenAs, WhereBegun}
-use Rattle.mta_worker_list_laws.specs.Segments.{ListsAs, OnLane, Segment, told_over}
+use Rattle.mta_worker_list_laws.specs.Segments.{ListsAs, OnLane, told_over}
 use Rattle.mta_worker_list_laws.specs.Untold.{UntoldAreTheirs}
 use Rattle.mta_worker_list_laws.proofs.Beginning.{begins_told, entry_begins, IsBegin}
 use Rattle.mta_worker_list_laws.proofs.Once.{begun_lane, none_begun}

@@ -3,7 +3,8 @@ use Rattle.std.proofs.Common.{◌≡◌, ◌<◌, ℕ, suc, ◌+◌, Bool, true,
 use Rattle.std.proofs.Common.{inl, inr}
 use Rattle.std.proofs.Common.{refl, sym, ap, subst, ◌∙◌, arith, slice_get, append-nil}
 use Rattle.mta_transfer_rules.specs.Sending.{SendEnd}
-use Rattle.mta_transfer_rules.specs.Lanes.{Bind, Complete, Drop, Halves, halves_after, lane_in, LaneOpen, LanesAllow, On}
+use Rattle.mta_transfer_rules.specs.Lanes.{Bind, Complete, Drop, Halves, halves_after, lane_in, LaneOpen, LanesAllow}
+use Rattle.mta_transfer_rules.specs.Lanes.{On}
 use Rattle.mta_transfer_rules.specs.Lanes.{Secure, Seen, SeenStep}
 use Rattle.mta_session.specs.State.{is_initiator, State}
 use Rattle.mta_session.specs.declared.event.Action.{Action}
@@ -18,6 +19,8 @@ use Rattle.mta_session_list_laws.specs.Laws.{IsIn, IsPiece, ListsAreGood, ListsM
 use Rattle.mta_session_list_laws.specs.Lists.{completed}
 use Rattle.mta_session_list_laws.specs.Lost.{abort_of, lost_of, tail_of}
 use Rattle.mta_session_list_laws.proofs.Lanes.{step_leads}
+use Rattle.mta_transfer_laws.specs.History.{lane_upto}
+use Rattle.mta_transfer_laws.proofs.Histories.{upto-take}
 use Rattle.mta_worker_list_laws.specs.Begun.{Ended, IsOver, Stopped, Untold}
 use Rattle.mta_worker_list_laws.specs.Good.{IsListOver, IsStopped}
 use Rattle.mta_worker_list_laws.specs.Segments.{Begins, BeginsIn, IsOwnStep, OnLane, SegmentsAreGood}
@@ -117,8 +120,9 @@ module _ (spells : List ℕ → Bool) (history : List Seen) (allow : LanesAllow 
           let same : m ≡ lane = mine m on b in
           let get_here : slice_get history at ≡ Some (On lane on) =
           subst (λ (n : ℕ). slice_get history at ≡ Some (On n on)) same get in
-          ap (λ (z : Halves). z.generation) (step_leads spells history lane allow at on get_here)
-          ∙ begun_generation (lane_in lane (take at history)) lane g (On m on) m on refl b
+          ap (λ (z : Halves). z.generation)
+          (sym (upto-take history lane (suc at) (omega arith)) ∙ step_leads spells history lane allow at on get_here)
+          ∙ begun_generation (lane_upto history lane (take at history)) lane g (On m on) m on refl b
         where
           mine : (m : ℕ) (on : SeenStep) → BeginsHere lane g (On m on) → m ≡ lane
           mine m (LaneOpen agreed size window) b = b.0
@@ -152,13 +156,13 @@ segments_are_good whole may_stop spells history before low from mid upto ss s t 
     generation_is =
         let next : m.at + 1 ≡ suc x.at = omega (arith, place) in
         ap (λ (n : ℕ). (lane_in x.lane (take n history)).generation) next
-        ∙ generation_there spells history allow x.lane x.generation x.at begun.begins
+        ∙ generation_there spells history allow.allowed x.lane x.generation x.at begun.begins
 
     owned : OwnsPieces history x.lane (completed history x.lane size window (is_initiator t.side) m)
     owned = λ q step later get piece.
         with_in history x.lane (Made q x.lane step) m.events _ _
         (over_in spells history mid upto u b calls l m over (Made q x.lane step) led.wanted so
         (subst (λ (zs : List SessionEvent). IsIn (Made q x.lane step) zs) events_are
-        (lists_own_steps spells history before low ss s x allow are one list le q step
+        (lists_own_steps spells history before low ss s x allow.allowed are one list le q step
         (subst (λ (n : ℕ). n < q) place later) get
         (piece_is x.generation step (subst (λ (g : ℕ). IsPiece g step) generation_is piece)))))

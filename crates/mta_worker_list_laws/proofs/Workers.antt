@@ -47,7 +47,7 @@ use Rattle.mta_worker_list_laws.specs.Histories.{AreEntries, place, TellsApdus, 
 use Rattle.mta_worker_list_laws.specs.Linked.{Began, IsRun, None_began}
 use Rattle.mta_worker_list_laws.specs.Parts.{AreForNone, AreOfRole, AreParts, AreSessions, BeginsBetween, IsForNone}
 use Rattle.mta_worker_list_laws.specs.Parts.{IsSession, plain}
-use Rattle.mta_worker_list_laws.specs.Parts.{LinkParts, StandInTurn, StandsFrom}
+use Rattle.mta_worker_list_laws.specs.Parts.{StandInTurn, StandsFrom}
 use Rattle.mta_worker_list_laws.specs.OfLinks.{AllForNone, AreOfLink, AreOfLinks, AreOfWorker, WorkersHaveParts}
 use Rattle.mta_worker_list_laws.specs.Segments.{AreSegments, Begins, IsOwnStep, IsSegment, OnLane, owned, Segment}
 use Rattle.mta_worker_list_laws.proofs.Annotating.{seen_behind}

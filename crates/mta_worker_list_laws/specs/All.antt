@@ -1,14 +1,13 @@
 -- The parts of the history that all workers made, and the lists of all their sessions.
-use Rattle.std.specs.Prelude.{◌≡◌, ◌⊎◌, ◌<◌, ◌≤◌, ℕ, ◌+◌, Bool, false, List, [], ◌∷◌}
+use Rattle.std.specs.Prelude.{◌≡◌, ◌<◌, ◌≤◌, ℕ, ◌+◌, Bool, false, List, [], ◌∷◌}
 use Rattle.std.specs.Prelude.{◌++◌, length, map, reverse, slice_get, slice_index_or, Option, None, Some}
-use mathlib.Core.Logic.{inl, inr}
 use Rattle.mta_edge.specs.Views.{ClockView, DiskView}
 use Rattle.mta_links.specs.Links.{LinkView, StationView}
 use Rattle.mta_links.specs.declared.role.Role.{Role}
 use Rattle.mta_units.specs.declared.unit.Unit.TheVariants.{EndAck}
 use Rattle.mta_transfer_rules.specs.Lanes.{On, SeenStep}
 use Rattle.mta_records.specs.declared.step.Step.{Step}
-use Rattle.mta_transfer_laws.specs.Acknowledged.{HasPut, IsCompleteIn}
+use Rattle.mta_transfer_laws.specs.Acknowledged.{HasPut, IsCompleted}
 use Rattle.mta_transfer_laws.specs.Sessions.{IsGoodSession, SessionList}
 use Rattle.mta_session.specs.State.{is_initiator}
 use Rattle.mta_session.specs.declared.event.Action.TheVariants as action
@@ -88,7 +87,8 @@ StepsHaveSessions links =
 
 -- A session that has this lane has a list, and one with what came of its last action. With the Abandons of other passes
 -- that is a good one, for the lane's agreed values. Before a responder has its lane it puts Reject or Abort alone, and
--- each EndAck that the session puts behind has its Complete step in the history.
+-- each EndAck that the session puts behind is of an activity that was completed in the history, or before
+-- the snapshot with which it begins.
 pub record HasGoodList {L : Type 0} {links : LinkView L} {spells : List ℕ → Bool} {first entries : List Step}
     {s : Segment} (x : IsSession links spells first entries s) (lane : ℕ) : Type 0 where
   pub list : SessionList
@@ -96,7 +96,7 @@ pub record HasGoodList {L : Type 0} {links : LinkView L} {spells : List ℕ → 
   pub apart : PutsApart list.opening
   pub behind : (m : SessionList) × IsListOver x.calls list x.ran.done.over m
   pub kept : (m : SessionList) (k : ℕ) → IsListOver x.calls list x.ran.done.over m → HasPut (EndAck k) m.events
-      → IsCompleteIn (whole first entries) lane k
+      → IsCompleted (whole first entries) lane k
   pub good : (m : SessionList) (size window : ℕ) → IsListOver x.calls list x.ran.done.over m
       → AreValues (whole first entries) lane size window
       → IsGoodSession spells (whole first entries) lane size window (is_initiator x.new.side)

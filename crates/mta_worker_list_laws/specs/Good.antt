@@ -1,6 +1,7 @@
 -- The list of a session that a worker served, and when it is a good one.
 use Rattle.std.specs.Prelude.{◌≡◌, ◌⊎◌, ℕ, Bool, true, false, Option, None, Some, List, ◌++◌}
-use Rattle.mta_transfer_rules.specs.Lanes.{Seen, LanesAllow}
+use Rattle.mta_transfer_rules.specs.Lanes.{Seen}
+use Rattle.mta_transfer_laws.specs.History.{IsOfLanes}
 use Rattle.mta_session.specs.State.{State, is_initiator}
 use Rattle.mta_session.specs.declared.event.Action.{Action}
 use Rattle.mta_session.specs.declared.event.Action.TheVariants as action
@@ -45,7 +46,7 @@ SessionsHaveLists =
 abbrev pub SessionsAreGood : Type 0
 SessionsAreGood =
     (spells : List ℕ → Bool) (history : List Seen) (from mid upto : ℕ) (t u : State) (b : Action)
-    (calls : List Call) (lane : ℕ) (l m : SessionList) (size window : ℕ) → LanesAllow spells history
+    (calls : List Call) (lane : ℕ) (l m : SessionList) (size window : ℕ) → IsOfLanes spells history
     → IsNewAt history from t
     → Leads spells history from t action.Read calls mid u b → (over : IsOver spells history mid upto u b)
     → IsListOf spells history t calls lane l → IsListOver calls l over m → AreValues history lane size window

@@ -4,7 +4,7 @@ use Rattle.std.specs.Prelude.{length, slice_get, Option, None, Some}
 use mathlib.Core.Logic.{inl, inr}
 use Rattle.mta_links.specs.Links.{LinkView}
 use Rattle.mta_links.specs.declared.role.Role.{Role}
-use Rattle.mta_transfer_rules.specs.Lanes.{Abandon, CloseLane, Elsewhere, On, Seen}
+use Rattle.mta_transfer_rules.specs.Lanes.{Abandon, Begins, CloseLane, Elsewhere, On, Seen}
 use Rattle.mta_records.specs.declared.step.Step.{Step}
 use Rattle.mta_session.specs.State.{State}
 use Rattle.mta_session_list_laws.specs.Calls.{Call}
@@ -48,6 +48,7 @@ module _ {L : Type 0} (links : LinkView L) where
 -- a step that a worker makes for no session: it is none of a lane, or closes one, or gives an activity up
 abbrev pub IsForNone : Seen → Type 0
 IsForNone Elsewhere = Unit {0}
+IsForNone (Begins count lanes) = Unit {0}
 IsForNone (On lane (CloseLane generation)) = Unit {0}
 IsForNone (On lane (Abandon k)) = Unit {0}
 IsForNone (On lane step) = ⊥

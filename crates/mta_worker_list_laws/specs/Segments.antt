@@ -3,6 +3,7 @@ use Rattle.std.specs.Prelude.{◌≡◌, ◌⊎◌, ◌<◌, ◌≤◌, ℕ, ◌
 use Rattle.std.specs.Prelude.{List, [], ◌∷◌, ◌++◌, false, length, slice_get}
 use Rattle.mta_transfer_rules.specs.Lanes.{Seen, On, SeenStep}
 use Rattle.mta_transfer_rules.specs.Lanes as h
+use Rattle.mta_transfer_laws.specs.History.{IsOfLanes}
 use Rattle.mta_session.specs.State.{is_initiator, State}
 use Rattle.mta_session.specs.declared.event.Action.{Action}
 use Rattle.mta_session.specs.declared.event.Action.TheVariants as action
@@ -145,7 +146,7 @@ SegmentsAreGood =
     (spells : List ℕ → Bool) (history : List Seen) (before low from mid upto : ℕ) (ss : List Segment)
     (s : Segment) (t u : State) (b : Action) (calls : List Call) (new : IsNewAt history from t)
     (over : IsOver spells history mid upto u b) (x : OnLane) (l m : SessionList) (size window : ℕ)
-    → h.LanesAllow spells history → AreAll history before low ss → IsOne s ss → IsOf before new calls over s
+    → IsOfLanes spells history → AreAll history before low ss → IsOne s ss → IsOf before new calls over s
     → s.list ≡ Some x → before + low ≤ x.at → Leads spells history from t action.Read calls mid u b
     → IsListOf spells history t calls x.lane l → x.at ≡ l.at → x.events ≡ l.events ++ told_over over
     → IsListOver calls l over m → AreValues history x.lane size window
