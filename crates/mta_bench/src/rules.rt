@@ -74,7 +74,7 @@ fn passed_on(tables: &Tables, message: &Message<'_>, position: u32, times: u32) 
         return count;
     }
     for _ in 0..times {
-        match verdict_message(tables, 0, message, position, 0, 0) {
+        match verdict_message(1, tables, 0, message, position, 0, 0) {
             Verdict::Relay(_) | Verdict::Deliver(_) => count = count.saturating_add(1),
             _ => {}
         }

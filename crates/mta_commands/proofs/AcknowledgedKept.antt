@@ -1,5 +1,5 @@
 -- An item whose number was printed is kept.
-use Rattle.std.proofs.Common.{◌≡◌, ℕ, ◌+◌, ◌%◌, ◌<◌, ◌^◌, suc, eqb, List, [], ◌∷◌}
+use Rattle.std.proofs.Common.{◌≡◌, ℕ, ◌+◌, ◌%◌, ◌<◌, ◌^◌, suc, eqb, true, false, List, [], ◌∷◌}
 use Rattle.std.proofs.Common.{◌++◌, length, get_or, Option}
 use Rattle.std.proofs.Common.{Some, None, refl, sym, ap, subst, ◌∙◌, append_assoc, arith, inl, inr}
 use Rattle.std.specs.Prelude.{slice_get}
@@ -11,13 +11,17 @@ use Rattle.mta_edge.specs.Outside.{Goes}
 use Rattle.mta_edge.specs.Streams.{TakesFront}
 use Rattle.mta_records.specs.declared.step.Step.{Step}
 use Rattle.mta_records.specs.declared.step.Step.TheVariants.{Accept}
-use Rattle.mta_machine.specs.declared.item.Origin.TheVariants.{Submitted}
+use Rattle.mta_records.specs.declared.state.Origin.TheVariants.{Submitted}
 use Rattle.mta_machine.specs.Items.{ItemValue, Machine, numbered, set_numbered}
-use Rattle.mta_machine.specs.Machine.{MachineStep, set_tables, accept, discharge, accepted_item, discharged_item}
+use Rattle.mta_machine.specs.Machine.{MachineStep, set_tables, set_format, accept, discharge, accepted_item}
+use Rattle.mta_machine.specs.Machine.{discharged_item}
 use Rattle.mta_machine.specs.Machine.{items_after, machine_after, machine_run}
 use Rattle.mta_machine.proofs.Numbered.{set-same, set-other, numbered-front}
 use Rattle.mta_histories.specs.Lanes.{State, empty}
-use Rattle.mta_histories.specs.History.{machine_steps, after, after_step, after_from}
+use Rattle.mta_histories.specs.History.{ArePossible, IsHistory, StepNeeds, after, after_from, after_step}
+use Rattle.mta_histories.specs.History.{class_steps, machine_left, when}
+use Rattle.mta_histories.specs.Classes.{Class, class_of}
+use Rattle.mta_histories.specs.Classes as classes
 use Rattle.mta_stations.specs.declared.end.WorkerEnd.{WorkerEnd}
 use Rattle.mta_commands.specs.declared.stop.Stop.{Stop}
 use Rattle.mta_commands.specs.declared.stop.Stop.TheVariants as Stops
@@ -31,7 +35,7 @@ use Rattle.mta_commands.specs.DiskLeft.{Opening}
 use Rattle.mta_commands.specs.Submit.{IsAccepted}
 use Rattle.mta_commands.specs.Causes.{IsText, of_submit, of_queue, of_mailbox, of_serve, of_decode, Cause}
 use Rattle.mta_commands.proofs.Same.{some_same}
-use Rattle.mta_commands.proofs.Added.{after_append}
+use Rattle.mta_commands.proofs.Added.{after_append, possible_back}
 
 -- ---- the lines that are printed are told from one another
 
@@ -206,6 +210,7 @@ front_keeps items more n octets x = (x.0, numbered-front items more n x.0 x.1, x
 item_kept : (m : Machine) (step : MachineStep) (n : ℕ) (octets : List ℕ) → HasItem m.items n octets
     → HasItem (machine_after m step).items n octets
 item_kept m (set_tables text) n octets x = x
+item_kept m set_format n octets x = x
 item_kept m (accept apdu origin moment) n octets x =
     front_keeps m.items (accepted_item apdu origin moment ∷ []) n octets x
 item_kept m (discharge i rs how moment) n octets x = by_item (numbered m.items i) refl
@@ -222,16 +227,24 @@ items_kept m [] n octets x = x
 items_kept m (step ∷ steps) n octets x =
     items_kept (machine_after m step) steps n octets (item_kept m step n octets x)
 
-history_keeps : (s : State) (steps : List Step) (n : ℕ) (octets : List ℕ) → HasItem s.machine.items n octets
-    → HasItem (after_from s steps).machine.items n octets
-history_keeps s [] n octets x = x
-history_keeps s (step ∷ steps) n octets x =
-    history_keeps (after_step s step) steps n octets (items_kept s.machine (machine_steps s step) n octets x)
+-- A step that is possible behind another begins no history, so it leaves items as it is for the machine.
+class_keeps : (s : State) (c : Class) (moment n : ℕ) (octets : List ℕ) → s.begun ≡ true → StepNeeds s c moment
+    → HasItem s.machine.items n octets → HasItem (machine_left s c moment).items n octets
+class_keeps s (classes.begins t) moment n octets begun needs x =
+    let never : true ≡ false = sym begun ∙ needs.first in absurd cc
+class_keeps s any1 moment n octets begun needs x = items_kept s.machine (class_steps s any1 moment) n octets x
+
+history_keeps : (s : State) (steps : List Step) (n : ℕ) (octets : List ℕ) → s.begun ≡ true → ArePossible s steps
+    → HasItem s.machine.items n octets → HasItem (after_from s steps).machine.items n octets
+history_keeps s [] n octets begun possible x = x
+history_keeps s (step ∷ steps) n octets begun possible x =
+    history_keeps (after_step s step) steps n octets refl possible.1
+    (class_keeps s (class_of step) (when s step) n octets begun possible.0.allowed x)
 
 -- the item of an Accept behind which steps are added
-pub accepted_kept : (steps added : List Step) (input : List ℕ) (n : ℕ) → IsAccepted steps added input n
-    → HasItem (after (steps ++ added)).machine.items n input
-accepted_kept steps added input n a =
+pub accepted_kept : (steps added : List Step) (input : List ℕ) (n : ℕ) → IsHistory (steps ++ added)
+    → IsAccepted steps added input n → HasItem (after (steps ++ added)).machine.items n input
+accepted_kept steps added input n history a =
     let s : State = after (steps ++ a.front) in
     let step : Step = Accept a.moment input in
     let new : ItemValue = accepted_item input Submitted a.moment in
@@ -242,4 +255,5 @@ accepted_kept steps added input n a =
     let there : after (steps ++ added) ≡ after_from (after_step s step) a.back = ap after whole ∙ after_append empty
     (steps ++ a.front) (step ∷ a.back) in
     subst (λ (x : State). HasItem x.machine.items n input) (sym there)
-    (history_keeps (after_step s step) a.back n input made)
+    (history_keeps (after_step s step) a.back n input refl
+    (possible_back empty (steps ++ a.front) (step ∷ a.back) (subst IsHistory whole history)).1 made)

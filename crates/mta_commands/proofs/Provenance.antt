@@ -23,6 +23,7 @@ use Rattle.mta_commands.proofs.Added.{accepts_append, after_append, front_in_tur
 
 own_step_timed : (tells : ℕ → Type 0) (conf input : List ℕ) (s : State) (x : Step) → IsOwn tells conf input s x
     → IsTimedAs tells s.moment (moment_of x)
+own_step_timed tells conf input s (step.Snapshot t) own = absurd own
 own_step_timed tells conf input s (step.Accept m apdu) own = own.1
 own_step_timed tells conf input s (step.Deliver i r m) own = own
 own_step_timed tells conf input s (step.Expand i r m) own = own
@@ -86,6 +87,7 @@ first_front conf (x ∷ a) b (inr r) =
 -- ---- tables and APDUs
 
 late_tables_of : (conf : List ℕ) (c : Class) → 2 ≤ turn_of_class c → IsTablesOf conf c
+late_tables_of conf (classes.begins t) late = absurd (omega (arith, late))
 late_tables_of conf (classes.records text) late = absurd (omega (arith, late))
 late_tables_of conf any1 late = tt
 
@@ -108,6 +110,7 @@ first_none conf a (inr r) =
 
 own_tables_of : (tells : ℕ → Type 0) (conf input : List ℕ) (last moment : ℕ) (c : Class)
     → IsOwnOf tells conf input last c moment → IsTablesOf conf c
+own_tables_of tells conf input last moment (classes.begins t) own = absurd own
 own_tables_of tells conf input last moment (classes.records text) own = own
 own_tables_of tells conf input last moment any5 own = tt
 
@@ -122,6 +125,8 @@ own_tables tells conf input s (x ∷ a) own = (
 -- ---- the tables recorded last
 
 late_class : (c : Class) → 2 ≤ turn_of_class c → IsOfWorkers c
+late_class (classes.begins t) late = absurd (omega (arith, late))
+late_class classes.sets_format late = absurd (omega (arith, late))
 late_class (classes.records text) late = absurd (omega (arith, late))
 late_class (classes.accepts octets) late = absurd (omega (arith, late))
 late_class any0 late = tt

@@ -14,8 +14,7 @@ use Rattle.mta_machine.specs.Machine.{last_tables}
 use Rattle.mta_histories.specs.Lanes.{State}
 use Rattle.mta_histories.specs.History.{after}
 use Rattle.mta_images.specs.Image.{HasSize, NoSpoolAt}
-use Rattle.mta_show.specs.Queue.{queue_text}
-use Rattle.mta_show.specs.Mailbox.{mailbox_text}
+pub use Rattle.mta_show.specs.Compacted.{queue_of, mailbox_of}
 use Rattle.mta_stations.specs.declared.end.Halt.{Halt}
 use Rattle.mta_stations.specs.declared.end.WorkerEnd.{WorkerEnd}
 use Rattle.mta_stations.specs.Deciding.{Decides, halts_of}
@@ -40,14 +39,6 @@ mailbox_in name text = option_and_then (λ (t : TablesValue). place_of_mailbox t
 -- the mailbox of this name in the tables recorded last
 abbrev pub mailbox_named : State → List ℕ → Option ℕ
 mailbox_named s name = option_and_then (mailbox_in name) (numbered s.machine.tables (last_tables s.machine))
-
--- the text of the queue of a state: its items and its lanes
-abbrev pub queue_of : State → List ℕ
-queue_of s = queue_text s.machine.items s.lanes.open_lanes
-
--- the text of a mailbox in a state
-abbrev pub mailbox_of : List ℕ → State → List ℕ
-mailbox_of name s = mailbox_text name s.machine.items s.machine.mailboxes
 
 -- the tables name each peer whom a station calls
 abbrev pub PeersNamed : {D C I : Type 0} → Handed D C I → Type 0

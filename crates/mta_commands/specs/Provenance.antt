@@ -11,7 +11,10 @@ use Rattle.mta_commands.specs.Serving.{RecordsFirst}
 use Rattle.mta_commands.specs.Submit.{accepts, AreOwn}
 use Rattle.mta_commands.specs.Words.{Serves}
 
+-- the tables that the step records are these
 abbrev pub IsTablesOf : (conf : List ℕ) → Class → Type 0
+IsTablesOf conf (classes.begins t) = ⊥
+IsTablesOf conf classes.sets_format = Unit {0}
 IsTablesOf conf (classes.records text) = text ≡ conf
 IsTablesOf conf (classes.accepts octets) = Unit {0}
 IsTablesOf conf (classes.settles how i r) = Unit {0}

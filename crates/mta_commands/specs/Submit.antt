@@ -33,6 +33,8 @@ IsOwnOnLane tells last step moment = ⊥
 
 abbrev pub IsOwnOf : (ℕ → Type 0) → (conf input : List ℕ) → (last : ℕ) → Class → (moment : ℕ)
     → Type 0
+IsOwnOf tells conf input last (classes.begins t) moment = ⊥
+IsOwnOf tells conf input last classes.sets_format moment = ⊥
 IsOwnOf tells conf input last (classes.records text) moment = text ≡ conf
 IsOwnOf tells conf input last (classes.accepts octets) moment = (octets ≡ input) × IsTimed tells last moment
 IsOwnOf tells conf input last (classes.settles how i r) moment = IsTimed tells last moment
@@ -40,7 +42,7 @@ IsOwnOf tells conf input last (classes.opens role peer reference twa checkpoint 
 IsOwnOf tells conf input last (classes.on_lane n generation step) moment = IsOwnOnLane tells last step moment
 
 -- In a state, a step of these tables, or of this input, or one that settles a recipient or gives an activity up, at a
--- moment of this clock. No other step on a lane is one, and none opens a lane.
+-- moment of this clock. No other step on a lane is one, and none opens a lane, begins the history or sets the format.
 abbrev pub IsOwn : (ℕ → Type 0) → (conf input : List ℕ) → State → Step → Type 0
 IsOwn tells conf input s step = IsOwnOf tells conf input s.moment (class_of step) (when s step)
 
@@ -52,6 +54,8 @@ AreOwn tells conf input s (step ∷ steps) = IsOwn tells conf input s step
 -- ---- their order
 
 abbrev pub turn_of_class : Class → ℕ
+turn_of_class (classes.begins t) = 0
+turn_of_class classes.sets_format = 0
 turn_of_class (classes.records text) = 0
 turn_of_class (classes.accepts octets) = 1
 turn_of_class (classes.settles how i r) = 2
@@ -79,6 +83,8 @@ turn_after turn [] = turn
 turn_after turn (step ∷ steps) = turn_after (turn_behind step) steps
 
 abbrev pub takes_apdu : Class → Bool
+takes_apdu (classes.begins t) = false
+takes_apdu classes.sets_format = false
 takes_apdu (classes.records text) = false
 takes_apdu (classes.accepts octets) = true
 takes_apdu (classes.settles how i r) = false

@@ -59,7 +59,7 @@ pub fn settle<D: Disk + Drop, C: Clock + Drop>(spool: &mut Spool<D, C>) -> Resul
 {
     loop {
         match spool.turn() {
-            Ok(Turned::Did(_)) => {}
+            Ok(Turned::Did(step)) => drop(step),
             Ok(Turned::Quiet { .. }) => return Ok(()),
             Err(fault) => return Err(fault),
         }

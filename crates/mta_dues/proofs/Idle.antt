@@ -11,7 +11,7 @@ use Rattle.mta_machine.specs.Rules.{is_expired, passed_back, verdict_of}
 use Rattle.mta_machine.specs.Machine.{last_tables, settled, verdict_at, verdict_on}
 use Rattle.mta_histories.specs.Lanes.{State}
 use Rattle.mta_histories.specs.Kept.{IsKept}
-use Rattle.mta_histories.specs.Due.{IsDue, step_of}
+use Rattle.mta_histories.specs.Due.{step_of}
 use Rattle.mta_idle_laws.specs.Idle.{calls_at_once, IsAtRest, IsIdle}
 use Rattle.mta_dues.specs.Answers.{IsDueOf, IsFirstOf}
 use Rattle.mta_dues.proofs.Recipients.{expires, not_pending}
@@ -35,23 +35,26 @@ no_step (Some (Verdicts.Hold until)) back i r moment w due waits is step =
 no_step (Some Verdicts.Back) back i r moment w due waits is step = absurd cc
 no_step (Some Verdicts.Discard) back i r moment w due waits is step = absurd cc
 
-verdict_is : (m : Machine) (i r moment : ℕ) (text : List ℕ) (item : ItemValue)
-    → numbered m.tables (last_tables m) ≡ Some text → numbered m.items i ≡ Some item
+verdict_is : (m : Machine) (i r moment format : ℕ) (text : List ℕ) (item : ItemValue)
+    → numbered m.tables (last_tables m) ≡ Some text → format ≡ m.format → numbered m.items i ≡ Some item
     → verdict_at m i r moment
-    ≡ option_map (settled (passed_back text m.items item)) (verdict_of text item.octets item.arrival r moment)
-verdict_is m i r moment text item text_is item_is =
-    ap (λ (t : Option (List ℕ)). verdict_on m.items t (numbered m.items i) r moment) text_is
-    ∙ ap (λ (x : Option ItemValue). verdict_on m.items (Some text) x r moment) item_is
+    ≡ option_map (settled (passed_back text m.items item)) (verdict_of format text item.octets item.arrival r moment)
+verdict_is m i r moment format text item text_is format_is item_is =
+    ap (λ (t : Option (List ℕ)). verdict_on m.format m.items t (numbered m.items i) r moment) text_is
+    ∙ ap (λ (x : Option ItemValue). verdict_on m.format m.items (Some text) x r moment) item_is
+    ∙ ap (λ (f : ℕ). verdict_on f m.items (Some text) (Some item) r moment) (sym format_is)
 
-at_rest : (s : State) (i r moment : ℕ) (text : List ℕ) (item : ItemValue)
-    → numbered s.machine.tables (last_tables s.machine) ≡ Some text → numbered s.machine.items i ≡ Some item
-    → IsAtRest text item r moment → IsDueOf s i r moment None
-at_rest s i r moment text item text_is item_is rest due (inl d) =
-    no_step (verdict_of text item.octets item.arrival r moment) (passed_back text s.machine.items item) i r moment
-    d.verdict due rest.waits (sym (verdict_is s.machine i r moment text item text_is item_is) ∙ d.verdict_is) d.step_is
-at_rest s i r moment text item text_is item_is rest due (inr d) =
-    let does : is_expired text item.octets item.arrival moment ≡ true =
-    (expires s.machine i r moment text item d.lane.transfer text_is item_is d.has).0 d.expired in
+at_rest : (s : State) (i r moment format : ℕ) (text : List ℕ) (item : ItemValue)
+    → numbered s.machine.tables (last_tables s.machine) ≡ Some text → format ≡ s.machine.format
+    → numbered s.machine.items i ≡ Some item → IsAtRest format text item r moment → IsDueOf s i r moment None
+at_rest s i r moment format text item text_is format_is item_is rest due (inl d) =
+    no_step (verdict_of format text item.octets item.arrival r moment) (passed_back text s.machine.items item) i r
+    moment
+    d.verdict due rest.waits (sym (verdict_is s.machine i r moment format text item text_is format_is item_is)
+    ∙ d.verdict_is) d.step_is
+at_rest s i r moment format text item text_is format_is item_is rest due (inr d) =
+    let does : is_expired format text item.octets item.arrival moment ≡ true =
+    (expires s.machine i r moment format text item d.lane.transfer text_is format_is item_is d.has).0 d.expired in
     let never = rest.unexpired in
     absurd cc
 
@@ -64,20 +67,21 @@ pending_of m i r item is pending =
     (option_and_then (λ (x : ItemValue). numbered x.statuses r) o)) is)
     ∙ pending
 
-nothing_while_idle : (s : State) (i r moment : ℕ) (text : List ℕ) (item : ItemValue) → IsKept s
-    → numbered s.machine.tables (last_tables s.machine) ≡ Some text → numbered s.machine.items i ≡ Some item
-    → IsIdle text item moment → IsDueOf s i r moment None
-nothing_while_idle s i r moment text item kept text_is item_is idle =
+nothing_while_idle : (s : State) (i r moment format : ℕ) (text : List ℕ) (item : ItemValue) → IsKept s
+    → numbered s.machine.tables (last_tables s.machine) ≡ Some text → format ≡ s.machine.format
+    → numbered s.machine.items i ≡ Some item → IsIdle format text item moment → IsDueOf s i r moment None
+nothing_while_idle s i r moment format text item kept text_is format_is item_is idle =
     by_test (is_pending_at s.machine i r) refl
   where
     by_test : (b : Bool) → is_pending_at s.machine i r ≡ b → IsDueOf s i r moment None
     by_test true pending =
-        at_rest s i r moment text item text_is item_is (idle r (pending_of s.machine i r item item_is pending))
+        at_rest s i r moment format text item text_is format_is item_is
+        (idle r (pending_of s.machine i r item item_is pending))
     by_test false never = not_pending s i r moment kept never
 
 -- nothing is due of an item at a moment at which it is idle
-pub nothing_of_idle : (s : State) (i moment : ℕ) (text : List ℕ) (item : ItemValue) → IsKept s
-    → numbered s.machine.tables (last_tables s.machine) ≡ Some text → numbered s.machine.items i ≡ Some item
-    → IsIdle text item moment → IsFirstOf s i moment None
-nothing_of_idle s i moment text item kept text_is item_is idle = λ r.
-    nothing_while_idle s i r moment text item kept text_is item_is idle
+pub nothing_of_idle : (s : State) (i moment format : ℕ) (text : List ℕ) (item : ItemValue) → IsKept s
+    → numbered s.machine.tables (last_tables s.machine) ≡ Some text → format ≡ s.machine.format
+    → numbered s.machine.items i ≡ Some item → IsIdle format text item moment → IsFirstOf s i moment None
+nothing_of_idle s i moment format text item kept text_is format_is item_is idle = λ r.
+    nothing_while_idle s i r moment format text item kept text_is format_is item_is idle

@@ -1,18 +1,17 @@
 -- What is known of items that rest, as the index changes, and as steps are made.
-use Rattle.std.proofs.Common.{inl, inr, ◌≡◌, ◌≢◌, ◌≤◌, ◌<◌, ◌+◌, ℕ, true, false, List, Option, Some, None}
+use Rattle.std.proofs.Common.{inl, inr, ◌≡◌, ◌≢◌, ◌<◌, ℕ, true, false, List, Option, Some, None}
 use Rattle.std.proofs.Common.{refl, sym, ap, subst, ◌∙◌, arith}
 use Rattle.std.proofs.lemmas.Bool.{cases_eq}
 use Rattle.std.proofs.lemmas.Option.{same_Some}
 use Rattle.std.specs.BTreeSet.{BTreeSet}
-use Rattle.mta_machine.specs.Items.{ItemValue, Machine, numbered, has_status, is_pending}
-use Rattle.mta_machine.specs.Rules.{peer_word, route_word, verdict_of}
-use Rattle.mta_machine.specs.Machine.{MachineStep, machine_run, relay_by}
-use Rattle.mta_idle_laws.specs.Idle.{IsIdle, IsIdleUntil}
-use Rattle.mta_idle_laws.specs.Later.{GoesOn, IsLater}
+use Rattle.mta_machine.specs.Items.{ItemValue, numbered}
+use Rattle.mta_machine.specs.Rules.{route_word}
+use Rattle.mta_machine.specs.Machine.{machine_run, relay_by}
+use Rattle.mta_idle_laws.specs.Idle.{IsIdleUntil}
 use Rattle.mta_idle_laws.proofs.Kept.{idle_later, items_go_on, verdict_later}
 use Rattle.mta_idle_laws.proofs.Stays.{idle_until_next, verdicts_stay}
 use Rattle.mta_dues.specs.Agendas.{AgendaValue, is_active, IsAside, IsLetGo, IsPutOff, KeepsAll, Rests}
-use Rattle.mta_dues.specs.Lines.{KeepsLines, Leaves, stands, StandsAll}
+use Rattle.mta_dues.specs.Lines.{KeepsLines, stands, StandsAll}
 use Rattle.mta_state.specs.Asked.{AreRelays, AreRoutes}
 use Rattle.mta_state.specs.Readings.{IsDecodedOf}
 use Rattle.mta_dues.specs.declared.hand.Hand.{Hand}
@@ -26,10 +25,10 @@ same_hand : (items : List ItemValue) (old new : Index) → new.hand ≡ old.hand
 same_hand items old new same is = subst (λ (o : Option Hand). IsAtHand items o) (sym same) is
 
 -- an agenda that keeps what rests, and lines with more
-kept_with : (text : List ℕ) (items : List ItemValue) (old new : Index) → KeepsAll old.agenda new.agenda
+kept_with : (format : ℕ) (text : List ℕ) (items : List ItemValue) (old new : Index) → KeepsAll old.agenda new.agenda
     → KeepsLines old.ready new.ready → KeepsLines old.routed new.routed → new.hand ≡ old.hand
-    → IsIndexed text items old → IsIndexed text items new
-kept_with text items old new agenda ready routed hand indexed = record {
+    → IsIndexed format text items old → IsIndexed format text items new
+kept_with format text items old new agenda ready routed hand indexed = record {
   rests = λ i moment r.
       let was = indexed.rests i moment (agenda.rests i moment r) in
       record {
@@ -59,31 +58,32 @@ keeps_same old new same = record {
 }
 
 -- an agenda that keeps what rests
-pub kept : (text : List ℕ) (items : List ItemValue) (old new : Index) → KeepsAll old.agenda new.agenda
-    → new.ready ≡ old.ready → new.routed ≡ old.routed → new.hand ≡ old.hand → IsIndexed text items old
-    → IsIndexed text items new
-kept text items old new agenda ready routed hand indexed =
-    kept_with text items old new agenda
+pub kept : (format : ℕ) (text : List ℕ) (items : List ItemValue) (old new : Index) → KeepsAll old.agenda new.agenda
+    → new.ready ≡ old.ready → new.routed ≡ old.routed → new.hand ≡ old.hand → IsIndexed format text items old
+    → IsIndexed format text items new
+kept format text items old new agenda ready routed hand indexed =
+    kept_with format text items old new agenda
     (λ place i is. ap (λ (lines : List (BTreeSet ℕ)). stands lines place i) ready ∙ is)
     (λ place i is. ap (λ (lines : List (BTreeSet ℕ)). stands lines place i) routed ∙ is) hand indexed
 
-pub with_agenda : (text : List ℕ) (items : List ItemValue) (old : Index) (agenda : AgendaValue)
-    → KeepsAll old.agenda agenda → IsIndexed text items old → IsIndexed text items (record old { agenda = agenda })
-with_agenda text items old agenda keeps indexed =
-    kept text items old (record old { agenda = agenda }) keeps refl refl refl indexed
+pub with_agenda : (format : ℕ) (text : List ℕ) (items : List ItemValue) (old : Index) (agenda : AgendaValue)
+    → KeepsAll old.agenda agenda → IsIndexed format text items old
+    → IsIndexed format text items (record old { agenda = agenda })
+with_agenda format text items old agenda keeps indexed =
+    kept format text items old (record old { agenda = agenda }) keeps refl refl refl indexed
 
 -- lines with more
-pub lined : (text : List ℕ) (items : List ItemValue) (old new : Index) → new.agenda ≡ old.agenda
+pub lined : (format : ℕ) (text : List ℕ) (items : List ItemValue) (old new : Index) → new.agenda ≡ old.agenda
     → KeepsLines old.ready new.ready → KeepsLines old.routed new.routed → new.hand ≡ old.hand
-    → IsIndexed text items old → IsIndexed text items new
-lined text items old new agenda ready routed hand indexed =
-    kept_with text items old new (keeps_same old.agenda new.agenda agenda) ready routed hand indexed
+    → IsIndexed format text items old → IsIndexed format text items new
+lined format text items old new agenda ready routed hand indexed =
+    kept_with format text items old new (keeps_same old.agenda new.agenda agenda) ready routed hand indexed
 
 -- an active item stands in no line
-pub left : (text : List ℕ) (items : List ItemValue) (old new : Index) (number : ℕ)
-    → is_active old.agenda number ≡ true → IsLeft old new number → IsIndexed text items old
-    → IsIndexed text items new
-left text items old new number active gone indexed = record {
+pub left : (format : ℕ) (text : List ℕ) (items : List ItemValue) (old new : Index) (number : ℕ)
+    → is_active old.agenda number ≡ true → IsLeft old new number → IsIndexed format text items old
+    → IsIndexed format text items new
+left format text items old new number active gone indexed = record {
   rests = λ i moment r.
       let before = subst (λ (x : AgendaValue). Rests x i moment) gone.agenda r in
       let was = indexed.rests i moment before in
@@ -114,17 +114,17 @@ left text items old new number active gone indexed = record {
       absurd cc
 
 -- what is known of one number, and of the others as before
-with_one : (text : List ℕ) (items : List ItemValue) (old new : Index) (number : ℕ)
+with_one : (format : ℕ) (text : List ℕ) (items : List ItemValue) (old new : Index) (number : ℕ)
     → ((i : ℕ) → i ≢ number → IsAside new.agenda i → IsAside old.agenda i)
     → ((i moment : ℕ) → i ≢ number → Rests new.agenda i moment → Rests old.agenda i moment)
     → new.ready ≡ old.ready → new.routed ≡ old.routed → new.hand ≡ old.hand
-    → ((moment : ℕ) → Rests new.agenda number moment → IsAtRestIn text items new number moment)
+    → ((moment : ℕ) → Rests new.agenda number moment → IsAtRestIn format text items new number moment)
     → (IsAside new.agenda number → IsListedIn text items new number)
-    → IsIndexed text items old → IsIndexed text items new
-with_one text items old new number aside rests ready routed hand one listed indexed = record {
+    → IsIndexed format text items old → IsIndexed format text items new
+with_one format text items old new number aside rests ready routed hand one listed indexed = record {
   rests = λ i moment r. elim (cases_eq i number) [
     | inl same ↦
-        subst (λ (j : ℕ). IsAtRestIn text items new j moment) (sym same)
+        subst (λ (j : ℕ). IsAtRestIn format text items new j moment) (sym same)
         (one moment (subst (λ (j : ℕ). Rests new.agenda j moment) same r))
     | inr apart ↦ at_rest i moment (indexed.rests i moment (rests i moment apart r))
   ];
@@ -136,7 +136,7 @@ with_one text items old new number aside rests ready routed hand one listed inde
   ];
   hand = same_hand items old new hand indexed.hand;
 } where
-  at_rest : (i moment : ℕ) → IsAtRestIn text items old i moment → IsAtRestIn text items new i moment
+  at_rest : (i moment : ℕ) → IsAtRestIn format text items old i moment → IsAtRestIn format text items new i moment
   at_rest i moment was = record {
     item = was.item;
     item_is = was.item_is;
@@ -162,12 +162,12 @@ with_one text items old new number aside rests ready routed hand one listed inde
   }
 
 -- an item of which nobody is pending rests for good
-pub let_go : (text : List ℕ) (items : List ItemValue) (old new : Index) (number : ℕ) (item : ItemValue)
+pub let_go : (format : ℕ) (text : List ℕ) (items : List ItemValue) (old new : Index) (number : ℕ) (item : ItemValue)
     → (HasPending item → ⊥) → numbered items number ≡ Some item → IsLetGo old.agenda new.agenda number
-    → new.ready ≡ old.ready → new.routed ≡ old.routed → new.hand ≡ old.hand → IsIndexed text items old
-    → IsIndexed text items new
-let_go text items old new number item none item_is go ready routed hand indexed =
-    with_one text items old new number go.others.aside go.others.rests ready routed hand
+    → new.ready ≡ old.ready → new.routed ≡ old.routed → new.hand ≡ old.hand → IsIndexed format text items old
+    → IsIndexed format text items new
+let_go format text items old new number item none item_is go ready routed hand indexed =
+    with_one format text items old new number go.others.aside go.others.rests ready routed hand
     (λ moment r. record {
       item = item;
       item_is = item_is;
@@ -182,21 +182,22 @@ let_go text items old new number item none item_is go ready routed hand indexed 
     indexed
 
 -- an item that is idle until the next change rests until then, in the lines of its peers
-pub put_off : (text : List ℕ) (items : List ItemValue) (old new : Index) (number : ℕ) (item : ItemValue)
-    (moment until : ℕ) → IsIdleUntil text item moment (Some until) → numbered items number ≡ Some item
-    → IsReadyIn text item old.ready number moment → IsRoutedIn text item old.routed number
+pub put_off : (format : ℕ) (text : List ℕ) (items : List ItemValue) (old new : Index) (number : ℕ) (item : ItemValue)
+    (moment until : ℕ) → IsIdleUntil format text item moment (Some until) → numbered items number ≡ Some item
+    → IsReadyIn format text item old.ready number moment → IsRoutedIn text item old.routed number
     → IsPutOff old.agenda new.agenda number moment until → new.ready ≡ old.ready → new.routed ≡ old.routed
-    → new.hand ≡ old.hand → IsIndexed text items old → IsIndexed text items new
-put_off text items old new number item moment until idle item_is is_ready is_routed off ready routed hand indexed =
-    with_one text items old new number off.others.aside off.others.rests ready routed hand
+    → new.hand ≡ old.hand → IsIndexed format text items old → IsIndexed format text items new
+put_off format text items old new number item moment until idle item_is is_ready is_routed off ready routed hand
+    indexed =
+    with_one format text items old new number off.others.aside off.others.rests ready routed hand
     (λ n r.
     let within = off.within n r in
     record {
       item = item;
       item_is = item_is;
-      idle = idle_until_next text item moment until n idle within.0 within.1;
+      idle = idle_until_next format text item moment until n idle within.0 within.1;
       ready = λ q peer pending is.
-          let stay = verdicts_stay text item.octets item.arrival moment until idle.1 in
+          let stay = verdicts_stay format text item.octets item.arrival moment until idle.1 in
           let same = (stay.same n within.0 within.1).verdicts q in
           let found = is_ready q peer pending (sym (ap (relay_by text) same) ∙ is) in (
             found.0,
@@ -217,15 +218,15 @@ put_off text items old new number item moment until idle item_is is_ready is_rou
     indexed
 
 -- the next change is to come
-pub change_later : (text : List ℕ) (item : ItemValue) (moment until : ℕ)
-    → IsIdleUntil text item moment (Some until) → moment < until
-change_later text item moment until idle =
-    (verdicts_stay text item.octets item.arrival moment until idle.1).later
+pub change_later : (format : ℕ) (text : List ℕ) (item : ItemValue) (moment until : ℕ)
+    → IsIdleUntil format text item moment (Some until) → moment < until
+change_later format text item moment until idle =
+    (verdicts_stay format text item.octets item.arrival moment until idle.1).later
 
 -- nothing is known of any item
-pub fresh : (text : List ℕ) (items : List ItemValue) (index : Index) → index.agenda.known ≡ 0
-    → index.hand ≡ None → IsIndexed text items index
-fresh text items index none nothing = record {
+pub fresh : (format : ℕ) (text : List ℕ) (items : List ItemValue) (index : Index) → index.agenda.known ≡ 0
+    → index.hand ≡ None → IsIndexed format text items index
+fresh format text items index none nothing = record {
   rests = λ i moment r. absurd (never i r.aside);
   listed = λ i a. absurd (never i a);
   hand = subst (λ (o : Option Hand). IsAtHand items o) (sym nothing) tt;
@@ -236,12 +237,12 @@ fresh text items index none nothing = record {
 -- ---- what is at hand
 
 -- another is at hand, or none
-handed : (text : List ℕ) (items : List ItemValue) (old new : Index) → new.agenda ≡ old.agenda
-    → new.ready ≡ old.ready → new.routed ≡ old.routed → IsAtHand items new.hand → IsIndexed text items old
-    → IsIndexed text items new
-handed text items old new agenda ready routed hand indexed =
+handed : (format : ℕ) (text : List ℕ) (items : List ItemValue) (old new : Index) → new.agenda ≡ old.agenda
+    → new.ready ≡ old.ready → new.routed ≡ old.routed → IsAtHand items new.hand → IsIndexed format text items old
+    → IsIndexed format text items new
+handed format text items old new agenda ready routed hand indexed =
     let emptied : Index = record { agenda = new.agenda; ready = new.ready; routed = new.routed; hand = old.hand } in
-    let was = kept text items old emptied (keeps_same old.agenda new.agenda agenda) ready routed refl indexed in
+    let was = kept format text items old emptied (keeps_same old.agenda new.agenda agenda) ready routed refl indexed in
     record {
       rests = λ i moment r.
           let at = was.rests i moment r in
@@ -251,27 +252,28 @@ handed text items old new agenda ready routed hand indexed =
       hand = hand;
     }
 
-pub nothing_at_hand : (text : List ℕ) (items : List ItemValue) (old new : Index) → new.agenda ≡ old.agenda
-    → new.ready ≡ old.ready → new.routed ≡ old.routed → new.hand ≡ None → IsIndexed text items old
-    → IsIndexed text items new
-nothing_at_hand text items old new agenda ready routed none indexed =
-    handed text items old new agenda ready routed (subst (λ (o : Option Hand). IsAtHand items o) (sym none) tt)
+pub nothing_at_hand : (format : ℕ) (text : List ℕ) (items : List ItemValue) (old new : Index) → new.agenda ≡ old.agenda
+    → new.ready ≡ old.ready → new.routed ≡ old.routed → new.hand ≡ None → IsIndexed format text items old
+    → IsIndexed format text items new
+nothing_at_hand format text items old new agenda ready routed none indexed =
+    handed format text items old new agenda ready routed (subst (λ (o : Option Hand). IsAtHand items o) (sym none) tt)
     indexed
 
-pub one_at_hand : (text : List ℕ) (items : List ItemValue) (old new : Index) (hand : Hand) (item : ItemValue)
+pub one_at_hand : (format : ℕ) (text : List ℕ) (items : List ItemValue) (old new : Index) (hand : Hand)
+    (item : ItemValue)
     → new.agenda ≡ old.agenda → new.ready ≡ old.ready → new.routed ≡ old.routed → new.hand ≡ Some hand
     → numbered items hand.number ≡ Some item → IsDecodedOf item.octets hand.decoded
-    → IsIndexed text items old → IsIndexed text items new
-one_at_hand text items old new hand item agenda ready routed one item_is decoded indexed =
-    handed text items old new agenda ready routed
+    → IsIndexed format text items old → IsIndexed format text items new
+one_at_hand format text items old new hand item agenda ready routed one item_is decoded indexed =
+    handed format text items old new agenda ready routed
     (subst (λ (o : Option Hand). IsAtHand items o) (sym one)
     (record { item = item; item_is = item_is; decoded = decoded }))
     indexed
 
 -- what is at hand is of the item that has its number
-pub of_hand : (text : List ℕ) (items : List ItemValue) (index : Index) (number : ℕ) (item : ItemValue)
-    → IsIndexed text items index → numbered items number ≡ Some item → IsOfHand item number index.hand
-of_hand text items index number item indexed item_is = by_hand index.hand indexed.hand
+pub of_hand : (format : ℕ) (text : List ℕ) (items : List ItemValue) (index : Index) (number : ℕ) (item : ItemValue)
+    → IsIndexed format text items index → numbered items number ≡ Some item → IsOfHand item number index.hand
+of_hand format text items index number item indexed item_is = by_hand index.hand indexed.hand
   where
     by_hand : (o : Option Hand) → IsAtHand items o → IsOfHand item number o
     by_hand None is = tt
@@ -282,9 +284,10 @@ of_hand text items index number item indexed item_is = by_hand index.hand indexe
 
 -- ---- lines of peers
 
-pub ready_in : (text : List ℕ) (item : ItemValue) (places : List ℕ) (lines : List (BTreeSet ℕ)) (i moment : ℕ)
-    → AreRelays text item moment places → StandsAll lines places i → IsReadyIn text item lines i moment
-ready_in text item places lines i moment relays all r peer pending is =
+pub ready_in : (format : ℕ) (text : List ℕ) (item : ItemValue) (places : List ℕ) (lines : List (BTreeSet ℕ))
+    (i moment : ℕ)
+    → AreRelays format text item moment places → StandsAll lines places i → IsReadyIn format text item lines i moment
+ready_in format text item places lines i moment relays all r peer pending is =
     let found = relays r peer pending is in
     (found.0, found.2, all found.0 found.1)
 
@@ -297,17 +300,17 @@ routed_in text item places lines i routes all r peer pending is =
 -- ---- steps
 
 pub indexes_stay : IndexesStay
-indexes_stay text m steps index indexed = record {
+indexes_stay format text m steps index indexed = record {
   rests = λ i moment r.
       let was = indexed.rests i moment r in
       let on = items_go_on m steps i was.item was.item_is in
       record {
         item = on.item;
         item_is = on.item_is;
-        idle = idle_later text was.item on.item moment on.later was.idle;
+        idle = idle_later format text was.item on.item moment on.later was.idle;
         ready = λ q peer pending is.
             was.ready q peer (on.later.pending q pending)
-            (sym (ap (relay_by text) (verdict_later text was.item on.item q moment on.later)) ∙ is);
+            (sym (ap (relay_by text) (verdict_later format text was.item on.item q moment on.later)) ∙ is);
       };
   listed = λ i a.
       let was = indexed.listed i a in

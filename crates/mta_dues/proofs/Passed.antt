@@ -1,17 +1,16 @@
 -- Of an item that need not be looked at nothing is due, and it goes to no peer in whose lines it does not stand.
-use Rattle.std.proofs.Common.{inl, inr, ◌≡◌, ◌≤◌, ◌<◌, ◌+◌, ℕ, zero, suc, Bool, true, false, List, length}
-use Rattle.std.proofs.Common.{Option, Some, None, refl, sym, ap, subst, ◌∙◌, arith}
+use Rattle.std.proofs.Common.{◌≡◌, ◌≤◌, ℕ, zero, suc, Bool, true, false, List, length}
+use Rattle.std.proofs.Common.{Option, Some, None, refl, sym, subst, ◌∙◌, arith}
 use Rattle.std.specs.Prelude.{slice_get, option_and_then}
 use Rattle.std.specs.List.{All}
 use Rattle.std.proofs.lemmas.Option.{get_or_from_slice_get, same_Some, slice_get_within}
 use Rattle.mta_records.specs.declared.step.Step.{Step}
 use Rattle.mta_machine.specs.Items.{ItemValue, Machine, numbered, has_status, is_pending, is_pending_at}
-use Rattle.mta_machine.specs.Rules.{route_word, verdict_of}
-use Rattle.mta_machine.specs.Machine.{last_tables, relay_by}
+use Rattle.mta_machine.specs.Machine.{last_tables}
 use Rattle.mta_histories.specs.Lanes.{State}
 use Rattle.mta_histories.specs.Kept.{IsKept}
 use Rattle.mta_histories.specs.Due.{IsDue, IsRoutedTo, IsToRelay}
-use Rattle.mta_dues.specs.Agendas.{is_active, IsAllCalled, IsAside, Rests}
+use Rattle.mta_dues.specs.Agendas.{is_active, IsAllCalled, Rests}
 use Rattle.mta_dues.specs.Next.{IsNextIn}
 use Rattle.mta_state.specs.Asked.{IsStored}
 use Rattle.mta_dues.specs.declared.index.Index.{Index}
@@ -62,38 +61,41 @@ rests s index i r moment there called inactive = record {
   later = λ until is. called.later until i is;
 }
 
-module _ (s : State) (text : List ℕ) (index : Index) where
+module _ (s : State) (format : ℕ) (text : List ℕ) (index : Index) where
   -- nothing is due of an item that is not active
   pub inactive_not_due : (i r moment : ℕ) (due : Step) → IsKept s
-      → numbered s.machine.tables (last_tables s.machine) ≡ Some text → IsIndexed text s.machine.items index
-      → IsAllCalled index.agenda (length s.machine.items) moment → is_active index.agenda i ≡ false
+      → numbered s.machine.tables (last_tables s.machine) ≡ Some text → format ≡ s.machine.format
+      → IsIndexed format text s.machine.items index → IsAllCalled index.agenda (length s.machine.items) moment
+      → is_active index.agenda i ≡ false
       → IsDue s i r moment due → ⊥
-  inactive_not_due i r moment due kept text_is indexed called inactive = by_test (is_pending_at s.machine i r) refl
+  inactive_not_due i r moment due kept text_is format_is indexed called inactive =
+      by_test (is_pending_at s.machine i r) refl
     where
       by_test : (b : Bool) → is_pending_at s.machine i r ≡ b → IsDue s i r moment due → ⊥
       by_test false never is = not_pending s i r moment kept never due is
       by_test true does is =
           let there = pending_in s.machine i r does in
           let rest = indexed.rests i moment (rests s index i r moment there called inactive) in
-          nothing_of_idle s i moment text rest.item kept text_is rest.item_is rest.idle r due is
+          nothing_of_idle s i moment format text rest.item kept text_is format_is rest.item_is rest.idle r due is
 
   -- an item is not relayed that is not active and stands in no line of the peer
   pub passed_not_relayed : (peer : List ℕ) (i r moment : ℕ)
-      → numbered s.machine.tables (last_tables s.machine) ≡ Some text → IsIndexed text s.machine.items index
-      → IsAllCalled index.agenda (length s.machine.items) moment
+      → numbered s.machine.tables (last_tables s.machine) ≡ Some text → format ≡ s.machine.format
+      → IsIndexed format text s.machine.items index → IsAllCalled index.agenda (length s.machine.items) moment
       → IsPassed text index.agenda index.ready peer i → IsToRelay s peer moment i r → ⊥
-  passed_not_relayed peer i r moment text_is indexed called passed to =
+  passed_not_relayed peer i r moment text_is format_is indexed called passed to =
       let there = pending_in s.machine i r to.waiting.pending in
       let rest = indexed.rests i moment (rests s index i r moment there called passed.inactive) in
       let same : there.item ≡ rest.item = same_Some there.item rest.item (sym there.item_is ∙ rest.item_is) in
       let pending : has_status is_pending (numbered rest.item.statuses r) ≡ true =
       subst (λ (x : ItemValue). has_status is_pending (numbered x.statuses r) ≡ true) same there.pending in
       passed.unlined
-      (rest.ready r peer pending (sym (relay_is s.machine i r moment text rest.item text_is rest.item_is) ∙ to.relayed))
+      (rest.ready r peer pending
+      (sym (relay_is s.machine i r moment format text rest.item text_is format_is rest.item_is) ∙ to.relayed))
 
   -- an item does not wait for a peer that is known, not active and stands in no line of the peer
   pub passed_not_routed : (peer : List ℕ) (i r : ℕ)
-      → numbered s.machine.tables (last_tables s.machine) ≡ Some text → IsIndexed text s.machine.items index
+      → numbered s.machine.tables (last_tables s.machine) ≡ Some text → IsIndexed format text s.machine.items index
       → IsPassed text index.agenda index.routed peer i → (i ≤ length s.machine.items → i ≤ index.agenda.known)
       → IsRoutedTo s peer i r → ⊥
   passed_not_routed peer i r text_is indexed passed known to =
@@ -116,28 +118,32 @@ stored_at items (suc i) item all is =
 -- ---- what is passed over
 
 -- nothing is due of the items that are passed over
-pub nothing_between : (s : State) (text : List ℕ) (index : Index) (after moment : ℕ) (found : Option ℕ) → IsKept s
-    → numbered s.machine.tables (last_tables s.machine) ≡ Some text → IsIndexed text s.machine.items index
-    → IsAllCalled index.agenda (length s.machine.items) moment → IsNextIn (is_active index.agenda) after found
+pub nothing_between : (s : State) (format : ℕ) (text : List ℕ) (index : Index) (after moment : ℕ) (found : Option ℕ)
+    → IsKept s
+    → numbered s.machine.tables (last_tables s.machine) ≡ Some text → format ≡ s.machine.format
+    → IsIndexed format text s.machine.items index → IsAllCalled index.agenda (length s.machine.items) moment
+    → IsNextIn (is_active index.agenda) after found
     → NothingDueBetween s after moment found
-nothing_between s text index after moment found kept text_is indexed called next i r due above below =
-    inactive_not_due s text index i r moment due kept text_is indexed called (next.lowest i above below)
+nothing_between s format text index after moment found kept text_is format_is indexed called next i r due above below =
+    inactive_not_due s format text index i r moment due kept text_is format_is indexed called
+    (next.lowest i above below)
 
 -- none of them is relayed to the peer
-pub none_relayed_between : (s : State) (text : List ℕ) (index : Index) (peer : List ℕ) (moment after : ℕ)
+pub none_relayed_between : (s : State) (format : ℕ) (text : List ℕ) (index : Index) (peer : List ℕ) (moment after : ℕ)
     (found : Option ℕ) → numbered s.machine.tables (last_tables s.machine) ≡ Some text
-    → IsIndexed text s.machine.items index → IsAllCalled index.agenda (length s.machine.items) moment
+    → format ≡ s.machine.format → IsIndexed format text s.machine.items index
+    → IsAllCalled index.agenda (length s.machine.items) moment
     → IsNextFor text index.agenda index.ready peer after found → NoneRelayedBetween s peer moment after found
-none_relayed_between s text index peer moment after found text_is indexed called next i r above below =
-    passed_not_relayed s text index peer i r moment text_is indexed called (next.lowest i above below)
+none_relayed_between s format text index peer moment after found text_is format_is indexed called next i r above below =
+    passed_not_relayed s format text index peer i r moment text_is format_is indexed called (next.lowest i above below)
 
 -- none of them waits for the peer
-pub none_queued_between : (s : State) (text : List ℕ) (index : Index) (peer : List ℕ) (after : ℕ)
+pub none_queued_between : (s : State) (format : ℕ) (text : List ℕ) (index : Index) (peer : List ℕ) (after : ℕ)
     (found : Option ℕ) → numbered s.machine.tables (last_tables s.machine) ≡ Some text
-    → IsIndexed text s.machine.items index
+    → IsIndexed format text s.machine.items index
     → IsNextWaiting text index peer (length s.machine.items) after found → NoneQueuedBetween s peer after found
-none_queued_between s text index peer after found text_is indexed next i above below has =
-    passed_not_routed s text index peer i has.0 text_is indexed (next.lowest i above below)
+none_queued_between s format text index peer after found text_is indexed next i above below has =
+    passed_not_routed s format text index peer i has.0 text_is indexed (next.lowest i above below)
     (next.known i above below) has.1
 
 pub ruleset look_laws = (none_there, nothing_of_idle, stored_at)

@@ -92,15 +92,18 @@ waiting_due : (s : State) (i r moment : ℕ) (v : Option Verdict) → is_pending
 waiting_due s i r moment v pending free is None e = waiting_none s i r moment v free is e
 waiting_due s i r moment v pending free is (Some due) e = waiting_some s i r moment v pending free is due e
 
-pub by_verdict : (s : State) (i r moment : ℕ) (text : List ℕ) (item : ItemValue)
-    → numbered s.machine.tables (last_tables s.machine) ≡ Some text → numbered s.machine.items i ≡ Some item
+pub by_verdict : (s : State) (i r moment format : ℕ) (text : List ℕ) (item : ItemValue)
+    → numbered s.machine.tables (last_tables s.machine) ≡ Some text → format ≡ s.machine.format
+    → numbered s.machine.items i ≡ Some item
     → is_pending_at s.machine i r ≡ true → activities_of s.lanes.open_lanes i r ≡ 0
-    → IsDueOf s i r moment (step_by (verdict_on s.machine.items (Some text) (Some item) r moment) i r moment)
-by_verdict s i r moment text item text_is item_is pending free =
-    waiting_due s i r moment (verdict_on s.machine.items (Some text) (Some item) r moment) pending free
-    (ap (λ (t : Option (List ℕ)). verdict_on s.machine.items t (numbered s.machine.items i) r moment) text_is
-    ∙ ap (λ (x : Option ItemValue). verdict_on s.machine.items (Some text) x r moment) item_is)
-    (step_by (verdict_on s.machine.items (Some text) (Some item) r moment) i r moment) refl
+    → IsDueOf s i r moment (step_by (verdict_on format s.machine.items (Some text) (Some item) r moment) i r moment)
+by_verdict s i r moment format text item text_is format_is item_is pending free =
+    waiting_due s i r moment (verdict_on format s.machine.items (Some text) (Some item) r moment) pending free
+    (ap (λ (t : Option (List ℕ)). verdict_on s.machine.format s.machine.items t (numbered s.machine.items i) r moment)
+    text_is
+    ∙ ap (λ (x : Option ItemValue). verdict_on s.machine.format s.machine.items (Some text) x r moment) item_is
+    ∙ ap (λ (f : ℕ). verdict_on f s.machine.items (Some text) (Some item) r moment) (sym format_is))
+    (step_by (verdict_on format s.machine.items (Some text) (Some item) r moment) i r moment) refl
 
 -- ---- who is in an activity
 
@@ -164,32 +167,36 @@ none_sending s i r moment busy none due (inr d) =
     let does = sends_for s i r moment due d in absurd cc
 
 -- what expires of an activity for a recipient of the item
-pub expires : (m : Machine) (i r moment : ℕ) (text : List ℕ) (item : ItemValue) (t : Option Transfer)
-    → numbered m.tables (last_tables m) ≡ Some text → numbered m.items i ≡ Some item → is_for i r t ≡ true
-    → HasExpired m t moment ↔ (is_expired text item.octets item.arrival moment ≡ true)
-expires m i r moment text item None text_is item_is has = absurd cc
-expires m i r moment text item (Some t) text_is item_is has =
+pub expires : (m : Machine) (i r moment format : ℕ) (text : List ℕ) (item : ItemValue) (t : Option Transfer)
+    → numbered m.tables (last_tables m) ≡ Some text → format ≡ m.format → numbered m.items i ≡ Some item
+    → is_for i r t ≡ true → HasExpired m t moment ↔ (is_expired format text item.octets item.arrival moment ≡ true)
+expires m i r moment format text item None text_is format_is item_is has = absurd cc
+expires m i r moment format text item (Some t) text_is format_is item_is has =
     let same : i ≡ t.item = eqb-true i t.item (and_parts (eqb i t.item) (names t.recipients r) has).0 in
     let is : numbered m.items t.item ≡ Some item = subst (λ (j : ℕ). numbered m.items j
     ≡ Some item) same item_is in
-    rw text_is (rw is (λ e. e, λ e. e))
+    rw text_is (rw is (rw format_is (λ e. e, λ e. e)))
 
 -- the activity has not expired
-pub not_expired : (s : State) (i r moment : ℕ) (text : List ℕ) (item : ItemValue)
+pub not_expired : (s : State) (i r moment format : ℕ) (text : List ℕ) (item : ItemValue)
     → activities_of s.lanes.open_lanes i r ≢ 0
-    → numbered s.machine.tables (last_tables s.machine) ≡ Some text → numbered s.machine.items i ≡ Some item
-    → is_expired text item.octets item.arrival moment ≡ false → IsDueOf s i r moment None
-not_expired s i r moment text item busy text_is item_is never due (inl d) = busy_not_free s i r moment due busy d
-not_expired s i r moment text item busy text_is item_is never due (inr d) =
-    let does = (expires s.machine i r moment text item d.lane.transfer text_is item_is d.has).0 d.expired in absurd cc
+    → numbered s.machine.tables (last_tables s.machine) ≡ Some text → format ≡ s.machine.format
+    → numbered s.machine.items i ≡ Some item
+    → is_expired format text item.octets item.arrival moment ≡ false → IsDueOf s i r moment None
+not_expired s i r moment format text item busy text_is format_is item_is never due (inl d) =
+    busy_not_free s i r moment due busy d
+not_expired s i r moment format text item busy text_is format_is item_is never due (inr d) =
+    let does = (expires s.machine i r moment format text item d.lane.transfer text_is format_is item_is d.has).0
+    d.expired in absurd cc
 
 -- the activity has expired, and is given up
-pub abandoned : (s : State) (i r moment : ℕ) (text : List ℕ) (item : ItemValue) (lane : Lane) → IsKept s
-    → numbered s.machine.tables (last_tables s.machine) ≡ Some text → numbered s.machine.items i ≡ Some item
+pub abandoned : (s : State) (i r moment format : ℕ) (text : List ℕ) (item : ItemValue) (lane : Lane) → IsKept s
+    → numbered s.machine.tables (last_tables s.machine) ≡ Some text → format ≡ s.machine.format
+    → numbered s.machine.items i ≡ Some item
     → Some lane ≡ find (is_sending_for i r) s.lanes.open_lanes
-    → is_expired text item.octets item.arrival moment ≡ true
+    → is_expired format text item.octets item.arrival moment ≡ true
     → IsDueOf s i r moment (Some (step.Abandon lane.number (last_of lane.sending) moment))
-abandoned s i r moment text item lane kept text_is item_is found does =
+abandoned s i r moment format text item lane kept text_is format_is item_is found does =
     let there = found_there i r 0 s.lanes.count s.lanes.open_lanes lane kept.numbered_lanes (sym found) in
     let both =
     and_parts (is_sending lane.sending (last_of lane.sending)) (is_for i r lane.transfer) there.sends in
@@ -199,7 +206,7 @@ abandoned s i r moment text item lane kept text_is item_is found does =
       lane_is = there.at;
       sending = both.0;
       has = both.1;
-      expired = (expires s.machine i r moment text item lane.transfer text_is item_is both.1).1 does;
+      expired = (expires s.machine i r moment format text item lane.transfer text_is format_is item_is both.1).1 does;
       step_is = refl;
     })
 

@@ -4,12 +4,11 @@ use Rattle.std.proofs.Common.{List, [], ◌∷◌, ◌++◌, Option, Some, None,
 use Rattle.std.proofs.Common.{◌∙◌, arith}
 use Rattle.std.specs.Prelude.{◌⊎◌, ◌↔◌}
 use Rattle.std.proofs.lemmas.Bool.{cases_lt}
-use Rattle.mta_records.specs.declared.lane.Batch.{Batch}
 use Rattle.mta_machine.specs.Items.{ItemValue, Machine, names, numbered, is_pending_at}
 use Rattle.mta_machine.specs.Rules.{verdict_of}
 use Rattle.mta_machine.specs.Machine.{last_tables, relay_by, relay_on, relay_at}
 use Rattle.mta_histories.specs.Lanes.{State, activities_of}
-use Rattle.mta_histories.specs.Due.{IsAscending, IsToRelay, IsBatch, IsNoBatch}
+use Rattle.mta_histories.specs.Due.{IsToRelay}
 use Rattle.mta_dues.specs.Index.{HasPending}
 use Rattle.mta_dues.specs.Next.{IsBefore}
 use Rattle.mta_dues.specs.Answers.{AreRelayedUpTo, AreRelayed, NoneRelayedUpTo, IsBatchOf}
@@ -19,24 +18,27 @@ use Rattle.mta_dues.proofs.Scans.{cases_le, past, not_there, no_such}
 
 -- ---- one recipient
 
-pub relay_is : (m : Machine) (i r moment : ℕ) (text : List ℕ) (item : ItemValue)
-    → numbered m.tables (last_tables m) ≡ Some text → numbered m.items i ≡ Some item
-    → relay_at m (last_tables m) i r moment ≡ relay_by text (verdict_of text item.octets item.arrival r moment)
-relay_is m i r moment text item text_is item_is =
-    ap (λ (t : Option (List ℕ)). relay_on t (numbered m.items i) r moment) text_is
-    ∙ ap (λ (x : Option ItemValue). relay_on (Some text) x r moment) item_is
+pub relay_is : (m : Machine) (i r moment format : ℕ) (text : List ℕ) (item : ItemValue)
+    → numbered m.tables (last_tables m) ≡ Some text → format ≡ m.format → numbered m.items i ≡ Some item
+    → relay_at m m.format (last_tables m) i r moment
+    ≡ relay_by text (verdict_of format text item.octets item.arrival r moment)
+relay_is m i r moment format text item text_is format_is item_is =
+    ap (λ (t : Option (List ℕ)). relay_on m.format t (numbered m.items i) r moment) text_is
+    ∙ ap (λ (x : Option ItemValue). relay_on m.format (Some text) x r moment) item_is
+    ∙ ap (λ (f : ℕ). relay_on f (Some text) (Some item) r moment) (sym format_is)
 
-pub relayed : (s : State) (i r moment : ℕ) (text peer : List ℕ) (item : ItemValue) (b : Bool)
-    → numbered s.machine.tables (last_tables s.machine) ≡ Some text → numbered s.machine.items i ≡ Some item
+pub relayed : (s : State) (i r moment format : ℕ) (text peer : List ℕ) (item : ItemValue) (b : Bool)
+    → numbered s.machine.tables (last_tables s.machine) ≡ Some text → format ≡ s.machine.format
+    → numbered s.machine.items i ≡ Some item
     → is_pending_at s.machine i r ≡ true → activities_of s.lanes.open_lanes i r ≡ 0
-    → (b ≡ true) ↔ (relay_by text (verdict_of text item.octets item.arrival r moment) ≡ Some peer)
+    → (b ≡ true) ↔ (relay_by text (verdict_of format text item.octets item.arrival r moment) ≡ Some peer)
     → (b ≡ true) ↔ IsToRelay s peer moment i r
-relayed s i r moment text peer item b text_is item_is pending free same = (
+relayed s i r moment format text peer item b text_is format_is item_is pending free same = (
   λ does. record {
     waiting = record { pending = pending; free = free };
-    relayed = relay_is s.machine i r moment text item text_is item_is ∙ same.0 does;
+    relayed = relay_is s.machine i r moment format text item text_is format_is item_is ∙ same.0 does;
   },
-  λ to. same.1 (sym (relay_is s.machine i r moment text item text_is item_is) ∙ to.relayed),
+  λ to. same.1 (sym (relay_is s.machine i r moment format text item text_is format_is item_is) ∙ to.relayed),
 )
 
 pub not_waiting : (s : State) (i r moment : ℕ) (peer : List ℕ)

@@ -30,10 +30,10 @@ StandsFor text lines i peer =
     (place : ℕ) × (peer_word text place ≡ Some peer) × (stands lines place i ≡ true)
 
 -- it stands in a line of the peer for each pending recipient who is to be relayed at the moment
-abbrev pub IsReadyIn : (text : List ℕ) → ItemValue → List (BTreeSet ℕ) → (i moment : ℕ) → Type 0
-IsReadyIn text item lines i moment =
+abbrev pub IsReadyIn : (format : ℕ) (text : List ℕ) → ItemValue → List (BTreeSet ℕ) → (i moment : ℕ) → Type 0
+IsReadyIn format text item lines i moment =
     (r : ℕ) (peer : List ℕ) → has_status is_pending (numbered item.statuses r) ≡ true
-    → relay_by text (verdict_of text item.octets item.arrival r moment) ≡ Some peer
+    → relay_by text (verdict_of format text item.octets item.arrival r moment) ≡ Some peer
     → StandsFor text lines i peer
 
 -- it stands in a line of the peer for each pending recipient whose name has its best route there
@@ -44,12 +44,14 @@ IsRoutedIn text item lines i =
 
 -- ---- the index
 
--- the item of this number is idle at the moment, and stands in the lines of the peers to whom it is to be relayed
-pub record IsAtRestIn (text : List ℕ) (items : List ItemValue) (index : Index) (i moment : ℕ) : Type 0 where
+-- the item of this number is idle at the moment in a format, and stands in the lines of the peers to whom it is to be
+-- relayed
+pub record IsAtRestIn (format : ℕ) (text : List ℕ) (items : List ItemValue) (index : Index) (i moment : ℕ)
+    : Type 0 where
   pub item : ItemValue
   pub item_is : numbered items i ≡ Some item
-  pub idle : IsIdle text item moment
-  pub ready : IsReadyIn text item index.ready i moment
+  pub idle : IsIdle format text item moment
+  pub ready : IsReadyIn format text item index.ready i moment
 
 -- the item of this number stands in the lines of the peers to whom its recipients go
 pub record IsListedIn (text : List ℕ) (items : List ItemValue) (index : Index) (i : ℕ) : Type 0 where
@@ -72,18 +74,18 @@ abbrev pub IsOfHand : ItemValue → ℕ → Option Hand → Type 0
 IsOfHand item number None = Unit {0}
 IsOfHand item number (Some hand) = hand.number ≡ number → IsDecodedOf item.octets hand.decoded
 
--- what need not be looked at at a moment is idle then, and it stands in the lines of its peers; and what is at hand is
--- a reading of an item
-pub record IsIndexed (text : List ℕ) (items : List ItemValue) (index : Index) : Type 0 where
-  pub rests : (i moment : ℕ) → Rests index.agenda i moment → IsAtRestIn text items index i moment
+-- what need not be looked at at a moment is idle then in this format, and it stands in the lines of its peers; and what
+-- is at hand is a reading of an item
+pub record IsIndexed (format : ℕ) (text : List ℕ) (items : List ItemValue) (index : Index) : Type 0 where
+  pub rests : (i moment : ℕ) → Rests index.agenda i moment → IsAtRestIn format text items index i moment
   pub listed : (i : ℕ) → IsAside index.agenda i → IsListedIn text items index i
   pub hand : IsAtHand items index.hand
 
 -- what is known of items stays true whatever steps are made
 abbrev pub IndexesStay : Type 0
 IndexesStay =
-    (text : List ℕ) (m : Machine) (steps : List MachineStep) (index : Index)
-    → IsIndexed text m.items index → IsIndexed text (machine_run m steps).items index
+    (format : ℕ) (text : List ℕ) (m : Machine) (steps : List MachineStep) (index : Index)
+    → IsIndexed format text m.items index → IsIndexed format text (machine_run m steps).items index
 
 -- the number may stand in lines no more
 pub record IsLeft (old new : Index) (number : ℕ) : Type 0 where

@@ -84,6 +84,7 @@ fn due_in_activity<R: Rules>(
     moment: u64,
 ) -> Option<Step>
     requires text { IsTextOf kept.now (R.text rules.now) }
+    requires format { R.format rules.now ≡ kept.now.parts.format }
     requires kept { IsKept (state_of kept.now) }
     requires item { numbered kept.now.parts.items.items number ≡ Some item.now }
     requires arrived { item.now.arrival ≤ last_moment }
@@ -120,6 +121,7 @@ fn due_while_free<R: Rules>(
     moment: u64,
 ) -> Result<Option<Step>, Memory>
     requires text { IsTextOf kept.now (R.text rules.now) }
+    requires format { R.format rules.now ≡ kept.now.parts.format }
     requires item { numbered kept.now.parts.items.items number ≡ Some item.now }
     requires arrived { item.now.arrival ≤ last_moment }
     requires reading { IsReadingOf item.now.octets reading.now }
@@ -145,6 +147,7 @@ pub fn due_of<R: Rules>(
     moment: u64,
 ) -> Result<Option<Step>, Memory>
     requires text { IsTextOf kept.now (R.text rules.now) }
+    requires format { R.format rules.now ≡ kept.now.parts.format }
     requires kept { IsKept (state_of kept.now) }
     requires item { numbered kept.now.parts.items.items number ≡ Some item.now }
     requires arrived { item.now.arrival ≤ last_moment }

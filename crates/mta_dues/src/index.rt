@@ -44,8 +44,8 @@ impl Index {
 
     /// The item of this number is to be looked at again.
     pub fn recall(&mut self, number: u32) -> Result<(), Memory>
-        ensures { (text : List ℕ) (items : List ItemValue) → IsIndexed text items self.old
-            → IsIndexed text items self.new }
+        ensures { (format : ℕ) (text : List ℕ) (items : List ItemValue) → IsIndexed format text items self.old
+            → IsIndexed format text items self.new }
     {
         self.agenda.recall(number)
     }
@@ -69,8 +69,8 @@ impl Index {
         requires { IsOfHand item.now number self.old.hand }
         ensures reading { IfOk result (IsReadingOf item.now.octets) }
         ensures agenda { self.new.agenda ≡ self.old.agenda }
-        ensures indexed { (text : List ℕ) (items : List ItemValue) → IsIndexed text items self.old
-            → IsIndexed text items self.new }
+        ensures indexed { (format : ℕ) (text : List ℕ) (items : List ItemValue) → IsIndexed format text items self.old
+            → IsIndexed format text items self.new }
     {
         match self.hand.take() {
             None => Reading::read(alloc, item),
@@ -81,9 +81,9 @@ impl Index {
     /// The reading of the item of a number is at hand.
     pub fn keep(&mut self, number: u32, reading: Reading<'_>)
         ensures agenda { self.new.agenda ≡ self.old.agenda }
-        ensures indexed { (text : List ℕ) (items : List ItemValue) (item : ItemValue)
+        ensures indexed { (format : ℕ) (text : List ℕ) (items : List ItemValue) (item : ItemValue)
             → numbered items number ≡ Some item → IsReadingOf item.octets reading.entry
-            → IsIndexed text items self.old → IsIndexed text items self.new }
+            → IsIndexed format text items self.old → IsIndexed format text items self.new }
     {
         let decoded = reading.detach();
         self.hand = Some(Hand { number, decoded });

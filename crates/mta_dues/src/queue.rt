@@ -119,7 +119,7 @@ fn queued<R: Rules>(
     requires text { IsTextOf kept.now (R.text rules.now) }
     requires stored { All IsStored kept.now.parts.items.items }
     requires numbers { length kept.now.parts.items.items < 2 ^ 32 }
-    requires indexed { IsIndexed (R.text rules.now) kept.now.parts.items.items index.now }
+    requires indexed { IsIndexed (R.format rules.now) (R.text rules.now) kept.now.parts.items.items index.now }
     ensures { IfOk result (λ items. IsQueue (state_of kept.now) peer.now items.items) }
 {
     let count = kept.parts.items.len() as u32;
@@ -146,7 +146,7 @@ pub fn waiting<R: Rules>(
     requires text { IsTextOf kept.now (R.text rules.now) }
     requires stored { All IsStored kept.now.parts.items.items }
     requires numbers { length kept.now.parts.items.items < 2 ^ 32 }
-    requires indexed { IsIndexed (R.text rules.now) kept.now.parts.items.items index.now }
+    requires indexed { IsIndexed (R.format rules.now) (R.text rules.now) kept.now.parts.items.items index.now }
     ensures { IfOk result (HasQueue (state_of kept.now) peer.now) }
 {
     if !rules.names_peer(peer.as_slice()) {

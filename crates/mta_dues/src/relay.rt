@@ -52,6 +52,7 @@ pub fn is_to_relay<R: Rules>(
     moment: u64,
 ) -> Result<bool, Memory>
     requires text { IsTextOf kept.now (R.text rules.now) }
+    requires format { R.format rules.now ≡ kept.now.parts.format }
     requires item { numbered kept.now.parts.items.items number ≡ Some item.now }
     requires arrived { item.now.arrival ≤ last_moment }
     requires reading { IsReadingOf item.now.octets reading.now }
@@ -76,6 +77,7 @@ fn recipients_for<R: Rules>(
     moment: u64,
 ) -> Result<Vec<u32>, Memory>
     requires text { IsTextOf kept.now (R.text rules.now) }
+    requires format { R.format rules.now ≡ kept.now.parts.format }
     requires item { numbered kept.now.parts.items.items number ≡ Some item.now }
     requires stored { IsStored item.now }
     ensures { IfOk result (λ rs. AreRelayed (state_of kept.now) peer.now moment number rs.items) }
@@ -120,6 +122,7 @@ fn relayed<R: Rules>(
     moment: u64,
 ) -> Result<Vec<u32>, Memory>
     requires text { IsTextOf kept.now (R.text rules.now) }
+    requires format { R.format rules.now ≡ kept.now.parts.format }
     requires stored { All IsStored kept.now.parts.items.items }
     ensures { IfOk result (λ rs. AreRelayed (state_of kept.now) peer.now moment number rs.items) }
 {
@@ -140,11 +143,12 @@ fn first_batch<R: Rules>(
     moment: u64,
 ) -> Result<Option<Batch>, Memory>
     requires text { IsTextOf kept.now (R.text rules.now) }
+    requires format { R.format rules.now ≡ kept.now.parts.format }
     requires stored { All IsStored kept.now.parts.items.items }
     requires called { IsAllCalled index.old.agenda (length kept.now.parts.items.items) moment }
-    requires indexed { IsIndexed (R.text rules.now) kept.now.parts.items.items index.old }
+    requires indexed { IsIndexed (R.format rules.now) (R.text rules.now) kept.now.parts.items.items index.old }
     ensures batch { IfOk result (IsBatchOf (state_of kept.now) peer.now moment) }
-    ensures indexed { IsIndexed (R.text rules.now) kept.now.parts.items.items index.new }
+    ensures indexed { IsIndexed (R.format rules.now) (R.text rules.now) kept.now.parts.items.items index.new }
 {
     let mut after: u32 = 0;
     while let Some(number) = next_for(rules, &index.agenda, &index.ready, peer, after) {
@@ -173,11 +177,12 @@ pub fn batch_for<R: Rules>(
     moment: u64,
 ) -> Result<Option<Batch>, Memory>
     requires text { IsTextOf kept.now (R.text rules.now) }
+    requires format { R.format rules.now ≡ kept.now.parts.format }
     requires stored { All IsStored kept.now.parts.items.items }
     requires numbers { length kept.now.parts.items.items < 2 ^ 32 }
-    requires indexed { IsIndexed (R.text rules.now) kept.now.parts.items.items index.old }
+    requires indexed { IsIndexed (R.format rules.now) (R.text rules.now) kept.now.parts.items.items index.old }
     ensures batch { IfOk result (IsBatchOf (state_of kept.now) peer.now moment) }
-    ensures indexed { IsIndexed (R.text rules.now) kept.now.parts.items.items index.new }
+    ensures indexed { IsIndexed (R.format rules.now) (R.text rules.now) kept.now.parts.items.items index.new }
 {
     let count = kept.parts.items.len() as u32;
     index.agenda.call(count, moment)?;

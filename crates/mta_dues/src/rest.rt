@@ -58,9 +58,9 @@ fn put_to_rest(
 ) -> Result<(), Memory>
     requires active { is_active index.old.agenda number ≡ true }
     requires later { moment < found.now.until }
-    ensures indexed { (text : List ℕ) (items : List ItemValue) (item : ItemValue)
-        → numbered items number ≡ Some item → RestsAs text item moment found.now
-        → IsIndexed text items index.old → IsIndexed text items index.new }
+    ensures indexed { (format : ℕ) (text : List ℕ) (items : List ItemValue) (item : ItemValue)
+        → numbered items number ≡ Some item → RestsAs format text item moment found.now
+        → IsIndexed format text items index.old → IsIndexed format text items index.new }
     ensures called { (count : ℕ) → IsAllCalled index.old.agenda count moment
         → IsAllCalled index.new.agenda count moment }
 {
@@ -73,9 +73,9 @@ fn put_to_rest(
 pub(crate) fn rests_for_good(index: &mut Index, number: u32, item: &Item) -> bool
     requires stored { IsStored item.now }
     requires active { is_active index.old.agenda number ≡ true }
-    ensures idle { result ≡ true → (text : List ℕ) (moment : ℕ) → IsIdle text item.now moment }
-    ensures indexed { (text : List ℕ) (items : List ItemValue) → numbered items number ≡ Some item.now
-        → IsIndexed text items index.old → IsIndexed text items index.new }
+    ensures idle { result ≡ true → (format : ℕ) (text : List ℕ) (moment : ℕ) → IsIdle format text item.now moment }
+    ensures indexed { (format : ℕ) (text : List ℕ) (items : List ItemValue) → numbered items number ≡ Some item.now
+        → IsIndexed format text items index.old → IsIndexed format text items index.new }
     ensures called { (count moment : ℕ) → IsAllCalled index.old.agenda count moment
         → IsAllCalled index.new.agenda count moment }
     ensures same { result ≡ false → index.new ≡ index.old }
@@ -103,9 +103,10 @@ pub fn rest<R: Rules>(
     requires stored { IsStored item.now }
     requires reading { IsReadingOf item.now.octets reading.now }
     requires active { is_active index.old.agenda number ≡ true }
-    ensures idle { IfOk result (λ b. b ≡ true → IsIdle (R.text rules.now) item.now moment) }
+    ensures idle { IfOk result (λ b. b ≡ true → IsIdle (R.format rules.now) (R.text rules.now) item.now moment) }
     ensures indexed { (items : List ItemValue) → numbered items number ≡ Some item.now
-        → IsIndexed (R.text rules.now) items index.old → IsIndexed (R.text rules.now) items index.new }
+        → IsIndexed (R.format rules.now) (R.text rules.now) items index.old
+        → IsIndexed (R.format rules.now) (R.text rules.now) items index.new }
     ensures called { (count : ℕ) → IsAllCalled index.old.agenda count moment
         → IsAllCalled index.new.agenda count moment }
 {
@@ -123,8 +124,8 @@ pub fn rest<R: Rules>(
 #[tactic(auto, using(crate::proofs::Passed::stored_at))]
 pub fn pass_over(kept: &Kept, index: &mut Index, number: u32)
     requires stored { All IsStored kept.now.parts.items.items }
-    ensures indexed { (text : List ℕ) → IsIndexed text kept.now.parts.items.items index.old
-        → IsIndexed text kept.now.parts.items.items index.new }
+    ensures indexed { (format : ℕ) (text : List ℕ) → IsIndexed format text kept.now.parts.items.items index.old
+        → IsIndexed format text kept.now.parts.items.items index.new }
     ensures called { (count moment : ℕ) → IsAllCalled index.old.agenda count moment
         → IsAllCalled index.new.agenda count moment }
 {
@@ -148,9 +149,9 @@ pub fn note(
     found: &Rest,
 ) -> Result<(), Memory>
     requires later { moment < found.now.until }
-    ensures { (text : List ℕ) (items : List ItemValue) (item : ItemValue)
-        → numbered items number ≡ Some item → RestsAs text item moment found.now
-        → IsIndexed text items index.old → IsIndexed text items index.new }
+    ensures { (format : ℕ) (text : List ℕ) (items : List ItemValue) (item : ItemValue)
+        → numbered items number ≡ Some item → RestsAs format text item moment found.now
+        → IsIndexed format text items index.old → IsIndexed format text items index.new }
 {
     index.agenda.call(number, moment)?;
     if index.agenda.is_active(number) {

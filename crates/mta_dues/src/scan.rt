@@ -32,6 +32,7 @@ fn first_of<R: Rules>(
     moment: u64,
 ) -> Result<Option<Step>, Memory>
     requires text { IsTextOf kept.now (R.text rules.now) }
+    requires format { R.format rules.now ≡ kept.now.parts.format }
     requires kept { IsKept (state_of kept.now) }
     requires item { numbered kept.now.parts.items.items number ≡ Some item.now }
     requires stored { IsStored item.now }
@@ -63,14 +64,15 @@ fn look_at<R: Rules>(
     moment: u64,
 ) -> Result<Option<Step>, Memory>
     requires text { IsTextOf kept.now (R.text rules.now) }
+    requires format { R.format rules.now ≡ kept.now.parts.format }
     requires kept { IsKept (state_of kept.now) }
     requires item { numbered kept.now.parts.items.items number ≡ Some item.now }
     requires stored { IsStored item.now }
     requires reading { IsReadingOf item.now.octets reading.now }
     requires active { is_active index.old.agenda number ≡ true }
-    requires indexed { IsIndexed (R.text rules.now) kept.now.parts.items.items index.old }
+    requires indexed { IsIndexed (R.format rules.now) (R.text rules.now) kept.now.parts.items.items index.old }
     ensures first { IfOk result (IsFirstOf (state_of kept.now) number moment) }
-    ensures indexed { IsIndexed (R.text rules.now) kept.now.parts.items.items index.new }
+    ensures indexed { IsIndexed (R.format rules.now) (R.text rules.now) kept.now.parts.items.items index.new }
     ensures called { (count : ℕ) → IsAllCalled index.old.agenda count moment
         → IsAllCalled index.new.agenda count moment }
 {
@@ -92,12 +94,13 @@ fn look<R: Rules>(
     moment: u64,
 ) -> Result<Option<Step>, Memory>
     requires text { IsTextOf kept.now (R.text rules.now) }
+    requires format { R.format rules.now ≡ kept.now.parts.format }
     requires kept { IsKept (state_of kept.now) }
     requires stored { All IsStored kept.now.parts.items.items }
     requires active { is_active index.old.agenda number ≡ true }
-    requires indexed { IsIndexed (R.text rules.now) kept.now.parts.items.items index.old }
+    requires indexed { IsIndexed (R.format rules.now) (R.text rules.now) kept.now.parts.items.items index.old }
     ensures first { IfOk result (IsFirstOf (state_of kept.now) number moment) }
-    ensures indexed { IsIndexed (R.text rules.now) kept.now.parts.items.items index.new }
+    ensures indexed { IsIndexed (R.format rules.now) (R.text rules.now) kept.now.parts.items.items index.new }
     ensures called { (count : ℕ) → IsAllCalled index.old.agenda count moment
         → IsAllCalled index.new.agenda count moment }
 {
@@ -123,12 +126,13 @@ fn first_due<R: Rules>(
     moment: u64,
 ) -> Result<Option<Step>, Memory>
     requires text { IsTextOf kept.now (R.text rules.now) }
+    requires format { R.format rules.now ≡ kept.now.parts.format }
     requires kept { IsKept (state_of kept.now) }
     requires stored { All IsStored kept.now.parts.items.items }
     requires called { IsAllCalled index.old.agenda (length kept.now.parts.items.items) moment }
-    requires indexed { IsIndexed (R.text rules.now) kept.now.parts.items.items index.old }
+    requires indexed { IsIndexed (R.format rules.now) (R.text rules.now) kept.now.parts.items.items index.old }
     ensures next { IfOk result (IsNextOf (state_of kept.now) moment) }
-    ensures indexed { IsIndexed (R.text rules.now) kept.now.parts.items.items index.new }
+    ensures indexed { IsIndexed (R.format rules.now) (R.text rules.now) kept.now.parts.items.items index.new }
 {
     let mut after: u32 = 0;
     while let Some(number) = index.agenda.next(after) {
@@ -150,12 +154,13 @@ pub fn due_step<R: Rules>(
     moment: u64,
 ) -> Result<Option<Step>, Memory>
     requires text { IsTextOf kept.now (R.text rules.now) }
+    requires format { R.format rules.now ≡ kept.now.parts.format }
     requires kept { IsKept (state_of kept.now) }
     requires stored { All IsStored kept.now.parts.items.items }
     requires numbers { length kept.now.parts.items.items < 2 ^ 32 }
-    requires indexed { IsIndexed (R.text rules.now) kept.now.parts.items.items index.old }
+    requires indexed { IsIndexed (R.format rules.now) (R.text rules.now) kept.now.parts.items.items index.old }
     ensures next { IfOk result (IsNextOf (state_of kept.now) moment) }
-    ensures indexed { IsIndexed (R.text rules.now) kept.now.parts.items.items index.new }
+    ensures indexed { IsIndexed (R.format rules.now) (R.text rules.now) kept.now.parts.items.items index.new }
 {
     let count = kept.parts.items.len() as u32;
     index.agenda.call(count, moment)?;

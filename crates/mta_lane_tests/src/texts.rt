@@ -321,7 +321,7 @@ fn transfer(alloc: Global) -> Result<Transfer, Memory>
     let rest = shared(alloc, &[0; 3_000])?;
     let outgoing = Outgoing::new(1, Octets::new(alloc), rest, 0, 3_000);
     let recipients = Recipients::from_vec(Vec::new(alloc));
-    Ok(Transfer::new(1, recipients, 0, 1, outgoing))
+    Ok(Transfer::new(1, recipients, 0, 1, 1, outgoing))
 }
 
 /// An activity was sent.

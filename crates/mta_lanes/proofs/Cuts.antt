@@ -1,11 +1,13 @@
 -- Pieces that lie one behind the other.
 use Rattle.std.proofs.Common.{◌≡◌, ◌≤◌, ◌<◌, ◌+◌, ◌-◌, ℕ, zero, suc, List, [], ◌∷◌, ◌++◌}
-use Rattle.std.proofs.Common.{length, take, drop, get_or, refl, sym, ap, subst, ◌∙◌, arith, length-append}
-use Rattle.std.proofs.lemmas.List.{take-append-drop, take_all, take-append-le, take-take, length-take-le}
+use Rattle.std.proofs.Common.{length, take, drop, get_or, refl, sym, ap, subst, ◌∙◌, arith, append-nil, append_assoc}
+use Rattle.std.proofs.Common.{length-append}
+use Rattle.std.proofs.lemmas.List.{drop_all, drop_more, drop-take, take-append-drop, take_all, take_more}
+use Rattle.std.proofs.lemmas.List.{take-append-le, take-take, length-take-le}
 use Rattle.std.proofs.Math.Seq.{drop-append_seam}
 use Rattle.std.specs.List.{concat}
 use Rattle.mta_lanes.specs.Pieces.{pieces_of, last_end, AreEnds}
-use Rattle.mta_lanes.proofs.Concats.{length_behind}
+use Rattle.mta_lanes.proofs.Concats.{front_shorter, joined_behind, length_behind}
 
 pub rises : (from : ℕ) (es : List ℕ) → AreEnds from es → from ≤ last_end from es
 rises from [] a = omega arith
@@ -195,3 +197,123 @@ kept n o t e p within a b =
     ∙ (take-append-le n (take n o) p (omega (arith, short)) ∙ take-take n n o (omega arith))
 
 pub ruleset put_laws = (counted, front_in, more_size, put_pieces, put_fits)
+
+-- ---- pieces that are put one behind the other
+
+-- these octets, with these ends, are the pieces, and nothing is behind them
+pub record AreCut (pieces : List (List ℕ)) (o es : List ℕ) : Type 0 where
+  pub octets : o ≡ concat pieces
+  pub pieces_are : pieces_of o 0 es ≡ pieces
+  pub ends : AreEnds 0 es
+  pub last : last_end 0 es ≡ length o
+
+pub cut_none : (xs : List (List ℕ)) (o es : List ℕ) → o ≡ [] → es ≡ [] → AreCut (take 0 xs) o es
+cut_none xs o es none no_ends = record {
+  octets = none;
+  pieces_are = ap (pieces_of o 0) no_ends;
+  ends = subst (AreEnds 0) (sym no_ends) tt;
+  last = ap (last_end 0) no_ends ∙ sym (ap length none);
+}
+
+pub cut_more : (xs : List (List ℕ)) (o es piece q fs : List ℕ) → AreCut xs o es → q ≡ o ++ piece
+    → fs ≡ es ++ length q ∷ [] → AreCut (xs ++ piece ∷ []) q fs
+cut_more xs o es piece q fs cut more ends =
+    let size : length q ≡ length o + length piece = ap length more ∙ length-append o piece in
+    let last = cut.last in
+    let alike : take (last_end 0 es) q ≡ take (last_end 0 es) o =
+    ap (take (last_end 0 es)) more ∙ take-append-le (last_end 0 es) o piece (omega (arith, last)) in
+    let behind : drop (last_end 0 es) (take (length q) q) ≡ piece =
+    ap (drop (last_end 0 es)) (take_all (length q) q (omega arith) ∙ more)
+    ∙ (ap (λ (k : ℕ). drop k (o ++ piece)) last ∙ drop-append_seam o piece) in
+    record {
+      octets = more ∙ (ap (λ (z : List ℕ). z ++ piece) cut.octets ∙ sym (joined_behind xs piece));
+      pieces_are =
+          ap (pieces_of q 0) ends
+          ∙ (pushed q 0 es (length q)
+          ∙ (ap (λ (z : List ℕ). pieces_of q 0 es ++ z ∷ []) behind
+          ∙ ap (λ (ps : List (List ℕ)). ps ++ piece ∷ []) (same o q 0 es cut.ends alike ∙ cut.pieces_are)));
+      ends = subst (AreEnds 0) (sym ends) (ends_pushed 0 es (length q) cut.ends (omega (arith, last, size)));
+      last = ap (last_end 0) ends ∙ last_pushed 0 es (length q);
+    }
+
+-- the next of pieces that lie in a list
+pub cut_next : (xs : List (List ℕ)) (k : ℕ) (o es piece q fs : List ℕ) → k < length xs → piece ≡ get_or xs k piece
+    → AreCut (take k xs) o es → q ≡ o ++ piece → fs ≡ es ++ length q ∷ [] → AreCut (take (k + 1) xs) q fs
+cut_next xs k o es piece q fs within is cut more ends =
+    subst (λ (ys : List (List ℕ)). AreCut ys q fs)
+    (ap (λ (p : List ℕ). take k xs ++ p ∷ []) is ∙ sym (take_more xs k piece within))
+    (cut_more (take k xs) o es piece q fs cut more ends)
+
+-- the octets of a piece more are not more than those of all
+pub cut_fits : (xs : List (List ℕ)) (k most : ℕ) (o es piece q : List ℕ) → k < length xs → piece ≡ get_or xs k piece
+    → AreCut (take k xs) o es → q ≡ o ++ piece → length (concat xs) < most → length q < most
+cut_fits xs k most o es piece q within is cut more few =
+    let front = front_shorter (k + 1) xs in
+    let size : length q ≡ length (concat (take (k + 1) xs)) =
+    ap length (more ∙ (ap (λ (z : List ℕ). z ++ piece) cut.octets ∙ sym (joined_behind (take k xs) piece)))
+    ∙ ap (λ (ys : List (List ℕ)). length (concat ys))
+    (ap (λ (p : List ℕ). take k xs ++ p ∷ []) is ∙ sym (take_more xs k piece within)) in
+    omega (arith, front, size)
+
+pub cut_all : (xs : List (List ℕ)) (k : ℕ) (o es : List ℕ) → length xs ≤ k → AreCut (take k xs) o es
+    → AreCut xs o es
+cut_all xs k o es past cut = subst (λ (ys : List (List ℕ)). AreCut ys o es) (take_all k xs past) cut
+
+-- ---- pieces that are taken out one after the other
+
+cut_same : (from to : ℕ) (octets : List ℕ) → from ≤ to
+    → take (to - from) (drop from octets) ≡ drop from (take to octets)
+cut_same from to octets order =
+    let whole : from + (to - from) ≡ to = omega (arith, order) in
+    sym (drop-take from (to - from) octets) ∙ ap (λ (n : ℕ). drop from (take n octets)) whole
+
+-- these are the first pieces, and the others lie from here on
+pub record AreTaken (octets all : List ℕ) (pieces : List (List ℕ)) (from : ℕ) (ends : List ℕ) : Type 0 where
+  pub same : pieces ++ pieces_of octets from ends ≡ pieces_of octets 0 all
+  pub order : AreEnds from ends
+  pub within : last_end from ends ≤ length octets
+
+pub taken_none : (octets all : List ℕ) (pieces : List (List ℕ)) → AreEnds 0 all → last_end 0 all ≤ length octets
+    → pieces ≡ [] → AreTaken octets all pieces 0 (drop 0 all)
+taken_none octets all pieces order within none = record {
+  same = ap (λ (ps : List (List ℕ)). ps ++ pieces_of octets 0 all) none;
+  order = order;
+  within = within;
+}
+
+module _ (octets all : List ℕ) (pieces : List (List ℕ)) (from k : ℕ) (more : k < length all)
+    (way : AreTaken octets all pieces from (drop k all))
+  where
+    opened : AreTaken octets all pieces from (get_or all k 0 ∷ drop (k + 1) all)
+    opened = subst (AreTaken octets all pieces from) (drop_more all k 0 more) way
+
+    pub taken_order : from ≤ get_or all k 0
+    taken_order = opened.order.0
+
+    pub taken_within : get_or all k 0 ≤ length octets
+    taken_within =
+        let o = opened in
+        let more_ends = rises (get_or all k 0) (drop (k + 1) all) o.order.1 in
+        let inside = o.within in
+        omega (arith, more_ends, inside)
+
+    pub taken_next : (piece : List ℕ) (new : List (List ℕ)) → piece ≡ take (get_or all k 0 - from) (drop from octets)
+        → new ≡ pieces ++ piece ∷ [] → AreTaken octets all new (get_or all k 0) (drop (k + 1) all)
+    taken_next piece new is put =
+        let o = opened in
+        let rest = pieces_of octets (get_or all k 0) (drop (k + 1) all) in
+        record {
+          same = ap (λ (ps : List (List ℕ)). ps ++ rest) put
+              ∙ (append_assoc pieces (piece ∷ []) rest
+              ∙ (ap (λ (p : List ℕ). pieces ++ p ∷ rest) (is ∙ cut_same from (get_or all k 0) octets taken_order)
+              ∙ o.same));
+          order = o.order.1;
+          within = o.within;
+        }
+
+pub taken_all : (octets all : List ℕ) (pieces : List (List ℕ)) (from k : ℕ) → length all ≤ k
+    → AreTaken octets all pieces from (drop k all) → pieces ≡ pieces_of octets 0 all
+taken_all octets all pieces from k past way =
+    sym (append-nil pieces)
+    ∙ subst (λ (es : List ℕ). pieces ++ pieces_of octets from es ≡ pieces_of octets 0 all) (drop_all k all past)
+    way.same

@@ -7,7 +7,8 @@ ghost use Rattle.mta_lane_send.specs.Half.{is_idle, is_sending, last_of, is_poss
 ghost use Rattle.mta_lane_send.specs.Half as send;
 ghost use Rattle.mta_lane_recv.specs.Half.{takes_piece};
 ghost use Rattle.mta_lane_recv.specs.Half as recv;
-ghost use Rattle.mta_histories.specs.Lanes.{sender, receiver, is_for, is_transferring, holds};
+ghost use Rattle.mta_histories.specs.Lanes.{sender, receiver, is_for, is_transferring, holds, total_of};
+ghost use Rattle.mta_histories.specs.Kept.{IsWhole};
 ghost use Rattle.mta_histories.specs.Classes.{agree, secure};
 ghost use Rattle.mta_histories.specs.History.{new_lane, Sends, sends, is_with, with_piece, longest_activity};
 ghost use Rattle.mta_lanes.specs.Lane.{OfLane, MayStart, has_size, has_room, takes};
@@ -20,9 +21,10 @@ use crate::transfer::Transfer;
 use mta_ber::{Memory, Octets, Word};
 use mta_lane_recv::{Last, RecvHalf, longest_piece};
 use mta_lane_send::{SendHalf, SendState};
-use mta_records::{LaneRole, LaneValues, Reference};
+use mta_records::{LaneRecord, LaneRole, LaneValues, Reference, TransferRecord};
 use std::alloc::Global;
 use std::marker::Model;
+use std::mem;
 use std::sync::Arc;
 
 /// A lane that is open. Its checkpoint size is at most 64 units of 1,024 octets, and the pieces that came have at most
@@ -99,7 +101,90 @@ fn is_for(transfer: &Option<Transfer>, item: u32, recipient: u32) -> bool
     }
 }
 
+fn restored(alloc: Global, recorded: Option<TransferRecord>) -> Result<Option<Transfer>, Memory>
+    ensures { IfOk result (λ t. t ≡ recorded) }
+{
+    match recorded {
+        Some(recorded) => Ok(Some(Transfer::restore(alloc, recorded)?)),
+        None => Ok(None),
+    }
+}
+
+fn recorded(alloc: Global, transfer: &Option<Transfer>) -> Result<Option<TransferRecord>, Memory>
+    ensures { IfOk result (λ t. t ≡ transfer.now) }
+{
+    match transfer {
+        Some(transfer) => Ok(Some(transfer.record(alloc)?)),
+        None => Ok(None),
+    }
+}
+
+fn total_of(transfer: &Option<Transfer>) -> u32
+    ensures { result ≡ total_of transfer.now }
+{
+    match transfer {
+        Some(transfer) => transfer.total(),
+        None => 0,
+    }
+}
+
 impl Lane {
+    /// The lane that was recorded, whose values are in their ranges and whose halves fit what is kept of them. What it
+    /// transfers is not copied.
+    pub fn restore(alloc: Global, recorded: LaneRecord) -> Result<Lane, Memory>
+        requires { IsWhole recorded }
+        ensures { IfOk result (λ lane. lane ≡ recorded) }
+    {
+        let mut recorded = recorded;
+        let peer = recorded.peer.copy(alloc)?;
+        let reference = recorded.reference.copy(alloc)?;
+        let pieces = Pieces::of(alloc, recorded.pieces.as_slice())?;
+        let transfer = restored(alloc, mem::replace(&mut recorded.transfer, None))?;
+        let total = total_of(&transfer);
+        let values = recorded.values;
+        Ok(Lane {
+            number: recorded.number,
+            role: recorded.role,
+            peer,
+            reference,
+            twa: values.twa,
+            agreed: values.agreed,
+            sending: SendHalf::restore(
+                recorded.generation,
+                values.checkpoint,
+                values.window,
+                recorded.sending,
+                total,
+            ),
+            transfer,
+            receiving: RecvHalf::restore(recorded.generation, recorded.high, recorded.last),
+            pieces,
+        })
+    }
+
+    /// The lane as it is recorded. What others hold of the octets that it transfers is shared.
+    pub fn record(&self, alloc: Global) -> Result<LaneRecord, Memory>
+        ensures { IfOk result (λ lane. lane ≡ self.now) }
+    {
+        let peer = self.peer.copy(alloc)?;
+        let reference = self.reference.copy(alloc)?;
+        let transfer = recorded(alloc, &self.transfer)?;
+        let pieces = self.pieces.copies(alloc)?;
+        Ok(LaneRecord {
+            number: self.number,
+            role: self.role,
+            peer,
+            reference,
+            values: self.values(),
+            generation: self.generation(),
+            sending: self.sending.state(),
+            transfer,
+            high: self.receiving.high(),
+            last: self.receiving.last(),
+            pieces,
+        })
+    }
+
     /// A new lane, which takes no memory. The values of a responder's are agreed.
     pub fn open(
         number: u32,
@@ -464,8 +549,8 @@ impl Lane {
         self.transfer.as_ref()
     }
 
-    // Whether an activity is under way that may still be completed.
-    fn is_transferring(&self) -> bool
+    /// Whether an activity is under way that may still be completed.
+    pub fn is_transferring(&self) -> bool
         ensures { result ≡ is_transferring self.now.sending }
     {
         let state = self.sending.state();

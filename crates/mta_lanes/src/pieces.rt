@@ -1,9 +1,9 @@
 //! The pieces that came of an activity.
 
-ghost use Rattle.std.specs.Prelude.{◌≡◌, ◌≤◌, ◌<◌, ◌+◌, ◌^◌, ◌++◌, ◌∷◌, [], length};
-ghost use Rattle.std.specs.Prelude.{take, IfOk, OnOk, vec_len, vec_capacity};
+ghost use Rattle.std.specs.Prelude.{◌≡◌, ◌≤◌, ◌<◌, ◌+◌, ◌-◌, ◌^◌, ◌++◌, ◌∷◌, [], length};
+ghost use Rattle.std.specs.Prelude.{take, drop, IfOk, OnOk, vec_len, vec_capacity};
 ghost use Rattle.std.specs.List.{concat};
-ghost use Rattle.mta_lanes.specs.Pieces.{octets_in, last_end};
+ghost use Rattle.mta_lanes.specs.Pieces.{octets_in, last_end, pieces_of, AreEnds};
 
 use mta_ber::{Memory, Octets};
 use std::alloc::Global;
@@ -289,6 +289,32 @@ fn joined(alloc: Global, octets: &[u8], piece: &[u8]) -> Result<Octets, Memory>
     Ok(joined)
 }
 
+// The octets from one place up to another.
+fn between(octets: &[u8], from: usize, to: usize) -> &[u8]
+    requires order { from ≤ to }
+    requires within { to ≤ length octets.now }
+    ensures { result.now ≡ take (to - from) (drop from octets.now) }
+{
+    &octets[from..to]
+}
+
+// The pieces of these octets that have these ends.
+fn copies_of(alloc: Global, octets: &[u8], ends: &[u32]) -> Result<Vec<Octets>, Memory>
+    requires order { AreEnds 0 ends.now }
+    requires within { last_end 0 ends.now ≤ length octets.now }
+    ensures { IfOk result (λ v. v.items ≡ pieces_of octets.now 0 ends.now) }
+{
+    let mut pieces = Vec::with_capacity(alloc, ends.len())?;
+    let mut from: usize = 0;
+    for end in ends {
+        let to = *end as usize;
+        let piece = Octets::from_slice(alloc, between(octets, from, to))?;
+        pieces.push(piece)?;
+        from = to;
+    }
+    Ok(pieces)
+}
+
 impl Pieces {
     /// No pieces, which takes no memory.
     pub fn new(alloc: Global) -> Pieces
@@ -299,6 +325,31 @@ impl Pieces {
             held: Held::Own(Vec::new(alloc)),
             ends: Vec::new(alloc),
         }
+    }
+
+    /// These pieces.
+    pub fn of(alloc: Global, pieces: &[Octets]) -> Result<Pieces, Memory>
+        requires { length (concat pieces.now) < 2 ^ 32 }
+        ensures { IfOk result (λ p. p ≡ pieces.now) }
+    {
+        let mut octets = Vec::new(alloc);
+        let mut ends = Vec::with_capacity(alloc, pieces.len())?;
+        for piece in pieces {
+            octets.extend_from_slice(piece.as_slice())?;
+            ends.push(octets.len() as u32)?;
+        }
+        Ok(Pieces {
+            alloc,
+            held: Held::Own(octets),
+            ends,
+        })
+    }
+
+    /// Copies of the pieces.
+    pub fn copies(&self, alloc: Global) -> Result<Vec<Octets>, Memory>
+        ensures { IfOk result (λ v. v.items ≡ self.now) }
+    {
+        copies_of(alloc, octets_in(&self.held), self.ends.as_slice())
     }
 
     /// How many there are.

@@ -4,18 +4,20 @@ ghost use Rattle.std.specs.Prelude.{◌≡◌, IfOk, length, Some};
 ghost use Rattle.mta_machine.specs.Items.{names};
 ghost use Rattle.mta_histories.specs.Lanes.{is_for};
 
-use mta_ber::Memory;
-use mta_records::{Outgoing, Recipients};
+use mta_ber::{Memory, Octets};
+use mta_records::{Outgoing, Recipients, TransferRecord};
 use std::alloc::Global;
 use std::marker::Model;
+use std::mem;
 
 /// What an activity transfers: an item to recipients, when that was decided, in seconds since 1950-01-01 00:00:00 UTC,
-/// under which tables, counted from 1, and the octets.
+/// under which tables, counted from 1, and in which format, and the octets.
 pub struct Transfer {
     item: u32,
     recipients: Recipients,
     moment: u64,
     tables: u32,
+    format: u32,
     outgoing: Outgoing,
 }
 
@@ -27,6 +29,7 @@ impl Drop for Transfer {
             recipients: _,
             moment: _,
             tables: _,
+            format: _,
             outgoing: _,
         } = self;
     }
@@ -42,6 +45,7 @@ impl Model for Transfer {
       recipients = t.recipients;
       moment = t.moment;
       tables = t.tables;
+      format = t.format;
       octets = t.outgoing.octets;
     } };
 }
@@ -59,6 +63,7 @@ impl Transfer {
         recipients: Recipients,
         moment: u64,
         tables: u32,
+        format: u32,
         outgoing: Outgoing,
     ) -> Transfer
         ensures { result ≡ record {
@@ -66,6 +71,7 @@ impl Transfer {
           recipients = recipients;
           moment = moment;
           tables = tables;
+          format = format;
           octets = outgoing.octets;
         } }
     {
@@ -74,8 +80,44 @@ impl Transfer {
             recipients,
             moment,
             tables,
+            format,
             outgoing,
         }
+    }
+
+    /// The transfer that was recorded. No octet of it is copied.
+    pub fn restore(alloc: Global, recorded: TransferRecord) -> Result<Transfer, Memory>
+        ensures { IfOk result (λ t. t ≡ recorded) }
+    {
+        let mut recorded = recorded;
+        let nobody = Recipients::from_vec(Vec::new(alloc));
+        let nothing = Outgoing::alone(alloc, 0, Octets::new(alloc))?;
+        let recipients = mem::replace(&mut recorded.recipients, nobody);
+        let outgoing = mem::replace(&mut recorded.outgoing, nothing);
+        Ok(Transfer::new(
+            recorded.item,
+            recipients,
+            recorded.moment,
+            recorded.tables,
+            recorded.format,
+            outgoing,
+        ))
+    }
+
+    /// The transfer as it is recorded. What others hold of its octets too is shared.
+    pub fn record(&self, alloc: Global) -> Result<TransferRecord, Memory>
+        ensures { IfOk result (λ t. t ≡ self.now) }
+    {
+        let recipients = self.recipients.copy(alloc)?;
+        let outgoing = self.outgoing.share(alloc, self.outgoing.activity)?;
+        Ok(TransferRecord {
+            item: self.item,
+            recipients,
+            moment: self.moment,
+            tables: self.tables,
+            format: self.format,
+            outgoing,
+        })
     }
 
     /// The number of the item.
@@ -104,6 +146,13 @@ impl Transfer {
         ensures { result ≡ self.now.tables }
     {
         self.tables
+    }
+
+    /// The format in which it was decided.
+    pub fn format(&self) -> u32
+        ensures { result ≡ self.now.format }
+    {
+        self.format
     }
 
     /// Whether it is for this recipient of the item.

@@ -2,7 +2,7 @@
 use Rattle.std.proofs.Common.{◌≡◌, ◌<◌, ◌+◌, ◌^◌, ℕ, true, false, List, [], ◌∷◌, ◌++◌}
 use Rattle.std.proofs.Common.{length, Option, Some, None, refl, ap, subst, arith, length-append}
 use Rattle.mta_records.specs.declared.step.Step.TheVariants as step
-use Rattle.mta_machine.specs.declared.item.Origin.TheVariants as Origins
+use Rattle.mta_records.specs.declared.state.Origin.TheVariants as Origins
 use Rattle.mta_machine.specs.Items.{ItemValue}
 use Rattle.mta_machine.specs.Machine.{accepted_item}
 use Rattle.mta_machine.specs.Rules.{is_tables_text}
@@ -35,7 +35,7 @@ pub ruleset tables_laws = (tables_change, no_tables)
 -- ---- an APDU
 
 abbrev state_with : State → ItemValue → ℕ → State
-state_with s item moment = record s { machine = with_item s.machine item moment; moment = moment }
+state_with s item moment = record s { machine = with_item s.machine item moment; moment = moment; begun = true }
 
 one-more : (items : List ItemValue) (item : ItemValue) → length (items ++ item ∷ []) ≡ length items + 1
 one-more items item = length-append items (item ∷ [])
@@ -76,10 +76,10 @@ pub bad_apdu : (s : State) (moment : ℕ) (apdu : List ℕ) (fault : Fault) → 
 bad_apdu s moment apdu fault bad = no_apdu s moment apdu bad.0
 
 -- what is found of the item is found of that of the octets
-pub found_of : (text : List ℕ) (moment : ℕ) (apdu : List ℕ) (item : ItemValue) (rest : Option Rest)
-    → IsAccepted apdu Origins.Submitted moment (Some item) → IsRestOf text item moment rest
-    → IsRestOf text (accepted_item apdu Origins.Submitted moment) moment rest
-found_of text moment apdu item rest is found =
-    subst (λ (x : ItemValue). IsRestOf text x moment rest) is.1 found
+pub found_of : (format : ℕ) (text : List ℕ) (moment : ℕ) (apdu : List ℕ) (item : ItemValue) (rest : Option Rest)
+    → IsAccepted apdu Origins.Submitted moment (Some item) → IsRestOf format text item moment rest
+    → IsRestOf format text (accepted_item apdu Origins.Submitted moment) moment rest
+found_of format text moment apdu item rest is found =
+    subst (λ (x : ItemValue). IsRestOf format text x moment rest) is.1 found
 
 pub ruleset accept_laws = (accept_change, may_not_accept, no_apdu, bad_apdu)

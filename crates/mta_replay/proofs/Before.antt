@@ -8,15 +8,15 @@ use Rattle.mta_machine.specs.Items.{Machine, numbered}
 use Rattle.mta_machine.specs.Machine.{Discharge, HasVerdict, IsJustified, last_tables, not_delivered, verdict_at}
 use Rattle.mta_machine.specs.Machine.{verdict_on}
 use Rattle.mta_histories.specs.Lanes.{State}
-use Rattle.mta_histories.specs.Classes.{Class, Settling, accepts, affirm, back, class_of, deliver, discard, expand}
-use Rattle.mta_histories.specs.Classes.{on_lane, opens, records, report, settles}
+use Rattle.mta_histories.specs.Classes.{Class, Settling, accepts, affirm, back, begins, class_of, deliver, discard}
+use Rattle.mta_histories.specs.Classes.{expand, on_lane, opens, records, report, sets_format, settles}
 use Rattle.mta_histories.specs.History.{MachineNeeds, NamesPeer, StepNeeds, discharge_by, when}
 use Rattle.mta_histories.specs.Kept.{IsKept}
 use Rattle.mta_histories.proofs.LaneLists.{each-at}
-use Rattle.mta_replay.specs.Laws.{IsRecording, TablesComeFirst}
+use Rattle.mta_replay.specs.Laws.{NeedsNoTables, TablesComeFirst}
 
 -- the last of some is there
-no_last : {A : Type 0} (xs : List A) → numbered xs (length xs) ≡ None → xs ≡ []
+pub no_last : {A : Type 0} (xs : List A) → numbered xs (length xs) ≡ None → xs ≡ []
 no_last [] none = refl
 no_last (x ∷ xs) none =
     let there = slice_get-get_or (x ∷ xs) (length xs) x (omega arith) in
@@ -25,7 +25,7 @@ no_last (x ∷ xs) none =
 module _ (m : Machine) (none : numbered m.tables (last_tables m) ≡ None) where
   no_verdict : (i r moment : ℕ) → verdict_at m i r moment ≡ None
   no_verdict i r moment =
-      ap (λ (o : Option (List ℕ)). verdict_on m.items o (numbered m.items i) r moment) none
+      ap (λ (o : Option (List ℕ)). verdict_on m.format m.items o (numbered m.items i) r moment) none
 
   nothing_called : (i : ℕ) (rs : List ℕ) (moment : ℕ) (v : Verdict) → HasVerdict m i rs moment v → ⊥
   nothing_called i rs moment v has =
@@ -51,7 +51,9 @@ settles_none s back i r moment none needs =
 
 by_class : (s : State) (c : Class) (moment : ℕ) → IsKept s
     → numbered s.machine.tables (last_tables s.machine) ≡ None → StepNeeds s c moment → MachineNeeds s c moment
-    → IsRecording c
+    → NeedsNoTables c
+by_class s (begins t) moment kept none allowed needs = tt
+by_class s sets_format moment kept none allowed needs = tt
 by_class s (records text) moment kept none allowed needs = tt
 by_class s (accepts octets) moment kept none allowed needs = needs.1 (no_last s.machine.tables none)
 by_class s (settles how i r) moment kept none allowed needs = settles_none s how i r moment none needs

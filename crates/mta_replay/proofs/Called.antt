@@ -25,16 +25,21 @@ use Rattle.mta_replay.specs.Settleable.{MaySettle, IsReady, IsReadyBy, calls, ca
 
 -- ---- what is found
 
-pub ready : (s : State) (i r moment : ℕ) (text : List ℕ) (item : ItemValue)
+pub ready : (s : State) (format i r moment : ℕ) (text : List ℕ) (item : ItemValue) → format ≡ s.machine.format
     → numbered s.machine.tables (last_tables s.machine) ≡ Some text → numbered s.machine.items i ≡ Some item
     → MaySettle s i r moment
-    → IsReadyBy s i r moment (verdict_on s.machine.items (Some text) (Some item) r moment)
-ready s i r moment text item text_is item_is may =
-    subst (λ (t : Option (List ℕ)). IsReadyBy s i r moment (verdict_on s.machine.items t (Some item) r moment)) text_is
+    → IsReadyBy s i r moment (verdict_on format s.machine.items (Some text) (Some item) r moment)
+ready s format i r moment text item format_is text_is item_is may =
+    subst (λ (f : ℕ). IsReadyBy s i r moment (verdict_on f s.machine.items (Some text) (Some item) r moment))
+    (sym format_is)
+    (subst
+    (λ (t : Option (List ℕ)).
+    IsReadyBy s i r moment (verdict_on s.machine.format s.machine.items t (Some item) r moment)) text_is
     (subst
     (λ (x : Option ItemValue).
-    IsReadyBy s i r moment (verdict_on s.machine.items (numbered s.machine.tables (last_tables s.machine)) x r moment))
-    item_is (by_verdict (verdict_at s.machine i r moment) refl))
+    IsReadyBy s i r moment
+    (verdict_on s.machine.format s.machine.items (numbered s.machine.tables (last_tables s.machine)) x r moment))
+    item_is (by_verdict (verdict_at s.machine i r moment) refl)))
   where
     by_verdict : (v : Option Verdict) → verdict_at s.machine i r moment ≡ v → IsReadyBy s i r moment v
     by_verdict None none = λ v is. let some = is.verdict_is in absurd cc
@@ -119,7 +124,8 @@ pub before_tables : (s : State) (how : Settling) (i r moment : ℕ)
 before_tables s how i r moment none possible =
     let c = called s how i r moment possible in
     let isnt : verdict_at s.machine i r moment ≡ None =
-    ap (λ (t : Option (List ℕ)). verdict_on s.machine.items t (numbered s.machine.items i) r moment) none in
+    ap (λ (t : Option (List ℕ)). verdict_on s.machine.format s.machine.items t (numbered s.machine.items i) r moment)
+    none in
     let is = c.ready.verdict_is in absurd cc
 
 -- ---- where no step is possible

@@ -1,5 +1,5 @@
 -- What a step on an open lane changes that does something of the machine of recipients.
-use Rattle.std.proofs.Common.{◌≡◌, ◌≤◌, ◌<◌, ◌^◌, ℕ, List, [], ◌∷◌, ◌++◌, length, reverse}
+use Rattle.std.proofs.Common.{◌≡◌, ◌≤◌, ◌<◌, ◌^◌, ℕ, true, List, [], ◌∷◌, ◌++◌, length, reverse}
 use Rattle.std.proofs.Common.{Option, Some, None, Result, Ok, Err, IfOk, refl, sym, ap, subst, ◌∙◌, arith}
 use Rattle.std.specs.Global.{Vec}
 use Rattle.std.proofs.lemmas.Grind.{reverse_onto}
@@ -9,7 +9,7 @@ use Rattle.mta_machine.specs.Machine.{MachineStep, machine_run}
 use Rattle.mta_histories.specs.Lanes.{Lane, Lanes, State, lane_at, put_lane}
 use Rattle.mta_histories.specs.Classes.{Class, LaneStep, on_lane, class_of, moment_of}
 use Rattle.mta_histories.specs.History.{IsOnLane, IsPossible, MachineNeeds, StepNeeds}
-use Rattle.mta_histories.specs.History.{class_steps, lane_after, lane_steps, lanes_after, later, machine_steps}
+use Rattle.mta_histories.specs.History.{lane_after, lane_steps, lanes_after, later, machine_left}
 use Rattle.mta_histories.specs.History.{on_lane_after, on_lane_steps, when}
 use Rattle.mta_lanes.specs.declared.change.LaneChange.{LaneChange}
 use Rattle.mta_lanes.specs.Changes.{MayChangeAt, changed, put_changed}
@@ -22,7 +22,7 @@ use Rattle.mta_state.proofs.Turns.{last_first}
 use Rattle.mta_replay.specs.Changes.{IsOpenFor, Makes, OpenFor, settled_in_order}
 
 abbrev pub state : Machine → Lanes → ℕ → State
-state m l t = record { machine = m; lanes = l; moment = t }
+state m l t = record { machine = m; lanes = l; moment = t; begun = true }
 
 module _ (s : State) (step : Step) (n : ℕ) (g : Option ℕ) (ls : LaneStep) (moment : ℕ)
     (class_is : class_of step ≡ on_lane n g ls) (moment_is : moment_of step ≡ Some moment)
@@ -31,15 +31,17 @@ module _ (s : State) (step : Step) (n : ℕ) (g : Option ℕ) (ls : LaneStep) (m
     when_is = ap (λ (t : Option ℕ). later s.moment t) moment_is
 
     steps_are : (lane : Lane) → lane_at n s.lanes.open_lanes ≡ Some lane
-        → machine_steps s step ≡ lane_steps lane ls moment
+        → on_lane_steps (lane_at n s.lanes.open_lanes) ls (when s step) ≡ lane_steps lane ls moment
     steps_are lane found =
-        ap (λ (k : Class). class_steps s k (when s step)) class_is
-        ∙ (ap (λ (o : Option Lane). on_lane_steps o ls (when s step)) found
-        ∙ ap (λ (t : ℕ). lane_steps lane ls t) when_is)
+        ap (λ (o : Option Lane). on_lane_steps o ls (when s step)) found
+        ∙ ap (λ (t : ℕ). lane_steps lane ls t) when_is
 
+    -- the machine behind the step
     pub machine_is : (lane : Lane) → lane_at n s.lanes.open_lanes ≡ Some lane
-        → machine_run s.machine (machine_steps s step) ≡ machine_run s.machine (lane_steps lane ls moment)
-    machine_is lane found = ap (λ (ms : List MachineStep). machine_run s.machine ms) (steps_are lane found)
+        → machine_left s (class_of step) (when s step) ≡ machine_run s.machine (lane_steps lane ls moment)
+    machine_is lane found =
+        ap (λ (k : Class). machine_left s k (when s step)) class_is
+        ∙ ap (λ (ms : List MachineStep). machine_run s.machine ms) (steps_are lane found)
 
     lanes_are : (lane : Lane) (new : LaneChange) → lane_at n s.lanes.open_lanes ≡ Some lane
         → changed lane new ≡ lane_after s lane ls moment
@@ -75,7 +77,7 @@ module _ (s : State) (step : Step) (n : ℕ) (g : Option ℕ) (ls : LaneStep) (m
         → (o : Option Change) → Makes s (lane_steps lane ls moment) n new moment o → Prepares s step o
     prepared lane new may after stays None many =
         λ possible.
-        let same : length (machine_run s.machine (machine_steps s step)).items
+        let same : length (machine_left s (class_of step) (when s step)).items
         ≡ length (machine_run s.machine (lane_steps lane ls moment)).items =
         ap (λ (m : Machine). length m.items) (machine_is lane may.found) in
         let few = possible.numbers in
@@ -85,9 +87,9 @@ module _ (s : State) (step : Step) (n : ℕ) (g : Option ℕ) (ls : LaneStep) (m
       after =
           is.after
           ∙ (ap (λ (m : Machine). state m (lanes_changed s.lanes n new) moment) (sym (machine_is lane may.found))
-          ∙ (ap (λ (l : Lanes). state (machine_run s.machine (machine_steps s step)) l moment)
+          ∙ (ap (λ (l : Lanes). state (machine_left s (class_of step) (when s step)) l moment)
           (lanes_are lane new may.found after stays)
-          ∙ ap (λ (t : ℕ). state (machine_run s.machine (machine_steps s step))
+          ∙ ap (λ (t : ℕ). state (machine_left s (class_of step) (when s step))
           (lanes_after s (class_of step) (when s step)) t) (sym when_is)));
       can = is.can;
     }

@@ -5,7 +5,7 @@ use Rattle.std.specs.List.{concat}
 use Rattle.std.proofs.lemmas.Option.{same_Some}
 use Rattle.mta_lane_recv.specs.Half as recv
 use Rattle.mta_records.specs.declared.step.Step.TheVariants as steps
-use Rattle.mta_machine.specs.declared.item.Origin.TheVariants as Origins
+use Rattle.mta_records.specs.declared.state.Origin.TheVariants as Origins
 use Rattle.mta_machine.specs.Apdu.{IsApdu}
 use Rattle.mta_machine.specs.Items.{ItemValue, Machine}
 use Rattle.mta_machine.specs.Machine.{accepted_item}

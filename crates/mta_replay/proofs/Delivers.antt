@@ -5,8 +5,8 @@ use Rattle.mta_apdu.specs.Apdus.{ApduValue}
 use Rattle.mta_records.specs.declared.step.Step.TheVariants as step
 use Rattle.mta_procedures.specs.declared.verdict.Verdict.{Verdict}
 use Rattle.mta_procedures.specs.declared.verdict.Verdict.TheVariants as Verdicts
-use Rattle.mta_machine.specs.declared.item.Status.TheVariants as Statuses
-use Rattle.mta_machine.specs.declared.item.MailboxLine.{MailboxLine}
+use Rattle.mta_records.specs.declared.state.Status.TheVariants as Statuses
+use Rattle.mta_records.specs.declared.state.MailboxLine.{MailboxLine}
 use Rattle.mta_machine.specs.Items.{ItemValue, Machine, numbered}
 use Rattle.mta_machine.specs.Rules.{mailbox_word, passed_back, verdict_of}
 use Rattle.mta_machine.specs.Machine.{settled, line_at, verdict_at}
@@ -37,8 +37,9 @@ undelivered None (Some Verdicts.Back) place e = absurd cc
 undelivered (Some v) (Some Verdicts.Back) place e = absurd cc
 undelivered made (Some Verdicts.Discard) place e = absurd cc
 
-module _ (k : Kept) (text : List ℕ) (item : ItemValue) (i r moment : ℕ) (text_is : IsTextOf k text) (item_is :
-    numbered k.parts.items.items i ≡ Some item)
+module _ (k : Kept) (format : ℕ) (text : List ℕ) (item : ItemValue) (i r moment : ℕ)
+    (format_is : format ≡ k.parts.format) (text_is : IsTextOf k text)
+    (item_is : numbered k.parts.items.items i ≡ Some item)
   where
     abbrev m : Machine
     m = machine_of k.parts
@@ -47,10 +48,10 @@ module _ (k : Kept) (text : List ℕ) (item : ItemValue) (i r moment : ℕ) (tex
     back = passed_back text m.items item
 
     abbrev told : Option Verdict
-    told = verdict_of text item.octets item.arrival r moment
+    told = verdict_of format text item.octets item.arrival r moment
 
     verdict-is : verdict_at m i r moment ≡ option_map (settled back) told
-    verdict-is = settled-is m i r moment text item text_is item_is
+    verdict-is = settled-is m format i r moment text item format_is text_is item_is
 
     ready : (place : ℕ) → MaySettle (state_of k) i r moment → told ≡ Some (Verdicts.Deliver place)
         → IsReady (state_of k) i r moment (Verdicts.Deliver place)
@@ -60,7 +61,7 @@ module _ (k : Kept) (text : List ℕ) (item : ItemValue) (i r moment : ℕ) (tex
     }
 
     pub delivered_as : (d : Delivery) (line : Option MailboxLine) → MaySettle (state_of k) i r moment
-        → IsDeliveryOf text (length m.items + 1) item r moment (Some d)
+        → IsDeliveryOf format text (length m.items + 1) item r moment (Some d)
         → option_to_list line ≡ line_at (mailbox_word text d.place) i moment
         → (change : Option Change)
         → change ≡ settling_change m.items i r (Statuses.Delivered moment) (alone d.report) line moment
@@ -69,7 +70,7 @@ module _ (k : Kept) (text : List ℕ) (item : ItemValue) (i r moment : ℕ) (tex
         delivers k text item i r moment text_is item_is d.place (alone d.report) line (ready d.place may is.0)
         (delivery_is m text item r moment d.report (length m.items + 1) refl is.1) line_is change change_is
 
-    pub never_delivered : (number : ℕ) → IsDeliveryOf text number item r moment None
+    pub never_delivered : (number : ℕ) → IsDeliveryOf format text number item r moment None
         → Prepares (state_of k) (step.Deliver i r moment) None
     never_delivered number never possible =
         let place : ℕ = possible.as_machine.2.0 in

@@ -56,8 +56,8 @@ module _ (s : State) (n : ℕ) (lane : Lane) (kept : IsKept s) (opened : lane_at
     its_item t is =
         let decided = decided_for (Some t) is in
         let one = some-first t.recipients decided.0 in
-        let there = relayed-on (numbered s.machine.tables t.tables) (numbered s.machine.items t.item) one.0
-        t.moment lane.peer (decided.3 one.0 one.1) in
+        let there = relayed-on t.format (numbered s.machine.tables t.tables) (numbered s.machine.items t.item) one.0
+        t.moment lane.peer (decided.4 one.0 one.1) in
         (there.1, there.3)
 
     pub an_item : (t : Transfer) → Some t ≡ lane.transfer → None ≡ numbered s.machine.items t.item → ⊥

@@ -5,7 +5,7 @@ use Rattle.std.proofs.Common.{refl, sym, ap, subst, ◌∙◌, arith, length-app
 use Rattle.std.specs.Global.{Vec}
 use Rattle.std.proofs.lemmas.List.{drop_more, length-map, map-append, take-append-drop, take_all, take_more}
 use Rattle.mta_apdu.specs.Apdus.{ApduValue}
-use Rattle.mta_machine.specs.declared.item.Status.{Status}
+use Rattle.mta_records.specs.declared.state.Status.{Status}
 use Rattle.mta_machine.specs.Items.{ItemValue, Machine, numbered, set_numbered}
 use Rattle.mta_machine.specs.Rules.{Failure, diagnostic_of, non_delivery_report, reason_of}
 use Rattle.mta_machine.specs.Machine.{MachineStep, discharge, discharged_item, failed, items_after, last_tables}

@@ -136,9 +136,9 @@ no_transfer m o moment is = (
       subst (λ (x : Option Transfer). HasExpired m x moment) (sym is) has in absurd none,
 )
 
-on_none : (a : Option (List ℕ)) (moment : ℕ) → IsExpiredOn a None moment → ⊥
-on_none None moment has = has
-on_none (Some text) moment has = has
+on_none : (format : ℕ) (a : Option (List ℕ)) (moment : ℕ) → IsExpiredOn format a None moment → ⊥
+on_none format None moment has = has
+on_none format (Some text) moment has = has
 
 pub no_item : (m : Machine) (o : Option Transfer) (t : Transfer) (moment : ℕ) → Some t ≡ o
     → None ≡ numbered m.items t.item → (false ≡ true) ↔ HasExpired m o moment
@@ -147,21 +147,22 @@ no_item m o t moment is none = (
   λ has.
       let of_it : HasExpired m (Some t) moment =
       subst (λ (x : Option Transfer). HasExpired m x moment) (sym is) has in
-      absurd (on_none (numbered m.tables (last_tables m)) moment
-      (subst (λ (x : Option ItemValue). IsExpiredOn (numbered m.tables (last_tables m)) x moment) (sym none)
+      absurd (on_none m.format (numbered m.tables (last_tables m)) moment
+      (subst (λ (x : Option ItemValue). IsExpiredOn m.format (numbered m.tables (last_tables m)) x moment) (sym none)
       of_it)),
 )
 
-pub on_item : (m : Machine) (o : Option Transfer) (t : Transfer) (moment : ℕ) (text : List ℕ)
-    (item : ItemValue) (b : Bool) → numbered m.tables (last_tables m) ≡ Some text → Some t ≡ o
-    → Some item ≡ numbered m.items t.item → b ≡ is_expired text item.octets item.arrival moment
+pub on_item : (m : Machine) (o : Option Transfer) (t : Transfer) (format moment : ℕ) (text : List ℕ)
+    (item : ItemValue) (b : Bool) → format ≡ m.format → numbered m.tables (last_tables m) ≡ Some text → Some t ≡ o
+    → Some item ≡ numbered m.items t.item → b ≡ is_expired format text item.octets item.arrival moment
     → (b ≡ true) ↔ HasExpired m o moment
-on_item m o t moment text item b text_is is item_is same =
+on_item m o t format moment text item b format_is text_is is item_is same =
     subst (λ (x : Option Transfer). (b ≡ true) ↔ HasExpired m x moment) is
-    (subst (λ (x : Option (List ℕ)). (b ≡ true) ↔ IsExpiredOn x (numbered m.items t.item) moment)
+    (subst (λ (x : Option (List ℕ)). (b ≡ true) ↔ IsExpiredOn m.format x (numbered m.items t.item) moment)
     (sym text_is)
-    (subst (λ (x : Option ItemValue). (b ≡ true) ↔ IsExpiredOn (Some text) x moment) item_is
-    (λ e. sym same ∙ e, λ e. same ∙ e)))
+    (subst (λ (x : Option ItemValue). (b ≡ true) ↔ IsExpiredOn m.format (Some text) x moment) item_is
+    (subst (λ (f : ℕ). (b ≡ true) ↔ IsExpiredOn f (Some text) (Some item) moment) format_is
+    (λ e. sym same ∙ e, λ e. same ∙ e))))
 
 pub ruleset ending_laws = (no_ending, not_ending, is_ending)
 

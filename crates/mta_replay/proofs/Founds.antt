@@ -4,7 +4,7 @@ use Rattle.std.specs.Prelude.{IfSome, option_map}
 use Rattle.std.proofs.lemmas.Option.{same_Some}
 use Rattle.mta_records.specs.declared.step.Step.{Step}
 use Rattle.mta_records.specs.declared.step.Step.TheVariants.{Accept}
-use Rattle.mta_machine.specs.declared.item.Origin.TheVariants as Origins
+use Rattle.mta_records.specs.declared.state.Origin.TheVariants as Origins
 use Rattle.mta_machine.specs.Items.{ItemValue, numbered}
 use Rattle.mta_machine.specs.Machine.{accepted_item, last_tables}
 use Rattle.mta_histories.specs.Lanes.{State}
@@ -12,19 +12,24 @@ use Rattle.mta_histories.specs.History.{IsPossible, after_step}
 use Rattle.mta_state.specs.Asked.{IsRestOf, IsTextOf}
 use Rattle.mta_state.specs.declared.kept.Kept.{Kept}
 use Rattle.mta_state.specs.declared.rest.Rest.{Rest}
+use Rattle.mta_state.specs.Parts.{machine_of}
 use Rattle.mta_state.specs.Kept.{state_of}
 use Rattle.mta_state.specs.Prepared.{Prepares}
 use Rattle.mta_replay.specs.declared.accept.Arrival.{Arrival}
 use Rattle.mta_dues.proofs.Indexed.{change_later}
 use Rattle.mta_replay.specs.Found.{IsFound, IsFoundLast}
 use Rattle.mta_replay.specs.Ready.{IsReady, TakesUp}
+use Rattle.mta_replay.specs.Sound.{AreInForce}
 use Rattle.mta_replay.proofs.Sounds.{numbered-last}
 
 -- there is one text of the tables recorded last
-pub found_under : (kept : Kept) (text : List ℕ) (item : ItemValue) (moment : ℕ) (rest : Option Rest)
-    → IsTextOf kept text → IsRestOf text item moment rest → IsFound kept item moment rest
-found_under kept text item moment rest last found = λ other is.
-    subst (λ (t : List ℕ). IsRestOf t item moment rest) (same_Some text other (sym last ∙ is)) found
+pub found_under : (kept : Kept) (format : ℕ) (text : List ℕ) (item : ItemValue) (moment : ℕ) (rest : Option Rest)
+    → AreInForce format text (machine_of kept.parts) → IsRestOf format text item moment rest
+    → IsFound kept item moment rest
+found_under kept format text item moment rest force found = λ other is.
+    subst (λ (t : List ℕ). IsRestOf kept.parts.format t item moment rest)
+    (same_Some text other (sym force.last ∙ is))
+    (subst (λ (f : ℕ). IsRestOf f text item moment rest) force.in_format found)
 
 -- the item that is accepted is the last one, and the tables stay
 pub found_last : (old new : Kept) (moment : ℕ) (apdu : List ℕ) (rest : Option Rest)
@@ -36,7 +41,9 @@ found_last old new moment apdu rest same found = record {
       ap (λ (s : State). numbered s.machine.items (length s.machine.items)) same
       ∙ numbered-last old.parts.items.items (accepted_item apdu Origins.Submitted moment);
   found = λ text is.
-      found text (sym (ap (λ (s : State). numbered s.machine.tables (last_tables s.machine)) same) ∙ is);
+      subst (λ (f : ℕ). IsRestOf f text (accepted_item apdu Origins.Submitted moment) moment rest)
+      (sym (ap (λ (s : State). s.machine.format) same))
+      (found text (sym (ap (λ (s : State). numbered s.machine.tables (last_tables s.machine)) same) ∙ is));
 }
 
 -- what was found changes later
@@ -44,14 +51,14 @@ pub found_later : (kept : Kept) (text : List ℕ) (moment : ℕ) (rest : Option 
     → IsFoundLast kept moment rest → IfSome rest (λ found. moment < found.until)
 found_later kept text moment None last found = tt
 found_later kept text moment (Some rest) last found =
-    change_later text found.item moment rest.until (found.found text last).idle
+    change_later kept.parts.format text found.item moment rest.until (found.found text last).idle
 
 -- what was found is ready
-pub arrival_ready : {R : Type 0} (text : R → List ℕ) (s : State) (moment : ℕ) (apdu : List ℕ)
+pub arrival_ready : {R : Type 0} (format : R → ℕ) (text : R → List ℕ) (s : State) (moment : ℕ) (apdu : List ℕ)
     (found : Option Arrival) (arrival : Arrival) → found ≡ Some arrival
     → Prepares s (Accept moment apdu) (option_map (λ (a : Arrival). a.change) found)
-    → IsReady text s (Accept moment apdu) arrival.change None
-arrival_ready text s moment apdu found arrival is prepares = record {
+    → IsReady format text s (Accept moment apdu) arrival.change None
+arrival_ready format text s moment apdu found arrival is prepares = record {
   is_change =
       subst (λ (o : Option Arrival). Prepares s (Accept moment apdu) (option_map (λ (a : Arrival). a.change) o)) is
       prepares;

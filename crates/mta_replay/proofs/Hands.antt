@@ -1,12 +1,10 @@
 -- What is read of the item of a number, and what is at hand of it.
-use Rattle.std.proofs.Common.{◌≡◌, ℕ, List, Option, Some, None, Result, Ok, Err, sym, subst, ◌∙◌}
+use Rattle.std.proofs.Common.{◌≡◌, ℕ, List, Some, None, Result, Ok, Err, subst, ◌∙◌}
 use Rattle.std.specs.Prelude.{IfOk}
 use Rattle.std.proofs.lemmas.Option.{none-some, same_Some}
 use Rattle.mta_machine.specs.Items.{ItemValue, numbered}
 use Rattle.mta_state.specs.declared.readings.Reading.{Reading}
 use Rattle.mta_state.specs.Readings.{IsReadingOf}
-use Rattle.mta_dues.specs.declared.index.Index.{Index}
-use Rattle.mta_dues.specs.Index.{IsIndexed}
 use Rattle.mta_replay.specs.Ready.{IsReadAt}
 
 -- where there is no item nothing is asked of the reading
@@ -23,12 +21,3 @@ pub read_all : {E : Type 0} (items : List ItemValue) (i : ℕ) (found : ItemValu
     → Some found ≡ numbered items i → IfOk made (IsReadingOf found.octets) → IfOk made (IsReadAt items i)
 read_all items i found (Ok r) at is = read_of items i found r at is
 read_all items i found (Err e) at is = is
-
--- what is kept at hand of it
-pub kept_of : (items : List ItemValue) (i : ℕ) (old new : Index) (r : Reading) (found : ItemValue)
-    → Some found ≡ numbered items i → IsReadAt items i r
-    → ((text : List ℕ) (its : List ItemValue) (item : ItemValue) → numbered its i ≡ Some item
-    → IsReadingOf item.octets r → IsIndexed text its old → IsIndexed text its new)
-    → (text : List ℕ) → IsIndexed text items old → IsIndexed text items new
-kept_of items i old new r found at is keeps text indexed =
-    keeps text items found (sym at) (is found (sym at)) indexed

@@ -1,6 +1,7 @@
 pub mod Founds
 pub mod Nothing
 pub mod Stored
+pub mod Begins
 pub mod Sounds
 pub mod Accepts
 pub mod Called
@@ -21,3 +22,4 @@ pub mod Sendings
 pub mod Starting
 pub mod Readiness
 pub mod Hands
+pub mod RulesMade

@@ -1,21 +1,22 @@
--- Where no tables were recorded nothing is possible but recording some, nothing is due and nothing waits.
-use Rattle.std.proofs.Common.{◌≡◌, ◌≢◌, ℕ, true, false, List, [], ◌∷◌, length, Option, Some, None, refl, sym, ap, ◌∙◌}
+-- Where no tables were recorded nothing is possible but recording some, setting the format and beginning with a
+-- snapshot, nothing is due and nothing waits.
+use Rattle.std.proofs.Common.{◌≡◌, ◌≢◌, ℕ, false, List, [], ◌∷◌, length, Option, Some, None, sym, ap, ◌∙◌}
 use Rattle.mta_records.specs.declared.step.Step.{Step}
 use Rattle.std.proofs.Common.{inl, inr}
 use Rattle.mta_procedures.specs.declared.verdict.Verdict.{Verdict}
 use Rattle.mta_procedures.specs.declared.verdict.Verdict.TheVariants as Verdicts
 use Rattle.mta_machine.specs.Items.{Machine, numbered}
-use Rattle.mta_machine.specs.Rules.{names_peer}
 use Rattle.mta_machine.specs.Machine.{verdict_at, verdict_on, last_tables, relay_at, relay_on}
 use Rattle.mta_machine.specs.Machine.{HasVerdict, IsJustified}
 use Rattle.mta_histories.specs.Classes.{Settling, deliver, expand, report, affirm, discard, back}
-use Rattle.mta_histories.specs.Classes.{Class, records, accepts, settles, opens, on_lane, class_of}
+use Rattle.mta_histories.specs.Classes.{Class, begins, sets_format, records, accepts, settles, opens, on_lane}
+use Rattle.mta_histories.specs.Classes.{class_of}
 use Rattle.mta_histories.specs.Lanes.{Lane, State, lane_at}
 use Rattle.mta_histories.specs.History.{StepNeeds, MachineNeeds, IsPossible, NamesPeer, reported, when}
 use Rattle.mta_histories.specs.Kept.{IsKept}
-use Rattle.mta_histories.specs.Due.{IsDue, IsQuiet, IsToRelay, IsNoBatch, HasQueue}
+use Rattle.mta_histories.specs.Due.{IsQuiet, IsNoBatch, HasQueue}
 use Rattle.mta_histories.proofs.LaneLists.{each-at}
-use Rattle.mta_replay.specs.Ready.{recorded_by}
+use Rattle.mta_replay.specs.Ready.{sets_rules}
 use Rattle.mta_replay.specs.Starting.{TransfersNext}
 
 none-at : (m : Machine) → m.tables ≡ [] → numbered m.tables (last_tables m) ≡ None
@@ -23,13 +24,14 @@ none-at m is = ap (λ (ts : List (List ℕ)). numbered ts (length ts)) is
 
 no-verdict : (s : State) (i r moment : ℕ) → s.machine.tables ≡ [] → verdict_at s.machine i r moment ≡ None
 no-verdict s i r moment is =
-    ap (λ (t : Option (List ℕ)). verdict_on s.machine.items t (numbered s.machine.items i) r moment)
+    ap (λ (t : Option (List ℕ)). verdict_on s.machine.format s.machine.items t (numbered s.machine.items i) r moment)
     (none-at s.machine is)
 
 no-relay : (s : State) (i r moment : ℕ) → s.machine.tables ≡ []
-    → relay_at s.machine (last_tables s.machine) i r moment ≡ None
+    → relay_at s.machine s.machine.format (last_tables s.machine) i r moment ≡ None
 no-relay s i r moment is =
-    ap (λ (t : Option (List ℕ)). relay_on t (numbered s.machine.items i) r moment) (none-at s.machine is)
+    ap (λ (t : Option (List ℕ)). relay_on s.machine.format t (numbered s.machine.items i) r moment)
+    (none-at s.machine is)
 
 not-both : {A : Type 0} (o : Option A) (x : A) → o ≡ None → o ≡ Some x → ⊥
 not-both {A = A} o x none some = let e : ◌≡◌ {A = Option A} None (Some x) = sym none ∙ some in cc
@@ -58,8 +60,10 @@ no-lane : (s : State) (n : ℕ) (lane : Lane) → IsKept s → s.machine.tables 
     → lane_at n s.lanes.open_lanes ≡ Some lane → ⊥
 no-lane s n lane kept is there = each-at (λ l. s.machine.tables ≢ []) s.lanes.open_lanes n lane there kept.recorded is
 
-no-step : (s : State) (c : Class) (moment : ℕ) → IsKept s → s.machine.tables ≡ [] → recorded_by c ≡ None
+no-step : (s : State) (c : Class) (moment : ℕ) → IsKept s → s.machine.tables ≡ [] → sets_rules c ≡ false
     → StepNeeds s c moment → MachineNeeds s c moment → ⊥
+no-step s (begins t) moment kept is other allowed needs = cc
+no-step s sets_format moment kept is other allowed needs = cc
 no-step s (records text) moment kept is other allowed needs = cc
 no-step s (accepts octets) moment kept is other allowed needs = needs.1 is
 no-step s (settles how i r) moment kept is other allowed needs = no-settling s how i r moment is needs
@@ -73,7 +77,7 @@ no-step s (on_lane n generation step) moment kept is other allowed needs =
     no-lane s n allowed.lane kept is allowed.lane_is
 
 pub nothing_but_tables : (s : State) (step : Step) → IsKept s → s.machine.tables ≡ []
-    → recorded_by (class_of step) ≡ None → IsPossible s step → ⊥
+    → sets_rules (class_of step) ≡ false → IsPossible s step → ⊥
 nothing_but_tables s step kept is other possible =
     no-step s (class_of step) (when s step) kept is other possible.allowed possible.as_machine
 
@@ -86,7 +90,8 @@ nothing_is_due s moment kept is i r due (inr d) = no-lane s d.number d.lane kept
 
 pub nothing_is_relayed : (s : State) (peer : List ℕ) (moment : ℕ) → s.machine.tables ≡ [] → IsNoBatch s peer moment
 nothing_is_relayed s peer moment is i r relayed =
-    not-both (relay_at s.machine (last_tables s.machine) i r moment) peer (no-relay s i r moment is) relayed.relayed
+    not-both (relay_at s.machine s.machine.format (last_tables s.machine) i r moment) peer (no-relay s i r moment is)
+    relayed.relayed
 
 pub nothing_waits : (s : State) (peer : List ℕ) → s.machine.tables ≡ [] → HasQueue s peer None
 nothing_waits s peer is text there =

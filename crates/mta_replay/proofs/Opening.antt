@@ -172,6 +172,7 @@ module _ (k : Kept) (role : LaneRole) (peer : List ℕ) (name : Identifier) (twa
         machine = s.machine;
         lanes = record { count = s.lanes.count + 1; open_lanes = s.lanes.open_lanes ++ l ∷ [] };
         moment = moment;
+        begun = true;
       }
 
     pub not_opened : (moment < k.moment) ⊎ (CanOpen (state_of k) role peer name size window → ⊥)

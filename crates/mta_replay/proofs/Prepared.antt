@@ -6,9 +6,9 @@ use Rattle.mta_records.specs.declared.step.Step.TheVariants as step
 use Rattle.mta_procedures.specs.declared.verdict.Verdict.{Verdict}
 use Rattle.mta_procedures.specs.declared.verdict.Verdict.TheVariants as Verdicts
 use Rattle.mta_machine.specs.Apdu.{value_of, is_report}
-use Rattle.mta_machine.specs.declared.item.Status.{Status}
-use Rattle.mta_machine.specs.declared.item.Status.TheVariants as Statuses
-use Rattle.mta_machine.specs.declared.item.MailboxLine.{MailboxLine}
+use Rattle.mta_records.specs.declared.state.Status.{Status}
+use Rattle.mta_records.specs.declared.state.Status.TheVariants as Statuses
+use Rattle.mta_records.specs.declared.state.MailboxLine.{MailboxLine}
 use Rattle.mta_machine.specs.Items.{ItemValue, Machine, numbered}
 use Rattle.mta_machine.specs.Rules.{mailbox_word, expansion, passed_back, verdict_of}
 use Rattle.mta_machine.specs.Machine.{Discharge, delivered, expanded, affirmed, not_delivered, discarded, passed}
@@ -19,7 +19,7 @@ use Rattle.mta_state.specs.Parts.{machine_of, made_items}
 use Rattle.mta_histories.specs.Classes.{deliver, expand, report, affirm, discard, back}
 use Rattle.mta_state.specs.declared.kept.Kept.{Kept}
 use Rattle.mta_state.specs.declared.change.Change.{Change}
-use Rattle.mta_state.specs.Asked.{IsTextOf, Expands, Passes}
+use Rattle.mta_state.specs.Asked.{IsTextOf}
 use Rattle.mta_state.specs.Kept.{state_of}
 use Rattle.mta_state.specs.Prepared.{Prepares}
 use Rattle.mta_state.specs.Settling.{IsDischarge}
@@ -42,7 +42,7 @@ there : (m : Machine) (i r moment : ℕ) (v : Verdict) → verdict_at m i r mome
 there m i r moment v is = by_both (numbered m.tables (last_tables m)) refl (numbered m.items i) refl is
   where
     by_both : (t : Option (List ℕ)) → numbered m.tables (last_tables m) ≡ t → (x : Option ItemValue)
-        → numbered m.items i ≡ x → verdict_on m.items t x r moment ≡ Some v → IsThere m i
+        → numbered m.items i ≡ x → verdict_on m.format m.items t x r moment ≡ Some v → IsThere m i
     by_both None text_is x item_is e = absurd cc
     by_both (Some text) text_is None item_is e = absurd cc
     by_both (Some text) text_is (Some item) item_is e = record {
@@ -154,57 +154,12 @@ discards k i r moment ready change change_is =
     let t = there (machine_of k.parts) i r moment Verdicts.Discard ready.verdict_is in
     discards-there k t.text t.item i r moment t.text_is t.item_is ready change change_is
 
--- ---- a list that is expanded
-
-unsettled : (made : Option ApduValue) (o : Option Verdict) (place : ℕ)
-    → option_map (settled made) o ≡ Some (Verdicts.Expand place) → o ≡ Some (Verdicts.Expand place)
-unsettled made None place e = absurd cc
-unsettled made (Some (Verdicts.Deliver p)) place e = absurd cc
-unsettled made (Some (Verdicts.Expand p)) place e = e
-unsettled made (Some (Verdicts.Relay p)) place e = absurd cc
-unsettled made (Some Verdicts.Affirm) place e = absurd cc
-unsettled made (Some (Verdicts.NonDeliver a b)) place e = absurd cc
-unsettled made (Some (Verdicts.Hold until)) place e = absurd cc
-unsettled None (Some Verdicts.Back) place e = absurd cc
-unsettled (Some v) (Some Verdicts.Back) place e = absurd cc
-unsettled made (Some Verdicts.Discard) place e = absurd cc
-
-pub settled-is : (m : Machine) (i r moment : ℕ) (text : List ℕ) (item : ItemValue)
+-- the verdict is the one before it is known what is passed back
+pub settled-is : (m : Machine) (format i r moment : ℕ) (text : List ℕ) (item : ItemValue) → format ≡ m.format
     → numbered m.tables (last_tables m) ≡ Some text → numbered m.items i ≡ Some item
     → verdict_at m i r moment
-    ≡ option_map (settled (passed_back text m.items item)) (verdict_of text item.octets item.arrival r moment)
-settled-is m i r moment text item text_is item_is =
-    ap (λ (t : Option (List ℕ)). verdict_on m.items t (numbered m.items i) r moment) text_is
-    ∙ ap (λ (x : Option ItemValue). verdict_on m.items (Some text) x r moment) item_is
-
-pub is_expanded : (m : Machine) (i r moment place : ℕ) (text : List ℕ) (item : ItemValue)
-    → numbered m.tables (last_tables m) ≡ Some text → numbered m.items i ≡ Some item
-    → verdict_at m i r moment ≡ Some (Verdicts.Expand place)
-    → Expands (verdict_of text item.octets item.arrival r moment)
-is_expanded m i r moment place text item text_is item_is verdict_is = (
-  place,
-  unsettled (passed_back text m.items item) (verdict_of text item.octets item.arrival r moment) place
-      (sym (settled-is m i r moment text item text_is item_is) ∙ verdict_is),
-)
-
--- ---- a report that is passed back
-
-unpassed : (made : Option ApduValue) (o : Option Verdict) → option_map (settled made) o ≡ Some Verdicts.Back
-    → o ≡ Some Verdicts.Back
-unpassed made None e = absurd cc
-unpassed made (Some (Verdicts.Deliver p)) e = absurd cc
-unpassed made (Some (Verdicts.Expand p)) e = absurd cc
-unpassed made (Some (Verdicts.Relay p)) e = absurd cc
-unpassed made (Some Verdicts.Affirm) e = absurd cc
-unpassed made (Some (Verdicts.NonDeliver a b)) e = absurd cc
-unpassed made (Some (Verdicts.Hold until)) e = absurd cc
-unpassed made (Some Verdicts.Back) e = refl
-unpassed made (Some Verdicts.Discard) e = absurd cc
-
-pub is_passed : (m : Machine) (i r moment : ℕ) (text : List ℕ) (item : ItemValue)
-    → numbered m.tables (last_tables m) ≡ Some text → numbered m.items i ≡ Some item
-    → verdict_at m i r moment ≡ Some Verdicts.Back
-    → Passes (verdict_of text item.octets item.arrival r moment)
-is_passed m i r moment text item text_is item_is verdict_is =
-    unpassed (passed_back text m.items item) (verdict_of text item.octets item.arrival r moment)
-    (sym (settled-is m i r moment text item text_is item_is) ∙ verdict_is)
+    ≡ option_map (settled (passed_back text m.items item)) (verdict_of format text item.octets item.arrival r moment)
+settled-is m format i r moment text item format_is text_is item_is =
+    ap (λ (t : Option (List ℕ)). verdict_on m.format m.items t (numbered m.items i) r moment) text_is
+    ∙ (ap (λ (x : Option ItemValue). verdict_on m.format m.items (Some text) x r moment) item_is
+    ∙ ap (λ (f : ℕ). verdict_on f m.items (Some text) (Some item) r moment) (sym format_is))

@@ -9,7 +9,7 @@ use Rattle.mta_report.specs.declared.fields.ReportFields.{ReportFields}
 use Rattle.mta_apdu.specs.Apdus.{ApduValue, message, probe, report}
 use Rattle.mta_tables.specs.Tables.{TablesValue}
 use Rattle.mta_procedures.specs.Reports as reports
-use Rattle.mta_machine.specs.declared.item.Status.{Status}
+use Rattle.mta_records.specs.declared.state.Status.{Status}
 use Rattle.mta_machine.specs.Apdu.{is_report, value_of}
 use Rattle.mta_machine.specs.Items.{ItemValue}
 use Rattle.mta_machine.specs.Rules.{Failure, non_delivery_report, read_both, report_on}

@@ -3,9 +3,9 @@ use Rattle.std.proofs.Common.{◌≡◌, ◌≢◌, ◌<◌, ◌^◌, ℕ, zero,
 use Rattle.std.proofs.Common.{Option, Some, None, refl, sym, ap, ◌∙◌, arith, append-nil}
 use Rattle.std.proofs.lemmas.List.{set-get_or, set-set}
 use Rattle.std.proofs.lemmas.Option.{get_or_from_slice_get}
-use Rattle.mta_machine.specs.declared.item.Status.{Status}
-use Rattle.mta_machine.specs.declared.item.Status.TheVariants.{Sent}
-use Rattle.mta_machine.specs.declared.item.MailboxLine.{MailboxLine}
+use Rattle.mta_records.specs.declared.state.Status.{Status}
+use Rattle.mta_records.specs.declared.state.Status.TheVariants.{Sent}
+use Rattle.mta_records.specs.declared.state.MailboxLine.{MailboxLine}
 use Rattle.mta_apdu.specs.Apdus.{ApduValue}
 use Rattle.mta_machine.specs.Items.{ItemValue, Machine, numbered, set_numbered}
 use Rattle.mta_machine.specs.Machine.{discharge, items_after, last_tables, lines_of, machine_after}
@@ -83,32 +83,32 @@ module _ (i : ℕ) (peer : List ℕ) (moment : ℕ) where
 
   -- ---- at once
 
-  module _ (tables decided : ℕ) where
+  module _ (tables decided format : ℕ) where
     no_items : (m : Machine) (item : ItemValue) (o : Option (List ℕ)) (rs : List ℕ)
-        → made_for m item o rs (sent peer tables decided) moment ≡ []
+        → made_for m item o rs (sent peer tables decided format) moment ≡ []
     no_items m item None rs = refl
     no_items m item (Some text) [] = refl
     no_items m item (Some text) (r ∷ rs) = refl
 
-    no_lines : (m : Machine) (rs : List ℕ) → lines_of m i rs (sent peer tables decided) moment ≡ []
+    no_lines : (m : Machine) (rs : List ℕ) → lines_of m i rs (sent peer tables decided format) moment ≡ []
     no_lines m [] = refl
     no_lines m (r ∷ rs) = refl
 
     items_then : (m : Machine) (item : ItemValue) (rs : List ℕ) → numbered m.items i ≡ Some item
-        → items_after m (numbered m.items i) i rs (sent peer tables decided) moment
+        → items_after m (numbered m.items i) i rs (sent peer tables decided format) moment
         ≡ set_numbered m.items i (settled item rs status)
     items_then m item rs is =
-        ap (λ (o : Option ItemValue). items_after m o i rs (sent peer tables decided) moment) is
+        ap (λ (o : Option ItemValue). items_after m o i rs (sent peer tables decided format) moment) is
         ∙ (ap (λ (vs : List ApduValue).
         set_numbered m.items i (settled item rs status) ++ map (own_item moment) vs)
         (no_items m item (numbered m.tables (last_tables m)) rs)
         ∙ append-nil (set_numbered m.items i (settled item rs status)))
 
     at_once : (m : Machine) (item : ItemValue) (rs : List ℕ) → numbered m.items i ≡ Some item
-        → machine_after m (discharge i rs (sent peer tables decided) moment) ≡ sent_to m item rs
+        → machine_after m (discharge i rs (sent peer tables decided format) moment) ≡ sent_to m item rs
     at_once m item rs is =
         ap (λ (items : List ItemValue).
-        machine_with m items (m.mailboxes ++ lines_of m i rs (sent peer tables decided) moment) moment)
+        machine_with m items (m.mailboxes ++ lines_of m i rs (sent peer tables decided format) moment) moment)
         (items_then m item rs is)
         ∙ (ap (λ (ls : List MailboxLine).
         machine_with m (set_numbered m.items i (settled item rs status)) (m.mailboxes ++ ls) moment)
@@ -124,7 +124,7 @@ pub sent_in_order : (m : Machine) (t : Transfer) (item : ItemValue) (peer : List
     ≡ machine_run m (sendings peer moment (Some t))
 sent_in_order m t item peer moment is some =
     all_sent t.item peer moment t.recipients m item is some
-    ∙ sym (at_once t.item peer moment t.tables t.moment m item t.recipients is)
+    ∙ sym (at_once t.item peer moment t.tables t.moment t.format m item t.recipients is)
 
 -- and there are as many items as before
 pub sent_few : (m : Machine) (t : Transfer) (item : ItemValue) (peer : List ℕ) (moment : ℕ)
@@ -132,6 +132,6 @@ pub sent_few : (m : Machine) (t : Transfer) (item : ItemValue) (peer : List ℕ)
     → length (machine_run m (sendings peer moment (Some t))).items < 2 ^ 32
 sent_few m t item peer moment is few =
     let once = ap (λ (x : Machine). length x.items)
-    (at_once t.item peer moment t.tables t.moment m item t.recipients is) in
+    (at_once t.item peer moment t.tables t.moment t.format m item t.recipients is) in
     let same = length-set_numbered m.items t.item (settled item t.recipients (Sent moment peer)) in
     omega (arith, once, same, few)

@@ -5,8 +5,8 @@ use Rattle.std.specs.Prelude.{option_to_list}
 use Rattle.std.proofs.lemmas.Bool.{ltb-true, ltb-false}
 use Rattle.mta_records.specs.declared.step.Step.{Step}
 use Rattle.mta_procedures.specs.declared.verdict.Verdict.{Verdict}
-use Rattle.mta_machine.specs.declared.item.Status.{Status}
-use Rattle.mta_machine.specs.declared.item.MailboxLine.{MailboxLine}
+use Rattle.mta_records.specs.declared.state.Status.{Status}
+use Rattle.mta_records.specs.declared.state.MailboxLine.{MailboxLine}
 use Rattle.mta_machine.specs.Items.{ItemValue, Machine, numbered, is_pending_at}
 use Rattle.mta_machine.specs.Machine.{Discharge, discharge, IsJustified, Needs, verdict_at}
 use Rattle.mta_machine.proofs.Later.{length-set_numbered}

@@ -1,42 +1,46 @@
 -- What is sound before a step is sound behind it.
-use Rattle.std.proofs.Common.{◌≡◌, ◌≢◌, ℕ, zero, suc, ◌+◌, ◌≤◌, ◌<◌, ◌^◌, Bool, true, false, cond, List, [], ◌∷◌}
+use Rattle.std.proofs.Common.{◌≡◌, ℕ, suc, ◌≤◌, ◌<◌, ◌^◌, Bool, true, false, cond, List, [], ◌∷◌}
 use Rattle.std.proofs.Common.{◌++◌, length}
 use Rattle.std.proofs.Common.{map, Option, Some, None, refl, sym, ap, subst, ◌∙◌, arith}
-use Rattle.std.specs.Prelude.{IfSome, is_some, option_map, slice_get}
+use Rattle.std.specs.Prelude.{IfSome, is_some, slice_get}
 use Rattle.std.proofs.lemmas.List.{length-append}
 use Rattle.std.proofs.lemmas.List.Elements.{All-nil}
-use Rattle.std.specs.List.{All, concat}
+use Rattle.std.proofs.lemmas.Option.{same_Some}
+use Rattle.std.specs.List.{All}
 use Rattle.mta_ber.specs.Times.{last_moment}
 use Rattle.mta_lane_send.specs.Half.{is_ending}
 use Rattle.mta_records.specs.declared.step.Step.{Step}
 use Rattle.mta_records.specs.declared.step.Step.TheVariants.{Tables, Accept, Deliver, Expand, Report, Affirm, Discard}
 use Rattle.mta_records.specs.declared.step.Step.TheVariants.{Back, LaneOpen, LaneAgree, Bind, Start, Confirm, Ending}
 use Rattle.mta_records.specs.declared.step.Step.TheVariants.{Sent, Refused, Denied, Dropped, Abandon, Secure, Complete}
-use Rattle.mta_records.specs.declared.step.Step.TheVariants.{Drop, CloseLane}
+use Rattle.mta_records.specs.declared.step.Step.TheVariants.{Drop, CloseLane, Snapshot, Format}
 use Rattle.mta_records.specs.Body.{HasFields}
 use Rattle.mta_dues.specs.Index.{IsIndexed}
 use Rattle.mta_dues.proofs.Indexed.{fresh, indexes_stay}
-use Rattle.mta_machine.specs.Items.{ItemValue, Machine, numbered}
-use Rattle.mta_machine.specs.Rules.{Failure, denied, expired}
-use Rattle.mta_machine.specs.Machine.{MachineStep, discharge, failed, last_tables, machine_run}
+use Rattle.mta_machine.specs.Items.{Machine, numbered}
+use Rattle.mta_machine.specs.Rules.{Failure, denied, expired, is_tables_text}
+use Rattle.mta_machine.specs.Machine.{discharge, failed, last_tables, machine_run}
 use Rattle.mta_histories.specs.Classes.{was_sent, was_refused, was_denied, was_dropped, LaneStep, agree, bind, start}
 use Rattle.mta_histories.specs.Classes.{confirm, to_end, settle, abandon, secure, complete, drop_pieces, close}
-use Rattle.mta_histories.specs.Classes.{Class, records, accepts, settles, opens, on_lane, class_of, moment_of}
+use Rattle.mta_histories.specs.Classes.{Class, begins, sets_format, records, accepts, settles, opens, on_lane}
+use Rattle.mta_histories.specs.Classes.{class_of, moment_of}
 use Rattle.mta_histories.specs.Lanes.{Transfer, Lane, State, empty, lane_at, is_dropping}
 use Rattle.mta_histories.specs.History.{StepNeeds, MachineNeeds, LaneNeeds, IsPossible, after_step, class_steps}
-use Rattle.mta_histories.specs.History.{lane_steps}
-use Rattle.mta_histories.specs.History.{on_lane_steps, outcome_steps, failures, sendings, failure_of_kind, later, when}
+use Rattle.mta_histories.specs.History.{lane_steps, machine_left, machine_steps}
+use Rattle.mta_histories.specs.History.{on_lane_steps, failures, sendings, failure_of_kind, later, when}
 use Rattle.mta_histories.specs.Kept.{IsKept}
 use Rattle.mta_histories.proofs.Keeps.{histories_keep, steps_keep}
+use Rattle.mta_histories.proofs.Runs.{left-runs}
 use Rattle.mta_state.specs.Parts.{machine_of}
 use Rattle.mta_state.specs.declared.kept.Kept.{Kept}
 use Rattle.mta_state.specs.declared.change.Change.{Change}
 use Rattle.mta_state.specs.Asked.{IsStored}
 use Rattle.mta_state.specs.Kept.{state_of, changed_state}
 use Rattle.mta_replay.specs.declared.replay.InForce.{InForce}
-use Rattle.mta_replay.specs.Ready.{recorded_by, AreFresh, IsReady}
-use Rattle.mta_replay.specs.Sound.{AreLast, IsIndexedUnder, IsSound}
-use Rattle.mta_replay.proofs.Stored.{EachFits, stored-run, tables-stay}
+use Rattle.mta_replay.specs.Ready.{sets_rules, AreFresh, AreMade, IsReady}
+use Rattle.mta_replay.specs.Sound.{AreInForce, AreLast, IsIndexedUnder, IsSound, ReadsLast}
+use Rattle.mta_replay.proofs.Begins.{begins-in-time, begins-stored}
+use Rattle.mta_replay.proofs.Stored.{EachFits, HasRulesOf, rules-stay, stored-run}
 
 -- ---- moments
 
@@ -64,6 +68,8 @@ moment-fits (Secure lane generation activity number piece) f = tt
 moment-fits (Complete lane generation activity number piece moment) f = f.1.1
 moment-fits (Drop lane generation activity) f = tt
 moment-fits (CloseLane lane generation) f = tt
+moment-fits (Snapshot state) f = begins-in-time state f
+moment-fits (Format version) f = tt
 
 pub fits_of : (step : Step) (moment : ℕ) → HasFields step → moment_of step ≡ Some moment → moment ≤ last_moment
 fits_of step moment fields is =
@@ -121,8 +127,10 @@ lane-fits s lane close moment fits needs = tt
 some-is : (a b : Lane) → ◌≡◌ {A = Option Lane} (Some a) (Some b) → a ≡ b
 some-is a b e = cc
 
-class-fits : (s : State) (c : Class) (moment : ℕ) → moment ≤ last_moment → recorded_by c ≡ None
+class-fits : (s : State) (c : Class) (moment : ℕ) → moment ≤ last_moment → sets_rules c ≡ false
     → StepNeeds s c moment → MachineNeeds s c moment → EachFits (class_steps s c moment)
+class-fits s (begins t) moment fits other allowed needs = absurd cc
+class-fits s sets_format moment fits other allowed needs = absurd cc
 class-fits s (records text) moment fits other allowed needs = absurd cc
 class-fits s (accepts octets) moment fits other allowed needs = ((needs.0, fits), tt)
 class-fits s (settles how i r) moment fits other allowed needs = (fits, tt)
@@ -149,77 +157,147 @@ numbered-last ts t =
 
 -- ---- a step
 
-records-of : (c : Class) (text : List ℕ) → recorded_by c ≡ Some text → c ≡ records text
-records-of (records other) text e = cc
-records-of (accepts octets) text e = absurd cc
-records-of (settles how i r) text e = absurd cc
-records-of (opens role peer reference twa checkpoint window) text e = absurd cc
-records-of (on_lane n generation step) text e = absurd cc
+-- a snapshot has its fields
+abbrev HasState : Class → Type 0
+HasState (begins t) = HasFields (Snapshot t)
+HasState c = Unit {0}
 
-stored-after : (s : State) (step : Step) → HasFields step → s.moment ≤ last_moment → IsPossible s step
-    → All IsStored s.machine.items → All IsStored (after_step s step).machine.items
-stored-after s step fields timely possible stored = by_text (recorded_by (class_of step)) refl
-  where
-    by_text : (o : Option (List ℕ)) → recorded_by (class_of step) ≡ o
-        → All IsStored (after_step s step).machine.items
-    by_text None e =
-        stored-run s.machine (class_steps s (class_of step) (when s step))
-        (class-fits s (class_of step) (when s step) (when-fits s step fields timely) e possible.allowed
-        possible.as_machine) stored
-    by_text (Some text) e =
-        subst (λ (c : Class). All IsStored (machine_run s.machine (class_steps s c (when s step))).items)
-        (sym (records-of (class_of step) text e)) stored
+has-state : (step : Step) → HasFields step → HasState (class_of step)
+has-state (Snapshot t) f = f
+has-state step f = tt
 
--- the rules behind a step that records tables, or others
+stored-class : (s : State) (c : Class) (moment : ℕ) → moment ≤ last_moment → HasState c → StepNeeds s c moment
+    → MachineNeeds s c moment → All IsStored s.machine.items → All IsStored (machine_left s c moment).items
+stored-class s (begins t) moment fits fields allowed needs stored = begins-stored t fields allowed.sound.items
+stored-class s sets_format moment fits fields allowed needs stored = stored
+stored-class s (records text) moment fits fields allowed needs stored = stored
+stored-class s (accepts octets) moment fits fields allowed needs stored =
+    stored-run s.machine (class_steps s (accepts octets) moment)
+    (class-fits s (accepts octets) moment fits refl allowed needs) stored
+stored-class s (settles how i r) moment fits fields allowed needs stored =
+    stored-run s.machine (class_steps s (settles how i r) moment)
+    (class-fits s (settles how i r) moment fits refl allowed needs) stored
+stored-class s (opens role peer reference twa checkpoint window) moment fits fields allowed needs stored = stored
+stored-class s (on_lane n generation step) moment fits fields allowed needs stored =
+    stored-run s.machine (class_steps s (on_lane n generation step) moment)
+    (class-fits s (on_lane n generation step) moment fits refl allowed needs) stored
+
+-- where no rules are made the machine is left as by its steps
+left-so : (s : State) (c : Class) (moment : ℕ) → sets_rules c ≡ false
+    → machine_left s c moment ≡ machine_run s.machine (class_steps s c moment)
+left-so s c moment other =
+    left-runs s c moment (λ t e. let both : true ≡ false = sym (ap sets_rules e) ∙ other in absurd cc)
+
+some-recorded : (ts : List (List ℕ)) (text : List ℕ) → ts ++ text ∷ [] ≡ [] → ⊥
+some-recorded [] text e = cc
+some-recorded (t ∷ ts) text e = cc
+
+-- where they are made, and there are none, no tables were recorded before
+none-before : (s : State) (c : Class) (moment : ℕ) → IsKept s → StepNeeds s c moment → sets_rules c ≡ true
+    → (machine_left s c moment).tables ≡ [] → s.machine.tables ≡ []
+none-before s (begins t) moment kept allowed anew none =
+    ap (λ (x : State). x.machine.tables) (kept.at_first allowed.first)
+none-before s sets_format moment kept allowed anew none = none
+none-before s (records text) moment kept allowed anew none = absurd (some-recorded s.machine.tables text none)
+none-before s (accepts octets) moment kept allowed anew none = absurd cc
+none-before s (settles how i r) moment kept allowed anew none = absurd cc
+none-before s (opens role peer reference twa checkpoint window) moment kept allowed anew none = absurd cc
+none-before s (on_lane n generation step) moment kept allowed anew none = absurd cc
+
+-- the rules behind a step for which some are made, or others
 abbrev pub rules_after : {R : Type 0} → Option R → Option R → Option R
 rules_after old None = old
 rules_after old (Some new) = Some new
 
-module _ {R : Type 0} (text : R → List ℕ) where
-  stays-last : (m n : Machine) (rules : Option (InForce R)) → n.tables ≡ m.tables → AreLast text m rules
-      → AreLast text n rules
-  stays-last m n None same last = same ∙ last
-  stays-last m n (Some r) same last = ap (λ (ts : List (List ℕ)). numbered ts (length ts)) same ∙ last
+module _ {R : Type 0} (format : R → ℕ) (text : R → List ℕ) where
+  stays-last : (m n : Machine) (rules : Option (InForce R)) → HasRulesOf m n → AreLast format text m rules
+      → AreLast format text n rules
+  stays-last m n None same last = same.tables ∙ last
+  stays-last m n (Some r) same last = record {
+    in_format = last.in_format ∙ sym same.format;
+    last = ap (λ (ts : List (List ℕ)). numbered ts (length ts)) same.tables ∙ last.last;
+    reads = last.reads;
+  }
 
-  last-after : (s : State) (step : Step) (old new : Option (InForce R)) → HasFields step → s.moment ≤ last_moment
-      → IsPossible s step → option_map (λ (force : InForce R). text force.rules) new ≡ recorded_by (class_of step)
-      → AreLast text s.machine old
-      → AreLast text (after_step s step).machine (rules_after old new)
-  last-after s step old None fields timely possible under last =
-      stays-last s.machine (after_step s step).machine old
-      (tables-stay s.machine (class_steps s (class_of step) (when s step))
-      (class-fits s (class_of step) (when s step) (when-fits s step fields timely) (sym under) possible.allowed
-      possible.as_machine)) last
-  last-after s step old (Some r) fields timely possible under last =
-      subst (λ (c : Class). AreLast text (machine_run s.machine (class_steps s c (when s step))) (Some r))
-      (sym (records-of (class_of step) (text r.rules) (sym under)))
-      (numbered-last s.machine.tables (text r.rules))
+  -- there are no rules where no tables were recorded
+  none-without : (m : Machine) (rules : Option (InForce R)) → AreLast format text m rules → m.tables ≡ []
+      → rules ≡ None
+  none-without m None last none = refl
+  none-without m (Some r) last none =
+      let nothing : numbered m.tables (last_tables m) ≡ None =
+      ap (λ (ts : List (List ℕ)). numbered ts (length ts)) none in
+      let both : None ≡ Some (text r.rules) = sym nothing ∙ last.last in absurd cc
 
-  -- what is known of items stays true under the same rules, and of other rules nothing is known yet
-  indexed-after : (s : State) (step : Step) (old new : Option (InForce R)) → AreFresh new
-      → IsIndexedUnder text s.machine old → IsIndexedUnder text (after_step s step).machine (rules_after old new)
-  indexed-after s step None None unknown indexed = tt
-  indexed-after s step (Some f) None unknown indexed =
-      indexes_stay (text f.rules) s.machine (class_steps s (class_of step) (when s step)) f.index indexed
-  indexed-after s step None (Some f) unknown indexed =
-      fresh (text f.rules) (after_step s step).machine.items f.index unknown.0 unknown.1
-  indexed-after s step (Some other) (Some f) unknown indexed =
-      fresh (text f.rules) (after_step s step).machine.items f.index unknown.0 unknown.1
+  -- a step that is possible, and the rules that are made for it
+  module _ (s : State) (step : Step) (kept : IsKept s) (fields : HasFields step) (timely : s.moment ≤ last_moment)
+      (possible : IsPossible s step)
+    where
+      abbrev now : Machine
+      now = (after_step s step).machine
+
+      now-fits : when s step ≤ last_moment
+      now-fits = when-fits s step fields timely
+
+      stored-after : All IsStored s.machine.items → All IsStored now.items
+      stored-after stored =
+          stored-class s (class_of step) (when s step) now-fits (has-state step fields) possible.allowed
+          possible.as_machine stored
+
+      runs-so : sets_rules (class_of step) ≡ false → now ≡ machine_run s.machine (machine_steps s step)
+      runs-so other = left-so s (class_of step) (when s step) other
+
+      has-rules : sets_rules (class_of step) ≡ false → HasRulesOf s.machine now
+      has-rules other =
+          subst (λ (m : Machine). HasRulesOf s.machine m) (sym (runs-so other))
+          (rules-stay s.machine (machine_steps s step)
+          (class-fits s (class_of step) (when s step) now-fits other possible.allowed possible.as_machine))
+
+      no-rules : (old : Option (InForce R)) → AreLast format text s.machine old → sets_rules (class_of step) ≡ true
+          → now.tables ≡ [] → old ≡ None
+      no-rules old last anew none =
+          none-without s.machine old last
+          (none-before s (class_of step) (when s step) kept possible.allowed anew none)
+
+      last-after : (anew : Bool) (old new : Option (InForce R)) → sets_rules (class_of step) ≡ anew
+          → AreMade format text anew now new → AreLast format text s.machine old
+          → AreLast format text now (rules_after old new)
+      last-after true old None anew made last =
+          subst (λ (o : Option (InForce R)). AreLast format text now o) (sym (no-rules old last anew made)) made
+      last-after true old (Some r) anew made last = made
+      last-after false old None other made last = stays-last s.machine now old (has-rules other) last
+      last-after false old (Some r) other made last = absurd cc
+
+      -- what is known of items stays true under the same rules, and of other rules nothing is known yet
+      indexed-after : (anew : Bool) (old new : Option (InForce R)) → sets_rules (class_of step) ≡ anew
+          → AreMade format text anew now new → AreFresh new → AreLast format text s.machine old
+          → IsIndexedUnder format text s.machine old → IsIndexedUnder format text now (rules_after old new)
+      indexed-after true old None anew made unknown last indexed =
+          subst (λ (o : Option (InForce R)). IsIndexedUnder format text now o) (sym (no-rules old last anew made)) tt
+      indexed-after false None None other made unknown last indexed = tt
+      indexed-after false (Some f) None other made unknown last indexed =
+          subst (λ (m : Machine). IsIndexed (format f.rules) (text f.rules) m.items f.index) (sym (runs-so other))
+          (indexes_stay (format f.rules) (text f.rules) s.machine (machine_steps s step) f.index indexed)
+      indexed-after anew None (Some f) is made unknown last indexed =
+          fresh (format f.rules) (text f.rules) now.items f.index unknown.0 unknown.1
+      indexed-after anew (Some other) (Some f) is made unknown last indexed =
+          fresh (format f.rules) (text f.rules) now.items f.index unknown.0 unknown.1
 
   pub sound_after : (kept new : Kept) (old ready : Option (InForce R)) (step : Step) (change : Change)
-      → IsSound text kept old → HasFields step → IsReady text (state_of kept) step change ready
-      → state_of new ≡ changed_state (state_of kept) change → IsSound text new (rules_after old ready)
+      → IsSound format text kept old → HasFields step → IsReady format text (state_of kept) step change ready
+      → state_of new ≡ changed_state (state_of kept) change → IsSound format text new (rules_after old ready)
   sound_after kept new old ready step change sound fields is changed = record {
     of_history = subst IsKept (sym same) (steps_keep (state_of kept) step sound.of_history possible);
     stored = subst (λ (t : State). All IsStored t.machine.items) (sym same)
-        (stored-after (state_of kept) step fields sound.timely possible sound.stored);
+        (stored-after (state_of kept) step sound.of_history fields sound.timely possible sound.stored);
     numbers = subst (λ (t : State). length t.machine.items < 2 ^ 32) (sym same) possible.numbers;
     timely = subst (λ (t : State). t.moment ≤ last_moment) (sym same)
         (when-fits (state_of kept) step fields sound.timely);
-    last = subst (λ (t : State). AreLast text t.machine (rules_after old ready)) (sym same)
-        (last-after (state_of kept) step old ready fields sound.timely possible is.under sound.last);
-    indexed = subst (λ (t : State). IsIndexedUnder text t.machine (rules_after old ready)) (sym same)
-        (indexed-after (state_of kept) step old ready is.fresh sound.indexed);
+    last = subst (λ (t : State). AreLast format text t.machine (rules_after old ready)) (sym same)
+        (last-after (state_of kept) step sound.of_history fields sound.timely possible (sets_rules (class_of step)) old
+        ready refl is.under sound.last);
+    indexed = subst (λ (t : State). IsIndexedUnder format text t.machine (rules_after old ready)) (sym same)
+        (indexed-after (state_of kept) step sound.of_history fields sound.timely possible (sets_rules (class_of step))
+        old ready refl is.under is.fresh sound.last sound.indexed);
   } where
     possible : IsPossible (state_of kept) step
     possible = is.is_change.possible
@@ -229,46 +307,47 @@ module _ {R : Type 0} (text : R → List ℕ) where
 
   -- as the rules are that the step records, or those of before
   pub sound_new : (kept new : Kept) (old ready : Option (InForce R)) (step : Step) (change : Change)
-      → IsSound text kept old → HasFields step → IsReady text (state_of kept) step change ready
-      → state_of new ≡ changed_state (state_of kept) change → is_some ready ≡ true → IsSound text new ready
+      → IsSound format text kept old → HasFields step → IsReady format text (state_of kept) step change ready
+      → state_of new ≡ changed_state (state_of kept) change → is_some ready ≡ true → IsSound format text new ready
   sound_new kept new old None step change sound fields is changed some = absurd cc
   sound_new kept new old (Some r) step change sound fields is changed some =
       sound_after kept new old (Some r) step change sound fields is changed
 
   pub sound_old : (kept new : Kept) (old ready : Option (InForce R)) (step : Step) (change : Change)
-      → IsSound text kept old → HasFields step → IsReady text (state_of kept) step change ready
-      → state_of new ≡ changed_state (state_of kept) change → is_some ready ≡ false → IsSound text new old
+      → IsSound format text kept old → HasFields step → IsReady format text (state_of kept) step change ready
+      → state_of new ≡ changed_state (state_of kept) change → is_some ready ≡ false → IsSound format text new old
   sound_old kept new old None step change sound fields is changed none =
       sound_after kept new old None step change sound fields is changed
   sound_old kept new old (Some r) step change sound fields is changed none = absurd cc
 
   -- the same state is as sound
   pub sound_still : (kept new : Kept) (rules : Option (InForce R)) → state_of new ≡ state_of kept
-      → IsSound text kept rules → IsSound text new rules
+      → IsSound format text kept rules → IsSound format text new rules
   sound_still kept new rules same sound = record {
     of_history = subst IsKept (sym same) sound.of_history;
     stored = subst (λ (t : State). All IsStored t.machine.items) (sym same) sound.stored;
     numbers = subst (λ (t : State). length t.machine.items < 2 ^ 32) (sym same) sound.numbers;
     timely = subst (λ (t : State). t.moment ≤ last_moment) (sym same) sound.timely;
-    last = subst (λ (t : State). AreLast text t.machine rules) (sym same) sound.last;
-    indexed = subst (λ (t : State). IsIndexedUnder text t.machine rules) (sym same) sound.indexed;
+    last = subst (λ (t : State). AreLast format text t.machine rules) (sym same) sound.last;
+    indexed = subst (λ (t : State). IsIndexedUnder format text t.machine rules) (sym same) sound.indexed;
   }
 
   -- and so it is with another index, as long as that is true
   pub sound_with : (kept : Kept) (force new : InForce R) → new.rules ≡ force.rules
-      → IsIndexed (text force.rules) kept.parts.items.items new.index → IsSound text kept (Some force)
-      → IsSound text kept (Some new)
+      → IsIndexed (format force.rules) (text force.rules) kept.parts.items.items new.index
+      → IsSound format text kept (Some force)
+      → IsSound format text kept (Some new)
   sound_with kept force new same indexed sound = record {
     of_history = sound.of_history;
     stored = sound.stored;
     numbers = sound.numbers;
     timely = sound.timely;
-    last = sound.last ∙ ap (λ (r : R). Some (text r)) (sym same);
-    indexed = subst (λ (r : R). IsIndexed (text r) kept.parts.items.items new.index) (sym same) indexed;
+    last = subst (λ (r : R). AreInForce (format r) (text r) (machine_of kept.parts)) (sym same) sound.last;
+    indexed = subst (λ (r : R). IsIndexed (format r) (text r) kept.parts.items.items new.index) (sym same) indexed;
   }
 
   -- and so is the state after no step
-  pub sound_at_first : (kept : Kept) → state_of kept ≡ empty → IsSound text kept None
+  pub sound_at_first : (kept : Kept) → state_of kept ≡ empty → IsSound format text kept None
   sound_at_first kept same = record {
     of_history = subst IsKept (sym same) (histories_keep [] tt);
     stored = subst (λ (t : State). All IsStored t.machine.items) (sym same) (All-nil IsStored);
@@ -277,3 +356,14 @@ module _ {R : Type 0} (text : R → List ℕ) where
     last = ap (λ (t : State). t.machine.tables) same;
     indexed = tt;
   }
+
+  -- the text recorded last is one of tables
+  pub sound_reads : (kept : Kept) (rules : Option (InForce R)) → IsSound format text kept rules
+      → ReadsLast (machine_of kept.parts)
+  sound_reads kept None sound read is =
+      let none : numbered kept.parts.texts.items (length kept.parts.texts.items) ≡ None =
+      ap (λ (ts : List (List ℕ)). numbered ts (length ts)) sound.last in
+      let both : None ≡ Some read = sym none ∙ is in absurd cc
+  sound_reads kept (Some force) sound read is =
+      subst (λ (t : List ℕ). is_tables_text t ≡ true)
+      (same_Some (text force.rules) read (sym sound.last.last ∙ is)) sound.last.reads

@@ -129,17 +129,20 @@ copied_is m i rs moment text item octets text_is item_is copy =
     ∙ (ap (λ (o : Option ItemValue). copied (Some text) o rs moment) (sym item_is)
     ∙ ap (λ (o : Option (List ℕ)). copied o (numbered m.items i) rs moment) (sym text_is))
 
-pub transfer_is : (m : Machine) (i : ℕ) (rs : List ℕ) (moment tables : ℕ) (text : List ℕ) (item : ItemValue)
-    (octets : List ℕ) → numbered m.tables (last_tables m) ≡ Some text → numbered m.items i ≡ Some item
+pub transfer_is : (m : Machine) (i : ℕ) (rs : List ℕ) (moment tables format : ℕ) (text : List ℕ) (item : ItemValue)
+    (octets : List ℕ) → format ≡ m.format → numbered m.tables (last_tables m) ≡ Some text → numbered m.items i
+    ≡ Some item
     → Some octets ≡ outgoing_copy text item.octets item.arrival rs moment → tables ≡ length m.tables
-    → record { item = i; recipients = rs; moment = moment; tables = tables; octets = octets }
+    → record { item = i; recipients = rs; moment = moment; tables = tables; format = format; octets = octets }
     ≡ transfer_of m i rs moment
-transfer_is m i rs moment tables text item octets text_is item_is copy count =
-    ap (λ (t : ℕ). made t octets) count
-    ∙ ap (λ (o : List ℕ). made (length m.tables) o) (copied_is m i rs moment text item octets text_is item_is copy)
+transfer_is m i rs moment tables format text item octets format_is text_is item_is copy count =
+    ap (λ (t : ℕ). made t format octets) count
+    ∙ (ap (λ (f : ℕ). made (length m.tables) f octets) format_is
+    ∙ ap (λ (o : List ℕ). made (length m.tables) m.format o)
+    (copied_is m i rs moment text item octets text_is item_is copy))
   where
-    made : ℕ → List ℕ → Transfer
-    made t o = record { item = i; recipients = rs; moment = moment; tables = t; octets = o }
+    made : ℕ → ℕ → List ℕ → Transfer
+    made t f o = record { item = i; recipients = rs; moment = moment; tables = t; format = f; octets = o }
 
 -- ---- whether the next one may be started
 
@@ -173,23 +176,26 @@ module _ (k : Kept) (n g i : ℕ) (rs : List ℕ) (moment : ℕ) where
           };
         })
 
-    module _ (peer text : List ℕ) (item : ItemValue) (one : ℕ) (peer_is : peer ≡ lane.peer)
+    module _ (peer text : List ℕ) (item : ItemValue) (format one : ℕ) (peer_is : peer ≡ lane.peer)
+        (format_is : format ≡ k.parts.format)
         (text_is : numbered k.parts.texts.items (length k.parts.texts.items) ≡ Some text)
         (item_is : Some item ≡ numbered k.parts.items.items i)
         (goes : OneOf (state_of k) peer moment i rs (Some one))
       where
         -- the verdict on one of those who go relays
-        pub one_relays : Relays (verdict_of text item.octets item.arrival one moment)
+        pub one_relays : Relays (verdict_of format text item.octets item.arrival one moment)
         one_relays =
-            relay-verdict text (verdict_of text item.octets item.arrival one moment) peer
-            (sym (ap (λ (o : Option (List ℕ)). relay_on o (numbered k.parts.items.items i) one moment) text_is
-            ∙ ap (λ (o : Option ItemValue). relay_on (Some text) o one moment) (sym item_is))
-            ∙ (goes.0.each one goes.1).relayed)
+            relay-verdict text (verdict_of format text item.octets item.arrival one moment) peer
+            (ap (λ (f : ℕ). relay_on f (Some text) (Some item) one moment) format_is
+            ∙ (sym (ap (λ (o : Option (List ℕ)).
+            relay_on k.parts.format o (numbered k.parts.items.items i) one moment) text_is
+            ∙ ap (λ (o : Option ItemValue). relay_on k.parts.format (Some text) o one moment) (sym item_is))
+            ∙ (goes.0.each one goes.1).relayed))
 
         -- and so there is a copy for them
         copy_made : (copy : List ℕ) × (outgoing_copy text item.octets item.arrival rs moment ≡ Some copy)
         copy_made =
-            copies_are_made text item.octets item.arrival one moment (Verdicts.Relay one_relays.0) rs moment
+            copies_are_made format text item.octets item.arrival one moment (Verdicts.Relay one_relays.0) rs moment
             one_relays.1
 
         may_start : MayStartNext (state_of k) n g i rs moment

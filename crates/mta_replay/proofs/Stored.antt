@@ -1,5 +1,5 @@
 -- What is stored keeps its bounds: each item arrived up to the last moment of 2049, and its recipients have numbers.
-use Rattle.std.proofs.Common.{◌≡◌, ℕ, zero, suc, ◌+◌, ◌≤◌, ◌<◌, ◌^◌, Bool, true, false, cond, List, [], ◌∷◌, ◌++◌, length}
+use Rattle.std.proofs.Common.{◌≡◌, ℕ, zero, suc, ◌+◌, ◌≤◌, Bool, true, false, cond, List, [], ◌∷◌, length}
 use Rattle.std.proofs.Common.{map, get_or, Option, Some, None, Result, Ok, Err, refl, subst, ◌∙◌, arith}
 use Rattle.std.specs.Prelude.{slice_get, option_to_list, option_and_then, option_map, IfSome}
 use Rattle.std.specs.List.{All}
@@ -12,7 +12,7 @@ use Rattle.mta_envelope.specs.Messages.{MessageValue}
 use Rattle.mta_report.specs.declared.fields.ReportFields.{ReportFields}
 use Rattle.mta_apdu.specs.Apdus.{ApduValue, message, probe, report}
 use Rattle.mta_tables.specs.declared.entry.MailList.{MailList}
-use Rattle.mta_tables.specs.Whole.{IsAt, AreTables}
+use Rattle.mta_tables.specs.Whole.{AreTables}
 use Rattle.mta_tables.specs.Hops.{best_hop}
 use Rattle.mta_tables.specs.declared.hop.Hop.{Hop}
 use Rattle.mta_tables.specs.declared.hop.Hop.TheVariants as Hops
@@ -28,14 +28,16 @@ use Rattle.mta_names.specs.declared.attributes.Attributes.{Attributes}
 use Rattle.mta_envelope.specs.declared.envelope.EnvelopeFields.{EnvelopeFields}
 use Rattle.mta_procedures.proofs.MembersLaws.{members_copy_is_one}
 use Rattle.mta_machine.specs.Apdu.{IsApdu, value_of, value_read, is_report, responsible_in}
-use Rattle.mta_machine.specs.declared.item.Status.{Status}
-use Rattle.mta_machine.specs.declared.item.Origin.{Origin}
+use Rattle.mta_records.specs.declared.state.Status.{Status}
+use Rattle.mta_records.specs.declared.state.Origin.{Origin}
 use Rattle.mta_machine.specs.Items.{ItemValue, Machine, numbered, set_numbered, status_at_first}
 use Rattle.mta_machine.specs.Rules.{tables_value, expansion, expansion_under, expanded_for, expanded_to}
-use Rattle.mta_machine.specs.Rules.{delivery_report, non_delivery_report, passed_back, report_on, read_both, envelope_in}
+use Rattle.mta_machine.specs.Rules.{delivery_report, non_delivery_report, passed_back, report_on, read_both}
+use Rattle.mta_machine.specs.Rules.{envelope_in}
 use Rattle.mta_machine.specs.Rules.{passed_under, is_own, accepted_in, reason_of, diagnostic_of}
-use Rattle.mta_machine.specs.Machine.{MachineStep, set_tables, accept, discharge, Discharge, delivered, expanded, affirmed}
-use Rattle.mta_machine.specs.Machine.{not_delivered, failed, discarded, passed, sent, machine_after, machine_run}
+use Rattle.mta_machine.specs.Machine.{MachineStep, set_tables, set_format, accept, discharge, Discharge, delivered}
+use Rattle.mta_machine.specs.Machine.{expanded, affirmed, not_delivered, failed, discarded, passed, sent, machine_after}
+use Rattle.mta_machine.specs.Machine.{machine_run}
 use Rattle.mta_machine.specs.Machine.{with_statuses, discharged_item, items_after, made_by, made_for, own_item}
 use Rattle.mta_machine.specs.Machine.{accepted_item, unless_report, last_tables, status_after}
 use Rattle.mta_machine.proofs.Later.{length-set_numbered}
@@ -193,7 +195,7 @@ few-made m item text r (failed failure) moment =
     (few-non-delivery text (length m.items + 1) item r (reason_of failure) (diagnostic_of failure))
 few-made m item text r discarded moment = All-nil IsFew
 few-made m item text r passed moment = few-listed (passed_back text m.items item) (few-passed text m.items item)
-few-made m item text r (sent peer tables decided) moment = All-nil IsFew
+few-made m item text r (sent peer tables decided format) moment = All-nil IsFew
 
 few-made-for : (m : Machine) (item : ItemValue) (o : Option (List ℕ)) (rs : List ℕ) (how : Discharge) (moment : ℕ)
     → AreFew (made_for m item o rs how moment)
@@ -242,9 +244,10 @@ set-stored items (suc k) item new stored = All-set IsStored items k item new sto
 
 -- ---- steps of the machine
 
--- the step records no tables, its moment is in its range, and what it accepts is an APDU
+-- the step sets neither tables nor a format, its moment is in its range, and what it accepts is an APDU
 abbrev pub Fits : MachineStep → Type 0
 Fits (set_tables text) = ⊥
+Fits set_format = ⊥
 Fits (accept octets origin moment) = IsApdu octets × (moment ≤ last_moment)
 Fits (discharge i rs how moment) = moment ≤ last_moment
 
@@ -268,6 +271,7 @@ stored-discharged m i rs how moment fits stored = by_item (numbered m.items i) r
 stored-one : (m : Machine) (step : MachineStep) → Fits step → All IsStored m.items
     → All IsStored (machine_after m step).items
 stored-one m (set_tables text) fits stored = absurd fits
+stored-one m set_format fits stored = absurd fits
 stored-one m (accept octets origin moment) fits stored =
     All-push IsStored m.items (accepted_item octets origin moment) stored
     (record { arrived = fits.1; few = few_accepted octets fits.0 })
@@ -279,11 +283,20 @@ stored-run m [] fits stored = stored
 stored-run m (step ∷ steps) fits stored =
     stored-run (machine_after m step) steps fits.1 (stored-one m step fits.0 stored)
 
-same-tables : (m : Machine) (step : MachineStep) → Fits step → (machine_after m step).tables ≡ m.tables
-same-tables m (set_tables text) fits = absurd fits
-same-tables m (accept octets origin moment) fits = refl
-same-tables m (discharge i rs how moment) fits = refl
+-- the machine has the tables and the format of another
+pub record HasRulesOf (m now : Machine) : Type 0 where
+  pub tables : now.tables ≡ m.tables
+  pub format : now.format ≡ m.format
 
-pub tables-stay : (m : Machine) (steps : List MachineStep) → EachFits steps → (machine_run m steps).tables ≡ m.tables
-tables-stay m [] fits = refl
-tables-stay m (step ∷ steps) fits = tables-stay (machine_after m step) steps fits.1 ∙ same-tables m step fits.0
+same-rules : (m : Machine) (step : MachineStep) → Fits step → HasRulesOf m (machine_after m step)
+same-rules m (set_tables text) fits = absurd fits
+same-rules m set_format fits = absurd fits
+same-rules m (accept octets origin moment) fits = record { tables = refl; format = refl }
+same-rules m (discharge i rs how moment) fits = record { tables = refl; format = refl }
+
+pub rules-stay : (m : Machine) (steps : List MachineStep) → EachFits steps → HasRulesOf m (machine_run m steps)
+rules-stay m [] fits = record { tables = refl; format = refl }
+rules-stay m (step ∷ steps) fits =
+    let first = same-rules m step fits.0 in
+    let more = rules-stay (machine_after m step) steps fits.1 in
+    record { tables = more.tables ∙ first.tables; format = more.format ∙ first.format }

@@ -1,8 +1,8 @@
 -- What a step on an open lane changes that does something of the machine of recipients.
-use Rattle.std.specs.Prelude.{◌≡◌, ℕ, ◌<◌, ◌≤◌, ◌^◌, List, [], ◌∷◌, length, Option, Some, None}
+use Rattle.std.specs.Prelude.{◌≡◌, ℕ, ◌<◌, ◌≤◌, ◌^◌, true, List, [], ◌∷◌, length, Option, Some, None}
 use Rattle.mta_machine.specs.Items.{Machine}
 use Rattle.mta_machine.specs.Machine.{MachineStep, machine_run}
-use Rattle.mta_machine.specs.declared.item.Status.TheVariants.{Sent}
+use Rattle.mta_records.specs.declared.state.Status.TheVariants.{Sent}
 use Rattle.mta_histories.specs.Lanes.{Lane, State, lane_at}
 use Rattle.mta_histories.specs.Classes.{LaneStep}
 use Rattle.mta_histories.specs.History.{IsOfGeneration, LaneNeeds}
@@ -31,6 +31,7 @@ pub record IsMaking (s : State) (steps : List MachineStep) (n : ℕ) (new : Lane
     machine = machine_run s.machine steps;
     lanes = lanes_changed s.lanes n new;
     moment = moment;
+    begun = true;
   }
   pub can : CanChange s change
   pub numbers : length (machine_run s.machine steps).items < 2 ^ 32

@@ -5,9 +5,10 @@ use Rattle.mta_state.specs.Asked.{IsRestOf, IsTextOf}
 use Rattle.mta_state.specs.declared.kept.Kept.{Kept}
 use Rattle.mta_state.specs.declared.rest.Rest.{Rest}
 
--- this is found of the item at the moment, under the tables recorded last
+-- this is found of the item at the moment, in the format and under the tables recorded last
 abbrev pub IsFound : Kept → ItemValue → ℕ → Option Rest → Type 0
-IsFound kept item moment rest = (text : List ℕ) → IsTextOf kept text → IsRestOf text item moment rest
+IsFound kept item moment rest =
+    (text : List ℕ) → IsTextOf kept text → IsRestOf kept.parts.format text item moment rest
 
 -- and of the last item
 pub record IsFoundLast (kept : Kept) (moment : ℕ) (rest : Option Rest) : Type 0 where

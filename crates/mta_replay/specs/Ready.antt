@@ -1,29 +1,33 @@
--- What a step changes, with the rules under the tables that it records.
-use Rattle.std.specs.Prelude.{◌≡◌, List, ℕ, Option, Some, None, Result, Ok, Err, IsOk, IsErrOf}
-use Rattle.std.specs.Option.{option_map}
+-- What a step changes, with the rules that are in force from then on.
+use Rattle.std.specs.Prelude.{◌≡◌, Bool, true, false, List, ℕ, Option, Some, None, Result, IsOk, IsErrOf}
 use Rattle.mta_records.specs.declared.step.Step.{Step}
-use Rattle.mta_histories.specs.Classes.{Class, records, accepts, settles, opens, on_lane, class_of}
+use Rattle.mta_histories.specs.Classes.{Class, begins, sets_format, records, accepts, settles, opens, on_lane, class_of}
 use Rattle.mta_histories.specs.Lanes.{State}
 use Rattle.mta_histories.specs.History.{IsPossible, after_step}
 use Rattle.mta_state.specs.declared.change.Change.{Change}
 use Rattle.mta_state.specs.Prepared.{IsChangeOf}
 use Rattle.mta_state.specs.Readings.{IsReadingOf}
 use Rattle.mta_state.specs.declared.readings.Reading.{Reading}
-use Rattle.mta_machine.specs.Items.{ItemValue, numbered}
+use Rattle.mta_machine.specs.Items.{ItemValue, Machine, numbered}
 use Rattle.mta_replay.specs.declared.replay.InForce.{InForce}
 use Rattle.mta_replay.specs.declared.replay.NotMade.{NotMade}
 use Rattle.mta_replay.specs.declared.replay.NotMade.TheVariants as NotMades
+use Rattle.mta_replay.specs.Sound.{AreLast}
 
--- the text of the tables that a step records
-abbrev pub recorded_by : Class → Option (List ℕ)
-recorded_by (records text) = Some text
-recorded_by (accepts octets) = None
-recorded_by (settles how i r) = None
-recorded_by (opens role peer reference twa checkpoint window) = None
-recorded_by (on_lane n generation step) = None
+-- the rules are made anew for the step: it records tables, sets the format, or begins the history with a state
+abbrev pub sets_rules : Class → Bool
+sets_rules (begins t) = true
+sets_rules sets_format = true
+sets_rules (records text) = true
+sets_rules (accepts octets) = false
+sets_rules (settles how i r) = false
+sets_rules (opens role peer reference twa checkpoint window) = false
+sets_rules (on_lane n generation step) = false
 
 -- the item of which a step settles a recipient; 0 where it settles none
 abbrev pub settled_by : Class → ℕ
+settled_by (begins t) = 0
+settled_by sets_format = 0
 settled_by (records text) = 0
 settled_by (accepts octets) = 0
 settled_by (settles how i r) = i
@@ -39,11 +43,16 @@ abbrev pub AreFresh : {R : Type 0} → Option (InForce R) → Type 0
 AreFresh None = Unit {0}
 AreFresh (Some force) = (force.index.agenda.known ≡ 0) × (force.index.hand ≡ None)
 
--- the step is possible, and this is what it changes, with the rules under the tables that it records
-pub record IsReady {R : Type 0} (text : R → List ℕ) (s : State) (step : Step) (change : Change)
+-- the rules that are made for a step: where they are made anew those in force behind it, and else none
+abbrev pub AreMade : {R : Type 0} → (R → ℕ) → (R → List ℕ) → (anew : Bool) → Machine → Option (InForce R) → Type 0
+AreMade format text true m rules = AreLast format text m rules
+AreMade format text false m rules = rules ≡ None
+
+-- the step is possible, and this is what it changes, with the rules that are made for it
+pub record IsReady {R : Type 0} (format : R → ℕ) (text : R → List ℕ) (s : State) (step : Step) (change : Change)
     (rules : Option (InForce R)) : Type 0 where
   pub is_change : IsChangeOf s step change
-  pub under : option_map (λ (force : InForce R). text force.rules) rules ≡ recorded_by (class_of step)
+  pub under : AreMade format text (sets_rules (class_of step)) (after_step s step).machine rules
   pub fresh : AreFresh rules
 
 -- a step was taken up where it is possible; Impossible comes only where it is not

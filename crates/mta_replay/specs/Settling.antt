@@ -1,7 +1,7 @@
 -- The change that settles one recipient.
 use Rattle.std.specs.Prelude.{ℕ, ◌+◌, ◌^◌, nat_lt, List, length, Option, Some, None, if◌then◌else◌}
-use Rattle.mta_machine.specs.declared.item.Status.{Status}
-use Rattle.mta_machine.specs.declared.item.MailboxLine.{MailboxLine}
+use Rattle.mta_records.specs.declared.state.Status.{Status}
+use Rattle.mta_records.specs.declared.state.MailboxLine.{MailboxLine}
 use Rattle.mta_machine.specs.Items.{ItemValue}
 use Rattle.mta_state.specs.declared.parts.Made.{Made}
 use Rattle.mta_state.specs.Parts.{made_items}

@@ -3,7 +3,7 @@
 ghost use Rattle.std.specs.Prelude.{◌≡◌, ◌≢◌, ◌<◌, ◌≤◌, ◌^◌, ◌↔◌, IfOk, IfSome, IsTrue, [], length};
 ghost use Rattle.std.specs.Option.{option_map};
 ghost use Rattle.mta_ber.specs.Times.{last_moment};
-ghost use Rattle.mta_machine.specs.declared.item.Origin.TheVariants as Origins;
+ghost use Rattle.mta_records.specs.declared.state.Origin.TheVariants as Origins;
 ghost use Rattle.mta_machine.specs.Machine.{accepted_item};
 ghost use Rattle.mta_machine.specs.Rules.{is_tables_text};
 ghost use Rattle.mta_histories.specs.Lanes.{State};
@@ -93,7 +93,7 @@ pub fn prepare_arrival<R: Rules>(
     ensures prepares { IfOk result (λ found.
         Prepares (state_of kept.now) (Steps.Accept moment apdu) (option_map (λ (a : Arrival). a.change) found)) }
     ensures rest { IfOk result (λ found. IfSome found (λ a.
-        IsRestOf (R.text rules.now) (accepted_item apdu Origins.Submitted moment) moment a.rest)) }
+        IsRestOf (R.format rules.now) (R.text rules.now) (accepted_item apdu Origins.Submitted moment) moment a.rest)) }
 {
     if !may_accept(kept, moment) {
         return Ok(None);

@@ -7,7 +7,7 @@ ghost use Rattle.mta_histories.specs.Classes.{secure};
 ghost use Rattle.mta_histories.specs.History.{with_piece};
 ghost use Rattle.mta_state.specs.Reading.{IsFaultOf, IsItemOf};
 ghost use Rattle.mta_state.specs.declared.change.Change.TheVariants as Changes;
-ghost use Rattle.mta_machine.specs.declared.item.Origin.TheVariants as Origins;
+ghost use Rattle.mta_records.specs.declared.state.Origin.TheVariants as Origins;
 ghost use Rattle.mta_records.specs.declared.step.Step.TheVariants as Steps;
 ghost use Rattle.mta_state.specs.Kept.{state_of};
 ghost use Rattle.mta_state.specs.Prepared.{Prepares};

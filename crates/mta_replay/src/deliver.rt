@@ -84,10 +84,11 @@ fn delivery<R: Rules>(
     moment: u64,
 ) -> Result<Option<Change>, Memory>
     requires text { IsTextOf kept.now (R.text rules.now) }
+    requires format { R.format rules.now ≡ kept.now.parts.format }
     requires item { numbered kept.now.parts.items.items number ≡ Some item.now }
     requires may { MaySettle (state_of kept.now) number recipient moment }
     requires told { let next = length kept.now.parts.items.items + 1 in
-        IsDeliveryOf (R.text rules.now) next item.now recipient moment (Some told) }
+        IsDeliveryOf (R.format rules.now) (R.text rules.now) next item.now recipient moment (Some told) }
     ensures { IfOk result (Prepares (state_of kept.now) (Steps.Deliver number recipient moment)) }
 {
     let line = line_to(alloc, rules, told.place, number, moment)?;
@@ -112,6 +113,7 @@ pub fn prepare_deliver<R: Rules>(
     moment: u64,
 ) -> Result<Option<Change>, Memory>
     requires text { IsTextOf kept.now (R.text rules.now) }
+    requires format { R.format rules.now ≡ kept.now.parts.format }
     requires stored { All IsStored kept.now.parts.items.items }
     requires reading { IsReadAt kept.now.parts.items.items item reading.now }
     requires fits { moment ≤ last_moment }
@@ -166,6 +168,7 @@ pub fn prepare_affirm<R: Rules>(
     moment: u64,
 ) -> Result<Option<Change>, Memory>
     requires text { IsTextOf kept.now (R.text rules.now) }
+    requires format { R.format rules.now ≡ kept.now.parts.format }
     requires stored { All IsStored kept.now.parts.items.items }
     requires reading { IsReadAt kept.now.parts.items.items item reading.now }
     requires fits { moment ≤ last_moment }
@@ -194,6 +197,7 @@ fn list_expansion<R: Rules>(
     moment: u64,
 ) -> Result<Option<Change>, Memory>
     requires text { IsTextOf kept.now (R.text rules.now) }
+    requires format { R.format rules.now ≡ kept.now.parts.format }
     requires item { numbered kept.now.parts.items.items number ≡ Some item.now }
     requires arrived { item.now.arrival ≤ last_moment }
     requires reading { IsReadingOf item.now.octets reading.now }
@@ -220,6 +224,7 @@ pub fn prepare_expand<R: Rules>(
     moment: u64,
 ) -> Result<Option<Change>, Memory>
     requires text { IsTextOf kept.now (R.text rules.now) }
+    requires format { R.format rules.now ≡ kept.now.parts.format }
     requires stored { All IsStored kept.now.parts.items.items }
     requires reading { IsReadAt kept.now.parts.items.items item reading.now }
     requires numbers { length kept.now.parts.items.items < 2 ^ 32 }

@@ -22,10 +22,10 @@ impl<R: Rules + Drop> Replay<R> {
     /// nothing is due. What is found out of items is kept for the next call.
     #[tactic(auto, using(crate::proofs::Nothing::nothing_is_due, crate::proofs::Sounds::sound_with))]
     pub fn due_step(&mut self, alloc: Global, moment: u64) -> Result<Option<Step>, Memory>
-        requires sound { IsSound R.text self.old.kept self.old.rules }
+        requires sound { IsSound R.format R.text self.old.kept self.old.rules }
         ensures next { IfOk result (IsNextOf (state_of self.old.kept) moment) }
         ensures same { state_of self.new.kept ≡ state_of self.old.kept }
-        ensures sound { IsSound R.text self.new.kept self.new.rules }
+        ensures sound { IsSound R.format R.text self.new.kept self.new.rules }
     {
         match &mut self.rules {
             None => Ok(None),
@@ -41,10 +41,10 @@ impl<R: Rules + Drop> Replay<R> {
         peer: &Word,
         moment: u64,
     ) -> Result<Option<Batch>, Memory>
-        requires sound { IsSound R.text self.old.kept self.old.rules }
+        requires sound { IsSound R.format R.text self.old.kept self.old.rules }
         ensures batch { IfOk result (IsBatchOf (state_of self.old.kept) peer.now moment) }
         ensures same { state_of self.new.kept ≡ state_of self.old.kept }
-        ensures sound { IsSound R.text self.new.kept self.new.rules }
+        ensures sound { IsSound R.format R.text self.new.kept self.new.rules }
     {
         match &mut self.rules {
             None => Ok(None),
@@ -64,7 +64,7 @@ impl<R: Rules + Drop> Replay<R> {
     /// The items of which a recipient waits for the peer, by ascending numbers; none where no tables name the peer.
     #[tactic(auto, using(crate::proofs::Nothing::nothing_waits))]
     pub fn waiting(&self, alloc: Global, peer: &Word) -> Result<Option<Recipients>, Memory>
-        requires sound { IsSound R.text self.now.kept self.now.rules }
+        requires sound { IsSound R.format R.text self.now.kept self.now.rules }
         ensures { IfOk result (HasQueue (state_of self.now.kept) peer.now) }
     {
         match &self.rules {
@@ -85,7 +85,7 @@ impl<R: Rules + Drop> Replay<R> {
         recipients: &Recipients,
         moment: u64,
     ) -> Result<Option<Transfer>, Memory>
-        requires sound { IsSound R.text self.now.kept self.now.rules }
+        requires sound { IsSound R.format R.text self.now.kept self.now.rules }
         requires fits { moment ≤ last_moment }
         ensures { IfOk result
             (TransfersNext (state_of self.now.kept) lane generation item recipients.now moment) }

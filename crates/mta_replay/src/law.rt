@@ -2,7 +2,8 @@
 
 ghost use Rattle.mta_replay.specs.Laws.{TablesComeFirst};
 
-/// Where no tables are recorded only a Tables is possible. So no rules are needed for another step there.
+/// Where no tables are recorded only a Tables, a Format and a Snapshot are possible. So no rules are needed for another
+/// step there.
 pub fn tables_come_first()
     ensures { TablesComeFirst }
 {}

@@ -4,6 +4,7 @@
 #![tactic(auto)]
 
 mod accept;
+mod anew;
 mod complete;
 mod deliver;
 mod different;

@@ -1,6 +1,6 @@
 //! The open lanes on which activities end.
 
-ghost use Rattle.std.specs.Prelude.{◌↔◌, IfOk, IsTrue, Some, None};
+ghost use Rattle.std.specs.Prelude.{◌≡◌, ◌↔◌, IfOk, IsTrue, Some, None};
 ghost use Rattle.std.specs.Option.{option_copied};
 ghost use Rattle.std.specs.List.{All};
 ghost use Rattle.mta_histories.specs.Classes.{abandon, settle, was_denied, was_sent};
@@ -67,6 +67,7 @@ fn has_expired<R: Rules>(
     moment: u64,
 ) -> Result<bool, Memory>
     requires text { IsTextOf kept.now (R.text rules.now) }
+    requires format { R.format rules.now ≡ kept.now.parts.format }
     requires stored { All IsStored kept.now.parts.items.items }
     ensures { IfOk result (λ b. IsTrue b
         ↔ HasExpired (machine_of kept.now.parts) opened.now.transfer moment) }
@@ -94,6 +95,7 @@ pub(crate) fn expired_lane<'a, R: Rules>(
     moment: u64,
 ) -> Result<Option<&'a Lane>, Memory>
     requires text { IsTextOf kept.now (R.text rules.now) }
+    requires format { R.format rules.now ≡ kept.now.parts.format }
     requires stored { All IsStored kept.now.parts.items.items }
     ensures { IfOk result (λ found.
         OpenFor (state_of kept.now) lane None (abandon activity) moment (option_copied found)) }

@@ -1,9 +1,8 @@
 //! What each kind of step changes.
 
-ghost use Rattle.std.specs.Prelude.{◌≡◌, ◌<◌, ◌^◌, ℕ, List, IfOk, IfSome, IfNone, None, Some, length};
+ghost use Rattle.std.specs.Prelude.{◌≡◌, ◌<◌, ◌^◌, ℕ, List, IfOk, IfSome, IfNone, Some, length, false};
 ghost use Rattle.std.specs.List.{All};
 ghost use Rattle.mta_records.specs.Body.{HasFields};
-ghost use Rattle.mta_records.specs.declared.step.Step.TheVariants as Steps;
 ghost use Rattle.mta_histories.specs.Classes.{class_of};
 ghost use Rattle.mta_histories.specs.History.{IsPossible};
 ghost use Rattle.mta_histories.specs.Kept.{IsKept};
@@ -13,10 +12,11 @@ ghost use Rattle.mta_state.specs.Prepared.{Prepares};
 ghost use Rattle.mta_machine.specs.Items.{ItemValue, numbered};
 ghost use Rattle.mta_dues.specs.Index.{IsIndexed, IsOfHand};
 ghost use Rattle.mta_state.specs.Readings.{IsReadingOf};
-ghost use Rattle.mta_replay.specs.Ready.{IsReadAt, IsReady, recorded_by, settled_by};
+ghost use Rattle.mta_replay.specs.Ready.{IsReadAt, IsReady, sets_rules, settled_by};
 ghost use Rattle.mta_replay.specs.Sound.{IsSound};
 
-use crate::accept::{prepare_accept, prepare_tables};
+use crate::accept::prepare_accept;
+use crate::anew::{ready_format, ready_snapshot, ready_tables};
 use crate::complete::prepare_complete;
 use crate::deliver::{prepare_affirm, prepare_deliver, prepare_expand};
 use crate::open::prepare_open;
@@ -24,35 +24,12 @@ use crate::outcome::{prepare_abandon, prepare_denied, prepare_refused, prepare_s
 use crate::replay::{InForce, Ready, Replay};
 use crate::report::{prepare_back, prepare_discard, prepare_report};
 use crate::start::prepare_start;
-use mta_ber::{Memory, Octets};
+use mta_ber::Memory;
 use mta_dues::Index;
 use mta_machine::Item;
 use mta_records::Step;
 use mta_state::{Change, Kept, Reading, Rules};
 use std::alloc::Global;
-
-// What recording a text of tables changes.
-fn ready_tables<R: Rules + Drop>(
-    alloc: Global,
-    kept: &Kept,
-    text: Octets,
-) -> Result<Option<Ready<R>>, Memory>
-    requires numbers { length kept.now.parts.items.items < 2 ^ 32 }
-    ensures ready { IfOk result (λ found. IfSome found (λ ready.
-        IsReady R.text (state_of kept.now) (Steps.Tables text) ready.change ready.rules)) }
-    ensures none { IfOk result (λ found. IfNone found (IsPossible (state_of kept.now) (Steps.Tables text) → ⊥)) }
-{
-    let Some(rules) = R::under(alloc, text.as_slice())? else {
-        return Ok(None);
-    };
-    match prepare_tables(text, true) {
-        None => Ok(None),
-        Some(change) => Ok(Some(Ready {
-            change,
-            rules: Some(InForce::new(alloc, rules)),
-        })),
-    }
-}
 
 // The number of the item of which a step settles a recipient; 0 where it settles none.
 fn settled_by(step: &Step) -> u32
@@ -89,8 +66,8 @@ fn take_at<'a>(
     requires { (item : ItemValue) → numbered kept.now.parts.items.items number ≡ Some item
         → IsOfHand item number index.old.hand }
     ensures reading { IfOk result (IsReadAt kept.now.parts.items.items number) }
-    ensures indexed { (text : List ℕ) (items : List ItemValue) → IsIndexed text items index.old
-        → IsIndexed text items index.new }
+    ensures indexed { (format : ℕ) (text : List ℕ) (items : List ItemValue) → IsIndexed format text items index.old
+        → IsIndexed format text items index.new }
 {
     match kept.parts.item(number) {
         None => Ok(Reading::nothing()),
@@ -101,8 +78,8 @@ fn take_at<'a>(
 // The reading of this item is at hand.
 fn keep_of(index: &mut Index, number: u32, item: &Item, reading: Reading<'_>)
     requires { IsReadingOf item.now.octets reading }
-    ensures { (text : List ℕ) (items : List ItemValue) → numbered items number ≡ Some item.now
-        → IsIndexed text items index.old → IsIndexed text items index.new }
+    ensures { (format : ℕ) (text : List ℕ) (items : List ItemValue) → numbered items number ≡ Some item.now
+        → IsIndexed format text items index.old → IsIndexed format text items index.new }
 {
     index.keep(number, reading);
 }
@@ -110,8 +87,8 @@ fn keep_of(index: &mut Index, number: u32, item: &Item, reading: Reading<'_>)
 // The reading of the item of a number, where there is one, is at hand.
 fn keep_at(kept: &Kept, index: &mut Index, number: u32, reading: Reading<'_>)
     requires { IsReadAt kept.now.parts.items.items number reading }
-    ensures { (text : List ℕ) → IsIndexed text kept.now.parts.items.items index.old
-        → IsIndexed text kept.now.parts.items.items index.new }
+    ensures { (format : ℕ) (text : List ℕ) → IsIndexed format text kept.now.parts.items.items index.old
+        → IsIndexed format text kept.now.parts.items.items index.new }
 {
     match kept.parts.item(number) {
         None => reading.discard(),
@@ -119,7 +96,7 @@ fn keep_at(kept: &Kept, index: &mut Index, number: u32, reading: Reading<'_>)
     }
 }
 
-// What a step changes that records no tables, under the rules of the tables recorded last.
+// What a step changes for which no rules are made, under the rules in force.
 fn prepare_under<R: Rules>(
     alloc: Global,
     rules: &R,
@@ -128,16 +105,19 @@ fn prepare_under<R: Rules>(
     step: Step,
 ) -> Result<Option<Change>, Memory>
     requires text { IsTextOf kept.now (R.text rules.now) }
+    requires format { R.format rules.now ≡ kept.now.parts.format }
     requires of_history { IsKept (state_of kept.now) }
     requires stored { All IsStored kept.now.parts.items.items }
     requires numbers { length kept.now.parts.items.items < 2 ^ 32 }
     requires fields { HasFields step }
-    requires other { recorded_by (class_of step) ≡ None }
+    requires other { sets_rules (class_of step) ≡ false }
     requires reading { IsReadAt kept.now.parts.items.items (settled_by (class_of step)) reading.now }
     ensures { IfOk result (Prepares (state_of kept.now) step) }
 {
     match step {
         Step::Tables { .. } => unreachable!(),
+        Step::Snapshot { .. } => unreachable!(),
+        Step::Format { .. } => unreachable!(),
         Step::Accept { moment, apdu } => prepare_accept(alloc, kept, moment, apdu),
         Step::Deliver {
             item,
@@ -278,8 +258,8 @@ fn prepare_under<R: Rules>(
     }
 }
 
-// What a step changes that records no tables. The item of which it settles a recipient is not read where its reading is
-// at hand, and its reading is at hand then.
+// What a step changes for which no rules are made. The item of which it settles a recipient is not read where its
+// reading is at hand, and its reading is at hand then.
 fn change_at_hand<R: Rules + Drop>(
     alloc: Global,
     kept: &Kept,
@@ -287,15 +267,18 @@ fn change_at_hand<R: Rules + Drop>(
     step: Step,
 ) -> Result<Option<Change>, Memory>
     requires text { IsTextOf kept.now (R.text force.old.rules) }
+    requires format { R.format force.old.rules ≡ kept.now.parts.format }
     requires of_history { IsKept (state_of kept.now) }
     requires stored { All IsStored kept.now.parts.items.items }
     requires numbers { length kept.now.parts.items.items < 2 ^ 32 }
     requires fields { HasFields step }
-    requires other { recorded_by (class_of step) ≡ None }
-    requires indexed { IsIndexed (R.text force.old.rules) kept.now.parts.items.items force.old.index }
+    requires other { sets_rules (class_of step) ≡ false }
+    requires indexed { let format = R.format force.old.rules in
+        IsIndexed format (R.text force.old.rules) kept.now.parts.items.items force.old.index }
     ensures change { IfOk result (Prepares (state_of kept.now) step) }
     ensures rules { force.new.rules ≡ force.old.rules }
-    ensures indexed { IsIndexed (R.text force.old.rules) kept.now.parts.items.items force.new.index }
+    ensures indexed { let format = R.format force.old.rules in
+        IsIndexed format (R.text force.old.rules) kept.now.parts.items.items force.new.index }
 {
     let number = settled_by(&step);
     let reading = take_at(alloc, kept, &mut force.index, number)?;
@@ -305,6 +288,7 @@ fn change_at_hand<R: Rules + Drop>(
 }
 
 // The same, as it is ready.
+#[tactic(auto, using(crate::proofs::Readiness::ready_alone))]
 fn ready_with<R: Rules + Drop>(
     alloc: Global,
     kept: &Kept,
@@ -312,17 +296,20 @@ fn ready_with<R: Rules + Drop>(
     step: Step,
 ) -> Result<Option<Ready<R>>, Memory>
     requires text { IsTextOf kept.now (R.text force.old.rules) }
+    requires format { R.format force.old.rules ≡ kept.now.parts.format }
     requires of_history { IsKept (state_of kept.now) }
     requires stored { All IsStored kept.now.parts.items.items }
     requires numbers { length kept.now.parts.items.items < 2 ^ 32 }
     requires fields { HasFields step }
-    requires other { recorded_by (class_of step) ≡ None }
-    requires indexed { IsIndexed (R.text force.old.rules) kept.now.parts.items.items force.old.index }
+    requires other { sets_rules (class_of step) ≡ false }
+    requires indexed { let format = R.format force.old.rules in
+        IsIndexed format (R.text force.old.rules) kept.now.parts.items.items force.old.index }
     ensures ready { IfOk result (λ found. IfSome found (λ ready.
-        IsReady R.text (state_of kept.now) step ready.change ready.rules)) }
+        IsReady R.format R.text (state_of kept.now) step ready.change ready.rules)) }
     ensures none { IfOk result (λ found. IfNone found (IsPossible (state_of kept.now) step → ⊥)) }
     ensures rules { force.new.rules ≡ force.old.rules }
-    ensures indexed { IsIndexed (R.text force.old.rules) kept.now.parts.items.items force.new.index }
+    ensures indexed { let format = R.format force.old.rules in
+        IsIndexed format (R.text force.old.rules) kept.now.parts.items.items force.new.index }
 {
     match change_at_hand(alloc, kept, force, step)? {
         None => Ok(None),
@@ -334,16 +321,16 @@ fn ready_with<R: Rules + Drop>(
 }
 
 impl<R: Rules + Drop> Replay<R> {
-    // What a step changes that records no tables, with what is at hand.
+    // What a step changes for which no rules are made, with what is at hand.
     #[tactic(auto, using(crate::proofs::Sounds::sound_with))]
     fn ready_at_hand(&mut self, alloc: Global, step: Step) -> Result<Option<Ready<R>>, Memory>
-        requires sound { IsSound R.text self.old.kept self.old.rules }
+        requires sound { IsSound R.format R.text self.old.kept self.old.rules }
         requires fields { HasFields step }
-        requires other { recorded_by (class_of step) ≡ None }
+        requires other { sets_rules (class_of step) ≡ false }
         ensures same { self.new.kept ≡ self.old.kept }
-        ensures sound { IsSound R.text self.new.kept self.new.rules }
+        ensures sound { IsSound R.format R.text self.new.kept self.new.rules }
         ensures ready { IfOk result (λ found. IfSome found (λ ready.
-            IsReady R.text (state_of self.old.kept) step ready.change ready.rules)) }
+            IsReady R.format R.text (state_of self.old.kept) step ready.change ready.rules)) }
         ensures none { IfOk result (λ found. IfNone found (IsPossible (state_of self.old.kept) step → ⊥)) }
     {
         match &mut self.rules {
@@ -355,28 +342,30 @@ impl<R: Rules + Drop> Replay<R> {
     /// What a step changes; none exactly where it is not possible. It is `prepare`, but the item of which the step
     /// settles a recipient is not read again where it was looked at last, and its reading is kept for the next step.
     pub fn prepare_at_hand(&mut self, alloc: Global, step: Step) -> Result<Option<Ready<R>>, Memory>
-        requires sound { IsSound R.text self.old.kept self.old.rules }
+        requires sound { IsSound R.format R.text self.old.kept self.old.rules }
         requires fields { HasFields step }
         ensures same { self.new.kept ≡ self.old.kept }
-        ensures sound { IsSound R.text self.new.kept self.new.rules }
+        ensures sound { IsSound R.format R.text self.new.kept self.new.rules }
         ensures ready { IfOk result (λ found. IfSome found (λ ready.
-            IsReady R.text (state_of self.old.kept) step ready.change ready.rules)) }
+            IsReady R.format R.text (state_of self.old.kept) step ready.change ready.rules)) }
         ensures none { IfOk result (λ found. IfNone found (IsPossible (state_of self.old.kept) step → ⊥)) }
     {
         match step {
             Step::Tables { text } => ready_tables(alloc, &self.kept, text),
+            Step::Snapshot { state } => ready_snapshot(alloc, &self.kept, state),
+            Step::Format { .. } => ready_format(alloc, &self.kept),
             step => self.ready_at_hand(alloc, step),
         }
     }
 
-    // What a step changes that records no tables.
-    #[tactic(auto, using(crate::proofs::Nothing::nothing_but_tables))]
+    // What a step changes for which no rules are made.
+    #[tactic(auto, using(crate::proofs::Nothing::nothing_but_tables, crate::proofs::Readiness::ready_alone))]
     fn ready_under(&self, alloc: Global, step: Step) -> Result<Option<Ready<R>>, Memory>
-        requires sound { IsSound R.text self.now.kept self.now.rules }
+        requires sound { IsSound R.format R.text self.now.kept self.now.rules }
         requires fields { HasFields step }
-        requires other { recorded_by (class_of step) ≡ None }
+        requires other { sets_rules (class_of step) ≡ false }
         ensures ready { IfOk result (λ found. IfSome found (λ ready.
-            IsReady R.text (state_of self.now.kept) step ready.change ready.rules)) }
+            IsReady R.format R.text (state_of self.now.kept) step ready.change ready.rules)) }
         ensures none { IfOk result (λ found. IfNone found (IsPossible (state_of self.now.kept) step → ⊥)) }
     {
         let Some(force) = &self.rules else {
@@ -395,27 +384,29 @@ impl<R: Rules + Drop> Replay<R> {
 
     /// What a step changes; none exactly where it is not possible.
     pub fn prepare(&self, alloc: Global, step: Step) -> Result<Option<Ready<R>>, Memory>
-        requires sound { IsSound R.text self.now.kept self.now.rules }
+        requires sound { IsSound R.format R.text self.now.kept self.now.rules }
         requires fields { HasFields step }
         ensures ready { IfOk result (λ found. IfSome found (λ ready.
-            IsReady R.text (state_of self.now.kept) step ready.change ready.rules)) }
+            IsReady R.format R.text (state_of self.now.kept) step ready.change ready.rules)) }
         ensures none { IfOk result (λ found. IfNone found (IsPossible (state_of self.now.kept) step → ⊥)) }
     {
         match step {
             Step::Tables { text } => ready_tables(alloc, &self.kept, text),
+            Step::Snapshot { state } => ready_snapshot(alloc, &self.kept, state),
+            Step::Format { .. } => ready_format(alloc, &self.kept),
             step => self.ready_under(alloc, step),
         }
     }
 
     /// What a step changes that is possible.
     pub fn ready(&mut self, alloc: Global, step: Step) -> Result<Ready<R>, Memory>
-        requires sound { IsSound R.text self.old.kept self.old.rules }
+        requires sound { IsSound R.format R.text self.old.kept self.old.rules }
         requires fields { HasFields step }
         requires possible { IsPossible (state_of self.old.kept) step }
         ensures same { self.new.kept ≡ self.old.kept }
-        ensures sound { IsSound R.text self.new.kept self.new.rules }
+        ensures sound { IsSound R.format R.text self.new.kept self.new.rules }
         ensures ready { IfOk result (λ ready.
-            IsReady R.text (state_of self.old.kept) step ready.change ready.rules) }
+            IsReady R.format R.text (state_of self.old.kept) step ready.change ready.rules) }
     {
         match self.prepare_at_hand(alloc, step)? {
             Some(ready) => Ok(ready),

@@ -4,10 +4,10 @@
 //! memory is refused; `commit` makes the change and cannot fail. Between the last two the spool writes the step's
 //! record down; replaying a history does not.
 
-ghost use Rattle.std.specs.Prelude.{◌≡◌, ◌≤◌, ◌<◌, ℕ, List, IfOk, IfSome, IfNone, None, OnErr, OnOk, Some};
+ghost use Rattle.std.specs.Prelude.{◌≡◌, ◌≤◌, ◌<◌, ℕ, List, IfOk, IfSome, IfNone, None, OnErr, OnOk, Some, false};
 ghost use Rattle.std.specs.Option.{option_map};
 ghost use Rattle.mta_ber.specs.Times.{last_moment};
-ghost use Rattle.mta_machine.specs.declared.item.Origin.TheVariants as Origins;
+ghost use Rattle.mta_records.specs.declared.state.Origin.TheVariants as Origins;
 ghost use Rattle.mta_machine.specs.Items.{ItemValue, numbered};
 ghost use Rattle.mta_machine.specs.Machine.{accepted_item};
 ghost use Rattle.mta_records.specs.declared.step.Step.{Step};
@@ -22,7 +22,7 @@ ghost use Rattle.mta_state.specs.Prepared.{IsChangeOf, Prepares};
 ghost use Rattle.mta_replay.specs.declared.accept.Arrival.{Arrival};
 ghost use Rattle.mta_dues.specs.Index.{IsIndexed};
 ghost use Rattle.mta_replay.specs.Found.{IsFound, IsFoundLast};
-ghost use Rattle.mta_replay.specs.Ready.{IsReady, TakesUp, recorded_by};
+ghost use Rattle.mta_replay.specs.Ready.{IsReady, TakesUp, sets_rules};
 ghost use Rattle.mta_replay.specs.Sound.{IsSound};
 
 use crate::accept::{Arrival, prepare_arrival};
@@ -53,7 +53,7 @@ impl From<Memory> for NotMade {
     }
 }
 
-/// The rules under the tables recorded last, and what is known of items under them.
+/// The rules in the format and under the tables recorded last, and what is known of items under them.
 #[derive(Drop)]
 pub struct InForce<R: Rules + Drop> {
     pub rules: R,
@@ -77,10 +77,12 @@ impl<R: Rules + Drop> InForce<R> {
 
 // The item of which a change discharges recipients is to be looked at again.
 fn recall_changed(index: &mut Index, change: &Change) -> Result<(), Memory>
-    ensures { (text : List ℕ) (items : List ItemValue) → IsIndexed text items index.old
-        → IsIndexed text items index.new }
+    ensures { (format : ℕ) (text : List ℕ) (items : List ItemValue) → IsIndexed format text items index.old
+        → IsIndexed format text items index.new }
 {
     match change {
+        Change::Begin { .. } => Ok(()),
+        Change::Format => Ok(()),
         Change::Tables { .. } => Ok(()),
         Change::Accept { .. } => Ok(()),
         Change::Settle { item, .. } => index.recall(*item),
@@ -95,9 +97,9 @@ fn recall_changed(index: &mut Index, change: &Change) -> Result<(), Memory>
 // What was found of the item of this number is noted, where something was and there is memory for it.
 fn note_in(alloc: Global, index: &mut Index, number: u32, moment: u64, rest: Option<Rest>)
     requires later { IfSome rest (λ found. moment < found.until) }
-    ensures { (text : List ℕ) (items : List ItemValue) (item : ItemValue)
-        → numbered items number ≡ Some item → IsRestOf text item moment rest
-        → IsIndexed text items index.old → IsIndexed text items index.new }
+    ensures { (format : ℕ) (text : List ℕ) (items : List ItemValue) (item : ItemValue)
+        → numbered items number ≡ Some item → IsRestOf format text item moment rest
+        → IsIndexed format text items index.old → IsIndexed format text items index.new }
 {
     match rest {
         None => {}
@@ -108,8 +110,8 @@ fn note_in(alloc: Global, index: &mut Index, number: u32, moment: u64, rest: Opt
     }
 }
 
-/// The state that a history leads to, and the rules under the tables recorded last, where some were. Its fields are
-/// plain, since room for a change has to be seen by whoever commits it.
+/// The state that a history leads to, and the rules in its format and under the tables recorded last, where some were.
+/// Its fields are plain, since room for a change has to be seen by whoever commits it.
 pub struct Replay<R: Rules + Drop> {
     pub kept: Kept,
     pub rules: Option<InForce<R>>,
@@ -122,7 +124,7 @@ impl<R: Rules + Drop> Drop for Replay<R> {
     }
 }
 
-/// What a step changes, with the rules under the tables that it records.
+/// What a step changes, with the rules that are made for it.
 #[derive(Drop)]
 pub struct Ready<R: Rules + Drop> {
     pub change: Change,
@@ -130,11 +132,11 @@ pub struct Ready<R: Rules + Drop> {
 }
 
 impl<R: Rules + Drop> Ready<R> {
-    /// What a step changes that records no tables.
+    /// What a step changes for which no rules are made.
     #[tactic(auto, using(crate::proofs::Readiness::ready_alone))]
     pub fn of_change(change: Change) -> Ready<R>
-        ensures { (s : State) (step : Step) → recorded_by (class_of step) ≡ None → IsChangeOf s step change
-            → IsReady R.text s step result.change result.rules }
+        ensures { (s : State) (step : Step) → sets_rules (class_of step) ≡ false → IsChangeOf s step change
+            → IsReady R.format R.text s step result.change result.rules }
     {
         Ready {
             change,
@@ -154,7 +156,7 @@ impl<R: Rules + Drop> Replay<R> {
     #[tactic(auto, using(crate::proofs::Sounds::sound_at_first))]
     pub fn new(alloc: Global) -> Replay<R>
         ensures state { state_of result.kept ≡ empty }
-        ensures sound { IsSound R.text result.kept result.rules }
+        ensures sound { IsSound R.format R.text result.kept result.rules }
     {
         Replay {
             kept: Kept::new(alloc),
@@ -165,9 +167,9 @@ impl<R: Rules + Drop> Replay<R> {
     // The item of which a change discharges recipients is to be looked at again.
     #[tactic(auto, using(crate::proofs::Sounds::sound_with))]
     fn recall(&mut self, change: &Change) -> Result<(), Memory>
-        requires sound { IsSound R.text self.old.kept self.old.rules }
+        requires sound { IsSound R.format R.text self.old.kept self.old.rules }
         ensures same { self.new.kept ≡ self.old.kept }
-        ensures sound { IsSound R.text self.new.kept self.new.rules }
+        ensures sound { IsSound R.format R.text self.new.kept self.new.rules }
     {
         match &mut self.rules {
             None => Ok(()),
@@ -178,9 +180,9 @@ impl<R: Rules + Drop> Replay<R> {
     /// Finds room for a change.
     #[tactic(auto, using(crate::proofs::Sounds::sound_still))]
     pub fn reserve(&mut self, ready: &Ready<R>) -> Result<(), Memory>
-        requires sound { IsSound R.text self.old.kept self.old.rules }
+        requires sound { IsSound R.format R.text self.old.kept self.old.rules }
         ensures same { state_of self.new.kept ≡ state_of self.old.kept }
-        ensures sound { IsSound R.text self.new.kept self.new.rules }
+        ensures sound { IsSound R.format R.text self.new.kept self.new.rules }
         ensures room { OnOk result (HasRoomFor self.new.kept ready.now.change) }
     {
         self.recall(&ready.change)?;
@@ -189,14 +191,14 @@ impl<R: Rules + Drop> Replay<R> {
 
     /// Makes the change of a step that is possible, in room that was found for it.
     pub fn commit(&mut self, ready: Ready<R>)
-        requires sound { IsSound R.text self.old.kept self.old.rules }
+        requires sound { IsSound R.format R.text self.old.kept self.old.rules }
         requires room { HasRoomFor self.old.kept ready.change }
         requires can { CanChange (state_of self.old.kept) ready.change }
-        ensures made { (step : Step) → IsReady R.text (state_of self.old.kept) step ready.change ready.rules
+        ensures made { (step : Step) → IsReady R.format R.text (state_of self.old.kept) step ready.change ready.rules
             → state_of self.new.kept ≡ after_step (state_of self.old.kept) step }
         ensures sound { (step : Step) → HasFields step
-            → IsReady R.text (state_of self.old.kept) step ready.change ready.rules
-            → IsSound R.text self.new.kept self.new.rules }
+            → IsReady R.format R.text (state_of self.old.kept) step ready.change ready.rules
+            → IsSound R.format R.text self.new.kept self.new.rules }
     {
         let Ready { change, rules } = ready;
         self.kept.commit(change);
@@ -208,7 +210,7 @@ impl<R: Rules + Drop> Replay<R> {
     // What an Accept changes, and what is found of its item then; none exactly where it is not possible.
     #[tactic(auto, using(crate::proofs::Founds::found_under))]
     fn arrival(&self, alloc: Global, moment: u64, apdu: Octets) -> Result<Option<Arrival>, Memory>
-        requires sound { IsSound R.text self.now.kept self.now.rules }
+        requires sound { IsSound R.format R.text self.now.kept self.now.rules }
         requires fits { moment ≤ last_moment }
         ensures prepares { IfOk result (λ found.
             Prepares (state_of self.now.kept) (Steps.Accept moment apdu)
@@ -225,10 +227,10 @@ impl<R: Rules + Drop> Replay<R> {
     // What was found of the last item is noted.
     #[tactic(auto, using(crate::proofs::Founds::found_later))]
     fn note(&mut self, alloc: Global, moment: u64, rest: Option<Rest>)
-        requires sound { IsSound R.text self.old.kept self.old.rules }
+        requires sound { IsSound R.format R.text self.old.kept self.old.rules }
         requires found { IsFoundLast self.old.kept moment rest }
         ensures same { self.new.kept ≡ self.old.kept }
-        ensures sound { IsSound R.text self.new.kept self.new.rules }
+        ensures sound { IsSound R.format R.text self.new.kept self.new.rules }
     {
         let count = self.kept.parts.items.len() as u32;
         match &mut self.rules {
@@ -240,11 +242,11 @@ impl<R: Rules + Drop> Replay<R> {
     // Takes up an Accept where it is possible, and notes what is found of its item.
     #[tactic(auto, using(crate::proofs::Founds::found_last))]
     fn take_in(&mut self, alloc: Global, moment: u64, apdu: Octets) -> Result<(), NotMade>
-        requires sound { IsSound R.text self.old.kept self.old.rules }
+        requires sound { IsSound R.format R.text self.old.kept self.old.rules }
         requires fields { HasFields (Steps.Accept moment apdu) }
         ensures taken { TakesUp (Steps.Accept moment apdu) (state_of self.old.kept) (state_of self.new.kept) result }
         ensures kept { OnErr result (state_of self.new.kept ≡ state_of self.old.kept) }
-        ensures sound { IsSound R.text self.new.kept self.new.rules }
+        ensures sound { IsSound R.format R.text self.new.kept self.new.rules }
     {
         let Some(Arrival { change, rest }) = self.arrival(alloc, moment, apdu)? else {
             return Err(NotMade::Impossible);
@@ -261,11 +263,11 @@ impl<R: Rules + Drop> Replay<R> {
 
     // Takes up a step where it is possible.
     fn take_up(&mut self, alloc: Global, step: Step) -> Result<(), NotMade>
-        requires sound { IsSound R.text self.old.kept self.old.rules }
+        requires sound { IsSound R.format R.text self.old.kept self.old.rules }
         requires fields { HasFields step }
         ensures taken { TakesUp step (state_of self.old.kept) (state_of self.new.kept) result }
         ensures kept { OnErr result (state_of self.new.kept ≡ state_of self.old.kept) }
-        ensures sound { IsSound R.text self.new.kept self.new.rules }
+        ensures sound { IsSound R.format R.text self.new.kept self.new.rules }
     {
         let Some(ready) = self.prepare_at_hand(alloc, step)? else {
             return Err(NotMade::Impossible);
@@ -280,11 +282,11 @@ impl<R: Rules + Drop> Replay<R> {
     /// # Errors
     /// `Impossible` exactly where it is not; `Memory`. After either the state is as it was.
     pub fn add(&mut self, alloc: Global, step: Step) -> Result<(), NotMade>
-        requires sound { IsSound R.text self.old.kept self.old.rules }
+        requires sound { IsSound R.format R.text self.old.kept self.old.rules }
         requires fields { HasFields step }
         ensures taken { TakesUp step (state_of self.old.kept) (state_of self.new.kept) result }
         ensures kept { OnErr result (state_of self.new.kept ≡ state_of self.old.kept) }
-        ensures sound { IsSound R.text self.new.kept self.new.rules }
+        ensures sound { IsSound R.format R.text self.new.kept self.new.rules }
     {
         match step {
             Step::Accept { moment, apdu } => self.take_in(alloc, moment, apdu),

@@ -120,6 +120,7 @@ pub fn prepare_report<R: Rules>(
     moment: u64,
 ) -> Result<Option<Change>, Memory>
     requires text { IsTextOf kept.now (R.text rules.now) }
+    requires format { R.format rules.now ≡ kept.now.parts.format }
     requires stored { All IsStored kept.now.parts.items.items }
     requires reading { IsReadAt kept.now.parts.items.items item reading.now }
     ensures { IfOk result (Prepares (state_of kept.now) (Steps.Report item recipient moment)) }
@@ -161,6 +162,7 @@ pub fn prepare_discard<R: Rules>(
     moment: u64,
 ) -> Result<Option<Change>, Memory>
     requires text { IsTextOf kept.now (R.text rules.now) }
+    requires format { R.format rules.now ≡ kept.now.parts.format }
     requires stored { All IsStored kept.now.parts.items.items }
     requires reading { IsReadAt kept.now.parts.items.items item reading.now }
     ensures { IfOk result (Prepares (state_of kept.now) (Steps.Discard item recipient moment)) }
@@ -186,6 +188,7 @@ fn passing_back<R: Rules>(
     moment: u64,
 ) -> Result<Option<Change>, Memory>
     requires text { IsTextOf kept.now (R.text rules.now) }
+    requires format { R.format rules.now ≡ kept.now.parts.format }
     requires item { numbered kept.now.parts.items.items number ≡ Some item.now }
     requires arrived { item.now.arrival ≤ last_moment }
     requires reading { IsReadingOf item.now.octets reading.now }
@@ -215,6 +218,7 @@ pub fn prepare_back<R: Rules>(
     moment: u64,
 ) -> Result<Option<Change>, Memory>
     requires text { IsTextOf kept.now (R.text rules.now) }
+    requires format { R.format rules.now ≡ kept.now.parts.format }
     requires stored { All IsStored kept.now.parts.items.items }
     requires reading { IsReadAt kept.now.parts.items.items item reading.now }
     ensures { IfOk result (Prepares (state_of kept.now) (Steps.Back item recipient moment)) }

@@ -62,6 +62,7 @@ fn all_relay<R: Rules>(
     moment: u64,
 ) -> Result<bool, Memory>
     requires text { IsTextOf kept.now (R.text rules.now) }
+    requires format { R.format rules.now ≡ kept.now.parts.format }
     requires item { numbered kept.now.parts.items.items number ≡ Some item.now }
     requires arrived { item.now.arrival ≤ last_moment }
     requires reading { IsReadingOf item.now.octets reading.now }
@@ -92,6 +93,7 @@ fn one_of<R: Rules>(
     moment: u64,
 ) -> Result<Option<u32>, Memory>
     requires text { IsTextOf kept.now (R.text rules.now) }
+    requires format { R.format rules.now ≡ kept.now.parts.format }
     requires item { numbered kept.now.parts.items.items number ≡ Some item.now }
     requires arrived { item.now.arrival ≤ last_moment }
     requires reading { IsReadingOf item.now.octets reading.now }
@@ -128,11 +130,13 @@ fn transfer_for<R: Rules>(
     moment: u64,
 ) -> Result<Transfer, Memory>
     requires text { IsTextOf kept.now (R.text rules.now) }
+    requires format { R.format rules.now ≡ kept.now.parts.format }
     requires item { numbered kept.now.parts.items.items number ≡ Some item.now }
     requires arrived { item.now.arrival ≤ last_moment }
     requires reading { IsReadingOf item.now.octets reading.now }
     requires fits { moment ≤ last_moment }
-    requires relayed { Relays (verdict_of (R.text rules.now) item.now.octets item.now.arrival recipient moment) }
+    requires relayed { let format = R.format rules.now in
+        Relays (verdict_of format (R.text rules.now) item.now.octets item.now.arrival recipient moment) }
     ensures { IfOk result (λ t. t ≡ transfer_of (machine_of kept.now.parts) number recipients.now moment) }
 {
     let tables = kept.parts.texts.len();
@@ -149,7 +153,14 @@ fn transfer_for<R: Rules>(
         moment,
     )?;
     let recipients = recipients.copy(alloc)?;
-    Ok(Transfer::new(number, recipients, moment, tables as u32, outgoing))
+    Ok(Transfer::new(
+        number,
+        recipients,
+        moment,
+        tables as u32,
+        kept.parts.format,
+        outgoing,
+    ))
 }
 
 /// What the next activity of a lane transfers, under the rules of the tables recorded last: the copy of the item for
@@ -167,6 +178,7 @@ pub fn transfer_next<R: Rules>(
     moment: u64,
 ) -> Result<Option<Transfer>, Memory>
     requires text { IsTextOf kept.now (R.text rules.now) }
+    requires format { R.format rules.now ≡ kept.now.parts.format }
     requires stored { All IsStored kept.now.parts.items.items }
     requires fits { moment ≤ last_moment }
     ensures { IfOk result (TransfersNext (state_of kept.now) lane generation item recipients.now moment) }
@@ -230,6 +242,7 @@ pub fn prepare_start<R: Rules>(
     moment: u64,
 ) -> Result<Option<Change>, Memory>
     requires text { IsTextOf kept.now (R.text rules.now) }
+    requires format { R.format rules.now ≡ kept.now.parts.format }
     requires stored { All IsStored kept.now.parts.items.items }
     requires numbers { length kept.now.parts.items.items < 2 ^ 32 }
     requires fits { moment ≤ last_moment }

@@ -4,7 +4,7 @@ use Rattle.std.proofs.Common.{refl, sym, ap, subst, ◌∙◌, append_assoc, ari
 use Rattle.std.proofs.lemmas.List.{length-append}
 use Rattle.mta_transfer_rules.specs.Lanes.{Seen}
 use Rattle.mta_records.specs.declared.step.Step.{Step}
-use Rattle.mta_histories.specs.Classes.{abandon, Class, class_of, LaneStep, on_lane, opens}
+use Rattle.mta_histories.specs.Classes.{abandon, begins, Class, class_of, LaneStep, on_lane, opens}
 use Rattle.mta_histories.specs.History.{after, after_step, when}
 use Rattle.mta_histories.specs.Lanes.{empty, State}
 use Rattle.mta_histories.specs.Seen.{annotated, seen_of}
@@ -25,6 +25,7 @@ own_for_none : (tells : ℕ → Type 0) (conf input : List ℕ) (last : ℕ) (c 
     → IsOwnOf tells conf input last c moment → IsForNone (seen_of s c at)
 own_for_none tells conf input last (on_lane n g ls) s moment at own =
     own_lane_for_none tells conf input last n g ls s moment at own
+own_for_none tells conf input last (begins t) s moment at own = absurd own
 own_for_none tells conf input last (opens role peer name twa size window) s moment at own = absurd own
 own_for_none tells conf input last any s moment at own = tt
 

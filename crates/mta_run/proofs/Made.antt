@@ -24,6 +24,8 @@ made_timed tells other s (x ∷ a) more made = (
 )
 
 worker_turn : (c : Class) → IsOfWorkers c → turn_of_class c ≡ 2
+worker_turn (classes.begins t) is = absurd is
+worker_turn classes.sets_format is = absurd is
 worker_turn (classes.records text) is = absurd is
 worker_turn (classes.accepts octets) is = absurd is
 worker_turn any0 is = refl

@@ -129,10 +129,10 @@ printed_tells h ends added opening out _ any6 e = absurd cc
 -- ---- a run
 
 -- an Accept behind which steps are added, and its item
-kept : (steps added : List Step) (octets : List ℕ) (n : ℕ) → IsAccepted steps added octets n
-    → IsKept steps added octets n
-kept steps added octets n a =
-    let item = accepted_kept steps added octets n a in
+kept : (steps added : List Step) (octets : List ℕ) (n : ℕ) → IsHistory (steps ++ added)
+    → IsAccepted steps added octets n → IsKept steps added octets n
+kept steps added octets n history a =
+    let item = accepted_kept steps added octets n history a in
     record { accepted = a; item = item.0; item_is = item.1; octets_are = item.2 }
 
 pub ran : {D C I O : Type 0} (h : Handed D C I) (sinks : SinkView O) (a b c : O) (result : Result (Unit {0}) Stop)
@@ -152,9 +152,12 @@ ran h sinks a b c result status stations has closed first then = record {
       (history_front steps (has.added ++ has.torn_step) n (has.history f steps was s));
   acknowledged_kept = λ submit x y was is n rest small begun i w f steps there s.
       let acc = ended_accepted h has.ends has.added submit n small has.opening (output sinks a c) status x y rest
-      printed was is begun i w f steps there s in (
-        kept steps has.added i n acc,
-        kept steps (has.added ++ has.torn_step) i n (accepted_more steps has.added has.torn_step i n acc),
+      printed was is begun i w f steps there s in
+      let all = has.history f steps there s in
+      let front = possible_front empty (steps ++ has.added) has.torn_step (subst IsHistory (sym
+      (append_assoc steps has.added has.torn_step)) all) in (
+        kept steps has.added i n front acc,
+        kept steps (has.added ++ has.torn_step) i n all (accepted_more steps has.added has.torn_step i n acc),
       );
   printed = printed;
   provenance = has.own;

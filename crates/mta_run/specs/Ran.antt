@@ -3,9 +3,9 @@ use Rattle.std.specs.Prelude.{◌≡◌, ◌≢◌, ◌⊎◌, ◌<◌, ◌≤�
 use Rattle.std.specs.Prelude.{take, None, Some}
 use Rattle.mta_records.specs.declared.step.Step.{Step}
 use Rattle.mta_machine.specs.Apdu.{IsApdu}
-use Rattle.mta_machine.specs.declared.item.Status.{Status}
-use Rattle.mta_machine.specs.Items.{ItemValue, at_start, numbered, status_at}
-use Rattle.mta_machine.specs.Machine.{IsRun, discharges}
+use Rattle.mta_records.specs.declared.state.Status.{Status}
+use Rattle.mta_machine.specs.Items.{ItemValue, numbered, status_at}
+use Rattle.mta_machine.specs.Machine.{IsRun, discharges_in}
 use Rattle.mta_machine.specs.Laws.{IsPendingOrDischarged}
 use Rattle.mta_histories.specs.History.{after, project}
 use Rattle.mta_images.specs.Image.{StandsFor}
@@ -25,12 +25,13 @@ use Rattle.mta_commands.specs.Command.{IsSettled, OnStations, SourcesLeft}
 use Rattle.mta_commands.specs.Images.{IsSafeBefore}
 use Rattle.mta_commands.specs.Provenance.{AreOfCall}
 
--- What the steps are for the machine of recipients is a run of it, and each recipient for whom this agent is
--- responsible is pending with no discharge, or is not pending and has one.
+-- What the steps are for the machine of recipients is a run of it, from the state of the snapshot with which they begin
+-- or from nothing. Each recipient for whom this agent is responsible is pending with no discharge, or is not pending and
+-- has one; what the snapshot has discharged counts as one.
 pub record RecipientsOnce (steps : List Step) : Type 0 where
-  pub run : IsRun at_start (project steps)
+  pub run : IsRun (project steps).start (project steps).steps
   pub once : (i r : ℕ) (s : Status) → status_at (after steps).machine i r ≡ Some (Some s)
-      → IsPendingOrDischarged s (discharges (project steps) i r)
+      → IsPendingOrDischarged s (discharges_in (project steps) i r)
 
 -- An added Accept of these octets makes the item of this number, which is the next one behind the history, and the
 -- item has these octets.

@@ -2,7 +2,7 @@
 
 use crate::names::Names;
 use anyhow::{Result, bail};
-use mta_rows::{Fields, lines_of, octets_of};
+use mta_rows::{Fields, lines_of};
 use std::alloc::{AllocError, Global};
 
 /// A station with one link: its role, what the peer gives, and whether the link is held.
@@ -95,7 +95,7 @@ impl Held {
 
     fn put(&mut self, alloc: Global, mut fields: Fields<'_>) -> Result<()> {
         let count = number(fields.take());
-        let piece = octets_of(alloc, fields.take())?;
+        let piece = self.names.octets(alloc, fields.take())?;
         Ok(put_again(&mut self.disk, piece.as_slice(), count)?)
     }
 

@@ -7,7 +7,8 @@ use Rattle.std.proofs.lemmas.Bool.{and_parts, leb-true}
 use Rattle.std.proofs.lemmas.List.{length-append}
 use Rattle.mta_records.specs.declared.lane.LaneRole.{LaneRole}
 use Rattle.mta_records.specs.declared.step.Step.TheVariants as steps
-use Rattle.mta_records.specs.Body.{body_of, lane_name_octets, numbered_activity_octets, two_and_moment_octets}
+use Rattle.mta_records.specs.Body.{body_of, numbered_activity_octets, two_and_moment_octets}
+use Rattle.mta_records.specs.LaneName.{lane_name_octets}
 use Rattle.mta_records.specs.Fields.{additional, numbers, octet_of_truth, reference, string}
 use Rattle.mta_records.specs.Form.{number_octets}
 use Rattle.mta_records.specs.Reference.{Identifier, IsIdentifier}

@@ -6,8 +6,8 @@ use Rattle.std.proofs.lemmas.Bool.{cases_lt, lt-ltb}
 use Rattle.std.proofs.lemmas.List.{length-append}
 use Rattle.mta_records.specs.declared.step.Step.{Step}
 use Rattle.mta_records.specs.declared.step.Step.TheVariants.{Tables, Accept, Deliver, Expand, Report, Affirm, Discard}
-use Rattle.mta_records.specs.declared.step.Step.TheVariants.{Back, LaneOpen, LaneAgree, Bind, Start, Confirm, Ending}
-use Rattle.mta_records.specs.declared.step.Step.TheVariants.{Sent, Refused, Denied, Dropped, Abandon, Secure, Complete}
+use Rattle.mta_records.specs.declared.step.Step.TheVariants.{Back, LaneAgree, Bind, Confirm, Ending}
+use Rattle.mta_records.specs.declared.step.Step.TheVariants.{Sent, Refused, Denied, Dropped, Abandon}
 use Rattle.mta_records.specs.declared.step.Step.TheVariants.{Drop, CloseLane}
 use Rattle.mta_records.specs.Body.{body_of, two_and_moment_octets, lane_octets, activity_octets}
 use Rattle.mta_records.specs.Body.{numbered_activity_octets}

@@ -1,7 +1,7 @@
 -- The numbers that a step needs which opens no lane are those of items.
-use Rattle.std.proofs.Common.{◌≡◌, ℕ, ◌+◌, ◌≤◌, ◌<◌, ◌^◌, List, Option, length, refl, arith}
+use Rattle.std.proofs.Common.{◌≡◌, ℕ, ◌+◌, ◌≤◌, ◌<◌, ◌^◌, length, refl, arith}
 use Rattle.mta_histories.specs.Lanes.{State}
-use Rattle.mta_histories.specs.Classes.{Class, opens, on_lane, settles}
+use Rattle.mta_histories.specs.Classes.{Class, opens, on_lane}
 use Rattle.mta_histories.specs.Numbers.{numbers_needed}
 use Rattle.mta_spool.specs.Due.{IsDueClass}
 use Rattle.mta_spool.specs.OnLanes.{IsPlainOn}

@@ -10,11 +10,11 @@ use Rattle.mta_records.specs.declared.fault.StepFault.TheVariants as Faults
 use Rattle.mta_histories.specs.Lanes.{Lane, State, lane_at}
 use Rattle.mta_histories.specs.Classes.{was_sent, was_refused, was_denied, was_dropped, LaneStep, agree, bind, start}
 use Rattle.mta_histories.specs.Classes.{confirm, to_end, settle, abandon, secure, complete, drop_pieces, close, Class}
-use Rattle.mta_histories.specs.Classes.{records, accepts, settles, opens, on_lane, class_of}
+use Rattle.mta_histories.specs.Classes.{on_lane, class_of}
 use Rattle.mta_histories.specs.History.{StepNeeds, LaneNeeds, MachineNeeds, IsOnLane, IsPossible, when}
 use Rattle.mta_histories.specs.Numbers.{numbers_on, numbers_needed}
 use Rattle.mta_histories.proofs.Needed.{numbers_suffice}
-use Rattle.mta_replay.specs.Ready.{recorded_by}
+use Rattle.mta_replay.specs.Ready.{sets_rules}
 use Rattle.mta_spool.specs.Refusals.{IsFenced, LaneExpects, IsRefused}
 use Rattle.mta_edge.specs.Views.{DiskView}
 use Rattle.mta_journal.specs.Shown.{Shown as JournalShown}
@@ -65,10 +65,10 @@ pub quiet_is_plain : (n g : ℕ) (c : Class) → IsQuietOn n g c → IsPlainOn n
 quiet_is_plain n g (on_lane m h ls) quiet = (quiet.0, quiet.1, plain-quiet ls quiet.2)
 quiet_is_plain n g any2 quiet = absurd quiet
 
--- it records no tables
-pub quiet_records_none : (n g : ℕ) (c : Class) → IsQuietOn n g c → recorded_by c ≡ None
-quiet_records_none n g (on_lane m h ls) quiet = refl
-quiet_records_none n g any2 quiet = absurd quiet
+-- no rules are made anew for it
+pub quiet_sets_none : (n g : ℕ) (c : Class) → IsQuietOn n g c → sets_rules c ≡ false
+quiet_sets_none n g (on_lane m h ls) quiet = refl
+quiet_sets_none n g any2 quiet = absurd quiet
 
 none-open : (lane : Lane) (ls : LaneStep) → IsQuiet ls → 0 ≡ numbers_on (Some lane) ls
 none-open lane (agree checkpoint window) quiet = refl

@@ -1,8 +1,7 @@
 -- What opening a disk leaves.
-use Rattle.std.proofs.Common.{inl, inr, ⊎_elim, ◌≡◌, ℕ, ◌+◌, ◌≤◌, ◌<◌, List, [], ◌∷◌, ◌++◌, length, map, Some, Result}
+use Rattle.std.proofs.Common.{inl, inr, ⊎_elim, ◌≡◌, ℕ, ◌≤◌, ◌<◌, List, [], ◌∷◌, ◌++◌, length, map, Some, Result}
 use Rattle.std.proofs.Common.{Ok, Err}
 use Rattle.std.proofs.Common.{refl, sym, ap, subst, ◌∙◌, arith}
-use Rattle.std.specs.Prelude.{◌⊎◌}
 use Rattle.mta_edge.specs.Crashes.{CrashLeaves}
 use Rattle.mta_edge.specs.Views.{DiskView, StaysTold, WhereTold}
 use Rattle.mta_edge.proofs.Moments.{joined, weaken}

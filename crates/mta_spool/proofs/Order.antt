@@ -13,7 +13,7 @@ use Rattle.mta_histories.specs.History.{when}
 use Rattle.mta_histories.specs.Lanes.{State}
 use Rattle.mta_spool.specs.Order.{FirstCauseIsTold, IsCause, IsFirstCause, place_of}
 use Rattle.mta_spool.specs.Refusals.{IsOfLane, IsRefused}
-use Rattle.mta_spool.specs.Stands.{IsOfNoRefusal, IsSpent, last_number, Makes, need_of}
+use Rattle.mta_spool.specs.Stands.{IsOfNoRefusal, last_number, Makes, need_of}
 use Rattle.mta_spool.proofs.Refused.{refusal_of_lane}
 
 -- a refusal for a lane is a cause, and has a place before the others

@@ -10,8 +10,8 @@ use Rattle.mta_records.specs.Words.{is_word}
 use Rattle.mta_tables.specs.declared.entry.Peer.{Peer}
 use Rattle.mta_tables.specs.declared.line.Line.{Line}
 use Rattle.mta_tables.specs.declared.line.Line.TheVariants as Said
-use Rattle.mta_tables.specs.Grammar.{Words, SilentLine, DomainLine, NameLine, PeerLine, MailboxLine, ListLine, FromLine}
-use Rattle.mta_tables.specs.Grammar.{MemberLine, HereLine, RouteLineTo, HoldLine, HasWords, Mean, Row, IsRow, peer_in}
+use Rattle.mta_tables.specs.Grammar.{Words, PeerLine}
+use Rattle.mta_tables.specs.Grammar.{HasWords, Mean, Row, IsRow, peer_in}
 use Rattle.mta_tables.specs.Grammar.{peers_of, said_by}
 use Rattle.mta_tables.specs.Words.{is_password, is_mode, is_filled}
 use Rattle.mta_tables.specs.Reading.{Bad, has_peer_word}

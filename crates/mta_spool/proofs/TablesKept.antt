@@ -1,4 +1,4 @@
--- No step changes the tables that neither records tables nor accepts an APDU.
+-- No step of workers changes the tables.
 use Rattle.std.proofs.Common.{◌≡◌, ℕ, Bool, true, false, cond, List, [], ◌∷◌, Option, Some, None, refl}
 use Rattle.mta_records.specs.declared.step.Step.{Step}
 use Rattle.mta_machine.specs.Items.{Machine}
@@ -11,7 +11,7 @@ use Rattle.mta_histories.specs.Classes.{agree, bind, close, complete, confirm, d
 use Rattle.mta_histories.specs.Classes.{abandon, secure, settle, start, to_end, was_denied, was_dropped, was_refused}
 use Rattle.mta_histories.specs.Classes.{Class, class_of, was_sent}
 use Rattle.mta_histories.specs.Classes as classes
-use Rattle.mta_histories.specs.History.{after_step, class_steps, failure_of_kind, failures, on_lane_steps}
+use Rattle.mta_histories.specs.History.{after_step, failure_of_kind, failures, machine_left, on_lane_steps}
 use Rattle.mta_histories.specs.History.{outcome_steps, sendings, when}
 use Rattle.mta_spool.specs.Moments.{IsOfWorkers}
 
@@ -64,7 +64,9 @@ lane_keeps m (Some lane) (complete k n piece) moment = refl
 lane_keeps m (Some lane) (drop_pieces k) moment = refl
 lane_keeps m (Some lane) close moment = refl
 
-class_keeps : (s : State) (c : Class) (moment : ℕ) → IsOfWorkers c → Keep s.machine (class_steps s c moment)
+class_keeps : (s : State) (c : Class) (moment : ℕ) → IsOfWorkers c → (machine_left s c moment).tables ≡ s.machine.tables
+class_keeps s (classes.begins t) moment i = absurd i
+class_keeps s classes.sets_format moment i = absurd i
 class_keeps s (classes.records text) moment i = absurd i
 class_keeps s (classes.accepts octets) moment i = absurd i
 class_keeps s (classes.settles how i r) moment is = refl

@@ -1,4 +1,4 @@
--- The moments that steps carry, and the steps that record no tables and accept no APDU.
+-- The moments that steps carry, and the steps that workers make.
 use Rattle.std.specs.Prelude.{◌≡◌, ℕ, List, [], ◌∷◌, Option, None, Some}
 use Rattle.mta_records.specs.declared.step.Step.{Step}
 use Rattle.mta_histories.specs.Lanes.{State}
@@ -26,8 +26,11 @@ AreTimed tells s (step ∷ steps) =
 
 -- ---- whose they are
 
--- a step that settles a recipient, opens a lane or is on one: it neither records tables nor accepts an APDU
+-- a step that settles a recipient, opens a lane or is on one: it neither begins a history, sets the format, records
+-- tables nor accepts an APDU
 abbrev pub IsOfWorkers : Class → Type 0
+IsOfWorkers (classes.begins t) = ⊥
+IsOfWorkers classes.sets_format = ⊥
 IsOfWorkers (classes.records text) = ⊥
 IsOfWorkers (classes.accepts octets) = ⊥
 IsOfWorkers (classes.settles how i r) = Unit {0}

@@ -12,7 +12,7 @@ use Rattle.mta_records.specs.declared.fault.CompleteFault.{CompleteFault}
 use Rattle.mta_records.specs.declared.fault.CompleteFault.TheVariants as CompleteFaults
 use Rattle.mta_apdu.specs.Apdus.{apdu_of}
 use Rattle.mta_ber.specs.declared.fault.ReadFault.{ReadFault}
-use Rattle.mta_machine.specs.declared.item.Origin.TheVariants as Origins
+use Rattle.mta_records.specs.declared.state.Origin.TheVariants as Origins
 use Rattle.mta_machine.specs.Items.{ItemValue}
 use Rattle.mta_state.specs.Reading.{IsFaultOf, IsItemOf}
 use Rattle.mta_histories.specs.Lanes.{Lane, State, lane_at}

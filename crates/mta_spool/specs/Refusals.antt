@@ -1,6 +1,6 @@
 -- Why a step is refused for the lane on which it stands, before its record is written: beside the numbers that are
 -- left, memory and the disk.
-use Rattle.std.specs.Prelude.{◌≡◌, ℕ, ◌+◌, ◌<◌, ◌≤◌, ◌^◌, true, List, length, count_by, Option, None, Some}
+use Rattle.std.specs.Prelude.{◌≡◌, ℕ, ◌<◌, ◌≤◌, true, List, length, count_by, Option, None, Some}
 use Rattle.mta_records.specs.Reference.{Identifier}
 use Rattle.mta_records.specs.declared.lane.LaneRole.{LaneRole}
 use Rattle.mta_records.specs.declared.fault.StepFault.{StepFault}

@@ -15,7 +15,7 @@ ghost use Rattle.mta_journal.specs.Bodies.{longest_body};
 ghost use Rattle.mta_journal.specs.Shown.{IsPlain};
 ghost use Rattle.mta_histories.specs.History.{IsPossible};
 ghost use Rattle.mta_state.specs.Kept.{CanChange, state_of};
-ghost use Rattle.mta_table_rules.specs.Text.{text_of};
+ghost use Rattle.mta_table_rules.specs.Text.{format_of, text_of};
 ghost use Rattle.mta_replay.specs.Ready.{IsReady};
 ghost use Rattle.mta_replay.specs.Sound.{IsSound};
 ghost use Rattle.mta_spool.specs.Making.{step_fault};
@@ -52,17 +52,17 @@ fn keep<D: Disk + Drop>(
     requires going { journal.old.ended ≡ false }
     requires plain { IsPlain journal.old.first }
     requires short { length body.now ≤ longest_body }
-    requires sound { IsSound text_of replay.old.kept replay.old.rules }
+    requires sound { IsSound format_of text_of replay.old.kept replay.old.rules }
     requires can { CanChange (state_of replay.old.kept) ready.change }
     ensures made { (step : Step) → HasFields step → body.now ≡ body_of step
         → longer.steps ≡ entries.old.steps ++ step ∷ []
-        → IsReady text_of (state_of replay.old.kept) step ready.change ready.rules
+        → IsReady format_of text_of (state_of replay.old.kept) step ready.change ready.rules
         → (IsSpent (state_of replay.old.kept) step → ⊥)
         → Makes D.model step journal.old (state_of replay.old.kept) entries.old.steps journal.new
         (state_of replay.new.kept) entries.new.steps (fault_of result) }
     ensures sound { (step : Step) → HasFields step
-        → IsReady text_of (state_of replay.old.kept) step ready.change ready.rules
-        → IsSound text_of replay.new.kept replay.new.rules }
+        → IsReady format_of text_of (state_of replay.old.kept) step ready.change ready.rules
+        → IsSound format_of text_of replay.new.kept replay.new.rules }
 {
     let Ok(()) = replay.reserve(&ready) else {
         ready.discard();
@@ -94,12 +94,12 @@ pub fn make_ready<D: Disk + Drop>(
     requires plain { IsPlain journal.old.first }
     requires fields { HasFields step.now }
     requires short { length (body_of step.now) ≤ longest_body }
-    requires sound { IsSound text_of replay.old.kept replay.old.rules }
-    requires ready { IsReady text_of (state_of replay.old.kept) step.now ready.change ready.rules }
+    requires sound { IsSound format_of text_of replay.old.kept replay.old.rules }
+    requires ready { IsReady format_of text_of (state_of replay.old.kept) step.now ready.change ready.rules }
     requires numbers { IsSpent (state_of replay.old.kept) step.now → ⊥ }
     ensures made { Makes D.model step.now journal.old (state_of replay.old.kept) entries.old.steps journal.new
         (state_of replay.new.kept) entries.new.steps (fault_of result) }
-    ensures sound { IsSound text_of replay.new.kept replay.new.rules }
+    ensures sound { IsSound format_of text_of replay.new.kept replay.new.rules }
 {
     let Ok(record) = write_record(alloc, step) else {
         ready.discard();
@@ -121,12 +121,12 @@ pub fn make<D: Disk + Drop>(
     requires plain { IsPlain journal.old.first }
     requires fields { HasFields step }
     requires short { length (body_of step) ≤ longest_body }
-    requires sound { IsSound text_of replay.old.kept replay.old.rules }
+    requires sound { IsSound format_of text_of replay.old.kept replay.old.rules }
     requires possible { IsPossible (state_of replay.old.kept) step }
     requires numbers { IsSpent (state_of replay.old.kept) step → ⊥ }
     ensures made { Makes D.model step journal.old (state_of replay.old.kept) entries.old.steps journal.new
         (state_of replay.new.kept) entries.new.steps (fault_of result) }
-    ensures sound { IsSound text_of replay.new.kept replay.new.rules }
+    ensures sound { IsSound format_of text_of replay.new.kept replay.new.rules }
 {
     let Ok(record) = write_record(alloc, &step) else {
         return Err(StepFault::Memory);

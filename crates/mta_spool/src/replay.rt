@@ -8,7 +8,7 @@
 ghost use Rattle.std.specs.Prelude.{◌≡◌, ◌<◌, ◌+◌, ◌^◌, length, IfErr, IfOk};
 ghost use Rattle.mta_journal.specs.Bodies.{AreWithin, longest_first, records};
 ghost use Rattle.mta_state.specs.Kept.{state_of};
-ghost use Rattle.mta_table_rules.specs.Text.{text_of};
+ghost use Rattle.mta_table_rules.specs.Text.{format_of, text_of};
 ghost use Rattle.mta_replay.specs.Sound.{IsSound};
 ghost use Rattle.mta_spool.specs.Replaying.{HasReplayed, HasStopped, HasTaken, open_why};
 
@@ -22,9 +22,9 @@ use std::alloc::Global;
 // Takes up the step of a body, where it has one that is possible.
 fn take_up(replay: &mut Replay<TableRules>, alloc: Global, body: &[u8]) -> Result<(), NotMade>
     requires fits { length body.now < 2 ^ 32 }
-    requires sound { IsSound text_of replay.old.kept replay.old.rules }
+    requires sound { IsSound format_of text_of replay.old.kept replay.old.rules }
     ensures taken { HasTaken body.now (state_of replay.old.kept) (state_of replay.new.kept) result }
-    ensures sound { IsSound text_of replay.new.kept replay.new.rules }
+    ensures sound { IsSound format_of text_of replay.new.kept replay.new.rules }
 {
     match read_record(alloc, body) {
         Ok(step) => replay.add(alloc, step),
@@ -50,7 +50,7 @@ pub fn replay(alloc: Global, first: u64, bodies: Vec<Octets>) -> Result<Replay<T
     requires fits { first + length (records bodies.items) + 1 < 2 ^ 64 }
     ensures replayed { IfOk result (λ r. HasReplayed bodies.items (state_of r.kept)) }
     ensures stopped { IfErr result (HasStopped first bodies.items) }
-    ensures sound { IfOk result (λ r. IsSound text_of r.kept r.rules) }
+    ensures sound { IfOk result (λ r. IsSound format_of text_of r.kept r.rules) }
 {
     let mut replay = Replay::new(alloc);
     let mut at = first;

@@ -17,7 +17,7 @@ ghost use Rattle.mta_machine.specs.Apdu.{IsApdu};
 ghost use Rattle.mta_machine.specs.Items.{numbered};
 ghost use Rattle.mta_machine.specs.Machine.{last_tables};
 ghost use Rattle.mta_histories.specs.History.{IsPossible};
-ghost use Rattle.mta_table_rules.specs.Text.{text_of};
+ghost use Rattle.mta_table_rules.specs.Text.{format_of, text_of};
 ghost use Rattle.mta_replay.specs.Ready.{IsReady};
 ghost use Rattle.mta_spool.specs.Turning.{IsLastRecorded, IsRecorded};
 
@@ -69,7 +69,7 @@ pub struct Spool<D: Disk + Drop, C: Clock + Drop> {
 
 impl<D: Disk + Drop, C: Clock + Drop> Model for Spool<D, C> {
     ghost use Rattle.mta_state.specs.Kept.{state_of};
-    ghost use Rattle.mta_table_rules.specs.Text.{text_of};
+    ghost use Rattle.mta_table_rules.specs.Text.{format_of, text_of};
     ghost use Rattle.mta_spool.specs.Shown.{IsSoundAt, Shown};
 
     ghost Value = { Shown D C };
@@ -88,7 +88,7 @@ impl<D: Disk + Drop, C: Clock + Drop> Model for Spool<D, C> {
       };
     } };
 
-    ghost invariant = { λ s. IsSoundAt text_of s.replay.kept s.replay.rules s.journal.first };
+    ghost invariant = { λ s. IsSoundAt format_of text_of s.replay.kept s.replay.rules s.journal.first };
 }
 
 impl<D: Disk + Drop, C: Clock + Drop> Spool<D, C> {
@@ -132,7 +132,7 @@ impl<D: Disk + Drop, C: Clock + Drop> Spool<D, C> {
         requires going { self.old.journal.ended ≡ false }
         requires fields { HasFields step.now }
         requires short { length (body_of step.now) ≤ longest_body }
-        requires ready { IsReady text_of self.old.current step.now ready.change ready.rules }
+        requires ready { IsReady format_of text_of self.old.current step.now ready.change ready.rules }
         requires numbers { IsSpent self.old.current step.now → ⊥ }
         ensures made { Appends D.model step.now self.old self.new (fault_of result) }
         ensures clock { self.new.clock ≡ self.old.clock }

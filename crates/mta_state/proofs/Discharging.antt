@@ -1,21 +1,21 @@
 -- A step that settles one recipient, and what it changes.
-use Rattle.std.proofs.Common.{◌≡◌, ◌≤◌, ◌<◌, ◌^◌, ℕ, List, [], ◌∷◌, ◌++◌, map, length}
-use Rattle.std.proofs.Common.{Option, Some, None, refl, sym, ap, subst, ◌∙◌, arith}
+use Rattle.std.proofs.Common.{◌≡◌, ◌≤◌, ◌<◌, ◌^◌, ℕ, List, [], ◌∷◌, ◌++◌, length}
+use Rattle.std.proofs.Common.{true, Option, Some, sym, ap, subst, ◌∙◌}
 use Rattle.std.specs.Prelude.{option_to_list}
 use Rattle.mta_records.specs.declared.step.Step.{Step}
-use Rattle.mta_machine.specs.declared.item.Status.{Status}
-use Rattle.mta_machine.specs.declared.item.MailboxLine.{MailboxLine}
+use Rattle.mta_records.specs.declared.state.Status.{Status}
+use Rattle.mta_records.specs.declared.state.MailboxLine.{MailboxLine}
 use Rattle.mta_machine.specs.Apdu.{value_of, is_report}
 use Rattle.mta_machine.specs.Items.{ItemValue, Machine, numbered, set_numbered}
-use Rattle.mta_machine.specs.Machine.{Discharge, MachineStep, discharge, Needs, last_tables, verdict_at, status_after}
-use Rattle.mta_machine.specs.Machine.{made_for, own_item, lines_of, items_after, machine_after, machine_run}
+use Rattle.mta_machine.specs.Machine.{Discharge, discharge, Needs, verdict_at, status_after}
+use Rattle.mta_machine.specs.Machine.{items_after, machine_after}
 use Rattle.mta_state.specs.Settled.{settled, put_settled, with_settled}
 use Rattle.mta_state.specs.Parts.{made_items, settled_machine}
 use Rattle.mta_state.specs.declared.parts.Made.{Made}
 use Rattle.mta_histories.specs.Lanes.{Lanes, State, IsFree}
 use Rattle.mta_histories.specs.Classes.{Settling, Class, settles, class_of, moment_of}
-use Rattle.mta_histories.specs.History.{IsPossible, StepNeeds, MachineNeeds, discharge_by, class_steps, machine_steps}
-use Rattle.mta_histories.specs.History.{lanes_after, after_step, later, when}
+use Rattle.mta_histories.specs.History.{StepNeeds, MachineNeeds, discharge_by, machine_left}
+use Rattle.mta_histories.specs.History.{lanes_after, later, when}
 use Rattle.mta_state.specs.declared.change.Change.TheVariants as change
 use Rattle.mta_state.specs.Prepared.{IsChangeOf}
 use Rattle.mta_state.specs.Settling.{IsDischarge}
@@ -47,7 +47,7 @@ discharged m i r how moment status made lines is =
         ∙ sym (ap (λ (o : Option ItemValue). items_after m o i (r ∷ []) how moment) is.item_is)))
 
 abbrev state : Machine → Lanes → ℕ → State
-state m l t = record { machine = m; lanes = l; moment = t }
+state m l t = record { machine = m; lanes = l; moment = t; begun = true }
 
 module _ (s : State) (step : Step) (how : Settling) (i r moment : ℕ) (status : Status) (made : Made)
     (line : Option MailboxLine) (class_is : class_of step ≡ settles how i r) (moment_is : moment_of step
@@ -59,19 +59,19 @@ module _ (s : State) (step : Step) (how : Settling) (i r moment : ℕ) (status :
     when_is : when s step ≡ moment
     when_is = ap (λ (t : Option ℕ). later s.moment t) moment_is
 
-    steps_are : machine_steps s step ≡ discharge i (r ∷ []) by moment ∷ []
-    steps_are =
-        ap (λ (k : Class). class_steps s k (when s step)) class_is
-        ∙ ap (λ (t : ℕ). class_steps s (settles how i r) t) when_is
+    left_is : machine_left s (class_of step) (when s step)
+        ≡ machine_after s.machine (discharge i (r ∷ []) by moment)
+    left_is =
+        ap (λ (k : Class). machine_left s k (when s step)) class_is
+        ∙ ap (λ (t : ℕ). machine_left s (settles how i r) t) when_is
 
     abbrev new : Machine
     new = settled_machine s.machine i (r ∷ []) status (made_items made) (option_to_list line) moment
 
     pub machine_is : IsDischarge s.machine i r by moment status (made_items made) (option_to_list line)
-        → new ≡ machine_run s.machine (machine_steps s step)
+        → new ≡ machine_left s (class_of step) (when s step)
     machine_is is =
-        discharged s.machine i r by moment status (made_items made) (option_to_list line) is
-        ∙ sym (ap (λ (ms : List MachineStep). machine_run s.machine ms) steps_are)
+        discharged s.machine i r by moment status (made_items made) (option_to_list line) is ∙ sym left_is
 
     lanes_are : s.lanes ≡ lanes_after s (class_of step) (when s step)
     lanes_are = ap (λ (k : Class). lanes_after s k (when s step)) (sym class_is)
@@ -90,8 +90,8 @@ module _ (s : State) (step : Step) (how : Settling) (i r moment : ℕ) (status :
       };
       after =
           ap (λ (m : Machine). state m s.lanes moment) (machine_is is)
-          ∙ (ap (λ (l : Lanes). state (machine_run s.machine (machine_steps s step)) l moment) lanes_are
-          ∙ ap (λ (t : ℕ). state (machine_run s.machine (machine_steps s step))
+          ∙ (ap (λ (l : Lanes). state (machine_left s (class_of step) (when s step)) l moment) lanes_are
+          ∙ ap (λ (t : ℕ). state (machine_left s (class_of step) (when s step))
           (lanes_after s (class_of step) (when s step)) t) (sym when_is));
       can = tt;
     }

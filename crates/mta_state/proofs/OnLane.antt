@@ -11,13 +11,12 @@ use Rattle.mta_machine.specs.Machine.{MachineStep, machine_run}
 use Rattle.mta_histories.specs.Lanes.{Lane, Lanes, State, lane_at, put_lane, without_lane}
 use Rattle.mta_histories.specs.Classes.{Class, LaneStep, on_lane, close, class_of, moment_of}
 use Rattle.mta_histories.specs.History.{IsPossible, IsOnLane, on_lane_steps, IsOfGeneration, LaneNeeds, StepNeeds}
-use Rattle.mta_histories.specs.History.{MachineNeeds, lane_steps, lane_after, on_lane_after, lanes_after, class_steps}
-use Rattle.mta_histories.specs.History.{machine_steps, after_step, when}
+use Rattle.mta_histories.specs.History.{MachineNeeds, lane_steps, lane_after, on_lane_after, lanes_after}
+use Rattle.mta_histories.specs.History.{machine_left, when}
 use Rattle.mta_lanes.specs.declared.change.LaneChange.{LaneChange}
 use Rattle.mta_lanes.specs.Changes.{MayChange, MayChangeAt, changed, put_changed}
-use Rattle.mta_state.specs.declared.change.Change.{Change}
 use Rattle.mta_state.specs.declared.change.Change.TheVariants as change
-use Rattle.mta_state.specs.Kept.{changed_state, lanes_changed}
+use Rattle.mta_state.specs.Kept.{lanes_changed}
 use Rattle.mta_state.specs.Prepared.{IsChangeOf}
 
 -- what such a step needs of a state, and what it changes of its lane
@@ -36,16 +35,16 @@ pub record Row (s : State) (step : Step) (n : ℕ) (g : Option ℕ) (ls : LaneSt
   pub numbers : length s.machine.items < 2 ^ 32
 
 abbrev state : Machine → Lanes → ℕ → State
-state m l t = record { machine = m; lanes = l; moment = t }
+state m l t = record { machine = m; lanes = l; moment = t; begun = true }
 
 module _ (s : State) (step : Step) (n : ℕ) (g : Option ℕ) (ls : LaneStep) (lane : Lane) (c : LaneChange) where
-  no_steps : Row s step n g ls lane c → machine_steps s step ≡ []
-  no_steps row =
-      ap (λ (k : Class). class_steps s k (when s step)) row.class_is
-      ∙ (ap (λ (l : Option Lane). on_lane_steps l ls (when s step)) row.found ∙ row.quiet)
+  no_steps : Row s step n g ls lane c → on_lane_steps (lane_at n s.lanes.open_lanes) ls (when s step) ≡ []
+  no_steps row = ap (λ (l : Option Lane). on_lane_steps l ls (when s step)) row.found ∙ row.quiet
 
-  same_machine : Row s step n g ls lane c → machine_run s.machine (machine_steps s step) ≡ s.machine
-  same_machine row = ap (λ (ms : List MachineStep). machine_run s.machine ms) (no_steps row)
+  same_machine : Row s step n g ls lane c → machine_left s (class_of step) (when s step) ≡ s.machine
+  same_machine row =
+      ap (λ (k : Class). machine_left s k (when s step)) row.class_is
+      ∙ ap (λ (ms : List MachineStep). machine_run s.machine ms) (no_steps row)
 
   new_lanes : Row s step n g ls lane c → lanes_changed s.lanes n c ≡ lanes_after s (class_of step) (when s step)
   new_lanes row =
@@ -71,7 +70,7 @@ module _ (s : State) (step : Step) (n : ℕ) (g : Option ℕ) (ls : LaneStep) (l
     possible = possible row;
     after =
         ap (λ (m : Machine). state m (lanes_changed s.lanes n c) (when s step)) (sym (same_machine row))
-        ∙ ap (λ (l : Lanes). state (machine_run s.machine (machine_steps s step)) l (when s step)) (new_lanes row);
+        ∙ ap (λ (l : Lanes). state (machine_left s (class_of step) (when s step)) l (when s step)) (new_lanes row);
     can = subst (λ (l : Option Lane). MayChangeAt l c) (sym row.found) row.may;
   }
 

@@ -8,7 +8,7 @@ use Rattle.mta_envelope.specs.Contents.{IsSeenAs}
 use Rattle.mta_apdu.specs.Apdus.{ApduValue, apdu_of, apdu_value, stored_of, SpellsApdu}
 use Rattle.mta_apdu.proofs.ApduLaws.{stored_is}
 use Rattle.mta_machine.specs.Apdu.{value_read, value_of}
-use Rattle.mta_machine.specs.declared.item.Status.{Status}
+use Rattle.mta_records.specs.declared.state.Status.{Status}
 use Rattle.mta_machine.specs.Items.{statuses_of, statuses_read}
 use Rattle.mta_state.specs.Reading.{IsFaultOf}
 

@@ -20,10 +20,11 @@ CodesAreCodes verdict =
     (reason diagnostic : ℕ) → verdict ≡ Some (Verdicts.NonDeliver reason diagnostic)
     → IsCode reason × IsCode diagnostic
 
--- rules under the tables of the text, or none where it is no text of tables
-abbrev pub AreUnder : {R : Type 0} → (R → List ℕ) → List ℕ → Option R → Type 0
-AreUnder text octets None = is_tables_text octets ≡ false
-AreUnder text octets (Some rules) = (text rules ≡ octets) × (is_tables_text octets ≡ true)
+-- rules in a format and under the tables of the text, or none where it is no text of tables
+abbrev pub AreUnder : {R : Type 0} → (R → ℕ) → (R → List ℕ) → (format : ℕ) → List ℕ → Option R → Type 0
+AreUnder format_of text_of format text None = is_tables_text text ≡ false
+AreUnder format_of text_of format text (Some rules) =
+    (format_of rules ≡ format) × (text_of rules ≡ text) × (is_tables_text text ≡ true)
 
 -- Where each pending recipient of an item goes to who goes to a peer: a place of that peer is among these. `at` gives
 -- the word of the peer at a place, and `to` that of the peer to whom a recipient goes.
@@ -37,21 +38,21 @@ abbrev pub AreRoutes : List ℕ → ItemValue → List ℕ → Type 0
 AreRoutes text item = AreLed (peer_word text) item (route_word text item.octets)
 
 -- who is relayed at a moment
-abbrev pub AreRelays : List ℕ → ItemValue → ℕ → List ℕ → Type 0
-AreRelays text item moment =
-    AreLed (peer_word text) item (λ r. relay_by text (verdict_of text item.octets item.arrival r moment))
+abbrev pub AreRelays : (format : ℕ) → List ℕ → ItemValue → ℕ → List ℕ → Type 0
+AreRelays format text item moment =
+    AreLed (peer_word text) item (λ r. relay_by text (verdict_of format text item.octets item.arrival r moment))
 
 -- the item rests until then, and its pending recipients go to peers at these places
-pub record RestsAs (text : List ℕ) (item : ItemValue) (moment : ℕ) (rest : Rest) : Type 0 where
-  pub idle : IsIdleUntil text item moment (Some rest.until)
+pub record RestsAs (format : ℕ) (text : List ℕ) (item : ItemValue) (moment : ℕ) (rest : Rest) : Type 0 where
+  pub idle : IsIdleUntil format text item moment (Some rest.until)
   pub routes : AreRoutes text item rest.routes.items
-  pub relays : AreRelays text item moment rest.relays.items
+  pub relays : AreRelays format text item moment rest.relays.items
 
 -- what is found of an item of which nothing is called for at once; none where something is called for now, or where no
 -- change is to come
-abbrev pub IsRestOf : List ℕ → ItemValue → ℕ → Option Rest → Type 0
-IsRestOf text item moment None = IsIdleUntil text item moment None
-IsRestOf text item moment (Some rest) = RestsAs text item moment rest
+abbrev pub IsRestOf : (format : ℕ) → List ℕ → ItemValue → ℕ → Option Rest → Type 0
+IsRestOf format text item moment None = IsIdleUntil format text item moment None
+IsRestOf format text item moment (Some rest) = RestsAs format text item moment rest
 
 -- a list is expanded
 abbrev pub Expands : Option Verdict → Type 0
@@ -71,9 +72,9 @@ Delivers verdict report None = (place : ℕ) → verdict ≡ Some (Verdicts.Deli
 Delivers verdict report (Some d) = (verdict ≡ Some (Verdicts.Deliver d.place)) × (d.report ≡ report)
 
 -- the delivery of an item to a recipient at a moment, with the delivery report as the item of a number
-abbrev pub IsDeliveryOf : List ℕ → ℕ → ItemValue → (r moment : ℕ) → Option Delivery → Type 0
-IsDeliveryOf text number item r moment =
-    Delivers (verdict_of text item.octets item.arrival r moment)
+abbrev pub IsDeliveryOf : (format : ℕ) → List ℕ → ℕ → ItemValue → (r moment : ℕ) → Option Delivery → Type 0
+IsDeliveryOf format text number item r moment =
+    Delivers (verdict_of format text item.octets item.arrival r moment)
     (option_map (own_item moment) (delivery_report text number item r moment))
 
 -- this is the text of the tables recorded last

@@ -1,8 +1,8 @@
 -- The state in memory, and what a step changes of it.
-use Rattle.std.specs.Prelude.{◌≡◌, ℕ, ◌+◌, ◌<◌, ◌^◌, List, [], ◌∷◌, ◌++◌, length}
+use Rattle.std.specs.Prelude.{◌≡◌, ℕ, ◌+◌, ◌<◌, ◌^◌, true, List, [], ◌∷◌, ◌++◌, length}
 use Rattle.std.specs.Prelude.{Option, option_to_list, vec_len, vec_capacity}
 use Rattle.mta_machine.specs.Items.{ItemValue, Machine}
-use Rattle.mta_machine.specs.Machine.{machine_after, set_tables}
+use Rattle.mta_machine.specs.Machine.{machine_after, set_tables, set_format}
 use Rattle.mta_state.specs.Parts.{machine_of, HasRoom, made_items, settled_machine}
 use Rattle.mta_lanes.specs.declared.change.LaneChange.{LaneChange}
 use Rattle.mta_lanes.specs.declared.change.LaneChange.TheVariants as lane_change
@@ -17,7 +17,12 @@ use Rattle.mta_state.specs.declared.change.Change.TheVariants as change
 
 -- the state that its parts in memory are
 abbrev pub state_of : Kept → State
-state_of k = record { machine = machine_of k.parts; lanes = lanes_of k.lanes; moment = k.moment }
+state_of k = record {
+  machine = machine_of k.parts;
+  lanes = lanes_of k.lanes;
+  moment = k.moment;
+  begun = k.begun;
+}
 
 -- the machine with an item more
 abbrev pub with_item : Machine → ItemValue → ℕ → Machine
@@ -46,40 +51,51 @@ lanes_changed lanes n change = record lanes {
 
 -- the state with a change
 abbrev pub changed_state : State → Change → State
-changed_state s (change.Tables text) = record s { machine = machine_after s.machine (set_tables text) }
+changed_state s (change.Begin kept) = state_of kept
+changed_state s change.Format = record s { machine = machine_after s.machine set_format; begun = true }
+changed_state s (change.Tables text) = record s { machine = machine_after s.machine (set_tables text); begun = true }
 changed_state s (change.Accept item moment) = record s {
   machine = with_item s.machine item moment;
   moment = moment;
+  begun = true;
 }
 changed_state s (change.Settle item recipient status made line moment) = record s {
   machine =
       settled_machine s.machine item (recipient ∷ []) status (made_items made) (option_to_list line) moment;
   moment = moment;
+  begun = true;
 }
 changed_state s (change.Open lane moment) = record s {
   lanes = record { count = s.lanes.count + 1; open_lanes = s.lanes.open_lanes ++ lane ∷ [] };
   moment = moment;
+  begun = true;
 }
 changed_state s (change.OnLane n new moment) = record s {
   lanes = lanes_changed s.lanes n new;
   moment = later s.moment moment;
+  begun = true;
 }
 changed_state s (change.Complete n activity item moment) = record s {
   machine = with_item s.machine item moment;
   lanes = lanes_changed s.lanes n (lane_change.Complete activity);
   moment = moment;
+  begun = true;
 }
 changed_state s (change.Discharge n new item settlements moment) = record s {
   machine = settled_in_turn s.machine item settlements.items moment;
   lanes = lanes_changed s.lanes n new;
   moment = moment;
+  begun = true;
 }
 changed_state s (change.Close n) = record s {
   lanes = record s.lanes { open_lanes = without_lane n s.lanes.open_lanes };
+  begun = true;
 }
 
 -- the change can be made: numbers of lanes stay in their range, and the change of a lane can be made
 abbrev pub CanChange : State → Change → Type 0
+CanChange s (change.Begin kept) = Unit {0}
+CanChange s change.Format = Unit {0}
 CanChange s (change.Tables text) = Unit {0}
 CanChange s (change.Accept item moment) = Unit {0}
 CanChange s (change.Settle item recipient status made line moment) = Unit {0}
@@ -91,6 +107,8 @@ CanChange s (change.Close n) = Unit {0}
 
 -- there is room for the change
 abbrev pub HasRoomFor : Kept → Change → Type 0
+HasRoomFor k (change.Begin kept) = Unit {0}
+HasRoomFor k change.Format = Unit {0}
 HasRoomFor k (change.Tables text) = HasRoom k.parts 1 0 0
 HasRoomFor k (change.Accept item moment) = HasRoom k.parts 0 1 0
 HasRoomFor k (change.Settle item recipient status made line moment) =

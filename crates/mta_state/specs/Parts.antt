@@ -1,8 +1,8 @@
 -- The parts of the machine of recipients in memory.
 use Rattle.std.specs.Prelude.{◌≡◌, ℕ, ◌+◌, ◌≤◌, List, ◌++◌, length, Option, option_to_list}
 use Rattle.std.specs.Prelude.{vec_len, vec_capacity}
-use Rattle.mta_machine.specs.declared.item.Status.{Status}
-use Rattle.mta_machine.specs.declared.item.MailboxLine.{MailboxLine}
+use Rattle.mta_records.specs.declared.state.Status.{Status}
+use Rattle.mta_records.specs.declared.state.MailboxLine.{MailboxLine}
 use Rattle.mta_machine.specs.Items.{ItemValue, Machine}
 use Rattle.mta_state.specs.declared.parts.Parts.{Parts}
 use Rattle.mta_state.specs.declared.parts.Made.{Made}
@@ -11,6 +11,7 @@ use Rattle.mta_state.specs.Settled.{with_settled}
 -- the machine that its parts are
 abbrev pub machine_of : Parts → Machine
 machine_of p = record {
+  format = p.format;
   tables = p.texts.items;
   items = p.items.items;
   mailboxes = p.mailboxes.items;

@@ -4,8 +4,8 @@ use Rattle.mta_ber.specs.declared.fault.ReadFault.{ReadFault}
 use Rattle.mta_ber.specs.declared.fault.ReadFault.TheVariants as ReadFaults
 use Rattle.mta_apdu.specs.Apdus.{apdu_of}
 use Rattle.mta_machine.specs.Apdu.{IsApdu, value_of}
-use Rattle.mta_machine.specs.declared.item.Origin.{Origin}
-use Rattle.mta_machine.specs.declared.item.Status.{Status}
+use Rattle.mta_records.specs.declared.state.Origin.{Origin}
+use Rattle.mta_records.specs.declared.state.Status.{Status}
 use Rattle.mta_machine.specs.Items.{ItemValue, statuses_read}
 use Rattle.mta_machine.specs.Machine.{accepted_item}
 

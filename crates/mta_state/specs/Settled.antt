@@ -1,6 +1,6 @@
 -- Items whose recipients get a status.
 use Rattle.std.specs.Prelude.{ℕ, List, [], ◌∷◌, Option, Some, None}
-use Rattle.mta_machine.specs.declared.item.Status.{Status}
+use Rattle.mta_records.specs.declared.state.Status.{Status}
 use Rattle.mta_machine.specs.Items.{ItemValue, numbered, set_numbered}
 use Rattle.mta_machine.specs.Machine.{with_statuses}
 

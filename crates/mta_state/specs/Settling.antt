@@ -1,8 +1,8 @@
 -- What the discharge of a recipient makes.
 use Rattle.std.specs.Prelude.{◌≡◌, ℕ, List, [], ◌∷◌, map, Some}
 use Rattle.mta_machine.specs.Apdu.{value_of, is_report}
-use Rattle.mta_machine.specs.declared.item.Status.{Status}
-use Rattle.mta_machine.specs.declared.item.MailboxLine.{MailboxLine}
+use Rattle.mta_records.specs.declared.state.Status.{Status}
+use Rattle.mta_records.specs.declared.state.MailboxLine.{MailboxLine}
 use Rattle.mta_machine.specs.Items.{ItemValue, Machine, numbered}
 use Rattle.mta_machine.specs.Machine.{Discharge, last_tables, status_after, made_for, own_item, lines_of}
 

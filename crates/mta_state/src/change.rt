@@ -1,5 +1,6 @@
 //! What a step changes of the state.
 
+use crate::kept::Kept;
 use crate::parts::Made;
 use mta_ber::Octets;
 use mta_lanes::{Lane, LaneChange};
@@ -17,6 +18,12 @@ pub struct Settlement {
 /// 1950-01-01 00:00:00 UTC.
 #[derive(Drop)]
 pub enum Change {
+    /// The state is this one, which a snapshot has.
+    Begin {
+        kept: Kept,
+    },
+    /// The format is 2 from now on.
+    Format,
     /// These tables are recorded last.
     Tables {
         text: Octets,

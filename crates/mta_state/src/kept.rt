@@ -28,6 +28,8 @@ pub struct Kept {
     pub lanes: Lanes,
     /// The last moment, in seconds since 1950-01-01 00:00:00 UTC.
     pub moment: u64,
+    /// Whether a step was made.
+    pub begun: bool,
 }
 
 // Written out, since a derived one is opened anew, field by field, at each place where a value is let go.
@@ -37,6 +39,7 @@ impl Drop for Kept {
             parts: _,
             lanes: _,
             moment: _,
+            begun: _,
         } = self;
     }
 }
@@ -104,6 +107,7 @@ impl Kept {
             parts: Parts::new(alloc),
             lanes: Lanes::new(alloc),
             moment: 0,
+            begun: false,
         }
     }
 
@@ -113,6 +117,8 @@ impl Kept {
         ensures room { OnOk result (HasRoomFor self.new change.now) }
     {
         match change {
+            Change::Begin { .. } => Ok(()),
+            Change::Format => Ok(()),
             Change::Tables { .. } => self.parts.reserve(1, 0, 0),
             Change::Accept { .. } => self.parts.reserve(0, 1, 0),
             Change::Settle { made, line, .. } => {
@@ -136,7 +142,10 @@ impl Kept {
         requires can { CanChange (state_of self.old) change }
         ensures { state_of self.new ≡ changed_state (state_of self.old) change }
     {
+        self.begun = true;
         match change {
+            Change::Begin { kept } => *self = kept,
+            Change::Format => self.parts.set_format(),
             Change::Tables { text } => self.parts.record_tables(text),
             Change::Accept { item, moment } => {
                 self.parts.add_item(item, moment);

@@ -6,7 +6,7 @@ ghost use Rattle.std.specs.Prelude.{◌≡◌, ◌+◌, ◌≤◌, ◌∷◌, �
 ghost use Rattle.std.specs.Prelude.{option_to_list, vec_len, vec_capacity};
 ghost use Rattle.std.specs.Option.{option_copied};
 ghost use Rattle.mta_machine.specs.Items.{Machine, at_start, numbered, is_pending_at};
-ghost use Rattle.mta_machine.specs.Machine.{machine_after, set_tables, last_tables};
+ghost use Rattle.mta_machine.specs.Machine.{machine_after, set_tables, set_format, last_tables};
 ghost use Rattle.mta_state.specs.Parts.{machine_of, HasRoom, made_items, settled_machine};
 
 use crate::settle::{is_pending, settle};
@@ -17,6 +17,8 @@ use std::alloc::Global;
 /// The parts of the machine of recipients.
 #[derive(Drop)]
 pub struct Parts {
+    /// The format: 1 at first, and 2 once it was set.
+    pub format: u32,
     /// The texts of tables that were recorded, in their order.
     pub texts: Vec<Octets>,
     /// The items, of which the first has number 1.
@@ -86,6 +88,7 @@ impl Parts {
         ensures { machine_of result ≡ at_start }
     {
         Parts {
+            format: 1,
             texts: Vec::new(alloc),
             items: Vec::new(alloc),
             mailboxes: Vec::new(alloc),
@@ -140,6 +143,13 @@ impl Parts {
         ensures { machine_of self.new ≡ machine_after (machine_of self.old) (set_tables text) }
     {
         self.texts.push_reserved(text);
+    }
+
+    /// The format is 2 from now on.
+    pub fn set_format(&mut self)
+        ensures { machine_of self.new ≡ machine_after (machine_of self.old) set_format }
+    {
+        self.format = 2;
     }
 
     /// The item is the next one, which is accepted at a moment.

@@ -10,7 +10,8 @@ ghost use Rattle.mta_envelope.specs.Contents.{content_value};
 ghost use Rattle.mta_envelope.specs.Messages.{message_value};
 ghost use Rattle.mta_machine.specs.Apdu.{is_report, value_of};
 ghost use Rattle.mta_state.specs.Readings.{IsContentOver, IsCounted, IsDecodedAs, IsDecodedOf, IsLentAt, IsLentIn};
-ghost use Rattle.mta_state.specs.Readings.{IsReadingOf, IsWithin, IsWithinContent, IsCountedOver, message_over, value_over};
+ghost use Rattle.mta_state.specs.Readings.{IsReadingOf, IsWithin, IsWithinContent, IsCountedOver, message_over};
+ghost use Rattle.mta_state.specs.Readings.{value_over};
 
 use crate::decoded::{Decoded, DecodedApdu, DecodedContent, DecodedMessage};
 use mta_apdu::Apdu;

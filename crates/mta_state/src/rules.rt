@@ -5,7 +5,7 @@ ghost use Rattle.std.specs.Prelude.{length, map};
 ghost use Rattle.std.specs.Option.{option_copied, option_map};
 ghost use Rattle.mta_ber.specs.Times.{last_moment};
 ghost use Rattle.mta_names.specs.Bounded.{IsCode};
-ghost use Rattle.mta_machine.specs.declared.item.Origin.TheVariants as Origins;
+ghost use Rattle.mta_records.specs.declared.state.Origin.TheVariants as Origins;
 ghost use Rattle.mta_machine.specs.Machine.{own_item};
 ghost use Rattle.mta_machine.specs.Rules.{delivery_report, expansion, is_expired, mailbox_word, names_peer};
 ghost use Rattle.mta_machine.specs.Rules.{non_delivery_report, outgoing_copy, passed_back, peer_word, route_word};
@@ -26,16 +26,19 @@ use mta_procedures::Verdict;
 use mta_records::Outgoing;
 use std::alloc::Global;
 
-/// The rules of X.411, clause 14, under the tables of one text. Moments are seconds since 1950-01-01 00:00:00 UTC, and
-/// recipients are numbered from 1. What is asked of an item takes the reading of its octets, which is made once for all
-/// its recipients.
+/// The rules of X.411, clause 14, in a format and under the tables of one text. Moments are seconds since 1950-01-01
+/// 00:00:00 UTC, and recipients are numbered from 1. What is asked of an item takes the reading of its octets, which is
+/// made once for all its recipients.
 pub trait Rules {
+    /// The format.
+    ghost format: { Self → ℕ };
+
     /// The text of the tables.
     ghost text: { Self → List ℕ };
 
-    /// The rules under the tables of a text; none where the grammar of tables does not read it.
-    fn under(alloc: Global, octets: &[u8]) -> Result<Option<Self>, Memory>
-        ensures { IfOk result (AreUnder text octets.now) };
+    /// The rules in a format and under the tables of a text; none where the grammar of tables does not read it.
+    fn under(alloc: Global, in_format: u32, octets: &[u8]) -> Result<Option<Self>, Memory>
+        ensures { IfOk result (AreUnder format text in_format octets.now) };
 
     /// The verdict on a recipient of an item, looked at at a moment; none where its octets are those of no APDU, or
     /// where it has no such recipient. A report that comes to a list has the verdict Back here.
@@ -50,19 +53,19 @@ pub trait Rules {
         requires arrived { item.now.arrival ≤ last_moment }
         requires reading { IsReadingOf item.now.octets reading.now }
         ensures exact { IfOk result
-            (λ v. v ≡ verdict_of (text self.now) item.now.octets item.now.arrival recipient moment) }
+            (λ v. v ≡ verdict_of (format self.now) (text self.now) item.now.octets item.now.arrival recipient moment) }
         ensures codes { IfOk result CodesAreCodes };
 
-    /// Whether an item has waited for its hold time at a moment.
+    /// Whether an item has waited at a moment for its hold time, or in format 2 until its latest delivery time.
     fn has_expired(&self, item: &Item, reading: &Reading<'_>, moment: u64) -> bool
         requires arrived { item.now.arrival ≤ last_moment }
         requires reading { IsReadingOf item.now.octets reading.now }
-        ensures { result ≡ is_expired (text self.now) item.now.octets item.now.arrival moment };
+        ensures { result ≡ is_expired (format self.now) (text self.now) item.now.octets item.now.arrival moment };
 
     /// What is found of an item where nothing is called for at once of those of its recipients who are pending: the
-    /// next moment behind this one at which a verdict may change, which is the end of the deferral or else of the hold
-    /// time, and the peers to whom they go. None where something is called for, where the item has waited for its hold
-    /// time, or where its octets are those of no APDU.
+    /// next moment behind this one at which a verdict may change, which is the end of the deferral or the expiry, and
+    /// the lesser where both are to come, and the peers to whom they go. None where something is called for, where the
+    /// item has expired, or where its octets are those of no APDU.
     fn rest(
         &self,
         alloc: Global,
@@ -73,7 +76,7 @@ pub trait Rules {
         requires arrived { item.now.arrival ≤ last_moment }
         requires reading { IsReadingOf item.now.octets reading.now }
         requires few { length item.now.statuses < 2 ^ 32 }
-        ensures { IfOk result (IsRestOf (text self.now) item.now moment) };
+        ensures { IfOk result (IsRestOf (format self.now) (text self.now) item.now moment) };
 
     /// The item of an APDU that is submitted at a moment, and what is found of it then, from one reading; none where
     /// the octets spell no APDU.
@@ -86,7 +89,8 @@ pub trait Rules {
         requires { moment ≤ last_moment }
         ensures item { IfOk result (λ found.
             IsAccepted octets Origins.Submitted moment (option_map (λ (s : Submitted). s.item) found)) }
-        ensures rest { IfOk result (λ found. IfSome found (λ s. IsRestOf (text self.now) s.item moment s.rest)) };
+        ensures rest { IfOk result (λ found.
+            IfSome found (λ s. IsRestOf (format self.now) (text self.now) s.item moment s.rest)) };
 
     /// Whether a report that comes to a list can be passed back, among these items.
     fn passes_back(
@@ -130,7 +134,7 @@ pub trait Rules {
         requires arrived { item.now.arrival ≤ last_moment }
         requires reading { IsReadingOf item.now.octets reading.now }
         requires fits { moment ≤ last_moment }
-        ensures { IfOk result (IsDeliveryOf (text self.now) number item.now recipient moment) };
+        ensures { IfOk result (IsDeliveryOf (format self.now) (text self.now) number item.now recipient moment) };
 
     /// The item that is the delivery report on a recipient, made at a moment as the item of a number; none where no
     /// report is asked for, or where the walk ends.
@@ -184,7 +188,8 @@ pub trait Rules {
         requires arrived { item.now.arrival ≤ last_moment }
         requires reading { IsReadingOf item.now.octets reading.now }
         requires fits { moment ≤ last_moment }
-        requires list { Expands (verdict_of (text self.now) item.now.octets item.now.arrival recipient moment) }
+        requires list { Expands
+            (verdict_of (format self.now) (text self.now) item.now.octets item.now.arrival recipient moment) }
         ensures { IfOk result (λ made. made_items made
             ≡ map (own_item moment) (expansion (text self.now) number item.now recipient moment)) };
 
@@ -201,7 +206,8 @@ pub trait Rules {
     ) -> Result<Option<Item>, Memory>
         requires arrived { item.now.arrival ≤ last_moment }
         requires reading { IsReadingOf item.now.octets reading.now }
-        requires passed { Passes (verdict_of (text self.now) item.now.octets item.now.arrival recipient moment) }
+        requires passed { Passes
+            (verdict_of (format self.now) (text self.now) item.now.octets item.now.arrival recipient moment) }
         ensures { IfOk result (λ made. made
             ≡ option_map (own_item moment) (passed_back (text self.now) items.now item.now)) };
 
@@ -219,7 +225,8 @@ pub trait Rules {
         requires arrived { item.now.arrival ≤ last_moment }
         requires reading { IsReadingOf item.now.octets reading.now }
         requires fits { moment ≤ last_moment }
-        requires relayed { Relays (verdict_of (text self.now) item.now.octets item.now.arrival recipient moment) }
+        requires relayed { Relays
+            (verdict_of (format self.now) (text self.now) item.now.octets item.now.arrival recipient moment) }
         ensures copy { IfOk result (λ out. Some out.octets
             ≡ outgoing_copy (text self.now) item.now.octets item.now.arrival recipients.now moment) }
         ensures activity { IfOk result (λ out. out.activity ≡ activity) };

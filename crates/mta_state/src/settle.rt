@@ -5,7 +5,7 @@ ghost use Rattle.std.specs.Option.{option_copied};
 ghost use Rattle.mta_machine.specs.Items.{numbered, has_status, is_pending};
 ghost use Rattle.mta_state.specs.Settled.{put_settled, with_settled};
 
-use mta_machine::{Item, Status};
+use mta_machine::{Item, Status, is_pending_status};
 
 fn status_of(statuses: &[Option<Status>], recipient: u32) -> Option<&Option<Status>>
     ensures { option_copied result ≡ numbered statuses.now recipient }
@@ -21,7 +21,7 @@ pub fn is_pending(item: &Item, recipient: u32) -> bool
     ensures { result ≡ has_status is_pending (numbered item.now.statuses recipient) }
 {
     match status_of(item.statuses(), recipient) {
-        Some(Some(status)) => status.is_pending(),
+        Some(Some(status)) => is_pending_status(status),
         _ => false,
     }
 }

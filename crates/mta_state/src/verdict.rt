@@ -27,7 +27,7 @@ pub fn verdict_on<R: Rules>(
     requires arrived { item.now.arrival ≤ last_moment }
     requires reading { IsReadingOf item.now.octets reading.now }
     ensures exact { let text = Some (R.text rules.now) in
-        IfOk result (λ v. v ≡ verdict_on items.now text (Some item.now) recipient moment) }
+        IfOk result (λ v. v ≡ verdict_on (R.format rules.now) items.now text (Some item.now) recipient moment) }
     ensures codes { IfOk result CodesAreCodes }
 {
     let verdict = rules.verdict(alloc, item, reading, recipient, moment)?;

@@ -2,8 +2,8 @@
 use Rattle.std.proofs.Common.{◌≡◌, ℕ, ◌<◌, ◌^◌, List, length, Option, Some, sym, ap, subst, ◌∙◌, arith}
 use Rattle.mta_apdu.specs.Apdus.{ApduValue, SpellsApdu}
 use Rattle.mta_tables.specs.Tables.{TablesValue}
-use Rattle.mta_machine.specs.declared.item.Status.{Status}
-use Rattle.mta_machine.specs.declared.item.Origin.TheVariants as Origins
+use Rattle.mta_records.specs.declared.state.Status.{Status}
+use Rattle.mta_records.specs.declared.state.Origin.TheVariants as Origins
 use Rattle.mta_machine.specs.Items.{ItemValue, statuses_of, statuses_read}
 use Rattle.mta_machine.specs.Machine.{accepted_item}
 use Rattle.mta_machine.specs.Rules.{tables_value}
@@ -36,12 +36,12 @@ item_few octets moment v item spells is =
     omega (arith, few_accepted octets (v, spells), ap (λ (x : ItemValue). length x.statuses) is)
 
 -- what is found of it
-pub item_rest : (t : TablesValue) (octets : List ℕ) (moment : ℕ) (v : ApduValue) (item : ItemValue)
+pub item_rest : (format : ℕ) (t : TablesValue) (octets : List ℕ) (moment : ℕ) (v : ApduValue) (item : ItemValue)
     (rest : Option Rest) → tables_value t.text ≡ Some t → SpellsApdu octets v
-    → item ≡ accepted_item octets Origins.Submitted moment → IsRestUnder t v item moment rest
-    → IsRestOf t.text item moment rest
-item_rest t octets moment v item rest reads spells is found =
+    → item ≡ accepted_item octets Origins.Submitted moment → IsRestUnder format t v item moment rest
+    → IsRestOf format t.text item moment rest
+item_rest format t octets moment v item rest reads spells is found =
     let same = accepted_item octets Origins.Submitted moment in
-    subst (λ (x : ItemValue). IsRestOf t.text x moment rest) (sym is)
-    (rest_is t same v moment rest reads (value_is octets v spells)
-    (subst (λ (x : ItemValue). IsRestUnder t v x moment rest) is found))
+    subst (λ (x : ItemValue). IsRestOf format t.text x moment rest) (sym is)
+    (rest_is format t same v moment rest reads (value_is octets v spells)
+    (subst (λ (x : ItemValue). IsRestUnder format t v x moment rest) is found))

@@ -55,26 +55,26 @@ cut_in octets r a reading is = lent_so octets a (lent_is octets r a reading is)
 
 -- ---- copies that can be sent
 
-by_message : (t : TablesValue) (m : MessageValue) (arrival : ℕ) (rs : List ℕ) (moment place : ℕ)
+by_message : (format : ℕ) (t : TablesValue) (m : MessageValue) (arrival : ℕ) (rs : List ℕ) (moment place : ℕ)
     (o : Option RecipientFields)
-    → option_map (verdict_on_message (situation t arrival moment) m) o ≡ Some (Verdicts.Relay place)
+    → option_map (verdict_on_message format (situation t arrival moment) m) o ≡ Some (Verdicts.Relay place)
     → HasCopy t (message m) arrival rs moment
-by_message t m arrival rs moment place None e = absurd cc
-by_message t m arrival rs moment place (Some x) e =
+by_message format t m arrival rs moment place None e = absurd cc
+by_message format t m arrival rs moment place (Some x) e =
     let s : Situation = situation t arrival moment in
-    let is = relayed_messages s s m x (length_for_members s m x) place rs refl refl
-    (same_Some (verdict_on_message s m x) (Verdicts.Relay place) e) in
+    let is = relayed_messages format s s m x (length_for_members s m x) place rs refl refl
+    (same_Some (verdict_on_message format s m x) (Verdicts.Relay place) e) in
     record { short_trace = is.short_trace; few = is.few }
 
-by_probe : (t : TablesValue) (v : EnvelopeFields) (arrival : ℕ) (rs : List ℕ) (moment place : ℕ)
+by_probe : (format : ℕ) (t : TablesValue) (v : EnvelopeFields) (arrival : ℕ) (rs : List ℕ) (moment place : ℕ)
     (o : Option RecipientFields)
-    → option_map (verdict_of_probe (situation t arrival moment) v) o ≡ Some (Verdicts.Relay place)
+    → option_map (verdict_of_probe format (situation t arrival moment) v) o ≡ Some (Verdicts.Relay place)
     → HasCopy t (probe v) arrival rs moment
-by_probe t v arrival rs moment place None e = absurd cc
-by_probe t v arrival rs moment place (Some x) e =
+by_probe format t v arrival rs moment place None e = absurd cc
+by_probe format t v arrival rs moment place (Some x) e =
     let s : Situation = situation t arrival moment in
-    let is = relayed_probes s s v x place rs refl refl
-    (same_Some (verdict_of_probe s v x) (Verdicts.Relay place) e) in
+    let is = relayed_probes format s s v x place rs refl refl
+    (same_Some (verdict_of_probe format s v x) (Verdicts.Relay place) e) in
     record { short_trace = is.short_trace; few = is.few }
 
 by_report : (t : TablesValue) (v : ReportFields) (arrival : ℕ) (rs : List ℕ) (moment place : ℕ)
@@ -90,12 +90,13 @@ by_report t v arrival rs moment place (Some n) e =
     record { short_trace = is.short_trace; few = is.few }
 
 -- who is relayed has a copy
-pub relayed : (t : TablesValue) (v : ApduValue) (arrival r : ℕ) (rs : List ℕ) (moment : ℕ)
-    → Relays (verdict_under t v arrival r moment) → HasCopy t v arrival rs moment
-relayed t (message m) arrival r rs moment h =
-    by_message t m arrival rs moment h.0 (numbered m.envelope.recipients r) h.1
-relayed t (probe v) arrival r rs moment h = by_probe t v arrival rs moment h.0 (numbered v.recipients r) h.1
-relayed t (report v) arrival r rs moment h =
+pub relayed : (format : ℕ) (t : TablesValue) (v : ApduValue) (arrival r : ℕ) (rs : List ℕ) (moment : ℕ)
+    → Relays (verdict_under format t v arrival r moment) → HasCopy t v arrival rs moment
+relayed format t (message m) arrival r rs moment h =
+    by_message format t m arrival rs moment h.0 (numbered m.envelope.recipients r) h.1
+relayed format t (probe v) arrival r rs moment h =
+    by_probe format t v arrival rs moment h.0 (numbered v.recipients r) h.1
+relayed format t (report v) arrival r rs moment h =
     by_report t v arrival rs moment h.0 (numbered (v.destination ∷ []) r) h.1
 
 -- ---- the copy of a message: a head, and the content

@@ -29,10 +29,10 @@ use Rattle.mta_idle_laws.proofs.Lengths.{copy_long}
 abbrev with_long : Facts → Bool → Facts
 with_long f b = record f { long_members = b }
 
-abbrev verdict_with : Situation → MessageValue → RecipientFields → Bool → Verdict
-verdict_with s m r b =
+abbrev verdict_with : (format : ℕ) → Situation → MessageValue → RecipientFields → Bool → Verdict
+verdict_with format s m r b =
     message_column (best_hop s.tables r.name) (unwrap_or m.envelope.deferral 0)
-    (first_case (with_long (facts_of_message s m r 0) b))
+    (first_case (with_long (facts_of_message format s m r 0) b))
 
 -- ---- where the length does not count
 
@@ -43,14 +43,14 @@ or_true false b e = e
 pub full_trace : (t : TablesValue) (arrival : ℕ) (m : MessageValue) (r : RecipientFields) (n : ℕ)
     → 512 ≤ length m.envelope.trace → CountsAsLength t arrival m r n
 unfolding verdict_of_message
-full_trace t arrival m r n le = λ moment.
+full_trace t arrival m r n le = λ format moment.
     let s : Situation = situation t arrival moment in
     let looped : has_looped s m.envelope.trace ≡ true =
     or_true (comes_back t.domain m.envelope.trace) (nat_le 512 (length m.envelope.trace))
     (le-leb 512 (length m.envelope.trace) le) in
     ap (message_column (best_hop t r.name) (unwrap_or m.envelope.deferral 0))
-    (sym (looped_first (facts_of_message s m r n) looped)
-    ∙ looped_first (facts_of_message s m r (length_for_members s m r)) looped)
+    (sym (looped_first (facts_of_message format s m r n) looped)
+    ∙ looped_first (facts_of_message format s m r (length_for_members s m r)) looped)
 
 full_at : (hop : Hop) (f : Facts) (a b : Bool)
     → first_case (record f { hop = hop; full_history = true; long_members = a })
@@ -71,11 +71,11 @@ full_first f a b e =
 pub full_history : (t : TablesValue) (arrival : ℕ) (m : MessageValue) (r : RecipientFields) (n : ℕ)
     → 512 ≤ length m.envelope.history → CountsAsLength t arrival m r n
 unfolding verdict_of_message
-full_history t arrival m r n le = λ moment.
+full_history t arrival m r n le = λ format moment.
     let s : Situation = situation t arrival moment in
     let full : has_full_history m.envelope ≡ true = le-leb 512 (length m.envelope.history) le in
     ap (message_column (best_hop t r.name) (unwrap_or m.envelope.deferral 0))
-    (full_first (facts_of_message s m r 0) (is_long n) (is_long (length_for_members s m r)) full)
+    (full_first (facts_of_message format s m r 0) (is_long n) (is_long (length_for_members s m r)) full)
 
 elsewhere_at : (hop : Hop) (f : Facts) (a b : Bool) → leads_to_list hop ≡ false
     → first_case (record f { hop = hop; long_members = a }) ≡ first_case (record f { hop = hop; long_members = b })
@@ -88,10 +88,10 @@ elsewhere_at Hops.None f a b e = refl
 pub elsewhere : (t : TablesValue) (arrival : ℕ) (m : MessageValue) (r : RecipientFields) (n : ℕ) (hop : Hop)
     → hop ≡ best_hop t r.name → leads_to_list hop ≡ false → CountsAsLength t arrival m r n
 unfolding verdict_of_message
-elsewhere t arrival m r n hop e away = λ moment.
+elsewhere t arrival m r n hop e away = λ format moment.
     let s : Situation = situation t arrival moment in
     ap (message_column (best_hop t r.name) (unwrap_or m.envelope.deferral 0))
-    (elsewhere_at (best_hop t r.name) (facts_of_message s m r 0) (is_long n)
+    (elsewhere_at (best_hop t r.name) (facts_of_message format s m r 0) (is_long n)
     (is_long (length_for_members s m r)) (ap leads_to_list (sym e) ∙ away))
 
 -- ---- where it does
@@ -127,16 +127,16 @@ length_at s m r place l e h =
     ap (λ (hop : Hop). option_map_or (λ x. members_length s x m r) (list_at s.tables hop) 0) e
     ∙ ap (λ (o : Option MailList). option_map_or (λ x. members_length s x m r) o 0) h
 
-verdict_by : (s : Situation) (m : MessageValue) (r : RecipientFields) (n k : ℕ) → is_long n ≡ is_long k
-    → verdict_of_message s m r n ≡ verdict_of_message s m r k
+verdict_by : (format : ℕ) (s : Situation) (m : MessageValue) (r : RecipientFields) (n k : ℕ) → is_long n ≡ is_long k
+    → verdict_of_message format s m r n ≡ verdict_of_message format s m r k
 unfolding verdict_of_message
-verdict_by s m r n k e = ap (λ (b : Bool). verdict_with s m r b) e
+verdict_by format s m r n k e = ap (λ (b : Bool). verdict_with format s m r b) e
 
 pub at_list : (t : TablesValue) (arrival : ℕ) (m : MessageValue) (r : RecipientFields) (n place : ℕ) (l : MailList)
     → best_hop t r.name ≡ Hops.List place → slice_get t.lists place ≡ Some l
     → n ≡ option_map_or (λ c. octet_length (message_octets c)) (members_copy (situation t arrival arrival) l m r) 0
     → CountsAsLength t arrival m r n
-at_list t arrival m r n place l e h is = λ moment.
+at_list t arrival m r n place l e h is = λ format moment.
     let s : Situation = situation t arrival moment in
-    verdict_by s m r n (length_for_members s m r)
+    verdict_by format s m r n (length_for_members s m r)
     (counted t arrival moment l m r n is ∙ ap is_long (sym (length_at s m r place l e h)))

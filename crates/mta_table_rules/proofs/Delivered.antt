@@ -14,16 +14,17 @@ use Rattle.mta_state.specs.Asked.{Delivers, IsDeliveryOf}
 use Rattle.mta_table_rules.proofs.Read.{delivery_is, no_verdict, verdict_is}
 
 -- the delivery under the APDU that was read is that of the item
-pub told_of : (t : TablesValue) (number arrival : ℕ) (item : ItemValue) (v : ApduValue) (r moment : ℕ)
+pub told_of : (format : ℕ) (t : TablesValue) (number arrival : ℕ) (item : ItemValue) (v : ApduValue) (r moment : ℕ)
     (told : Option Delivery) → arrival ≡ item.arrival → tables_value t.text ≡ Some t
     → value_of item.octets ≡ Some v
-    → Delivers (verdict_under t v arrival r moment) (option_map (own_item moment)
+    → Delivers (verdict_under format t v arrival r moment) (option_map (own_item moment)
     (report_on (λ e x. reports.delivery_report t number arrival e x moment) r v)) told
-    → IsDeliveryOf t.text number item r moment told
-told_of t number arrival item v r moment told a e h is =
-    let verdict : verdict_under t v arrival r moment ≡ verdict_of t.text item.octets item.arrival r moment =
-    ap (λ (n : ℕ). verdict_under t v n r moment) a
-    ∙ sym (verdict_is t item.octets v item.arrival r moment e h) in
+    → IsDeliveryOf format t.text number item r moment told
+told_of format t number arrival item v r moment told a e h is =
+    let verdict : verdict_under format t v arrival r moment
+    ≡ verdict_of format t.text item.octets item.arrival r moment =
+    ap (λ (n : ℕ). verdict_under format t v n r moment) a
+    ∙ sym (verdict_is format t item.octets v item.arrival r moment e h) in
     let made : report_on (λ e x. reports.delivery_report t number arrival e x moment) r v
     ≡ delivery_report t.text number item r moment =
     ap (λ n. report_on (λ e x. reports.delivery_report t number n e x moment) r v) a
@@ -33,11 +34,11 @@ told_of t number arrival item v r moment told a e h is =
     Delivers o (option_map (own_item moment) (delivery_report t.text number item r moment)) told) verdict
     (subst
     (λ (o : Option ApduValue).
-    Delivers (verdict_under t v arrival r moment) (option_map (own_item moment) o) told) made is)
+    Delivers (verdict_under format t v arrival r moment) (option_map (own_item moment) o) told) made is)
 
 -- nobody is delivered to of octets that spell no APDU
-pub none_told : (t : TablesValue) (number : ℕ) (item : ItemValue) (r moment : ℕ)
+pub none_told : (format : ℕ) (t : TablesValue) (number : ℕ) (item : ItemValue) (r moment : ℕ)
     → tables_value t.text ≡ Some t → value_of item.octets ≡ None
-    → IsDeliveryOf t.text number item r moment None
-none_told t number item r moment e h place is =
-    let none = no_verdict t item.octets item.arrival r moment e h in absurd cc
+    → IsDeliveryOf format t.text number item r moment None
+none_told format t number item r moment e h place is =
+    let none = no_verdict format t item.octets item.arrival r moment e h in absurd cc

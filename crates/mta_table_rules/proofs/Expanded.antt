@@ -95,22 +95,24 @@ no_one t number arrival m o moment e =
 
 -- ---- room
 
-expanded_by : (s : Situation) (m : MessageValue) (o : Option RecipientFields) (x : RecipientFields) (place : ℕ)
-    → Some x ≡ o → option_map (verdict_on_message s m) o ≡ Some (Verdicts.Expand place)
-    → verdict_on_message s m x ≡ Verdicts.Expand place
-expanded_by s m o x place e h =
-    same_Some (verdict_on_message s m x) (Verdicts.Expand place)
-    (ap (λ (y : Option RecipientFields). option_map (verdict_on_message s m) y) e ∙ h)
+expanded_by : (format : ℕ) (s : Situation) (m : MessageValue) (o : Option RecipientFields) (x : RecipientFields)
+    (place : ℕ)
+    → Some x ≡ o → option_map (verdict_on_message format s m) o ≡ Some (Verdicts.Expand place)
+    → verdict_on_message format s m x ≡ Verdicts.Expand place
+expanded_by format s m o x place e h =
+    same_Some (verdict_on_message format s m x) (Verdicts.Expand place)
+    (ap (λ (y : Option RecipientFields). option_map (verdict_on_message format s m) y) e ∙ h)
 
-pub has_room : (t : TablesValue) (m : MessageValue) (arrival r moment : ℕ) (x : RecipientFields) (place : ℕ)
+pub has_room : (format : ℕ) (t : TablesValue) (m : MessageValue) (arrival r moment : ℕ) (x : RecipientFields)
+    (place : ℕ)
     (l : MailList) → Some x ≡ numbered m.envelope.recipients r
-    → Expands (verdict_under t (message m) arrival r moment) → Hops.List place ≡ best_hop t x.name
+    → Expands (verdict_under format t (message m) arrival r moment) → Hops.List place ≡ best_hop t x.name
     → Some l ≡ slice_get t.lists place → HasRoom l m.envelope
-has_room t m arrival r moment x place l e expands h k =
+has_room format t m arrival r moment x place l e expands h k =
     let s : Situation = situation t arrival moment in
     let is : IsExpanded s m (best_hop t x.name) (length_for_members s m x) expands.0 =
-    expanded_have_room s m x (length_for_members s m x) expands.0
-    (expanded_by s m (numbered m.envelope.recipients r) x expands.0 e expands.1) in
+    expanded_have_room format s m x (length_for_members s m x) expands.0
+    (expanded_by format s m (numbered m.envelope.recipients r) x expands.0 e expands.1) in
     let there : Some l ≡ list_at t (best_hop t x.name) = k ∙ ap (list_at t) h in
     record {
       short_trace = is.short_trace;

@@ -5,7 +5,7 @@ use Rattle.std.proofs.lemmas.Bool.{cases_lt}
 use Rattle.std.proofs.lemmas.Option.{slice_get_past}
 use Rattle.mta_apdu.specs.Apdus.{ApduValue}
 use Rattle.mta_tables.specs.Tables.{TablesValue}
-use Rattle.mta_machine.specs.declared.item.Status.{Status}
+use Rattle.mta_records.specs.declared.state.Status.{Status}
 use Rattle.mta_machine.specs.Apdu.{value_of}
 use Rattle.mta_machine.specs.Items.{AreSettled, ItemValue, numbered, has_status, is_pending}
 use Rattle.mta_machine.specs.Rules.{tables_value}
@@ -20,46 +20,48 @@ past : (ss : List (Option Status)) (r : ℕ) → length ss < r → has_status is
 past ss zero above = refl
 past ss (suc k) above = ap (has_status is_pending) (slice_get_past ss k (omega (arith, above)))
 
-pub wait_settled : (t : TablesValue) (v : ApduValue) (item : ItemValue) (n moment : ℕ)
-    → AreSettled item.statuses n → WaitUpTo t v item n moment
-wait_settled t v item n moment settled r low pending = let never = settled.none r low in absurd cc
+pub wait_settled : (format : ℕ) (t : TablesValue) (v : ApduValue) (item : ItemValue) (n moment : ℕ)
+    → AreSettled item.statuses n → WaitUpTo format t v item n moment
+wait_settled format t v item n moment settled r low pending = let never = settled.none r low in absurd cc
 
-pub wait_further : (t : TablesValue) (v : ApduValue) (item : ItemValue) (n moment : ℕ) → WaitUpTo t v item n moment
-    → WaitsUnder t v item (n + 1) moment → WaitUpTo t v item (n + 1) moment
-wait_further t v item n moment before here r low = elim (cases_lt n r) [
+pub wait_further : (format : ℕ) (t : TablesValue) (v : ApduValue) (item : ItemValue) (n moment : ℕ)
+    → WaitUpTo format t v item n moment
+    → WaitsUnder format t v item (n + 1) moment → WaitUpTo format t v item (n + 1) moment
+wait_further format t v item n moment before here r low = elim (cases_lt n r) [
   | inl above ↦ (let is : n + 1 ≡ r = omega (arith, low, above) in
-      subst (λ (q : ℕ). WaitsUnder t v item q moment) is here)
+      subst (λ (q : ℕ). WaitsUnder format t v item q moment) is here)
   | inr below ↦ before r below
 ]
 
-pub all_up_to : (t : TablesValue) (v : ApduValue) (item : ItemValue) (most moment : ℕ)
-    → length item.statuses ≤ most → WaitUpTo t v item most moment → AllWaitUnder t v item moment
-all_up_to t v item most moment few all r pending = elim (cases_lt most r) [
+pub all_up_to : (format : ℕ) (t : TablesValue) (v : ApduValue) (item : ItemValue) (most moment : ℕ)
+    → length item.statuses ≤ most → WaitUpTo format t v item most moment → AllWaitUnder format t v item moment
+all_up_to format t v item most moment few all r pending = elim (cases_lt most r) [
   | inl above ↦ (let never = past item.statuses r (omega (arith, few, above)) in absurd cc)
   | inr below ↦ all r below pending
 ]
 
 -- ---- what is read
 
-next_is : (t : TablesValue) (octets : List ℕ) (v : Option ApduValue) (arrival moment : ℕ)
+next_is : (format : ℕ) (t : TablesValue) (octets : List ℕ) (v : Option ApduValue) (arrival moment : ℕ)
     → tables_value t.text ≡ Some t → value_of octets ≡ v
-    → next_change t.text octets arrival moment ≡ next_under (Some t) v arrival moment
+    → next_change format t.text octets arrival moment ≡ next_under format (Some t) v arrival moment
 unfolding next_change
-next_is t octets v arrival moment e h =
-    ap (λ (o : Option TablesValue). next_under o (value_of octets) arrival moment) e
-    ∙ ap (λ (o : Option ApduValue). next_under (Some t) o arrival moment) h
+next_is format t octets v arrival moment e h =
+    ap (λ (o : Option TablesValue). next_under format o (value_of octets) arrival moment) e
+    ∙ ap (λ (o : Option ApduValue). next_under format (Some t) o arrival moment) h
 
-pub idle_is : (t : TablesValue) (item : ItemValue) (v : ApduValue) (moment : ℕ) (until : Option ℕ)
-    → tables_value t.text ≡ Some t → value_of item.octets ≡ Some v → IsIdleUnder t v item moment until
-    → IsIdleUntil t.text item moment until
-idle_is t item v moment None e h is = λ all.
-    next_is t item.octets (Some v) item.arrival moment e h
-    ∙ is (λ r pending. ap calls_at_once (sym (verdict_is t item.octets v item.arrival r moment e h)) ∙ all r pending)
-idle_is t item v moment (Some until) e h is = (
-  λ r pending. ap calls_at_once (verdict_is t item.octets v item.arrival r moment e h) ∙ is.0 r pending,
-  next_is t item.octets (Some v) item.arrival moment e h ∙ is.1,
+pub idle_is : (format : ℕ) (t : TablesValue) (item : ItemValue) (v : ApduValue) (moment : ℕ) (until : Option ℕ)
+    → tables_value t.text ≡ Some t → value_of item.octets ≡ Some v → IsIdleUnder format t v item moment until
+    → IsIdleUntil format t.text item moment until
+idle_is format t item v moment None e h is = λ all.
+    next_is format t item.octets (Some v) item.arrival moment e h
+    ∙ is (λ r pending. ap calls_at_once (sym (verdict_is format t item.octets v item.arrival r moment e h))
+    ∙ all r pending)
+idle_is format t item v moment (Some until) e h is = (
+  λ r pending. ap calls_at_once (verdict_is format t item.octets v item.arrival r moment e h) ∙ is.0 r pending,
+  next_is format t item.octets (Some v) item.arrival moment e h ∙ is.1,
 )
 
-pub none_is : (t : TablesValue) (item : ItemValue) (moment : ℕ) → tables_value t.text ≡ Some t
-    → value_of item.octets ≡ None → IsIdleUntil t.text item moment None
-none_is t item moment e h = λ all. next_is t item.octets None item.arrival moment e h
+pub none_is : (format : ℕ) (t : TablesValue) (item : ItemValue) (moment : ℕ) → tables_value t.text ≡ Some t
+    → value_of item.octets ≡ None → IsIdleUntil format t.text item moment None
+none_is format t item moment e h = λ all. next_is format t item.octets None item.arrival moment e h

@@ -6,7 +6,7 @@ use Rattle.std.proofs.lemmas.Bool.{cases_lt, eq-eqb, or_left, or_right}
 use Rattle.std.proofs.lemmas.Option.{slice_get_past}
 use Rattle.mta_apdu.specs.Apdus.{ApduValue}
 use Rattle.mta_tables.specs.Tables.{TablesValue}
-use Rattle.mta_machine.specs.declared.item.Status.{Status}
+use Rattle.mta_records.specs.declared.state.Status.{Status}
 use Rattle.mta_machine.specs.Apdu.{value_of}
 use Rattle.mta_machine.specs.Items.{AreSettled, ItemValue, numbered, names, has_status, is_pending}
 use Rattle.mta_machine.specs.Machine.{relay_by}
@@ -80,11 +80,11 @@ routes_are t item v places e h led =
     led_as (peer_at t) (peer_word t.text) item (route_under t v) (route_word t.text item.octets) places
     (λ place. peer_word_is t place e) (λ r. route_is t item.octets v r e h) led
 
-pub relays_are : (t : TablesValue) (item : ItemValue) (v : ApduValue) (moment : ℕ) (places : List ℕ)
+pub relays_are : (format : ℕ) (t : TablesValue) (item : ItemValue) (v : ApduValue) (moment : ℕ) (places : List ℕ)
     → tables_value t.text ≡ Some t → value_of item.octets ≡ Some v
-    → AreLed (peer_word t.text) item (relay_under t v item.arrival moment) places
-    → AreRelays t.text item moment places
-relays_are t item v moment places e h led =
-    led_as (peer_word t.text) (peer_word t.text) item (relay_under t v item.arrival moment)
-    (λ r. relay_by t.text (verdict_of t.text item.octets item.arrival r moment)) places (λ place. refl)
-    (λ r. ap (relay_by t.text) (verdict_is t item.octets v item.arrival r moment e h)) led
+    → AreLed (peer_word t.text) item (relay_under format t v item.arrival moment) places
+    → AreRelays format t.text item moment places
+relays_are format t item v moment places e h led =
+    led_as (peer_word t.text) (peer_word t.text) item (relay_under format t v item.arrival moment)
+    (λ r. relay_by t.text (verdict_of format t.text item.octets item.arrival r moment)) places (λ place. refl)
+    (λ r. ap (relay_by t.text) (verdict_is format t item.octets v item.arrival r moment e h)) led

@@ -1,5 +1,4 @@
 pub mod Arrivals
-pub mod Codes
 pub mod Copied
 pub mod Counts
 pub mod Delivered

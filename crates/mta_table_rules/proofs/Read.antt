@@ -1,5 +1,5 @@
 -- What the text of tables and the octets of an item give, once they are read.
-use Rattle.std.proofs.Common.{◌≡◌, ℕ, List, Option, Some, None, sym, ap, ◌∙◌}
+use Rattle.std.proofs.Common.{◌≡◌, ℕ, List, Option, Some, None, ap, ◌∙◌}
 use Rattle.std.proofs.Common.{Result, Ok, Err}
 use Rattle.std.specs.Prelude.{IfOk, is_some, option_and_then}
 use Rattle.mta_apdu.specs.Apdus.{ApduValue}
@@ -64,26 +64,27 @@ no_route t octets r e h = none_read (tables_value t.text) (value_of octets) t (�
 
 -- ---- verdicts
 
-pub verdict_is : (t : TablesValue) (octets : List ℕ) (v : ApduValue) (arrival r moment : ℕ)
+pub verdict_is : (format : ℕ) (t : TablesValue) (octets : List ℕ) (v : ApduValue) (arrival r moment : ℕ)
     → tables_value t.text ≡ Some t → value_of octets ≡ Some v
-    → verdict_of t.text octets arrival r moment ≡ verdict_under t v arrival r moment
+    → verdict_of format t.text octets arrival r moment ≡ verdict_under format t v arrival r moment
 unfolding verdict_of
-verdict_is t octets v arrival r moment e h =
-    both_read (tables_value t.text) (value_of octets) t v (λ x y. verdict_under x y arrival r moment) e h
+verdict_is format t octets v arrival r moment e h =
+    both_read (tables_value t.text) (value_of octets) t v (λ x y. verdict_under format x y arrival r moment) e h
 
-pub no_verdict : (t : TablesValue) (octets : List ℕ) (arrival r moment : ℕ) → tables_value t.text ≡ Some t
-    → value_of octets ≡ None → verdict_of t.text octets arrival r moment ≡ None
+pub no_verdict : (format : ℕ) (t : TablesValue) (octets : List ℕ) (arrival r moment : ℕ)
+    → tables_value t.text ≡ Some t → value_of octets ≡ None
+    → verdict_of format t.text octets arrival r moment ≡ None
 unfolding verdict_of
-no_verdict t octets arrival r moment e h =
-    none_read (tables_value t.text) (value_of octets) t (λ x y. verdict_under x y arrival r moment) e h
+no_verdict format t octets arrival r moment e h =
+    none_read (tables_value t.text) (value_of octets) t (λ x y. verdict_under format x y arrival r moment) e h
 
-pub expired_is : (t : TablesValue) (octets : List ℕ) (v : Option ApduValue) (arrival moment : ℕ)
+pub expired_is : (format : ℕ) (t : TablesValue) (octets : List ℕ) (v : Option ApduValue) (arrival moment : ℕ)
     → tables_value t.text ≡ Some t → value_of octets ≡ v
-    → is_expired t.text octets arrival moment ≡ expired_under (Some t) v arrival moment
+    → is_expired format t.text octets arrival moment ≡ expired_under format (Some t) v arrival moment
 unfolding is_expired
-expired_is t octets v arrival moment e h =
-    ap (λ (o : Option TablesValue). expired_under o (value_of octets) arrival moment) e
-    ∙ ap (λ (o : Option ApduValue). expired_under (Some t) o arrival moment) h
+expired_is format t octets v arrival moment e h =
+    ap (λ (o : Option TablesValue). expired_under format o (value_of octets) arrival moment) e
+    ∙ ap (λ (o : Option ApduValue). expired_under format (Some t) o arrival moment) h
 
 -- ---- reports
 

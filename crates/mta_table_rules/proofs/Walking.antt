@@ -15,7 +15,7 @@ use Rattle.mta_tables.specs.declared.entry.MailList.{MailList}
 use Rattle.mta_tables.specs.Tables.{TablesValue}
 use Rattle.mta_tables.specs.Hops.{list_named}
 use Rattle.mta_procedures.specs.Walks.{Accepted, behind_list, is_expanded_as, is_subject_of, passed_to, walk_of}
-use Rattle.mta_machine.specs.declared.item.Status.{Status}
+use Rattle.mta_records.specs.declared.state.Status.{Status}
 use Rattle.mta_machine.specs.Items.{ItemValue}
 use Rattle.mta_machine.specs.Rules.{accepted_in, accepted_of, is_expanded}
 

@@ -10,11 +10,13 @@ use Rattle.mta_procedures.specs.Situations.{situation}
 use Rattle.mta_procedures.specs.Traces.{longest_trace}
 use Rattle.mta_procedures.specs.Verdicts.{verdict_of_message, verdict_on_message}
 
--- the number stands for the length of the members' copy: with it the verdict is the same, at each moment
+-- the number stands for the length of the members' copy: with it the verdict is the same, in each format and at each
+-- moment
 abbrev pub CountsAsLength : TablesValue → ℕ → MessageValue → RecipientFields → ℕ → Type 0
 CountsAsLength t arrival m r n =
-    (moment : ℕ)
-    → verdict_of_message (situation t arrival moment) m r n ≡ verdict_on_message (situation t arrival moment) m r
+    (format moment : ℕ)
+    → verdict_of_message format (situation t arrival moment) m r n
+    ≡ verdict_on_message format (situation t arrival moment) m r
 
 -- the trace has room for an element, and the history for an expansion unless the list was expanded before
 pub record HasRoom (l : MailList) (e : EnvelopeFields) : Type 0 where

@@ -6,9 +6,9 @@ use Rattle.mta_machine.specs.Items.{ItemValue, numbered, names, has_status, is_p
 use Rattle.mta_machine.specs.Machine.{relay_by}
 use Rattle.mta_machine.specs.Rules.{verdict_under}
 
--- the word of the peer to which the verdict on a recipient relays
-abbrev pub relay_under : TablesValue → ApduValue → (arrival moment r : ℕ) → Option (List ℕ)
-relay_under t v arrival moment r = relay_by t.text (verdict_under t v arrival r moment)
+-- the word of the peer to which the verdict in a format on a recipient relays
+abbrev pub relay_under : (format : ℕ) → TablesValue → ApduValue → (arrival moment r : ℕ) → Option (List ℕ)
+relay_under format t v arrival moment r = relay_by t.text (verdict_under format t v arrival r moment)
 
 -- the place is that of the peer to whom the recipient goes, who is pending
 abbrev pub LeadsPending :

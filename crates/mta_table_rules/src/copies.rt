@@ -1,6 +1,6 @@
 //! The copies of items that go to peers.
 
-ghost use Rattle.std.specs.Prelude.{◌≡◌, ◌≤◌, ◌<◌, ◌^◌, IfOk, Some, length};
+ghost use Rattle.std.specs.Prelude.{◌≡◌, ◌≤◌, ◌<◌, ◌^◌, ℕ, IfOk, Some, length};
 ghost use Rattle.mta_ber.specs.Times.{last_moment};
 ghost use Rattle.mta_envelope.specs.Contents.{octets_of};
 ghost use Rattle.mta_envelope.specs.Messages.{message_value};
@@ -190,7 +190,8 @@ pub fn outgoing_copy(
     requires arrived { item.now.arrival ≤ last_moment }
     requires reading { IsReadingOf item.now.octets reading.now }
     requires fits { moment ≤ last_moment }
-    requires relayed { Relays (verdict_of tables.now.text item.now.octets item.now.arrival recipient moment) }
+    requires relayed { (format : ℕ)
+        × Relays (verdict_of format tables.now.text item.now.octets item.now.arrival recipient moment) }
     ensures copy { IfOk result (λ out. Some out.octets
         ≡ outgoing_copy tables.now.text item.now.octets item.now.arrival recipients.now moment) }
     ensures activity { IfOk result (λ out. out.activity ≡ activity) }

@@ -24,6 +24,7 @@ use std::alloc::Global;
 /// The delivery of an APDU that was read to a recipient, with the delivery report; none where the verdict is another.
 fn delivery_under(
     alloc: Global,
+    format: u32,
     tables: &Tables,
     number: u64,
     arrival: u64,
@@ -37,10 +38,12 @@ fn delivery_under(
     requires fits { moment ≤ last_moment }
     ensures { let v = apdu_value apdu.now in
         let made = report_on (λ e x. delivery_report tables.now number arrival e x moment) recipient v in
-        IfOk result (Delivers (verdict_under tables.now v arrival recipient moment)
+        IfOk result (Delivers (verdict_under format tables.now v arrival recipient moment)
         (option_map (own_item moment) made)) }
 {
-    let verdict = verdict_under(alloc, tables, apdu, back, arrival, recipient, moment)?;
+    let verdict = verdict_under(
+        alloc, format, tables, apdu, back, arrival, recipient, moment,
+    )?;
     let Some(Verdict::Deliver(place)) = verdict else {
         return Ok(None);
     };
@@ -53,6 +56,7 @@ fn delivery_under(
 /// moment as the item of a number; none where the verdict is another.
 pub fn delivery(
     alloc: Global,
+    format: u32,
     tables: &Tables,
     number: u64,
     item: &Item,
@@ -63,7 +67,7 @@ pub fn delivery(
     requires arrived { item.now.arrival ≤ last_moment }
     requires reading { IsReadingOf item.now.octets reading.now }
     requires fits { moment ≤ last_moment }
-    ensures { IfOk result (IsDeliveryOf tables.now.text number item.now recipient moment) }
+    ensures { IfOk result (IsDeliveryOf format tables.now.text number item.now recipient moment) }
 {
     text_reads(tables);
     let arrival = item.arrival();
@@ -72,6 +76,7 @@ pub fn delivery(
     };
     delivery_under(
         alloc,
+        format,
         tables,
         number,
         arrival,

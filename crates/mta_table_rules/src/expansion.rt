@@ -1,6 +1,6 @@
 //! What the expansion of a list makes.
 
-ghost use Rattle.std.specs.Prelude.{◌≡◌, ◌≤◌, ◌+◌, ◌^◌, IfOk, Some, None, length, map, slice_get, option_to_list};
+ghost use Rattle.std.specs.Prelude.{◌≡◌, ◌≤◌, ◌+◌, ◌^◌, ℕ, IfOk, Some, None, length, map, slice_get, option_to_list};
 ghost use Rattle.std.specs.Option.{option_copied, option_map};
 ghost use Rattle.mta_ber.specs.Times.{last_moment};
 ghost use Rattle.mta_envelope_recipient.specs.Recipients.{IsRecipient};
@@ -211,8 +211,8 @@ fn expanded_for(
     requires number { number ≤ 2 ^ 32 }
     requires arrived { arrival ≤ last_moment }
     requires fits { moment ≤ last_moment }
-    requires list { Expands
-        (verdict_under tables.now (apdus.message (message_value message.now)) arrival recipient moment) }
+    requires list { let about = apdus.message (message_value message.now) in
+        (format : ℕ) × Expands (verdict_under format tables.now about arrival recipient moment) }
     ensures { let m = message_value message.now in
         let who = numbered message.now.envelope.recipients recipient in IfOk result (λ made. made_items made
         ≡ map (own_item moment) (expanded_for tables.now number arrival m who moment)) }
@@ -245,7 +245,8 @@ fn expanded_in(
     requires number { number ≤ 2 ^ 32 }
     requires arrived { arrival ≤ last_moment }
     requires fits { moment ≤ last_moment }
-    requires list { Expands (verdict_under tables.now (apdu_value apdu.now) arrival recipient moment) }
+    requires list { (format : ℕ)
+        × Expands (verdict_under format tables.now (apdu_value apdu.now) arrival recipient moment) }
     ensures { let about = Some (apdu_value apdu.now) in IfOk result (λ made. made_items made
         ≡ map (own_item moment) (expansion_under (Some tables.now) number arrival about recipient moment)) }
 {
@@ -272,7 +273,8 @@ pub fn expansion_items(
     requires arrived { item.now.arrival ≤ last_moment }
     requires reading { IsReadingOf item.now.octets reading.now }
     requires fits { moment ≤ last_moment }
-    requires list { Expands (verdict_of tables.now.text item.now.octets item.now.arrival recipient moment) }
+    requires list { (format : ℕ)
+        × Expands (verdict_of format tables.now.text item.now.octets item.now.arrival recipient moment) }
     ensures { IfOk result (λ made. made_items made
         ≡ map (own_item moment) (expansion tables.now.text number item.now recipient moment)) }
 {

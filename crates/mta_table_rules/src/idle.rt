@@ -1,68 +1,77 @@
 //! When verdicts change, and what calls for a step at once.
 
-ghost use Rattle.std.specs.Prelude.{◌≡◌, ◌≤◌, IfSome, Some, false, nat_lt};
-ghost use Rattle.std.specs.Option.{option_map_or};
+ghost use Rattle.std.specs.Prelude.{◌≡◌, ◌≤◌, IfSome, Some};
 ghost use Rattle.mta_apdu.specs.Apdus.{apdu_value};
 ghost use Rattle.mta_ber.specs.Times.{last_moment};
 ghost use Rattle.mta_procedures.specs.Situations.{situation, terms_of};
 ghost use Rattle.mta_idle_laws.specs.Idle.{calls_at_once};
-ghost use Rattle.mta_idle_laws.specs.Next.{next_in, next_under};
+ghost use Rattle.mta_idle_laws.specs.Next.{next_in, next_under, up_to_deferral};
 
 use mta_apdu::Apdu;
-use mta_envelope::{Envelope, Priority};
-use mta_procedures::Verdict;
-use mta_rules::{expiry, is_expired};
+use mta_envelope::Envelope;
+use mta_procedures::{Terms, Verdict};
+use mta_rules::{expiry, is_expired, report_terms, terms_of};
 use mta_tables::Tables;
 
-/// Whether the deferral is still to come.
-fn is_deferred(deferral: Option<u64>, moment: u64) -> bool
-    ensures { result ≡ option_map_or (λ d. nat_lt moment d) deferral false }
+/// A moment that is to come, or the end of the deferral where that is to come before it.
+fn up_to_deferral(now: u64, deferral: Option<u64>, until: u64) -> u64
+    ensures { result ≡ up_to_deferral now deferral until }
 {
     match deferral {
-        Some(deferral) => moment < deferral,
-        None => false,
+        Some(deferral) => {
+            if now < deferral {
+                deferral.min(until)
+            } else {
+                until
+            }
+        }
+        None => until,
     }
 }
 
 /// The next change of an item of these terms: none once it has expired.
-fn next_in(
-    tables: &Tables,
-    arrival: u64,
-    moment: u64,
-    priority: Priority,
-    deferral: Option<u64>,
-) -> Option<u64>
+fn next_in(tables: &Tables, arrival: u64, moment: u64, terms: Terms) -> Option<u64>
     requires within { arrival ≤ last_moment }
-    requires deferred { IfSome deferral (λ d. d ≤ last_moment) }
-    ensures { let s = situation tables.now arrival moment in
-        result ≡ next_in s (record { priority = priority; deferral = deferral }) }
+    requires deferred { IfSome terms.deferral (λ d. d ≤ last_moment) }
+    ensures { result ≡ next_in (situation tables.now arrival moment) terms }
 {
-    if is_deferred(deferral, moment) {
-        deferral
-    } else if is_expired(tables, arrival, moment, priority, deferral) {
+    if is_expired(tables, arrival, moment, terms) {
         None
     } else {
-        Some(expiry(tables, arrival, priority, deferral))
+        let until = expiry(tables, arrival, terms);
+        Some(up_to_deferral(moment, terms.deferral, until))
     }
 }
 
-fn envelope_next(tables: &Tables, envelope: &Envelope, arrival: u64, moment: u64) -> Option<u64>
+fn envelope_next(
+    format: u32,
+    tables: &Tables,
+    envelope: &Envelope,
+    arrival: u64,
+    moment: u64,
+) -> Option<u64>
     requires { arrival ≤ last_moment }
-    ensures { result ≡ next_in (situation tables.now arrival moment) (terms_of envelope.now) }
+    ensures { result ≡ next_in (situation tables.now arrival moment) (terms_of format envelope.now) }
 {
-    let fields = envelope.fields();
-    next_in(tables, arrival, moment, fields.priority, fields.deferral)
+    let terms = terms_of(format, envelope.fields());
+    next_in(tables, arrival, moment, terms)
 }
 
-/// The next moment at which a verdict on a recipient of an APDU may change; none once it has expired.
-pub fn next_under(tables: &Tables, apdu: &Apdu<'_>, arrival: u64, moment: u64) -> Option<u64>
+/// The next moment at which a verdict in a format on a recipient of an APDU may change; none once it has expired.
+pub fn next_under(
+    format: u32,
+    tables: &Tables,
+    apdu: &Apdu<'_>,
+    arrival: u64,
+    moment: u64,
+) -> Option<u64>
     requires { arrival ≤ last_moment }
-    ensures { result ≡ next_under (Some tables.now) (Some (apdu_value apdu.now)) arrival moment }
+    ensures { result ≡ next_under format (Some tables.now) (Some (apdu_value apdu.now)) arrival moment }
 {
     match apdu {
-        Apdu::Message(message) => envelope_next(tables, &message.envelope, arrival, moment),
-        Apdu::Probe(probe) => envelope_next(tables, &probe.envelope, arrival, moment),
-        Apdu::Report(_) => next_in(tables, arrival, moment, Priority::Normal, None),
+        Apdu::Message(message) => envelope_next(format, tables, &message.envelope, arrival, moment),
+        Apdu::Probe(probe) => envelope_next(format, tables, &probe.envelope, arrival, moment),
+        Apdu::Report(_) => next_in(tables, arrival, moment, report_terms()),
     }
 }
 

@@ -1,6 +1,6 @@
 //! Reports that come to a list and are passed back (X.411, clause 14: distribution lists, reports).
 
-ghost use Rattle.std.specs.Prelude.{◌≡◌, ◌≤◌, ◌<◌, IfOk, Some, is_some, length, map};
+ghost use Rattle.std.specs.Prelude.{◌≡◌, ◌≤◌, ◌<◌, ℕ, IfOk, Some, is_some, length, map};
 ghost use Rattle.std.specs.List.{find, list_any, zip};
 ghost use Rattle.std.specs.Option.{option_and_then, option_copied, option_map};
 ghost use Rattle.mta_ber.specs.Times.{last_moment};
@@ -319,7 +319,8 @@ pub fn passed_item(
 ) -> Result<Option<Item>, Memory>
     requires arrived { item.now.arrival ≤ last_moment }
     requires reading { IsReadingOf item.now.octets reading.now }
-    requires passed { Passes (verdict_of tables.now.text item.now.octets item.now.arrival recipient moment) }
+    requires passed { (format : ℕ)
+        × Passes (verdict_of format tables.now.text item.now.octets item.now.arrival recipient moment) }
     ensures { IfOk result (λ made. made
         ≡ option_map (own_item moment) (rules.passed_back tables.now.text items.now item.now)) }
 {

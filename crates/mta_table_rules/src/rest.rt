@@ -30,6 +30,7 @@ struct Places {
 /// The places of the peers to whom a recipient goes, if pending; none where something is called for at once.
 fn look_at(
     alloc: Global,
+    format: u32,
     tables: &Tables,
     apdu: &Apdu<'_>,
     back: u64,
@@ -39,7 +40,7 @@ fn look_at(
 ) -> Result<Option<Places>, Memory>
     requires arrived { item.now.arrival ≤ last_moment }
     requires back { IsCounted apdu.now back }
-    ensures { IfOk result (IsLookAt tables.now (apdu_value apdu.now) item.now recipient moment) }
+    ensures { IfOk result (IsLookAt format tables.now (apdu_value apdu.now) item.now recipient moment) }
 {
     let pending = is_pending(item, recipient);
     if !pending {
@@ -48,7 +49,10 @@ fn look_at(
             relay: None,
         }));
     }
-    let verdict = verdict_under(alloc, tables, apdu, back, item.arrival(), recipient, moment)?;
+    let arrival = item.arrival();
+    let verdict = verdict_under(
+        alloc, format, tables, apdu, back, arrival, recipient, moment,
+    )?;
     let calls = calls_at_once(verdict);
     if calls {
         return Ok(None);
@@ -72,6 +76,7 @@ fn add(places: &mut Vec<u32>, place: Option<u32>) -> Result<(), Memory>
 #[tactic(auto, using(crate::proofs::Rests::resting_laws))]
 pub fn rest_under(
     alloc: Global,
+    format: u32,
     tables: &Tables,
     apdu: &Apdu<'_>,
     back: u64,
@@ -81,9 +86,9 @@ pub fn rest_under(
     requires arrived { item.now.arrival ≤ last_moment }
     requires back { IsCounted apdu.now back }
     requires few { length item.now.statuses < 2 ^ 32 }
-    ensures { IfOk result (IsRestUnder tables.now (apdu_value apdu.now) item.now moment) }
+    ensures { IfOk result (IsRestUnder format tables.now (apdu_value apdu.now) item.now moment) }
 {
-    let Some(until) = next_under(tables, apdu, item.arrival(), moment) else {
+    let Some(until) = next_under(format, tables, apdu, item.arrival(), moment) else {
         return Ok(None);
     };
     let count = item.statuses().len() as u32;
@@ -92,7 +97,8 @@ pub fn rest_under(
     let mut recipient = item.settled() as u32;
     while recipient < count {
         recipient += 1;
-        let Some(places) = look_at(alloc, tables, apdu, back, item, recipient, moment)? else {
+        let Some(places) = look_at(alloc, format, tables, apdu, back, item, recipient, moment)?
+        else {
             return Ok(None);
         };
         add(&mut routes, places.route)?;
@@ -106,9 +112,10 @@ pub fn rest_under(
 }
 
 /// What is found of an item where nothing is called for at once of those of its recipients who are pending; none where
-/// something is, where the item has waited for its hold time, or where its octets are those of no APDU.
+/// something is, where the item has expired, or where its octets are those of no APDU.
 pub fn rest(
     alloc: Global,
+    format: u32,
     tables: &Tables,
     item: &Item,
     reading: &Reading<'_>,
@@ -117,11 +124,11 @@ pub fn rest(
     requires arrived { item.now.arrival ≤ last_moment }
     requires reading { IsReadingOf item.now.octets reading.now }
     requires few { length item.now.statuses < 2 ^ 32 }
-    ensures { IfOk result (IsRestOf tables.now.text item.now moment) }
+    ensures { IfOk result (IsRestOf format tables.now.text item.now moment) }
 {
     text_reads(tables);
     let Some(apdu) = &reading.apdu else {
         return Ok(None);
     };
-    rest_under(alloc, tables, apdu, reading.back, item, moment)
+    rest_under(alloc, format, tables, apdu, reading.back, item, moment)
 }

@@ -4,7 +4,7 @@ ghost use Rattle.std.specs.Prelude.{◌≡◌, ◌≤◌, IfOk, IfSome};
 ghost use Rattle.std.specs.Option.{option_map};
 ghost use Rattle.mta_ber.specs.Times.{last_moment};
 ghost use Rattle.mta_apdu.specs.Apdus.{apdu_value, SpellsApdu};
-ghost use Rattle.mta_machine.specs.declared.item.Origin.TheVariants as Origins;
+ghost use Rattle.mta_records.specs.declared.state.Origin.TheVariants as Origins;
 ghost use Rattle.mta_machine.specs.Machine.{accepted_item};
 ghost use Rattle.mta_state.specs.Reading.{IsAccepted};
 ghost use Rattle.mta_state.specs.declared.rest.Submitted.{Submitted};
@@ -23,6 +23,7 @@ use std::sync::Arc;
 /// The item of octets whose APDU was read, and what is found of it.
 fn submitted_as(
     alloc: Global,
+    format: u32,
     tables: &Tables,
     apdu: &Apdu<'_>,
     octets: Arc<Octets, Global>,
@@ -31,19 +32,20 @@ fn submitted_as(
     requires fits { moment ≤ last_moment }
     requires spelled { SpellsApdu octets.value (apdu_value apdu.now) }
     ensures item { IfOk result (λ s. s.item ≡ accepted_item octets.value Origins.Submitted moment) }
-    ensures rest { IfOk result (λ s. IsRestOf tables.now.text s.item moment s.rest) }
+    ensures rest { IfOk result (λ s. IsRestOf format tables.now.text s.item moment s.rest) }
 {
     text_reads(tables);
     let statuses = Statuses::of_apdu(alloc, apdu)?;
     let item = Item::new(octets, moment, Origin::Submitted, statuses);
     let back = back_of(apdu);
-    let rest = rest_under(alloc, tables, apdu, back, &item, moment)?;
+    let rest = rest_under(alloc, format, tables, apdu, back, &item, moment)?;
     Ok(Submitted { item, rest })
 }
 
 /// The item of an APDU that is submitted at a moment, and what is found of it then; none where the octets spell none.
 pub fn submitted(
     alloc: Global,
+    format: u32,
     tables: &Tables,
     octets: Octets,
     moment: u64,
@@ -51,7 +53,7 @@ pub fn submitted(
     requires { moment ≤ last_moment }
     ensures item { IfOk result (λ found.
         IsAccepted octets Origins.Submitted moment (option_map (λ (s : Submitted). s.item) found)) }
-    ensures rest { IfOk result (λ found. IfSome found (λ s. IsRestOf tables.now.text s.item moment s.rest)) }
+    ensures rest { IfOk result (λ found. IfSome found (λ s. IsRestOf format tables.now.text s.item moment s.rest)) }
 {
     let shared = Arc::new(alloc, octets)?;
     let same = Arc::try_clone(&shared)?;
@@ -59,7 +61,7 @@ pub fn submitted(
         Err(ReadFault::Bad(_)) => Ok(None),
         Err(ReadFault::Memory) => Err(Memory),
         Ok(apdu) => {
-            let found = submitted_as(alloc, tables, &apdu, same, moment);
+            let found = submitted_as(alloc, format, tables, &apdu, same, moment);
             apdu.discard();
             match found {
                 Ok(found) => Ok(Some(found)),

@@ -1,4 +1,4 @@
-//! The rules under tables.
+//! The rules in a format and under tables.
 
 use crate::copies::outgoing_copy;
 use crate::deliveries::delivery;
@@ -19,52 +19,61 @@ use mta_tables::{Tables, TablesFault};
 use std::alloc::Global;
 use std::marker::Model;
 
-/// The rules of X.411, clause 14, under tables.
+/// The rules of X.411, clause 14, in a format and under tables.
 pub struct TableRules {
+    format: u32,
     tables: Tables,
 }
 
 // Written out, since a derived one is opened anew, field by field, at each place where a value is let go.
 impl Drop for TableRules {
     fn drop(self) {
-        let TableRules { tables: _ } = self;
+        let TableRules {
+            format: _,
+            tables: _,
+        } = self;
     }
 }
 
 impl Model for TableRules {
-    ghost use Rattle.mta_tables.specs.Tables.{TablesValue};
+    ghost use Rattle.mta_table_rules.specs.Text.{RulesValue};
 
-    ghost Value = { TablesValue };
+    ghost Value = { RulesValue };
 
-    ghost view = { λ r. r.tables };
+    ghost view = { λ r. record { format = r.format; tables = r.tables } };
 }
 
 impl TableRules {
     ghost use Rattle.std.specs.Prelude.{◌≡◌};
 
-    /// The rules under these tables.
-    pub fn new(tables: Tables) -> TableRules
-        ensures { result ≡ tables }
+    /// The rules in this format and under these tables.
+    pub fn new(format: u32, tables: Tables) -> TableRules
+        ensures { result ≡ record { format = format; tables = tables } }
     {
-        TableRules { tables }
+        TableRules { format, tables }
     }
 
     /// The tables.
     pub fn tables(&self) -> &Tables
-        ensures { result.now ≡ self.now }
+        ensures { result.now ≡ self.now.tables }
     {
         &self.tables
     }
 }
 
 impl Rules for TableRules {
-    ghost use Rattle.mta_table_rules.specs.Text.{text_of};
+    ghost use Rattle.mta_table_rules.specs.Text.{format_of, text_of};
+
+    ghost format = { format_of };
 
     ghost text = { text_of };
 
-    fn under(alloc: Global, octets: &[u8]) -> Result<Option<TableRules>, Memory> {
+    fn under(alloc: Global, in_format: u32, octets: &[u8]) -> Result<Option<TableRules>, Memory> {
         match Tables::read(alloc, octets) {
-            Ok(tables) => Ok(Some(TableRules { tables })),
+            Ok(tables) => Ok(Some(TableRules {
+                format: in_format,
+                tables,
+            })),
             Err(TablesFault::BadLine { .. }) => Ok(None),
             Err(TablesFault::Memory) => Err(Memory),
         }
@@ -78,11 +87,19 @@ impl Rules for TableRules {
         recipient: u32,
         moment: u64,
     ) -> Result<Option<Verdict>, Memory> {
-        verdict(alloc, &self.tables, item, reading, recipient, moment)
+        verdict(
+            alloc,
+            self.format,
+            &self.tables,
+            item,
+            reading,
+            recipient,
+            moment,
+        )
     }
 
     fn has_expired(&self, item: &Item, reading: &Reading<'_>, moment: u64) -> bool {
-        has_expired(&self.tables, item, reading, moment)
+        has_expired(self.format, &self.tables, item, reading, moment)
     }
 
     fn rest(
@@ -92,7 +109,7 @@ impl Rules for TableRules {
         reading: &Reading<'_>,
         moment: u64,
     ) -> Result<Option<Rest>, Memory> {
-        rest(alloc, &self.tables, item, reading, moment)
+        rest(alloc, self.format, &self.tables, item, reading, moment)
     }
 
     fn submitted(
@@ -101,7 +118,7 @@ impl Rules for TableRules {
         octets: Octets,
         moment: u64,
     ) -> Result<Option<Submitted>, Memory> {
-        submitted(alloc, &self.tables, octets, moment)
+        submitted(alloc, self.format, &self.tables, octets, moment)
     }
 
     fn passes_back(
@@ -141,6 +158,7 @@ impl Rules for TableRules {
     ) -> Result<Option<Delivery>, Memory> {
         delivery(
             alloc,
+            self.format,
             &self.tables,
             number,
             item,

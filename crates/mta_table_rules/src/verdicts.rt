@@ -25,13 +25,15 @@ ghost use Rattle.mta_rules.specs.Cases.{IsBackOf};
 use crate::reading::{recipient_of, text_reads};
 use mta_apdu::Apdu;
 use mta_ber::Memory;
-use mta_envelope::{Envelope, Message, Priority, Probe};
+use mta_envelope::{Envelope, Message, Probe};
 use mta_envelope_recipient::RecipientFields;
 use mta_lists::expand;
 use mta_machine::Item;
 use mta_procedures::Verdict;
 use mta_report::Report;
-use mta_rules::{is_expired, verdict_on_message, verdict_on_probe, verdict_report};
+use mta_rules::{
+    is_expired, report_terms, terms_of, verdict_on_message, verdict_on_probe, verdict_report,
+};
 use mta_state::Reading;
 use mta_tables::{Hop, Tables};
 use std::alloc::Global;
@@ -46,7 +48,7 @@ fn length_of(copy: Option<Message<'_>>) -> u64
     }
 }
 
-/// How many octets the members' copy has, at whichever moment.
+/// How many octets the members' copy has, in whichever format and at whichever moment.
 fn copy_length(
     alloc: Global,
     tables: &Tables,
@@ -97,6 +99,7 @@ fn members_length(
 
 fn of_message(
     alloc: Global,
+    format: u32,
     tables: &Tables,
     message: &Message<'_>,
     back: u64,
@@ -109,7 +112,7 @@ fn of_message(
     ensures { let s = situation tables.now arrival moment in
         let recipients = message.now.envelope.recipients in
         IfOk result (λ v. v
-        ≡ option_map (verdict_on_message s (message_value message.now)) (numbered recipients recipient)) }
+        ≡ option_map (verdict_on_message format s (message_value message.now)) (numbered recipients recipient)) }
 {
     let recipients = message.envelope.fields().recipients.as_slice();
     let Some(found) = recipient_of(recipients, recipient) else {
@@ -117,11 +120,12 @@ fn of_message(
     };
     let who = found.fields();
     let members = members_length(alloc, tables, arrival, message, recipient, who)?;
-    let verdict = verdict_on_message(tables, arrival, message, back, who, members, moment);
+    let verdict = verdict_on_message(format, tables, arrival, message, back, who, members, moment);
     Ok(Some(verdict))
 }
 
 fn of_probe(
+    format: u32,
     tables: &Tables,
     probe: &Probe,
     back: u64,
@@ -133,15 +137,16 @@ fn of_probe(
     requires back { IsBackOf probe.now.envelope back }
     ensures { let s = situation tables.now arrival moment in
         result
-        ≡ option_map (verdict_of_probe s probe.now.envelope) (numbered probe.now.envelope.recipients recipient) }
+        ≡ option_map (verdict_of_probe format s probe.now.envelope) (numbered probe.now.envelope.recipients recipient) }
 {
     let recipients = probe.envelope.fields().recipients.as_slice();
     let found = recipient_of(recipients, recipient)?;
-    Some(verdict_on_probe(tables, arrival, probe, back, found.fields(), moment))
+    Some(verdict_on_probe(format, tables, arrival, probe, back, found.fields(), moment))
 }
 
 /// A report that comes to a list has the verdict Back.
 fn of_report(
+    format: u32,
     tables: &Tables,
     report: &Report,
     arrival: u64,
@@ -149,18 +154,20 @@ fn of_report(
     moment: u64,
 ) -> Option<Verdict>
     requires { arrival ≤ last_moment }
-    ensures { result ≡ verdict_under tables.now (apdus.report report.now) arrival recipient moment }
+    ensures { result ≡ verdict_under format tables.now (apdus.report report.now) arrival recipient moment }
 {
     if recipient != 1 {
         return None;
     }
     let back = &report.fields().destination;
-    Some(verdict_report(tables, arrival, report, Some(back), moment))
+    Some(verdict_report(format, tables, arrival, report, Some(back), moment))
 }
 
-/// The verdict on a recipient of an APDU that was read, where that was counted which is counted once for all.
+/// The verdict in a format on a recipient of an APDU that was read, where that was counted which is counted once for
+/// all.
 pub fn verdict_under(
     alloc: Global,
+    format: u32,
     tables: &Tables,
     apdu: &Apdu<'_>,
     back: u64,
@@ -170,21 +177,24 @@ pub fn verdict_under(
 ) -> Result<Option<Verdict>, Memory>
     requires arrival { arrival ≤ last_moment }
     requires back { IsCounted apdu.now back }
-    ensures { IfOk result (λ v. v ≡ verdict_under tables.now (apdu_value apdu.now) arrival recipient moment) }
+    ensures { IfOk result (λ v. v ≡ verdict_under format tables.now (apdu_value apdu.now) arrival recipient moment) }
 {
     match apdu {
         Apdu::Message(message) => {
-            of_message(alloc, tables, message, back, arrival, recipient, moment)
+            of_message(
+                alloc, format, tables, message, back, arrival, recipient, moment,
+            )
         }
-        Apdu::Probe(probe) => Ok(of_probe(tables, probe, back, arrival, recipient, moment)),
-        Apdu::Report(report) => Ok(of_report(tables, report, arrival, recipient, moment)),
+        Apdu::Probe(probe) => Ok(of_probe(format, tables, probe, back, arrival, recipient, moment)),
+        Apdu::Report(report) => Ok(of_report(format, tables, report, arrival, recipient, moment)),
     }
 }
 
-/// The verdict on a recipient of an item, looked at at a moment; none where its octets are those of no APDU, or where
-/// it has no such recipient.
+/// The verdict in a format on a recipient of an item, looked at at a moment; none where its octets are those of no
+/// APDU, or where it has no such recipient.
 pub fn verdict(
     alloc: Global,
+    format: u32,
     tables: &Tables,
     item: &Item,
     reading: &Reading<'_>,
@@ -194,7 +204,7 @@ pub fn verdict(
     requires arrived { item.now.arrival ≤ last_moment }
     requires reading { IsReadingOf item.now.octets reading.now }
     ensures exact { IfOk result
-        (λ v. v ≡ verdict_of tables.now.text item.now.octets item.now.arrival recipient moment) }
+        (λ v. v ≡ verdict_of format tables.now.text item.now.octets item.now.arrival recipient moment) }
     ensures codes { IfOk result CodesAreCodes }
 {
     text_reads(tables);
@@ -204,6 +214,7 @@ pub fn verdict(
     };
     verdict_under(
         alloc,
+        format,
         tables,
         apdu,
         reading.back,
@@ -213,35 +224,53 @@ pub fn verdict(
     )
 }
 
-fn envelope_expired(tables: &Tables, envelope: &Envelope, arrival: u64, moment: u64) -> bool
+fn envelope_expired(
+    format: u32,
+    tables: &Tables,
+    envelope: &Envelope,
+    arrival: u64,
+    moment: u64,
+) -> bool
     requires { arrival ≤ last_moment }
-    ensures { result ≡ situations.is_expired (situation tables.now arrival moment) (terms_of envelope.now) }
+    ensures { result ≡ situations.is_expired (situation tables.now arrival moment) (terms_of format envelope.now) }
 {
-    let fields = envelope.fields();
-    is_expired(tables, arrival, moment, fields.priority, fields.deferral)
+    let terms = terms_of(format, envelope.fields());
+    is_expired(tables, arrival, moment, terms)
 }
 
-fn expired_under(tables: &Tables, apdu: &Apdu<'_>, arrival: u64, moment: u64) -> bool
+fn expired_under(format: u32, tables: &Tables, apdu: &Apdu<'_>, arrival: u64, moment: u64) -> bool
     requires { arrival ≤ last_moment }
-    ensures { result ≡ expired_under (Some tables.now) (Some (apdu_value apdu.now)) arrival moment }
+    ensures { result ≡ expired_under format (Some tables.now) (Some (apdu_value apdu.now)) arrival moment }
 {
     match apdu {
-        Apdu::Message(message) => envelope_expired(tables, &message.envelope, arrival, moment),
-        Apdu::Probe(probe) => envelope_expired(tables, &probe.envelope, arrival, moment),
-        Apdu::Report(_) => is_expired(tables, arrival, moment, Priority::Normal, None),
+        Apdu::Message(message) => envelope_expired(
+            format,
+            tables,
+            &message.envelope,
+            arrival,
+            moment,
+        ),
+        Apdu::Probe(probe) => envelope_expired(format, tables, &probe.envelope, arrival, moment),
+        Apdu::Report(_) => is_expired(tables, arrival, moment, report_terms()),
     }
 }
 
-/// Whether an item has waited for its hold time at a moment.
-pub fn has_expired(tables: &Tables, item: &Item, reading: &Reading<'_>, moment: u64) -> bool
+/// Whether an item has waited at a moment for its hold time, or in format 2 until its latest delivery time.
+pub fn has_expired(
+    format: u32,
+    tables: &Tables,
+    item: &Item,
+    reading: &Reading<'_>,
+    moment: u64,
+) -> bool
     requires arrived { item.now.arrival ≤ last_moment }
     requires reading { IsReadingOf item.now.octets reading.now }
-    ensures { result ≡ is_expired tables.now.text item.now.octets item.now.arrival moment }
+    ensures { result ≡ is_expired format tables.now.text item.now.octets item.now.arrival moment }
 {
     text_reads(tables);
     let arrival = item.arrival();
     let Some(apdu) = &reading.apdu else {
         return false;
     };
-    expired_under(tables, apdu, arrival, moment)
+    expired_under(format, tables, apdu, arrival, moment)
 }

@@ -45,7 +45,7 @@ fn settle<R: Wait, D: Disk + Drop, C: Clock + Drop>(
 {
     loop {
         match due_turn(rt, shared, pass) {
-            Ok(Turned::Did(_)) => {}
+            Ok(Turned::Did(step)) => drop(step),
             Ok(Turned::Quiet { .. }) => return None,
             Err(fault) => return halt_of(fault),
         }

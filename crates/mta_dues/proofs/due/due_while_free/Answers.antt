@@ -18,9 +18,11 @@ returns g c =
     (c.in_ok-verdict.ensures.exact
     ∙ ap
     (λ (items : List ItemValue).
-    verdict_on items (Some (g.R.Rules.text c.args.rules.now)) (Some c.args.item.now) c.args.recipient
+    verdict_on (g.R.Rules.format c.args.rules.now) items (Some (g.R.Rules.text c.args.rules.now)) (Some c.args.item.now)
+    c.args.recipient
     c.args.moment)
     c.as_slice-items.ensures.value)))
     (by_verdict (state_of c.args.kept.now) c.args.number c.args.recipient c.args.moment
-    (g.R.Rules.text c.args.rules.now) c.args.item.now c.requires.text c.requires.item c.requires.pending
+    (g.R.Rules.format c.args.rules.now) (g.R.Rules.text c.args.rules.now) c.args.item.now c.requires.text
+    c.requires.format c.requires.item c.requires.pending
     c.requires.free)

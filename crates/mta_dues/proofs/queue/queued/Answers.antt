@@ -1,4 +1,4 @@
-use Rattle.std.proofs.Common.{◌≡◌, ℕ, List, length, Option, Some, None, sym, subst, arith}
+use Rattle.std.proofs.Common.{◌≡◌, ℕ, List, length, sym, subst, arith}
 use Rattle.mta_state.specs.Kept.{state_of}
 use Rattle.mta_dues.specs.Next.{IsAbove}
 use Rattle.mta_dues.specs.Answers.{AreQueuedUpTo}
@@ -18,7 +18,8 @@ loop-number-preserved-in_ok-push g c =
     let next = subst (λ (n : ℕ). IsNextWaiting text c.args.index.now peer n c.loop-number.after c.next_waiting.result)
     count c.next_waiting.ensures in
     let between = subst (NoneQueuedBetween s peer c.loop-number.after) c.in-Some.is
-    (none_queued_between s text c.args.index.now peer c.loop-number.after c.next_waiting.result c.requires.text
+    (none_queued_between s (g.R.Rules.format c.args.rules.now) text c.args.index.now peer c.loop-number.after
+    c.next_waiting.result c.requires.text
     c.requires.indexed next) in
     record {
       are = subst (λ (xs : List ℕ). AreQueuedUpTo s peer c.in-Some.number xs) (sym c.in_ok-push.ensures.items)
@@ -38,7 +39,8 @@ loop-number-preserved g c =
     let next = subst (λ (n : ℕ). IsNextWaiting text c.args.index.now peer n c.loop-number.after c.next_waiting.result)
     count c.next_waiting.ensures in
     let between = subst (NoneQueuedBetween s peer c.loop-number.after) c.in-Some.is
-    (none_queued_between s text c.args.index.now peer c.loop-number.after c.next_waiting.result c.requires.text
+    (none_queued_between s (g.R.Rules.format c.args.rules.now) text c.args.index.now peer c.loop-number.after
+    c.next_waiting.result c.requires.text
     c.requires.indexed next) in
     record {
       are = queue_further s peer c.loop-number.after c.in-Some.number c.loop-number.numbers.items
@@ -56,6 +58,7 @@ returns g c =
     let next = subst (λ (n : ℕ). IsNextWaiting text c.args.index.now peer n c.loop-number.after c.next_waiting.result)
     count c.next_waiting.ensures in
     let between = subst (NoneQueuedBetween s peer c.loop-number.after) c.in_default.is
-    (none_queued_between s text c.args.index.now peer c.loop-number.after c.next_waiting.result c.requires.text
+    (none_queued_between s (g.R.Rules.format c.args.rules.now) text c.args.index.now peer c.loop-number.after
+    c.next_waiting.result c.requires.text
     c.requires.indexed next) in
     whole_queue s peer c.loop-number.after c.loop-number.numbers.items c.loop-number.invariant.are between

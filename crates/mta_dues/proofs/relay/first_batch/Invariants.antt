@@ -9,7 +9,7 @@ abbrev pub invariant-loop-number : goal.invariant-loop-number
 invariant-loop-number g l = record {
   none : NoneRelayedUpTo (state_of l.kept) l.peer l.moment l.after;
   called : IsAllCalled l.index.agenda (length l.kept.parts.items.items) l.moment;
-  indexed : IsIndexed (g.R.Rules.text l.rules) l.kept.parts.items.items l.index;
+  indexed : IsIndexed (g.R.Rules.format l.rules) (g.R.Rules.text l.rules) l.kept.parts.items.items l.index;
 }
 
 abbrev pub decreases-loop-number : goal.decreases-loop-number

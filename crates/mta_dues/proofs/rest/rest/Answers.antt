@@ -7,35 +7,40 @@ use Rattle.mta_dues.proofs.rest.rest.Goals as goal
 
 pub put_to_rest-requires-clause-later : goal.put_to_rest-requires-clause-later
 put_to_rest-requires-clause-later g c =
+    let format = g.R.Rules.format c.args.rules.now in
     let text = g.R.Rules.text c.args.rules.now in
-    let rests = subst (λ (o : Option Rest). IsRestOf text c.args.item.now c.args.moment o) c.in-Some.is
+    let rests = subst (λ (o : Option Rest). IsRestOf format text c.args.item.now c.args.moment o) c.in-Some.is
     c.in_ok-rest.ensures in
-    change_later text c.args.item.now c.args.moment c.in-Some.found.until rests.idle
+    change_later format text c.args.item.now c.args.moment c.in-Some.found.until rests.idle
 
 pub returns-in_err-put_to_rest-in-Some-clause-indexed :
     goal.returns-in_err-put_to_rest-in-Some-clause-indexed
 returns-in_err-put_to_rest-in-Some-clause-indexed g c = λ items is indexed.
+    let format = g.R.Rules.format c.args.rules.now in
     let text = g.R.Rules.text c.args.rules.now in
-    let rests = subst (λ (o : Option Rest). IsRestOf text c.args.item.now c.args.moment o) c.in-Some.is
+    let rests = subst (λ (o : Option Rest). IsRestOf format text c.args.item.now c.args.moment o) c.in-Some.is
     c.in_ok-rest.ensures in
-    c.put_to_rest.ensures.indexed text items c.args.item.now is rests
-    (left text items c.args.index.now c.leave.new.self c.args.number c.requires.active
+    c.put_to_rest.ensures.indexed format text items c.args.item.now is rests
+    (left format text items c.args.index.now c.leave.new.self c.args.number c.requires.active
     c.leave.ensures indexed)
 
 pub returns-in_ok-put_to_rest-in-Some-clause-idle : goal.returns-in_ok-put_to_rest-in-Some-clause-idle
 returns-in_ok-put_to_rest-in-Some-clause-idle g c = λ e.
+    let format = g.R.Rules.format c.args.rules.now in
     let text = g.R.Rules.text c.args.rules.now in
-    let rests = subst (λ (o : Option Rest). IsRestOf text c.args.item.now c.args.moment o) c.in-Some.is
+    let rests = subst (λ (o : Option Rest). IsRestOf format text c.args.item.now c.args.moment o) c.in-Some.is
     c.in_ok-rest.ensures in
-    idle_until_next text c.args.item.now c.args.moment c.in-Some.found.until c.args.moment rests.idle (omega arith)
-    (change_later text c.args.item.now c.args.moment c.in-Some.found.until rests.idle)
+    idle_until_next format text c.args.item.now c.args.moment c.in-Some.found.until c.args.moment rests.idle
+    (omega arith)
+    (change_later format text c.args.item.now c.args.moment c.in-Some.found.until rests.idle)
 
 pub returns-in_ok-put_to_rest-in-Some-clause-indexed :
     goal.returns-in_ok-put_to_rest-in-Some-clause-indexed
 returns-in_ok-put_to_rest-in-Some-clause-indexed g c = λ items is indexed.
+    let format = g.R.Rules.format c.args.rules.now in
     let text = g.R.Rules.text c.args.rules.now in
-    let rests = subst (λ (o : Option Rest). IsRestOf text c.args.item.now c.args.moment o) c.in-Some.is
+    let rests = subst (λ (o : Option Rest). IsRestOf format text c.args.item.now c.args.moment o) c.in-Some.is
     c.in_ok-rest.ensures in
-    c.put_to_rest.ensures.indexed text items c.args.item.now is rests
-    (left text items c.args.index.now c.leave.new.self c.args.number c.requires.active
+    c.put_to_rest.ensures.indexed format text items c.args.item.now is rests
+    (left format text items c.args.index.now c.leave.new.self c.args.number c.requires.active
     c.leave.ensures indexed)

@@ -1,4 +1,4 @@
-use Rattle.std.proofs.Common.{Option, Some, None, length, subst}
+use Rattle.std.proofs.Common.{Option, length, subst}
 use Rattle.mta_records.specs.declared.step.Step.{Step}
 use Rattle.mta_state.specs.Kept.{state_of}
 use Rattle.mta_dues.specs.Answers.{IsFirstOf}
@@ -10,8 +10,10 @@ pub loop-number-preserved : goal.loop-number-preserved
 loop-number-preserved g c =
     let s = state_of c.args.kept.now in
     let between = subst (NothingDueBetween s c.loop-number.after c.args.moment) c.in-Some.is
-    (nothing_between s (g.R.Rules.text c.args.rules.now) c.loop-number.index c.loop-number.after c.args.moment
-    c.next.result c.requires.kept c.requires.text c.loop-number.invariant.indexed c.loop-number.invariant.called
+    (nothing_between s (g.R.Rules.format c.args.rules.now) (g.R.Rules.text c.args.rules.now) c.loop-number.index
+    c.loop-number.after c.args.moment
+    c.next.result c.requires.kept c.requires.text c.requires.format c.loop-number.invariant.indexed
+    c.loop-number.invariant.called
     c.next.ensures) in
     record {
       none = nothing_further s c.loop-number.after c.in-Some.number c.args.moment c.loop-number.invariant.none between
@@ -25,8 +27,10 @@ pub returns-in-Some-2-clause-next : goal.returns-in-Some-2-clause-next
 returns-in-Some-2-clause-next g c =
     let s = state_of c.args.kept.now in
     let between = subst (NothingDueBetween s c.loop-number.after c.args.moment) c.in-Some.is
-    (nothing_between s (g.R.Rules.text c.args.rules.now) c.loop-number.index c.loop-number.after c.args.moment
-    c.next.result c.requires.kept c.requires.text c.loop-number.invariant.indexed c.loop-number.invariant.called
+    (nothing_between s (g.R.Rules.format c.args.rules.now) (g.R.Rules.text c.args.rules.now) c.loop-number.index
+    c.loop-number.after c.args.moment
+    c.next.result c.requires.kept c.requires.text c.requires.format c.loop-number.invariant.indexed
+    c.loop-number.invariant.called
     c.next.ensures) in
     first_item s c.loop-number.after c.in-Some.number c.args.moment c.in-Some-2.due c.loop-number.invariant.none
     between
@@ -37,7 +41,9 @@ pub returns-clause-next : goal.returns-clause-next
 returns-clause-next g c =
     let s = state_of c.args.kept.now in
     let between = subst (NothingDueBetween s c.loop-number.after c.args.moment) c.in_default.is
-    (nothing_between s (g.R.Rules.text c.args.rules.now) c.loop-number.index c.loop-number.after c.args.moment
-    c.next.result c.requires.kept c.requires.text c.loop-number.invariant.indexed c.loop-number.invariant.called
+    (nothing_between s (g.R.Rules.format c.args.rules.now) (g.R.Rules.text c.args.rules.now) c.loop-number.index
+    c.loop-number.after c.args.moment
+    c.next.result c.requires.kept c.requires.text c.requires.format c.loop-number.invariant.indexed
+    c.loop-number.invariant.called
     c.next.ensures) in
     no_item s c.loop-number.after c.args.moment c.loop-number.invariant.none between

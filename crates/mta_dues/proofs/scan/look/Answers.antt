@@ -12,13 +12,16 @@ rests_for_good-requires-clause-stored g c =
 
 pub returns-then-rests_for_good-clause-first : goal.returns-then-rests_for_good-clause-first
 returns-then-rests_for_good-clause-first g c =
-    nothing_of_idle (state_of c.args.kept.now) c.args.number c.args.moment (g.R.Rules.text c.args.rules.now)
-    c.in-Some.item.now c.requires.kept c.requires.text (sym c.in-Some.ensures)
-    (c.rests_for_good.ensures.idle c.if-rests_for_good.true (g.R.Rules.text c.args.rules.now) c.args.moment)
+    nothing_of_idle (state_of c.args.kept.now) c.args.number c.args.moment (g.R.Rules.format c.args.rules.now)
+    (g.R.Rules.text c.args.rules.now)
+    c.in-Some.item.now c.requires.kept c.requires.text c.requires.format (sym c.in-Some.ensures)
+    (c.rests_for_good.ensures.idle c.if-rests_for_good.true (g.R.Rules.format c.args.rules.now)
+    (g.R.Rules.text c.args.rules.now) c.args.moment)
 
 pub returns-then-rests_for_good-clause-indexed : goal.returns-then-rests_for_good-clause-indexed
 returns-then-rests_for_good-clause-indexed g c =
-    c.rests_for_good.ensures.indexed (g.R.Rules.text c.args.rules.now) c.args.kept.now.parts.items.items
+    c.rests_for_good.ensures.indexed (g.R.Rules.format c.args.rules.now) (g.R.Rules.text c.args.rules.now)
+    c.args.kept.now.parts.items.items
     (sym c.in-Some.ensures) c.requires.indexed
 
 pub returns-then-rests_for_good-clause-called : goal.returns-then-rests_for_good-clause-called
@@ -27,8 +30,10 @@ returns-then-rests_for_good-clause-called g c = λ count all.
 
 pub returns-in_err-reading-clause-indexed : goal.returns-in_err-reading-clause-indexed
 returns-in_err-reading-clause-indexed g c =
-    c.take.ensures.indexed (g.R.Rules.text c.args.rules.now) c.args.kept.now.parts.items.items
-    (c.rests_for_good.ensures.indexed (g.R.Rules.text c.args.rules.now) c.args.kept.now.parts.items.items
+    c.take.ensures.indexed (g.R.Rules.format c.args.rules.now) (g.R.Rules.text c.args.rules.now)
+    c.args.kept.now.parts.items.items
+    (c.rests_for_good.ensures.indexed (g.R.Rules.format c.args.rules.now) (g.R.Rules.text c.args.rules.now)
+    c.args.kept.now.parts.items.items
     (sym c.in-Some.ensures) c.requires.indexed)
 
 pub look_at-found-requires-clause-stored : goal.look_at-found-requires-clause-stored
@@ -38,13 +43,16 @@ look_at-found-requires-clause-stored g c =
 
 pub look_at-found-requires-clause-indexed : goal.look_at-found-requires-clause-indexed
 look_at-found-requires-clause-indexed g c =
-    c.take.ensures.indexed (g.R.Rules.text c.args.rules.now) c.args.kept.now.parts.items.items
-    (c.rests_for_good.ensures.indexed (g.R.Rules.text c.args.rules.now) c.args.kept.now.parts.items.items
+    c.take.ensures.indexed (g.R.Rules.format c.args.rules.now) (g.R.Rules.text c.args.rules.now)
+    c.args.kept.now.parts.items.items
+    (c.rests_for_good.ensures.indexed (g.R.Rules.format c.args.rules.now) (g.R.Rules.text c.args.rules.now)
+    c.args.kept.now.parts.items.items
     (sym c.in-Some.ensures) c.requires.indexed)
 
 pub returns-clause-indexed : goal.returns-clause-indexed
 returns-clause-indexed g c =
-    c.keep.ensures.indexed (g.R.Rules.text c.args.rules.now) c.args.kept.now.parts.items.items c.in-Some.item.now
+    c.keep.ensures.indexed (g.R.Rules.format c.args.rules.now) (g.R.Rules.text c.args.rules.now)
+    c.args.kept.now.parts.items.items c.in-Some.item.now
     (sym c.in-Some.ensures) c.in_ok-reading.ensures.reading c.look_at-found.ensures.indexed
 
 pub returns-clause-called : goal.returns-clause-called

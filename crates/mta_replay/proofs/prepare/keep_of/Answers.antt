@@ -1,5 +1,5 @@
 use Rattle.mta_replay.proofs.prepare.keep_of.Goals as goal
 
 pub returns : goal.returns
-returns c = λ text items item_is indexed.
-    c.keep.ensures.indexed text items c.args.item.now item_is c.requires indexed
+returns c = λ format text items item_is indexed.
+    c.keep.ensures.indexed format text items c.args.item.now item_is c.requires indexed

@@ -8,8 +8,8 @@ pub returns : goal.returns
 returns g c =
     transfers_next c.args.kept.now c.args.lane c.args.generation c.args.item c.args.recipients.now
     c.args.moment c.in-Some.opened.now c.in-Some.ensures c.as_slice-peer.result.now
-    (g.R.Rules.text c.args.rules.now) c.in-Some-item.stored.now c.in-Some-2.one
-    (c.as_slice-peer.ensures.exact ∙ c.peer.ensures) c.requires.text c.in-Some-item.ensures
+    (g.R.Rules.text c.args.rules.now) c.in-Some-item.stored.now (g.R.Rules.format c.args.rules.now) c.in-Some-2.one
+    (c.as_slice-peer.ensures.exact ∙ c.peer.ensures) c.requires.format c.requires.text c.in-Some-item.ensures
     (subst
     (λ (xs : List ℕ).
     OneOf (state_of c.args.kept.now) c.as_slice-peer.result.now c.args.moment c.args.item xs (Some c.in-Some-2.one))

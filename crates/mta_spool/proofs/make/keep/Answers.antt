@@ -1,10 +1,10 @@
-use Rattle.std.proofs.Common.{◌≡◌, inl, List, ℕ, None, Ok, Err, sym, ap, subst, ◌∙◌}
+use Rattle.std.proofs.Common.{inl, List, ℕ, None, Ok, Err, sym, ap, subst, ◌∙◌}
 use Rattle.mta_journal.specs.Appending.{Appends as JournalAppends}
 use Rattle.mta_records.specs.declared.step.Step.{Step}
 use Rattle.mta_histories.specs.Lanes.{State}
 use Rattle.mta_histories.specs.History.{after_step}
 use Rattle.mta_state.specs.Kept.{state_of}
-use Rattle.mta_table_rules.specs.Text.{text_of}
+use Rattle.mta_table_rules.specs.Text.{format_of, text_of}
 use Rattle.mta_replay.specs.Ready.{IsReady}
 use Rattle.mta_spool.specs.Stands.{Makes}
 use Rattle.mta_spool.proofs.Making.{made, refused}
@@ -16,7 +16,7 @@ append-requires-clause-short g c = inl c.requires.short
 pub returns-in-Ok-append-clause-made : goal.returns-in-Ok-append-clause-made
 returns-in-Ok-append-clause-made g c = λ step fields body longer ready numbers.
     let held = subst
-    (λ (s : State). IsReady text_of s step c.args.ready.change c.args.ready.rules)
+    (λ (s : State). IsReady format_of text_of s step c.args.ready.change c.args.ready.rules)
     (sym c.reserve.ensures.same) ready in
     subst
     (λ (entries : List Step).

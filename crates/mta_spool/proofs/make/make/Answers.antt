@@ -1,7 +1,7 @@
 use Rattle.std.proofs.Common.{sym, subst, ◌∙◌}
 use Rattle.mta_state.specs.declared.kept.Kept.{Kept}
 use Rattle.mta_state.specs.Kept.{state_of}
-use Rattle.mta_table_rules.specs.Text.{text_of}
+use Rattle.mta_table_rules.specs.Text.{format_of, text_of}
 use Rattle.mta_replay.specs.Ready.{IsReady}
 use Rattle.mta_spool.specs.Stands.{fault_of, IsSpent, Makes}
 use Rattle.mta_spool.proofs.make.make.Goals as goal
@@ -16,6 +16,6 @@ returns-clause-made g c =
     (state_of c.keep.new.replay.kept) c.keep.new.entries.steps (fault_of c.keep.result))
     same
     (c.keep.ensures.made c.args.step c.requires.fields (c.as_slice.ensures ∙ c.in-Ok.ensures) c.with-longer.ensures
-    (subst (λ (k : Kept). IsReady text_of (state_of k) c.args.step ready.change ready.rules) (sym same)
+    (subst (λ (k : Kept). IsReady format_of text_of (state_of k) c.args.step ready.change ready.rules) (sym same)
     c.in-Ok-ready.ensures.ready)
     (subst (λ (k : Kept). IsSpent (state_of k) c.args.step → ⊥) (sym same) c.requires.numbers))

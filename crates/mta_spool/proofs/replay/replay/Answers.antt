@@ -1,8 +1,8 @@
-use Rattle.std.proofs.Common.{◌+◌, List, ℕ, [], length, Ok, Err, refl, subst, ap, arith}
+use Rattle.std.proofs.Common.{◌+◌, List, ℕ, length, Ok, Err, refl, subst, ap, arith}
 use Rattle.std.specs.Vec.Iter.{into_iter_items}
 use Rattle.mta_state.specs.Kept.{state_of}
 use Rattle.mta_spool.specs.Replaying.{HasTaken}
-use Rattle.mta_spool.proofs.Replays.{next_short, under_way_at_first, under_way_further, way_ended, way_fits}
+use Rattle.mta_spool.proofs.Replays.{next_short, under_way_at_first, under_way_further, way_fits}
 use Rattle.mta_spool.proofs.Replays.{way_stopped}
 use Rattle.mta_spool.proofs.replay.replay.Goals as goal
 

@@ -13,9 +13,10 @@ use Rattle.mta_table_rules.proofs.copies.outgoing_copy.Goals as goal
 pub unreachable-requires : goal.unreachable-requires
 unreachable-requires c =
     let item = c.args.item.now in
-    none-some (Verdicts.Relay c.requires.relayed.0)
-    (sym (no_verdict c.args.tables.now item.octets item.arrival c.args.recipient c.args.moment c.text_reads.ensures
-    (reading_is item.octets c.args.reading.now None c.requires.reading c.in_default.is)) ∙ c.requires.relayed.1)
+    none-some (Verdicts.Relay c.requires.relayed.1.0)
+    (sym (no_verdict c.requires.relayed.0 c.args.tables.now item.octets item.arrival c.args.recipient c.args.moment
+    c.text_reads.ensures
+    (reading_is item.octets c.args.reading.now None c.requires.reading c.in_default.is)) ∙ c.requires.relayed.1.1)
 
 pub copy_under-requires-clause-place : goal.copy_under-requires-clause-place
 copy_under-requires-clause-place c =
@@ -25,11 +26,12 @@ pub copy_under-requires-clause-copy : goal.copy_under-requires-clause-copy
 copy_under-requires-clause-copy c =
     let item = c.args.item.now in
     let v : ApduValue = apdu_value c.in-Some.apdu in
-    let same = verdict_is c.args.tables.now item.octets v item.arrival c.args.recipient c.args.moment
+    let same = verdict_is c.requires.relayed.0 c.args.tables.now item.octets v item.arrival c.args.recipient
+    c.args.moment
     c.text_reads.ensures
     (reading_is item.octets c.args.reading.now (Some c.in-Some.apdu) c.requires.reading c.in-Some.is) in
-    relayed c.args.tables.now v item.arrival c.args.recipient c.args.recipients.now c.args.moment
-    (subst Relays same c.requires.relayed)
+    relayed c.requires.relayed.0 c.args.tables.now v item.arrival c.args.recipient c.args.recipients.now c.args.moment
+    (subst Relays same c.requires.relayed.1)
 
 pub returns-clause-copy : goal.returns-clause-copy
 returns-clause-copy c =

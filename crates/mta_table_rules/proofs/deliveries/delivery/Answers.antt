@@ -13,7 +13,8 @@ use Rattle.mta_table_rules.proofs.deliveries.delivery.Goals as goal
 
 pub returns-in_default : goal.returns-in_default
 returns-in_default c =
-    none_told c.args.tables.now c.args.number c.args.item.now c.args.recipient c.args.moment c.text_reads.ensures
+    none_told c.args.format c.args.tables.now c.args.number c.args.item.now c.args.recipient c.args.moment
+    c.text_reads.ensures
     (reading_is c.args.item.now.octets c.args.reading.now None c.requires.reading c.in_default.is)
 
 pub returns : goal.returns
@@ -27,10 +28,11 @@ returns c =
     let read = reading_is item.octets c.args.reading.now (Some c.in-Some.apdu) c.requires.reading c.in-Some.is in
     let made = report_on (λ e x. reports.delivery_report t c.args.number arrival e x moment) r v in
     if_ok_so c.delivery_under.result
-    (Delivers (verdict_under t v arrival r moment) (option_map (own_item moment) made))
-    (IsDeliveryOf t.text c.args.number item r moment)
+    (Delivers (verdict_under c.args.format t v arrival r moment) (option_map (own_item moment) made))
+    (IsDeliveryOf c.args.format t.text c.args.number item r moment)
     (λ (d : Option Delivery) is.
-    told_of t c.args.number arrival item v r moment d c.arrival-arrival.ensures c.text_reads.ensures read is)
+    told_of c.args.format t c.args.number arrival item v r moment d c.arrival-arrival.ensures c.text_reads.ensures read
+    is)
     c.delivery_under.ensures
 
 pub delivery_under-requires-clause-back : goal.delivery_under-requires-clause-back

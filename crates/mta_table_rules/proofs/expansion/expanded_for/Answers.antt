@@ -17,8 +17,8 @@ expanded_to-requires-clause-room c =
     let recipients = c.as_slice-recipients.ensures ∙ ap (λ (e : EnvelopeFields). e.recipients) c.fields.ensures.exact in
     let chosen = ap (λ (x : RecipientFields). Some x) c.fields-who.ensures.exact ∙ c.in-Some.ensures
     ∙ ap (λ (rs : List RecipientFields). numbered rs c.args.recipient) recipients in
-    has_room c.args.tables.now (message_value c.args.message.now) c.args.arrival c.args.recipient c.args.moment who
-    c.in-List.place c.in-Some-list_of.list.now chosen c.requires.list c.in-List.ensures.exact
+    has_room c.requires.list.0 c.args.tables.now (message_value c.args.message.now) c.args.arrival c.args.recipient
+    c.args.moment who c.in-List.place c.in-Some-list_of.list.now chosen c.requires.list.1 c.in-List.ensures.exact
     c.in-Some-list_of.ensures
 
 pub returns : goal.returns

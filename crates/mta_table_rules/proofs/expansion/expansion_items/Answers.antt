@@ -20,10 +20,14 @@ expanded_in-requires-clause-list c =
     let t = c.args.tables.now in
     let item = c.args.item.now in
     let v : ApduValue = apdu_value c.in-Some.apdu in
-    let same = verdict_is t item.octets v item.arrival c.args.recipient c.args.moment c.text_reads.ensures
-    (reading_is item.octets c.args.reading.now (Some c.in-Some.apdu) c.requires.reading c.in-Some.is) in
-    subst Expands (same ∙ ap (λ n. verdict_under t v n c.args.recipient c.args.moment) (sym c.arrival-arrival.ensures))
-    c.requires.list
+    let format = c.requires.list.0 in
+    let same = verdict_is format t item.octets v item.arrival c.args.recipient c.args.moment c.text_reads.ensures
+    (reading_is item.octets c.args.reading.now (Some c.in-Some.apdu) c.requires.reading c.in-Some.is) in (
+      format,
+      subst Expands
+          (same ∙ ap (λ n. verdict_under format t v n c.args.recipient c.args.moment) (sym c.arrival-arrival.ensures))
+          c.requires.list.1,
+    )
 
 pub returns : goal.returns
 returns c =

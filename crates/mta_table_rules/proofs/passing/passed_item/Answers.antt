@@ -1,7 +1,7 @@
 use Rattle.std.proofs.Common.{◌≡◌, ℕ, Option, Some, None, sym, ap, subst, ◌∙◌}
 use Rattle.std.specs.Option.{option_map}
 use Rattle.mta_apdu.specs.Apdus.{ApduValue, apdu_value, report}
-use Rattle.mta_machine.specs.declared.item.Origin.{Origin}
+use Rattle.mta_records.specs.declared.state.Origin.{Origin}
 use Rattle.mta_machine.specs.Machine.{own_item}
 use Rattle.mta_machine.specs.Rules.{passed_back, passed_under}
 use Rattle.mta_state.specs.Asked.{Passes}
@@ -21,9 +21,11 @@ passed_under-requires-clause-room c =
     let t = c.args.tables.now in
     let item = c.args.item.now in
     let v : ApduValue = apdu_value c.in-Some.apdu in
-    let same = verdict_is t item.octets v item.arrival c.args.recipient c.args.moment c.text_reads.ensures
+    let same = verdict_is c.requires.passed.0 t item.octets v item.arrival c.args.recipient c.args.moment
+    c.text_reads.ensures
     (reading_is item.octets c.args.reading.now (Some c.in-Some.apdu) c.requires.reading c.in-Some.is) in
-    has_room t v item.arrival c.args.recipient c.args.moment (subst Passes same c.requires.passed)
+    has_room c.requires.passed.0 t v item.arrival c.args.recipient c.args.moment
+    (subst Passes same c.requires.passed.1)
 
 pub returns : goal.returns
 returns c =

@@ -1,7 +1,7 @@
 use Rattle.std.proofs.Common.{◌≡◌, ℕ, Option, Some, None, sym, ap, ◌∙◌}
 use Rattle.std.specs.Prelude.{is_some}
 use Rattle.mta_apdu.specs.Apdus.{ApduValue, apdu_value}
-use Rattle.mta_machine.specs.declared.item.Origin.{Origin}
+use Rattle.mta_records.specs.declared.state.Origin.{Origin}
 use Rattle.mta_machine.specs.Rules.{passed_back, passed_under}
 use Rattle.mta_state.proofs.Decodings.{reading_is}
 use Rattle.mta_table_rules.proofs.Read.{if_ok_so, none_passed, passed_is}

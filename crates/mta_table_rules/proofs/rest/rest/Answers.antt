@@ -10,16 +10,16 @@ use Rattle.mta_table_rules.proofs.rest.rest.Goals as goal
 
 pub returns-in_default : goal.returns-in_default
 returns-in_default c =
-    none_is c.args.tables.now c.args.item.now c.args.moment c.text_reads.ensures
+    none_is c.args.format c.args.tables.now c.args.item.now c.args.moment c.text_reads.ensures
     (reading_is c.args.item.now.octets c.args.reading.now None c.requires.reading c.in_default.is)
 
 pub returns : goal.returns
 returns c =
     let t = c.args.tables.now in
     let v : ApduValue = apdu_value c.in-Some.apdu in
-    if_ok_so c.rest_under.result (IsRestUnder t v c.args.item.now c.args.moment)
-    (IsRestOf t.text c.args.item.now c.args.moment)
-    (λ rest is. rest_is t c.args.item.now v c.args.moment rest c.text_reads.ensures
+    if_ok_so c.rest_under.result (IsRestUnder c.args.format t v c.args.item.now c.args.moment)
+    (IsRestOf c.args.format t.text c.args.item.now c.args.moment)
+    (λ rest is. rest_is c.args.format t c.args.item.now v c.args.moment rest c.text_reads.ensures
     (reading_is c.args.item.now.octets c.args.reading.now (Some c.in-Some.apdu) c.requires.reading c.in-Some.is) is)
     c.rest_under.ensures
 

@@ -15,10 +15,10 @@ loop-recipient-preserved c =
     let n = c.loop-recipient.recipient in
     record {
       within = omega (arith, c.loop-recipient-test.true);
-      go = go_further t v item c.args.moment n c.loop-recipient.routes.items c.loop-recipient.relays.items
+      go = go_further c.args.format t v item c.args.moment n c.loop-recipient.routes.items c.loop-recipient.relays.items
           c.add.new.places.items c.add-in-loop-recipient.new.places.items c.in-Some-2.places
           c.loop-recipient.invariant.go
-          (subst (λ (o : Option Places). IsLookAt t v item (n + 1) c.args.moment o) c.in-Some-2.is
+          (subst (λ (o : Option Places). IsLookAt c.args.format t v item (n + 1) c.args.moment o) c.in-Some-2.is
           c.in_ok-places.ensures)
           c.in_ok-add.ensures c.in_ok-add-2.ensures;
     }
@@ -34,7 +34,7 @@ returns c =
       routes = c.loop-recipient.routes;
       relays = c.loop-recipient.relays;
     } in
-    all_go t v item c.args.moment c.loop-recipient.recipient rest
+    all_go c.args.format t v item c.args.moment c.loop-recipient.recipient rest
     (omega (arith, c.loop-recipient-test.false, same)) c.loop-recipient.invariant.go
-    (ap (λ (a : ℕ). next_under (Some t) (Some v) a c.args.moment) (sym c.arrival.ensures)
+    (ap (λ (a : ℕ). next_under c.args.format (Some t) (Some v) a c.args.moment) (sym c.arrival.ensures)
     ∙ sym c.next_under.ensures ∙ c.in-Some.is)

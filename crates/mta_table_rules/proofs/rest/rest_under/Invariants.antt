@@ -6,7 +6,7 @@ use Rattle.mta_table_rules.proofs.rest.rest_under.Given as goal
 abbrev pub invariant-loop-recipient : goal.invariant-loop-recipient
 invariant-loop-recipient l = record {
   within : l.recipient ≤ l.count;
-  go : GoUpTo l.tables (apdu_value l.apdu) l.item l.recipient l.moment l.routes.items l.relays.items;
+  go : GoUpTo l.format l.tables (apdu_value l.apdu) l.item l.recipient l.moment l.routes.items l.relays.items;
 }
 
 abbrev pub decreases-loop-recipient : goal.decreases-loop-recipient

@@ -19,7 +19,8 @@ pub returns-clause-rest : goal.returns-clause-rest
 returns-clause-rest c =
     let v = apdu_value c.args.apdu.now in
     let octets = c.args.octets.value in
-    item_rest c.args.tables.now octets c.args.moment v c.new-item.result c.in_ok-rest.rest c.text_reads.ensures
+    item_rest c.args.format c.args.tables.now octets c.args.moment v c.new-item.result c.in_ok-rest.rest
+    c.text_reads.ensures
     c.requires.spelled
     (item_is octets c.args.moment v c.in_ok-statuses.statuses c.new-item.result c.requires.spelled
     c.in_ok-statuses.ensures c.new-item.ensures)

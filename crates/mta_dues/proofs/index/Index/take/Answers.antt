@@ -4,8 +4,8 @@ use Rattle.mta_dues.proofs.Indexed.{nothing_at_hand}
 use Rattle.mta_dues.proofs.index.Index.take.Goals as goal
 
 pub returns-in-Some-clause-indexed : goal.returns-in-Some-clause-indexed
-returns-in-Some-clause-indexed c = λ text items indexed.
+returns-in-Some-clause-indexed c = λ format text items indexed.
     let old = c.args.self.now in
     let new : Index =
     record { agenda = old.agenda; ready = old.ready; routed = old.routed; hand = c.take.new.self } in
-    nothing_at_hand text items old new refl refl refl c.take.ensures.after indexed
+    nothing_at_hand format text items old new refl refl refl c.take.ensures.after indexed

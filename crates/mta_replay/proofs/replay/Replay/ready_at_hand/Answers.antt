@@ -9,6 +9,7 @@ use Rattle.mta_replay.proofs.replay.Replay.ready_at_hand.Goals as goal
 pub returns-in-None-clause-none : goal.returns-in-None-clause-none
 returns-in-None-clause-none g c =
     let last = subst
-    (λ (o : Option (InForce g.row.R.Denot)). AreLast g.R.Rules.text (machine_of c.args.self.now.kept.parts) o)
+    (λ (o : Option (InForce g.row.R.Denot)). AreLast g.R.Rules.format g.R.Rules.text
+    (machine_of c.args.self.now.kept.parts) o)
     c.in-None.is c.requires.sound.last in
     nothing_but_tables (state_of c.args.self.now.kept) c.args.step c.requires.sound.of_history last c.requires.other

@@ -10,7 +10,8 @@ use Rattle.mta_replay.proofs.replay.Replay.ready_under.Goals as goal
 pub returns-in_default-clause-none : goal.returns-in_default-clause-none
 returns-in_default-clause-none g c =
     let last = subst
-    (λ (o : Option (InForce g.row.R.Denot)). AreLast g.R.Rules.text (machine_of c.args.self.now.kept.parts) o)
+    (λ (o : Option (InForce g.row.R.Denot)). AreLast g.R.Rules.format g.R.Rules.text
+    (machine_of c.args.self.now.kept.parts) o)
     c.in_default.is c.requires.sound.last in
     nothing_but_tables (state_of c.args.self.now.kept) c.args.step c.requires.sound.of_history last c.requires.other
 

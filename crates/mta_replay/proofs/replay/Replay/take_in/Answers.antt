@@ -1,6 +1,6 @@
-use Rattle.std.proofs.Common.{◌≡◌, None, sym, ap, subst, ◌∙◌}
+use Rattle.std.proofs.Common.{None, sym, ap, subst, ◌∙◌}
 use Rattle.mta_records.specs.declared.step.Step.TheVariants.{Accept}
-use Rattle.mta_machine.specs.declared.item.Origin.TheVariants as Origins
+use Rattle.mta_records.specs.declared.state.Origin.TheVariants as Origins
 use Rattle.mta_machine.specs.Machine.{accepted_item}
 use Rattle.mta_histories.specs.Lanes.{State}
 use Rattle.mta_histories.specs.History.{after_step}
@@ -11,23 +11,26 @@ use Rattle.mta_replay.proofs.replay.Replay.take_in.Goals as goal
 
 pub note-requires-clause-sound : goal.note-requires-clause-sound
 note-requires-clause-sound g c =
+    let format = g.R.Rules.format in
     let text = g.R.Rules.text in
     let step = Accept c.args.moment c.args.apdu in
-    let ready = arrival_ready text (state_of c.args.self.now.kept) c.args.moment c.args.apdu c.in_ok-change.field-0
+    let ready = arrival_ready format text (state_of c.args.self.now.kept) c.args.moment c.args.apdu
+    c.in_ok-change.field-0
     c.in-Some.field-0 c.in-Some.is c.in_ok-change.ensures.prepares in
     c.commit.ensures.sound step c.requires.fields
-    (subst (λ (s : State). IsReady text s step c.in-Some.field-0.change None) (sym c.in_ok-reserve.ensures.same)
+    (subst (λ (s : State). IsReady format text s step c.in-Some.field-0.change None) (sym c.in_ok-reserve.ensures.same)
     ready)
 
 pub note-requires-clause-found : goal.note-requires-clause-found
 note-requires-clause-found g c =
+    let format = g.R.Rules.format in
     let text = g.R.Rules.text in
     let kept = c.args.self.now.kept in
     let step = Accept c.args.moment c.args.apdu in
-    let ready = arrival_ready text (state_of kept) c.args.moment c.args.apdu c.in_ok-change.field-0
+    let ready = arrival_ready format text (state_of kept) c.args.moment c.args.apdu c.in_ok-change.field-0
     c.in-Some.field-0 c.in-Some.is c.in_ok-change.ensures.prepares in
     let made = c.commit.ensures.made step
-    (subst (λ (s : State). IsReady text s step c.in-Some.field-0.change None) (sym c.in_ok-reserve.ensures.same)
+    (subst (λ (s : State). IsReady format text s step c.in-Some.field-0.change None) (sym c.in_ok-reserve.ensures.same)
     ready) in
     found_last kept c.commit.new.self.kept c.args.moment c.args.apdu c.in-Some.field-0.rest
     (made ∙ ap (λ (s : State). after_step s step) c.in_ok-reserve.ensures.same)
@@ -36,13 +39,14 @@ note-requires-clause-found g c =
 
 pub returns-clause-taken : goal.returns-clause-taken
 returns-clause-taken g c =
+    let format = g.R.Rules.format in
     let text = g.R.Rules.text in
     let kept = c.args.self.now.kept in
     let step = Accept c.args.moment c.args.apdu in
-    let ready = arrival_ready text (state_of kept) c.args.moment c.args.apdu c.in_ok-change.field-0
+    let ready = arrival_ready format text (state_of kept) c.args.moment c.args.apdu c.in_ok-change.field-0
     c.in-Some.field-0 c.in-Some.is c.in_ok-change.ensures.prepares in
     let made = c.commit.ensures.made step
-    (subst (λ (s : State). IsReady text s step c.in-Some.field-0.change None) (sym c.in_ok-reserve.ensures.same)
+    (subst (λ (s : State). IsReady format text s step c.in-Some.field-0.change None) (sym c.in_ok-reserve.ensures.same)
     ready) in
     taken_up step (state_of kept) (state_of c.note.new.self.kept) ready.is_change.possible
     (ap state_of c.note.ensures.same ∙ made ∙ ap (λ (s : State). after_step s step) c.in_ok-reserve.ensures.same)

@@ -1,5 +1,4 @@
-use Rattle.std.proofs.Common.{◌≡◌, true, Option, None, Some, Ok, Err, refl, sym, ap, subst, ◌∙◌}
-use Rattle.mta_ber.specs.declared.fault.Fault.{Fault}
+use Rattle.std.proofs.Common.{◌≡◌, true, None, Some, Ok, Err, refl, sym, ap, subst, ◌∙◌}
 use Rattle.mta_records.specs.declared.step.Step.TheVariants as steps
 use Rattle.mta_records.specs.declared.fault.StepFault.{StepFault}
 use Rattle.mta_records.specs.declared.fault.CompleteFault.TheVariants as CompleteFaults

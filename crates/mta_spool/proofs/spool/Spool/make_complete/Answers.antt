@@ -1,16 +1,14 @@
-use Rattle.std.proofs.Common.{◌≡◌, ◌≤◌, ◌+◌, ◌<◌, ◌^◌, List, ℕ, Some, false, length, refl, sym, ap, subst, ◌∙◌, arith}
+use Rattle.std.proofs.Common.{◌≤◌, List, ℕ, Some, length, refl, sym, ap, subst, arith}
 use Rattle.std.proofs.lemmas.Result.{err_from_is_err_and}
 use Rattle.mta_records.specs.Body.{body_of}
-use Rattle.mta_records.specs.declared.step.Step.{Step}
 use Rattle.mta_records.specs.declared.step.Step.TheVariants as steps
 use Rattle.mta_journal.specs.Bodies.{longest_body}
 use Rattle.mta_histories.specs.Classes.{class_of, complete}
 use Rattle.mta_histories.specs.History.{IsOnLane}
 use Rattle.mta_histories.specs.Lanes.{State, lane_at}
-use Rattle.mta_state.specs.Kept.{state_of}
 use Rattle.mta_state.specs.Prepared.{IsChangeOf}
 use Rattle.mta_replay.specs.Ready.{IsReady}
-use Rattle.mta_table_rules.specs.Text.{text_of}
+use Rattle.mta_table_rules.specs.Text.{format_of, text_of}
 use Rattle.mta_spool.specs.Receiving.{IsItemOn}
 use Rattle.mta_spool.specs.Shown.{Shown}
 use Rattle.mta_spool.proofs.Making.{is_spent, no_memory}
@@ -93,7 +91,7 @@ make_ready-requires-clause-ready g c =
     (steps.Complete c.args.lane c.args.generation c.args.activity c.args.number c.args.piece.now c.args.moment)
     c.complete_change.result) current is) in
     subst
-    (λ (p : List ℕ). IsReady text_of s
+    (λ (p : List ℕ). IsReady format_of text_of s
     (steps.Complete c.args.lane c.args.generation c.args.activity c.args.number p c.args.moment)
     c.of_change-ready.result.change c.of_change-ready.result.rules)
     (sym c.in_ok-piece.ensures) ready

@@ -1,9 +1,8 @@
-use Rattle.std.proofs.Common.{◌≡◌, ◌+◌, ◌<◌, ◌^◌, ℕ, Option, None, Some, length, refl, sym, ap, subst, ◌∙◌, arith}
+use Rattle.std.proofs.Common.{◌≡◌, ◌<◌, ◌^◌, Option, length, refl, sym, ap, subst, ◌∙◌, arith}
 use Rattle.mta_records.specs.declared.fault.StepFault.{StepFault}
 use Rattle.mta_histories.specs.Classes.{class_of}
 use Rattle.mta_histories.specs.History.{when}
 use Rattle.mta_histories.specs.Lanes.{lane_at}
-use Rattle.mta_histories.specs.Numbers.{numbers_needed}
 use Rattle.mta_state.specs.declared.change.Change.{Change}
 use Rattle.mta_state.specs.Prepared.{Prepares}
 use Rattle.mta_spool.specs.OnLanes.{refusal_on}
@@ -12,7 +11,7 @@ use Rattle.mta_spool.specs.Shown.{Shown}
 use Rattle.mta_spool.proofs.Lengths.{short_brief}
 use Rattle.mta_spool.proofs.Making.{refused_for_lane}
 use Rattle.mta_spool.proofs.Numbers.{has_items, plain_opens_none}
-use Rattle.mta_spool.proofs.OnLanes.{plain_possible, quiet_is_plain, quiet_needs_none, quiet_records_none}
+use Rattle.mta_spool.proofs.OnLanes.{plain_possible, quiet_is_plain, quiet_needs_none, quiet_sets_none}
 use Rattle.mta_spool.proofs.OnLanes.{refused_plainly}
 use Rattle.mta_spool.proofs.spool.Spool.make_quietly.Goals as goal
 
@@ -52,7 +51,7 @@ make_ready-requires-clause-ready g c =
     let s = c.args.self.now.current in
     let step = c.args.step.now in
     c.of_change.ensures s step
-    (quiet_records_none c.args.lane c.args.generation (class_of step) c.requires.quiet)
+    (quiet_sets_none c.args.lane c.args.generation (class_of step) c.requires.quiet)
     (subst (λ (o : Option Change). Prepares s step o) c.in-Some.is c.requires.prepared)
 
 pub make_ready-requires-clause-numbers : goal.make_ready-requires-clause-numbers

@@ -8,7 +8,7 @@ use Rattle.mta_state.specs.declared.change.Change.{Change}
 use Rattle.mta_state.specs.Prepared.{IsChangeOf}
 use Rattle.mta_replay.specs.Ready.{IsReady}
 use Rattle.mta_replay.proofs.Starting.{start_is_change}
-use Rattle.mta_table_rules.specs.Text.{text_of}
+use Rattle.mta_table_rules.specs.Text.{format_of, text_of}
 use Rattle.mta_spool.specs.Shown.{Shown}
 use Rattle.mta_spool.specs.Starting.{IsResumed}
 use Rattle.mta_spool.proofs.Started.{resumed_after}
@@ -29,7 +29,7 @@ make_ready-requires-clause-ready g c =
     c.args.batch.now.recipients c.args.moment c.args.transfer c.requires.transfers.0 c.requires.next
     c.requires.transfers.1 c.ranges.activity.fits few in
     subst
-    (λ (x : Step). IsReady text_of s x c.of_change-ready.result.change c.of_change-ready.result.rules)
+    (λ (x : Step). IsReady format_of text_of s x c.of_change-ready.result.change c.of_change-ready.result.rules)
     (sym c.in_ok-step.ensures.step)
     (c.of_change-ready.ensures s step refl
     (subst (λ (x : Change). IsChangeOf s step x) (sym c.start_change.ensures) is))

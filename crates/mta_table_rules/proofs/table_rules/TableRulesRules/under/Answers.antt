@@ -1,4 +1,4 @@
-use Rattle.std.proofs.Common.{Err, subst}
+use Rattle.std.proofs.Common.{Err, refl, subst}
 use Rattle.mta_tables.specs.declared.fault.TablesFault.{TablesFault}
 use Rattle.mta_tables.specs.Reading.{Reads}
 use Rattle.mta_tables.specs.Tables.{TablesValue, tables_of}
@@ -7,6 +7,7 @@ use Rattle.mta_table_rules.proofs.table_rules.TableRulesRules.under.Goals as goa
 
 pub returns-in-Ok : goal.returns-in-Ok
 returns-in-Ok c = (
+  refl,
   text_kept c.args.octets.now c.in-Ok.tables c.in-Ok.ensures.exact,
   is_text c.args.octets.now c.in-Ok.tables c.in-Ok.ensures.exact,
 )

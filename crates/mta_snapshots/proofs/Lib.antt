@@ -1,0 +1,12 @@
+pub mod Ascending
+pub mod Beginning
+pub mod Each
+pub mod Going
+pub mod Halving
+pub mod Listing
+pub mod Naming
+pub mod Reading
+pub mod Recording
+pub mod Recipients
+pub mod Spreading
+pub mod Taking
