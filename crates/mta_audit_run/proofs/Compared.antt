@@ -1,5 +1,5 @@
 -- What comes of two disks.
-use Rattle.std.proofs.Common.{inl, inr, ◌≡◌, ℕ, List, ◌++◌, Option, Result, Ok, Err, refl, sym, ap, subst, ◌∙◌}
+use Rattle.std.proofs.Common.{inl, inr, ◌≡◌, ℕ, Bool, List, ◌++◌, Option, Result, Ok, Err, refl, sym, ap, subst, ◌∙◌}
 use Rattle.mta_edge.specs.Views.{DiskView, DiskLaws}
 use Rattle.mta_journal.specs.declared.why.OpenWhy.{OpenWhy}
 use Rattle.mta_journal.specs.declared.why.OpenWhy.TheVariants as Whys
@@ -11,7 +11,7 @@ use Rattle.mta_audit_run.specs.declared.stop.Spool.{Spool}
 use Rattle.mta_audit_run.specs.declared.stop.Spool.TheVariants.{First, Second}
 use Rattle.mta_audit_run.specs.declared.stop.Stop.{Stop}
 use Rattle.mta_audit_run.specs.declared.stop.Stop.TheVariants as Stops
-use Rattle.mta_audit_run.specs.Accounts.{accounts}
+use Rattle.mta_audit_run.specs.Accounts.{accounts, begins_with_snapshot}
 use Rattle.mta_audit_run.specs.Audit.{lines_of, own_of}
 use Rattle.mta_audit_run.specs.Kept.{IsRead}
 use Rattle.mta_audit_run.specs.Lines.{Line, all_agree, lines_from, text_of}
@@ -56,17 +56,24 @@ module _ {E : Type 0} (model : DiskView E) (laws : DiskLaws model) (x : Side) (o
 -- ---- the report of two histories
 
 side-lines : (spool : Spool) (s t : List Step) (x y : Side) → IsSideOf s x → IsSideOf t y
-    → lines_of_side spool x y ≡ lines_from spool (own_of s) (own_of t) (accounts t) 1 (accounts s)
+    → lines_of_side spool x y
+    ≡ lines_from spool (own_of s) (own_of t) (begins_with_snapshot t) (accounts t) (accounts s)
 side-lines spool s t x y of_s of_t =
-    ap (λ (own : Option (List ℕ)). lines_from spool own y.own y.accounts.items 1 x.accounts.items) of_s.own
-    ∙ ap (λ (own : Option (List ℕ)). lines_from spool (own_of s) own y.accounts.items 1 x.accounts.items) of_t.own
-    ∙ ap (λ (others : List Account). lines_from spool (own_of s) (own_of t) others 1 x.accounts.items) of_t.accounts_are
-    ∙ ap (lines_from spool (own_of s) (own_of t) (accounts t) 1) of_s.accounts_are
+    ap (λ (own : Option (List ℕ)). lines_from spool own y.own y.begun y.accounts.items x.accounts.items) of_s.own
+    ∙ ap (λ (own : Option (List ℕ)). lines_from spool (own_of s) own y.begun y.accounts.items x.accounts.items) of_t.own
+    ∙ ap (λ (begun : Bool). lines_from spool (own_of s) (own_of t) begun y.accounts.items x.accounts.items)
+    of_t.begun_is
+    ∙ ap
+    (λ (others : List Account). lines_from spool (own_of s) (own_of t) (begins_with_snapshot t) others x.accounts.items)
+    of_t.accounts_are
+    ∙ ap (lines_from spool (own_of s) (own_of t) (begins_with_snapshot t) (accounts t)) of_s.accounts_are
 
 both-lines : (s t : List Step) (x y : Side) → IsSideOf s x → IsSideOf t y → lines_of_sides x y ≡ lines_of s t
 both-lines s t x y of_s of_t =
     ap (λ (ls : List Line). ls ++ lines_of_side Second y x) (side-lines First s t x y of_s of_t)
-    ∙ ap (λ (ls : List Line). lines_from First (own_of s) (own_of t) (accounts t) 1 (accounts s) ++ ls)
+    ∙ ap
+    (λ (ls : List Line).
+    lines_from First (own_of s) (own_of t) (begins_with_snapshot t) (accounts t) (accounts s) ++ ls)
     (side-lines Second t s y x of_t of_s)
 
 reports : (s t : List Step) (x y : Side) (r : Report) → IsSideOf s x → IsSideOf t y → IsReportOf x y r

@@ -1,11 +1,14 @@
 mod Changing
 mod Compared
+mod Covered
+mod Endings
 mod Halves
 mod Kept
 mod Lists
 mod Noted
 mod Own
 mod Pieces
+mod Searching
 mod Sides
 mod Statuses
 mod Texts

@@ -1,6 +1,6 @@
 -- What a status tells, from what a run leaves.
-use Rattle.std.proofs.Common.{◌≡◌, ℕ, Bool, true, false, List, [], ◌∷◌, Some, Result, Ok, Err, refl, sym, subst}
-use Rattle.std.proofs.Common.{◌∙◌, ◌⊎◌, inl, inr, arith}
+use Rattle.std.proofs.Common.{◌≡◌, ℕ, Bool, true, false, List, [], ◌∷◌, Option, Some, None, Result, Ok, Err, refl}
+use Rattle.std.proofs.Common.{sym, subst, ◌∙◌, ◌⊎◌, inl, inr, arith}
 use Rattle.std.specs.Prelude.{◌&&◌}
 use Rattle.mta_edge.specs.Views.{WhereTold}
 use Rattle.mta_records.specs.declared.step.Step.{Step}
@@ -16,7 +16,7 @@ use Rattle.mta_audit_run.specs.declared.verdict.Verdict.TheVariants.{Agrees, Dif
 use Rattle.mta_audit_run.specs.Audit.{lines_of}
 use Rattle.mta_audit_run.specs.Halves.{IsAudited, IsVerdict, agrees, verdict_of}
 use Rattle.mta_audit_run.specs.Kept.{IsRead}
-use Rattle.mta_audit_run.specs.Lines.{AllAudited, Line, all_agree}
+use Rattle.mta_audit_run.specs.Lines.{AllAudited, IsAuditedWhereCovered, Line, agrees_where_covered, all_agree}
 use Rattle.mta_audit_run.specs.Outcome.{AreTwo, DiskFailed, Handed, Outcome, Reports}
 use Rattle.mta_audit_run.specs.Outcome.{unasked, audited, no_first as is_no_first, no_second as is_no_second}
 use Rattle.mta_audit_run.specs.Outcome.{failed as disk_failed, short as no_memory}
@@ -27,7 +27,7 @@ use Rattle.mta_audit_run.specs.Ran.{usage, no_first, no_second, agree, differ}
 use Rattle.mta_audit_run.specs.Stops.{status_by, status_of}
 use Rattle.mta_audit_run.proofs.Halves.{verdict_exact}
 
--- ---- all agree exactly where each half is audited
+-- ---- all agree exactly where each half that is covered is audited
 
 true-false : (b : Bool) → b ≡ true → b ≡ false → ⊥
 true-false b holds not_so = absurd cc
@@ -48,23 +48,30 @@ both-true false b e = absurd cc
 and-true : (a b : Bool) → a ≡ true → b ≡ true → (a && b) ≡ true
 and-true a b p q = rw p q
 
+agrees-covered : (half : Option Half) → agrees_where_covered half ≡ true → IsAuditedWhereCovered half
+agrees-covered None e = tt
+agrees-covered (Some h) e = agrees-audited h (verdict_of h) (verdict_exact h) e
+
+covered-agrees : (half : Option Half) → IsAuditedWhereCovered half → agrees_where_covered half ≡ true
+covered-agrees None is = refl
+covered-agrees (Some h) is = audited-agrees h (verdict_of h) (verdict_exact h) is
+
 agree-all : (ls : List Line) → all_agree ls ≡ true → AllAudited ls
 agree-all [] e = tt
 agree-all (l ∷ ls) e =
-    let parts = both-true (agrees (verdict_of l.half)) (all_agree ls) e in (
-      agrees-audited l.half (verdict_of l.half) (verdict_exact l.half) parts.0,
+    let parts = both-true (agrees_where_covered l.half) (all_agree ls) e in (
+      agrees-covered l.half parts.0,
       agree-all ls parts.1,
     )
 
 all-agree : (ls : List Line) → AllAudited ls → all_agree ls ≡ true
 all-agree [] each = refl
 all-agree (l ∷ ls) each =
-    and-true (agrees (verdict_of l.half)) (all_agree ls)
-    (audited-agrees l.half (verdict_of l.half) (verdict_exact l.half) each.0) (all-agree ls each.1)
+    and-true (agrees_where_covered l.half) (all_agree ls) (covered-agrees l.half each.0) (all-agree ls each.1)
 
 -- ---- the status of a report
 
--- 0 where each half is audited, and 18 where one is not
+-- 0 where each half that is covered is audited, and 18 where one is not
 pub data IsGood (s t : List Step) (status : ℕ) : Type 0 where
   all_good : status ≡ 0 → AllAudited (lines_of s t) → IsGood s t status
   one_bad : status ≡ 18 → (AllAudited (lines_of s t) → ⊥) → IsGood s t status

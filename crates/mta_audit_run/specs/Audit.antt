@@ -8,7 +8,7 @@ use Rattle.mta_machine.specs.Rules.{tables_value}
 use Rattle.mta_records.specs.declared.step.Step.{Step}
 use Rattle.mta_histories.specs.History.{after}
 use Rattle.mta_audit_run.specs.declared.stop.Spool.TheVariants.{First, Second}
-use Rattle.mta_audit_run.specs.Accounts.{accounts}
+use Rattle.mta_audit_run.specs.Accounts.{accounts, begins_with_snapshot}
 use Rattle.mta_audit_run.specs.Lines.{Line, lines_from}
 
 -- ---- whose spool it is
@@ -28,5 +28,5 @@ own_of steps = own_by (after steps).machine
 -- the lines of two histories: of the lanes of the first to the second, and then of those of the second to the first
 abbrev pub lines_of : List Step → List Step → List Line
 lines_of s t =
-    lines_from First (own_of s) (own_of t) (accounts t) 1 (accounts s)
-    ++ lines_from Second (own_of t) (own_of s) (accounts s) 1 (accounts t)
+    lines_from First (own_of s) (own_of t) (begins_with_snapshot t) (accounts t) (accounts s)
+    ++ lines_from Second (own_of t) (own_of s) (begins_with_snapshot s) (accounts s) (accounts t)

@@ -10,6 +10,7 @@ pub mod Opened
 pub mod Outcome
 pub mod Output
 pub mod Partners
+pub mod Places
 pub mod Ran
 pub mod Second
 pub mod Sides

@@ -18,7 +18,7 @@ use Rattle.mta_audit_run.specs.Texts.{Puts}
 -- ---- the report
 
 abbrev pub lines_of_side : Spool → Side → Side → List Line
-lines_of_side spool x y = lines_from spool x.own y.own y.accounts.items 1 x.accounts.items
+lines_of_side spool x y = lines_from spool x.own y.own y.begun y.accounts.items x.accounts.items
 
 abbrev pub lines_of_sides : Side → Side → List Line
 lines_of_sides x y = lines_of_side First x y ++ lines_of_side Second y x

@@ -1,6 +1,6 @@
 -- The lanes of two spools that are two ends of one, and their halves.
-use Rattle.std.specs.Prelude.{ℕ, ◌==◌, ◌&&◌, Bool, true, false, List, Option, Some, None, bytes_eq}
-use Rattle.std.specs.List.{flat_map, filter}
+use Rattle.std.specs.Prelude.{ℕ, ◌==◌, ◌&&◌, not, Bool, true, false, List, [], ◌∷◌, Option, Some, None, bytes_eq}
+use Rattle.std.specs.List.{flat_map, filter, list_any}
 use Rattle.mta_records.specs.Reference.{Identifier}
 use Rattle.mta_records.specs.declared.lane.LaneRole.{LaneRole}
 use Rattle.mta_records.specs.declared.lane.LaneRole.TheVariants.{Initiator, Responder}
@@ -43,6 +43,23 @@ is_partner name reference b = is_responder b.role && (same_reference reference b
 -- open, so they are taken together in order, and the last alone may have an activity in Ending.
 abbrev pub partners : Option (List ℕ) → Identifier → List Account → List Account
 partners name reference others = filter (is_partner name reference) others
+
+-- a lane stands in the snapshot with which its history begins
+abbrev pub in_snapshot : Account → Bool
+in_snapshot a = a.in_snapshot
+
+-- one is another end of a lane, and stands in a snapshot
+abbrev pub is_begun_end : Option (List ℕ) → Identifier → Account → Bool
+is_begun_end name reference b = in_snapshot b && is_partner name reference b
+
+abbrev pub is_without : List Account → Bool
+is_without [] = true
+is_without (b ∷ ends) = false
+
+-- Whether a lane with these other ends is covered: neither it nor another end of it stands in a snapshot; and it has
+-- another end, or the other history does not begin with a snapshot, which would have no closed lane.
+abbrev pub is_covered : (begun : Bool) → Account → (ends : List Account) → Bool
+is_covered begun a ends = not a.in_snapshot && (not (list_any in_snapshot ends) && not (begun && is_without ends))
 
 -- the activities of a lane
 abbrev pub part_of : Part → Account → List (List ℕ)

@@ -10,7 +10,7 @@ use crate::text::{both, put_lanes};
 use mta_ber::{Memory, Octets};
 use std::alloc::Global;
 
-/// The lines of an audit, and whether all halves agree.
+/// The lines of an audit, and whether all halves agree that are covered.
 #[derive(Drop)]
 pub struct Report {
     pub text: Octets,
@@ -33,6 +33,7 @@ fn put_side(
         spool,
         side.own.as_ref(),
         other.own.as_ref(),
+        other.begun,
         side.accounts.as_slice(),
         other.accounts.as_slice(),
     )

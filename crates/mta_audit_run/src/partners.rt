@@ -1,9 +1,10 @@
 //! The lanes of the other spool that are the other end of a lane.
 
-ghost use Rattle.std.specs.Prelude.{◌≡◌, ◌++◌, ◌∷◌, [], IfOk, OnOk};
-ghost use Rattle.std.specs.List.{flat_map};
+ghost use Rattle.std.specs.Prelude.{◌≡◌, ◌++◌, ◌∷◌, [], ◌&&◌, not, IfOk, OnOk};
+ghost use Rattle.std.specs.List.{flat_map, list_any};
 ghost use Rattle.std.specs.Option.{option_copied};
-ghost use Rattle.mta_audit_run.specs.Partners.{is_initiator, is_partner, is_responder, is_to, is_with};
+ghost use Rattle.mta_audit_run.specs.Partners.{is_begun_end, is_covered, is_initiator, is_partner, is_responder};
+ghost use Rattle.mta_audit_run.specs.Partners.{is_to, is_with};
 ghost use Rattle.mta_audit_run.specs.Partners.{part_of, partners, same_reference};
 
 use crate::account::Account;
@@ -80,6 +81,49 @@ fn is_partner(name: Option<&Word>, reference: &Reference, account: &Account) -> 
     is_responder(account.role)
         && same_reference(reference, &account.reference)
         && is_with(name, account)
+}
+
+// Whether one is another end of a lane, and stands in a snapshot.
+fn is_begun_end(name: Option<&Word>, reference: &Reference, other: &Account) -> bool
+    ensures { result ≡ is_begun_end (option_copied name.entry) reference.now other.now }
+{
+    other.in_snapshot && is_partner(name, reference, other)
+}
+
+// Whether a lane has another end.
+fn has_end(name: Option<&Word>, reference: &Reference, others: &[Account]) -> bool
+    ensures { result ≡ list_any (is_partner (option_copied name.entry) reference.now) others.now }
+{
+    others
+        .iter()
+        .any(|other| is_partner(name, reference, other))
+}
+
+// Whether a lane has another end that stands in a snapshot.
+fn has_begun_end(name: Option<&Word>, reference: &Reference, others: &[Account]) -> bool
+    ensures { result ≡ list_any (is_begun_end (option_copied name.entry) reference.now) others.now }
+{
+    others
+        .iter()
+        .any(|other| is_begun_end(name, reference, other))
+}
+
+// Whether a lane is covered that stands in a snapshot or not, where another end of it does or not, and it has another
+// end or not.
+fn is_covered_by(begun: bool, in_snapshot: bool, begun_end: bool, some_end: bool) -> bool
+    ensures { result ≡ (not in_snapshot && (not begun_end && not (begun && not some_end))) }
+{
+    !in_snapshot && !begun_end && !(begun && !some_end)
+}
+
+/// Whether a lane is covered, where the other spool has these lanes, and its history begins with a snapshot or not.
+pub fn is_covered(begun: bool, account: &Account, own: Option<&Word>, others: &[Account]) -> bool
+    ensures { result ≡ is_covered begun account.now
+        (partners (option_copied own.entry) account.now.reference others.now) }
+{
+    let begun_end = has_begun_end(own, &account.reference, others);
+    let some_end = has_end(own, &account.reference, others);
+    is_covered_by(begun, account.in_snapshot, begun_end, some_end)
 }
 
 /// Shares activities behind others.

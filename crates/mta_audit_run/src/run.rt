@@ -98,13 +98,16 @@ fn compare<D: Disk + Drop, E: Disk + Drop>(
 /// Audits two spools: of each initiator's lane of the first to the second's agent, and then of each of the second's to
 /// the first's, and of each of its halves, it prints a line that says whether the receiver completed what the sender
 /// sent, once and in order: `first lane K out sent S completed C agree`, or `differs at I` in place of what follows
-/// `out`. `in` stands for the half in which the responder sends. The words are the names of two files, which are not
-/// looked at here: their disks are handed in.
+/// `out`. `in` stands for the half in which the responder sends. Of a lane that stands in the snapshot with which a
+/// history begins, or another end of which does, and of one that has no other end where the other history begins with
+/// a snapshot, each half is told as `not covered`. The words are the names of two files, which are not looked at here:
+/// their disks are handed in.
 ///
 /// Neither history is changed: a disk without records is made an empty journal, and another is only read.
 ///
-/// The status is 0 where all halves agree, and 18 where one differs; or, with the line of it, 1 where the words are not
-/// two; 3 where a disk holds no spool; 4 where a disk failed; 7 where memory ran out; and 9 where the sink failed.
+/// The status is 0 where all halves agree that are covered, and 18 where one differs; or, with the line of it, 1 where
+/// the words are not two; 3 where a disk holds no spool; 4 where a disk failed; 7 where memory ran out; and 9 where the
+/// sink failed.
 pub fn audit_run<D: Disk + Drop, E: Disk + Drop, O: Sink>(
     alloc: Global,
     words: &[String],

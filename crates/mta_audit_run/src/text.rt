@@ -1,17 +1,17 @@
 //! The lines of an audit.
 
-ghost use Rattle.std.specs.Prelude.{◌≡◌, ◌<◌, ◌+◌, ◌++◌, ◌∷◌, [], ◌&&◌, IfOk, OnOk};
+ghost use Rattle.std.specs.Prelude.{◌≡◌, ◌<◌, ◌+◌, ◌++◌, ◌∷◌, [], ◌&&◌, IfOk, None, OnOk, Some, true};
 ghost use Rattle.std.specs.Fmt.{decimal};
 ghost use Rattle.std.specs.Option.{option_copied};
-ghost use Rattle.mta_audit_run.specs.Lines.{agree_text, completed_text, counts_text, lane_lines, lane_text};
-ghost use Rattle.mta_audit_run.specs.Lines.{line, lines_from, sent_text, spool_text};
+ghost use Rattle.mta_audit_run.specs.Lines.{agree_text, both_lines, completed_text, counts_text, lane_lines, lane_text};
+ghost use Rattle.mta_audit_run.specs.Lines.{line, lines_from, not_covered_text, sent_text, spool_text};
 ghost use Rattle.mta_audit_run.specs.Lines.{verdict_text, way_in, way_out};
 ghost use Rattle.mta_audit_run.specs.Partners.{in_half, out_half, partners};
 ghost use Rattle.mta_audit_run.specs.Texts.{Puts};
 
 use crate::account::Account;
 use crate::half::{Half, in_half, out_half};
-use crate::partners::is_to;
+use crate::partners::{is_covered, is_to};
 use crate::stop::Spool;
 use crate::verdict::{Verdict, agrees, verdict_of};
 use itoa::Buffer;
@@ -94,22 +94,40 @@ fn put_verdict(text: &mut Octets, half: &Half, verdict: Verdict) -> Result<(), M
     }
 }
 
+// Puts what is said of a half that is not covered.
+#[tactic(auto, unfolding(crate::specs::Lines::not_covered_text))]
+fn put_not_covered(text: &mut Octets) -> Result<(), Memory>
+    ensures { OnOk result (text.new ≡ text.old ++ not_covered_text) }
+{
+    text.extend(b"not covered\n")
+}
+
 // Puts the line of a half, and answers whether it agrees.
 fn put_line(
     text: &mut Octets,
     spool: Spool,
-    lane: u64,
+    lane: u32,
     way: &[u8],
     half: &Half,
 ) -> Result<bool, Memory>
-    ensures { IfOk result (Puts (line spool lane way.now half.now ∷ []) text.old text.new) }
+    ensures { IfOk result (Puts (line spool lane way.now (Some half.now) ∷ []) text.old text.new) }
 {
     let verdict = verdict_of(half);
     text.extend(spool_text(spool))?;
-    put_lane_number(text, lane)?;
+    put_lane_number(text, lane as u64)?;
     text.extend(way)?;
     put_verdict(text, half, verdict)?;
     Ok(agrees(verdict))
+}
+
+// Puts the line of a half that is not covered.
+fn put_left_out(text: &mut Octets, spool: Spool, lane: u32, way: &[u8]) -> Result<(), Memory>
+    ensures { OnOk result (Puts (line spool lane way.now None ∷ []) text.old text.new true) }
+{
+    text.extend(spool_text(spool))?;
+    put_lane_number(text, lane as u64)?;
+    text.extend(way)?;
+    put_not_covered(text)
 }
 
 /// Whether both hold.
@@ -119,25 +137,54 @@ pub fn both(one: bool, other: bool) -> bool
     one && other
 }
 
-// Puts the lines of an initiator's lane to the other spool's agent, and answers whether both agree.
+// Puts the lines of a lane that is covered, and answers whether both halves agree.
 fn put_halves(
     alloc: Global,
     text: &mut Octets,
     spool: Spool,
-    lane: u64,
     own: Option<&Word>,
     account: &Account,
     others: &[Account],
 ) -> Result<bool, Memory>
     ensures { let ends = partners (option_copied own.entry) account.now.reference others.now in
-        IfOk result (Puts (line spool lane way_out (out_half account.now ends)
-        ∷ line spool lane way_in (in_half account.now ends) ∷ []) text.old text.new) }
+        IfOk result (Puts (line spool account.now.number way_out (Some (out_half account.now ends))
+        ∷ line spool account.now.number way_in (Some (in_half account.now ends)) ∷ []) text.old text.new) }
 {
     let out = out_half(alloc, account, own, others)?;
-    let out_agrees = put_line(text, spool, lane, b" out ", &out)?;
+    let out_agrees = put_line(text, spool, account.number, b" out ", &out)?;
     let back = in_half(alloc, account, own, others)?;
-    let back_agrees = put_line(text, spool, lane, b" in ", &back)?;
+    let back_agrees = put_line(text, spool, account.number, b" in ", &back)?;
     Ok(both(out_agrees, back_agrees))
+}
+
+// Puts the lines of a lane that is not covered.
+fn put_both_left_out(text: &mut Octets, spool: Spool, lane: u32) -> Result<(), Memory>
+    ensures { OnOk result (Puts (line spool lane way_out None ∷ line spool lane way_in None ∷ []) text.old text.new
+        true) }
+{
+    put_left_out(text, spool, lane, b" out ")?;
+    put_left_out(text, spool, lane, b" in ")
+}
+
+// Puts the lines of an initiator's lane to the other spool's agent, and answers whether they agree, where it is
+// covered.
+fn put_pair(
+    alloc: Global,
+    text: &mut Octets,
+    spool: Spool,
+    own: Option<&Word>,
+    begun: bool,
+    account: &Account,
+    others: &[Account],
+) -> Result<bool, Memory>
+    ensures { let ends = partners (option_copied own.entry) account.now.reference others.now in
+        IfOk result (Puts (both_lines spool begun account.now ends) text.old text.new) }
+{
+    if is_covered(begun, account, own, others) {
+        return put_halves(alloc, text, spool, own, account, others);
+    }
+    put_both_left_out(text, spool, account.number)?;
+    Ok(true)
 }
 
 // Puts the lines of a lane, where it is an initiator's to the other spool's agent, and answers whether they agree.
@@ -145,48 +192,39 @@ fn put_lane(
     alloc: Global,
     text: &mut Octets,
     spool: Spool,
-    lane: u64,
     own: Option<&Word>,
     other: Option<&Word>,
+    begun: bool,
     account: &Account,
     others: &[Account],
 ) -> Result<bool, Memory>
-    ensures { IfOk result (Puts (lane_lines spool (option_copied own.entry) (option_copied other.entry) others.now lane
+    ensures { IfOk result (Puts (lane_lines spool (option_copied own.entry) (option_copied other.entry) begun others.now
         account.now) text.old text.new) }
 {
     if !is_to(other, account) {
         return Ok(true);
     }
-    put_halves(alloc, text, spool, lane, own, account, others)
+    put_pair(alloc, text, spool, own, begun, account, others)
 }
 
 /// Puts the lines of the lanes of a spool that are an initiator's to the other spool's agent, and answers whether all
-/// agree.
+/// agree that are covered. The other spool's history begins with a snapshot or not.
 pub fn put_lanes(
     alloc: Global,
     text: &mut Octets,
     spool: Spool,
     own: Option<&Word>,
     other: Option<&Word>,
+    begun: bool,
     accounts: &[Account],
     others: &[Account],
 ) -> Result<bool, Memory>
-    ensures { IfOk result (Puts (lines_from spool (option_copied own.entry) (option_copied other.entry) others.now 1
+    ensures { IfOk result (Puts (lines_from spool (option_copied own.entry) (option_copied other.entry) begun others.now
         accounts.now) text.old text.new) }
 {
     let mut all = true;
-    for place in 0..accounts.len() {
-        let lane = place as u64 + 1;
-        let agree = put_lane(
-            alloc,
-            text,
-            spool,
-            lane,
-            own,
-            other,
-            &accounts[place],
-            others,
-        )?;
+    for account in accounts {
+        let agree = put_lane(alloc, text, spool, own, other, begun, account, others)?;
         all = both(all, agree);
     }
     Ok(all)

@@ -4,7 +4,7 @@ ghost use Rattle.std.specs.Prelude.{◌≡◌, IfOk};
 ghost use Rattle.std.specs.Option.{option_copied};
 ghost use Rattle.mta_histories.specs.Classes.{class_of};
 ghost use Rattle.mta_histories.specs.Lanes.{lane_at};
-ghost use Rattle.mta_audit_run.specs.Accounts.{told_by, transferred_on};
+ghost use Rattle.mta_audit_run.specs.Accounts.{is_begun, told_by, transferred_on};
 ghost use Rattle.mta_audit_run.specs.declared.told.Told.TheVariants as Tolds;
 
 use crate::activity::Activity;
@@ -18,6 +18,8 @@ use std::alloc::Global;
 pub enum Told {
     /// Nothing.
     Nothing,
+    /// The history begins with a snapshot, which has the lanes that are open then.
+    Begun,
     /// The next lane is opened, by this name.
     Opened {
         role: LaneRole,
@@ -33,6 +35,21 @@ pub enum Told {
     Completed {
         lane: u32,
     },
+}
+
+impl Told {
+    /// Whether it tells of a snapshot.
+    pub fn is_begun(&self) -> bool
+        ensures { result ≡ is_begun self.now }
+    {
+        match self {
+            Told::Nothing => false,
+            Told::Begun => true,
+            Told::Opened { .. } => false,
+            Told::Sent { .. } => false,
+            Told::Completed { .. } => false,
+        }
+    }
 }
 
 /// What a lane transfers; no octets where it transfers nothing.
@@ -61,6 +78,7 @@ pub fn told_by(alloc: Global, lanes: &Lanes, step: &Step) -> Result<Told, Memory
     ensures { IfOk result (λ t. t ≡ told_by lanes.now.open_lanes.items (class_of step.now)) }
 {
     match step {
+        Step::Snapshot { .. } => Ok(Told::Begun),
         Step::LaneOpen {
             role,
             peer,

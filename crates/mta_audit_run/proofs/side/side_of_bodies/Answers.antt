@@ -1,8 +1,9 @@
 use Rattle.std.proofs.Common.{rules, ◌+◌, List, ℕ, length, Ok, Err, refl, subst, ap, arith}
+use Rattle.std.specs.Prelude.{◌||◌}
 use Rattle.std.specs.Vec.Iter.{into_iter_items}
 use Rattle.mta_state.specs.Kept.{state_of}
 use Rattle.mta_audit_run.specs.Sides.{HasNoted}
-use Rattle.mta_audit_run.proofs.Sides.{way_short, way_first, way_further, way_fits, way_stopped}
+use Rattle.mta_audit_run.proofs.Sides.{way_ascending, way_short, way_first, way_further, way_fits, way_stopped}
 use Rattle.mta_audit_run.proofs.side.side_of_bodies.Goals as goal
 
 pub loop-body-init : goal.loop-body-init
@@ -16,8 +17,8 @@ loop-body-init c = record {
 pub take_up-requires-clause-fits : goal.take_up-requires-clause-fits
 take_up-requires-clause-fits c =
     let short = way_short c.args.first c.args.bodies.items (into_iter_items c.loop-body.rest)
-    (into_iter_items c.next.new.self) c.in-Some.body (state_of c.loop-body.replay.kept) c.loop-body.accounts.items
-    c.loop-body.at c.requires.short c.loop-body.invariant.way c.in-Some.ensures.cases.0 in
+    (into_iter_items c.next.new.self) c.in-Some.body (state_of c.loop-body.replay.kept) c.loop-body.begun
+    c.loop-body.accounts.items c.loop-body.at c.requires.short c.loop-body.invariant.way c.in-Some.ensures.cases.0 in
     omega (arith, short, ap length c.as_slice.ensures)
 
 pub overflow_add-at-in-Ok : goal.overflow_add-at-in-Ok
@@ -25,42 +26,50 @@ overflow_add-at-in-Ok c =
     let noted = subst
     (λ (b : List ℕ).
     HasNoted b (state_of c.loop-body.replay.kept) c.loop-body.accounts.items (state_of c.take_up.new.replay.kept)
-    c.take_up.new.accounts.items (Ok tt))
+    c.take_up.new.accounts.items (Ok c.in-Ok.snapshot))
     c.as_slice.ensures c.in-Ok.ensures.noted in
     let more = c.loop-body.at + (length c.in-Some.body + 5) in
     let next = way_further c.args.first c.args.bodies.items (into_iter_items c.loop-body.rest)
     (into_iter_items c.next.new.self) c.in-Some.body (state_of c.loop-body.replay.kept)
-    (state_of c.take_up.new.replay.kept) c.loop-body.accounts.items c.take_up.new.accounts.items (Ok tt) c.loop-body.at
-    more c.loop-body.invariant.way c.in-Some.ensures.cases.0 noted refl refl in
+    (state_of c.take_up.new.replay.kept) c.loop-body.begun (c.loop-body.begun || c.in-Ok.snapshot)
+    c.loop-body.accounts.items c.take_up.new.accounts.items c.in-Ok.snapshot c.loop-body.at more
+    c.loop-body.invariant.way c.in-Some.ensures.cases.0 noted refl refl in
     let fits = way_fits c.args.first c.args.bodies.items (into_iter_items c.next.new.self)
-    (state_of c.take_up.new.replay.kept)
-    c.take_up.new.accounts.items more next in
+    (state_of c.take_up.new.replay.kept) (c.loop-body.begun || c.in-Ok.snapshot) c.take_up.new.accounts.items more
+    next in
     omega (arith, fits, c.len.ensures, c.requires.fits)
 
 pub returns-in-Err-clause-stopped : goal.returns-in-Err-clause-stopped
 returns-in-Err-clause-stopped c =
     let noted = subst
     (λ (b : List ℕ).
-    HasNoted {T = Unit {0}} b (state_of c.loop-body.replay.kept) c.loop-body.accounts.items
+    HasNoted b (state_of c.loop-body.replay.kept) c.loop-body.accounts.items
     (state_of c.take_up.new.replay.kept) c.take_up.new.accounts.items (Err c.in-Err.why))
     c.as_slice.ensures c.in-Err.ensures.noted in
     rw c.open_why.ensures
     (way_stopped c.args.first c.args.bodies.items (into_iter_items c.loop-body.rest) (into_iter_items c.next.new.self)
-    c.in-Some.body (state_of c.loop-body.replay.kept) (state_of c.take_up.new.replay.kept) c.loop-body.accounts.items
-    c.take_up.new.accounts.items c.in-Err.why c.loop-body.at c.loop-body.invariant.way c.in-Some.ensures.cases.0 noted)
+    c.in-Some.body (state_of c.loop-body.replay.kept) (state_of c.take_up.new.replay.kept) c.loop-body.begun
+    c.loop-body.accounts.items c.take_up.new.accounts.items c.in-Err.why c.loop-body.at c.loop-body.invariant.way
+    c.in-Some.ensures.cases.0 noted)
 
 pub loop-body-preserved : goal.loop-body-preserved
 loop-body-preserved c =
     let noted = subst
     (λ (b : List ℕ).
     HasNoted b (state_of c.loop-body.replay.kept) c.loop-body.accounts.items (state_of c.take_up.new.replay.kept)
-    c.take_up.new.accounts.items (Ok tt))
+    c.take_up.new.accounts.items (Ok c.in-Ok.snapshot))
     c.as_slice.ensures c.in-Ok.ensures.noted in
     record {
       sound = c.take_up.ensures.sound;
       way = way_further c.args.first c.args.bodies.items (into_iter_items c.loop-body.rest)
           (into_iter_items c.next.new.self) c.in-Some.body (state_of c.loop-body.replay.kept)
-          (state_of c.take_up.new.replay.kept) c.loop-body.accounts.items c.take_up.new.accounts.items (Ok tt)
-          c.loop-body.at (c.loop-body.at + (c.len.result + 5)) c.loop-body.invariant.way c.in-Some.ensures.cases.0 noted
-          refl (omega (arith, c.len.ensures));
+          (state_of c.take_up.new.replay.kept) c.loop-body.begun c.either-begun.result c.loop-body.accounts.items
+          c.take_up.new.accounts.items c.in-Ok.snapshot c.loop-body.at (c.loop-body.at + (c.len.result + 5))
+          c.loop-body.invariant.way c.in-Some.ensures.cases.0 noted c.either-begun.ensures
+          (omega (arith, c.len.ensures));
     }
+
+pub side_of-requires-clause-ascending : goal.side_of-requires-clause-ascending
+side_of-requires-clause-ascending c =
+    way_ascending c.args.first c.args.bodies.items (into_iter_items c.loop-body.rest) (state_of c.loop-body.replay.kept)
+    c.loop-body.begun c.loop-body.accounts.items c.loop-body.at c.loop-body.invariant.way

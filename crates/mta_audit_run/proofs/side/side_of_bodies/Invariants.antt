@@ -1,14 +1,15 @@
 use Rattle.std.specs.Vec.Iter.{into_iter_items, into_iter_len}
 use Rattle.mta_state.specs.Kept.{state_of}
-use Rattle.mta_table_rules.specs.Text.{text_of}
+use Rattle.mta_table_rules.specs.Text.{format_of, text_of}
 use Rattle.mta_replay.specs.Sound.{IsSound}
 use Rattle.mta_audit_run.proofs.Sides.{IsUnderWay}
 use Rattle.mta_audit_run.proofs.side.side_of_bodies.Given as goal
 
 abbrev pub invariant-loop-body : goal.invariant-loop-body
 invariant-loop-body l = record {
-  sound : IsSound text_of l.replay.kept l.replay.rules;
-  way : IsUnderWay l.fn.first l.fn.bodies.items (into_iter_items l.rest) (state_of l.replay.kept) l.accounts.items l.at;
+  sound : IsSound format_of text_of l.replay.kept l.replay.rules;
+  way : IsUnderWay l.fn.first l.fn.bodies.items (into_iter_items l.rest) (state_of l.replay.kept) l.begun
+      l.accounts.items l.at;
 }
 
 abbrev pub decreases-loop-body : goal.decreases-loop-body
