@@ -22,6 +22,8 @@ import journal  # noqa: E402
 import p1  # noqa: E402
 import p22  # noqa: E402
 import state  # noqa: E402
+import steps  # noqa: E402
+import x690 as ber  # noqa: E402
 
 MTA, MADE = os.path.abspath(sys.argv[1]), sys.argv[2]
 AT_ONCE = 4  # tools that are tried side by side
@@ -145,7 +147,7 @@ def queue_of(left):
                 words = [journal.utc_time(others[0])] if others else []
                 words += ["-" if it is None else str(it) for it in others[1:]]
                 yield " ".join([f"recipient {at} {word}", *words, who.name.text()])
-    yield from (lane_line(it) for it in left.lanes if it.is_open)
+    yield from (lane_line(it) for it in left.lanes.values())
 
 
 def without_reasons(line):
@@ -201,7 +203,7 @@ def histories():
     long = tool("message.py", "--raw", "22", bell, "C=US;A=SILVER;S=MORSE", "LONG", octets=bytes(5000))
     mta(gold, "submit", octets=long)
     meet(gold, "SILVER-1", silver, 3000)
-    lines = [lane_line(it) for folder in (gold, silver) for it in same_queue(folder).lanes if it.is_open]
+    lines = [lane_line(it) for folder in (gold, silver) for it in same_queue(folder).lanes.values()]
     if not any(" send sending " in it for it in lines) or not any(" receive partial " in it for it in lines):
         raise Wrong(f"no lane shows the break: {lines}")
     meet(gold, "SILVER-1", silver)
@@ -409,17 +411,29 @@ def try_readme():
             raise Wrong(f"the block of contrib/README.md does not print {line!r}:\n{said}")
 
 
+def numbers(*values, size=4):
+    return b"".join(it.to_bytes(size, "big") for it in values)
+
+
+def string(octets):
+    return numbers(len(octets)) + octets
+
+
+def listed(*parts):
+    return numbers(len(parts)) + b"".join(parts)
+
+
 def record(kind, *values):
     """A record of a step: its length and its body, with the values of its fields in their order."""
     body = bytes([kind])
-    for (_, form), value in zip(journal.FIELDS[kind], values, strict=True):
+    for (_, form), value in zip(steps.FIELDS[kind], values, strict=True):
         if form == "s":
-            body += len(value).to_bytes(4, "big") + value
+            body += string(value)
         elif form == "l":
-            body += len(value).to_bytes(4, "big") + b"".join(it.to_bytes(4, "big") for it in value)
+            body += listed(*(numbers(it) for it in value))
         else:
             body += value.to_bytes({"n": 4, "o": 1}.get(form, 8), "big")
-    return len(body).to_bytes(4, "big") + body
+    return string(body)
 
 
 def try_doubt():
@@ -442,6 +456,104 @@ def try_doubt():
         with open(f"{MADE}/doubtful/{name}", "rb") as file:
             bits[name] = "".join(it.bits[0] for it in p1.apdu_of(file.read()).recipients)
     want("responsibility", bits, {"0000000001.ber": "001", "0000000001.in-doubt": "110"})
+
+
+# the texts of tables that a snapshot has: under the last one the samples go to a peer
+TO_MAILBOX = b"domain C=GB;A=GOLD\nname GOLD-1\nmailbox watt C=GB;A=GOLD;S=WATT\n"
+TO_EAST = b"domain C=GB;A=GOLD\nname GOLD-1\npeer EAST pw pq monologue 4 3\nroute C=GB;A=GOLD peer EAST\n"
+
+
+def copy_for_east(octets, now):
+    """The copy of samples/message.ber that goes to a peer: it has an element of trace more."""
+    at, moment = octets.index(b"\x69\x00"), journal.utc_time(now).encode("ascii")
+    when = ber.set_of(ber.primitive(0, moment), ber.primitive(2, b"\x00"))
+    own = bytes.fromhex("630e61041302474262061304474f4c44")  # the domain C=GB;A=GOLD
+    trace = ber.element((ber.APPLICATION, 9), ber.sequence(own, when), True)
+    return ber.tagged(0, ber.set_of(octets[4:at], trace, octets[at + 2:-4]), octets[-4:])
+
+
+def snapshot_items(now):
+    """Items of every origin with some of the statuses, and the octets of each: delivered, pending in an activity, gone
+    in the activity that is dropped, a message without its content, a report and a copy of this agent itself, and a
+    message that is deferred to a moment behind its latest delivery time."""
+    whole, spent, report, hour = sample("message.ber"), sample("message-empty.ber"), sample("report.ber"), now - 3600
+    late = message("--deferred", "491231000000Z", "--latest", journal.utc_time(hour), "C=GB;A=GOLD;S=BELL",
+                   "C=GB;A=GOLD;S=WATT", "LATE")
+    since = numbers(now, size=8)
+    rows = ((0, now, whole, b"\x01" + since), (0, now, whole, b"\x00"),
+            (0, now, whole, b"\x04" + since + numbers(1) + b"\x01" + numbers(0)),
+            (1, now, spent, b"\x03" + since + string(b"EAST")), (2, now, report, b"\x06" + since),
+            (2, now, whole, b"\x00"), (0, hour - 3600, late, b"\x00"))
+    items = [bytes([origin]) + numbers(arrival, size=8) + string(octets) + listed(status)
+             for origin, arrival, octets, status in rows]
+    return items, [octets for _, _, octets, _ in rows]
+
+
+def half(form, phase, last, item=0, recipients=(), now=0, place=0, octets=b""):
+    """The half of a lane that sends: nothing, where only its last activity is given."""
+    decided = numbers(form if place else 0) if form == 2 else b""
+    return (bytes([phase]) + numbers(last, 0, item) + listed(*(numbers(it) for it in recipients))
+            + numbers(now, size=8) + numbers(place) + decided + string(octets))
+
+
+def snapshot_lanes(form, now):
+    """Four lanes of six that were opened: one sends, one drops what it sent, one has a part, one has all."""
+    copy = copy_for_east(sample("message.ber"), now)
+    rows = ((2, 0, 1, half(form, 1, 1, 2, [1], now, 2, copy), 0, 0, []),
+            (3, 0, 2, half(form, 3, 1, 3, [1], now, 2, copy), 0, 0, []),
+            (5, 1, 1, half(form, 0, 0), 1, 1, [string(b"Hi")]), (6, 1, 3, half(form, 0, 2), 2, 4, []))
+    return [numbers(lane) + bytes([role]) + string(b"EAST") + string(b"GOLD-1") + numbers(lane, size=8) + b"\x00"
+            + string(b"") + b"\x00\x01" + numbers(4, 3) + numbers(generation, size=8)
+            + sends + bytes([phase]) + numbers(highest) + listed(*pieces)
+            for lane, role, generation, sends, phase, highest, pieces in rows]
+
+
+def try_snapshot(form):
+    """A history that begins with a snapshot: in the first area, in the second one, and with steps behind it."""
+    folder, now = f"{MADE}/snapshot-{form}", int(time.time()) - journal.FROM_1950
+    os.makedirs(folder)
+    with open(f"{folder}/mta.tables", "wb") as file:
+        file.write(TO_EAST)
+    items, octets = snapshot_items(now)
+    delivery = string(b"watt") + numbers(1) + numbers(now, size=8)
+    body = (bytes([steps.SNAPSHOT]) + numbers(form) + numbers(now, size=8) + listed(string(TO_MAILBOX), string(TO_EAST))
+            + listed(*items) + listed(delivery) + numbers(6) + listed(*snapshot_lanes(form, now)))
+    frame, high = string(body), 24 + len(string(body)) + 1
+    with open(f"{folder}/mta.spool", "wb") as file:
+        file.write(journal.AREAS + b"\x01" + numbers(high, size=8) + bytes(high - 23) + b"\x01" + frame + b"\x00")
+    line = tool("mta-log", folder).decode()
+    told = f"snapshot format {form} tables 2 items 7 pending 3 deliveries 1 lanes 4 opened 6"
+    want("mta-log", line, f"{journal.moment_text(now)} {told} agent GOLD-1 domain C=GB;A=GOLD\n")
+    same_queue(folder)  # after it the first area is current
+    left = state.replay(journal.Journal(f"{folder}/mta.spool"))
+    want("mta-log of the first area", tool("mta-log", folder).decode().splitlines(True)[0], line)
+    want("mta-look", tool("mta-look", "--mta", MTA, folder).decode(), mta(folder, "spool"))
+    for at, it in enumerate(octets, 1):
+        want(f"item {at}", tool("mta-apdu", folder, str(at)), it)
+    contents = [tool("mta-content", folder, str(at), status=int(at in (4, 5))) for at in range(1, 7)]
+    want("contents", contents, [b"Hi", b"Hi", b"Hi", b"", b"", b"Hi"])
+    said = tool("check-mta", "--warn-age", "9000", "--crit-age", "9000", folder).decode()
+    want("check-mta", re.sub(", the oldest for .* s;|; spool .*\n", "", said),
+         "MTA OK: 2 pending 1 deferred" if left.format == 1 else "MTA OK: 3 pending 0 deferred")
+    said = tool("mta-apdu", "--pending", f"{MADE}/of-snapshot-{form}", folder).decode()
+    want("what waits", re.findall(r"^item (\d+) .* pending 1$", said, re.M), ["2", "6", "7"])
+    behind_snapshot(folder, now)
+
+
+def behind_snapshot(folder, now):
+    """Numbers and lanes go on from the snapshot: steps by hand, and what mta does itself."""
+    lane = record(9, 0, b"EAST", b"GOLD-1", 9, 0, b"", 0, 4, 3, now)
+    more = [record(14, 2, 1, 1), record(15, 2, 1, 1, now), record(23, 5, 1), lane, record(11, 3, 3)]
+    with open(f"{folder}/mta.spool", "r+b") as file:
+        file.seek(-1, os.SEEK_END)
+        file.write(b"".join(b"\x01" + it for it in more) + b"\x00")
+    left = same_queue(folder)
+    want("lanes", [(it.number, it.phase) for it in left.lanes.values()],
+         [(2, "idle"), (3, "dropping"), (6, "idle"), (7, "idle")])
+    want("the next number", mta(folder, "submit", octets=sample("message.ber")), "accepted 8\n")
+    left = same_queue(folder)
+    late = left.item(7).statuses[0][0]
+    want("what is due by its latest delivery time", late, "pending" if left.format == 1 else "reported")
 
 
 def try_message():
@@ -594,6 +706,7 @@ def main():
     tried("mta-log --follow", lambda: try_follow(gold, silver))
     tools = (("check-mta", try_check), ("mta.stations", try_stations), ("mta-apdu", lambda: try_apdu(gold)),
              ("mta-apdu --pending", try_pending), ("mta-apdu, in doubt", try_doubt), ("a restored spool", try_restore),
+             ("a snapshot", lambda: try_snapshot(1)), ("a snapshot of format 2", lambda: try_snapshot(2)),
              ("a direct copy", try_direct), ("message.py", try_message), ("tables-check.py", try_tables),
              ("submit.sh", try_submit), ("contrib/README.md", try_readme))
     # each of these has files of its own

@@ -12,7 +12,7 @@ MOST_UNITS = MOST_DEFINED = 4
 PRINTABLE = set("ABCDEFGHIJKLMNOPQRSTUVWXYZabcdefghijklmnopqrstuvwxyz0123456789 '()+,-./:=?")
 LONGEST_PART = {"C": 3, "A": 16, "P": 16, "O": 64, "OU": 32, "S": 40, "G": 16, "I": 5, "Q": 3, "CN": 64, "X121": 16,
                 "TID": 24, "UID": 32}
-DL_EXPANSION_HISTORY = 26
+LATEST_DELIVERY, DL_EXPANSION_HISTORY = 5, 26  # types of extensions
 
 
 class BadName(Exception):
@@ -174,14 +174,26 @@ class Apdu:
     @cached_property
     def history(self):
         """The lists that a message came through."""
-        fields = self.found[CONTEXT, 3].children() if (CONTEXT, 3) in self.found else []
-        return [name for field in fields for name in history_of(field)]
+        value = self.extension(DL_EXPANSION_HISTORY)
+        return [] if value is None else [name_of(it.children()[0]) for it in value.children()]
 
     @cached_property
     def deferred(self):
         """The moment to which a message is deferred, as seconds since 1970, or None."""
         is_deferred = self.kind == "message" and (CONTEXT, 0) in self.found
         return ber.utc_seconds(self.found[CONTEXT, 0].text()) if is_deferred else None
+
+    @cached_property
+    def latest(self):
+        """The moment until which a message or a probe may be delivered, as seconds since 1970, or None."""
+        value = None if self.kind == "report" else self.extension(LATEST_DELIVERY)
+        return None if value is None else ber.utc_seconds(value.text())
+
+    def extension(self, number):
+        """The value of the extension of a type; None where there is none."""
+        fields = self.found[CONTEXT, 3].children() if (CONTEXT, 3) in self.found else []
+        values = (value_of(*field.children(), number=number) for field in fields)
+        return next((it for it in values if it is not None), None)
 
     @cached_property
     def content(self):
@@ -197,18 +209,15 @@ def made_apdu(kind, identifier, originator, recipients, history=(), subject=None
     """An APDU that an agent made, of which no octets are at hand."""
     it = Apdu(kind, recipients, {})
     it.identifier, it.originator, it.history, it.subject = identifier, originator, list(history), subject
-    it.deferred = None
+    it.deferred = it.latest = None
     return it
 
 
-def history_of(field):
-    """The names of the lists that a message came through, of the extension that has them."""
-    kind, *others = field.children()
-    number = kind.only() if kind.constructed else kind
-    if number.tag != (CONTEXT, 0) and not kind.constructed or number.number() != DL_EXPANSION_HISTORY:
-        return []
+def value_of(kind, *others, number):
+    """The value of an extension, where it is of this type and has one."""
+    of_type = kind.only() if kind.constructed else kind
     value = by_tag(others).get((CONTEXT, 2))
-    return [] if value is None else [name_of(it.children()[0]) for it in value.only().children()]
+    return value.only() if of_type.tag == (CONTEXT, 0) and of_type.number() == number and value is not None else None
 
 
 def recipient_of(it):
@@ -233,7 +242,8 @@ def apdu_of(octets):
     kind = KINDS.get(it.tag[1]) if it.tag[0] == CONTEXT else None
     try:
         if kind == "message":
-            return transferred(kind, *it.children())
+            envelope, content = it.children()
+            return transferred(kind, envelope, content)
         if kind == "probe":
             return transferred(kind, it)
         if kind == "report":
@@ -313,7 +323,8 @@ def recipient_octets(name, number, report):
 def latest_delivery(moment):
     """The extension that says until when a message may be delivered."""
     time = element(ber.UTC_TIME, moment.encode("ascii"))
-    return sequence(ber.primitive(0, b"\x05"), ber.bit_string("001", (CONTEXT, 1)), ber.tagged(2, time))
+    kind = ber.integer(LATEST_DELIVERY, (CONTEXT, 0))
+    return sequence(kind, ber.bit_string("001", (CONTEXT, 1)), ber.tagged(2, time))
 
 
 def message_octets(sender, recipients, local, content, kind=22, report=False, priority="normal", deferred=None,

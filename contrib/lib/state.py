@@ -5,6 +5,7 @@ goes. It trusts the spool, and checks nothing: `mta spool` is the judge.
 """
 import p1
 from p1 import Recipient, made_apdu
+from steps import NotASpool, text_of
 
 TOO_LONG = 11  # the kind of the fault for which a peer refuses octets that are too many
 LIST_KEEPS, LIST_BACK = "keep", "back"
@@ -37,19 +38,31 @@ class Tables:
         return next((it for it in self.lists.values() if it[0].normal() == name.normal()), None)
 
 
+def are_over(statuses):
+    """Whether nothing is owed, and no list was expanded, to which a report may come back."""
+    return not any(it is not None and it[0] in ("pending", "expanded") for it in statuses)
+
+
 class Item:
     """An item, the moment at which it arrived, and for each of its recipients the status, None where there is none.
 
-    `source` is the number of the message of which an own item is the copy for the members of a list."""
+    `source` is the number of the message of which an own item is the copy for the members of a list, where its octets
+    are not at hand; `is_emptied` says that a snapshot dropped its content, which nobody wants any more."""
 
     def __init__(self, number, apdu, arrival, origin):
         self.number, self.apdu, self.arrival, self.origin = number, apdu, arrival, origin
-        self.source, self.octets = None, None
+        self.source, self.octets, self.is_emptied = None, None, False
         self.statuses = [("pending",) if it.is_set(0) else None for it in apdu.recipients]
 
-    def is_over(self):
-        """Whether nothing is owed, and no list was expanded, to which a report may come back."""
-        return not any(it is not None and it[0] in ("pending", "expanded") for it in self.statuses)
+    def begin(self, statuses, is_delivered):
+        """Sets what a snapshot says: the statuses of those for whom this agent is responsible."""
+        places = [at for at, it in enumerate(self.statuses) if it is not None]
+        if len(places) != len(statuses):
+            raise NotASpool(f"item {self.number} of the snapshot has {len(statuses)} statuses for {len(places)}")
+        for at, status in zip(places, statuses):
+            self.statuses[at] = status
+        is_wanted = is_delivered or any(it[0] in ("pending", "delivered") for it in statuses)
+        self.is_emptied = self.apdu.kind == "message" and not is_wanted and not self.apdu.content
 
     def pending(self):
         return [at for at, it in enumerate(self.statuses, 1) if it == ("pending",)]
@@ -60,9 +73,17 @@ class Lane:
 
     def __init__(self, number, peer, is_caller, size, window):
         self.number, self.peer, self.is_caller, self.size, self.window = number, peer, is_caller, size, window
-        self.is_open, self.generation = True, 1
+        self.generation = 1
         self.phase, self.activity, self.confirmed, self.item, self.recipients = "idle", 0, 0, None, []
         self.receiving, self.received, self.pieces = "none", 0, []
+
+    def begin(self, generation, sending, receiving):
+        """Sets what a snapshot says."""
+        self.generation = generation
+        self.phase, self.activity, self.confirmed = sending["phase"], sending["activity"], sending["checkpoint"]
+        self.item, self.recipients = sending["item"] or None, sending["recipients"]
+        self.receiving, self.received = receiving["phase"], receiving["activity"]
+        self.pieces = [bytes(it) for it in receiving["pieces"]]
 
 
 class State:
@@ -70,21 +91,25 @@ class State:
     lane, and how to ask for its mailbox."""
 
     def __init__(self, keep_octets=(), keep_all=False):
-        self.tables, self.items, self.lanes, self.moment = Tables(), [], [], 0
-        self.keep_octets = keep_octets  # the numbers of the items whose octets are kept
+        self.tables, self.items, self.moment, self.format = Tables(), [], 0, 1
+        self.opened, self.lanes = 0, {}  # how many lanes were opened, and those that are open, by their numbers
+        self.keep_octets = keep_octets  # the numbers of the items that are kept with their octets
         self.keep_all = keep_all  # else None stands in the place of an item of which no step can speak any more
         self.sessions, self.closed = [], []  # moments at which sessions began, and ended with the lane closed
 
     def item(self, number):
         return self.items[number - 1]
 
+    def is_kept(self, number):
+        return self.keep_all or number in self.keep_octets
+
     def take(self, word, fields):
         self.moment = fields.get("moment", self.moment)
         before = len(self.items)
         meant = getattr(self, "take_" + word.replace("-", "_"))(**fields) or {}
-        meant["made"] = self.items[before:]
+        meant.setdefault("made", self.items[before:])
         for item in (meant.get("item"), *meant["made"]):
-            if item is not None and not self.keep_all and item.is_over():
+            if item is not None and not self.is_kept(item.number) and are_over(item.statuses):
                 self.items[item.number - 1] = None
         return meant
 
@@ -132,15 +157,45 @@ class State:
                          [Recipient(recipient.bits, it) for it in members], item.apdu.history + [name])
         self.added(made, "own").source = item.source or item.number
 
+    # ---- steps on all
+
+    def take_tables(self, text):
+        self.tables = Tables(text_of(text))
+
+    def take_format(self, format):
+        self.format = format
+
+    def take_snapshot(self, format, texts, items, deliveries, opened, lanes, **_):
+        """All is as the snapshot says. Of lanes that were closed, and of sessions, it says nothing."""
+        self.format, self.opened = format, opened
+        self.tables = Tables(text_of(texts[-1]) if texts else "")
+        delivered = {it["item"] for it in deliveries}
+        self.items = [self.begun(at, at in delivered, **it) for at, it in enumerate(items, 1)]
+        self.lanes = {it["lane"]: self.begun_lane(**it) for it in lanes}
+        return {"made": []}
+
+    def begun(self, number, is_delivered, origin, arrival, octets, statuses):
+        """An item of a snapshot; None where no step can speak of it any more."""
+        if not self.is_kept(number) and are_over(statuses):
+            return None
+        octets = bytes(octets)
+        made = Item(number, p1.apdu_of(octets), arrival, origin)
+        made.begin(statuses, is_delivered)
+        if number in self.keep_octets:
+            made.octets = octets
+        return made
+
+    def begun_lane(self, lane, role, peer, size, window, generation, sending, receiving, **_):
+        made = Lane(lane, text_of(peer), role == 0, size, window)
+        made.begin(generation, sending, receiving)
+        return made
+
     # ---- steps on a recipient
 
     def settle(self, item, recipient, *status):
         it = self.item(item)
         it.statuses[recipient - 1] = status
         return {"item": it, "recipients": [recipient]}
-
-    def take_tables(self, text):
-        self.tables = Tables(bytes(text).decode("latin-1"))
 
     def take_accept(self, moment, apdu):
         return {"item": self.taken(apdu, "submitted"), "recipients": []}
@@ -199,7 +254,7 @@ class State:
     # ---- steps on a lane
 
     def lane(self, number):
-        return self.lanes[number - 1]
+        return self.lanes[number]
 
     def on_lane(self, number, **more):
         lane = self.lane(number)
@@ -209,9 +264,10 @@ class State:
         return {"lane": lane, "item": self.item(lane.item) if lane.item else None, "recipients": lane.recipients}
 
     def take_open_lane(self, role, peer, size, window, **_):
-        self.lanes.append(Lane(len(self.lanes) + 1, bytes(peer).decode("latin-1"), role == 0, size, window))
+        self.opened += 1
+        self.lanes[self.opened] = Lane(self.opened, text_of(peer), role == 0, size, window)
         self.sessions.append(self.moment)
-        return {"lane": self.lanes[-1]}
+        return self.on_lane(self.opened)
 
     def take_agree(self, lane, size, window, **_):
         it = self.lane(lane)
@@ -301,10 +357,8 @@ class State:
         return {"lane": it}
 
     def take_close_lane(self, lane, **_):
-        it = self.lane(lane)
-        it.is_open, it.phase, it.item, it.recipients, it.pieces = False, "idle", None, [], []
         self.closed.append(self.moment)
-        return {"lane": it}
+        return {"lane": self.lanes.pop(lane)}
 
 
 def replay(journal, keep_octets=(), keep_all=False):

@@ -48,10 +48,15 @@ def read_journal(path):
     return journal.Journal(path)
 
 
+def emptied(item):
+    """What is said of an item without its content."""
+    return f"the content of item {item.number} was dropped: the history begins with a snapshot, which has none of it"
+
+
 def octets_of_item(path, wanted):
     """The item of a number, and the octets of its APDU: None where it was made here, since a spool has the octets of
-    what it took alone. Neither where there is no such item."""
-    now = state.State((wanted,), True)
+    what it took alone, and of all that the snapshot has with which it begins. Neither where there is no such item."""
+    now = state.State((wanted,))
     for word, fields in read_journal(path).steps():
         now.take(word, fields)
         if len(now.items) >= wanted:
