@@ -27,11 +27,14 @@ recipient_lines rs = flat_map addressee_line rs
 
 -- what an envelope's text begins with
 unfoldable pub front_lines : List ℕ → EnvelopeFields → List ℕ
-front_lines word e = id_line word e.id ++ (name_line (codes "originator ") e.originator ++ (content_type_line e.content_kind ++ line_if content_id_line e.content_id))
+front_lines word e = id_line word e.id ++ (name_line (codes "originator ") e.originator
+    ++ (content_type_line e.content_kind ++ line_if content_id_line e.content_id))
 
 -- and what it ends with
 unfoldable pub back_lines : EnvelopeFields → List ℕ
-back_lines e = line_if (size_line (codes "types ")) e.eits ++ (line_if (size_line (codes "bilateral ")) e.bilateral ++ (trace_lines e.trace ++ (extension_lines e.extensions ++ recipient_lines e.recipients)))
+back_lines e = line_if (size_line (codes "types ")) e.eits
+    ++ (line_if (size_line (codes "bilateral ")) e.bilateral
+    ++ (trace_lines e.trace ++ (extension_lines e.extensions ++ recipient_lines e.recipients)))
 
 -- the deferred delivery time, which no probe has, and the latest delivery time of extension 5
 unfoldable pub time_lines : EnvelopeFields → List ℕ
@@ -40,7 +43,9 @@ time_lines e = line_if (moment_line (codes "deferred ")) e.deferral ++ line_if (
 unfoldable pub message_text : MessageValue → List ℕ
 message_text m =
     front_lines (codes "message ") m.envelope
-    ++ (priority_line m.envelope.priority ++ (indicators_line m.envelope.indicators ++ (time_lines m.envelope ++ (back_lines m.envelope ++ content_line m.content.octets))))
+    ++ (priority_line m.envelope.priority
+    ++ (indicators_line m.envelope.indicators
+    ++ (time_lines m.envelope ++ (back_lines m.envelope ++ content_line m.content.octets))))
 
 unfoldable pub probe_text : EnvelopeFields → List ℕ
 probe_text e =

@@ -1,5 +1,6 @@
 -- What may be done with an item of each kind; reports and expansions come to an end.
-use Rattle.std.proofs.Common.{◌≡◌, ℕ, ◌<◌, ◌≤◌, Bool, true, false, List, [], ◌∷◌, length, Option, Some, None, refl, sym, ◌∙◌, ap, subst, ◌&&◌, arith}
+use Rattle.std.proofs.Common.{◌≡◌, ℕ, ◌<◌, ◌≤◌, Bool, true, false, List, [], ◌∷◌, length, Option, Some, None, refl, sym}
+use Rattle.std.proofs.Common.{◌∙◌, ap, subst, ◌&&◌, arith}
 use Rattle.std.specs.Prelude.{unwrap_or}
 use Rattle.std.specs.Option.{option_map}
 use Rattle.std.proofs.lemmas.Bool.{both_ways, leb-false}
@@ -14,17 +15,25 @@ use Rattle.mta_tables.specs.declared.hop.Hop.TheVariants as Hops
 use Rattle.mta_tables.specs.Hops.{best_hop}
 use Rattle.mta_tables.specs.Tables.{TablesValue}
 use Rattle.mta_procedures.specs.declared.case.Case.{Case}
-use Rattle.mta_procedures.specs.declared.case.Case.TheVariants.{Looped, CriticalExtension, NoRoute, Expired, Deferred, ListInHistory, ListProhibited, PosterNotPermitted, FullHistory, LongMembersCopy, ToList, ToMailbox, LongCopy, ToPeer}
+use Rattle.mta_procedures.specs.declared.case.Case.TheVariants.{Looped, CriticalExtension, NoRoute, Expired, Deferred}
+use Rattle.mta_procedures.specs.declared.case.Case.TheVariants.{ListInHistory, ListProhibited, PosterNotPermitted}
+use Rattle.mta_procedures.specs.declared.case.Case.TheVariants.{FullHistory, LongMembersCopy, ToList, ToMailbox}
+use Rattle.mta_procedures.specs.declared.case.Case.TheVariants.{LongCopy, ToPeer}
 use Rattle.mta_procedures.specs.declared.verdict.Verdict.{Verdict}
 use Rattle.mta_procedures.specs.declared.verdict.Verdict.TheVariants.{Deliver, Expand, Back}
 use Rattle.mta_procedures.specs.Copies.{longest_copy}
-use Rattle.mta_procedures.specs.Ends.{IsOfMessages, IsOfProbes, IsOfReports, MessagesHaveTheirVerdicts, ProbesHaveTheirVerdicts, ReportsMakeNoReports, DeliveredMessagesAreAtMailboxes, DeliveredReportsAreAtMailboxes, PassedReportsHaveDestinations, IsExpanded, ExpandedMessagesHaveRoom, MakesReportTo, ReportsGoWhereTheWalkEnds}
+use Rattle.mta_procedures.specs.Ends.{IsOfMessages, IsOfProbes, IsOfReports, MessagesHaveTheirVerdicts}
+use Rattle.mta_procedures.specs.Ends.{ProbesHaveTheirVerdicts, ReportsMakeNoReports, DeliveredMessagesAreAtMailboxes}
+use Rattle.mta_procedures.specs.Ends.{DeliveredReportsAreAtMailboxes, PassedReportsHaveDestinations, IsExpanded}
+use Rattle.mta_procedures.specs.Ends.{ExpandedMessagesHaveRoom, MakesReportTo, ReportsGoWhereTheWalkEnds}
 use Rattle.mta_procedures.specs.Facts.{Facts, facts_of_message, facts_of_probe, facts_of_report}
 use Rattle.mta_procedures.specs.Histories.{is_in_history, longest_history}
 use Rattle.mta_procedures.specs.Reports.{report_to, report_of}
 use Rattle.mta_procedures.specs.Situations.{Situation}
 use Rattle.mta_procedures.specs.Traces.{longest_trace}
-use Rattle.mta_procedures.specs.Verdicts.{applies, cases, first_case, leads_to_list, leads_to_mailbox, place_of, message_column, probe_column, report_column, verdict_of_message, verdict_of_probe, verdict_of_report}
+use Rattle.mta_procedures.specs.Verdicts.{applies, cases, first_case, leads_to_list, leads_to_mailbox, place_of}
+use Rattle.mta_procedures.specs.Verdicts.{message_column, probe_column, report_column, verdict_of_message}
+use Rattle.mta_procedures.specs.Verdicts.{verdict_of_probe, verdict_of_report}
 use Rattle.mta_procedures.specs.Walks.{report_walk}
 use Rattle.mta_procedures.proofs.CaseLaws.{first_applies}
 use Rattle.mta_procedures.proofs.RelayLaws.{not_passed, not_looped, short_copy, short_trace}
@@ -47,7 +56,8 @@ of_reports hop back any2 = tt
 pub messages_have_theirs : MessagesHaveTheirVerdicts
 unfolding verdict_of_message
 messages_have_theirs format s m r members =
-    of_messages (best_hop s.tables r.name) (unwrap_or m.envelope.deferral 0) (first_case (facts_of_message format s m r members))
+    of_messages (best_hop s.tables r.name) (unwrap_or m.envelope.deferral 0)
+    (first_case (facts_of_message format s m r members))
 
 pub probes_have_theirs : ProbesHaveTheirVerdicts
 unfolding verdict_of_probe
@@ -63,11 +73,13 @@ mailbox_is : (hop : Hop) → leads_to_mailbox hop ≡ true → hop ≡ Hops.Loca
 mailbox_is (Hops.Local place) e = refl
 mailbox_is any0 e = absurd cc
 
-message_delivered : (hop : Hop) (deferral place : ℕ) (c : Case) → message_column hop deferral c ≡ Deliver place → (c ≡ ToMailbox) × (place_of hop ≡ place)
+message_delivered : (hop : Hop) (deferral place : ℕ) (c : Case) → message_column hop deferral c ≡ Deliver place
+    → (c ≡ ToMailbox) × (place_of hop ≡ place)
 message_delivered hop deferral place ToMailbox e = (refl, cc)
 message_delivered hop deferral place any3 e = absurd cc
 
-report_delivered : (hop : Hop) (back : Bool) (place : ℕ) (c : Case) → report_column hop back c ≡ Deliver place → (c ≡ ToMailbox) × (place_of hop ≡ place)
+report_delivered : (hop : Hop) (back : Bool) (place : ℕ) (c : Case) → report_column hop back c ≡ Deliver place
+    → (c ≡ ToMailbox) × (place_of hop ≡ place)
 report_delivered hop true place ToList e = absurd cc
 report_delivered hop false place ToList e = absurd cc
 report_delivered hop back place ToMailbox e = (refl, cc)
@@ -82,7 +94,8 @@ pub messages_at_mailboxes : DeliveredMessagesAreAtMailboxes
 unfolding verdict_of_message
 messages_at_mailboxes format s m r members place e =
     let f = facts_of_message format s m r members in
-    at_mailbox f place (message_delivered (best_hop s.tables r.name) (unwrap_or m.envelope.deferral 0) place (first_case f) e)
+    at_mailbox f place (message_delivered (best_hop s.tables r.name) (unwrap_or m.envelope.deferral 0) place
+    (first_case f) e)
 
 pub reports_at_mailboxes : DeliveredReportsAreAtMailboxes
 unfolding verdict_of_report
@@ -119,7 +132,8 @@ data IsExpansion (c : Case) : Type 0 where
   again : c ≡ ListInHistory → IsExpansion c
   once : c ≡ ToList → IsExpansion c
 
-message_expanded : (hop : Hop) (deferral place : ℕ) (c : Case) → message_column hop deferral c ≡ Expand place → IsExpansion c × (place_of hop ≡ place)
+message_expanded : (hop : Hop) (deferral place : ℕ) (c : Case) → message_column hop deferral c ≡ Expand place
+    → IsExpansion c × (place_of hop ≡ place)
 message_expanded hop deferral place ListInHistory e = (again refl, cc)
 message_expanded hop deferral place ToList e = (once refl, cc)
 message_expanded hop deferral place any3 e = absurd cc
@@ -142,7 +156,8 @@ no_second false y h e = absurd cc
 
 -- the first case is one of a list
 leads_to_one : (f : Facts) → IsExpansion (first_case f) → leads_to_list f.hop ≡ true
-leads_to_one f (again e) = let i = first_applies f in first_of_two (leads_to_list f.hop) f.in_history (sym (ap (applies f) e) ∙ i.applies_so)
+leads_to_one f (again e) = let i = first_applies f in first_of_two (leads_to_list f.hop) f.in_history
+    (sym (ap (applies f) e) ∙ i.applies_so)
 leads_to_one f (once e) = let i = first_applies f in sym (ap (applies f) e) ∙ i.applies_so
 
 no_loop : (f : Facts) → IsExpansion (first_case f) → f.looped ≡ false
@@ -150,18 +165,26 @@ no_loop f (again e) = not_looped f ListInHistory e refl
 no_loop f (once e) = not_looped f ToList e refl
 
 no_full_history : (f : Facts) → IsExpansion (first_case f) → f.in_history ≡ false → f.full_history ≡ false
-no_full_history f (again e) none = let i = first_applies f in absurd (both_ways f.in_history none (second_of_two (leads_to_list f.hop) f.in_history (sym (ap (applies f) e) ∙ i.applies_so)))
+no_full_history f (again e) none = let i =
+    first_applies f in absurd (both_ways f.in_history none
+    (second_of_two (leads_to_list f.hop) f.in_history (sym (ap (applies f) e) ∙ i.applies_so)))
 no_full_history f (once e) none =
     let i = first_applies f in
     no_second (leads_to_list f.hop) f.full_history (sym (ap (applies f) e) ∙ i.applies_so)
-    (not_passed f is_prevention (Looped ∷ CriticalExtension ∷ NoRoute ∷ Expired ∷ Deferred ∷ ListInHistory ∷ ListProhibited ∷ PosterNotPermitted ∷ []) (LongMembersCopy ∷ ToList ∷ ToMailbox ∷ LongCopy ∷ ToPeer ∷ []) FullHistory refl refl refl (ap is_prevention e))
+    (not_passed f is_prevention (Looped ∷ CriticalExtension ∷ NoRoute ∷ Expired ∷ Deferred ∷ ListInHistory
+    ∷ ListProhibited ∷ PosterNotPermitted ∷ []) (LongMembersCopy ∷ ToList ∷ ToMailbox ∷ LongCopy ∷ ToPeer ∷ [])
+    FullHistory refl refl refl (ap is_prevention e))
 
 no_long_members : (f : Facts) → IsExpansion (first_case f) → f.in_history ≡ false → f.long_members ≡ false
-no_long_members f (again e) none = let i = first_applies f in absurd (both_ways f.in_history none (second_of_two (leads_to_list f.hop) f.in_history (sym (ap (applies f) e) ∙ i.applies_so)))
+no_long_members f (again e) none = let i =
+    first_applies f in absurd (both_ways f.in_history none
+    (second_of_two (leads_to_list f.hop) f.in_history (sym (ap (applies f) e) ∙ i.applies_so)))
 no_long_members f (once e) none =
     let i = first_applies f in
     no_second (leads_to_list f.hop) f.long_members (sym (ap (applies f) e) ∙ i.applies_so)
-    (not_passed f is_prevention (Looped ∷ CriticalExtension ∷ NoRoute ∷ Expired ∷ Deferred ∷ ListInHistory ∷ ListProhibited ∷ PosterNotPermitted ∷ FullHistory ∷ []) (ToList ∷ ToMailbox ∷ LongCopy ∷ ToPeer ∷ []) LongMembersCopy refl refl refl (ap is_prevention e))
+    (not_passed f is_prevention (Looped ∷ CriticalExtension ∷ NoRoute ∷ Expired ∷ Deferred ∷ ListInHistory
+    ∷ ListProhibited ∷ PosterNotPermitted ∷ FullHistory ∷ []) (ToList ∷ ToMailbox ∷ LongCopy ∷ ToPeer ∷ [])
+    LongMembersCopy refl refl refl (ap is_prevention e))
 
 pub expanded_have_room : ExpandedMessagesHaveRoom
 unfolding verdict_of_message
@@ -177,10 +200,13 @@ expanded_have_room format s m r members place h =
 
 -- ---- reports that are made
 
-mapped : (walked : Option Attributes) (make : Attributes → ReportFields) (t : TablesValue) (e : EnvelopeFields) → ((d : Attributes) → (make d).destination ≡ d) → report_walk t e ≡ walked → MakesReportTo (option_map make walked) t e
+mapped : (walked : Option Attributes) (make : Attributes → ReportFields) (t : TablesValue) (e : EnvelopeFields)
+    → ((d : Attributes) → (make d).destination ≡ d) → report_walk t e ≡ walked
+    → MakesReportTo (option_map make walked) t e
 mapped None make t e same h = h
 mapped (Some d) make t e same h = h ∙ ap (λ x. Some x) (sym (same d))
 
 pub reports_go : ReportsGoWhereTheWalkEnds
 unfolding report_of
-reports_go t number arrival e r outcome = mapped (report_walk t e) (report_to t number arrival e r outcome) t e (λ d. refl) refl
+reports_go t number arrival e r outcome =
+    mapped (report_walk t e) (report_to t number arrival e r outcome) t e (λ d. refl) refl

@@ -18,7 +18,8 @@ use Rattle.mta_rules.specs.Cases.{IsCopyLength, IsOfReport}
 use Rattle.mta_rules.proofs.Copies.{copy_counts, report_copy_counts}
 
 pub message_verdict : (format : ℕ) (s : Situation) (m : MessageValue) (r : RecipientFields) (members : ℕ)
-    (e : EnvelopeFields) (hop : Hop) (copy d : ℕ) (k : Case) (v : Verdict) → e ≡ m.envelope → hop ≡ best_hop s.tables r.name
+    (e : EnvelopeFields) (hop : Hop) (copy d : ℕ) (k : Case) (v : Verdict) → e ≡ m.envelope → hop
+    ≡ best_hop s.tables r.name
     → IsCopyLength hop (outgoing_message s m []) copy → d ≡ unwrap_or e.deferral 0
     → k ≡ first_case (envelope_facts format s e r hop members copy) → v ≡ message_column hop d k
     → v ≡ verdict_of_message format s m r members

@@ -26,8 +26,8 @@ use Rattle.mta_commands.specs.Images.{IsSafeBefore}
 use Rattle.mta_commands.specs.Provenance.{AreOfCall}
 
 -- What the steps are for the machine of recipients is a run of it, from the state of the snapshot with which they begin
--- or from nothing. Each recipient for whom this agent is responsible is pending with no discharge, or is not pending and
--- has one; what the snapshot has discharged counts as one.
+-- or from nothing. Each recipient for whom this agent is responsible is pending with no discharge, or is not pending
+-- and has one; what the snapshot has discharged counts as one.
 pub record RecipientsOnce (steps : List Step) : Type 0 where
   pub run : IsRun (project steps).start (project steps).steps
   pub once : (i r : ℕ) (s : Status) → status_at (after steps).machine i r ≡ Some (Some s)

@@ -66,7 +66,8 @@ items-same moment lines number n (x ∷ items) sound short =
 
 pub queues_print_the_same : QueuesPrintTheSame
 queues_print_the_same s sound short =
-    ap (λ (t : List ℕ). t ++ lane_lines s.lanes.open_lanes) (items-same s.moment s.machine.mailboxes 1 1 s.machine.items sound.items short)
+    ap (λ (t : List ℕ). t ++ lane_lines s.lanes.open_lanes)
+    (items-same s.moment s.machine.mailboxes 1 1 s.machine.items sound.items short)
 
 -- ---- mailboxes
 

@@ -88,8 +88,8 @@ fn stood(alloc: Global, state: Snapshot) -> Result<Option<Kept>, Memory>
 }
 
 /// The state in memory that a snapshot has, with which a history may begin; none where it may not. Each item is read
-/// once, and once more for each activity with it that may be completed. The rules of tables are made once for each text,
-/// and once for each such activity.
+/// once, and once more for each activity with it that may be completed. The rules of tables are made once for each
+/// text, and once for each such activity.
 pub fn begun<R: Rules + Drop>(alloc: Global, state: Snapshot) -> Result<Option<Kept>, Memory>
     requires fields { HasFields (Steps.Snapshot state) }
     ensures { IfOk result (Begins state) }
