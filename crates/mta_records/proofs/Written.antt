@@ -1,5 +1,6 @@
 -- What a snapshot that fits gives to who writes it.
-use Rattle.std.proofs.Common.{◌≡◌, ℕ, ◌<◌, ◌≤◌, ◌^◌, eqb, Bool, List, ◌++◌, length, Option, Some, None, Result, OnOk, ap, subst}
+use Rattle.std.proofs.Common.{◌≡◌, ℕ, ◌<◌, ◌≤◌, ◌^◌, eqb, Bool, List, ◌++◌, length, Option, Some, None, Result, OnOk}
+use Rattle.std.proofs.Common.{ap, subst}
 use Rattle.std.specs.Int.{w32, w64}
 use Rattle.mta_lane_send.specs.declared.state.SendState.{SendState}
 use Rattle.mta_lane_send.specs.declared.state.SendState.TheVariants.{Sending, Ending, Dropping}

@@ -9,7 +9,8 @@ use Rattle.mta_records.proofs.snapshots.put_snapshot.Goals as goal
 
 pub returns : goal.returns
 returns c =
-    subst (λ (s : SnapshotValue). OnOk c.put_list-4.result (c.put_list-4.new.out ≡ c.args.out.now ++ a_snapshot.spelled s))
+    subst (λ (s : SnapshotValue). OnOk c.put_list-4.result
+    (c.put_list-4.new.out ≡ c.args.out.now ++ a_snapshot.spelled s))
     c.state.view_is
     (snapshot_put c.put_list-4.result _ c.args.out.now c.put_number.new.out c.put_long_number.new.out c.put_list.new.out
     c.put_list-2.new.out c.put_list-3.new.out c.put_number-2.new.out c.put_list-4.new.out
