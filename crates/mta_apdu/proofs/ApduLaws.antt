@@ -1,5 +1,6 @@
 -- APDUs are read exactly where they are spelled.
-use Rattle.std.proofs.Common.{◌≡◌, ℕ, ◌+◌, ◌-◌, ◌≤◌, Bool, true, false, cond, nat_le, List, [], ◌∷◌, ◌++◌, length, Option, Some, None, Result, Ok, Err, refl, sym, ap, subst, ◌∙◌, append-nil, arith}
+use Rattle.std.proofs.Common.{◌≡◌, ℕ, ◌+◌, ◌-◌, ◌≤◌, Bool, true, false, cond, nat_le, List, [], ◌∷◌, ◌++◌, length}
+use Rattle.std.proofs.Common.{Option, Some, None, Result, Ok, Err, refl, sym, ap, subst, ◌∙◌, append-nil, arith}
 use Rattle.std.proofs.lemmas.Bool.{leb-true, le-leb}
 use Rattle.mta_ber.specs.declared.fault.Fault.{Fault}
 use Rattle.mta_ber.specs.declared.fault.Kind.TheVariants.{BadTag, TooLong}
@@ -29,43 +30,58 @@ use Rattle.mta_apdu.specs.declared.apdu.Apdu.{Apdu}
 use Rattle.mta_apdu.specs.declared.apdu.Apdu.TheVariants as apdu
 use Rattle.mta_apdu.specs.declared.kind.ApduKind.{ApduKind}
 use Rattle.mta_apdu.specs.declared.kind.ApduKind.TheVariants.{OfMessage, OfReport, OfProbe}
-use Rattle.mta_apdu.specs.Apdus.{ApduValue, message, probe, report, longest_apdu, kind_of, apdu_as, apdu_of_kind, apdu_in, end_at, ends, whole_in, front_in, longest_stored, stored_of, apdu_of, kind_number, SpellsKind, SpellsWhole, SpellsApdu, SpellsStored, IsContentOf, IsPlacedIn, IsPlacedInside}
+use Rattle.mta_apdu.specs.Apdus.{ApduValue, message, probe, report, longest_apdu, kind_of, apdu_as, apdu_of_kind}
+use Rattle.mta_apdu.specs.Apdus.{apdu_in, end_at, ends, whole_in, front_in, longest_stored, stored_of, apdu_of}
+use Rattle.mta_apdu.specs.Apdus.{kind_number, SpellsKind, SpellsWhole, SpellsApdu, SpellsStored, IsContentOf}
+use Rattle.mta_apdu.specs.Apdus.{IsPlacedIn, IsPlacedInside}
 
 abbrev HasTag : Tag → ApduKind → Type 0
 HasTag t k = is_tag 2 (kind_number k) t ≡ true
 
 tagged : (t : Tag) (k : ApduKind) → kind_of t ≡ Some k → HasTag t k
-tagged t = picked (HasTag t) (is_tag 2 0 t) OfMessage _ (λ e. e) (picked (HasTag t) (is_tag 2 1 t) OfReport _ (λ e. e) (picked (HasTag t) (is_tag 2 2 t) OfProbe _ (λ e. e) (not_none (HasTag t))))
+tagged t = picked (HasTag t) (is_tag 2 0 t) OfMessage _ (λ e. e)
+    (picked (HasTag t) (is_tag 2 1 t) OfReport _ (λ e. e)
+    (picked (HasTag t) (is_tag 2 2 t) OfProbe _ (λ e. e) (not_none (HasTag t))))
 
 found : (k : ApduKind) (t : Tag) → HasTag t k → kind_of t ≡ Some k
 found OfMessage t h = let e = tag_is 2 0 t h in rw (e.0, e.1) refl
 found OfReport t h = let e = tag_is 2 1 t h in rw (e.0, e.1) refl
 found OfProbe t h = let e = tag_is 2 2 t h in rw (e.0, e.1) refl
 
-kind_sound : (k : ApduKind) (v : ApduValue) (p : Part) → IsOctets p.content → apdu_as k p ≡ Ok v → SpellsKind k p.depth p.tag p.content v
+kind_sound : (k : ApduKind) (v : ApduValue) (p : Part) → IsOctets p.content → apdu_as k p ≡ Ok v
+    → SpellsKind k p.depth p.tag p.content v
 unfolding apdu_as
-kind_sound OfMessage v p o e = puts_sound (message_in p) message v (SpellsMessage p.depth p.tag p.content) (λ x r. message_sound x p o r) e
-kind_sound OfReport v p o e = puts_sound (report_in p) report v (SpellsReport p.depth p.tag p.content) (λ x r. report_sound x p o r) e
-kind_sound OfProbe v p o e = puts_sound (probe_in p) probe v (SpellsProbe p.depth p.tag p.content) (λ x r. probe_sound x p o r) e
+kind_sound OfMessage v p o e = puts_sound (message_in p) message v (SpellsMessage p.depth p.tag p.content)
+    (λ x r. message_sound x p o r) e
+kind_sound OfReport v p o e = puts_sound (report_in p) report v (SpellsReport p.depth p.tag p.content)
+    (λ x r. report_sound x p o r) e
+kind_sound OfProbe v p o e = puts_sound (probe_in p) probe v (SpellsProbe p.depth p.tag p.content)
+    (λ x r. probe_sound x p o r) e
 
 kind_full : (k : ApduKind) (v : ApduValue) (p : Part) → SpellsKind k p.depth p.tag p.content v → apdu_as k p ≡ Ok v
 unfolding apdu_as
-kind_full OfMessage v p h = puts_full (message_in p) message v (SpellsMessage p.depth p.tag p.content) (λ x r. message_full x p r) h
-kind_full OfReport v p h = puts_full (report_in p) report v (SpellsReport p.depth p.tag p.content) (λ x r. report_full x p r) h
-kind_full OfProbe v p h = puts_full (probe_in p) probe v (SpellsProbe p.depth p.tag p.content) (λ x r. probe_full x p r) h
+kind_full OfMessage v p h = puts_full (message_in p) message v (SpellsMessage p.depth p.tag p.content)
+    (λ x r. message_full x p r) h
+kind_full OfReport v p h = puts_full (report_in p) report v (SpellsReport p.depth p.tag p.content)
+    (λ x r. report_full x p r) h
+kind_full OfProbe v p h = puts_full (probe_in p) probe v (SpellsProbe p.depth p.tag p.content)
+    (λ x r. probe_full x p r) h
 
 end_so : (at : ℕ) (rest : List ℕ) (u : Unit {0}) → end_at at rest ≡ Ok u → rest ≡ []
 end_so at [] u e = refl
 end_so at (b ∷ bs) u e = absurd cc
 
-choice_so : (o : Option ApduKind) (p : Part) (v : ApduValue) → apdu_of_kind o p ≡ Ok v → (k : ApduKind) × (o ≡ Some k) × (apdu_as k p ≡ Ok v)
+choice_so : (o : Option ApduKind) (p : Part) (v : ApduValue) → apdu_of_kind o p ≡ Ok v → (k : ApduKind) × (o ≡ Some k)
+    × (apdu_as k p ≡ Ok v)
 choice_so None p v e = absurd cc
 choice_so (Some k) p v e = (k, refl, e)
 
-content_octets : (at depth : ℕ) (p : Part) (bytes : List ℕ) → Standing at depth p bytes → IsOctets bytes → IsOctets p.content
+content_octets : (at depth : ℕ) (p : Part) (bytes : List ℕ) → Standing at depth p bytes → IsOctets bytes
+    → IsOctets p.content
 content_octets at depth p bytes h octets =
     let own = IsBytes-front p.octets p.rest (subst IsOctets h.octets_are octets) in
-    IsBytes-front p.content (ending_of h.stands.count) (IsBytes-back h.stands.header (p.content ++ ending_of h.stands.count) (subst IsOctets h.stands.octets_are own))
+    IsBytes-front p.content (ending_of h.stands.count)
+    (IsBytes-back h.stands.header (p.content ++ ending_of h.stands.count) (subst IsOctets h.stands.octets_are own))
 
 abbrev after_end : ApduValue → Unit {0} → Result ApduValue Fault
 after_end v u = Ok v
@@ -89,29 +105,36 @@ whole_sound bytes v octets e =
       stands = subst (λ o. Stands (outermost f.0.tag) f.0.tag f.0.content o) all s.stands;
       kind = k.0;
       is_tag_of = tagged f.0.tag k.0 k.1;
-      spelled = subst (λ d. SpellsKind k.0 d f.0.tag f.0.content a.0) s.depth_is (kind_sound k.0 a.0 f.0 (content_octets 0 (outermost f.0.tag) f.0 bytes s octets) k.2);
+      spelled = subst (λ d. SpellsKind k.0 d f.0.tag f.0.content a.0) s.depth_is
+          (kind_sound k.0 a.0 f.0 (content_octets 0 (outermost f.0.tag) f.0 bytes s octets) k.2);
     })
 
 whole_full : (bytes : List ℕ) (v : ApduValue) → SpellsWhole bytes v → front_in bytes ≡ Ok v
 unfolding apdu_in ends
 whole_full bytes v h =
     let p : Part = lent_part 0 (outermost h.tag) h.tag (length h.stands.header) h.content [] bytes in
-    let found_first : first 0 bytes ≡ Ok p = ap (first 0) (sym (append-nil bytes)) ∙ first_stands 0 h.tag h.content bytes [] h.stands in
+    let found_first : first 0 bytes ≡ Ok p = ap (first 0) (sym (append-nil bytes))
+    ∙ first_stands 0 h.tag h.content bytes [] h.stands in
     ap (λ r. r >>= whole_in) found_first
     ∙ ap (λ o. apdu_of_kind o p >>= after_element p) (found h.kind h.tag h.is_tag_of)
     ∙ ap (λ r. r >>= after_element p) (kind_full h.kind v p h.spelled)
 
-limited_so : (limit : ℕ) (bytes : List ℕ) (v : ApduValue) → cond (nat_le (length bytes) limit) (front_in bytes) (fault limit TooLong) ≡ Ok v → (length bytes ≤ limit) × (front_in bytes ≡ Ok v)
+limited_so : (limit : ℕ) (bytes : List ℕ) (v : ApduValue)
+    → cond (nat_le (length bytes) limit) (front_in bytes) (fault limit TooLong) ≡ Ok v → (length bytes ≤ limit)
+    × (front_in bytes ≡ Ok v)
 limited_so limit bytes v e =
     let c = taken (nat_le (length bytes) limit) (front_in bytes) (record { at = limit; kind = TooLong }) v e in
     (leb-true (length bytes) limit c.0, c.1)
 
-pub so_limited : (limit : ℕ) (bytes : List ℕ) → length bytes ≤ limit → cond (nat_le (length bytes) limit) (front_in bytes) (fault limit TooLong) ≡ front_in bytes
-so_limited limit bytes short = ap (λ b. cond b (front_in bytes) (fault limit TooLong)) (le-leb (length bytes) limit short)
+pub so_limited : (limit : ℕ) (bytes : List ℕ) → length bytes ≤ limit
+    → cond (nat_le (length bytes) limit) (front_in bytes) (fault limit TooLong) ≡ front_in bytes
+so_limited limit bytes short = ap (λ b. cond b (front_in bytes) (fault limit TooLong))
+    (le-leb (length bytes) limit short)
 
 pub apdu_sound : (bytes : List ℕ) (v : ApduValue) → IsOctets bytes → apdu_of bytes ≡ Ok v → SpellsApdu bytes v
 unfolding apdu_of
-apdu_sound bytes v octets e = let c = limited_so longest_apdu bytes v e in record { short = c.0; whole = whole_sound bytes v octets c.1 }
+apdu_sound bytes v octets e = let c = limited_so longest_apdu bytes v e in
+    record { short = c.0; whole = whole_sound bytes v octets c.1 }
 
 pub apdu_full : (bytes : List ℕ) (v : ApduValue) → SpellsApdu bytes v → apdu_of bytes ≡ Ok v
 unfolding apdu_of
@@ -119,7 +142,8 @@ apdu_full bytes v h = so_limited longest_apdu bytes h.short ∙ whole_full bytes
 
 pub stored_sound : (bytes : List ℕ) (v : ApduValue) → IsOctets bytes → stored_of bytes ≡ Ok v → SpellsStored bytes v
 unfolding stored_of
-stored_sound bytes v octets e = let c = limited_so longest_stored bytes v e in record { short = c.0; whole = whole_sound bytes v octets c.1 }
+stored_sound bytes v octets e = let c = limited_so longest_stored bytes v e in
+    record { short = c.0; whole = whole_sound bytes v octets c.1 }
 
 pub stored_full : (bytes : List ℕ) (v : ApduValue) → SpellsStored bytes v → stored_of bytes ≡ Ok v
 unfolding stored_of
@@ -138,7 +162,8 @@ read_short bytes v e = (limited_so longest_apdu bytes v e).0
 
 -- ---- the place of a content
 
-content_placed : (c : Content) (o : Option Place) (whole slice : Bor (List ℕ)) (p : Part) → Standing 0 (outermost p.tag) p whole.now → p.rest ≡ [] → slice.now ≡ p.content → IsAt (p.start - 0) slice whole
+content_placed : (c : Content) (o : Option Place) (whole slice : Bor (List ℕ)) (p : Part)
+    → Standing 0 (outermost p.tag) p whole.now → p.rest ≡ [] → slice.now ≡ p.content → IsAt (p.start - 0) slice whole
     → IsPlaced (IsBehindEnvelope (p.depth + 1)) p.start slice c o → IsPlaced IsContentOf 0 whole c o
 content_placed (Joined x) None whole slice p h none own memory placed = tt
 content_placed (Joined x) (Some o) whole slice p h none own memory placed = placed
@@ -146,7 +171,8 @@ content_placed (Lent c) None whole slice p h none own memory placed = placed
 content_placed (Lent c) (Some o) whole slice p h none own memory placed =
     let all : whole.now ≡ p.octets = h.octets_are ∙ ap (λ r. p.octets ++ r) none ∙ append-nil p.octets in
     let inside : IsBehindEnvelope (outermost p.tag + 1) p.content c.now placed.offset =
-    subst (λ d. IsBehindEnvelope (d + 1) p.content c.now placed.offset) h.depth_is (subst (λ l. IsBehindEnvelope (p.depth + 1) l c.now placed.offset) own placed.stands) in
+    subst (λ d. IsBehindEnvelope (d + 1) p.content c.now placed.offset) h.depth_is
+    (subst (λ l. IsBehindEnvelope (p.depth + 1) l c.now placed.offset) own placed.stands) in
     record {
       offset = p.start + placed.offset;
       from_is = omega (arith, placed.from_is);
@@ -170,13 +196,17 @@ content_placed (Lent c) (Some o) whole slice p h none own memory placed =
       memory = (placed.memory.0 ∙ memory.0, omega (arith, placed.memory.1, memory.1));
     }
 
-apdu_placed : (a : Apdu) (whole slice : Bor (List ℕ)) (p : Part) → Standing 0 (outermost p.tag) p whole.now → p.rest ≡ [] → slice.now ≡ p.content → IsAt (p.start - 0) slice whole
+apdu_placed : (a : Apdu) (whole slice : Bor (List ℕ)) (p : Part) → Standing 0 (outermost p.tag) p whole.now
+    → p.rest ≡ [] → slice.now ≡ p.content → IsAt (p.start - 0) slice whole
     → IsPlacedInside p.depth p.start slice a → IsPlacedIn whole a
-apdu_placed (apdu.Message m) whole slice p h none own memory placed = content_placed m.content m.place whole slice p h none own memory placed
+apdu_placed (apdu.Message m) whole slice p h none own memory placed =
+    content_placed m.content m.place whole slice p h none own memory placed
 apdu_placed (apdu.Probe m) whole slice p h none own memory placed = tt
 apdu_placed (apdu.Report m) whole slice p h none own memory placed = tt
 
-pub placed_in : (whole slice : Bor (List ℕ)) (p : Part) (r : Result Apdu ReadFault) → Standing 0 (outermost p.tag) p whole.now → IfOk r (λ _. p.rest ≡ []) → slice.now ≡ p.content → IsAt (p.start - 0) slice whole
+pub placed_in : (whole slice : Bor (List ℕ)) (p : Part) (r : Result Apdu ReadFault)
+    → Standing 0 (outermost p.tag) p whole.now → IfOk r (λ _. p.rest ≡ []) → slice.now ≡ p.content
+    → IsAt (p.start - 0) slice whole
     → IfOk r (IsPlacedInside p.depth p.start slice) → IfOk r (IsPlacedIn whole)
 placed_in whole slice p (Ok a) h none own memory placed = apdu_placed a whole slice p h none own memory placed
 placed_in whole slice p (Err f) h none own memory placed = tt

@@ -41,7 +41,8 @@ longest_apdu = 2097152
 -- ---- reading
 
 abbrev pub kind_of : Tag → Option ApduKind
-kind_of t = if is_tag 2 0 t then Some OfMessage else if is_tag 2 1 t then Some OfReport else if is_tag 2 2 t then Some OfProbe else None
+kind_of t = if is_tag 2 0 t then Some OfMessage else if is_tag 2 1 t then Some OfReport else if is_tag 2 2 t then
+    Some OfProbe else None
 
 unfoldable pub apdu_as : ApduKind → Part → Result ApduValue Fault
 apdu_as OfMessage p = message_in p >>= λ v. Ok (message v)

@@ -29,7 +29,8 @@ in_one_piece (report v) = report v
 
 -- an APDU whose canonical octets are not too many is read again from them
 abbrev pub ApdusAreReadAgain : Type 0
-ApdusAreReadAgain = (v : ApduValue) → IsWholeApdu v → KeepsApdu v → length (canonical_apdu v) ≤ longest_apdu → apdu_of (canonical_apdu v) ≡ Ok (in_one_piece v)
+ApdusAreReadAgain = (v : ApduValue) → IsWholeApdu v → KeepsApdu v → length (canonical_apdu v) ≤ longest_apdu
+    → apdu_of (canonical_apdu v) ≡ Ok (in_one_piece v)
 
 -- an APDU that was read keeps what it keeps in the level of its place, and is one
 abbrev pub ReadApdusAreKept : Type 0
@@ -37,7 +38,8 @@ ReadApdusAreKept = (bytes : List ℕ) (v : ApduValue) → SpellsApdu bytes v →
 
 -- so an APDU that was read is written so that it is read again
 abbrev pub ReadApdusAreReadAgain : Type 0
-ReadApdusAreReadAgain = (bytes : List ℕ) (v : ApduValue) → SpellsApdu bytes v → length (canonical_apdu v) ≤ longest_apdu → apdu_of (canonical_apdu v) ≡ Ok (in_one_piece v)
+ReadApdusAreReadAgain = (bytes : List ℕ) (v : ApduValue) → SpellsApdu bytes v → length (canonical_apdu v) ≤ longest_apdu
+    → apdu_of (canonical_apdu v) ≡ Ok (in_one_piece v)
 
 -- an APDU that is kept is read again from its canonical octets, also where they are more than may be submitted
 abbrev pub StoredApdusAreReadAgain : Type 0
@@ -53,4 +55,5 @@ SubmittedApdusAreStored = (bytes : List ℕ) → length bytes ≤ longest_apdu �
 
 -- no spelling begins another, and each is that of one value
 abbrev pub NoApduBeginsAnother : Type 0
-NoApduBeginsAnother = (e e' x y : List ℕ) (v w : ApduValue) → SpellsApdu e v → SpellsApdu e' w → e ++ x ≡ e' ++ y → (e ≡ e') × (v ≡ w)
+NoApduBeginsAnother = (e e' x y : List ℕ) (v w : ApduValue) → SpellsApdu e v → SpellsApdu e' w → e ++ x ≡ e' ++ y
+    → (e ≡ e') × (v ≡ w)

@@ -60,7 +60,9 @@ action_text Rerouted = codes " rerouted"
 unfoldable pub trace_line : TraceFields → List ℕ
 trace_line t =
     codes "trace "
-    ++ (domain_text t.domain ++ (32 ∷ moment_text t.supplied.arrival ++ (action_text t.supplied.action ++ (word_if t.supplied.redirected (codes " redirected") ++ (word_if t.supplied.dl (codes " dl") ++ 10 ∷ [])))))
+    ++ (domain_text t.domain ++ (32 ∷ moment_text t.supplied.arrival
+    ++ (action_text t.supplied.action
+    ++ (word_if t.supplied.redirected (codes " redirected") ++ (word_if t.supplied.dl (codes " dl") ++ 10 ∷ [])))))
 
 unfoldable pub trace_lines : List TraceFields → List ℕ
 trace_lines ts = flat_map trace_line ts
@@ -75,14 +77,17 @@ criticality_text e = bit_digit e.submission ∷ bit_digit e.transfer ∷ bit_dig
 
 -- how many octets the value has; 2 where it is the default, NULL
 unfoldable pub extension_line : ExtFields → List ℕ
-extension_line e = codes "extension " ++ (ext_kind_text e.kind ++ (32 ∷ criticality_text e ++ (32 ∷ decimal (length e.value) ++ (codes " octets" ++ 10 ∷ []))))
+extension_line e = codes "extension "
+    ++ (ext_kind_text e.kind ++ (32 ∷ criticality_text e
+    ++ (32 ∷ decimal (length e.value) ++ (codes " octets" ++ 10 ∷ []))))
 
 unfoldable pub extension_lines : List ExtFields → List ℕ
 extension_lines es = flat_map extension_line es
 
 -- the originally specified number, the indicators and the name
 unfoldable pub recipient_line : ℕ → BitString → Attributes → List ℕ
-recipient_line number indicators name = codes "recipient " ++ (decimal number ++ (32 ∷ bits_text indicators ++ (32 ∷ text_form name ++ 10 ∷ [])))
+recipient_line number indicators name = codes "recipient "
+    ++ (decimal number ++ (32 ∷ bits_text indicators ++ (32 ∷ text_form name ++ 10 ∷ [])))
 
 -- how many octets the content has, and the octets; behind the space stands nothing where there are none
 unfoldable pub content_line : List ℕ → List ℕ

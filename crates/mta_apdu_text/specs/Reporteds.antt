@@ -29,7 +29,9 @@ unfoldable pub arrival_text : ℕ → Attributes → List ℕ
 arrival_text moment name = codes " arrived " ++ (moment_text moment ++ (32 ∷ text_form name ++ 10 ∷ []))
 
 unfoldable pub reported_line : ReportedFields → List ℕ
-reported_line r = codes "recipient " ++ (decimal r.number ++ (32 ∷ bits_text r.indicators ++ (32 ∷ outcome_text r.outcome ++ arrival_text r.arrival r.name)))
+reported_line r = codes "recipient "
+    ++ (decimal r.number ++ (32 ∷ bits_text r.indicators
+    ++ (32 ∷ outcome_text r.outcome ++ arrival_text r.arrival r.name)))
 
 unfoldable pub reported_lines : List ReportedFields → List ℕ
 reported_lines rs = flat_map reported_line rs

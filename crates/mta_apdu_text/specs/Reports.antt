@@ -6,7 +6,10 @@ use Rattle.mta_apdu_text.specs.Reporteds.{reported_lines}
 
 -- of the subject: its identifier, content type and content identifier
 unfoldable pub subject_lines : ReportFields → List ℕ
-subject_lines r = id_line (codes "subject ") r.subject ++ (line_if content_type_line r.content_kind ++ line_if content_id_line r.content_id)
+subject_lines r = id_line (codes "subject ") r.subject
+    ++ (line_if content_type_line r.content_kind ++ line_if content_id_line r.content_id)
 
 unfoldable pub report_text : ReportFields → List ℕ
-report_text r = id_line (codes "report ") r.id ++ (name_line (codes "destination ") r.destination ++ (trace_lines r.trace ++ (subject_lines r ++ reported_lines r.recipients)))
+report_text r = id_line (codes "report ") r.id
+    ++ (name_line (codes "destination ") r.destination
+    ++ (trace_lines r.trace ++ (subject_lines r ++ reported_lines r.recipients)))

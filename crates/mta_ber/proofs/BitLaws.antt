@@ -1,6 +1,8 @@
 -- Bits as numbers.
-use Rattle.std.proofs.Common.{◌≡◌, ℕ, zero, suc, ◌+◌, ◌*◌, ◌-◌, ◌/◌, ◌%◌, ◌≤◌, ◌<◌, ◌^◌, Bool, true, List, [], ◌∷◌, length, refl, sym, ap, ◌∙◌, arith}
-use Rattle.std.proofs.Math.Nat.{pow-succ', mul-le-mul_right, pow-le-pow_right, one-le-pow, div-lt_iff_lt-mul, mod-eq_of_lt}
+use Rattle.std.proofs.Common.{◌≡◌, ℕ, zero, suc, ◌+◌, ◌*◌, ◌-◌, ◌/◌, ◌%◌, ◌≤◌, ◌<◌, ◌^◌, Bool, true, List, [], ◌∷◌}
+use Rattle.std.proofs.Common.{length, refl, sym, ap, ◌∙◌, arith}
+use Rattle.std.proofs.Math.Nat.{pow-succ', mul-le-mul_right, pow-le-pow_right, one-le-pow, div-lt_iff_lt-mul}
+use Rattle.std.proofs.Math.Nat.{mod-eq_of_lt}
 use Rattle.std.proofs.lemmas.Nat.{pow-add, shl_below}
 use Rattle.std.proofs.lemmas.Bool.Decides.{nat_tests}
 use Rattle.mta_ber.specs.Head.{base}
@@ -25,7 +27,8 @@ octets_as_bits (suc n) =
     let e : 8 * suc n ≡ 8 + 8 * n = omega arith in
     pow-succ' 256 n ∙ ap (λ x. 256 * x) (octets_as_bits n) ∙ sym (ap (λ k. 2 ^ k) e ∙ pow-add 2 8 (8 * n))
 
-pub number_below : (unused : ℕ) (octets : List ℕ) → unused ≤ 8 * length octets → base 256 octets / 2 ^ unused < 2 ^ (8 * length octets - unused)
+pub number_below : (unused : ℕ) (octets : List ℕ) → unused ≤ 8 * length octets
+    → base 256 octets / 2 ^ unused < 2 ^ (8 * length octets - unused)
 number_below unused octets few =
     let whole = fold_below 0 octets in
     let e = octets_as_bits (length octets) in
@@ -33,13 +36,15 @@ number_below unused octets few =
     let p = ap (λ k. 2 ^ k) split ∙ pow-add 2 (8 * length octets - unused) unused in
     (div-lt_iff_lt-mul (one-le-pow unused 2 (omega arith))).1 (omega (arith, whole, e, p))
 
-pub few_unused : (last : Bool) (unused : ℕ) (octets : List ℕ) → good_unused last unused octets ≡ true → (unused < 8) × (unused ≤ 8 * length octets)
+pub few_unused : (last : Bool) (unused : ℕ) (octets : List ℕ) → good_unused last unused octets ≡ true → (unused < 8)
+    × (unused ≤ 8 * length octets)
 few_unused last unused [] e = grind (arith, nat_tests)
 few_unused last unused (o ∷ os) e = grind (arith, nat_tests)
 
 -- bits behind others are a number of as many digits
 pub joined_below : (count s number unused : ℕ) (octets : List ℕ) → unused ≤ 8 * length octets → number ≡ base 256 octets
-    → s + 2 ^ (8 * length octets - unused) ≤ 2 ^ (count + (8 * length octets - unused)) → s + number / 2 ^ unused < 2 ^ (count + (8 * length octets - unused))
+    → s + 2 ^ (8 * length octets - unused) ≤ 2 ^ (count + (8 * length octets - unused))
+    → s + number / 2 ^ unused < 2 ^ (count + (8 * length octets - unused))
 joined_below count s number unused octets few e room =
     let n = number_below unused octets few in
     omega (arith, room, n, ap (λ x. x / 2 ^ unused) e)

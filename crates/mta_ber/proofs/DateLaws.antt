@@ -1,5 +1,6 @@
 -- The dates of the years 1950 to 2049.
-use Rattle.std.proofs.Common.{◌≡◌, ℕ, zero, suc, ◌+◌, ◌-◌, ◌*◌, ◌≤◌, ◌<◌, true, false, refl, sym, ◌∙◌, subst, arith, pos, ◌+ℤ◌, inl, inr, leb, eqb, eq-eqb, rules}
+use Rattle.std.proofs.Common.{◌≡◌, ℕ, zero, suc, ◌+◌, ◌-◌, ◌*◌, ◌≤◌, ◌<◌, true, false, refl, sym, ◌∙◌, subst, arith}
+use Rattle.std.proofs.Common.{pos, ◌+ℤ◌, inl, inr, leb, eqb, eq-eqb, rules}
 use Rattle.std.proofs.lemmas.Bool.{cases_lt, le-leb, lt-leb, ne_eqb}
 use Rattle.jiff_core.specs.declared.civil.date.Date.{Date}
 use Rattle.jiff_core.specs.Calendar.{days_in_month, days_from_civil, day_count, IsCivilDate, IsYear}
@@ -7,7 +8,8 @@ use Rattle.jiff_core.specs.Date.{epoch_day}
 use Rattle.jiff_core.proofs.SignedLemmas.{signed_arith}
 use Rattle.jiff_core.proofs.CalendarLemmas.{days_from_civil-day_count, days_in_month_bounds, day_count-lt_year}
 use Rattle.jiff_core.proofs.MarchLemmas.{day_count-late, day_count-early}
-use Rattle.jiff_core.proofs.DateLemmas.{epoch_day_injective, days_from_civil-day, days_from_civil-next_month, days_from_civil-next_year}
+use Rattle.jiff_core.proofs.DateLemmas.{epoch_day_injective, days_from_civil-day, days_from_civil-next_month}
+use Rattle.jiff_core.proofs.DateLemmas.{days_from_civil-next_year}
 use Rattle.mta_ber.specs.Contents.{Civil, civil_from, civil_of}
 
 -- a date with the day number of a day that is counted from the first of a month
@@ -20,18 +22,34 @@ pub record Dated (y m d : ℕ) (c : Civil) : Type 0 where
   pub near : 28 * c.year + c.day ≤ 28 * y + d
   pub same : days_from_civil (pos c.year) c.month c.day ≡ days_from_civil (pos y) m d
 
-next_month : (y m d : ℕ) → 1 ≤ m → days_in_month (pos y) m < d → days_from_civil (pos y) (m + 1) (d - days_in_month (pos y) m) ≡ days_from_civil (pos y) m d
+next_month : (y m d : ℕ) → 1 ≤ m → days_in_month (pos y) m < d
+    → days_from_civil (pos y) (m + 1) (d - days_in_month (pos y) m) ≡ days_from_civil (pos y) m d
 next_month y m d low gt =
     let long = days_in_month_bounds (pos y) m in
     let l = days_in_month (pos y) m in
-    omega (arith, signed_arith, days_from_civil-day (pos y) m l d (omega arith) (omega arith), days_from_civil-next_month (pos y) m l low refl, days_from_civil-day (pos y) (m + 1) 1 (d - l) (omega arith) (omega arith))
+    omega (
+      arith,
+      signed_arith,
+      days_from_civil-day (pos y) m l d (omega arith) (omega arith),
+      days_from_civil-next_month (pos y) m l low refl,
+      days_from_civil-day (pos y) (m + 1) 1 (d - l) (omega arith)
+          (omega arith),
+    )
 
-next_year : (y d : ℕ) → days_in_month (pos y) 12 < d → days_from_civil (pos (y + 1)) 1 (d - days_in_month (pos y) 12) ≡ days_from_civil (pos y) 12 d
+next_year : (y d : ℕ) → days_in_month (pos y) 12 < d
+    → days_from_civil (pos (y + 1)) 1 (d - days_in_month (pos y) 12) ≡ days_from_civil (pos y) 12 d
 next_year y d gt =
     let next : pos (y + 1) ≡ pos y +ℤ pos 1 = refl in
-    omega (arith, signed_arith, days_from_civil-day (pos y) 12 31 d (omega arith) (omega arith), days_from_civil-next_year (pos y) (pos (y + 1)) (search rules) next, days_from_civil-day (pos (y + 1)) 1 1 (d - 31) (omega arith) (omega arith))
+    omega (
+      arith,
+      signed_arith,
+      days_from_civil-day (pos y) 12 31 d (omega arith) (omega arith),
+      days_from_civil-next_year (pos y) (pos (y + 1)) (search rules) next,
+      days_from_civil-day (pos (y + 1)) 1 1 (d - 31) (omega arith) (omega arith),
+    )
 
-carry : (y m d y' m' d' : ℕ) (c : Civil) → y ≤ y' → 28 * y' + d' ≤ 28 * y + d → days_from_civil (pos y') m' d' ≡ days_from_civil (pos y) m d → Dated y' m' d' c → Dated y m d c
+carry : (y m d y' m' d' : ℕ) (c : Civil) → y ≤ y' → 28 * y' + d' ≤ 28 * y + d
+    → days_from_civil (pos y') m' d' ≡ days_from_civil (pos y) m d → Dated y' m' d' c → Dated y m d c
 carry y m d y' m' d' c later near same h = record {
   month_low = h.month_low;
   month_high = h.month_high;
@@ -51,18 +69,34 @@ dated (suc turns) y m d low high some few =
     elim (cases_lt (days_in_month (pos y) m) d) [
       | inr le ↦ (
           let t : leb d (days_in_month (pos y) m) ≡ true = le-leb d (days_in_month (pos y) m) le in
-          rw t (record { month_low = low; month_high = high; day_low = some; day_high = le; later = omega arith; near = omega arith; same = refl }))
+          rw t (record {
+            month_low = low;
+            month_high = high;
+            day_low = some;
+            day_high = le;
+            later = omega arith;
+            near =
+                omega arith;
+            same = refl;
+          }))
       | inl gt ↦ (
           let t : leb d (days_in_month (pos y) m) ≡ false = lt-leb d (days_in_month (pos y) m) gt in
           elim (cases_lt m 12) [
             | inl lt ↦ (
                 let u : eqb m 12 ≡ false = ne_eqb m 12 (λ e. omega arith) in
-                rw (t, u) (carry y m d y (m + 1) (d - l) (civil_from turns y (m + 1) (d - l)) (omega arith) (omega arith) (next_month y m d low gt) (dated turns y (m + 1) (d - l) (omega arith) (omega arith) (omega arith) (omega arith))))
+                rw (t, u) (carry y m d y (m + 1) (d - l) (civil_from turns y (m + 1) (d - l)) (omega arith)
+                (omega arith) (next_month y m d low gt)
+                (dated turns y (m + 1) (d - l) (omega arith) (omega arith) (omega arith) (omega arith))))
             | inr ge ↦ (
                 let december : m ≡ 12 = omega arith in
                 let u : eqb m 12 ≡ true = eq-eqb m 12 december in
-                let same : days_from_civil (pos (y + 1)) 1 (d - l) ≡ days_from_civil (pos y) m d = subst (λ k. days_from_civil (pos (y + 1)) 1 (d - days_in_month (pos y) k) ≡ days_from_civil (pos y) k d) (sym december) (next_year y d (subst (λ k. days_in_month (pos y) k < d) december gt)) in
-                rw (t, u) (carry y m d (y + 1) 1 (d - l) (civil_from turns (y + 1) 1 (d - l)) (omega arith) (omega arith) same (dated turns (y + 1) 1 (d - l) (omega arith) (omega arith) (omega arith) (omega arith))))
+                let same : days_from_civil (pos (y + 1)) 1 (d - l) ≡ days_from_civil (pos y) m d =
+                subst (λ k. days_from_civil (pos (y + 1)) 1 (d - days_in_month (pos y) k) ≡ days_from_civil
+                (pos y) k d) (sym december) (next_year y d (subst (λ k. days_in_month (pos y) k < d) december gt))
+                in
+                rw (t, u) (carry y m d (y + 1) 1 (d - l) (civil_from turns (y + 1) 1 (d - l)) (omega arith)
+                (omega arith) same (dated turns (y + 1) 1 (d - l) (omega arith) (omega arith) (omega arith)
+                (omega arith))))
           ])
     ]
 
@@ -87,7 +121,13 @@ pub record CivilDated (day : ℕ) (c : Civil) : Type 0 where
 
 short_year : (c : Civil) → 1 ≤ c.day → day_count (pos c.year) c.month c.day ≤ 4401172 → c.year ≤ 2049
 short_year c some few = elim (cases_lt 2049 c.year) [
-  | inl gt ↦ absurd (omega (arith, day_count-lt_year (pos 2049) 12 31 (pos c.year) c.month c.day last_is_date some (search rules), last_day, few))
+  | inl gt ↦ absurd (omega (
+    arith,
+    day_count-lt_year (pos 2049) 12 31 (pos c.year) c.month c.day last_is_date some
+        (search rules),
+    last_day,
+    few,
+  ))
   | inr le ↦ le
 ]
 
@@ -98,10 +138,12 @@ civil_dated day lt =
     let s = dated (day + 1) 1950 1 (day + 1) (omega arith) (omega arith) (omega arith) (omega arith) in
     let start = days_from_civil-day (pos 1950) 1 1 (day + 1) (omega arith) (omega arith) in
     let start_is = days_from_civil-day_count (pos 1950) 1 1 in
-    let number : days_from_civil (pos c.year) c.month c.day +ℤ pos 7305 ≡ pos day = omega (arith, signed_arith, s.same, start, start_is, first_day) in
+    let number : days_from_civil (pos c.year) c.month c.day +ℤ pos 7305 ≡ pos day =
+    omega (arith, signed_arith, s.same, start, start_is, first_day) in
     record {
       low = s.later;
-      high = short_year c s.day_low (omega (arith, signed_arith, number, days_from_civil-day_count (pos c.year) c.month c.day));
+      high = short_year c s.day_low (omega
+          (arith, signed_arith, number, days_from_civil-day_count (pos c.year) c.month c.day));
       month_low = s.month_low;
       month_high = s.month_high;
       day_low = s.day_low;
@@ -109,12 +151,23 @@ civil_dated day lt =
       number = number;
     }
 
-pub date_is : (day : ℕ) (d : Date) → day < 36525 → epoch_day d +ℤ pos 7305 ≡ pos day → (d.year ≡ pos (civil_of day).year) × (d.month ≡ (civil_of day).month) × (d.day ≡ (civil_of day).day) × ((civil_of day).year ≤ 2049) × (1950 ≤ (civil_of day).year)
+pub date_is : (day : ℕ) (d : Date) → day < 36525 → epoch_day d +ℤ pos 7305 ≡ pos day
+    → (d.year ≡ pos (civil_of day).year) × (d.month ≡ (civil_of day).month) × (d.day ≡ (civil_of day).day)
+    × ((civil_of day).year ≤ 2049) × (1950 ≤ (civil_of day).year)
 date_is day d lt e =
     let s = civil_dated day lt in
     let c = civil_of day in
-    let number : epoch_day d ≡ days_from_civil (pos (civil_of day).year) (civil_of day).month (civil_of day).day = omega (arith, signed_arith, s.number, e) in
-    let made : Date = record { year = pos (civil_of day).year; month = (civil_of day).month; day = (civil_of day).day; year_in = in_years (civil_of day).year (omega (arith, s.high)); month_in = (s.month_low, s.month_high); day_in = (s.day_low, s.day_high) } in
+    let number : epoch_day d ≡ days_from_civil (pos (civil_of day).year) (civil_of day).month (civil_of day).day =
+    omega (arith, signed_arith, s.number, e) in
+    let made : Date = record {
+      year = pos (civil_of day).year;
+      month = (civil_of day).month;
+      day = (civil_of day).day;
+      year_in = in_years (civil_of day).year (omega (arith, s.high));
+      month_in = (s.month_low, s.month_high);
+      day_in =
+          (s.day_low, s.day_high);
+    } in
     let parts = epoch_day_injective d made number in
     (parts.0, parts.1, parts.2, s.high, s.low)
   where

@@ -19,29 +19,36 @@ not_so : (b : Bool) → not b ≡ true → b ≡ false
 not_so true e = sym e
 not_so false e = refl
 
-pub primitive_is : (class number : ℕ) (t : Tag) → is_primitive_tag class number t ≡ true → (t.class ≡ class) × (t.number ≡ number) × (t.constructed ≡ false)
+pub primitive_is : (class number : ℕ) (t : Tag) → is_primitive_tag class number t ≡ true → (t.class ≡ class)
+    × (t.number ≡ number) × (t.constructed ≡ false)
 primitive_is class number t h =
     let a = and_true (is_tag class number t) (not t.constructed) h in
     let b = and_true (eqb t.class class) (eqb t.number number) a.0 in
     (eqb-true t.class class b.0, eqb-true t.number number b.1, not_so t.constructed a.1)
 
-pub constructed_is : (class number : ℕ) (t : Tag) → is_constructed_tag class number t ≡ true → (t.class ≡ class) × (t.number ≡ number) × (t.constructed ≡ true)
+pub constructed_is : (class number : ℕ) (t : Tag) → is_constructed_tag class number t ≡ true → (t.class ≡ class)
+    × (t.number ≡ number) × (t.constructed ≡ true)
 constructed_is class number t h =
     let a = and_true (is_tag class number t) t.constructed h in
     let b = and_true (eqb t.class class) (eqb t.number number) a.0 in
     (eqb-true t.class class b.0, eqb-true t.number number b.1, a.1)
 
-pub components_under_sound : {S : Type 0} (class number : ℕ) (step : S → Part → Result S Fault) (makes : Makes S) → StepSound step makes → (s t : S) (p : Part) → IsOctets p.content
-    → components_under class number step s p ≡ Ok t → (is_constructed_tag class number p.tag ≡ true) × SpellsComponents makes p.depth s p.content t
+pub components_under_sound : {S : Type 0} (class number : ℕ) (step : S → Part → Result S Fault) (makes : Makes S)
+    → StepSound step makes → (s t : S) (p : Part) → IsOctets p.content
+    → components_under class number step s p ≡ Ok t → (is_constructed_tag class number p.tag ≡ true)
+    × SpellsComponents makes p.depth s p.content t
 components_under_sound class number step makes sound s t p octets e =
     let c = taken (is_constructed_tag class number p.tag) (parts_of step s p) _ t e in
     (c.0, parts_sound step makes sound s t p octets c.1)
 
-pub components_under_full : {S : Type 0} (class number : ℕ) (step : S → Part → Result S Fault) (makes : Makes S) → StepFull step makes → (s t : S) (p : Part)
-    → is_constructed_tag class number p.tag ≡ true → SpellsComponents makes p.depth s p.content t → components_under class number step s p ≡ Ok t
+pub components_under_full : {S : Type 0} (class number : ℕ) (step : S → Part → Result S Fault) (makes : Makes S)
+    → StepFull step makes → (s t : S) (p : Part)
+    → is_constructed_tag class number p.tag ≡ true → SpellsComponents makes p.depth s p.content t
+    → components_under class number step s p ≡ Ok t
 components_under_full class number step makes full s t p is h =
     ap (λ b. cond b (parts_of step s p) (fault p.at BadTag)) is ∙ parts_full step makes full s t p h
 
 -- an element of the tag has its components' parts
-pub parts_under : {S : Type 0} (class number : ℕ) (step : S → Part → Result S Fault) (s : S) (p : Part) → is_constructed_tag class number p.tag ≡ true → components_under class number step s p ≡ parts_of step s p
+pub parts_under : {S : Type 0} (class number : ℕ) (step : S → Part → Result S Fault) (s : S) (p : Part)
+    → is_constructed_tag class number p.tag ≡ true → components_under class number step s p ≡ parts_of step s p
 parts_under class number step s p is = ap (λ b. cond b (parts_of step s p) (fault p.at BadTag)) is

@@ -10,17 +10,29 @@ not_so : (b : Bool) → not b ≡ false → b ≡ true
 not_so true e = refl
 not_so false e = absurd cc
 
-pub int_sound : (at : ℕ) (c : Bool) (low high : ℤ) (content : List ℕ) (n : ℤ) → int_in at c low high content ≡ Ok n → SpellsInteger low high c content n
+pub int_sound : (at : ℕ) (c : Bool) (low high : ℤ) (content : List ℕ) (n : ℤ) → int_in at c low high content ≡ Ok n
+    → SpellsInteger low high c content n
 unfolding int_in
 int_sound at c low high content n e =
     let a = passed c _ _ n e in
-    let b = passed (not (is_short content) || ltb 8 (length content) || not (in_range low high (signed content))) _ _ n a.1 in
-    let o = or_false (not (is_short content) || ltb 8 (length content)) (not (in_range low high (signed content))) b.0 in
+    let b = passed (not (is_short content) || ltb 8 (length content) || not (in_range low high (signed content))) _ _ n
+    a.1 in
+    let o = or_false (not (is_short content) || ltb 8 (length content))
+    (not (in_range low high (signed content))) b.0 in
     let q = or_false (not (is_short content)) (ltb 8 (length content)) o.0 in
     let value = ok_is (signed content) n b.1 in
-    record { primitive = a.0; short = not_so (is_short content) q.0; few = ltb-false 8 (length content) q.1; value = sym value; range = subst (λ k. in_range low high k ≡ true) value (not_so (in_range low high (signed content)) o.1) }
+    record {
+      primitive = a.0;
+      short = not_so (is_short content) q.0;
+      few = ltb-false 8 (length content) q.1;
+      value =
+          sym value;
+      range = subst (λ k. in_range low high k ≡ true) value
+          (not_so (in_range low high (signed content)) o.1);
+    }
 
-pub int_full : (at : ℕ) (c : Bool) (low high : ℤ) (content : List ℕ) (n : ℤ) → SpellsInteger low high c content n → int_in at c low high content ≡ Ok n
+pub int_full : (at : ℕ) (c : Bool) (low high : ℤ) (content : List ℕ) (n : ℤ) → SpellsInteger low high c content n
+    → int_in at c low high content ≡ Ok n
 unfolding int_in
 int_full at c low high content n h =
     let few : ltb 8 (length content) ≡ false = le-ltb 8 (length content) h.few in

@@ -1,5 +1,6 @@
 -- Numbers of a few digits.
-use Rattle.std.proofs.Common.{◌≡◌, ℕ, zero, suc, ◌+◌, ◌*◌, ◌-◌, ◌%◌, ◌≤◌, ◌<◌, ◌^◌, List, [], ◌∷◌, length, get_or, arith, add-one, ap, ◌∙◌, pos, negsuc, ◌-ℤ◌, to_z, of_z, w64, ltb, true, false}
+use Rattle.std.proofs.Common.{◌≡◌, ℕ, zero, suc, ◌+◌, ◌*◌, ◌-◌, ◌%◌, ◌≤◌, ◌<◌, ◌^◌, List, [], ◌∷◌, length, get_or}
+use Rattle.std.proofs.Common.{arith, add-one, ap, ◌∙◌, pos, negsuc, ◌-ℤ◌, to_z, of_z, w64, ltb, true, false}
 use Rattle.mta_ber.specs.Head.{base}
 use Rattle.mta_ber.specs.Int.{signed}
 use Rattle.std.proofs.lemmas.Bool.{le-ltb, lt-ltb}
@@ -52,16 +53,20 @@ below_half (b ∷ bs) short low =
     let wider = mul-le-mul_right (256 ^ length bs) few in
     omega (arith, h, wider, p)
 
-pub complement_below_half : (bytes : List ℕ) → length bytes ≤ 8 → 128 ≤ get_or bytes 0 0 → base 256 (map (λ x. 255 - x) bytes) < 2 ^ 63
+pub complement_below_half : (bytes : List ℕ) → length bytes ≤ 8 → 128 ≤ get_or bytes 0 0
+    → base 256 (map (λ x. 255 - x) bytes) < 2 ^ 63
 complement_below_half [] short high = absurd (omega arith)
-complement_below_half (b ∷ bs) short high = below_half (map (λ x. 255 - x) (b ∷ bs)) (omega (arith, length-map bs (λ x. 255 - x))) (omega arith)
+complement_below_half (b ∷ bs) short high =
+    below_half (map (λ x. 255 - x) (b ∷ bs)) (omega (arith, length-map bs (λ x. 255 - x))) (omega arith)
 
-pub signed_low : (bytes : List ℕ) (n : ℕ) → get_or bytes 0 0 < 128 → n ≡ base 256 bytes → n < 2 ^ 63 → to_z w64 n ≡ signed bytes
+pub signed_low : (bytes : List ℕ) (n : ℕ) → get_or bytes 0 0 < 128 → n ≡ base 256 bytes → n < 2 ^ 63
+    → to_z w64 n ≡ signed bytes
 signed_low bytes n low e lt =
     let t : ltb (get_or bytes 0 0) 128 ≡ true = lt-ltb _ _ low in
     rw t (to_z_pos w64 n lt ∙ ap pos e)
 
-pub signed_high : (bytes : List ℕ) (n : ℕ) → 128 ≤ get_or bytes 0 0 → n ≡ base 256 (map (λ x. 255 - x) bytes) → n < 2 ^ 63 → to_z w64 (of_z w64 (negsuc 0 -ℤ to_z w64 n)) ≡ signed bytes
+pub signed_high : (bytes : List ℕ) (n : ℕ) → 128 ≤ get_or bytes 0 0 → n ≡ base 256 (map (λ x. 255 - x) bytes)
+    → n < 2 ^ 63 → to_z w64 (of_z w64 (negsuc 0 -ℤ to_z w64 n)) ≡ signed bytes
 signed_high bytes n high e lt =
     let t : ltb (get_or bytes 0 0) 128 ≡ false = le-ltb _ _ high in
     let z : to_z w64 (of_z w64 (negsuc 0 -ℤ to_z w64 n)) ≡ negsuc n = omega (arith, ints) in

@@ -1,5 +1,6 @@
 -- An object identifier is read exactly where it is spelled.
-use Rattle.std.proofs.Common.{◌≡◌, ℕ, suc, ◌-◌, ◌≤◌, ◌<◌, Bool, true, false, ltb, List, [], ◌∷◌, ◌++◌, length, Ok, refl, sym, ap, subst, ◌∙◌, arith, inl, inr}
+use Rattle.std.proofs.Common.{◌≡◌, ℕ, suc, ◌-◌, ◌≤◌, ◌<◌, Bool, true, false, ltb, List, [], ◌∷◌, ◌++◌, length, Ok, refl}
+use Rattle.std.proofs.Common.{sym, ap, subst, ◌∙◌, arith, inl, inr}
 use Rattle.std.specs.Prelude.{◌↔◌, ◌&&◌, IsTrue, slice_index}
 use Rattle.std.specs.List.{concat}
 use Rattle.std.proofs.lemmas.Bool.{cases_lt, ltb-true, lt-ltb}
@@ -36,10 +37,18 @@ low_full (b ∷ []) h = lt-ltb b 128 h
 low_full (b ∷ c ∷ bs) h = as_behind b c bs ∙ low_full (c ∷ bs) h
 
 -- an octet with its top bit set goes on with the first subidentifier
-goes_on : (b : ℕ) (octets : List ℕ) → 128 ≤ b → (ss : List (List ℕ)) → 1 ≤ length ss → AreSubidentifiers ss → octets ≡ concat ss → IsOid (b ∷ octets)
+goes_on : (b : ℕ) (octets : List ℕ) → 128 ≤ b → (ss : List (List ℕ)) → 1 ≤ length ss → AreSubidentifiers ss
+    → octets ≡ concat ss → IsOid (b ∷ octets)
 goes_on b octets high [] some each joined = absurd (omega arith)
 goes_on b octets high ([] ∷ ss) some each joined = absurd each.0
-goes_on b octets high ((c ∷ s) ∷ ss) some each joined = record { subidentifiers = (b ∷ c ∷ s) ∷ ss; some = omega arith; each = ((high, each.0), each.1); joined = ap (λ x. b ∷ x) joined }
+goes_on b octets high ((c ∷ s) ∷ ss) some each joined =
+    record {
+      subidentifiers = (b ∷ c ∷ s) ∷ ss;
+      some = omega arith;
+      each = ((high, each.0), each.1);
+      joined =
+          ap (λ x. b ∷ x) joined;
+    }
 
 split : (octets : List ℕ) → LastIsLow octets → IsOid octets
 split [] h = absurd h
@@ -47,7 +56,12 @@ split (b ∷ []) h = record { subidentifiers = (b ∷ []) ∷ []; some = omega a
 split (b ∷ c ∷ bs) h =
     let r = split (c ∷ bs) h in
     elim (cases_lt b 128) [
-      | inl low ↦ record { subidentifiers = (b ∷ []) ∷ r.subidentifiers; some = omega arith; each = (low, r.each); joined = ap (λ x. b ∷ x) r.joined }
+      | inl low ↦ record {
+        subidentifiers = (b ∷ []) ∷ r.subidentifiers;
+        some = omega arith;
+        each = (low, r.each);
+        joined = ap (λ x. b ∷ x) r.joined;
+      }
       | inr high ↦ goes_on b (c ∷ bs) high r.subidentifiers r.some r.each r.joined
     ]
 

@@ -13,20 +13,25 @@ module _ {S : Type 0} (piece : Piece S) (first second : ℕ) where
   abbrev pub inner : ℕ → Bool → S → Part → Result S Fault
   inner depth last before p = segment (gather piece (17 - (depth + 1)) first second) first second last before p
 
-  pub gather_constructed : (last : Bool) (before : S) (p : Part) → p.depth ≤ 16 → p.tag.constructed ≡ true → gather piece (17 - p.depth) first second last before p ≡ parts_of (inner p.depth last) before p
+  pub gather_constructed : (last : Bool) (before : S) (p : Part) → p.depth ≤ 16 → p.tag.constructed ≡ true
+      → gather piece (17 - p.depth) first second last before p ≡ parts_of (inner p.depth last) before p
   unfolding gather
   gather_constructed last before p high e =
       let k : 17 - p.depth ≡ suc (17 - (p.depth + 1)) = omega arith in
       rw (k, e) refl
 
-  pub gather_primitive : (last : Bool) (before : S) (p : Part) → p.depth ≤ 16 → p.tag.constructed ≡ false → gather piece (17 - p.depth) first second last before p ≡ piece last before p
+  pub gather_primitive : (last : Bool) (before : S) (p : Part) → p.depth ≤ 16 → p.tag.constructed ≡ false
+      → gather piece (17 - p.depth) first second last before p ≡ piece last before p
   unfolding gather
   gather_primitive last before p high e =
       let k : 17 - p.depth ≡ suc (17 - (p.depth + 1)) = omega arith in
       rw (k, e) refl
 
-  pub inner_taken : (depth : ℕ) (last here : Bool) (before : S) (p : Part) (read : Result S Fault) → is_segment first second p.tag ≡ true → here ≡ (last && is_empty p.rest) → gather piece (17 - (depth + 1)) first second here before p ≡ read → inner depth last before p ≡ read
+  pub inner_taken : (depth : ℕ) (last here : Bool) (before : S) (p : Part) (read : Result S Fault)
+      → is_segment first second p.tag ≡ true → here ≡ (last && is_empty p.rest)
+      → gather piece (17 - (depth + 1)) first second here before p ≡ read → inner depth last before p ≡ read
   inner_taken depth last here before p read e l h = rw (e, sym l) h
 
-  pub inner_refused : (depth : ℕ) (last : Bool) (before : S) (p : Part) → is_segment first second p.tag ≡ false → inner depth last before p ≡ fault p.at BadTag
+  pub inner_refused : (depth : ℕ) (last : Bool) (before : S) (p : Part) → is_segment first second p.tag ≡ false
+      → inner depth last before p ≡ fault p.at BadTag
   inner_refused depth last before p e = rw e refl

@@ -1,5 +1,6 @@
 -- The front of a text.
-use Rattle.std.proofs.Common.{◌≡◌, ℕ, zero, suc, ◌≤◌, List, [], ◌∷◌, ◌++◌, length, take, refl, sym, ap, ◌∙◌, append_assoc, arith, inl, inr, true, None, Result, Ok, Err, ◌-◌, ◌<◌}
+use Rattle.std.proofs.Common.{◌≡◌, ℕ, zero, suc, ◌≤◌, List, [], ◌∷◌, ◌++◌, length, take, refl, sym, ap, ◌∙◌}
+use Rattle.std.proofs.Common.{append_assoc, arith, inl, inr, true, None, Result, Ok, Err, ◌-◌, ◌<◌}
 use Rattle.std.proofs.lemmas.List.{take-append-le, length-take}
 use Rattle.std.proofs.lemmas.Bool.{cases_lt, lt-ltb}
 use Rattle.mta_ber.specs.declared.fault.Fault.{Fault}
@@ -47,7 +48,8 @@ moment_kept t = elim (cases_lt 18 (length t)) [
 
 line_is : (p : Part) → line_in p ≡ seen kept (joined_as 23 p)
 unfolding joined_as
-line_is p = gather_map kept octets_piece line_piece (λ last s p. ap (λ (x : List ℕ). Ok x) (take_take_append 18 s p.content)) 4 23 (17 - p.depth) true [] p
+line_is p = gather_map kept octets_piece line_piece
+    (λ last s p. ap (λ (x : List ℕ). Ok x) (take_take_append 18 s p.content)) 4 23 (17 - p.depth) true [] p
 
 pub utc_refused : (p : Part) (f : Fault) → line_in p ≡ Err f → utc_in p ≡ Err f
 unfolding utc_in
@@ -64,6 +66,7 @@ utc_line p l e = go (joined_as 23 p) (sym (line_is p) ∙ e)
     kept_so : (t : List ℕ) → ◌≡◌ {A = Result (List ℕ) Fault} (Ok (kept t)) (Ok l) → kept t ≡ l
     kept_so t e = cc
 
-    go : (r : Result (List ℕ) Fault) → seen kept r ≡ Ok l → (r >>= λ t. timed p.at (moment_of t)) ≡ timed p.at (moment_of l)
+    go : (r : Result (List ℕ) Fault) → seen kept r ≡ Ok l
+        → (r >>= λ t. timed p.at (moment_of t)) ≡ timed p.at (moment_of l)
     go (Ok t) e = ap (timed p.at) (sym (moment_kept t) ∙ ap moment_of (kept_so t e))
     go (Err g) e = absurd cc

@@ -45,11 +45,13 @@ bits_of unused octets = record { count = 8 * length octets - unused; word = base
 
 abbrev pub bits_behind : BitString → Bool → ℕ → List ℕ → Result BitString Fault
 bits_behind before last at [] = fault at BadInt
-bits_behind before last at (unused ∷ octets) = if good_unused last unused octets then Ok (at_most_64 (with_bits before (bits_of unused octets))) else fault at BadInt
+bits_behind before last at (unused ∷ octets) = if good_unused last unused octets then
+    Ok (at_most_64 (with_bits before (bits_of unused octets))) else fault at BadInt
 
 abbrev pub bits_piece : Piece BitString
 bits_piece last before p = bits_behind before last p.at p.content
 
 -- a bit string of at most 64 bits
 unfoldable pub bits_in : Part → Result BitString Fault
-bits_in p = gather bits_piece (17 - p.depth) 3 3 true no_bits p >>= λ b. if nat_lt 64 b.count then fault p.at BadInt else Ok b
+bits_in p = gather bits_piece (17 - p.depth) 3 3 true no_bits p >>= λ b. if nat_lt 64 b.count then fault p.at BadInt
+    else Ok b

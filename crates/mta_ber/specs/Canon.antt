@@ -15,7 +15,8 @@ drop_zeros (zero ∷ bs) = drop_zeros bs
 drop_zeros (suc b ∷ bs) = suc b ∷ bs
 
 unfoldable pub length_octets : ℕ → List ℕ
-length_octets n = if nat_lt n 128 then n ∷ [] else (128 + length (drop_zeros (to_be_bytes w64 n))) ∷ drop_zeros (to_be_bytes w64 n)
+length_octets n = if nat_lt n 128 then n ∷ [] else (128 + length (drop_zeros (to_be_bytes w64 n))) ∷
+    drop_zeros (to_be_bytes w64 n)
 
 -- seven bits in each octet, the first ones with their top bit set
 unfoldable pub high_octets : ℕ → List ℕ
@@ -29,7 +30,8 @@ abbrev pub class_octet : Tag → ℕ
 class_octet t = t.class * 64 + (if t.constructed then 32 else 0)
 
 unfoldable pub ident_octets : Tag → List ℕ
-ident_octets t = if nat_lt t.number 31 then (class_octet t + t.number) ∷ [] else (class_octet t + 31) ∷ high_octets t.number
+ident_octets t = if nat_lt t.number 31 then (class_octet t + t.number) ∷ [] else (class_octet t + 31) ∷
+    high_octets t.number
 
 unfoldable pub element : Tag → List ℕ → List ℕ
 element t content = ident_octets t ++ (length_octets (length content) ++ content)

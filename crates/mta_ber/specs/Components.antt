@@ -10,7 +10,8 @@ abbrev pub Makes : Type 0 → Type 1
 Makes S = ℕ → S → Tag → List ℕ → List ℕ → S → Type 0
 
 -- one component
-pub record IsComponent {S : Type 0} (makes : Makes S) (depth : ℕ) (before : S) (octets : List ℕ) (after : S) : Type 0 where
+pub record IsComponent {S : Type 0} (makes : Makes S) (depth : ℕ) (before : S) (octets : List ℕ)
+    (after : S) : Type 0 where
   pub tag : Tag
   pub content : List ℕ
   pub stands : Stands depth tag content octets
@@ -19,10 +20,12 @@ pub record IsComponent {S : Type 0} (makes : Makes S) (depth : ℕ) (before : S)
 -- components one behind the other
 abbrev pub AreComponents : {S : Type 0} → Makes S → ℕ → S → List (List ℕ) → S → Type 0
 AreComponents makes depth before [] after = before ≡ after
-AreComponents {S} makes depth before (e ∷ es) after = (between : S) × IsComponent makes depth before e between × AreComponents makes depth between es after
+AreComponents {S} makes depth before (e ∷ es) after = (between : S) × IsComponent makes depth before e between
+    × AreComponents makes depth between es after
 
 -- the content of a SET or a SEQUENCE in the level `depth`
-pub record SpellsComponents {S : Type 0} (makes : Makes S) (depth : ℕ) (before : S) (content : List ℕ) (after : S) : Type 0 where
+pub record SpellsComponents {S : Type 0} (makes : Makes S) (depth : ℕ) (before : S) (content : List ℕ)
+    (after : S) : Type 0 where
   pub components : List (List ℕ)
   pub joined : content ≡ concat components
   pub are : AreComponents makes (depth + 1) before components after

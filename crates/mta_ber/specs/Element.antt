@@ -41,7 +41,8 @@ unfoldable pub row : Extent → ℕ → ℕ → Extent
 row inside depth zero marked at bytes = fault at Truncated
 row inside depth (suc turns) marked at bytes =
     if at_end marked bytes then Ok (end_size marked)
-    else (element_size inside depth at bytes >>= λ n. row inside depth turns marked (at + n) (drop n bytes) >>= λ m. Ok (n + m))
+    else (element_size inside depth at bytes >>= λ n. row inside depth turns marked (at + n) (drop n bytes) >>= λ m. Ok
+    (n + m))
 
 -- the elements in a row with `left` levels left for them, of 17: in the last of these each has a fault
 unfoldable pub run : ℕ → Extent
@@ -62,8 +63,26 @@ pub record Part : Type 0 where
 unfoldable pub part_from : ℕ → ℕ → List ℕ → Header → Result Part Fault
 part_from at depth bytes h = elim (h.count) [
   | None ↦ (run (17 - depth) true (at + (length bytes - length h.body)) h.body >>= λ k.
-      Ok (record { tag = h.tag; at = at; depth = depth; start = at + (length bytes - length h.body); content = take (k - 2) h.body; rest = drop k h.body; octets = take (length bytes - length h.body + k) bytes }))
-  | Some n ↦ Ok (record { tag = h.tag; at = at; depth = depth; start = at + (length bytes - length h.body); content = take n h.body; rest = drop n h.body; octets = take (length bytes - length h.body + n) bytes })
+      Ok (record {
+        tag = h.tag;
+        at = at;
+        depth = depth;
+        start = at + (length bytes - length h.body);
+        content =
+            take (k - 2) h.body;
+        rest = drop k h.body;
+        octets = take (length bytes - length h.body + k) bytes;
+      }))
+  | Some n ↦ Ok (record {
+    tag = h.tag;
+    at = at;
+    depth = depth;
+    start = at + (length bytes - length h.body);
+    content =
+        take n h.body;
+    rest = drop n h.body;
+    octets = take (length bytes - length h.body + n) bytes;
+  })
 ]
 
 -- the element at the front, in the level `depth`

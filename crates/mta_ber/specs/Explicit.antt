@@ -9,7 +9,8 @@ abbrev pub Spells : Type 0 → Type 1
 Spells A = ℕ → Tag → List ℕ → List ℕ → A → Type 0
 
 -- the content of an explicit tag in the level `depth` is exactly one element
-pub record SpellsExplicit {A : Type 0} (spells : Spells A) (depth : ℕ) (constructed : Bool) (content : List ℕ) (x : A) : Type 0 where
+pub record SpellsExplicit {A : Type 0} (spells : Spells A) (depth : ℕ) (constructed : Bool) (content : List ℕ)
+    (x : A) : Type 0 where
   pub is_constructed : constructed ≡ true
   pub tag : Tag
   pub inside : List ℕ

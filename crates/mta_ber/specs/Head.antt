@@ -60,7 +60,12 @@ abbrev pub is_constructed : ℕ → Bool
 is_constructed first = (first / 32) % 2 == 1
 
 abbrev pub tag_of : ℕ → List ℕ → Tag
-tag_of first high = record { class = first / 64; constructed = is_constructed first; number = if length high == 0 then first % 32 else base 128 high }
+tag_of first high = record {
+  class = first / 64;
+  constructed = is_constructed first;
+  number =
+      if length high == 0 then first % 32 else base 128 high;
+}
 
 -- a header, and what follows it
 pub record Header : Type 0 where

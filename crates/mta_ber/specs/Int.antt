@@ -12,7 +12,8 @@ is_short (b ∷ c ∷ bs) = not (((b == 0) && nat_lt c 128) || ((b == 255) && na
 
 -- the number: with its first bit set it is below zero, and the octets of -1 - n are the complements
 abbrev pub signed : List ℕ → ℤ
-signed bytes = if nat_lt (slice_index bytes 0) 128 then pos (base 256 bytes) else negsuc (base 256 (map (λ x. 255 - x) bytes))
+signed bytes = if nat_lt (slice_index bytes 0) 128 then pos (base 256 bytes)
+    else negsuc (base 256 (map (λ x. 255 - x) bytes))
 
 abbrev pub in_range : ℤ → ℤ → ℤ → Bool
 in_range low high n = not (int_lt n low || int_lt high n)
@@ -20,7 +21,8 @@ in_range low high n = not (int_lt n low || int_lt high n)
 unfoldable pub int_in : ℕ → Bool → ℤ → ℤ → List ℕ → Result ℤ Fault
 int_in at constructed low high content =
     if constructed then fault at BadTag
-    else if not (is_short content) || nat_lt 8 (length content) || not (in_range low high (signed content)) then fault at BadInt
+    else if not (is_short content) || nat_lt 8 (length content) || not (in_range low high (signed content)) then
+    fault at BadInt
     else Ok (signed content)
 
 -- a primitive content that spells a number of a range: at most eight octets of two's complement, the first nine bits

@@ -33,11 +33,14 @@ lent_of p = Ok (record { tag = p.tag; content = p.content; octets = p.octets })
 -- an element that is written is read again, whatever follows it
 abbrev pub ElementsAreReadAgain : Type 0
 ElementsAreReadAgain = (t : Tag) (content more : List ℕ) (at : ℕ) → IsTag t → length content < 2 ^ 64
-    → (first at (element t content ++ more) >>= with_rest lent_of) ≡ beside (record { tag = t; content = content; octets = element t content }) more
+    → (first at (element t content ++ more) >>= with_rest lent_of) ≡ beside
+    (record { tag = t; content = content; octets = element t content }) more
 
 abbrev pub NumbersAreReadAgain : Type 0
-NumbersAreReadAgain = (t : Tag) (n low high : ℤ) (more : List ℕ) (at : ℕ) → IsTag t → FitsSigned w64 n → in_range low high n ≡ true
-    → (first at (canon_int t n ++ more) >>= with_rest (λ p. int_in p.at p.tag.constructed low high p.content)) ≡ beside n more
+NumbersAreReadAgain = (t : Tag) (n low high : ℤ) (more : List ℕ) (at : ℕ) → IsTag t → FitsSigned w64 n
+    → in_range low high n ≡ true
+    → (first at (canon_int t n ++ more) >>= with_rest (λ p. int_in p.at p.tag.constructed low high p.content)) ≡ beside
+    n more
 
 abbrev pub BitsAreReadAgain : Type 0
 BitsAreReadAgain = (t : Tag) (b : BitString) (more : List ℕ) (at : ℕ) → IsTag t → b.count ≤ 64 → b.word < 2 ^ b.count
@@ -48,7 +51,8 @@ MomentsAreReadAgain = (t : Tag) (moment : ℕ) (more : List ℕ) (at : ℕ) → 
     → (first at (canon_utc t moment ++ more) >>= with_rest utc_in) ≡ beside moment more
 
 abbrev pub TextsAreReadAgain : Type 0
-TextsAreReadAgain = (t : Tag) (class : TextClass) (low high : ℕ) (text more : List ℕ) (at : ℕ) → IsTag t → IsText class low high text → length text < 2 ^ 64
+TextsAreReadAgain = (t : Tag) (class : TextClass) (low high : ℕ) (text more : List ℕ) (at : ℕ) → IsTag t
+    → IsText class low high text → length text < 2 ^ 64
     → (first at (element (as_primitive t) text ++ more) >>= with_rest (text_in class low high)) ≡ beside text more
 
 abbrev pub OidsAreReadAgain : Type 0
@@ -57,5 +61,7 @@ OidsAreReadAgain = (t : Tag) (octets more : List ℕ) (at : ℕ) → IsTag t →
 
 -- an element that is written in an explicit tag is read again inside it, and it stands there alone
 abbrev pub ExplicitTagsAreReadAgain : Type 0
-ExplicitTagsAreReadAgain = (t u : Tag) (content more : List ℕ) (at : ℕ) → IsTag t → t.constructed ≡ true → IsTag u → length content + 14 < 2 ^ 64
-    → (first at (element t (element u content) ++ more) >>= with_rest (explicit lent_of)) ≡ beside (record { tag = u; content = content; octets = element u content }) more
+ExplicitTagsAreReadAgain = (t u : Tag) (content more : List ℕ) (at : ℕ) → IsTag t → t.constructed ≡ true → IsTag u
+    → length content + 14 < 2 ^ 64
+    → (first at (element t (element u content) ++ more) >>= with_rest (explicit lent_of)) ≡ beside
+    (record { tag = u; content = content; octets = element u content }) more

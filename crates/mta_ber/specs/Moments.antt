@@ -41,7 +41,8 @@ pub record HasStamp (s : Stamp) (text : List ℕ) : Type 0 where
   pub small_minute : s.minute < 100
   pub seconds : List ℕ
   pub has_seconds : HasSeconds s seconds
-  pub text_is : text ≡ two_digits s.year (two_digits s.month (two_digits s.day (two_digits s.hour (two_digits s.minute seconds))))
+  pub text_is : text ≡ two_digits s.year
+      (two_digits s.month (two_digits s.day (two_digits s.hour (two_digits s.minute seconds))))
 
 -- a text of a moment: a date that exists, a time of day and an offset, and the seconds from 1950 on
 pub record IsMomentText (text : List ℕ) (moment : ℕ) : Type 0 where

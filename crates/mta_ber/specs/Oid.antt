@@ -12,7 +12,8 @@ abbrev pub is_oid : List ℕ → Bool
 is_oid octets = nat_lt 0 (length octets) && nat_lt (slice_index octets (length octets - 1)) 128
 
 unfoldable pub oid_in : Part → Result (List ℕ) Fault
-oid_in p = if p.tag.constructed then fault p.at BadTag else if is_oid p.content then Ok p.content else fault p.at BadText
+oid_in p = if p.tag.constructed then fault p.at BadTag else if is_oid p.content then Ok p.content
+    else fault p.at BadText
 
 -- ---- apart from reading
 

@@ -14,7 +14,8 @@ unfoldable pub parts_from : {S : Type 0} → (S → Part → Result S Fault) →
 parts_from step depth turns at s [] = Ok s
 parts_from step depth zero at s (b ∷ bs) = Ok s
 parts_from step depth (suc turns) at s (b ∷ bs) =
-    part at depth (b ∷ bs) >>= λ p. step s p >>= λ t. parts_from step depth turns (at + (length (b ∷ bs) - length p.rest)) t p.rest
+    part at depth (b ∷ bs) >>= λ p. step s p >>= λ t. parts_from step depth turns
+    (at + (length (b ∷ bs) - length p.rest)) t p.rest
 
 unfoldable pub parts_of : {S : Type 0} → (S → Part → Result S Fault) → S → Part → Result S Fault
 parts_of step s p = parts_from step (p.depth + 1) (length p.content) p.start s p.content

@@ -18,7 +18,15 @@ abbrev pub head_view : Head → Header
 head_view h = record { tag = h.tag; count = h.length; body = h.body.now }
 
 abbrev pub view : View → Part
-view v = record { tag = v.tag; at = v.at; depth = v.depth; start = v.start; content = v.content.now; rest = v.rest.now; octets = v.octets.now }
+view v = record {
+  tag = v.tag;
+  at = v.at;
+  depth = v.depth;
+  start = v.start;
+  content = v.content.now;
+  rest = v.rest.now;
+  octets = v.octets.now;
+}
 
 abbrev pub next_view : Option View → Option Part
 next_view None = None

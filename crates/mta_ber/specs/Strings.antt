@@ -25,13 +25,15 @@ is_empty (b ∷ bs) = false
 
 -- a segment behind what stands before it
 abbrev pub segment : {S : Type 0} → Piece S → ℕ → ℕ → Bool → S → Part → Result S Fault
-segment inside first second last before p = if is_segment first second p.tag then inside (last && is_empty p.rest) before p else fault p.at BadTag
+segment inside first second last before p = if is_segment first second p.tag then
+    inside (last && is_empty p.rest) before p else fault p.at BadTag
 
 -- a string behind what stands before it, with `left` levels left for its segments
 unfoldable pub gather : {S : Type 0} → Piece S → ℕ → ℕ → ℕ → Piece S
 gather piece zero first second last before p = fault p.at TooDeep
 gather piece (suc left) first second last before p =
-    if p.tag.constructed then parts_of (segment (gather piece left first second) first second last) before p else piece last before p
+    if p.tag.constructed then parts_of (segment (gather piece left first second) first second last) before p
+    else piece last before p
 
 -- octets are joined
 abbrev pub octets_piece : Piece (List ℕ)
@@ -61,7 +63,8 @@ between low high c = nat_le low c && nat_le c high
 -- PrintableString's letters, digits, space and ' ( ) + , - . / : = ?
 abbrev pub in_class : TextClass → ℕ → Bool
 in_class Numeric c = between 48 57 c || (c == 32)
-in_class Printable c = between 97 122 c || between 65 90 c || between 43 58 c || between 39 41 c || (c == 32) || (c == 61) || (c == 63)
+in_class Printable c = between 97 122 c || between 65 90 c || between 43 58 c || between 39 41 c || (c == 32) ||
+    (c == 61) || (c == 63)
 in_class Ia5 c = nat_lt c 128
 
 unfoldable pub text_in : TextClass → ℕ → ℕ → Part → Result (List ℕ) Fault

@@ -55,7 +55,17 @@ stamp text =
     two hour.1 then? λ minute.
     seconds minute.1 then? λ second.
     zone second.1 then? λ z.
-    Some (record { year = year.0; month = month.0; day = day.0; hour = hour.0; minute = minute.0; second = second.0; ahead = z.0; offset_hour = z.1; offset_minute = z.2 })
+    Some (record {
+      year = year.0;
+      month = month.0;
+      day = day.0;
+      hour = hour.0;
+      minute = minute.0;
+      second = second.0;
+      ahead = z.0;
+      offset_hour = z.1;
+      offset_minute = z.2;
+    })
 
 -- years 50 to 99 are 1950 to 1999, and 00 to 49 are 2000 to 2049
 abbrev pub whole_year : ℕ → ℕ
@@ -69,7 +79,8 @@ abbrev pub is_clock : ℕ → ℕ → ℕ → Bool
 is_clock hour minute second = nat_lt hour 24 && nat_lt minute 60 && nat_lt second 60
 
 abbrev pub is_good : Stamp → Bool
-is_good s = is_date (whole_year s.year) s.month s.day && is_clock s.hour s.minute s.second && is_clock s.offset_hour s.offset_minute 0
+is_good s = is_date (whole_year s.year) s.month s.day && is_clock s.hour s.minute s.second && is_clock s.offset_hour
+    s.offset_minute 0
 
 -- days from 1 January 1950, which is 7,305 days before 1 January 1970
 abbrev pub day_number : ℕ → ℕ → ℕ → ℤ
@@ -81,7 +92,8 @@ clock_seconds hour minute second = hour * 3600 + minute * 60 + second
 -- seconds from 1950-01-01 00:00:00 UTC: local time minus the offset
 unfoldable pub stamp_seconds : Stamp → ℤ
 stamp_seconds s =
-    let local = day_number (whole_year s.year) s.month s.day *ℤ pos 86400 +ℤ pos (clock_seconds s.hour s.minute s.second) in
+    let local = day_number (whole_year s.year) s.month s.day *ℤ pos 86400 +ℤ pos
+    (clock_seconds s.hour s.minute s.second) in
     let away = pos (clock_seconds s.offset_hour s.offset_minute 0) in
     if s.ahead then local -ℤ away else local +ℤ away
 

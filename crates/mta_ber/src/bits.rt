@@ -191,7 +191,8 @@ impl View<'_> {
 
         // What is answered is spelled by the content, and what the content spells is answered.
         ensures found { IfOk result (SpellsBits self.now.depth self.now.tag.constructed self.now.content.now) }
-        ensures only { (b : BitString) → SpellsBits self.now.depth self.now.tag.constructed self.now.content.now b → result ≡ Ok b }
+        ensures only { (b : BitString) → SpellsBits self.now.depth self.now.tag.constructed self.now.content.now b
+            → result ≡ Ok b }
     {
         self.bits_of()
     }

@@ -52,7 +52,8 @@ pub fn gather_of<G: Gathers>(
     second: u32,
     last: bool,
 ) -> Result<(), ReadFault>
-    ensures exact { Leaves result state.new (gather G.piece (17 - whole.now.depth) first second last state.old (view whole.now)) }
+    ensures exact { Leaves result state.new
+        (gather G.piece (17 - whole.now.depth) first second last state.old (view whole.now)) }
     ensures memory { result ≡ Err Memory → IsTrue G.takes_memory }
 {
     if !whole.tag.constructed {

@@ -86,7 +86,8 @@ impl View<'_> {
 
         // What is answered is spelled by the content, and what the content spells is answered.
         ensures found { IfOk result (SpellsInteger low high self.now.tag.constructed self.now.content.now) }
-        ensures only { (n : ℤ) → SpellsInteger low high self.now.tag.constructed self.now.content.now n → result ≡ Ok n }
+        ensures only { (n : ℤ) → SpellsInteger low high self.now.tag.constructed self.now.content.now n
+            → result ≡ Ok n }
         ensures range { IfOk result (λ n. (low ≤ℤ n) × (n ≤ℤ high)) }
     {
         self.int_of(low, high)

@@ -33,7 +33,8 @@ impl<'a> View<'a> {
 
         // What is answered is spelled by the content, and what the content spells is answered.
         ensures found { IfOk result (λ c. SpellsOid self.now.tag.constructed self.now.content.now c.now) }
-        ensures only { (o : List ℕ) → SpellsOid self.now.tag.constructed self.now.content.now o → IsOkAnd result (λ c. c.now ≡ o) }
+        ensures only { (o : List ℕ) → SpellsOid self.now.tag.constructed self.now.content.now o
+            → IsOkAnd result (λ c. c.now ≡ o) }
         ensures lent { IfOk result (λ c. c ≡ self.now.content) }
     {
         self.oid_of()

@@ -125,8 +125,10 @@ impl<'a> View<'a> {
         ensures tail { IfOk result (λ v. IsTail v.rest bytes.entry) }
 
         // What is spelled at the front is answered.
-        ensures only { (t : Tag) (content octets rest : List ℕ) → Stands (outermost t) t content octets → bytes.now ≡ octets ++ rest
-            → IsOkAnd result (λ v. (v.tag ≡ t) × (v.content.now ≡ content) × (v.rest.now ≡ rest) × (v.octets.now ≡ octets)) }
+        ensures only { (t : Tag) (content octets rest : List ℕ) → Stands (outermost t) t content octets
+            → bytes.now ≡ octets ++ rest
+            → IsOkAnd result (λ v. (v.tag ≡ t) × (v.content.now ≡ content) × (v.rest.now ≡ rest)
+            × (v.octets.now ≡ octets)) }
     {
         first_of(bytes, at)
     }
@@ -139,7 +141,8 @@ impl<'a> View<'a> {
         ensures exact { Gives view result (inner (view self.now)) }
 
         // What is answered stands at the front of the content, and is the slice of the content at its place.
-        ensures found { IfOk result (λ v. StandsInside self.now.start self.now.depth self.now.tag.constructed self.now.content.now (view v)) }
+        ensures found { IfOk result (λ v. StandsInside self.now.start self.now.depth self.now.tag.constructed
+            self.now.content.now (view v)) }
         ensures lent { IfOk result (λ v. IsLentAt self.now.start (view v) self.now.content.now) }
 
         // And it is that memory.
@@ -148,8 +151,10 @@ impl<'a> View<'a> {
         ensures tail { IfOk result (λ v. IsTail v.rest self.now.content) }
 
         // What stands at the front of a constructed content is answered.
-        ensures only { (t : Tag) (content octets rest : List ℕ) → self.now.tag.constructed ≡ true → Stands (self.now.depth + 1) t content octets → self.now.content.now ≡ octets ++ rest
-            → IsOkAnd result (λ v. (v.tag ≡ t) × (v.content.now ≡ content) × (v.rest.now ≡ rest) × (v.octets.now ≡ octets)) }
+        ensures only { (t : Tag) (content octets rest : List ℕ) → self.now.tag.constructed ≡ true
+            → Stands (self.now.depth + 1) t content octets → self.now.content.now ≡ octets ++ rest
+            → IsOkAnd result (λ v. (v.tag ≡ t) × (v.content.now ≡ content) × (v.rest.now ≡ rest)
+            × (v.octets.now ≡ octets)) }
     {
         self.inner_of()
     }
@@ -179,7 +184,8 @@ impl<'a> View<'a> {
         ensures only { self.now.rest.now ≡ [] → result ≡ Ok tt }
 
         // An element that follows is not expected there.
-        ensures behind { (t : Tag) (content octets more : List ℕ) → Stands self.now.depth t content octets → self.now.rest.now ≡ octets ++ more
+        ensures behind { (t : Tag) (content octets more : List ℕ) → Stands self.now.depth t content octets
+            → self.now.rest.now ≡ octets ++ more
             → result ≡ Err (record { at = self.now.at + length self.now.octets.now; kind = BadTag }) }
     {
         self.alone_of()
@@ -219,7 +225,8 @@ impl<'a> Parts<'a> {
     #[tactic(auto, unfolding(crate::specs::Element::next_part))]
     fn next_of(&mut self) -> Result<Option<View<'a>>, Fault>
         ensures exact { Gives next_view result (next_part self.old.at (self.old.depth + 1) self.old.left.now) }
-        ensures moved { IfOk result (λ o. IfSome o (λ v. IsBehind self.old.at self.old.left.now v.rest.now self.new.at self.new.left.now)) }
+        ensures moved { IfOk result (λ o. IfSome o
+            (λ v. IsBehind self.old.at self.old.left.now v.rest.now self.new.at self.new.left.now)) }
         ensures shorter { IfOk result (λ o. IfSome o (λ v. length self.new.left.now < length self.old.left.now)) }
         ensures ended { IfOk result (λ o. IfNone o (length self.old.left.now ≡ 0)) }
         ensures place { IfOk result (λ o. IfSome o (λ v. IsAt (v.start - self.old.at) v.content self.old.left)) }
@@ -246,13 +253,17 @@ impl<'a> Parts<'a> {
         ensures exact { Gives next_view result (next_part self.old.at (self.old.depth + 1) self.old.left.now) }
 
         // What is answered is spelled at the front of what was left, and what is spelled there is answered.
-        ensures found { IfOk result (λ o. IfSome o (λ v. Standing self.old.at (self.old.depth + 1) (view v) self.old.left.now)) }
-        ensures only { (t : Tag) (content octets rest : List ℕ) → Stands (self.old.depth + 1) t content octets → self.old.left.now ≡ octets ++ rest
-            → IsOkAnd result (λ o. IsSomeAnd o (λ v. (v.tag ≡ t) × (v.content.now ≡ content) × (v.rest.now ≡ rest) × (v.octets.now ≡ octets))) }
+        ensures found { IfOk result (λ o. IfSome o
+            (λ v. Standing self.old.at (self.old.depth + 1) (view v) self.old.left.now)) }
+        ensures only { (t : Tag) (content octets rest : List ℕ) → Stands (self.old.depth + 1) t content octets
+            → self.old.left.now ≡ octets ++ rest
+            → IsOkAnd result (λ o. IsSomeAnd o (λ v. (v.tag ≡ t) × (v.content.now ≡ content) × (v.rest.now ≡ rest)
+            × (v.octets.now ≡ octets))) }
         ensures lent { IfOk result (λ o. IfSome o (λ v. IsLentAt self.old.at (view v) self.old.left.now)) }
 
         // What is left afterwards, and where the slices lie.
-        ensures moved { IfOk result (λ o. IfSome o (λ v. IsBehind self.old.at self.old.left.now v.rest.now self.new.at self.new.left.now)) }
+        ensures moved { IfOk result (λ o. IfSome o
+            (λ v. IsBehind self.old.at self.old.left.now v.rest.now self.new.at self.new.left.now)) }
         ensures shorter { IfOk result (λ o. IfSome o (λ v. length self.new.left.now < length self.old.left.now)) }
         ensures ended { IfOk result (λ o. IfNone o (length self.old.left.now ≡ 0)) }
         ensures place { IfOk result (λ o. IfSome o (λ v. IsAt (v.start - self.old.at) v.content self.old.left)) }

@@ -75,8 +75,11 @@ impl<'a> View<'a> {
         ensures exact { result ≡ (if self.now.tag.constructed then None else Some self.now.content) }
 
         // What is lent is a string that the content spells, and the one that a primitive content spells is lent.
-        ensures found { IfSome result (λ c. (own : ℕ) → SpellsOctets own self.now.depth self.now.tag.constructed self.now.content.now c.now) }
-        ensures only { (own : ℕ) (o : List ℕ) → self.now.tag.constructed ≡ false → SpellsOctets own self.now.depth self.now.tag.constructed self.now.content.now o → IsSomeAnd result (λ c. c.now ≡ o) }
+        ensures found { IfSome result (λ c. (own : ℕ)
+            → SpellsOctets own self.now.depth self.now.tag.constructed self.now.content.now c.now) }
+        ensures only { (own : ℕ) (o : List ℕ) → self.now.tag.constructed ≡ false
+            → SpellsOctets own self.now.depth self.now.tag.constructed self.now.content.now o
+            → IsSomeAnd result (λ c. c.now ≡ o) }
     {
         self.plain_of()
     }
@@ -106,8 +109,10 @@ impl<'a> View<'a> {
         ensures exact { Reads result (joined (view self.now)) }
 
         // What is answered is spelled by the content, and what the content spells is answered.
-        ensures found { IfOk result (λ o. SpellsOctets (own_number self.now.tag) self.now.depth self.now.tag.constructed self.now.content.now o) }
-        ensures only { (o : List ℕ) → SpellsOctets (own_number self.now.tag) self.now.depth self.now.tag.constructed self.now.content.now o → IsReadAs result o }
+        ensures found { IfOk result (λ o. SpellsOctets (own_number self.now.tag) self.now.depth self.now.tag.constructed
+            self.now.content.now o) }
+        ensures only { (o : List ℕ) → SpellsOctets (own_number self.now.tag) self.now.depth self.now.tag.constructed
+            self.now.content.now o → IsReadAs result o }
     {
         self.joined_by(alloc, own_number_of(self.tag))
     }
@@ -125,8 +130,10 @@ impl<'a> View<'a> {
         ensures fits { IfOk result (IsText class low high) }
 
         // What is answered is spelled by the content, and what the content spells is answered.
-        ensures found { IfOk result (λ t. SpellsText class low high self.now.depth self.now.tag.constructed self.now.content.now t) }
-        ensures only { (t : List ℕ) → SpellsText class low high self.now.depth self.now.tag.constructed self.now.content.now t → IsReadAs result t }
+        ensures found { IfOk result (λ t. SpellsText class low high self.now.depth self.now.tag.constructed
+            self.now.content.now t) }
+        ensures only { (t : List ℕ) → SpellsText class low high self.now.depth self.now.tag.constructed
+            self.now.content.now t → IsReadAs result t }
     {
         self.text_of(alloc, class, low, high)
     }

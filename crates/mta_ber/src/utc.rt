@@ -289,7 +289,8 @@ impl View<'_> {
 
         // What is answered is spelled by the content, and what the content spells is answered.
         ensures found { IfOk result (SpellsMoment self.now.depth self.now.tag.constructed self.now.content.now) }
-        ensures only { (m : ℕ) → SpellsMoment self.now.depth self.now.tag.constructed self.now.content.now m → result ≡ Ok m }
+        ensures only { (m : ℕ) → SpellsMoment self.now.depth self.now.tag.constructed self.now.content.now m
+            → result ≡ Ok m }
     {
         self.utc_of()
     }

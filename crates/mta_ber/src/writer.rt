@@ -32,7 +32,11 @@ impl Model for Writer {
 
     ghost Value = { Written };
 
-    ghost view = { λ w. record { frames = reverse (map (λ f. (f.tag, f.before.items)) w.outer.items); octets = w.octets.items } };
+    ghost view = { λ w. record {
+      frames = reverse (map (λ f. (f.tag, f.before.items)) w.outer.items);
+      octets =
+          w.octets.items;
+    } };
 
     ghost invariant = { λ w. All (λ f. IsTag f.tag) w.outer.items };
 }

@@ -1,5 +1,6 @@
 -- The example: a step answers exactly what a component makes, and so a note is read exactly where it is spelled.
-use Rattle.std.proofs.Common.{◌≡◌, ◌≢◌, ℕ, true, false, cond, eqb, List, Option, Some, Result, Ok, refl, sym, ap, subst, ◌∙◌, arith, inl, inr, ℤ, pos}
+use Rattle.std.proofs.Common.{◌≡◌, ◌≢◌, ℕ, true, false, cond, eqb, List, Option, Some, Result, Ok, refl, sym, ap, subst}
+use Rattle.std.proofs.Common.{◌∙◌, arith, inl, inr, ℤ, pos}
 use Rattle.std.specs.Prelude.{unwrap_or}
 use Rattle.std.proofs.lemmas.Bool.{eqb-true, ne_eqb}
 use Rattle.mta_ber.specs.declared.fault.Fault.{Fault}
@@ -44,13 +45,35 @@ unfolding note_step
 step_sound s t p shallow content octets e =
     elim (chosen (is_tag 2 0 p.tag) _ _ _ e) [
       | inl y ↦ (let q = placed s.title p.at (text_in Printable 1 20 p) (λ x. record s { title = Some x }) t y.1 in
-          inl (record { is_tag_of = y.0; absent = q.1; title = q.0; spelled = text_sound Printable 1 20 p q.0 shallow content q.2; after_is = sym q.3 }))
+          inl (record {
+            is_tag_of = y.0;
+            absent = q.1;
+            title = q.0;
+            spelled =
+                text_sound Printable 1 20 p q.0 shallow content q.2;
+            after_is = sym q.3;
+          }))
       | inr n ↦ elim (chosen (is_tag 2 1 p.tag) _ _ _ n.1) [
-        | inl y ↦ (let q = placed s.count p.at (int_in p.at p.tag.constructed (pos 0) (pos 100) p.content) (λ x. record s { count = Some x }) t y.1 in
-            inr (inl (record { is_tag_of = y.0; absent = q.1; count = q.0; spelled = int_sound p.at p.tag.constructed (pos 0) (pos 100) p.content q.0 q.2; after_is = sym q.3 })))
+        | inl y ↦ (let q = placed s.count p.at (int_in p.at p.tag.constructed (pos 0) (pos 100) p.content)
+            (λ x. record s { count = Some x }) t y.1 in
+            inr (inl (record {
+              is_tag_of = y.0;
+              absent = q.1;
+              count = q.0;
+              spelled =
+                  int_sound p.at p.tag.constructed (pos 0) (pos 100) p.content q.0 q.2;
+              after_is = sym q.3;
+            })))
         | inr n ↦ elim (chosen (is_tag 2 2 p.tag) _ _ _ n.1) [
           | inl y ↦ (let q = placed s.flags p.at (bits_in p) (λ x. record s { flags = Some x }) t y.1 in
-              inr (inr (record { is_tag_of = y.0; absent = q.1; flags = q.0; spelled = bits_in_sound p q.0 shallow content q.2; after_is = sym q.3 })))
+              inr (inr (record {
+                is_tag_of = y.0;
+                absent = q.1;
+                flags = q.0;
+                spelled =
+                    bits_in_sound p q.0 shallow content q.2;
+                after_is = sym q.3;
+              })))
           | inr n ↦ absurd (cc n.1)
         ]
       ]
@@ -60,7 +83,8 @@ step_full : StepFull note_step MakesNote
 unfolding note_step
 step_full s t p shallow h =
     elim h [
-      | inl a ↦ (let r = text_full Printable 1 20 p a.title shallow a.spelled in rw (a.is_tag_of, a.absent, r) (ap (λ (x : NoteParts). Ok x) (sym a.after_is)))
+      | inl a ↦ (let r = text_full Printable 1 20 p a.title shallow a.spelled in
+          rw (a.is_tag_of, a.absent, r) (ap (λ (x : NoteParts). Ok x) (sym a.after_is)))
       | inr h ↦ elim h [
         | inl a ↦ (
             let no : is_tag 2 0 p.tag ≡ false = other_tag 2 1 0 p.tag a.is_tag_of (λ e. omega arith) in
@@ -74,10 +98,13 @@ step_full s t p shallow h =
       ]
     ]
 
-pub note_sound : (p : Part) (v : Note) → IsOctets p.content → note_in p ≡ Ok v → SpellsNote p.depth p.tag.constructed p.content v
+pub note_sound : (p : Part) (v : Note) → IsOctets p.content → note_in p ≡ Ok v
+    → SpellsNote p.depth p.tag.constructed p.content v
 unfolding note_in
 note_sound p v octets e =
-    let a = bind_ok (components note_step no_note p) (λ s. required s.title p.at >>= λ t. Ok (record { title = t; count = unwrap_or s.count (pos 0); flags = s.flags })) v e in
+    let a = bind_ok (components note_step no_note p)
+    (λ s. required s.title p.at >>= λ t. Ok
+    (record { title = t; count = unwrap_or s.count (pos 0); flags = s.flags })) v e in
     let c = taken p.tag.constructed (parts_of note_step no_note p) _ a.0 a.1 in
     let b = bind_ok (required a.0.title p.at) (λ t. Ok (note t (unwrap_or a.0.count (pos 0)) a.0.flags)) v a.2 in
     let same = ok_is (note b.0 (unwrap_or a.0.count (pos 0)) a.0.flags) v b.2 in
@@ -97,4 +124,5 @@ note_full p v h =
     ap (λ b. cond b (parts_of note_step no_note p) (fault p.at BadTag) >>= finished p.at) h.is_constructed
     ∙ ap (λ x. x >>= finished p.at) r
     ∙ ap (λ o. required o p.at >>= λ t. Ok (note t (unwrap_or h.parts.count (pos 0)) h.parts.flags)) h.title
-    ∙ ap (λ (x : Note). Ok x) (note_is v.title (unwrap_or h.parts.count (pos 0)) v.count h.parts.flags v.flags (sym h.count) (sym h.flags))
+    ∙ ap (λ (x : Note). Ok x) (note_is v.title (unwrap_or h.parts.count (pos 0)) v.count h.parts.flags v.flags
+    (sym h.count) (sym h.flags))

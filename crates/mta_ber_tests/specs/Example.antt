@@ -19,7 +19,8 @@ use Rattle.mta_ber.specs.Components.{Makes, SpellsComponents}
 unfoldable pub note_step : NoteParts → Part → Result NoteParts Fault
 note_step s p =
     if is_tag 2 0 p.tag then (once s.title p.at (text_in Printable 1 20 p) >>= λ t. Ok (record s { title = Some t }))
-    else if is_tag 2 1 p.tag then (once s.count p.at (int_in p.at p.tag.constructed (pos 0) (pos 100) p.content) >>= λ n. Ok (record s { count = Some n }))
+    else if is_tag 2 1 p.tag then (once s.count p.at (int_in p.at p.tag.constructed (pos 0) (pos 100) p.content) >>=
+    λ n. Ok (record s { count = Some n }))
     else if is_tag 2 2 p.tag then (once s.flags p.at (bits_in p) >>= λ b. Ok (record s { flags = Some b }))
     else fault p.at BadTag
 
@@ -56,7 +57,8 @@ pub record MakesFlags (depth : ℕ) (before : NoteParts) (tag : Tag) (content : 
   pub after_is : after ≡ record before { flags = Some flags }
 
 abbrev pub MakesNote : Makes NoteParts
-MakesNote depth before tag content octets after = MakesTitle depth before tag content after ⊎ (MakesCount before tag content after ⊎ MakesFlags depth before tag content after)
+MakesNote depth before tag content octets after = MakesTitle depth before tag content after
+    ⊎ (MakesCount before tag content after ⊎ MakesFlags depth before tag content after)
 
 -- a SET of a note's components in any order, each at most once, where the count is 0 if it is absent
 pub record SpellsNote (depth : ℕ) (constructed : Bool) (content : List ℕ) (v : Note) : Type 0 where

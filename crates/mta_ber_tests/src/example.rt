@@ -67,7 +67,8 @@ impl Note {
 
         // What is answered is spelled by the content, and what the content spells is answered.
         ensures found { IfOk result (SpellsNote whole.now.depth whole.now.tag.constructed whole.now.content.now) }
-        ensures only { (v : NoteValue) → SpellsNote whole.now.depth whole.now.tag.constructed whole.now.content.now v → IsReadAs result v }
+        ensures only { (v : NoteValue) → SpellsNote whole.now.depth whole.now.tag.constructed whole.now.content.now v
+            → IsReadAs result v }
     {
         Note::read_parts(alloc, whole)
     }

@@ -1,5 +1,6 @@
 -- Different tears leave different images.
-use Rattle.std.proofs.Common.{◌≡◌, ◌≢◌, ℕ, ◌+◌, ◌-◌, ◌/◌, ◌≤◌, List, [], ◌∷◌, ◌++◌, length, take, drop, get_or, sym, ap, ◌∙◌, arith}
+use Rattle.std.proofs.Common.{◌≡◌, ◌≢◌, ℕ, ◌+◌, ◌-◌, ◌/◌, ◌≤◌, List, [], ◌∷◌, ◌++◌, length, take, drop, get_or, sym, ap}
+use Rattle.std.proofs.Common.{◌∙◌, arith}
 use Rattle.std.proofs.lemmas.Bool.Decides.{nat_tests}
 use Rattle.std.proofs.lemmas.List.{length-take, length-map, take_all, drop_all, append-nil, append_cancel_left}
 use Rattle.mta_edge.specs.Outside.{written}
@@ -10,12 +11,17 @@ use Rattle.mta_edge.specs.declared.tear.Tear.TheVariants.{Nothing, Whole, Half, 
 -- what is written at the end stands behind the rest
 at_end : (tear : Tear) (bytes f : List ℕ) → torn_write tear (length f) bytes f ≡ f ++ piece_of tear bytes
 at_end tear bytes f =
-    let fits : torn_write tear (length f) bytes f ≡ written (length f) (piece_of tear bytes) f = grind (arith, nat_tests) in
-    fits ∙ ap (λ (l : List ℕ). l ++ piece_of tear bytes ++ drop (length f + length (piece_of tear bytes)) f) (take_all (length f) f (omega arith))
-    ∙ ap (λ (l : List ℕ). f ++ piece_of tear bytes ++ l) (drop_all (length f + length (piece_of tear bytes)) f (omega arith)) ∙ append-nil (f ++ piece_of tear bytes)
+    let fits : torn_write tear (length f) bytes f ≡ written (length f) (piece_of tear bytes) f =
+    grind (arith, nat_tests) in
+    fits ∙ ap (λ (l : List ℕ). l ++ piece_of tear bytes ++ drop (length f + length (piece_of tear bytes)) f)
+    (take_all (length f) f (omega arith))
+    ∙ ap (λ (l : List ℕ). f ++ piece_of tear bytes ++ l)
+    (drop_all (length f + length (piece_of tear bytes)) f (omega arith)) ∙ append-nil (f ++ piece_of tear bytes)
 
-same_piece : (s t : Tear) (bytes f : List ℕ) → torn_write s (length f) bytes f ≡ torn_write t (length f) bytes f → piece_of s bytes ≡ piece_of t bytes
-same_piece s t bytes f e = append_cancel_left f (piece_of s bytes) (piece_of t bytes) (sym (at_end s bytes f) ∙ e ∙ at_end t bytes f)
+same_piece : (s t : Tear) (bytes f : List ℕ) → torn_write s (length f) bytes f ≡ torn_write t (length f) bytes f
+    → piece_of s bytes ≡ piece_of t bytes
+same_piece s t bytes f e = append_cancel_left f (piece_of s bytes) (piece_of t bytes)
+    (sym (at_end s bytes f) ∙ e ∙ at_end t bytes f)
 
 length-half : (bytes : List ℕ) → length (take (length bytes / 2) bytes) ≡ length bytes / 2
 length-half bytes = simp length-take (omega arith)

@@ -20,13 +20,15 @@ pub left_at_end : (d : HeldDisk) (k : ℕ) (g : List ℕ) → length d.log ≤ k
 left_at_end d k g le left =
     let same = take_all k d.log le in
     let seen = seen_at_end d.log k d.octets le in
-    subst (λ (log : List Called). MayLeave log d.octets g) same (subst (λ (now : List ℕ). MayLeave (take k d.log) now g) seen left)
+    subst (λ (log : List Called). MayLeave log d.octets g) same
+    (subst (λ (now : List ℕ). MayLeave (take k d.log) now g) seen left)
 
 pub at_end_left : (d : HeldDisk) (k : ℕ) (g : List ℕ) → length d.log ≤ k → MayLeave d.log d.octets g → LeftAt d k g
 at_end_left d k g le may =
     let same = take_all k d.log le in
     let seen = seen_at_end d.log k d.octets le in
-    subst (λ (now : List ℕ). MayLeave (take k d.log) now g) (sym seen) (subst (λ (log : List Called). MayLeave log d.octets g) (sym same) may)
+    subst (λ (now : List ℕ). MayLeave (take k d.log) now g) (sym seen)
+    (subst (λ (log : List Called). MayLeave log d.octets g) (sym same) may)
 
 -- what a read gives is one of the images
 pub some_same : (a b : List ℕ) → ◌≡◌ {A = Option (List ℕ)} (Some a) (Some b) → b ≡ a

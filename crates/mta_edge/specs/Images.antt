@@ -19,7 +19,8 @@ after_call images before Sync g = g ≡ before
 -- What the calls leave of the images before them. Before each call what a read gives is one of the images too.
 unfoldable pub after_calls : (List ℕ → Type 0) → List Called → List ℕ → Type 0
 after_calls images [] g = images g
-after_calls images (call ∷ log) g = after_calls (after_call (λ f. images f ⊎ (f ≡ call.before)) call.before call.done) log g
+after_calls images (call ∷ log) g =
+    after_calls (after_call (λ f. images f ⊎ (f ≡ call.before)) call.before call.done) log g
 
 -- what a crash may leave behind these calls, where a read gives `now`
 abbrev pub MayLeave : List Called → List ℕ → List ℕ → Type 0
@@ -72,7 +73,8 @@ rest_after choice Sync rest = choice
 
 unfoldable pub image_from : ℕ → List Called → ℕ → List ℕ → List ℕ
 image_from choice [] rest f = f
-image_from choice (call ∷ log) rest f = image_from choice log (rest_after choice call.done rest) (image_after call.before call.done rest f)
+image_from choice (call ∷ log) rest f =
+    image_from choice log (rest_after choice call.done rest) (image_after call.before call.done rest f)
 
 -- The image of a crash behind the first k calls that a choice picks. The digits of the choice, the last one first, say
 -- how each write and each cut since the last sync is torn.

@@ -7,7 +7,8 @@ use Rattle.mta_edge.specs.declared.read.SourceFault.{SourceFault}
 use Rattle.mta_edge.specs.declared.read.SourceFault.TheVariants as SourceFaults
 
 -- the causes of a read's faults
-pub record HasReadCause {I T : Type 0} (sources : SourceView I) (limit : ℕ) (old new : I) (result : Result T SourceFault) : Type 0 where
+pub record HasReadCause {I T : Type 0} (sources : SourceView I) (limit : ℕ) (old new : I)
+    (result : Result T SourceFault) : Type 0 where
   pub later : sources.faults old ≤ sources.faults new
   pub failed : IsErrOf result SourceFaults.Failed → Rose (sources.faults old) (sources.faults new)
   pub long : IsErrOf result SourceFaults.TooLong → (f : List ℕ) → sources.left old ≡ Some f → limit < length f

@@ -121,7 +121,8 @@ impl MemDisk {
     // Logs a call. Without memory for it nothing is logged, and a fault is counted.
     fn log(&mut self, done: Done) -> Result<(), Failed>
         ensures octets { self.new.octets ≡ self.old.octets }
-        ensures logged { OnOk result (self.new.log ≡ self.old.log ++ record { before = self.old.octets; done = done } ∷ []) }
+        ensures logged { OnOk result (self.new.log ≡ self.old.log ++ record { before = self.old.octets; done = done } ∷
+            []) }
         ensures refused { OnErr result (self.new.log ≡ self.old.log) }
         ensures cause { HasCause self.old.faults self.new.faults result }
         ensures calls { self.new.calls ≡ self.old.calls }

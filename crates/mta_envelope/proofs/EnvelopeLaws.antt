@@ -1,5 +1,6 @@
 -- Envelopes are read exactly where they are spelled.
-use Rattle.std.proofs.Common.{◌≡◌, ℕ, ◌≤◌, Bool, true, false, List, [], ◌∷◌, length, Option, Some, None, Result, Ok, refl, sym, ap, subst, ◌∙◌, arith, lit<}
+use Rattle.std.proofs.Common.{◌≡◌, ℕ, ◌≤◌, Bool, true, false, List, [], ◌∷◌, length, Option, Some, None, Result, Ok}
+use Rattle.std.proofs.Common.{refl, sym, ap, subst, ◌∙◌, arith, lit<}
 use Rattle.std.specs.Prelude.{IfSome, ◌&&◌, not, unwrap_or}
 use Rattle.mta_ber.specs.declared.fault.Fault.{Fault}
 use Rattle.mta_ber.specs.declared.tag.Tag.{Tag}
@@ -31,11 +32,17 @@ use Rattle.mta_envelope_extensions.specs.Told.{AreTold, Says, values_of, history
 use Rattle.mta_envelope_extensions.proofs.ToldLaws.{extensions_are}
 use Rattle.mta_envelope_recipient.specs.declared.recipient.RecipientFields.{RecipientFields}
 use Rattle.mta_envelope.specs.declared.parts.EnvelopePart.{EnvelopePart}
-use Rattle.mta_envelope.specs.declared.parts.EnvelopePart.TheVariants.{Originator, Identifier, InformationTypes, ContentType, MessagePriority, Indicators, TraceList, ContentIdentifier, Deferral, Length, Bilateral, RecipientList, ExtensionSet}
+use Rattle.mta_envelope.specs.declared.parts.EnvelopePart.TheVariants.{Originator, Identifier, InformationTypes}
+use Rattle.mta_envelope.specs.declared.parts.EnvelopePart.TheVariants.{ContentType, MessagePriority, Indicators}
+use Rattle.mta_envelope.specs.declared.parts.EnvelopePart.TheVariants.{TraceList, ContentIdentifier, Deferral, Length}
+use Rattle.mta_envelope.specs.declared.parts.EnvelopePart.TheVariants.{Bilateral, RecipientList, ExtensionSet}
 use Rattle.mta_envelope.specs.declared.parts.EnvelopeParts.{EnvelopeParts}
 use Rattle.mta_envelope.specs.declared.envelope.EnvelopeFields.{EnvelopeFields}
-use Rattle.mta_envelope.specs.Components.{longest, is_envelope_tag, envelope_step, no_envelope, MakesEnvelopePart, MakesEnvelope}
-use Rattle.mta_envelope.specs.Envelopes.{told_history, IsSaid, IsEnvelope, IsOfKind, told_or_none, history_or_none, eight_zeros, indicators_or_none, priority_or_normal, envelope, IsEnvelopeOf, finished, envelope_in, SpellsEnvelope}
+use Rattle.mta_envelope.specs.Components.{longest, is_envelope_tag, envelope_step, no_envelope, MakesEnvelopePart}
+use Rattle.mta_envelope.specs.Components.{MakesEnvelope}
+use Rattle.mta_envelope.specs.Envelopes.{told_history, IsSaid, IsEnvelope, IsOfKind, told_or_none, history_or_none}
+use Rattle.mta_envelope.specs.Envelopes.{eight_zeros, indicators_or_none, priority_or_normal, envelope, IsEnvelopeOf}
+use Rattle.mta_envelope.specs.Envelopes.{finished, envelope_in, SpellsEnvelope}
 use Rattle.mta_envelope.proofs.PartLaws.{step_sound, step_full}
 
 -- ---- required components
@@ -45,27 +52,43 @@ done v = Ok v
 
 finished_so : (at : ℕ) (s : EnvelopeParts) (v : EnvelopeFields) → finished at s ≡ Ok v → IsEnvelopeOf s v
 finished_so at s v e =
-    let o = bind_ok (required s.originator at) (λ o. required s.id at >>= λ i. required s.content_kind at >>= λ k. required s.trace at >>= λ t. required s.recipients at >>= λ r. Ok (envelope o i k t r s)) v e in
-    let i = bind_ok (required s.id at) (λ i. required s.content_kind at >>= λ k. required s.trace at >>= λ t. required s.recipients at >>= λ r. Ok (envelope o.0 i k t r s)) v o.2 in
-    let k = bind_ok (required s.content_kind at) (λ k. required s.trace at >>= λ t. required s.recipients at >>= λ r. Ok (envelope o.0 i.0 k t r s)) v i.2 in
-    let t = bind_ok (required s.trace at) (λ t. required s.recipients at >>= λ r. Ok (envelope o.0 i.0 k.0 t r s)) v k.2 in
+    let o = bind_ok (required s.originator at)
+    (λ o. required s.id at >>= λ i. required s.content_kind at >>= λ k. required s.trace at >>= λ t. required
+    s.recipients at >>= λ r. Ok (envelope o i k t r s)) v e in
+    let i = bind_ok (required s.id at)
+    (λ i. required s.content_kind at >>= λ k. required s.trace at >>= λ t. required s.recipients at >>= λ r. Ok
+    (envelope o.0 i k t r s)) v o.2 in
+    let k = bind_ok (required s.content_kind at)
+    (λ k. required s.trace at >>= λ t. required s.recipients at >>= λ r. Ok (envelope o.0 i.0 k t r s)) v i.2 in
+    let t = bind_ok (required s.trace at) (λ t. required s.recipients at >>= λ r. Ok (envelope o.0 i.0 k.0 t r s)) v k.2
+    in
     let r = bind_ok (required s.recipients at) (λ r. Ok (envelope o.0 i.0 k.0 t.0 r s)) v t.2 in
-    go o.0 i.0 k.0 t.0 r.0 (ok_is (envelope o.0 i.0 k.0 t.0 r.0 s) v r.2) (required_so s.originator at o.0 o.1) (required_so s.id at i.0 i.1) (required_so s.content_kind at k.0 k.1) (required_so s.trace at t.0 t.1) (required_so s.recipients at r.0 r.1)
+    go o.0 i.0 k.0 t.0 r.0 (ok_is (envelope o.0 i.0 k.0 t.0 r.0 s) v r.2) (required_so s.originator at o.0 o.1)
+    (required_so s.id at i.0 i.1) (required_so s.content_kind at k.0 k.1) (required_so s.trace at t.0 t.1)
+    (required_so s.recipients at r.0 r.1)
   where
-    go : (o : Attributes) (i : MtsIdFields) (k : ContentKind) (t : List TraceFields) (r : List RecipientFields) → envelope o i k t r s ≡ v
-        → s.originator ≡ Some o → s.id ≡ Some i → s.content_kind ≡ Some k → s.trace ≡ Some t → s.recipients ≡ Some r → IsEnvelopeOf s v
-    go o i k t r same ho hi hk ht hr = subst (λ (x : EnvelopeFields). IsEnvelopeOf s x) {x = envelope o i k t r s} same (record { originator = ho; id = hi; content_kind = hk; trace = ht; recipients = hr; value = refl })
+    go : (o : Attributes) (i : MtsIdFields) (k : ContentKind) (t : List TraceFields) (r : List RecipientFields)
+        → envelope o i k t r s ≡ v
+        → s.originator ≡ Some o → s.id ≡ Some i → s.content_kind ≡ Some k → s.trace ≡ Some t → s.recipients ≡ Some r
+        → IsEnvelopeOf s v
+    go o i k t r same ho hi hk ht hr = subst (λ (x : EnvelopeFields). IsEnvelopeOf s x) {x = envelope o i k t r s} same
+        (record { originator = ho; id = hi; content_kind = hk; trace = ht; recipients = hr; value = refl })
 
 so_finished : (at : ℕ) (s : EnvelopeParts) (v : EnvelopeFields) → IsEnvelopeOf s v → finished at s ≡ Ok v
 so_finished at s v h =
-    ap (λ x. required x at >>= λ o. required s.id at >>= λ i. required s.content_kind at >>= λ k. required s.trace at >>= λ t. required s.recipients at >>= λ r. Ok (envelope o i k t r s)) h.originator
-    ∙ ap (λ x. required x at >>= λ i. required s.content_kind at >>= λ k. required s.trace at >>= λ t. required s.recipients at >>= λ r. Ok (envelope v.originator i k t r s)) h.id
-    ∙ ap (λ x. required x at >>= λ k. required s.trace at >>= λ t. required s.recipients at >>= λ r. Ok (envelope v.originator v.id k t r s)) h.content_kind
-    ∙ ap (λ x. required x at >>= λ t. required s.recipients at >>= λ r. Ok (envelope v.originator v.id v.content_kind t r s)) h.trace
+    ap (λ x. required x at >>= λ o. required s.id at >>= λ i. required s.content_kind at >>= λ k. required s.trace at
+    >>= λ t. required s.recipients at >>= λ r. Ok (envelope o i k t r s)) h.originator
+    ∙ ap (λ x. required x at >>= λ i. required s.content_kind at >>= λ k. required s.trace at >>= λ t. required
+    s.recipients at >>= λ r. Ok (envelope v.originator i k t r s)) h.id
+    ∙ ap (λ x. required x at >>= λ k. required s.trace at >>= λ t. required s.recipients at >>= λ r. Ok
+    (envelope v.originator v.id k t r s)) h.content_kind
+    ∙ ap (λ x. required x at >>= λ t. required s.recipients at >>= λ r. Ok
+    (envelope v.originator v.id v.content_kind t r s)) h.trace
     ∙ ap (λ x. required x at >>= λ r. Ok (envelope v.originator v.id v.content_kind v.trace r s)) h.recipients
     ∙ ap (λ (x : EnvelopeFields). Ok x) (sym h.value)
 
-pub envelope_sound : (b : Bool) (v : EnvelopeFields) (p : Part) → IsOctets p.content → envelope_in b p ≡ Ok v → SpellsEnvelope b p.depth p.tag.constructed p.content v
+pub envelope_sound : (b : Bool) (v : EnvelopeFields) (p : Part) → IsOctets p.content → envelope_in b p ≡ Ok v
+    → SpellsEnvelope b p.depth p.tag.constructed p.content v
 unfolding envelope_in
 envelope_sound b v p octets e =
     let none = no_envelope b in
@@ -84,11 +107,21 @@ envelope_sound b v p octets e =
       value = f.value;
     }
 
-pub envelope_full : (b : Bool) (v : EnvelopeFields) (p : Part) → SpellsEnvelope b p.depth p.tag.constructed p.content v → envelope_in b p ≡ Ok v
+pub envelope_full : (b : Bool) (v : EnvelopeFields) (p : Part) → SpellsEnvelope b p.depth p.tag.constructed p.content v
+    → envelope_in b p ≡ Ok v
 unfolding envelope_in
 envelope_full b v p h =
-    ap (λ r. r >>= finished p.at) (components_full envelope_step MakesEnvelope step_full (no_envelope b) h.parts p h.is_constructed h.spelled)
-    ∙ so_finished p.at h.parts v (record { originator = h.originator; id = h.id; content_kind = h.content_kind; trace = h.trace; recipients = h.recipients; value = h.value })
+    ap (λ r. r >>= finished p.at) (components_full envelope_step MakesEnvelope step_full
+    (no_envelope b) h.parts p h.is_constructed h.spelled)
+    ∙ so_finished p.at h.parts v (record {
+      originator = h.originator;
+      id = h.id;
+      content_kind = h.content_kind;
+      trace =
+          h.trace;
+      recipients = h.recipients;
+      value = h.value;
+    })
 
 -- ---- what is spelled is an envelope
 
@@ -118,53 +151,289 @@ record Holds (b : Bool) (s : EnvelopeParts) : Type 0 where
   message : b ≡ false → s.length ≡ None
   probing : b ≡ true → (s.priority ≡ None) × (s.deferral ≡ None)
 
-keeps_part : (b : Bool) (k : EnvelopePart) (depth : ℕ) (s t : EnvelopeParts) (tag : Tag) (content octets : List ℕ) → is_envelope_tag s.probe k tag ≡ true → Stands depth tag content octets → MakesEnvelopePart k depth s tag content octets t → Holds b s → Holds b t
+keeps_part : (b : Bool) (k : EnvelopePart) (depth : ℕ) (s t : EnvelopeParts) (tag : Tag) (content octets : List ℕ)
+    → is_envelope_tag s.probe k tag ≡ true → Stands depth tag content octets
+    → MakesEnvelopePart k depth s tag content octets t → Holds b s → Holds b t
 keeps_part b Originator depth s t tag content octets is stands m h =
-    subst (Holds b) (sym m.1.after_is) (record { same = h.same; eits = h.eits; content_kind = h.content_kind; content_id = h.content_id; indicators = h.indicators; deferral = h.deferral; length_fits = h.length_fits; bilateral = h.bilateral; recipients = h.recipients; trace = h.trace; extensions = h.extensions; message = h.message; probing = h.probing })
+    subst (Holds b) (sym m.1.after_is)
+    (record {
+      same = h.same;
+      eits = h.eits;
+      content_kind = h.content_kind;
+      content_id = h.content_id;
+      indicators =
+          h.indicators;
+      deferral = h.deferral;
+      length_fits = h.length_fits;
+      bilateral = h.bilateral;
+      recipients =
+          h.recipients;
+      trace = h.trace;
+      extensions = h.extensions;
+      message = h.message;
+      probing = h.probing;
+    })
 keeps_part b Identifier depth s t tag content octets is stands m h =
-    subst (Holds b) (sym m.1.after_is) (record { same = h.same; eits = h.eits; content_kind = h.content_kind; content_id = h.content_id; indicators = h.indicators; deferral = h.deferral; length_fits = h.length_fits; bilateral = h.bilateral; recipients = h.recipients; trace = h.trace; extensions = h.extensions; message = h.message; probing = h.probing })
+    subst (Holds b) (sym m.1.after_is)
+    (record {
+      same = h.same;
+      eits = h.eits;
+      content_kind = h.content_kind;
+      content_id = h.content_id;
+      indicators =
+          h.indicators;
+      deferral = h.deferral;
+      length_fits = h.length_fits;
+      bilateral = h.bilateral;
+      recipients =
+          h.recipients;
+      trace = h.trace;
+      extensions = h.extensions;
+      message = h.message;
+      probing = h.probing;
+    })
 keeps_part b InformationTypes depth s t tag content octets is stands m h =
-    subst (Holds b) (sym m.1.after_is) (record { same = h.same; eits = subst (IsRaw 1 5) (sym m.1.value_spelled) (record { depth = depth; tag = tag; content = content; is_tag_of = is; stands = stands }); content_kind = h.content_kind; content_id = h.content_id; indicators = h.indicators; deferral = h.deferral; length_fits = h.length_fits; bilateral = h.bilateral; recipients = h.recipients; trace = h.trace; extensions = h.extensions; message = h.message; probing = h.probing })
+    subst (Holds b) (sym m.1.after_is)
+    (record {
+      same = h.same;
+      eits =
+          subst (IsRaw 1 5) (sym m.1.value_spelled)
+          (record { depth = depth; tag = tag; content = content; is_tag_of = is; stands = stands });
+      content_kind =
+          h.content_kind;
+      content_id = h.content_id;
+      indicators = h.indicators;
+      deferral = h.deferral;
+      length_fits =
+          h.length_fits;
+      bilateral = h.bilateral;
+      recipients = h.recipients;
+      trace = h.trace;
+      extensions = h.extensions;
+      message = h.message;
+      probing = h.probing;
+    })
 keeps_part b ContentType depth s t tag content octets is stands m h =
-    subst (Holds b) (sym m.1.after_is) (record { same = h.same; eits = h.eits; content_kind = kind_is depth tag content octets m.1.value m.1.value_spelled; content_id = h.content_id; indicators = h.indicators; deferral = h.deferral; length_fits = h.length_fits; bilateral = h.bilateral; recipients = h.recipients; trace = h.trace; extensions = h.extensions; message = h.message; probing = h.probing })
+    subst (Holds b) (sym m.1.after_is)
+    (record {
+      same = h.same;
+      eits = h.eits;
+      content_kind =
+          kind_is depth tag content octets m.1.value m.1.value_spelled;
+      content_id = h.content_id;
+      indicators =
+          h.indicators;
+      deferral = h.deferral;
+      length_fits = h.length_fits;
+      bilateral = h.bilateral;
+      recipients =
+          h.recipients;
+      trace = h.trace;
+      extensions = h.extensions;
+      message = h.message;
+      probing = h.probing;
+    })
 keeps_part b MessagePriority depth s t tag content octets is stands m h =
-    subst (Holds b) (sym m.1.after_is) (record { same = h.same; eits = h.eits; content_kind = h.content_kind; content_id = h.content_id; indicators = h.indicators; deferral = h.deferral; length_fits = h.length_fits; bilateral = h.bilateral; recipients = h.recipients; trace = h.trace; extensions = h.extensions; message = h.message; probing = λ e. absurd (let k = no_probe b s.probe (is_primitive_tag 1 7 tag) h.same is e in k) })
+    subst (Holds b) (sym m.1.after_is)
+    (record {
+      same = h.same;
+      eits = h.eits;
+      content_kind = h.content_kind;
+      content_id = h.content_id;
+      indicators =
+          h.indicators;
+      deferral = h.deferral;
+      length_fits = h.length_fits;
+      bilateral = h.bilateral;
+      recipients =
+          h.recipients;
+      trace = h.trace;
+      extensions = h.extensions;
+      message = h.message;
+      probing =
+          λ e. absurd (let k = no_probe b s.probe (is_primitive_tag 1 7 tag) h.same is e in k);
+    })
 keeps_part b Indicators depth s t tag content octets is stands m h =
-    subst (Holds b) (sym m.1.after_is) (record { same = h.same; eits = h.eits; content_kind = h.content_kind; content_id = h.content_id; indicators = indicators_are depth tag.constructed content m.1.value m.1.value_spelled; deferral = h.deferral; length_fits = h.length_fits; bilateral = h.bilateral; recipients = h.recipients; trace = h.trace; extensions = h.extensions; message = h.message; probing = h.probing })
+    subst (Holds b) (sym m.1.after_is)
+    (record {
+      same = h.same;
+      eits = h.eits;
+      content_kind = h.content_kind;
+      content_id = h.content_id;
+      indicators =
+          indicators_are depth tag.constructed content m.1.value m.1.value_spelled;
+      deferral = h.deferral;
+      length_fits =
+          h.length_fits;
+      bilateral = h.bilateral;
+      recipients = h.recipients;
+      trace = h.trace;
+      extensions = h.extensions;
+      message = h.message;
+      probing = h.probing;
+    })
 keeps_part b TraceList depth s t tag content octets is stands m h =
-    subst (Holds b) (sym m.1.after_is) (record { same = h.same; eits = h.eits; content_kind = h.content_kind; content_id = h.content_id; indicators = h.indicators; deferral = h.deferral; length_fits = h.length_fits; bilateral = h.bilateral; recipients = h.recipients; trace = m.1.value_spelled.at_most; extensions = h.extensions; message = h.message; probing = h.probing })
+    subst (Holds b) (sym m.1.after_is)
+    (record {
+      same = h.same;
+      eits = h.eits;
+      content_kind = h.content_kind;
+      content_id = h.content_id;
+      indicators =
+          h.indicators;
+      deferral = h.deferral;
+      length_fits = h.length_fits;
+      bilateral = h.bilateral;
+      recipients =
+          h.recipients;
+      trace = m.1.value_spelled.at_most;
+      extensions = h.extensions;
+      message = h.message;
+      probing =
+          h.probing;
+    })
 keeps_part b ContentIdentifier depth s t tag content octets is stands m h =
-    subst (Holds b) (sym m.1.after_is) (record { same = h.same; eits = h.eits; content_kind = h.content_kind; content_id = m.1.value_spelled.is_text; indicators = h.indicators; deferral = h.deferral; length_fits = h.length_fits; bilateral = h.bilateral; recipients = h.recipients; trace = h.trace; extensions = h.extensions; message = h.message; probing = h.probing })
+    subst (Holds b) (sym m.1.after_is)
+    (record {
+      same = h.same;
+      eits = h.eits;
+      content_kind = h.content_kind;
+      content_id = m.1.value_spelled.is_text;
+      indicators = h.indicators;
+      deferral = h.deferral;
+      length_fits = h.length_fits;
+      bilateral = h.bilateral;
+      recipients = h.recipients;
+      trace = h.trace;
+      extensions = h.extensions;
+      message = h.message;
+      probing =
+          h.probing;
+    })
 keeps_part b Deferral depth s t tag content octets is stands m h =
-    subst (Holds b) (sym m.1.after_is) (record { same = h.same; eits = h.eits; content_kind = h.content_kind; content_id = h.content_id; indicators = h.indicators; deferral = m.1.value_spelled.is_text.in_range; length_fits = h.length_fits; bilateral = h.bilateral; recipients = h.recipients; trace = h.trace; extensions = h.extensions; message = h.message; probing = λ e. absurd (let k = no_probe b s.probe (is_tag 2 0 tag) h.same is e in k) })
+    subst (Holds b) (sym m.1.after_is)
+    (record {
+      same = h.same;
+      eits = h.eits;
+      content_kind = h.content_kind;
+      content_id = h.content_id;
+      indicators =
+          h.indicators;
+      deferral = m.1.value_spelled.is_text.in_range;
+      length_fits = h.length_fits;
+      bilateral =
+          h.bilateral;
+      recipients = h.recipients;
+      trace = h.trace;
+      extensions = h.extensions;
+      message = h.message;
+      probing = λ e. absurd (let k = no_probe b s.probe (is_tag 2 0 tag) h.same is e in k);
+    })
 keeps_part b Length depth s t tag content octets is stands m h =
-    subst (Holds b) (sym m.1.after_is) (record { same = h.same; eits = h.eits; content_kind = h.content_kind; content_id = h.content_id; indicators = h.indicators; deferral = h.deferral; length_fits = number_small 0 longest m.1.value tag.constructed content m.1.value_spelled; bilateral = h.bilateral; recipients = h.recipients; trace = h.trace; extensions = h.extensions; message = λ e. absurd (let k = no_message b s.probe (is_primitive_tag 2 0 tag) h.same is e in k); probing = h.probing })
+    subst (Holds b) (sym m.1.after_is)
+    (record {
+      same = h.same;
+      eits = h.eits;
+      content_kind = h.content_kind;
+      content_id = h.content_id;
+      indicators =
+          h.indicators;
+      deferral = h.deferral;
+      length_fits =
+          number_small 0 longest m.1.value tag.constructed content m.1.value_spelled;
+      bilateral = h.bilateral;
+      recipients = h.recipients;
+      trace = h.trace;
+      extensions = h.extensions;
+      message =
+          λ e. absurd (let k = no_message b s.probe (is_primitive_tag 2 0 tag) h.same is e in k);
+      probing = h.probing;
+    })
 keeps_part b Bilateral depth s t tag content octets is stands m h =
-    subst (Holds b) (sym m.1.after_is) (record { same = h.same; eits = h.eits; content_kind = h.content_kind; content_id = h.content_id; indicators = h.indicators; deferral = h.deferral; length_fits = h.length_fits; bilateral = subst (IsRaw 2 1) (sym m.1.value_spelled) (record { depth = depth; tag = tag; content = content; is_tag_of = is; stands = stands }); recipients = h.recipients; trace = h.trace; extensions = h.extensions; message = h.message; probing = h.probing })
+    subst (Holds b) (sym m.1.after_is)
+    (record {
+      same = h.same;
+      eits = h.eits;
+      content_kind = h.content_kind;
+      content_id = h.content_id;
+      indicators =
+          h.indicators;
+      deferral = h.deferral;
+      length_fits = h.length_fits;
+      bilateral =
+          subst (IsRaw 2 1) (sym m.1.value_spelled)
+          (record { depth = depth; tag = tag; content = content; is_tag_of = is; stands = stands });
+      recipients =
+          h.recipients;
+      trace = h.trace;
+      extensions = h.extensions;
+      message = h.message;
+      probing = h.probing;
+    })
 keeps_part b RecipientList depth s t tag content octets is stands m h =
-    subst (Holds b) (sym m.1.after_is) (record { same = h.same; eits = h.eits; content_kind = h.content_kind; content_id = h.content_id; indicators = h.indicators; deferral = h.deferral; length_fits = h.length_fits; bilateral = h.bilateral; recipients = (m.1.value_spelled.at_least, m.1.value_spelled.at_most); trace = h.trace; extensions = h.extensions; message = h.message; probing = h.probing })
+    subst (Holds b) (sym m.1.after_is)
+    (record {
+      same = h.same;
+      eits = h.eits;
+      content_kind = h.content_kind;
+      content_id = h.content_id;
+      indicators =
+          h.indicators;
+      deferral = h.deferral;
+      length_fits = h.length_fits;
+      bilateral = h.bilateral;
+      recipients =
+          (m.1.value_spelled.at_least, m.1.value_spelled.at_most);
+      trace = h.trace;
+      extensions = h.extensions;
+      message =
+          h.message;
+      probing = h.probing;
+    })
 keeps_part b ExtensionSet depth s t tag content octets is stands m h =
-    subst (Holds b) (sym m.1.after_is) (record { same = h.same; eits = h.eits; content_kind = h.content_kind; content_id = h.content_id; indicators = h.indicators; deferral = h.deferral; length_fits = h.length_fits; bilateral = h.bilateral; recipients = h.recipients; trace = h.trace; extensions = extensions_are depth tag.constructed content m.1.value m.1.value_spelled; message = h.message; probing = h.probing })
+    subst (Holds b) (sym m.1.after_is)
+    (record {
+      same = h.same;
+      eits = h.eits;
+      content_kind = h.content_kind;
+      content_id = h.content_id;
+      indicators =
+          h.indicators;
+      deferral = h.deferral;
+      length_fits = h.length_fits;
+      bilateral = h.bilateral;
+      recipients =
+          h.recipients;
+      trace = h.trace;
+      extensions =
+          extensions_are depth tag.constructed content m.1.value m.1.value_spelled;
+      message = h.message;
+      probing =
+          h.probing;
+    })
 
 keeps : (b : Bool) → Keeps MakesEnvelope (Holds b)
-keeps b depth s t tag content octets stands m h = keeps_part b m.part depth s t tag content octets m.is_tag_of stands m.made h
+keeps b depth s t tag content octets stands m h =
+    keeps_part b m.part depth s t tag content octets m.is_tag_of stands m.made h
 
-held : (b : Bool) (depth : ℕ) (c : Bool) (content : List ℕ) (v : EnvelopeFields) → (h : SpellsEnvelope b depth c content v) → Holds b h.parts
-held b depth c content v h = spelled_keep MakesEnvelope (Holds b) (keeps b) depth (no_envelope b) h.parts content h.spelled (record {
-  same = refl;
-  eits = tt;
-  content_kind = tt;
-  content_id = tt;
-  indicators = tt;
-  deferral = tt;
-  length_fits = tt;
-  bilateral = tt;
-  recipients = tt;
-  trace = tt;
-  extensions = tt;
-  message = λ e. refl;
-  probing = λ e. (refl, refl);
-})
+held : (b : Bool) (depth : ℕ) (c : Bool) (content : List ℕ) (v : EnvelopeFields)
+    → (h : SpellsEnvelope b depth c content v) → Holds b h.parts
+held b depth c content v h = spelled_keep MakesEnvelope (Holds b) (keeps b) depth
+    (no_envelope b) h.parts content h.spelled (record {
+      same = refl;
+      eits = tt;
+      content_kind = tt;
+      content_id = tt;
+      indicators = tt;
+      deferral = tt;
+      length_fits = tt;
+      bilateral = tt;
+      recipients = tt;
+      trace = tt;
+      extensions = tt;
+      message = λ e. refl;
+      probing = λ e. (refl, refl);
+    })
 
 eight_are : IsIndicators eight_zeros
 eight_are = record { at_least = omega arith; at_most = omega arith; within = lit< tt }
@@ -178,26 +447,31 @@ told_so None h = record { history = tt; latest = tt; prohibited = tt }
 told_so (Some x) h = h
 
 -- a history that is told has an expansion
-some_history : (vs : List (List ℕ)) (o : Option (List ExpansionFields)) → Says ExpansionHistory vs (history_said o) → told_history (history_or_none o) ≡ o
+some_history : (vs : List (List ℕ)) (o : Option (List ExpansionFields)) → Says ExpansionHistory vs (history_said o)
+    → told_history (history_or_none o) ≡ o
 some_history vs None h = refl
 some_history [] (Some []) h = absurd h
 some_history (v ∷ []) (Some []) h = absurd (let n = h.spelled.1.at_least in omega arith)
 some_history (v ∷ w ∷ vs) (Some []) h = absurd h
 some_history vs (Some (x ∷ xs)) h = refl
 
-said_so : (s : Extensions) → AreTold s → IsSaid s.fields (history_or_none s.history) s.latest (unwrap_or s.prohibited false)
+said_so : (s : Extensions) → AreTold s
+    → IsSaid s.fields (history_or_none s.history) s.latest (unwrap_or s.prohibited false)
 said_so s h = record {
   prohibition = s.prohibited;
   prohibited_is = refl;
-  told = subst (λ o. AreTold (record { fields = s.fields; history = o; latest = s.latest; prohibited = s.prohibited })) (sym (some_history (values_of ExpansionHistory s.fields) s.history h.history)) h;
+  told = subst (λ o. AreTold (record { fields = s.fields; history = o; latest = s.latest; prohibited = s.prohibited }))
+      (sym (some_history (values_of ExpansionHistory s.fields) s.history h.history)) h;
 }
 
-pub envelope_is : (b : Bool) (depth : ℕ) (c : Bool) (content : List ℕ) (v : EnvelopeFields) → SpellsEnvelope b depth c content v → IsEnvelope v
+pub envelope_is : (b : Bool) (depth : ℕ) (c : Bool) (content : List ℕ) (v : EnvelopeFields)
+    → SpellsEnvelope b depth c content v → IsEnvelope v
 envelope_is b depth c content v h =
     let k = held b depth c content v h in
     let kind : IsContentKind v.content_kind = subst (λ o. IfSome o IsContentKind) h.content_kind k.content_kind in
     let few : length v.trace ≤ 512 = subst (λ o. IfSome o (λ t. length t ≤ 512)) h.trace k.trace in
-    let some : (1 ≤ length v.recipients) × (length v.recipients ≤ 32767) = subst (λ o. IfSome o (λ r. (1 ≤ length r) × (length r ≤ 32767))) h.recipients k.recipients in
+    let some : (1 ≤ length v.recipients) × (length v.recipients ≤ 32767) =
+    subst (λ o. IfSome o (λ r. (1 ≤ length r) × (length r ≤ 32767))) h.recipients k.recipients in
     subst IsEnvelope (sym h.value) (record {
       eits = k.eits;
       content_kind = kind;
@@ -212,10 +486,15 @@ envelope_is b depth c content v h =
       said = said_so (told_or_none h.parts.extensions) (told_so h.parts.extensions k.extensions);
     })
 
-kind_so : (b : Bool) (v : EnvelopeFields) (s : EnvelopeParts) → v.priority ≡ priority_or_normal s.priority → v.deferral ≡ s.deferral → v.length ≡ s.length → Holds b s → IsOfKind b v
-kind_so true v s p d l h = let k = h.probing refl in record { no_priority = p ∙ ap priority_or_normal k.0; no_deferral = d ∙ k.1 }
+kind_so : (b : Bool) (v : EnvelopeFields) (s : EnvelopeParts) → v.priority ≡ priority_or_normal s.priority
+    → v.deferral ≡ s.deferral → v.length ≡ s.length → Holds b s → IsOfKind b v
+kind_so true v s p d l h = let k = h.probing refl in
+    record { no_priority = p ∙ ap priority_or_normal k.0; no_deferral = d ∙ k.1 }
 kind_so false v s p d l h = l ∙ h.message refl
 
-pub envelope_kind : (b : Bool) (depth : ℕ) (c : Bool) (content : List ℕ) (v : EnvelopeFields) → SpellsEnvelope b depth c content v → IsOfKind b v
+pub envelope_kind : (b : Bool) (depth : ℕ) (c : Bool) (content : List ℕ) (v : EnvelopeFields)
+    → SpellsEnvelope b depth c content v → IsOfKind b v
 envelope_kind b depth c content v h =
-    kind_so b v h.parts (ap (λ (x : EnvelopeFields). x.priority) h.value) (ap (λ (x : EnvelopeFields). x.deferral) h.value) (ap (λ (x : EnvelopeFields). x.length) h.value) (held b depth c content v h)
+    kind_so b v h.parts (ap (λ (x : EnvelopeFields). x.priority) h.value)
+    (ap (λ (x : EnvelopeFields). x.deferral) h.value) (ap (λ (x : EnvelopeFields). x.length) h.value)
+    (held b depth c content v h)

@@ -167,22 +167,35 @@ no_envelope probe = record {
 -- ---- what spells a component
 
 abbrev pub MakesEnvelopePart : EnvelopePart → ℕ → EnvelopeParts → Tag → List ℕ → List ℕ → EnvelopeParts → Type 0
-MakesEnvelopePart Originator depth s tag content octets after = (s.originator ≡ None) × Puts (SpellsName depth tag.constructed content) (with_originator s) after
+MakesEnvelopePart Originator depth s tag content octets after = (s.originator ≡ None)
+    × Puts (SpellsName depth tag.constructed content) (with_originator s) after
 MakesEnvelopePart Identifier depth s tag content octets after = (s.id ≡ None)
     × Puts (SpellsMtsId depth tag content) (with_id s) after
-MakesEnvelopePart InformationTypes depth s tag content octets after = (s.eits ≡ None) × Puts (λ x. x ≡ octets) (with_eits s) after
-MakesEnvelopePart ContentType depth s tag content octets after = (s.content_kind ≡ None) × Puts (SpellsContentKind depth tag content octets) (with_content_kind s) after
-MakesEnvelopePart MessagePriority depth s tag content octets after = (s.priority ≡ None) × Puts (SpellsPriority tag.constructed content) (with_priority s) after
-MakesEnvelopePart Indicators depth s tag content octets after = (s.indicators ≡ None) × Puts (SpellsIndicators depth tag.constructed content) (with_indicators s) after
-MakesEnvelopePart TraceList depth s tag content octets after = (s.trace ≡ None) × Puts (SpellsTraceList depth tag.constructed content) (with_trace s) after
-MakesEnvelopePart ContentIdentifier depth s tag content octets after = (s.content_id ≡ None) × Puts (SpellsContentId depth tag.constructed content) (with_content_id s) after
-MakesEnvelopePart Deferral depth s tag content octets after = (s.deferral ≡ None) × Puts (SpellsMoment depth tag.constructed content) (with_deferral s) after
-MakesEnvelopePart Length depth s tag content octets after = (s.length ≡ None) × Puts (SpellsNumber 0 longest tag.constructed content) (with_length s) after
-MakesEnvelopePart Bilateral depth s tag content octets after = (s.bilateral ≡ None) × Puts (λ x. x ≡ octets) (with_bilateral s) after
-MakesEnvelopePart RecipientList depth s tag content octets after = (s.recipients ≡ None) × Puts (SpellsRecipients depth tag.constructed content) (with_recipients s) after
-MakesEnvelopePart ExtensionSet depth s tag content octets after = (s.extensions ≡ None) × Puts (SpellsExtensions depth tag.constructed content) (with_extensions s) after
+MakesEnvelopePart InformationTypes depth s tag content octets after = (s.eits ≡ None)
+    × Puts (λ x. x ≡ octets) (with_eits s) after
+MakesEnvelopePart ContentType depth s tag content octets after = (s.content_kind ≡ None)
+    × Puts (SpellsContentKind depth tag content octets) (with_content_kind s) after
+MakesEnvelopePart MessagePriority depth s tag content octets after = (s.priority ≡ None)
+    × Puts (SpellsPriority tag.constructed content) (with_priority s) after
+MakesEnvelopePart Indicators depth s tag content octets after = (s.indicators ≡ None)
+    × Puts (SpellsIndicators depth tag.constructed content) (with_indicators s) after
+MakesEnvelopePart TraceList depth s tag content octets after = (s.trace ≡ None)
+    × Puts (SpellsTraceList depth tag.constructed content) (with_trace s) after
+MakesEnvelopePart ContentIdentifier depth s tag content octets after = (s.content_id ≡ None)
+    × Puts (SpellsContentId depth tag.constructed content) (with_content_id s) after
+MakesEnvelopePart Deferral depth s tag content octets after = (s.deferral ≡ None)
+    × Puts (SpellsMoment depth tag.constructed content) (with_deferral s) after
+MakesEnvelopePart Length depth s tag content octets after = (s.length ≡ None)
+    × Puts (SpellsNumber 0 longest tag.constructed content) (with_length s) after
+MakesEnvelopePart Bilateral depth s tag content octets after = (s.bilateral ≡ None)
+    × Puts (λ x. x ≡ octets) (with_bilateral s) after
+MakesEnvelopePart RecipientList depth s tag content octets after = (s.recipients ≡ None)
+    × Puts (SpellsRecipients depth tag.constructed content) (with_recipients s) after
+MakesEnvelopePart ExtensionSet depth s tag content octets after = (s.extensions ≡ None)
+    × Puts (SpellsExtensions depth tag.constructed content) (with_extensions s) after
 
-pub record MakesEnvelope (depth : ℕ) (before : EnvelopeParts) (tag : Tag) (content octets : List ℕ) (after : EnvelopeParts) : Type 0 where
+pub record MakesEnvelope (depth : ℕ) (before : EnvelopeParts) (tag : Tag) (content octets : List ℕ)
+    (after : EnvelopeParts) : Type 0 where
   pub part : EnvelopePart
   pub is_tag_of : is_envelope_tag before.probe part tag ≡ true
   pub made : MakesEnvelopePart part depth before tag content octets after

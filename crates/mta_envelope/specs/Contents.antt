@@ -63,7 +63,8 @@ abbrev pub is_octet_string : Tag → Bool
 is_octet_string t = is_tag 0 4 t
 
 unfoldable pub content_in : Part → Result ContentValue Fault
-content_in p = if is_octet_string p.tag then (joined_as 4 p >>= λ o. Ok (content_as (not p.tag.constructed) o)) else fault p.at BadTag
+content_in p = if is_octet_string p.tag then (joined_as 4 p >>= λ o. Ok (content_as (not p.tag.constructed) o))
+    else fault p.at BadTag
 
 -- ---- what spells a content: lent exactly where it is primitive
 

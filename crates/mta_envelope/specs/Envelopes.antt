@@ -43,10 +43,17 @@ told_history [] = None
 told_history (x ∷ xs) = Some (x ∷ xs)
 
 -- history, latest delivery time and prohibition are what the kept extension fields say
-pub record IsSaid (fields : List ExtFields) (history : List ExpansionFields) (latest : Option ℕ) (prohibited : Bool) : Type 0 where
+pub record IsSaid (fields : List ExtFields) (history : List ExpansionFields) (latest : Option ℕ)
+    (prohibited : Bool) : Type 0 where
   pub prohibition : Option Bool
   pub prohibited_is : prohibited ≡ unwrap_or prohibition false
-  pub told : AreTold (record { fields = fields; history = told_history history; latest = latest; prohibited = prohibition })
+  pub told : AreTold (record {
+    fields = fields;
+    history = told_history history;
+    latest = latest;
+    prohibited =
+        prohibition;
+  })
 
 pub record IsEnvelope (v : EnvelopeFields) : Type 0 where
   pub eits : IfSome v.eits (IsRaw 1 5)
@@ -87,7 +94,8 @@ indicators_or_none o = unwrap_or o eight_zeros
 abbrev pub priority_or_normal : Option Priority → Priority
 priority_or_normal o = unwrap_or o Normal
 
-abbrev pub envelope : Attributes → MtsIdFields → ContentKind → List TraceFields → List RecipientFields → EnvelopeParts → EnvelopeFields
+abbrev pub envelope : Attributes → MtsIdFields → ContentKind → List TraceFields → List RecipientFields → EnvelopeParts
+    → EnvelopeFields
 envelope originator id content_kind trace recipients s = record {
   id = id;
   originator = originator;
@@ -110,7 +118,8 @@ envelope originator id content_kind trace recipients s = record {
 -- ---- reading
 
 abbrev pub has_required : EnvelopeParts → Bool
-has_required s = is_some s.originator && (is_some s.id && (is_some s.content_kind && (is_some s.trace && is_some s.recipients)))
+has_required s = is_some s.originator &&
+    (is_some s.id && (is_some s.content_kind && (is_some s.trace && is_some s.recipients)))
 
 pub record HasRequired (s : EnvelopeParts) : Type 0 where
   pub originator : IsSome s.originator
@@ -144,7 +153,8 @@ envelope_in probe p = components envelope_step (no_envelope probe) p >>= finishe
 
 -- ---- what spells an envelope
 
-pub record SpellsEnvelope (probe : Bool) (depth : ℕ) (constructed : Bool) (content : List ℕ) (v : EnvelopeFields) : Type 0 where
+pub record SpellsEnvelope (probe : Bool) (depth : ℕ) (constructed : Bool) (content : List ℕ)
+    (v : EnvelopeFields) : Type 0 where
   pub is_constructed : constructed ≡ true
   pub parts : EnvelopeParts
   pub spelled : SpellsComponents MakesEnvelope depth (no_envelope probe) content parts
@@ -168,14 +178,17 @@ canonical_length n = canon_int (primitive 2 0) (pos n)
 
 unfoldable pub envelope_front : EnvelopeFields → List ℕ
 envelope_front v =
-    kind_in_front v.content_kind ++ canonical_name (constructed 1 0) v.originator ++ canonical_id v.id ++ optional kept v.eits ++ kind_in_place v.content_kind ++ canonical_priority v.priority
+    kind_in_front v.content_kind ++ canonical_name (constructed 1 0) v.originator ++ canonical_id v.id
+    ++ optional kept v.eits ++ kind_in_place v.content_kind ++ canonical_priority v.priority
 
 unfoldable pub envelope_middle : EnvelopeFields → List ℕ
-envelope_middle v = canonical_or_none v.indicators ++ canonical_trace_list v.trace ++ optional canonical_content_id v.content_id
+envelope_middle v = canonical_or_none v.indicators ++ canonical_trace_list v.trace
+    ++ optional canonical_content_id v.content_id
 
 unfoldable pub envelope_back : EnvelopeFields → List ℕ
 envelope_back v =
-    optional canonical_deferral v.deferral ++ optional canonical_length v.length ++ optional kept v.bilateral ++ canonical_recipients v.recipients ++ canonical_ext_list (constructed 2 3) v.extensions
+    optional canonical_deferral v.deferral ++ optional canonical_length v.length ++ optional kept v.bilateral
+    ++ canonical_recipients v.recipients ++ canonical_ext_list (constructed 2 3) v.extensions
 
 unfoldable pub envelope_content : EnvelopeFields → List ℕ
 envelope_content v = envelope_front v ++ envelope_middle v ++ envelope_back v

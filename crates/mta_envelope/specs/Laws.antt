@@ -20,7 +20,12 @@ use Rattle.mta_envelope.specs.Messages.{canonical_message, canonical_probe}
 
 -- the extension fields, and what they say
 abbrev pub told_of : EnvelopeFields → Option Bool → Extensions
-told_of v prohibition = record { fields = v.extensions; history = told_history v.history; latest = v.latest; prohibited = prohibition }
+told_of v prohibition = record {
+  fields = v.extensions;
+  history = told_history v.history;
+  latest = v.latest;
+  prohibited = prohibition;
+}
 
 -- an envelope, with the parts that have rules of their own
 pub record IsWholeEnvelope (v : EnvelopeFields) : Type 0 where
@@ -44,23 +49,28 @@ pub record KeepsEnvelope (depth : ℕ) (v : EnvelopeFields) : Type 0 where
 
 -- a message whose octets a length can count is read again as its envelope and its content, which stands in one piece
 abbrev pub MessagesAreReadAgain : Type 0
-MessagesAreReadAgain = (v : EnvelopeFields) (content more : List ℕ) (at : ℕ) → IsWholeEnvelope v → IsOfKind false v → KeepsEnvelope 2 v → length (canonical_message v content) < 2 ^ 64
-    → (first at (canonical_message v content ++ more) >>= with_rest message_in) ≡ beside (message_as v (content_as true content)) more
+MessagesAreReadAgain = (v : EnvelopeFields) (content more : List ℕ) (at : ℕ) → IsWholeEnvelope v → IsOfKind false v
+    → KeepsEnvelope 2 v → length (canonical_message v content) < 2 ^ 64
+    → (first at (canonical_message v content ++ more) >>= with_rest message_in) ≡ beside
+    (message_as v (content_as true content)) more
 
 abbrev pub ProbesAreReadAgain : Type 0
-ProbesAreReadAgain = (v : EnvelopeFields) (more : List ℕ) (at : ℕ) → IsWholeEnvelope v → IsOfKind true v → KeepsEnvelope 2 v → length (canonical_probe v) < 2 ^ 64
+ProbesAreReadAgain = (v : EnvelopeFields) (more : List ℕ) (at : ℕ) → IsWholeEnvelope v → IsOfKind true v
+    → KeepsEnvelope 2 v → length (canonical_probe v) < 2 ^ 64
     → (first at (canonical_probe v ++ more) >>= with_rest probe_in) ≡ beside v more
 
 -- what an envelope that was read keeps stands in the level of its place, and the extension fields say there what is
 -- said
 abbrev pub ReadEnvelopesAreKept : Type 0
-ReadEnvelopesAreKept = (probe : Bool) (depth : ℕ) (c : Bool) (content : List ℕ) (v : EnvelopeFields) → SpellsEnvelope probe depth c content v → depth + 7 ≤ 16 → KeepsEnvelope depth v × IsWholeEnvelope v
+ReadEnvelopesAreKept = (probe : Bool) (depth : ℕ) (c : Bool) (content : List ℕ) (v : EnvelopeFields)
+    → SpellsEnvelope probe depth c content v → depth + 7 ≤ 16 → KeepsEnvelope depth v × IsWholeEnvelope v
 
 -- so a message that was read, at the outermost level, is written so that it is read again
 abbrev pub ReadMessagesAreReadAgain : Type 0
 ReadMessagesAreReadAgain = (content : List ℕ) (v : MessageValue) (more : List ℕ) (at : ℕ)
     → SpellsMessage 1 (constructed 2 0) content v → length (canonical_message v.envelope v.content.octets) < 2 ^ 64
-    → (first at (canonical_message v.envelope v.content.octets ++ more) >>= with_rest message_in) ≡ beside (message_as v.envelope (content_as true v.content.octets)) more
+    → (first at (canonical_message v.envelope v.content.octets ++ more) >>= with_rest message_in) ≡ beside
+    (message_as v.envelope (content_as true v.content.octets)) more
 
 abbrev pub ReadProbesAreReadAgain : Type 0
 ReadProbesAreReadAgain = (content : List ℕ) (v : EnvelopeFields) (more : List ℕ) (at : ℕ)

@@ -93,7 +93,8 @@ pub record SpellsProbe (depth : ℕ) (tag : Tag) (content : List ℕ) (v : Envel
 -- ---- the one spelling that is written
 
 unfoldable pub canonical_message : EnvelopeFields → List ℕ → List ℕ
-canonical_message v content = element (constructed 2 0) (element (constructed 0 17) (envelope_content v) ++ element (primitive 0 4) content)
+canonical_message v content = element (constructed 2 0)
+    (element (constructed 0 17) (envelope_content v) ++ element (primitive 0 4) content)
 
 unfoldable pub canonical_probe : EnvelopeFields → List ℕ
 canonical_probe v = element (constructed 2 2) (envelope_content v)

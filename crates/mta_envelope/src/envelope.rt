@@ -113,8 +113,11 @@ impl Envelope {
         ensures exact { Reads result (envelope_in probe (view whole.now)) }
 
         // What is answered is spelled by the content, and what the content spells is answered.
-        ensures found { IfOk result (SpellsEnvelope probe whole.now.depth whole.now.tag.constructed whole.now.content.now) }
-        ensures only { (v : EnvelopeFields) → SpellsEnvelope probe whole.now.depth whole.now.tag.constructed whole.now.content.now v → IsReadAs result v }
+        ensures found { IfOk result (SpellsEnvelope probe whole.now.depth whole.now.tag.constructed
+            whole.now.content.now) }
+        ensures only { (v : EnvelopeFields)
+            → SpellsEnvelope probe whole.now.depth whole.now.tag.constructed whole.now.content.now v
+            → IsReadAs result v }
 
         // That of a message has no content length, and that of a probe neither a priority nor a deferred delivery time.
         ensures kind { IfOk result (IsOfKind probe) }

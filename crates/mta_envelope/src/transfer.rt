@@ -29,7 +29,8 @@ use std::alloc::Global;
 /// The next element, which has to be there. Missing at the whole where it is not.
 fn next_of<'a>(parts: &mut Parts<'a>, whole: u32) -> Result<View<'a>, ReadFault>
     ensures exact { ReadsSeen view result (next_in whole parts.old.at (parts.old.depth + 1) parts.old.left.now) }
-    ensures moved { IfOk result (λ v. IsBehind parts.old.at parts.old.left.now v.rest.now parts.new.at parts.new.left.now) }
+    ensures moved { IfOk result (λ v. IsBehind parts.old.at parts.old.left.now v.rest.now parts.new.at
+        parts.new.left.now) }
     ensures depth { parts.new.depth ≡ parts.old.depth }
     ensures found { IfOk result (λ v. Standing parts.old.at (parts.old.depth + 1) (view v) parts.old.left.now) }
     ensures place { IfOk result (λ v. IsAt (v.start - parts.old.at) v.content parts.old.left) }

@@ -17,12 +17,16 @@ field_sound v p shallow content octets e = ext_sound v p content e
 field_full : ReadFull ext_in SpellsExtItem
 field_full v p shallow h = ext_full v p h
 
-pub ext_list_sound : (vs : List ExtFields) (p : Part) → IsOctets p.content → ext_list_in p ≡ Ok vs → SpellsExtList p.depth p.tag.constructed p.content vs
+pub ext_list_sound : (vs : List ExtFields) (p : Part) → IsOctets p.content → ext_list_in p ≡ Ok vs
+    → SpellsExtList p.depth p.tag.constructed p.content vs
 unfolding ext_list_in
 ext_list_sound vs p octets e =
-    let c = components_sound ext_list_step (AddsItem is_sequence SpellsExtItem) (item_sound is_sequence ext_in SpellsExtItem field_sound) [] vs p octets e in
+    let c = components_sound ext_list_step (AddsItem is_sequence SpellsExtItem)
+    (item_sound is_sequence ext_in SpellsExtItem field_sound) [] vs p octets e in
     record { is_constructed = c.0; spelled = c.1 }
 
-pub ext_list_full : (vs : List ExtFields) (p : Part) → SpellsExtList p.depth p.tag.constructed p.content vs → ext_list_in p ≡ Ok vs
+pub ext_list_full : (vs : List ExtFields) (p : Part) → SpellsExtList p.depth p.tag.constructed p.content vs
+    → ext_list_in p ≡ Ok vs
 unfolding ext_list_in
-ext_list_full vs p h = components_full ext_list_step (AddsItem is_sequence SpellsExtItem) (item_full is_sequence ext_in SpellsExtItem field_full) [] vs p h.is_constructed h.spelled
+ext_list_full vs p h = components_full ext_list_step (AddsItem is_sequence SpellsExtItem)
+    (item_full is_sequence ext_in SpellsExtItem field_full) [] vs p h.is_constructed h.spelled

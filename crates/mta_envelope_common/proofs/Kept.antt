@@ -30,8 +30,11 @@ trace_more depth s t tag content octets stands m h =
       kept = each_more (KeepsTrace depth) s v h.kept (trace_kept depth tag content v m.spelled);
     })
 
-pub trace_list_kept : (depth : ℕ) (c : Bool) (content : List ℕ) (vs : List TraceFields) → SpellsTraceList depth c content vs → AreKeptTraces (depth + 1) vs
-trace_list_kept depth c content vs h = spelled_kept (AddsItem is_sequence SpellsTraceItem) (AreKeptTraces (depth + 1)) depth (trace_more (depth + 1)) [] vs content h.spelled (record { traces = tt; kept = tt })
+pub trace_list_kept : (depth : ℕ) (c : Bool) (content : List ℕ) (vs : List TraceFields)
+    → SpellsTraceList depth c content vs → AreKeptTraces (depth + 1) vs
+trace_list_kept depth c content vs h =
+    spelled_kept (AddsItem is_sequence SpellsTraceItem) (AreKeptTraces (depth + 1)) depth
+    (trace_more (depth + 1)) [] vs content h.spelled (record { traces = tt; kept = tt })
 
 -- ---- extension fields
 
@@ -45,13 +48,18 @@ field_more depth d s t tag content octets stands m h =
     let v = m.item in
     subst (AreKeptFields depth) (sym m.after_is) (record {
       fields = each_more IsExtField s v h.fields (ext_is depth tag content v m.spelled);
-      kept = each_more (KeepsExtField depth) s v h.kept (extension_field_kept depth depth tag content v m.spelled (omega arith) d);
+      kept = each_more (KeepsExtField depth) s v h.kept
+          (extension_field_kept depth depth tag content v m.spelled (omega arith) d);
     })
 
-pub ext_list_kept : (depth : ℕ) (c : Bool) (content : List ℕ) (vs : List ExtFields) → SpellsExtList depth c content vs → depth + 3 ≤ 16 → AreKeptFields (depth + 1) vs
-ext_list_kept depth c content vs h d = spelled_kept (AddsItem is_sequence SpellsExtItem) (AreKeptFields (depth + 1)) depth (field_more (depth + 1) (omega arith)) [] vs content h.spelled (record { fields = tt; kept = tt })
+pub ext_list_kept : (depth : ℕ) (c : Bool) (content : List ℕ) (vs : List ExtFields) → SpellsExtList depth c content vs
+    → depth + 3 ≤ 16 → AreKeptFields (depth + 1) vs
+ext_list_kept depth c content vs h d =
+    spelled_kept (AddsItem is_sequence SpellsExtItem) (AreKeptFields (depth + 1)) depth
+    (field_more (depth + 1) (omega arith)) [] vs content h.spelled (record { fields = tt; kept = tt })
 
 -- no extensions are the default
-pub fields_or_none_kept : (depth : ℕ) (o : Option (List ExtFields)) → IfSome o (AreKeptFields depth) → AreKeptFields depth (unwrap_or o [])
+pub fields_or_none_kept : (depth : ℕ) (o : Option (List ExtFields)) → IfSome o (AreKeptFields depth)
+    → AreKeptFields depth (unwrap_or o [])
 fields_or_none_kept depth None h = record { fields = tt; kept = tt }
 fields_or_none_kept depth (Some vs) h = h

@@ -18,11 +18,15 @@ module _ {S : Type 0} (makes : Makes S) (depth : ℕ) where
   pub set_none : (s : S) → SetRow s [] s
   set_none s short = no_row makes depth s
 
-  pub set_more : (s t u : S) (octets rest : List ℕ) → SetPiece s octets t → SetRow t rest u → SetRow s (octets ++ rest) u
-  set_more s t u octets rest h r short = row_more makes depth s t u octets rest (h (short_front octets rest short)) (r (short_back octets rest short))
+  pub set_more : (s t u : S) (octets rest : List ℕ) → SetPiece s octets t → SetRow t rest u
+      → SetRow s (octets ++ rest) u
+  set_more s t u octets rest h r short = row_more makes depth s t u octets rest (h (short_front octets rest short))
+      (r (short_back octets rest short))
 
-  pub set_optional : {A : Type 0} (write : A → List ℕ) (P : A → Type 0) (put : Option A → S) (o : Option A) (rest : List ℕ) (u : S) → IfSome o P
-      → ((x : A) → P x → SetPiece (put None) (write x) (put (Some x))) → SetRow (put o) rest u → SetRow (put None) (optional write o ++ rest) u
+  pub set_optional : {A : Type 0} (write : A → List ℕ) (P : A → Type 0) (put : Option A → S) (o : Option A)
+      (rest : List ℕ) (u : S) → IfSome o P
+      → ((x : A) → P x → SetPiece (put None) (write x) (put (Some x))) → SetRow (put o) rest u
+      → SetRow (put None) (optional write o ++ rest) u
   set_optional write P put None rest u h piece r = r
   set_optional write P put (Some x) rest u h piece r = set_more (put None) (put (Some x)) u (write x) rest (piece x h) r
 

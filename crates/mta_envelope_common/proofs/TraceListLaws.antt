@@ -16,10 +16,12 @@ item_sound v p shallow content octets e = trace_sound v p content e
 item_full : ReadFull trace_in SpellsTraceItem
 item_full v p shallow h = trace_full v p h
 
-pub trace_list_sound : (vs : List TraceFields) (p : Part) → IsOctets p.content → trace_list_in p ≡ Ok vs → SpellsTraceList p.depth p.tag.constructed p.content vs
+pub trace_list_sound : (vs : List TraceFields) (p : Part) → IsOctets p.content → trace_list_in p ≡ Ok vs
+    → SpellsTraceList p.depth p.tag.constructed p.content vs
 unfolding trace_list_in
 trace_list_sound vs p octets e = list_sound is_sequence trace_in SpellsTraceItem item_sound 0 512 p vs octets e
 
-pub trace_list_full : (vs : List TraceFields) (p : Part) → SpellsTraceList p.depth p.tag.constructed p.content vs → trace_list_in p ≡ Ok vs
+pub trace_list_full : (vs : List TraceFields) (p : Part) → SpellsTraceList p.depth p.tag.constructed p.content vs
+    → trace_list_in p ≡ Ok vs
 unfolding trace_list_in
 trace_list_full vs p h = list_full is_sequence trace_in SpellsTraceItem item_full 0 512 p vs h

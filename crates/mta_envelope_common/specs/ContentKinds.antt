@@ -30,12 +30,14 @@ abbrev pub oid_kind_in : Part → Result ContentKind Fault
 oid_kind_in p = oid_in p >>= λ o. Ok (Oid o)
 
 unfoldable pub content_kind_in : Part → Result ContentKind Fault
-content_kind_in p = if is_tag 1 6 p.tag then number_kind_in p else if is_tag 0 6 p.tag then oid_kind_in p else fault p.at BadTag
+content_kind_in p = if is_tag 1 6 p.tag then number_kind_in p else if is_tag 0 6 p.tag then oid_kind_in p
+    else fault p.at BadTag
 
 -- ---- what spells a content type
 
 abbrev pub SpellsContentKind : Spells ContentKind
-SpellsContentKind depth tag content octets (Number n) = (is_tag 1 6 tag ≡ true) × SpellsNumber 0 32767 tag.constructed content n
+SpellsContentKind depth tag content octets (Number n) = (is_tag 1 6 tag ≡ true)
+    × SpellsNumber 0 32767 tag.constructed content n
 SpellsContentKind depth tag content octets (Oid o) = (is_tag 0 6 tag ≡ true) × SpellsOid tag.constructed content o
 
 -- ---- the one spelling that is written

@@ -20,7 +20,8 @@ pub fn read_content_id(alloc: Global, part: &View) -> Result<Text, ReadFault>
 
     // What is answered is spelled by the content, and what the content spells is answered.
     ensures found { IfOk result (SpellsContentId part.now.depth part.now.tag.constructed part.now.content.now) }
-    ensures only { (v : List ℕ) → SpellsContentId part.now.depth part.now.tag.constructed part.now.content.now v → IsReadAs result v }
+    ensures only { (v : List ℕ) → SpellsContentId part.now.depth part.now.tag.constructed part.now.content.now v
+        → IsReadAs result v }
 {
     part.text(alloc, TextClass::Printable, 1, 16)
 }

@@ -67,7 +67,8 @@ pub fn read_extensions(alloc: Global, part: &View) -> Result<Row<ExtField>, Read
 
     // What is answered is spelled by the content, and what the content spells is answered.
     ensures found { IfOk result (SpellsExtList part.now.depth part.now.tag.constructed part.now.content.now) }
-    ensures only { (v : List ExtFields) → SpellsExtList part.now.depth part.now.tag.constructed part.now.content.now v → IsReadAs result v }
+    ensures only { (v : List ExtFields) → SpellsExtList part.now.depth part.now.tag.constructed part.now.content.now v
+        → IsReadAs result v }
 {
     extensions_of(alloc, part)
 }

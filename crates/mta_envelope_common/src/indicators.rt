@@ -26,7 +26,8 @@ pub fn read_indicators(part: &View) -> Result<Bits, Fault>
 
     // What is answered is spelled by the content, and what the content spells is answered.
     ensures found { IfOk result (SpellsIndicators part.now.depth part.now.tag.constructed part.now.content.now) }
-    ensures only { (v : BitString) → SpellsIndicators part.now.depth part.now.tag.constructed part.now.content.now v → result ≡ Ok v }
+    ensures only { (v : BitString) → SpellsIndicators part.now.depth part.now.tag.constructed part.now.content.now v
+        → result ≡ Ok v }
 {
     indicators_of(part)
 }

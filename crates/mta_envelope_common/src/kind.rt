@@ -50,8 +50,10 @@ pub fn read_content_kind(alloc: Global, part: &View) -> Result<ContentKind, Read
     ensures exact { Reads result (content_kind_in (view part.now)) }
 
     // What is answered is spelled by the element, and what the element spells is answered.
-    ensures found { IfOk result (SpellsContentKind part.now.depth part.now.tag part.now.content.now part.now.octets.now) }
-    ensures only { (v : ContentKind) → SpellsContentKind part.now.depth part.now.tag part.now.content.now part.now.octets.now v → IsReadAs result v }
+    ensures found { IfOk result
+        (SpellsContentKind part.now.depth part.now.tag part.now.content.now part.now.octets.now) }
+    ensures only { (v : ContentKind)
+        → SpellsContentKind part.now.depth part.now.tag part.now.content.now part.now.octets.now v → IsReadAs result v }
 {
     content_kind_of(alloc, part)
 }

@@ -70,7 +70,8 @@ pub fn read_trace(alloc: Global, part: &View) -> Result<Row<TraceElement>, ReadF
 
     // What is answered is spelled by the content, and what the content spells is answered.
     ensures found { IfOk result (SpellsTraceList part.now.depth part.now.tag.constructed part.now.content.now) }
-    ensures only { (v : List TraceFields) → SpellsTraceList part.now.depth part.now.tag.constructed part.now.content.now v → IsReadAs result v }
+    ensures only { (v : List TraceFields)
+        → SpellsTraceList part.now.depth part.now.tag.constructed part.now.content.now v → IsReadAs result v }
 {
     trace_of(alloc, part)
 }

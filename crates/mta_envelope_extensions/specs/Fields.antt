@@ -102,35 +102,47 @@ value_or topic None at = null_of topic at
 
 abbrev pub told : ExtKind → FieldParts → ExtValue → Told
 told kind s v = record {
-  field = record { kind = kind; submission = bit_if s.criticality 0; transfer = bit_if s.criticality 1; delivery = bit_if s.criticality 2; value = v.octets };
+  field = record {
+    kind = kind;
+    submission = bit_if s.criticality 0;
+    transfer = bit_if s.criticality 1;
+    delivery =
+        bit_if s.criticality 2;
+    value = v.octets;
+  };
   said = v.said;
 }
 
 -- a field, where `held` says which topics are there already
 unfoldable pub field_in : Held → Part → Result Told Fault
-field_in held p = components field_step (no_field held p.at) p >>= λ s. required s.kind p.at >>= λ k. value_or (topic_of k) s.value p.at >>= λ v. Ok (told k s v)
+field_in held p = components field_step (no_field held p.at) p >>= λ s. required s.kind p.at >>= λ k. value_or
+    (topic_of k) s.value p.at >>= λ v. Ok (told k s v)
 
 -- ---- what spells a field
 
 -- a type whose topic is not there yet
-pub record MakesFieldType (depth : ℕ) (before : FieldParts) (tag : Tag) (content octets : List ℕ) (after : FieldParts) : Type 0 where
+pub record MakesFieldType (depth : ℕ) (before : FieldParts) (tag : Tag) (content octets : List ℕ)
+    (after : FieldParts) : Type 0 where
   pub kind : ExtKind
   pub spelled : SpellsKind depth tag content octets kind
   pub first : is_held (topic_of kind) before.held ≡ false
   pub after_is : after ≡ with_kind before kind
 
 -- a value of the type that stood before
-pub record MakesFieldValue (depth : ℕ) (before : FieldParts) (tag : Tag) (content octets : List ℕ) (after : FieldParts) : Type 0 where
+pub record MakesFieldValue (depth : ℕ) (before : FieldParts) (tag : Tag) (content octets : List ℕ)
+    (after : FieldParts) : Type 0 where
   pub kind : ExtKind
   pub kind_is : before.kind ≡ Some kind
   pub puts : Puts (SpellsExplicit (SpellsValue (topic_of kind)) depth tag.constructed content) (with_value before) after
 
 abbrev pub MakesFieldPart : FieldPart → ℕ → FieldParts → Tag → List ℕ → List ℕ → FieldParts → Type 0
 MakesFieldPart FieldType depth s tag content octets after = MakesFieldType depth s tag content octets after
-MakesFieldPart Criticality depth s tag content octets after = Puts (SpellsBits depth tag.constructed content) (with_criticality s) after
+MakesFieldPart Criticality depth s tag content octets after =
+    Puts (SpellsBits depth tag.constructed content) (with_criticality s) after
 MakesFieldPart FieldValue depth s tag content octets after = MakesFieldValue depth s tag content octets after
 
-pub record MakesField (depth : ℕ) (before : FieldParts) (tag : Tag) (content octets : List ℕ) (after : FieldParts) : Type 0 where
+pub record MakesField (depth : ℕ) (before : FieldParts) (tag : Tag) (content octets : List ℕ)
+    (after : FieldParts) : Type 0 where
   pub part : FieldPart
   pub is_tag_of : is_field_tag part tag ≡ true
   pub needed : field_needed part ≤ before.last

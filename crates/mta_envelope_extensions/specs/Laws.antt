@@ -36,12 +36,16 @@ pub record AreToldAt (depth : ℕ) (s : Extensions) : Type 0 where
   pub kept : Each (KeepsExtField (depth + 1)) s.fields
   pub history : SaysAt (depth + 3) ExpansionHistory (values_of ExpansionHistory s.fields) (history_said s.history)
   pub latest : SaysAt (depth + 3) LatestDelivery (values_of LatestDelivery s.fields) (latest_said s.latest)
-  pub prohibited : SaysAt (depth + 3) ExpansionProhibited (values_of ExpansionProhibited s.fields) (prohibited_said s.prohibited)
+  pub prohibited : SaysAt (depth + 3) ExpansionProhibited (values_of ExpansionProhibited s.fields)
+      (prohibited_said s.prohibited)
 
 -- a level is such that all that is written stands in the sixteen levels
 abbrev pub EnvelopeExtensionsAreReadAgain : Type 0
-EnvelopeExtensionsAreReadAgain = (tag : Tag) (depth : ℕ) (s : Extensions) → IsTag tag → tag.constructed ≡ true → AreToldAt depth s → depth + 3 ≤ 16 → IsReadAgain extensions_in depth (element tag (flat_map canonical_ext s.fields)) s
+EnvelopeExtensionsAreReadAgain = (tag : Tag) (depth : ℕ) (s : Extensions) → IsTag tag → tag.constructed ≡ true
+    → AreToldAt depth s → depth + 3 ≤ 16
+    → IsReadAgain extensions_in depth (element tag (flat_map canonical_ext s.fields)) s
 
 -- extension fields that were read keep and say what they said in the level of their place
 abbrev pub ReadEnvelopeExtensionsAreKept : Type 0
-ReadEnvelopeExtensionsAreKept = (depth : ℕ) (c : Bool) (content : List ℕ) (s : Extensions) → SpellsExtensions depth c content s → depth + 3 ≤ 16 → AreToldAt depth s
+ReadEnvelopeExtensionsAreKept = (depth : ℕ) (c : Bool) (content : List ℕ) (s : Extensions)
+    → SpellsExtensions depth c content s → depth + 3 ≤ 16 → AreToldAt depth s

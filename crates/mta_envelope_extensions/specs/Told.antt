@@ -40,7 +40,8 @@ abbrev pub answer : Extensions → Result Extensions Fault
 answer s = Ok s
 
 unfoldable pub extension_step : Extensions → Part → Result Extensions Fault
-extension_step s p = if is_sequence p.tag then (field_in (held_of s) p >>= λ t. answer (with_told t s)) else fault p.at BadTag
+extension_step s p = if is_sequence p.tag then (field_in (held_of s) p >>= λ t. answer (with_told t s))
+    else fault p.at BadTag
 
 abbrev pub no_extensions : Extensions
 no_extensions = record { fields = []; history = None; latest = None; prohibited = None }
@@ -50,7 +51,8 @@ extensions_in p = components extension_step no_extensions p
 
 -- ---- what spells them
 
-pub record MakesExtension (depth : ℕ) (before : Extensions) (tag : Tag) (content octets : List ℕ) (after : Extensions) : Type 0 where
+pub record MakesExtension (depth : ℕ) (before : Extensions) (tag : Tag) (content octets : List ℕ)
+    (after : Extensions) : Type 0 where
   pub is_sequence_tag : is_sequence tag ≡ true
   pub puts : Puts (SpellsField (held_of before) depth tag.constructed content) (λ t. with_told t before) after
 

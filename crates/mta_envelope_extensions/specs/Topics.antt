@@ -26,7 +26,8 @@ use Rattle.mta_envelope_extensions.specs.declared.value.Said.TheVariants.{Histor
 use Rattle.mta_envelope_extensions.specs.declared.value.ExtValue.{ExtValue}
 
 abbrev pub standard_topic : ℕ → Topic
-standard_topic n = if n == 26 then ExpansionHistory else if n == 5 then LatestDelivery else if n == 3 then ExpansionProhibited else Other
+standard_topic n = if n == 26 then ExpansionHistory else if n == 5 then LatestDelivery else if n == 3 then
+    ExpansionProhibited else Other
 
 -- which of the extensions that are read a type is
 abbrev pub topic_of : ExtKind → Topic
@@ -82,9 +83,12 @@ value_said topic p = said_in topic p >>= λ s. Ok (ext_value p.octets s)
 -- ---- what spells them
 
 abbrev pub SpellsSaid : Topic → ℕ → Tag → List ℕ → Said → Type 0
-SpellsSaid ExpansionHistory depth tag content (History xs) = (is_sequence tag ≡ true) × SpellsHistory depth tag.constructed content xs
-SpellsSaid LatestDelivery depth tag content (Latest m) = (is_time tag ≡ true) × SpellsMoment depth tag.constructed content m
-SpellsSaid ExpansionProhibited depth tag content (Prohibited b) = (is_number tag ≡ true) × SpellsNumber 0 1 tag.constructed content (digit b)
+SpellsSaid ExpansionHistory depth tag content (History xs) = (is_sequence tag ≡ true)
+    × SpellsHistory depth tag.constructed content xs
+SpellsSaid LatestDelivery depth tag content (Latest m) = (is_time tag ≡ true)
+    × SpellsMoment depth tag.constructed content m
+SpellsSaid ExpansionProhibited depth tag content (Prohibited b) = (is_number tag ≡ true)
+    × SpellsNumber 0 1 tag.constructed content (digit b)
 SpellsSaid Other depth tag content Unread = Unit {0}
 SpellsSaid ExpansionHistory depth tag content _ = ⊥
 SpellsSaid LatestDelivery depth tag content _ = ⊥

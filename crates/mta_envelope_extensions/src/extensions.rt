@@ -110,7 +110,8 @@ pub fn read_extensions(alloc: Global, whole: &View) -> Result<Extensions, ReadFa
 
     // What is answered is spelled by the content, and what the content spells is answered.
     ensures found { IfOk result (SpellsExtensions whole.now.depth whole.now.tag.constructed whole.now.content.now) }
-    ensures only { (v : Extensions) → SpellsExtensions whole.now.depth whole.now.tag.constructed whole.now.content.now v → IsReadAs result v }
+    ensures only { (v : Extensions) → SpellsExtensions whole.now.depth whole.now.tag.constructed whole.now.content.now v
+        → IsReadAs result v }
 
     // What is said is what the kept values say.
     ensures told { IfOk result AreTold }

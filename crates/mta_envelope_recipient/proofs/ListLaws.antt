@@ -15,10 +15,12 @@ item_sound v p shallow content octets e = recipient_sound v p content e
 item_full : ReadFull recipient_in SpellsItem
 item_full v p shallow h = recipient_full v p h
 
-pub recipients_sound : (vs : List RecipientFields) (p : Part) → IsOctets p.content → recipients_in p ≡ Ok vs → SpellsRecipients p.depth p.tag.constructed p.content vs
+pub recipients_sound : (vs : List RecipientFields) (p : Part) → IsOctets p.content → recipients_in p ≡ Ok vs
+    → SpellsRecipients p.depth p.tag.constructed p.content vs
 unfolding recipients_in
 recipients_sound vs p octets e = list_sound is_set recipient_in SpellsItem item_sound 1 32767 p vs octets e
 
-pub recipients_full : (vs : List RecipientFields) (p : Part) → SpellsRecipients p.depth p.tag.constructed p.content vs → recipients_in p ≡ Ok vs
+pub recipients_full : (vs : List RecipientFields) (p : Part) → SpellsRecipients p.depth p.tag.constructed p.content vs
+    → recipients_in p ≡ Ok vs
 unfolding recipients_in
 recipients_full vs p h = list_full is_set recipient_in SpellsItem item_full 1 32767 p vs h

@@ -23,10 +23,12 @@ pub record IsWholeRecipient (v : RecipientFields) : Type 0 where
 
 -- a level is such that all that is written stands in the sixteen levels
 abbrev pub RecipientsAreReadAgain : Type 0
-RecipientsAreReadAgain = (depth : ℕ) (v : RecipientFields) → IsWholeRecipient v → KeepsRecipient depth v → depth + 5 ≤ 16 → IsReadAgain recipient_in depth (canonical_recipient v) v
+RecipientsAreReadAgain = (depth : ℕ) (v : RecipientFields) → IsWholeRecipient v → KeepsRecipient depth v
+    → depth + 5 ≤ 16 → IsReadAgain recipient_in depth (canonical_recipient v) v
 
 abbrev pub RecipientListsAreReadAgain : Type 0
-RecipientListsAreReadAgain = (depth : ℕ) (vs : List RecipientFields) → Each IsWholeRecipient vs → Each (KeepsRecipient (depth + 1)) vs → 1 ≤ length vs → length vs ≤ 32767 → depth + 6 ≤ 16
+RecipientListsAreReadAgain = (depth : ℕ) (vs : List RecipientFields) → Each IsWholeRecipient vs
+    → Each (KeepsRecipient (depth + 1)) vs → 1 ≤ length vs → length vs ≤ 32767 → depth + 6 ≤ 16
     → IsReadAgain recipients_in depth (canonical_recipients vs) vs
 
 -- a recipient that was read keeps what it keeps in the level of its place, and is one

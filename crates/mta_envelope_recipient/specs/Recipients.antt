@@ -87,11 +87,20 @@ abbrev pub fields_or_none : Option (List ExtFields) → List ExtFields
 fields_or_none o = unwrap_or o []
 
 abbrev pub recipient : Attributes → ℕ → BitString → RecipientParts → RecipientFields
-recipient name number indicators s = record { name = name; number = number; indicators = indicators; conversion = s.conversion; extensions = fields_or_none s.extensions }
+recipient name number indicators s =
+    record {
+      name = name;
+      number = number;
+      indicators = indicators;
+      conversion = s.conversion;
+      extensions =
+          fields_or_none s.extensions;
+    }
 
 -- with the required components there
 abbrev pub finished : ℕ → RecipientParts → Result RecipientFields Fault
-finished at s = required s.name at >>= λ n. required s.number at >>= λ k. required s.indicators at >>= λ b. Ok (recipient n k b s)
+finished at s = required s.name at >>= λ n. required s.number at >>= λ k. required s.indicators at >>= λ b. Ok
+    (recipient n k b s)
 
 unfoldable pub recipient_in : Part → Result RecipientFields Fault
 recipient_in p = components_under 0 17 recipient_step no_recipient p >>= finished p.at
@@ -99,13 +108,19 @@ recipient_in p = components_under 0 17 recipient_step no_recipient p >>= finishe
 -- ---- what spells a recipient
 
 abbrev pub MakesRecipientPart : RecipientPart → ℕ → RecipientParts → Tag → List ℕ → List ℕ → RecipientParts → Type 0
-MakesRecipientPart Addressee depth s tag content octets after = (s.name ≡ None) × Puts (SpellsName depth tag.constructed content) (with_name s) after
-MakesRecipientPart Number depth s tag content octets after = (s.number ≡ None) × Puts (SpellsNumber 1 32767 tag.constructed content) (with_number s) after
-MakesRecipientPart Indicators depth s tag content octets after = (s.indicators ≡ None) × Puts (SpellsIndicators depth tag.constructed content) (with_indicators s) after
-MakesRecipientPart Conversion depth s tag content octets after = (s.conversion ≡ None) × Puts (λ x. x ≡ octets) (with_conversion s) after
-MakesRecipientPart Extensions depth s tag content octets after = (s.extensions ≡ None) × Puts (SpellsExtList depth tag.constructed content) (with_extensions s) after
+MakesRecipientPart Addressee depth s tag content octets after = (s.name ≡ None)
+    × Puts (SpellsName depth tag.constructed content) (with_name s) after
+MakesRecipientPart Number depth s tag content octets after = (s.number ≡ None)
+    × Puts (SpellsNumber 1 32767 tag.constructed content) (with_number s) after
+MakesRecipientPart Indicators depth s tag content octets after = (s.indicators ≡ None)
+    × Puts (SpellsIndicators depth tag.constructed content) (with_indicators s) after
+MakesRecipientPart Conversion depth s tag content octets after = (s.conversion ≡ None)
+    × Puts (λ x. x ≡ octets) (with_conversion s) after
+MakesRecipientPart Extensions depth s tag content octets after = (s.extensions ≡ None)
+    × Puts (SpellsExtList depth tag.constructed content) (with_extensions s) after
 
-pub record MakesRecipient (depth : ℕ) (before : RecipientParts) (tag : Tag) (content octets : List ℕ) (after : RecipientParts) : Type 0 where
+pub record MakesRecipient (depth : ℕ) (before : RecipientParts) (tag : Tag) (content octets : List ℕ)
+    (after : RecipientParts) : Type 0 where
   pub part : RecipientPart
   pub is_tag_of : is_recipient_tag part tag ≡ true
   pub made : MakesRecipientPart part depth before tag content octets after
@@ -124,7 +139,8 @@ pub record SpellsRecipient (depth : ℕ) (tag : Tag) (content : List ℕ) (v : R
 
 abbrev pub recipient_content : RecipientFields → List ℕ
 recipient_content v =
-    canonical_name (constructed 1 0) v.name ++ canon_int (primitive 2 0) (pos v.number) ++ canonical_indicators (primitive 2 1) v.indicators ++ optional kept v.conversion
+    canonical_name (constructed 1 0) v.name ++ canon_int (primitive 2 0) (pos v.number)
+    ++ canonical_indicators (primitive 2 1) v.indicators ++ optional kept v.conversion
     ++ canonical_ext_list (constructed 2 3) v.extensions
 
 unfoldable pub canonical_recipient : RecipientFields → List ℕ

@@ -71,7 +71,8 @@ pub fn read_recipients(alloc: Global, whole: &View) -> Result<Row<Recipient>, Re
 
     // What is answered is spelled by the content, and what the content spells is answered.
     ensures found { IfOk result (SpellsRecipients whole.now.depth whole.now.tag.constructed whole.now.content.now) }
-    ensures only { (v : List RecipientFields) → SpellsRecipients whole.now.depth whole.now.tag.constructed whole.now.content.now v → IsReadAs result v }
+    ensures only { (v : List RecipientFields)
+        → SpellsRecipients whole.now.depth whole.now.tag.constructed whole.now.content.now v → IsReadAs result v }
 {
     match read_items(alloc, whole) {
         Ok(recipients) => Ok(recipients),

@@ -2,7 +2,11 @@
 use Rattle.std.proofs.Common.{◌≡◌, ℕ, ◌+◌, Option, Some, None, refl, arith}
 use Rattle.mta_names.proofs.Definite.{some_fits, name_fits}
 use Rattle.mta_names.proofs.Levels.{stands_everywhere}
-use Rattle.mta_fields.specs.Definite.{DefiniteElementsStandEverywhere, SuppliedInformationThatFitsIsKept, TraceElementsThatFitAreKept, ExtensionFieldsThatFitAreKept, ExpansionsThatFitAreKept, SuppliedInformationThatFitsIsReadAgain, TraceElementsThatFitAreReadAgain, ExtensionFieldsThatFitAreReadAgain, ExpansionsThatFitAreReadAgain}
+use Rattle.mta_fields.specs.Definite.{DefiniteElementsStandEverywhere, SuppliedInformationThatFitsIsKept}
+use Rattle.mta_fields.specs.Definite.{TraceElementsThatFitAreKept, ExtensionFieldsThatFitAreKept}
+use Rattle.mta_fields.specs.Definite.{ExpansionsThatFitAreKept, SuppliedInformationThatFitsIsReadAgain}
+use Rattle.mta_fields.specs.Definite.{TraceElementsThatFitAreReadAgain, ExtensionFieldsThatFitAreReadAgain}
+use Rattle.mta_fields.specs.Definite.{ExpansionsThatFitAreReadAgain}
 use Rattle.mta_fields.specs.Laws.{KeepsExtField}
 use Rattle.mta_fields.proofs.ExtensionAgain.{extension_fields_again}
 use Rattle.mta_fields.proofs.FieldAgain.{supplied_again, traces_again, expansions_again}
@@ -37,7 +41,8 @@ pub fitting_traces_again : TraceElementsThatFitAreReadAgain
 fitting_traces_again depth v h fits le = traces_again depth v h (trace_fits depth v h fits (omega arith)) le
 
 pub fitting_extension_fields_again : ExtensionFieldsThatFitAreReadAgain
-fitting_extension_fields_again depth v h fits le = extension_fields_again depth v h (extension_field_fits depth v h fits le) le
+fitting_extension_fields_again depth v h fits le =
+    extension_fields_again depth v h (extension_field_fits depth v h fits le) le
 
 pub fitting_expansions_again : ExpansionsThatFitAreReadAgain
 fitting_expansions_again depth v h fits le = expansions_again depth v h (expansion_fits depth v h fits (omega arith)) le

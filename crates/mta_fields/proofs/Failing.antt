@@ -17,12 +17,18 @@ fails_on : {A B : Type 0} (e : ReadFault) (r : Result A Fault) (f : A → Result
 fails_on faults.Memory r f h = tt
 fails_on (faults.Bad d) r f h = rw h refl
 
-pub parts_fail : (e : ReadFault) (p : Part) → is_constructed_tag 0 16 p.tag ≡ true → Fails e (parts_of expansion_step no_expansion p) → Fails e (expansion_in p)
+pub parts_fail : (e : ReadFault) (p : Part) → is_constructed_tag 0 16 p.tag ≡ true
+    → Fails e (parts_of expansion_step no_expansion p) → Fails e (expansion_in p)
 unfolding expansion_in
-parts_fail e p is h = fails_on e (components_under 0 16 expansion_step no_expansion p) _ (subst (λ r. Fails e r) (sym (parts_under 0 16 expansion_step no_expansion p is)) h)
+parts_fail e p is h = fails_on e (components_under 0 16 expansion_step no_expansion p) _
+    (subst (λ r. Fails e r) (sym (parts_under 0 16 expansion_step no_expansion p is)) h)
 
-pub moment_fails : (e : ReadFault) (p : Part) (s : ExpansionParts) (n : Attributes) → is_constructed_tag 0 16 p.tag ≡ true → parts_of expansion_step no_expansion p ≡ Ok s → required s.name p.at ≡ Ok n → Fails e (required s.moment p.at) → Fails e (expansion_in p)
+pub moment_fails : (e : ReadFault) (p : Part) (s : ExpansionParts) (n : Attributes)
+    → is_constructed_tag 0 16 p.tag ≡ true → parts_of expansion_step no_expansion p ≡ Ok s → required s.name p.at ≡ Ok n
+    → Fails e (required s.moment p.at) → Fails e (expansion_in p)
 unfolding expansion_in
 moment_fails e p s n is parts name h =
-    subst (λ r. Fails e (r >>= λ s. required s.name p.at >>= λ n. required s.moment p.at >>= λ m. Ok (expansion n m))) (sym (parts_under 0 16 expansion_step no_expansion p is ∙ parts))
-    (subst (λ r. Fails e (r >>= λ n. required s.moment p.at >>= λ m. Ok (expansion n m))) (sym name) (fails_on e (required s.moment p.at) (λ m. Ok (expansion n m)) h))
+    subst (λ r. Fails e (r >>= λ s. required s.name p.at >>= λ n. required s.moment p.at >>= λ m. Ok (expansion n m)))
+    (sym (parts_under 0 16 expansion_step no_expansion p is ∙ parts))
+    (subst (λ r. Fails e (r >>= λ n. required s.moment p.at >>= λ m. Ok (expansion n m))) (sym name)
+    (fails_on e (required s.moment p.at) (λ m. Ok (expansion n m)) h))

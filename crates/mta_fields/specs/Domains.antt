@@ -86,11 +86,15 @@ domain_in p = components_under 1 3 domain_step no_domain p >>= λ s. required s.
 -- ---- what spells a domain
 
 abbrev pub MakesDomainPart : DomainPart → ℕ → DomainParts → Tag → List ℕ → List ℕ → DomainParts → Type 0
-MakesDomainPart Country depth s tag content octets after = Puts (SpellsLabel IsCountry depth tag.constructed content) (with_country s) after
-MakesDomainPart Admd depth s tag content octets after = Puts (SpellsLabel (IsLabel 0 16) depth tag.constructed content) (with_admd s) after
-MakesDomainPart Prmd depth s tag content octets after = Puts (SpellsChoice (IsLabel 1 16) depth tag content octets) (with_prmd s) after
+MakesDomainPart Country depth s tag content octets after =
+    Puts (SpellsLabel IsCountry depth tag.constructed content) (with_country s) after
+MakesDomainPart Admd depth s tag content octets after = Puts (SpellsLabel (IsLabel 0 16) depth tag.constructed content)
+    (with_admd s) after
+MakesDomainPart Prmd depth s tag content octets after = Puts (SpellsChoice (IsLabel 1 16) depth tag content octets)
+    (with_prmd s) after
 
-pub record MakesDomain (depth : ℕ) (before : DomainParts) (tag : Tag) (content octets : List ℕ) (after : DomainParts) : Type 0 where
+pub record MakesDomain (depth : ℕ) (before : DomainParts) (tag : Tag) (content octets : List ℕ)
+    (after : DomainParts) : Type 0 where
   pub part : DomainPart
   pub is_tag_of : is_domain_tag part tag ≡ true
   pub needed : domain_needed part ≤ before.last
@@ -122,10 +126,16 @@ pub record NormalDomain : Type 0 where
   pub prmd : Option (List ℕ)
 
 abbrev pub normal_domain : DomainFields → NormalDomain
-normal_domain v = record { country = normal_label v.country; admd = normal_label v.admd; prmd = option_map normal_label v.prmd }
+normal_domain v = record {
+  country = normal_label v.country;
+  admd = normal_label v.admd;
+  prmd =
+      option_map normal_label v.prmd;
+}
 
 abbrev pub IsSameDomain : DomainFields → DomainFields → Type 0
 IsSameDomain v w = normal_domain v ≡ normal_domain w
 
 abbrev pub is_same_domain : DomainFields → DomainFields → Bool
-is_same_domain v w = is_same_labels v.country w.country && is_same_labels v.admd w.admd && is_same_option is_same_labels v.prmd w.prmd
+is_same_domain v w = is_same_labels v.country w.country && is_same_labels v.admd w.admd && is_same_option is_same_labels
+    v.prmd w.prmd

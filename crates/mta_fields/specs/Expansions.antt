@@ -74,9 +74,11 @@ expansion_in p = components_under 0 16 expansion_step no_expansion p >>= λ s. r
 
 abbrev pub MakesExpansionPart : ExpansionPart → ℕ → ExpansionParts → Tag → List ℕ → ExpansionParts → Type 0
 MakesExpansionPart Name depth s tag content after = Puts (SpellsName depth tag.constructed content) (with_name s) after
-MakesExpansionPart Time depth s tag content after = Puts (SpellsMoment depth tag.constructed content) (with_moment s) after
+MakesExpansionPart Time depth s tag content after =
+    Puts (SpellsMoment depth tag.constructed content) (with_moment s) after
 
-pub record MakesExpansion (depth : ℕ) (before : ExpansionParts) (tag : Tag) (content octets : List ℕ) (after : ExpansionParts) : Type 0 where
+pub record MakesExpansion (depth : ℕ) (before : ExpansionParts) (tag : Tag) (content octets : List ℕ)
+    (after : ExpansionParts) : Type 0 where
   pub part : ExpansionPart
   pub is_tag_of : is_tag (expansion_class part) (expansion_number part) tag ≡ true
   pub needed : expansion_needed part ≤ before.last
@@ -94,4 +96,5 @@ pub record SpellsExpansion (depth : ℕ) (tag : Tag) (content : List ℕ) (v : E
 -- ---- the one spelling that is written
 
 unfoldable pub canonical_expansion : ExpansionFields → List ℕ
-canonical_expansion v = element (constructed 0 16) (canonical_name (constructed 1 0) v.name ++ canon_utc (primitive 0 23) v.moment)
+canonical_expansion v = element (constructed 0 16)
+    (canonical_name (constructed 1 0) v.name ++ canon_utc (primitive 0 23) v.moment)

@@ -57,18 +57,22 @@ private_in p = oid_in p >>= λ o. Ok (Private o)
 
 -- an INTEGER [0] or an object identifier [3]
 unfoldable pub plain_kind_in : Part → Result ExtKind Fault
-plain_kind_in p = if is_tag 2 0 p.tag then standard_in p else if is_tag 2 3 p.tag then private_in p else fault p.at BadTag
+plain_kind_in p = if is_tag 2 0 p.tag then standard_in p else if is_tag 2 3 p.tag then private_in p
+    else fault p.at BadTag
 
 -- or one of these inside one further [0]
 unfoldable pub kind_in : Part → Result ExtKind Fault
 kind_in p = if is_tag 2 0 p.tag && p.tag.constructed then explicit plain_kind_in p else plain_kind_in p
 
 abbrev pub SpellsPlainKind : Spells ExtKind
-SpellsPlainKind depth tag content octets (Standard n) = (is_tag 2 0 tag ≡ true) × SpellsNumber 0 32767 tag.constructed content n
-SpellsPlainKind depth tag content octets (Private o) = (is_tag 2 3 tag ≡ true) × (tag.constructed ≡ false) × (o ≡ content) × IsTrue (is_oid o)
+SpellsPlainKind depth tag content octets (Standard n) = (is_tag 2 0 tag ≡ true)
+    × SpellsNumber 0 32767 tag.constructed content n
+SpellsPlainKind depth tag content octets (Private o) = (is_tag 2 3 tag ≡ true) × (tag.constructed ≡ false)
+    × (o ≡ content) × IsTrue (is_oid o)
 
 abbrev pub SpellsKind : Spells ExtKind
-SpellsKind depth tag content octets k = SpellsPlainKind depth tag content octets k ⊎ ((is_tag 2 0 tag ≡ true) × SpellsExplicit SpellsPlainKind depth tag.constructed content k)
+SpellsKind depth tag content octets k = SpellsPlainKind depth tag content octets k
+    ⊎ ((is_tag 2 0 tag ≡ true) × SpellsExplicit SpellsPlainKind depth tag.constructed content k)
 
 -- ---- components
 
@@ -141,10 +145,13 @@ SpellsWhole depth tag content octets x = x ≡ octets
 
 abbrev pub MakesExtPart : ExtPart → ℕ → ExtParts → Tag → List ℕ → List ℕ → ExtParts → Type 0
 MakesExtPart ExtType depth s tag content octets after = Puts (SpellsKind depth tag content octets) (with_kind s) after
-MakesExtPart Criticality depth s tag content octets after = Puts (SpellsBits depth tag.constructed content) (with_criticality s) after
-MakesExtPart Value depth s tag content octets after = Puts (SpellsExplicit SpellsWhole depth tag.constructed content) (with_value s) after
+MakesExtPart Criticality depth s tag content octets after =
+    Puts (SpellsBits depth tag.constructed content) (with_criticality s) after
+MakesExtPart Value depth s tag content octets after = Puts (SpellsExplicit SpellsWhole depth tag.constructed content)
+    (with_value s) after
 
-pub record MakesExt (depth : ℕ) (before : ExtParts) (tag : Tag) (content octets : List ℕ) (after : ExtParts) : Type 0 where
+pub record MakesExt (depth : ℕ) (before : ExtParts) (tag : Tag) (content octets : List ℕ)
+    (after : ExtParts) : Type 0 where
   pub part : ExtPart
   pub is_tag_of : is_ext_tag part tag ≡ true
   pub needed : ext_needed part ≤ before.last
@@ -175,7 +182,8 @@ abbrev pub canonical_value : List ℕ → List ℕ
 canonical_value v = if bytes_eq v null then [] else element (constructed 2 2) v
 
 abbrev pub ext_content : ExtFields → List ℕ
-ext_content v = canonical_kind v.kind ++ canonical_criticality v.submission v.transfer v.delivery ++ canonical_value v.value
+ext_content v = canonical_kind v.kind ++ canonical_criticality v.submission v.transfer v.delivery
+    ++ canonical_value v.value
 
 unfoldable pub canonical_ext : ExtFields → List ℕ
 canonical_ext v = element (constructed 0 16) (ext_content v)

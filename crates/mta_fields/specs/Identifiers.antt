@@ -76,9 +76,11 @@ id_in p = components_under 1 4 id_step no_id p >>= λ s. required s.domain p.at 
 
 abbrev pub MakesIdPart : MtsIdPart → ℕ → MtsIdParts → Tag → List ℕ → MtsIdParts → Type 0
 MakesIdPart Issuer depth s tag content after = Puts (SpellsDomain depth tag content) (with_domain s) after
-MakesIdPart Local depth s tag content after = Puts (SpellsText Ia5 1 32 depth tag.constructed content) (with_local s) after
+MakesIdPart Local depth s tag content after =
+    Puts (SpellsText Ia5 1 32 depth tag.constructed content) (with_local s) after
 
-pub record MakesId (depth : ℕ) (before : MtsIdParts) (tag : Tag) (content octets : List ℕ) (after : MtsIdParts) : Type 0 where
+pub record MakesId (depth : ℕ) (before : MtsIdParts) (tag : Tag) (content octets : List ℕ)
+    (after : MtsIdParts) : Type 0 where
   pub part : MtsIdPart
   pub is_tag_of : is_tag (id_class part) (id_number part) tag ≡ true
   pub needed : id_needed part ≤ before.last

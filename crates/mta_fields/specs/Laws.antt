@@ -63,27 +63,34 @@ pub record IsWholeExpansion (v : ExpansionFields) : Type 0 where
 -- ---- the laws; a level is such that all that is written stands in the sixteen levels
 
 abbrev pub DomainsAreReadAgain : Type 0
-DomainsAreReadAgain = (depth : ℕ) (v : DomainFields) → IsDomain v → depth + 2 ≤ 16 → IsReadAgain domain_in depth (canonical_domain v) v
+DomainsAreReadAgain = (depth : ℕ) (v : DomainFields) → IsDomain v → depth + 2 ≤ 16
+    → IsReadAgain domain_in depth (canonical_domain v) v
 
 abbrev pub MtsIdentifiersAreReadAgain : Type 0
-MtsIdentifiersAreReadAgain = (depth : ℕ) (v : MtsIdFields) → IsWholeId v → depth + 3 ≤ 16 → IsReadAgain id_in depth (canonical_id v) v
+MtsIdentifiersAreReadAgain = (depth : ℕ) (v : MtsIdFields) → IsWholeId v → depth + 3 ≤ 16
+    → IsReadAgain id_in depth (canonical_id v) v
 
 abbrev pub SuppliedInformationIsReadAgain : Type 0
-SuppliedInformationIsReadAgain = (depth : ℕ) (v : Supplied) → IsWholeSupplied v → KeepsSupplied depth v → depth + 3 ≤ 16 → IsReadAgain supplied_in depth (canonical_supplied v) v
+SuppliedInformationIsReadAgain = (depth : ℕ) (v : Supplied) → IsWholeSupplied v → KeepsSupplied depth v → depth + 3 ≤ 16
+    → IsReadAgain supplied_in depth (canonical_supplied v) v
 
 abbrev pub TraceElementsAreReadAgain : Type 0
-TraceElementsAreReadAgain = (depth : ℕ) (v : TraceFields) → IsWholeTrace v → KeepsTrace depth v → depth + 4 ≤ 16 → IsReadAgain trace_in depth (canonical_trace v) v
+TraceElementsAreReadAgain = (depth : ℕ) (v : TraceFields) → IsWholeTrace v → KeepsTrace depth v → depth + 4 ≤ 16
+    → IsReadAgain trace_in depth (canonical_trace v) v
 
 abbrev pub ExtensionFieldsAreReadAgain : Type 0
-ExtensionFieldsAreReadAgain = (depth : ℕ) (v : ExtFields) → IsExtField v → KeepsExtField depth v → depth + 2 ≤ 16 → IsReadAgain ext_in depth (canonical_ext v) v
+ExtensionFieldsAreReadAgain = (depth : ℕ) (v : ExtFields) → IsExtField v → KeepsExtField depth v → depth + 2 ≤ 16
+    → IsReadAgain ext_in depth (canonical_ext v) v
 
 abbrev pub ExpansionsAreReadAgain : Type 0
-ExpansionsAreReadAgain = (depth : ℕ) (v : ExpansionFields) → IsWholeExpansion v → KeepsExpansion depth v → depth + 5 ≤ 16 → IsReadAgain expansion_in depth (canonical_expansion v) v
+ExpansionsAreReadAgain = (depth : ℕ) (v : ExpansionFields) → IsWholeExpansion v → KeepsExpansion depth v
+    → depth + 5 ≤ 16 → IsReadAgain expansion_in depth (canonical_expansion v) v
 
 -- ---- what was read: what is kept unread stands where it was read in the level of its place, and in each level above
 
 abbrev pub ReadSuppliedInformationIsKept : Type 0
-ReadSuppliedInformationIsKept = (depth : ℕ) (c : Bool) (content : List ℕ) (v : Supplied) → SpellsSupplied depth c content v → KeepsSupplied depth v
+ReadSuppliedInformationIsKept = (depth : ℕ) (c : Bool) (content : List ℕ) (v : Supplied)
+    → SpellsSupplied depth c content v → KeepsSupplied depth v
 
 abbrev pub ReadTraceElementsAreKept : Type 0
 ReadTraceElementsAreKept = (depth : ℕ) (tag : Tag) (content : List ℕ) (v : TraceFields)
@@ -99,16 +106,20 @@ ReadExpansionsAreKept = (depth : ℕ) (tag : Tag) (content : List ℕ) (v : Expa
     → SpellsExpansion depth tag content v → KeepsExpansion depth v
 
 abbrev pub KeptSuppliedInformationIsKeptAbove : Type 0
-KeptSuppliedInformationIsKeptAbove = (depth above : ℕ) (v : Supplied) → above ≤ depth → KeepsSupplied depth v → KeepsSupplied above v
+KeptSuppliedInformationIsKeptAbove = (depth above : ℕ) (v : Supplied) → above ≤ depth → KeepsSupplied depth v
+    → KeepsSupplied above v
 
 abbrev pub KeptTraceElementsAreKeptAbove : Type 0
-KeptTraceElementsAreKeptAbove = (depth above : ℕ) (v : TraceFields) → above ≤ depth → KeepsTrace depth v → KeepsTrace above v
+KeptTraceElementsAreKeptAbove = (depth above : ℕ) (v : TraceFields) → above ≤ depth → KeepsTrace depth v
+    → KeepsTrace above v
 
 abbrev pub KeptExtensionFieldsAreKeptAbove : Type 0
-KeptExtensionFieldsAreKeptAbove = (depth above : ℕ) (v : ExtFields) → above ≤ depth → KeepsExtField depth v → KeepsExtField above v
+KeptExtensionFieldsAreKeptAbove = (depth above : ℕ) (v : ExtFields) → above ≤ depth → KeepsExtField depth v
+    → KeepsExtField above v
 
 abbrev pub KeptExpansionsAreKeptAbove : Type 0
-KeptExpansionsAreKeptAbove = (depth above : ℕ) (v : ExpansionFields) → above ≤ depth → KeepsExpansion depth v → KeepsExpansion above v
+KeptExpansionsAreKeptAbove = (depth above : ℕ) (v : ExpansionFields) → above ≤ depth → KeepsExpansion depth v
+    → KeepsExpansion above v
 
 -- so what was read is read again where it is written in the level where it was read, or above; an identifier keeps
 -- nothing unread, so in each level

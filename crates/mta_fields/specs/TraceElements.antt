@@ -73,9 +73,11 @@ trace_in p = components_under 0 16 trace_step no_trace p >>= λ s. required s.do
 
 abbrev pub MakesTracePart : TracePart → ℕ → TraceParts → Tag → List ℕ → TraceParts → Type 0
 MakesTracePart Place depth s tag content after = Puts (SpellsDomain depth tag content) (with_domain s) after
-MakesTracePart Information depth s tag content after = Puts (SpellsSupplied depth tag.constructed content) (with_supplied s) after
+MakesTracePart Information depth s tag content after =
+    Puts (SpellsSupplied depth tag.constructed content) (with_supplied s) after
 
-pub record MakesTrace (depth : ℕ) (before : TraceParts) (tag : Tag) (content octets : List ℕ) (after : TraceParts) : Type 0 where
+pub record MakesTrace (depth : ℕ) (before : TraceParts) (tag : Tag) (content octets : List ℕ)
+    (after : TraceParts) : Type 0 where
   pub part : TracePart
   pub is_tag_of : is_tag (trace_class part) (trace_number part) tag ≡ true
   pub needed : trace_needed part ≤ before.last

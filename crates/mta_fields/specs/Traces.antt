@@ -99,7 +99,15 @@ unfoldable pub supplied_step : SuppliedParts → Part → Result SuppliedParts F
 supplied_step s p = supplied_step_of (supplied_part_of p.tag) s p
 
 abbrev pub no_supplied : SuppliedParts
-no_supplied = record { arrival = None; deferred = None; action = None; other = None; attempted = None; converted = None }
+no_supplied = record {
+  arrival = None;
+  deferred = None;
+  action = None;
+  other = None;
+  attempted = None;
+  converted =
+      None;
+}
 
 -- a bit of a list of bits, which is 0 where the list is absent
 abbrev pub bit_if : Option BitString → ℕ → Bool
@@ -118,7 +126,8 @@ supplied arrival action s = record {
 }
 
 unfoldable pub supplied_in : Part → Result Supplied Fault
-supplied_in p = components supplied_step no_supplied p >>= λ s. required s.arrival p.at >>= λ m. required s.action p.at >>= λ a. Ok (supplied m a s)
+supplied_in p = components supplied_step no_supplied p >>= λ s. required s.arrival p.at >>= λ m. required s.action p.at
+    >>= λ a. Ok (supplied m a s)
 
 -- ---- what spells it
 
@@ -126,15 +135,21 @@ pub record SpellsAction (constructed : Bool) (content : List ℕ) (a : Action) :
   pub spelled : SpellsNumber 0 1 constructed content (action_number a)
 
 abbrev pub MakesSuppliedPart : SuppliedPart → ℕ → SuppliedParts → Tag → List ℕ → List ℕ → SuppliedParts → Type 0
-MakesSuppliedPart Arrival depth s tag content octets after = (s.arrival ≡ None) × Puts (SpellsMoment depth tag.constructed content) (with_arrival s) after
-MakesSuppliedPart Deferred depth s tag content octets after = (s.deferred ≡ None) × Puts (SpellsMoment depth tag.constructed content) (with_deferred s) after
-MakesSuppliedPart Routing depth s tag content octets after = (s.action ≡ None) × Puts (SpellsAction tag.constructed content) (with_action s) after
-MakesSuppliedPart Other depth s tag content octets after = (s.other ≡ None) × Puts (SpellsBits depth tag.constructed content) (with_other s) after
+MakesSuppliedPart Arrival depth s tag content octets after = (s.arrival ≡ None)
+    × Puts (SpellsMoment depth tag.constructed content) (with_arrival s) after
+MakesSuppliedPart Deferred depth s tag content octets after = (s.deferred ≡ None)
+    × Puts (SpellsMoment depth tag.constructed content) (with_deferred s) after
+MakesSuppliedPart Routing depth s tag content octets after = (s.action ≡ None)
+    × Puts (SpellsAction tag.constructed content) (with_action s) after
+MakesSuppliedPart Other depth s tag content octets after = (s.other ≡ None)
+    × Puts (SpellsBits depth tag.constructed content) (with_other s) after
 MakesSuppliedPart Attempted depth s tag content octets after = (s.attempted ≡ None)
     × Puts (SpellsDomain depth tag content) (with_attempted s) after
-MakesSuppliedPart Converted depth s tag content octets after = (s.converted ≡ None) × Puts (λ x. x ≡ octets) (with_converted s) after
+MakesSuppliedPart Converted depth s tag content octets after = (s.converted ≡ None)
+    × Puts (λ x. x ≡ octets) (with_converted s) after
 
-pub record MakesSupplied (depth : ℕ) (before : SuppliedParts) (tag : Tag) (content octets : List ℕ) (after : SuppliedParts) : Type 0 where
+pub record MakesSupplied (depth : ℕ) (before : SuppliedParts) (tag : Tag) (content octets : List ℕ)
+    (after : SuppliedParts) : Type 0 where
   pub part : SuppliedPart
   pub is_tag_of : is_supplied_tag part tag ≡ true
   pub made : MakesSuppliedPart part depth before tag content octets after
@@ -165,7 +180,8 @@ canonical_deferred m = canon_utc (primitive 2 1) m
 
 abbrev pub supplied_content : Supplied → List ℕ
 supplied_content v =
-    optional canonical_domain v.attempted ++ optional kept v.converted ++ canon_utc (primitive 2 0) v.arrival ++ optional canonical_deferred v.deferred ++ canon_int (primitive 2 2) (pos (action_number v.action))
+    optional canonical_domain v.attempted ++ optional kept v.converted ++ canon_utc (primitive 2 0) v.arrival
+    ++ optional canonical_deferred v.deferred ++ canon_int (primitive 2 2) (pos (action_number v.action))
     ++ canonical_other v.redirected v.dl
 
 unfoldable pub canonical_supplied : Supplied → List ℕ

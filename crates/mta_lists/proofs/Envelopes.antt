@@ -17,7 +17,8 @@ use Rattle.mta_fields.proofs.Kept.{expansion_above}
 use Rattle.mta_envelope_extensions.specs.declared.value.Said.{Said}
 use Rattle.mta_envelope_extensions.specs.declared.value.Said.TheVariants.{History}
 use Rattle.mta_envelope_extensions.specs.declared.value.Topic.{Topic}
-use Rattle.mta_envelope_extensions.specs.declared.value.Topic.TheVariants.{ExpansionHistory, LatestDelivery, ExpansionProhibited}
+use Rattle.mta_envelope_extensions.specs.declared.value.Topic.TheVariants.{ExpansionHistory, LatestDelivery}
+use Rattle.mta_envelope_extensions.specs.declared.value.Topic.TheVariants.{ExpansionProhibited}
 use Rattle.mta_envelope_extensions.specs.Told.{values_of, history_said, latest_said, prohibited_said, Says}
 use Rattle.mta_envelope_extensions.specs.Topics.{IsSaidBy}
 use Rattle.mta_envelope_recipient.specs.declared.recipient.RecipientFields.{RecipientFields}

@@ -9,7 +9,8 @@ use Rattle.std.proofs.lemmas.Bool.{cases_lt, lt-ltb}
 use Rattle.std.proofs.lemmas.List.Quantifiers.{position-Some}
 use Rattle.mta_fields.specs.declared.extension.ExtFields.{ExtFields}
 use Rattle.mta_fields.specs.ExtensionFields.{IsElement, IsExtField}
-use Rattle.mta_envelope_extensions.specs.declared.value.Topic.TheVariants.{ExpansionHistory, LatestDelivery, ExpansionProhibited}
+use Rattle.mta_envelope_extensions.specs.declared.value.Topic.TheVariants.{ExpansionHistory, LatestDelivery}
+use Rattle.mta_envelope_extensions.specs.declared.value.Topic.TheVariants.{ExpansionProhibited}
 use Rattle.mta_envelope_extensions.specs.declared.value.Topic.TheVariants.{Other}
 use Rattle.mta_envelope_extensions.specs.Told.{is_topic}
 use Rattle.mta_envelope_extensions.specs.Topics.{standard_topic}

@@ -36,25 +36,48 @@ record IsPlain (n : Attributes) : Type 0 where
 no_equals_in : (t : List ℕ) → is_value Shapes.Kind t ≡ true → list_all is_no_equals t ≡ true
 unfolding is_value
 no_equals_in t h =
-    let a = and_parts (list_all is_no_equals t && list_all (in_class Printable) t && leb 1 (length t)) (leb (length t) 8) h in
+    let a = and_parts (list_all is_no_equals t && list_all (in_class Printable) t && leb 1 (length t))
+    (leb (length t) 8) h in
     let b = and_parts (list_all is_no_equals t && list_all (in_class Printable) t) (leb 1 (length t)) a.0 in
     (and_parts (list_all is_no_equals t) (list_all (in_class Printable) t) b.0).0
 
 put_plain : (k : Key) (t v : List ℕ) (n : Attributes) → IsPlain n → IsPart (part k t v) → IsPlain (put_at k t v n)
-put_plain Keys.Country t v n h i = record { admd = h.admd; prmd = h.prmd; pairs = h.pairs; extras = h.extras; directory = h.directory }
-put_plain Keys.Admd t v n h i = record { admd = refl; prmd = h.prmd; pairs = h.pairs; extras = h.extras; directory = h.directory }
-put_plain Keys.Prmd t v n h i = record { admd = h.admd; prmd = refl; pairs = h.pairs; extras = h.extras; directory = h.directory }
-put_plain Keys.Organization t v n h i = record { admd = h.admd; prmd = h.prmd; pairs = h.pairs; extras = h.extras; directory = h.directory }
-put_plain Keys.Unit t v n h i = record { admd = h.admd; prmd = h.prmd; pairs = h.pairs; extras = h.extras; directory = h.directory }
-put_plain Keys.Surname t v n h i = record { admd = h.admd; prmd = h.prmd; pairs = h.pairs; extras = h.extras; directory = h.directory }
-put_plain Keys.Given t v n h i = record { admd = h.admd; prmd = h.prmd; pairs = h.pairs; extras = h.extras; directory = h.directory }
-put_plain Keys.Initials t v n h i = record { admd = h.admd; prmd = h.prmd; pairs = h.pairs; extras = h.extras; directory = h.directory }
-put_plain Keys.Generation t v n h i = record { admd = h.admd; prmd = h.prmd; pairs = h.pairs; extras = h.extras; directory = h.directory }
-put_plain Keys.Common t v n h i = record { admd = h.admd; prmd = h.prmd; pairs = h.pairs; extras = h.extras; directory = h.directory }
-put_plain Keys.Network t v n h i = record { admd = h.admd; prmd = h.prmd; pairs = h.pairs; extras = h.extras; directory = h.directory }
-put_plain Keys.Terminal t v n h i = record { admd = h.admd; prmd = h.prmd; pairs = h.pairs; extras = h.extras; directory = h.directory }
-put_plain Keys.User t v n h i = record { admd = h.admd; prmd = h.prmd; pairs = h.pairs; extras = h.extras; directory = h.directory }
-put_plain Keys.Pair t v n h i = record { admd = h.admd; prmd = h.prmd; pairs = each_more HasNoEquals n.pairs (pair_of t v) h.pairs (no_equals_in t i.kind); extras = h.extras; directory = h.directory }
+put_plain Keys.Country t v n h i =
+    record { admd = h.admd; prmd = h.prmd; pairs = h.pairs; extras = h.extras; directory = h.directory }
+put_plain Keys.Admd t v n h i =
+    record { admd = refl; prmd = h.prmd; pairs = h.pairs; extras = h.extras; directory = h.directory }
+put_plain Keys.Prmd t v n h i =
+    record { admd = h.admd; prmd = refl; pairs = h.pairs; extras = h.extras; directory = h.directory }
+put_plain Keys.Organization t v n h i =
+    record { admd = h.admd; prmd = h.prmd; pairs = h.pairs; extras = h.extras; directory = h.directory }
+put_plain Keys.Unit t v n h i =
+    record { admd = h.admd; prmd = h.prmd; pairs = h.pairs; extras = h.extras; directory = h.directory }
+put_plain Keys.Surname t v n h i =
+    record { admd = h.admd; prmd = h.prmd; pairs = h.pairs; extras = h.extras; directory = h.directory }
+put_plain Keys.Given t v n h i =
+    record { admd = h.admd; prmd = h.prmd; pairs = h.pairs; extras = h.extras; directory = h.directory }
+put_plain Keys.Initials t v n h i =
+    record { admd = h.admd; prmd = h.prmd; pairs = h.pairs; extras = h.extras; directory = h.directory }
+put_plain Keys.Generation t v n h i =
+    record { admd = h.admd; prmd = h.prmd; pairs = h.pairs; extras = h.extras; directory = h.directory }
+put_plain Keys.Common t v n h i =
+    record { admd = h.admd; prmd = h.prmd; pairs = h.pairs; extras = h.extras; directory = h.directory }
+put_plain Keys.Network t v n h i =
+    record { admd = h.admd; prmd = h.prmd; pairs = h.pairs; extras = h.extras; directory = h.directory }
+put_plain Keys.Terminal t v n h i =
+    record { admd = h.admd; prmd = h.prmd; pairs = h.pairs; extras = h.extras; directory = h.directory }
+put_plain Keys.User t v n h i =
+    record { admd = h.admd; prmd = h.prmd; pairs = h.pairs; extras = h.extras; directory = h.directory }
+put_plain Keys.Pair t v n h i =
+    record {
+      admd = h.admd;
+      prmd = h.prmd;
+      pairs =
+          each_more HasNoEquals n.pairs (pair_of t v) h.pairs (no_equals_in t i.kind);
+      extras = h.extras;
+      directory =
+          h.directory;
+    }
 
 all_plain : (xs : List Part) (p q : Place) (n : Attributes) → IsPlain n → Follow Names p xs q → IsPlain (put_all n xs)
 all_plain [] p q n h f = h
@@ -62,7 +85,9 @@ all_plain (x ∷ xs) p q n h f = all_plain xs (behind p x.key) q (put n x) (put_
 
 form_told : (text : List ℕ) (n : Attributes) → IsTextForm text n → IsTold n
 form_told text n h =
-    let plain : IsPlain n = subst IsPlain (sym h.name_is) (all_plain h.parts start h.form.last nothing (record { admd = tt; prmd = tt; pairs = tt; extras = refl; directory = refl }) h.form.follow) in
+    let plain : IsPlain n = subst IsPlain (sym h.name_is)
+    (all_plain h.parts start h.form.last nothing
+    (record { admd = tt; prmd = tt; pairs = tt; extras = refl; directory = refl }) h.form.follow) in
     record {
       name = name_fits text n h;
       some = subst (λ ps. 1 ≤ length ps) (sym (name_parts text n h)) h.form.some;
@@ -74,4 +99,7 @@ form_told text n h =
     }
 
 pub forms_told : (text : List ℕ) (n : Attributes) → IsTextForm text n ↔ (IsTold n × (text ≡ text_form n))
-forms_told text n = (λ h. (form_told text n h, form_written text n h), λ h. subst (λ t. IsTextForm t n) (sym h.1) (told_form n h.0))
+forms_told text n = (
+  λ h. (form_told text n h, form_written text n h),
+  λ h. subst (λ t. IsTextForm t n) (sym h.1) (told_form n h.0),
+)

@@ -1,5 +1,7 @@
--- A text form is what is written of the name that is read from it: the attributes that parts make have these parts again.
-use Rattle.std.proofs.Common.{◌≡◌, ℕ, ◌≤◌, ◌<◌, Bool, true, false, eqb, ltb, List, [], ◌∷◌, ◌++◌, Option, Some, None, refl, sym, ap, ◌∙◌, inl, inr, arith, ◌||◌, not, append_assoc, append-nil}
+-- A text form is what is written of the name that is read from it: the attributes that parts make have these parts
+-- again.
+use Rattle.std.proofs.Common.{◌≡◌, ℕ, ◌≤◌, ◌<◌, Bool, true, false, eqb, ltb, List, [], ◌∷◌, ◌++◌, Option, Some, None}
+use Rattle.std.proofs.Common.{refl, sym, ap, ◌∙◌, inl, inr, arith, ◌||◌, not, append_assoc, append-nil}
 use Rattle.std.specs.Prelude.{map, IfSome, is_some}
 use Rattle.std.proofs.lemmas.Bool.{and_parts, or_cases, ne_eqb}
 use Rattle.mta_ber.specs.Strings.{is_empty}
@@ -12,10 +14,12 @@ use Rattle.mta_name_text.specs.declared.key.Key.TheVariants as Keys
 use Rattle.mta_name_text.specs.declared.part.Part.{Part}
 use Rattle.mta_name_text.specs.declared.place.Grammar.TheVariants.{Names}
 use Rattle.mta_name_text.specs.declared.place.Place.{Place}
-use Rattle.mta_name_text.specs.Forms.{keyed, keyed_if, labelled_if, units_keyed, person_keyed, pair_keyed, pairs_keyed, keyed_of, part_text, joined, text_form}
+use Rattle.mta_name_text.specs.Forms.{keyed, keyed_if, labelled_if, units_keyed, person_keyed, pair_keyed, pairs_keyed}
+use Rattle.mta_name_text.specs.Forms.{keyed_of, part_text, joined, text_form}
 use Rattle.mta_name_text.specs.Grammar.{start, behind, is_again, follows, is_kind, IsPart, Follow}
 use Rattle.mta_name_text.specs.Keys.{place_of, repeats, needs_surname}
-use Rattle.mta_name_text.specs.Made.{with_given, with_initials, with_generation, pair_of, put, put_at, put_all, IsTextForm}
+use Rattle.mta_name_text.specs.Made.{with_given, with_initials, with_generation, pair_of, put, put_at, put_all}
+use Rattle.mta_name_text.specs.Made.{IsTextForm}
 use Rattle.mta_name_text.specs.Reading.{part}
 use Rattle.mta_name_text.proofs.NameFits.{later, not_before}
 
@@ -27,7 +31,8 @@ outer s rest more z e = ap (λ x. s ++ x) e ∙ sym (append_assoc s rest z)
 
 -- one part more, where nothing stands behind
 inner : (s more rest z : List Part) → rest ≡ [] → more ≡ s ++ z → more ++ rest ≡ (s ++ rest) ++ z
-inner s more rest z e f = ap (λ x. more ++ x) e ∙ append-nil more ∙ f ∙ ap (λ x. x ++ z) (sym (append-nil s) ∙ ap (λ x. s ++ x) (sym e))
+inner s more rest z e f = ap (λ x. more ++ x) e ∙ append-nil more ∙ f
+    ∙ ap (λ x. x ++ z) (sym (append-nil s) ∙ ap (λ x. s ++ x) (sym e))
 
 none_both : (s t : List Part) → s ≡ [] → t ≡ [] → s ++ t ≡ []
 none_both s t e f = ap (λ x. x ++ t) e ∙ f
@@ -102,7 +107,8 @@ no_units : (p : Place) (n : Attributes) → Fresh p n → p.last < 5 → from_un
 no_units p n h l = none_both _ _ (ap units_keyed (h.units l)) (no_person p n h (omega arith))
 
 no_organization : (p : Place) (n : Attributes) → Fresh p n → p.last < 4 → from_organization n ≡ []
-no_organization p n h l = none_both _ _ (ap (keyed_if Keys.Organization) (h.organization l)) (no_units p n h (omega arith))
+no_organization p n h l = none_both _ _ (ap (keyed_if Keys.Organization) (h.organization l))
+    (no_units p n h (omega arith))
 
 no_prmd : (p : Place) (n : Attributes) → Fresh p n → p.last < 3 → from_prmd n ≡ []
 no_prmd p n h l = none_both _ _ (ap (labelled_if Keys.Prmd) (h.prmd l)) (no_organization p n h (omega arith))
@@ -113,7 +119,8 @@ no_admd p n h l = none_both _ _ (ap (labelled_if Keys.Admd) (h.admd l)) (no_prmd
 -- ---- one attribute more
 
 -- a key that does not repeat stands behind the last part
-only_later : (p : Place) (n : Attributes) (k : Key) → Fresh p n → follows Names p k ≡ true → (place_of k ≡ 5 → ⊥) → (place_of k ≡ 14 → ⊥) → p.last < place_of k
+only_later : (p : Place) (n : Attributes) (k : Key) → Fresh p n → follows Names p k ≡ true → (place_of k ≡ 5 → ⊥)
+    → (place_of k ≡ 14 → ⊥) → p.last < place_of k
 only_later p n k h f u r =
     elim (later p k f) [
       | inl l ↦ l
@@ -147,39 +154,51 @@ pairs_more (p ∷ ps) q = ap (λ x. pair_keyed p ∷ x) (pairs_more ps q)
 abbrev person_of : List ℕ → Option (List ℕ) → Option (List ℕ) → Option (List ℕ) → PersonFields
 person_of s g i q = record { surname = s; given = g; initials = i; generation = q }
 
-given_of : (s : List ℕ) (g i q : Option (List ℕ)) (v : List ℕ) → g ≡ None → i ≡ None → q ≡ None → person_keyed (Some (person_of s (Some v) i q)) ≡ person_keyed (Some (person_of s g i q)) ++ keyed Keys.Given v ∷ []
+given_of : (s : List ℕ) (g i q : Option (List ℕ)) (v : List ℕ) → g ≡ None → i ≡ None → q ≡ None
+    → person_keyed (Some (person_of s (Some v) i q)) ≡ person_keyed (Some (person_of s g i q)) ++ keyed Keys.Given v ∷
+    []
 given_of s None None None v e f h = refl
 given_of s None None (Some q) v e f h = absurd cc
 given_of s None (Some i) q v e f h = absurd cc
 given_of s (Some g) i q v e f h = absurd cc
 
-initials_of : (s : List ℕ) (g i q : Option (List ℕ)) (v : List ℕ) → i ≡ None → q ≡ None → person_keyed (Some (person_of s g (Some v) q)) ≡ person_keyed (Some (person_of s g i q)) ++ keyed Keys.Initials v ∷ []
+initials_of : (s : List ℕ) (g i q : Option (List ℕ)) (v : List ℕ) → i ≡ None → q ≡ None
+    → person_keyed (Some (person_of s g (Some v) q)) ≡ person_keyed (Some (person_of s g i q)) ++ keyed Keys.Initials v
+    ∷ []
 initials_of s None None None v f h = refl
 initials_of s (Some g) None None v f h = refl
 initials_of s g None (Some q) v f h = absurd cc
 initials_of s g (Some i) q v f h = absurd cc
 
-generation_of : (s : List ℕ) (g i q : Option (List ℕ)) (v : List ℕ) → q ≡ None → person_keyed (Some (person_of s g i (Some v))) ≡ person_keyed (Some (person_of s g i q)) ++ keyed Keys.Generation v ∷ []
+generation_of : (s : List ℕ) (g i q : Option (List ℕ)) (v : List ℕ) → q ≡ None
+    → person_keyed (Some (person_of s g i (Some v))) ≡ person_keyed (Some (person_of s g i q))
+    ++ keyed Keys.Generation v ∷ []
 generation_of s None None None v h = refl
 generation_of s (Some g) None None v h = refl
 generation_of s None (Some i) None v h = refl
 generation_of s (Some g) (Some i) None v h = refl
 generation_of s g i (Some q) v h = absurd cc
 
-given_more : (o : Option PersonFields) (v : List ℕ) → is_some o ≡ true → IfSome o (λ q. q.given ≡ None) → IfSome o (λ q. q.initials ≡ None) → IfSome o (λ q. q.generation ≡ None) → person_keyed (with_given v o) ≡ person_keyed o ++ keyed Keys.Given v ∷ []
+given_more : (o : Option PersonFields) (v : List ℕ) → is_some o ≡ true → IfSome o (λ q. q.given ≡ None)
+    → IfSome o (λ q. q.initials ≡ None) → IfSome o (λ q. q.generation ≡ None)
+    → person_keyed (with_given v o) ≡ person_keyed o ++ keyed Keys.Given v ∷ []
 given_more None v s e f h = absurd cc
 given_more (Some q) v s e f h = given_of q.surname q.given q.initials q.generation v e f h
 
-initials_more : (o : Option PersonFields) (v : List ℕ) → is_some o ≡ true → IfSome o (λ q. q.initials ≡ None) → IfSome o (λ q. q.generation ≡ None) → person_keyed (with_initials v o) ≡ person_keyed o ++ keyed Keys.Initials v ∷ []
+initials_more : (o : Option PersonFields) (v : List ℕ) → is_some o ≡ true → IfSome o (λ q. q.initials ≡ None)
+    → IfSome o (λ q. q.generation ≡ None) → person_keyed (with_initials v o) ≡ person_keyed o ++ keyed Keys.Initials v ∷
+    []
 initials_more None v s f h = absurd cc
 initials_more (Some q) v s f h = initials_of q.surname q.given q.initials q.generation v f h
 
-generation_more : (o : Option PersonFields) (v : List ℕ) → is_some o ≡ true → IfSome o (λ q. q.generation ≡ None) → person_keyed (with_generation v o) ≡ person_keyed o ++ keyed Keys.Generation v ∷ []
+generation_more : (o : Option PersonFields) (v : List ℕ) → is_some o ≡ true → IfSome o (λ q. q.generation ≡ None)
+    → person_keyed (with_generation v o) ≡ person_keyed o ++ keyed Keys.Generation v ∷ []
 generation_more None v s h = absurd cc
 generation_more (Some q) v s h = generation_of q.surname q.given q.initials q.generation v h
 
 -- a key that needs a surname has one
-has_person : (p : Place) (n : Attributes) (k : Key) → Fresh p n → follows Names p k ≡ true → needs_surname k ≡ true → is_some n.person ≡ true
+has_person : (p : Place) (n : Attributes) (k : Key) → Fresh p n → follows Names p k ≡ true → needs_surname k ≡ true
+    → is_some n.person ≡ true
 has_person p n k h f s =
     let a = and_parts (ltb p.last (place_of k) || is_again p k) (p.surname || not (needs_surname k)) f in
     elim (or_cases p.surname (not (needs_surname k)) a.1) [
@@ -187,25 +206,33 @@ has_person p n k h f s =
       | inr none ↦ (let e : not true ≡ true = ap not (sym s) ∙ none in absurd cc)
     ]
 
-keyed_more : (k : Key) (t v : List ℕ) (p : Place) (n : Attributes) → Fresh p n → follows Names p k ≡ true → IsPart (part k t v) → keyed_of (put_at k t v n) ≡ keyed_of n ++ part k t v ∷ []
+keyed_more : (k : Key) (t v : List ℕ) (p : Place) (n : Attributes) → Fresh p n → follows Names p k ≡ true
+    → IsPart (part k t v) → keyed_of (put_at k t v n) ≡ keyed_of n ++ part k t v ∷ []
 keyed_more Keys.Country t v p n h f i =
     let m = put_at Keys.Country t v n in
     let z = part Keys.Country t v ∷ [] in
     let l : p.last < 1 = only_later p n Keys.Country h f (λ e. omega arith) (λ e. omega arith) in
-    inner (labelled_if Keys.Country n.country) (labelled_if Keys.Country m.country) (from_admd n) z (no_admd p n h (omega arith)) (put_first (labelled_if Keys.Country n.country) (keyed Keys.Country v) (part Keys.Country t v) (ap (labelled_if Keys.Country) (h.country l)) (as_keyed Keys.Country t v i.kind))
+    inner (labelled_if Keys.Country n.country) (labelled_if Keys.Country m.country) (from_admd n) z
+    (no_admd p n h (omega arith)) (put_first (labelled_if Keys.Country n.country) (keyed Keys.Country v)
+    (part Keys.Country t v) (ap (labelled_if Keys.Country) (h.country l)) (as_keyed Keys.Country t v i.kind))
 keyed_more Keys.Admd t v p n h f i =
     let m = put_at Keys.Admd t v n in
     let z = part Keys.Admd t v ∷ [] in
     let l : p.last < 2 = only_later p n Keys.Admd h f (λ e. omega arith) (λ e. omega arith) in
     outer (labelled_if Keys.Country n.country) (from_admd n) (from_admd m) z
-    (inner (labelled_if Keys.Admd n.admd) (labelled_if Keys.Admd m.admd) (from_prmd n) z (no_prmd p n h (omega arith)) (put_first (labelled_if Keys.Admd n.admd) (keyed Keys.Admd v) (part Keys.Admd t v) (ap (labelled_if Keys.Admd) (h.admd l)) (as_keyed Keys.Admd t v i.kind)))
+    (inner (labelled_if Keys.Admd n.admd) (labelled_if Keys.Admd m.admd) (from_prmd n) z (no_prmd p n h (omega arith))
+    (put_first (labelled_if Keys.Admd n.admd) (keyed Keys.Admd v) (part Keys.Admd t v)
+    (ap (labelled_if Keys.Admd) (h.admd l)) (as_keyed Keys.Admd t v i.kind)))
 keyed_more Keys.Prmd t v p n h f i =
     let m = put_at Keys.Prmd t v n in
     let z = part Keys.Prmd t v ∷ [] in
     let l : p.last < 3 = only_later p n Keys.Prmd h f (λ e. omega arith) (λ e. omega arith) in
     outer (labelled_if Keys.Country n.country) (from_admd n) (from_admd m) z
     (outer (labelled_if Keys.Admd n.admd) (from_prmd n) (from_prmd m) z
-    (inner (labelled_if Keys.Prmd n.prmd) (labelled_if Keys.Prmd m.prmd) (from_organization n) z (no_organization p n h (omega arith)) (put_first (labelled_if Keys.Prmd n.prmd) (keyed Keys.Prmd v) (part Keys.Prmd t v) (ap (labelled_if Keys.Prmd) (h.prmd l)) (as_keyed Keys.Prmd t v i.kind))))
+    (inner (labelled_if Keys.Prmd n.prmd) (labelled_if Keys.Prmd m.prmd) (from_organization n) z
+    (no_organization p n h (omega arith))
+    (put_first (labelled_if Keys.Prmd n.prmd) (keyed Keys.Prmd v) (part Keys.Prmd t v)
+    (ap (labelled_if Keys.Prmd) (h.prmd l)) (as_keyed Keys.Prmd t v i.kind))))
 keyed_more Keys.Organization t v p n h f i =
     let m = put_at Keys.Organization t v n in
     let z = part Keys.Organization t v ∷ [] in
@@ -213,7 +240,10 @@ keyed_more Keys.Organization t v p n h f i =
     outer (labelled_if Keys.Country n.country) (from_admd n) (from_admd m) z
     (outer (labelled_if Keys.Admd n.admd) (from_prmd n) (from_prmd m) z
     (outer (labelled_if Keys.Prmd n.prmd) (from_organization n) (from_organization m) z
-    (inner (keyed_if Keys.Organization n.organization) (keyed_if Keys.Organization m.organization) (from_units n) z (no_units p n h (omega arith)) (put_first (keyed_if Keys.Organization n.organization) (keyed Keys.Organization v) (part Keys.Organization t v) (ap (keyed_if Keys.Organization) (h.organization l)) (as_keyed Keys.Organization t v i.kind)))))
+    (inner (keyed_if Keys.Organization n.organization) (keyed_if Keys.Organization m.organization) (from_units n) z
+    (no_units p n h (omega arith)) (put_first (keyed_if Keys.Organization n.organization)
+    (keyed Keys.Organization v) (part Keys.Organization t v) (ap (keyed_if Keys.Organization) (h.organization l))
+    (as_keyed Keys.Organization t v i.kind)))))
 keyed_more Keys.Unit t v p n h f i =
     let m = put_at Keys.Unit t v n in
     let z = part Keys.Unit t v ∷ [] in
@@ -222,7 +252,8 @@ keyed_more Keys.Unit t v p n h f i =
     (outer (labelled_if Keys.Admd n.admd) (from_prmd n) (from_prmd m) z
     (outer (labelled_if Keys.Prmd n.prmd) (from_organization n) (from_organization m) z
     (outer (keyed_if Keys.Organization n.organization) (from_units n) (from_units m) z
-    (inner (units_keyed n.units) (units_keyed m.units) (from_person n) z (no_person p n h (omega arith)) (units_more n.units v ∙ ap (λ x. units_keyed n.units ++ x ∷ []) (as_keyed Keys.Unit t v i.kind))))))
+    (inner (units_keyed n.units) (units_keyed m.units) (from_person n) z (no_person p n h (omega arith))
+    (units_more n.units v ∙ ap (λ x. units_keyed n.units ++ x ∷ []) (as_keyed Keys.Unit t v i.kind))))))
 keyed_more Keys.Surname t v p n h f i =
     let m = put_at Keys.Surname t v n in
     let z = part Keys.Surname t v ∷ [] in
@@ -232,7 +263,9 @@ keyed_more Keys.Surname t v p n h f i =
     (outer (labelled_if Keys.Prmd n.prmd) (from_organization n) (from_organization m) z
     (outer (keyed_if Keys.Organization n.organization) (from_units n) (from_units m) z
     (outer (units_keyed n.units) (from_person n) (from_person m) z
-    (inner (person_keyed n.person) (person_keyed m.person) (from_common n) z (no_common p n h (omega arith)) (put_first (person_keyed n.person) (keyed Keys.Surname v) (part Keys.Surname t v) (ap person_keyed (h.person l)) (as_keyed Keys.Surname t v i.kind)))))))
+    (inner (person_keyed n.person) (person_keyed m.person) (from_common n) z (no_common p n h (omega arith))
+    (put_first (person_keyed n.person) (keyed Keys.Surname v) (part Keys.Surname t v) (ap person_keyed (h.person l))
+    (as_keyed Keys.Surname t v i.kind)))))))
 keyed_more Keys.Given t v p n h f i =
     let m = put_at Keys.Given t v n in
     let z = part Keys.Given t v ∷ [] in
@@ -243,7 +276,9 @@ keyed_more Keys.Given t v p n h f i =
     (outer (labelled_if Keys.Prmd n.prmd) (from_organization n) (from_organization m) z
     (outer (keyed_if Keys.Organization n.organization) (from_units n) (from_units m) z
     (outer (units_keyed n.units) (from_person n) (from_person m) z
-    (inner (person_keyed n.person) (person_keyed m.person) (from_common n) z (no_common p n h (omega arith)) (given_more n.person v there (h.given l) (h.initials (omega arith)) (h.generation (omega arith)) ∙ ap (λ x. person_keyed n.person ++ x ∷ []) (as_keyed Keys.Given t v i.kind)))))))
+    (inner (person_keyed n.person) (person_keyed m.person) (from_common n) z (no_common p n h (omega arith))
+    (given_more n.person v there (h.given l) (h.initials (omega arith)) (h.generation (omega arith))
+    ∙ ap (λ x. person_keyed n.person ++ x ∷ []) (as_keyed Keys.Given t v i.kind)))))))
 keyed_more Keys.Initials t v p n h f i =
     let m = put_at Keys.Initials t v n in
     let z = part Keys.Initials t v ∷ [] in
@@ -254,7 +289,9 @@ keyed_more Keys.Initials t v p n h f i =
     (outer (labelled_if Keys.Prmd n.prmd) (from_organization n) (from_organization m) z
     (outer (keyed_if Keys.Organization n.organization) (from_units n) (from_units m) z
     (outer (units_keyed n.units) (from_person n) (from_person m) z
-    (inner (person_keyed n.person) (person_keyed m.person) (from_common n) z (no_common p n h (omega arith)) (initials_more n.person v there (h.initials l) (h.generation (omega arith)) ∙ ap (λ x. person_keyed n.person ++ x ∷ []) (as_keyed Keys.Initials t v i.kind)))))))
+    (inner (person_keyed n.person) (person_keyed m.person) (from_common n) z (no_common p n h (omega arith))
+    (initials_more n.person v there (h.initials l) (h.generation (omega arith))
+    ∙ ap (λ x. person_keyed n.person ++ x ∷ []) (as_keyed Keys.Initials t v i.kind)))))))
 keyed_more Keys.Generation t v p n h f i =
     let m = put_at Keys.Generation t v n in
     let z = part Keys.Generation t v ∷ [] in
@@ -265,7 +302,9 @@ keyed_more Keys.Generation t v p n h f i =
     (outer (labelled_if Keys.Prmd n.prmd) (from_organization n) (from_organization m) z
     (outer (keyed_if Keys.Organization n.organization) (from_units n) (from_units m) z
     (outer (units_keyed n.units) (from_person n) (from_person m) z
-    (inner (person_keyed n.person) (person_keyed m.person) (from_common n) z (no_common p n h (omega arith)) (generation_more n.person v there (h.generation l) ∙ ap (λ x. person_keyed n.person ++ x ∷ []) (as_keyed Keys.Generation t v i.kind)))))))
+    (inner (person_keyed n.person) (person_keyed m.person) (from_common n) z (no_common p n h (omega arith))
+    (generation_more n.person v there (h.generation l)
+    ∙ ap (λ x. person_keyed n.person ++ x ∷ []) (as_keyed Keys.Generation t v i.kind)))))))
 keyed_more Keys.Common t v p n h f i =
     let m = put_at Keys.Common t v n in
     let z = part Keys.Common t v ∷ [] in
@@ -276,7 +315,10 @@ keyed_more Keys.Common t v p n h f i =
     (outer (keyed_if Keys.Organization n.organization) (from_units n) (from_units m) z
     (outer (units_keyed n.units) (from_person n) (from_person m) z
     (outer (person_keyed n.person) (from_common n) (from_common m) z
-    (inner (keyed_if Keys.Common n.common) (keyed_if Keys.Common m.common) (from_network n) z (no_network p n h (omega arith)) (put_first (keyed_if Keys.Common n.common) (keyed Keys.Common v) (part Keys.Common t v) (ap (keyed_if Keys.Common) (h.common l)) (as_keyed Keys.Common t v i.kind))))))))
+    (inner (keyed_if Keys.Common n.common) (keyed_if Keys.Common m.common) (from_network n) z
+    (no_network p n h (omega arith))
+    (put_first (keyed_if Keys.Common n.common) (keyed Keys.Common v) (part Keys.Common t v)
+    (ap (keyed_if Keys.Common) (h.common l)) (as_keyed Keys.Common t v i.kind))))))))
 keyed_more Keys.Network t v p n h f i =
     let m = put_at Keys.Network t v n in
     let z = part Keys.Network t v ∷ [] in
@@ -288,7 +330,10 @@ keyed_more Keys.Network t v p n h f i =
     (outer (units_keyed n.units) (from_person n) (from_person m) z
     (outer (person_keyed n.person) (from_common n) (from_common m) z
     (outer (keyed_if Keys.Common n.common) (from_network n) (from_network m) z
-    (inner (keyed_if Keys.Network n.network) (keyed_if Keys.Network m.network) (from_terminal n) z (no_terminal p n h (omega arith)) (put_first (keyed_if Keys.Network n.network) (keyed Keys.Network v) (part Keys.Network t v) (ap (keyed_if Keys.Network) (h.network l)) (as_keyed Keys.Network t v i.kind)))))))))
+    (inner (keyed_if Keys.Network n.network) (keyed_if Keys.Network m.network) (from_terminal n) z
+    (no_terminal p n h (omega arith))
+    (put_first (keyed_if Keys.Network n.network) (keyed Keys.Network v) (part Keys.Network t v)
+    (ap (keyed_if Keys.Network) (h.network l)) (as_keyed Keys.Network t v i.kind)))))))))
 keyed_more Keys.Terminal t v p n h f i =
     let m = put_at Keys.Terminal t v n in
     let z = part Keys.Terminal t v ∷ [] in
@@ -301,7 +346,10 @@ keyed_more Keys.Terminal t v p n h f i =
     (outer (person_keyed n.person) (from_common n) (from_common m) z
     (outer (keyed_if Keys.Common n.common) (from_network n) (from_network m) z
     (outer (keyed_if Keys.Network n.network) (from_terminal n) (from_terminal m) z
-    (inner (keyed_if Keys.Terminal n.terminal) (keyed_if Keys.Terminal m.terminal) (from_user n) z (no_user p n h (omega arith)) (put_first (keyed_if Keys.Terminal n.terminal) (keyed Keys.Terminal v) (part Keys.Terminal t v) (ap (keyed_if Keys.Terminal) (h.terminal l)) (as_keyed Keys.Terminal t v i.kind))))))))))
+    (inner (keyed_if Keys.Terminal n.terminal) (keyed_if Keys.Terminal m.terminal) (from_user n) z
+    (no_user p n h (omega arith)) (put_first (keyed_if Keys.Terminal n.terminal) (keyed Keys.Terminal v)
+    (part Keys.Terminal t v) (ap (keyed_if Keys.Terminal) (h.terminal l))
+    (as_keyed Keys.Terminal t v i.kind))))))))))
 keyed_more Keys.User t v p n h f i =
     let m = put_at Keys.User t v n in
     let z = part Keys.User t v ∷ [] in
@@ -315,7 +363,9 @@ keyed_more Keys.User t v p n h f i =
     (outer (keyed_if Keys.Common n.common) (from_network n) (from_network m) z
     (outer (keyed_if Keys.Network n.network) (from_terminal n) (from_terminal m) z
     (outer (keyed_if Keys.Terminal n.terminal) (from_user n) (from_user m) z
-    (inner (keyed_if Keys.User n.user) (keyed_if Keys.User m.user) (pairs_keyed n.pairs) z (no_pairs p n h (omega arith)) (put_first (keyed_if Keys.User n.user) (keyed Keys.User v) (part Keys.User t v) (ap (keyed_if Keys.User) (h.user l)) (as_keyed Keys.User t v i.kind)))))))))))
+    (inner (keyed_if Keys.User n.user) (keyed_if Keys.User m.user) (pairs_keyed n.pairs) z
+    (no_pairs p n h (omega arith)) (put_first (keyed_if Keys.User n.user) (keyed Keys.User v) (part Keys.User t v)
+    (ap (keyed_if Keys.User) (h.user l)) (as_keyed Keys.User t v i.kind)))))))))))
 keyed_more Keys.Pair t v p n h f i =
     let m = put_at Keys.Pair t v n in
     let z = part Keys.Pair t v ∷ [] in
@@ -333,15 +383,18 @@ keyed_more Keys.Pair t v p n h f i =
 
 -- ---- nothing stands behind the part that was put
 
-given_kept : (o : Option PersonFields) (v : List ℕ) → IfSome o (λ q. q.initials ≡ None) → IfSome (with_given v o) (λ q. q.initials ≡ None)
+given_kept : (o : Option PersonFields) (v : List ℕ) → IfSome o (λ q. q.initials ≡ None)
+    → IfSome (with_given v o) (λ q. q.initials ≡ None)
 given_kept None v h = tt
 given_kept (Some q) v h = h
 
-given_kept_too : (o : Option PersonFields) (v : List ℕ) → IfSome o (λ q. q.generation ≡ None) → IfSome (with_given v o) (λ q. q.generation ≡ None)
+given_kept_too : (o : Option PersonFields) (v : List ℕ) → IfSome o (λ q. q.generation ≡ None)
+    → IfSome (with_given v o) (λ q. q.generation ≡ None)
 given_kept_too None v h = tt
 given_kept_too (Some q) v h = h
 
-initials_kept : (o : Option PersonFields) (v : List ℕ) → IfSome o (λ q. q.generation ≡ None) → IfSome (with_initials v o) (λ q. q.generation ≡ None)
+initials_kept : (o : Option PersonFields) (v : List ℕ) → IfSome o (λ q. q.generation ≡ None)
+    → IfSome (with_initials v o) (λ q. q.generation ≡ None)
 initials_kept None v h = tt
 initials_kept (Some q) v h = h
 
@@ -362,9 +415,11 @@ or_false true e = refl
 or_false false e = e
 
 none_left : (p : Place) (k : Key) → p.last < place_of k → repeats k ≡ 0 → (behind p k).left ≡ 0
-none_left p k l r = let other : eqb p.last (place_of k) ≡ false = ne_eqb p.last (place_of k) (λ e. omega arith) in rw other r
+none_left p k l r = let other : eqb p.last (place_of k) ≡ false = ne_eqb p.last (place_of k) (λ e. omega arith) in
+    rw other r
 
-fresh_more : (k : Key) (t v : List ℕ) (p : Place) (n : Attributes) → Fresh p n → follows Names p k ≡ true → Fresh (behind p k) (put_at k t v n)
+fresh_more : (k : Key) (t v : List ℕ) (p : Place) (n : Attributes) → Fresh p n → follows Names p k ≡ true
+    → Fresh (behind p k) (put_at k t v n)
 fresh_more Keys.Country t v p n h f =
     let b : p.last ≤ 1 = not_before p Keys.Country f in
     let l : p.last < 1 = only_later p n Keys.Country h f (λ e. omega arith) (λ e. omega arith) in
@@ -680,7 +735,8 @@ nothing_fresh = record {
   left = λ u r. refl;
 }
 
-parts_written : (xs : List Part) (p q : Place) (n : Attributes) → Fresh p n → Follow Names p xs q → keyed_of (put_all n xs) ≡ keyed_of n ++ xs
+parts_written : (xs : List Part) (p q : Place) (n : Attributes) → Fresh p n → Follow Names p xs q
+    → keyed_of (put_all n xs) ≡ keyed_of n ++ xs
 parts_written [] p q n h f = sym (append-nil (keyed_of n))
 parts_written (x ∷ xs) p q n h f =
     parts_written xs (behind p x.key) q (put n x) (fresh_more x.key x.kind x.value p n h f.0) f.2
@@ -689,7 +745,8 @@ parts_written (x ∷ xs) p q n h f =
 
 -- its parts are those that were read
 pub name_parts : (text : List ℕ) (n : Attributes) (h : IsTextForm text n) → keyed_of n ≡ h.parts
-name_parts text n h = ap keyed_of h.name_is ∙ parts_written h.parts start h.form.last nothing nothing_fresh h.form.follow
+name_parts text n h = ap keyed_of h.name_is
+    ∙ parts_written h.parts start h.form.last nothing nothing_fresh h.form.follow
 
 pub form_written : (text : List ℕ) (n : Attributes) → IsTextForm text n → text ≡ text_form n
 unfolding text_form

@@ -1,12 +1,15 @@
 -- The keys: what stands before a value, and which key begins so.
-use Rattle.std.proofs.Common.{◌≡◌, ℕ, ◌-◌, ◌≤◌, Bool, true, false, cond, eqb, get_or, take, drop, List, [], ◌∷◌, ◌++◌, length, Option, Some, refl, sym, ap, ◌∙◌, inl, inr, ◌⊎◌, arith, append_assoc, ◌&&◌, lit≤}
+use Rattle.std.proofs.Common.{◌≡◌, ℕ, ◌-◌, ◌≤◌, Bool, true, false, cond, eqb, get_or, take, drop, List, [], ◌∷◌, ◌++◌}
+use Rattle.std.proofs.Common.{length, Option, Some, refl, sym, ap, ◌∙◌, inl, inr, ◌⊎◌, arith, append_assoc, ◌&&◌, lit≤}
 use Rattle.std.specs.List.{find, list_any}
 use Rattle.std.specs.Str.{bytes_eq}
 use Rattle.std.proofs.lemmas.Bool.{and_parts, and_from, or_cases, or_left, or_right, eqb-true, eq-eqb, cases_Bool}
 use Rattle.std.proofs.lemmas.List.{take_rest}
 use Rattle.std.proofs.lemmas.Slice.Eq.{bytes_eq-Decides}
 use Rattle.mta_name_text.specs.declared.key.Key.{Key}
-use Rattle.mta_name_text.specs.declared.key.Key.TheVariants.{Country, Admd, Prmd, Organization, Unit, Surname, Given, Initials, Generation, Common, Network, Terminal, User, Pair}
+use Rattle.mta_name_text.specs.declared.key.Key.TheVariants.{Country, Admd, Prmd, Organization, Unit, Surname, Given}
+use Rattle.mta_name_text.specs.declared.key.Key.TheVariants.{Initials, Generation, Common, Network, Terminal, User}
+use Rattle.mta_name_text.specs.declared.key.Key.TheVariants.{Pair}
 use Rattle.mta_name_text.specs.declared.place.Grammar.{Grammar}
 use Rattle.mta_name_text.specs.declared.place.Place.{Place}
 use Rattle.mta_name_text.specs.Grammar.{follows, is_kind}
@@ -84,7 +87,8 @@ found_key test (x ∷ xs) k e =
     ]
 
 -- a key that is not the first
-pub find_next : (test : Key → Bool) (ks : List Key) (d : Key) (r : Option Key) → 1 ≤ length ks → test (get_or ks 0 d) ≡ false → r ≡ find test (take (length ks - 1) (drop 1 ks)) → r ≡ find test ks
+pub find_next : (test : Key → Bool) (ks : List Key) (d : Key) (r : Option Key) → 1 ≤ length ks
+    → test (get_or ks 0 d) ≡ false → r ≡ find test (take (length ks - 1) (drop 1 ks)) → r ≡ find test ks
 find_next test [] d r l e f = absurd (omega arith)
 find_next test (x ∷ xs) d r l e f = f ∙ ap (find test) (take_rest (x ∷ xs) 1) ∙ sym (later (test x) e)
   where
@@ -122,10 +126,12 @@ front_key g p front e =
     let r = begins_rest front (lead s.0) a.0 in
     record { key = s.0; rest = r.0; lead_is = r.1; open_here = a.1 }
 
-pub key_front : (g : Grammar) (p : Place) (front : List ℕ) (k : Key) (c : ℕ) (cs : List ℕ) → lead k ≡ front ++ c ∷ cs → follows g p k ≡ true → is_front g p front ≡ true
+pub key_front : (g : Grammar) (p : Place) (front : List ℕ) (k : Key) (c : ℕ) (cs : List ℕ) → lead k ≡ front ++ c ∷ cs
+    → follows g p k ≡ true → is_front g p front ≡ true
 unfolding is_front
 key_front g p front k c cs e f =
-    any_among (λ j. begins front (lead j) && follows g p j) keys k (among_keys k) (and_from (begins front (lead k)) (follows g p k) (ap (begins front) e ∙ begins_more front c cs) f)
+    any_among (λ j. begins front (lead j) && follows g p j) keys k (among_keys k)
+    (and_from (begins front (lead k)) (follows g p k) (ap (begins front) e ∙ begins_more front c cs) f)
 
 -- no key begins another
 pub lead_front : (g : Grammar) (p : Place) (k : Key) → is_front g p (lead k) ≡ false
@@ -188,7 +194,8 @@ abbrev pub tail_of : Bool → List ℕ → List ℕ → List ℕ
 tail_of true t v = t ++ 61 ∷ v
 tail_of false t v = v
 
-pub lead_tail : (b : Bool) (text t v : List ℕ) → is_kind b t ≡ true → text ++ (t ++ 61 ∷ v) ≡ lead_of b text ++ tail_of b t v
+pub lead_tail : (b : Bool) (text t v : List ℕ) → is_kind b t ≡ true → text ++ (t ++ 61 ∷ v) ≡ lead_of b text
+    ++ tail_of b t v
 lead_tail true text t v h = refl
 lead_tail false text [] v h = sym (append_assoc text (61 ∷ []) v)
 lead_tail false text (c ∷ t) v h = absurd cc

@@ -1,5 +1,7 @@
 -- The attributes that the parts of a text form make are such as those of a name are.
-use Rattle.std.proofs.Common.{◌≡◌, ℕ, ◌+◌, ◌-◌, ◌≤◌, ◌<◌, Bool, true, false, cond, eqb, leb, ltb, List, [], ◌∷◌, ◌++◌, length, Option, Some, None, refl, sym, ap, subst, inl, inr, ◌⊎◌, arith, ◌&&◌, ◌||◌, not, length-append}
+use Rattle.std.proofs.Common.{◌≡◌, ℕ, ◌+◌, ◌-◌, ◌≤◌, ◌<◌, Bool, true, false, cond, eqb, leb, ltb, List, [], ◌∷◌, ◌++◌}
+use Rattle.std.proofs.Common.{length, Option, Some, None, refl, sym, ap, subst, inl, inr, ◌⊎◌, arith, ◌&&◌, ◌||◌, not}
+use Rattle.std.proofs.Common.{length-append}
 use Rattle.std.specs.Prelude.{IfSome}
 use Rattle.std.specs.List.{list_all}
 use Rattle.std.proofs.lemmas.Bool.{and_parts, or_cases, eqb-true, eq-eqb, ne_eqb, leb-true, ltb-true}
@@ -17,13 +19,15 @@ use Rattle.mta_name_text.specs.declared.place.Place.{Place}
 use Rattle.mta_name_text.specs.declared.shape.Shape.TheVariants as Shapes
 use Rattle.mta_name_text.specs.Grammar.{start, behind, is_again, follows, IsPart, Follow}
 use Rattle.mta_name_text.specs.Keys.{place_of, needs_surname}
-use Rattle.mta_name_text.specs.Made.{country_label, with_given, with_initials, with_generation, pair_of, put, put_at, put_all, IsTextForm}
+use Rattle.mta_name_text.specs.Made.{country_label, with_given, with_initials, with_generation, pair_of, put, put_at}
+use Rattle.mta_name_text.specs.Made.{put_all, IsTextForm}
 use Rattle.mta_name_text.specs.Reading.{part}
 use Rattle.mta_name_text.specs.Shapes.{is_no_equals, is_value}
 
 -- ---- values
 
-pub text_fits : (class : TextClass) (low high : ℕ) (v : List ℕ) → is_value (Shapes.Text class low high) v ≡ true → IsText class low high v
+pub text_fits : (class : TextClass) (low high : ℕ) (v : List ℕ) → is_value (Shapes.Text class low high) v ≡ true
+    → IsText class low high v
 unfolding is_value
 text_fits class low high v h =
     let a = and_parts (list_all (in_class class) v && leb low (length v)) (leb (length v) high) h in
@@ -33,16 +37,19 @@ text_fits class low high v h =
 kind_fits : (t : List ℕ) → is_value Shapes.Kind t ≡ true → IsText Printable 1 8 t
 unfolding is_value
 kind_fits t h =
-    let a = and_parts (list_all is_no_equals t && list_all (in_class Printable) t && leb 1 (length t)) (leb (length t) 8) h in
+    let a = and_parts (list_all is_no_equals t && list_all (in_class Printable) t && leb 1 (length t))
+    (leb (length t) 8) h in
     let b = and_parts (list_all is_no_equals t && list_all (in_class Printable) t) (leb 1 (length t)) a.0 in
     let d = and_parts (list_all is_no_equals t) (list_all (in_class Printable) t) b.0 in
     record { characters = d.1; at_least = leb-true 1 (length t) b.1; at_most = leb-true (length t) 8 a.1 }
 
-numeric_country : (v : List ℕ) (b : Bool) → b ≡ true → list_all is_digit v ≡ true → length v ≡ 3 → IsCountry (record { numeric = b; text = v })
+numeric_country : (v : List ℕ) (b : Bool) → b ≡ true → list_all is_digit v ≡ true → length v ≡ 3
+    → IsCountry (record { numeric = b; text = v })
 numeric_country v true e h l = record { characters = h; size = l }
 numeric_country v false e h l = absurd cc
 
-lettered_country : (v : List ℕ) (b : Bool) → b ≡ false → list_all is_letter v ≡ true → length v ≡ 2 → IsCountry (record { numeric = b; text = v })
+lettered_country : (v : List ℕ) (b : Bool) → b ≡ false → list_all is_letter v ≡ true → length v ≡ 2
+    → IsCountry (record { numeric = b; text = v })
 lettered_country v true e h l = absurd cc
 lettered_country v false e h l = record { characters = h; size = l }
 
@@ -70,12 +77,14 @@ pub record Counts (p : Place) (units pairs : ℕ) : Type 0 where
   pub few_pairs : pairs ≤ 4
 
 -- a later key, or one more part of the last key
-pub later : (p : Place) (k : Key) → follows Names p k ≡ true → (p.last < place_of k) ⊎ ((p.last ≡ place_of k) × (0 < p.left))
+pub later : (p : Place) (k : Key) → follows Names p k ≡ true → (p.last < place_of k)
+    ⊎ ((p.last ≡ place_of k) × (0 < p.left))
 later p k h =
     let a = and_parts (ltb p.last (place_of k) || is_again p k) (p.surname || not (needs_surname k)) h in
     elim (or_cases (ltb p.last (place_of k)) (is_again p k) a.0) [
       | inl next ↦ inl (ltb-true p.last (place_of k) next)
-      | inr again ↦ (let b = and_parts (eqb p.last (place_of k)) (ltb 0 p.left) again in inr (eqb-true p.last (place_of k) b.0, ltb-true 0 p.left b.1))
+      | inr again ↦ (let b = and_parts (eqb p.last (place_of k)) (ltb 0 p.left) again in
+          inr (eqb-true p.last (place_of k) b.0, ltb-true 0 p.left b.1))
     ]
 
 pub not_before : (p : Place) (k : Key) → follows Names p k ≡ true → p.last ≤ place_of k
@@ -85,7 +94,8 @@ not_before p k h =
       | inr e ↦ (let f = e.0 in omega arith)
     ]
 
-counts_kept : (p q : Place) (units pairs : ℕ) → Counts p units pairs → p.last ≤ q.last → (q.last ≡ 5 → ⊥) → (q.last ≡ 14 → ⊥) → Counts q units pairs
+counts_kept : (p q : Place) (units pairs : ℕ) → Counts p units pairs → p.last ≤ q.last → (q.last ≡ 5 → ⊥)
+    → (q.last ≡ 14 → ⊥) → Counts q units pairs
 counts_kept p q units pairs c l u r = record {
   no_units = λ h. c.no_units (omega arith);
   units_left = λ e. absurd (u e);
@@ -95,7 +105,8 @@ counts_kept p q units pairs c l u r = record {
   few_pairs = c.few_pairs;
 }
 
-one_more : (last left place count : ℕ) → (last < place) ⊎ ((last ≡ place) × (0 < left)) → (last < place → count ≡ 0) → (last ≡ place → count + left ≤ 4) → (count + 1) + cond (eqb last place) (left - 1) 3 ≤ 4
+one_more : (last left place count : ℕ) → (last < place) ⊎ ((last ≡ place) × (0 < left)) → (last < place → count ≡ 0)
+    → (last ≡ place → count + left ≤ 4) → (count + 1) + cond (eqb last place) (left - 1) 3 ≤ 4
 one_more last left place count h none some =
     elim h [
       | inl l ↦ (
@@ -109,7 +120,8 @@ one_more last left place count h none some =
           rw same (omega arith))
     ]
 
-one_unit : (p : Place) (units pairs : ℕ) → Counts p units pairs → follows Names p Keys.Unit ≡ true → Counts (behind p Keys.Unit) (units + 1) pairs
+one_unit : (p : Place) (units pairs : ℕ) → Counts p units pairs → follows Names p Keys.Unit ≡ true
+    → Counts (behind p Keys.Unit) (units + 1) pairs
 one_unit p units pairs c f =
     let more = one_more p.last p.left 5 units (later p Keys.Unit f) c.no_units c.units_left in
     let l = not_before p Keys.Unit f in
@@ -122,7 +134,8 @@ one_unit p units pairs c f =
       few_pairs = c.few_pairs;
     }
 
-one_pair : (p : Place) (units pairs : ℕ) → Counts p units pairs → follows Names p Keys.Pair ≡ true → Counts (behind p Keys.Pair) units (pairs + 1)
+one_pair : (p : Place) (units pairs : ℕ) → Counts p units pairs → follows Names p Keys.Pair ≡ true
+    → Counts (behind p Keys.Pair) units (pairs + 1)
 one_pair p units pairs c f =
     let more = one_more p.last p.left 14 pairs (later p Keys.Pair f) c.no_pairs c.pairs_left in
     record {
@@ -143,15 +156,18 @@ each_more P (y ∷ ys) x h p = (h.0, each_more P ys x h.1 p)
 length_more : {X : Type 0} (xs : List X) (x : X) → length (xs ++ x ∷ []) ≡ length xs + 1
 length_more xs x = length-append xs (x ∷ [])
 
-given_fits : (v : List ℕ) (o : Option PersonFields) → IfSome o IsPerson → IsText Printable 1 16 v → IfSome (with_given v o) IsPerson
+given_fits : (v : List ℕ) (o : Option PersonFields) → IfSome o IsPerson → IsText Printable 1 16 v
+    → IfSome (with_given v o) IsPerson
 given_fits v None h t = tt
 given_fits v (Some q) h t = record { surname = h.surname; given = t; initials = h.initials; generation = h.generation }
 
-initials_fit : (v : List ℕ) (o : Option PersonFields) → IfSome o IsPerson → IsText Printable 1 5 v → IfSome (with_initials v o) IsPerson
+initials_fit : (v : List ℕ) (o : Option PersonFields) → IfSome o IsPerson → IsText Printable 1 5 v
+    → IfSome (with_initials v o) IsPerson
 initials_fit v None h t = tt
 initials_fit v (Some q) h t = record { surname = h.surname; given = h.given; initials = t; generation = h.generation }
 
-generation_fits : (v : List ℕ) (o : Option PersonFields) → IfSome o IsPerson → IsText Printable 1 3 v → IfSome (with_generation v o) IsPerson
+generation_fits : (v : List ℕ) (o : Option PersonFields) → IfSome o IsPerson → IsText Printable 1 3 v
+    → IfSome (with_generation v o) IsPerson
 generation_fits v None h t = tt
 generation_fits v (Some q) h t = record { surname = h.surname; given = h.given; initials = h.initials; generation = t }
 
@@ -163,10 +179,12 @@ pub record Holds (p : Place) (n : Attributes) : Type 0 where
 no_extensions : (n : Attributes) → n.extras ≡ [] → 1 + length n.extras ≤ 256
 no_extensions n e = let l : length n.extras ≡ 0 = ap length e in omega arith
 
-kept_name : (p : Place) (k : Key) (n : Attributes) → Holds p n → follows Names p k ≡ true → (place_of k ≡ 5 → ⊥) → (place_of k ≡ 14 → ⊥) → Counts (behind p k) (length n.units) (length n.pairs)
+kept_name : (p : Place) (k : Key) (n : Attributes) → Holds p n → follows Names p k ≡ true → (place_of k ≡ 5 → ⊥)
+    → (place_of k ≡ 14 → ⊥) → Counts (behind p k) (length n.units) (length n.pairs)
 kept_name p k n h f u r = counts_kept p (behind p k) (length n.units) (length n.pairs) h.counts (not_before p k f) u r
 
-put_holds : (k : Key) (t v : List ℕ) (p : Place) (n : Attributes) → Holds p n → follows Names p k ≡ true → IsPart (part k t v) → Holds (behind p k) (put_at k t v n)
+put_holds : (k : Key) (t v : List ℕ) (p : Place) (n : Attributes) → Holds p n → follows Names p k ≡ true
+    → IsPart (part k t v) → Holds (behind p k) (put_at k t v n)
 put_holds Keys.Country t v p n h f i =
     let m = h.name in
     record {
@@ -266,7 +284,9 @@ put_holds Keys.Organization t v p n h f i =
 put_holds Keys.Unit t v p n h f i =
     let m = h.name in
     let e = length_more n.units v in
-    let c : Counts (behind p Keys.Unit) (length (n.units ++ v ∷ [])) (length n.pairs) = subst (λ u. Counts (behind p Keys.Unit) u (length n.pairs)) (sym e) (one_unit p (length n.units) (length n.pairs) h.counts f) in
+    let c : Counts (behind p Keys.Unit) (length (n.units ++ v ∷ [])) (length n.pairs) =
+    subst (λ u. Counts (behind p Keys.Unit) u (length n.pairs)) (sym e)
+    (one_unit p (length n.units) (length n.pairs) h.counts f) in
     let few = c.few_units in
     record {
       name = record {
@@ -486,7 +506,9 @@ put_holds Keys.User t v p n h f i =
 put_holds Keys.Pair t v p n h f i =
     let m = h.name in
     let e = length_more n.pairs (pair_of t v) in
-    let c : Counts (behind p Keys.Pair) (length n.units) (length (n.pairs ++ pair_of t v ∷ [])) = subst (λ r. Counts (behind p Keys.Pair) (length n.units) r) (sym e) (one_pair p (length n.units) (length n.pairs) h.counts f) in
+    let c : Counts (behind p Keys.Pair) (length n.units) (length (n.pairs ++ pair_of t v ∷ [])) =
+    subst (λ r. Counts (behind p Keys.Pair) (length n.units) r) (sym e)
+    (one_pair p (length n.units) (length n.pairs) h.counts f) in
     let few = c.few_pairs in
     record {
       name = record {
@@ -500,7 +522,8 @@ put_holds Keys.Pair t v p n h f i =
         person = m.person;
         units = m.units;
         few_units = m.few_units;
-        pairs = each_more IsPair n.pairs (pair_of t v) m.pairs (record { kind = kind_fits t i.kind; value = text_fits Printable 1 128 v i.value });
+        pairs = each_more IsPair n.pairs (pair_of t v) m.pairs
+            (record { kind = kind_fits t i.kind; value = text_fits Printable 1 128 v i.value });
         few_pairs = few;
         common = m.common;
         extras = m.extras;
@@ -513,7 +536,8 @@ put_holds Keys.Pair t v p n h f i =
 
 all_hold : (xs : List Part) (p q : Place) (n : Attributes) → Holds p n → Follow Names p xs q → IsName (put_all n xs)
 all_hold [] p q n h f = h.name
-all_hold (x ∷ xs) p q n h f = all_hold xs (behind p x.key) q (put n x) (put_holds x.key x.kind x.value p n h f.0 f.1) f.2
+all_hold (x ∷ xs) p q n h f = all_hold xs (behind p x.key) q (put n x)
+    (put_holds x.key x.kind x.value p n h f.0 f.1) f.2
 
 nothing_holds : Holds start nothing
 nothing_holds = record {
@@ -547,4 +571,5 @@ nothing_holds = record {
 }
 
 pub name_fits : (text : List ℕ) (n : Attributes) → IsTextForm text n → IsName n
-name_fits text n h = subst IsName (sym h.name_is) (all_hold h.parts start h.form.last nothing nothing_holds h.form.follow)
+name_fits text n h = subst IsName (sym h.name_is)
+    (all_hold h.parts start h.form.last nothing nothing_holds h.form.follow)

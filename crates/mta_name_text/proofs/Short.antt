@@ -1,5 +1,6 @@
 -- A text form is short: at most 60 parts follow one another, each of fewer than 200 octets.
-use Rattle.std.proofs.Common.{◌≡◌, ℕ, ◌+◌, ◌*◌, ◌-◌, ◌≤◌, ◌<◌, ◌^◌, ◌⊎◌, Bool, true, false, cond, eqb, List, [], ◌∷◌, ◌++◌, length, take, Err, sym, ap, ◌∙◌, inl, inr, arith, length-append, ◌&&◌}
+use Rattle.std.proofs.Common.{◌≡◌, ℕ, ◌+◌, ◌*◌, ◌-◌, ◌≤◌, ◌<◌, ◌^◌, ◌⊎◌, Bool, true, false, cond, eqb, List, [], ◌∷◌}
+use Rattle.std.proofs.Common.{◌++◌, length, take, Err, sym, ap, ◌∙◌, inl, inr, arith, length-append, ◌&&◌}
 use Rattle.std.specs.Prelude.{map, nat_lt, ◌||◌}
 use Rattle.std.specs.List.{flat_map, list_all}
 use Rattle.std.proofs.lemmas.Bool.{and_parts, or_cases, eqb-true, leb-true, cases_Bool}
@@ -127,18 +128,21 @@ repeats_small Keys.User = omega arith
 repeats_small Keys.Pair = omega arith
 
 -- a part of the last key, or one of a key behind it
-moves_on : (g : Grammar) (p : Place) (k : Key) → follows g p k ≡ true → ((p.last ≡ place_of k) × (1 ≤ p.left)) ⊎ (p.last < place_of k)
+moves_on : (g : Grammar) (p : Place) (k : Key) → follows g p k ≡ true → ((p.last ≡ place_of k) × (1 ≤ p.left))
+    ⊎ (p.last < place_of k)
 moves_on Names p k h =
     let a = and_parts (nat_lt p.last (place_of k) || is_again p k) _ h in
     elim (or_cases (nat_lt p.last (place_of k)) (is_again p k) a.0) [
       | inl on ↦ inr (grind (arith, nat_tests))
-      | inr again ↦ inl (let b = and_parts (eqb p.last (place_of k)) (nat_lt 0 p.left) again in (eqb-true p.last (place_of k) b.0, grind (arith, nat_tests)))
+      | inr again ↦ inl (let b = and_parts (eqb p.last (place_of k)) (nat_lt 0 p.left) again in
+          (eqb-true p.last (place_of k) b.0, grind (arith, nat_tests)))
     ]
 moves_on Patterns p k h =
     let a = and_parts (eqb (p.last + 1) (place_of k) || is_again p k) _ h in
     elim (or_cases (eqb (p.last + 1) (place_of k)) (is_again p k) a.0) [
       | inl next ↦ inr (let e = eqb-true (p.last + 1) (place_of k) next in omega arith)
-      | inr again ↦ inl (let b = and_parts (eqb p.last (place_of k)) (nat_lt 0 p.left) again in (eqb-true p.last (place_of k) b.0, grind (arith, nat_tests)))
+      | inr again ↦ inl (let b = and_parts (eqb p.last (place_of k)) (nat_lt 0 p.left) again in
+          (eqb-true p.last (place_of k) b.0, grind (arith, nat_tests)))
     ]
 
 less_room : (last left place more : ℕ) → place ≤ 14 → more ≤ 3 → ((last ≡ place) × (1 ≤ left)) ⊎ (last < place)
@@ -152,7 +156,8 @@ less_room last left place more small few h =
             | inr on ↦ absurd (omega arith)
           ]))
       | inr other ↦ rw other (elim h [
-        | inl again ↦ absurd (let e : eqb last place ≡ true = ap (λ n. eqb last n) (sym again.0) ∙ same_number last in cc)
+        | inl again ↦ absurd (let e : eqb last place ≡ true = ap (λ n. eqb last n) (sym again.0) ∙ same_number last in
+            cc)
         | inr on ↦ omega arith
       ])
     ]
@@ -161,11 +166,13 @@ less_room last left place more small few h =
     same_number n = grind (arith, nat_tests)
 
 room_behind : (g : Grammar) (p : Place) (k : Key) → follows g p k ≡ true → room (behind p k) + 1 ≤ room p
-room_behind g p k h = less_room p.last p.left (place_of k) (repeats k) (place_small k) (repeats_small k) (moves_on g p k h)
+room_behind g p k h = less_room p.last p.left (place_of k) (repeats k) (place_small k) (repeats_small k)
+    (moves_on g p k h)
 
 -- ---- a text form
 
-parts_short : (g : Grammar) (p q : Place) (xs : List Part) → Follow g p xs q → length (flat_map behind_semicolon (map part_text xs)) ≤ 200 * room p
+parts_short : (g : Grammar) (p q : Place) (xs : List Part) → Follow g p xs q
+    → length (flat_map behind_semicolon (map part_text xs)) ≤ 200 * room p
 parts_short g p q [] h = omega arith
 parts_short g p q (x ∷ xs) h =
     let r = room_behind g p x.key h.0 in

@@ -46,7 +46,8 @@ units_keyed us = map (keyed Keys.Unit) us
 
 abbrev pub person_keyed : Option PersonFields → List Part
 person_keyed None = []
-person_keyed (Some p) = keyed Keys.Surname p.surname ∷ (keyed_if Keys.Given p.given ++ (keyed_if Keys.Initials p.initials ++ keyed_if Keys.Generation p.generation))
+person_keyed (Some p) = keyed Keys.Surname p.surname ∷
+    (keyed_if Keys.Given p.given ++ (keyed_if Keys.Initials p.initials ++ keyed_if Keys.Generation p.generation))
 
 abbrev pub pair_keyed : PairFields → Part
 pair_keyed p = record { key = Keys.Pair; kind = p.kind; value = p.value }
@@ -57,8 +58,13 @@ pairs_keyed ps = map pair_keyed ps
 -- the attributes of a name in the order of their keys
 abbrev pub keyed_of : Attributes → List Part
 keyed_of n =
-    labelled_if Keys.Country n.country ++ (labelled_if Keys.Admd n.admd ++ (labelled_if Keys.Prmd n.prmd ++ (keyed_if Keys.Organization n.organization ++ (units_keyed n.units ++ (person_keyed n.person
-    ++ (keyed_if Keys.Common n.common ++ (keyed_if Keys.Network n.network ++ (keyed_if Keys.Terminal n.terminal ++ (keyed_if Keys.User n.user ++ pairs_keyed n.pairs)))))))))
+    labelled_if Keys.Country n.country
+    ++ (labelled_if Keys.Admd n.admd
+    ++ (labelled_if Keys.Prmd n.prmd
+    ++ (keyed_if Keys.Organization n.organization ++ (units_keyed n.units ++ (person_keyed n.person
+    ++ (keyed_if Keys.Common n.common
+    ++ (keyed_if Keys.Network n.network
+    ++ (keyed_if Keys.Terminal n.terminal ++ (keyed_if Keys.User n.user ++ pairs_keyed n.pairs)))))))))
 
 abbrev pub part_text : Part → List ℕ
 part_text k = key_text k.key ++ (k.kind ++ 61 ∷ k.value)

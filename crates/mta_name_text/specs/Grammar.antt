@@ -21,7 +21,12 @@ start = record { last = 0; left = 0; surname = false }
 
 -- behind a part of this key
 abbrev pub behind : Place → Key → Place
-behind p k = record { last = place_of k; left = (if p.last == place_of k then p.left - 1 else repeats k); surname = p.surname || is_surname k }
+behind p k = record {
+  last = place_of k;
+  left = (if p.last == place_of k then p.left - 1 else repeats k);
+  surname =
+      p.surname || is_surname k;
+}
 
 -- one more part of the last key
 abbrev pub is_again : Place → Key → Bool

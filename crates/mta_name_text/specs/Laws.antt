@@ -24,7 +24,8 @@ NameFaultsAreFirst = (text : List ℕ) (at : ℕ) → (name_of_text text ≡ Err
 
 -- those parts are read from a text whose text form they are
 abbrev pub PatternFormsAreWhatIsRead : Type 0
-PatternFormsAreWhatIsRead = (text : List ℕ) (values : List (List ℕ)) → (pattern_of_text text ≡ Ok values) ↔ IsPatternForm text values
+PatternFormsAreWhatIsRead = (text : List ℕ) (values : List (List ℕ))
+    → (pattern_of_text text ≡ Ok values) ↔ IsPatternForm text values
 
 -- that octet is at fault which is the first at which no text form of a pattern goes on
 abbrev pub PatternFaultsAreFirst : Type 0

@@ -67,7 +67,8 @@ part k t v = record { key = k; kind = t; value = v }
 
 -- a semicolon ends a value that another part may follow
 abbrev pub end_value : Grammar → List Part → Place → Key → List ℕ → List ℕ → Option Draft
-end_value g ps p k t v = if is_value (shape_of k) v && is_front g (behind p k) [] then Some (draft (ps ++ part k t v ∷ []) (behind p k) (Front [])) else None
+end_value g ps p k t v = if is_value (shape_of k) v && is_front g (behind p k) [] then
+    Some (draft (ps ++ part k t v ∷ []) (behind p k) (Front [])) else None
 
 abbrev pub more_value : List Part → Place → Key → List ℕ → List ℕ → Option Draft
 more_value ps p k t v = if is_begun (shape_of k) v then Some (draft ps p (Value k t v)) else None

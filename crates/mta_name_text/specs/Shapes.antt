@@ -14,7 +14,8 @@ is_no_equals c = not (c == 61)
 -- PrintableString but `=`
 unfoldable pub is_value : Shape → List ℕ → Bool
 is_value Country v = (list_all is_letter v && (length v == 2)) || (list_all is_digit v && (length v == 3))
-is_value Kind v = list_all is_no_equals v && list_all (in_class Printable) v && nat_le 1 (length v) && nat_le (length v) 8
+is_value Kind v = list_all is_no_equals v && list_all (in_class Printable) v && nat_le 1 (length v) && nat_le
+    (length v) 8
 is_value (Text class low high) v = list_all (in_class class) v && nat_le low (length v) && nat_le (length v) high
 
 -- what some such value begins with

@@ -55,7 +55,8 @@ fn from_organization(parts: &[Text], n: &Attributes) -> bool
 }
 
 fn from_prmd(parts: &[Text], n: &Attributes) -> bool
-    ensures { result ≡ has_parts parts.now (option_map label_text n.now.prmd ∷ n.now.organization ∷ map present n.now.units) }
+    ensures { result ≡ has_parts parts.now
+        (option_map label_text n.now.prmd ∷ n.now.organization ∷ map present n.now.units) }
 {
     match parts {
         [] => true,
@@ -64,7 +65,8 @@ fn from_prmd(parts: &[Text], n: &Attributes) -> bool
 }
 
 fn from_admd(parts: &[Text], n: &Attributes) -> bool
-    ensures { result ≡ has_parts parts.now (option_map label_text n.now.admd ∷ option_map label_text n.now.prmd ∷ n.now.organization ∷ map present n.now.units) }
+    ensures { result ≡ has_parts parts.now (option_map label_text n.now.admd ∷ option_map label_text n.now.prmd ∷
+        n.now.organization ∷ map present n.now.units) }
 {
     match parts {
         [] => true,

@@ -48,7 +48,8 @@ type_in s p = if is_some s.number then fault p.at BadTag else (number_in 0 32767
 
 abbrev pub valued : AttributeParts → Option ℕ → Part → Result AttributeParts Fault
 valued s None p = fault p.at BadTag
-valued s (Some n) p = if is_some s.value then fault p.at BadTag else (value_in n p >>= λ v. Ok (record s { value = Some v }))
+valued s (Some n) p = if is_some s.value then fault p.at BadTag
+    else (value_in n p >>= λ v. Ok (record s { value = Some v }))
 
 -- an explicit tag is constructed (X.690, 8.14), so a primitive value is none, also where it would be kept
 unfoldable pub attribute_step : AttributeParts → Part → Result AttributeParts Fault
@@ -99,7 +100,8 @@ abbrev pub answer : ExtensionParts → Result ExtensionParts Fault
 answer s = Ok s
 
 unfoldable pub extension_step : ExtensionParts → Part → Result ExtensionParts Fault
-extension_step s p = if is_sequence p.tag then (attribute_in (is_some s.common) p >>= λ e. Ok (with_attribute e s)) else fault p.at BadTag
+extension_step s p = if is_sequence p.tag then (attribute_in (is_some s.common) p >>= λ e. Ok (with_attribute e s))
+    else fault p.at BadTag
 
 abbrev pub no_extensions : ExtensionParts
 no_extensions = record { common = None; extras = [] }
@@ -108,12 +110,14 @@ abbrev pub extension_count : ExtensionParts → ℕ
 extension_count s = count_of s.common + length s.extras
 
 unfoldable pub extensions_in : Part → Result ExtensionParts Fault
-extensions_in p = components extension_step no_extensions p >>= λ s. if between 1 256 (extension_count s) then Ok s else fault p.at BadSize
+extensions_in p = components extension_step no_extensions p >>= λ s. if between 1 256 (extension_count s) then Ok s
+    else fault p.at BadSize
 
 -- ---- what spells them
 
 abbrev pub SpellsPrintable : ℕ → ℕ → Spells (List ℕ)
-SpellsPrintable low high depth tag content octets t = (is_printable tag ≡ true) × SpellsText Printable low high depth tag.constructed content t
+SpellsPrintable low high depth tag content octets t = (is_printable tag ≡ true)
+    × SpellsText Printable low high depth tag.constructed content t
 
 -- the value of an attribute: an explicit tag around a common name, which is of type 1, or around anything
 abbrev pub SpellsAttributeValue : Bool → ℕ → Tag → List ℕ → List ℕ → AttributeValue → Type 0
@@ -129,15 +133,18 @@ pub record MakesType (before : AttributeParts) (tag : Tag) (content : List ℕ) 
   pub once_only : ((number == 1) && before.taken) ≡ false
   pub after_is : after ≡ record before { number = Some number }
 
-pub record MakesAttributeValue (depth : ℕ) (before : AttributeParts) (tag : Tag) (content octets : List ℕ) (after : AttributeParts) : Type 0 where
+pub record MakesAttributeValue (depth : ℕ) (before : AttributeParts) (tag : Tag) (content octets : List ℕ)
+    (after : AttributeParts) : Type 0 where
   pub is_tag_of : is_constructed_tag 2 1 tag ≡ true
   pub number : ℕ
   pub typed_so : before.number ≡ Some number
   pub absent : before.value ≡ None
-  pub puts : Puts (SpellsAttributeValue (number == 1) depth tag content octets) (λ v. record before { value = Some v }) after
+  pub puts : Puts (SpellsAttributeValue (number == 1) depth tag content octets)
+      (λ v. record before { value = Some v }) after
 
 abbrev pub MakesAttribute : Makes AttributeParts
-MakesAttribute depth before tag content octets after = MakesType before tag content after ⊎ MakesAttributeValue depth before tag content octets after
+MakesAttribute depth before tag content octets after = MakesType before tag content after
+    ⊎ MakesAttributeValue depth before tag content octets after
 
 -- a SEQUENCE of a type and a value; the offset plays no part in what it spells
 pub record SpellsAttributeFields (taken : Bool) (depth : ℕ) (constructed : Bool) (content : List ℕ)
@@ -155,9 +162,11 @@ pub record SpellsAttribute (taken : Bool) (depth : ℕ) (constructed : Bool) (co
   pub spelled : SpellsAttributeFields taken depth constructed content fields
   pub attribute_is : a ≡ attribute fields
 
-pub record MakesExtension (depth : ℕ) (before : ExtensionParts) (tag : Tag) (content octets : List ℕ) (after : ExtensionParts) : Type 0 where
+pub record MakesExtension (depth : ℕ) (before : ExtensionParts) (tag : Tag) (content octets : List ℕ)
+    (after : ExtensionParts) : Type 0 where
   pub is_sequence_tag : is_sequence tag ≡ true
-  pub puts : Puts (SpellsAttribute (is_some before.common) depth tag.constructed content) (λ e. with_attribute e before) after
+  pub puts : Puts (SpellsAttribute (is_some before.common) depth tag.constructed content)
+      (λ e. with_attribute e before) after
 
 -- a SET of 1 to 256 attributes, of which one at most is a common name
 pub record SpellsExtensions (depth : ℕ) (constructed : Bool) (content : List ℕ) (s : ExtensionParts) : Type 0 where
@@ -182,4 +191,5 @@ unless_empty zero content = []
 unless_empty (suc n) content = element (constructed 0 17) content
 
 abbrev pub canonical_extensions : ExtensionParts → List ℕ
-canonical_extensions s = unless_empty (extension_count s) (optional canonical_common s.common ++ flat_map canonical_extra s.extras)
+canonical_extensions s = unless_empty (extension_count s)
+    (optional canonical_common s.common ++ flat_map canonical_extra s.extras)

@@ -32,7 +32,8 @@ choice read p =
     else fault p.at BadTag
 
 unfoldable pub country_choice : Part → Result Label Fault
-country_choice p = choice (λ numeric. string_in (list_all (country_character numeric)) (country_size numeric) (country_size numeric)) p
+country_choice p = choice (λ numeric. string_in (list_all (country_character numeric)) (country_size numeric)
+    (country_size numeric)) p
 
 unfoldable pub label_choice : ℕ → ℕ → Part → Result Label Fault
 label_choice low high p = choice (λ numeric. string_in (list_all (in_class (label_class numeric))) low high) p
@@ -44,7 +45,8 @@ abbrev pub label_in : ℕ → ℕ → Part → Result Label Fault
 label_in low high p = explicit (label_choice low high) p
 
 -- the string of a label that is such as it may be
-pub record SpellsChoice (fits : Label → Type 0) (depth : ℕ) (tag : Tag) (content octets : List ℕ) (l : Label) : Type 0 where
+pub record SpellsChoice (fits : Label → Type 0) (depth : ℕ) (tag : Tag) (content octets : List ℕ)
+    (l : Label) : Type 0 where
   pub is_tag_of : is_tag 0 (label_number l.numeric) tag ≡ true
   pub spelled : SpellsOctets (label_number l.numeric) depth tag.constructed content l.text
   pub fits_so : fits l

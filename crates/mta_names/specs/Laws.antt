@@ -27,10 +27,12 @@ use Rattle.mta_ber.specs.declared.text.TextClass.TheVariants.{Printable}
 -- octets that are written in a level, whatever stands before and behind them, are read as the value; a length has at
 -- most eight octets
 abbrev pub IsReadAgain : {A : Type 0} → (Part → Result A Fault) → ℕ → List ℕ → A → Type 0
-IsReadAgain read depth octets v = length octets < 2 ^ 64 → (at : ℕ) (more : List ℕ) → (part at depth (octets ++ more) >>= with_rest read) ≡ beside v more
+IsReadAgain read depth octets v = length octets < 2 ^ 64 → (at : ℕ) (more : List ℕ)
+    → (part at depth (octets ++ more) >>= with_rest read) ≡ beside v more
 
 -- octets that spell a value in a level
-pub record IsSpelling {A : Type 0} (spells : ℕ → Bool → List ℕ → A → Type 0) (depth : ℕ) (octets : List ℕ) (v : A) : Type 0 where
+pub record IsSpelling {A : Type 0} (spells : ℕ → Bool → List ℕ → A → Type 0) (depth : ℕ) (octets : List ℕ)
+    (v : A) : Type 0 where
   pub tag : Tag
   pub content : List ℕ
   pub stands : Stands depth tag content octets
@@ -38,7 +40,8 @@ pub record IsSpelling {A : Type 0} (spells : ℕ → Bool → List ℕ → A →
 
 -- where octets begin with a spelling, they begin with no other, and it is the spelling of one value
 abbrev pub NoneBeginsAnother : {A : Type 0} → (ℕ → Bool → List ℕ → A → Type 0) → Type 0
-NoneBeginsAnother {A} spells = (depth : ℕ) (e e' x y : List ℕ) (v w : A) → IsSpelling spells depth e v → IsSpelling spells depth e' w → e ++ x ≡ e' ++ y → (e ≡ e') × (v ≡ w)
+NoneBeginsAnother {A} spells = (depth : ℕ) (e e' x y : List ℕ) (v w : A) → IsSpelling spells depth e v
+    → IsSpelling spells depth e' w → e ++ x ≡ e' ++ y → (e ≡ e') × (v ≡ w)
 
 -- ---- what is kept unread
 
@@ -63,21 +66,25 @@ pub record KeepsName (depth : ℕ) (n : Attributes) : Type 0 where
 -- ---- the laws; a level is such that all that is written stands in the sixteen levels
 
 abbrev pub CountriesAreReadAgain : Type 0
-CountriesAreReadAgain = (class number depth : ℕ) (l : Label) → IsTag (constructed class number) → IsCountry l → depth + 1 ≤ 16 → IsReadAgain country_in depth (canonical_label class number l) l
+CountriesAreReadAgain = (class number depth : ℕ) (l : Label) → IsTag (constructed class number) → IsCountry l
+    → depth + 1 ≤ 16 → IsReadAgain country_in depth (canonical_label class number l) l
 
 abbrev pub LabelsAreReadAgain : Type 0
-LabelsAreReadAgain = (class number low high depth : ℕ) (l : Label) → IsTag (constructed class number) → IsLabel low high l → depth + 1 ≤ 16 → IsReadAgain (label_in low high) depth (canonical_label class number l) l
+LabelsAreReadAgain = (class number low high depth : ℕ) (l : Label) → IsTag (constructed class number)
+    → IsLabel low high l → depth + 1 ≤ 16 → IsReadAgain (label_in low high) depth (canonical_label class number l) l
 
 -- a label whose string has no tag around it
 abbrev pub LabelChoicesAreReadAgain : Type 0
-LabelChoicesAreReadAgain = (low high depth : ℕ) (l : Label) → IsLabel low high l → depth ≤ 16 → IsReadAgain (label_choice low high) depth (canonical_choice l) l
+LabelChoicesAreReadAgain = (low high depth : ℕ) (l : Label) → IsLabel low high l → depth ≤ 16
+    → IsReadAgain (label_choice low high) depth (canonical_choice l) l
 
 abbrev pub PersonalNamesAreReadAgain : Type 0
 PersonalNamesAreReadAgain = (tag : Tag) (depth : ℕ) (v : PersonFields) → IsTag tag → tag.constructed ≡ true
     → IsPerson v → depth + 1 ≤ 16 → IsReadAgain person_in depth (element tag (canonical_person v)) v
 
 abbrev pub UnitNamesAreReadAgain : Type 0
-UnitNamesAreReadAgain = (depth : ℕ) (us : List (List ℕ)) → Each (IsText Printable 1 32) us → 1 ≤ length us → length us ≤ 4 → depth + 1 ≤ 16 → IsReadAgain units_in depth (canonical_units us) us
+UnitNamesAreReadAgain = (depth : ℕ) (us : List (List ℕ)) → Each (IsText Printable 1 32) us → 1 ≤ length us
+    → length us ≤ 4 → depth + 1 ≤ 16 → IsReadAgain units_in depth (canonical_units us) us
 
 abbrev pub DomainDefinedAttributesAreReadAgain : Type 0
 DomainDefinedAttributesAreReadAgain = (depth : ℕ) (ps : List PairFields) → Each IsPair ps → 1 ≤ length ps
@@ -92,7 +99,8 @@ pub record IsExtended (depth : ℕ) (s : ExtensionParts) : Type 0 where
   pub few : extension_count s ≤ 256
 
 abbrev pub ExtensionAttributesAreReadAgain : Type 0
-ExtensionAttributesAreReadAgain = (depth : ℕ) (s : ExtensionParts) → IsExtended depth s → depth + 3 ≤ 16 → IsReadAgain extensions_in depth (canonical_extensions s) s
+ExtensionAttributesAreReadAgain = (depth : ℕ) (s : ExtensionParts) → IsExtended depth s → depth + 3 ≤ 16
+    → IsReadAgain extensions_in depth (canonical_extensions s) s
 
 -- the standard attributes alone
 abbrev pub standard_of : Attributes → Attributes
@@ -109,15 +117,18 @@ standard_of n = record nothing {
 }
 
 abbrev pub StandardAttributesAreReadAgain : Type 0
-StandardAttributesAreReadAgain = (depth : ℕ) (n : Attributes) → IsName n → depth + 2 ≤ 16 → IsReadAgain standard_in depth (canonical_standard n) (standard_of n)
+StandardAttributesAreReadAgain = (depth : ℕ) (n : Attributes) → IsName n → depth + 2 ≤ 16
+    → IsReadAgain standard_in depth (canonical_standard n) (standard_of n)
 
 -- a name under the tag of its place
 abbrev pub NamesAreReadAgain : Type 0
-NamesAreReadAgain = (tag : Tag) (depth : ℕ) (n : Attributes) → IsTag tag → tag.constructed ≡ true → IsName n → KeepsName depth n → depth + 4 ≤ 16 → IsReadAgain name_in depth (canonical_name tag n) n
+NamesAreReadAgain = (tag : Tag) (depth : ℕ) (n : Attributes) → IsTag tag → tag.constructed ≡ true → IsName n
+    → KeepsName depth n → depth + 4 ≤ 16 → IsReadAgain name_in depth (canonical_name tag n) n
 
 -- what a name keeps of an element where it was read, stands there in the level of its place
 abbrev pub ReadNamesAreKept : Type 0
-ReadNamesAreKept = (depth : ℕ) (c : Bool) (content : List ℕ) (n : Attributes) → SpellsName depth c content n → KeepsName depth n
+ReadNamesAreKept = (depth : ℕ) (c : Bool) (content : List ℕ) (n : Attributes) → SpellsName depth c content n
+    → KeepsName depth n
 
 -- and in each level above
 abbrev pub KeptNamesAreKeptAbove : Type 0
@@ -125,7 +136,9 @@ KeptNamesAreKeptAbove = (depth above : ℕ) (n : Attributes) → above ≤ depth
 
 -- so a name that was read is read again where it is written in the level where it was read, or above
 abbrev pub ReadNamesAreReadAgain : Type 0
-ReadNamesAreReadAgain = (tag : Tag) (depth above : ℕ) (c : Bool) (content : List ℕ) (n : Attributes) → IsTag tag → tag.constructed ≡ true → SpellsName depth c content n → above ≤ depth → above + 4 ≤ 16 → IsReadAgain name_in above (canonical_name tag n) n
+ReadNamesAreReadAgain = (tag : Tag) (depth above : ℕ) (c : Bool) (content : List ℕ) (n : Attributes) → IsTag tag
+    → tag.constructed ≡ true → SpellsName depth c content n → above ≤ depth → above + 4 ≤ 16
+    → IsReadAgain name_in above (canonical_name tag n) n
 
 abbrev pub NoCountryBeginsAnother : Type 0
 NoCountryBeginsAnother = NoneBeginsAnother (SpellsLabel IsCountry)

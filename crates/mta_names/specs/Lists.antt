@@ -23,7 +23,8 @@ use Rattle.mta_names.specs.Strings.{item_step, counted, AddsItem, Puts}
 abbrev pub list_in : {X : Type 0} → (Tag → Bool) → (Part → Result X Fault) → ℕ → ℕ → Part → Result (List X) Fault
 list_in is_item read low high p = components (item_step is_item read) [] p >>= counted p.at low high
 
-pub record SpellsList {X : Type 0} (is_item : Tag → Bool) (spells : Spells X) (low high depth : ℕ) (constructed : Bool) (content : List ℕ) (xs : List X) : Type 0 where
+pub record SpellsList {X : Type 0} (is_item : Tag → Bool) (spells : Spells X) (low high depth : ℕ) (constructed : Bool)
+    (content : List ℕ) (xs : List X) : Type 0 where
   pub is_constructed : constructed ≡ true
   pub spelled : SpellsComponents (AddsItem is_item spells) depth [] content xs
   pub at_least : low ≤ length xs
@@ -80,7 +81,8 @@ abbrev pub pair : List ℕ → List ℕ → PairFields
 pair kind value = record { kind = kind; value = value }
 
 unfoldable pub pair_in : Part → Result PairFields Fault
-pair_in p = components pair_step no_pair p >>= λ s. required s.kind p.at >>= λ kind. required s.value p.at >>= λ value. Ok (pair kind value)
+pair_in p = components pair_step no_pair p >>= λ s. required s.kind p.at >>= λ kind. required s.value p.at >>= λ value.
+    Ok (pair kind value)
 
 abbrev pub pairs_step : List PairFields → Part → Result (List PairFields) Fault
 pairs_step ps p = item_step is_sequence pair_in ps p
@@ -97,10 +99,12 @@ pub record MakesKind (depth : ℕ) (before : PairParts) (tag : Tag) (content : L
 pub record MakesValue (depth : ℕ) (before : PairParts) (tag : Tag) (content : List ℕ) (after : PairParts) : Type 0 where
   pub some_kind : is_some before.kind ≡ true
   pub no_value : before.value ≡ None
-  pub puts : Puts (SpellsText Printable 1 128 depth tag.constructed content) (λ t. record before { value = Some t }) after
+  pub puts : Puts (SpellsText Printable 1 128 depth tag.constructed content)
+      (λ t. record before { value = Some t }) after
 
 abbrev pub MakesPair : Makes PairParts
-MakesPair depth before tag content octets after = (is_printable tag ≡ true) × (MakesKind depth before tag content after ⊎ MakesValue depth before tag content after)
+MakesPair depth before tag content octets after = (is_printable tag ≡ true)
+    × (MakesKind depth before tag content after ⊎ MakesValue depth before tag content after)
 
 -- a SEQUENCE of a type and a value
 pub record SpellsPair (depth : ℕ) (tag : Tag) (content octets : List ℕ) (v : PairFields) : Type 0 where

@@ -84,12 +84,16 @@ name_in p = components name_step (name_parts 0 nothing) p >>= ended p.at
 -- ---- what spells a name
 
 abbrev pub MakesNamePart : NamePart → ℕ → Attributes → Tag → List ℕ → List ℕ → NameParts → Type 0
-MakesNamePart Standard depth n tag content octets after = Puts (SpellsStandard depth tag.constructed content) (name_parts 1) after
-MakesNamePart Pairs depth n tag content octets after = Puts (SpellsPairs depth tag.constructed content) (with_pairs n) after
-MakesNamePart Extensions depth n tag content octets after = Puts (SpellsExtensions depth tag.constructed content) (with_extensions n) after
+MakesNamePart Standard depth n tag content octets after =
+    Puts (SpellsStandard depth tag.constructed content) (name_parts 1) after
+MakesNamePart Pairs depth n tag content octets after =
+    Puts (SpellsPairs depth tag.constructed content) (with_pairs n) after
+MakesNamePart Extensions depth n tag content octets after =
+    Puts (SpellsExtensions depth tag.constructed content) (with_extensions n) after
 MakesNamePart Directory depth n tag content octets after = after ≡ with_directory n octets
 
-pub record MakesName (depth : ℕ) (before : NameParts) (tag : Tag) (content octets : List ℕ) (after : NameParts) : Type 0 where
+pub record MakesName (depth : ℕ) (before : NameParts) (tag : Tag) (content octets : List ℕ)
+    (after : NameParts) : Type 0 where
   pub part : NamePart
   pub is_tag_of : is_tag (name_class part) (name_number part) tag ≡ true
   pub needed : name_needed part ≤ before.last
@@ -112,7 +116,8 @@ abbrev pub kept : List ℕ → List ℕ
 kept octets = octets
 
 abbrev pub name_content : Attributes → List ℕ
-name_content n = canonical_standard n ++ listed canonical_pairs n.pairs ++ canonical_extensions (extensions_of n) ++ optional kept n.directory
+name_content n = canonical_standard n ++ listed canonical_pairs n.pairs ++ canonical_extensions (extensions_of n)
+    ++ optional kept n.directory
 
 -- under the tag that stands for a name at its place
 unfoldable pub canonical_name : Tag → Attributes → List ℕ

@@ -119,7 +119,8 @@ abbrev pub is_same_label : Option Label → Option Label → Bool
 is_same_label l m = is_same_option is_same_labels l m
 
 abbrev pub is_same_person : PersonFields → PersonFields → Bool
-is_same_person p q = is_same_text p.surname q.surname && is_same_value p.given q.given && is_same_value p.initials q.initials && is_same_value p.generation q.generation
+is_same_person p q = is_same_text p.surname q.surname && is_same_value p.given q.given && is_same_value p.initials
+    q.initials && is_same_value p.generation q.generation
 
 abbrev pub is_same_persons : Option PersonFields → Option PersonFields → Bool
 is_same_persons p q = is_same_option is_same_person p q
@@ -135,6 +136,8 @@ is_same_pairs p q = is_same_list is_same_pair p q
 
 unfoldable pub is_same_name : Attributes → Attributes → Bool
 is_same_name m n =
-    is_same_label m.country n.country && is_same_label m.admd n.admd && is_same_label m.prmd n.prmd && is_same_value m.organization n.organization && is_same_texts m.units n.units
-    && is_same_persons m.person n.person && is_same_value m.common n.common && is_same_value m.network n.network && is_same_value m.terminal n.terminal && is_same_value m.user n.user
+    is_same_label m.country n.country && is_same_label m.admd n.admd && is_same_label m.prmd n.prmd && is_same_value
+    m.organization n.organization && is_same_texts m.units n.units
+    && is_same_persons m.person n.person && is_same_value m.common n.common && is_same_value m.network n.network &&
+    is_same_value m.terminal n.terminal && is_same_value m.user n.user
     && is_same_pairs m.pairs n.pairs

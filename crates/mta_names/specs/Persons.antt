@@ -51,7 +51,8 @@ with_person_part Initials s t = record s { initials = Some t }
 with_person_part Generation s t = record s { generation = Some t }
 
 abbrev pub person_part_in : PersonPart → PersonParts → Part → Result PersonParts Fault
-person_part_in k s p = once (person_slot k s) p.at (text_in Printable 1 (person_size k) p) >>= λ t. Ok (with_person_part k s t)
+person_part_in k s p = once (person_slot k s) p.at (text_in Printable 1 (person_size k) p) >>= λ t. Ok
+    (with_person_part k s t)
 
 abbrev pub person_step_of : Option PersonPart → PersonParts → Part → Result PersonParts Fault
 person_step_of None s p = fault p.at BadTag
@@ -71,11 +72,13 @@ person_in p = components person_step no_person p >>= λ s. required s.surname p.
 
 -- ---- what spells a personal name
 
-pub record MakesPersonPart (depth : ℕ) (before : PersonParts) (tag : Tag) (content : List ℕ) (after : PersonParts) : Type 0 where
+pub record MakesPersonPart (depth : ℕ) (before : PersonParts) (tag : Tag) (content : List ℕ)
+    (after : PersonParts) : Type 0 where
   pub part : PersonPart
   pub is_tag_of : is_tag 2 (person_number part) tag ≡ true
   pub absent : person_slot part before ≡ None
-  pub puts : Puts (SpellsText Printable 1 (person_size part) depth tag.constructed content) (with_person_part part before) after
+  pub puts : Puts (SpellsText Printable 1 (person_size part) depth tag.constructed content)
+      (with_person_part part before) after
 
 abbrev pub MakesPerson : Makes PersonParts
 MakesPerson depth before tag content octets after = MakesPersonPart depth before tag content after
@@ -95,4 +98,6 @@ canonical_person_part k t = element (primitive 2 (person_number k)) t
 
 abbrev pub canonical_person : PersonFields → List ℕ
 canonical_person v =
-    canonical_person_part Surname v.surname ++ optional (canonical_person_part Given) v.given ++ optional (canonical_person_part Initials) v.initials ++ optional (canonical_person_part Generation) v.generation
+    canonical_person_part Surname v.surname ++ optional (canonical_person_part Given) v.given
+    ++ optional (canonical_person_part Initials) v.initials
+    ++ optional (canonical_person_part Generation) v.generation

@@ -119,17 +119,27 @@ standard_in p = components standard_step (standard_parts 0 nothing) p >>= λ s. 
 -- ---- what spells them
 
 abbrev pub MakesStandardPart : StandardPart → ℕ → Attributes → Tag → List ℕ → StandardParts → Type 0
-MakesStandardPart Country depth n tag content after = Puts (SpellsLabel IsCountry depth tag.constructed content) (with_country n) after
-MakesStandardPart Admd depth n tag content after = Puts (SpellsLabel (IsLabel 0 16) depth tag.constructed content) (with_admd n) after
-MakesStandardPart Network depth n tag content after = Puts (SpellsText Numeric 1 16 depth tag.constructed content) (with_network n) after
-MakesStandardPart Terminal depth n tag content after = Puts (SpellsText Printable 1 24 depth tag.constructed content) (with_terminal n) after
-MakesStandardPart Prmd depth n tag content after = Puts (SpellsLabel (IsLabel 1 16) depth tag.constructed content) (with_prmd n) after
-MakesStandardPart Organization depth n tag content after = Puts (SpellsText Printable 1 64 depth tag.constructed content) (with_organization n) after
-MakesStandardPart User depth n tag content after = Puts (SpellsText Numeric 1 32 depth tag.constructed content) (with_user n) after
-MakesStandardPart Name depth n tag content after = Puts (SpellsPerson depth tag.constructed content) (with_person n) after
-MakesStandardPart Units depth n tag content after = Puts (SpellsUnits depth tag.constructed content) (with_units n) after
+MakesStandardPart Country depth n tag content after =
+    Puts (SpellsLabel IsCountry depth tag.constructed content) (with_country n) after
+MakesStandardPart Admd depth n tag content after = Puts (SpellsLabel (IsLabel 0 16) depth tag.constructed content)
+    (with_admd n) after
+MakesStandardPart Network depth n tag content after = Puts (SpellsText Numeric 1 16 depth tag.constructed content)
+    (with_network n) after
+MakesStandardPart Terminal depth n tag content after = Puts (SpellsText Printable 1 24 depth tag.constructed content)
+    (with_terminal n) after
+MakesStandardPart Prmd depth n tag content after = Puts (SpellsLabel (IsLabel 1 16) depth tag.constructed content)
+    (with_prmd n) after
+MakesStandardPart Organization depth n tag content after =
+    Puts (SpellsText Printable 1 64 depth tag.constructed content) (with_organization n) after
+MakesStandardPart User depth n tag content after = Puts (SpellsText Numeric 1 32 depth tag.constructed content)
+    (with_user n) after
+MakesStandardPart Name depth n tag content after =
+    Puts (SpellsPerson depth tag.constructed content) (with_person n) after
+MakesStandardPart Units depth n tag content after =
+    Puts (SpellsUnits depth tag.constructed content) (with_units n) after
 
-pub record MakesStandard (depth : ℕ) (before : StandardParts) (tag : Tag) (content octets : List ℕ) (after : StandardParts) : Type 0 where
+pub record MakesStandard (depth : ℕ) (before : StandardParts) (tag : Tag) (content octets : List ℕ)
+    (after : StandardParts) : Type 0 where
   pub part : StandardPart
   pub is_tag_of : is_tag (standard_class part) (standard_number part) tag ≡ true
   pub behind : before.last < standard_place part
@@ -151,8 +161,10 @@ canonical_named v = element (constructed 2 5) (canonical_person v)
 
 abbrev pub standard_content : Attributes → List ℕ
 standard_content n =
-    optional (canonical_label 1 1) n.country ++ optional (canonical_label 1 2) n.admd ++ optional (canonical_text 0) n.network ++ optional (canonical_text 1) n.terminal
-    ++ optional (canonical_label 2 2) n.prmd ++ optional (canonical_text 3) n.organization ++ optional (canonical_text 4) n.user
+    optional (canonical_label 1 1) n.country ++ optional (canonical_label 1 2) n.admd
+    ++ optional (canonical_text 0) n.network ++ optional (canonical_text 1) n.terminal
+    ++ optional (canonical_label 2 2) n.prmd ++ optional (canonical_text 3) n.organization
+    ++ optional (canonical_text 4) n.user
     ++ optional canonical_named n.person ++ listed canonical_units n.units
 
 abbrev pub canonical_standard : Attributes → List ℕ

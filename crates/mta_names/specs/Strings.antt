@@ -36,7 +36,8 @@ abbrev pub counted : {X : Type 0} → ℕ → ℕ → ℕ → List X → Result 
 counted at low high xs = if between low high (length xs) then Ok xs else fault at BadSize
 
 -- what an item adds to a list
-pub record AddsItem {X : Type 0} (is_item : Tag → Bool) (spells : Spells X) (depth : ℕ) (before : List X) (tag : Tag) (content octets : List ℕ) (after : List X) : Type 0 where
+pub record AddsItem {X : Type 0} (is_item : Tag → Bool) (spells : Spells X) (depth : ℕ) (before : List X) (tag : Tag)
+    (content octets : List ℕ) (after : List X) : Type 0 where
   pub is_item_tag : is_item tag ≡ true
   pub item : X
   pub spelled : spells depth tag content octets item

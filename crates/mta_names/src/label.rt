@@ -45,7 +45,8 @@ pub fn label_class_of(numeric: bool) -> TextClass
 
 #[tactic(auto, unfolding(crate::specs::Strings::string_in))]
 fn read_country_text(alloc: Global, part: &View, numeric: bool) -> Result<Text, ReadFault>
-    ensures { Reads result (string_in (list_all (country_character numeric)) (country_size numeric) (country_size numeric) (view part.now)) }
+    ensures { Reads result (string_in (list_all (country_character numeric)) (country_size numeric)
+        (country_size numeric) (view part.now)) }
 {
     let octets = part.joined(alloc)?;
     if !are_country_characters(numeric, octets.as_slice()) {

@@ -49,7 +49,8 @@ impl OrName {
 
         // What is answered is spelled by the content, and what the content spells is answered.
         ensures found { IfOk result (SpellsName whole.now.depth whole.now.tag.constructed whole.now.content.now) }
-        ensures only { (n : Attributes) → SpellsName whole.now.depth whole.now.tag.constructed whole.now.content.now n → IsReadAs result n }
+        ensures only { (n : Attributes) → SpellsName whole.now.depth whole.now.tag.constructed whole.now.content.now n
+            → IsReadAs result n }
     {
         match read_attributes(alloc, whole) {
             Ok(attributes) => Ok(OrName { attributes }),

@@ -27,7 +27,8 @@ fn unspaced_of(text: &[u8]) -> &[u8]
 
 /// The first character of a normal text, and the text that the others are of.
 fn next_of(text: &[u8]) -> Option<(u8, &[u8])>
-    ensures exact { MatchOption result (squeezed false text.now ≡ []) (λ x. squeezed false text.now ≡ x.0 ∷ squeezed false x.1.now) }
+    ensures exact { MatchOption result (squeezed false text.now ≡ [])
+        (λ x. squeezed false text.now ≡ x.0 ∷ squeezed false x.1.now) }
     ensures shorter { MatchOption result (Unit {0}) (λ x. length x.1.now < length text.now) }
 {
     match text {

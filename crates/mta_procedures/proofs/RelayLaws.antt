@@ -1,5 +1,6 @@
 -- What is relayed has a copy that can be sent.
-use Rattle.std.proofs.Common.{◌≡◌, ℕ, ◌+◌, ◌<◌, ◌≤◌, Bool, true, false, List, [], ◌∷◌, ◌++◌, length, Option, Some, refl, sym, ◌∙◌, ap, subst, ◌&&◌, ◌||◌, cond, arith}
+use Rattle.std.proofs.Common.{◌≡◌, ℕ, ◌+◌, ◌<◌, ◌≤◌, Bool, true, false, List, [], ◌∷◌, ◌++◌, length, Option, Some, refl}
+use Rattle.std.proofs.Common.{sym, ◌∙◌, ap, subst, ◌&&◌, ◌||◌, cond, arith}
 use Rattle.std.specs.Prelude.{unwrap_or, nat_le}
 use Rattle.std.specs.List.{find, list_all}
 use Rattle.std.proofs.lemmas.Bool.{and_parts, both_ways, or_parts, ltb-false, leb-false}
@@ -16,20 +17,28 @@ use Rattle.mta_tables.specs.declared.hop.Hop.TheVariants as Hops
 use Rattle.mta_tables.specs.Hops.{best_hop}
 use Rattle.mta_tables.specs.Tables.{TablesValue}
 use Rattle.mta_procedures.specs.declared.case.Case.{Case}
-use Rattle.mta_procedures.specs.declared.case.Case.TheVariants.{Looped, CriticalExtension, NoRoute, Expired, Deferred, ListInHistory, ListProhibited, PosterNotPermitted, FullHistory, LongMembersCopy, ToList, ToMailbox, LongCopy, ToPeer}
+use Rattle.mta_procedures.specs.declared.case.Case.TheVariants.{Looped, CriticalExtension, NoRoute, Expired, Deferred}
+use Rattle.mta_procedures.specs.declared.case.Case.TheVariants.{ListInHistory, ListProhibited, PosterNotPermitted}
+use Rattle.mta_procedures.specs.declared.case.Case.TheVariants.{FullHistory, LongMembersCopy, ToList, ToMailbox}
+use Rattle.mta_procedures.specs.declared.case.Case.TheVariants.{LongCopy, ToPeer}
 use Rattle.mta_procedures.specs.declared.verdict.Verdict.TheVariants.{Relay}
-use Rattle.mta_procedures.specs.Copies.{outgoing_envelope, outgoing_fields, outgoing_message, outgoing_probe, outgoing_report, is_long, longest_copy}
+use Rattle.mta_procedures.specs.Copies.{outgoing_envelope, outgoing_fields, outgoing_message, outgoing_probe}
+use Rattle.mta_procedures.specs.Copies.{outgoing_report, is_long, longest_copy}
 use Rattle.mta_procedures.specs.Facts.{Facts, facts_of_message, facts_of_probe, facts_of_report}
-use Rattle.mta_procedures.specs.Relays.{IsRelayed, RelayedMessagesHaveCopies, RelayedProbesHaveCopies, RelayedReportsHaveCopies, ReportCopiesAreTheSame}
+use Rattle.mta_procedures.specs.Relays.{IsRelayed, RelayedMessagesHaveCopies, RelayedProbesHaveCopies}
+use Rattle.mta_procedures.specs.Relays.{RelayedReportsHaveCopies, ReportCopiesAreTheSame}
 use Rattle.mta_procedures.specs.Situations.{Situation}
 use Rattle.mta_procedures.specs.Traces.{comes_back, has_looped, longest_trace}
-use Rattle.mta_procedures.specs.Verdicts.{applies, cases, first_case, leads_to_peer, place_of, message_column, probe_column, report_column, verdict_of_message, verdict_of_probe, verdict_of_report}
+use Rattle.mta_procedures.specs.Verdicts.{applies, cases, first_case, leads_to_peer, place_of, message_column}
+use Rattle.mta_procedures.specs.Verdicts.{probe_column, report_column, verdict_of_message, verdict_of_probe}
+use Rattle.mta_procedures.specs.Verdicts.{verdict_of_report}
 use Rattle.mta_procedures.proofs.CaseLaws.{first_applies}
 use Rattle.mta_procedures.proofs.LongLaws.{messages_long, probes_long}
 
 -- ---- cases that were passed
 
-chosen : (is : Case → Bool) (b : Bool) (x d : Case) (o : Option Case) → is x ≡ true → is (unwrap_or o d) ≡ true → is (unwrap_or (cond b (Some x) o) d) ≡ true
+chosen : (is : Case → Bool) (b : Bool) (x d : Case) (o : Option Case) → is x ≡ true → is (unwrap_or o d) ≡ true
+    → is (unwrap_or (cond b (Some x) o) d) ≡ true
 chosen is true x d o e h = e
 chosen is false x d o e h = h
 
@@ -38,21 +47,25 @@ taken true c d o e = refl
 taken false c d o e = absurd cc
 
 -- where a case applies, the first that applies is this or one before it
-found_before : (p is : Case → Bool) (xs ys : List Case) (c d : Case) → p c ≡ true → list_all is xs ≡ true → is c ≡ true → is (unwrap_or (find p (xs ++ c ∷ ys)) d) ≡ true
+found_before : (p is : Case → Bool) (xs ys : List Case) (c d : Case) → p c ≡ true → list_all is xs ≡ true → is c ≡ true
+    → is (unwrap_or (find p (xs ++ c ∷ ys)) d) ≡ true
 found_before p is [] ys c d e all one = ap is (taken (p c) c d (find p ys) e) ∙ one
 found_before p is (x ∷ xs) ys c d e all one =
     let parts = and_parts (is x) (list_all is xs) all in
     chosen is (p x) x d (find p (xs ++ c ∷ ys)) parts.0 (found_before p is xs ys c d e parts.1 one)
 
 -- a case does not apply before which the first one does not stand
-pub not_passed : (f : Facts) (is : Case → Bool) (xs ys : List Case) (c : Case) → cases ≡ xs ++ c ∷ ys → list_all is xs ≡ true → is c ≡ true → is (first_case f) ≡ false → applies f c ≡ false
+pub not_passed : (f : Facts) (is : Case → Bool) (xs ys : List Case) (c : Case) → cases ≡ xs ++ c ∷ ys
+    → list_all is xs ≡ true → is c ≡ true → is (first_case f) ≡ false → applies f c ≡ false
 unfolding first_case
 not_passed f is xs ys c split all one behind = at (applies f c) refl
   where
     at : (b : Bool) → applies f c ≡ b → applies f c ≡ false
     at false e = e
     at true e =
-        let found : is (unwrap_or (find (applies f) cases) ToPeer) ≡ true = ap (λ cs. is (unwrap_or (find (applies f) cs) ToPeer)) split ∙ found_before (applies f) is xs ys c ToPeer e all one in
+        let found : is (unwrap_or (find (applies f) cases) ToPeer) ≡ true =
+        ap (λ cs. is (unwrap_or (find (applies f) cs) ToPeer)) split
+        ∙ found_before (applies f) is xs ys c ToPeer e all one in
         absurd (both_ways (is (unwrap_or (find (applies f) cases) ToPeer)) behind found)
 
 abbrev pub is_looped : Case → Bool
@@ -65,19 +78,23 @@ is_other ToPeer = false
 is_other _ = true
 
 abbrev before_long_copy : List Case
-before_long_copy = Looped ∷ CriticalExtension ∷ NoRoute ∷ Expired ∷ Deferred ∷ ListInHistory ∷ ListProhibited ∷ PosterNotPermitted ∷ FullHistory ∷ LongMembersCopy ∷ ToList ∷ ToMailbox ∷ []
+before_long_copy = Looped ∷ CriticalExtension ∷ NoRoute ∷ Expired ∷ Deferred ∷ ListInHistory ∷ ListProhibited ∷
+    PosterNotPermitted ∷ FullHistory ∷ LongMembersCopy ∷ ToList ∷ ToMailbox ∷ []
 
 -- ---- what the facts say of what is relayed
 
 pub not_looped : (f : Facts) (c : Case) → first_case f ≡ c → is_looped c ≡ false → f.looped ≡ false
-not_looped f c e other = not_passed f is_looped [] (CriticalExtension ∷ NoRoute ∷ Expired ∷ Deferred ∷ ListInHistory ∷ ListProhibited ∷ PosterNotPermitted ∷ FullHistory ∷ LongMembersCopy ∷ ToList ∷ ToMailbox ∷ LongCopy ∷ ToPeer ∷ []) Looped refl refl refl (ap is_looped e ∙ other)
+not_looped f c e other = not_passed f is_looped [] (CriticalExtension ∷ NoRoute ∷ Expired ∷ Deferred ∷ ListInHistory ∷
+    ListProhibited ∷ PosterNotPermitted ∷ FullHistory ∷ LongMembersCopy ∷ ToList ∷ ToMailbox ∷ LongCopy ∷ ToPeer ∷ [])
+    Looped refl refl refl (ap is_looped e ∙ other)
 
 leads_there : (f : Facts) → first_case f ≡ ToPeer → leads_to_peer f.hop ≡ true
 leads_there f e = let i = first_applies f in sym (ap (applies f) e) ∙ i.applies_so
 
 is_short : (f : Facts) → first_case f ≡ ToPeer → f.long_copy ≡ false
 is_short f e =
-    let none : applies f LongCopy ≡ false = not_passed f is_other before_long_copy (ToPeer ∷ []) LongCopy refl refl refl (ap is_other e) in
+    let none : applies f LongCopy ≡ false = not_passed f is_other before_long_copy (ToPeer ∷ []) LongCopy refl refl refl
+    (ap is_other e) in
     sym (ap (λ b. b && f.long_copy) (leads_there f e)) ∙ none
 
 peer_is : (hop : Hop) → leads_to_peer hop ≡ true → hop ≡ Hops.Peer (place_of hop)
@@ -85,22 +102,26 @@ peer_is (Hops.Peer place) e = refl
 peer_is any0 e = absurd cc
 
 pub short_trace : (s : Situation) (trace : List TraceFields) → has_looped s trace ≡ false → length trace < longest_trace
-short_trace s trace e = leb-false longest_trace (length trace) (or_parts (comes_back s.tables.domain trace) (nat_le longest_trace (length trace)) e).1
+short_trace s trace e = leb-false longest_trace (length trace)
+    (or_parts (comes_back s.tables.domain trace) (nat_le longest_trace (length trace)) e).1
 
 pub short_copy : (n : ℕ) → is_long n ≡ false → n ≤ longest_copy
 short_copy n e = ltb-false longest_copy n e
 
 -- ---- which case relays
 
-message_relayed : (hop : Hop) (deferral place : ℕ) (c : Case) → message_column hop deferral c ≡ Relay place → (c ≡ ToPeer) × (place_of hop ≡ place)
+message_relayed : (hop : Hop) (deferral place : ℕ) (c : Case) → message_column hop deferral c ≡ Relay place
+    → (c ≡ ToPeer) × (place_of hop ≡ place)
 message_relayed hop deferral place ToPeer e = (refl, cc)
 message_relayed hop deferral place any3 e = absurd cc
 
-probe_relayed : (hop : Hop) (place : ℕ) (c : Case) → probe_column hop c ≡ Relay place → (c ≡ ToPeer) × (place_of hop ≡ place)
+probe_relayed : (hop : Hop) (place : ℕ) (c : Case) → probe_column hop c ≡ Relay place → (c ≡ ToPeer)
+    × (place_of hop ≡ place)
 probe_relayed hop place ToPeer e = (refl, cc)
 probe_relayed hop place any2 e = absurd cc
 
-report_relayed : (hop : Hop) (back : Bool) (place : ℕ) (c : Case) → report_column hop back c ≡ Relay place → (c ≡ ToPeer) × (place_of hop ≡ place)
+report_relayed : (hop : Hop) (back : Bool) (place : ℕ) (c : Case) → report_column hop back c ≡ Relay place
+    → (c ≡ ToPeer) × (place_of hop ≡ place)
 report_relayed hop true place ToList e = absurd cc
 report_relayed hop false place ToList e = absurd cc
 report_relayed hop back place ToPeer e = (refl, cc)
@@ -108,7 +129,8 @@ report_relayed hop back place any3 e = absurd cc
 
 -- ---- copies
 
-goes : (f : Facts) (c : Case) (place : ℕ) → first_case f ≡ c → (c ≡ ToPeer) × (place_of f.hop ≡ place) → f.hop ≡ Hops.Peer place
+goes : (f : Facts) (c : Case) (place : ℕ) → first_case f ≡ c → (c ≡ ToPeer) × (place_of f.hop ≡ place)
+    → f.hop ≡ Hops.Peer place
 goes f c place e h = peer_is f.hop (leads_there f (e ∙ h.0)) ∙ ap (λ p. Hops.Peer p) h.1
 
 some_octets : (n : ℕ) (content : List ℕ) → 1 ≤ length (element (constructed 2 n) content)
@@ -146,7 +168,8 @@ relayed_probes format s t e r place chosen tables arrival h =
 pub report_copies_same : ReportCopiesAreTheSame
 unfolding outgoing_report
 report_copies_same s t p tables arrival =
-    let copy : TablesValue → ℕ → List ℕ = λ a b. canonical_report (outgoing_fields (record { tables = a; arrival = b; moment = t.moment }) p) in
+    let copy : TablesValue → ℕ → List ℕ =
+    λ a b. canonical_report (outgoing_fields (record { tables = a; arrival = b; moment = t.moment }) p) in
     ap (λ a. copy a s.arrival) tables ∙ ap (copy t.tables) arrival
 
 pub relayed_reports : RelayedReportsHaveCopies

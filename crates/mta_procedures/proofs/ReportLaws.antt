@@ -1,5 +1,6 @@
 -- A report that is made is one, with all parts in their ranges.
-use Rattle.std.proofs.Common.{◌≡◌, ℕ, zero, suc, ◌+◌, ◌/◌, ◌%◌, ◌<◌, Bool, true, false, List, [], ◌∷◌, length, Option, Some, None, refl, ◌∙◌, ap, arith, length-append, map}
+use Rattle.std.proofs.Common.{◌≡◌, ℕ, zero, suc, ◌+◌, ◌/◌, ◌%◌, ◌<◌, Bool, true, false, List, [], ◌∷◌, length, Option}
+use Rattle.std.proofs.Common.{Some, None, refl, ◌∙◌, ap, arith, length-append, map}
 use Rattle.std.specs.Prelude.{IfSome, reverse, nat_lt, if◌then◌else◌, ◌||◌}
 use mathlib.Core.List.{reverse_aux}
 use Rattle.std.specs.List.{list_all}
@@ -33,17 +34,20 @@ use Rattle.mta_procedures.proofs.SetLaws.{set_fits}
 
 length-digits : (k n : ℕ) → length (digits k n) ≡ k
 length-digits zero n = refl
-length-digits (suc k) n = length-append (digits k (n / 10)) ((48 + n % 10) ∷ []) ∙ ap (λ x. x + 1) (length-digits k (n / 10)) ∙ (let e : k + 1 ≡ suc k = omega arith in e)
+length-digits (suc k) n = length-append (digits k (n / 10)) ((48 + n % 10) ∷ [])
+    ∙ ap (λ x. x + 1) (length-digits k (n / 10)) ∙ (let e : k + 1 ≡ suc k = omega arith in e)
 
 digits_are_ia5 : (k n : ℕ) → list_all (in_class Ia5) (digits k n) ≡ true
 digits_are_ia5 zero n = refl
 digits_are_ia5 (suc k) n =
     let small : 48 + n % 10 < 128 = omega arith in
     list_all-append (in_class Ia5) (digits k (n / 10)) ((48 + n % 10) ∷ [])
-    ∙ and_from (list_all (in_class Ia5) (digits k (n / 10))) (list_all (in_class Ia5) ((48 + n % 10) ∷ [])) (digits_are_ia5 k (n / 10)) (and_from (nat_lt (48 + n % 10) 128) true (lt-ltb (48 + n % 10) 128 small) refl)
+    ∙ and_from (list_all (in_class Ia5) (digits k (n / 10))) (list_all (in_class Ia5) ((48 + n % 10) ∷ []))
+    (digits_are_ia5 k (n / 10)) (and_from (nat_lt (48 + n % 10) 128) true (lt-ltb (48 + n % 10) 128 small) refl)
 
 local_fits : (number : ℕ) → IsText Ia5 1 32 (82 ∷ digits 10 number)
-local_fits number = let e = length-digits 10 number in record { characters = digits_are_ia5 10 number; at_least = omega (arith, e); at_most = omega (arith, e) }
+local_fits number = let e = length-digits 10 number in
+    record { characters = digits_are_ia5 10 number; at_least = omega (arith, e); at_most = omega (arith, e) }
 
 -- ---- destinations
 
@@ -58,17 +62,21 @@ names_of : (xs : List ExpansionFields) → Each IsWholeExpansion xs → Each IsN
 names_of [] h = tt
 names_of (x ∷ xs) h = (h.0.name, names_of xs h.1)
 
-kept_or_passed : (back : Bool) (further : Option Attributes) → IfSome further IsName → IfSome (if back then further else None) IsName
+kept_or_passed : (back : Bool) (further : Option Attributes) → IfSome further IsName
+    → IfSome (if back then further else None) IsName
 kept_or_passed true further h = h
 kept_or_passed false further h = tt
 
-walked_name : (n : Attributes) (l : Option MailList) (further : Option Attributes) → IsName n → IfSome further IsName → IfSome (walked_to n l further) IsName
+walked_name : (n : Attributes) (l : Option MailList) (further : Option Attributes) → IsName n → IfSome further IsName
+    → IfSome (walked_to n l further) IsName
 walked_name n None further name h = name
 walked_name n (Some l) further name h = kept_or_passed l.back further h
 
-walk_name : (t : TablesValue) (originator : Attributes) (ns : List Attributes) → IsName originator → Each IsName ns → IfSome (walk t originator ns) IsName
+walk_name : (t : TablesValue) (originator : Attributes) (ns : List Attributes) → IsName originator → Each IsName ns
+    → IfSome (walk t originator ns) IsName
 walk_name t originator [] o h = o
-walk_name t originator (n ∷ ns) o h = walked_name n (list_named t n) (walk t originator ns) h.0 (walk_name t originator ns o h.1)
+walk_name t originator (n ∷ ns) o h =
+    walked_name n (list_named t n) (walk t originator ns) h.0 (walk_name t originator ns o h.1)
 
 -- ---- indicators
 
@@ -82,7 +90,8 @@ reported_fit b h = at (bit b 1 || bit b 2) h
 
 -- ---- reports
 
-pub made_report : (t : TablesValue) (number arrival : ℕ) (e : EnvelopeFields) (r : RecipientFields) (outcome : Outcome) (destination : Attributes) → IsReportable t number arrival e r outcome → IsName destination
+pub made_report : (t : TablesValue) (number arrival : ℕ) (e : EnvelopeFields) (r : RecipientFields) (outcome : Outcome)
+    (destination : Attributes) → IsReportable t number arrival e r outcome → IsName destination
     → IsWholeReport (report_to t number arrival e r outcome destination)
 unfolding report_id
 made_report t number arrival e r outcome destination h name = record {
@@ -120,16 +129,22 @@ made_report t number arrival e r outcome destination h name = record {
   };
 }
 
-mapped : (walked : Option Attributes) (make : Attributes → ReportFields) → IfSome walked IsName → ((d : Attributes) → IsName d → IsWholeReport (make d)) → IfSome (option_map make walked) IsWholeReport
+mapped : (walked : Option Attributes) (make : Attributes → ReportFields) → IfSome walked IsName
+    → ((d : Attributes) → IsName d → IsWholeReport (make d)) → IfSome (option_map make walked) IsWholeReport
 mapped None make h f = tt
 mapped (Some d) make h f = f d h
 
-destination_is_name : (t : TablesValue) (e : EnvelopeFields) → IsName e.originator → Each IsWholeExpansion e.history → IfSome (report_walk t e) IsName
+destination_is_name : (t : TablesValue) (e : EnvelopeFields) → IsName e.originator → Each IsWholeExpansion e.history
+    → IfSome (report_walk t e) IsName
 unfolding report_walk
-destination_is_name t e o h = walk_name t e.originator (lists_behind e) o (each_reversed IsName (map name_of e.history) (names_of e.history h))
+destination_is_name t e o h = walk_name t e.originator (lists_behind e) o
+    (each_reversed IsName (map name_of e.history) (names_of e.history h))
 
-pub made_report_is_whole : (t : TablesValue) (number arrival : ℕ) (e : EnvelopeFields) (r : RecipientFields) (outcome : Outcome) → IsReportable t number arrival e r outcome
+pub made_report_is_whole : (t : TablesValue) (number arrival : ℕ) (e : EnvelopeFields) (r : RecipientFields)
+    (outcome : Outcome) → IsReportable t number arrival e r outcome
     → IfSome (report_of t number arrival e r outcome) IsWholeReport
 unfolding report_of
 made_report_is_whole t number arrival e r outcome h =
-    mapped (report_walk t e) (report_to t number arrival e r outcome) (destination_is_name t e h.envelope.originator h.history) (λ d name. made_report t number arrival e r outcome d h name)
+    mapped (report_walk t e) (report_to t number arrival e r outcome)
+    (destination_is_name t e h.envelope.originator h.history)
+    (λ d name. made_report t number arrival e r outcome d h name)

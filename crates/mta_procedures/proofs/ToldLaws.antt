@@ -1,5 +1,6 @@
 -- The names of the lists of tables keep nothing unread, since they are read from text.
-use Rattle.std.proofs.Common.{◌≡◌, ℕ, zero, suc, ◌+◌, Bool, true, false, List, [], ◌∷◌, ◌++◌, Option, Some, None, Ok, sym, subst}
+use Rattle.std.proofs.Common.{◌≡◌, ℕ, zero, suc, ◌+◌, Bool, true, false, List, [], ◌∷◌, ◌++◌, Option, Some, None, Ok}
+use Rattle.std.proofs.Common.{sym, subst}
 use Rattle.std.specs.Prelude.{All, map, slice_get, IfSome}
 use Rattle.std.specs.List.{flat_map}
 use Rattle.std.specs.Str.{bytes_eq}
@@ -12,7 +13,9 @@ use Rattle.mta_name_text.proofs.FormsTold.{forms_told}
 use Rattle.mta_tables.specs.declared.entry.MailList.{MailList}
 use Rattle.mta_tables.specs.declared.line.Line.{Line}
 use Rattle.mta_tables.specs.declared.line.Line.TheVariants as Said
-use Rattle.mta_tables.specs.Grammar.{Words, SilentLine, DomainLine, NameLine, PeerLine, MailboxLine, ListLine, FromLine, MemberLine, HereLine, RouteLineTo, HoldLine, Mean, Row, IsRow, said_by, lists_of, members_for, member_in, one_if}
+use Rattle.mta_tables.specs.Grammar.{Words, SilentLine, DomainLine, NameLine, PeerLine, MailboxLine, ListLine, FromLine}
+use Rattle.mta_tables.specs.Grammar.{MemberLine, HereLine, RouteLineTo, HoldLine, Mean, Row, IsRow, said_by, lists_of}
+use Rattle.mta_tables.specs.Grammar.{members_for, member_in, one_if}
 use Rattle.mta_tables.specs.Tables.{TablesValue, tables_of}
 use Rattle.mta_tables.proofs.Grammars.{tables_found}
 use Rattle.mta_procedures.specs.Readings.{IsWritableList, ListsOfTablesAreWritable}
@@ -37,7 +40,10 @@ told_line any0 w h = tt
 
 told_lines : (rows : List Row) → All IsRow rows → Each IsToldLine (said_by rows)
 told_lines [] h = tt
-told_lines (r ∷ rows) h = (told_line r.says r.words (All-head IsRow r rows h).meaning, told_lines rows (All-tail IsRow r rows h))
+told_lines (r ∷ rows) h = (
+  told_line r.says r.words (All-head IsRow r rows h).meaning,
+  told_lines rows (All-tail IsRow r rows h),
+)
 
 -- ---- lists
 
@@ -45,13 +51,15 @@ record IsToldList (l : MailList) : Type 0 where
   name : IsTold l.name
   members : Each IsTold l.members
 
-member_if : (b : Bool) (n : Attributes) (ms : List Attributes) → IsTold n → Each IsTold ms → Each IsTold (one_if b n ++ ms)
+member_if : (b : Bool) (n : Attributes) (ms : List Attributes) → IsTold n → Each IsTold ms
+    → Each IsTold (one_if b n ++ ms)
 member_if true n ms h k = (h, k)
 member_if false n ms h k = k
 
 told_members : (word : List ℕ) (said : List Line) → Each IsToldLine said → Each IsTold (members_for word said)
 told_members word [] h = tt
-told_members word (Said.Member m ∷ said) h = member_if (bytes_eq word m.word) m.name (members_for word said) h.0 (told_members word said h.1)
+told_members word (Said.Member m ∷ said) h = member_if (bytes_eq word m.word) m.name (members_for word said) h.0
+    (told_members word said h.1)
 told_members word (Said.Nothing ∷ said) h = told_members word said h.1
 told_members word (Said.Domain d ∷ said) h = told_members word said h.1
 told_members word (Said.Name n ∷ said) h = told_members word said h.1
@@ -107,5 +115,6 @@ list_at (k ∷ ks) (suc i) l h e = list_at ks i l h.1 e
 pub lists_writable : ListsOfTablesAreWritable
 lists_writable text t place l read at =
     let found = tables_found text t read in
-    let told = subst (Each IsToldList) (sym found.said.lists) (told_lists (said_by found.rows) (told_lines found.rows found.are_rows)) in
+    let told = subst (Each IsToldList) (sym found.said.lists)
+    (told_lists (said_by found.rows) (told_lines found.rows found.are_rows)) in
     writable l (list_at t.lists place l told at)

@@ -41,11 +41,13 @@ pub record KeepsReport (depth : ℕ) (v : ReportFields) : Type 0 where
 
 -- the law; the level is such that all that is written stands in the sixteen levels
 abbrev pub ReportsAreReadAgain : Type 0
-ReportsAreReadAgain = (depth : ℕ) (v : ReportFields) → IsWholeReport v → KeepsReport depth v → depth + 8 ≤ 16 → IsReadAgain report_in depth (canonical_report v) v
+ReportsAreReadAgain = (depth : ℕ) (v : ReportFields) → IsWholeReport v → KeepsReport depth v → depth + 8 ≤ 16
+    → IsReadAgain report_in depth (canonical_report v) v
 
 -- and so are the octets of a whole APDU, whatever stands behind them
 abbrev pub WholeReportsAreReadAgain : Type 0
-WholeReportsAreReadAgain = (v : ReportFields) (more : List ℕ) (at : ℕ) → IsWholeReport v → KeepsReport 1 v → length (canonical_report v) < 2 ^ 64
+WholeReportsAreReadAgain = (v : ReportFields) (more : List ℕ) (at : ℕ) → IsWholeReport v → KeepsReport 1 v
+    → length (canonical_report v) < 2 ^ 64
     → (first at (canonical_report v ++ more) >>= with_rest report_in) ≡ beside v more
 
 -- a report that was read keeps what it keeps in the level of its place, and is one; the value of an extension that was

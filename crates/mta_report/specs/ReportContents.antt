@@ -115,7 +115,17 @@ unfoldable pub content_step : ContentParts → Part → Result ContentParts Faul
 content_step s p = content_step_of (content_part_of p.tag) s p
 
 abbrev pub no_content : ContentParts
-no_content = record { subject = None; eits = None; content_kind = None; subject_trace = None; content_id = None; recipients = None; returned = None; additional = None; extensions = None }
+no_content = record {
+  subject = None;
+  eits = None;
+  content_kind = None;
+  subject_trace = None;
+  content_id = None;
+  recipients = None;
+  returned = None;
+  additional = None;
+  extensions = None;
+}
 
 abbrev pub report_content : MtsIdFields → List ReportedFields → ContentParts → ContentFields
 report_content subject recipients s = record {
@@ -136,7 +146,8 @@ content_complete s = is_some s.subject && is_some s.recipients
 
 -- the required components are there
 abbrev pub content_from : ContentParts → ℕ → Result ContentFields Fault
-content_from s at = required s.subject at >>= λ subject. required s.recipients at >>= λ recipients. Ok (report_content subject recipients s)
+content_from s at = required s.subject at >>= λ subject. required s.recipients at >>= λ recipients. Ok
+    (report_content subject recipients s)
 
 unfoldable pub content_in : Part → Result ContentFields Fault
 content_in p = components content_step no_content p >>= λ s. content_from s p.at
@@ -146,15 +157,20 @@ content_in p = components content_step no_content p >>= λ s. content_from s p.a
 abbrev pub MakesContentPart : ContentPart → ℕ → ContentParts → Tag → List ℕ → List ℕ → ContentParts → Type 0
 MakesContentPart Subject depth s tag content octets after = Puts (SpellsMtsId depth tag content) (with_subject s) after
 MakesContentPart Eits depth s tag content octets after = Puts (λ x. x ≡ octets) (with_eits s) after
-MakesContentPart ContentType depth s tag content octets after = Puts (SpellsContentKind depth tag content octets) (with_content_kind s) after
+MakesContentPart ContentType depth s tag content octets after =
+    Puts (SpellsContentKind depth tag content octets) (with_content_kind s) after
 MakesContentPart SubjectTrace depth s tag content octets after = Puts (λ x. x ≡ octets) (with_subject_trace s) after
-MakesContentPart ContentId depth s tag content octets after = Puts (SpellsContentId depth tag.constructed content) (with_content_id s) after
-MakesContentPart Recipients depth s tag content octets after = Puts (SpellsReportedList depth tag.constructed content) (with_recipients s) after
+MakesContentPart ContentId depth s tag content octets after =
+    Puts (SpellsContentId depth tag.constructed content) (with_content_id s) after
+MakesContentPart Recipients depth s tag content octets after =
+    Puts (SpellsReportedList depth tag.constructed content) (with_recipients s) after
 MakesContentPart Returned depth s tag content octets after = Puts (λ x. x ≡ octets) (with_returned s) after
 MakesContentPart Additional depth s tag content octets after = Puts (λ x. x ≡ octets) (with_additional s) after
-MakesContentPart Extensions depth s tag content octets after = Puts (SpellsExtList depth tag.constructed content) (with_extensions s) after
+MakesContentPart Extensions depth s tag content octets after =
+    Puts (SpellsExtList depth tag.constructed content) (with_extensions s) after
 
-pub record MakesContent (depth : ℕ) (before : ContentParts) (tag : Tag) (content octets : List ℕ) (after : ContentParts) : Type 0 where
+pub record MakesContent (depth : ℕ) (before : ContentParts) (tag : Tag) (content octets : List ℕ)
+    (after : ContentParts) : Type 0 where
   pub part : ContentPart
   pub is_tag_of : is_content_tag part tag ≡ true
   pub absent : content_held part before ≡ false

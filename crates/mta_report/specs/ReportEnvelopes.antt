@@ -77,7 +77,8 @@ abbrev pub no_envelope : EnvelopeParts
 no_envelope = record { destination = None; id = None; trace = None; extensions = None }
 
 abbrev pub report_envelope : Attributes → MtsIdFields → List TraceFields → EnvelopeParts → EnvelopeFields
-report_envelope destination id trace s = record { destination = destination; id = id; trace = trace; extensions = unwrap_or s.extensions [] }
+report_envelope destination id trace s =
+    record { destination = destination; id = id; trace = trace; extensions = unwrap_or s.extensions [] }
 
 -- whether the required components are there
 abbrev pub envelope_complete : EnvelopeParts → Bool
@@ -85,7 +86,8 @@ envelope_complete s = is_some s.destination && is_some s.id && is_some s.trace
 
 -- the required components are there
 abbrev pub envelope_from : EnvelopeParts → ℕ → Result EnvelopeFields Fault
-envelope_from s at = required s.destination at >>= λ destination. required s.id at >>= λ id. required s.trace at >>= λ trace. Ok (report_envelope destination id trace s)
+envelope_from s at = required s.destination at >>= λ destination. required s.id at >>= λ id. required s.trace at >>=
+    λ trace. Ok (report_envelope destination id trace s)
 
 unfoldable pub envelope_in : Part → Result EnvelopeFields Fault
 envelope_in p = components envelope_step no_envelope p >>= λ s. envelope_from s p.at
@@ -93,12 +95,16 @@ envelope_in p = components envelope_step no_envelope p >>= λ s. envelope_from s
 -- ---- what spells an envelope
 
 abbrev pub MakesEnvelopePart : EnvelopePart → ℕ → EnvelopeParts → Tag → List ℕ → List ℕ → EnvelopeParts → Type 0
-MakesEnvelopePart Destination depth s tag content octets after = Puts (SpellsName depth tag.constructed content) (with_destination s) after
+MakesEnvelopePart Destination depth s tag content octets after =
+    Puts (SpellsName depth tag.constructed content) (with_destination s) after
 MakesEnvelopePart Identifier depth s tag content octets after = Puts (SpellsMtsId depth tag content) (with_id s) after
-MakesEnvelopePart Trace depth s tag content octets after = Puts (SpellsTraceList depth tag.constructed content) (with_trace s) after
-MakesEnvelopePart Extensions depth s tag content octets after = Puts (SpellsExtList depth tag.constructed content) (with_extensions s) after
+MakesEnvelopePart Trace depth s tag content octets after =
+    Puts (SpellsTraceList depth tag.constructed content) (with_trace s) after
+MakesEnvelopePart Extensions depth s tag content octets after =
+    Puts (SpellsExtList depth tag.constructed content) (with_extensions s) after
 
-pub record MakesEnvelope (depth : ℕ) (before : EnvelopeParts) (tag : Tag) (content octets : List ℕ) (after : EnvelopeParts) : Type 0 where
+pub record MakesEnvelope (depth : ℕ) (before : EnvelopeParts) (tag : Tag) (content octets : List ℕ)
+    (after : EnvelopeParts) : Type 0 where
   pub part : EnvelopePart
   pub is_tag_of : is_envelope_tag part tag ≡ true
   pub absent : envelope_held part before ≡ false
@@ -121,7 +127,8 @@ pub record SpellsEnvelope (depth : ℕ) (constructed : Bool) (content : List ℕ
 
 abbrev pub envelope_content : ReportFields → List ℕ
 envelope_content v =
-    canonical_name (constructed 1 0) v.destination ++ canonical_id v.id ++ canonical_trace_list v.trace ++ canonical_ext_list (constructed 2 1) v.extensions
+    canonical_name (constructed 1 0) v.destination ++ canonical_id v.id ++ canonical_trace_list v.trace
+    ++ canonical_ext_list (constructed 2 1) v.extensions
 
 unfoldable pub canonical_envelope : ReportFields → List ℕ
 canonical_envelope v = element (constructed 0 17) (envelope_content v)

@@ -77,7 +77,8 @@ report_complete s = is_some s.envelope && is_some s.content
 
 -- the envelope and the content are there
 abbrev pub report_from : ReportParts → ℕ → Result ReportFields Fault
-report_from s at = required s.envelope at >>= λ envelope. required s.content at >>= λ content. Ok (report envelope content)
+report_from s at = required s.envelope at >>= λ envelope. required s.content at >>= λ content. Ok
+    (report envelope content)
 
 unfoldable pub report_in : Part → Result ReportFields Fault
 report_in p = components_under 2 1 report_step no_report p >>= λ s. report_from s p.at
@@ -85,10 +86,13 @@ report_in p = components_under 2 1 report_step no_report p >>= λ s. report_from
 -- ---- what spells a report
 
 abbrev pub MakesReportPart : ReportPart → ℕ → ReportParts → Tag → List ℕ → ReportParts → Type 0
-MakesReportPart Envelope depth s tag content after = Puts (SpellsEnvelope depth tag.constructed content) (with_envelope s) after
-MakesReportPart Content depth s tag content after = Puts (SpellsContent depth tag.constructed content) (with_content s) after
+MakesReportPart Envelope depth s tag content after =
+    Puts (SpellsEnvelope depth tag.constructed content) (with_envelope s) after
+MakesReportPart Content depth s tag content after =
+    Puts (SpellsContent depth tag.constructed content) (with_content s) after
 
-pub record MakesReport (depth : ℕ) (before : ReportParts) (tag : Tag) (content octets : List ℕ) (after : ReportParts) : Type 0 where
+pub record MakesReport (depth : ℕ) (before : ReportParts) (tag : Tag) (content octets : List ℕ)
+    (after : ReportParts) : Type 0 where
   pub is_set_tag : is_set tag ≡ true
   pub part : ReportPart
   pub needed : report_needed part ≤ before.last

@@ -14,12 +14,15 @@ fails_on : {A B : Type 0} (e : ReadFault) (r : Result A Fault) (f : A → Result
 fails_on faults.Memory r f h = tt
 fails_on (faults.Bad d) r f h = rw h refl
 
-pub parts_fail : {S V : Type 0} (step : S → Part → Result S Fault) (s : S) (next : S → Result V Fault) (e : ReadFault) (p : Part) → p.tag.constructed ≡ true → Fails e (parts_of step s p) → Fails e (components step s p >>= next)
+pub parts_fail : {S V : Type 0} (step : S → Part → Result S Fault) (s : S) (next : S → Result V Fault) (e : ReadFault)
+    (p : Part) → p.tag.constructed ≡ true → Fails e (parts_of step s p) → Fails e (components step s p >>= next)
 parts_fail step s next e p is h =
     let same : components step s p ≡ parts_of step s p = ap (λ b. cond b (parts_of step s p) (fault p.at BadTag)) is in
     fails_on e (components step s p) next (subst (λ r. Fails e r) (sym same) h)
 
-pub parts_under_fail : {S V : Type 0} (class number : ℕ) (step : S → Part → Result S Fault) (s : S) (next : S → Result V Fault) (e : ReadFault) (p : Part) → is_constructed_tag class number p.tag ≡ true
+pub parts_under_fail : {S V : Type 0} (class number : ℕ) (step : S → Part → Result S Fault) (s : S)
+    (next : S → Result V Fault) (e : ReadFault) (p : Part) → is_constructed_tag class number p.tag ≡ true
     → Fails e (parts_of step s p) → Fails e (components_under class number step s p >>= next)
 parts_under_fail class number step s next e p is h =
-    fails_on e (components_under class number step s p) next (subst (λ r. Fails e r) (sym (parts_under class number step s p is)) h)
+    fails_on e (components_under class number step s p) next
+    (subst (λ r. Fails e r) (sym (parts_under class number step s p is)) h)

@@ -33,7 +33,8 @@ outcome_full v p shallow h =
       | inr m ↦ (let r = failure_full v p m.1 in rw (other_tag p.tag m.0, m.0, r) refl)
     ]
 
-pub outcome_is : (depth : ℕ) (tag : Tag) (content octets : List ℕ) (v : Outcome) → SpellsOutcome depth tag content octets v → IsOutcome v
+pub outcome_is : (depth : ℕ) (tag : Tag) (content octets : List ℕ) (v : Outcome)
+    → SpellsOutcome depth tag content octets v → IsOutcome v
 outcome_is depth tag content octets v h =
     elim h [
       | inl m ↦ delivery_is depth tag.constructed content v m.1

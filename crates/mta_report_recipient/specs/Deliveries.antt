@@ -71,10 +71,13 @@ delivery_in p = components delivery_step no_delivery p >>= λ s. delivery_from s
 -- ---- what spells a delivery
 
 abbrev pub MakesDeliveryPart : DeliveryPart → ℕ → DeliveryParts → Tag → List ℕ → List ℕ → DeliveryParts → Type 0
-MakesDeliveryPart Moment depth s tag content octets after = Puts (SpellsMoment depth tag.constructed content) (with_moment s) after
-MakesDeliveryPart User depth s tag content octets after = Puts (SpellsNumber 0 32767 tag.constructed content) (with_user s) after
+MakesDeliveryPart Moment depth s tag content octets after =
+    Puts (SpellsMoment depth tag.constructed content) (with_moment s) after
+MakesDeliveryPart User depth s tag content octets after =
+    Puts (SpellsNumber 0 32767 tag.constructed content) (with_user s) after
 
-pub record MakesDelivery (depth : ℕ) (before : DeliveryParts) (tag : Tag) (content octets : List ℕ) (after : DeliveryParts) : Type 0 where
+pub record MakesDelivery (depth : ℕ) (before : DeliveryParts) (tag : Tag) (content octets : List ℕ)
+    (after : DeliveryParts) : Type 0 where
   pub part : DeliveryPart
   pub is_tag_of : is_delivery_tag part tag ≡ true
   pub absent : delivery_held part before ≡ false

@@ -68,10 +68,13 @@ failure_in p = components failure_step no_failure p >>= λ s. failure_from s p.a
 -- ---- what spells a non-delivery
 
 abbrev pub MakesFailurePart : FailurePart → ℕ → FailureParts → Tag → List ℕ → List ℕ → FailureParts → Type 0
-MakesFailurePart Reason depth s tag content octets after = Puts (SpellsNumber 0 32767 tag.constructed content) (with_reason s) after
-MakesFailurePart Diagnostic depth s tag content octets after = Puts (SpellsNumber 0 32767 tag.constructed content) (with_diagnostic s) after
+MakesFailurePart Reason depth s tag content octets after =
+    Puts (SpellsNumber 0 32767 tag.constructed content) (with_reason s) after
+MakesFailurePart Diagnostic depth s tag content octets after =
+    Puts (SpellsNumber 0 32767 tag.constructed content) (with_diagnostic s) after
 
-pub record MakesFailure (depth : ℕ) (before : FailureParts) (tag : Tag) (content octets : List ℕ) (after : FailureParts) : Type 0 where
+pub record MakesFailure (depth : ℕ) (before : FailureParts) (tag : Tag) (content octets : List ℕ)
+    (after : FailureParts) : Type 0 where
   pub part : FailurePart
   pub is_tag_of : is_failure_tag part tag ≡ true
   pub absent : failure_held part before ≡ false
@@ -92,4 +95,5 @@ abbrev pub canonical_diagnostic : ℕ → List ℕ
 canonical_diagnostic n = canon_int (primitive 2 1) (pos n)
 
 abbrev pub canonical_failure : ℕ → Option ℕ → List ℕ
-canonical_failure reason diagnostic = element (constructed 2 1) (canon_int (primitive 2 0) (pos reason) ++ optional canonical_diagnostic diagnostic)
+canonical_failure reason diagnostic =
+    element (constructed 2 1) (canon_int (primitive 2 0) (pos reason) ++ optional canonical_diagnostic diagnostic)

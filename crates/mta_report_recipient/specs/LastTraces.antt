@@ -74,7 +74,8 @@ last_trace arrival outcome s = record { arrival = arrival; converted = s.convert
 
 -- the required components are there
 abbrev pub last_from : LastParts → ℕ → Result LastTrace Fault
-last_from s at = required s.arrival at >>= λ arrival. required s.outcome at >>= λ outcome. Ok (last_trace arrival outcome s)
+last_from s at = required s.arrival at >>= λ arrival. required s.outcome at >>= λ outcome. Ok
+    (last_trace arrival outcome s)
 
 unfoldable pub last_in : Part → Result LastTrace Fault
 last_in p = components last_step no_last p >>= λ s. last_from s p.at
@@ -82,11 +83,14 @@ last_in p = components last_step no_last p >>= λ s. last_from s p.at
 -- ---- what spells a last trace
 
 abbrev pub MakesLastPart : LastPart → ℕ → LastParts → Tag → List ℕ → List ℕ → LastParts → Type 0
-MakesLastPart Arrival depth s tag content octets after = Puts (SpellsMoment depth tag.constructed content) (with_arrival s) after
-MakesLastPart ReportType depth s tag content octets after = Puts (SpellsExplicit SpellsOutcome depth tag.constructed content) (with_outcome s) after
+MakesLastPart Arrival depth s tag content octets after =
+    Puts (SpellsMoment depth tag.constructed content) (with_arrival s) after
+MakesLastPart ReportType depth s tag content octets after =
+    Puts (SpellsExplicit SpellsOutcome depth tag.constructed content) (with_outcome s) after
 MakesLastPart Converted depth s tag content octets after = Puts (λ x. x ≡ octets) (with_converted s) after
 
-pub record MakesLast (depth : ℕ) (before : LastParts) (tag : Tag) (content octets : List ℕ) (after : LastParts) : Type 0 where
+pub record MakesLast (depth : ℕ) (before : LastParts) (tag : Tag) (content octets : List ℕ)
+    (after : LastParts) : Type 0 where
   pub part : LastPart
   pub is_tag_of : is_last_tag part tag ≡ true
   pub absent : last_held part before ≡ false
@@ -106,7 +110,8 @@ pub record SpellsLast (depth : ℕ) (constructed : Bool) (content : List ℕ) (v
 -- ---- the one spelling that is written, under [3]
 
 abbrev pub last_content : ℕ → Option (List ℕ) → Outcome → List ℕ
-last_content arrival converted outcome = optional kept converted ++ canon_utc (primitive 2 0) arrival ++ canonical_outcome outcome
+last_content arrival converted outcome = optional kept converted ++ canon_utc (primitive 2 0) arrival
+    ++ canonical_outcome outcome
 
 unfoldable pub canonical_last : ℕ → Option (List ℕ) → Outcome → List ℕ
 canonical_last arrival converted outcome = element (constructed 2 3) (last_content arrival converted outcome)

@@ -13,10 +13,12 @@ use Rattle.mta_report_recipient.specs.Deliveries.{delivery_in, SpellsDelivery, c
 use Rattle.mta_report_recipient.specs.Failures.{failure_in, SpellsFailure, canonical_failure}
 
 unfoldable pub outcome_choice : Part → Result Outcome Fault
-outcome_choice p = if is_tag 2 0 p.tag then delivery_in p else if is_tag 2 1 p.tag then failure_in p else fault p.at BadTag
+outcome_choice p = if is_tag 2 0 p.tag then delivery_in p else if is_tag 2 1 p.tag then failure_in p
+    else fault p.at BadTag
 
 abbrev pub SpellsOutcome : Spells Outcome
-SpellsOutcome depth tag content octets v = ((is_tag 2 0 tag ≡ true) × SpellsDelivery depth tag.constructed content v) ⊎ ((is_tag 2 1 tag ≡ true) × SpellsFailure depth tag.constructed content v)
+SpellsOutcome depth tag content octets v = ((is_tag 2 0 tag ≡ true) × SpellsDelivery depth tag.constructed content v)
+    ⊎ ((is_tag 2 1 tag ≡ true) × SpellsFailure depth tag.constructed content v)
 
 -- the one spelling that is written
 

@@ -101,7 +101,16 @@ unfoldable pub reported_step : ReportedParts → Part → Result ReportedParts F
 reported_step s p = reported_step_of (reported_part_of p.tag) s p
 
 abbrev pub no_reported : ReportedParts
-no_reported = record { name = None; number = None; indicators = None; last = None; intended = None; supplementary = None; extensions = None }
+no_reported = record {
+  name = None;
+  number = None;
+  indicators = None;
+  last = None;
+  intended = None;
+  supplementary =
+      None;
+  extensions = None;
+}
 
 abbrev pub reported : Attributes → ℕ → BitString → LastTrace → ReportedParts → ReportedFields
 reported name number indicators last s = record {
@@ -122,7 +131,8 @@ reported_complete s = is_some s.name && is_some s.number && is_some s.indicators
 
 -- the required components are there
 abbrev pub reported_from : ReportedParts → ℕ → Result ReportedFields Fault
-reported_from s at = required s.name at >>= λ name. required s.number at >>= λ number. required s.indicators at >>= λ indicators. required s.last at >>= λ last. Ok (reported name number indicators last s)
+reported_from s at = required s.name at >>= λ name. required s.number at >>= λ number. required s.indicators at >>=
+    λ indicators. required s.last at >>= λ last. Ok (reported name number indicators last s)
 
 unfoldable pub reported_in : Part → Result ReportedFields Fault
 reported_in p = components_under 0 17 reported_step no_reported p >>= λ s. reported_from s p.at
@@ -130,15 +140,22 @@ reported_in p = components_under 0 17 reported_step no_reported p >>= λ s. repo
 -- ---- what spells a recipient of whom is reported
 
 abbrev pub MakesReportedPart : ReportedPart → ℕ → ReportedParts → Tag → List ℕ → List ℕ → ReportedParts → Type 0
-MakesReportedPart Actual depth s tag content octets after = Puts (SpellsName depth tag.constructed content) (with_name s) after
-MakesReportedPart Number depth s tag content octets after = Puts (SpellsNumber 1 32767 tag.constructed content) (with_number s) after
-MakesReportedPart Indicators depth s tag content octets after = Puts (SpellsIndicators depth tag.constructed content) (with_indicators s) after
-MakesReportedPart Last depth s tag content octets after = Puts (SpellsLast depth tag.constructed content) (with_last s) after
-MakesReportedPart Intended depth s tag content octets after = Puts (SpellsName depth tag.constructed content) (with_intended s) after
+MakesReportedPart Actual depth s tag content octets after =
+    Puts (SpellsName depth tag.constructed content) (with_name s) after
+MakesReportedPart Number depth s tag content octets after =
+    Puts (SpellsNumber 1 32767 tag.constructed content) (with_number s) after
+MakesReportedPart Indicators depth s tag content octets after =
+    Puts (SpellsIndicators depth tag.constructed content) (with_indicators s) after
+MakesReportedPart Last depth s tag content octets after =
+    Puts (SpellsLast depth tag.constructed content) (with_last s) after
+MakesReportedPart Intended depth s tag content octets after =
+    Puts (SpellsName depth tag.constructed content) (with_intended s) after
 MakesReportedPart Supplementary depth s tag content octets after = Puts (λ x. x ≡ octets) (with_supplementary s) after
-MakesReportedPart Extensions depth s tag content octets after = Puts (SpellsExtList depth tag.constructed content) (with_extensions s) after
+MakesReportedPart Extensions depth s tag content octets after =
+    Puts (SpellsExtList depth tag.constructed content) (with_extensions s) after
 
-pub record MakesReported (depth : ℕ) (before : ReportedParts) (tag : Tag) (content octets : List ℕ) (after : ReportedParts) : Type 0 where
+pub record MakesReported (depth : ℕ) (before : ReportedParts) (tag : Tag) (content octets : List ℕ)
+    (after : ReportedParts) : Type 0 where
   pub part : ReportedPart
   pub is_tag_of : is_reported_tag part tag ≡ true
   pub absent : reported_held part before ≡ false
@@ -174,7 +191,8 @@ abbrev pub SpellsReportedItem : Spells ReportedFields
 SpellsReportedItem depth tag content octets v = SpellsReported depth tag content v
 
 abbrev pub SpellsReportedList : ℕ → Bool → List ℕ → List ReportedFields → Type 0
-SpellsReportedList depth constructed content vs = SpellsList is_set SpellsReportedItem 1 32767 depth constructed content vs
+SpellsReportedList depth constructed content vs =
+    SpellsList is_set SpellsReportedItem 1 32767 depth constructed content vs
 
 -- ---- the one spelling that is written
 

@@ -16,10 +16,13 @@ use Rattle.mta_rtse.specs.declared.bind.BindParts.{BindParts}
 use Rattle.mta_rtse.specs.declared.types.Request.{Request}
 use Rattle.mta_rtse.specs.declared.types.Request.TheVariants.{Null, Bind}
 use Rattle.mta_rtse.specs.Values.{word_in}
-use Rattle.mta_rtse.specs.Bind.{longest_password, password_in, explicit_password_in, bind_step, no_bind, bind_in, null_in, open_in}
+use Rattle.mta_rtse.specs.Bind.{longest_password, password_in, explicit_password_in, bind_step, no_bind, bind_in}
+use Rattle.mta_rtse.specs.Bind.{null_in, open_in}
 use Rattle.mta_rtse.specs.Spelling.{SpellsPassword, SpellsCredentials, MakesBind, SpellsBind, SpellsNull, SpellsOpened}
-use Rattle.mta_rtse.proofs.Slots.{not_tag, is_plain, not_formed, pick, pass, fills_sound, fills_full, components_sound, components_full}
-use Rattle.mta_rtse.proofs.ValueLaws.{short_sound, short_full, word_sound, word_full, nothing_read, anything_sound, anything_full}
+use Rattle.mta_rtse.proofs.Slots.{not_tag, is_plain, not_formed, pick, pass, fills_sound, fills_full, components_sound}
+use Rattle.mta_rtse.proofs.Slots.{components_full}
+use Rattle.mta_rtse.proofs.ValueLaws.{short_sound, short_full, word_sound, word_full, nothing_read, anything_sound}
+use Rattle.mta_rtse.proofs.ValueLaws.{anything_full}
 
 password_sound : ReadSound password_in SpellsPassword
 unfolding password_in
@@ -35,7 +38,9 @@ password_sound o p shallow octets own e =
 password_full : ReadFull password_in SpellsPassword
 unfolding password_in
 password_full o p shallow (inl a) = pick _ a.is_tag_of (text_full Ia5 0 longest_password p o shallow a.spelled)
-password_full o p shallow (inr a) = pass _ (not_tag 0 4 0 22 p.tag a.is_tag_of refl) (pick _ a.is_tag_of (short_full longest_password o p shallow a.spelled))
+password_full o p shallow (inr a) =
+    pass _ (not_tag 0 4 0 22 p.tag a.is_tag_of refl)
+    (pick _ a.is_tag_of (short_full longest_password o p shallow a.spelled))
 
 credentials_sound : ReadSound explicit_password_in SpellsCredentials
 unfolding explicit_password_in
@@ -63,9 +68,12 @@ step_full : StepFull bind_step MakesBind
 unfolding bind_step
 step_full s t p shallow (inl a) = pick _ a.is_tag_of (fills_full word_in word_full s t p shallow a)
 step_full s t p shallow (inr (inl a)) =
-    pass _ (not_tag 2 1 2 0 p.tag (is_plain 2 1 p.tag p.tag.constructed a.is_tag_of) refl) (pick _ a.is_tag_of (fills_full explicit_password_in credentials_full s t p shallow a))
+    pass _ (not_tag 2 1 2 0 p.tag (is_plain 2 1 p.tag p.tag.constructed a.is_tag_of) refl)
+    (pick _ a.is_tag_of (fills_full explicit_password_in credentials_full s t p shallow a))
 step_full s t p shallow (inr (inr a)) =
-    pass _ (not_tag 2 2 2 0 p.tag a.is_tag_of refl) (pass _ (not_formed 2 2 2 1 p.tag p.tag.constructed a.is_tag_of refl) (pick _ a.is_tag_of (fills_full nothing_read anything_full s t p shallow a)))
+    pass _ (not_tag 2 2 2 0 p.tag a.is_tag_of refl)
+    (pass _ (not_formed 2 2 2 1 p.tag p.tag.constructed a.is_tag_of refl)
+    (pick _ a.is_tag_of (fills_full nothing_read anything_full s t p shallow a)))
 
 abbrev with_password : ℕ → List ℕ → Option (List ℕ) → Result Request Fault
 with_password at name password = required password at >>= λ o. Ok (Bind name o)
@@ -94,12 +102,14 @@ bind_sound v p shallow octets own e =
 bind_full : ReadFull bind_in SpellsBind
 unfolding bind_in
 bind_full v p shallow h =
-    ap (λ r. r >>= finished p.at) (components_full bind_step MakesBind step_full no_bind h.parts p h.is_constructed h.spelled)
+    ap (λ r. r >>= finished p.at) (components_full bind_step MakesBind step_full no_bind h.parts p h.is_constructed
+    h.spelled)
     ∙ ap (λ o. required o p.at >>= λ w. with_password p.at w h.parts.password) h.name_is
     ∙ ap (λ o. with_password p.at h.name o) h.password_is
     ∙ ap (λ (x : Request). Ok x) (sym h.value)
 
-empty_so : (l : List ℕ) (v : Request) (at : ℕ) → cond (is_empty l) (Ok Null) (fault at BadSize) ≡ Ok v → (l ≡ []) × (v ≡ Null)
+empty_so : (l : List ℕ) (v : Request) (at : ℕ) → cond (is_empty l) (Ok Null) (fault at BadSize) ≡ Ok v → (l ≡ [])
+    × (v ≡ Null)
 empty_so [] v at e = (refl, sym (ok_is Null v e))
 empty_so (b ∷ bs) v at e = absurd cc
 
@@ -113,7 +123,8 @@ null_sound v p e =
 
 null_full : (v : Request) (p : Part) → SpellsNull p.tag p.content v → null_in p ≡ Ok v
 unfolding null_in
-null_full v p h = pass _ h.is_primitive (ap (λ l. cond (is_empty l) (Ok Null) (fault p.at BadSize)) h.nothing ∙ ap (λ (x : Request). Ok x) (sym h.value))
+null_full v p h = pass _ h.is_primitive (ap (λ l. cond (is_empty l) (Ok Null) (fault p.at BadSize)) h.nothing
+    ∙ ap (λ (x : Request). Ok x) (sym h.value))
 
 pub opened_sound : ReadSound open_in SpellsOpened
 unfolding open_in

@@ -48,23 +48,43 @@ step_fits : (s : ReferenceParts) (p : Part) (t : ReferenceParts) → Fits s → 
 unfolding reference_step
 step_fits s p t h e =
     elim (chosen (is_tag 0 4 p.tag) _ _ _ e) [
-      | inl y ↦ (let q = placed_in_order s.last 0 1 p.at (octets_in longest_reference p) (λ o. record s { last = 1; calling = Some o }) t y.1 in
-          subst Fits q.4 (record { calling = octets_short longest_reference p q.0 q.3; common = h.common; additional = h.additional }))
+      | inl y ↦ (let q = placed_in_order s.last 0 1 p.at (octets_in longest_reference p)
+          (λ o. record s { last = 1; calling = Some o }) t y.1 in
+          subst Fits q.4 (record {
+            calling = octets_short longest_reference p q.0 q.3;
+            common = h.common;
+            additional =
+                h.additional;
+          }))
       | inr n ↦ elim (chosen (is_tag 0 23 p.tag) _ _ _ n.1) [
-        | inl y ↦ (let q = placed_in_order s.last 1 2 p.at (utc_in p) (λ m. record s { last = 2; common = Some m }) t y.1 in
-            subst Fits q.4 (record { calling = h.calling; common = moment_in_time p q.0 q.3; additional = h.additional }))
+        | inl y ↦ (let q = placed_in_order s.last 1 2 p.at (utc_in p)
+            (λ m. record s { last = 2; common = Some m }) t y.1 in
+            subst Fits q.4 (record {
+              calling = h.calling;
+              common = moment_in_time p q.0 q.3;
+              additional =
+                  h.additional;
+            }))
         | inr n ↦ elim (chosen (is_tag 2 0 p.tag) _ _ _ n.1) [
-          | inl y ↦ (let q = placed_in_order s.last 2 3 p.at (octets_in longest_reference p) (λ o. record s { last = 3; additional = Some o }) t y.1 in
-              subst Fits q.4 (record { calling = h.calling; common = h.common; additional = octets_short longest_reference p q.0 q.3 }))
+          | inl y ↦ (let q = placed_in_order s.last 2 3 p.at (octets_in longest_reference p)
+              (λ o. record s { last = 3; additional = Some o }) t y.1 in
+              subst Fits q.4 (record {
+                calling = h.calling;
+                common = h.common;
+                additional =
+                    octets_short longest_reference p q.0 q.3;
+              }))
           | inr n ↦ absurd (cc n.1)
         ]
       ]
     ]
 
 -- the parts of a reference that were read make one
-pub parts_fit : (p : Part) (s : ReferenceParts) (c : List ℕ) (m : ℕ) → parts_of reference_step no_reference p ≡ Ok s → s.calling ≡ Some c → s.common ≡ Some m → IsIdentifier (identifier c m s.additional)
+pub parts_fit : (p : Part) (s : ReferenceParts) (c : List ℕ) (m : ℕ) → parts_of reference_step no_reference p ≡ Ok s
+    → s.calling ≡ Some c → s.common ≡ Some m → IsIdentifier (identifier c m s.additional)
 parts_fit p s c m e calling common =
-    let f = parts_of_keep reference_step Fits step_fits no_reference p s (record { calling = tt; common = tt; additional = tt }) e in
+    let f = parts_of_keep reference_step Fits step_fits no_reference p s
+    (record { calling = tt; common = tt; additional = tt }) e in
     record {
       calling_short = let P : Option (List ℕ) → Type 0 = Short in subst P calling f.calling;
       in_time = let P : Option ℕ → Type 0 = λ o. IfSome o (λ m. m ≤ last_moment) in subst P common f.common;

@@ -21,11 +21,13 @@ step_sound : StepSound reference_step MakesReference
 unfolding reference_step
 step_sound s t p shallow octets own e =
     elim (chosen (is_tag 0 4 p.tag) _ _ _ e) [
-      | inl y ↦ inl (follows_sound (octets_in longest_reference) (short_sound longest_reference) s t p shallow octets own y.0 y.1)
+      | inl y ↦ inl (follows_sound (octets_in longest_reference)
+          (short_sound longest_reference) s t p shallow octets own y.0 y.1)
       | inr n ↦ elim (chosen (is_tag 0 23 p.tag) _ _ _ n.1) [
         | inl y ↦ inr (inl (follows_sound utc_in time_sound s t p shallow octets own y.0 y.1))
         | inr n ↦ elim (chosen (is_tag 2 0 p.tag) _ _ _ n.1) [
-          | inl y ↦ inr (inr (follows_sound (octets_in longest_reference) (short_sound longest_reference) s t p shallow octets own y.0 y.1))
+          | inl y ↦ inr (inr (follows_sound (octets_in longest_reference)
+              (short_sound longest_reference) s t p shallow octets own y.0 y.1))
           | inr n ↦ absurd (cc n.1)
         ]
       ]
@@ -33,11 +35,16 @@ step_sound s t p shallow octets own e =
 
 step_full : StepFull reference_step MakesReference
 unfolding reference_step
-step_full s t p shallow (inl a) = pick _ a.is_tag_of (follows_full (octets_in longest_reference) (short_full longest_reference) s t p shallow a)
+step_full s t p shallow (inl a) =
+    pick _ a.is_tag_of (follows_full (octets_in longest_reference) (short_full longest_reference) s t p shallow a)
 step_full s t p shallow (inr (inl a)) =
-    pass _ (not_tag 0 23 0 4 p.tag a.is_tag_of refl) (pick _ a.is_tag_of (follows_full utc_in time_full s t p shallow a))
+    pass _ (not_tag 0 23 0 4 p.tag a.is_tag_of refl)
+    (pick _ a.is_tag_of (follows_full utc_in time_full s t p shallow a))
 step_full s t p shallow (inr (inr a)) =
-    pass _ (not_tag 2 0 0 4 p.tag a.is_tag_of refl) (pass _ (not_tag 2 0 0 23 p.tag a.is_tag_of refl) (pick _ a.is_tag_of (follows_full (octets_in longest_reference) (short_full longest_reference) s t p shallow a)))
+    pass _ (not_tag 2 0 0 4 p.tag a.is_tag_of refl)
+    (pass _ (not_tag 2 0 0 23 p.tag a.is_tag_of refl)
+    (pick _ a.is_tag_of (follows_full (octets_in longest_reference)
+    (short_full longest_reference) s t p shallow a)))
 
 abbrev with_common : ℕ → List ℕ → Option (List ℕ) → Option ℕ → Result Identifier Fault
 with_common at c additional common = required common at >>= λ m. Ok (identifier c m additional)
@@ -45,7 +52,8 @@ with_common at c additional common = required common at >>= λ m. Ok (identifier
 abbrev finished : ℕ → ReferenceParts → Result Identifier Fault
 finished at s = required s.calling at >>= λ c. with_common at c s.additional s.common
 
-pub reference_found : (v : Identifier) (p : Part) → IsOctets p.content → reference_in p ≡ Ok v → SpellsReference p.depth p.tag p.content p.octets v
+pub reference_found : (v : Identifier) (p : Part) → IsOctets p.content → reference_in p ≡ Ok v
+    → SpellsReference p.depth p.tag p.content p.octets v
 unfolding reference_in
 reference_found v p octets e =
     let a = bind_ok (components reference_step no_reference p) (finished p.at) v e in
@@ -67,7 +75,8 @@ reference_sound v p shallow octets own e = reference_found v p octets e
 pub reference_full : ReadFull reference_in SpellsReference
 unfolding reference_in
 reference_full v p shallow h =
-    ap (λ r. r >>= finished p.at) (components_full reference_step MakesReference step_full no_reference h.parts p h.is_constructed h.spelled)
+    ap (λ r. r >>= finished p.at) (components_full reference_step MakesReference step_full no_reference h.parts p
+    h.is_constructed h.spelled)
     ∙ ap (λ o. required o p.at >>= λ c. with_common p.at c h.parts.additional h.parts.common) h.calling
     ∙ ap (λ o. with_common p.at v.calling h.parts.additional o) h.common
     ∙ ap (λ o. Ok (identifier v.calling v.common o)) h.additional

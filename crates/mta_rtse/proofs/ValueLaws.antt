@@ -1,5 +1,6 @@
 -- Numbers, words and octets are read exactly where they are spelled.
-use Rattle.std.proofs.Common.{◌≡◌, ℕ, zero, suc, ◌≤◌, Bool, true, false, cond, eqb, ltb, length, Result, Ok, refl, sym, ap, subst, ◌∙◌, arith, ℤ, pos, negsuc}
+use Rattle.std.proofs.Common.{◌≡◌, ℕ, zero, suc, ◌≤◌, Bool, true, false, cond, eqb, ltb, length, Result, Ok, refl, sym}
+use Rattle.std.proofs.Common.{ap, subst, ◌∙◌, arith, ℤ, pos, negsuc}
 use Rattle.std.specs.Prelude.{unsigned_abs, not, ◌||◌}
 use Rattle.std.proofs.lemmas.Bool.{ltb-false, le-ltb}
 use Rattle.mta_ber.specs.declared.fault.Fault.{Fault}
@@ -25,15 +26,18 @@ not_below : (high : ℕ) (i : ℤ) → in_range (pos 0) (pos high) i ≡ true �
 not_below high (pos n) e = refl
 not_below high (negsuc n) e = absurd cc
 
-bounded_sound : (high : ℕ) (p : Part) (n : ℕ) → bounded_in high p ≡ Ok n → SpellsInteger (pos 0) (pos high) p.tag.constructed p.content (pos n)
+bounded_sound : (high : ℕ) (p : Part) (n : ℕ) → bounded_in high p ≡ Ok n
+    → SpellsInteger (pos 0) (pos high) p.tag.constructed p.content (pos n)
 bounded_sound high p n e =
     let i = bind_ok (int_in p.at p.tag.constructed (pos 0) (pos high) p.content) (λ n. Ok (unsigned_abs n)) n e in
     let s = int_sound p.at p.tag.constructed (pos 0) (pos high) p.content i.0 i.1 in
     let is : i.0 ≡ pos n = sym (not_below high i.0 s.range) ∙ ap pos (ok_is (unsigned_abs i.0) n i.2) in
     subst (SpellsInteger (pos 0) (pos high) p.tag.constructed p.content) is s
 
-bounded_full : (high : ℕ) (p : Part) (n : ℕ) → SpellsInteger (pos 0) (pos high) p.tag.constructed p.content (pos n) → bounded_in high p ≡ Ok n
-bounded_full high p n h = ap (λ r. r >>= λ n. Ok (unsigned_abs n)) (int_full p.at p.tag.constructed (pos 0) (pos high) p.content (pos n) h)
+bounded_full : (high : ℕ) (p : Part) (n : ℕ) → SpellsInteger (pos 0) (pos high) p.tag.constructed p.content (pos n)
+    → bounded_in high p ≡ Ok n
+bounded_full high p n h = ap (λ r. r >>= λ n. Ok (unsigned_abs n))
+    (int_full p.at p.tag.constructed (pos 0) (pos high) p.content (pos n) h)
 
 pub number_sound : ReadSound number_in SpellsNumber
 unfolding number_in
@@ -73,7 +77,8 @@ flag_again false = refl
 
 pub flag_full : ReadFull flag_in SpellsFlag
 unfolding flag_in
-flag_full b p shallow h = ap (λ r. r >>= λ n. Ok (eqb n 1)) (bounded_full 1 p (one_or_none b) h) ∙ ap (λ x. Ok x) (flag_again b)
+flag_full b p shallow h = ap (λ r. r >>= λ n. Ok (eqb n 1)) (bounded_full 1 p (one_or_none b) h)
+    ∙ ap (λ x. Ok x) (flag_again b)
 
 pub short_sound : (most : ℕ) → ReadSound (octets_in most) (SpellsShort most)
 unfolding octets_in
@@ -81,12 +86,14 @@ short_sound most o p shallow octets own e =
     let j = bind_ok (joined p) (λ o. cond (ltb most (length o)) (fault p.at BadSize) (Ok o)) o e in
     let c = passed (ltb most (length j.0)) _ _ o j.2 in
     let s = joined_sound (own_number p.tag) p j.0 shallow octets j.1 in
-    subst (SpellsShort most p.depth p.tag p.content p.octets) (ok_is j.0 o c.1) (record { spelled = s; short = ltb-false most (length j.0) c.0 })
+    subst (SpellsShort most p.depth p.tag p.content p.octets) (ok_is j.0 o c.1)
+    (record { spelled = s; short = ltb-false most (length j.0) c.0 })
 
 pub short_full : (most : ℕ) → ReadFull (octets_in most) (SpellsShort most)
 unfolding octets_in
 short_full most o p shallow h =
-    ap (λ r. r >>= λ o. cond (ltb most (length o)) (fault p.at BadSize) (Ok o)) (joined_full (own_number p.tag) p o shallow h.spelled)
+    ap (λ r. r >>= λ o. cond (ltb most (length o)) (fault p.at BadSize) (Ok o))
+    (joined_full (own_number p.tag) p o shallow h.spelled)
     ∙ pass _ (le-ltb most (length o) h.short) refl
 
 pub time_sound : ReadSound utc_in SpellsTime

@@ -17,12 +17,14 @@ use Rattle.mta_rtse.specs.Request.{default_window}
 -- a session connection identifier under a tag
 unfoldable pub canon_reference : Tag → Identifier → List ℕ
 canon_reference t i =
-    element t (element (primitive 0 4) i.calling ++ canon_utc (primitive 0 23) i.common ++ optional (element (primitive 2 0)) i.additional)
+    element t (element (primitive 0 4) i.calling ++ canon_utc (primitive 0 23) i.common
+    ++ optional (element (primitive 2 0)) i.additional)
 
 -- a bind of a name and a password, opened
 unfoldable pub canon_bind : List ℕ → List ℕ → List ℕ
 canon_bind name password =
-    element (constructed 2 0) (element (constructed 2 1) (element (primitive 2 0) name ++ element (constructed 2 1) (element (primitive 0 22) password)))
+    element (constructed 2 0) (element (constructed 2 1)
+    (element (primitive 2 0) name ++ element (constructed 2 1) (element (primitive 0 22) password)))
 
 unfoldable pub canon_null : List ℕ
 canon_null = element (constructed 2 0) (element (primitive 0 5) [])
@@ -45,11 +47,13 @@ canon_flag number flag = if flag then canon_int (primitive 2 number) (pos 1) els
 
 unfoldable pub canon_rtorq : ℕ → ℕ → Bool → Request → List ℕ
 canon_rtorq checkpoint window twa request =
-    element (constructed 2 16) (canon_unless 0 0 checkpoint ++ canon_unless default_window 1 window ++ canon_flag 2 twa ++ element (constructed 2 3) (canon_request_data request))
+    element (constructed 2 16) (canon_unless 0 0 checkpoint ++ canon_unless default_window 1 window ++ canon_flag 2 twa
+    ++ element (constructed 2 3) (canon_request_data request))
 
 unfoldable pub canon_rtoac : ℕ → ℕ → Answer → List ℕ
 canon_rtoac checkpoint window answer =
-    element (constructed 2 17) (canon_unless 0 0 checkpoint ++ canon_unless default_window 1 window ++ element (constructed 2 2) (canon_answer_data answer))
+    element (constructed 2 17) (canon_unless 0 0 checkpoint ++ canon_unless default_window 1 window
+    ++ element (constructed 2 2) (canon_answer_data answer))
 
 -- a reason under a tag
 unfoldable pub canon_reason : ℕ → ℕ → List ℕ

@@ -13,9 +13,12 @@ use Rattle.mta_rtse.specs.Values.{octets_in}
 
 unfoldable pub reference_step : ReferenceParts → Part → Result ReferenceParts Fault
 reference_step s p =
-    if is_tag 0 4 p.tag then (in_order s.last 0 1 p.at (octets_in longest_reference p) >>= λ o. Ok (record s { last = 1; calling = Some o }))
-    else if is_tag 0 23 p.tag then (in_order s.last 1 2 p.at (utc_in p) >>= λ m. Ok (record s { last = 2; common = Some m }))
-    else if is_tag 2 0 p.tag then (in_order s.last 2 3 p.at (octets_in longest_reference p) >>= λ o. Ok (record s { last = 3; additional = Some o }))
+    if is_tag 0 4 p.tag then (in_order s.last 0 1 p.at (octets_in longest_reference p) >>= λ o. Ok
+    (record s { last = 1; calling = Some o }))
+    else if is_tag 0 23 p.tag then (in_order s.last 1 2 p.at (utc_in p) >>= λ m. Ok
+    (record s { last = 2; common = Some m }))
+    else if is_tag 2 0 p.tag then (in_order s.last 2 3 p.at (octets_in longest_reference p) >>= λ o. Ok
+    (record s { last = 3; additional = Some o }))
     else fault p.at BadTag
 
 abbrev pub no_reference : ReferenceParts

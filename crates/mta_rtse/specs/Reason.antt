@@ -15,7 +15,8 @@ reason_step s p =
     if is_primitive_tag 2 0 p.tag then
     (vacant (is_some s.reason) p.at (number_in p) >>= λ n. Ok (record s { reason = Some n }))
     else if is_tag 2 1 p.tag then (vacant s.first p.at (Ok tt) >>= λ (_ : Unit {0}). Ok (record s { first = true }))
-    else if s.aborts && is_tag 2 2 p.tag then (vacant s.second p.at (Ok tt) >>= λ (_ : Unit {0}). Ok (record s { second = true }))
+    else if s.aborts && is_tag 2 2 p.tag then
+    (vacant s.second p.at (Ok tt) >>= λ (_ : Unit {0}). Ok (record s { second = true }))
     else fault p.at BadTag
 
 abbrev pub no_reason : Bool → ReasonParts

@@ -27,7 +27,8 @@ rtorq_step s p =
     (vacant (is_some s.twa) p.at (flag_in p) >>= λ b. Ok (record s { twa = Some b }))
     else if is_constructed_tag 2 3 p.tag then
     (vacant (is_some s.request) p.at (request_in p) >>= λ r. Ok (record s { request = Some r }))
-    else if is_tag 2 4 p.tag then (vacant s.protocol p.at (Ok tt) >>= λ (_ : Unit {0}). Ok (record s { protocol = true }))
+    else if is_tag 2 4 p.tag then (vacant s.protocol p.at (Ok tt) >>= λ (_ : Unit {0}). Ok
+    (record s { protocol = true }))
     else fault p.at BadTag
 
 abbrev pub no_request : RequestParts
@@ -37,7 +38,13 @@ unfoldable pub rtorq_parts_in : Part → Result OpenRequest Fault
 rtorq_parts_in p =
     components rtorq_step no_request p >>= λ s.
     required s.request p.at >>= λ r.
-    Ok (record { checkpoint = unwrap_or s.checkpoint 0; window = unwrap_or s.window default_window; twa = unwrap_or s.twa false; request = r })
+    Ok (record {
+      checkpoint = unwrap_or s.checkpoint 0;
+      window = unwrap_or s.window default_window;
+      twa =
+          unwrap_or s.twa false;
+      request = r;
+    })
 
 unfoldable pub rtorq_in : Part → Result OpenRequest Fault
 rtorq_in p = if is_tag 2 16 p.tag then rtorq_parts_in p else fault p.at BadTag

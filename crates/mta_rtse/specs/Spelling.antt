@@ -64,7 +64,8 @@ pub record Fills {S A : Type 0} (expected : Tag → Bool) (taken : S → Bool) (
   pub after_is : after ≡ put value before
 
 -- a component of a SEQUENCE, behind the last one and, where `needed` is a place, behind what stands there
-pub record Follows {S A : Type 0} (class number : ℕ) (last : S → ℕ) (needed place : ℕ) (put : A → S → S) (spells : Spells A) (depth : ℕ) (before : S) (tag : Tag) (content octets : List ℕ) (after : S) : Type 0 where
+pub record Follows {S A : Type 0} (class number : ℕ) (last : S → ℕ) (needed place : ℕ) (put : A → S → S)
+    (spells : Spells A) (depth : ℕ) (before : S) (tag : Tag) (content octets : List ℕ) (after : S) : Type 0 where
   pub is_tag_of : is_tag class number tag ≡ true
   pub behind : last before < place
   pub reached : needed ≤ last before
@@ -75,17 +76,20 @@ pub record Follows {S A : Type 0} (class number : ℕ) (last : S → ℕ) (neede
 -- ---- references
 
 abbrev pub MakesCalling : Makes ReferenceParts
-MakesCalling = Follows 0 4 (λ s. s.last) 0 1 (λ o s. record s { last = 1; calling = Some o }) (SpellsShort longest_reference)
+MakesCalling = Follows 0 4 (λ s. s.last) 0 1 (λ o s. record s { last = 1; calling = Some o })
+    (SpellsShort longest_reference)
 
 abbrev pub MakesCommon : Makes ReferenceParts
 MakesCommon = Follows 0 23 (λ s. s.last) 1 2 (λ m s. record s { last = 2; common = Some m }) SpellsTime
 
 abbrev pub MakesAdditional : Makes ReferenceParts
-MakesAdditional = Follows 2 0 (λ s. s.last) 2 3 (λ o s. record s { last = 3; additional = Some o }) (SpellsShort longest_reference)
+MakesAdditional = Follows 2 0 (λ s. s.last) 2 3 (λ o s. record s { last = 3; additional = Some o })
+    (SpellsShort longest_reference)
 
 abbrev pub MakesReference : Makes ReferenceParts
 MakesReference depth before tag content octets after =
-    MakesCalling depth before tag content octets after ⊎ (MakesCommon depth before tag content octets after ⊎ MakesAdditional depth before tag content octets after)
+    MakesCalling depth before tag content octets after
+    ⊎ (MakesCommon depth before tag content octets after ⊎ MakesAdditional depth before tag content octets after)
 
 pub record SpellsReference (depth : ℕ) (tag : Tag) (content octets : List ℕ) (v : Identifier) : Type 0 where
   pub is_constructed : tag.constructed ≡ true
@@ -106,7 +110,8 @@ pub record SpellsPasswordOctets (depth : ℕ) (tag : Tag) (content octets o : Li
   pub spelled : SpellsShort longest_password depth tag content octets o
 
 abbrev pub SpellsPassword : Spells (List ℕ)
-SpellsPassword depth tag content octets o = SpellsPasswordText depth tag content o ⊎ SpellsPasswordOctets depth tag content octets o
+SpellsPassword depth tag content octets o = SpellsPasswordText depth tag content o
+    ⊎ SpellsPasswordOctets depth tag content octets o
 
 abbrev pub SpellsCredentials : Spells (List ℕ)
 SpellsCredentials depth tag content octets o = SpellsExplicit SpellsPassword depth tag.constructed content o
@@ -123,7 +128,8 @@ MakesContext = Fills (is_tag 2 2) (λ s. s.context) (λ _ s. record s { context 
 
 abbrev pub MakesBind : Makes BindParts
 MakesBind depth before tag content octets after =
-    MakesName depth before tag content octets after ⊎ (MakesPassword depth before tag content octets after ⊎ MakesContext depth before tag content octets after)
+    MakesName depth before tag content octets after
+    ⊎ (MakesPassword depth before tag content octets after ⊎ MakesContext depth before tag content octets after)
 
 pub record SpellsBind (depth : ℕ) (tag : Tag) (content octets : List ℕ) (v : Request) : Type 0 where
   pub is_constructed : tag.constructed ≡ true
@@ -141,7 +147,8 @@ pub record SpellsNull (tag : Tag) (content : List ℕ) (v : Request) : Type 0 wh
   pub value : v ≡ ask.Null
 
 abbrev pub SpellsOpened : Spells Request
-SpellsOpened depth tag content octets v = ((is_tag 0 5 tag ≡ true) × SpellsNull tag content v) ⊎ ((is_tag 2 1 tag ≡ true) × SpellsBind depth tag content octets v)
+SpellsOpened depth tag content octets v = ((is_tag 0 5 tag ≡ true) × SpellsNull tag content v)
+    ⊎ ((is_tag 2 1 tag ≡ true) × SpellsBind depth tag content octets v)
 
 -- ---- connection data
 
@@ -155,7 +162,8 @@ pub record SpellsRecover (depth : ℕ) (tag : Tag) (content octets : List ℕ) (
 
 abbrev pub SpellsConnection : Spells Request
 SpellsConnection depth tag content octets v =
-    ((is_tag 2 0 tag ≡ true) × SpellsExplicitOpened depth tag content octets v) ⊎ ((is_tag 2 1 tag ≡ true) × SpellsRecover depth tag content octets v)
+    ((is_tag 2 0 tag ≡ true) × SpellsExplicitOpened depth tag content octets v)
+    ⊎ ((is_tag 2 1 tag ≡ true) × SpellsRecover depth tag content octets v)
 
 abbrev pub SpellsRequestData : Spells Request
 SpellsRequestData depth tag content octets v = SpellsExplicit SpellsConnection depth tag.constructed content v
@@ -250,7 +258,8 @@ MakesReason depth before tag content octets after =
     ⊎ MakesSecond before tag after)
 
 -- the reason under a tag; components `[1]` and, of RTAB, `[2]` are passed over
-pub record SpellsReason (number : ℕ) (aborts : Bool) (depth : ℕ) (tag : Tag) (content octets : List ℕ) (reason : ℕ) : Type 0 where
+pub record SpellsReason (number : ℕ) (aborts : Bool) (depth : ℕ) (tag : Tag) (content octets : List ℕ)
+    (reason : ℕ) : Type 0 where
   pub is_tag_of : is_tag 2 number tag ≡ true
   pub is_constructed : tag.constructed ≡ true
   pub parts : ReasonParts

@@ -58,7 +58,8 @@ pub fn read_answer(alloc: Global, whole: &View) -> Result<OpenAnswer, ReadFault>
 
     // What is answered is spelled by the element, and what the element spells is answered.
     ensures found { IfOk result (SpellsRtoac whole.now.depth whole.now.tag whole.now.content.now whole.now.octets.now) }
-    ensures only { (v : TheOpenAnswer) → SpellsRtoac whole.now.depth whole.now.tag whole.now.content.now whole.now.octets.now v → IsReadAs result v }
+    ensures only { (v : TheOpenAnswer)
+        → SpellsRtoac whole.now.depth whole.now.tag whole.now.content.now whole.now.octets.now v → IsReadAs result v }
 {
     answer_from(alloc, whole)
 }

@@ -57,8 +57,11 @@ pub fn read_reference(alloc: Global, whole: &View) -> Result<Reference, ReadFaul
     ensures exact { Reads result (reference_in (view whole.now)) }
 
     // What is answered is spelled by the element, and what the element spells is answered.
-    ensures found { IfOk result (SpellsReference whole.now.depth whole.now.tag whole.now.content.now whole.now.octets.now) }
-    ensures only { (v : Identifier) → SpellsReference whole.now.depth whole.now.tag whole.now.content.now whole.now.octets.now v → IsReadAs result v }
+    ensures found { IfOk result (SpellsReference whole.now.depth whole.now.tag whole.now.content.now
+        whole.now.octets.now) }
+    ensures only { (v : Identifier)
+        → SpellsReference whole.now.depth whole.now.tag whole.now.content.now whole.now.octets.now v
+        → IsReadAs result v }
 {
     reference_from(alloc, whole)
 }

@@ -70,7 +70,8 @@ pub fn read_refusal(alloc: Global, whole: &View) -> Result<u32, ReadFault>
 
     // What is answered is spelled by the element, and what the element spells is answered.
     ensures found { IfOk result (SpellsRtorj whole.now.depth whole.now.tag whole.now.content.now whole.now.octets.now) }
-    ensures only { (v : ℕ) → SpellsRtorj whole.now.depth whole.now.tag whole.now.content.now whole.now.octets.now v → IsReadAs result v }
+    ensures only { (v : ℕ) → SpellsRtorj whole.now.depth whole.now.tag whole.now.content.now whole.now.octets.now v
+        → IsReadAs result v }
 {
     refusal_from(alloc, whole)
 }
@@ -91,7 +92,8 @@ pub fn read_abort(alloc: Global, whole: &View) -> Result<u32, ReadFault>
 
     // What is answered is spelled by the element, and what the element spells is answered.
     ensures found { IfOk result (SpellsRtab whole.now.depth whole.now.tag whole.now.content.now whole.now.octets.now) }
-    ensures only { (v : ℕ) → SpellsRtab whole.now.depth whole.now.tag whole.now.content.now whole.now.octets.now v → IsReadAs result v }
+    ensures only { (v : ℕ) → SpellsRtab whole.now.depth whole.now.tag whole.now.content.now whole.now.octets.now v
+        → IsReadAs result v }
 {
     abort_from(alloc, whole)
 }

@@ -72,7 +72,8 @@ pub fn read_request(alloc: Global, whole: &View) -> Result<OpenRequest, ReadFaul
 
     // What is answered is spelled by the element, and what the element spells is answered.
     ensures found { IfOk result (SpellsRtorq whole.now.depth whole.now.tag whole.now.content.now whole.now.octets.now) }
-    ensures only { (v : TheOpenRequest) → SpellsRtorq whole.now.depth whole.now.tag whole.now.content.now whole.now.octets.now v → IsReadAs result v }
+    ensures only { (v : TheOpenRequest)
+        → SpellsRtorq whole.now.depth whole.now.tag whole.now.content.now whole.now.octets.now v → IsReadAs result v }
 {
     request_from(alloc, whole)
 }

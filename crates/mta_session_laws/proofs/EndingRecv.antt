@@ -1,5 +1,6 @@
 -- Where an open session turns to its end: what the list of its receiving end is then.
-use Rattle.std.proofs.Common.{◌≡◌, ℕ, ◌&&◌, ◌==◌, ◌-◌, not, nat_lt, if◌then◌else◌, Bool, true, false, Option, Some, None, Result, Ok, Err, List, [], ◌∷◌, ◌++◌, refl, sym, ap, subst, ◌∙◌}
+use Rattle.std.proofs.Common.{◌≡◌, ℕ, ◌&&◌, ◌==◌, ◌-◌, not, nat_lt, if◌then◌else◌, Bool, true, false, Option, Some}
+use Rattle.std.proofs.Common.{None, Result, Ok, Err, List, [], ◌∷◌, ◌++◌, refl, sym, ap, subst, ◌∙◌}
 use Rattle.mta_units.specs.declared.unit.Unit.{Unit as AnyUnit}
 use Rattle.mta_units.specs.declared.unit.Unit.TheVariants as unit
 use Rattle.mta_lane_send.specs.Half.{is_idle, is_ending, last_of}
@@ -24,11 +25,16 @@ use Rattle.mta_session.specs.declared.phase.Phase.TheVariants as phase
 use Rattle.mta_session.specs.Receiving.{taken, is_free}
 use Rattle.mta_session.specs.Sending.{called, heard, is_discard_put}
 use Rattle.mta_session.specs.State.{State, is_initiator}
-use Rattle.mta_session.specs.Wanted.{Wanted, Aborts, Rejects, Ends, Puts, Asks, Reads, Goes_on, Excepts, Never, on_abort, on_close, takes, makes_or, goes_on_if, as_holder, as_listener, on_unit, on_step, is_still, is_given_up, goes_on_with, wanted_of_go, wanted_of_unit, wanted_of_reply, wanted_of_over, within}
-use Rattle.mta_session.specs.Follows.{Of_sender, Of_receiver, Of_neither, part_of, part_of_abort, counted, PutsFor, GoesOn, Does}
+use Rattle.mta_session.specs.Wanted.{Wanted, Aborts, Rejects, Ends, Puts, Asks, Reads, Goes_on, Excepts, Never}
+use Rattle.mta_session.specs.Wanted.{on_abort, on_close, takes, makes_or, goes_on_if, as_holder, as_listener, on_unit}
+use Rattle.mta_session.specs.Wanted.{on_step, is_still, is_given_up, goes_on_with, wanted_of_go, wanted_of_unit}
+use Rattle.mta_session.specs.Wanted.{wanted_of_reply, wanted_of_over, within}
+use Rattle.mta_session.specs.Follows.{Of_sender, Of_receiver, Of_neither, part_of, part_of_abort, counted, PutsFor}
+use Rattle.mta_session.specs.Follows.{GoesOn, Does}
 use Rattle.mta_session.specs.Fits.{Fits}
 use Rattle.mta_session_laws.specs.Turning.{is_open, is_last_phase, called_for}
-use Rattle.mta_session_laws.specs.TurningRecv.{whole, Reaches, ReachesBy, ReachesAt, RecvGoes, taken_as, unless_refused, told_by, with_put, with_unit, with_action}
+use Rattle.mta_session_laws.specs.TurningRecv.{whole, Reaches, ReachesBy, ReachesAt, RecvGoes, taken_as, unless_refused}
+use Rattle.mta_session_laws.specs.TurningRecv.{told_by, with_put, with_unit, with_action}
 use Rattle.mta_session_laws.proofs.Events.{never}
 use Rattle.mta_session_laws.proofs.CallsRecv.{append_run, puts_go, except_goes, at}
 use Rattle.mta_session_laws.proofs.Ending.{excepts_way}
@@ -73,7 +79,8 @@ if_met : (told : List RecvEvent) (b : Bool) (w v : Wanted) → Met told w → Me
 if_met told true w v p q = p
 if_met told false w v p q = q
 
-both_met : (x y : List RecvEvent) (b : Bool) (w v : Wanted) → Met x w → Met y v → Met (if b then x else y) (if b then w else v)
+both_met : (x y : List RecvEvent) (b : Bool) (w v : Wanted) → Met x w → Met y v
+    → Met (if b then x else y) (if b then w else v)
 both_met x y true w v p q = p
 both_met x y false w v p q = q
 
@@ -84,7 +91,8 @@ none_told false = refl
 abort_met : (t : State) (told : List RecvEvent) (reason : ℕ) → told ≡ [] → Met told (on_abort t reason)
 abort_met t told reason n =
     if_met told ((reason == 2) && not (is_idle t.send.state)) _ _ n
-    (if_met told ((reason == 7) && is_ending t.send.state (last_of t.send.state) && is_discard_put t.send.stage (last_of t.send.state)) _ _ n n)
+    (if_met told ((reason == 7) && is_ending t.send.state (last_of t.send.state) && is_discard_put t.send.stage
+    (last_of t.send.state)) _ _ n n)
 
 passes_met : (t : State) (f : Option SendEnd) → Met [] (goes_on_if t f)
 passes_met t None = refl
@@ -115,14 +123,16 @@ unit_met : (t : State) (x : AnyUnit) → Met (if t.ours then [] else taken_as x)
 unit_met t (unit.Abort reason) = abort_met t (if t.ours then [] else []) reason (none_told t.ours)
 unit_met t x = both_met [] (taken_as x) t.ours _ _ (holder_met t x) (listener_met t x)
 
-if_plain : (told : List RecvEvent) (b : Bool) (w v : Wanted) → Plain told w → Plain told v → Plain told (if b then w else v)
+if_plain : (told : List RecvEvent) (b : Bool) (w v : Wanted) → Plain told w → Plain told v
+    → Plain told (if b then w else v)
 if_plain told true w v p q = p
 if_plain told false w v p q = q
 
 abort_plain : (t : State) (reason : ℕ) → Plain [] (on_abort t reason)
 abort_plain t reason =
     if_plain [] ((reason == 2) && not (is_idle t.send.state)) _ _ refl
-    (if_plain [] ((reason == 7) && is_ending t.send.state (last_of t.send.state) && is_discard_put t.send.stage (last_of t.send.state)) _ _ refl refl)
+    (if_plain [] ((reason == 7) && is_ending t.send.state (last_of t.send.state) && is_discard_put t.send.stage
+    (last_of t.send.state)) _ _ refl refl)
 
 closing_plain : (t : State) (x : AnyUnit) → Plain [] (wanted_of_unit phase.ReadsCloseAck t x)
 closing_plain t unit.CloseAck = refl
@@ -131,11 +141,13 @@ closing_plain t (unit.Abort reason) = abort_plain t reason
 closing_plain t x = (refl, refl)
 
 -- what is told of a unit
-unit_plain : (p : Phase) (t : State) (q : List ℕ) (x : AnyUnit) → is_open p ≡ true → Plain (told_by p t q (event.Unit x)) (called_for p t x)
+unit_plain : (p : Phase) (t : State) (q : List ℕ) (x : AnyUnit) → is_open p ≡ true
+    → Plain (told_by p t q (event.Unit x)) (called_for p t x)
 unit_plain phase.Reads t q x i =
     let c : State = counted t (event.Unit x) in
     met_plain (if t.ours then [] else taken_as x) (called_for phase.Reads t x)
-    (if_met (if t.ours then [] else taken_as x) (c.left == 0) (Aborts 3) (wanted_of_unit phase.Reads c x) refl (unit_met c x))
+    (if_met (if t.ours then [] else taken_as x) (c.left == 0) (Aborts 3) (wanted_of_unit phase.Reads c x) refl
+    (unit_met c x))
 unit_plain phase.ReadsCloseAck t q x i =
     let c : State = counted t (event.Unit x) in
     if_plain [] (c.left == 0) (Aborts 3) (wanted_of_unit phase.ReadsCloseAck c x) (refl, refl) (closing_plain c x)
@@ -144,12 +156,17 @@ unit_plain phase.PutsClose t q x i = if_plain [] ((counted t (event.Unit x)).lef
 unit_plain phase.AsksDue t q x i = if_plain [] ((counted t (event.Unit x)).left == 0) (Aborts 3) Never (refl, refl) tt
 unit_plain phase.AsksBatch t q x i = if_plain [] ((counted t (event.Unit x)).left == 0) (Aborts 3) Never (refl, refl) tt
 unit_plain phase.AsksStart t q x i = if_plain [] ((counted t (event.Unit x)).left == 0) (Aborts 3) Never (refl, refl) tt
-unit_plain phase.AsksStillIdle t q x i = if_plain [] ((counted t (event.Unit x)).left == 0) (Aborts 3) Never (refl, refl) tt
-unit_plain (phase.AsksStep step) t q x i = if_plain [] ((counted t (event.Unit x)).left == 0) (Aborts 3) Never (refl, refl) tt
+unit_plain phase.AsksStillIdle t q x i = if_plain [] ((counted t (event.Unit x)).left == 0) (Aborts 3) Never
+    (refl, refl) tt
+unit_plain (phase.AsksStep step) t q x i = if_plain [] ((counted t (event.Unit x)).left == 0) (Aborts 3) Never
+    (refl, refl) tt
 unit_plain phase.AsksState t q x i = if_plain [] ((counted t (event.Unit x)).left == 0) (Aborts 3) Never (refl, refl) tt
-unit_plain (phase.AsksSecure k n) t q x i = if_plain [] ((counted t (event.Unit x)).left == 0) (Aborts 3) Never (refl, refl) tt
-unit_plain (phase.AsksComplete k n) t q x i = if_plain [] ((counted t (event.Unit x)).left == 0) (Aborts 3) Never (refl, refl) tt
-unit_plain (phase.AsksDrop k found) t q x i = if_plain [] ((counted t (event.Unit x)).left == 0) (Aborts 3) Never (refl, refl) tt
+unit_plain (phase.AsksSecure k n) t q x i = if_plain [] ((counted t (event.Unit x)).left == 0) (Aborts 3) Never
+    (refl, refl) tt
+unit_plain (phase.AsksComplete k n) t q x i = if_plain [] ((counted t (event.Unit x)).left == 0) (Aborts 3) Never
+    (refl, refl) tt
+unit_plain (phase.AsksDrop k found) t q x i = if_plain [] ((counted t (event.Unit x)).left == 0) (Aborts 3) Never
+    (refl, refl) tt
 unit_plain p t q x i = absurd (never i)
 
 go_plain : (p : Phase) (t : State) (q : List ℕ) → is_open p ≡ true → Plain (told_by p t q event.Go) (wanted_of_go p t)
@@ -161,7 +178,8 @@ go_plain phase.PutsAccept t q i = absurd (never i)
 go_plain (phase.PutsLast y) t q i = absurd (never i)
 go_plain p t q i = tt
 
-over_plain : (p : Phase) (t : State) (q : List ℕ) → is_open p ≡ true → Plain (told_by p t q event.Over) (wanted_of_over p)
+over_plain : (p : Phase) (t : State) (q : List ℕ) → is_open p ≡ true
+    → Plain (told_by p t q event.Over) (wanted_of_over p)
 over_plain (phase.PutsLast y) t q i = absurd (never i)
 over_plain p t q i = refl
 
@@ -178,12 +196,14 @@ dropped_plain : (t : State) (told : List RecvEvent) (found : Option Found) → P
 dropped_plain t told None = tt
 dropped_plain t told (Some f) = tt
 
-reply_plain : (p : Phase) (t : State) (q : List ℕ) (x : Reply) → is_open p ≡ true → Plain (told_by p t q (event.Reply x)) (wanted_of_reply p t x)
+reply_plain : (p : Phase) (t : State) (q : List ℕ) (x : Reply) → is_open p ≡ true
+    → Plain (told_by p t q (event.Reply x)) (wanted_of_reply p t x)
 reply_plain phase.AsksDue t q (reply.BatchFor (Ok (Some x))) i = (refl, refl)
 reply_plain phase.AsksDue t q (reply.BatchFor (Ok None)) i = tt
 reply_plain phase.AsksDue t q (reply.BatchFor (Err x)) i = (refl, refl)
 reply_plain phase.AsksBatch t q (reply.BatchFor (Ok (Some x))) i = refl
-reply_plain phase.AsksBatch t q (reply.BatchFor (Ok None)) i = if_plain [] (is_initiator t.side && not (t.please && t.twa)) _ _ (refl, refl) (refl, refl)
+reply_plain phase.AsksBatch t q (reply.BatchFor (Ok None)) i =
+    if_plain [] (is_initiator t.side && not (t.please && t.twa)) _ _ (refl, refl) (refl, refl)
 reply_plain phase.AsksBatch t q (reply.BatchFor (Err x)) i = (refl, refl)
 reply_plain phase.AsksStart t q (reply.Start (Ok x)) i = tt
 reply_plain phase.AsksStart t q (reply.Start (Err fault.Unexpected)) i = refl
@@ -223,11 +243,13 @@ reply_plain phase.AsksClose t q x i = absurd (never i)
 reply_plain (phase.AsksLast y) t q x i = absurd (never i)
 reply_plain p t q x i = tt
 
-pub plain : (p : Phase) (t : State) (q : List ℕ) (e : Event) → is_open p ≡ true → Plain (told_by p t q e) (wanted_in p (counted t e) e)
+pub plain : (p : Phase) (t : State) (q : List ℕ) (e : Event) → is_open p ≡ true
+    → Plain (told_by p t q e) (wanted_in p (counted t e) e)
 plain p t q event.Go i = go_plain p t q i
 plain p t q (event.Unit x) i = unit_plain p t q x i
 plain p t q event.BadUnit i =
-    if_plain (told_by p t q event.BadUnit) ((counted t event.BadUnit).left == 0) (Aborts 3) (Aborts 4) (bad_told p t q, refl) (bad_told p t q, refl)
+    if_plain (told_by p t q event.BadUnit) ((counted t event.BadUnit).left == 0) (Aborts 3) (Aborts 4)
+    (bad_told p t q, refl) (bad_told p t q, refl)
 plain p t q (event.Reply x) i = reply_plain p t q x i
 plain p t q event.Over i = over_plain p t q i
 
@@ -241,24 +263,38 @@ none_runs : (e : RecvEnd) (events : List RecvEvent) → events ≡ [] → Runs e
 none_runs e events n = (e, subst (λ z. r.IsReceivingEnd e z e) (sym n) refl)
 
 -- an Abort that answers Resume or Discard
-abort_runs : (e : RecvEnd) (events : List RecvEvent) (v : State) (z : ℕ) (new : State) (b c : Bool) → (z == 7) ≡ b → (z == 2) ≡ c → PutsFor v (part_of_abort z) (unit.Abort z) new → Reaches e events phase.Puts v.recv →
+abort_runs : (e : RecvEnd) (events : List RecvEvent) (v : State) (z : ℕ) (new : State) (b c : Bool) → (z == 7) ≡ b
+    → (z == 2) ≡ c → PutsFor v (part_of_abort z) (unit.Abort z) new → Reaches e events phase.Puts v.recv →
     Runs e (with_put events (part_of_abort z))
 abort_runs e events v z new true c p q g a =
-    let first = subst (λ b. PutsFor v (if b then Of_receiver u.Completed else (if z == 2 then Of_receiver u.Unrecognized else Of_neither)) (unit.Abort z) new) p g in
+    let first = subst (λ b. PutsFor v
+    (if b then Of_receiver u.Completed else (if z == 2 then Of_receiver u.Unrecognized else Of_neither))
+    (unit.Abort z) new) p g in
     let m = first.0 in
     let end : RecvEnd = whole phase.Puts v.recv a.0 in
     let may : r.MayPut end u.Completed = (m.0, at v.recv (r.Discards m.0) a.0 m.1 refl, m.2) in
-    rw p (r.put end u.Completed, append_run e end (r.put end u.Completed) events (r.Put u.Completed ∷ []) a.1 (may, refl))
+    rw p (
+      r.put end u.Completed,
+      append_run e end (r.put end u.Completed) events (r.Put u.Completed ∷ []) a.1
+          (may, refl),
+    )
 abort_runs e events v z new false true p q g a =
-    let first = subst (λ b. PutsFor v (if b then Of_receiver u.Completed else (if z == 2 then Of_receiver u.Unrecognized else Of_neither)) (unit.Abort z) new) p g in
-    let second = subst (λ b. PutsFor v (if b then Of_receiver u.Unrecognized else Of_neither) (unit.Abort z) new) q first in
+    let first = subst (λ b. PutsFor v
+    (if b then Of_receiver u.Completed else (if z == 2 then Of_receiver u.Unrecognized else Of_neither))
+    (unit.Abort z) new) p g in
+    let second = subst (λ b. PutsFor v (if b then Of_receiver u.Unrecognized else Of_neither) (unit.Abort z) new) q
+    first in
     let m = second.0 in
     let end : RecvEnd = whole phase.Puts v.recv a.0 in
     let may : r.MayPut end u.Unrecognized = (m.0, m.1, at v.recv (r.Asked m.0 m.1) a.0 m.2 refl, m.3, m.4) in
-    rw p (rw q (r.put end u.Unrecognized, append_run e end (r.put end u.Unrecognized) events (r.Put u.Unrecognized ∷ []) a.1 (may, refl)))
+    rw p (rw q (
+      r.put end u.Unrecognized,
+      append_run e end (r.put end u.Unrecognized) events (r.Put u.Unrecognized ∷ []) a.1 (may, refl),
+    ))
 abort_runs e events v z new false false p q g a = rw p (rw q (whole phase.Puts v.recv a.0, a.1))
 
-put_runs : (e : RecvEnd) (events : List RecvEvent) (v : State) (x : AnyUnit) (new : State) → PutsFor v (part_of x) x new → Reaches e events phase.Puts v.recv → Runs e (with_unit events x)
+put_runs : (e : RecvEnd) (events : List RecvEvent) (v : State) (x : AnyUnit) (new : State) → PutsFor v (part_of x) x new
+    → Reaches e events phase.Puts v.recv → Runs e (with_unit events x)
 put_runs e events v (unit.Start z) new g a = (whole phase.Puts v.recv a.0, a.1)
 put_runs e events v (unit.Piece z) new g a = (whole phase.Puts v.recv a.0, a.1)
 put_runs e events v (unit.Sync z) new g a = (whole phase.Puts v.recv a.0, a.1)
@@ -266,32 +302,43 @@ put_runs e events v (unit.End z) new g a = (whole phase.Puts v.recv a.0, a.1)
 put_runs e events v (unit.Resume z1 z2) new g a = (whole phase.Puts v.recv a.0, a.1)
 put_runs e events v (unit.Discard z) new g a = (whole phase.Puts v.recv a.0, a.1)
 put_runs e events v (unit.SyncAck z) new g a =
-    let k = subst (λ n. ReachesAt e (with_unit events (unit.SyncAck z)) n.phase n.recv) g.1 (puts_go e events v (unit.SyncAck z) new g a) in (_, k.1)
+    let k = subst (λ n. ReachesAt e (with_unit events (unit.SyncAck z)) n.phase n.recv) g.1
+    (puts_go e events v (unit.SyncAck z) new g a) in (_, k.1)
 put_runs e events v (unit.EndAck z) new g a =
-    let k = subst (λ n. ReachesAt e (with_unit events (unit.EndAck z)) n.phase n.recv) g.1 (puts_go e events v (unit.EndAck z) new g a) in (_, k.1)
+    let k = subst (λ n. ReachesAt e (with_unit events (unit.EndAck z)) n.phase n.recv) g.1
+    (puts_go e events v (unit.EndAck z) new g a) in (_, k.1)
 put_runs e events v (unit.ResumeAck z1 z2) new g a =
-    let k = subst (λ n. ReachesAt e (with_unit events (unit.ResumeAck z1 z2)) n.phase n.recv) g.1 (puts_go e events v (unit.ResumeAck z1 z2) new g a) in (_, k.1)
+    let k = subst (λ n. ReachesAt e (with_unit events (unit.ResumeAck z1 z2)) n.phase n.recv) g.1
+    (puts_go e events v (unit.ResumeAck z1 z2) new g a) in (_, k.1)
 put_runs e events v (unit.DiscardAck z) new g a =
-    let k = subst (λ n. ReachesAt e (with_unit events (unit.DiscardAck z)) n.phase n.recv) g.1 (puts_go e events v (unit.DiscardAck z) new g a) in (_, k.1)
+    let k = subst (λ n. ReachesAt e (with_unit events (unit.DiscardAck z)) n.phase n.recv) g.1
+    (puts_go e events v (unit.DiscardAck z) new g a) in (_, k.1)
 put_runs e events v (unit.Abort z) new g a = abort_runs e events v z new (z == 7) (z == 2) refl refl g a
 put_runs e events v x new g a = elim g [ ]
 
-pub goes_runs : (e : RecvEnd) (events : List RecvEvent) (v : State) (a : Action) (new : State) → GoesOn v a new → Fits new → Reaches e events phase.Puts v.recv → Runs e (with_action events a)
+pub goes_runs : (e : RecvEnd) (events : List RecvEvent) (v : State) (a : Action) (new : State) → GoesOn v a new
+    → Fits new → Reaches e events phase.Puts v.recv → Runs e (with_action events a)
 goes_runs e events v (action.Put x) new g f k = put_runs e events v x new g k
 goes_runs e events v (action.Finish x) new g f k = elim g [ ]
 goes_runs e events v any3 new g f k = (whole phase.Puts v.recv k.0, k.1)
 
 -- a run of an open session
-pub reached_runs : (e : RecvEnd) (events : List RecvEvent) (new : State) → is_open new.phase ≡ true → ReachesAt e events new.phase new.recv → Runs e events
+pub reached_runs : (e : RecvEnd) (events : List RecvEvent) (new : State) → is_open new.phase ≡ true
+    → ReachesAt e events new.phase new.recv → Runs e events
 reached_runs e events new i k =
     let there = subst (λ b. ReachesBy b e events new.phase new.recv) (open_goes_on new.phase i) k in
     (whole new.phase new.recv there.0, there.1)
 
-pub wanted_runs : (e : RecvEnd) (events : List RecvEvent) (c : State) (w : Wanted) (a : Action) (new : State) → RecvGoes e events w → Plain events w → Does c w a new → Fits new → Runs e (with_action events a)
-wanted_runs e events c (Aborts reason) a new g p d f = none_runs e (with_action events a) (ap {A = Action} (with_action events) d.0 ∙ ap (with_put events) p.1 ∙ p.0)
+pub wanted_runs : (e : RecvEnd) (events : List RecvEvent) (c : State) (w : Wanted) (a : Action) (new : State)
+    → RecvGoes e events w → Plain events w → Does c w a new → Fits new → Runs e (with_action events a)
+wanted_runs e events c (Aborts reason) a new g p d f =
+    none_runs e (with_action events a) (ap {A = Action} (with_action events) d.0 ∙ ap (with_put events) p.1 ∙ p.0)
 wanted_runs e events c (Puts x v) a new g p d f =
-    none_runs e (with_action events a) (ap {A = Action} (with_action events) d.0 ∙ ap {A = List RecvEvent} (λ z. with_unit z x) p.0 ∙ p.1)
+    none_runs e (with_action events a)
+    (ap {A = Action} (with_action events) d.0 ∙ ap {A = List RecvEvent} (λ z. with_unit z x) p.0 ∙ p.1)
 wanted_runs e events c (Goes_on v) a new g p d f = goes_runs e events v a new d f g
-wanted_runs e events c (Excepts v y) a new g p d f = reached_runs e (with_action events a) new (excepts_way v y a new d) (except_goes e events v y a new d g)
+wanted_runs e events c (Excepts v y) a new g p d f = reached_runs e (with_action events a) new (excepts_way v y a new d)
+    (except_goes e events v y a new d g)
 wanted_runs e events c Never a new g p d f = elim d [ ]
-wanted_runs e events c any3 a new g p d f = none_runs e (with_action events a) (ap {A = Action} (with_action events) d.0 ∙ p)
+wanted_runs e events c any3 a new g p d f =
+    none_runs e (with_action events a) (ap {A = Action} (with_action events) d.0 ∙ p)

@@ -1,5 +1,6 @@
 -- Before a session is open: what its list is, call by call.
-use Rattle.std.proofs.Common.{◌≡◌, inl, inr, ℕ, ◌&&◌, ◌||◌, ◌==◌, ◌-◌, not, if◌then◌else◌, Bool, true, false, Option, Some, None, Result, Ok, Err, List, [], ◌∷◌, ◌++◌, refl, sym, ap, subst, ◌∙◌, arith}
+use Rattle.std.proofs.Common.{◌≡◌, inl, inr, ℕ, ◌&&◌, ◌||◌, ◌==◌, ◌-◌, not, if◌then◌else◌, Bool, true, false, Option}
+use Rattle.std.proofs.Common.{Some, None, Result, Ok, Err, List, [], ◌∷◌, ◌++◌, refl, sym, ap, subst, ◌∙◌, arith}
 use Rattle.std.proofs.lemmas.Bool.Decides.{nat_tests}
 use Rattle.std.specs.Str.{bytes_eq}
 use Rattle.mta_ber.specs.declared.memory.Memory.{Memory as NoMemory}
@@ -33,11 +34,17 @@ use Rattle.mta_session.specs.declared.phase.Phase.{Phase}
 use Rattle.mta_session.specs.declared.phase.Phase.TheVariants as phase
 use Rattle.mta_session.specs.Sending.{is_discard_put}
 use Rattle.mta_session.specs.State.{State, in_phase, let_go, is_initiator, with_values}
-use Rattle.mta_session.specs.Wanted.{Wanted, Aborts, Rejects, Ends, Puts, Asks, Reads, Goes_on, Excepts, Never, begins, on_request, on_peer, asks_lane, on_stands, puts_accept, with_lane, restored, with_received, on_new_lane, asks_spare, on_room, answers_link, is_refused_value, is_same_reference, starts, on_values, on_accept, closes_rejected, on_reject, on_abort, on_answer_by, after_accept, puts_please, asks_due, wanted_of_unit, wanted_of_reply, wanted_of_go, wanted_of_over, within}
+use Rattle.mta_session.specs.Wanted.{Wanted, Aborts, Rejects, Ends, Puts, Asks, Reads, Goes_on, Excepts, Never, begins}
+use Rattle.mta_session.specs.Wanted.{on_request, on_peer, asks_lane, on_stands, puts_accept, with_lane, restored}
+use Rattle.mta_session.specs.Wanted.{with_received, on_new_lane, asks_spare, on_room, answers_link, is_refused_value}
+use Rattle.mta_session.specs.Wanted.{is_same_reference, starts, on_values, on_accept, closes_rejected, on_reject}
+use Rattle.mta_session.specs.Wanted.{on_abort, on_answer_by, after_accept, puts_please, asks_due, wanted_of_unit}
+use Rattle.mta_session.specs.Wanted.{wanted_of_reply, wanted_of_go, wanted_of_over, within}
 use Rattle.mta_session.specs.Follows.{counted}
 use Rattle.mta_session.specs.Fits.{FitsAt}
 use Rattle.mta_session_laws.specs.Called.{heard_as, reject_unit, abort_unit}
-use Rattle.mta_session_laws.specs.Turning.{kept, listed, Reaches, called_for, got_as, unless_refused, told_by, with_unit}
+use Rattle.mta_session_laws.specs.Turning.{kept, listed, Reaches, called_for, got_as, unless_refused, told_by}
+use Rattle.mta_session_laws.specs.Turning.{with_unit}
 use Rattle.mta_session_laws.proofs.Events.{never}
 use Rattle.mta_session_laws.specs.Whole.{told_state, told_octets, half_of}
 
@@ -45,7 +52,8 @@ use Rattle.mta_session_laws.specs.Whole.{told_state, told_octets, half_of}
 
 -- no lane was looked at
 abbrev pub Blank : State → Type 0
-Blank t = (t.send.state ≡ state.Idle 0) × (t.send.octets ≡ []) × (t.send.stage ≡ s.Quiet) × (t.send.accepted ≡ not (is_initiator t.side))
+Blank t = (t.send.state ≡ state.Idle 0) × (t.send.octets ≡ []) × (t.send.stage ≡ s.Quiet)
+    × (t.send.accepted ≡ not (is_initiator t.side))
 
 -- the half is as it was told, and nothing was done on the link
 abbrev pub HasHalf : State → SendState → List ℕ → Type 0
@@ -61,7 +69,8 @@ Reached p t st os evs = (size window : ℕ) × Reaches (half_of st os size windo
 -- the last step may be made
 abbrev pub LastFits : Phase → SendEnd → Type 0
 LastFits phase.AsksDenied f = s.MayMake f s.Denied
-LastFits (phase.AsksLast (end.PeerAborted reason)) f = (reason ≡ 2 → s.MayMake f s.Denied) × (reason ≡ 7 → s.MayMake f s.Sent)
+LastFits (phase.AsksLast (end.PeerAborted reason)) f = (reason ≡ 2 → s.MayMake f s.Denied)
+    × (reason ≡ 7 → s.MayMake f s.Sent)
 LastFits _ f = Unit {0}
 
 abbrev pub EndsAt : Phase → SendState → List ℕ → List SendEvent → Type 0
@@ -104,13 +113,15 @@ Opens st os evs told (Rejects reason) = Unit {0}
 Opens st os evs told (Ends x) = Unit {0}
 Opens st os evs told Never = Unit {0}
 
-pub if_opens : (st : SendState) (os : List ℕ) (evs told : List SendEvent) (b : Bool) (w v : Wanted) → (b ≡ true → Opens st os evs told w) → (b ≡ false → Opens st os evs told v) →
+pub if_opens : (st : SendState) (os : List ℕ) (evs told : List SendEvent) (b : Bool) (w v : Wanted)
+    → (b ≡ true → Opens st os evs told w) → (b ≡ false → Opens st os evs told v) →
     Opens st os evs told (if b then w else v)
 if_opens st os evs told true w v p q = p refl
 if_opens st os evs told false w v p q = q refl
 
 -- a unit that is answered by a refusal is not taken
-pub refused_opens : (st : SendState) (os : List ℕ) (evs told : List SendEvent) (w : Wanted) → Opens st os evs told w → Opens st os evs (unless_refused w told) w
+pub refused_opens : (st : SendState) (os : List ℕ) (evs told : List SendEvent) (w : Wanted) → Opens st os evs told w
+    → Opens st os evs (unless_refused w told) w
 refused_opens st os evs told (Aborts reason) o = tt
 refused_opens st os evs told (Rejects reason) o = tt
 refused_opens st os evs told (Ends x) o = tt
@@ -123,44 +134,55 @@ refused_opens st os evs told any4 o = o
 still : (t : State) → Blank t → Before t (state.Idle 0) [] []
 still t b = (b, refl, refl, refl)
 
-accepts_opens : (v : State) (st : SendState) (os : List ℕ) (a : Option Answer) → HasHalf v st os → Opens st os [] [] (puts_accept v a)
+accepts_opens : (v : State) (st : SendState) (os : List ℕ) (a : Option Answer) → HasHalf v st os
+    → Opens st os [] [] (puts_accept v a)
 accepts_opens v st os (Some a) h = (h, refl)
 accepts_opens v st os None h = tt
 
 -- the initiator opens the link, and the responder accepts it
-link_opens : (v : State) (st : SendState) (os : List ℕ) (x : Side) → HasHalf v st os → v.send.accepted ≡ not (is_initiator x) → Opens st os [] [] (answers_link v x)
+link_opens : (v : State) (st : SendState) (os : List ℕ) (x : Side) → HasHalf v st os
+    → v.send.accepted ≡ not (is_initiator x) → Opens st os [] [] (answers_link v x)
 link_opens v st os (side.Initiator p) h a = (h, a, refl)
 link_opens v st os (side.Responder own) h a = accepts_opens v st os _ h
 
-begins_opens : (x : Side) (t : State) → t.send.accepted ≡ not (is_initiator x) → Blank t → Opens (state.Idle 0) [] [] [] (begins x t)
-begins_opens (side.Initiator p) t a b = if_opens (state.Idle 0) [] [] [] p.recovering _ _ (λ c. still t b) (λ c. ((b.0, b.1, b.2), a, refl))
+begins_opens : (x : Side) (t : State) → t.send.accepted ≡ not (is_initiator x) → Blank t
+    → Opens (state.Idle 0) [] [] [] (begins x t)
+begins_opens (side.Initiator p) t a b = if_opens (state.Idle 0) [] [] [] p.recovering _ _ (λ c. still t b)
+    (λ c. ((b.0, b.1, b.2), a, refl))
 begins_opens (side.Responder own) t a b = still t b
 
-request_opens : (t : State) (o : OpenUnit) (p : Peer) (q : Request) → Blank t → Opens (state.Idle 0) [] [] [] (on_request t o p q)
+request_opens : (t : State) (o : OpenUnit) (p : Peer) (q : Request) → Blank t
+    → Opens (state.Idle 0) [] [] [] (on_request t o p q)
 request_opens t o p request.Null b = tt
 request_opens t o p (request.Bind name password) b =
-    if_opens (state.Idle 0) [] [] [] (bytes_eq name p.name && bytes_eq password p.expected_password) _ _ (λ c. still t b) (λ c. tt)
+    if_opens (state.Idle 0) [] [] [] (bytes_eq name p.name && bytes_eq password p.expected_password) _ _
+    (λ c. still t b) (λ c. tt)
 request_opens t o p (request.Recover x) b = still t b
 
-peer_opens : (t : State) (o : Option OpenUnit) (x : Result (Option Peer) NoMemory) → Blank t → Opens (state.Idle 0) [] [] [] (on_peer t o x)
+peer_opens : (t : State) (o : Option OpenUnit) (x : Result (Option Peer) NoMemory) → Blank t
+    → Opens (state.Idle 0) [] [] [] (on_peer t o x)
 peer_opens t (Some o) (Ok (Some p)) b = request_opens t o p o.request b
 peer_opens t (Some o) (Ok None) b = tt
 peer_opens t (Some o) (Err m) b = tt
 peer_opens t None (Ok x) b = tt
 peer_opens t None (Err m) b = tt
 
-lane_opens : (t : State) (o : Option OpenUnit) (p : Option Peer) (again : Bool) → Blank t → Opens (state.Idle 0) [] [] [] (asks_lane t o p again)
+lane_opens : (t : State) (o : Option OpenUnit) (p : Option Peer) (again : Bool) → Blank t
+    → Opens (state.Idle 0) [] [] [] (asks_lane t o p again)
 lane_opens t (Some o) (Some p) again b = still t b
 lane_opens t (Some o) None again b = tt
 lane_opens t None p again b = tt
 
-stands_opens : (t : State) (o : Option OpenUnit) (p : Option Peer) (x : Option ℕ) → Blank t → Opens (state.Idle 0) [] [] [] (on_stands t o p x)
+stands_opens : (t : State) (o : Option OpenUnit) (p : Option Peer) (x : Option ℕ) → Blank t
+    → Opens (state.Idle 0) [] [] [] (on_stands t o p x)
 stands_opens t o p (Some lane) b = tt
-stands_opens t (Some o) (Some p) None b = if_opens (state.Idle 0) [] [] [] (o.twa && not p.twa) _ _ (λ c. tt) (λ c. still t b)
+stands_opens t (Some o) (Some p) None b = if_opens (state.Idle 0) [] [] [] (o.twa && not p.twa) _ _ (λ c. tt)
+    (λ c. still t b)
 stands_opens t (Some o) None None b = tt
 stands_opens t None p None b = tt
 
-new_lane_half : (t : State) (o : Option OpenUnit) (p : Option Peer) (lane : ℕ) → Blank t → HasHalf (with_lane t o p lane) (state.Idle 0) []
+new_lane_half : (t : State) (o : Option OpenUnit) (p : Option Peer) (lane : ℕ) → Blank t
+    → HasHalf (with_lane t o p lane) (state.Idle 0) []
 new_lane_half t (Some o) (Some p) lane b = (b.0, b.1, b.2)
 new_lane_half t (Some o) None lane b = (b.0, b.1, b.2)
 new_lane_half t None p lane b = (b.0, b.1, b.2)
@@ -169,8 +191,10 @@ spare_opens : (t : State) (again : Bool) → Blank t → Opens (state.Idle 0) []
 spare_opens t true b = tt
 spare_opens t false b = still t b
 
-new_lane_opens : (t : State) (again : Bool) (x : Result ℕ StepFault) → Blank t → Opens (state.Idle 0) [] [] [] (on_new_lane t again x)
-new_lane_opens t again (Ok lane) b = accepts_opens (with_lane t t.opened t.line lane) (state.Idle 0) [] _ (new_lane_half t t.opened t.line lane b)
+new_lane_opens : (t : State) (again : Bool) (x : Result ℕ StepFault) → Blank t
+    → Opens (state.Idle 0) [] [] [] (on_new_lane t again x)
+new_lane_opens t again (Ok lane) b = accepts_opens (with_lane t t.opened t.line lane) (state.Idle 0) [] _
+    (new_lane_half t t.opened t.line lane b)
 new_lane_opens t again (Err (fault.BusyLanes count)) b = spare_opens t again b
 new_lane_opens t again (Err fault.Unexpected) b = tt
 new_lane_opens t again (Err f) b = tt
@@ -183,14 +207,19 @@ room_opens t (Err fault.Unexpected) b = lane_opens t t.opened t.line true b
 room_opens t (Err f) b = tt
 
 -- the halves of a recovered lane
-received_opens : (t : State) (r : SendState) (x : Reply) → Blank t → Opens r [] [] [] (wanted_of_reply (phase.AsksReceiving r) t x)
+received_opens : (t : State) (r : SendState) (x : Reply) → Blank t
+    → Opens r [] [] [] (wanted_of_reply (phase.AsksReceiving r) t x)
 received_opens t r (reply.Receiving (Some x)) b =
-    if_opens r [] [] [] (is_idle r) _ _ (λ c. link_opens (restored (with_received t x) r []) r [] t.side (refl, refl, refl) b.3) (λ c. (b, refl, refl, refl))
+    if_opens r [] [] [] (is_idle r) _ _
+    (λ c. link_opens (restored (with_received t x) r []) r [] t.side (refl, refl, refl) b.3)
+    (λ c. (b, refl, refl, refl))
 received_opens t r (reply.Receiving None) b = tt
 received_opens t r x b = tt
 
-resumed_opens : (t : State) (r : SendState) (x : Reply) → Blank t → Opens r (told_octets (event.Reply x) (phase.AsksResumed r) []) [] [] (wanted_of_reply (phase.AsksResumed r) t x)
-resumed_opens t r (reply.Resumed (Ok (Some o))) b = link_opens (restored t r o.octets) r o.octets t.side (refl, refl, refl) b.3
+resumed_opens : (t : State) (r : SendState) (x : Reply) → Blank t
+    → Opens r (told_octets (event.Reply x) (phase.AsksResumed r) []) [] [] (wanted_of_reply (phase.AsksResumed r) t x)
+resumed_opens t r (reply.Resumed (Ok (Some o))) b =
+    link_opens (restored t r o.octets) r o.octets t.side (refl, refl, refl) b.3
 resumed_opens t r (reply.Resumed (Ok None)) b = tt
 resumed_opens t r (reply.Resumed (Err m)) b = tt
 resumed_opens t r x b = tt
@@ -219,7 +248,8 @@ before_go phase.PutsClose t i b = absurd (never i)
 before_go (phase.PutsLast y) t i b = absurd (never i)
 before_go p t i b = tt
 
-before_unit : (p : Phase) (t : State) (x : AnyUnit) → is_before p ≡ true → Blank t → Opens (state.Idle 0) [] [] [] (wanted_of_unit p t x)
+before_unit : (p : Phase) (t : State) (x : AnyUnit) → is_before p ≡ true → Blank t
+    → Opens (state.Idle 0) [] [] [] (wanted_of_unit p t x)
 before_unit phase.ReadsOpen t (unit.Open o) i b = still t b
 before_unit phase.ReadsOpen t (unit.Abort reason) i b = tt
 before_unit phase.ReadsOpen t x i b = tt
@@ -228,7 +258,8 @@ before_unit phase.ReadsCloseAck t x i b = absurd (never i)
 before_unit phase.Reads t x i b = absurd (never i)
 before_unit p t x i b = tt
 
-before_reply : (p : Phase) (t : State) (x : Reply) → is_before p ≡ true → Blank t → Opens (told_state (event.Reply x) p (state.Idle 0)) [] [] [] (wanted_of_reply p t x)
+before_reply : (p : Phase) (t : State) (x : Reply) → is_before p ≡ true → Blank t
+    → Opens (told_state (event.Reply x) p (state.Idle 0)) [] [] [] (wanted_of_reply p t x)
 before_reply (phase.AsksReceiving r) t x i b = absurd (never i)
 before_reply (phase.AsksResumed r) t x i b = absurd (never i)
 before_reply phase.AsksAgree t x i b = absurd (never i)
@@ -261,12 +292,14 @@ before_reply phase.AsksRecovery t (reply.Recovery (Some x)) i b = (b, refl, refl
 before_reply phase.AsksRecovery t (reply.Recovery None) i b = tt
 before_reply p t x i b = tt
 
-over_opens : (p : Phase) (st : SendState) (os : List ℕ) (evs told : List SendEvent) → Opens st os evs told (wanted_of_over p)
+over_opens : (p : Phase) (st : SendState) (os : List ℕ) (evs told : List SendEvent)
+    → Opens st os evs told (wanted_of_over p)
 over_opens (phase.PutsLast y) st os evs told = tt
 over_opens p st os evs told = tt
 
 -- a unit too many ends the session
-pub counted_opens : (st : SendState) (os : List ℕ) (evs told : List SendEvent) (t : State) (w : Wanted) → Opens st os evs told w → Opens st os evs told (within t w)
+pub counted_opens : (st : SendState) (os : List ℕ) (evs told : List SendEvent) (t : State) (w : Wanted)
+    → Opens st os evs told w → Opens st os evs told (within t w)
 counted_opens st os evs told t w o = if_opens st os evs told (t.left == 0) (Aborts 3) w (λ b. tt) (λ b. o)
 
 -- what an event calls for in a phase
@@ -287,7 +320,8 @@ before_opens p t event.BadUnit i b = counted_opens (state.Idle 0) [] [] [] (coun
 before_opens p t (event.Reply x) i b = before_reply p t x i b
 before_opens p t event.Over i b = over_opens p (state.Idle 0) [] [] []
 
-pub receiving_opens : (t : State) (r : SendState) (e : Event) → Blank t → Opens r [] [] [] (wanted_in (phase.AsksReceiving r) (counted t e) e)
+pub receiving_opens : (t : State) (r : SendState) (e : Event) → Blank t
+    → Opens r [] [] [] (wanted_in (phase.AsksReceiving r) (counted t e) e)
 receiving_opens t r (event.Unit x) b = counted_opens r [] [] [] (counted t (event.Unit x)) Never tt
 receiving_opens t r event.BadUnit b = counted_opens r [] [] [] (counted t event.BadUnit) (Aborts 4) tt
 receiving_opens t r (event.Reply x) b = received_opens t r x b

@@ -1,5 +1,6 @@
 -- Before a session is open: what it has of the receiving half, call by call.
-use Rattle.std.proofs.Common.{◌≡◌, inl, inr, ℕ, ◌&&◌, ◌||◌, ◌==◌, ◌-◌, not, if◌then◌else◌, Bool, true, false, Option, Some, None, Result, Ok, Err, List, [], ◌∷◌, ◌++◌, refl, sym, ap, subst, ◌∙◌, append_assoc}
+use Rattle.std.proofs.Common.{◌≡◌, inl, inr, ℕ, ◌&&◌, ◌||◌, ◌==◌, ◌-◌, not, if◌then◌else◌, Bool, true, false, Option}
+use Rattle.std.proofs.Common.{Some, None, Result, Ok, Err, List, [], ◌∷◌, ◌++◌, refl, sym, ap, subst, ◌∙◌, append_assoc}
 use Rattle.std.specs.Prelude.{◌⊎◌}
 use Rattle.std.proofs.lemmas.List.{append-nil}
 use Rattle.std.specs.Str.{bytes_eq}
@@ -31,7 +32,12 @@ use Rattle.mta_session.specs.declared.phase.Phase.{Phase}
 use Rattle.mta_session.specs.declared.phase.Phase.TheVariants as phase
 use Rattle.mta_session.specs.Sending.{is_discard_put}
 use Rattle.mta_session.specs.State.{State, is_initiator}
-use Rattle.mta_session.specs.Wanted.{Wanted, Aborts, Rejects, Ends, Puts, Asks, Reads, Goes_on, Excepts, Never, begins, on_request, on_peer, asks_lane, on_stands, puts_accept, with_lane, restored, with_received, on_new_lane, asks_spare, on_room, answers_link, is_refused_value, is_same_reference, abort_of, on_values, on_accept, on_reject, on_abort, on_answer_by, after_accept, wanted_of_go, wanted_of_unit, wanted_of_reply, wanted_of_over, within}
+use Rattle.mta_session.specs.Wanted.{Wanted, Aborts, Rejects, Ends, Puts, Asks, Reads, Goes_on, Excepts, Never, begins}
+use Rattle.mta_session.specs.Wanted.{on_request, on_peer, asks_lane, on_stands, puts_accept, with_lane, restored}
+use Rattle.mta_session.specs.Wanted.{with_received, on_new_lane, asks_spare, on_room, answers_link, is_refused_value}
+use Rattle.mta_session.specs.Wanted.{is_same_reference, abort_of, on_values, on_accept, on_reject, on_abort}
+use Rattle.mta_session.specs.Wanted.{on_answer_by, after_accept, wanted_of_go, wanted_of_unit, wanted_of_reply}
+use Rattle.mta_session.specs.Wanted.{wanted_of_over, within}
 use Rattle.mta_session.specs.Follows.{Of_neither, part_of_abort, counted}
 use Rattle.mta_session_laws.specs.TurningRecv.{with_unit}
 use Rattle.mta_session_laws.specs.WholeRecv.{told_receiving, receiver_of}
@@ -94,7 +100,8 @@ pub refusal_says_nothing : (f : StepFault) → part_of_abort (abort_of f) ≡ Of
 refusal_says_nothing (fault.Full size need) = refl
 refusal_says_nothing any0 = refl
 
-if_leaves : (e : RecvEnd) (l : Bool) (b : Bool) (w v : Wanted) → Leaves e l w → Leaves e l v → Leaves e l (if b then w else v)
+if_leaves : (e : RecvEnd) (l : Bool) (b : Bool) (w v : Wanted) → Leaves e l w → Leaves e l v
+    → Leaves e l (if b then w else v)
 if_leaves e l true w v p q = p
 if_leaves e l false w v p q = q
 
@@ -112,22 +119,26 @@ begins_leaves (side.Responder own) t = (refl, refl)
 
 request_leaves : (t : State) (o : OpenUnit) (p : Peer) (q : Request) → Leaves t.recv false (on_request t o p q)
 request_leaves t o p request.Null = tt
-request_leaves t o p (request.Bind name password) = if_leaves t.recv false (bytes_eq name p.name && bytes_eq password p.expected_password) _ _ (refl, refl) tt
+request_leaves t o p (request.Bind name password) =
+    if_leaves t.recv false (bytes_eq name p.name && bytes_eq password p.expected_password) _ _ (refl, refl) tt
 request_leaves t o p (request.Recover x) = (refl, refl)
 
-peer_leaves : (t : State) (o : Option OpenUnit) (x : Result (Option Peer) NoMemory) → Leaves t.recv false (on_peer t o x)
+peer_leaves : (t : State) (o : Option OpenUnit) (x : Result (Option Peer) NoMemory)
+    → Leaves t.recv false (on_peer t o x)
 peer_leaves t (Some o) (Ok (Some p)) = request_leaves t o p o.request
 peer_leaves t (Some o) (Ok None) = tt
 peer_leaves t (Some o) (Err m) = refl
 peer_leaves t None (Ok x) = tt
 peer_leaves t None (Err m) = refl
 
-lane_leaves : (t : State) (o : Option OpenUnit) (p : Option Peer) (again : Bool) → Leaves t.recv false (asks_lane t o p again)
+lane_leaves : (t : State) (o : Option OpenUnit) (p : Option Peer) (again : Bool)
+    → Leaves t.recv false (asks_lane t o p again)
 lane_leaves t (Some o) (Some p) again = (refl, refl)
 lane_leaves t (Some o) None again = tt
 lane_leaves t None p again = tt
 
-stands_leaves : (t : State) (o : Option OpenUnit) (p : Option Peer) (x : Option ℕ) → Leaves t.recv false (on_stands t o p x)
+stands_leaves : (t : State) (o : Option OpenUnit) (p : Option Peer) (x : Option ℕ)
+    → Leaves t.recv false (on_stands t o p x)
 stands_leaves t o p (Some lane) = tt
 stands_leaves t (Some o) (Some p) None = if_leaves t.recv false (o.twa && not p.twa) _ _ tt (refl, refl)
 stands_leaves t (Some o) None None = tt
@@ -145,7 +156,8 @@ spare_leaves t false = (refl, refl)
 new_lane_leaves : (t : State) (again : Bool) (x : Result ℕ StepFault) → Leaves t.recv false (on_new_lane t again x)
 new_lane_leaves t again (Ok lane) =
     let v : State = with_lane t t.opened t.line lane in
-    subst (λ e. Leaves e false (on_new_lane t again (Ok lane))) (new_lane_recv t t.opened t.line lane) (accepts_leaves v _)
+    subst (λ e. Leaves e false (on_new_lane t again (Ok lane))) (new_lane_recv t t.opened t.line lane)
+    (accepts_leaves v _)
 new_lane_leaves t again (Err (fault.BusyLanes count)) = spare_leaves t again
 new_lane_leaves t again (Err fault.Unexpected) = tt
 new_lane_leaves t again (Err f) = refusal_says_nothing f
@@ -160,19 +172,25 @@ room_leaves t (Err f) = refusal_says_nothing f
 abort_leaves : (t : State) (e : RecvEnd) (l : Bool) (reason : ℕ) → Leaves e l (on_abort t reason)
 abort_leaves t e l reason =
     if_leaves e l ((reason == 2) && not (is_idle t.send.state)) _ _ tt
-    (if_leaves e l ((reason == 7) && is_ending t.send.state (last_of t.send.state) && is_discard_put t.send.stage (last_of t.send.state)) _ _ tt tt)
+    (if_leaves e l ((reason == 7) && is_ending t.send.state (last_of t.send.state) && is_discard_put t.send.stage
+    (last_of t.send.state)) _ _ tt tt)
 
 values_leaves : (t : State) (c w : ℕ) → Leaves t.recv true (on_values t c w)
-values_leaves t c w = if_leaves t.recv true (is_refused_value t c w) _ _ refl (if_leaves t.recv true t.agreed _ _ (refl, refl) (refl, refl))
+values_leaves t c w = if_leaves t.recv true (is_refused_value t c w) _ _ refl
+    (if_leaves t.recv true t.agreed _ _ (refl, refl) (refl, refl))
 
 accept_leaves : (p : InitiatorPlan) (t : State) (c w : ℕ) (a : Answer) → Leaves t.recv true (on_accept p t c w a)
 accept_leaves p t c w (answer.Bind name password) =
-    if_leaves t.recv true p.recovering _ _ refl (if_leaves t.recv true (bytes_eq name p.peer && bytes_eq password p.expected_password) _ _ (values_leaves t c w) refl)
-accept_leaves p t c w (answer.Recover x) = if_leaves t.recv true (p.recovering && is_same_reference x p.reference) _ _ (values_leaves t c w) refl
+    if_leaves t.recv true p.recovering _ _ refl
+    (if_leaves t.recv true (bytes_eq name p.peer && bytes_eq password p.expected_password) _ _
+    (values_leaves t c w) refl)
+accept_leaves p t c w (answer.Recover x) = if_leaves t.recv true (p.recovering && is_same_reference x p.reference) _ _
+    (values_leaves t c w) refl
 
 reject_leaves : (p : InitiatorPlan) (t : State) (reason : ℕ) → Leaves t.recv true (on_reject p t reason)
 reject_leaves p t reason =
-    if_leaves t.recv true ((reason == 1) && not (is_idle t.send.state)) _ _ tt (if_leaves t.recv true ((reason == 1) || not p.recovering) _ _ tt tt)
+    if_leaves t.recv true ((reason == 1) && not (is_idle t.send.state)) _ _ tt
+    (if_leaves t.recv true ((reason == 1) || not p.recovering) _ _ tt tt)
 
 answer_leaves : (x : Side) (t : State) (y : AnyUnit) → Leaves t.recv true (on_answer_by x t y)
 answer_leaves (side.Initiator p) t (unit.Accept c w a) = accept_leaves p t c w a
@@ -182,7 +200,8 @@ answer_leaves (side.Initiator p) t y = refl
 answer_leaves (side.Responder own) t y = refl
 
 after_leaves : (t : State) → Leaves t.recv true (after_accept t)
-after_leaves t = if_leaves t.recv true t.twa _ _ (if_leaves t.recv true (is_idle t.send.state) _ _ (refl, refl) ((refl, refl), refl)) (refl, refl)
+after_leaves t = if_leaves t.recv true t.twa _ _
+    (if_leaves t.recv true (is_idle t.send.state) _ _ (refl, refl) ((refl, refl), refl)) (refl, refl)
 
 -- By phase and event -----------------------------------------------------------------------------
 
@@ -254,81 +273,102 @@ abbrev pub told_end : Event → Phase → RecvEnd → RecvEnd
 told_end (event.Reply (reply.Receiving (Some told))) (phase.AsksReceiving state) before = receiver_of told
 told_end e p before = before
 
-receiving_leaves : (t : State) (st : SendState) (x : Reply) → Leaves (told_end (event.Reply x) (phase.AsksReceiving st) t.recv) false (wanted_of_reply (phase.AsksReceiving st) t x)
+receiving_leaves : (t : State) (st : SendState) (x : Reply)
+    → Leaves (told_end (event.Reply x) (phase.AsksReceiving st) t.recv) false
+    (wanted_of_reply (phase.AsksReceiving st) t x)
 receiving_leaves t st (reply.Receiving (Some x)) =
-    if_leaves (receiver_of x) false (is_idle st) _ _ (link_leaves (restored (with_received t x) st []) t.side) (refl, refl)
+    if_leaves (receiver_of x) false (is_idle st) _ _ (link_leaves (restored (with_received t x) st []) t.side)
+    (refl, refl)
 receiving_leaves t st (reply.Receiving None) = tt
 receiving_leaves t st x = tt
 
-resumed_reply : (t : State) (st : SendState) (x : Reply) → Leaves (told_end (event.Reply x) (phase.AsksResumed st) t.recv) false (wanted_of_reply (phase.AsksResumed st) t x)
+resumed_reply : (t : State) (st : SendState) (x : Reply)
+    → Leaves (told_end (event.Reply x) (phase.AsksResumed st) t.recv) false (wanted_of_reply (phase.AsksResumed st) t x)
 resumed_reply t st (reply.Resumed (Ok (Some o))) = link_leaves (restored t st o.octets) t.side
 resumed_reply t st (reply.Resumed (Ok None)) = tt
 resumed_reply t st (reply.Resumed (Err m)) = refl
 resumed_reply t st x = tt
 
-agree_reply : (t : State) (x : Reply) → Leaves (told_end (event.Reply x) phase.AsksAgree t.recv) true (wanted_of_reply phase.AsksAgree t x)
+agree_reply : (t : State) (x : Reply) → Leaves (told_end (event.Reply x) phase.AsksAgree t.recv) true
+    (wanted_of_reply phase.AsksAgree t x)
 agree_reply t (reply.LaneAgree (Ok v)) = (refl, refl)
 agree_reply t (reply.LaneAgree (Err f)) = refusal_says_nothing f
 agree_reply t x = tt
 
-peer_reply : (t : State) (x : Reply) → Leaves (told_end (event.Reply x) phase.AsksPeer t.recv) false (wanted_of_reply phase.AsksPeer t x)
+peer_reply : (t : State) (x : Reply) → Leaves (told_end (event.Reply x) phase.AsksPeer t.recv) false
+    (wanted_of_reply phase.AsksPeer t x)
 peer_reply t (reply.Peer x) = peer_leaves t t.opened x
 peer_reply t x = tt
 
-stands_reply : (t : State) (x : Reply) → Leaves (told_end (event.Reply x) phase.AsksStands t.recv) false (wanted_of_reply phase.AsksStands t x)
+stands_reply : (t : State) (x : Reply) → Leaves (told_end (event.Reply x) phase.AsksStands t.recv) false
+    (wanted_of_reply phase.AsksStands t x)
 stands_reply t (reply.LaneOf x) = stands_leaves t t.opened t.line x
 stands_reply t x = tt
 
-new_lane_reply : (t : State) (again : Bool) (x : Reply) → Leaves (told_end (event.Reply x) (phase.AsksNewLane again) t.recv) false (wanted_of_reply (phase.AsksNewLane again) t x)
+new_lane_reply : (t : State) (again : Bool) (x : Reply)
+    → Leaves (told_end (event.Reply x) (phase.AsksNewLane again) t.recv) false
+    (wanted_of_reply (phase.AsksNewLane again) t x)
 new_lane_reply t again (reply.LaneOpen x) = new_lane_leaves t again x
 new_lane_reply t again x = tt
 
-spare_reply : (t : State) (x : Reply) → Leaves (told_end (event.Reply x) phase.AsksSpare t.recv) false (wanted_of_reply phase.AsksSpare t x)
+spare_reply : (t : State) (x : Reply) → Leaves (told_end (event.Reply x) phase.AsksSpare t.recv) false
+    (wanted_of_reply phase.AsksSpare t x)
 spare_reply t (reply.SpareLane (Some x)) = (refl, refl)
 spare_reply t (reply.SpareLane None) = tt
 spare_reply t x = tt
 
-room_reply : (t : State) (x : Reply) → Leaves (told_end (event.Reply x) phase.AsksRoom t.recv) false (wanted_of_reply phase.AsksRoom t x)
+room_reply : (t : State) (x : Reply) → Leaves (told_end (event.Reply x) phase.AsksRoom t.recv) false
+    (wanted_of_reply phase.AsksRoom t x)
 room_reply t (reply.CloseLane x) = room_leaves t x
 room_reply t x = tt
 
-old_lane_reply : (t : State) (x : Reply) → Leaves (told_end (event.Reply x) phase.AsksOldLane t.recv) false (wanted_of_reply phase.AsksOldLane t x)
+old_lane_reply : (t : State) (x : Reply) → Leaves (told_end (event.Reply x) phase.AsksOldLane t.recv) false
+    (wanted_of_reply phase.AsksOldLane t x)
 old_lane_reply t (reply.LaneOf (Some x)) = (refl, refl)
 old_lane_reply t (reply.LaneOf None) = tt
 old_lane_reply t x = tt
 
-bind_reply : (t : State) (x : Reply) → Leaves (told_end (event.Reply x) phase.AsksBind t.recv) false (wanted_of_reply phase.AsksBind t x)
+bind_reply : (t : State) (x : Reply) → Leaves (told_end (event.Reply x) phase.AsksBind t.recv) false
+    (wanted_of_reply phase.AsksBind t x)
 bind_reply t (reply.Bind (Ok x)) = (refl, refl)
 bind_reply t (reply.Bind (Err (fault.NoLane lane))) = tt
 bind_reply t (reply.Bind (Err x)) = refusal_says_nothing x
 bind_reply t x = tt
 
-values_reply : (t : State) (x : Reply) → Leaves (told_end (event.Reply x) phase.AsksValues t.recv) false (wanted_of_reply phase.AsksValues t x)
+values_reply : (t : State) (x : Reply) → Leaves (told_end (event.Reply x) phase.AsksValues t.recv) false
+    (wanted_of_reply phase.AsksValues t x)
 values_reply t (reply.Values (Some x)) = (refl, refl)
 values_reply t (reply.Values None) = tt
 values_reply t x = tt
 
-recovery_reply : (t : State) (x : Reply) → Leaves (told_end (event.Reply x) phase.AsksRecovery t.recv) false (wanted_of_reply phase.AsksRecovery t x)
+recovery_reply : (t : State) (x : Reply) → Leaves (told_end (event.Reply x) phase.AsksRecovery t.recv) false
+    (wanted_of_reply phase.AsksRecovery t x)
 recovery_reply t (reply.Recovery (Some x)) = (refl, refl)
 recovery_reply t (reply.Recovery None) = tt
 recovery_reply t x = tt
 
-begin_reply : (t : State) (x : Reply) → Leaves (told_end (event.Reply x) phase.Begin t.recv) false (wanted_of_reply phase.Begin t x)
+begin_reply : (t : State) (x : Reply) → Leaves (told_end (event.Reply x) phase.Begin t.recv) false
+    (wanted_of_reply phase.Begin t x)
 begin_reply t x = tt
 
-open_reply : (t : State) (x : Reply) → Leaves (told_end (event.Reply x) phase.ReadsOpen t.recv) false (wanted_of_reply phase.ReadsOpen t x)
+open_reply : (t : State) (x : Reply) → Leaves (told_end (event.Reply x) phase.ReadsOpen t.recv) false
+    (wanted_of_reply phase.ReadsOpen t x)
 open_reply t x = tt
 
-puts_open_reply : (t : State) (x : Reply) → Leaves (told_end (event.Reply x) phase.PutsOpen t.recv) true (wanted_of_reply phase.PutsOpen t x)
+puts_open_reply : (t : State) (x : Reply) → Leaves (told_end (event.Reply x) phase.PutsOpen t.recv) true
+    (wanted_of_reply phase.PutsOpen t x)
 puts_open_reply t x = tt
 
-answer_reply : (t : State) (x : Reply) → Leaves (told_end (event.Reply x) phase.ReadsAnswer t.recv) true (wanted_of_reply phase.ReadsAnswer t x)
+answer_reply : (t : State) (x : Reply) → Leaves (told_end (event.Reply x) phase.ReadsAnswer t.recv) true
+    (wanted_of_reply phase.ReadsAnswer t x)
 answer_reply t x = tt
 
-accept_reply : (t : State) (x : Reply) → Leaves (told_end (event.Reply x) phase.PutsAccept t.recv) true (wanted_of_reply phase.PutsAccept t x)
+accept_reply : (t : State) (x : Reply) → Leaves (told_end (event.Reply x) phase.PutsAccept t.recv) true
+    (wanted_of_reply phase.PutsAccept t x)
 accept_reply t x = tt
 
-reply_leaves : (p : Phase) (b : Bool) (t : State) (x : Reply) → Stage p b → Leaves (told_end (event.Reply x) p t.recv) b (wanted_of_reply p t x)
+reply_leaves : (p : Phase) (b : Bool) (t : State) (x : Reply) → Stage p b
+    → Leaves (told_end (event.Reply x) p t.recv) b (wanted_of_reply p t x)
 reply_leaves p b t x at_begin = begin_reply t x
 reply_leaves p b t x at_open_read = open_reply t x
 reply_leaves p b t x at_peer = peer_reply t x
@@ -352,16 +392,19 @@ over_leaves (phase.PutsLast y) e b = tt
 over_leaves p e b = tt
 
 -- What an event calls for before a session is open leaves the half as the event tells it.
-pub opening_leaves : (p : Phase) (b : Bool) (t : State) (e : Event) → Stage p b → Leaves (told_end e p t.recv) b (wanted_in p (counted t e) e)
+pub opening_leaves : (p : Phase) (b : Bool) (t : State) (e : Event) → Stage p b
+    → Leaves (told_end e p t.recv) b (wanted_in p (counted t e) e)
 opening_leaves p b t event.Go k = go_leaves p b t k
 opening_leaves p b t (event.Unit x) k =
     let c : State = counted t (event.Unit x) in
     if_leaves t.recv b (c.left == 0) (Aborts 3) (wanted_of_unit p c x) refl (unit_leaves p b c x k)
-opening_leaves p b t event.BadUnit k = if_leaves t.recv b ((counted t event.BadUnit).left == 0) (Aborts 3) (Aborts 4) refl refl
+opening_leaves p b t event.BadUnit k = if_leaves t.recv b ((counted t event.BadUnit).left == 0) (Aborts 3)
+    (Aborts 4) refl refl
 opening_leaves p b t (event.Reply x) k = reply_leaves p b t x k
 opening_leaves p b t event.Over k = over_leaves p t.recv b
 
-pub told_end_is : (e : Event) (p : Phase) (f : RecvEnd) (x : ℕ × Last) → f ≡ receiver_of x → told_end e p f ≡ receiver_of (told_receiving e p x)
+pub told_end_is : (e : Event) (p : Phase) (f : RecvEnd) (x : ℕ × Last) → f ≡ receiver_of x
+    → told_end e p f ≡ receiver_of (told_receiving e p x)
 told_end_is (event.Reply (reply.Receiving (Some told))) (phase.AsksReceiving st) f x q = refl
 told_end_is (event.Reply (reply.Receiving (Some told))) p f x q = q
 told_end_is e p f x q = q

@@ -1,5 +1,6 @@
 -- The calls of a session, one after the other.
-use Rattle.std.proofs.Common.{◌≡◌, ◌⊎◌, inl, inr, ℕ, Bool, true, false, Option, Some, None, List, [], ◌∷◌, ◌++◌, refl, sym, ap, subst, ◌∙◌}
+use Rattle.std.proofs.Common.{◌≡◌, ◌⊎◌, inl, inr, ℕ, Bool, true, false, Option, Some, None, List, [], ◌∷◌, ◌++◌, refl}
+use Rattle.std.proofs.Common.{sym, ap, subst, ◌∙◌}
 use Rattle.mta_lane_send.specs.Half.{is_idle}
 use Rattle.mta_units.specs.declared.unit.Unit.{Unit as AnyUnit}
 use Rattle.mta_units.specs.declared.unit.Unit.TheVariants as unit
@@ -23,7 +24,10 @@ use Rattle.mta_session.specs.Fits.{FitsAt, AnswersAt, AnswersAsk, answers_put, i
 use Rattle.mta_session_laws.specs.Turning.{is_open}
 use Rattle.mta_session_laws.specs.Runs.{Turn, IsTurn}
 use Rattle.mta_session_laws.specs.Whole.{IsNew, Initiates, Responds, AreCalls}
-use Rattle.mta_session_laws.specs.Order.{takes_unit, TakesOwingNothing, AllTakeOwingNothing, NothingIsOwed, is_due, DueAt, AllAnswer, AnswersAtOnce, looked_by, ends_turn, AllLook, LooksFirst, HasOccasion, ClosesAt, AllHaveOccasion, LanesHaveOccasion, awaits, ActionsAreAwaited}
+use Rattle.mta_session_laws.specs.Order.{takes_unit, TakesOwingNothing, AllTakeOwingNothing, NothingIsOwed, is_due}
+use Rattle.mta_session_laws.specs.Order.{DueAt, AllAnswer, AnswersAtOnce, looked_by, ends_turn, AllLook, LooksFirst}
+use Rattle.mta_session_laws.specs.Order.{HasOccasion, ClosesAt, AllHaveOccasion, LanesHaveOccasion, awaits}
+use Rattle.mta_session_laws.specs.Order.{ActionsAreAwaited}
 use Rattle.mta_session_laws.proofs.Wants.{Enters, Says, SaysAsk, Due, FoundNone, never}
 use Rattle.mta_session_laws.proofs.OrderedCalls.{After, call_after}
 
@@ -91,7 +95,8 @@ not_heard : (x : LaneUnit) → ◌≡◌ {A = Option LaneUnit} None (Some x) →
 not_heard x i = cc
 
 -- behind Close
-closing_owes : (t : State) → t.phase ≡ phase.ReadsCloseAck → FitsAt phase.ReadsCloseAck t → t.send.heard ≡ None → TakesOwingNothing t
+closing_owes : (t : State) → t.phase ≡ phase.ReadsCloseAck → FitsAt phase.ReadsCloseAck t → t.send.heard ≡ None
+    → TakesOwingNothing t
 closing_owes t q f h =
     let quiet : t.send.stage ≡ s.Quiet = f.3 in
     record {
@@ -104,7 +109,8 @@ closing_owes t q f h =
 open_owes : (t : State) → OwesNothing t → TakesOwingNothing t
 open_owes t o = record { taken = o.taken; put = λ i. o.put; next = λ i w n. absurd (o.next w n) }
 
-owes_at : (p : Phase) (t : State) (e : Event) → t.phase ≡ p → FitsAt p t → t.send.heard ≡ None → (p ≡ phase.Reads → OwesNothing t) → AnswersAt p t e → takes_unit e ≡ true → TakesOwingNothing t
+owes_at : (p : Phase) (t : State) (e : Event) → t.phase ≡ p → FitsAt p t → t.send.heard ≡ None
+    → (p ≡ phase.Reads → OwesNothing t) → AnswersAt p t e → takes_unit e ≡ true → TakesOwingNothing t
 owes_at phase.Reads t e q f h o a i = open_owes t (o refl)
 owes_at phase.ReadsCloseAck t e q f h o a i = closing_owes t q f h
 owes_at phase.ReadsOpen t e q f h o a i = closed_owes t f.0.0.4 (ap {A = Phase} is_open q)
@@ -128,7 +134,8 @@ owing_nothing t u xs new run = all_owe xs (all_stand xs t u (new_stands t new) r
 
 -- Answers at once ----------------------------------------------------------------------------
 
-drop_due : (k : ℕ) (found : Option Found) (t : State) → FitsAt (phase.AsksDrop k found) t → Due (phase.AsksDrop k found) t.recv.stage → DueAt (phase.AsksDrop k found) t.recv.stage
+drop_due : (k : ℕ) (found : Option Found) (t : State) → FitsAt (phase.AsksDrop k found) t
+    → Due (phase.AsksDrop k found) t.recv.stage → DueAt (phase.AsksDrop k found) t.recv.stage
 drop_due k None t f d = f.2
 drop_due k (Some found) t f d = d
 
@@ -138,8 +145,11 @@ due_at p t f d = d
 
 all_answer : (xs : List Turn) → AllStand xs → AllAnswer xs
 all_answer [] k = tt
-all_answer (x ∷ xs) k =
-    (due_at x.before.phase x.before k.0.fits k.1.due, due_at x.after.phase x.after k.0.fits_after k.2.due, all_answer xs k.3)
+all_answer (x ∷ xs) k = (
+  due_at x.before.phase x.before k.0.fits k.1.due,
+  due_at x.after.phase x.after k.0.fits_after k.2.due,
+  all_answer xs k.3,
+)
 
 pub answering_at_once : AnswersAtOnce
 answering_at_once t u xs new run = all_answer xs (all_stand xs t u (new_stands t new) run)
@@ -155,7 +165,8 @@ Looked b p = Unit {0}
 found_none : (b : Bool) (e : Event) → FoundNone e → looked_by b e ≡ true
 found_none b e q = subst (λ z. looked_by b z ≡ true) (sym q) refl
 
-looked_after : (b : Bool) (t : State) (e : Event) (p : Phase) → Looked b t.phase → Enters t e p → Looked (looked_by b e) p
+looked_after : (b : Bool) (t : State) (e : Event) (p : Phase) → Looked b t.phase → Enters t e p
+    → Looked (looked_by b e) p
 looked_after b t e phase.PutsClose l i = found_none b e i
 looked_after b t e phase.ReadsCloseAck l i =
     let kept : b ≡ true = subst (λ z. Looked b z) i.0 l in
@@ -168,7 +179,8 @@ gave b t e l (inr y) =
     let kept : b ≡ true = subst (λ z. Looked b z) y.0 l in
     subst (λ z. looked_by b z ≡ true) (sym y.2) kept
 
-put_looked : (b : Bool) (t : State) (e : Event) (x : AnyUnit) → Looked b t.phase → Says t e x → ends_turn (action.Put x) ≡ true → looked_by b e ≡ true
+put_looked : (b : Bool) (t : State) (e : Event) (x : AnyUnit) → Looked b t.phase → Says t e x
+    → ends_turn (action.Put x) ≡ true → looked_by b e ≡ true
 put_looked b t e unit.Close l y i = found_none b e y
 put_looked b t e unit.Give l y i = gave b t e l y
 put_looked b t e x l y i = absurd (never i)
@@ -178,7 +190,8 @@ Tells t e (action.Put x) = Says t e x
 Tells t e (action.Ask q) = SaysAsk e q
 Tells t e _ = Unit {0}
 
-turn_looked : (b : Bool) (t : State) (e : Event) (a : Action) → Looked b t.phase → Tells t e a → ends_turn a ≡ true → looked_by b e ≡ true
+turn_looked : (b : Bool) (t : State) (e : Event) (a : Action) → Looked b t.phase → Tells t e a → ends_turn a ≡ true
+    → looked_by b e ≡ true
 turn_looked b t e (action.Put x) l y i = put_looked b t e x l y i
 turn_looked b t e (action.Ask x) l y i = absurd (never i)
 turn_looked b t e action.Read l y i = absurd (never i)
@@ -189,7 +202,8 @@ all_look [] t u b run k l = tt
 all_look (x ∷ xs) t u b run k l =
     let here : Looked b x.before.phase = subst (λ z. Looked b z.phase) (sym run.0) l in (
       turn_looked b x.before x.event x.action here k.2.tells,
-      all_look xs x.after u (looked_by b x.event) run.2 k.3 (looked_after b x.before x.event x.after.phase here k.2.entered),
+      all_look xs x.after u (looked_by b x.event) run.2 k.3
+          (looked_after b x.before x.event x.after.phase here k.2.entered),
     )
 
 new_looked : (t : State) → IsNew t → Looked false t.phase
@@ -218,8 +232,11 @@ closes_at t e p i = tt
 
 all_occasion : (xs : List Turn) → AllStand xs → AllHaveOccasion xs
 all_occasion [] k = tt
-all_occasion (x ∷ xs) k =
-    (occasion x.before x.event x.action k.2.tells, closes_at x.before x.event x.after.phase k.2.entered, all_occasion xs k.3)
+all_occasion (x ∷ xs) k = (
+  occasion x.before x.event x.action k.2.tells,
+  closes_at x.before x.event x.after.phase k.2.entered,
+  all_occasion xs k.3,
+)
 
 pub having_occasion : LanesHaveOccasion
 having_occasion t u xs new run = all_occasion xs (all_stand xs t u (new_stands t new) run)

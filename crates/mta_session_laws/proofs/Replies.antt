@@ -1,5 +1,6 @@
 -- What the answers of the spool call for, phase by phase.
-use Rattle.std.proofs.Common.{◌≡◌, inl, ℕ, ◌&&◌, not, nat_lt, Bool, true, false, Option, Some, None, Result, Ok, Err, [], refl, sym, subst}
+use Rattle.std.proofs.Common.{◌≡◌, inl, ℕ, ◌&&◌, not, nat_lt, Bool, true, false, Option, Some, None, Result, Ok, Err}
+use Rattle.std.proofs.Common.{[], refl, sym, subst}
 use Rattle.std.specs.Str.{bytes_eq}
 use Rattle.mta_ber.specs.declared.memory.Memory.{Memory as NoMemory}
 use Rattle.mta_lane_send.specs.Half.{is_idle}
@@ -24,7 +25,9 @@ use Rattle.mta_session.specs.declared.phase.OwnStep.{OwnStep}
 use Rattle.mta_session.specs.declared.phase.OwnStep.TheVariants as own
 use Rattle.mta_session.specs.declared.phase.Found.{Found}
 use Rattle.mta_session.specs.State.{State, is_initiator}
-use Rattle.mta_session.specs.Wanted.{wanted_of_reply, on_request, on_peer, asks_lane, on_stands, puts_accept, with_lane, restored, with_received, on_new_lane, asks_spare, on_room, answers_link, on_step, closed, is_still, is_given_up, goes_on_with}
+use Rattle.mta_session.specs.Wanted.{wanted_of_reply, on_request, on_peer, asks_lane, on_stands, puts_accept, with_lane}
+use Rattle.mta_session.specs.Wanted.{restored, with_received, on_new_lane, asks_spare, on_room, answers_link, on_step}
+use Rattle.mta_session.specs.Wanted.{closed, is_still, is_given_up, goes_on_with}
 use Rattle.mta_session.specs.Fits.{FitsAt}
 use Rattle.mta_session_laws.specs.Order.{is_due}
 use Rattle.mta_session_laws.proofs.Wants.{Due, Leads, if_leads, not_ours}
@@ -32,25 +35,29 @@ use Rattle.mta_session_laws.proofs.Wants.{Due, Leads, if_leads, not_ours}
 abbrev Clear : State → Type 0
 Clear t = is_due t.recv.stage ≡ false
 
-request_leads : (t : State) (e : Event) (o : OpenUnit) (p : Peer) (q : Request) → Clear t → Leads t e (on_request t o p q)
+request_leads : (t : State) (e : Event) (o : OpenUnit) (p : Peer) (q : Request) → Clear t
+    → Leads t e (on_request t o p q)
 request_leads t e o p request.Null d = tt
 request_leads t e o p (request.Bind name password) d =
     if_leads t e (bytes_eq name p.name && bytes_eq password p.expected_password) _ _ (λ b. (refl, tt, tt, d)) (λ b. tt)
 request_leads t e o p (request.Recover x) d = (refl, tt, tt, d)
 
-peer_leads : (t : State) (e : Event) (o : Option OpenUnit) (x : Result (Option Peer) NoMemory) → Clear t → Leads t e (on_peer t o x)
+peer_leads : (t : State) (e : Event) (o : Option OpenUnit) (x : Result (Option Peer) NoMemory) → Clear t
+    → Leads t e (on_peer t o x)
 peer_leads t e (Some o) (Ok (Some p)) d = request_leads t e o p o.request d
 peer_leads t e (Some o) (Ok None) d = tt
 peer_leads t e (Some o) (Err m) d = tt
 peer_leads t e None (Ok x) d = tt
 peer_leads t e None (Err m) d = tt
 
-lane_leads : (t : State) (e : Event) (v : State) (o : Option OpenUnit) (p : Option Peer) (again : Bool) → Clear v → Leads t e (asks_lane v o p again)
+lane_leads : (t : State) (e : Event) (v : State) (o : Option OpenUnit) (p : Option Peer) (again : Bool) → Clear v
+    → Leads t e (asks_lane v o p again)
 lane_leads t e v (Some o) (Some p) again d = (refl, tt, tt, d)
 lane_leads t e v (Some o) None again d = tt
 lane_leads t e v None p again d = tt
 
-stands_leads : (t : State) (e : Event) (o : Option OpenUnit) (p : Option Peer) (x : Option ℕ) → Clear t → Leads t e (on_stands t o p x)
+stands_leads : (t : State) (e : Event) (o : Option OpenUnit) (p : Option Peer) (x : Option ℕ) → Clear t
+    → Leads t e (on_stands t o p x)
 stands_leads t e o p (Some lane) d = tt
 stands_leads t e (Some o) (Some p) None d = if_leads t e (o.twa && not p.twa) _ _ (λ l. tt) (λ l. (refl, tt, tt, d))
 stands_leads t e (Some o) None None d = tt
@@ -65,13 +72,16 @@ lane_clear t (Some o) (Some p) lane d = d
 lane_clear t (Some o) None lane d = d
 lane_clear t None p lane d = d
 
-busy_leads : (t : State) (again : Bool) (count : ℕ) → Clear t → Leads t (event.Reply (reply.LaneOpen (Err (fault.BusyLanes count)))) (asks_spare t again)
+busy_leads : (t : State) (again : Bool) (count : ℕ) → Clear t
+    → Leads t (event.Reply (reply.LaneOpen (Err (fault.BusyLanes count)))) (asks_spare t again)
 busy_leads t true count d = tt
 busy_leads t false count d = (refl, tt, tt, d)
 
-new_lane_leads : (t : State) (again : Bool) (x : Result ℕ StepFault) → Clear t → Leads t (event.Reply (reply.LaneOpen x)) (on_new_lane t again x)
+new_lane_leads : (t : State) (again : Bool) (x : Result ℕ StepFault) → Clear t
+    → Leads t (event.Reply (reply.LaneOpen x)) (on_new_lane t again x)
 new_lane_leads t again (Ok lane) d =
-    accepts_leads t (event.Reply (reply.LaneOpen (Ok lane))) (with_lane t t.opened t.line lane) _ (lane_clear t t.opened t.line lane d)
+    accepts_leads t (event.Reply (reply.LaneOpen (Ok lane))) (with_lane t t.opened t.line lane) _
+    (lane_clear t t.opened t.line lane d)
 new_lane_leads t again (Err (fault.BusyLanes count)) d = busy_leads t again count d
 new_lane_leads t again (Err fault.Unexpected) d = tt
 new_lane_leads t again (Err f) d = tt
@@ -87,7 +97,8 @@ link_leads : (t : State) (e : Event) (v : State) (x : Side) → Clear v → Lead
 link_leads t e v (side.Initiator p) d = (refl, tt, tt, d)
 link_leads t e v (side.Responder own) d = accepts_leads t e v _ d
 
-step_leads : (t : State) (e : Event) (step : OwnStep) (x : Result (Unit {0}) StepFault) → Clear t → Leads t e (on_step t step x)
+step_leads : (t : State) (e : Event) (step : OwnStep) (x : Result (Unit {0}) StepFault) → Clear t
+    → Leads t e (on_step t step x)
 step_leads t e step (Ok x) d = λ o. d
 step_leads t e step (Err fault.Unexpected) d = (refl, tt, tt, d)
 step_leads t e step (Err f) d = tt
@@ -96,13 +107,15 @@ closed_leads : (t : State) (e : Event) (x : Side) → Leads t e (closed t x)
 closed_leads t e (side.Initiator p) = tt
 closed_leads t e (side.Responder own) = (refl, tt, tt, refl)
 
-dropped_leads : (t : State) (e : Event) (k : ℕ) (found : Option Found) → FitsAt (phase.AsksDrop k found) t → Leads t e (goes_on_with found (record t { recv = r.made t.recv (r.Drop k) }))
+dropped_leads : (t : State) (e : Event) (k : ℕ) (found : Option Found) → FitsAt (phase.AsksDrop k found) t
+    → Leads t e (goes_on_with found (record t { recv = r.made t.recv (r.Drop k) }))
 dropped_leads t e k None f = λ o. absurd (not_ours t.ours f.1 o)
 dropped_leads t e k (Some found) f =
     let at : t.recv.stage ≡ r.Found k = f.2 in
     subst (λ z. is_due z ≡ false) (sym at) refl
 
-pub reply_leads : (p : Phase) (t : State) (x : Reply) → t.phase ≡ p → FitsAt p t → Due p t.recv.stage → Leads t (event.Reply x) (wanted_of_reply p t x)
+pub reply_leads : (p : Phase) (t : State) (x : Reply) → t.phase ≡ p → FitsAt p t → Due p t.recv.stage
+    → Leads t (event.Reply x) (wanted_of_reply p t x)
 reply_leads phase.AsksPeer t (reply.Peer x) q f d = peer_leads t _ t.opened x d
 reply_leads phase.AsksStands t (reply.LaneOf x) q f d = stands_leads t _ t.opened t.line x d
 reply_leads (phase.AsksNewLane again) t (reply.LaneOpen x) q f d = new_lane_leads t again x d
@@ -119,9 +132,11 @@ reply_leads phase.AsksValues t (reply.Values None) q f d = tt
 reply_leads phase.AsksRecovery t (reply.Recovery (Some x)) q f d = (refl, tt, tt, d)
 reply_leads phase.AsksRecovery t (reply.Recovery None) q f d = tt
 reply_leads (phase.AsksReceiving state) t (reply.Receiving (Some x)) q f d =
-    if_leads t _ (is_idle state) _ _ (λ b. link_leads t _ (restored (with_received t x) state []) t.side refl) (λ b. (refl, tt, tt, refl))
+    if_leads t _ (is_idle state) _ _ (λ b. link_leads t _ (restored (with_received t x) state []) t.side refl)
+    (λ b. (refl, tt, tt, refl))
 reply_leads (phase.AsksReceiving state) t (reply.Receiving None) q f d = tt
-reply_leads (phase.AsksResumed state) t (reply.Resumed (Ok (Some x))) q f d = link_leads t _ (restored t state x.octets) t.side d
+reply_leads (phase.AsksResumed state) t (reply.Resumed (Ok (Some x))) q f d =
+    link_leads t _ (restored t state x.octets) t.side d
 reply_leads (phase.AsksResumed state) t (reply.Resumed (Ok None)) q f d = tt
 reply_leads (phase.AsksResumed state) t (reply.Resumed (Err x)) q f d = tt
 reply_leads phase.AsksAgree t (reply.LaneAgree (Ok x)) q f d = λ o. d
@@ -133,20 +148,23 @@ reply_leads phase.AsksDue t (reply.BatchFor (Ok None)) q f d = λ o. d
 reply_leads phase.AsksDue t (reply.BatchFor (Err x)) q f d = tt
 reply_leads phase.AsksBatch t (reply.BatchFor (Ok (Some x))) q f d = (refl, tt, tt, d)
 reply_leads phase.AsksBatch t (reply.BatchFor (Ok None)) q f d =
-    if_leads t (event.Reply (reply.BatchFor (Ok None))) (is_initiator t.side && not (t.please && t.twa)) _ _ (λ b. (refl, refl, refl, d)) (λ b. (refl, tt, inl refl, d))
+    if_leads t (event.Reply (reply.BatchFor (Ok None))) (is_initiator t.side && not (t.please && t.twa)) _ _
+    (λ b. (refl, refl, refl, d)) (λ b. (refl, tt, inl refl, d))
 reply_leads phase.AsksBatch t (reply.BatchFor (Err x)) q f d = tt
 reply_leads phase.AsksStart t (reply.Start (Ok x)) q f d = λ o. d
 reply_leads phase.AsksStart t (reply.Start (Err fault.Unexpected)) q f d = (refl, tt, tt, d)
 reply_leads phase.AsksStart t (reply.Start (Err x)) q f d = tt
 reply_leads phase.AsksStillIdle t (reply.Recovery (Some x)) q f d =
-    if_leads t _ (is_still t.send.state x) _ _ (λ b. if_leads t _ (nat_lt 1 t.left) _ _ (λ c. (refl, tt, tt, d)) (λ c. tt)) (λ b. tt)
+    if_leads t _ (is_still t.send.state x) _ _
+    (λ b. if_leads t _ (nat_lt 1 t.left) _ _ (λ c. (refl, tt, tt, d)) (λ c. tt)) (λ b. tt)
 reply_leads phase.AsksStillIdle t (reply.Recovery None) q f d = tt
 reply_leads (phase.AsksStep (own.Confirm m)) t (reply.Confirm x) q f d = step_leads t _ (own.Confirm m) x d
 reply_leads (phase.AsksStep own.Ending) t (reply.Ending x) q f d = step_leads t _ own.Ending x d
 reply_leads (phase.AsksStep own.Sent) t (reply.Sent x) q f d = step_leads t _ own.Sent x d
 reply_leads (phase.AsksStep own.Dropped) t (reply.Dropped x) q f d = step_leads t _ own.Dropped x d
 reply_leads (phase.AsksStep (own.Refused kind)) t (reply.Refused x) q f d = step_leads t _ (own.Refused kind) x d
-reply_leads phase.AsksState t (reply.Recovery (Some x)) q f d = if_leads t _ (is_given_up t x) _ _ (λ b. λ o. d) (λ b. tt)
+reply_leads phase.AsksState t (reply.Recovery (Some x)) q f d =
+    if_leads t _ (is_given_up t x) _ _ (λ b. λ o. d) (λ b. tt)
 reply_leads phase.AsksState t (reply.Recovery None) q f d = tt
 reply_leads (phase.AsksSecure k m) t (reply.Secure (Ok x)) q f d = λ o. refl
 reply_leads (phase.AsksSecure k m) t (reply.Secure (Err (piece.Bad x))) q f d = refl

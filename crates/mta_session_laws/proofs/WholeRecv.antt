@@ -1,5 +1,6 @@
 -- The calls of a session, from the first to its end, as one list of its receiving end.
-use Rattle.std.proofs.Common.{◌≡◌, inl, inr, ℕ, ◌==◌, ◌-◌, if◌then◌else◌, Bool, true, false, Option, Some, None, Result, Ok, Err, List, [], ◌∷◌, ◌++◌, refl, sym, ap, subst, ◌∙◌, append_assoc}
+use Rattle.std.proofs.Common.{◌≡◌, inl, inr, ℕ, ◌==◌, ◌-◌, if◌then◌else◌, Bool, true, false, Option, Some, None, Result}
+use Rattle.std.proofs.Common.{Ok, Err, List, [], ◌∷◌, ◌++◌, refl, sym, ap, subst, ◌∙◌, append_assoc}
 use Rattle.std.specs.Prelude.{◌⊎◌}
 use Rattle.std.proofs.lemmas.List.{append-nil}
 use Rattle.mta_units.specs.declared.unit.Unit.{Unit as AnyUnit}
@@ -23,21 +24,30 @@ use Rattle.mta_session.specs.declared.event.Side.TheVariants as side
 use Rattle.mta_session.specs.declared.phase.Phase.{Phase}
 use Rattle.mta_session.specs.declared.phase.Phase.TheVariants as phase
 use Rattle.mta_session.specs.State.{State}
-use Rattle.mta_session.specs.Wanted.{Wanted, Aborts, Rejects, Ends, Puts, Asks, Reads, Goes_on, Excepts, Never, closed, on_closed, on_denied, wanted_of_go, wanted_of_unit, wanted_of_reply, wanted_of_over}
-use Rattle.mta_session.specs.Follows.{Part, Of_sender, Of_receiver, Of_neither, part_of, part_of_abort, counted, Does, GoesOn, FollowsAt}
+use Rattle.mta_session.specs.Wanted.{Wanted, Aborts, Rejects, Ends, Puts, Asks, Reads, Goes_on, Excepts, Never, closed}
+use Rattle.mta_session.specs.Wanted.{on_closed, on_denied, wanted_of_go, wanted_of_unit, wanted_of_reply}
+use Rattle.mta_session.specs.Wanted.{wanted_of_over}
+use Rattle.mta_session.specs.Follows.{Part, Of_sender, Of_receiver, Of_neither, part_of, part_of_abort, counted, Does}
+use Rattle.mta_session.specs.Follows.{GoesOn, FollowsAt}
 use Rattle.mta_session.specs.Fits.{Fits, FitsAt}
 use Rattle.mta_session_laws.specs.Turning.{is_open, is_last_phase}
-use Rattle.mta_session_laws.specs.TurningRecv.{whole, Reaches, ReachesBy, ReachesAt, RecvGoes, EventsGo, told_by, with_put, with_unit, with_action}
+use Rattle.mta_session_laws.specs.TurningRecv.{whole, Reaches, ReachesBy, ReachesAt, RecvGoes, EventsGo, told_by}
+use Rattle.mta_session_laws.specs.TurningRecv.{with_put, with_unit, with_action}
 use Rattle.mta_session_laws.specs.Runs.{Turn, IsTurn, AreReceiving, receiving_events_of}
 use Rattle.mta_session_laws.specs.Whole.{IsNew, Initiates, Responds, AreCalls}
 use Rattle.mta_session_laws.specs.WholeRecv.{told_receiving, receiving_told, receiver_of, IsReceiverAt, SessionsReceive}
 use Rattle.mta_session_laws.proofs.Events.{never}
 use Rattle.mta_session_laws.proofs.CallsRecv.{append_run, does_goes, on_goes}
 use Rattle.mta_session_laws.proofs.Opening.{wanted_in}
-use Rattle.mta_session_laws.proofs.OpeningRecv.{links, link_of, Leaf, Leaves, Stage, at_begin, at_open_read, at_peer, at_stands, at_new_lane, at_spare, at_room, at_old_lane, at_bind, at_values, at_recovery, at_receiving, at_resumed, at_puts_open, at_answer, at_agree, at_accept, told_end, told_end_is, opening_leaves, refusal_says_nothing}
+use Rattle.mta_session_laws.proofs.OpeningRecv.{links, link_of, Leaf, Leaves, Stage, at_begin, at_open_read, at_peer}
+use Rattle.mta_session_laws.proofs.OpeningRecv.{at_stands, at_new_lane, at_spare, at_room, at_old_lane, at_bind}
+use Rattle.mta_session_laws.proofs.OpeningRecv.{at_values, at_recovery, at_receiving, at_resumed, at_puts_open}
+use Rattle.mta_session_laws.proofs.OpeningRecv.{at_answer, at_agree, at_accept, told_end, told_end_is, opening_leaves}
+use Rattle.mta_session_laws.proofs.OpeningRecv.{refusal_says_nothing}
 use Rattle.mta_session_laws.proofs.EndingRecv.{Runs, plain, goes_runs, wanted_runs}
 use Rattle.mta_session_laws.proofs.Ending.{TurnsTo, goes_way, open_way, IsPutLast}
-use Rattle.mta_session_laws.proofs.Whole.{in_phase_wanted, follows_does, is_ended, last_closed, IsFinal, Finishes, finishes}
+use Rattle.mta_session_laws.proofs.Whole.{in_phase_wanted, follows_does, is_ended, last_closed, IsFinal, Finishes}
+use Rattle.mta_session_laws.proofs.Whole.{finishes}
 use Rattle.mta_session_laws.proofs.Runs.{open_goes_on}
 
 -- where the list stands
@@ -55,7 +65,8 @@ link_runs e false = (e, refl)
 new_link : (p : Phase) (e f : RecvEnd) → f ≡ e → r.on_link e ≡ e → whole p e [] ≡ e → Reaches e (r.New_link ∷ []) p f
 new_link p e f q l w = ([], (tt, ap {A = RecvEnd} (λ z. whole p z []) q ∙ w ∙ sym l))
 
-leaf_stands : (p : Phase) (v : State) (x : ℕ × Last) (b : Bool) → Leaf (receiver_of x) b p v.recv → Stands p v x (link_of b)
+leaf_stands : (p : Phase) (v : State) (x : ℕ × Last) (b : Bool) → Leaf (receiver_of x) b p v.recv
+    → Stands p v x (link_of b)
 leaf_stands phase.PutsOpen v x b k = opening true at_puts_open k.0 (ap link_of k.1)
 leaf_stands phase.ReadsAnswer v x b k = opening true at_answer k.0 (ap link_of k.1)
 leaf_stands phase.AsksAgree v x b k = opening true at_agree k.0 (ap link_of k.1)
@@ -79,46 +90,63 @@ leaf_stands (phase.AsksLast y) v x b k = ended refl (link_runs (receiver_of x) b
 leaf_stands (phase.PutsLast y) v x b k = ended refl (link_runs (receiver_of x) b)
 leaf_stands (phase.Ended y) v x b k = ended refl (link_runs (receiver_of x) b)
 leaf_stands phase.AsksDue v x b k =
-    opened refl (subst (λ z. Reaches (receiver_of x) (link_of z) phase.AsksDue v.recv) (sym k.1) (new_link phase.AsksDue (receiver_of x) v.recv k.0 refl refl))
+    opened refl (subst (λ z. Reaches (receiver_of x) (link_of z) phase.AsksDue v.recv) (sym k.1)
+    (new_link phase.AsksDue (receiver_of x) v.recv k.0 refl refl))
 leaf_stands phase.Puts v x b k =
-    opened refl (subst (λ z. Reaches (receiver_of x) (link_of z) phase.Puts v.recv) (sym k.1) (new_link phase.Puts (receiver_of x) v.recv k.0 refl refl))
+    opened refl (subst (λ z. Reaches (receiver_of x) (link_of z) phase.Puts v.recv) (sym k.1)
+    (new_link phase.Puts (receiver_of x) v.recv k.0 refl refl))
 leaf_stands p v x b k = elim k [ ]
 
-last_stands : (p : Phase) (new : State) (x : ℕ × Last) (evs : List RecvEvent) → IsPutLast p → Runs (receiver_of x) evs → Stands p new x evs
+last_stands : (p : Phase) (new : State) (x : ℕ × Last) (evs : List RecvEvent) → IsPutLast p → Runs (receiver_of x) evs
+    → Stands p new x evs
 last_stands (phase.PutsLast y) new x evs l k = ended refl k
 last_stands p new x evs l k = elim l [ ]
 
 -- a session goes on
-goes_stands : (v : State) (a : Action) (new : State) (x : ℕ × Last) (evs : List RecvEvent) → Reaches (receiver_of x) evs phase.Puts v.recv → GoesOn v a new → Fits new →
+goes_stands : (v : State) (a : Action) (new : State) (x : ℕ × Last) (evs : List RecvEvent)
+    → Reaches (receiver_of x) evs phase.Puts v.recv → GoesOn v a new → Fits new →
     Stands new.phase new x (with_action evs a)
 goes_stands v a new x evs q d f =
     elim (goes_way v a new d) [
-      | inl i ↦ opened i (subst (λ b. ReachesBy b (receiver_of x) (with_action evs a) new.phase new.recv) (open_goes_on new.phase i) (on_goes (receiver_of x) evs v a new d f q))
+      | inl i ↦ opened i (subst (λ b. ReachesBy b (receiver_of x) (with_action evs a) new.phase new.recv)
+          (open_goes_on new.phase i) (on_goes (receiver_of x) evs v a new d f q))
       | inr k ↦ last_stands new.phase new x (with_action evs a) k.last (goes_runs (receiver_of x) evs v a new d f q)
     ]
 
-ended_at : (new v : State) (x : ℕ × Last) (evs xs : List RecvEvent) → new ≡ v → is_last_phase v.phase ≡ true → evs ≡ xs → Runs (receiver_of x) xs → Stands new.phase new x evs
-ended_at new v x evs xs n l q k = ended (ap {A = State} (λ z. is_last_phase z.phase) n ∙ l) (subst (λ z. Runs (receiver_of x) z) (sym q) k)
+ended_at : (new v : State) (x : ℕ × Last) (evs xs : List RecvEvent) → new ≡ v → is_last_phase v.phase ≡ true → evs ≡ xs
+    → Runs (receiver_of x) xs → Stands new.phase new x evs
+ended_at new v x evs xs n l q k =
+    ended (ap {A = State} (λ z. is_last_phase z.phase) n ∙ l) (subst (λ z. Runs (receiver_of x) z) (sym q) k)
 
-says_nothing : (evs : List RecvEvent) (reason : ℕ) → part_of_abort reason ≡ Of_neither → with_action evs (action.Put (unit.Abort reason)) ≡ evs
+says_nothing : (evs : List RecvEvent) (reason : ℕ) → part_of_abort reason ≡ Of_neither
+    → with_action evs (action.Put (unit.Abort reason)) ≡ evs
 says_nothing evs reason q = ap (with_put evs) q
 
-opening_done : (c : State) (w : Wanted) (a : Action) (new : State) (x : ℕ × Last) (b : Bool) → Leaves (receiver_of x) b w → Does c w a new → Fits new → Stands new.phase new x (with_action (link_of b) a)
+opening_done : (c : State) (w : Wanted) (a : Action) (new : State) (x : ℕ × Last) (b : Bool)
+    → Leaves (receiver_of x) b w → Does c w a new → Fits new → Stands new.phase new x (with_action (link_of b) a)
 opening_done c (Aborts reason) a new x b o d f =
-    ended_at new _ x (with_action (link_of b) a) (link_of b) d.1 refl (ap {A = Action} (with_action (link_of b)) d.0 ∙ says_nothing (link_of b) reason o) (link_runs (receiver_of x) b)
+    ended_at new _ x (with_action (link_of b) a) (link_of b) d.1 refl
+    (ap {A = Action} (with_action (link_of b)) d.0 ∙ says_nothing (link_of b) reason o)
+    (link_runs (receiver_of x) b)
 opening_done c (Rejects reason) a new x b o d f =
-    ended_at new _ x (with_action (link_of b) a) (link_of b) d.1 refl (ap {A = Action} (with_action (link_of b)) d.0) (link_runs (receiver_of x) b)
+    ended_at new _ x (with_action (link_of b) a) (link_of b) d.1 refl (ap {A = Action} (with_action (link_of b)) d.0)
+    (link_runs (receiver_of x) b)
 opening_done c (Ends y) a new x b o d f =
-    ended_at new _ x (with_action (link_of b) a) (link_of b) d.1 refl (ap {A = Action} (with_action (link_of b)) d.0) (link_runs (receiver_of x) b)
+    ended_at new _ x (with_action (link_of b) a) (link_of b) d.1 refl (ap {A = Action} (with_action (link_of b)) d.0)
+    (link_runs (receiver_of x) b)
 opening_done c (Puts y v) a new x b o d f =
     subst (λ z. Stands new.phase new x z) (sym (ap {A = Action} (with_action (link_of b)) d.0 ∙ o.1))
     (subst (λ z. Stands z.phase z x (link_of (links b y))) (sym d.1) (leaf_stands v.phase v x (links b y) o.0))
 opening_done c (Asks q v) a new x b o d f =
-    subst (λ z. Stands new.phase new x z) (sym (ap {A = Action} (with_action (link_of b)) d.0)) (subst (λ z. Stands z.phase z x (link_of b)) (sym d.1) (leaf_stands v.phase v x b o))
+    subst (λ z. Stands new.phase new x z) (sym (ap {A = Action} (with_action (link_of b)) d.0))
+    (subst (λ z. Stands z.phase z x (link_of b)) (sym d.1) (leaf_stands v.phase v x b o))
 opening_done c (Reads v) a new x b o d f =
-    subst (λ z. Stands new.phase new x z) (sym (ap {A = Action} (with_action (link_of b)) d.0)) (subst (λ z. Stands z.phase z x (link_of b)) (sym d.1) (leaf_stands v.phase v x b o))
+    subst (λ z. Stands new.phase new x z) (sym (ap {A = Action} (with_action (link_of b)) d.0))
+    (subst (λ z. Stands z.phase z x (link_of b)) (sym d.1) (leaf_stands v.phase v x b o))
 opening_done c (Goes_on v) a new x b o d f =
-    goes_stands v a new x (link_of b) (subst (λ z. Reaches (receiver_of x) (link_of z) phase.Puts v.recv) (sym o.1) (new_link phase.Puts (receiver_of x) v.recv o.0 refl refl)) d f
+    goes_stands v a new x (link_of b)
+    (subst (λ z. Reaches (receiver_of x) (link_of z) phase.Puts v.recv) (sym o.1)
+    (new_link phase.Puts (receiver_of x) v.recv o.0 refl refl)) d f
 opening_done c (Excepts v y) a new x b o d f = elim o [ ]
 opening_done c Never a new x b o d f = elim d [ ]
 
@@ -175,25 +203,33 @@ action_behind xs ys any2 = refl
 
 -- One call -----------------------------------------------------------------------------------------
 
-does_in : (x : Turn) → IsTurn x → is_ended x.before.phase ≡ false → Does (counted x.before x.event) (wanted_in x.before.phase (counted x.before x.event) x.event) x.action x.after
+does_in : (x : Turn) → IsTurn x → is_ended x.before.phase ≡ false
+    → Does (counted x.before x.event) (wanted_in x.before.phase (counted x.before x.event) x.event) x.action x.after
 does_in x is i =
     subst (λ w. Does (counted x.before x.event) w x.action x.after) (in_phase_wanted x.before x.event)
     (follows_does x.before.phase x.before x.event x.action x.after i is.follows)
 
 -- a call, with the piece that it makes durable
 abbrev Called : Turn → ℕ × Last → List RecvEvent → Type 0
-Called x y evs = (piece : List ℕ) × Stands x.after.phase x.after (told_receiving x.event x.before.phase y) (evs ++ receiving_events_of x piece)
+Called x y evs = (piece : List ℕ) × Stands x.after.phase x.after (told_receiving x.event x.before.phase y)
+    (evs ++ receiving_events_of x piece)
 
-opening_call : (x : Turn) → IsTurn x → (y : ℕ × Last) (evs : List RecvEvent) (b : Bool) → Stage x.before.phase b → x.before.recv ≡ receiver_of y → evs ≡ link_of b → Called x y evs
+opening_call : (x : Turn) → IsTurn x → (y : ℕ × Last) (evs : List RecvEvent) (b : Bool) → Stage x.before.phase b
+    → x.before.recv ≡ receiver_of y → evs ≡ link_of b → Called x y evs
 opening_call x is y evs b k q n =
     let o = stage_opening x.before.phase b k in
     let z : ℕ × Last = told_receiving x.event x.before.phase y in
-    let leaves = subst (λ f. Leaves f b (wanted_in x.before.phase (counted x.before x.event) x.event)) (told_end_is x.event x.before.phase x.before.recv y q) (opening_leaves x.before.phase b x.before x.event k) in
-    let done = opening_done (counted x.before x.event) (wanted_in x.before.phase (counted x.before x.event) x.event) x.action x.after z b leaves (does_in x is o.going) is.fits_after in
-    let told : told_by x.before.phase x.before [] x.event ≡ [] = told_none x.before.phase x.before [] x.event o.closed in
+    let leaves = subst (λ f. Leaves f b (wanted_in x.before.phase (counted x.before x.event) x.event))
+    (told_end_is x.event x.before.phase x.before.recv y q) (opening_leaves x.before.phase b x.before x.event k) in
+    let done = opening_done (counted x.before x.event) (wanted_in x.before.phase (counted x.before x.event) x.event)
+    x.action x.after z b leaves (does_in x is o.going) is.fits_after in
+    let told : told_by x.before.phase x.before [] x.event ≡ [] =
+    told_none x.before.phase x.before [] x.event o.closed in
     let same : with_action (link_of b) x.action ≡ evs ++ receiving_events_of x [] =
-    ap {A = List RecvEvent} (λ s. with_action s x.action) (sym (append-nil (link_of b))) ∙ action_behind (link_of b) [] x.action
-    ∙ ap {A = List RecvEvent} (λ s. s ++ with_action [] x.action) (sym n) ∙ ap {A = List RecvEvent} (λ s. evs ++ with_action s x.action) (sym told) in
+    ap {A = List RecvEvent} (λ s. with_action s x.action) (sym (append-nil (link_of b)))
+    ∙ action_behind (link_of b) [] x.action
+    ∙ ap {A = List RecvEvent} (λ s. s ++ with_action [] x.action) (sym n)
+    ∙ ap {A = List RecvEvent} (λ s. evs ++ with_action s x.action) (sym told) in
     ([], subst (λ s. Stands x.after.phase x.after z s) same done)
 
 -- what is told of the half only before the link is answered
@@ -218,12 +254,17 @@ open_going : (p : Phase) → is_open p ≡ true → is_ended p ≡ false
 open_going (phase.Ended y) i = absurd (never i)
 open_going p i = refl
 
-open_call : EventsGo → (x : Turn) → IsTurn x → (y : ℕ × Last) (evs : List RecvEvent) → is_open x.before.phase ≡ true → Reaches (receiver_of y) evs x.before.phase x.before.recv → Called x y evs
+open_call : EventsGo → (x : Turn) → IsTurn x → (y : ℕ × Last) (evs : List RecvEvent) → is_open x.before.phase ≡ true
+    → Reaches (receiver_of y) evs x.before.phase x.before.recv → Called x y evs
 open_call g x is y evs i k =
     let d = does_in x is (open_going x.before.phase i) in (
       k.0,
-      subst (λ z. Stands x.after.phase x.after z (evs ++ receiving_events_of x k.0)) (sym (told_same x.event x.before.phase y i))
-          (elim (open_way x.before.phase x.before x.event x.action x.after i d) [ inl j ↦ opened j (on j) | inr turned ↦ ended (turned_last x.after.phase x.before x.event turned.to) off ]),
+      subst (λ z. Stands x.after.phase x.after z (evs ++ receiving_events_of x k.0))
+          (sym (told_same x.event x.before.phase y i))
+          (elim (open_way x.before.phase x.before x.event x.action x.after i d) [
+            | inl j ↦ opened j (on j)
+            | inr turned ↦ ended (turned_last x.after.phase x.before x.event turned.to) off
+          ]),
     )
   where
     at : RecvEnd
@@ -239,17 +280,24 @@ open_call g x is y evs i k =
     does = does_in x is (open_going x.before.phase i)
 
     goes : RecvGoes at told (wanted_in x.before.phase c x.event)
-    goes = subst (λ w. RecvGoes at told w) (in_phase_wanted x.before x.event) (g x.before x.event k.0 i is.fits is.answers)
+    goes = subst (λ w. RecvGoes at told w) (in_phase_wanted x.before x.event)
+        (g x.before x.event k.0 i is.fits is.answers)
 
-    on : is_open x.after.phase ≡ true → Reaches (receiver_of y) (evs ++ with_action told x.action) x.after.phase x.after.recv
+    on : is_open x.after.phase ≡ true
+        → Reaches (receiver_of y) (evs ++ with_action told x.action) x.after.phase x.after.recv
     on j =
         let call = does_goes at told c (wanted_in x.before.phase c x.event) x.action x.after goes does is.fits_after in
-        let there = subst (λ b. ReachesBy b at (with_action told x.action) x.after.phase x.after.recv) (open_goes_on x.after.phase j) call in
-        (there.0, append_run (receiver_of y) at (whole x.after.phase x.after.recv there.0) evs (with_action told x.action) k.1 there.1)
+        let there = subst (λ b. ReachesBy b at (with_action told x.action) x.after.phase x.after.recv)
+        (open_goes_on x.after.phase j) call in (
+          there.0,
+          append_run (receiver_of y) at (whole x.after.phase x.after.recv there.0) evs
+              (with_action told x.action) k.1 there.1,
+        )
 
     off : Runs (receiver_of y) (evs ++ with_action told x.action)
     off =
-        let there = wanted_runs at told c (wanted_in x.before.phase c x.event) x.action x.after goes (plain x.before.phase x.before k.0 x.event i) does is.fits_after in
+        let there = wanted_runs at told c (wanted_in x.before.phase c x.event) x.action x.after goes
+        (plain x.before.phase x.before k.0 x.event i) does is.fits_after in
         (there.0, append_run (receiver_of y) at there.0 evs (with_action told x.action) k.1 there.1)
 
 -- ---- at the end
@@ -320,55 +368,76 @@ final_last (phase.PutsLast y) k = refl
 final_last (phase.Ended y) k = refl
 final_last q k = elim k [ ]
 
-does_final : (c : State) (w : Wanted) (a : Action) (new : State) → Finishes w → Silent w → Does c w a new → (with_action [] a ≡ []) × (is_last_phase new.phase ≡ true)
-does_final c (Aborts reason) a new k q d = (ap {A = Action} (with_action []) d.0 ∙ ap (with_put []) q, ap {A = State} (λ z. is_last_phase z.phase) d.1)
-does_final c (Rejects reason) a new k q d = (ap {A = Action} (with_action []) d.0, ap {A = State} (λ z. is_last_phase z.phase) d.1)
-does_final c (Ends y) a new k q d = (ap {A = Action} (with_action []) d.0, ap {A = State} (λ z. is_last_phase z.phase) d.1)
-does_final c (Puts x v) a new k q d = (ap {A = Action} (with_action []) d.0 ∙ q, ap {A = State} (λ z. is_last_phase z.phase) d.1 ∙ final_last v.phase k.1)
-does_final c (Asks y v) a new k q d = (ap {A = Action} (with_action []) d.0, ap {A = State} (λ z. is_last_phase z.phase) d.1 ∙ final_last v.phase k)
+does_final : (c : State) (w : Wanted) (a : Action) (new : State) → Finishes w → Silent w → Does c w a new
+    → (with_action [] a ≡ []) × (is_last_phase new.phase ≡ true)
+does_final c (Aborts reason) a new k q d =
+    (ap {A = Action} (with_action []) d.0 ∙ ap (with_put []) q, ap {A = State} (λ z. is_last_phase z.phase) d.1)
+does_final c (Rejects reason) a new k q d =
+    (ap {A = Action} (with_action []) d.0, ap {A = State} (λ z. is_last_phase z.phase) d.1)
+does_final c (Ends y) a new k q d =
+    (ap {A = Action} (with_action []) d.0, ap {A = State} (λ z. is_last_phase z.phase) d.1)
+does_final c (Puts x v) a new k q d =
+    (ap {A = Action} (with_action []) d.0 ∙ q, ap {A = State} (λ z. is_last_phase z.phase) d.1 ∙ final_last v.phase k.1)
+does_final c (Asks y v) a new k q d =
+    (ap {A = Action} (with_action []) d.0, ap {A = State} (λ z. is_last_phase z.phase) d.1 ∙ final_last v.phase k)
 does_final c Never a new k q d = elim d [ ]
 does_final c any1 a new k q d = elim k [ ]
 
-over_says : (p : Phase) (x : Turn) → is_ended p ≡ true → FollowsAt p x.before x.event x.action x.after → (with_action [] x.action ≡ []) × (x.after ≡ x.before)
+over_says : (p : Phase) (x : Turn) → is_ended p ≡ true → FollowsAt p x.before x.event x.action x.after
+    → (with_action [] x.action ≡ []) × (x.after ≡ x.before)
 over_says (phase.Ended y) x i f = (ap {A = Action} (with_action []) f.0, f.1)
 over_says p x i f = absurd (never i)
 
-end_call : (x : Turn) → IsTurn x → is_last_phase x.before.phase ≡ true → (b : Bool) → is_ended x.before.phase ≡ b → (with_action [] x.action ≡ []) × (is_last_phase x.after.phase ≡ true)
+end_call : (x : Turn) → IsTurn x → is_last_phase x.before.phase ≡ true → (b : Bool) → is_ended x.before.phase ≡ b
+    → (with_action [] x.action ≡ []) × (is_last_phase x.after.phase ≡ true)
 end_call x is l false i =
-    does_final (counted x.before x.event) (wanted_in x.before.phase (counted x.before x.event) x.event) x.action x.after (finishes x.before.phase x.before x.event l) (silent x.before.phase x.before x.event l) (does_in x is i)
+    does_final (counted x.before x.event) (wanted_in x.before.phase (counted x.before x.event) x.event) x.action x.after
+    (finishes x.before.phase x.before x.event l) (silent x.before.phase x.before x.event l) (does_in x is i)
 end_call x is l true i =
     let said = over_says x.before.phase x i is.follows in
     (said.0, ap {A = State} (λ z. is_last_phase z.phase) said.1 ∙ l)
 
-last_call : (x : Turn) → IsTurn x → (y : ℕ × Last) (evs : List RecvEvent) → is_last_phase x.before.phase ≡ true → Runs (receiver_of y) evs → Called x y evs
+last_call : (x : Turn) → IsTurn x → (y : ℕ × Last) (evs : List RecvEvent) → is_last_phase x.before.phase ≡ true
+    → Runs (receiver_of y) evs → Called x y evs
 last_call x is y evs l k =
     let done = end_call x is l (is_ended x.before.phase) refl in
-    let told : told_by x.before.phase x.before [] x.event ≡ [] = told_none x.before.phase x.before [] x.event (last_closed x.before.phase l) in
+    let told : told_by x.before.phase x.before [] x.event ≡ [] =
+    told_none x.before.phase x.before [] x.event (last_closed x.before.phase l) in
     let same : evs ≡ evs ++ receiving_events_of x [] =
-    sym (append-nil evs) ∙ ap {A = List RecvEvent} (λ s. evs ++ s) (sym done.0) ∙ ap {A = List RecvEvent} (λ s. evs ++ with_action s x.action) (sym told) in (
+    sym (append-nil evs) ∙ ap {A = List RecvEvent} (λ s. evs ++ s) (sym done.0)
+    ∙ ap {A = List RecvEvent} (λ s. evs ++ with_action s x.action) (sym told) in (
       [],
-      subst (λ z. Stands x.after.phase x.after z (evs ++ receiving_events_of x [])) (sym (told_last x.event x.before.phase y l))
+      subst (λ z. Stands x.after.phase x.after z (evs ++ receiving_events_of x []))
+          (sym (told_last x.event x.before.phase y l))
           (ended done.1 (subst (λ s. Runs (receiver_of y) s) same k)),
     )
 
-any_call : EventsGo → (x : Turn) → IsTurn x → (y : ℕ × Last) (evs : List RecvEvent) → Stands x.before.phase x.before y evs → Called x y evs
+any_call : EventsGo → (x : Turn) → IsTurn x → (y : ℕ × Last) (evs : List RecvEvent)
+    → Stands x.before.phase x.before y evs → Called x y evs
 any_call g x is y evs (opening b k q n) = opening_call x is y evs b k q n
 any_call g x is y evs (opened i k) = open_call g x is y evs i k
 any_call g x is y evs (ended l k) = last_call x is y evs l k
 
 -- All calls ------------------------------------------------------------------------------------------
 
-calls_stand : EventsGo → (xs : List Turn) (t v : State) (y : ℕ × Last) (evs : List RecvEvent) → AreCalls t xs v → Stands t.phase t y evs →
+calls_stand : EventsGo → (xs : List Turn) (t v : State) (y : ℕ × Last) (evs : List RecvEvent) → AreCalls t xs v
+    → Stands t.phase t y evs →
     (events : List RecvEvent) × AreReceiving xs events × Stands v.phase v (receiving_told y xs) (evs ++ events)
-calls_stand g [] t v y evs run k =
-    ([], refl, subst (λ z. Stands v.phase v y z) (sym (append-nil evs)) (subst (λ z. Stands z.phase z y evs) (sym run) k))
+calls_stand g [] t v y evs run k = (
+  [],
+  refl,
+  subst (λ z. Stands v.phase v y z) (sym (append-nil evs))
+      (subst (λ z. Stands z.phase z y evs) (sym run) k),
+)
 calls_stand g (x ∷ xs) t v y evs run k =
     let here : Stands x.before.phase x.before y evs = subst (λ z. Stands z.phase z y evs) (sym run.0) k in
     let next = any_call g x run.1 y evs here in
-    let rest = calls_stand g xs x.after v (told_receiving x.event x.before.phase y) (evs ++ receiving_events_of x next.0) run.2 next.1 in (
+    let rest = calls_stand g xs x.after v (told_receiving x.event x.before.phase y)
+    (evs ++ receiving_events_of x next.0) run.2 next.1 in (
       receiving_events_of x next.0 ++ rest.0,
       (next.0, rest.0, refl, rest.1),
-      subst (λ z. Stands v.phase v (receiving_told y (x ∷ xs)) z) (append_assoc evs (receiving_events_of x next.0) rest.0) rest.2,
+      subst (λ z. Stands v.phase v (receiving_told y (x ∷ xs)) z)
+          (append_assoc evs (receiving_events_of x next.0) rest.0) rest.2,
     )
 
 abbrev IsList : State → ℕ × Last → List RecvEvent → Type 0
@@ -376,8 +445,11 @@ IsList v y evs = (f : RecvEnd) × r.IsReceivingEnd (receiver_of y) evs f × (is_
 
 list_of : (v : State) (y : ℕ × Last) (evs : List RecvEvent) → Stands v.phase v y evs → IsList v y evs
 list_of v y evs (opening b k q n) =
-    let run = link_runs (receiver_of y) b in
-    (run.0, subst (λ z. r.IsReceivingEnd (receiver_of y) z run.0) (sym n) run.1, λ o. absurd (never (sym (stage_opening v.phase b k).closed ∙ o)))
+    let run = link_runs (receiver_of y) b in (
+      run.0,
+      subst (λ z. r.IsReceivingEnd (receiver_of y) z run.0) (sym n) run.1,
+      λ o. absurd (never (sym (stage_opening v.phase b k).closed ∙ o)),
+    )
 list_of v y evs (opened i k) = (whole v.phase v.recv k.0, k.1, λ o. (k.0, refl))
 list_of v y evs (ended l k) = (k.0, k.1, λ o. absurd (never (sym (last_closed v.phase l) ∙ o)))
 

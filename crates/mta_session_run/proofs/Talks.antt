@@ -1,5 +1,7 @@
 -- What a link has carried, call after call.
-use Rattle.std.proofs.Common.{◌≡◌, inl, inr, Bool, true, false, ℕ, zero, suc, ◌+◌, ◌-◌, ◌≤◌, Option, Result, Ok, Err, IfOk, OnErr, List, [], ◌++◌, ◌∷◌, length, take, drop, refl, sym, ap, subst, ◌∙◌, arith, append_assoc, append-nil}
+use Rattle.std.proofs.Common.{◌≡◌, inl, inr, Bool, true, false, ℕ, zero, suc, ◌+◌, ◌-◌, ◌≤◌, Option, Result, Ok, Err}
+use Rattle.std.proofs.Common.{IfOk, OnErr, List, [], ◌++◌, ◌∷◌, length, take, drop, refl, sym, ap, subst, ◌∙◌, arith}
+use Rattle.std.proofs.Common.{append_assoc, append-nil}
 use Rattle.std.proofs.lemmas.Grind.{common_steps}
 use Rattle.mta_edge.specs.Causes.{Rose}
 use Rattle.std.proofs.lemmas.List.{take-append-drop, drop-drop, length-drop}
@@ -15,13 +17,15 @@ use Rattle.mta_units.specs.Reading.{HasRead, and_next}
 use Rattle.mta_session_run.specs.Carried.{Carried, Fronted, FedBy, IsOver, PutsAll, PutsFront}
 
 -- one step after another, and a step that says less
-pub leads_then : {s t u : Talk → Talk → Type 0} {a b c : Option Talk} → ((f g h : Talk) → s f g → t g h → u f h) → Leads s a b → Leads t b c → Leads u a c
+pub leads_then : {s t u : Talk → Talk → Type 0} {a b c : Option Talk} → ((f g h : Talk) → s f g → t g h → u f h)
+    → Leads s a b → Leads t b c → Leads u a c
 leads_then join p q = record {
   each = λ f was. let x = p.each f was in let y = q.each x.0 x.1 in (y.0, y.1, join f x.0 y.0 x.2 y.2);
   back = λ h was. let y = q.back h was in let x = p.back y.0 y.1 in (x.0, x.1, join x.0 y.0 h x.2 y.2);
 }
 
-pub leads_map : {s t : Talk → Talk → Type 0} {a b : Option Talk} → ((f g : Talk) → s f g → t f g) → Leads s a b → Leads t a b
+pub leads_map : {s t : Talk → Talk → Type 0} {a b : Option Talk} → ((f g : Talk) → s f g → t f g) → Leads s a b
+    → Leads t a b
 leads_map less p = record {
   each = λ f was. let x = p.each f was in (x.0, x.1, less f x.0 x.2);
   back = λ g now. let x = p.back g now in (x.0, x.1, less x.0 g x.2);
@@ -37,7 +41,8 @@ pub leads_refl : {s : Talk → Talk → Type 0} {a : Option Talk} → ((f : Talk
 leads_refl same = record { each = λ f was. (f, was, same f); back = λ g now. (g, now, same g) }
 
 -- the units that were read, of the octets that were fed
-pub carried_front : (us : List AnyUnit) (octets : List ℕ) (feed : Feed) (f g : Talk) → Carried us octets feed f g → Fronted us octets f g
+pub carried_front : (us : List AnyUnit) (octets : List ℕ) (feed : Feed) (f g : Talk) → Carried us octets feed f g
+    → Fronted us octets f g
 carried_front us octets feed f g c = record {
   front = c.read.front;
   rest = feed.left;
@@ -47,7 +52,8 @@ carried_front us octets feed f g c = record {
 }
 
 -- a unit is taken of them
-pub carried_next : (us : List AnyUnit) (octets : List ℕ) (old new : Feed) (f g : Talk) (r : Result Next NoMemory) → (c : Carried us octets old f g) →
+pub carried_next : (us : List AnyUnit) (octets : List ℕ) (old new : Feed) (f g : Talk) (r : Result Next NoMemory)
+    → (c : Carried us octets old f g) →
     IfOk r (λ n. HasRead (and_next us n) c.stream new) → IfOk r (λ n. Carried (and_next us n) octets new f g)
 carried_next us octets old new f g (Ok n) c h = record { stream = c.stream; read = h; got = c.got; put = c.put }
 carried_next us octets old new f g (Err e) c h = tt
@@ -58,27 +64,33 @@ on_err X (Ok a) x = tt
 on_err X (Err e) x = x
 
 -- octets are moved into the frames
-pub carried_fed : (us : List AnyUnit) (octets : List ℕ) (old new : Feed) (n : ℕ) (into piece : List ℕ) (f g h : Talk) → piece ≡ take n into →
-    ((us : List AnyUnit) (stream : List ℕ) → HasRead us stream old → HasRead us (stream ++ piece) new) → Carried us octets old f g → Gets n into g h → Carried us octets new f h
+pub carried_fed : (us : List AnyUnit) (octets : List ℕ) (old new : Feed) (n : ℕ) (into piece : List ℕ) (f g h : Talk)
+    → piece ≡ take n into →
+    ((us : List AnyUnit) (stream : List ℕ) → HasRead us stream old → HasRead us (stream ++ piece) new)
+    → Carried us octets old f g → Gets n into g h → Carried us octets new f h
 carried_fed us octets old new n into piece f g h e reads c t = record {
   stream = c.stream ++ piece;
   read = reads us c.stream c.read;
-  got = t.got ∙ ap (λ (x : List ℕ). x ++ take n g.left) c.got ∙ append_assoc f.got c.stream (take n g.left) ∙ ap (λ (x : List ℕ). f.got ++ (c.stream ++ x)) (sym t.moved ∙ sym e);
+  got = t.got ∙ ap (λ (x : List ℕ). x ++ take n g.left) c.got ∙ append_assoc f.got c.stream (take n g.left)
+      ∙ ap (λ (x : List ℕ). f.got ++ (c.stream ++ x)) (sym t.moved ∙ sym e);
   put = t.put ∙ c.put;
 }
 
 -- octets were got and are lost
-pub fronted_lost : (us : List AnyUnit) (octets : List ℕ) (n : ℕ) (into : List ℕ) (f g h : Talk) → Fronted us octets f g → Gets n into g h → Fronted us octets f h
+pub fronted_lost : (us : List AnyUnit) (octets : List ℕ) (n : ℕ) (into : List ℕ) (f g h : Talk) → Fronted us octets f g
+    → Gets n into g h → Fronted us octets f h
 fronted_lost us octets n into f g h c t = record {
   front = c.front;
   rest = c.rest ++ take n g.left;
   spelled = c.spelled;
-  got = t.got ∙ ap (λ (x : List ℕ). x ++ take n g.left) c.got ∙ append_assoc f.got (c.front ++ c.rest) (take n g.left) ∙ ap (λ (x : List ℕ). f.got ++ x) (append_assoc c.front c.rest (take n g.left));
+  got = t.got ∙ ap (λ (x : List ℕ). x ++ take n g.left) c.got ∙ append_assoc f.got (c.front ++ c.rest) (take n g.left)
+      ∙ ap (λ (x : List ℕ). f.got ++ x) (append_assoc c.front c.rest (take n g.left));
   put = t.put ∙ c.put;
 }
 
 -- nothing was got
-pub carried_none : (us : List AnyUnit) (octets : List ℕ) (feed : Feed) (n : ℕ) (into : List ℕ) (f g h : Talk) → n ≡ 0 → Carried us octets feed f g → Gets n into g h → Carried us octets feed f h
+pub carried_none : (us : List AnyUnit) (octets : List ℕ) (feed : Feed) (n : ℕ) (into : List ℕ) (f g h : Talk) → n ≡ 0
+    → Carried us octets feed f g → Gets n into g h → Carried us octets feed f h
 carried_none us octets feed n into f g h e c t = record {
   stream = c.stream;
   read = c.read;
@@ -128,14 +140,18 @@ take_both (x ∷ bytes) (suc n) m l =
     let e : suc (n + m) ≡ suc n + m = omega arith in
     ap (λ (z : List ℕ). x ∷ z) (take_both bytes n m (omega (arith, l))) ∙ ap (λ (k : ℕ). take k (x ∷ bytes)) e
 
-puts_both : (bytes rest : List ℕ) (n m : ℕ) (f g h : Talk) → Parts bytes rest n → PutsAll (take n bytes) f g → Puts m rest g h → PutsAll (take (n + m) bytes) f h
+puts_both : (bytes rest : List ℕ) (n m : ℕ) (f g h : Talk) → Parts bytes rest n → PutsAll (take n bytes) f g
+    → Puts m rest g h → PutsAll (take (n + m) bytes) f h
 puts_both bytes rest n m f g h p one two = record {
   got = two.got ∙ one.got;
   left = two.left ∙ one.left;
-  put = two.put ∙ ap (λ (x : List ℕ). x ++ take m rest) one.put ∙ append_assoc f.put (take n bytes) (take m rest) ∙ ap (λ (x : List ℕ). f.put ++ (take n bytes ++ take m x)) p.rest_is ∙ ap (λ (x : List ℕ). f.put ++ x) (take_both bytes n m p.within);
+  put = two.put ∙ ap (λ (x : List ℕ). x ++ take m rest) one.put ∙ append_assoc f.put (take n bytes) (take m rest)
+      ∙ ap (λ (x : List ℕ). f.put ++ (take n bytes ++ take m x)) p.rest_is
+      ∙ ap (λ (x : List ℕ). f.put ++ x) (take_both bytes n m p.within);
 }
 
-pub part_more : (bytes rest behind : List ℕ) (m : ℕ) (a b c : Option Talk) → behind ≡ drop m rest → m ≤ length rest → PutsPart bytes rest a b → Leads (Puts m rest) b c → PutsPart bytes behind a c
+pub part_more : (bytes rest behind : List ℕ) (m : ℕ) (a b c : Option Talk) → behind ≡ drop m rest → m ≤ length rest
+    → PutsPart bytes rest a b → Leads (Puts m rest) b c → PutsPart bytes behind a c
 part_more bytes rest behind m a b c e le p more =
     let size : length rest ≡ length bytes - p.0 = ap length p.1.rest_is ∙ length-drop p.0 bytes in (
       p.0 + m,
@@ -148,9 +164,11 @@ part_more bytes rest behind m a b c e le p more =
 
 take_whole : (bytes rest : List ℕ) (n : ℕ) → rest ≡ [] → Parts bytes rest n → take n bytes ≡ bytes
 take_whole bytes rest n e p =
-    sym (append-nil (take n bytes)) ∙ ap (λ (x : List ℕ). take n bytes ++ x) (sym e ∙ p.rest_is) ∙ take-append-drop n bytes
+    sym (append-nil (take n bytes)) ∙ ap (λ (x : List ℕ). take n bytes ++ x) (sym e ∙ p.rest_is)
+    ∙ take-append-drop n bytes
 
-pub part_whole : (bytes rest : List ℕ) (a b : Option Talk) → rest ≡ [] → PutsPart bytes rest a b → Leads (PutsAll bytes) a b
+pub part_whole : (bytes rest : List ℕ) (a b : Option Talk) → rest ≡ [] → PutsPart bytes rest a b
+    → Leads (PutsAll bytes) a b
 part_whole bytes rest a b e p = subst (λ (x : List ℕ). Leads (PutsAll x) a b) (take_whole bytes rest p.0 e p.1) p.2
 
 pub part_front : (bytes rest : List ℕ) (a b : Option Talk) → PutsPart bytes rest a b → PutsFront bytes a b

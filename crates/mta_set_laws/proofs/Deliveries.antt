@@ -4,7 +4,8 @@ use Rattle.mta_ber.specs.declared.tag.Tag.{Tag}
 use Rattle.mta_report_recipient.specs.declared.delivery.DeliveryPart.{DeliveryPart}
 use Rattle.mta_report_recipient.specs.declared.delivery.DeliveryPart.TheVariants.{Moment, User}
 use Rattle.mta_report_recipient.specs.declared.delivery.DeliveryParts.{DeliveryParts}
-use Rattle.mta_report_recipient.specs.Deliveries.{MakesDelivery, MakesDeliveryPart, delivery_held, with_moment, with_user}
+use Rattle.mta_report_recipient.specs.Deliveries.{MakesDelivery, MakesDeliveryPart, delivery_held, with_moment}
+use Rattle.mta_report_recipient.specs.Deliveries.{with_user}
 use Rattle.mta_set_laws.specs.Orders.{ChangePlaces}
 use Rattle.mta_set_laws.proofs.Slots.{Slot, moved, twice}
 
@@ -14,9 +15,12 @@ moment_slot = record { put = with_moment; held = delivery_held Moment }
 abbrev user_slot : Slot DeliveryParts ℕ
 user_slot = record { put = with_user; held = delivery_held User }
 
-swapped : (j k : DeliveryPart) (depth : ℕ) (s t u : DeliveryParts) (tag : Tag) (content octets : List ℕ) (tag' : Tag) (content' octets' : List ℕ)
-    → MakesDeliveryPart j depth s tag content octets t → MakesDeliveryPart k depth t tag' content' octets' u → delivery_held j s ≡ false → delivery_held k t ≡ false
-    → (between : DeliveryParts) × MakesDeliveryPart k depth s tag' content' octets' between × (delivery_held k s ≡ false)
+swapped : (j k : DeliveryPart) (depth : ℕ) (s t u : DeliveryParts) (tag : Tag) (content octets : List ℕ) (tag' : Tag)
+    (content' octets' : List ℕ)
+    → MakesDeliveryPart j depth s tag content octets t → MakesDeliveryPart k depth t tag' content' octets' u
+    → delivery_held j s ≡ false → delivery_held k t ≡ false
+    → (between : DeliveryParts) × MakesDeliveryPart k depth s tag' content' octets' between
+    × (delivery_held k s ≡ false)
     × MakesDeliveryPart j depth between tag content octets u × (delivery_held j between ≡ false)
 swapped Moment Moment depth s t u g c o g' c' o' m n f e = absurd (twice moment_slot (λ s x. refl) s t m e)
 swapped Moment User depth s t u g c o g' c' o' m n f e =

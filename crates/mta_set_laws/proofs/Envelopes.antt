@@ -10,9 +10,15 @@ use Rattle.mta_envelope_extensions.specs.declared.extensions.Extensions.{Extensi
 use Rattle.mta_envelope_recipient.specs.declared.recipient.RecipientFields.{RecipientFields}
 use Rattle.mta_envelope.specs.declared.priority.Priority.{Priority}
 use Rattle.mta_envelope.specs.declared.parts.EnvelopePart.{EnvelopePart}
-use Rattle.mta_envelope.specs.declared.parts.EnvelopePart.TheVariants.{Originator, Identifier, InformationTypes, ContentType, MessagePriority, Indicators, TraceList, ContentIdentifier, Deferral, Length, Bilateral, RecipientList, ExtensionSet}
+use Rattle.mta_envelope.specs.declared.parts.EnvelopePart.TheVariants.{Originator, Identifier, InformationTypes}
+use Rattle.mta_envelope.specs.declared.parts.EnvelopePart.TheVariants.{ContentType, MessagePriority, Indicators}
+use Rattle.mta_envelope.specs.declared.parts.EnvelopePart.TheVariants.{TraceList, ContentIdentifier, Deferral, Length}
+use Rattle.mta_envelope.specs.declared.parts.EnvelopePart.TheVariants.{Bilateral, RecipientList, ExtensionSet}
 use Rattle.mta_envelope.specs.declared.parts.EnvelopeParts.{EnvelopeParts}
-use Rattle.mta_envelope.specs.Components.{MakesEnvelope, MakesEnvelopePart, is_envelope_tag, with_bilateral, with_content_id, with_content_kind, with_deferral, with_eits, with_extensions, with_id, with_indicators, with_length, with_originator, with_priority, with_recipients, with_trace}
+use Rattle.mta_envelope.specs.Components.{MakesEnvelope, MakesEnvelopePart, is_envelope_tag, with_bilateral}
+use Rattle.mta_envelope.specs.Components.{with_content_id, with_content_kind, with_deferral, with_eits, with_extensions}
+use Rattle.mta_envelope.specs.Components.{with_id, with_indicators, with_length, with_originator, with_priority}
+use Rattle.mta_envelope.specs.Components.{with_recipients, with_trace}
 use Rattle.mta_set_laws.specs.Orders.{ChangePlaces}
 use Rattle.mta_set_laws.proofs.Slots.{Field, moved_field, twice_in_field}
 
@@ -55,10 +61,13 @@ recipients_slot = record { put = with_recipients; get = λ s. s.recipients }
 abbrev extensions_slot : Field EnvelopeParts Extensions
 extensions_slot = record { put = with_extensions; get = λ s. s.extensions }
 
-swapped : (j k : EnvelopePart) (depth : ℕ) (s t u : EnvelopeParts) (tag : Tag) (content octets : List ℕ) (tag' : Tag) (content' octets' : List ℕ)
+swapped : (j k : EnvelopePart) (depth : ℕ) (s t u : EnvelopeParts) (tag : Tag) (content octets : List ℕ) (tag' : Tag)
+    (content' octets' : List ℕ)
     → MakesEnvelopePart j depth s tag content octets t → MakesEnvelopePart k depth t tag' content' octets' u
-    → (between : EnvelopeParts) × MakesEnvelopePart k depth s tag' content' octets' between × MakesEnvelopePart j depth between tag content octets u
-swapped Originator Originator depth s t u g c o g' c' o' m n = absurd (twice_in_field originator_slot (λ s x. refl) s t u m n)
+    → (between : EnvelopeParts) × MakesEnvelopePart k depth s tag' content' octets' between
+    × MakesEnvelopePart j depth between tag content octets u
+swapped Originator Originator depth s t u g c o g' c' o' m n =
+    absurd (twice_in_field originator_slot (λ s x. refl) s t u m n)
 swapped Originator Identifier depth s t u g c o g' c' o' m n =
     moved_field originator_slot id_slot ((λ s x. refl), (λ s y. refl), (λ s x y. refl)) s t u m n
 swapped Originator InformationTypes depth s t u g c o g' c' o' m n =
@@ -112,7 +121,8 @@ swapped InformationTypes Originator depth s t u g c o g' c' o' m n =
     moved_field eits_slot originator_slot ((λ s x. refl), (λ s y. refl), (λ s x y. refl)) s t u m n
 swapped InformationTypes Identifier depth s t u g c o g' c' o' m n =
     moved_field eits_slot id_slot ((λ s x. refl), (λ s y. refl), (λ s x y. refl)) s t u m n
-swapped InformationTypes InformationTypes depth s t u g c o g' c' o' m n = absurd (twice_in_field eits_slot (λ s x. refl) s t u m n)
+swapped InformationTypes InformationTypes depth s t u g c o g' c' o' m n =
+    absurd (twice_in_field eits_slot (λ s x. refl) s t u m n)
 swapped InformationTypes ContentType depth s t u g c o g' c' o' m n =
     moved_field eits_slot content_kind_slot ((λ s x. refl), (λ s y. refl), (λ s x y. refl)) s t u m n
 swapped InformationTypes MessagePriority depth s t u g c o g' c' o' m n =
@@ -139,7 +149,8 @@ swapped ContentType Identifier depth s t u g c o g' c' o' m n =
     moved_field content_kind_slot id_slot ((λ s x. refl), (λ s y. refl), (λ s x y. refl)) s t u m n
 swapped ContentType InformationTypes depth s t u g c o g' c' o' m n =
     moved_field content_kind_slot eits_slot ((λ s x. refl), (λ s y. refl), (λ s x y. refl)) s t u m n
-swapped ContentType ContentType depth s t u g c o g' c' o' m n = absurd (twice_in_field content_kind_slot (λ s x. refl) s t u m n)
+swapped ContentType ContentType depth s t u g c o g' c' o' m n =
+    absurd (twice_in_field content_kind_slot (λ s x. refl) s t u m n)
 swapped ContentType MessagePriority depth s t u g c o g' c' o' m n =
     moved_field content_kind_slot priority_slot ((λ s x. refl), (λ s y. refl), (λ s x y. refl)) s t u m n
 swapped ContentType Indicators depth s t u g c o g' c' o' m n =
@@ -166,7 +177,8 @@ swapped MessagePriority InformationTypes depth s t u g c o g' c' o' m n =
     moved_field priority_slot eits_slot ((λ s x. refl), (λ s y. refl), (λ s x y. refl)) s t u m n
 swapped MessagePriority ContentType depth s t u g c o g' c' o' m n =
     moved_field priority_slot content_kind_slot ((λ s x. refl), (λ s y. refl), (λ s x y. refl)) s t u m n
-swapped MessagePriority MessagePriority depth s t u g c o g' c' o' m n = absurd (twice_in_field priority_slot (λ s x. refl) s t u m n)
+swapped MessagePriority MessagePriority depth s t u g c o g' c' o' m n =
+    absurd (twice_in_field priority_slot (λ s x. refl) s t u m n)
 swapped MessagePriority Indicators depth s t u g c o g' c' o' m n =
     moved_field priority_slot indicators_slot ((λ s x. refl), (λ s y. refl), (λ s x y. refl)) s t u m n
 swapped MessagePriority TraceList depth s t u g c o g' c' o' m n =
@@ -193,7 +205,8 @@ swapped Indicators ContentType depth s t u g c o g' c' o' m n =
     moved_field indicators_slot content_kind_slot ((λ s x. refl), (λ s y. refl), (λ s x y. refl)) s t u m n
 swapped Indicators MessagePriority depth s t u g c o g' c' o' m n =
     moved_field indicators_slot priority_slot ((λ s x. refl), (λ s y. refl), (λ s x y. refl)) s t u m n
-swapped Indicators Indicators depth s t u g c o g' c' o' m n = absurd (twice_in_field indicators_slot (λ s x. refl) s t u m n)
+swapped Indicators Indicators depth s t u g c o g' c' o' m n =
+    absurd (twice_in_field indicators_slot (λ s x. refl) s t u m n)
 swapped Indicators TraceList depth s t u g c o g' c' o' m n =
     moved_field indicators_slot trace_slot ((λ s x. refl), (λ s y. refl), (λ s x y. refl)) s t u m n
 swapped Indicators ContentIdentifier depth s t u g c o g' c' o' m n =
@@ -247,7 +260,8 @@ swapped ContentIdentifier Indicators depth s t u g c o g' c' o' m n =
     moved_field content_id_slot indicators_slot ((λ s x. refl), (λ s y. refl), (λ s x y. refl)) s t u m n
 swapped ContentIdentifier TraceList depth s t u g c o g' c' o' m n =
     moved_field content_id_slot trace_slot ((λ s x. refl), (λ s y. refl), (λ s x y. refl)) s t u m n
-swapped ContentIdentifier ContentIdentifier depth s t u g c o g' c' o' m n = absurd (twice_in_field content_id_slot (λ s x. refl) s t u m n)
+swapped ContentIdentifier ContentIdentifier depth s t u g c o g' c' o' m n =
+    absurd (twice_in_field content_id_slot (λ s x. refl) s t u m n)
 swapped ContentIdentifier Deferral depth s t u g c o g' c' o' m n =
     moved_field content_id_slot deferral_slot ((λ s x. refl), (λ s y. refl), (λ s x y. refl)) s t u m n
 swapped ContentIdentifier Length depth s t u g c o g' c' o' m n =
@@ -328,7 +342,8 @@ swapped Bilateral Deferral depth s t u g c o g' c' o' m n =
     moved_field bilateral_slot deferral_slot ((λ s x. refl), (λ s y. refl), (λ s x y. refl)) s t u m n
 swapped Bilateral Length depth s t u g c o g' c' o' m n =
     moved_field bilateral_slot length_slot ((λ s x. refl), (λ s y. refl), (λ s x y. refl)) s t u m n
-swapped Bilateral Bilateral depth s t u g c o g' c' o' m n = absurd (twice_in_field bilateral_slot (λ s x. refl) s t u m n)
+swapped Bilateral Bilateral depth s t u g c o g' c' o' m n =
+    absurd (twice_in_field bilateral_slot (λ s x. refl) s t u m n)
 swapped Bilateral RecipientList depth s t u g c o g' c' o' m n =
     moved_field bilateral_slot recipients_slot ((λ s x. refl), (λ s y. refl), (λ s x y. refl)) s t u m n
 swapped Bilateral ExtensionSet depth s t u g c o g' c' o' m n =
@@ -355,7 +370,8 @@ swapped RecipientList Length depth s t u g c o g' c' o' m n =
     moved_field recipients_slot length_slot ((λ s x. refl), (λ s y. refl), (λ s x y. refl)) s t u m n
 swapped RecipientList Bilateral depth s t u g c o g' c' o' m n =
     moved_field recipients_slot bilateral_slot ((λ s x. refl), (λ s y. refl), (λ s x y. refl)) s t u m n
-swapped RecipientList RecipientList depth s t u g c o g' c' o' m n = absurd (twice_in_field recipients_slot (λ s x. refl) s t u m n)
+swapped RecipientList RecipientList depth s t u g c o g' c' o' m n =
+    absurd (twice_in_field recipients_slot (λ s x. refl) s t u m n)
 swapped RecipientList ExtensionSet depth s t u g c o g' c' o' m n =
     moved_field recipients_slot extensions_slot ((λ s x. refl), (λ s y. refl), (λ s x y. refl)) s t u m n
 swapped ExtensionSet Originator depth s t u g c o g' c' o' m n =
@@ -382,10 +398,12 @@ swapped ExtensionSet Bilateral depth s t u g c o g' c' o' m n =
     moved_field extensions_slot bilateral_slot ((λ s x. refl), (λ s y. refl), (λ s x y. refl)) s t u m n
 swapped ExtensionSet RecipientList depth s t u g c o g' c' o' m n =
     moved_field extensions_slot recipients_slot ((λ s x. refl), (λ s y. refl), (λ s x y. refl)) s t u m n
-swapped ExtensionSet ExtensionSet depth s t u g c o g' c' o' m n = absurd (twice_in_field extensions_slot (λ s x. refl) s t u m n)
+swapped ExtensionSet ExtensionSet depth s t u g c o g' c' o' m n =
+    absurd (twice_in_field extensions_slot (λ s x. refl) s t u m n)
 
 -- whether it is a probe stays the same
-probe_kept : (k : EnvelopePart) (depth : ℕ) (s t : EnvelopeParts) (tag : Tag) (content octets : List ℕ) → MakesEnvelopePart k depth s tag content octets t → t.probe ≡ s.probe
+probe_kept : (k : EnvelopePart) (depth : ℕ) (s t : EnvelopeParts) (tag : Tag) (content octets : List ℕ)
+    → MakesEnvelopePart k depth s tag content octets t → t.probe ≡ s.probe
 probe_kept Originator depth s t tag content octets m = ap (λ (r : EnvelopeParts). r.probe) m.1.after_is
 probe_kept Identifier depth s t tag content octets m = ap (λ (r : EnvelopeParts). r.probe) m.1.after_is
 probe_kept InformationTypes depth s t tag content octets m = ap (λ (r : EnvelopeParts). r.probe) m.1.after_is
@@ -410,12 +428,24 @@ envelopes_change depth s t u a b h k =
         tag = k.tag;
         content = k.content;
         stands = k.stands;
-        made = record { part = n.part; is_tag_of = subst (λ v. is_envelope_tag v n.part k.tag ≡ true) (probe_kept m.part depth s t h.tag h.content a m.made) n.is_tag_of; made = w.1 };
+        made = record {
+          part = n.part;
+          is_tag_of =
+              subst (λ v. is_envelope_tag v n.part k.tag ≡ true)
+              (probe_kept m.part depth s t h.tag h.content a m.made) n.is_tag_of;
+          made = w.1;
+        };
       },
       record {
         tag = h.tag;
         content = h.content;
         stands = h.stands;
-        made = record { part = m.part; is_tag_of = subst (λ v. is_envelope_tag v m.part h.tag ≡ true) (sym (probe_kept n.part depth s w.0 k.tag k.content b w.1)) m.is_tag_of; made = w.2 };
+        made = record {
+          part = m.part;
+          is_tag_of =
+              subst (λ v. is_envelope_tag v m.part h.tag ≡ true)
+              (sym (probe_kept n.part depth s w.0 k.tag k.content b w.1)) m.is_tag_of;
+          made = w.2;
+        };
       },
     )

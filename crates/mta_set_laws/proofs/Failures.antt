@@ -4,7 +4,8 @@ use Rattle.mta_ber.specs.declared.tag.Tag.{Tag}
 use Rattle.mta_report_recipient.specs.declared.failure.FailurePart.{FailurePart}
 use Rattle.mta_report_recipient.specs.declared.failure.FailurePart.TheVariants.{Reason, Diagnostic}
 use Rattle.mta_report_recipient.specs.declared.failure.FailureParts.{FailureParts}
-use Rattle.mta_report_recipient.specs.Failures.{MakesFailure, MakesFailurePart, failure_held, with_diagnostic, with_reason}
+use Rattle.mta_report_recipient.specs.Failures.{MakesFailure, MakesFailurePart, failure_held, with_diagnostic}
+use Rattle.mta_report_recipient.specs.Failures.{with_reason}
 use Rattle.mta_set_laws.specs.Orders.{ChangePlaces}
 use Rattle.mta_set_laws.proofs.Slots.{Slot, moved, twice}
 
@@ -14,8 +15,10 @@ reason_slot = record { put = with_reason; held = failure_held Reason }
 abbrev diagnostic_slot : Slot FailureParts ℕ
 diagnostic_slot = record { put = with_diagnostic; held = failure_held Diagnostic }
 
-swapped : (j k : FailurePart) (depth : ℕ) (s t u : FailureParts) (tag : Tag) (content octets : List ℕ) (tag' : Tag) (content' octets' : List ℕ)
-    → MakesFailurePart j depth s tag content octets t → MakesFailurePart k depth t tag' content' octets' u → failure_held j s ≡ false → failure_held k t ≡ false
+swapped : (j k : FailurePart) (depth : ℕ) (s t u : FailureParts) (tag : Tag) (content octets : List ℕ) (tag' : Tag)
+    (content' octets' : List ℕ)
+    → MakesFailurePart j depth s tag content octets t → MakesFailurePart k depth t tag' content' octets' u
+    → failure_held j s ≡ false → failure_held k t ≡ false
     → (between : FailureParts) × MakesFailurePart k depth s tag' content' octets' between × (failure_held k s ≡ false)
     × MakesFailurePart j depth between tag content octets u × (failure_held j between ≡ false)
 swapped Reason Reason depth s t u g c o g' c' o' m n f e = absurd (twice reason_slot (λ s x. refl) s t m e)

@@ -10,7 +10,9 @@ use Rattle.mta_report.specs.ReportContents.{MakesContent, no_content}
 use Rattle.mta_envelope_recipient.specs.Recipients.{MakesRecipient, no_recipient}
 use Rattle.mta_envelope.specs.Components.{MakesEnvelope, no_envelope}
 use Rattle.mta_set_laws.specs.Laws.{SuppliedInformationInAnyOrder}
-use Rattle.mta_set_laws.specs.Laws.{PersonalNamesInAnyOrder, DeliveriesInAnyOrder, NonDeliveriesInAnyOrder, LastTracesInAnyOrder, ReportedRecipientsInAnyOrder, ReportEnvelopesInAnyOrder, ReportContentsInAnyOrder, RecipientsInAnyOrder, EnvelopesInAnyOrder}
+use Rattle.mta_set_laws.specs.Laws.{PersonalNamesInAnyOrder, DeliveriesInAnyOrder, NonDeliveriesInAnyOrder}
+use Rattle.mta_set_laws.specs.Laws.{LastTracesInAnyOrder, ReportedRecipientsInAnyOrder, ReportEnvelopesInAnyOrder}
+use Rattle.mta_set_laws.specs.Laws.{ReportContentsInAnyOrder, RecipientsInAnyOrder, EnvelopesInAnyOrder}
 use Rattle.mta_set_laws.proofs.Orders.{spelled_in_any_order}
 use Rattle.mta_set_laws.proofs.Persons.{persons_change}
 use Rattle.mta_set_laws.proofs.Supplied.{supplied_change}
@@ -78,7 +80,8 @@ pub reported_recipients_in_any_order : ReportedRecipientsInAnyOrder
 reported_recipients_in_any_order depth tag content v h ys o = record {
   is_tag_of = h.is_tag_of;
   parts = h.parts;
-  spelled = spelled_in_any_order MakesReported reported_recipients_change depth no_reported h.parts content h.spelled ys o;
+  spelled = spelled_in_any_order MakesReported reported_recipients_change depth no_reported h.parts content h.spelled ys
+      o;
   name = h.name;
   name_is = h.name_is;
   number = h.number;
@@ -94,7 +97,8 @@ pub report_envelopes_in_any_order : ReportEnvelopesInAnyOrder
 report_envelopes_in_any_order depth c content v h ys o = record {
   is_constructed = h.is_constructed;
   parts = h.parts;
-  spelled = spelled_in_any_order MakesReportEnvelope report_envelopes_change depth no_report_envelope h.parts content h.spelled ys o;
+  spelled = spelled_in_any_order MakesReportEnvelope report_envelopes_change depth no_report_envelope h.parts content
+      h.spelled ys o;
   destination = h.destination;
   destination_is = h.destination_is;
   id = h.id;
@@ -131,7 +135,8 @@ pub envelopes_in_any_order : EnvelopesInAnyOrder
 envelopes_in_any_order probe depth c content v h ys o = record {
   is_constructed = h.is_constructed;
   parts = h.parts;
-  spelled = spelled_in_any_order MakesEnvelope envelopes_change depth (no_envelope probe) h.parts content h.spelled ys o;
+  spelled = spelled_in_any_order MakesEnvelope envelopes_change depth
+      (no_envelope probe) h.parts content h.spelled ys o;
   originator = h.originator;
   id = h.id;
   content_kind = h.content_kind;

@@ -5,7 +5,8 @@ use Rattle.mta_report_recipient.specs.declared.outcome.Outcome.{Outcome}
 use Rattle.mta_report_recipient.specs.declared.last.LastPart.{LastPart}
 use Rattle.mta_report_recipient.specs.declared.last.LastPart.TheVariants.{Arrival, ReportType, Converted}
 use Rattle.mta_report_recipient.specs.declared.last.LastParts.{LastParts}
-use Rattle.mta_report_recipient.specs.LastTraces.{MakesLast, MakesLastPart, last_held, with_arrival, with_converted, with_outcome}
+use Rattle.mta_report_recipient.specs.LastTraces.{MakesLast, MakesLastPart, last_held, with_arrival, with_converted}
+use Rattle.mta_report_recipient.specs.LastTraces.{with_outcome}
 use Rattle.mta_set_laws.specs.Orders.{ChangePlaces}
 use Rattle.mta_set_laws.proofs.Slots.{Slot, moved, twice}
 
@@ -18,8 +19,10 @@ outcome_slot = record { put = with_outcome; held = last_held ReportType }
 abbrev converted_slot : Slot LastParts (List ℕ)
 converted_slot = record { put = with_converted; held = last_held Converted }
 
-swapped : (j k : LastPart) (depth : ℕ) (s t u : LastParts) (tag : Tag) (content octets : List ℕ) (tag' : Tag) (content' octets' : List ℕ)
-    → MakesLastPart j depth s tag content octets t → MakesLastPart k depth t tag' content' octets' u → last_held j s ≡ false → last_held k t ≡ false
+swapped : (j k : LastPart) (depth : ℕ) (s t u : LastParts) (tag : Tag) (content octets : List ℕ) (tag' : Tag)
+    (content' octets' : List ℕ)
+    → MakesLastPart j depth s tag content octets t → MakesLastPart k depth t tag' content' octets' u
+    → last_held j s ≡ false → last_held k t ≡ false
     → (between : LastParts) × MakesLastPart k depth s tag' content' octets' between × (last_held k s ≡ false)
     × MakesLastPart j depth between tag content octets u × (last_held j between ≡ false)
 swapped Arrival Arrival depth s t u g c o g' c' o' m n f e = absurd (twice arrival_slot (λ s x. refl) s t m e)

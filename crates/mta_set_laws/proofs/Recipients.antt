@@ -5,9 +5,11 @@ use Rattle.mta_ber.specs.Bits.{BitString}
 use Rattle.mta_names.specs.declared.attributes.Attributes.{Attributes}
 use Rattle.mta_fields.specs.declared.extension.ExtFields.{ExtFields}
 use Rattle.mta_envelope_recipient.specs.declared.parts.RecipientPart.{RecipientPart}
-use Rattle.mta_envelope_recipient.specs.declared.parts.RecipientPart.TheVariants.{Addressee, Number, Indicators, Conversion, Extensions}
+use Rattle.mta_envelope_recipient.specs.declared.parts.RecipientPart.TheVariants.{Addressee, Number, Indicators}
+use Rattle.mta_envelope_recipient.specs.declared.parts.RecipientPart.TheVariants.{Conversion, Extensions}
 use Rattle.mta_envelope_recipient.specs.declared.parts.RecipientParts.{RecipientParts}
-use Rattle.mta_envelope_recipient.specs.Recipients.{MakesRecipient, MakesRecipientPart, with_conversion, with_extensions, with_indicators, with_name, with_number}
+use Rattle.mta_envelope_recipient.specs.Recipients.{MakesRecipient, MakesRecipientPart, with_conversion}
+use Rattle.mta_envelope_recipient.specs.Recipients.{with_extensions, with_indicators, with_name, with_number}
 use Rattle.mta_set_laws.specs.Orders.{ChangePlaces}
 use Rattle.mta_set_laws.proofs.Slots.{Field, moved_field, twice_in_field}
 
@@ -26,9 +28,11 @@ conversion_slot = record { put = with_conversion; get = λ s. s.conversion }
 abbrev extensions_slot : Field RecipientParts (List ExtFields)
 extensions_slot = record { put = with_extensions; get = λ s. s.extensions }
 
-swapped : (j k : RecipientPart) (depth : ℕ) (s t u : RecipientParts) (tag : Tag) (content octets : List ℕ) (tag' : Tag) (content' octets' : List ℕ)
+swapped : (j k : RecipientPart) (depth : ℕ) (s t u : RecipientParts) (tag : Tag) (content octets : List ℕ) (tag' : Tag)
+    (content' octets' : List ℕ)
     → MakesRecipientPart j depth s tag content octets t → MakesRecipientPart k depth t tag' content' octets' u
-    → (between : RecipientParts) × MakesRecipientPart k depth s tag' content' octets' between × MakesRecipientPart j depth between tag content octets u
+    → (between : RecipientParts) × MakesRecipientPart k depth s tag' content' octets' between
+    × MakesRecipientPart j depth between tag content octets u
 swapped Addressee Addressee depth s t u g c o g' c' o' m n = absurd (twice_in_field name_slot (λ s x. refl) s t u m n)
 swapped Addressee Number depth s t u g c o g' c' o' m n =
     moved_field name_slot number_slot ((λ s x. refl), (λ s y. refl), (λ s x y. refl)) s t u m n
@@ -51,7 +55,8 @@ swapped Indicators Addressee depth s t u g c o g' c' o' m n =
     moved_field indicators_slot name_slot ((λ s x. refl), (λ s y. refl), (λ s x y. refl)) s t u m n
 swapped Indicators Number depth s t u g c o g' c' o' m n =
     moved_field indicators_slot number_slot ((λ s x. refl), (λ s y. refl), (λ s x y. refl)) s t u m n
-swapped Indicators Indicators depth s t u g c o g' c' o' m n = absurd (twice_in_field indicators_slot (λ s x. refl) s t u m n)
+swapped Indicators Indicators depth s t u g c o g' c' o' m n =
+    absurd (twice_in_field indicators_slot (λ s x. refl) s t u m n)
 swapped Indicators Conversion depth s t u g c o g' c' o' m n =
     moved_field indicators_slot conversion_slot ((λ s x. refl), (λ s y. refl), (λ s x y. refl)) s t u m n
 swapped Indicators Extensions depth s t u g c o g' c' o' m n =
@@ -62,7 +67,8 @@ swapped Conversion Number depth s t u g c o g' c' o' m n =
     moved_field conversion_slot number_slot ((λ s x. refl), (λ s y. refl), (λ s x y. refl)) s t u m n
 swapped Conversion Indicators depth s t u g c o g' c' o' m n =
     moved_field conversion_slot indicators_slot ((λ s x. refl), (λ s y. refl), (λ s x y. refl)) s t u m n
-swapped Conversion Conversion depth s t u g c o g' c' o' m n = absurd (twice_in_field conversion_slot (λ s x. refl) s t u m n)
+swapped Conversion Conversion depth s t u g c o g' c' o' m n =
+    absurd (twice_in_field conversion_slot (λ s x. refl) s t u m n)
 swapped Conversion Extensions depth s t u g c o g' c' o' m n =
     moved_field conversion_slot extensions_slot ((λ s x. refl), (λ s y. refl), (λ s x y. refl)) s t u m n
 swapped Extensions Addressee depth s t u g c o g' c' o' m n =
@@ -73,7 +79,8 @@ swapped Extensions Indicators depth s t u g c o g' c' o' m n =
     moved_field extensions_slot indicators_slot ((λ s x. refl), (λ s y. refl), (λ s x y. refl)) s t u m n
 swapped Extensions Conversion depth s t u g c o g' c' o' m n =
     moved_field extensions_slot conversion_slot ((λ s x. refl), (λ s y. refl), (λ s x y. refl)) s t u m n
-swapped Extensions Extensions depth s t u g c o g' c' o' m n = absurd (twice_in_field extensions_slot (λ s x. refl) s t u m n)
+swapped Extensions Extensions depth s t u g c o g' c' o' m n =
+    absurd (twice_in_field extensions_slot (λ s x. refl) s t u m n)
 
 pub recipients_change : ChangePlaces MakesRecipient
 recipients_change depth s t u a b h k =

@@ -5,10 +5,14 @@ use Rattle.mta_fields.specs.declared.extension.ExtFields.{ExtFields}
 use Rattle.mta_fields.specs.declared.identifier.MtsIdFields.{MtsIdFields}
 use Rattle.mta_envelope_common.specs.declared.kind.ContentKind.{ContentKind}
 use Rattle.mta_report.specs.declared.content.ContentPart.{ContentPart}
-use Rattle.mta_report.specs.declared.content.ContentPart.TheVariants.{Subject, Eits, ContentType, SubjectTrace, ContentId, Recipients, Returned, Additional, Extensions}
+use Rattle.mta_report.specs.declared.content.ContentPart.TheVariants.{Subject, Eits, ContentType, SubjectTrace}
+use Rattle.mta_report.specs.declared.content.ContentPart.TheVariants.{ContentId, Recipients, Returned, Additional}
+use Rattle.mta_report.specs.declared.content.ContentPart.TheVariants.{Extensions}
 use Rattle.mta_report.specs.declared.content.ContentParts.{ContentParts}
 use Rattle.mta_report_recipient.specs.declared.reported.ReportedFields.{ReportedFields}
-use Rattle.mta_report.specs.ReportContents.{MakesContent, MakesContentPart, content_held, with_additional, with_content_id, with_content_kind, with_eits, with_extensions, with_recipients, with_returned, with_subject, with_subject_trace}
+use Rattle.mta_report.specs.ReportContents.{MakesContent, MakesContentPart, content_held, with_additional}
+use Rattle.mta_report.specs.ReportContents.{with_content_id, with_content_kind, with_eits, with_extensions}
+use Rattle.mta_report.specs.ReportContents.{with_recipients, with_returned, with_subject, with_subject_trace}
 use Rattle.mta_set_laws.specs.Orders.{ChangePlaces}
 use Rattle.mta_set_laws.proofs.Slots.{Slot, moved, twice}
 
@@ -39,8 +43,10 @@ additional_slot = record { put = with_additional; held = content_held Additional
 abbrev extensions_slot : Slot ContentParts (List ExtFields)
 extensions_slot = record { put = with_extensions; held = content_held Extensions }
 
-swapped : (j k : ContentPart) (depth : ℕ) (s t u : ContentParts) (tag : Tag) (content octets : List ℕ) (tag' : Tag) (content' octets' : List ℕ)
-    → MakesContentPart j depth s tag content octets t → MakesContentPart k depth t tag' content' octets' u → content_held j s ≡ false → content_held k t ≡ false
+swapped : (j k : ContentPart) (depth : ℕ) (s t u : ContentParts) (tag : Tag) (content octets : List ℕ) (tag' : Tag)
+    (content' octets' : List ℕ)
+    → MakesContentPart j depth s tag content octets t → MakesContentPart k depth t tag' content' octets' u
+    → content_held j s ≡ false → content_held k t ≡ false
     → (between : ContentParts) × MakesContentPart k depth s tag' content' octets' between × (content_held k s ≡ false)
     × MakesContentPart j depth between tag content octets u × (content_held j between ≡ false)
 swapped Subject Subject depth s t u g c o g' c' o' m n f e = absurd (twice subject_slot (λ s x. refl) s t m e)
@@ -81,7 +87,8 @@ swapped ContentType Subject depth s t u g c o g' c' o' m n f e =
     moved content_kind_slot subject_slot ((λ s x. refl), (λ s y. refl), (λ s x y. refl)) s t u m n f e
 swapped ContentType Eits depth s t u g c o g' c' o' m n f e =
     moved content_kind_slot eits_slot ((λ s x. refl), (λ s y. refl), (λ s x y. refl)) s t u m n f e
-swapped ContentType ContentType depth s t u g c o g' c' o' m n f e = absurd (twice content_kind_slot (λ s x. refl) s t m e)
+swapped ContentType ContentType depth s t u g c o g' c' o' m n f e =
+    absurd (twice content_kind_slot (λ s x. refl) s t m e)
 swapped ContentType SubjectTrace depth s t u g c o g' c' o' m n f e =
     moved content_kind_slot subject_trace_slot ((λ s x. refl), (λ s y. refl), (λ s x y. refl)) s t u m n f e
 swapped ContentType ContentId depth s t u g c o g' c' o' m n f e =
@@ -100,7 +107,8 @@ swapped SubjectTrace Eits depth s t u g c o g' c' o' m n f e =
     moved subject_trace_slot eits_slot ((λ s x. refl), (λ s y. refl), (λ s x y. refl)) s t u m n f e
 swapped SubjectTrace ContentType depth s t u g c o g' c' o' m n f e =
     moved subject_trace_slot content_kind_slot ((λ s x. refl), (λ s y. refl), (λ s x y. refl)) s t u m n f e
-swapped SubjectTrace SubjectTrace depth s t u g c o g' c' o' m n f e = absurd (twice subject_trace_slot (λ s x. refl) s t m e)
+swapped SubjectTrace SubjectTrace depth s t u g c o g' c' o' m n f e =
+    absurd (twice subject_trace_slot (λ s x. refl) s t m e)
 swapped SubjectTrace ContentId depth s t u g c o g' c' o' m n f e =
     moved subject_trace_slot content_id_slot ((λ s x. refl), (λ s y. refl), (λ s x y. refl)) s t u m n f e
 swapped SubjectTrace Recipients depth s t u g c o g' c' o' m n f e =

@@ -8,7 +8,8 @@ use Rattle.mta_fields.specs.declared.trace.TraceFields.{TraceFields}
 use Rattle.mta_report.specs.declared.envelope.EnvelopePart.{EnvelopePart}
 use Rattle.mta_report.specs.declared.envelope.EnvelopePart.TheVariants.{Destination, Identifier, Trace, Extensions}
 use Rattle.mta_report.specs.declared.envelope.EnvelopeParts.{EnvelopeParts}
-use Rattle.mta_report.specs.ReportEnvelopes.{MakesEnvelope, MakesEnvelopePart, envelope_held, with_destination, with_extensions, with_id, with_trace}
+use Rattle.mta_report.specs.ReportEnvelopes.{MakesEnvelope, MakesEnvelopePart, envelope_held, with_destination}
+use Rattle.mta_report.specs.ReportEnvelopes.{with_extensions, with_id, with_trace}
 use Rattle.mta_set_laws.specs.Orders.{ChangePlaces}
 use Rattle.mta_set_laws.proofs.Slots.{Slot, moved, twice}
 
@@ -24,11 +25,15 @@ trace_slot = record { put = with_trace; held = envelope_held Trace }
 abbrev extensions_slot : Slot EnvelopeParts (List ExtFields)
 extensions_slot = record { put = with_extensions; held = envelope_held Extensions }
 
-swapped : (j k : EnvelopePart) (depth : ℕ) (s t u : EnvelopeParts) (tag : Tag) (content octets : List ℕ) (tag' : Tag) (content' octets' : List ℕ)
-    → MakesEnvelopePart j depth s tag content octets t → MakesEnvelopePart k depth t tag' content' octets' u → envelope_held j s ≡ false → envelope_held k t ≡ false
-    → (between : EnvelopeParts) × MakesEnvelopePart k depth s tag' content' octets' between × (envelope_held k s ≡ false)
+swapped : (j k : EnvelopePart) (depth : ℕ) (s t u : EnvelopeParts) (tag : Tag) (content octets : List ℕ) (tag' : Tag)
+    (content' octets' : List ℕ)
+    → MakesEnvelopePart j depth s tag content octets t → MakesEnvelopePart k depth t tag' content' octets' u
+    → envelope_held j s ≡ false → envelope_held k t ≡ false
+    → (between : EnvelopeParts) × MakesEnvelopePart k depth s tag' content' octets' between
+    × (envelope_held k s ≡ false)
     × MakesEnvelopePart j depth between tag content octets u × (envelope_held j between ≡ false)
-swapped Destination Destination depth s t u g c o g' c' o' m n f e = absurd (twice destination_slot (λ s x. refl) s t m e)
+swapped Destination Destination depth s t u g c o g' c' o' m n f e =
+    absurd (twice destination_slot (λ s x. refl) s t m e)
 swapped Destination Identifier depth s t u g c o g' c' o' m n f e =
     moved destination_slot id_slot ((λ s x. refl), (λ s y. refl), (λ s x y. refl)) s t u m n f e
 swapped Destination Trace depth s t u g c o g' c' o' m n f e =

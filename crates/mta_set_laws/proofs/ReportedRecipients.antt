@@ -5,10 +5,13 @@ use Rattle.mta_ber.specs.Bits.{BitString}
 use Rattle.mta_names.specs.declared.attributes.Attributes.{Attributes}
 use Rattle.mta_fields.specs.declared.extension.ExtFields.{ExtFields}
 use Rattle.mta_report_recipient.specs.declared.reported.ReportedPart.{ReportedPart}
-use Rattle.mta_report_recipient.specs.declared.reported.ReportedPart.TheVariants.{Actual, Number, Indicators, Last, Intended, Supplementary, Extensions}
+use Rattle.mta_report_recipient.specs.declared.reported.ReportedPart.TheVariants.{Actual, Number, Indicators, Last}
+use Rattle.mta_report_recipient.specs.declared.reported.ReportedPart.TheVariants.{Intended, Supplementary, Extensions}
 use Rattle.mta_report_recipient.specs.declared.reported.ReportedParts.{ReportedParts}
 use Rattle.mta_report_recipient.specs.declared.last.LastTrace.{LastTrace}
-use Rattle.mta_report_recipient.specs.ReportedRecipients.{MakesReported, MakesReportedPart, reported_held, with_extensions, with_indicators, with_intended, with_last, with_name, with_number, with_supplementary}
+use Rattle.mta_report_recipient.specs.ReportedRecipients.{MakesReported, MakesReportedPart, reported_held}
+use Rattle.mta_report_recipient.specs.ReportedRecipients.{with_extensions, with_indicators, with_intended, with_last}
+use Rattle.mta_report_recipient.specs.ReportedRecipients.{with_name, with_number, with_supplementary}
 use Rattle.mta_set_laws.specs.Orders.{ChangePlaces}
 use Rattle.mta_set_laws.proofs.Slots.{Slot, moved, twice}
 
@@ -33,9 +36,12 @@ supplementary_slot = record { put = with_supplementary; held = reported_held Sup
 abbrev extensions_slot : Slot ReportedParts (List ExtFields)
 extensions_slot = record { put = with_extensions; held = reported_held Extensions }
 
-swapped : (j k : ReportedPart) (depth : ℕ) (s t u : ReportedParts) (tag : Tag) (content octets : List ℕ) (tag' : Tag) (content' octets' : List ℕ)
-    → MakesReportedPart j depth s tag content octets t → MakesReportedPart k depth t tag' content' octets' u → reported_held j s ≡ false → reported_held k t ≡ false
-    → (between : ReportedParts) × MakesReportedPart k depth s tag' content' octets' between × (reported_held k s ≡ false)
+swapped : (j k : ReportedPart) (depth : ℕ) (s t u : ReportedParts) (tag : Tag) (content octets : List ℕ) (tag' : Tag)
+    (content' octets' : List ℕ)
+    → MakesReportedPart j depth s tag content octets t → MakesReportedPart k depth t tag' content' octets' u
+    → reported_held j s ≡ false → reported_held k t ≡ false
+    → (between : ReportedParts) × MakesReportedPart k depth s tag' content' octets' between
+    × (reported_held k s ≡ false)
     × MakesReportedPart j depth between tag content octets u × (reported_held j between ≡ false)
 swapped Actual Actual depth s t u g c o g' c' o' m n f e = absurd (twice name_slot (λ s x. refl) s t m e)
 swapped Actual Number depth s t u g c o g' c' o' m n f e =
@@ -112,7 +118,8 @@ swapped Supplementary Last depth s t u g c o g' c' o' m n f e =
     moved supplementary_slot last_slot ((λ s x. refl), (λ s y. refl), (λ s x y. refl)) s t u m n f e
 swapped Supplementary Intended depth s t u g c o g' c' o' m n f e =
     moved supplementary_slot intended_slot ((λ s x. refl), (λ s y. refl), (λ s x y. refl)) s t u m n f e
-swapped Supplementary Supplementary depth s t u g c o g' c' o' m n f e = absurd (twice supplementary_slot (λ s x. refl) s t m e)
+swapped Supplementary Supplementary depth s t u g c o g' c' o' m n f e =
+    absurd (twice supplementary_slot (λ s x. refl) s t m e)
 swapped Supplementary Extensions depth s t u g c o g' c' o' m n f e =
     moved supplementary_slot extensions_slot ((λ s x. refl), (λ s y. refl), (λ s x y. refl)) s t u m n f e
 swapped Extensions Actual depth s t u g c o g' c' o' m n f e =

@@ -16,7 +16,8 @@ Apart {S} {X} {Y} a b =
 
 pub moved : {S X Y : Type 0} {P : X → Type 0} {Q : Y → Type 0} (a : Slot S X) (b : Slot S Y) → Apart a b → (s t u : S)
     → Puts P (a.put s) t → Puts Q (b.put t) u → a.held s ≡ false → b.held t ≡ false
-    → (between : S) × Puts Q (b.put s) between × (b.held s ≡ false) × Puts P (a.put between) u × (a.held between ≡ false)
+    → (between : S) × Puts Q (b.put s) between × (b.held s ≡ false) × Puts P (a.put between) u
+    × (a.held between ≡ false)
 moved a b apart s t u m n f g = (
   b.put s n.value,
   record { value = n.value; value_spelled = n.value_spelled; after_is = refl },
@@ -49,9 +50,11 @@ AreApart {S} {X} {Y} a b =
 abbrev pub none : {X : Type 0} → Option X
 none = None
 
-pub moved_field : {S X Y : Type 0} {P : X → Type 0} {Q : Y → Type 0} (a : Field S X) (b : Field S Y) → AreApart a b → (s t u : S)
+pub moved_field : {S X Y : Type 0} {P : X → Type 0} {Q : Y → Type 0} (a : Field S X) (b : Field S Y) → AreApart a b
+    → (s t u : S)
     → (a.get s ≡ None) × Puts P (a.put s) t → (b.get t ≡ None) × Puts Q (b.put t) u
-    → (between : S) × ((b.get s ≡ None) × Puts Q (b.put s) between) × ((a.get between ≡ None) × Puts P (a.put between) u)
+    → (between : S) × ((b.get s ≡ None) × Puts Q (b.put s) between)
+    × ((a.get between ≡ None) × Puts P (a.put between) u)
 moved_field a b apart s t u m n = (
   b.put s n.1.value,
   (
@@ -68,8 +71,10 @@ moved_field a b apart s t u m n = (
   ),
 )
 
-pub twice_in_field : {S X : Type 0} {P Q : X → Type 0} (a : Field S X) → ((s : S) (x : X) → a.get (a.put s x) ≡ Some x) → (s t u : S)
+pub twice_in_field : {S X : Type 0} {P Q : X → Type 0} (a : Field S X) → ((s : S) (x : X) → a.get (a.put s x) ≡ Some x)
+    → (s t u : S)
     → (a.get s ≡ None) × Puts P (a.put s) t → (a.get t ≡ None) × Puts Q (a.put t) u → ⊥
 twice_in_field {S} {X} a holds s t u m n =
-    let e : ◌≡◌ {A = Option X} (Some m.1.value) None = sym (holds s m.1.value) ∙ subst (λ r. a.get r ≡ None) m.1.after_is n.0 in
+    let e : ◌≡◌ {A = Option X} (Some m.1.value) None = sym (holds s m.1.value)
+    ∙ subst (λ r. a.get r ≡ None) m.1.after_is n.0 in
     cc e

@@ -1,5 +1,6 @@
 -- Beginnings of lists.
-use Rattle.std.proofs.Common.{◌≡◌, ℕ, zero, suc, ◌+◌, ◌≤◌, List, [], ◌∷◌, ◌++◌, length, Some, refl, sym, ap, ◌∙◌, subst, arith}
+use Rattle.std.proofs.Common.{◌≡◌, ℕ, zero, suc, ◌+◌, ◌≤◌, List, [], ◌∷◌, ◌++◌, length, Some, refl, sym, ap, ◌∙◌, subst}
+use Rattle.std.proofs.Common.{arith}
 use Rattle.std.specs.Prelude.{slice_get}
 use mathlib.Core.List.{IsPrefix}
 use Rattle.std.proofs.lemmas.List.{append_assoc, append-nil, length-append}
@@ -12,7 +13,8 @@ module _ {E : Type 0} where
   prefix_trans xs ys zs p q = (p.0 ++ q.0, sym (append_assoc xs p.0 q.0) ∙ (ap (λ l. l ++ q.0) p.1 ∙ q.1))
 
   pub prefix_length : (xs ys : List E) → IsPrefix xs ys → length xs ≤ length ys
-  prefix_length xs ys p = let h : length (xs ++ p.0) ≡ length xs + length p.0 = length-append xs p.0 in let e : length (xs ++ p.0) ≡ length ys = ap length p.1 in omega arith
+  prefix_length xs ys p = let h : length (xs ++ p.0) ≡ length xs + length p.0 = length-append xs p.0 in
+      let e : length (xs ++ p.0) ≡ length ys = ap length p.1 in omega arith
 
   -- what follows an empty list of no greater length is nothing
   none_left : (ys : List E) → length ys ≤ 0 → [] ≡ ys
@@ -29,7 +31,8 @@ module _ {E : Type 0} where
   shorter : (xs ys a b : List E) → xs ++ a ≡ ys ++ b → length xs ≤ length ys → IsPrefix xs ys
   shorter [] ys a b e le = (ys, refl)
   shorter (x ∷ xs) [] a b e le = absurd (omega arith)
-  shorter (x ∷ xs) (y ∷ ys) a b e le = let r : IsPrefix xs ys = shorter xs ys a b (cc e) (omega arith) in (r.0, cc (e, r.1))
+  shorter (x ∷ xs) (y ∷ ys) a b e le = let r : IsPrefix xs ys = shorter xs ys a b (cc e) (omega arith) in
+      (r.0, cc (e, r.1))
 
   -- of two beginnings of one list the shorter begins the longer
   pub prefix_shorter : (xs ys log : List E) → IsPrefix xs log → IsPrefix ys log → length xs ≤ length ys → IsPrefix xs ys

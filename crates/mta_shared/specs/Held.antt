@@ -21,7 +21,16 @@ pub record Held (E : Type 0) : Type 0 where
   pub base : Base
 
 abbrev pub held_as : {E : Type 0} → TableId → Bool → View E → Held E
-held_as z b v = record { lock = z; rests = b; seen = v.seen; own = v.own; parts = v.parts; from = v.from; base = v.base }
+held_as z b v = record {
+  lock = z;
+  rests = b;
+  seen = v.seen;
+  own = v.own;
+  parts = v.parts;
+  from = v.from;
+  base =
+      v.base;
+}
 
 abbrev pub held_by : {E : Type 0} → TableId → List (View E) → Held E
 held_by z [] = held_as z false spent

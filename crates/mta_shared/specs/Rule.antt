@@ -27,7 +27,17 @@ module _ {E : Type 0} where
 
   -- the pass of a lock that was just made
   abbrev pub opened : ℕ → Base → List E → View E
-  opened from base xs = record { seen = xs; met = []; own = row 0 (length xs); parts = all_parts; from = from; base = base; ticket = []; turn = false }
+  opened from base xs = record {
+    seen = xs;
+    met = [];
+    own = row 0 (length xs);
+    parts = all_parts;
+    from = from;
+    base =
+        base;
+    ticket = [];
+    turn = false;
+  }
 
   abbrev pub spent : View E
   spent = record { seen = []; met = []; own = []; parts = 0; from = 0; base = no_base; ticket = []; turn = false }
@@ -52,7 +62,12 @@ module _ {E : Type 0} where
 
   -- after a turn that left the history xs
   abbrev pub after_turn : List E → View E → View E
-  after_turn xs v = record v { seen = xs; own = v.own ++ row (length v.seen) (length xs - length v.seen); ticket = []; turn = false }
+  after_turn xs v = record v {
+    seen = xs;
+    own = v.own ++ row (length v.seen) (length xs - length v.seen);
+    ticket = [];
+    turn = false;
+  }
 
   -- between turns
   pub record IsFree (v : View E) : Type 0 where
@@ -107,7 +122,8 @@ module _ {E V : Type 0} (first : V → ℕ) (entries : V → List E) (meets : V 
     pub served : ℕ
     pub words : s.words ≡ (served % 2 ^ 64) ∷ ((served + total (λ u. length u.ticket) s.views) % 2 ^ 64) ∷ []
     pub each : (j : ℕ) (u : View E) → get_elem? s.views j ≡ some u → Fits from base longest u
-    pub tickets : (n : ℕ) → total (λ u. times n u.ticket) s.views ≡ times n (row served (total (λ u. length u.ticket) s.views))
+    pub tickets : (n : ℕ) → total (λ u. times n u.ticket) s.views ≡ times n
+        (row served (total (λ u. length u.ticket) s.views))
     pub parts : total (λ u. u.parts) s.views ≡ all_parts
     pub owns : (p : ℕ) → total (λ u. times p u.own) s.views ≡ times p (row 0 (length longest))
     pub place : Home from base longest s ⊎ Away longest served s

@@ -1,1 +1,1 @@
-mod Compacted
+pub mod Compacted

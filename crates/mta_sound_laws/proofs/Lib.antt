@@ -1,10 +1,15 @@
 pub mod Codes
 pub mod Read
 pub mod Domains
-pub mod Destinations
 pub mod Reports
 pub mod Passed
 pub mod Lengths
 pub mod Expansions
 pub mod Made
 pub mod Stays
+pub mod Words
+pub mod Coded
+pub mod LaneFields
+pub mod FieldsStay
+pub mod ShortFits
+pub mod Fits

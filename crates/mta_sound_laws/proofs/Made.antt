@@ -41,7 +41,7 @@ settled-same None Verdicts.Back w e other = absurd (other (sym e))
 settled-same (Some v) Verdicts.Back w e other = e
 settled-same back Verdicts.Discard w e other = e
 
-settled-is : (back : Option ApduValue) (o : Option Verdict) (w : Verdict) → option_map (settled back) o ≡ Some w
+pub settled-is : (back : Option ApduValue) (o : Option Verdict) (w : Verdict) → option_map (settled back) o ≡ Some w
     → w ≢ Verdicts.Discard → o ≡ Some w
 settled-is back None w e other = absurd cc
 settled-is back (Some v) w e other =

@@ -37,7 +37,7 @@ use Rattle.mta_machine.specs.Rules.{tables_value, verdict_of, verdict_under}
 use Rattle.mta_histories.specs.Items.{IsWritten}
 use Rattle.mta_histories.specs.Sound.{IsSoundItem}
 use Rattle.mta_histories.proofs.SoundItems.{all-append}
-use Rattle.mta_sound_laws.proofs.Destinations.{IsKeptName, destination-kept}
+use Rattle.mta_procedures.proofs.ReadingLaws.{IsKeptName, destination_kept}
 use Rattle.mta_sound_laws.proofs.Domains.{tables-domain}
 use Rattle.mta_sound_laws.proofs.Read.{envelope-read, item-written, tables-read}
 
@@ -118,7 +118,7 @@ found-read test (a ∷ taken) h = by_test (test a) (found-read test taken h.1)
 walked-name : (t : TablesValue) (o : Option Accepted) → IfSome o (λ a. WasRead a.envelope)
     → IfSome (option_and_then (walk_of t) o) IsKeptName
 walked-name t None h = tt
-walked-name t (Some a) h = destination-kept t a.envelope h
+walked-name t (Some a) h = destination_kept t a.envelope h
 
 behind-name : (t : TablesValue) (p : ReportFields) (taken : List Accepted) (l : MailList) → AreReadEnvelopes taken
     → IfSome (behind_list t p taken l) IsKeptName

@@ -36,7 +36,7 @@ use Rattle.mta_machine.specs.Rules.{Failure, too_long, violated, denied, expired
 use Rattle.mta_machine.specs.Rules.{read_both, report_on, tables_value, delivery_report, non_delivery_report}
 use Rattle.mta_histories.specs.Items.{IsWritten}
 use Rattle.mta_histories.specs.Sound.{IsSoundItem}
-use Rattle.mta_sound_laws.proofs.Destinations.{IsKeptName, destination-kept, history-kept}
+use Rattle.mta_procedures.proofs.ReadingLaws.{IsKeptName, destination_kept, history_kept}
 use Rattle.mta_sound_laws.proofs.Domains.{tables-domain}
 use Rattle.mta_sound_laws.proofs.Read.{envelope-read, item-written, tables-read}
 
@@ -95,12 +95,12 @@ report-written t number arrival e r x outcome h =
       small = h.small;
       moment = h.moment;
       envelope = h.envelope.whole;
-      history = (history-kept e h.envelope).expansions;
+      history = (history_kept e h.envelope).expansions;
       recipient = each-numbered IsWholeRecipient e.recipients r x h.envelope.whole.recipients h.recipient;
       outcome_fits = h.outcome_fits;
     } in
     made-if IsKeptName IsWrittenReport (report_to t number arrival e x outcome) (report_walk t e)
-    (destination-kept t e h.envelope)
+    (destination_kept t e h.envelope)
     (λ d name. (
       made_report t number arrival e x outcome d able name.name,
       made-kept t number arrival e x outcome d kept name.kept,

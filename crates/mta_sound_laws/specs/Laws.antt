@@ -1,8 +1,10 @@
 -- What is proved of soundness over the steps that have records.
-use Rattle.std.specs.Prelude.{List}
+use Rattle.std.specs.Prelude.{◌<◌, ◌^◌, List, length}
 use Rattle.std.specs.List.{AllByRecursion}
-use Rattle.mta_records.specs.Body.{HasFields}
+use Rattle.mta_records.specs.Body.{body_of, HasFields}
 use Rattle.mta_records.specs.declared.step.Step.{Step}
+use Rattle.mta_records.specs.declared.step.Step.TheVariants as step
+use Rattle.mta_histories.specs.Compact.{snapshot_of}
 use Rattle.mta_histories.specs.History.{IsHistory, IsPossible, after, after_step, machine_steps}
 use Rattle.mta_histories.specs.Items.{MakeWritten}
 use Rattle.mta_histories.specs.Kept.{IsKept}
@@ -23,3 +25,10 @@ RecordedStepsStaySound =
 -- and the state after a history may be recorded in a snapshot
 abbrev pub HistoriesAreSound : Type 0
 HistoriesAreSound = (steps : List Step) → AllByRecursion HasFields steps → IsHistory steps → IsSound (after steps)
+
+-- and the snapshot of that state is a record, where its body is so short
+abbrev pub SnapshotsFit : Type 0
+SnapshotsFit =
+    (steps : List Step) → AllByRecursion HasFields steps → IsHistory steps
+    → length (body_of (step.Snapshot (snapshot_of (after steps)))) < 2 ^ 32
+    → HasFields (step.Snapshot (snapshot_of (after steps)))

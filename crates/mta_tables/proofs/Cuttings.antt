@@ -1,5 +1,7 @@
 -- A text is cut at a separator where it has one.
-use Rattle.std.proofs.Common.{◌≡◌, ◌≢◌, ℕ, suc, ◌+◌, ◌<◌, Bool, true, false, cond, eqb, List, [], ◌∷◌, ◌++◌, length, get_or, take, drop, Option, Some, None, refl, sym, ap, subst, ◌∙◌, inl, inr, add-one, drop-cons}
+use Rattle.std.proofs.Common.{◌≡◌, ◌≢◌, ℕ, suc, ◌+◌, ◌<◌, Bool, true, false, cond, eqb, List, [], ◌∷◌, ◌++◌, length}
+use Rattle.std.proofs.Common.{get_or, take, drop, Option, Some, None, refl, sym, ap, subst, ◌∙◌, inl, inr, add-one}
+use Rattle.std.proofs.Common.{drop-cons}
 use Rattle.std.proofs.lemmas.List.{take-append-drop}
 use Rattle.std.specs.Prelude.{All}
 use Rattle.std.specs.List.{list_all}
@@ -37,7 +39,8 @@ abbrev pub rejoined : ℕ → List ℕ → Option (List ℕ) → List ℕ
 rejoined s front None = front
 rejoined s front (Some rest) = front ++ s ∷ rest
 
-rejoined_more : (s c : ℕ) (front : List ℕ) (rest : Option (List ℕ)) → c ∷ rejoined s front rest ≡ rejoined s (c ∷ front) rest
+rejoined_more : (s c : ℕ) (front : List ℕ) (rest : Option (List ℕ)) → c ∷
+    rejoined s front rest ≡ rejoined s (c ∷ front) rest
 rejoined_more s c front None = refl
 rejoined_more s c front (Some rest) = refl
 
@@ -70,7 +73,8 @@ abbrev pub rejoined_last : ℕ → Option (List ℕ) → List ℕ → List ℕ
 rejoined_last s None last = last
 rejoined_last s (Some front) last = front ++ s ∷ last
 
-before_back : (s c : ℕ) (cs : List ℕ) (o : Option (List ℕ)) (last : List ℕ) → cs ≡ rejoined_last s o last → c ∷ cs ≡ rejoined_last s (cut_before s c cs o last).0 (cut_before s c cs o last).1
+before_back : (s c : ℕ) (cs : List ℕ) (o : Option (List ℕ)) (last : List ℕ) → cs ≡ rejoined_last s o last → c ∷
+    cs ≡ rejoined_last s (cut_before s c cs o last).0 (cut_before s c cs o last).1
 before_back s c cs (Some front) last e = ap (λ x. c ∷ x) e
 before_back s c cs None last e =
     elim (cases_Bool (eqb c s)) [
@@ -82,7 +86,8 @@ pub last_back : (s : ℕ) (text : List ℕ) → text ≡ rejoined_last s (cut_la
 last_back s [] = refl
 last_back s (c ∷ cs) = before_back s c cs (cut_last s cs).0 (cut_last s cs).1 (last_back s cs)
 
-before_clean : (s c : ℕ) (cs : List ℕ) (o : Option (List ℕ)) (last : List ℕ) → cs ≡ rejoined_last s o last → HasNo s last → HasNo s (cut_before s c cs o last).1
+before_clean : (s c : ℕ) (cs : List ℕ) (o : Option (List ℕ)) (last : List ℕ) → cs ≡ rejoined_last s o last
+    → HasNo s last → HasNo s (cut_before s c cs o last).1
 before_clean s c cs (Some front) last e h = h
 before_clean s c cs None last e h =
     let all : HasNo s cs = subst (HasNo s) (sym e) h in
@@ -96,14 +101,18 @@ last_clean s [] = All-nil (λ x. x ≢ s)
 last_clean s (c ∷ cs) = before_clean s c cs (cut_last s cs).0 (cut_last s cs).1 (last_back s cs) (last_clean s cs)
 
 -- the separator at a place behind which there is none is the last
-pub last_found : (s : ℕ) (text : List ℕ) (i : ℕ) → i < length text → get_or text i 0 ≡ s → HasNo s (drop (i + 1) text) → cut_last s text ≡ (Some (take i text), drop (i + 1) text)
+pub last_found : (s : ℕ) (text : List ℕ) (i : ℕ) → i < length text → get_or text i 0 ≡ s → HasNo s (drop (i + 1) text)
+    → cut_last s text ≡ (Some (take i text), drop (i + 1) text)
 last_found s text i lt e none =
-    let next : drop i text ≡ s ∷ drop (i + 1) text = rw add-one (drop-cons text i 0 lt ∙ ap (λ x. x ∷ drop (suc i) text) e) in
-    let whole : text ≡ take i text ++ s ∷ drop (i + 1) text = sym (take-append-drop i text) ∙ ap (λ r. take i text ++ r) next in
+    let next : drop i text ≡ s ∷ drop (i + 1) text =
+    rw add-one (drop-cons text i 0 lt ∙ ap (λ x. x ∷ drop (suc i) text) e) in
+    let whole : text ≡ take i text ++ s ∷ drop (i + 1) text = sym (take-append-drop i text)
+    ∙ ap (λ r. take i text ++ r) next in
     ap (cut_last s) whole ∙ last_made s (take i text) (drop (i + 1) text) none
 
 -- a character before it that is none
-pub none_before : (s : ℕ) (text : List ℕ) (i : ℕ) → i < length text → get_or text i 0 ≢ s → HasNo s (drop (i + 1) text) → HasNo s (drop i text)
+pub none_before : (s : ℕ) (text : List ℕ) (i : ℕ) → i < length text → get_or text i 0 ≢ s → HasNo s (drop (i + 1) text)
+    → HasNo s (drop i text)
 none_before s text i lt e none =
     let next : drop i text ≡ get_or text i 0 ∷ drop (i + 1) text = rw add-one (drop-cons text i 0 lt) in
     subst (HasNo s) (sym next) (All-cons (λ x. x ≢ s) (get_or text i 0) (drop (i + 1) text) e none)

@@ -1,5 +1,6 @@
 -- What the words of a line mean, and so what the grammar says of a line by itself.
-use Rattle.std.proofs.Common.{◌≡◌, ℕ, ◌≤◌, Bool, true, false, cond, eqb, leb, List, [], ◌∷◌, ◌++◌, Option, Some, None, Result, Ok, Err, refl, sym, ap, subst, ◌∙◌, ◌⊎◌, inl, inr, codes, not, append_assoc}
+use Rattle.std.proofs.Common.{◌≡◌, ℕ, ◌≤◌, Bool, true, false, cond, eqb, leb, List, [], ◌∷◌, ◌++◌, Option, Some, None}
+use Rattle.std.proofs.Common.{Result, Ok, Err, refl, sym, ap, subst, ◌∙◌, ◌⊎◌, inl, inr, codes, not, append_assoc}
 use Rattle.std.specs.Prelude.{is_none, IsTrue}
 use Rattle.std.specs.Str.{bytes_eq}
 use Rattle.std.proofs.lemmas.Bool.{cases_Bool, and_parts, or_cases, leb-true, le-leb, both_ways}
@@ -22,10 +23,20 @@ use Rattle.mta_tables.specs.declared.line.Grade.TheVariants as Grades
 use Rattle.mta_tables.specs.declared.line.Line.{Line}
 use Rattle.mta_tables.specs.declared.line.Line.TheVariants as Said
 use Rattle.mta_tables.specs.Domain.{name_of_domain, domain_of, domain_from, is_bare, has_none}
-use Rattle.mta_tables.specs.Grammar.{Words, SilentLine, DomainLine, NameLine, PeerLine, MailboxLine, ListLine, FromLine, MemberLine, HereLine, RouteLineTo, HoldLine, HasNo, spaced, peer_text, EndsInPeer, alone, behind, ArePeerWords, HasWords, IsNumber, LacksNumber, IsPeerOf, Mean, Says}
-use Rattle.mta_tables.specs.Lines.{◌>>=◌, PeerText, are_peer_words, peer, name_of, pattern_of, named, number_in, domain_said, domain_words, name_words, peer_words, mailbox_words, list_words, from_words, member_words, here_words, route_words, hold_for, hold_words, next_word, there, ending, last_word, peer_cut, before_peer, route_hop, route_cut, route_line, peer_line, mailbox_line, list_line, from_line, member_line, hold_line, said_of, said_if, line_of}
-use Rattle.mta_tables.specs.Words.{cut_at, cut_last, is_word_octet, is_word, is_password_octet, is_password, is_mode, is_twa, is_policy, is_back, grade_text, grade_of, is_filled, is_decimal, is_number, number_of, command_text, command_of, is_silent}
-use Rattle.mta_tables.proofs.Cuttings.{cut_made, cut_none, cut_clean, rejoined, cut_back, last_none, last_made, rejoined_last, last_back, last_clean, none_of}
+use Rattle.mta_tables.specs.Grammar.{Words, SilentLine, DomainLine, NameLine, PeerLine, MailboxLine, ListLine, FromLine}
+use Rattle.mta_tables.specs.Grammar.{MemberLine, HereLine, RouteLineTo, HoldLine, HasNo, spaced, peer_text, EndsInPeer}
+use Rattle.mta_tables.specs.Grammar.{alone, behind, ArePeerWords, HasWords, IsNumber, LacksNumber, IsPeerOf, Mean, Says}
+use Rattle.mta_tables.specs.Lines.{◌>>=◌, PeerText, are_peer_words, peer, name_of, pattern_of, named, number_in}
+use Rattle.mta_tables.specs.Lines.{domain_said, domain_words, name_words, peer_words, mailbox_words, list_words}
+use Rattle.mta_tables.specs.Lines.{from_words, member_words, here_words, route_words, hold_for, hold_words, next_word}
+use Rattle.mta_tables.specs.Lines.{there, ending, last_word, peer_cut, before_peer, route_hop, route_cut, route_line}
+use Rattle.mta_tables.specs.Lines.{peer_line, mailbox_line, list_line, from_line, member_line, hold_line, said_of}
+use Rattle.mta_tables.specs.Lines.{said_if, line_of}
+use Rattle.mta_tables.specs.Words.{cut_at, cut_last, is_word_octet, is_word, is_password_octet, is_password, is_mode}
+use Rattle.mta_tables.specs.Words.{is_twa, is_policy, is_back, grade_text, grade_of, is_filled, is_decimal, is_number}
+use Rattle.mta_tables.specs.Words.{number_of, command_text, command_of, is_silent}
+use Rattle.mta_tables.proofs.Cuttings.{cut_made, cut_none, cut_clean, rejoined, cut_back, last_none, last_made}
+use Rattle.mta_tables.proofs.Cuttings.{rejoined_last, last_back, last_clean, none_of}
 use Rattle.mta_tables.proofs.Wordings.{meant, words_read, line_decided}
 
 -- ---- what the words mean
@@ -62,8 +73,18 @@ number_judged low high w =
       | inl good ↦ rw good (
           let p = and_parts _ (leb (number_of w) high) good in
           let q = and_parts (is_decimal w) (leb low (number_of w)) p.0 in
-          record { decimal = q.0; number_is = refl; least = leb-true low (number_of w) q.1; most = leb-true (number_of w) high p.1 })
-      | inr other ↦ rw other (refl, λ n h. absurd (both_ways (is_number low high w) other (is_number_of low high w n h)))
+          record {
+            decimal = q.0;
+            number_is = refl;
+            least = leb-true low (number_of w) q.1;
+            most =
+                leb-true (number_of w) high p.1;
+          })
+      | inr other ↦ rw other (
+        refl,
+        λ n h. absurd
+            (both_ways (is_number low high w) other (is_number_of low high w n h)),
+      )
     ]
 
 pub number_read : (low high : ℕ) (w : List ℕ) (n : ℕ) → IsNumber low high w n → number_in low high w ≡ Ok n
@@ -110,7 +131,8 @@ pattern_at_fault at = Err at
 no_pattern : (text : List ℕ) (at : ℕ) (p : List (List ℕ)) → pattern_of_text text ≡ Err at → IsPatternForm text p → ⊥
 no_pattern text at p e h = (let f : pattern_at_fault at ≡ found_pattern p = sym e ∙ pattern_read text p h in absurd cc)
 
-pattern_judged_of : (text : List ℕ) (r : Result (List (List ℕ)) ℕ) → pattern_of_text text ≡ r → PatternJudged text (named r)
+pattern_judged_of : (text : List ℕ) (r : Result (List (List ℕ)) ℕ) → pattern_of_text text ≡ r
+    → PatternJudged text (named r)
 pattern_judged_of text (Ok p) e = pattern_found text p e
 pattern_judged_of text (Err at) e = (refl, λ p h. no_pattern text at p e h)
 
@@ -133,7 +155,8 @@ has_none_is [] h = refl
 has_none_is (x ∷ xs) h = absurd cc
 
 -- a name of its parts
-name_from : Option Label → Option Label → Option (List ℕ) → Option (List ℕ) → Option Label → Option (List ℕ) → Option (List ℕ) → Option Person → List (List ℕ) → List Pair → Option (List ℕ) → List Extra
+name_from : Option Label → Option Label → Option (List ℕ) → Option (List ℕ) → Option Label → Option (List ℕ)
+    → Option (List ℕ) → Option Person → List (List ℕ) → List Pair → Option (List ℕ) → List Extra
     → Option (List ℕ) → Attributes
 name_from c a x t p o u s us ds k es d = record {
   country = c;
@@ -151,12 +174,14 @@ name_from c a x t p o u s us ds k es d = record {
   directory = d;
 }
 
-all_parts : (n : Attributes) → n ≡ name_from n.country n.admd n.network n.terminal n.prmd n.organization n.user n.person n.units n.pairs n.common n.extras n.directory
+all_parts : (n : Attributes) → n ≡ name_from n.country n.admd n.network n.terminal n.prmd n.organization n.user n.person
+    n.units n.pairs n.common n.extras n.directory
 unfolding name_from
 all_parts n = refl
 
 -- a name with the labels of a domain alone is the name of that domain
-bare_name : (n : Attributes) (c a : Label) → is_bare n ≡ true → n.country ≡ Some c → n.admd ≡ Some a → n ≡ name_of_domain (record { country = c; admd = a; prmd = n.prmd })
+bare_name : (n : Attributes) (c a : Label) → is_bare n ≡ true → n.country ≡ Some c → n.admd ≡ Some a
+    → n ≡ name_of_domain (record { country = c; admd = a; prmd = n.prmd })
 bare_name n c a h e f =
     let p9 = and_parts _ (is_none n.directory) h in
     let p8 = and_parts _ (has_none n.extras) p9.0 in
@@ -187,8 +212,10 @@ not_said kind s e = cc
 name_of_it : (d : DomainFields) → domain_of (name_of_domain d) ≡ Some d
 name_of_it d = refl
 
-domain_from_is : (n : Attributes) (c a : Option Label) (d : DomainFields) → n.country ≡ c → n.admd ≡ a → is_bare n ≡ true → domain_from c a n.prmd ≡ Some d → n ≡ name_of_domain d
-domain_from_is n (Some c) (Some a) d e f h g = bare_name n c a h e f ∙ ap name_of_domain (some_domain_is (record { country = c; admd = a; prmd = n.prmd }) d g)
+domain_from_is : (n : Attributes) (c a : Option Label) (d : DomainFields) → n.country ≡ c → n.admd ≡ a
+    → is_bare n ≡ true → domain_from c a n.prmd ≡ Some d → n ≡ name_of_domain d
+domain_from_is n (Some c) (Some a) d e f h g = bare_name n c a h e f
+    ∙ ap name_of_domain (some_domain_is (record { country = c; admd = a; prmd = n.prmd }) d g)
   where
     some_domain_is : (x y : DomainFields) → Some x ≡ Some y → x ≡ y
     some_domain_is x y e = cc
@@ -202,7 +229,8 @@ domain_is n d e =
       | inr other ↦ (let f : None ≡ Some d = rw other at e in absurd cc)
     ]
 
-domain_means : (text : List ℕ) (n : Attributes) (o : Option DomainFields) → IsTextForm text n → domain_of n ≡ o → Judged (DomainLine text) (domain_said o)
+domain_means : (text : List ℕ) (n : Attributes) (o : Option DomainFields) → IsTextForm text n → domain_of n ≡ o
+    → Judged (DomainLine text) (domain_said o)
 domain_means text n (Some d) h e = subst (IsTextForm text) (domain_is n d e) h
 domain_means text n None h e = ((λ x. x), λ s m. no_domain s m)
   where
@@ -215,9 +243,11 @@ domain_means text n None h e = ((λ x. x), λ s m. no_domain s m)
         absurd cc
     no_domain s m = m
 
-domain_judged : (text : List ℕ) (r : Result Attributes LineKind) → NameJudged text r → Judged (DomainLine text) (r >>= λ n. domain_said (domain_of n))
+domain_judged : (text : List ℕ) (r : Result Attributes LineKind) → NameJudged text r
+    → Judged (DomainLine text) (r >>= λ n. domain_said (domain_of n))
 domain_judged text (Ok n) h = domain_means text n (domain_of n) h refl
-domain_judged text (Err kind) h = subst (λ k. Judged (DomainLine text) (Err k)) (sym h.0) ((λ x. x), λ s m. no_domain s m)
+domain_judged text (Err kind) h =
+    subst (λ k. Judged (DomainLine text) (Err k)) (sym h.0) ((λ x. x), λ s m. no_domain s m)
   where
     no_domain : (s : Line) → Mean (DomainLine text) s → ⊥
     no_domain (Said.Domain d) m = h.1 (name_of_domain d) m
@@ -225,40 +255,49 @@ domain_judged text (Err kind) h = subst (λ k. Judged (DomainLine text) (Err k))
 
 -- ---- the other lines
 
-mailbox_judged : (word text : List ℕ) (r : Result Attributes LineKind) → NameJudged text r → Judged (MailboxLine word text) (r >>= λ n. Ok (Said.Mailbox (record { word = word; name = n })))
+mailbox_judged : (word text : List ℕ) (r : Result Attributes LineKind) → NameJudged text r
+    → Judged (MailboxLine word text) (r >>= λ n. Ok (Said.Mailbox (record { word = word; name = n })))
 mailbox_judged word text (Ok n) h = (refl, h)
-mailbox_judged word text (Err kind) h = subst (λ k. Judged (MailboxLine word text) (Err k)) (sym h.0) ((λ x. x), λ s m. none s m)
+mailbox_judged word text (Err kind) h = subst (λ k. Judged (MailboxLine word text) (Err k)) (sym h.0)
+    ((λ x. x), λ s m. none s m)
   where
     none : (s : Line) → Mean (MailboxLine word text) s → ⊥
     none (Said.Mailbox b) m = h.1 b.name m.1
     none s m = m
 
 list_judged : (word policy text : List ℕ) (r : Result Attributes LineKind) → NameJudged text r
-    → Judged (ListLine word policy text) (r >>= λ n. Ok (Said.List (record { word = word; back = is_back policy; name = n })))
+    → Judged (ListLine word policy text)
+    (r >>= λ n. Ok (Said.List (record { word = word; back = is_back policy; name = n })))
 list_judged word policy text (Ok n) h = (refl, (refl, h))
-list_judged word policy text (Err kind) h = subst (λ k. Judged (ListLine word policy text) (Err k)) (sym h.0) ((λ x. x), λ s m. none s m)
+list_judged word policy text (Err kind) h = subst (λ k. Judged (ListLine word policy text) (Err k)) (sym h.0)
+    ((λ x. x), λ s m. none s m)
   where
     none : (s : Line) → Mean (ListLine word policy text) s → ⊥
     none (Said.List l) m = h.1 l.name m.1.1
     none s m = m
 
-from_judged : (word text : List ℕ) (r : Result (List (List ℕ)) LineKind) → PatternJudged text r → Judged (FromLine word text) (r >>= λ p. Ok (Said.From (record { word = word; pattern = p })))
+from_judged : (word text : List ℕ) (r : Result (List (List ℕ)) LineKind) → PatternJudged text r
+    → Judged (FromLine word text) (r >>= λ p. Ok (Said.From (record { word = word; pattern = p })))
 from_judged word text (Ok p) h = (refl, h)
-from_judged word text (Err kind) h = subst (λ k. Judged (FromLine word text) (Err k)) (sym h.0) ((λ x. x), λ s m. none s m)
+from_judged word text (Err kind) h =
+    subst (λ k. Judged (FromLine word text) (Err k)) (sym h.0) ((λ x. x), λ s m. none s m)
   where
     none : (s : Line) → Mean (FromLine word text) s → ⊥
     none (Said.From f) m = h.1 f.pattern m.1
     none s m = m
 
-member_judged : (word text : List ℕ) (r : Result Attributes LineKind) → NameJudged text r → Judged (MemberLine word text) (r >>= λ n. Ok (Said.Member (record { word = word; name = n })))
+member_judged : (word text : List ℕ) (r : Result Attributes LineKind) → NameJudged text r
+    → Judged (MemberLine word text) (r >>= λ n. Ok (Said.Member (record { word = word; name = n })))
 member_judged word text (Ok n) h = (refl, h)
-member_judged word text (Err kind) h = subst (λ k. Judged (MemberLine word text) (Err k)) (sym h.0) ((λ x. x), λ s m. none s m)
+member_judged word text (Err kind) h = subst (λ k. Judged (MemberLine word text) (Err k)) (sym h.0)
+    ((λ x. x), λ s m. none s m)
   where
     none : (s : Line) → Mean (MemberLine word text) s → ⊥
     none (Said.Member b) m = h.1 b.name m.1
     none s m = m
 
-here_judged : (text : List ℕ) (r : Result (List (List ℕ)) LineKind) → PatternJudged text r → Judged (HereLine text) (r >>= λ p. Ok (Said.Route (record { pattern = p; peer = None })))
+here_judged : (text : List ℕ) (r : Result (List (List ℕ)) LineKind) → PatternJudged text r
+    → Judged (HereLine text) (r >>= λ p. Ok (Said.Route (record { pattern = p; peer = None })))
 here_judged text (Ok p) h = (refl, h)
 here_judged text (Err kind) h = subst (λ k. Judged (HereLine text) (Err k)) (sym h.0) ((λ x. x), λ s m. none s m)
   where
@@ -266,21 +305,25 @@ here_judged text (Err kind) h = subst (λ k. Judged (HereLine text) (Err k)) (sy
     none (Said.Route r) m = h.1 r.pattern m.1
     none s m = m
 
-route_judged : (text word : List ℕ) (r : Result (List (List ℕ)) LineKind) → PatternJudged text r → Judged (RouteLineTo text word) (r >>= λ p. Ok (Said.Route (record { pattern = p; peer = Some word })))
+route_judged : (text word : List ℕ) (r : Result (List (List ℕ)) LineKind) → PatternJudged text r
+    → Judged (RouteLineTo text word) (r >>= λ p. Ok (Said.Route (record { pattern = p; peer = Some word })))
 route_judged text word (Ok p) h = (refl, h)
-route_judged text word (Err kind) h = subst (λ k. Judged (RouteLineTo text word) (Err k)) (sym h.0) ((λ x. x), λ s m. none s m)
+route_judged text word (Err kind) h = subst (λ k. Judged (RouteLineTo text word) (Err k)) (sym h.0)
+    ((λ x. x), λ s m. none s m)
   where
     none : (s : Line) → Mean (RouteLineTo text word) s → ⊥
     none (Said.Route r) m = h.1 r.pattern m.1
     none s m = m
 
-hold_judged : (g : Grade) (w : List ℕ) (r : Result ℕ LineKind) → NumberJudged 0 31536000 w r → Judged (HoldLine g w) (r >>= λ n. Ok (Said.Hold (record { grade = g; seconds = n })))
+hold_judged : (g : Grade) (w : List ℕ) (r : Result ℕ LineKind) → NumberJudged 0 31536000 w r
+    → Judged (HoldLine g w) (r >>= λ n. Ok (Said.Hold (record { grade = g; seconds = n })))
 hold_judged g w (Ok n) h = (refl, h)
 hold_judged g w (Err kind) h = subst (λ k. Judged (HoldLine g w) (Err k)) (sym h.0) h.1
 
 peer_judged : (p : PeerText) (r s : Result ℕ LineKind) → NumberJudged 0 64 p.size r → NumberJudged 1 8 p.window s
     → Judged (PeerLine p) (r >>= λ size. s >>= λ window. Ok (Said.Peer (peer p size window)))
-peer_judged p (Ok a) (Ok b) h k = record { name = refl; send = refl; expected = refl; twa = refl; checkpoint = h; window = k }
+peer_judged p (Ok a) (Ok b) h k =
+    record { name = refl; send = refl; expected = refl; twa = refl; checkpoint = h; window = k }
 peer_judged p (Ok a) (Err kind) h k = subst (λ l. Judged (PeerLine p) (Err l)) (sym k.0) (inr k.1)
 peer_judged p (Err kind) s h k = subst (λ l. Judged (PeerLine p) (Err l)) (sym h.0) (inl h.1)
 
@@ -289,21 +332,28 @@ unfolding peer_words
 judged line SilentLine h = tt
 judged line (DomainLine text) h = domain_judged text (name_of text) (name_judged text)
 judged line (NameLine word) h = (let e : is_word word ≡ true = h.0 in rw e refl)
-judged line (PeerLine p) h = (let e : are_peer_words p ≡ true = h.0.words in rw e (peer_judged p (number_in 0 64 p.size) (number_in 1 8 p.window) (number_judged 0 64 p.size) (number_judged 1 8 p.window)))
-judged line (MailboxLine word text) h = (let e : is_word word ≡ true = h.0 in rw e (mailbox_judged word text (name_of text) (name_judged text)))
+judged line (PeerLine p) h = (let e : are_peer_words p ≡ true = h.0.words in
+    rw e (peer_judged p (number_in 0 64 p.size) (number_in 1 8 p.window) (number_judged 0 64 p.size)
+    (number_judged 1 8 p.window)))
+judged line (MailboxLine word text) h =
+    (let e : is_word word ≡ true = h.0 in rw e (mailbox_judged word text (name_of text) (name_judged text)))
 judged line (ListLine word policy text) h =
     let e : is_word word ≡ true = h.0 in
     let f : is_policy policy ≡ true = h.1.0 in
     rw (e, f) (list_judged word policy text (name_of text) (name_judged text))
-judged line (FromLine word text) h = (let e : is_word word ≡ true = h.0 in rw e (from_judged word text (pattern_of text) (pattern_judged text)))
-judged line (MemberLine word text) h = (let e : is_word word ≡ true = h.0 in rw e (member_judged word text (name_of text) (name_judged text)))
+judged line (FromLine word text) h =
+    (let e : is_word word ≡ true = h.0 in rw e (from_judged word text (pattern_of text) (pattern_judged text)))
+judged line (MemberLine word text) h =
+    (let e : is_word word ≡ true = h.0 in rw e (member_judged word text (name_of text) (name_judged text)))
 judged line (HereLine text) h = here_judged text (pattern_of text) (pattern_judged text)
-judged line (RouteLineTo text word) h = (let e : is_word word ≡ true = h.0 in rw e (route_judged text word (pattern_of text) (pattern_judged text)))
+judged line (RouteLineTo text word) h =
+    (let e : is_word word ≡ true = h.0 in rw e (route_judged text word (pattern_of text) (pattern_judged text)))
 judged line (HoldLine g w) h = hold_judged g w (number_in 0 31536000 w) (number_judged 0 31536000 w)
 
 -- ---- and back
 
-peer_is : (p : PeerText) (q : Peer) → IsPeerOf p q → says (Said.Peer (peer p q.checkpoint q.window)) ≡ says (Said.Peer q)
+peer_is : (p : PeerText) (q : Peer) → IsPeerOf p q
+    → says (Said.Peer (peer p q.checkpoint q.window)) ≡ says (Said.Peer q)
 peer_is p q h =
     let a = h.name in
     let b = h.send in
@@ -329,7 +379,8 @@ meaning_read line (ListLine word policy text) (Said.List l) h m =
     let e : is_word word ≡ true = h.0 in
     let k : is_policy policy ≡ true = h.1.0 in
     let f = name_is_read text l.name m.1.1 in
-    rw (e, k, f) (ap (λ w. says (Said.List (record { word = w; back = is_back policy; name = l.name }))) (sym m.0) ∙ ap (λ b. says (Said.List (record { word = l.word; back = b; name = l.name }))) (sym m.1.0))
+    rw (e, k, f) (ap (λ w. says (Said.List (record { word = w; back = is_back policy; name = l.name }))) (sym m.0)
+    ∙ ap (λ b. says (Said.List (record { word = l.word; back = b; name = l.name }))) (sym m.1.0))
 meaning_read line (FromLine word text) (Said.From f) h m =
     let e : is_word word ≡ true = h.0 in
     let g = pattern_is_read text f.pattern m.1 in
@@ -366,10 +417,12 @@ abbrev pub LineJudged : List ℕ → Result Line LineKind → Type 0
 LineJudged line (Ok s) = Says line s
 LineJudged line (Err Kinds.Word) = (words : Words) → HasWords line words → ⊥
 LineJudged line (Err Kinds.Number) = (words : Words) × (HasWords line words × LacksNumber words)
-LineJudged line (Err Kinds.Name) = (words : Words) × (HasWords line words × ((LacksNumber words → ⊥) × ((s : Line) → Mean words s → ⊥)))
+LineJudged line (Err Kinds.Name) = (words : Words)
+    × (HasWords line words × ((LacksNumber words → ⊥) × ((s : Line) → Mean words s → ⊥)))
 LineJudged line (Err kind) = ⊥
 
-worded_judged : (line : List ℕ) (words : Words) (r : Result Line LineKind) → HasWords line words → Judged words r → LineJudged line r
+worded_judged : (line : List ℕ) (words : Words) (r : Result Line LineKind) → HasWords line words → Judged words r
+    → LineJudged line r
 worded_judged line words (Ok s) h j = (words, (h, j))
 worded_judged line words (Err Kinds.Number) h j = (words, (h, j))
 worded_judged line words (Err Kinds.Name) h j = (words, (h, j))
@@ -381,8 +434,10 @@ word_is_none words r j e = subst (Judged words) e j
 pub line_judged : (line : List ℕ) → LineJudged line (line_of line)
 line_judged line =
     elim (line_decided line) [
-      | inl e ↦ subst (LineJudged line) (sym e) (λ words h. word_is_none words (meant words) (judged line words h) (sym (words_read line words h) ∙ e))
-      | inr w ↦ subst (LineJudged line) (sym (words_read line w.0 w.1)) (worded_judged line w.0 (meant w.0) w.1 (judged line w.0 w.1))
+      | inl e ↦ subst (LineJudged line) (sym e)
+          (λ words h. word_is_none words (meant words) (judged line words h) (sym (words_read line words h) ∙ e))
+      | inr w ↦ subst (LineJudged line) (sym (words_read line w.0 w.1))
+          (worded_judged line w.0 (meant w.0) w.1 (judged line w.0 w.1))
     ]
 
 pub said_is_read : (line : List ℕ) (s : Line) → Says line s → line_of line ≡ Ok s
@@ -397,14 +452,18 @@ lacks_is words (Err Kinds.Number) j h = refl
 lacks_is words (Err Kinds.Name) j h = absurd (j.0 h)
 lacks_is words (Err kind) j h = absurd j
 
-pub numberless_read : (line : List ℕ) (words : Words) → HasWords line words → LacksNumber words → line_of line ≡ Err Kinds.Number
+pub numberless_read : (line : List ℕ) (words : Words) → HasWords line words → LacksNumber words
+    → line_of line ≡ Err Kinds.Number
 numberless_read line words h l = words_read line words h ∙ lacks_is words (meant words) (judged line words h) l
 
-nameless_is : (words : Words) (r : Result Line LineKind) → Judged words r → (LacksNumber words → ⊥) → ((s : Line) → Mean words s → ⊥) → r ≡ Err Kinds.Name
+nameless_is : (words : Words) (r : Result Line LineKind) → Judged words r → (LacksNumber words → ⊥)
+    → ((s : Line) → Mean words s → ⊥) → r ≡ Err Kinds.Name
 nameless_is words (Ok s) j l none = absurd (none s j)
 nameless_is words (Err Kinds.Number) j l none = absurd (l j)
 nameless_is words (Err Kinds.Name) j l none = refl
 nameless_is words (Err kind) j l none = absurd j
 
-pub nameless_read : (line : List ℕ) (words : Words) → HasWords line words → (LacksNumber words → ⊥) → ((s : Line) → Mean words s → ⊥) → line_of line ≡ Err Kinds.Name
-nameless_read line words h l none = words_read line words h ∙ nameless_is words (meant words) (judged line words h) l none
+pub nameless_read : (line : List ℕ) (words : Words) → HasWords line words → (LacksNumber words → ⊥)
+    → ((s : Line) → Mean words s → ⊥) → line_of line ≡ Err Kinds.Name
+nameless_read line words h l none = words_read line words h
+    ∙ nameless_is words (meant words) (judged line words h) l none

@@ -1,5 +1,6 @@
 -- Numbers that are read digit by digit.
-use Rattle.std.proofs.Common.{◌≡◌, ℕ, ◌+◌, ◌-◌, ◌*◌, ◌<◌, ◌≤◌, true, false, leb, List, [], ◌∷◌, Option, Some, None, refl, sym, ◌∙◌, inl, inr, arith}
+use Rattle.std.proofs.Common.{◌≡◌, ℕ, ◌+◌, ◌-◌, ◌*◌, ◌<◌, ◌≤◌, true, false, leb, List, [], ◌∷◌, Option, Some, None}
+use Rattle.std.proofs.Common.{refl, sym, ◌∙◌, inl, inr, arith}
 use Rattle.std.specs.Prelude.{nat_le, ◌&&◌, if◌then◌else◌}
 use Rattle.std.proofs.lemmas.Bool.{cases_Bool, leb-true, leb-false}
 use Rattle.mta_tables.specs.Numbers.{small_from}
@@ -29,7 +30,8 @@ large_is n [] l e = absurd cc
 large_is n (c ∷ cs) l e =
     elim (cases_Bool (leb (n * 10 + (c - 48)) 99999999)) [
       | inl small ↦ large_is (n * 10 + (c - 48)) cs (leb-true (n * 10 + (c - 48)) 99999999 small) (rw small at e)
-      | inr large ↦ (let m = leb-false (n * 10 + (c - 48)) 99999999 large in let g = grows (n * 10 + (c - 48)) cs in omega arith)
+      | inr large ↦ (let m = leb-false (n * 10 + (c - 48)) 99999999 large in let g = grows (n * 10 + (c - 48)) cs in
+          omega arith)
     ]
 
 pub number_read : (w : List ℕ) (n : ℕ) → small_from 0 w ≡ Some n → number_of w ≡ n

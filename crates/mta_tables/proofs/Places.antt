@@ -1,5 +1,6 @@
 -- Places in lists.
-use Rattle.std.proofs.Common.{◌≡◌, ℕ, zero, suc, ◌<◌, ◌≤◌, Bool, true, false, cond, ltb, List, [], ◌∷◌, ◌++◌, length, get_or, Option, Some, None, refl, sym, ap, subst, ◌∙◌, ◌⊎◌, inl, inr, arith}
+use Rattle.std.proofs.Common.{◌≡◌, ℕ, zero, suc, ◌<◌, ◌≤◌, Bool, true, false, cond, ltb, List, [], ◌∷◌, ◌++◌, length}
+use Rattle.std.proofs.Common.{get_or, Option, Some, None, refl, sym, ap, subst, ◌∙◌, ◌⊎◌, inl, inr, arith}
 use Rattle.std.specs.Prelude.{slice_get, map}
 use Rattle.std.specs.List.{position, position_or_len, find, list_all, Any}
 use Rattle.std.proofs.lemmas.Bool.{cases_Bool, both_ways, and_parts, and_from, ltb-true, ltb-false}
@@ -16,7 +17,8 @@ Passes {X} p xs i = (x : X) × (slice_get xs i ≡ Some x) × (p x ≡ true)
 pub place_is : (i j : ℕ) → some_place i ≡ some_place j → i ≡ j
 place_is i j e = cc
 
-passes_first : {X : Type 0} (p : X → Bool) (xs : List X) → position_or_len p xs < length xs → Passes p xs (position_or_len p xs)
+passes_first : {X : Type 0} (p : X → Bool) (xs : List X) → position_or_len p xs < length xs
+    → Passes p xs (position_or_len p xs)
 passes_first p xs l =
     elim ((slice_get_cases xs (position_or_len p xs)).1) [
       | inl f ↦ (f.0, f.2, ap p (sym f.3) ∙ passes_at_first p xs f.0 l)
@@ -26,7 +28,8 @@ passes_first p xs l =
 pub position_passes : {X : Type 0} (p : X → Bool) (xs : List X) (i : ℕ) → position p xs ≡ Some i → Passes p xs i
 position_passes p xs i e =
     elim (cases_Bool (ltb (position_or_len p xs) (length xs))) [
-      | inl l ↦ (let f : some_place (position_or_len p xs) ≡ some_place i = rw l at e in subst (Passes p xs) (place_is _ i f) (passes_first p xs (ltb-true _ _ l)))
+      | inl l ↦ (let f : some_place (position_or_len p xs) ≡ some_place i = rw l at e in
+          subst (Passes p xs) (place_is _ i f) (passes_first p xs (ltb-true _ _ l)))
       | inr m ↦ (let f : None ≡ some_place i = rw m at e in absurd cc)
     ]
 
@@ -38,7 +41,8 @@ position_none p xs k e h =
           let past = ltb-false (position_or_len p xs) (length xs) m in
           let within = slice_get_within xs k h.0 h.1 in
           let before : k < position_or_len p xs = omega arith in
-          both_ways (p h.0) (ap p (sym (get_or_from_slice_get xs k h.0 h.0 h.1)) ∙ fails_before_first p xs k h.0 before) h.2)
+          both_ways (p h.0) (ap p (sym (get_or_from_slice_get xs k h.0 h.0 h.1)) ∙ fails_before_first p xs k h.0 before)
+          h.2)
     ]
 
 pub position_within : {X : Type 0} (p : X → Bool) (xs : List X) (i : ℕ) → position p xs ≡ Some i → i < length xs
@@ -50,7 +54,8 @@ cases_option (Some x) = inr (x, refl)
 
 -- ---- one more
 
-pub at_more : {X : Type 0} (xs : List X) (n : X) (i : ℕ) (x : X) → slice_get (xs ++ n ∷ []) i ≡ Some x → (slice_get xs i ≡ Some x) ⊎ ((i ≡ length xs) × (x ≡ n))
+pub at_more : {X : Type 0} (xs : List X) (n : X) (i : ℕ) (x : X) → slice_get (xs ++ n ∷ []) i ≡ Some x
+    → (slice_get xs i ≡ Some x) ⊎ ((i ≡ length xs) × (x ≡ n))
 at_more [] n zero x e = inr (refl, cc)
 at_more [] n (suc i) x e = absurd cc
 at_more (y ∷ ys) n zero x e = inl e
@@ -59,10 +64,12 @@ at_more (y ∷ ys) n (suc i) x e = elim (at_more ys n i x e) [ inl h ↦ inl h |
 pub any_at : {X : Type 0} (P : X → Type 0) (xs : List X) (i : ℕ) (x : X) → slice_get xs i ≡ Some x → P x → Any P xs
 any_at P xs i x e h = (i, x, slice_get_within xs i x e, get_or_from_slice_get xs i x x e, h)
 
-pub apart_more : {X : Type 0} (Same : X → X → Type 0) (xs : List X) (n : X) → ((x : X) → Same n x → Same x n) → AreApart Same xs → (Any (λ x. Same x n) xs → ⊥) → AreApart Same (xs ++ n ∷ [])
+pub apart_more : {X : Type 0} (Same : X → X → Type 0) (xs : List X) (n : X) → ((x : X) → Same n x → Same x n)
+    → AreApart Same xs → (Any (λ x. Same x n) xs → ⊥) → AreApart Same (xs ++ n ∷ [])
 apart_more {X} Same xs n turned h none i j x y p q s = at (at_more xs n i x p.found) (at_more xs n j y q.found)
   where
-    at : (slice_get xs i ≡ Some x) ⊎ ((i ≡ length xs) × (x ≡ n)) → (slice_get xs j ≡ Some y) ⊎ ((j ≡ length xs) × (y ≡ n)) → i ≡ j
+    at : (slice_get xs i ≡ Some x) ⊎ ((i ≡ length xs) × (x ≡ n)) → (slice_get xs j ≡ Some y)
+        ⊎ ((j ≡ length xs) × (y ≡ n)) → i ≡ j
     at (inl e) (inl f) = h i j x y (record { found = e }) (record { found = f }) s
     at (inl e) (inr f) = absurd (none (any_at (λ z. Same z n) xs i x e (subst (λ z. Same x z) f.1 s)))
     at (inr e) (inl f) = absurd (none (any_at (λ z. Same z n) xs j y f (turned y (subst (λ z. Same z y) e.1 s))))
@@ -70,12 +77,14 @@ apart_more {X} Same xs n turned h none i j x y p q s = at (at_more xs n i x p.fo
 
 -- ---- mapped
 
-pub at_mapped : {X Y : Type 0} (f : X → Y) (xs : List X) (i : ℕ) (y : Y) → slice_get (map f xs) i ≡ Some y → (x : X) × ((slice_get xs i ≡ Some x) × (y ≡ f x))
+pub at_mapped : {X Y : Type 0} (f : X → Y) (xs : List X) (i : ℕ) (y : Y) → slice_get (map f xs) i ≡ Some y → (x : X)
+    × ((slice_get xs i ≡ Some x) × (y ≡ f x))
 at_mapped f [] i y e = absurd cc
 at_mapped f (x ∷ xs) zero y e = (x, (refl, cc))
 at_mapped f (x ∷ xs) (suc i) y e = at_mapped f xs i y e
 
-pub apart_mapped : {X : Type 0} (Same : X → X → Type 0) (f : X → X) (xs : List X) → ((x y : X) → Same (f x) (f y) → Same x y) → AreApart Same xs → AreApart Same (map f xs)
+pub apart_mapped : {X : Type 0} (Same : X → X → Type 0) (f : X → X) (xs : List X)
+    → ((x y : X) → Same (f x) (f y) → Same x y) → AreApart Same xs → AreApart Same (map f xs)
 apart_mapped Same f xs kept h i j x y p q s =
     let a = at_mapped f xs i x p.found in
     let b = at_mapped f xs j y q.found in

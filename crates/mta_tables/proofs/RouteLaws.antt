@@ -1,5 +1,6 @@
 -- Of routes with different patterns at most one is best, and it is the one that is found.
-use Rattle.std.proofs.Common.{◌≡◌, ℕ, zero, suc, ◌≤◌, Bool, true, false, List, [], ◌∷◌, length, Option, Some, None, refl, sym, ◌∙◌, ap, arith, cond, ◌⊎◌, inl, inr}
+use Rattle.std.proofs.Common.{◌≡◌, ℕ, zero, suc, ◌≤◌, Bool, true, false, List, [], ◌∷◌, length, Option, Some, None}
+use Rattle.std.proofs.Common.{refl, sym, ◌∙◌, ap, arith, cond, ◌⊎◌, inl, inr}
 use Rattle.std.specs.Prelude.{slice_get, nat_le, not, ◌||◌}
 use Rattle.std.specs.List.{find, list_all}
 use Rattle.std.proofs.lemmas.Bool.{and_parts, and_from, cases_lt, leb-true, le-leb}
@@ -23,31 +24,37 @@ pub found_at : {X : Type 0} (p : X → Bool) (xs : List X) (x : X) → find p xs
 found_at {X} p [] x e = absurd cc
 found_at {X} p (y ∷ ys) x e = at (p y) refl (found_at p ys x) e
   where
-    at : (b : Bool) → p y ≡ b → (find p ys ≡ Some x → IsFoundAt p ys x) → cond b (Some y) (find p ys) ≡ Some x → IsFoundAt p (y ∷ ys) x
+    at : (b : Bool) → p y ≡ b → (find p ys ≡ Some x → IsFoundAt p ys x) → cond b (Some y) (find p ys) ≡ Some x
+        → IsFoundAt p (y ∷ ys) x
     at true h next e = let same : y ≡ x = cc in record { place = 0; stands = e; passes = ap p (sym same) ∙ h }
     at false h next e = let f = next e in record { place = suc f.place; stands = f.stands; passes = f.passes }
 
-pub all_pass : {X : Type 0} (p : X → Bool) (xs : List X) (x : X) (i : ℕ) → list_all p xs ≡ true → slice_get xs i ≡ Some x → p x ≡ true
+pub all_pass : {X : Type 0} (p : X → Bool) (xs : List X) (x : X) (i : ℕ) → list_all p xs ≡ true
+    → slice_get xs i ≡ Some x → p x ≡ true
 all_pass p [] x i h e = absurd cc
 all_pass p (y ∷ ys) x zero h e = let same : y ≡ x = cc in ap p (sym same) ∙ (and_parts (p y) (list_all p ys) h).0
 all_pass p (y ∷ ys) x (suc i) h e = all_pass p ys x i (and_parts (p y) (list_all p ys) h).1 e
 
-pub pass_all : {X : Type 0} (p : X → Bool) (xs : List X) → ((i : ℕ) (x : X) → slice_get xs i ≡ Some x → p x ≡ true) → list_all p xs ≡ true
+pub pass_all : {X : Type 0} (p : X → Bool) (xs : List X) → ((i : ℕ) (x : X) → slice_get xs i ≡ Some x → p x ≡ true)
+    → list_all p xs ≡ true
 pass_all p [] h = refl
 pass_all p (y ∷ ys) h = and_from (p y) (list_all p ys) (h 0 y refl) (pass_all p ys (λ i x e. h (suc i) x e))
 
-pub none_pass : {X : Type 0} (p : X → Bool) (xs : List X) (x : X) (i : ℕ) → find p xs ≡ None → slice_get xs i ≡ Some x → p x ≡ false
+pub none_pass : {X : Type 0} (p : X → Bool) (xs : List X) (x : X) (i : ℕ) → find p xs ≡ None → slice_get xs i ≡ Some x
+    → p x ≡ false
 none_pass {X} p [] x i h e = absurd cc
 none_pass {X} p (y ∷ ys) x i h e = at (p y) refl (none_pass p ys x) h i e
   where
-    at : (b : Bool) → p y ≡ b → ((i : ℕ) → find p ys ≡ None → slice_get ys i ≡ Some x → p x ≡ false) → cond b (Some y) (find p ys) ≡ None → (i : ℕ) → slice_get (y ∷ ys) i ≡ Some x → p x ≡ false
+    at : (b : Bool) → p y ≡ b → ((i : ℕ) → find p ys ≡ None → slice_get ys i ≡ Some x → p x ≡ false)
+        → cond b (Some y) (find p ys) ≡ None → (i : ℕ) → slice_get (y ∷ ys) i ≡ Some x → p x ≡ false
     at true k next h i e = absurd cc
     at false k next h zero e = let same : y ≡ x = cc in ap p (sym same) ∙ k
     at false k next h (suc i) e = next i h e
 
 -- ---- patterns
 
-same_parts : (ps qs : List (List ℕ)) (os : List (Option (List ℕ))) → HasParts ps os → HasParts qs os → length ps ≡ length qs → IsSamePattern ps qs
+same_parts : (ps qs : List (List ℕ)) (os : List (Option (List ℕ))) → HasParts ps os → HasParts qs os
+    → length ps ≡ length qs → IsSamePattern ps qs
 same_parts [] [] os h k e = refl
 same_parts [] (q ∷ qs) os h k e = absurd (omega arith)
 same_parts (p ∷ ps) [] os h k e = absurd (omega arith)
@@ -59,12 +66,14 @@ same_parts (p ∷ ps) (q ∷ qs) (o ∷ os) h k e =
     let rest = same_parts ps qs os h.1 k.1 few in
     cc
 
-pub best_is_one : (routes : List Route) (n : Attributes) (i j : ℕ) (r s : Route) → AreApart IsRoutePattern routes → IsBestAt routes n i r → IsBestAt routes n j s → i ≡ j
+pub best_is_one : (routes : List Route) (n : Attributes) (i j : ℕ) (r s : Route) → AreApart IsRoutePattern routes
+    → IsBestAt routes n i r → IsBestAt routes n j s → i ≡ j
 best_is_one routes n i j r s different h k =
     let a = h.longest j s k.stands k.on_it in
     let b = k.longest i r h.stands h.on_it in
     let e : length r.pattern ≡ length s.pattern = omega arith in
-    different i j r s (record { found = h.stands.found }) (record { found = k.stands.found }) (same_parts r.pattern s.pattern (route_attributes n) h.on_it k.on_it e)
+    different i j r s (record { found = h.stands.found }) (record { found = k.stands.found })
+    (same_parts r.pattern s.pattern (route_attributes n) h.on_it k.on_it e)
 
 -- ---- the one that is found
 
@@ -82,7 +91,8 @@ pub no_shorter : (b c : Bool) → (b ≡ true → c ≡ true) → (not b || c) �
 no_shorter true c h = h refl
 no_shorter false c h = refl
 
-pub best_is_found : (routes : List Route) (n : Attributes) (r : Route) → best_entry routes n ≡ Some r → (place : ℕ) × IsBestAt routes n place r
+pub best_is_found : (routes : List Route) (n : Attributes) (r : Route) → best_entry routes n ≡ Some r → (place : ℕ)
+    × IsBestAt routes n place r
 unfolding is_best
 best_is_found routes n r e =
     let f = found_at (is_best routes n) routes r e in
@@ -93,7 +103,8 @@ best_is_found routes n r e =
         on_it = on_route n r parts.0;
         longest = λ i s stands on_it.
             let passes = all_pass (is_no_shorter n r) routes s i parts.1 stands.found in
-            leb-true (length s.pattern) (length r.pattern) (shorter (matches n s) (nat_le (length s.pattern) (length r.pattern)) passes (matching n s on_it));
+            leb-true (length s.pattern) (length r.pattern)
+            (shorter (matches n s) (nat_le (length s.pattern) (length r.pattern)) passes (matching n s on_it));
       },
     )
 
@@ -104,9 +115,11 @@ pub record IsLongest (routes : List Route) (n : Attributes) : Type 0 where
   pub route : Route
   pub stands : slice_get routes place ≡ Some route
   pub matches_so : matches n route ≡ true
-  pub longest : (i : ℕ) (s : Route) → slice_get routes i ≡ Some s → matches n s ≡ true → length s.pattern ≤ length route.pattern
+  pub longest : (i : ℕ) (s : Route) → slice_get routes i ≡ Some s → matches n s ≡ true
+      → length s.pattern ≤ length route.pattern
 
-longer_of : (n : Attributes) (r : Route) (rs : List Route) (l : IsLongest rs n) → matches n r ≡ true → IsLongest (r ∷ rs) n
+longer_of : (n : Attributes) (r : Route) (rs : List Route) (l : IsLongest rs n) → matches n r ≡ true
+    → IsLongest (r ∷ rs) n
 longer_of n r rs l m = elim (cases_lt (length l.route.pattern) (length r.pattern)) [
   | inl lt ↦ record {
     place = 0;
@@ -115,44 +128,66 @@ longer_of n r rs l m = elim (cases_lt (length l.route.pattern) (length r.pattern
     matches_so = m;
     longest = λ i s e h. first i s e h (omega (arith, lt));
   }
-  | inr le ↦ record { place = suc l.place; route = l.route; stands = l.stands; matches_so = l.matches_so; longest = λ i s e h. second i s e h le }
+  | inr le ↦ record {
+    place = suc l.place;
+    route = l.route;
+    stands = l.stands;
+    matches_so = l.matches_so;
+    longest =
+        λ i s e h. second i s e h le;
+  }
 ]
   where
-    first : (i : ℕ) (s : Route) → slice_get (r ∷ rs) i ≡ Some s → matches n s ≡ true → length l.route.pattern ≤ length r.pattern → length s.pattern ≤ length r.pattern
+    first : (i : ℕ) (s : Route) → slice_get (r ∷ rs) i ≡ Some s → matches n s ≡ true
+        → length l.route.pattern ≤ length r.pattern → length s.pattern ≤ length r.pattern
     first zero s e h le = let same : r ≡ s = cc in omega (arith, ap (λ (x : Route). length x.pattern) same)
     first (suc i) s e h le = omega (arith, l.longest i s e h, le)
 
-    second : (i : ℕ) (s : Route) → slice_get (r ∷ rs) i ≡ Some s → matches n s ≡ true → length r.pattern ≤ length l.route.pattern → length s.pattern ≤ length l.route.pattern
+    second : (i : ℕ) (s : Route) → slice_get (r ∷ rs) i ≡ Some s → matches n s ≡ true
+        → length r.pattern ≤ length l.route.pattern → length s.pattern ≤ length l.route.pattern
     second zero s e h le = let same : r ≡ s = cc in omega (arith, ap (λ (x : Route). length x.pattern) same, le)
     second (suc i) s e h le = l.longest i s e h
 
-only_one : (n : Attributes) (r : Route) (rs : List Route) → ((i : ℕ) (s : Route) → slice_get rs i ≡ Some s → matches n s ≡ true → ⊥) → matches n r ≡ true → IsLongest (r ∷ rs) n
+only_one : (n : Attributes) (r : Route) (rs : List Route)
+    → ((i : ℕ) (s : Route) → slice_get rs i ≡ Some s → matches n s ≡ true → ⊥) → matches n r ≡ true
+    → IsLongest (r ∷ rs) n
 only_one n r rs none m = record { place = 0; route = r; stands = refl; matches_so = m; longest = at }
   where
     at : (i : ℕ) (s : Route) → slice_get (r ∷ rs) i ≡ Some s → matches n s ≡ true → length s.pattern ≤ length r.pattern
     at zero s e h = let same : r ≡ s = cc in omega (arith, ap (λ (x : Route). length x.pattern) same)
     at (suc i) s e h = absurd (none i s e h)
 
-further_on : (n : Attributes) (r : Route) (rs : List Route) → matches n r ≡ false → IsLongest rs n → IsLongest (r ∷ rs) n
-further_on n r rs m l = record { place = suc l.place; route = l.route; stands = l.stands; matches_so = l.matches_so; longest = at }
+further_on : (n : Attributes) (r : Route) (rs : List Route) → matches n r ≡ false → IsLongest rs n
+    → IsLongest (r ∷ rs) n
+further_on n r rs m l = record {
+  place = suc l.place;
+  route = l.route;
+  stands = l.stands;
+  matches_so = l.matches_so;
+  longest = at;
+}
   where
-    at : (i : ℕ) (s : Route) → slice_get (r ∷ rs) i ≡ Some s → matches n s ≡ true → length s.pattern ≤ length l.route.pattern
+    at : (i : ℕ) (s : Route) → slice_get (r ∷ rs) i ≡ Some s → matches n s ≡ true
+        → length s.pattern ≤ length l.route.pattern
     at zero s e h = let same : r ≡ s = cc in absurd (cc (ap (matches n) same))
     at (suc i) s e h = l.longest i s e h
 
 -- some route matches and is longest, or none matches
-longest_or_none : (n : Attributes) (rs : List Route) → IsLongest rs n ⊎ ((i : ℕ) (s : Route) → slice_get rs i ≡ Some s → matches n s ≡ true → ⊥)
+longest_or_none : (n : Attributes) (rs : List Route) → IsLongest rs n
+    ⊎ ((i : ℕ) (s : Route) → slice_get rs i ≡ Some s → matches n s ≡ true → ⊥)
 longest_or_none n [] = inr (λ i s e h. absurd cc)
 longest_or_none n (r ∷ rs) = at (matches n r) refl (longest_or_none n rs)
   where
-    at : (b : Bool) → matches n r ≡ b → IsLongest rs n ⊎ ((i : ℕ) (s : Route) → slice_get rs i ≡ Some s → matches n s ≡ true → ⊥)
+    at : (b : Bool) → matches n r ≡ b → IsLongest rs n
+        ⊎ ((i : ℕ) (s : Route) → slice_get rs i ≡ Some s → matches n s ≡ true → ⊥)
         → IsLongest (r ∷ rs) n ⊎ ((i : ℕ) (s : Route) → slice_get (r ∷ rs) i ≡ Some s → matches n s ≡ true → ⊥)
     at true m (inl l) = inl (longer_of n r rs l m)
     at true m (inr none) = inl (only_one n r rs none m)
     at false m (inl l) = inl (further_on n r rs m l)
     at false m (inr none) = inr (behind none)
       where
-        behind : ((i : ℕ) (s : Route) → slice_get rs i ≡ Some s → matches n s ≡ true → ⊥) → (i : ℕ) (s : Route) → slice_get (r ∷ rs) i ≡ Some s → matches n s ≡ true → ⊥
+        behind : ((i : ℕ) (s : Route) → slice_get rs i ≡ Some s → matches n s ≡ true → ⊥) → (i : ℕ) (s : Route)
+            → slice_get (r ∷ rs) i ≡ Some s → matches n s ≡ true → ⊥
         behind none zero s e h = let same : r ≡ s = cc in cc (ap (matches n) same)
         behind none (suc i) s e h = none i s e h
 
@@ -160,10 +195,14 @@ longest_is_best : (n : Attributes) (rs : List Route) (l : IsLongest rs n) → is
 unfolding is_best
 longest_is_best n rs l =
     and_from (matches n l.route) (list_all (is_no_shorter n l.route) rs) l.matches_so
-    (pass_all (is_no_shorter n l.route) rs (λ i s e. no_shorter (matches n s) (nat_le (length s.pattern) (length l.route.pattern)) (λ h. le-leb (length s.pattern) (length l.route.pattern) (l.longest i s e h))))
+    (pass_all (is_no_shorter n l.route) rs
+    (λ i s e. no_shorter (matches n s) (nat_le (length s.pattern) (length l.route.pattern))
+    (λ h. le-leb (length s.pattern) (length l.route.pattern) (l.longest i s e h))))
 
-pub none_is_found : (routes : List Route) (n : Attributes) → best_entry routes n ≡ None → (place : ℕ) (r : Route) → StandsAt routes place r → HasRoute n r.pattern → ⊥
+pub none_is_found : (routes : List Route) (n : Attributes) → best_entry routes n ≡ None → (place : ℕ) (r : Route)
+    → StandsAt routes place r → HasRoute n r.pattern → ⊥
 none_is_found routes n none place r stands on_it = elim (longest_or_none n routes) [
-  | inl l ↦ let yes' = longest_is_best n routes l in let no' = none_pass (is_best routes n) routes l.route l.place none l.stands in cc
+  | inl l ↦ let yes' = longest_is_best n routes l in let no' =
+      none_pass (is_best routes n) routes l.route l.place none l.stands in cc
   | inr no' ↦ no' place r stands.found (matching n r on_it)
 ]

@@ -1,9 +1,12 @@
 -- What the lines so far have said, and whether one more can stand behind them.
-use Rattle.std.proofs.Common.{◌≡◌, ℕ, ◌+◌, ◌<◌, ◌≤◌, Bool, true, false, cond, leb, List, [], ◌∷◌, ◌++◌, length, Option, Some, None, Result, Ok, Err, refl, sym, ap, subst, ◌∙◌, ◌⊎◌, ◌↔◌, inl, inr, arith, append_assoc, append-nil, not}
+use Rattle.std.proofs.Common.{◌≡◌, ℕ, ◌+◌, ◌<◌, ◌≤◌, Bool, true, false, cond, leb, List, [], ◌∷◌, ◌++◌, length, Option}
+use Rattle.std.proofs.Common.{Some, None, Result, Ok, Err, refl, sym, ap, subst, ◌∙◌, ◌⊎◌, ◌↔◌, inl, inr, arith}
+use Rattle.std.proofs.Common.{append_assoc, append-nil, not}
 use Rattle.std.specs.Prelude.{map, is_some, ◌||◌, ◌&&◌}
 use Rattle.std.specs.List.{flat_map, list_any, Any}
 use Rattle.std.specs.Str.{bytes_eq}
-use Rattle.std.proofs.lemmas.Bool.{cases_Bool, or_cases, or_left, or_right, and_parts, and_from, leb-true, le-leb, both_ways}
+use Rattle.std.proofs.lemmas.Bool.{cases_Bool, or_cases, or_left, or_right, and_parts, and_from, leb-true, le-leb}
+use Rattle.std.proofs.lemmas.Bool.{both_ways}
 use Rattle.std.proofs.lemmas.List.Concat.{flat_map-append}
 use Rattle.std.proofs.lemmas.List.Folds.{Any-from_list_any, list_any-from_Any}
 use Rattle.std.proofs.lemmas.Slice.Eq.{bytes_eq-Decides}
@@ -23,8 +26,13 @@ use Rattle.mta_tables.specs.declared.line.Hold.{Hold}
 use Rattle.mta_tables.specs.declared.line.Line.{Line}
 use Rattle.mta_tables.specs.declared.line.Line.TheVariants as Said
 use Rattle.mta_tables.specs.declared.line.ListHead.{ListHead}
-use Rattle.mta_tables.specs.Grammar.{domain_in, name_in, peer_in, mailbox_in, head_in, route_in, pattern_in, member_in, hold_in, domains_of, names_of, peers_of, mailboxes_of, patterns_for, members_for, holds_in, list_of, lists_of, route_behind, routes_behind, routes_of, first_of, HasFrom, HasMembers, IsUnknownPeer, IsUnknown, IsSaid, IsMany, MayFollow, CanStand}
-use Rattle.mta_tables.specs.Reading.{nothing, has_peer_word, has_mailbox_word, has_list_word, is_of_mailbox, is_of_list, has_pattern, held, knows_no_peer, is_unknown, is_said, is_many, is_full_from, is_full_list, opened, permitted, joined, holding, added, add}
+use Rattle.mta_tables.specs.Grammar.{domain_in, name_in, peer_in, mailbox_in, head_in, route_in, pattern_in, member_in}
+use Rattle.mta_tables.specs.Grammar.{hold_in, domains_of, names_of, peers_of, mailboxes_of, patterns_for, members_for}
+use Rattle.mta_tables.specs.Grammar.{holds_in, list_of, lists_of, route_behind, routes_behind, routes_of, first_of}
+use Rattle.mta_tables.specs.Grammar.{HasFrom, HasMembers, IsUnknownPeer, IsUnknown, IsSaid, IsMany, MayFollow, CanStand}
+use Rattle.mta_tables.specs.Reading.{nothing, has_peer_word, has_mailbox_word, has_list_word, is_of_mailbox, is_of_list}
+use Rattle.mta_tables.specs.Reading.{has_pattern, held, knows_no_peer, is_unknown, is_said, is_many, is_full_from}
+use Rattle.mta_tables.specs.Reading.{is_full_list, opened, permitted, joined, holding, added, add}
 use Rattle.mta_tables.specs.Sameness.{IsSamePattern}
 
 -- ---- what has been said, as the lines say it
@@ -47,7 +55,8 @@ draft_of said = record {
 abbrev Decides : Bool → Type 0 → Type 0
 Decides b P = (b ≡ true) ↔ P
 
-any_decides : {X : Type 0} (p : X → Bool) (P : X → Type 0) (xs : List X) → ((x : X) → Decides (p x) (P x)) → Decides (list_any p xs) (Any P xs)
+any_decides : {X : Type 0} (p : X → Bool) (P : X → Type 0) (xs : List X) → ((x : X) → Decides (p x) (P x))
+    → Decides (list_any p xs) (Any P xs)
 any_decides p P xs d = (
   λ e. let a = Any-from_list_any p xs e in (a.0, a.1, a.2, a.3, (d a.1).0 a.4),
   λ a. list_any-from_Any p xs (a.0, a.1, a.2, a.3, (d a.1).1 a.4),
@@ -92,18 +101,26 @@ same_pattern p q = list_decides is_same_text normal_text text_decides p q
 -- ---- which line may stand
 
 named_decides : (said : List Line) (n : Attributes)
-    → Decides (list_any (is_of_mailbox n) (mailboxes_of said) || list_any (is_of_list n) (lists_of said)) (Any (λ (m : Mailbox). IsSameName m.name n) (mailboxes_of said) ⊎ Any (λ (l : MailList). IsSameName l.name n) (lists_of said))
+    → Decides (list_any (is_of_mailbox n) (mailboxes_of said) || list_any (is_of_list n) (lists_of said))
+    (Any (λ (m : Mailbox). IsSameName m.name n) (mailboxes_of said)
+    ⊎ Any (λ (l : MailList). IsSameName l.name n) (lists_of said))
 named_decides said n =
-    or_decides _ _ _ _ (any_decides (is_of_mailbox n) (λ (m : Mailbox). IsSameName m.name n) (mailboxes_of said) (λ m. name_decides m.name n))
+    or_decides _ _ _ _ (any_decides (is_of_mailbox n) (λ (m : Mailbox). IsSameName m.name n) (mailboxes_of said)
+    (λ m. name_decides m.name n))
     (any_decides (is_of_list n) (λ (l : MailList). IsSameName l.name n) (lists_of said) (λ l. name_decides l.name n))
 
-peer_decides : (said : List Line) (word : List ℕ) → Decides (list_any (has_peer_word word) (peers_of said)) (Any (λ (p : Peer). p.name ≡ word) (peers_of said))
-peer_decides said word = any_decides (has_peer_word word) (λ (p : Peer). p.name ≡ word) (peers_of said) (λ p. same_word p.name word)
+peer_decides : (said : List Line) (word : List ℕ)
+    → Decides (list_any (has_peer_word word) (peers_of said)) (Any (λ (p : Peer). p.name ≡ word) (peers_of said))
+peer_decides said word = any_decides (has_peer_word word) (λ (p : Peer). p.name ≡ word) (peers_of said)
+    (λ p. same_word p.name word)
 
-list_decides_word : (said : List Line) (word : List ℕ) → Decides (list_any (has_list_word word) (lists_of said)) (Any (λ (l : MailList). l.word ≡ word) (lists_of said))
-list_decides_word said word = any_decides (has_list_word word) (λ (l : MailList). l.word ≡ word) (lists_of said) (λ l. same_word l.word word)
+list_decides_word : (said : List Line) (word : List ℕ)
+    → Decides (list_any (has_list_word word) (lists_of said)) (Any (λ (l : MailList). l.word ≡ word) (lists_of said))
+list_decides_word said word = any_decides (has_list_word word) (λ (l : MailList). l.word ≡ word) (lists_of said)
+    (λ l. same_word l.word word)
 
-unknown_peer_decides : (said : List Line) (o : Option (List ℕ)) → Decides (knows_no_peer (draft_of said) o) (IsUnknownPeer said o)
+unknown_peer_decides : (said : List Line) (o : Option (List ℕ))
+    → Decides (knows_no_peer (draft_of said) o) (IsUnknownPeer said o)
 unknown_peer_decides said None = never
 unknown_peer_decides said (Some word) = not_decides _ _ (peer_decides said word)
 
@@ -113,7 +130,8 @@ unknown_decides said (Said.Member m) = not_decides _ _ (list_decides_word said m
 unknown_decides said (Said.Route r) = unknown_peer_decides said r.peer
 unknown_decides said s = never
 
-held_decides : (said : List Line) (g : Grade) → Decides (is_some (held g (draft_of said))) (0 < length (holds_in g said))
+held_decides : (said : List Line) (g : Grade)
+    → Decides (is_some (held g (draft_of said))) (0 < length (holds_in g said))
 held_decides said Grades.Urgent = some_decides (holds_in Grades.Urgent said)
 held_decides said Grades.Normal = some_decides (holds_in Grades.Normal said)
 held_decides said Grades.NonUrgent = some_decides (holds_in Grades.NonUrgent said)
@@ -123,9 +141,12 @@ said_decides said (Said.Domain d) = some_decides (domains_of said)
 said_decides said (Said.Name w) = some_decides (names_of said)
 said_decides said (Said.Peer p) = peer_decides said p.name
 said_decides said (Said.Mailbox m) =
-    or_decides _ _ _ _ (any_decides (has_mailbox_word m.word) (λ (n : Mailbox). n.word ≡ m.word) (mailboxes_of said) (λ n. same_word n.word m.word)) (named_decides said m.name)
+    or_decides _ _ _ _ (any_decides (has_mailbox_word m.word) (λ (n : Mailbox). n.word ≡ m.word) (mailboxes_of said)
+    (λ n. same_word n.word m.word)) (named_decides said m.name)
 said_decides said (Said.List l) = or_decides _ _ _ _ (list_decides_word said l.word) (named_decides said l.name)
-said_decides said (Said.Route r) = any_decides (has_pattern r.pattern) (λ (q : Route). IsSamePattern q.pattern r.pattern) (routes_of said) (λ q. same_pattern q.pattern r.pattern)
+said_decides said (Said.Route r) =
+    any_decides (has_pattern r.pattern) (λ (q : Route). IsSamePattern q.pattern r.pattern) (routes_of said)
+    (λ q. same_pattern q.pattern r.pattern)
 said_decides said (Said.Hold h) = held_decides said h.grade
 said_decides said s = never
 
@@ -133,14 +154,17 @@ pub many_decides : (said : List Line) (s : Line) → Decides (is_many (draft_of 
 many_decides said (Said.Peer p) = at_least 64 (length (peers_of said))
 many_decides said (Said.Mailbox m) = at_least 4096 (length (mailboxes_of said))
 many_decides said (Said.List l) = at_least 256 (length (lists_of said))
-many_decides said (Said.From f) = any_decides (is_full_from f.word) (HasFrom f.word) (lists_of said) (λ l. and_decides _ _ _ _ (same_word l.word f.word) (at_least 100 (length l.from)))
-many_decides said (Said.Member m) = any_decides (is_full_list m.word) (HasMembers m.word) (lists_of said) (λ l. and_decides _ _ _ _ (same_word l.word m.word) (at_least 1000 (length l.members)))
+many_decides said (Said.From f) = any_decides (is_full_from f.word) (HasFrom f.word) (lists_of said)
+    (λ l. and_decides _ _ _ _ (same_word l.word f.word) (at_least 100 (length l.from)))
+many_decides said (Said.Member m) = any_decides (is_full_list m.word) (HasMembers m.word) (lists_of said)
+    (λ l. and_decides _ _ _ _ (same_word l.word m.word) (at_least 1000 (length l.members)))
 many_decides said (Said.Route r) = at_least 4096 (length (routes_of said))
 many_decides said s = never
 
 -- ---- one line more
 
-more : {A : Type 0} (f : Line → List A) (said : List Line) (s : Line) → flat_map f (said ++ s ∷ []) ≡ flat_map f said ++ f s
+more : {A : Type 0} (f : Line → List A) (said : List Line) (s : Line) → flat_map f (said ++ s ∷ []) ≡ flat_map f said
+    ++ f s
 more f said s = flat_map-append f said (s ∷ []) ∙ ap (λ x. flat_map f said ++ x) (append-nil (f s))
 
 -- what a line changes of a list that was said
@@ -153,17 +177,24 @@ list_more : (later : List Line) (s : Line) (h : ListHead) → list_of (later ++ 
 list_more later (Said.From f) h =
     let a = more (pattern_in h.word) later (Said.From f) in
     let b = more (member_in h.word) later (Said.From f) ∙ append-nil (members_for h.word later) in
-    elim (cases_Bool (bytes_eq h.word f.word)) [ inl same ↦ rw (a, b, same) refl | inr other ↦ rw (a, b, other) (rw append-nil refl) ]
+    elim (cases_Bool (bytes_eq h.word f.word)) [
+      | inl same ↦ rw (a, b, same) refl
+      | inr other ↦ rw (a, b, other) (rw append-nil refl)
+    ]
 list_more later (Said.Member m) h =
     let a = more (pattern_in h.word) later (Said.Member m) ∙ append-nil (patterns_for h.word later) in
     let b = more (member_in h.word) later (Said.Member m) in
-    elim (cases_Bool (bytes_eq h.word m.word)) [ inl same ↦ rw (a, b, same) refl | inr other ↦ rw (a, b, other) (rw append-nil refl) ]
+    elim (cases_Bool (bytes_eq h.word m.word)) [
+      | inl same ↦ rw (a, b, same) refl
+      | inr other ↦ rw (a, b, other) (rw append-nil refl)
+    ]
 list_more later s h =
     let a = more (pattern_in h.word) later s ∙ append-nil (patterns_for h.word later) in
     let b = more (member_in h.word) later s ∙ append-nil (members_for h.word later) in
     rw (a, b) refl
 
-heads_more : (later : List Line) (s t : Line) → map (list_of (later ++ s ∷ [])) (head_in t) ≡ map (list_with s) (map (list_of later) (head_in t))
+heads_more : (later : List Line) (s t : Line) → map (list_of (later ++ s ∷ [])) (head_in t) ≡ map (list_with s)
+    (map (list_of later) (head_in t))
 heads_more later s (Said.List h) = ap (λ l. l ∷ []) (list_more later s h)
 heads_more later s t = refl
 
@@ -171,24 +202,29 @@ map_both : {X Y : Type 0} (f : X → Y) (xs ys : List X) → map f (xs ++ ys) �
 map_both f [] ys = refl
 map_both f (x ∷ xs) ys = ap (λ l. f x ∷ l) (map_both f xs ys)
 
-lists_more : (said : List Line) (s : Line) → lists_of (said ++ s ∷ []) ≡ map (list_with s) (lists_of said) ++ map (list_of []) (head_in s)
+lists_more : (said : List Line) (s : Line) → lists_of (said ++ s ∷ []) ≡ map (list_with s) (lists_of said)
+    ++ map (list_of []) (head_in s)
 lists_more [] s = append-nil (map (list_of []) (head_in s))
 lists_more (t ∷ later) s =
     let a = heads_more later s t in
     let b = lists_more later s in
     let c = map_both (list_with s) (map (list_of later) (head_in t)) (lists_of later) in
-    rw (a, b, c) (sym (append_assoc (map (list_with s) (map (list_of later) (head_in t))) (map (list_with s) (lists_of later)) (map (list_of []) (head_in s))))
+    rw (a, b, c) (sym (append_assoc (map (list_with s) (map (list_of later) (head_in t)))
+    (map (list_with s) (lists_of later)) (map (list_of []) (head_in s))))
 
 same_lists : (f : MailList → MailList) (ls : List MailList) → ((l : MailList) → f l ≡ l) → map f ls ≡ ls
 same_lists f [] h = refl
 same_lists f (l ∷ ls) h = (let a = h l in let b = same_lists f ls h in rw (a, b) refl)
 
-routes_more : (earlier said : List Line) (s : Line) → routes_behind earlier (said ++ s ∷ []) ≡ routes_behind earlier said ++ map (route_behind (earlier ++ said)) (route_in s)
+routes_more : (earlier said : List Line) (s : Line)
+    → routes_behind earlier (said ++ s ∷ []) ≡ routes_behind earlier said
+    ++ map (route_behind (earlier ++ said)) (route_in s)
 routes_more earlier [] s = append-nil _ ∙ ap (λ e. map (route_behind e) (route_in s)) (sym (append-nil earlier))
 routes_more earlier (t ∷ said) s =
     let a = routes_more (earlier ++ t ∷ []) said s in
     let b = append_assoc earlier (t ∷ []) said in
-    rw (a, b) (sym (append_assoc (map (route_behind earlier) (route_in t)) (routes_behind (earlier ++ t ∷ []) said) (map (route_behind (earlier ++ t ∷ said)) (route_in s))))
+    rw (a, b) (sym (append_assoc (map (route_behind earlier) (route_in t)) (routes_behind (earlier ++ t ∷ []) said)
+    (map (route_behind (earlier ++ t ∷ said)) (route_in s))))
 
 -- what a line adds to what was said
 abbrev draft_with : List Line → Line → Draft
@@ -224,15 +260,24 @@ empty_is (x ∷ xs) h = absurd (h (omega arith))
 unchanged : (ls : List MailList) → map (λ (l : MailList). l) ls ≡ ls
 unchanged ls = same_lists (λ l. l) ls (λ l. refl)
 
-hold_added : (said : List Line) (g : Grade) (n : ℕ) → (0 < length (holds_in g said) → ⊥) → draft_with said (Said.Hold (record { grade = g; seconds = n })) ≡ holding g n (draft_of said)
-hold_added said Grades.Urgent n h = (let e = empty_is (holds_in Grades.Urgent said) h in let u = unchanged (lists_of said) in rw (e, u) (simp append-nil))
-hold_added said Grades.Normal n h = (let e = empty_is (holds_in Grades.Normal said) h in let u = unchanged (lists_of said) in rw (e, u) (simp append-nil))
-hold_added said Grades.NonUrgent n h = (let e = empty_is (holds_in Grades.NonUrgent said) h in let u = unchanged (lists_of said) in rw (e, u) (simp append-nil))
+hold_added : (said : List Line) (g : Grade) (n : ℕ) → (0 < length (holds_in g said) → ⊥)
+    → draft_with said (Said.Hold (record { grade = g; seconds = n })) ≡ holding g n (draft_of said)
+hold_added said Grades.Urgent n h =
+    (let e = empty_is (holds_in Grades.Urgent said) h in let u = unchanged (lists_of said) in
+    rw (e, u) (simp append-nil))
+hold_added said Grades.Normal n h =
+    (let e = empty_is (holds_in Grades.Normal said) h in let u = unchanged (lists_of said) in
+    rw (e, u) (simp append-nil))
+hold_added said Grades.NonUrgent n h =
+    (let e = empty_is (holds_in Grades.NonUrgent said) h in let u = unchanged (lists_of said) in
+    rw (e, u) (simp append-nil))
 
 with_is : (said : List Line) (s : Line) → (IsSaid said s → ⊥) → draft_with said s ≡ added (draft_of said) s
 with_is said Said.Nothing h = (let u = unchanged (lists_of said) in rw u (simp append-nil))
-with_is said (Said.Domain d) h = (let e = empty_is (domains_of said) h in let u = unchanged (lists_of said) in rw (e, u) (simp append-nil))
-with_is said (Said.Name w) h = (let e = empty_is (names_of said) h in let u = unchanged (lists_of said) in rw (e, u) (simp append-nil))
+with_is said (Said.Domain d) h =
+    (let e = empty_is (domains_of said) h in let u = unchanged (lists_of said) in rw (e, u) (simp append-nil))
+with_is said (Said.Name w) h = (let e = empty_is (names_of said) h in let u = unchanged (lists_of said) in
+    rw (e, u) (simp append-nil))
 with_is said (Said.Peer p) h = (let u = unchanged (lists_of said) in rw u (simp append-nil))
 with_is said (Said.Mailbox m) h = (let u = unchanged (lists_of said) in rw u (simp append-nil))
 with_is said (Said.List l) h = (let u = unchanged (lists_of said) in rw u (simp append-nil))
@@ -257,7 +302,8 @@ line_is : (s t : Line) (xs ys : List Line) → s ∷ xs ≡ t ∷ ys → (s ≡ 
 line_is s t xs ys e = ((cc), (cc))
 
 -- of lines and one more, a line is among them or it is the last
-split : (said : List Line) (s : Line) (before : List Line) (t : Line) (after : List Line) → said ++ s ∷ [] ≡ before ++ t ∷ after
+split : (said : List Line) (s : Line) (before : List Line) (t : Line) (after : List Line) → said ++ s ∷ [] ≡ before ++ t
+    ∷ after
     → ((before ≡ said) × (t ≡ s)) ⊎ ((rest : List Line) × (said ≡ before ++ t ∷ rest))
 split [] s [] t after e = (let p = line_is s t [] after e in inl (refl, sym p.0))
 split [] s (b ∷ before) t after e = (let p = line_is s b [] (before ++ t ∷ after) e in absurd (no_end before p.1))
@@ -283,7 +329,8 @@ pub stand_last : (said : List Line) (s : Line) → CanStand (said ++ s ∷ []) �
 stand_last said s h = h said s [] refl
 
 pub stand_front : (said more : List Line) → CanStand (said ++ more) → CanStand said
-stand_front said more h = λ before s after e. h before s (after ++ more) (ap (λ x. x ++ more) e ∙ append_assoc before (s ∷ after) more)
+stand_front said more h = λ before s after e. h before s (after ++ more)
+    (ap (λ x. x ++ more) e ∙ append_assoc before (s ∷ after) more)
 
 -- ---- adding a line
 
@@ -304,10 +351,18 @@ added_so said s =
       | inr a ↦ elim (cases_Bool (is_said (draft_of said) s)) [
         | inl b ↦ rw (a, b) (fails _ _ (unknown_decides said s) a, (said_decides said s).0 b)
         | inr b ↦ elim (cases_Bool (is_many (draft_of said) s)) [
-          | inl c ↦ rw (a, b, c) (fails _ _ (unknown_decides said s) a, (fails _ _ (said_decides said s) b, (many_decides said s).0 c))
+          | inl c ↦ rw (a, b, c) (
+            fails _ _ (unknown_decides said s) a,
+            (fails _ _ (said_decides said s) b, (many_decides said s).0 c),
+          )
           | inr c ↦ rw (a, b, c) (
             added_is said s (fails _ _ (said_decides said s) b),
-            record { known = fails _ _ (unknown_decides said s) a; first = fails _ _ (said_decides said s) b; room = fails _ _ (many_decides said s) c },
+            record {
+              known = fails _ _ (unknown_decides said s) a;
+              first = fails _ _ (said_decides said s) b;
+              room =
+                  fails _ _ (many_decides said s) c;
+            },
           )
         ]
       ]
@@ -319,7 +374,8 @@ is_false : (b : Bool) (P : Type 0) → Decides b P → (P → ⊥) → b ≡ fal
 is_false true P d h = absurd (h (d.0 refl))
 is_false false P d h = refl
 
-pub follows_is : (said : List Line) (s : Line) → MayFollow said s → add (draft_of said) s ≡ Ok (draft_of (said ++ s ∷ []))
+pub follows_is : (said : List Line) (s : Line) → MayFollow said s
+    → add (draft_of said) s ≡ Ok (draft_of (said ++ s ∷ []))
 follows_is said s h =
     let a = is_false _ _ (unknown_decides said s) h.known in
     let b = is_false _ _ (said_decides said s) h.first in
@@ -330,13 +386,15 @@ follows_is said s h =
 pub unknown_is : (said : List Line) (s : Line) → IsUnknown said s → add (draft_of said) s ≡ Err Kinds.Unknown
 unknown_is said s h = (let a = (unknown_decides said s).1 h in rw a refl)
 
-pub twice_is : (said : List Line) (s : Line) → (IsUnknown said s → ⊥) → IsSaid said s → add (draft_of said) s ≡ Err Kinds.Twice
+pub twice_is : (said : List Line) (s : Line) → (IsUnknown said s → ⊥) → IsSaid said s
+    → add (draft_of said) s ≡ Err Kinds.Twice
 twice_is said s k h =
     let a = is_false _ _ (unknown_decides said s) k in
     let b = (said_decides said s).1 h in
     rw (a, b) refl
 
-pub many_is : (said : List Line) (s : Line) → (IsUnknown said s → ⊥) → (IsSaid said s → ⊥) → IsMany said s → add (draft_of said) s ≡ Err Kinds.TooMany
+pub many_is : (said : List Line) (s : Line) → (IsUnknown said s → ⊥) → (IsSaid said s → ⊥) → IsMany said s
+    → add (draft_of said) s ≡ Err Kinds.TooMany
 many_is said s k f h =
     let a = is_false _ _ (unknown_decides said s) k in
     let b = is_false _ _ (said_decides said s) f in

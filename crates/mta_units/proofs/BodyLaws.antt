@@ -1,5 +1,6 @@
 -- A body is read as a unit exactly where it is spelled.
-use Rattle.std.proofs.Common.{◌≡◌, ℕ, ◌^◌, ◌≤◌, ◌<◌, Bool, false, cond, ltb, List, [], ◌∷◌, ◌++◌, length, Result, Ok, refl, sym, ap, subst, ◌∙◌, arith}
+use Rattle.std.proofs.Common.{◌≡◌, ℕ, ◌^◌, ◌≤◌, ◌<◌, Bool, false, cond, ltb, List, [], ◌∷◌, ◌++◌, length, Result, Ok}
+use Rattle.std.proofs.Common.{refl, sym, ap, subst, ◌∙◌, arith}
 use Rattle.std.specs.Prelude.{◌||◌}
 use Rattle.std.specs.Int.{w32, from_be_bytes}
 use Rattle.std.proofs.lemmas.Nat.{be_bytes_4, from_be_bytes-to_be_bytes_4}
@@ -27,7 +28,8 @@ use Rattle.mta_rtse.proofs.ReferenceLaws.{reference_sound, reference_full}
 use Rattle.mta_units.specs.Fixed.{number_in, pair_in, exception_in, nothing_in}
 use Rattle.mta_units.specs.Body.{tagged, ended, only_in, rttr_in, rttp_in, name_in, tagged_reference_in}
 use Rattle.mta_units.specs.Canon.{number_octets}
-use Rattle.mta_units.specs.Spelling.{SpellsFirst, SpellsOnly, Tagged, SpellsString, SpellsRttr, SpellsRttp, IsNumber, IsPair, IsException}
+use Rattle.mta_units.specs.Spelling.{SpellsFirst, SpellsOnly, Tagged, SpellsString, SpellsRttr, SpellsRttp, IsNumber}
+use Rattle.mta_units.specs.Spelling.{IsPair, IsException}
 
 -- ---- elements
 
@@ -44,12 +46,15 @@ module _ {A : Type 0} (read : Part → Result A Fault) (spells : Spells A) where
     pub spelled : SpellsFirst spells octets v p.rest
     pub rest_octets : IsOctets p.rest
 
-  pub first_read : ReadSound read spells → (octets : List ℕ) (p : Part) (v : A) → IsOctets octets → first 0 octets ≡ Ok p → read p ≡ Ok v → FirstRead octets p v
+  pub first_read : ReadSound read spells → (octets : List ℕ) (p : Part) (v : A) → IsOctets octets
+      → first 0 octets ≡ Ok p → read p ≡ Ok v → FirstRead octets p v
   first_read sound octets p v bytes e h =
       let w = first_sound 0 octets p bytes e in
       let whole = subst IsOctets w.octets_are bytes in
       let own = IsBytes-front p.octets p.rest whole in
-      let content = IsBytes-front p.content (ending_of w.stands.count) (IsBytes-back w.stands.header (p.content ++ ending_of w.stands.count) (subst IsOctets w.stands.octets_are own)) in
+      let content = IsBytes-front p.content (ending_of w.stands.count)
+      (IsBytes-back w.stands.header (p.content ++ ending_of w.stands.count)
+      (subst IsOctets w.stands.octets_are own)) in
       let shallow : p.depth ≤ 16 = omega (arith, w.depth_is, w.stands.shallow) in
       let s = sound v p shallow content own h in
       record {
@@ -64,14 +69,16 @@ module _ {A : Type 0} (read : Part → Result A Fault) (spells : Spells A) where
         rest_octets = IsBytes-back p.octets p.rest whole;
       }
 
-  pub only_sound : ReadSound read spells → (octets : List ℕ) (v : A) → IsOctets octets → only_in read octets ≡ Ok v → SpellsOnly spells octets v
+  pub only_sound : ReadSound read spells → (octets : List ℕ) (v : A) → IsOctets octets → only_in read octets ≡ Ok v
+      → SpellsOnly spells octets v
   only_sound sound octets v bytes e =
       let p = bind_ok (first 0 octets) (λ p. read p >>= λ x. ended p >>= λ _. Ok x) v e in
       let x = bind_ok (read p.0) (λ x. ended p.0 >>= λ _. Ok x) v p.2 in
       let n = bind_ok (ended p.0) (λ _. Ok x.0) v x.2 in
       let r = first_read sound octets p.0 x.0 bytes p.1 x.1 in
       let none = ended_so p.0 n.0 n.1 in
-      subst (λ l. SpellsFirst spells octets v l) none (subst (λ y. SpellsFirst spells octets y p.0.rest) (ok_is x.0 v n.2) r.spelled)
+      subst (λ l. SpellsFirst spells octets v l) none
+      (subst (λ y. SpellsFirst spells octets y p.0.rest) (ok_is x.0 v n.2) r.spelled)
 
   -- what is spelled at the front is read
   pub record ReadFirst (octets : List ℕ) (v : A) (rest : List ℕ) : Type 0 where
@@ -80,7 +87,8 @@ module _ {A : Type 0} (read : Part → Result A Fault) (spells : Spells A) where
     pub value : read part ≡ Ok v
     pub rest_is : part.rest ≡ rest
 
-  pub read_first : ReadFull read spells → (octets : List ℕ) (v : A) (rest : List ℕ) → SpellsFirst spells octets v rest → ReadFirst octets v rest
+  pub read_first : ReadFull read spells → (octets : List ℕ) (v : A) (rest : List ℕ) → SpellsFirst spells octets v rest
+      → ReadFirst octets v rest
   read_first full octets v rest h =
       let lent = lent_part 0 (outermost h.tag) h.tag (length h.stands.header) h.content rest h.element in
       record {
@@ -90,7 +98,8 @@ module _ {A : Type 0} (read : Part → Result A Fault) (spells : Spells A) where
         rest_is = refl;
       }
 
-  pub only_full : ReadFull read spells → (octets : List ℕ) (v : A) → SpellsOnly spells octets v → only_in read octets ≡ Ok v
+  pub only_full : ReadFull read spells → (octets : List ℕ) (v : A) → SpellsOnly spells octets v
+      → only_in read octets ≡ Ok v
   only_full full octets v h =
       let r = read_first full octets v [] h in
       ap (λ r. r >>= λ p. read p >>= λ x. ended p >>= λ _. Ok x) r.found
@@ -98,13 +107,15 @@ module _ {A : Type 0} (read : Part → Result A Fault) (spells : Spells A) where
       ∙ ap (λ l. cond (is_empty l) (Ok tt) (fault r.part.at Trailing) >>= λ (_ : Unit {0}). Ok v) r.rest_is
 
   -- an element of a tag
-  pub tagged_sound : (class number : ℕ) → ReadSound read spells → ReadSound (λ p. tagged class number p >>= λ _. read p) (Tagged class number spells)
+  pub tagged_sound : (class number : ℕ) → ReadSound read spells
+      → ReadSound (λ p. tagged class number p >>= λ _. read p) (Tagged class number spells)
   tagged_sound class number sound v p shallow octets own e =
       let t = bind_ok (tagged class number p) (λ _. read p) v e in
       let is = taken (is_tag class number p.tag) (Ok tt) _ t.0 t.1 in
       record { is_tag_of = is.0; spelled = sound v p shallow octets own t.2 }
 
-  pub tagged_full : (class number : ℕ) → ReadFull read spells → ReadFull (λ p. tagged class number p >>= λ _. read p) (Tagged class number spells)
+  pub tagged_full : (class number : ℕ) → ReadFull read spells
+      → ReadFull (λ p. tagged class number p >>= λ _. read p) (Tagged class number spells)
   tagged_full class number full v p shallow h =
       ap (λ b. cond b (Ok tt) (fault p.at BadTag) >>= λ (_ : Unit {0}). read p) h.is_tag_of ∙ full v p shallow h.spelled
 
@@ -124,7 +135,8 @@ rttr_full o p shallow h = tagged_full joined SpellsString 0 4 string_full o p sh
 
 pub rttp_sound : ReadSound rttp_in SpellsRttp
 unfolding rttp_in
-rttp_sound n p shallow octets own e = tagged_sound values.number_in SpellsNumber 0 2 number_sound n p shallow octets own e
+rttp_sound n p shallow octets own e =
+    tagged_sound values.number_in SpellsNumber 0 2 number_sound n p shallow octets own e
 
 pub rttp_full : ReadFull rttp_in SpellsRttp
 unfolding rttp_in
@@ -140,7 +152,8 @@ name_full w p shallow h = tagged_full values.word_in SpellsWord 0 22 word_full w
 
 pub tagged_reference_sound : ReadSound tagged_reference_in (Tagged 0 16 SpellsReference)
 unfolding tagged_reference_in
-tagged_reference_sound r p shallow octets own e = tagged_sound reference_in SpellsReference 0 16 reference_sound r p shallow octets own e
+tagged_reference_sound r p shallow octets own e =
+    tagged_sound reference_in SpellsReference 0 16 reference_sound r p shallow octets own e
 
 pub tagged_reference_full : ReadFull tagged_reference_in (Tagged 0 16 SpellsReference)
 unfolding tagged_reference_in
@@ -161,7 +174,8 @@ four a b c d rest bytes =
     let fourth : d < 256 = bytes 3 in
     record {
       small = omega arith;
-      octets_are = sym (be_bytes_4 (a ∷ b ∷ c ∷ d ∷ []) (from_be_bytes w32 (a ∷ b ∷ c ∷ d ∷ [])) refl (IsBytes-front (a ∷ b ∷ c ∷ d ∷ []) rest bytes) refl);
+      octets_are = sym (be_bytes_4 (a ∷ b ∷ c ∷ d ∷ []) (from_be_bytes w32 (a ∷ b ∷ c ∷ d ∷ [])) refl
+          (IsBytes-front (a ∷ b ∷ c ∷ d ∷ []) rest bytes) refl);
     }
 
 pub number_so : (n : ℕ) (body : List ℕ) → IsOctets body → number_in body ≡ Ok n → IsNumber n body
@@ -171,7 +185,8 @@ number_so n (a ∷ b ∷ []) bytes e = absurd cc
 number_so n (a ∷ b ∷ c ∷ []) bytes e = absurd cc
 number_so n (a ∷ b ∷ c ∷ d ∷ []) bytes e =
     let f = four a b c d [] bytes in
-    subst (λ m. IsNumber m (a ∷ b ∷ c ∷ d ∷ [])) (ok_is (from_be_bytes w32 (a ∷ b ∷ c ∷ d ∷ [])) n e) (record { small = f.small; octets_are = f.octets_are })
+    subst (λ m. IsNumber m (a ∷ b ∷ c ∷ d ∷ [])) (ok_is (from_be_bytes w32 (a ∷ b ∷ c ∷ d ∷ [])) n e)
+    (record { small = f.small; octets_are = f.octets_are })
 number_so n (a ∷ b ∷ c ∷ d ∷ x ∷ xs) bytes e = absurd cc
 
 pub number_again : (n : ℕ) (body : List ℕ) → IsNumber n body → number_in body ≡ Ok n
@@ -186,16 +201,19 @@ pair_so n (a ∷ b ∷ c ∷ d ∷ rest) bytes e =
     let f = four a b c d rest bytes in
     let r = bind_ok (number_in rest) (λ m. Ok (from_be_bytes w32 (a ∷ b ∷ c ∷ d ∷ []), m)) n e in
     let s = number_so r.0 rest (IsBytes-back (a ∷ b ∷ c ∷ d ∷ []) rest bytes) r.1 in
-    subst (λ (m : ℕ × ℕ). IsPair m.0 m.1 (a ∷ b ∷ c ∷ d ∷ rest)) (ok_is (from_be_bytes w32 (a ∷ b ∷ c ∷ d ∷ []), r.0) n r.2) (record {
+    subst (λ (m : ℕ × ℕ). IsPair m.0 m.1 (a ∷ b ∷ c ∷ d ∷ rest))
+    (ok_is (from_be_bytes w32 (a ∷ b ∷ c ∷ d ∷ []), r.0) n r.2) (record {
       first_small = f.small;
       second_small = s.small;
-      octets_are = ap (λ l. l ++ rest) f.octets_are ∙ ap (λ l. number_octets (from_be_bytes w32 (a ∷ b ∷ c ∷ d ∷ [])) ++ l) s.octets_are;
+      octets_are = ap (λ l. l ++ rest) f.octets_are
+          ∙ ap (λ l. number_octets (from_be_bytes w32 (a ∷ b ∷ c ∷ d ∷ [])) ++ l) s.octets_are;
     })
 
 pub pair_again : (n m : ℕ) (body : List ℕ) → IsPair n m body → pair_in body ≡ Ok (n, m)
 pair_again n m body h =
     ap pair_in h.octets_are
-    ∙ ap (λ r. r >>= λ m. Ok (from_be_bytes w32 (number_octets n), m)) (number_again m (number_octets m) (record { small = h.second_small; octets_are = refl }))
+    ∙ ap (λ r. r >>= λ m. Ok (from_be_bytes w32 (number_octets n), m))
+    (number_again m (number_octets m) (record { small = h.second_small; octets_are = refl }))
     ∙ ap (λ (k : ℕ). Ok (k, m)) (from_be_bytes-to_be_bytes_4 n h.first_small)
 
 pub exception_so : (n : ℕ × ℕ) (body : List ℕ) → IsOctets body → exception_in body ≡ Ok n → IsException n.0 n.1 body

@@ -1,5 +1,6 @@
 -- What a whole body at the front says of the octets.
-use Rattle.std.proofs.Common.{◌≡◌, append_assoc, ℕ, ◌+◌, ◌-◌, ◌≤◌, Bool, true, false, cond, eqb, ltb, List, [], ◌∷◌, ◌++◌, length, take, drop, Option, Some, None, refl, sym, ap, subst, ◌∙◌, arith}
+use Rattle.std.proofs.Common.{◌≡◌, append_assoc, ℕ, ◌+◌, ◌-◌, ◌≤◌, Bool, true, false, cond, eqb, ltb, List, [], ◌∷◌}
+use Rattle.std.proofs.Common.{◌++◌, length, take, drop, Option, Some, None, refl, sym, ap, subst, ◌∙◌, arith}
 use Rattle.std.specs.Prelude.{find}
 use Rattle.std.proofs.lemmas.Bool.{ltb-false, eqb-true}
 use Rattle.std.proofs.lemmas.List.{length-append, length-take, take-append-drop}
@@ -14,13 +15,15 @@ found_passes : {A : Type 0} (test : A → Bool) (xs : List A) (x : A) → find t
 found_passes test [] x e = absurd cc
 found_passes {A} test (y ∷ ys) x e = go (test y) refl e (found_passes test ys x)
   where
-    go : (b : Bool) → test y ≡ b → cond b (Some y) (find test ys) ≡ Some x → (find test ys ≡ Some x → test x ≡ true) → test x ≡ true
+    go : (b : Bool) → test y ≡ b → cond b (Some y) (find test ys) ≡ Some x → (find test ys ≡ Some x → test x ≡ true)
+        → test x ≡ true
     go true is e later = let same : y ≡ x = cc in let P : A → Type 0 = λ z. test z ≡ true in subst P same is
     go false is e later = later e
 
 -- the kind of a kind octet has that number
 pub kind_so : (octet : ℕ) (kind : UnitKind) → kind_at octet ≡ Some kind → kind_number kind ≡ octet
-kind_so octet kind e = eqb-true (kind_number kind) octet (found_passes (λ k. eqb (kind_number k) octet) all_kinds kind e)
+kind_so octet kind e = eqb-true (kind_number kind) octet
+    (found_passes (λ k. eqb (kind_number k) octet) all_kinds kind e)
 
 -- a body of this kind and this size, and what follows it, behind the length
 pub record IsBody (size : ℕ) (octets : List ℕ) (kind : UnitKind) (body rest : List ℕ) : Type 0 where
@@ -28,12 +31,15 @@ pub record IsBody (size : ℕ) (octets : List ℕ) (kind : UnitKind) (body rest 
   pub size_is : size ≡ length body
   pub octets_are : octets ≡ kind_number kind ∷ (body ++ rest)
 
-listed_so : (size octet : ℕ) (k : Option UnitKind) (octets : List ℕ) (kind : UnitKind) (body rest : List ℕ) → kind_at octet ≡ k → size ≤ longest_body → listed size k octets ≡ Whole kind body rest
+listed_so : (size octet : ℕ) (k : Option UnitKind) (octets : List ℕ) (kind : UnitKind) (body rest : List ℕ)
+    → kind_at octet ≡ k → size ≤ longest_body → listed size k octets ≡ Whole kind body rest
     → IsBody size (octet ∷ octets) kind body rest
 listed_so size octet None octets kind body rest is small e = absurd cc
 listed_so size octet (Some k) octets kind body rest is small e = go (ltb (length octets) size) refl e
   where
-    go : (b : Bool) → ltb (length octets) size ≡ b → cond b Cut (Whole k (take size octets) (drop size octets)) ≡ Whole kind body rest → IsBody size (octet ∷ octets) kind body rest
+    go : (b : Bool) → ltb (length octets) size ≡ b
+        → cond b Cut (Whole k (take size octets) (drop size octets)) ≡ Whole kind body rest
+        → IsBody size (octet ∷ octets) kind body rest
     go true lt e = absurd cc
     go false le e =
         let kind_is : k ≡ kind = cc in
@@ -48,13 +54,16 @@ listed_so size octet (Some k) octets kind body rest is small e = go (ltb (length
           octets_are = cc;
         }
 
-pub sized_so : (size : ℕ) (octets : List ℕ) (kind : UnitKind) (body rest : List ℕ) → sized size octets ≡ Whole kind body rest → IsBody size octets kind body rest
+pub sized_so : (size : ℕ) (octets : List ℕ) (kind : UnitKind) (body rest : List ℕ)
+    → sized size octets ≡ Whole kind body rest → IsBody size octets kind body rest
 sized_so size octets kind body rest e = go (ltb longest_body size) refl octets e
   where
-    go : (b : Bool) → ltb longest_body size ≡ b → (octets : List ℕ) → cond b (Faulty bad.Length) (kinded size octets) ≡ Whole kind body rest → IsBody size octets kind body rest
+    go : (b : Bool) → ltb longest_body size ≡ b → (octets : List ℕ)
+        → cond b (Faulty bad.Length) (kinded size octets) ≡ Whole kind body rest → IsBody size octets kind body rest
     go true is octets e = absurd cc
     go false is [] e = absurd cc
-    go false is (octet ∷ octets) e = listed_so size octet (kind_at octet) octets kind body rest refl (ltb-false longest_body size is) e
+    go false is (octet ∷ octets) e = listed_so size octet (kind_at octet) octets kind body rest refl
+        (ltb-false longest_body size is) e
 
 -- a whole body at the front, behind the octets of its length and its kind
 pub record IsWhole (octets : List ℕ) (kind : UnitKind) (body rest : List ℕ) : Type 0 where
@@ -63,7 +72,8 @@ pub record IsWhole (octets : List ℕ) (kind : UnitKind) (body rest : List ℕ) 
   pub is_body : IsBody (from_be_bytes w32 length_octets) (kind_number kind ∷ (body ++ rest)) kind body rest
   pub octets_are : octets ≡ length_octets ++ kind_number kind ∷ (body ++ rest)
 
-pub front_so : (octets : List ℕ) (kind : UnitKind) (body rest : List ℕ) → front octets ≡ Whole kind body rest → IsWhole octets kind body rest
+pub front_so : (octets : List ℕ) (kind : UnitKind) (body rest : List ℕ) → front octets ≡ Whole kind body rest
+    → IsWhole octets kind body rest
 front_so [] kind body rest e = absurd cc
 front_so (a ∷ []) kind body rest e = absurd cc
 front_so (a ∷ b ∷ []) kind body rest e = absurd cc
@@ -87,7 +97,8 @@ pub record IsEnd (octets body rest : List ℕ) : Type 0 where
   pub within : length rest ≤ length octets
   pub rest_is : rest ≡ drop (length octets - length rest) octets
 
-pub whole_end : (octets : List ℕ) (kind : UnitKind) (body rest : List ℕ) → front octets ≡ Whole kind body rest → IsEnd octets body rest
+pub whole_end : (octets : List ℕ) (kind : UnitKind) (body rest : List ℕ) → front octets ≡ Whole kind body rest
+    → IsEnd octets body rest
 whole_end octets kind body rest e =
     let w = front_so octets kind body rest e in
     let before : List ℕ = w.length_octets ++ kind_number kind ∷ body in

@@ -1,5 +1,7 @@
 -- A fault that a stream shows stays as more is fed.
-use Rattle.std.proofs.Common.{◌≡◌, ℕ, zero, suc, ◌+◌, ◌^◌, ◌≤◌, ◌<◌, ◌⊎◌, Bool, true, false, cond, ltb, List, [], ◌∷◌, ◌++◌, length, take, drop, Option, Some, None, Result, Ok, Err, refl, sym, ap, subst, ◌∙◌, inl, inr, arith}
+use Rattle.std.proofs.Common.{◌≡◌, ℕ, zero, suc, ◌+◌, ◌^◌, ◌≤◌, ◌<◌, ◌⊎◌, Bool, true, false, cond, ltb, List, [], ◌∷◌}
+use Rattle.std.proofs.Common.{◌++◌, length, take, drop, Option, Some, None, Result, Ok, Err, refl, sym, ap, subst, ◌∙◌}
+use Rattle.std.proofs.Common.{inl, inr, arith}
 use Rattle.std.specs.Int.{w32, from_be_bytes}
 use Rattle.std.proofs.lemmas.Bool.{ltb-false, le-ltb}
 use Rattle.std.proofs.lemmas.List.{length-append, take-append-le, drop-append-le}
@@ -24,16 +26,19 @@ grown (Whole k body rest) more = Whole k body (rest ++ more)
 abbrev Grows : Front → Front → List ℕ → Type 0
 Grows before after more = (before ≡ Cut) ⊎ (after ≡ grown before more)
 
-whole_grows : (size : ℕ) (k : UnitKind) (tail more : List ℕ) (b : Bool) → ltb (length tail) size ≡ b → Grows (cond b Cut (Whole k (take size tail) (drop size tail))) (listed size (Some k) (tail ++ more)) more
+whole_grows : (size : ℕ) (k : UnitKind) (tail more : List ℕ) (b : Bool) → ltb (length tail) size ≡ b
+    → Grows (cond b Cut (Whole k (take size tail) (drop size tail))) (listed size (Some k) (tail ++ more)) more
 whole_grows size k tail more true is = inl refl
 whole_grows size k tail more false is =
     let fits = ltb-false (length tail) size is in
-    let still : ltb (length (tail ++ more)) size ≡ false = le-ltb (length (tail ++ more)) size (omega (arith, fits, length-append tail more)) in
+    let still : ltb (length (tail ++ more)) size ≡ false =
+    le-ltb (length (tail ++ more)) size (omega (arith, fits, length-append tail more)) in
     inr (ap (λ b. cond b Cut (Whole k (take size (tail ++ more)) (drop size (tail ++ more)))) still
     ∙ ap (λ l. Whole k l (drop size (tail ++ more))) (take-append-le size tail more fits)
     ∙ ap (λ l. Whole k (take size tail) l) (drop-append-le size tail more fits))
 
-listed_grows : (size : ℕ) (o : Option UnitKind) (tail more : List ℕ) → Grows (listed size o tail) (listed size o (tail ++ more)) more
+listed_grows : (size : ℕ) (o : Option UnitKind) (tail more : List ℕ)
+    → Grows (listed size o tail) (listed size o (tail ++ more)) more
 listed_grows size None tail more = inr refl
 listed_grows size (Some k) tail more = whole_grows size k tail more (ltb (length tail) size) refl
 
@@ -41,7 +46,9 @@ kinded_grows : (size : ℕ) (tail more : List ℕ) → Grows (kinded size tail) 
 kinded_grows size [] more = inl refl
 kinded_grows size (octet ∷ tail) more = listed_grows size (kind_at octet) tail more
 
-sized_grows : (size : ℕ) (tail more : List ℕ) (b : Bool) → Grows (cond b (Faulty bad.Length) (kinded size tail)) (cond b (Faulty bad.Length) (kinded size (tail ++ more))) more
+sized_grows : (size : ℕ) (tail more : List ℕ) (b : Bool)
+    → Grows (cond b (Faulty bad.Length) (kinded size tail))
+    (cond b (Faulty bad.Length) (kinded size (tail ++ more))) more
 sized_grows size tail more true = inr refl
 sized_grows size tail more false = kinded_grows size tail more
 
@@ -54,11 +61,13 @@ front_grows (a ∷ b ∷ c ∷ d ∷ tail) more =
     let size = from_be_bytes w32 (a ∷ b ∷ c ∷ d ∷ []) in
     sized_grows size tail more (ltb longest_body size)
 
-body_stays : (k : BadUnit) (r : Result AnyUnit Fault) (rest more : List ℕ) → with_body r rest ≡ Fails k → with_body r (rest ++ more) ≡ Fails k
+body_stays : (k : BadUnit) (r : Result AnyUnit Fault) (rest more : List ℕ) → with_body r rest ≡ Fails k
+    → with_body r (rest ++ more) ≡ Fails k
 body_stays k (Ok u) rest more e = absurd cc
 body_stays k (Err f) rest more e = e
 
-behind_stays : (k : BadUnit) (f : Front) (more : List ℕ) → look_behind f ≡ Fails k → look_behind (grown f more) ≡ Fails k
+behind_stays : (k : BadUnit) (f : Front) (more : List ℕ) → look_behind f ≡ Fails k
+    → look_behind (grown f more) ≡ Fails k
 behind_stays k Cut more e = absurd cc
 behind_stays k (Faulty j) more e = e
 behind_stays k (Whole j body rest) more e = body_stays k (body_in j body) rest more e
@@ -85,11 +94,15 @@ octets_join (x ∷ a) b h g = octets_cons x (a ++ b) (h 0) (octets_join a b (λ 
     octets_cons y ys small rest (suc i) = rest i
 
 -- what holds of a stream holds when a piece more is fed
-pub feed_holds : (taken taken' : ℕ) (octets octets' piece all : List ℕ) (at : ℕ) (o : Option BadUnit) → Holds taken octets at o → drop taken' octets' ≡ drop taken octets → taken' ≤ length octets' → all ≡ octets' ++ piece
+pub feed_holds : (taken taken' : ℕ) (octets octets' piece all : List ℕ) (at : ℕ) (o : Option BadUnit)
+    → Holds taken octets at o → drop taken' octets' ≡ drop taken octets → taken' ≤ length octets' → all ≡ octets'
+    ++ piece
     → IsOctets piece → at + length (drop taken octets) + length piece < 2 ^ 64 → Holds taken' all at o
 feed_holds taken taken' octets octets' piece all at o h left within all_is bytes room =
-    let left_is : drop taken' all ≡ drop taken octets ++ piece = ap (drop taken') all_is ∙ drop-append-le taken' octets' piece within ∙ ap (λ l. l ++ piece) left in
-    let sizes : length (drop taken' all) ≡ length (drop taken octets) + length piece = ap length left_is ∙ length-append (drop taken octets) piece in
+    let left_is : drop taken' all ≡ drop taken octets ++ piece = ap (drop taken') all_is
+    ∙ drop-append-le taken' octets' piece within ∙ ap (λ l. l ++ piece) left in
+    let sizes : length (drop taken' all) ≡ length (drop taken octets) + length piece = ap length left_is
+    ∙ length-append (drop taken octets) piece in
     record {
       within = omega (arith, within, ap length all_is, length-append octets' piece);
       room = omega (arith, room, sizes);

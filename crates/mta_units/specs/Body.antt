@@ -67,7 +67,15 @@ open_in body =
     first 0 body >>= λ p. name_in p >>= λ name.
     first 0 p.rest >>= λ q. tagged_reference_in q >>= λ reference.
     only_in rtorq_in q.rest >>= λ r.
-    Ok (unit.Open (record { name = name; reference = reference; checkpoint = r.checkpoint; window = r.window; twa = r.twa; request = r.request }))
+    Ok (unit.Open (record {
+      name = name;
+      reference = reference;
+      checkpoint = r.checkpoint;
+      window = r.window;
+      twa =
+          r.twa;
+      request = r.request;
+    }))
 
 -- bodies that are not a single number: two numbers, a fault, or nothing
 unfoldable pub other_in : UnitKind → List ℕ → Result AnyUnit Fault

@@ -43,7 +43,8 @@ abbrev pub number_octets : ℕ → List ℕ
 number_octets n = to_be_bytes w32 n
 
 unfoldable pub open_octets : OpenUnit → List ℕ
-open_octets o = element (primitive 0 22) o.name ++ canon_reference (constructed 0 16) o.reference ++ canon_rtorq o.checkpoint o.window o.twa o.request
+open_octets o = element (primitive 0 22) o.name ++ canon_reference (constructed 0 16) o.reference
+    ++ canon_rtorq o.checkpoint o.window o.twa o.request
 
 abbrev pub body_octets : AnyUnit → List ℕ
 body_octets (unit.Open o) = open_octets o

@@ -21,7 +21,8 @@ pair_in _ = bad_size
 -- the number of a kind of fault, 1 to 12, and a number
 abbrev pub exception_in : List ℕ → Result (ℕ × ℕ) Fault
 exception_in [] = bad_size
-exception_in (kind ∷ rest) = if nat_lt kind 1 || nat_lt 12 kind then bad_size else (number_in rest >>= λ n. Ok (kind, n))
+exception_in (kind ∷ rest) = if nat_lt kind 1 || nat_lt 12 kind then bad_size
+    else (number_in rest >>= λ n. Ok (kind, n))
 
 abbrev pub nothing_in : List ℕ → Result (Unit {0}) Fault
 nothing_in [] = Ok tt

@@ -23,7 +23,8 @@ pub data Front : Type 0 where
 -- behind the kind octet
 abbrev pub listed : ℕ → Option UnitKind → List ℕ → Front
 listed size None octets = Faulty bad.Kind
-listed size (Some kind) octets = if nat_lt (length octets) size then Cut else Whole kind (take size octets) (drop size octets)
+listed size (Some kind) octets = if nat_lt (length octets) size then Cut else Whole kind (take size octets)
+    (drop size octets)
 
 -- behind the length
 abbrev pub kinded : ℕ → List ℕ → Front

@@ -42,7 +42,8 @@ pub record IsReading (stream : List ℕ) (us : List AnyUnit) (rest : List ℕ) :
 
 -- each stream has one reading
 abbrev pub StreamsHaveOneReading : Type 0
-StreamsHaveOneReading = (stream : List ℕ) (us us' : List AnyUnit) (rest rest' : List ℕ) → IsOctets stream → IsReading stream us rest → IsReading stream us' rest' → (us ≡ us') × (rest ≡ rest')
+StreamsHaveOneReading = (stream : List ℕ) (us us' : List AnyUnit) (rest rest' : List ℕ) → IsOctets stream
+    → IsReading stream us rest → IsReading stream us' rest' → (us ≡ us') × (rest ≡ rest')
 
 -- a unit that is written is read again, whatever follows it
 abbrev pub UnitsAreReadAgain : Type 0

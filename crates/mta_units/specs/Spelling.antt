@@ -37,7 +37,8 @@ abbrev pub SpellsOnly : {A : Type 0} → Spells A → List ℕ → A → Type 0
 SpellsOnly spells octets v = SpellsFirst spells octets v []
 
 -- an element of a tag
-pub record Tagged {A : Type 0} (class number : ℕ) (spells : Spells A) (depth : ℕ) (tag : Tag) (content octets : List ℕ) (v : A) : Type 0 where
+pub record Tagged {A : Type 0} (class number : ℕ) (spells : Spells A) (depth : ℕ) (tag : Tag) (content octets : List ℕ)
+    (v : A) : Type 0 where
   pub is_tag_of : is_tag class number tag ≡ true
   pub spelled : spells depth tag content octets v
 
@@ -118,7 +119,8 @@ pub record SpellsUnit (u : AnyUnit) (octets : List ℕ) : Type 0 where
 -- units one behind the other
 abbrev pub SpellsUnits : List AnyUnit → List ℕ → Type 0
 SpellsUnits [] octets = octets ≡ []
-SpellsUnits (u ∷ us) octets = (first : List ℕ) × (rest : List ℕ) × SpellsUnit u first × (octets ≡ first ++ rest) × SpellsUnits us rest
+SpellsUnits (u ∷ us) octets = (first : List ℕ) × (rest : List ℕ) × SpellsUnit u first × (octets ≡ first ++ rest)
+    × SpellsUnits us rest
 
 -- ---- what is no unit
 
@@ -159,7 +161,8 @@ pub record IsCutBody (octets : List ℕ) : Type 0 where
   pub rest : List ℕ
   pub short : size ≤ longest_body
   pub octets_are : octets ≡ number_octets size ++ rest
-  pub cut : (rest ≡ []) ⊎ ((kind : UnitKind) × (body : List ℕ) × (rest ≡ kind_number kind ∷ body) × (length body < size))
+  pub cut : (rest ≡ []) ⊎ ((kind : UnitKind) × (body : List ℕ) × (rest ≡ kind_number kind ∷ body)
+      × (length body < size))
 
 -- too few octets for a whole unit, and no fault yet
 abbrev pub IsCutOff : List ℕ → Type 0

@@ -95,7 +95,8 @@ impl Frames {
     pub fn feed(&mut self, piece: &[u8]) -> Result<(), Memory>
         requires { self.old.at + length self.old.left + length piece.now < 2 ^ 64 }
         ensures ok { OnOk result (self.new ≡ fed self.old piece.now) }
-        ensures reading { (us : List AnyUnit) (stream : List ℕ) → HasRead us stream self.old → OnOk result (HasRead us (stream ++ piece.now) self.new) }
+        ensures reading { (us : List AnyUnit) (stream : List ℕ) → HasRead us stream self.old
+            → OnOk result (HasRead us (stream ++ piece.now) self.new) }
         ensures err { OnErr result (self.new ≡ self.old) }
     {
         self.taken = forget(&mut self.octets, self.taken);
@@ -140,13 +141,15 @@ impl Frames {
 
         // The units answered so far, with what was not taken, are all that was fed; and what is left begins with no
         // unit where none is answered.
-        ensures reading { (us : List AnyUnit) (stream : List ℕ) → HasRead us stream self.old → IfOk result (λ n. HasRead (and_next us n) stream self.new) }
+        ensures reading { (us : List AnyUnit) (stream : List ℕ) → HasRead us stream self.old
+            → IfOk result (λ n. HasRead (and_next us n) stream self.new) }
         ensures says { IfOk result (λ n. Says n self.new) }
 
         // And what stands in what was fed and not taken is answered.
         ensures more { IsCutOff self.old.left → IfOk result (λ n. n ≡ Next.More) }
         ensures bad { (k : TheBadUnit) → HasFault k self.old.left → IfOk result (λ n. n ≡ Next.Bad self.old.at k) }
-        ensures unit { (u : AnyUnit) (first rest : List ℕ) → SpellsUnit u first → self.old.left ≡ first ++ rest → IfOk result (λ n. n ≡ Next.Unit u) }
+        ensures unit { (u : AnyUnit) (first rest : List ℕ) → SpellsUnit u first → self.old.left ≡ first ++ rest
+            → IfOk result (λ n. n ≡ Next.Unit u) }
     {
         self.next_of()
     }

@@ -5,7 +5,8 @@ use Rattle.mta_transfer_rules.specs.Sending as s
 use Rattle.mta_transfer_rules.specs.Receiving as r
 use Rattle.mta_world.specs.World.{World, Whole, first_world, empty_queue, recv_end}
 use Rattle.mta_world.specs.Steps as step
-use Rattle.mta_world.specs.Steps.{IsWorldRun, opened_by_sender, joined_by_receiver, receiver_put, sender_got, sender_made, sender_put, receiver_took, receiver_made}
+use Rattle.mta_world.specs.Steps.{IsWorldRun, opened_by_sender, joined_by_receiver, receiver_put, sender_got}
+use Rattle.mta_world.specs.Steps.{sender_made, sender_put, receiver_took, receiver_made}
 use Rattle.mta_world.specs.Agrees.{AMessageArrives}
 
 module _ (octets : List ℕ) (some_octets : 1 ≤ length octets) where
@@ -67,7 +68,8 @@ module _ (octets : List ℕ) (some_octets : 1 ≤ length octets) where
   Run w = IsWorldRun (λ o. true) w
 
   joined : Run w2
-  joined = step.Goes_on (step.Goes_on (step.Begins true 0 1) (step.Sender_opens refl)) (step.Receiver_joins 0 refl (omega arith) refl)
+  joined = step.Goes_on (step.Goes_on (step.Begins true 0 1) (step.Sender_opens refl))
+      (step.Receiver_joins 0 refl (omega arith) refl)
 
   accepted : Run w4
   accepted =
@@ -77,13 +79,16 @@ module _ (octets : List ℕ) (some_octets : 1 ≤ length octets) where
   started : Run w7
   started =
       step.Goes_on
-      (step.Goes_on (step.Goes_on accepted (step.Sender_makes 0 (s.Start octets) (refl, refl) refl tt (refl, refl, some_octets)))
+      (step.Goes_on (step.Goes_on accepted
+      (step.Sender_makes 0 (s.Start octets) (refl, refl) refl tt (refl, refl, some_octets)))
       (step.Sender_puts 0 (Start 1) (refl, refl) (λ e. refl) ((λ e. refl), (refl, refl))))
       (step.Receiver_takes 0 (Start 1) empty_queue (end_at (r.Next 1 0)) (refl, refl) Whole refl)
 
   held : Run w9
   held =
-      step.Goes_on (step.Goes_on started (step.Sender_puts 0 (Piece octets) (refl, refl) (λ e. refl) ((λ e. refl), (1, 0, refl, refl, omega arith, refl))))
+      step.Goes_on (step.Goes_on started
+      (step.Sender_puts 0 (Piece octets) (refl, refl) (λ e. refl)
+      ((λ e. refl), (1, 0, refl, refl, omega arith, refl))))
       (step.Receiver_takes 0 (Piece octets) empty_queue (end_at (r.Held 1 1 octets)) (refl, refl) Whole refl)
 
   ended : Run w12
@@ -95,7 +100,8 @@ module _ (octets : List ℕ) (some_octets : 1 ≤ length octets) where
 
   completed : Run w14
   completed =
-      step.Goes_on (step.Goes_on ended (step.Receiver_makes 0 (r.Complete 1 1 octets) (refl, refl) refl (refl, refl) refl))
+      step.Goes_on (step.Goes_on ended
+      (step.Receiver_makes 0 (r.Complete 1 1 octets) (refl, refl) refl (refl, refl) refl))
       (step.Receiver_puts 0 (EndAck 1) (refl, refl) (1, octets, refl, refl) (λ e c. absurd c))
 
   sent : Run w16

@@ -1,11 +1,13 @@
 -- What holds of a world at every moment, link by link.
-use Rattle.std.proofs.Common.{◌≡◌, ◌⊎◌, ◌≤◌, ℕ, ◌==◌, Bool, true, false, if◌then◌else◌, Option, Some, None, List, [], ◌∷◌, ◌++◌, refl, sym, ◌∙◌, ap, subst}
+use Rattle.std.proofs.Common.{◌≡◌, ◌⊎◌, ◌≤◌, ℕ, ◌==◌, Bool, true, false, if◌then◌else◌, Option, Some, None, List, []}
+use Rattle.std.proofs.Common.{◌∷◌, ◌++◌, refl, sym, ◌∙◌, ap, subst}
 use Rattle.std.proofs.lemmas.Bool.{eqb-true, eqb-false}
 use Rattle.mta_lane_send.specs.declared.state.SendState.{SendState}
 use Rattle.mta_lane_send.specs.Half.{last_of, is_ending, is_live, is_idle, confirmed_of}
 use Rattle.mta_lane_recv.specs.declared.state.Last.{Last}
 use Rattle.mta_lane_recv.specs.Half.{is_done, is_partial_of}
-use Rattle.mta_transfer_rules.specs.Units.{LaneUnit, End, Resume, Discard, SyncAck, EndAck, DiscardAck, Exception, Completed, Unrecognized, CannotRecover, Accept}
+use Rattle.mta_transfer_rules.specs.Units.{LaneUnit, End, Resume, Discard, SyncAck, EndAck, DiscardAck, Exception}
+use Rattle.mta_transfer_rules.specs.Units.{Completed, Unrecognized, CannotRecover, Accept}
 use Rattle.mta_transfer_rules.specs.Sending as s
 use Rattle.mta_transfer_rules.specs.Sending.{SendStage, is_dropping}
 use Rattle.mta_transfer_rules.specs.Receiving as r
@@ -24,7 +26,8 @@ heard_with (Some x) way = x ∷ way
 abbrev pub ups : RecvStage → List LaneUnit → List LaneUnit
 ups stage way = pending stage ++ transfers way
 
-pub unheard : (Q : List LaneUnit → Type 0) → ((x : LaneUnit) (D : List LaneUnit) → Q (x ∷ D) → Q D) → (o : Option LaneUnit) (way : List LaneUnit) → Q (heard_with o way) → Q way
+pub unheard : (Q : List LaneUnit → Type 0) → ((x : LaneUnit) (D : List LaneUnit) → Q (x ∷ D) → Q D)
+    → (o : Option LaneUnit) (way : List LaneUnit) → Q (heard_with o way) → Q way
 unheard Q f None way q = q
 unheard Q f (Some x) way q = f x way q
 
@@ -56,14 +59,17 @@ NoAccept _ = Unit {0}
 
 -- Any link ------------------------------------------------------------------------------------------
 
-pub record LinkParts (p : Sides) (up down : List LaneUnit) (send : SendPart) (stage : RecvStage) (send_joined recv_joined : Bool) : Type 0 where
+pub record LinkParts (p : Sides) (up down : List LaneUnit) (send : SendPart) (stage : RecvStage)
+    (send_joined recv_joined : Bool) : Type 0 where
   pub flows : Flows p.size p.octets (place stage) (ups stage up)
   pub genuine : Genuine p.size p.octets (Bad p) stage
   pub named : Each (UpTo (last_of p.state)) (ups stage up)
   pub stage_named : StageUpTo (last_of p.state) stage
   -- before an initiator got Accept, or a responder joined, nothing of a transfer is on a link
-  pub fresh : send.accepted ≡ false → (stage ≡ r.Free) × (transfers up ≡ []) × Each IsSilent (heard_with send.heard down)
-  pub not_joined : p.sender_opens ≡ true → recv_joined ≡ false → (send.accepted ≡ false) × Each NoAccept (heard_with send.heard down)
+  pub fresh : send.accepted ≡ false → (stage ≡ r.Free) × (transfers up ≡ [])
+      × Each IsSilent (heard_with send.heard down)
+  pub not_joined : p.sender_opens ≡ true → recv_joined ≡ false → (send.accepted ≡ false)
+      × Each NoAccept (heard_with send.heard down)
   pub not_on : p.sender_opens ≡ false → send_joined ≡ false → send.accepted ≡ false
 
 abbrev pub LinkOk : Sides → Link → Type 0
@@ -151,14 +157,16 @@ ResumedApart p V (Resume j n) = Good p j → Each (NoDiscard j) V
 ResumedApart p V _ = Unit {0}
 
 -- D and X are on the sending end's link, V on the receiving end's
-pub record CrossParts (p : Sides) (x y : ℕ) (stage : SendStage) (D X : List LaneUnit) (recv_joined : Bool) (V : List LaneUnit) : Type 0 where
+pub record CrossParts (p : Sides) (x y : ℕ) (stage : SendStage) (D X : List LaneUnit) (recv_joined : Bool)
+    (V : List LaneUnit) : Type 0 where
   pub discarded : Each (Discarded p stage) V
   pub acked : Each (Acked p V) D
   pub apart : (x ≡ y → ⊥) → Each (ResumedApart p V) X
   pub old : p.sender_opens ≡ true → recv_joined ≡ true → (x ≡ y → ⊥) → V ≡ []
 
 abbrev pub CrossOk : Sides → ℕ → ℕ → Link → Link → Type 0
-CrossOk p x y a b = CrossParts p x y a.send.stage (heard_with a.send.heard a.down.way) (ups a.recv.stage a.up.way) a.recv_joined (ups b.recv.stage b.up.way)
+CrossOk p x y a b = CrossParts p x y a.send.stage (heard_with a.send.heard a.down.way)
+    (ups a.recv.stage a.up.way) a.recv_joined (ups b.recv.stage b.up.way)
 
 pub record Linked (p : Sides) (f : ℕ → Link) : Type 0 where
   pub links : (i : ℕ) → LinkOk p (f i)
@@ -168,7 +176,8 @@ pub record Linked (p : Sides) (f : ℕ → Link) : Type 0 where
 
 -- One link changes ------------------------------------------------------------------------------------
 
-pub set-case : (f : ℕ → Link) (i : ℕ) (v : Link) (j : ℕ) (P : Link → Type 0) → (j ≡ i → P v) → ((j ≡ i → ⊥) → P (f j)) → P (set_at f i v j)
+pub set-case : (f : ℕ → Link) (i : ℕ) (v : Link) (j : ℕ) (P : Link → Type 0) → (j ≡ i → P v) → ((j ≡ i → ⊥) → P (f j))
+    → P (set_at f i v j)
 set-case f i v j P yes_ not_ = by_number (j == i) refl
   where
     by_number : (b : Bool) → (j == i) ≡ b → P (if b then v else f j)
@@ -186,17 +195,23 @@ pub record Relinks (p q : Sides) (f : ℕ → Link) (i : ℕ) (v : Link) : Type 
   pub both_here : q.send_link ≡ Some i → q.recv_link ≡ Some i → CrossOk q i i v v
   pub sends_here : (y : ℕ) → (y ≡ i → ⊥) → q.send_link ≡ Some i → q.recv_link ≡ Some y → CrossOk q i y v (f y)
   pub recvs_here : (x : ℕ) → (x ≡ i → ⊥) → q.send_link ≡ Some x → q.recv_link ≡ Some i → CrossOk q x i (f x) v
-  pub none_here : (x y : ℕ) → (x ≡ i → ⊥) → (y ≡ i → ⊥) → q.send_link ≡ Some x → q.recv_link ≡ Some y → CrossOk q x y (f x) (f y)
+  pub none_here : (x y : ℕ) → (x ≡ i → ⊥) → (y ≡ i → ⊥) → q.send_link ≡ Some x → q.recv_link ≡ Some y
+      → CrossOk q x y (f x) (f y)
 
-pub relinked : (p q : Sides) (f : ℕ → Link) (i : ℕ) (v : Link) → Linked p f → Relinks p q f i v → Linked q (set_at f i v)
+pub relinked : (p q : Sides) (f : ℕ → Link) (i : ℕ) (v : Link) → Linked p f → Relinks p q f i v
+    → Linked q (set_at f i v)
 relinked p q f i v o n = record {
   links = λ j. set-case f i v j (LinkOk q) (λ e. n.link) (λ e. n.others (f j) (o.links j));
-  sends = λ x sx. set-case f i v x (SendOk q) (λ e. n.send_here (sx ∙ ap (λ (z : ℕ). Some z) e)) (λ e. n.send_there x e sx);
-  recvs = λ y ry. set-case f i v y (RecvOk q) (λ e. n.recv_here (ry ∙ ap (λ (z : ℕ). Some z) e)) (λ e. n.recv_there y e ry);
+  sends = λ x sx. set-case f i v x (SendOk q) (λ e. n.send_here (sx ∙ ap (λ (z : ℕ). Some z) e))
+      (λ e. n.send_there x e sx);
+  recvs = λ y ry. set-case f i v y (RecvOk q) (λ e. n.recv_here (ry ∙ ap (λ (z : ℕ). Some z) e))
+      (λ e. n.recv_there y e ry);
   cross = λ x y sx ry.
       set-case f i v x (λ (a : Link). CrossOk q x y a (set_at f i v y))
       (λ e. set-case f i v y (λ (b : Link). CrossOk q x y v b)
-      (λ g. subst (λ (z : ℕ). CrossOk q z y v v) (sym e) (subst (λ (z : ℕ). CrossOk q i z v v) (sym g) (n.both_here (sx ∙ ap (λ (z : ℕ). Some z) e) (ry ∙ ap (λ (z : ℕ). Some z) g))))
+      (λ g. subst (λ (z : ℕ). CrossOk q z y v v) (sym e)
+      (subst (λ (z : ℕ). CrossOk q i z v v) (sym g)
+      (n.both_here (sx ∙ ap (λ (z : ℕ). Some z) e) (ry ∙ ap (λ (z : ℕ). Some z) g))))
       (λ g. subst (λ (z : ℕ). CrossOk q z y v (f y)) (sym e) (n.sends_here y g (sx ∙ ap (λ (z : ℕ). Some z) e) ry)))
       (λ e. set-case f i v y (λ (b : Link). CrossOk q x y (f x) b)
       (λ g. subst (λ (z : ℕ). CrossOk q x z (f x) v) (sym g) (n.recvs_here x e sx (ry ∙ ap (λ (z : ℕ). Some z) g)))

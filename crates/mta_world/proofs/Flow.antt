@@ -1,5 +1,6 @@
 -- The order of units on one link, as a place in a transfer that each unit moves.
-use Rattle.std.proofs.Common.{◌≡◌, ◌⊎◌, ℕ, ◌+◌, ◌==◌, Bool, true, false, if◌then◌else◌, List, [], ◌∷◌, ◌++◌, refl, sym, ◌∙◌, subst, inl, inr}
+use Rattle.std.proofs.Common.{◌≡◌, ◌⊎◌, ℕ, ◌+◌, ◌==◌, Bool, true, false, if◌then◌else◌, List, [], ◌∷◌, ◌++◌, refl, sym}
+use Rattle.std.proofs.Common.{◌∙◌, subst, inl, inr}
 use Rattle.mta_transfer_rules.specs.Units.{LaneUnit, Start, Piece, Sync, End, Resume, Discard}
 use Rattle.mta_transfer_rules.specs.Pieces.{piece_of, is_last}
 use Rattle.mta_transfer_rules.specs.Sending as s
@@ -71,7 +72,8 @@ Under a b = (b ≡ a) ⊎ ((k : ℕ) × (b ≡ Skipping k) × AtOrPast a k)
 
 -- Where what is on its way ends is where the sending end stands, but for answers that it did not hear yet.
 abbrev pub Order : SendStage → List LaneUnit → Place → Type 0
-Order (s.Resume_put k n) D b = ((b ≡ Waits k n) × Each NoResumeAck D) ⊎ (((b ≡ Between) × Each NoResumeAck D) ⊎ Under (Behind_pieces k n) b)
+Order (s.Resume_put k n) D b = ((b ≡ Waits k n) × Each NoResumeAck D)
+    ⊎ (((b ≡ Between) × Each NoResumeAck D) ⊎ Under (Behind_pieces k n) b)
 Order s.Quiet D b = Under Between b
 Order s.Opened D b = Under Between b
 Order (s.Started k) D b = Under Between b
@@ -105,15 +107,18 @@ module _ (size : ℕ) (octets : ℕ → List ℕ) where
   Flows p [] = Unit {0}
   Flows p (x ∷ xs) = Stands p x × Flows (next p x) xs
 
-  pub flows-snoc : (p : Place) (xs : List LaneUnit) (x : LaneUnit) → Flows p xs → Stands (after p xs) x → Flows p (xs ++ x ∷ [])
+  pub flows-snoc : (p : Place) (xs : List LaneUnit) (x : LaneUnit) → Flows p xs → Stands (after p xs) x
+      → Flows p (xs ++ x ∷ [])
   flows-snoc p [] x f g = (g, tt)
   flows-snoc p (y ∷ ys) x f g = (f.0, flows-snoc (next p y) ys x f.1 g)
 
   discarded-under : (k j : ℕ) → Under Between (if j == k then Skipping k else Between)
-  discarded-under k j = elim (j == k) as (λ (b : Bool). Under Between (if b then Skipping k else Between)) [ true ↦ inr (k, refl, tt) | false ↦ inl refl ]
+  discarded-under k j = elim (j == k) as (λ (b : Bool). Under Between (if b then Skipping k else Between))
+      [ true ↦ inr (k, refl, tt) | false ↦ inl refl ]
 
   -- where k is skipped, a unit that stands at a place at or past k stands too
-  pub skip-step : (k : ℕ) (a : Place) (x : LaneUnit) → AtOrPast a k → Stands a x → Stands (Skipping k) x × Under (next a x) (next (Skipping k) x)
+  pub skip-step : (k : ℕ) (a : Place) (x : LaneUnit) → AtOrPast a k → Stands a x → Stands (Skipping k) x
+      × Under (next a x) (next (Skipping k) x)
   skip-step k Between (Start j) at f = (tt, inl refl)
   skip-step k Between (Resume j n) at f = (tt, inl refl)
   skip-step k Between (Discard j) at f = (tt, discarded-under k j)
@@ -136,11 +141,13 @@ module _ (size : ℕ) (octets : ℕ → List ℕ) where
   ]
 
   -- a whole queue
-  pub under-flows : (a b : Place) (xs : List LaneUnit) → Under a b → Flows a xs → Flows b xs × Under (after a xs) (after b xs)
+  pub under-flows : (a b : Place) (xs : List LaneUnit) → Under a b → Flows a xs → Flows b xs
+      × Under (after a xs) (after b xs)
   under-flows a b [] un f = (tt, un)
   under-flows a b (x ∷ xs) un f =
       let one : Stands b x × Under (next a x) (next b x) = under-step a b x un f.0 in
-      let more : Flows (next b x) xs × Under (after (next a x) xs) (after (next b x) xs) = under-flows (next a x) (next b x) xs one.1 f.1 in
+      let more : Flows (next b x) xs × Under (after (next a x) xs) (after (next b x) xs) =
+      under-flows (next a x) (next b x) xs one.1 f.1 in
       ((one.0, more.0), more.1)
 
 -- What is left of others leads to no transfer.
@@ -155,13 +162,15 @@ rest-step bad h Between (Resume k n) i l = absurd l
 rest-step bad h Between _ i l = tt
 rest-step bad h (Skipping k) (Start j) i l = absurd l
 rest-step bad h (Skipping k) (Resume j n) i l = absurd l
-rest-step bad h (Skipping k) (Discard j) i l = elim (j == k) as (λ (b : Bool). IsRest (if b then Skipping k else Between)) [ true ↦ tt | false ↦ tt ]
+rest-step bad h (Skipping k) (Discard j) i l =
+    elim (j == k) as (λ (b : Bool). IsRest (if b then Skipping k else Between)) [ true ↦ tt | false ↦ tt ]
 rest-step bad h (Skipping k) _ i l = tt
 rest-step bad h (Waits k n) x i l = absurd i
 rest-step bad h (Behind_pieces k n) x i l = absurd i
 rest-step bad h (Behind_piece k n) x i l = absurd i
 
-pub rest-after : (bad : ℕ → Type 0) (h : ℕ) (p : Place) (xs : List LaneUnit) → IsRest p → Each (Leftover bad h) xs → IsRest (after p xs)
+pub rest-after : (bad : ℕ → Type 0) (h : ℕ) (p : Place) (xs : List LaneUnit) → IsRest p → Each (Leftover bad h) xs
+    → IsRest (after p xs)
 rest-after bad h p [] i e = i
 rest-after bad h p (x ∷ xs) i e = rest-after bad h (next p x) xs (rest-step bad h p x i e.0) e.1
 

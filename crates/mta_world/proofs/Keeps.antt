@@ -1,5 +1,6 @@
 -- What holds of every world of a run, and the steps that change one link alone.
-use Rattle.std.proofs.Common.{◌≡◌, ◌<◌, ◌≤◌, ℕ, Bool, true, false, Option, Some, None, List, ◌∷◌, refl, sym, ◌∙◌, subst, arith, inl, inr}
+use Rattle.std.proofs.Common.{◌≡◌, ◌<◌, ◌≤◌, ℕ, Bool, true, false, Option, Some, None, List, ◌∷◌, refl, sym, ◌∙◌, subst}
+use Rattle.std.proofs.Common.{arith, inl, inr}
 use Rattle.mta_lane_send.specs.Half.{last_of, is_idle}
 use Rattle.mta_lane_recv.specs.Half.{is_done}
 use Rattle.mta_transfer_rules.specs.Units.{LaneUnit}
@@ -46,22 +47,31 @@ takes-way a b x Cut = refl
 -- What the durable halves tell ------------------------------------------------------------------------------
 
 abbrev pub EachSent : World → Type 0
-EachSent w = d.EachOf (λ m. (m.activity < d.bound w.state) × (w.outcome m.activity ≡ Was_sent) × (w.abandoned m.activity ≡ false)) w.sent
+EachSent w = d.EachOf (λ m. (m.activity < d.bound w.state) × (w.outcome m.activity ≡ Was_sent)
+    × (w.abandoned m.activity ≡ false)) w.sent
 
 -- an activity under way is not among those sent
 pub not_sent : (w : World) → EachSent w → is_idle w.state ≡ false → IsAmong (last_of w.state) w.sent → ⊥
 not_sent w ones i a =
     let lt : last_of w.state < d.bound w.state =
-    among-each (λ m. (m.activity < d.bound w.state) × (w.outcome m.activity ≡ Was_sent) × (w.abandoned m.activity ≡ false)) (λ j. j < d.bound w.state) (last_of w.state) w.sent (λ m g. g.0) ones a in
+    among-each (λ m. (m.activity < d.bound w.state) × (w.outcome m.activity ≡ Was_sent)
+    × (w.abandoned m.activity ≡ false)) (λ j. j < d.bound w.state) (last_of w.state) w.sent (λ m g. g.0) ones a in
     omega (arith, lt, d.bound-live w.state i)
 
-pub ahead-among : (octets : ℕ → List ℕ) (w : World) → InStep octets w.state w.last w.sent w.completed → EachSent w → is_idle w.state ≡ false → IsAmong (last_of w.state) w.completed → is_done w.last (last_of w.state) ≡ true
-ahead-among octets w st ones i a = elim st [ inl e ↦ absurd (not_sent w ones i (subst (λ (z : List Message). IsAmong (last_of w.state) z) e a)) | inr g ↦ g.2 ]
+pub ahead-among : (octets : ℕ → List ℕ) (w : World) → InStep octets w.state w.last w.sent w.completed → EachSent w
+    → is_idle w.state ≡ false → IsAmong (last_of w.state) w.completed → is_done w.last (last_of w.state) ≡ true
+ahead-among octets w st ones i a =
+    elim st [
+      | inl e ↦ absurd (not_sent w ones i (subst (λ (z : List Message). IsAmong (last_of w.state) z) e a))
+      | inr g ↦ g.2
+    ]
 
-pub facts : (spells : List ℕ → Bool) (octets : ℕ → List ℕ) (w : World) → Keeps spells octets w → Facts (sides spells octets w)
+pub facts : (spells : List ℕ → Bool) (octets : ℕ → List ℕ) (w : World) → Keeps spells octets w
+    → Facts (sides spells octets w)
 facts spells octets w k = record {
   done = λ j g. done-among w.size octets w.high w.last w.pieces w.completed j k.receives.held g;
-  good_done = λ j a. d.done-good spells w.size octets (last_of w.state) w.high w.last w.pieces w.completed k.receives j a;
+  good_done = λ j a. d.done-good spells w.size octets (last_of w.state) w.high w.last w.pieces w.completed k.receives j
+      a;
   live_done = λ i a. ahead-among octets w k.in_step k.outcomes.sent_ones i a;
 }
 
@@ -70,8 +80,10 @@ facts spells octets w k = record {
 pub keep-link : (p : Sides) (f : ℕ → Link) (i : ℕ) (v : Link) → Linked p f → LinkOk p v
     → (p.send_link ≡ Some i → SendOk p (f i) → SendOk p v) → (p.recv_link ≡ Some i → RecvOk p (f i) → RecvOk p v)
     → (p.send_link ≡ Some i → p.recv_link ≡ Some i → CrossOk p i i (f i) (f i) → CrossOk p i i v v)
-    → ((y : ℕ) → (y ≡ i → ⊥) → p.send_link ≡ Some i → p.recv_link ≡ Some y → CrossOk p i y (f i) (f y) → CrossOk p i y v (f y))
-    → ((x : ℕ) → (x ≡ i → ⊥) → p.send_link ≡ Some x → p.recv_link ≡ Some i → CrossOk p x i (f x) (f i) → CrossOk p x i (f x) v)
+    → ((y : ℕ) → (y ≡ i → ⊥) → p.send_link ≡ Some i → p.recv_link ≡ Some y → CrossOk p i y (f i) (f y)
+    → CrossOk p i y v (f y))
+    → ((x : ℕ) → (x ≡ i → ⊥) → p.send_link ≡ Some x → p.recv_link ≡ Some i → CrossOk p x i (f x) (f i)
+    → CrossOk p x i (f x) v)
     → Linked p (set_at f i v)
 keep-link p f i v o lk sd rc bo se re = relinked p p f i v o (record {
   others = λ l g. g;

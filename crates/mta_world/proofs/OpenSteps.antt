@@ -1,9 +1,12 @@
 -- An end opens a link, or takes its Open.
-use Rattle.std.proofs.Common.{◌≡◌, ◌<◌, ◌≤◌, ℕ, ◌+◌, Bool, true, false, Option, Some, None, List, [], ◌∷◌, refl, sym, ◌∙◌, ap, subst, arith, inl, inr}
+use Rattle.std.proofs.Common.{◌≡◌, ◌<◌, ◌≤◌, ℕ, ◌+◌, Bool, true, false, Option, Some, None, List, [], ◌∷◌, refl, sym}
+use Rattle.std.proofs.Common.{◌∙◌, ap, subst, arith, inl, inr}
 use Rattle.mta_lane_send.specs.declared.state.SendState.{SendState}
 use Rattle.mta_lane_send.specs.declared.state.SendState.TheVariants as state
 use Rattle.mta_lane_send.specs.Half.{last_of, is_idle, is_live, confirmed_of}
-use Rattle.mta_transfer_rules.specs.Units.{LaneUnit, Start, Piece, Sync, End, Resume, Discard, SyncAck, EndAck, ResumeAck, DiscardAck, Exception, Completed, Unrecognized, CannotRecover, Accept, Other}
+use Rattle.mta_transfer_rules.specs.Units.{LaneUnit, Start, Piece, Sync, End, Resume, Discard, SyncAck, EndAck}
+use Rattle.mta_transfer_rules.specs.Units.{ResumeAck, DiscardAck, Exception, Completed, Unrecognized, CannotRecover}
+use Rattle.mta_transfer_rules.specs.Units.{Accept, Other}
 use Rattle.mta_transfer_rules.specs.Sending.{SendStage, stage_on_link}
 use Rattle.mta_transfer_rules.specs.Receiving as r
 use Rattle.mta_transfer_rules.specs.Receiving.{RecvStage}
@@ -12,7 +15,9 @@ use Rattle.mta_world.specs.Steps.{opened_by_sender, opened_by_receiver, joined_b
 use Rattle.mta_world.proofs.Units.{Each, each-map, transfers, UpTo, Clean, IsSilent}
 use Rattle.mta_world.proofs.Flow.{Between, Order, Flows}
 use Rattle.mta_world.proofs.Talk.{phase, Talk, Names, Finish, IsCutAt}
-use Rattle.mta_world.proofs.Claims.{Sides, Bad, Good, StandsSome, heard_with, unheard, ups, LinkParts, LinkOk, SendParts, Ended, CrossParts, Acked, Truth, Resumed, ResumedApart, Discarded, IsDoomed, is_rest, Linked, relinked}
+use Rattle.mta_world.proofs.Claims.{Sides, Bad, Good, StandsSome, heard_with, unheard, ups, LinkParts, LinkOk}
+use Rattle.mta_world.proofs.Claims.{SendParts, Ended, CrossParts, Acked, Truth, Resumed, ResumedApart, Discarded}
+use Rattle.mta_world.proofs.Claims.{IsDoomed, is_rest, Linked, relinked}
 use Rattle.mta_world.proofs.Keeps.{sides, Keeps}
 
 not-both : (b : Bool) (A : Type 0) → b ≡ true → b ≡ false → A
@@ -40,7 +45,8 @@ module _ (p : Sides) where
   fresh-order (state.Idle l) D = inl refl
   fresh-order any0 D = inl refl
 
-  fresh-talk : (st : SendState) (h : ℕ) (D : List LaneUnit) → Each IsSilent D → Talk (Bad p) h (phase (stage_on_link st)) r.Free [] D
+  fresh-talk : (st : SendState) (h : ℕ) (D : List LaneUnit) → Each IsSilent D
+      → Talk (Bad p) h (phase (stage_on_link st)) r.Free [] D
   fresh-talk (state.Idle l) h D g = ((tt, tt), each-map IsSilent (Clean (h + 1)) D (silent-clean (h + 1)) g)
   fresh-talk any0 h D g = ((tt, tt), each-map IsSilent (Clean h) D (silent-clean h) g)
 
@@ -60,7 +66,9 @@ module _ (p : Sides) where
   fresh-cut (state.Idle l) = tt
   fresh-cut any0 = tt
 
-  fresh-send : (D : List LaneUnit) → Each IsSilent D → (1 ≤ confirmed_of p.state → Good p (last_of p.state) → StandsSome p.last (last_of p.state)) → SendParts p (stage_on_link p.state) D [] r.Free
+  fresh-send : (D : List LaneUnit) → Each IsSilent D
+      → (1 ≤ confirmed_of p.state → Good p (last_of p.state) → StandsSome p.last (last_of p.state))
+      → SendParts p (stage_on_link p.state) D [] r.Free
   fresh-send D g st = record {
     idle = fresh-idle p.state;
     names = fresh-names p.state (last_of p.state);
@@ -74,7 +82,8 @@ module _ (p : Sides) where
   }
 
   -- what was doomed stays so on a new link
-  fresh-doomed : (st : SendState) (a : SendStage) (j : ℕ) → is_live st j ≡ true → IsDoomed st a → IsDoomed st (stage_on_link st)
+  fresh-doomed : (st : SendState) (a : SendStage) (j : ℕ) → is_live st j ≡ true → IsDoomed st a
+      → IsDoomed st (stage_on_link st)
   fresh-doomed (state.Idle l) a j lv d = absurd (let c : false ≡ true = lv in cc)
   fresh-doomed (state.Dropping k) a j lv d = inl refl
   fresh-doomed any0 a j lv d = elim d [ inl e ↦ inl e | inr g ↦ inr (g.0, tt) ]
@@ -136,15 +145,19 @@ module _ (spells : List ℕ → Bool) (octets : ℕ → List ℕ) (w : World) (k
           idle-none (state.Dropping j) e c = cc
 
   -- what is on the receiving end's newest link comes to nothing as before
-  still-discarded : (y : ℕ) → w.recv_link ≡ Some y → Each (Discarded P (stage_on_link w.state)) (ups (w.links y).recv.stage (w.links y).up.way)
+  still-discarded : (y : ℕ) → w.recv_link ≡ Some y
+      → Each (Discarded P (stage_on_link w.state)) (ups (w.links y).recv.stage (w.links y).up.way)
   still-discarded y ry = by_link w.send_link refl
     where
-      by_link : (o : Option ℕ) → w.send_link ≡ o → Each (Discarded P (stage_on_link w.state)) (ups (w.links y).recv.stage (w.links y).up.way)
-      by_link (Some x) e = each-map (Discarded P (w.links x).send.stage) (Discarded P (stage_on_link w.state)) _ (fresh-discarded P (w.links x).send.stage) (k.linked.cross x y e ry).discarded
+      by_link : (o : Option ℕ) → w.send_link ≡ o
+          → Each (Discarded P (stage_on_link w.state)) (ups (w.links y).recv.stage (w.links y).up.way)
+      by_link (Some x) e = each-map (Discarded P (w.links x).send.stage) (Discarded P (stage_on_link w.state)) _
+          (fresh-discarded P (w.links x).send.stage) (k.linked.cross x y e ry).discarded
       by_link None e = each-all P (Discarded P (stage_on_link w.state)) _ (idle-discarded P (k.homeless e))
 
   -- the sending end's new link, against the receiving end's
-  new-cross : (i y : ℕ) (D : List LaneUnit) (joined : Bool) → w.recv_link ≡ Some y → Each IsSilent D → (w.sender_opens ≡ true → joined ≡ true → ⊥)
+  new-cross : (i y : ℕ) (D : List LaneUnit) (joined : Bool) → w.recv_link ≡ Some y → Each IsSilent D
+      → (w.sender_opens ≡ true → joined ≡ true → ⊥)
       → CrossParts P i y (stage_on_link w.state) D [] joined (ups (w.links y).recv.stage (w.links y).up.way)
   new-cross i y D joined ry g no_ = record {
     discarded = still-discarded y ry;
@@ -153,7 +166,8 @@ module _ (spells : List ℕ → Bool) (octets : ℕ → List ℕ) (w : World) (k
     old = λ so j ne. absurd (no_ so j);
   }
 
-  moved : (x y : Option ℕ) (f : ℕ → Link) → Linked (record (sides spells octets w) { send_link = x; recv_link = y }) f → (n : ℕ) → w.opened ≤ n
+  moved : (x y : Option ℕ) (f : ℕ → Link) → Linked (record (sides spells octets w) { send_link = x; recv_link = y }) f
+      → (n : ℕ) → w.opened ≤ n
       → (x ≡ None → is_idle w.state ≡ true) → ((i : ℕ) → x ≡ Some i → i < n) → ((i : ℕ) → y ≡ Some i → i < n)
       → Keeps spells octets (record w { send_link = x; recv_link = y; opened = n; links = f })
   moved x y f g n le home sb rb = record {
@@ -171,8 +185,18 @@ module _ (spells : List ℕ → Bool) (octets : ℕ → List ℕ) (w : World) (k
     abbrev Q : Sides
     Q = record (sides spells octets w) { send_link = x; recv_link = y }
 
-    link-moved : (U down : List LaneUnit) (send : SendPart) (e : RecvStage) (a b : Bool) → LinkParts P U down send e a b → LinkParts Q U down send e a b
-    link-moved U down send e a b g = record { flows = g.flows; genuine = g.genuine; named = g.named; stage_named = g.stage_named; fresh = g.fresh; not_joined = g.not_joined; not_on = g.not_on }
+    link-moved : (U down : List LaneUnit) (send : SendPart) (e : RecvStage) (a b : Bool) → LinkParts P U down send e a b
+        → LinkParts Q U down send e a b
+    link-moved U down send e a b g =
+        record {
+          flows = g.flows;
+          genuine = g.genuine;
+          named = g.named;
+          stage_named = g.stage_named;
+          fresh = g.fresh;
+          not_joined = g.not_joined;
+          not_on = g.not_on;
+        }
 
     truth-moved : (a : SendStage) (u : LaneUnit) → Truth P a u → Truth Q a u
     truth-moved a (SyncAck n) g = g
@@ -217,7 +241,8 @@ module _ (spells : List ℕ → Bool) (octets : ℕ → List ℕ) (w : World) (k
     apart-moved V (Resume j n) g = g
     apart-moved V _ g = tt
 
-    cross-moved : (i j : ℕ) (a : SendStage) (D X : List LaneUnit) (joined : Bool) (V : List LaneUnit) → CrossParts P i j a D X joined V → CrossParts Q i j a D X joined V
+    cross-moved : (i j : ℕ) (a : SendStage) (D X : List LaneUnit) (joined : Bool) (V : List LaneUnit)
+        → CrossParts P i j a D X joined V → CrossParts Q i j a D X joined V
     cross-moved i j a D X joined V c = record {
       discarded = each-map (Discarded P a) (Discarded Q a) V (discarded-moved a) c.discarded;
       acked = each-map (Acked P V) (Acked Q V) D (acked-moved V) c.acked;
@@ -225,7 +250,8 @@ module _ (spells : List ℕ → Bool) (octets : ℕ → List ℕ) (w : World) (k
       old = c.old;
     }
 
-  -- A new link ------------------------------------------------------------------------------------------------------------
+  -- A new link
+  -- ------------------------------------------------------------------------------------------------------------
 
   new-link : (a b : Bool) (st : SendState) → (w.sender_opens ≡ false → a ≡ false) → LinkOk P (new_link a b false st)
   new-link a b st f = record {
@@ -256,7 +282,8 @@ module _ (spells : List ℕ → Bool) (octets : ℕ → List ℕ) (w : World) (k
         recv_here = λ ry. absurd (not-opened n refl (k.recv_below n ry));
         recv_there = λ i ne ry. each-map (Ended P) (Ended (Q x y)) _ (ended-moved x y) (k.linked.recvs i ry);
         both_here = λ e ry. absurd (not-opened n refl (k.recv_below n ry));
-        sends_here = λ i ne e ry. cross-moved x y n i _ _ _ _ _ (new-cross n i [] false ry tt (λ o j. (let c : true ≡ false = sym j in cc)));
+        sends_here = λ i ne e ry. cross-moved x y n i _ _ _ _ _
+            (new-cross n i [] false ry tt (λ o j. (let c : true ≡ false = sym j in cc)));
         recvs_here = λ i ne e ry. absurd (not-opened n refl (k.recv_below n ry));
         none_here = λ i j ni nj e ry. absurd (ni (let g : Some n ≡ Some i = e in let h : n ≡ i = cc in sym h));
       }))
@@ -287,15 +314,24 @@ module _ (spells : List ℕ → Bool) (octets : ℕ → List ℕ) (w : World) (k
       (λ i sx. (let lt : i < n = k.send_below i sx in omega (arith, lt)))
       (λ i e. (let g : Some n ≡ Some i = e in let h : n ≡ i = cc in omega (arith, h)))
 
-  -- An Open is taken ----------------------------------------------------------------------------------------------------------
+  -- An Open is taken
+  -- ----------------------------------------------------------------------------------------------------------
 
-  pub sender-joins : (i : ℕ) → w.sender_opens ≡ false → i < w.opened → (w.links i).send_joined ≡ false → Keeps spells octets (joined_by_sender w i (w.links i))
+  pub sender-joins : (i : ℕ) → w.sender_opens ≡ false → i < w.opened → (w.links i).send_joined ≡ false
+      → Keeps spells octets (joined_by_sender w i (w.links i))
   sender-joins i so lt off =
       let l : Link = w.links i in
       let o : LinkOk P l = k.linked.links i in
-      let fresh : (l.recv.stage ≡ r.Free) × (transfers l.up.way ≡ []) × Each IsSilent (heard_with l.send.heard l.down.way) = o.fresh (o.not_on so off) in
-      let silent : Each IsSilent l.down.way = unheard (λ (D : List LaneUnit). Each IsSilent D) (λ u D g. g.1) l.send.heard l.down.way fresh.2 in
-      let v : Link = record l { send_joined = true; send_stopped = false; send = record { accepted = true; stage = stage_on_link w.state; heard = None } } in
+      let fresh : (l.recv.stage ≡ r.Free) × (transfers l.up.way ≡ [])
+      × Each IsSilent (heard_with l.send.heard l.down.way) = o.fresh (o.not_on so off) in
+      let silent : Each IsSilent l.down.way =
+      unheard (λ (D : List LaneUnit). Each IsSilent D) (λ u D g. g.1) l.send.heard l.down.way fresh.2 in
+      let v : Link = record l {
+        send_joined = true;
+        send_stopped = false;
+        send =
+            record { accepted = true; stage = stage_on_link w.state; heard = None };
+      } in
       let none : ups l.recv.stage l.up.way ≡ [] = ap (λ (z : RecvStage). ups z l.up.way) fresh.0 ∙ fresh.1 in
       let x : Option ℕ = Some i in
       let y : Option ℕ = w.recv_link in
@@ -312,14 +348,20 @@ module _ (spells : List ℕ → Bool) (octets : ℕ → List ℕ) (w : World) (k
           not_on = λ s u. absurd (let c : true ≡ false = u in cc);
         };
         send_here = λ e. send-moved x y _ _ _ _
-            (subst (λ (z : RecvStage). SendParts P (stage_on_link w.state) l.down.way (ups l.recv.stage l.up.way) z) (sym fresh.0)
-            (subst (λ (z : List LaneUnit). SendParts P (stage_on_link w.state) l.down.way z r.Free) (sym none) (fresh-send P l.down.way silent stands-now)));
+            (subst (λ (z : RecvStage). SendParts P (stage_on_link w.state) l.down.way (ups l.recv.stage l.up.way) z)
+            (sym fresh.0)
+            (subst (λ (z : List LaneUnit). SendParts P (stage_on_link w.state) l.down.way z r.Free) (sym none)
+            (fresh-send P l.down.way silent stands-now)));
         send_there = λ j ne e. absurd (ne (let g : Some i ≡ Some j = e in let h : i ≡ j = cc in sym h));
         recv_here = λ ry. each-map (Ended P) (Ended (Q x y)) _ (ended-moved x y) (k.linked.recvs i ry);
         recv_there = λ j ne ry. each-map (Ended P) (Ended (Q x y)) _ (ended-moved x y) (k.linked.recvs j ry);
-        both_here = λ e ry. subst (λ (z : List LaneUnit). CrossParts (Q x y) i i (stage_on_link w.state) l.down.way z l.recv_joined z) (sym none) (empty-cross (Q x y) i i _ _ _ _);
-        sends_here = λ j ne e ry. subst (λ (z : List LaneUnit). CrossParts (Q x y) i j (stage_on_link w.state) l.down.way z l.recv_joined (ups (w.links j).recv.stage (w.links j).up.way)) (sym none)
-            (cross-moved x y i j _ _ _ _ _ (new-cross i j l.down.way l.recv_joined ry silent (λ s g. not-both w.sender_opens _ s so)));
+        both_here = λ e ry. subst (λ (z : List LaneUnit). CrossParts (Q x y) i i
+            (stage_on_link w.state) l.down.way z l.recv_joined z) (sym none) (empty-cross (Q x y) i i _ _ _ _);
+        sends_here = λ j ne e ry. subst
+            (λ (z : List LaneUnit). CrossParts (Q x y) i j (stage_on_link w.state) l.down.way z l.recv_joined
+            (ups (w.links j).recv.stage (w.links j).up.way)) (sym none)
+            (cross-moved x y i j _ _ _ _ _ (new-cross i j l.down.way l.recv_joined ry silent
+            (λ s g. not-both w.sender_opens _ s so)));
         recvs_here = λ j ne e ry. absurd (ne (let g : Some i ≡ Some j = e in let h : i ≡ j = cc in sym h));
         none_here = λ a b na nb e ry. absurd (na (let g : Some i ≡ Some a = e in let h : i ≡ a = cc in sym h));
       }))
@@ -327,12 +369,19 @@ module _ (spells : List ℕ → Bool) (octets : ℕ → List ℕ) (w : World) (k
       (λ j e. (let g : Some i ≡ Some j = e in let h : i ≡ j = cc in omega (arith, h, lt)))
       k.recv_below
 
-  pub receiver-joins : (i : ℕ) → w.sender_opens ≡ true → i < w.opened → (w.links i).recv_joined ≡ false → Keeps spells octets (joined_by_receiver w i (w.links i))
+  pub receiver-joins : (i : ℕ) → w.sender_opens ≡ true → i < w.opened → (w.links i).recv_joined ≡ false
+      → Keeps spells octets (joined_by_receiver w i (w.links i))
   receiver-joins i so lt off =
       let l : Link = w.links i in
       let o : LinkOk P l = k.linked.links i in
-      let fresh : (l.recv.stage ≡ r.Free) × (transfers l.up.way ≡ []) × Each IsSilent (heard_with l.send.heard l.down.way) = o.fresh (o.not_joined so off).0 in
-      let v : Link = record l { recv_joined = true; recv_stopped = false; recv = record { stage = r.Free; from = 0; acked = 0 } } in
+      let fresh : (l.recv.stage ≡ r.Free) × (transfers l.up.way ≡ [])
+      × Each IsSilent (heard_with l.send.heard l.down.way) = o.fresh (o.not_joined so off).0 in
+      let v : Link = record l {
+        recv_joined = true;
+        recv_stopped = false;
+        recv =
+            record { stage = r.Free; from = 0; acked = 0 };
+      } in
       let x : Option ℕ = w.send_link in
       let y : Option ℕ = Some i in
       moved x y (set_at w.links i v)
@@ -347,13 +396,19 @@ module _ (spells : List ℕ → Bool) (octets : ℕ → List ℕ) (w : World) (k
           not_joined = λ s u. absurd (let c : true ≡ false = u in cc);
           not_on = o.not_on;
         };
-        send_here = λ sx. send-moved x y _ _ _ _ (subst (λ (z : RecvStage). SendParts P l.send.stage (heard_with l.send.heard l.down.way) (ups z l.up.way) z) fresh.0 (k.linked.sends i sx));
+        send_here = λ sx. send-moved x y _ _ _ _
+            (subst (λ (z : RecvStage). SendParts P l.send.stage (heard_with l.send.heard l.down.way) (ups z l.up.way) z)
+            fresh.0 (k.linked.sends i sx));
         send_there = λ j ne sx. send-moved x y _ _ _ _ (k.linked.sends j sx);
         recv_here = λ e. subst (λ (z : List LaneUnit). Each (Ended (Q x y)) z) (sym fresh.1) tt;
         recv_there = λ j ne e. absurd (ne (let g : Some i ≡ Some j = e in let h : i ≡ j = cc in sym h));
-        both_here = λ sx e. subst (λ (z : List LaneUnit). CrossParts (Q x y) i i l.send.stage (heard_with l.send.heard l.down.way) z true z) (sym fresh.1) (empty-cross (Q x y) i i _ _ _ _);
+        both_here = λ sx e. subst (λ (z : List LaneUnit). CrossParts (Q x y) i i l.send.stage
+            (heard_with l.send.heard l.down.way) z true z) (sym fresh.1) (empty-cross (Q x y) i i _ _ _ _);
         sends_here = λ j ne sx e. absurd (ne (let g : Some i ≡ Some j = e in let h : i ≡ j = cc in sym h));
-        recvs_here = λ j ne sx e. subst (λ (z : List LaneUnit). CrossParts (Q x y) j i (w.links j).send.stage (heard_with (w.links j).send.heard (w.links j).down.way) (ups (w.links j).recv.stage (w.links j).up.way) (w.links j).recv_joined z)
+        recvs_here = λ j ne sx e. subst
+            (λ (z : List LaneUnit). CrossParts (Q x y) j i (w.links j).send.stage
+            (heard_with (w.links j).send.heard (w.links j).down.way) (ups (w.links j).recv.stage (w.links j).up.way)
+            (w.links j).recv_joined z)
             (sym fresh.1) (empty-cross (Q x y) j i _ _ _ _);
         none_here = λ a b na nb sx e. absurd (nb (let g : Some i ≡ Some b = e in let h : i ≡ b = cc in sym h));
       }))

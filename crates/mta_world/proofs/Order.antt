@@ -9,7 +9,9 @@ use Rattle.mta_transfer_rules.specs.Receiving.{RecvStage}
 use Rattle.mta_world.proofs.Units.{Each, UpTo, StageUpTo, NoResumeAck, transfers}
 use Rattle.mta_world.proofs.Flow.{Place, Between, Skipping, next, after, place, Flows, Order}
 use Rattle.mta_world.proofs.Talk.{Genuine}
-use Rattle.mta_world.proofs.Moves.{Moves, starts, starts_behind, holds, holds_next, skips_piece, syncs, skips_sync, ends, skips_end, asks, discards, discards_next, discards_held, discards_synced, skips_discard, discards_behind, passes_accept, passes_other, before_it, behind_it}
+use Rattle.mta_world.proofs.Moves.{Moves, starts, starts_behind, holds, holds_next, skips_piece, syncs, skips_sync}
+use Rattle.mta_world.proofs.Moves.{ends, skips_end, asks, discards, discards_next, discards_held, discards_synced}
+use Rattle.mta_world.proofs.Moves.{skips_discard, discards_behind, passes_accept, passes_other, before_it, behind_it}
 
 same : (n : ℕ) → (n == n) ≡ true
 same n = eq-eqb n n refl
@@ -22,14 +24,16 @@ module _ (size : ℕ) (octets : ℕ → List ℕ) (bad : ℕ → Type 0) where
     pub genuine : Genuine size octets bad f
 
   discard_kept : (e : RecvStage) (k : ℕ) (U : List LaneUnit) → next (place e) (Discard k) ≡ Between
-      → Flows size octets (place e) (Discard k ∷ transfers U) → Kept e (r.Discards k) (Discard k ∷ transfers U) (Discard k ∷ transfers U)
+      → Flows size octets (place e) (Discard k ∷ transfers U)
+      → Kept e (r.Discards k) (Discard k ∷ transfers U) (Discard k ∷ transfers U)
   discard_kept e k U to g = record {
     flows = (tt, subst (λ (z : Place). Flows size octets z (transfers U)) to g.1);
     ends_there = ap (λ (z : Place). after z (transfers U)) (sym to);
     genuine = tt;
   }
 
-  pub moves-order : (e f : RecvStage) (x : LaneUnit) (U : List LaneUnit) → Moves e x f → Genuine size octets bad e → Flows size octets (place e) (before_it e x U) → Kept e f (before_it e x U) (behind_it f U)
+  pub moves-order : (e f : RecvStage) (x : LaneUnit) (U : List LaneUnit) → Moves e x f → Genuine size octets bad e
+      → Flows size octets (place e) (before_it e x U) → Kept e f (before_it e x U) (behind_it f U)
   moves-order e f x U starts h g = record { flows = g.1; ends_there = refl; genuine = tt }
   moves-order e f x U starts_behind h g = record { flows = g.1; ends_there = refl; genuine = tt }
   moves-order e f x U holds h g = record { flows = g.1; ends_there = refl; genuine = g.0 }
@@ -55,7 +59,8 @@ module _ (size : ℕ) (octets : ℕ → List ℕ) (bad : ℕ → Type 0) where
   moves-order e f x U passes_accept h g = record { flows = g; ends_there = refl; genuine = h }
   moves-order e f x U passes_other h g = record { flows = g; ends_there = refl; genuine = h }
 
-pub moves-upto : (h : ℕ) (e f : RecvStage) (x : LaneUnit) (U : List LaneUnit) → Moves e x f → StageUpTo h e → Each (UpTo h) (before_it e x U) → StageUpTo h f
+pub moves-upto : (h : ℕ) (e f : RecvStage) (x : LaneUnit) (U : List LaneUnit) → Moves e x f → StageUpTo h e
+    → Each (UpTo h) (before_it e x U) → StageUpTo h f
 moves-upto h e f x U starts b g = g.0
 moves-upto h e f x U starts_behind b g = g.0
 moves-upto h e f x U holds b g = b
@@ -77,11 +82,13 @@ moves-upto h e f x U passes_other b g = b
 
 -- The order where the answers on their way change ---------------------------------------------
 
-pub order-answers : (stage : SendStage) (D E : List LaneUnit) (b : Place) → (Each NoResumeAck D → Each NoResumeAck E) → Order stage D b → Order stage E b
+pub order-answers : (stage : SendStage) (D E : List LaneUnit) (b : Place) → (Each NoResumeAck D → Each NoResumeAck E)
+    → Order stage D b → Order stage E b
 order-answers (s.Resume_put k n) D E b g o =
     elim o [ inl p ↦ inl (p.0, g p.1) | inr q ↦ elim q [ inl p ↦ inr (inl (p.0, g p.1)) | inr p ↦ inr (inr p) ] ]
 order-answers any0 D E b g o = o
 
 -- the plain form of it where the answers do not count
-pub order-plain : (stage : SendStage) (D E : List LaneUnit) (b c : Place) → b ≡ c → (Each NoResumeAck D → Each NoResumeAck E) → Order stage D b → Order stage E c
+pub order-plain : (stage : SendStage) (D E : List LaneUnit) (b c : Place) → b ≡ c
+    → (Each NoResumeAck D → Each NoResumeAck E) → Order stage D b → Order stage E c
 order-plain stage D E b c e g o = subst (λ (z : Place). Order stage E z) e (order-answers stage D E b g o)

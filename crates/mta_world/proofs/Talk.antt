@@ -6,7 +6,8 @@ use Rattle.mta_transfer_rules.specs.Sending as s
 use Rattle.mta_transfer_rules.specs.Sending.{SendStage}
 use Rattle.mta_transfer_rules.specs.Receiving as r
 use Rattle.mta_transfer_rules.specs.Receiving.{RecvStage}
-use Rattle.mta_world.proofs.Units.{Each, Own, Leftover, HasBegin, NoFinish, NoEnd, NoDiscard, LastOnly, NoEnds, Clean, Answered}
+use Rattle.mta_world.proofs.Units.{Each, Own, Leftover, HasBegin, NoFinish, NoEnd, NoDiscard, LastOnly, NoEnds, Clean}
+use Rattle.mta_world.proofs.Units.{Answered}
 
 -- the receiving end takes part in no transfer, and skips none from h on
 abbrev pub IsIdle : ℕ → RecvStage → Type 0

@@ -1,6 +1,8 @@
 -- Lists of units, and what each unit of one may be.
 use Rattle.std.proofs.Common.{◌≡◌, ◌⊎◌, ◌<◌, ◌≤◌, ℕ, ◌+◌, List, [], ◌∷◌, ◌++◌, refl, sym, ap, subst, arith, inl, inr}
-use Rattle.mta_transfer_rules.specs.Units.{LaneUnit, Start, Piece, Sync, End, Resume, Discard, SyncAck, EndAck, ResumeAck, DiscardAck, Exception, Completed, Unrecognized, CannotRecover, Accept, Other}
+use Rattle.mta_transfer_rules.specs.Units.{LaneUnit, Start, Piece, Sync, End, Resume, Discard, SyncAck, EndAck}
+use Rattle.mta_transfer_rules.specs.Units.{ResumeAck, DiscardAck, Exception, Completed, Unrecognized, CannotRecover}
+use Rattle.mta_transfer_rules.specs.Units.{Accept, Other}
 use Rattle.mta_transfer_rules.specs.Receiving as r
 use Rattle.mta_transfer_rules.specs.Receiving.{RecvStage}
 
@@ -16,7 +18,8 @@ pub each-map : (P Q : LaneUnit → Type 0) (xs : List LaneUnit) → ((x : LaneUn
 each-map P Q [] f e = tt
 each-map P Q (x ∷ xs) f e = (f x e.0, each-map P Q xs f e.1)
 
-pub each-both : (P Q R : LaneUnit → Type 0) (xs : List LaneUnit) → ((x : LaneUnit) → P x → Q x → R x) → Each P xs → Each Q xs → Each R xs
+pub each-both : (P Q R : LaneUnit → Type 0) (xs : List LaneUnit) → ((x : LaneUnit) → P x → Q x → R x) → Each P xs
+    → Each Q xs → Each R xs
 each-both P Q R [] f e g = tt
 each-both P Q R (x ∷ xs) f e g = (f x e.0 g.0, each-both P Q R xs f e.1 g.1)
 
@@ -183,13 +186,16 @@ IsSilent _ = ⊥
 
 -- Facts -----------------------------------------------------------------------------------------
 
-pub begin-snoc : (bad : ℕ → Type 0) (h : ℕ) (xs : List LaneUnit) (x : LaneUnit) → Each (Leftover bad h) xs → Opens h x → HasBegin bad h (xs ++ x ∷ [])
+pub begin-snoc : (bad : ℕ → Type 0) (h : ℕ) (xs : List LaneUnit) (x : LaneUnit) → Each (Leftover bad h) xs → Opens h x
+    → HasBegin bad h (xs ++ x ∷ [])
 begin-snoc bad h [] x e o = inl (o, tt)
 begin-snoc bad h (y ∷ ys) x e o = inr (e.0, begin-snoc bad h ys x e.1 o)
 
-pub begin-more : (bad : ℕ → Type 0) (h : ℕ) (xs : List LaneUnit) (x : LaneUnit) → HasBegin bad h xs → Own h x → HasBegin bad h (xs ++ x ∷ [])
+pub begin-more : (bad : ℕ → Type 0) (h : ℕ) (xs : List LaneUnit) (x : LaneUnit) → HasBegin bad h xs → Own h x
+    → HasBegin bad h (xs ++ x ∷ [])
 begin-more bad h [] x b n = absurd b
-begin-more bad h (y ∷ ys) x b n = elim b [ inl p ↦ inl (p.0, each-snoc (Own h) ys x p.1 n) | inr p ↦ inr (p.0, begin-more bad h ys x p.1 n) ]
+begin-more bad h (y ∷ ys) x b n =
+    elim b [ inl p ↦ inl (p.0, each-snoc (Own h) ys x p.1 n) | inr p ↦ inr (p.0, begin-more bad h ys x p.1 n) ]
 
 pub last-snoc : (h : ℕ) (xs : List LaneUnit) (x : LaneUnit) → Each (NoFinish h) xs → LastOnly h (xs ++ x ∷ [])
 last-snoc h [] x e = ((λ f. refl), tt)
@@ -209,7 +215,8 @@ answered-snoc h [] x e = ((λ f. tt), tt)
 answered-snoc h (y ∷ ys) x e = ((λ f. absurd (e.0 f)), answered-snoc h ys x e.1)
 
 -- what is put once h is settled
-pub answered-more : (h : ℕ) (xs : List LaneUnit) (x : LaneUnit) → Answered h xs → Clean (h + 1) x → Answered h (xs ++ x ∷ [])
+pub answered-more : (h : ℕ) (xs : List LaneUnit) (x : LaneUnit) → Answered h xs → Clean (h + 1) x
+    → Answered h (xs ++ x ∷ [])
 answered-more h [] x a c = ((λ f. tt), tt)
 answered-more h (y ∷ ys) x a c = ((λ f. each-snoc (Clean (h + 1)) ys x (a.0 f) c), answered-more h ys x a.1 c)
 

@@ -9,5 +9,7 @@ pub returns : goal.returns
 unfolding content_type_line
 returns c =
     on_ok_weaker c.extend-2.result
-    (three c.args.out.now (codes "content-type ") (content_kind_text c.args.kind.now) (10 ∷ []) c.extend.new.self c.put_content_kind.new.out c.extend-2.new.self c.in_ok-extend.ensures.ok c.in_ok-put_content_kind.ensures)
+    (three c.args.out.now (codes "content-type ") (content_kind_text c.args.kind.now)
+    (10 ∷ []) c.extend.new.self c.put_content_kind.new.out c.extend-2.new.self c.in_ok-extend.ensures.ok
+    c.in_ok-put_content_kind.ensures)
     c.extend-2.ensures.ok

@@ -10,5 +10,7 @@ pub returns : goal.returns
 unfolding indicators_line
 returns c =
     on_ok_weaker c.extend-2.result
-    (three c.args.out.now (codes "indicators ") (bits_text c.args.indicators) (10 ∷ []) c.extend.new.self c.put_bits.new.out c.extend-2.new.self c.in_ok-extend.ensures.ok c.in_ok-put_bits.ensures)
+    (three c.args.out.now (codes "indicators ") (bits_text c.args.indicators)
+    (10 ∷ []) c.extend.new.self c.put_bits.new.out c.extend-2.new.self c.in_ok-extend.ensures.ok
+    c.in_ok-put_bits.ensures)
     c.extend-2.ensures.ok

@@ -11,8 +11,10 @@ pub returns-clause-ok : goal.returns-clause-ok
 unfolding moment_text
 returns-clause-ok c =
     let moment = c.printed_moment.result in
-    let put = c.in_ok-put_utc.ensures.ok ∙ ap (λ (w : Written). appended w (element (primitive 0 23) (utc_content moment))) c.new-writer.ensures in
+    let put = c.in_ok-put_utc.ensures.ok
+    ∙ ap (λ (w : Written). appended w (element (primitive 0 23) (utc_content moment))) c.new-writer.ensures in
     on_ok_weaker c.extend.result
     (λ e. e ∙ ap (λ x. c.args.out.now ++ x)
-    (c.behind_header.ensures ∙ ap (drop 2) (c.as_slice.ensures ∙ ap (λ (w : Written). w.octets) put) ∙ behind_utc moment ∙ ap utc_content c.printed_moment.ensures.exact))
+    (c.behind_header.ensures ∙ ap (drop 2) (c.as_slice.ensures ∙ ap (λ (w : Written). w.octets) put) ∙ behind_utc moment
+    ∙ ap utc_content c.printed_moment.ensures.exact))
     c.extend.ensures.ok

@@ -13,7 +13,8 @@ abbrev pub decreases-content_of : goal.decreases-content_of
 decreases-content_of l = 3 * (18 - l.depth) + 1
 
 abbrev pub invariant-run_of-row : goal.invariant-run_of-row
-invariant-run_of-row l = Going (run (17 - (l.depth + 1))) (l.depth + 1) l.marked l.at l.used l.bytes (run (17 - l.depth) l.marked l.at l.bytes)
+invariant-run_of-row l = Going (run (17 - (l.depth + 1))) (l.depth + 1) l.marked l.at l.used l.bytes
+    (run (17 - l.depth) l.marked l.at l.bytes)
 
 abbrev pub decreases-run_of-row : goal.decreases-run_of-row
 decreases-run_of-row l = length l.bytes - l.used

@@ -3,4 +3,7 @@ use Rattle.mta_ber.specs.Head.{base}
 use Rattle.mta_ber.proofs.head.tag_number.Given as goal
 
 abbrev pub invariant-loop-octet : goal.invariant-loop-octet
-invariant-loop-octet l = record { value : l.n ≡ base 128 (take l.octet-index l.octets); below : l.n < 128 ^ l.octet-index }
+invariant-loop-octet l = record {
+  value : l.n ≡ base 128 (take l.octet-index l.octets);
+  below : l.n < 128 ^ l.octet-index;
+}

@@ -16,9 +16,11 @@ overflow_cast-result-else-is_negative c =
 pub returns-then-is_negative : goal.returns-then-is_negative
 returns-then-is_negative c =
     let lt = complement_below_half c.args.octets.now c.requires c.if-is_negative.ensures in
-    signed_high c.args.octets.now c.complement_number.result c.if-is_negative.ensures c.complement_number.ensures (omega (arith, lt, c.complement_number.ensures))
+    signed_high c.args.octets.now c.complement_number.result c.if-is_negative.ensures c.complement_number.ensures
+    (omega (arith, lt, c.complement_number.ensures))
 
 pub returns-else-is_negative : goal.returns-else-is_negative
 returns-else-is_negative c =
     let lt = below_half c.args.octets.now c.requires c.if-is_negative.ensures in
-    signed_low c.args.octets.now c.length_number.result c.if-is_negative.ensures c.length_number.ensures (omega (arith, lt, c.length_number.ensures))
+    signed_low c.args.octets.now c.length_number.result c.if-is_negative.ensures c.length_number.ensures
+    (omega (arith, lt, c.length_number.ensures))

@@ -6,4 +6,5 @@ use Rattle.mta_envelope.proofs.content.read_content.Goals as goal
 pub returns-in-Some-clause-exact : goal.returns-in-Some-clause-exact
 returns-in-Some-clause-exact c =
     let v = c.args.part.now in
-    lent_in (view v) c.in-Some.octets v.content v.shallow (sym c.is_tag_of.ensures ∙ c.if-not-is_tag_of.false) refl c.in-Some.ensures.exact
+    lent_in (view v) c.in-Some.octets v.content v.shallow
+    (sym c.is_tag_of.ensures ∙ c.if-not-is_tag_of.false) refl c.in-Some.ensures.exact

@@ -9,7 +9,9 @@ pub returns-clause-lent : goal.returns-clause-lent
 returns-clause-lent c =
     let s = c.in_ok-second.second in
     let p = c.args.parts.now in
-    lent_end c.in_ok-content.content s.content p.left p.left p.at (p.depth + 1) (view s) s.shallow s.bytes c.in_ok-content.ensures.exact c.in_ok-content.ensures.lent refl c.in_ok-second.ensures.place (refl, refl) c.in_ok-second.ensures.found
+    lent_end c.in_ok-content.content s.content p.left p.left p.at (p.depth + 1)
+    (view s) s.shallow s.bytes c.in_ok-content.ensures.exact c.in_ok-content.ensures.lent refl
+    c.in_ok-second.ensures.place (refl, refl) c.in_ok-second.ensures.found
     c.in_ok-alone.ensures.found
 
 pub returns-clause-placed : goal.returns-clause-placed
@@ -17,5 +19,7 @@ returns-clause-placed c =
     let s = c.in_ok-second.second in
     let p = c.args.parts.now in
     subst (IsPlaced (IsLast (p.depth + 1)) p.at p.left c.in_ok-content.content) (sym c.place_of-place.ensures)
-    (placed_last c.in_ok-content.content s.content p.left p.at (p.depth + 1) (view s) s.shallow s.bytes c.in_ok-content.ensures.exact c.in_ok-content.ensures.lent refl c.in_ok-second.ensures.place c.in_ok-second.ensures.found
+    (placed_last c.in_ok-content.content s.content p.left p.at (p.depth + 1)
+    (view s) s.shallow s.bytes c.in_ok-content.ensures.exact c.in_ok-content.ensures.lent refl
+    c.in_ok-second.ensures.place c.in_ok-second.ensures.found
     c.in_ok-alone.ensures.found)

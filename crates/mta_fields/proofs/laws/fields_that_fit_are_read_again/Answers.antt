@@ -1,4 +1,5 @@
-use Rattle.mta_fields.proofs.Definite.{fitting_traces_again, fitting_supplied_again, fitting_extension_fields_again, fitting_expansions_again}
+use Rattle.mta_fields.proofs.Definite.{fitting_traces_again, fitting_supplied_again, fitting_extension_fields_again}
+use Rattle.mta_fields.proofs.Definite.{fitting_expansions_again}
 use Rattle.mta_fields.proofs.laws.fields_that_fit_are_read_again.Goals as goal
 
 pub returns-clause-trace_elements : goal.returns-clause-trace_elements

@@ -1,4 +1,5 @@
-use Rattle.mta_fields.proofs.Kept.{read_identifiers_again, read_traces_again, read_extension_fields_again, read_expansions_again}
+use Rattle.mta_fields.proofs.Kept.{read_identifiers_again, read_traces_again, read_extension_fields_again}
+use Rattle.mta_fields.proofs.Kept.{read_expansions_again}
 use Rattle.mta_fields.proofs.laws.fields_that_were_read_are_read_again.Goals as goal
 
 pub returns-clause-identifiers : goal.returns-clause-identifiers

@@ -1,4 +1,5 @@
-use Rattle.mta_fields.proofs.Definite.{definite_everywhere, trace_fits, supplied_fits, extension_field_fits, expansion_fits}
+use Rattle.mta_fields.proofs.Definite.{definite_everywhere, trace_fits, supplied_fits, extension_field_fits}
+use Rattle.mta_fields.proofs.Definite.{expansion_fits}
 use Rattle.mta_fields.proofs.laws.what_fits_is_kept.Goals as goal
 
 pub returns-clause-definite : goal.returns-clause-definite

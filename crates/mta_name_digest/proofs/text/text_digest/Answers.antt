@@ -1,5 +1,6 @@
 -- Each character of the text is one of the normal text, or a space that may wait.
-use Rattle.std.proofs.Common.{◌≡◌, ◌+◌, ◌<◌, true, false, eqb, ◌∷◌, drop, length, get_or, refl, sym, ap, ◌∙◌, arith, add-one, drop-cons}
+use Rattle.std.proofs.Common.{◌≡◌, ◌+◌, ◌<◌, true, false, eqb, ◌∷◌, drop, length, get_or, refl, sym, ap, ◌∙◌, arith}
+use Rattle.std.proofs.Common.{add-one, drop-cons}
 use Rattle.std.proofs.lemmas.Bool.{ne_eqb}
 use Rattle.mta_names.specs.Normal.{folded, normal_text}
 use Rattle.mta_name_digest.specs.Digests.{digest_step, text_digest}
@@ -23,7 +24,8 @@ loop-c-preserved c =
           let s = w.started-is in
           let v = w.waits-is in
           rw (d, s, v) (
-            sym (spaced_on l.digest l.started l.waits x rest w.if-c-eq32.true) ∙ ap (λ t. text_digest l.digest (still l.started l.waits t)) (sym next) ∙ l.invariant.0,
+            sym (spaced_on l.digest l.started l.waits x rest w.if-c-eq32.true)
+                ∙ ap (λ t. text_digest l.digest (still l.started l.waits t)) (sym next) ∙ l.invariant.0,
             λ e. e,
           ))
       | else-c-eq32 w ↦ (
@@ -35,12 +37,22 @@ loop-c-preserved c =
                 let d : c.if-c-eq32.digest ≡ digest_step (digest_step l.digest 32) (folded x) = cc in
                 let waits : l.waits ≡ true = u.if-waits.true in
                 let started : l.started ≡ true = l.invariant.1 waits in
-                let before : text_digest l.digest (still true true (drop i text)) ≡ text_digest c.args.digest (normal_text text) = rw (started, waits) at l.invariant.0 in
-                rw (d, s, v) (sym (waited_on l.digest x rest other) ∙ ap (λ t. text_digest l.digest (still true true t)) (sym next) ∙ before, λ e. refl))
+                let before : text_digest l.digest (still true true (drop i text)) ≡ text_digest c.args.digest
+                (normal_text text) = rw (started, waits) at l.invariant.0 in
+                rw (d, s, v) (
+                  sym (waited_on l.digest x rest other)
+                      ∙ ap (λ t. text_digest l.digest (still true true t)) (sym next) ∙ before,
+                  λ e. refl,
+                ))
             | else-waits u ↦ (
                 let d : c.if-c-eq32.digest ≡ digest_step l.digest (folded x) = cc in
                 let waits : l.waits ≡ false = u.if-waits.false in
-                let before : text_digest l.digest (still l.started false (drop i text)) ≡ text_digest c.args.digest (normal_text text) = rw waits at l.invariant.0 in
-                rw (d, s, v) (sym (character_on l.digest l.started x rest other) ∙ ap (λ t. text_digest l.digest (still l.started false t)) (sym next) ∙ before, λ e. refl))
+                let before : text_digest l.digest (still l.started false (drop i text)) ≡ text_digest c.args.digest
+                (normal_text text) = rw waits at l.invariant.0 in
+                rw (d, s, v) (
+                  sym (character_on l.digest l.started x rest other)
+                      ∙ ap (λ t. text_digest l.digest (still l.started false t)) (sym next) ∙ before,
+                  λ e. refl,
+                ))
           ])
     ]

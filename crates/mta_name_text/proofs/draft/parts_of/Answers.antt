@@ -8,13 +8,15 @@ use Rattle.mta_name_text.proofs.draft.parts_of.Goals as goal
 pub overflow_cast-result : goal.overflow_cast-result
 unfolding parts_of_text
 overflow_cast-result c =
-    let e : parts_of_text c.args.grammar c.args.text.now ≡ Err c.loop-i.i = first_of (search rules, grind (arith, common_steps)) in
+    let e : parts_of_text c.args.grammar c.args.text.now ≡ Err c.loop-i.i =
+    first_of (search rules, grind (arith, common_steps)) in
     let l = fault_short c.args.grammar c.args.text.now c.loop-i.i e in
     omega arith
 
 pub overflow_cast-result-in-None-2 : goal.overflow_cast-result-in-None-2
 unfolding parts_of_text
 overflow_cast-result-in-None-2 c =
-    let e : parts_of_text c.args.grammar c.args.text.now ≡ Err (length c.args.text.now) = first_of (search rules, grind (arith, common_steps)) in
+    let e : parts_of_text c.args.grammar c.args.text.now ≡ Err (length c.args.text.now) =
+    first_of (search rules, grind (arith, common_steps)) in
     let l = fault_short c.args.grammar c.args.text.now (length c.args.text.now) e in
     omega arith

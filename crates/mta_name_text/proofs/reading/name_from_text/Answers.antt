@@ -9,13 +9,19 @@ pub finished-requires : goal.finished-requires
 finished-requires c = name_fits c.args.text.now c.in-Ok.draft (name_found c.args.text.now c.in-Ok.draft c.in-Ok.ensures)
 
 pub returns-in_ok-name-in-Ok-clause-found : goal.returns-in_ok-name-in-Ok-clause-found
-returns-in_ok-name-in-Ok-clause-found c = name_found c.args.text.now c.in_ok-name-in-Ok.name (c.in-Ok.ensures ∙ ap (λ x. Ok x) (sym c.in_ok-name-in-Ok.ensures))
+returns-in_ok-name-in-Ok-clause-found c =
+    name_found c.args.text.now c.in_ok-name-in-Ok.name
+    (c.in-Ok.ensures ∙ ap (λ x. Ok x) (sym c.in_ok-name-in-Ok.ensures))
 
 pub returns-in_ok-name-in-Ok-clause-only : goal.returns-in_ok-name-in-Ok-clause-only
-returns-in_ok-name-in-Ok-clause-only c = λ n h. c.in_ok-name-in-Ok.ensures ∙ only_read (name_of_text c.args.text.now) (Ok c.in-Ok.draft) n c.in-Ok.ensures (name_read c.args.text.now n h)
+returns-in_ok-name-in-Ok-clause-only c = λ n h. c.in_ok-name-in-Ok.ensures
+    ∙ only_read (name_of_text c.args.text.now) (Ok c.in-Ok.draft) n c.in-Ok.ensures (name_read c.args.text.now n h)
 
 pub returns-in-Err-clause-only : goal.returns-in-Err-clause-only
-returns-in-Err-clause-only c = λ n h. only_read (name_of_text c.args.text.now) (Err c.in-Err.fault) n c.in-Err.ensures (name_read c.args.text.now n h)
+returns-in-Err-clause-only c = λ n h. only_read (name_of_text c.args.text.now) (Err c.in-Err.fault) n c.in-Err.ensures
+    (name_read c.args.text.now n h)
 
 pub returns-in-Err-clause-fault : goal.returns-in-Err-clause-fault
-returns-in-Err-clause-fault c = λ at e. name_fault c.args.text.now at (fault_read_as (name_of_text c.args.text.now) (Err c.in-Err.fault) at c.in-Err.ensures e)
+returns-in-Err-clause-fault c =
+    λ at e. name_fault c.args.text.now at
+    (fault_read_as (name_of_text c.args.text.now) (Err c.in-Err.fault) at c.in-Err.ensures e)

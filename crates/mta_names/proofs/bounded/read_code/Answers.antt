@@ -6,4 +6,5 @@ use Rattle.mta_names.proofs.bounded.read_code.Goals as goal
 pub invariant_of-result : goal.invariant_of-result
 invariant_of-result c =
     let v = c.args.part.now in
-    number_small 0 32767 c.in_ok-number.number v.tag.constructed v.content.now (number_sound 0 32767 c.in_ok-number.number (view v) (sym c.in_ok-number.ensures))
+    number_small 0 32767 c.in_ok-number.number v.tag.constructed v.content.now
+    (number_sound 0 32767 c.in_ok-number.number (view v) (sym c.in_ok-number.ensures))

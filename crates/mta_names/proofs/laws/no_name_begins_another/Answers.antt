@@ -21,7 +21,8 @@ pub returns-clause-countries : goal.returns-clause-countries
 returns-clause-countries c = none_begins country_in (SpellsLabel IsCountry) (λ v p d h. country_full v p h)
 
 pub returns-clause-labels : goal.returns-clause-labels
-returns-clause-labels c = λ low high. none_begins (label_in low high) (SpellsLabel (IsLabel low high)) (λ v p d h. label_full low high v p h)
+returns-clause-labels c = λ low high. none_begins (label_in low high) (SpellsLabel (IsLabel low high))
+    (λ v p d h. label_full low high v p h)
 
 pub returns-clause-personal_names : goal.returns-clause-personal_names
 returns-clause-personal_names c = none_begins person_in SpellsPerson (λ v p d h. person_full v p h)

@@ -2,4 +2,10 @@ use Rattle.mta_procedures.proofs.RelayLaws.{relayed_messages, relayed_probes, re
 use Rattle.mta_procedures.proofs.ends.what_is_relayed_has_copies.Goals as goal
 
 pub returns : goal.returns
-returns c = record { messages = relayed_messages; probes = relayed_probes; reports = relayed_reports; same = report_copies_same }
+returns c = record {
+  messages = relayed_messages;
+  probes = relayed_probes;
+  reports = relayed_reports;
+  same =
+      report_copies_same;
+}

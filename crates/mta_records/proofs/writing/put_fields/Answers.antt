@@ -38,11 +38,13 @@ put_snapshot-requires c = subst (λ (s : Step). HasFields s) c.in-Snapshot.is c.
 pub returns-in-Accept : goal.returns-in-Accept
 returns-in-Accept c =
     with_fields c.put_accept.result c.args.out.now c.put_accept.new.out _ _
-    (ap (λ (a : List ℕ). fields_of (Accept c.in-Accept.moment a)) c.as_slice-in-Accept.ensures ∙ sym (ap fields_of c.in-Accept.is)) c.put_accept.ensures
+    (ap (λ (a : List ℕ). fields_of (Accept c.in-Accept.moment a)) c.as_slice-in-Accept.ensures
+    ∙ sym (ap fields_of c.in-Accept.is)) c.put_accept.ensures
 
 pub returns-in_ok-put_lane_name-in-LaneOpen : goal.returns-in_ok-put_lane_name-in-LaneOpen
 returns-in_ok-put_lane_name-in-LaneOpen c =
-    with_fields c.put_lane_terms.result c.args.out.now c.put_lane_terms.new.out _ _ (sym (ap fields_of c.in-LaneOpen.is))
+    with_fields c.put_lane_terms.result c.args.out.now c.put_lane_terms.new.out _ _
+    (sym (ap fields_of c.in-LaneOpen.is))
     (last_of_two c.put_lane_terms.result c.args.out.now
     (lane_name_octets (c.in-LaneOpen.role, (c.in-LaneOpen.peer, c.in-LaneOpen.reference)))
     (a_truth.spelled c.in-LaneOpen.twa
@@ -58,7 +60,8 @@ returns-in-LaneAgree c =
 pub returns-in-Start : goal.returns-in-Start
 returns-in-Start c =
     with_fields c.put_start.result c.args.out.now c.put_start.new.out _ _
-    (ap (λ (a : List ℕ). fields_of (Start c.in-Start.lane c.in-Start.generation c.in-Start.activity c.in-Start.item a c.in-Start.moment)) c.as_slice-in-Start.ensures ∙ sym (ap fields_of c.in-Start.is)) c.put_start.ensures
+    (ap (λ (a : List ℕ). fields_of (Start c.in-Start.lane c.in-Start.generation c.in-Start.activity c.in-Start.item a
+    c.in-Start.moment)) c.as_slice-in-Start.ensures ∙ sym (ap fields_of c.in-Start.is)) c.put_start.ensures
 
 pub returns-in-Refused : goal.returns-in-Refused
 returns-in-Refused c =
@@ -68,12 +71,15 @@ returns-in-Refused c =
 pub returns-in-Secure : goal.returns-in-Secure
 returns-in-Secure c =
     with_fields c.put_secure.result c.args.out.now c.put_secure.new.out _ _
-    (ap (λ (a : List ℕ). fields_of (Secure c.in-Secure.lane c.in-Secure.generation c.in-Secure.activity c.in-Secure.number a)) c.as_slice-in-Secure.ensures ∙ sym (ap fields_of c.in-Secure.is)) c.put_secure.ensures
+    (ap (λ (a : List ℕ). fields_of (Secure c.in-Secure.lane c.in-Secure.generation c.in-Secure.activity
+    c.in-Secure.number a)) c.as_slice-in-Secure.ensures ∙ sym (ap fields_of c.in-Secure.is)) c.put_secure.ensures
 
 pub returns-in-Complete : goal.returns-in-Complete
 returns-in-Complete c =
     with_fields c.put_complete.result c.args.out.now c.put_complete.new.out _ _
-    (ap (λ (a : List ℕ). fields_of (Complete c.in-Complete.lane c.in-Complete.generation c.in-Complete.activity c.in-Complete.number a c.in-Complete.moment)) c.as_slice-in-Complete.ensures ∙ sym (ap fields_of c.in-Complete.is)) c.put_complete.ensures
+    (ap (λ (a : List ℕ). fields_of (Complete c.in-Complete.lane c.in-Complete.generation c.in-Complete.activity
+    c.in-Complete.number a c.in-Complete.moment)) c.as_slice-in-Complete.ensures
+    ∙ sym (ap fields_of c.in-Complete.is)) c.put_complete.ensures
 
 pub returns-in-Sent : goal.returns-in-Sent
 returns-in-Sent c =

@@ -7,4 +7,5 @@ pub returns-else-is_complete : goal.returns-else-is_complete
 returns-else-is_complete c =
     let s = c.args.parts in
     let absent : envelope_complete s ≡ false = sym c.is_complete.ensures ∙ c.if-is_complete.false in
-    rw c.bad.ensures (one_of_three s.destination s.id s.trace (λ x0 x1 x2. Ok (report_envelope x0 x1 x2 s)) c.args.at absent)
+    rw c.bad.ensures (one_of_three s.destination s.id s.trace
+    (λ x0 x1 x2. Ok (report_envelope x0 x1 x2 s)) c.args.at absent)

@@ -9,4 +9,5 @@ unfolding envelope_in
 returns-in_err-take_parts c =
     let v = view c.args.whole.now in
     let p = err_from_is_err_and c.from_residual.result c.from_residual.ensures.1 in
-    rw (p.1, p.2) (parts_fail envelope_step no_envelope (λ s. envelope_from s v.at) c.in_err-take_parts.field-0.0 v c.if-not-whole.false c.in_err-take_parts.ensures)
+    rw (p.1, p.2) (parts_fail envelope_step no_envelope (λ s. envelope_from s v.at) c.in_err-take_parts.field-0.0 v
+    c.if-not-whole.false c.in_err-take_parts.ensures)

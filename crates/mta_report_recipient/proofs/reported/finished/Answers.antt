@@ -7,4 +7,5 @@ pub returns-else-is_complete : goal.returns-else-is_complete
 returns-else-is_complete c =
     let s = c.args.parts in
     let absent : reported_complete s ≡ false = sym c.is_complete.ensures ∙ c.if-is_complete.false in
-    rw c.bad.ensures (one_of_four s.name s.number s.indicators s.last (λ x0 x1 x2 x3. Ok (reported x0 x1 x2 x3 s)) c.args.at absent)
+    rw c.bad.ensures (one_of_four s.name s.number s.indicators s.last
+    (λ x0 x1 x2 x3. Ok (reported x0 x1 x2 x3 s)) c.args.at absent)

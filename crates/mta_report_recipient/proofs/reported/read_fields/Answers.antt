@@ -10,4 +10,6 @@ unfolding reported_in
 returns-in_err-take_parts c =
     let v = view c.args.whole.now in
     let p = err_from_is_err_and c.from_residual.result c.from_residual.ensures.1 in
-    rw (p.1, p.2) (parts_under_fail 0 17 reported_step no_reported (λ s. reported_from s v.at) c.in_err-take_parts.field-0.0 v (sym c.is_constructed_tag.ensures ∙ c.if-not-is_constructed_tag.false) c.in_err-take_parts.ensures)
+    rw (p.1, p.2) (parts_under_fail 0 17 reported_step no_reported
+    (λ s. reported_from s v.at) c.in_err-take_parts.field-0.0 v
+    (sym c.is_constructed_tag.ensures ∙ c.if-not-is_constructed_tag.false) c.in_err-take_parts.ensures)

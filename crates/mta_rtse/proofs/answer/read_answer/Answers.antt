@@ -8,7 +8,8 @@ use Rattle.mta_rtse.proofs.answer.read_answer.Goals as goal
 pub returns-clause-found : goal.returns-clause-found
 returns-clause-found c =
     let v = c.args.whole.now in
-    reads_found (SpellsRtoac v.depth v.tag v.content.now v.octets.now) c.answer_from.result (rtoac_in (view v)) c.answer_from.ensures (λ x e. rtoac_found x (view v) v.bytes e)
+    reads_found (SpellsRtoac v.depth v.tag v.content.now v.octets.now) c.answer_from.result
+    (rtoac_in (view v)) c.answer_from.ensures (λ x e. rtoac_found x (view v) v.bytes e)
 
 pub returns-clause-only : goal.returns-clause-only
 returns-clause-only c = λ x h.

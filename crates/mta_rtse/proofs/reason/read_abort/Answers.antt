@@ -8,7 +8,8 @@ use Rattle.mta_rtse.proofs.reason.read_abort.Goals as goal
 pub returns-clause-found : goal.returns-clause-found
 returns-clause-found c =
     let v = c.args.whole.now in
-    reads_found (SpellsRtab v.depth v.tag v.content.now v.octets.now) c.abort_from.result (rtab_in (view v)) c.abort_from.ensures (λ x e. rtab_found x (view v) v.bytes e)
+    reads_found (SpellsRtab v.depth v.tag v.content.now v.octets.now) c.abort_from.result
+    (rtab_in (view v)) c.abort_from.ensures (λ x e. rtab_found x (view v) v.bytes e)
 
 pub returns-clause-only : goal.returns-clause-only
 returns-clause-only c = λ x h.

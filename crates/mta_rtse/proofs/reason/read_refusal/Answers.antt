@@ -8,7 +8,8 @@ use Rattle.mta_rtse.proofs.reason.read_refusal.Goals as goal
 pub returns-clause-found : goal.returns-clause-found
 returns-clause-found c =
     let v = c.args.whole.now in
-    reads_found (SpellsRtorj v.depth v.tag v.content.now v.octets.now) c.refusal_from.result (rtorj_in (view v)) c.refusal_from.ensures (λ x e. rtorj_found x (view v) v.bytes e)
+    reads_found (SpellsRtorj v.depth v.tag v.content.now v.octets.now) c.refusal_from.result
+    (rtorj_in (view v)) c.refusal_from.ensures (λ x e. rtorj_found x (view v) v.bytes e)
 
 pub returns-clause-only : goal.returns-clause-only
 returns-clause-only c = λ x h.

@@ -12,5 +12,8 @@ returns-in-Bad-clause-ends g c =
 pub returns-then-not-branch-clause-ends : goal.returns-then-not-branch-clause-ends
 returns-then-not-branch-clause-ends g c =
     let said = subst (λ (n : Next). Says n c.read_next.new.frames) c.in-More.is c.in_ok-unit.ensures.says in
-    fill_ends g.L.Link.model (g.L.Link.model.faults c.args.link.now) (g.L.Link.model.faults c.loop-unit.link) c.in_ok-fill-in-More.field-0 c.read_next.new.frames c.fill.new.frames c.fill.new.link
-    c.loop-unit.invariant.later c.if-not-branch.true said c.in_ok-fill-in-More.ensures.fed c.in_ok-fill-in-More.ensures.over
+    fill_ends g.L.Link.model (g.L.Link.model.faults c.args.link.now)
+    (g.L.Link.model.faults c.loop-unit.link) c.in_ok-fill-in-More.field-0 c.read_next.new.frames c.fill.new.frames
+    c.fill.new.link
+    c.loop-unit.invariant.later c.if-not-branch.true said c.in_ok-fill-in-More.ensures.fed
+    c.in_ok-fill-in-More.ensures.over

@@ -6,7 +6,9 @@ use Rattle.mta_session_run.proofs.get.get_unit.Given as goal
 
 abbrev pub invariant-loop-unit : goal.invariant-loop-unit
 invariant-loop-unit g l = record {
-  carried : (since : Option Talk) (us : List AnyUnit) (octets : List ℕ) → Leads (Carried us octets l.fn.frames) since (g.L.Link.model.talk l.fn.link) → Leads (Carried us octets l.frames) since (g.L.Link.model.talk l.link);
+  carried : (since : Option Talk) (us : List AnyUnit) (octets : List ℕ)
+      → Leads (Carried us octets l.fn.frames) since (g.L.Link.model.talk l.fn.link)
+      → Leads (Carried us octets l.frames) since (g.L.Link.model.talk l.link);
   later : g.L.Link.model.faults l.fn.link ≤ g.L.Link.model.faults l.link;
 }
 

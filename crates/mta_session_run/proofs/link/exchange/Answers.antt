@@ -3,4 +3,5 @@ use Rattle.mta_session_run.proofs.link.exchange.Goals as goal
 
 pub returns-in_err-put-in-Put-clause-short : goal.returns-in_err-put-in-Put-clause-short
 returns-in_err-put-in-Put-clause-short g c =
-    on_err _ _ (put_undone g.L.Link.model c.args.action c.in-Put.unit c.args.link.now c.args.frames.now c.put.new.link c.in-Put.is c.in_err-put-in-Put.ensures.none)
+    on_err _ _ (put_undone g.L.Link.model c.args.action c.in-Put.unit c.args.link.now c.args.frames.now c.put.new.link
+    c.in-Put.is c.in_err-put-in-Put.ensures.none)

@@ -1,5 +1,9 @@
 use Rattle.mta_set_laws.proofs.InAnyOrder.{supplied_information_in_any_order}
-use Rattle.mta_set_laws.proofs.InAnyOrder.{personal_names_in_any_order, deliveries_in_any_order, non_deliveries_in_any_order, last_traces_in_any_order, reported_recipients_in_any_order, report_envelopes_in_any_order, report_contents_in_any_order, recipients_in_any_order, envelopes_in_any_order}
+use Rattle.mta_set_laws.proofs.InAnyOrder.{personal_names_in_any_order, deliveries_in_any_order}
+use Rattle.mta_set_laws.proofs.InAnyOrder.{non_deliveries_in_any_order, last_traces_in_any_order}
+use Rattle.mta_set_laws.proofs.InAnyOrder.{reported_recipients_in_any_order, report_envelopes_in_any_order}
+use Rattle.mta_set_laws.proofs.InAnyOrder.{report_contents_in_any_order, recipients_in_any_order}
+use Rattle.mta_set_laws.proofs.InAnyOrder.{envelopes_in_any_order}
 use Rattle.mta_set_laws.proofs.laws.components_stand_in_any_order.Goals as goal
 
 pub returns-clause-personal_names : goal.returns-clause-personal_names

@@ -1,4 +1,5 @@
-use Rattle.mta_set_laws.proofs.UnitsInAnyOrder.{binds_in_any_order, requests_in_any_order, answers_in_any_order, reasons_in_any_order}
+use Rattle.mta_set_laws.proofs.UnitsInAnyOrder.{binds_in_any_order, requests_in_any_order, answers_in_any_order}
+use Rattle.mta_set_laws.proofs.UnitsInAnyOrder.{reasons_in_any_order}
 use Rattle.mta_set_laws.proofs.unit_laws.components_of_units_stand_in_any_order.Goals as goal
 
 pub returns-clause-binds : goal.returns-clause-binds

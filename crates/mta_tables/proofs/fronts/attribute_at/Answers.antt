@@ -15,4 +15,5 @@ returns-else-place-eq3 c =
     let e = c.if-place-eq3.false in
     let four : 4 ≤ c.args.place = omega (arith, a, b, d, e) in
     c.unit_at.ensures ∙ ap (λ (us : List (List ℕ)). slice_get us (c.args.place - 4)) c.as_slice.ensures
-    ∙ sym (unit_behind (option_map label_text n.country) (option_map label_text n.admd) (option_map label_text n.prmd) n.organization n.units c.args.place four)
+    ∙ sym (unit_behind (option_map label_text n.country) (option_map label_text n.admd)
+    (option_map label_text n.prmd) n.organization n.units c.args.place four)

@@ -6,7 +6,13 @@ use Rattle.mta_ber.proofs.utc.LineGathers.take.Goals as goal
 
 pub loop-octet-init : goal.loop-octet-init
 loop-octet-init c =
-    let few : length c.args.self.now ≤ 18 = omega (arith, ap length (sym c.self.view_is), length-take c.self.inside.count c.self.inside.octets, c.self.invariant) in
+    let few : length c.args.self.now ≤ 18 =
+    omega (
+      arith,
+      ap length (sym c.self.view_is),
+      length-take c.self.inside.count c.self.inside.octets,
+      c.self.invariant,
+    ) in
     sym (ap kept (append-nil c.args.self.now) ∙ kept_all c.args.self.now few)
 
 pub loop-octet-preserved : goal.loop-octet-preserved

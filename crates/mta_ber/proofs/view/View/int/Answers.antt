@@ -11,7 +11,9 @@ returns-clause-found c =
     let low : FitsSigned w64 c.args.low = c.ranges.low in
     let high : FitsSigned w64 c.args.high = c.ranges.high in
     let exact = simp to_z-of_z at c.int_of.ensures.exact in
-    given_found (SpellsInteger c.args.low c.args.high v.tag.constructed v.content.now) c.int_of.result (int_in v.at v.tag.constructed c.args.low c.args.high v.content.now) exact (λ n e. int_sound v.at v.tag.constructed c.args.low c.args.high v.content.now n e)
+    given_found (SpellsInteger c.args.low c.args.high v.tag.constructed v.content.now) c.int_of.result
+    (int_in v.at v.tag.constructed c.args.low c.args.high v.content.now) exact
+    (λ n e. int_sound v.at v.tag.constructed c.args.low c.args.high v.content.now n e)
 
 pub returns-clause-only : goal.returns-clause-only
 returns-clause-only c = λ n h.

@@ -12,8 +12,12 @@ returns-in_err-line-clause-exact c =
 
 pub returns-in-None-clause-exact : goal.returns-in-None-clause-exact
 returns-in-None-clause-exact c =
-    sym (utc_line (view c.args.self.now) c.in_ok-line.line (sym c.in_ok-line.ensures) ∙ ap (λ t. timed c.args.self.now.at (moment_of t)) (sym c.as_slice.ensures) ∙ ap (timed c.args.self.now.at) (sym c.moment_of_text.ensures.exact ∙ c.in-None.is))
+    sym (utc_line (view c.args.self.now) c.in_ok-line.line (sym c.in_ok-line.ensures)
+    ∙ ap (λ t. timed c.args.self.now.at (moment_of t)) (sym c.as_slice.ensures)
+    ∙ ap (timed c.args.self.now.at) (sym c.moment_of_text.ensures.exact ∙ c.in-None.is))
 
 pub returns-in-Some-clause-exact : goal.returns-in-Some-clause-exact
 returns-in-Some-clause-exact c =
-    sym (utc_line (view c.args.self.now) c.in_ok-line.line (sym c.in_ok-line.ensures) ∙ ap (λ t. timed c.args.self.now.at (moment_of t)) (sym c.as_slice.ensures) ∙ ap (timed c.args.self.now.at) (sym c.moment_of_text.ensures.exact ∙ c.in-Some.is))
+    sym (utc_line (view c.args.self.now) c.in_ok-line.line (sym c.in_ok-line.ensures)
+    ∙ ap (λ t. timed c.args.self.now.at (moment_of t)) (sym c.as_slice.ensures)
+    ∙ ap (timed c.args.self.now.at) (sym c.moment_of_text.ensures.exact ∙ c.in-Some.is))

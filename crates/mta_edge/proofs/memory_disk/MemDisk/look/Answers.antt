@@ -6,4 +6,5 @@ pub returns-clause-crash : goal.returns-clause-crash
 returns-clause-crash c = logged_look _ _ _ c.self.view_is c.in_ok-log.ensures.logged c.log.ensures.octets
 
 pub returns-in_err-log-clause-crash : goal.returns-in_err-log-clause-crash
-returns-in_err-log-clause-crash c = unlogged_from _ _ _ c.self.view_is _ c.in_err-log.ensures.refused c.log.ensures.octets (λ f. refl)
+returns-in_err-log-clause-crash c =
+    unlogged_from _ _ _ c.self.view_is _ c.in_err-log.ensures.refused c.log.ensures.octets (λ f. refl)

@@ -8,4 +8,5 @@ pub returns-clause-crash : goal.returns-clause-crash
 returns-clause-crash c = logged_sync _ _ _ c.self.view_is c.in_ok-log-2.ensures.logged c.log-2.ensures.octets
 
 pub returns-clause-settled : goal.returns-clause-settled
-returns-clause-settled c = settled_sync _ c.args.self.now c.log-2.new.self c.self.view_is c.in_ok-log-2.ensures.logged c.log-2.ensures.octets
+returns-clause-settled c = settled_sync _ c.args.self.now c.log-2.new.self c.self.view_is c.in_ok-log-2.ensures.logged
+    c.log-2.ensures.octets

@@ -3,10 +3,14 @@ use Rattle.mta_edge.proofs.Logged.{logged_sync, settled_sync, unlogged_from}
 use Rattle.mta_edge.proofs.safe_disk.SafeDiskDisk.sync.Goals as goal
 
 pub returns-clause-crash : goal.returns-clause-crash
-returns-clause-crash c = logged_sync c.args.self.now c.args.self.now c.note.new.self refl c.in_ok-note.ensures.logged c.note.ensures.octets
+returns-clause-crash c = logged_sync c.args.self.now c.args.self.now c.note.new.self refl c.in_ok-note.ensures.logged
+    c.note.ensures.octets
 
 pub returns-clause-settled : goal.returns-clause-settled
-returns-clause-settled c = settled_sync c.args.self.now c.args.self.now c.note.new.self refl c.in_ok-note.ensures.logged c.note.ensures.octets
+returns-clause-settled c = settled_sync c.args.self.now c.args.self.now c.note.new.self refl c.in_ok-note.ensures.logged
+    c.note.ensures.octets
 
 pub returns-in_err-note-clause-crash : goal.returns-in_err-note-clause-crash
-returns-in_err-note-clause-crash c = unlogged_from c.args.self.now c.args.self.now c.note.new.self refl _ c.in_err-note.ensures.refused c.note.ensures.octets (λ f. refl)
+returns-in_err-note-clause-crash c =
+    unlogged_from c.args.self.now c.args.self.now c.note.new.self refl _ c.in_err-note.ensures.refused
+    c.note.ensures.octets (λ f. refl)

@@ -13,7 +13,9 @@ pub returns-in-Ok-clause-found : goal.returns-in-Ok-clause-found
 returns-in-Ok-clause-found c = let v = c.args.whole.now in trace_sound c.in-Ok.fields (view v) v.bytes c.in-Ok.ensures
 
 pub returns-in-Ok-clause-only : goal.returns-in-Ok-clause-only
-returns-in-Ok-clause-only c = λ n h. let v = c.args.whole.now in ok_as (trace_in (view v)) c.in-Ok.fields n c.in-Ok.ensures (trace_full n (view v) h)
+returns-in-Ok-clause-only c = λ n h. let v = c.args.whole.now in
+    ok_as (trace_in (view v)) c.in-Ok.fields n c.in-Ok.ensures (trace_full n (view v) h)
 
 pub returns-in-Err-clause-only : goal.returns-in-Err-clause-only
-returns-in-Err-clause-only c = λ n h. let v = c.args.whole.now in fails_as c.in-Err.fault (trace_in (view v)) n c.in-Err.ensures (trace_full n (view v) h)
+returns-in-Err-clause-only c = λ n h. let v = c.args.whole.now in
+    fails_as c.in-Err.fault (trace_in (view v)) n c.in-Err.ensures (trace_full n (view v) h)

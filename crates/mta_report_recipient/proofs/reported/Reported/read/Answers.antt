@@ -7,13 +7,17 @@ use Rattle.mta_report_recipient.proofs.reported.Reported.read.Goals as goal
 pub invariant_of-result : goal.invariant_of-result
 invariant_of-result c =
     let v = c.args.whole.now in
-    reported_is v.depth v.tag v.content.now c.in-Ok.fields (reported_sound c.in-Ok.fields (view v) v.bytes c.in-Ok.ensures)
+    reported_is v.depth v.tag v.content.now c.in-Ok.fields
+    (reported_sound c.in-Ok.fields (view v) v.bytes c.in-Ok.ensures)
 
 pub returns-in-Ok-clause-found : goal.returns-in-Ok-clause-found
-returns-in-Ok-clause-found c = let v = c.args.whole.now in reported_sound c.in-Ok.fields (view v) v.bytes c.in-Ok.ensures
+returns-in-Ok-clause-found c = let v = c.args.whole.now in
+    reported_sound c.in-Ok.fields (view v) v.bytes c.in-Ok.ensures
 
 pub returns-in-Ok-clause-only : goal.returns-in-Ok-clause-only
-returns-in-Ok-clause-only c = λ n h. let v = c.args.whole.now in ok_as (reported_in (view v)) c.in-Ok.fields n c.in-Ok.ensures (reported_full n (view v) h)
+returns-in-Ok-clause-only c = λ n h. let v = c.args.whole.now in
+    ok_as (reported_in (view v)) c.in-Ok.fields n c.in-Ok.ensures (reported_full n (view v) h)
 
 pub returns-in-Err-clause-only : goal.returns-in-Err-clause-only
-returns-in-Err-clause-only c = λ n h. let v = c.args.whole.now in fails_as c.in-Err.fault (reported_in (view v)) n c.in-Err.ensures (reported_full n (view v) h)
+returns-in-Err-clause-only c = λ n h. let v = c.args.whole.now in
+    fails_as c.in-Err.fault (reported_in (view v)) n c.in-Err.ensures (reported_full n (view v) h)

@@ -8,5 +8,6 @@ split_seat-other-requires g c =
     let p = ap (λ h. h.parts) s.0 in (
       ap (λ h. h.lock) s.0 ∙ c.requires.ready.0,
       omega (arith, c.args.self.now.sized.0),
-      splits g.V.Historied.first g.V.Historied.entries g.V.Historied.meets _ _ s.1.free (omega (arith, p, c.requires.parts)),
+      splits g.V.Historied.first g.V.Historied.entries g.V.Historied.meets _ _ s.1.free
+          (omega (arith, p, c.requires.parts)),
     )

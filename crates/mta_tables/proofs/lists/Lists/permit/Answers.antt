@@ -17,7 +17,8 @@ returns-in_ok-push-in-Some c =
     let i = c.in-Some.place in
     let l = c.index_mut.result.now in
     let v = c.self.view_is in
-    let place : position (has_list_word w) ls ≡ Some i = ap (position (has_list_word w)) v ∙ sym c.in-Some.ensures.exact in
+    let place : position (has_list_word w) ls ≡ Some i = ap (position (has_list_word w)) v
+    ∙ sym c.in-Some.ensures.exact in
     let bound = c.in-Some.ensures.bound in
     let within : i < length ls = omega (arith, ap length v) in
     let at = at_index ls i l within c.index_mut.ensures.value in

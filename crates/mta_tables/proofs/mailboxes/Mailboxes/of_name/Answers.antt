@@ -10,5 +10,7 @@ pub returns-then-is_whole : goal.returns-then-is_whole
 returns-then-is_whole c =
     let n = c.args.name.now in
     let places = c.self.inside.names in
-    found_by (is_of_mailbox n) mailbox_name (digest_of_name n) c.self.inside.inner.items c.args.self.now places c.of.result c.checked_name.result
-    c.self.view_is c.self.invariant.2 (sym c.is_whole.ensures ∙ c.if-is_whole.true) (λ m h. same_name_digest m.name n h) (c.of.ensures ∙ ap (place_of places) c.name_digest.ensures) c.checked_name.ensures
+    found_by (is_of_mailbox n) mailbox_name (digest_of_name n) c.self.inside.inner.items c.args.self.now places
+    c.of.result c.checked_name.result
+    c.self.view_is c.self.invariant.2 (sym c.is_whole.ensures ∙ c.if-is_whole.true) (λ m h. same_name_digest m.name n h)
+    (c.of.ensures ∙ ap (place_of places) c.name_digest.ensures) c.checked_name.ensures

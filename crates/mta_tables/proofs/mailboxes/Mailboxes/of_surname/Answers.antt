@@ -11,5 +11,7 @@ pub returns-then-is_whole : goal.returns-then-is_whole
 returns-then-is_whole c =
     let n = name_of_surname c.args.country.now c.args.admd.now c.args.surname.now in
     let places = c.self.inside.names in
-    found_by (is_of_mailbox n) mailbox_name (digest_of_name n) c.self.inside.inner.items c.args.self.now places c.of-said.result c.checked_surname.result
-    c.self.view_is c.self.invariant.2 (sym c.is_whole.ensures ∙ c.if-is_whole.true) (λ m h. same_name_digest m.name n h) (c.of-said.ensures ∙ ap (place_of places) c.surname_digest.ensures) c.checked_surname.ensures
+    found_by (is_of_mailbox n) mailbox_name (digest_of_name n) c.self.inside.inner.items c.args.self.now places
+    c.of-said.result c.checked_surname.result
+    c.self.view_is c.self.invariant.2 (sym c.is_whole.ensures ∙ c.if-is_whole.true) (λ m h. same_name_digest m.name n h)
+    (c.of-said.ensures ∙ ap (place_of places) c.surname_digest.ensures) c.checked_surname.ensures

@@ -10,5 +10,7 @@ pub returns-then-is_whole : goal.returns-then-is_whole
 returns-then-is_whole c =
     let w = c.args.word.now in
     let places = c.self.inside.words in
-    found_by (has_mailbox_word w) mailbox_word (word_digest w) c.self.inside.inner.items c.args.self.now places c.of.result c.checked_word.result
-    c.self.view_is c.self.invariant.1 (sym c.is_whole.ensures ∙ c.if-is_whole.true) (λ m h. same_word_digest m.word w h) (c.of.ensures ∙ ap (place_of places) c.octets_digest.ensures) c.checked_word.ensures
+    found_by (has_mailbox_word w) mailbox_word (word_digest w) c.self.inside.inner.items c.args.self.now places
+    c.of.result c.checked_word.result
+    c.self.view_is c.self.invariant.1 (sym c.is_whole.ensures ∙ c.if-is_whole.true) (λ m h. same_word_digest m.word w h)
+    (c.of.ensures ∙ ap (place_of places) c.octets_digest.ensures) c.checked_word.ensures

@@ -3,7 +3,8 @@ use Rattle.std.proofs.Common.{◌≡◌, ℕ, ◌+◌, ◌≤◌, Option, sym, a
 use Rattle.std.specs.Option.{option_copied}
 use Rattle.mta_name_text.specs.Routes.{route_attributes}
 use Rattle.mta_tables.specs.Fronts.{or_shorter, route_at}
-use Rattle.mta_tables.proofs.FrontLaws.{front_first, front_has, front_step, best_step, best_is, none_past, none_past_eight, NoLonger}
+use Rattle.mta_tables.proofs.FrontLaws.{front_first, front_has, front_step, best_step, best_is, none_past}
+use Rattle.mta_tables.proofs.FrontLaws.{none_past_eight, NoLonger}
 use Rattle.mta_tables.proofs.routes.Routes.best.Goals as goal
 
 pub of_front-requires : goal.of_front-requires
@@ -55,4 +56,5 @@ returns c =
     let within = l.invariant.0 in
     let eight : 8 ≡ l.place = omega (arith, past, within) in
     ap (route_at routes) l.invariant.2
-    ∙ best_is routes n l.place c.have_parts.ensures (subst (NoLonger routes n) eight (none_past_eight routes n c.attributes-attributes.ensures.name))
+    ∙ best_is routes n l.place c.have_parts.ensures
+    (subst (NoLonger routes n) eight (none_past_eight routes n c.attributes-attributes.ensures.name))

@@ -11,5 +11,7 @@ returns-then-is_whole c =
     let n = c.args.name.now in
     let count = c.args.count in
     let d = c.args.digest in
-    found_by (is_route_of count n) route_pattern d c.self.inside.inner.items c.args.self.now c.self.inside.patterns c.of.result c.checked_route.result
-    c.self.view_is c.self.invariant.2 (sym c.is_whole.ensures ∙ c.if-is_whole.true) (route_front n count d c.requires) c.of.ensures c.checked_route.ensures
+    found_by (is_route_of count n) route_pattern d c.self.inside.inner.items c.args.self.now c.self.inside.patterns
+    c.of.result c.checked_route.result
+    c.self.view_is c.self.invariant.2 (sym c.is_whole.ensures ∙ c.if-is_whole.true)
+    (route_front n count d c.requires) c.of.ensures c.checked_route.ensures

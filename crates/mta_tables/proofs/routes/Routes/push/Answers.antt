@@ -33,10 +33,12 @@ invariant_of-self-2 c =
     let place : c.len-place.result ≡ length rs = omega (arith, c.len-place.ensures, size) in
     let few : length rs < 4096 = omega (arith, c.requires, ap length c.self.view_is) in
     let items : c.push.new.self.items ≡ rs ++ r ∷ [] = cc c.in_ok-push.ensures.items in
-    let digest = c.texts_digest-digest.ensures ∙ ap (λ (ps : List (List ℕ)). texts_digest 0 (map normal_text ps)) c.parts.ensures.exact in
+    let digest = c.texts_digest-digest.ensures
+    ∙ ap (λ (ps : List (List ℕ)). texts_digest 0 (map normal_text ps)) c.parts.ensures.exact in
     subst (λ (xs : List Route). (length xs ≤ 4096) × HaveParts xs × IsIndex route_pattern xs patterns) (sym items) (
       omega (arith, few, length-append rs (r ∷ [])),
       parts_more rs r inv.1 c.parts.ensures.pattern.some,
-      index_put route_pattern rs r c.texts_digest-digest.result c.len-place.result c.self.inside.patterns patterns digest
+      index_put route_pattern rs r c.texts_digest-digest.result c.len-place.result c.self.inside.patterns patterns
+          digest
           place inv.2 c.in_ok-add.ensures.ok,
     )

@@ -12,7 +12,8 @@ returns c =
     let t = c.args.self.now in
     let w = c.args.word.now in
     let exact = c.of_word.ensures ∙ ap (λ (t : TablesValue). peer_of t w) c.self.view_is in
-    let whole = subst AreTables c.self.view_is (are_whole c.self.inside.text (tables c.self.inside.text c.self.inside.lines) c.self.invariant) in
+    let whole = subst AreTables c.self.view_is
+    (are_whole c.self.inside.text (tables c.self.inside.text c.self.inside.lines) c.self.invariant) in
     let found = subst (IsPeerAt t w) (sym exact) (peer_found t w) in
     record {
       exact = exact;
