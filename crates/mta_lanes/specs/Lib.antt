@@ -1,4 +1,5 @@
 pub mod Changes
 pub mod Finds
 pub mod Lane
+pub mod Order
 pub mod Pieces

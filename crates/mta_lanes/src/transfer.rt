@@ -1,8 +1,9 @@
 //! What an activity transfers.
 
-ghost use Rattle.std.specs.Prelude.{◌≡◌, IfOk, length, Some};
+ghost use Rattle.std.specs.Prelude.{◌≡◌, IfOk, length, Some, true};
 ghost use Rattle.mta_machine.specs.Items.{names};
 ghost use Rattle.mta_histories.specs.Lanes.{is_for};
+ghost use Rattle.mta_lanes.specs.Order.{AreInOrder};
 
 use mta_ber::{Memory, Octets};
 use mta_records::{Outgoing, Recipients, TransferRecord};
@@ -11,10 +12,12 @@ use std::marker::Model;
 use std::mem;
 
 /// What an activity transfers: an item to recipients, when that was decided, in seconds since 1950-01-01 00:00:00 UTC,
-/// under which tables, counted from 1, and in which format, and the octets.
+/// under which tables, counted from 1, and in which format, and the octets. Whether the recipients ascend is found
+/// once, so that who does is searched for by halves.
 pub struct Transfer {
     item: u32,
     recipients: Recipients,
+    in_order: bool,
     moment: u64,
     tables: u32,
     format: u32,
@@ -27,6 +30,7 @@ impl Drop for Transfer {
         let Transfer {
             item: _,
             recipients: _,
+            in_order: _,
             moment: _,
             tables: _,
             format: _,
@@ -36,7 +40,9 @@ impl Drop for Transfer {
 }
 
 impl Model for Transfer {
+    ghost use Rattle.std.specs.Prelude.{◌≡◌, true};
     ghost use Rattle.mta_histories.specs.Lanes.{Transfer as TransferValue};
+    ghost use Rattle.mta_lanes.specs.Order.{AreInOrder};
 
     ghost Value = { TransferValue };
 
@@ -48,12 +54,37 @@ impl Model for Transfer {
       format = t.format;
       octets = t.outgoing.octets;
     } };
+
+    ghost invariant = { λ t. t.in_order ≡ true → AreInOrder t.recipients };
 }
 
-fn is_among(recipients: &[u32], recipient: u32) -> bool
+// Whether no number is below the one before it.
+fn is_in_order(recipients: &[u32]) -> bool
+    ensures { result ≡ true → AreInOrder recipients.now }
+{
+    recipients.is_sorted()
+}
+
+// Whether a recipient is among these, of whom none is below the one before.
+fn is_found(recipients: &[u32], recipient: u32) -> bool
+    requires { AreInOrder recipients.now }
     ensures { result ≡ names recipients.now recipient }
 {
-    recipients.iter().any(|other| recipient == *other)
+    match recipients.binary_search(&recipient) {
+        Ok(_) => true,
+        Err(_) => false,
+    }
+}
+
+fn is_among(recipients: &[u32], in_order: bool, recipient: u32) -> bool
+    requires { in_order ≡ true → AreInOrder recipients.now }
+    ensures { result ≡ names recipients.now recipient }
+{
+    if in_order {
+        is_found(recipients, recipient)
+    } else {
+        recipients.iter().any(|other| recipient == *other)
+    }
 }
 
 impl Transfer {
@@ -75,9 +106,11 @@ impl Transfer {
           octets = outgoing.octets;
         } }
     {
+        let in_order = is_in_order(recipients.as_slice());
         Transfer {
             item,
             recipients,
+            in_order,
             moment,
             tables,
             format,
@@ -159,7 +192,7 @@ impl Transfer {
     pub fn is_for(&self, item: u32, recipient: u32) -> bool
         ensures { result ≡ is_for item recipient (Some self.now) }
     {
-        item == self.item && is_among(self.recipients.as_slice(), recipient)
+        item == self.item && is_among(self.recipients.as_slice(), self.in_order, recipient)
     }
 
     /// The octets, lent.

@@ -64,6 +64,7 @@ arrival_ready format text s moment apdu found arrival is prepares = record {
       prepares;
   under = refl;
   fresh = tt;
+  queued = tt;
 }
 
 pub arrival_found : (kept : Kept) (item : ItemValue) (moment : ℕ) (found : Option Arrival) (arrival : Arrival)

@@ -23,3 +23,10 @@ pub mod Starting
 pub mod Readiness
 pub mod Hands
 pub mod RulesMade
+pub mod Untouched
+pub mod Rowed
+pub mod PutDown
+pub mod Named
+pub mod Waiting
+pub mod Following
+pub mod Expecting

@@ -14,4 +14,5 @@ ready_alone format text s step change other is = record {
   is_change = is;
   under = subst (λ (b : Bool). AreMade format text b (after_step s step).machine None) (sym other) refl;
   fresh = tt;
+  queued = tt;
 }

@@ -1,6 +1,6 @@
 -- What a step changes for which the rules are made anew.
 use Rattle.std.proofs.Common.{◌≡◌, ℕ, zero, suc, true, false, List, [], ◌∷◌, length, Option, Some, None}
-use Rattle.std.proofs.Common.{◌++◌, Result, Ok, Err, sym, ap, subst, ◌∙◌, arith}
+use Rattle.std.proofs.Common.{◌<◌, ◌^◌, ◌++◌, Result, Ok, Err, sym, ap, subst, ◌∙◌, arith}
 use Rattle.std.specs.Prelude.{IfOk, IfSome, IfNone}
 use Rattle.std.specs.List.{AllByRecursion}
 use Rattle.std.proofs.lemmas.Option.{same_Some}
@@ -14,15 +14,18 @@ use Rattle.mta_histories.specs.Lanes.{State, empty}
 use Rattle.mta_histories.specs.History.{IsPossible}
 use Rattle.mta_histories.specs.Kept.{IsKept}
 use Rattle.mta_histories.specs.Sound.{CanBegin}
+use Rattle.mta_state.specs.Kept.{state_of}
 use Rattle.mta_state.specs.Parts.{machine_of}
 use Rattle.mta_state.specs.declared.change.Change.TheVariants as change
 use Rattle.mta_state.specs.declared.kept.Kept.{Kept}
 use Rattle.mta_snapshots.specs.Begins.{Begins}
 use Rattle.mta_replay.specs.declared.replay.InForce.{InForce}
 use Rattle.mta_replay.specs.declared.replay.Ready.{Ready}
+use Rattle.mta_replay.specs.Expected.{AreQueuedUnder}
 use Rattle.mta_replay.specs.Ready.{AreFresh, IsReady}
 use Rattle.mta_replay.specs.Sound.{AreInForce, AreLast, ReadsLast}
 use Rattle.mta_replay.proofs.Begins.{begins-few}
+use Rattle.mta_replay.proofs.PutDown.{queued_by}
 use Rattle.mta_replay.proofs.Sounds.{numbered-last}
 
 -- ---- tables
@@ -35,6 +38,14 @@ recorded m format given text format_is is reads = record {
   last = numbered-last m.tables text ∙ ap (λ (t : List ℕ). Some t) (sym is);
   reads = subst (λ (t : List ℕ). is_tables_text t ≡ true) (sym is) reads;
 }
+
+-- the queues are those of a state with the same items and lanes
+pub queued_under : {R : Type 0} (text : R → List ℕ) (s t : State) (rules : Option (InForce R))
+    → t.machine.items ≡ s.machine.items → t.lanes.open_lanes ≡ s.lanes.open_lanes → AreQueuedUnder text s rules
+    → AreQueuedUnder text t rules
+queued_under text s t None items lanes queued = tt
+queued_under text s t (Some force) items lanes queued =
+    queued_by (text force.rules) s t force.queues items lanes queued
 
 -- ---- the format
 
@@ -67,6 +78,12 @@ all-numbered P (y ∷ xs) zero x all e = absurd cc
 all-numbered P (y ∷ xs) (suc zero) x all e = subst P (same_Some y x e) all.0
 all-numbered P (y ∷ xs) (suc (suc n)) x all e = all-numbered P xs (suc n) x all.1 e
 
+-- a state that begins has fewer items than there are numbers
+pub begins_numbers : (t : SnapshotValue) (kept : Kept) → HasFields (Snapshot t) → Begins t (Some kept)
+    → length kept.parts.items.items < 2 ^ 32
+begins_numbers t kept fields begins =
+    subst (λ (x : State). length x.machine.items < 2 ^ 32) (sym begins.1) (begins-few t fields)
+
 -- the texts of a state that begins are those of tables
 pub begins_reads : (t : SnapshotValue) (kept : Kept) → Begins t (Some kept) → ReadsLast (machine_of kept.parts)
 begins_reads t kept begins text is =
@@ -89,9 +106,11 @@ module _ (s : State) (t : SnapshotValue) (kept : IsKept s) (first : s.begun ≡ 
 
   pub snapshot_ready : {R : Type 0} (format : R → ℕ) (text : R → List ℕ) (new : Kept) (rules : Option (InForce R))
       → HasFields (Snapshot t) → Begins t (Some new) → AreLast format text (machine_of new.parts) rules
-      → AreFresh rules → IsReady format text s (Snapshot t) (change.Begin new) rules
-  snapshot_ready format text new rules fields begins last fresh = record {
+      → AreFresh rules → AreQueuedUnder text (state_of new) rules
+      → IsReady format text s (Snapshot t) (change.Begin new) rules
+  snapshot_ready format text new rules fields begins last fresh queued = record {
     is_change = record { possible = begins-possible new fields begins; after = begins.1; can = tt };
     under = subst (λ (x : State). AreLast format text x.machine rules) begins.1 last;
     fresh = fresh;
+    queued = subst (λ (x : State). AreQueuedUnder text x rules) begins.1 queued;
   }

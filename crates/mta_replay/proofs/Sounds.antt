@@ -2,7 +2,7 @@
 use Rattle.std.proofs.Common.{◌≡◌, ℕ, suc, ◌≤◌, ◌<◌, ◌^◌, Bool, true, false, cond, List, [], ◌∷◌}
 use Rattle.std.proofs.Common.{◌++◌, length}
 use Rattle.std.proofs.Common.{map, Option, Some, None, refl, sym, ap, subst, ◌∙◌, arith}
-use Rattle.std.specs.Prelude.{IfSome, is_some, slice_get}
+use Rattle.std.specs.Prelude.{IfSome, slice_get}
 use Rattle.std.proofs.lemmas.List.{length-append}
 use Rattle.std.proofs.lemmas.List.Elements.{All-nil}
 use Rattle.std.proofs.lemmas.Option.{same_Some}
@@ -16,7 +16,9 @@ use Rattle.mta_records.specs.declared.step.Step.TheVariants.{Sent, Refused, Deni
 use Rattle.mta_records.specs.declared.step.Step.TheVariants.{Drop, CloseLane, Snapshot, Format}
 use Rattle.mta_records.specs.Body.{HasFields}
 use Rattle.mta_dues.specs.Index.{IsIndexed}
+use Rattle.mta_dues.specs.declared.index.Index.{Index}
 use Rattle.mta_dues.proofs.Indexed.{fresh, indexes_stay}
+use Rattle.mta_queue.specs.Queues.{QueuesValue}
 use Rattle.mta_machine.specs.Items.{Machine, numbered}
 use Rattle.mta_machine.specs.Rules.{Failure, denied, expired, is_tables_text}
 use Rattle.mta_machine.specs.Machine.{discharge, failed, last_tables, machine_run}
@@ -37,6 +39,8 @@ use Rattle.mta_state.specs.declared.change.Change.{Change}
 use Rattle.mta_state.specs.Asked.{IsStored}
 use Rattle.mta_state.specs.Kept.{state_of, changed_state}
 use Rattle.mta_replay.specs.declared.replay.InForce.{InForce}
+use Rattle.mta_replay.specs.Expected.{AreAlike, AreQueuedUnder}
+use Rattle.mta_replay.specs.Queued.{AreQueued}
 use Rattle.mta_replay.specs.Ready.{sets_rules, AreFresh, AreMade, IsReady}
 use Rattle.mta_replay.specs.Sound.{AreInForce, AreLast, IsIndexedUnder, IsSound, ReadsLast}
 use Rattle.mta_replay.proofs.Begins.{begins-in-time, begins-stored}
@@ -282,22 +286,49 @@ module _ {R : Type 0} (format : R → ℕ) (text : R → List ℕ) where
       indexed-after anew (Some other) (Some f) is made unknown last indexed =
           fresh (format f.rules) (text f.rules) now.items f.index unknown.0 unknown.1
 
-  pub sound_after : (kept new : Kept) (old ready : Option (InForce R)) (step : Step) (change : Change)
+  -- the same rules with the same index
+  alike-last : (m : Machine) (old now : Option (InForce R)) → AreAlike old now → AreLast format text m old
+      → AreLast format text m now
+  alike-last m None None alike last = last
+  alike-last m None (Some f) alike last = absurd alike
+  alike-last m (Some f) None alike last = absurd alike
+  alike-last m (Some f) (Some g) alike last =
+      subst (λ (r : R). AreInForce (format r) (text r) m) (sym alike.0) last
+
+  alike-indexed : (m : Machine) (old now : Option (InForce R)) → AreAlike old now → IsIndexedUnder format text m old
+      → IsIndexedUnder format text m now
+  alike-indexed m None None alike indexed = tt
+  alike-indexed m None (Some f) alike indexed = absurd alike
+  alike-indexed m (Some f) None alike indexed = absurd alike
+  alike-indexed m (Some f) (Some g) alike indexed =
+      subst (λ (r : R). IsIndexed (format r) (text r) m.items g.index) (sym alike.0)
+      (subst (λ (i : Index). IsIndexed (format f.rules) (text f.rules) m.items i) (sym alike.1) indexed)
+
+  alike-self : (old : Option (InForce R)) → AreAlike old old
+  alike-self None = tt
+  alike-self (Some f) = (refl, refl)
+
+  sound_after : (kept new : Kept) (old ready now : Option (InForce R)) (step : Step) (change : Change)
       → IsSound format text kept old → HasFields step → IsReady format text (state_of kept) step change ready
-      → state_of new ≡ changed_state (state_of kept) change → IsSound format text new (rules_after old ready)
-  sound_after kept new old ready step change sound fields is changed = record {
+      → state_of new ≡ changed_state (state_of kept) change → AreAlike (rules_after old ready) now
+      → (length new.parts.items.items < 2 ^ 32 → AreQueuedUnder text (state_of new) now)
+      → IsSound format text new now
+  sound_after kept new old ready now step change sound fields is changed alike queued = record {
     of_history = subst IsKept (sym same) (steps_keep (state_of kept) step sound.of_history possible);
     stored = subst (λ (t : State). All IsStored t.machine.items) (sym same)
         (stored-after (state_of kept) step sound.of_history fields sound.timely possible sound.stored);
-    numbers = subst (λ (t : State). length t.machine.items < 2 ^ 32) (sym same) possible.numbers;
+    numbers = few;
     timely = subst (λ (t : State). t.moment ≤ last_moment) (sym same)
         (when-fits (state_of kept) step fields sound.timely);
-    last = subst (λ (t : State). AreLast format text t.machine (rules_after old ready)) (sym same)
+    last = subst (λ (t : State). AreLast format text t.machine now) (sym same)
+        (alike-last (after_step (state_of kept) step).machine (rules_after old ready) now alike
         (last-after (state_of kept) step sound.of_history fields sound.timely possible (sets_rules (class_of step)) old
-        ready refl is.under sound.last);
-    indexed = subst (λ (t : State). IsIndexedUnder format text t.machine (rules_after old ready)) (sym same)
+        ready refl is.under sound.last));
+    indexed = subst (λ (t : State). IsIndexedUnder format text t.machine now) (sym same)
+        (alike-indexed (after_step (state_of kept) step).machine (rules_after old ready) now alike
         (indexed-after (state_of kept) step sound.of_history fields sound.timely possible (sets_rules (class_of step))
-        old ready refl is.under is.fresh sound.last sound.indexed);
+        old ready refl is.under is.fresh sound.last sound.indexed));
+    queued = queued few;
   } where
     possible : IsPossible (state_of kept) step
     possible = is.is_change.possible
@@ -305,20 +336,31 @@ module _ {R : Type 0} (format : R → ℕ) (text : R → List ℕ) where
     same : state_of new ≡ after_step (state_of kept) step
     same = changed ∙ is.is_change.after
 
-  -- as the rules are that the step records, or those of before
-  pub sound_new : (kept new : Kept) (old ready : Option (InForce R)) (step : Step) (change : Change)
-      → IsSound format text kept old → HasFields step → IsReady format text (state_of kept) step change ready
-      → state_of new ≡ changed_state (state_of kept) change → is_some ready ≡ true → IsSound format text new ready
-  sound_new kept new old None step change sound fields is changed some = absurd cc
-  sound_new kept new old (Some r) step change sound fields is changed some =
-      sound_after kept new old (Some r) step change sound fields is changed
+    few : length new.parts.items.items < 2 ^ 32
+    few = subst (λ (t : State). length t.machine.items < 2 ^ 32) (sym same) possible.numbers
 
-  pub sound_old : (kept new : Kept) (old ready : Option (InForce R)) (step : Step) (change : Change)
+  -- as the rules are that are made for the step, or those of before
+  pub sound_new : (kept new : Kept) (old ready : Option (InForce R)) (force : InForce R) (step : Step)
+      (change : Change) → IsSound format text kept old → HasFields step
+      → IsReady format text (state_of kept) step change ready
+      → state_of new ≡ changed_state (state_of kept) change → ready ≡ Some force
+      → IsSound format text new (Some force)
+  sound_new kept new old ready force step change sound fields is changed some =
+      let now = subst (λ (o : Option (InForce R)). IsReady format text (state_of kept) step change o) some is in
+      sound_after kept new old (Some force) (Some force) step change sound fields now changed
+      (alike-self (Some force))
+      (λ few. subst (λ (t : State). AreQueued (text force.rules) t force.queues)
+      (sym (changed ∙ now.is_change.after)) now.queued)
+
+  pub sound_old : (kept new : Kept) (old ready now : Option (InForce R)) (step : Step) (change : Change)
       → IsSound format text kept old → HasFields step → IsReady format text (state_of kept) step change ready
-      → state_of new ≡ changed_state (state_of kept) change → is_some ready ≡ false → IsSound format text new old
-  sound_old kept new old None step change sound fields is changed none =
-      sound_after kept new old None step change sound fields is changed
-  sound_old kept new old (Some r) step change sound fields is changed none = absurd cc
+      → state_of new ≡ changed_state (state_of kept) change → ready ≡ None → AreAlike old now
+      → (length new.parts.items.items < 2 ^ 32 → AreQueuedUnder text (state_of new) now)
+      → IsSound format text new now
+  sound_old kept new old ready now step change sound fields is changed none alike queued =
+      sound_after kept new old None now step change sound fields
+      (subst (λ (o : Option (InForce R)). IsReady format text (state_of kept) step change o) none is) changed alike
+      queued
 
   -- the same state is as sound
   pub sound_still : (kept new : Kept) (rules : Option (InForce R)) → state_of new ≡ state_of kept
@@ -330,20 +372,43 @@ module _ {R : Type 0} (format : R → ℕ) (text : R → List ℕ) where
     timely = subst (λ (t : State). t.moment ≤ last_moment) (sym same) sound.timely;
     last = subst (λ (t : State). AreLast format text t.machine rules) (sym same) sound.last;
     indexed = subst (λ (t : State). IsIndexedUnder format text t.machine rules) (sym same) sound.indexed;
+    queued = subst (λ (t : State). AreQueuedUnder text t rules) (sym same) sound.queued;
   }
 
   -- and so it is with another index, as long as that is true
-  pub sound_with : (kept : Kept) (force new : InForce R) → new.rules ≡ force.rules
+  pub sound_with : (kept : Kept) (force new : InForce R) → new.rules ≡ force.rules → new.queues ≡ force.queues
       → IsIndexed (format force.rules) (text force.rules) kept.parts.items.items new.index
       → IsSound format text kept (Some force)
       → IsSound format text kept (Some new)
-  sound_with kept force new same indexed sound = record {
+  sound_with kept force new same queues indexed sound = record {
     of_history = sound.of_history;
     stored = sound.stored;
     numbers = sound.numbers;
     timely = sound.timely;
     last = subst (λ (r : R). AreInForce (format r) (text r) (machine_of kept.parts)) (sym same) sound.last;
     indexed = subst (λ (r : R). IsIndexed (format r) (text r) kept.parts.items.items new.index) (sym same) indexed;
+    queued =
+        subst (λ (r : R). AreQueued (text r) (state_of kept) new.queues) (sym same)
+        (subst (λ (v : QueuesValue). AreQueued (text force.rules) (state_of kept) v) (sym queues) sound.queued);
+  }
+
+  -- or with other queues, as long as those are of the state
+  pub sound_queued : (kept : Kept) (force new : InForce R) → new.rules ≡ force.rules → new.index ≡ force.index
+      → ((s : State) → AreQueued (text force.rules) s force.queues → AreQueued (text force.rules) s new.queues)
+      → IsSound format text kept (Some force) → IsSound format text kept (Some new)
+  sound_queued kept force new same index queues sound = record {
+    of_history = sound.of_history;
+    stored = sound.stored;
+    numbers = sound.numbers;
+    timely = sound.timely;
+    last = subst (λ (r : R). AreInForce (format r) (text r) (machine_of kept.parts)) (sym same) sound.last;
+    indexed =
+        subst (λ (r : R). IsIndexed (format r) (text r) kept.parts.items.items new.index) (sym same)
+        (subst (λ (i : Index). IsIndexed (format force.rules) (text force.rules) kept.parts.items.items i) (sym index)
+        sound.indexed);
+    queued =
+        subst (λ (r : R). AreQueued (text r) (state_of kept) new.queues) (sym same)
+        (queues (state_of kept) sound.queued);
   }
 
   -- and so is the state after no step
@@ -355,6 +420,7 @@ module _ {R : Type 0} (format : R → ℕ) (text : R → List ℕ) where
     timely = subst (λ (t : State). t.moment ≤ last_moment) (sym same) (omega arith);
     last = ap (λ (t : State). t.machine.tables) same;
     indexed = tt;
+    queued = tt;
   }
 
   -- the text recorded last is one of tables

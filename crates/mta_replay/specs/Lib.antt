@@ -8,3 +8,6 @@ pub mod Failures
 pub mod Laws
 pub mod Opening
 pub mod Starting
+pub mod Touched
+pub mod Queued
+pub mod Expected

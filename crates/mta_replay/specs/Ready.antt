@@ -12,6 +12,7 @@ use Rattle.mta_machine.specs.Items.{ItemValue, Machine, numbered}
 use Rattle.mta_replay.specs.declared.replay.InForce.{InForce}
 use Rattle.mta_replay.specs.declared.replay.NotMade.{NotMade}
 use Rattle.mta_replay.specs.declared.replay.NotMade.TheVariants as NotMades
+use Rattle.mta_replay.specs.Expected.{AreQueuedUnder}
 use Rattle.mta_replay.specs.Sound.{AreLast}
 
 -- the rules are made anew for the step: it records tables, sets the format, or begins the history with a state
@@ -48,12 +49,14 @@ abbrev pub AreMade : {R : Type 0} → (R → ℕ) → (R → List ℕ) → (anew
 AreMade format text true m rules = AreLast format text m rules
 AreMade format text false m rules = rules ≡ None
 
--- the step is possible, and this is what it changes, with the rules that are made for it
+-- the step is possible, and this is what it changes, with the rules that are made for it, under which nothing is known
+-- of items yet, and the queues of peers are those behind the step
 pub record IsReady {R : Type 0} (format : R → ℕ) (text : R → List ℕ) (s : State) (step : Step) (change : Change)
     (rules : Option (InForce R)) : Type 0 where
   pub is_change : IsChangeOf s step change
   pub under : AreMade format text (sets_rules (class_of step)) (after_step s step).machine rules
   pub fresh : AreFresh rules
+  pub queued : AreQueuedUnder text (after_step s step) rules
 
 -- a step was taken up where it is possible; Impossible comes only where it is not
 pub record TakesUp (step : Step) (old new : State) (result : Result (Unit {0}) NotMade) : Type 0 where

@@ -12,6 +12,7 @@ use Rattle.mta_state.specs.Asked.{IsStored}
 use Rattle.mta_state.specs.declared.kept.Kept.{Kept}
 use Rattle.mta_state.specs.Kept.{state_of}
 use Rattle.mta_replay.specs.declared.replay.InForce.{InForce}
+use Rattle.mta_replay.specs.Expected.{AreQueuedUnder}
 
 -- rules in a format and under a text are those in force: of the format of the machine, and of the text recorded last,
 -- which the grammar of tables reads
@@ -35,7 +36,7 @@ IsIndexedUnder format text m None = Unit {0}
 IsIndexedUnder format text m (Some force) = IsIndexed (format force.rules) (text force.rules) m.items force.index
 
 -- what is kept is that of a history, moments and numbers are in their ranges, the rules are those in force, and what is
--- known of items is true
+-- known of items and who waits for whom is true
 pub record IsSound {R : Type 0} (format : R → ℕ) (text : R → List ℕ) (kept : Kept) (rules : Option (InForce R))
     : Type 0 where
   pub of_history : IsKept (state_of kept)
@@ -44,3 +45,4 @@ pub record IsSound {R : Type 0} (format : R → ℕ) (text : R → List ℕ) (ke
   pub timely : kept.moment ≤ last_moment
   pub last : AreLast format text (machine_of kept.parts) rules
   pub indexed : IsIndexedUnder format text (machine_of kept.parts) rules
+  pub queued : AreQueuedUnder text (state_of kept) rules

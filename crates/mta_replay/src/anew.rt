@@ -8,6 +8,7 @@ ghost use Rattle.mta_histories.specs.History.{IsPossible};
 ghost use Rattle.mta_histories.specs.Kept.{IsKept};
 ghost use Rattle.mta_state.specs.Kept.{state_of};
 ghost use Rattle.mta_state.specs.Parts.{machine_of};
+ghost use Rattle.mta_replay.specs.Expected.{AreQueuedUnder};
 ghost use Rattle.mta_replay.specs.Ready.{AreFresh, IsReady};
 ghost use Rattle.mta_replay.specs.Sound.{AreLast, ReadsLast};
 
@@ -16,7 +17,7 @@ use crate::replay::{InForce, Ready};
 use mta_ber::{Memory, Octets};
 use mta_records::Snapshot;
 use mta_snapshots::begun;
-use mta_state::{Change, Kept, Parts, Rules};
+use mta_state::{Change, Kept, Rules};
 use std::alloc::Global;
 
 /// What recording a text of tables changes; none exactly where it is not possible.
@@ -33,32 +34,35 @@ pub(crate) fn ready_tables<R: Rules + Drop>(
     let Some(rules) = R::under(alloc, kept.parts.format, text.as_slice())? else {
         return Ok(None);
     };
+    let force = InForce::new(alloc, rules, kept)?;
     match prepare_tables(text, true) {
         None => Ok(None),
         Some(change) => Ok(Some(Ready {
             change,
-            rules: Some(InForce::new(alloc, rules)),
+            rules: Some(force),
         })),
     }
 }
 
-// The rules in a format and under the text of tables recorded last, under which nothing is known of any item yet; none
-// where no tables were recorded.
+// The rules in a format and under the text of tables recorded last in a state, under which nothing is known of any item
+// yet, and its queues; none where no tables were recorded.
 fn rules_in<R: Rules + Drop>(
     alloc: Global,
-    parts: &Parts,
+    kept: &Kept,
     format: u32,
 ) -> Result<Option<InForce<R>>, Memory>
-    requires { ReadsLast (machine_of parts.now) }
-    ensures rules { IfOk result (AreLast R.format R.text (record (machine_of parts.now) { format = format })) }
+    requires reads { ReadsLast (machine_of kept.now.parts) }
+    requires numbers { length kept.now.parts.items.items < 2 ^ 32 }
+    ensures rules { IfOk result (AreLast R.format R.text (record (machine_of kept.now.parts) { format = format })) }
     ensures fresh { IfOk result AreFresh }
+    ensures queued { IfOk result (AreQueuedUnder R.text (state_of kept.now)) }
 {
-    let Some(text) = parts.last_text() else {
+    let Some(text) = kept.parts.last_text() else {
         return Ok(None);
     };
     match R::under(alloc, format, text)? {
         None => unreachable!(),
-        Some(rules) => Ok(Some(InForce::new(alloc, rules))),
+        Some(rules) => Ok(Some(InForce::new(alloc, rules, kept)?)),
     }
 }
 
@@ -77,7 +81,7 @@ pub(crate) fn ready_format<R: Rules + Drop>(
     if kept.parts.format != 1 {
         return Ok(None);
     }
-    let rules = rules_in(alloc, &kept.parts, 2)?;
+    let rules = rules_in(alloc, kept, 2)?;
     Ok(Some(Ready {
         change: Change::Format,
         rules,
@@ -102,7 +106,7 @@ pub(crate) fn ready_snapshot<R: Rules + Drop>(
     let Some(begun) = begun::<R>(alloc, state)? else {
         return Ok(None);
     };
-    let rules = rules_in(alloc, &begun.parts, begun.parts.format)?;
+    let rules = rules_in(alloc, &begun, begun.parts.format)?;
     Ok(Some(Ready {
         change: Change::Begin { kept: begun },
         rules,

@@ -1,6 +1,7 @@
 //! What is due in the state, what waits in it, and what an activity of it would transfer.
 
 ghost use Rattle.std.specs.Prelude.{◌≡◌, ◌≤◌, IfOk};
+ghost use Rattle.std.specs.Option.{option_copied};
 ghost use Rattle.mta_ber.specs.Times.{last_moment};
 ghost use Rattle.mta_histories.specs.Due.{HasQueue};
 ghost use Rattle.mta_dues.specs.Answers.{IsBatchOf, IsNextOf};
@@ -11,7 +12,7 @@ ghost use Rattle.mta_replay.specs.Starting.{TransfersNext};
 use crate::replay::Replay;
 use crate::start::transfer_next;
 use mta_ber::{Memory, Word};
-use mta_dues::{batch_for, due_step, waiting};
+use mta_dues::{batch_for, due_step};
 use mta_lanes::Transfer;
 use mta_records::{Batch, Recipients, Step};
 use mta_state::Rules;
@@ -61,15 +62,16 @@ impl<R: Rules + Drop> Replay<R> {
         }
     }
 
-    /// The items of which a recipient waits for the peer, by ascending numbers; none where no tables name the peer.
-    #[tactic(auto, using(crate::proofs::Nothing::nothing_waits))]
-    pub fn waiting(&self, alloc: Global, peer: &Word) -> Result<Option<Recipients>, Memory>
+    /// The items of which a recipient waits for the peer, by ascending numbers, lent; none where no tables name the
+    /// peer. It takes no memory.
+    #[tactic(auto, using(crate::proofs::Nothing::nothing_waits, crate::proofs::Waiting::has_queue))]
+    pub fn waiting(&self, peer: &Word) -> Option<&[u32]>
         requires sound { IsSound R.format R.text self.now.kept self.now.rules }
-        ensures { IfOk result (HasQueue (state_of self.now.kept) peer.now) }
+        ensures { HasQueue (state_of self.now.kept) peer.now (option_copied result) }
     {
         match &self.rules {
-            None => Ok(None),
-            Some(force) => waiting(alloc, &force.rules, &self.kept, &force.index, peer),
+            None => None,
+            Some(force) => force.queues.get(peer.as_slice()),
         }
     }
 

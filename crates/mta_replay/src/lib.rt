@@ -16,12 +16,14 @@ mod looking;
 mod open;
 mod outcome;
 mod prepare;
+mod queued;
 mod ready;
 mod replay;
 mod report;
 mod sending;
 mod settling;
 mod start;
+mod touched;
 
 pub use accept::{Arrival, prepare_accept, prepare_arrival, prepare_tables};
 pub use complete::{complete_change, joined_item, prepare_complete};

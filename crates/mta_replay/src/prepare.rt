@@ -277,6 +277,7 @@ fn change_at_hand<R: Rules + Drop>(
         IsIndexed format (R.text force.old.rules) kept.now.parts.items.items force.old.index }
     ensures change { IfOk result (Prepares (state_of kept.now) step) }
     ensures rules { force.new.rules ≡ force.old.rules }
+    ensures queues { force.new.queues ≡ force.old.queues }
     ensures indexed { let format = R.format force.old.rules in
         IsIndexed format (R.text force.old.rules) kept.now.parts.items.items force.new.index }
 {
@@ -308,6 +309,7 @@ fn ready_with<R: Rules + Drop>(
         IsReady R.format R.text (state_of kept.now) step ready.change ready.rules)) }
     ensures none { IfOk result (λ found. IfNone found (IsPossible (state_of kept.now) step → ⊥)) }
     ensures rules { force.new.rules ≡ force.old.rules }
+    ensures queues { force.new.queues ≡ force.old.queues }
     ensures indexed { let format = R.format force.old.rules in
         IsIndexed format (R.text force.old.rules) kept.now.parts.items.items force.new.index }
 {

@@ -4,7 +4,8 @@
 //! memory is refused; `commit` makes the change and cannot fail. Between the last two the spool writes the step's
 //! record down; replaying a history does not.
 
-ghost use Rattle.std.specs.Prelude.{◌≡◌, ◌≤◌, ◌<◌, ℕ, List, IfOk, IfSome, IfNone, None, OnErr, OnOk, Some, false};
+ghost use Rattle.std.specs.Prelude.{◌≡◌, ◌≤◌, ◌<◌, ◌+◌, ◌^◌, ℕ, List, IfOk, IfSome, IfNone, None, OnErr, OnOk, Some};
+ghost use Rattle.std.specs.Prelude.{false, length};
 ghost use Rattle.std.specs.Option.{option_map};
 ghost use Rattle.mta_ber.specs.Times.{last_moment};
 ghost use Rattle.mta_records.specs.declared.state.Origin.TheVariants as Origins;
@@ -21,17 +22,25 @@ ghost use Rattle.mta_state.specs.Kept.{state_of, CanChange, HasRoomFor};
 ghost use Rattle.mta_state.specs.Prepared.{IsChangeOf, Prepares};
 ghost use Rattle.mta_replay.specs.declared.accept.Arrival.{Arrival};
 ghost use Rattle.mta_dues.specs.Index.{IsIndexed};
+ghost use Rattle.mta_queue.specs.Queues.{HasRoom};
+ghost use Rattle.mta_replay.specs.Expected.{AreAlike, AreQueuedUnder, IsExpected, IsExpectedUnder, MayFollow};
 ghost use Rattle.mta_replay.specs.Found.{IsFound, IsFoundLast};
+ghost use Rattle.mta_replay.specs.Queued.{AreComing, AreQueued, IsQueuedUpTo};
 ghost use Rattle.mta_replay.specs.Ready.{IsReady, TakesUp, sets_rules};
 ghost use Rattle.mta_replay.specs.Sound.{IsSound};
+ghost use Rattle.mta_replay.specs.Touched.{IsTouched};
 
 use crate::accept::{Arrival, prepare_arrival};
+use crate::queued::{follow, queues_of, rows_of};
+use crate::touched::{Touched, touched_by};
 use mta_ber::{Memory, Octets};
 use mta_dues::{Index, note};
 use mta_lanes::Lanes;
+use mta_queue::{Marks, Queues};
 use mta_records::Step;
 use mta_state::{Change, Kept, Rest, Rules};
 use std::alloc::Global;
+use std::mem;
 
 /// Why a step was not taken up.
 #[derive(Clone, Copy)]
@@ -53,25 +62,69 @@ impl From<Memory> for NotMade {
     }
 }
 
-/// The rules in the format and under the tables recorded last, and what is known of items under them.
+/// The rules in the format and under the tables recorded last, what is known of items under them, and who waits for
+/// whom.
 #[derive(Drop)]
 pub struct InForce<R: Rules + Drop> {
+    alloc: Global,
     pub rules: R,
-    /// Which items need not be looked at, and which wait for which peer.
+    /// Which items need not be looked at.
     pub index: Index,
+    /// The queues of the peers that the tables name.
+    pub queues: Queues,
+    /// The recipients of the items that a change makes, found before it is made.
+    pub coming: Vec<Marks>,
 }
 
 impl<R: Rules + Drop> InForce<R> {
-    /// Rules under which nothing is known of any item yet. It takes no memory.
-    pub fn new(alloc: Global, rules: R) -> InForce<R>
-        ensures rules { result.rules ≡ rules }
-        ensures known { result.index.agenda.known ≡ 0 }
-        ensures hand { result.index.hand ≡ None }
+    /// These rules in a state, under which nothing is known of any item yet. Each item is read once.
+    pub fn new(alloc: Global, rules: R, kept: &Kept) -> Result<InForce<R>, Memory>
+        requires numbers { length kept.now.parts.items.items < 2 ^ 32 }
+        ensures rules { IfOk result (λ f. f.rules ≡ rules) }
+        ensures known { IfOk result (λ f. f.index.agenda.known ≡ 0) }
+        ensures hand { IfOk result (λ f. f.index.hand ≡ None) }
+        ensures queued { IfOk result (λ f. AreQueued (R.text rules) (state_of kept.now) f.queues) }
     {
-        InForce {
+        let queues = queues_of(alloc, &rules, kept)?;
+        Ok(InForce {
+            alloc,
             rules,
             index: Index::new(alloc),
-        }
+            queues,
+            coming: Vec::new(alloc),
+        })
+    }
+
+    // Finds the recipients of the items that a change makes, and room for them.
+    #[tactic(auto, using(crate::proofs::Expecting::expected, crate::proofs::PutDown::queued_same))]
+    fn expect(&mut self, alloc: Global, change: &Change) -> Result<(), Memory>
+        ensures rules { self.new.rules ≡ self.old.rules }
+        ensures index { self.new.index ≡ self.old.index }
+        ensures queued { (s : State) → AreQueued (R.text self.old.rules) s self.old.queues
+            → AreQueued (R.text self.old.rules) s self.new.queues }
+        ensures expected { OnOk result (IsExpected R.text self.new change.now) }
+    {
+        let rows = rows_of(alloc, &self.rules, &self.queues, change)?;
+        self.queues.reserve(rows.len() + 2, rows.len())?;
+        self.coming = rows;
+        Ok(())
+    }
+
+    // The queues follow a change that was made.
+    fn follow(&mut self, kept: &Kept, touched: Touched)
+        requires numbers { length kept.now.parts.items.items < 2 ^ 32 }
+        requires queued { IsQueuedUpTo (R.text self.old.rules) (state_of kept.now) self.old.queues
+            (length self.old.queues.rows) (IsTouched touched) }
+        requires coming { AreComing (R.text self.old.rules) self.old.queues.words kept.now.parts.items.items
+            (length self.old.queues.rows) self.old.coming.items }
+        requires room { length self.old.coming.items ≤ self.old.queues.room }
+        requires places { HasRoom self.old.queues.queues (length self.old.coming.items + 2) }
+        ensures rules { self.new.rules ≡ self.old.rules }
+        ensures index { self.new.index ≡ self.old.index }
+        ensures queued { AreQueued (R.text self.old.rules) (state_of kept.now) self.new.queues }
+    {
+        let rows = mem::replace(&mut self.coming, Vec::new(self.alloc));
+        follow(&self.rules, &mut self.queues, kept, touched, rows);
     }
 }
 
@@ -107,6 +160,22 @@ fn note_in(alloc: Global, index: &mut Index, number: u32, moment: u64, rest: Opt
             Ok(()) => {}
             Err(_) => {}
         },
+    }
+}
+
+// The queues follow a change that was made, where there are any. No history has more items than there are numbers.
+fn follow_in<R: Rules + Drop>(rules: &mut Option<InForce<R>>, kept: &Kept, touched: Touched)
+    requires follows { MayFollow R.text (state_of kept.now) touched rules.old }
+    ensures same { AreAlike rules.old rules.new }
+    ensures queued { length kept.now.parts.items.items < 2 ^ 32
+        → AreQueuedUnder R.text (state_of kept.now) rules.new }
+{
+    if kept.parts.items.len() > u32::MAX as usize {
+        return;
+    }
+    match rules {
+        None => {}
+        Some(force) => force.follow(kept, touched),
     }
 }
 
@@ -177,15 +246,30 @@ impl<R: Rules + Drop> Replay<R> {
         }
     }
 
-    /// Finds room for a change.
+    // Finds the recipients of the items that a change makes, and room for them.
+    fn expect(&mut self, alloc: Global, change: &Change) -> Result<(), Memory>
+        requires sound { IsSound R.format R.text self.old.kept self.old.rules }
+        ensures same { self.new.kept ≡ self.old.kept }
+        ensures sound { IsSound R.format R.text self.new.kept self.new.rules }
+        ensures expected { OnOk result (IsExpectedUnder R.text self.new.rules change.now) }
+    {
+        match &mut self.rules {
+            None => Ok(()),
+            Some(force) => force.expect(alloc, change),
+        }
+    }
+
+    /// Finds room for a change, and what is to be known of the items that it makes.
     #[tactic(auto, using(crate::proofs::Sounds::sound_still))]
-    pub fn reserve(&mut self, ready: &Ready<R>) -> Result<(), Memory>
+    pub fn reserve(&mut self, alloc: Global, ready: &Ready<R>) -> Result<(), Memory>
         requires sound { IsSound R.format R.text self.old.kept self.old.rules }
         ensures same { state_of self.new.kept ≡ state_of self.old.kept }
         ensures sound { IsSound R.format R.text self.new.kept self.new.rules }
         ensures room { OnOk result (HasRoomFor self.new.kept ready.now.change) }
+        ensures expected { OnOk result (IsExpectedUnder R.text self.new.rules ready.now.change) }
     {
         self.recall(&ready.change)?;
+        self.expect(alloc, &ready.change)?;
         self.kept.reserve(&ready.change)
     }
 
@@ -194,6 +278,7 @@ impl<R: Rules + Drop> Replay<R> {
         requires sound { IsSound R.format R.text self.old.kept self.old.rules }
         requires room { HasRoomFor self.old.kept ready.change }
         requires can { CanChange (state_of self.old.kept) ready.change }
+        requires expected { IsExpectedUnder R.text self.old.rules ready.change }
         ensures made { (step : Step) → IsReady R.format R.text (state_of self.old.kept) step ready.change ready.rules
             → state_of self.new.kept ≡ after_step (state_of self.old.kept) step }
         ensures sound { (step : Step) → HasFields step
@@ -201,9 +286,11 @@ impl<R: Rules + Drop> Replay<R> {
             → IsSound R.format R.text self.new.kept self.new.rules }
     {
         let Ready { change, rules } = ready;
+        let touched = touched_by(&self.kept.lanes, &change);
         self.kept.commit(change);
-        if rules.is_some() {
-            self.rules = rules;
+        match rules {
+            None => follow_in(&mut self.rules, &self.kept, touched),
+            Some(force) => self.rules = Some(force),
         }
     }
 
@@ -255,7 +342,7 @@ impl<R: Rules + Drop> Replay<R> {
             change,
             rules: None,
         };
-        self.reserve(&ready)?;
+        self.reserve(alloc, &ready)?;
         self.commit(ready);
         self.note(alloc, moment, rest);
         Ok(())
@@ -272,7 +359,7 @@ impl<R: Rules + Drop> Replay<R> {
         let Some(ready) = self.prepare_at_hand(alloc, step)? else {
             return Err(NotMade::Impossible);
         };
-        self.reserve(&ready)?;
+        self.reserve(alloc, &ready)?;
         self.commit(ready);
         Ok(())
     }

@@ -1,6 +1,6 @@
 //! What is asked of the rules.
 
-ghost use Rattle.std.specs.Prelude.{◌≡◌, ◌≤◌, ◌<◌, ◌^◌, ◌↔◌, List, ℕ, IfOk, IfSome, IsTrue, Some, is_some};
+ghost use Rattle.std.specs.Prelude.{◌≡◌, ◌≤◌, ◌<◌, ◌^◌, List, ℕ, IfOk, IfSome, Some, is_some};
 ghost use Rattle.std.specs.Prelude.{length, map};
 ghost use Rattle.std.specs.Option.{option_copied, option_map};
 ghost use Rattle.mta_ber.specs.Times.{last_moment};
@@ -103,10 +103,10 @@ pub trait Rules {
         requires { IsReadingOf item.now.octets reading.now }
         ensures { IfOk result (λ b. b ≡ is_some (passed_back (text self.now) items.now item.now)) };
 
-    /// Whether the best route of a recipient's name leads to this peer.
-    fn routes_to(&self, item: &Item, reading: &Reading<'_>, recipient: u32, peer: &[u8]) -> bool
+    /// The word of the peer to whom the best route of a recipient's name leads; none where it leads to no peer.
+    fn route(&self, item: &Item, reading: &Reading<'_>, recipient: u32) -> Option<&[u8]>
         requires { IsReadingOf item.now.octets reading.now }
-        ensures { IsTrue result ↔ (route_word (text self.now) item.now.octets recipient ≡ Some peer.now) };
+        ensures { option_copied result ≡ route_word (text self.now) item.now.octets recipient };
 
     /// Whether the tables have a peer of this word.
     fn names_peer(&self, word: &[u8]) -> bool

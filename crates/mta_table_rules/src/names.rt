@@ -1,6 +1,6 @@
 //! Where names lead, and the words of peers and mailboxes.
 
-ghost use Rattle.std.specs.Prelude.{◌≡◌, ◌↔◌, IsTrue, Some, is_some};
+ghost use Rattle.std.specs.Prelude.{◌≡◌};
 ghost use Rattle.std.specs.Option.{option_copied, option_map};
 ghost use Rattle.mta_apdu.specs.Apdus.{apdu_value};
 ghost use Rattle.mta_machine.specs.Items.{numbered};
@@ -54,41 +54,30 @@ fn peer_on(tables: &Tables, hop: Hop) -> Option<&[u8]>
     }
 }
 
-/// Whether a hop leads to the peer of a word.
-fn is_peer_on(tables: &Tables, hop: Hop, word: &[u8]) -> bool
-    ensures { IsTrue result ↔ (peer_on tables.now hop ≡ Some word.now) }
-{
-    match peer_on(tables, hop) {
-        Some(name) => name == word,
-        None => false,
-    }
-}
-
-fn routes_under(tables: &Tables, apdu: &Apdu<'_>, recipient: u32, peer: &[u8]) -> bool
-    ensures { IsTrue result ↔ (route_under tables.now (apdu_value apdu.now) recipient ≡ Some peer.now) }
+fn route_under<'a>(tables: &'a Tables, apdu: &Apdu<'_>, recipient: u32) -> Option<&'a [u8]>
+    ensures { option_copied result ≡ route_under tables.now (apdu_value apdu.now) recipient }
 {
     match name_in(apdu, recipient) {
-        Some(name) => is_peer_on(tables, tables.route(name), peer),
-        None => false,
+        Some(name) => peer_on(tables, tables.route(name)),
+        None => None,
     }
 }
 
-/// Whether the best route of a recipient's name leads to the peer of a word.
-pub fn routes_to(
-    tables: &Tables,
+/// The word of the peer to whom the best route of a recipient's name leads.
+pub fn route<'a>(
+    tables: &'a Tables,
     item: &Item,
     reading: &Reading<'_>,
     recipient: u32,
-    peer: &[u8],
-) -> bool
+) -> Option<&'a [u8]>
     requires { IsReadingOf item.now.octets reading.now }
-    ensures { IsTrue result ↔ (route_word tables.now.text item.now.octets recipient ≡ Some peer.now) }
+    ensures { option_copied result ≡ route_word tables.now.text item.now.octets recipient }
 {
     text_reads(tables);
-    let Some(apdu) = &reading.apdu else {
-        return false;
-    };
-    routes_under(tables, apdu, recipient, peer)
+    match &reading.apdu {
+        None => None,
+        Some(apdu) => route_under(tables, apdu, recipient),
+    }
 }
 
 /// Whether the tables have a peer of this word.

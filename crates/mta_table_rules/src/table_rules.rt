@@ -3,7 +3,7 @@
 use crate::copies::outgoing_copy;
 use crate::deliveries::delivery;
 use crate::expansion::expansion_items;
-use crate::names::{mailbox_at, names_peer, peer_at, routes_to};
+use crate::names::{mailbox_at, names_peer, peer_at, route};
 use crate::passing::{passed_item, passes_back};
 use crate::reading::text_reads;
 use crate::reports::{delivery_item, non_delivery_item};
@@ -131,8 +131,8 @@ impl Rules for TableRules {
         passes_back(alloc, &self.tables, items, item, reading)
     }
 
-    fn routes_to(&self, item: &Item, reading: &Reading<'_>, recipient: u32, peer: &[u8]) -> bool {
-        routes_to(&self.tables, item, reading, recipient, peer)
+    fn route(&self, item: &Item, reading: &Reading<'_>, recipient: u32) -> Option<&[u8]> {
+        route(&self.tables, item, reading, recipient)
     }
 
     fn names_peer(&self, word: &[u8]) -> bool {

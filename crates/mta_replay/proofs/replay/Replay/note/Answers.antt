@@ -23,7 +23,7 @@ pub returns-in-Some-clause-sound : goal.returns-in-Some-clause-sound
 returns-in-Some-clause-sound g c =
     let kept = c.args.self.now.kept in
     let force : InForce g.row.R.Denot = c.in-Some.force in
-    let new : InForce g.row.R.Denot = record { rules = force.rules; index = c.note_in.new.index } in
+    let new : InForce g.row.R.Denot = record force { index = c.note_in.new.index } in
     let format = g.R.Rules.format force.rules in
     let text = g.R.Rules.text force.rules in
     let items = kept.parts.items.items in
@@ -37,5 +37,5 @@ returns-in-Some-clause-sound g c =
     let rests : IsRestOf format text found.item c.args.moment c.args.rest =
     subst (λ (n : ℕ). IsRestOf n text found.item c.args.moment c.args.rest) (sym sound.last.in_format)
     (found.found text sound.last.last) in
-    sound_with g.R.Rules.format g.R.Rules.text kept force new refl
+    sound_with g.R.Rules.format g.R.Rules.text kept force new refl refl
     (c.note_in.ensures format text items found.item at rests sound.indexed) sound

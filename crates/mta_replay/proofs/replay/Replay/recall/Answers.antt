@@ -11,7 +11,6 @@ returns-in-Some-clause-sound g c =
     let sound = subst (λ (o : Option (InForce g.row.R.Denot)). IsSound g.R.Rules.format g.R.Rules.text kept o)
     c.in-Some.is
     c.requires.sound in
-    sound_with g.R.Rules.format g.R.Rules.text kept force
-    (record { rules = force.rules; index = c.recall_changed.new.index }) refl
-    (c.recall_changed.ensures (g.R.Rules.format force.rules) (g.R.Rules.text force.rules) kept.parts.items.items
+    sound_with g.R.Rules.format g.R.Rules.text kept force (record force { index = c.recall_changed.new.index }) refl
+    refl (c.recall_changed.ensures (g.R.Rules.format force.rules) (g.R.Rules.text force.rules) kept.parts.items.items
     sound.indexed) sound

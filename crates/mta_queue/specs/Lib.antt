@@ -1,0 +1,4 @@
+pub mod Marks
+pub mod Queue
+pub mod Queues
+pub mod Row
