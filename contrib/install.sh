@@ -69,7 +69,8 @@ put lib/tmpfiles.d/mta.conf "$top/contrib/systemd/mta.tmpfiles"
 for file in README.md docs/MANUAL.md docs/PROTOCOL.md docs/PROVED.md docs/p1.asn1 contrib/wireshark/mta.lua; do
   put "share/doc/mta/$(basename "$file")" "$top/$file"
 done
-for file in "$top"/samples/*; do put "share/doc/mta/samples/$(basename "$file")" "$file"; done
+# samples/spools is for checks alone
+for file in "$top"/samples/*.*; do put "share/doc/mta/samples/$(basename "$file")" "$file"; done
 for name in GOLD POST SILVER; do
   put "share/doc/mta/sample/$name/mta.tables" "$top/contrib/sample/$name/mta.tables"
 done

@@ -140,11 +140,11 @@ impl Held {
             "first-areas" => self.first = areas(alloc, false, 0)?,
             "second-areas" => self.second = areas(alloc, false, 0)?,
             "first-moved" => {
-                let body = tables_body(alloc, lines_of(alloc, fields.rest)?.as_slice())?;
+                let body = self.names.octets(alloc, fields.rest)?;
                 self.first = moved(alloc, body.as_slice())?;
             }
             "second-moved" => {
-                let body = tables_body(alloc, lines_of(alloc, fields.rest)?.as_slice())?;
+                let body = self.names.octets(alloc, fields.rest)?;
                 self.second = moved(alloc, body.as_slice())?;
             }
             "first-octets" => self.first = self.names.octets(alloc, fields.rest)?,

@@ -7,9 +7,9 @@
 //! These rows want nothing. `case NAME` begins a case, with two empty disks and nothing that fails. `first OCTETS` and
 //! `second OCTETS` put a record with this body behind what the disk holds, `first-tables TEXT` and `second-tables TEXT`
 //! one of tables, where each line ends with `|`; `first-areas` and `second-areas` make the disk an empty journal of two
-//! areas, `first-moved TEXT` and `second-moved TEXT` one whose second area has a record of tables;
-//! `first-octets OCTETS` and `second-octets OCTETS` say all that the disk holds, and `second-is-first` that it holds
-//! what the first does.
+//! areas, `first-moved OCTETS` and `second-moved OCTETS` one whose second area is current and has a record with this
+//! body; `first-octets OCTETS` and `second-octets OCTETS` say all that the disk holds, and `second-is-first` that it
+//! holds what the first does.
 //! `fails PLACE CALL` has a call of the row behind fail, the place being `first`, `second` or `output` and the first
 //! call 1.
 //!

@@ -4,17 +4,21 @@ use Rattle.std.specs.Prelude.{◌⊎◌}
 use Rattle.mta_edge.specs.Crashes.{CrashLeaves}
 use Rattle.mta_edge.specs.Views.{DiskView, DiskLaws, StaysTold, WhereTold}
 use Rattle.mta_edge.proofs.Moments.{weaken}
-use Rattle.mta_journal.specs.Bodies.{StandsFor as HoldsBodies}
 use Rattle.mta_journal.specs.Opening.{HasRefused as IsNoJournal, KeepsFilled}
 use Rattle.mta_journal.specs.Opening.{IsSame as IsSameJournal, BeforeOrSame as BeforeOrSameJournal}
 use Rattle.mta_journal.specs.Opening.{IsSameFrom as IsSameJournalFrom, IsLeft as IsLeftJournal}
 use Rattle.mta_journal.specs.Shown.{Shown as JournalShown}
 use Rattle.mta_journal.specs.declared.why.OpenWhy.{OpenWhy}
+use Rattle.mta_journal.specs.declared.why.OpenWhy.TheVariants as Whys
 use Rattle.mta_records.specs.declared.step.Step.{Step}
+use Rattle.mta_histories.specs.History.{after}
 use Rattle.mta_images.specs.Image.{StandsFor}
 use Rattle.mta_spool.specs.Opening.{IsSame, BeforeOrSame, IsLeft, IsSameFrom, OpensSafely, SameSince, unsynced, synced}
 use Rattle.mta_spool.specs.Replaying.{HasStopped}
-use Rattle.mta_spool.proofs.Openings.{IsOpened as JournalOpened, open_refused, replay_refused, same_stands}
+use Rattle.mta_spool.specs.Finding.{MayStand}
+use Rattle.mta_spool.proofs.Openings.{IsOpened as JournalOpened, none_there, open_refused, other_refused}
+use Rattle.mta_spool.proofs.Openings.{replay_refused}
+use Rattle.mta_spool.proofs.Openings.{same_stands, stood_for}
 use Rattle.mta_audit_run.specs.declared.side.Side.{Side}
 use Rattle.mta_audit_run.specs.Kept.{IsKept, IsRead, KeepsSince, CrashKeeps, before_sync, since_sync}
 use Rattle.mta_audit_run.specs.Opened.{IsOpened, IsRefused}
@@ -23,13 +27,10 @@ use Rattle.mta_audit_run.specs.Sides.{IsSide}
 some-same : (f g : List ℕ) → Some f ≡ Some g → f ≡ g
 some-same f g e = cc
 
-none-there : (f : List ℕ) → HoldsBodies f [] → StandsFor f []
-none-there f holds = record { bodies = holds; each = tt; history = tt }
-
 -- what is the same for a journal is the same for its history
 same-of : (f g : List ℕ) → IsSameJournal f g → IsSame f g
 same-of f g (inl same) = inl same
-same-of f g (inr none) = inr ([], none-there f none.0, none-there g none.1)
+same-of f g (inr none) = inr ([], none_there f none.0, none_there g none.1)
 
 module _ {D : Type 0} (model : DiskView D) (laws : DiskLaws model) where
   -- one that was not called
@@ -136,16 +137,22 @@ module _ {D : Type 0} (model : DiskView D) where
       kept = o.kept;
     }
 
+    -- a second area has another record than a snapshot
+    pub side_other : (gate : ℕ) → gate ≡ journal.first → (MayStand gate bodies → ⊥)
+        → IsRefused model old journal.disk (Whys.NotSpool gate)
+    side_other gate at wrong = record {
+      refused = other_refused model old journal bodies first o gate at wrong;
+      kept = o.kept;
+    }
+
     -- they are those of a history
-    pub side_opened : (side : Side) → IsSide bodies side → IsOpened model old journal.disk side
-    side_opened side is = record {
+    pub side_opened : MayStand journal.first bodies → (side : Side) → IsSide bodies side
+        → IsOpened model old journal.disk side
+    side_opened may side is = record {
       steps = is.steps;
       side_is = is.side_is;
-      history = λ f was. record {
-        bodies = subst (HoldsBodies f) (sym is.bodies_are) (o.stood f was);
-        each = is.each;
-        history = is.history;
-      };
+      history = stood_for model old journal bodies first o (after is.steps) is.steps
+          (record { bodies_are = is.bodies_are; each = is.each; history = is.history; state_is = refl }) may;
       later = o.later;
       kept = o.kept;
       told = o.told;

@@ -14,8 +14,8 @@ pub record KeepsSince {D : Type 0} (model : DiskView D) (steps : List Step) (old
 
 -- What a crash leaves of a disk that stood for a history.
 pub data CrashKeeps {D : Type 0} (model : DiskView D) (steps : List Step) (old new : D) : Type 0 where
-  -- no sync has succeeded: it reads as before, and a crash at any moment of the call leaves what one before might have
-  -- left
+  -- no sync has succeeded: it reads as before, and a crash at any moment of the call leaves what one before
+  -- might have left
   before_sync : model.content new ≡ model.content old
       → ((g : List ℕ) → model.left_since new (model.moment old) g → model.may_leave old g)
       → CrashKeeps model steps old new
@@ -31,8 +31,8 @@ pub record IsKept {D : Type 0} (model : DiskView D) (old new : D) : Type 0 where
   -- one that stood for a history reads as one that stands for the same
   pub stands : (f g : List ℕ) (steps : List Step) → model.content old ≡ Some f → model.content new ≡ Some g
       → StandsFor f steps → StandsFor g steps
-  -- and so does what a crash leaves, since the first sync of the call; before it, what one before the call might have
-  -- left
+  -- and so does what a crash leaves, since the first sync of the call; before it, what one before the call
+  -- might have left
   pub crash : (f : List ℕ) (steps : List Step) → model.content old ≡ Some f → StandsFor f steps
       → CrashKeeps model steps old new
   pub before : (f : List ℕ) (steps : List Step) → model.content old ≡ Some f → StandsFor f steps

@@ -58,8 +58,8 @@ pub record Tells {D E : Type 0} (h : Handed D E) (out : Output) (status : ℕ) :
       → CallsFor h.words f g status ⊎ (status ≡ 7) ⊎ ((status ≡ 4) × DiskFailed h) ⊎ ((status ≡ 9) × OutputFailed out)
   -- with status 0 or 18 the text is that of the audit, whether they tell it or not
   pub audited : (status ≡ 0) ⊎ (status ≡ 18) → PrintsAudit h out status
-  -- 1 comes exactly where the words are not two, but for want of memory and a fault of the output, and then no disk is
-  -- called
+  -- 1 comes exactly where the words are not two, but for want of memory and a fault of the output, and then no
+  -- disk is called
   pub usage : status ≡ 1 → (AreTwo h.words → ⊥) × (h.first_after ≡ h.first) × (h.second_after ≡ h.second)
   pub usage_where : (AreTwo h.words → ⊥) → (status ≡ 1) ⊎ (status ≡ 7) ⊎ ((status ≡ 9) × OutputFailed out)
   -- 3 comes only where a disk is no spool, if it tells what it holds

@@ -10,6 +10,7 @@ ghost use Rattle.mta_audit_run.specs.Opened.{IsOpened, IsRefused};
 use crate::side::{Side, side_of_bodies};
 use mta_edge::Disk;
 use mta_journal::{Journal, OpenFault, OpenWhy, Opened};
+use mta_spool::may_stand;
 use std::alloc::Global;
 
 /// A disk that was opened, and its spool.
@@ -40,6 +41,12 @@ pub fn open_side<D: Disk + Drop>(alloc: Global, disk: D) -> Result<OpenedSide<D>
         Ok(opened) => opened,
         Err(OpenFault { disk, why }) => return Err(SideFault { disk, why }),
     };
+    if !may_stand(first, bodies.as_slice()) {
+        return Err(SideFault {
+            disk: journal.end(),
+            why: OpenWhy::NotSpool { at: first },
+        });
+    }
     match side_of_bodies(alloc, first, bodies) {
         Ok(side) => Ok(OpenedSide {
             disk: journal.end(),

@@ -136,14 +136,14 @@ fn take_again(spool: &mut Spool<SafeDisk, MemClock>, peer: &Word, rounds: u32) -
     Ok(found)
 }
 
-fn list_again(spool: &Spool<SafeDisk, MemClock>, peer: &Word, rounds: u32) -> Result<usize> {
+fn list_again(spool: &Spool<SafeDisk, MemClock>, peer: &Word, rounds: u32) -> usize {
     let mut found: usize = 0;
     for _ in 0..rounds {
-        if let Some(items) = spool.waiting(peer)? {
-            found = found.saturating_add(items.as_slice().len());
+        if let Some(items) = spool.waiting(peer) {
+            found = found.saturating_add(items.len());
         }
     }
-    Ok(found)
+    found
 }
 
 /// How often nothing was due at first, and how much was found then.
@@ -156,7 +156,7 @@ fn found_in(
     let found = match words.kind.as_str() {
         "due" => look_again(spool, words.rounds)?,
         "batch" => take_again(spool, peer, words.rounds)?,
-        _ => list_again(spool, peer, words.rounds)?,
+        _ => list_again(spool, peer, words.rounds),
     };
     Ok((first, found))
 }

@@ -136,7 +136,7 @@ module _ {D C I : Type 0} (h : Handed D C I) (ends : List WorkerEnd) (added : Li
       → accepted_line n ++ x ≡ t ++ y → ForInput h (λ i. ForOpened h (λ steps. IsAccepted steps added i n))
   text_accepted _ _ x y (of_submit number text word inputs few is acc) begun =
       let same : n ≡ number = accepted_number n number x y small few (begun ∙ ap (λ (l : List ℕ). l ++ y) is) in
-      λ i w f steps was s. accepted_as steps added i n number same (acc i w f steps was s)
+      λ i w f found steps was s. accepted_as steps added i n number same (acc i w f found steps was s)
   text_accepted _ _ x y (of_queue text word is) begun = absurd
       (words_apart Say.Queue (λ e. absurd cc) (sym word ∙ submit))
   text_accepted _ _ x y (of_mailbox name text word named is) begun = absurd

@@ -7,7 +7,8 @@ use Rattle.std.proofs.lemmas.List.{append-nil}
 use Rattle.std.proofs.lemmas.List.Sums.{sum_by-cons}
 use Rattle.mta_edge.specs.Views.{DiskView, DiskLaws}
 use Rattle.std.specs.Prelude.{◌⊎◌}
-use Rattle.mta_journal.specs.Shown.{Shown as JournalShown, Holds}
+use Rattle.mta_journal.specs.Shown.{Shown as JournalShown, Holds, IsPlain}
+use Rattle.mta_images.specs.Image.{IsSnapshot}
 use Rattle.mta_records.specs.declared.step.Step.{Step}
 use Rattle.mta_records.specs.declared.fault.StepFault.{StepFault}
 use Rattle.mta_records.specs.declared.fault.StepFault.TheVariants as StepFaults
@@ -191,6 +192,7 @@ module _ {D C : Type 0} (disks : DiskView D) where
     each = s.each;
     state_is = is.1 ∙ s.state_is;
     history = s.history;
+    alone = subst (λ (j : JournalShown D). (IsPlain j.first → ⊥) → IsSnapshot steps) (sym is.0) s.alone;
   }
 
   -- nothing was done

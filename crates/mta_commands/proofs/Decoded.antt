@@ -94,7 +94,8 @@ decode_ended disks laws clocks sources conf input input_after disk clock out res
           longest_tables conf;
       input = has.drawn;
     })
-    (left_alone disks laws disk) (λ f steps was s. before_alone disks laws disk steps) (λ e ok. e) (λ none. refl)
+    (left_alone disks laws disk) (λ f found steps was s. before_alone disks laws disk f steps) (λ e ok. e)
+    (λ none. refl)
     (printed_map out result
     (λ stop e why. decode_cause disks clocks sources conf input input_after disk clock stop why)
     (λ t x. of_decode t refl x) has.printed) refl

@@ -5,22 +5,34 @@ use Rattle.std.proofs.Common.{subst, ◌∙◌, arith}
 use Rattle.std.specs.Prelude.{◌⊎◌}
 use Rattle.mta_edge.specs.Views.{DiskView, DiskLaws, StaysTold}
 use Rattle.mta_edge.specs.Causes.{Rose}
-use Rattle.mta_edge.specs.Crashes.{AtAnyMoment}
-use Rattle.mta_journal.specs.declared.why.OpenWhy.{OpenWhy}
 use Rattle.mta_records.specs.declared.step.Step.{Step}
+use Rattle.mta_histories.specs.Compact.{as_it_was}
 use Rattle.mta_images.specs.Image.{StandsFor}
+use Rattle.mta_images.specs.Opened.{IsLeftByOpening, Opens}
+use Rattle.mta_images.proofs.GoingOn.{found_of, one_opening}
 use Rattle.mta_images.proofs.Unique.{one_history}
-use Rattle.mta_spool.specs.Opening.{HasOpened, HasRefused, IsSame, BeforeOrSame, IsLeft, SameSince, unsynced, synced}
+use Rattle.mta_spool.specs.GoingOn.{BeforeOrLeft, HasNotOpened, HasOpened, IsSameOrLeft, IsStopped, LeftSince}
+use Rattle.mta_spool.specs.GoingOn.{unsynced, synced}
 use Rattle.mta_spool.specs.Shown.{Shown}
+use Rattle.mta_spool.specs.declared.why.OpenWhy.{OpenWhy}
 use Rattle.mta_commands.specs.Images.{Synced, IsSafe, IsSafeBefore}
 use Rattle.mta_spool.specs.Crashing.{Reached, Leaves}
 use Rattle.mta_commands.specs.DiskLeft.{uncalled, refused, opened, IsAsItWas, DiskLeft}
-use Rattle.mta_spool.proofs.Crashing.{with_none, still}
-use Rattle.mta_spool.proofs.Openings.{same_octets, same_stands}
+use Rattle.mta_spool.proofs.Crashing.{stands_held, still}
 use Rattle.mta_commands.proofs.Same.{some_same}
 
-same_reached : (f g : List ℕ) (steps tried : List Step) → IsSame f g → StandsFor f steps → Reached steps tried g
-same_reached f g steps tried same s = (0, with_none g steps (same_stands f g steps same s))
+-- an image of the same octets is left by opening
+pub left_same : (f g : List ℕ) (found : List Step) → StandsFor f found → g ≡ f → IsLeftByOpening f g
+left_same f g found s same = record {
+  found = found;
+  left = found;
+  leaves = record { is = found_of f found s; left_is = as_it_was };
+  stands = subst (λ (x : List ℕ). StandsFor x found) (sym same) s;
+}
+
+pub left_of : (f g : List ℕ) (found : List Step) → StandsFor f found → IsSameOrLeft f g → IsLeftByOpening f g
+left_of f g found s (inl same) = left_same f g found s same
+left_of f g found s (inr left) = left
 
 module _ {D : Type 0} (disks : DiskView D) (laws : DiskLaws disks) where
   -- ---- the disk was not called
@@ -33,60 +45,64 @@ module _ {D : Type 0} (disks : DiskView D) (laws : DiskLaws disks) where
     one = omega arith;
     calm = λ calm. refl;
     told = λ f was. (f, was);
-    stands = λ f g steps was now s. inl
-        (with_none g steps (subst (λ (x : List ℕ). StandsFor x steps) (some_same f g (sym was ∙ now)) s));
-    safe = λ f steps was s. inl (record { none = refl; reads = refl; images = λ g left. laws.only_now disk g left });
+    stands = λ e. absurd cc;
+    left = λ e f g found was now s. left_same f g found s (some_same g f (sym now ∙ was));
+    safe = λ f found steps was s.
+        inl (record { none = refl; reads = refl; images = λ g left. laws.only_now disk g left });
     stood = λ e. absurd cc;
     synced = λ e. absurd cc;
     no_spool = λ f was none. record { reads = was; images = λ g left. inl (laws.only_now disk g left) };
   }
 
-  pub before_alone : (disk : D) (steps : List Step) → IsSafeBefore disks steps [] disk disk
-  before_alone disk steps g left = inl (laws.only_now disk g left)
+  pub before_alone : (disk : D) (f : List ℕ) (steps : List Step) → IsSafeBefore disks f steps [] disk disk
+  before_alone disk f steps g left = inl (laws.only_now disk g left)
 
   -- ---- it was not opened
 
-  pub before_refused : (old new : D) (why : OpenWhy) → HasRefused disks old new why
-      → (f : List ℕ) (steps : List Step) → disks.content old ≡ Some f → StandsFor f steps
-      → IsSafeBefore disks steps [] old new
-  before_refused old new why refusal f steps was s g left =
-      ⊎_elim {C = disks.may_leave old g ⊎ Reached steps [] g} (λ before. inl before)
-      (λ same. inr (same_reached f g steps [] same s)) ((refusal.images f was).each g left)
+  pub before_refused : (old new : D) (why : OpenWhy) → HasNotOpened disks old new why
+      → (f : List ℕ) (found steps : List Step) → disks.content old ≡ Some f → Opens f found steps
+      → IsSafeBefore disks f steps [] old new
+  before_refused old new why refusal f found steps was s g left =
+      ⊎_elim {C = disks.may_leave old g ⊎ IsLeftByOpening f g ⊎ Reached steps [] g} (λ before. inl before)
+      (λ same. inr (inl (left_of f g found s.is.stands same))) ((refusal.images f was).each g left)
 
-  same_now : (old new : D) (f : List ℕ) (ss : SameSince disks f old new) (g : List ℕ) → disks.may_leave new g
-      → IsSame f g
-  same_now old new f ss g may = ss.same.same g (laws.counts_now new (disks.moment ss.first) g ss.same.until may)
+  left_now : (old new : D) (f : List ℕ) (ss : LeftSince disks f old new) (g : List ℕ) → disks.may_leave new g
+      → IsSameOrLeft f g
+  left_now old new f ss g may = ss.left.left g (laws.counts_now new (disks.moment ss.first) g ss.left.until may)
 
-  safe_refused : (old new : D) (f : List ℕ) (steps : List Step) → StandsFor f steps → AtAnyMoment disks
-      (BeforeOrSame disks old f) old new → IsLeft disks f old new → IsSafe disks steps [] [] old new
-  safe_refused old new f steps s images (unsynced same left) = inl (record { none = refl; reads = same; images = left })
-  safe_refused old new f steps s images (synced ss) = inr (record {
+  safe_refused : (old new : D) (f : List ℕ) (found steps : List Step) → StandsFor f found → IsStopped disks f old new
+      → IsSafe disks f steps [] [] old new
+  safe_refused old new f found steps s (unsynced same left) =
+      inl (record { none = refl; reads = same; images = left })
+  safe_refused old new f found steps s (synced ss) = inr (inl (record {
+    none = refl;
     first = ss.first;
     sync = ss.sync;
-    until = ss.same.until;
-    images = λ g left. same_reached f g steps [] (ss.same.same g left) s;
-    now = λ g may. inl (with_none g steps (same_stands f g steps (same_now old new f ss g may) s));
-  })
+    until = ss.left.until;
+    images = λ g left. left_of f g found s (ss.left.left g left);
+  }))
 
-  reads_refused : (old new : D) (f g : List ℕ) (steps : List Step) → StandsFor f steps
-      → disks.content old ≡ Some f → disks.content new ≡ Some g → IsLeft disks f old new → StandsFor g steps
-  reads_refused old new f g steps s was now (unsynced same left) = subst (λ (x : List ℕ). StandsFor x steps)
-      (some_same f g (sym was ∙ sym same ∙ now)) s
-  reads_refused old new f g steps s was now (synced ss) =
-      same_stands f g steps (same_now old new f ss g (laws.reads_image new g now)) s
+  reads_refused : (old new : D) (f g : List ℕ) (found : List Step) → StandsFor f found
+      → disks.content old ≡ Some f → disks.content new ≡ Some g → IsStopped disks f old new → IsLeftByOpening f g
+  reads_refused old new f g found s was now (unsynced same left) =
+      left_same f g found s (some_same g f (sym now ∙ same ∙ was))
+  reads_refused old new f g found s was now (synced ss) =
+      left_of f g found s (left_now old new f ss g (laws.reads_image new g now))
 
   -- what is no spool is as it was
-  as_it_was : (old new : D) (why : OpenWhy) → HasRefused disks old new why → (f : List ℕ)
+  stays : (old new : D) (why : OpenWhy) → HasNotOpened disks old new why → (f : List ℕ)
       → disks.content old ≡ Some f → ((steps : List Step) → StandsFor f steps → ⊥)
       → IsAsItWas disks f old new
-  as_it_was old new why refusal f was none =
-      record {
-        reads = refusal.kept f was none;
-        images = λ g left. ⊎_elim {C = disks.may_leave old g ⊎ (g ≡ f)} (λ before. inl before)
-            (λ same. inr (same_octets f g none same)) ((refusal.images f was).each g left);
-      }
+  stays old new why refusal f was none = record {
+    reads = refusal.kept f was none;
+    images = λ g left. by g ((refusal.images f was).each g left);
+  } where
+    by : (g : List ℕ) → BeforeOrLeft disks old f g → disks.may_leave old g ⊎ (g ≡ f)
+    by g (inl before) = inl before
+    by g (inr (inl same)) = inr same
+    by g (inr (inr left)) = absurd (none left.found left.leaves.is.stands)
 
-  pub disk_refused : (old new : D) (why : OpenWhy) → HasRefused disks old new why
+  pub disk_refused : (old new : D) (why : OpenWhy) → HasNotOpened disks old new why
       → DiskLeft disks old new refused [] []
   disk_refused old new why refusal = record {
     untouched = λ e. absurd cc;
@@ -95,40 +111,53 @@ module _ {D : Type 0} (disks : DiskView D) (laws : DiskLaws disks) where
     one = omega arith;
     calm = λ calm. refl;
     told = refusal.told;
-    stands = λ f g steps was now s. inl
-        (with_none g steps (reads_refused old new f g steps s was now (refusal.left f was)));
-    safe = λ f steps was s. safe_refused old new f steps s (refusal.images f was) (refusal.left f was);
+    stands = λ e. absurd cc;
+    left = λ e f g found was now s. reads_refused old new f g found s was now (refusal.left f was);
+    safe = λ f found steps was s. safe_refused old new f found steps s.is.stands (refusal.left f was);
     stood = λ e. absurd cc;
     synced = λ e. absurd cc;
-    no_spool = λ f was none. as_it_was old new why refusal f was none;
+    no_spool = λ f was none. stays old new why refusal f was none;
   }
 
 -- ---- it was opened, and steps were added
 
 module _ {D C : Type 0} (disks : DiskView D) (laws : DiskLaws disks) (old : D) (spool : Shown D C)
     (o : HasOpened disks old spool) where
-  -- the steps for which the disk stood are those of the spool
-  pub same_steps : (f : List ℕ) (steps : List Step) → disks.content old ≡ Some f → StandsFor f steps
+  -- what opening these octets goes on with are the steps of the spool
+  pub same_steps : (f : List ℕ) (found steps : List Step) → disks.content old ≡ Some f → Opens f found steps
       → o.steps ≡ steps
-  same_steps f steps was stands = one_history f o.steps steps (o.history f was) stands
+  same_steps f found steps was s = (one_opening f o.found found o.steps steps (o.opens f was) s).1
+
+  -- and what was found is for what they stood
+  pub same_found : (f : List ℕ) (found : List Step) → disks.content old ≡ Some f → StandsFor f found → o.found ≡ found
+  same_found f found was s = one_history f o.found found (o.opens f was).is.stands s
 
   synced_opened : (new : Shown D C) (added torn_step : List Step)
       → ((f : List ℕ) → disks.content spool.journal.disk ≡ Some f → Leaves disks o.steps added torn_step
-      spool.journal.disk new.journal.disk) → (f : List ℕ) (steps : List Step) → disks.content old ≡ Some f
-      → StandsFor f steps → Synced disks steps added torn_step old new.journal.disk
-  synced_opened new added torn_step leaves f steps was s =
+      spool.journal.disk new.journal.disk) → (f : List ℕ) (found steps : List Step) → disks.content old ≡ Some f
+      → Opens f found steps → Synced disks f steps added torn_step old new.journal.disk
+  synced_opened new added torn_step leaves f found steps was s =
       let x = o.told f was in
       let l = leaves x.0 x.1 in
       let ss = o.synced f was in
       let since = disks.moment spool.opened.synced in
-      subst (λ (x : List Step). Synced disks x added torn_step old new.journal.disk) (same_steps f steps was s)
+      let here : StandsFor x.0 o.steps =
+      stands_held disks spool.journal spool.current o.steps o.stands x.0 (o.stands.holds.file x.0 x.1) in
+      subst (λ (y : List Step). Synced disks f y added torn_step old new.journal.disk)
+      (same_steps f found steps was s)
       (record {
         first = spool.opened.synced;
         sync = o.sync;
-        until = omega (arith, ss.until, l.during.later);
-        images = λ g left. ⊎_elim {C = Reached o.steps (added ++ torn_step) g}
-            (λ first. same_reached f g o.steps (added ++ torn_step) (ss.same g first) (o.history f was))
-            (λ reached. reached) (l.during.since since g ss.until left);
+        over = spool.journal.disk;
+        later = ss.until;
+        until = l.during.later;
+        opening = λ g left. left_of f g found s.is.stands (ss.left g left);
+        opened = λ g may.
+            subst (λ (y : List ℕ). StandsFor y o.steps) (sym (o.stands.holds.settled x.0 x.1 g may)) here;
+        all = λ g left. ⊎_elim {C = IsLeftByOpening f g ⊎ Reached o.steps (added ++ torn_step) g}
+            (λ first. inl (left_of f g found s.is.stands (ss.left g first)))
+            (λ reached. inr reached) (l.during.since since g ss.until left);
+        images = l.during.each;
         now = l.now;
       })
 
@@ -145,32 +174,34 @@ module _ {D C : Type 0} (disks : DiskView D) (laws : DiskLaws disks) (old : D) (
     one = one;
     calm = calm;
     told = λ f was. let x = o.told f was in told x.0 x.1;
-    stands = λ f g steps was now s. (synced_opened new added torn_step leaves f steps was s).now g
+    stands = λ e f g found steps was now s. (synced_opened new added torn_step leaves f found steps was s).now g
         (laws.reads_image new.journal.disk g now);
-    safe = λ f steps was s. inr (synced_opened new added torn_step leaves f steps was s);
-    stood = λ e f was. (o.steps, o.history f was);
-    synced = λ e f steps was s. synced_opened new added torn_step leaves f steps was s;
-    no_spool = λ f was none. absurd (none o.steps (o.history f was));
+    left = λ e. absurd (e refl);
+    safe = λ f found steps was s. inr (inr (synced_opened new added torn_step leaves f found steps was s));
+    stood = λ e f was. (o.found, (o.opens f was).is.stands);
+    synced = λ e f found steps was s. synced_opened new added torn_step leaves f found steps was s;
+    no_spool = λ f was none. absurd (none o.found (o.opens f was).is.stands);
   }
 
   pub before_opened : (new : Shown D C) (added torn_step : List Step)
       → ((f : List ℕ) → disks.content spool.journal.disk ≡ Some f
       → Leaves disks o.steps added torn_step spool.journal.disk new.journal.disk)
-      → (f : List ℕ) (steps : List Step) → disks.content old ≡ Some f → StandsFor f steps
-      → IsSafeBefore disks steps (added ++ torn_step) old new.journal.disk
-  before_opened new added torn_step leaves f steps was s g left =
+      → (f : List ℕ) (found steps : List Step) → disks.content old ≡ Some f → Opens f found steps
+      → IsSafeBefore disks f steps (added ++ torn_step) old new.journal.disk
+  before_opened new added torn_step leaves f found steps was s g left =
       let x = o.told f was in
       let l = leaves x.0 x.1 in
       let images = o.images f was in
       let tried = added ++ torn_step in
-      subst (λ (y : List Step). disks.may_leave old g ⊎ Reached y tried g) (same_steps f steps was s)
-      (⊎_elim {C = disks.may_leave old g ⊎ Reached o.steps tried g}
-      (λ first. ⊎_elim {C = disks.may_leave old g ⊎ Reached o.steps tried g} (λ before. inl before)
-      (λ same. inr (same_reached f g o.steps tried same (o.history f was))) (images.each g first))
-      (λ reached. inr reached) (l.during.since (disks.moment old) g images.later left))
+      subst (λ (y : List Step). disks.may_leave old g ⊎ IsLeftByOpening f g ⊎ Reached y tried g)
+      (same_steps f found steps was s)
+      (⊎_elim {C = disks.may_leave old g ⊎ IsLeftByOpening f g ⊎ Reached o.steps tried g}
+      (λ first. ⊎_elim {C = disks.may_leave old g ⊎ IsLeftByOpening f g ⊎ Reached o.steps tried g}
+      (λ before. inl before) (λ same. inr (inl (left_of f g found s.is.stands same))) (images.each g first))
+      (λ reached. inr (inr reached)) (l.during.since (disks.moment old) g images.later left))
 
-  pub before_read : (f : List ℕ) (steps : List Step) → disks.content old ≡ Some f → StandsFor f steps
-      → IsSafeBefore disks steps [] old spool.journal.disk
+  pub before_read : (f : List ℕ) (found steps : List Step) → disks.content old ≡ Some f → Opens f found steps
+      → IsSafeBefore disks f steps [] old spool.journal.disk
   before_read = before_opened spool [] [] (λ f told. still disks laws spool spool refl f told o.steps o.stands)
 
   -- it was opened and read

@@ -1,16 +1,17 @@
 -- What a command leaves, from what its parts leave.
 use Rattle.std.proofs.Common.{◌≡◌, ℕ, List, [], ◌++◌, Option, Result, Ok, Err, refl, sym}
-use Rattle.std.proofs.Common.{subst, arith, inl, inr}
+use Rattle.std.proofs.Common.{subst, ◌∙◌, arith, inl, inr}
 use Rattle.std.proofs.lemmas.List.{append-nil}
 use Rattle.mta_edge.specs.Views.{DiskView, DiskLaws, ClockView, SourceView}
 use Rattle.mta_records.specs.declared.step.Step.{Step}
 use Rattle.mta_histories.specs.History.{IsHistory}
-use Rattle.mta_images.specs.Image.{StandsFor}
+use Rattle.mta_images.specs.Opened.{Opens}
+use Rattle.mta_spool.proofs.Compacted.{goes_on_history}
 use Rattle.mta_commands.specs.declared.stop.Stop.{Stop}
 use Rattle.mta_words.specs.declared.words.Words.{Words}
 use Rattle.mta_stations.specs.Deciding.{halts_of, IsUndecided}
 use Rattle.mta_commands.specs.Words.{AddsSteps, OpensDisk}
-use Rattle.mta_commands.specs.Handed.{ForOpened, Handed, handed}
+use Rattle.mta_commands.specs.Handed.{ForOpenedDisk, Handed, handed}
 use Rattle.mta_commands.specs.Inputs.{IsDrawn}
 use Rattle.mta_commands.specs.Output.{Output, IsFront, HasPrinted, whole, stopped, cut, HasShown}
 use Rattle.mta_commands.specs.DiskLeft.{Opening, uncalled, DiskLeft}
@@ -73,14 +74,17 @@ undrawn_along sources longest old new same = subst (λ (x : _). IsDrawn sources 
 pub none_undecided : IsUndecided (halts_of [])
 none_undecided = λ i d l. absurd (omega (arith, l))
 
-pub stands_history : (f : List ℕ) (steps : List Step) → StandsFor f steps → IsHistory (steps ++ [])
-stands_history f steps s = subst IsHistory (sym (append-nil steps)) s.history
+-- what opening goes on with is a history
+pub stands_history : (f : List ℕ) (found steps : List Step) → Opens f found steps → IsHistory (steps ++ [])
+stands_history f found steps o =
+    subst IsHistory (sym (append-nil steps ∙ o.goes_on_is))
+    (goes_on_history o.is.first_of_two o.is.size found o.is.stands.each o.is.stands.history)
 
 -- a command that added nothing
 pub ended_alike : {D C I : Type 0} (h : Handed D C I) (stations : OnStations) (out : Output)
     (result : Result (Unit {0}) Stop)
     (opening : Opening) → SourcesLeft h → DiskLeft h.disks h.disk.before h.disk.after opening [] []
-    → ForOpened h (λ steps. IsSafeBefore h.disks steps [] h.disk.before h.disk.after)
+    → ForOpenedDisk h (λ f steps. IsSafeBefore h.disks f steps [] h.disk.before h.disk.after)
     → (AddsSteps h.words → result ≡ Ok tt → ⊥) → ((OpensDisk h.words → ⊥) → opening ≡ uncalled)
     → HasPrinted (Cause h [] [] opening) (IsText h [] [] opening) out result → stations opening [] [] []
     → HasEnded h stations out result
@@ -94,8 +98,8 @@ ended_alike h stations out result opening sources disk before other unless print
   uncalled_unless = unless;
   safe_before = λ none. before;
   printed = printed;
-  history = λ f steps was s. stands_history f steps s;
-  own = λ none c e i w f steps was s. tt;
+  history = λ f found steps was s. stands_history f found steps s;
+  own = λ none c e i w f found steps was s. tt;
   in_turn = λ none. tt;
   of_call = none_of_call h;
   only_adding = λ e. refl;
@@ -119,5 +123,5 @@ pub ended_early : {D C I : Type 0} (disks : DiskView D) (laws : DiskLaws disks) 
 ended_early disks laws clocks sources words conf conf_after input input_after disk clock stations out stop left same
     cause on =
     ended_alike (handed disks clocks sources words conf conf_after input input_after disk disk clock) stations out
-    (Err stop) uncalled left (left_alone disks laws disk) (λ f steps was s. before_alone disks laws disk steps)
+    (Err stop) uncalled left (left_alone disks laws disk) (λ f found steps was s. before_alone disks laws disk f steps)
     (λ e ok. absurd cc) (λ none. refl) (stopped stop cause [] (inl refl) (prints_nothing out same)) on

@@ -9,6 +9,7 @@ pub mod Settled
 pub mod Worked
 pub mod HandedOn
 pub mod Named
+pub mod SameShown
 pub mod ShownSpool
 pub mod Decoded
 pub mod Submitted

@@ -158,7 +158,7 @@ module _ {D C I : Type 0} (h : Handed D C I) where
   none_of_call = record {
     tables = λ c e. tt;
     accepted = λ other. refl;
-    moments = λ f steps was s. tt;
+    moments = λ f found steps was s. tt;
     in_turn = λ serves c e. inl tt;
   }
 
@@ -174,9 +174,9 @@ module _ {D C I : Type 0} (h : Handed D C I) where
         let two : accepts (front ++ behind) ≡ accepts front + accepts behind = accepts_append front behind in
         let rest : accepts behind ≡ 0 = none_due behind late in
         omega (arith, before, two, rest);
-    moments = λ f steps was s.
-        timed_append (h.clocks.tells h.clock) (after steps) front behind (x.moments f steps was s)
+    moments = λ f found steps was s.
+        timed_append (h.clocks.tells h.clock) (after steps) front behind (x.moments f found steps was s)
         (subst (λ (st : State). AreTimed (h.clocks.tells h.clock) st behind) (after_append empty steps front)
-        (timed f steps was s));
+        (timed f found steps was s));
     in_turn = λ is c e. first_more c front behind (x.in_turn is c e) late;
   }

@@ -12,7 +12,7 @@ use Rattle.mta_histories.specs.Lanes.{State}
 use Rattle.mta_histories.specs.History.{after, IsHistory}
 use Rattle.mta_images.specs.Image.{OpensAt, size_of}
 use Rattle.mta_spool.specs.Bases.{base_of, Keeps, where_listed}
-use Rattle.mta_spool.specs.Opening.{HasOpened}
+use Rattle.mta_spool.specs.GoingOn.{HasOpened}
 use Rattle.mta_spool.specs.Shown.{Shown}
 use Rattle.mta_spool.specs.Stands.{Stands}
 use Rattle.mta_spool.specs.Turning.{IsRecorded}
@@ -100,17 +100,17 @@ module _ {D C I : Type 0} (h : Handed D C I) (serves : Serves h.words) (laws : D
         (λ f told. b.adds.leaves f told o.steps o.stands))
 
     begun_history : ForOpened h (λ steps. IsHistory (steps ++ (b.added ++ b.torn_step)))
-    begun_history f steps was s =
+    begun_history f found steps was s =
         subst (λ (y : List Step). IsHistory (y ++ (b.added ++ b.torn_step)))
-        (same_steps h.disks laws h.disk.before spool o f steps was s) (b.adds.history o.steps o.stands)
+        (same_steps h.disks laws h.disk.before spool o f found steps was s) (b.adds.history o.steps o.stands)
 
     pub begun_own : AreOfRun h (b.added ++ b.torn_step)
     begun_own c e = (
       subst (λ (x : List ℕ). RecordsFirst x (b.added ++ b.torn_step)) (read.read.0 c e) b.first,
-      λ f steps was s.
+      λ f found steps was s.
           subst (λ (x : List ℕ). AreOwn Tells x [] (after steps) (b.added ++ b.torn_step)) (read.read.0 c e)
           (subst (λ (y : List Step). AreOwn Tells tables.text [] (after y) (b.added ++ b.torn_step))
-          (same_steps h.disks laws h.disk.before spool o f steps was s)
+          (same_steps h.disks laws h.disk.before spool o f found steps was s)
           (own_known (h.clocks.tells spool.clock) Tells tables.text [] (after o.steps) (b.added ++ b.torn_step)
           from_first (b.adds.own o.steps o.stands))),
     )
@@ -131,18 +131,18 @@ module _ {D C I : Type 0} (h : Handed D C I) (serves : Serves h.words) (laws : D
           subst (λ (x : List ℕ). AreTablesOf x b.added) (read.read.0 c e)
           (first_tables tables.text b.added kept_first);
       accepted = λ other. first_none tables.text b.added kept_first;
-      moments = λ f steps was s.
+      moments = λ f found steps was s.
           subst (λ (y : List Step). AreTimed Tells (after y) b.added)
-          (same_steps h.disks laws h.disk.before spool o f steps was s) begun_timed;
+          (same_steps h.disks laws h.disk.before spool o f found steps was s) begun_timed;
       in_turn = λ is c e. subst (λ (x : List ℕ). RecordsFirst x b.added) (read.read.0 c e) kept_first;
     }
 
     pub begun_recorded : result ≡ Ok tt → ForTables h (λ c. ForOpened h (λ steps. IsRecorded (after (steps ++ b.added))
         c))
-    begun_recorded ok c e f steps was s =
+    begun_recorded ok c e f found steps was s =
         subst (λ (x : List ℕ). IsRecorded (after (steps ++ b.added)) x) (read.read.0 c e)
         (subst (λ (y : List Step). IsRecorded (after (y ++ b.added)) tables.text)
-        (same_steps h.disks laws h.disk.before spool o f steps was s)
+        (same_steps h.disks laws h.disk.before spool o f found steps was s)
         (subst (λ (x : State). IsRecorded x tables.text)
         (b.adds.stands (λ w. ok_err (sym ok ∙ w)) o.steps o.stands).state_is (b.recorded ok)))
 
@@ -153,13 +153,13 @@ module _ {D C I : Type 0} (h : Handed D C I) (serves : Serves h.words) (laws : D
         → ((c : List ℕ) → h.sources.left h.conf.before ≡ Some c → IsOwnFull Tells c final.current
         final.journal.size size need) → Cause h [] added opened (Stops.Full size need)
     full_cause added size need final is large place why =
-        full_serving size need serves inputs (λ c e f steps was s. (
+        full_serving size need serves inputs (λ c e f found steps was s. (
           final.journal.first,
           subst (OpensAt f) (sym place) (o.place f was),
           subst
               (λ (y : List Step).
               IsOwnFull Tells c (after (y ++ added)) (size_of final.journal.first (y ++ added)) size need)
-              (same_steps h.disks laws h.disk.before spool o f steps was s)
+              (same_steps h.disks laws h.disk.before spool o f found steps was s)
               (subst (λ (n : ℕ). IsOwnFull Tells c (after (o.steps ++ added)) n size need) large
               (subst (λ (x : State). IsOwnFull Tells c x final.journal.size size need) is (why c e))),
         ))
@@ -184,9 +184,9 @@ module _ {D C I : Type 0} (h : Handed D C I) (serves : Serves h.words) (laws : D
             (StepFaults.Full size need) from_first (λ x. x) r))
         by_fault (StepFaults.Spent last) w r =
             let there = stands (StepFaults.Spent last) w (λ x. absurd cc) in
-            spent_serving last serves inputs (λ c told f steps was s.
+            spent_serving last serves inputs (λ c told f found steps was s.
             subst (λ (y : List Step). IsOwnSpent Tells c (after (y ++ b.added)) last)
-            (same_steps h.disks laws h.disk.before spool o f steps was s)
+            (same_steps h.disks laws h.disk.before spool o f found steps was s)
             (subst (λ (x : State). IsOwnSpent Tells c x last) there.state_is
             (subst (λ (x : List ℕ). IsOwnSpent Tells x mid.current last) (read.read.0 c told)
             (own_more (h.clocks.tells spool.clock) Tells tables.text mid.current mid.journal.size (⊥) (⊥)

@@ -4,15 +4,15 @@ use Rattle.std.proofs.Common.{subst}
 use Rattle.std.proofs.Common.{◌∙◌, inl, inr}
 use Rattle.std.specs.Prelude.{◌⊎◌}
 use Rattle.mta_edge.specs.Views.{DiskView, DiskLaws, ClockView, SourceView}
-use Rattle.mta_journal.specs.declared.why.OpenWhy.{OpenWhy}
-use Rattle.mta_journal.specs.declared.why.OpenWhy.TheVariants as Whys
 use Rattle.mta_records.specs.declared.step.Step.{Step}
 use Rattle.mta_apdu.specs.Apdus.{longest_apdu}
 use Rattle.mta_histories.specs.Lanes.{State}
 use Rattle.mta_histories.specs.History.{after}
 use Rattle.mta_images.specs.Image.{StandsFor}
-use Rattle.mta_spool.specs.Opening.{HasOpened, HasRefused}
+use Rattle.mta_spool.specs.GoingOn.{HasNotOpened, HasOpened}
 use Rattle.mta_spool.specs.Shown.{Shown}
+use Rattle.mta_spool.specs.declared.why.OpenWhy.{OpenWhy}
+use Rattle.mta_spool.specs.declared.why.OpenWhy.TheVariants as Whys
 use Rattle.mta_commands.specs.declared.stop.Stop.{Stop}
 use Rattle.mta_commands.specs.declared.stop.Stop.TheVariants as Stops
 use Rattle.mta_words.specs.declared.words.Words.{Words}
@@ -24,28 +24,30 @@ use Rattle.mta_commands.specs.Output.{Output, stopped, HasShown}
 use Rattle.mta_commands.specs.DiskLeft.{Opening, refused, opened}
 use Rattle.mta_commands.specs.Causes.{mailbox_named, queue_of, mailbox_of, IsText, of_queue, of_mailbox, Cause}
 use Rattle.mta_commands.specs.Causes.{memory as cause_memory, not_spool as cause_not_spool}
-use Rattle.mta_commands.specs.Causes.{not_opened as cause_not_opened}
+use Rattle.mta_commands.specs.Causes.{not_opened as cause_not_opened, full_opening as cause_full_opening}
 use Rattle.mta_commands.specs.Causes.{no_mailbox as cause_no_mailbox}
 use Rattle.mta_commands.specs.Command.{SourcesLeft, HasEnded, NoneWorked}
 use Rattle.mta_commands.specs.Shows.{stop_of_open, IsShown, IsMailboxShown, IsShownText, shows_queue}
-use Rattle.mta_commands.specs.Shows.{shows_mailbox, IsShownStop, not_spool, not_opened, memory, no_mailbox}
+use Rattle.mta_commands.specs.Shows.{shows_mailbox, IsShownStop, not_spool, full, not_opened, memory, no_mailbox}
 use Rattle.mta_commands.specs.Shows.{HasShownSpool}
 use Rattle.mta_commands.proofs.Same.{ok_same, err_same}
-use Rattle.mta_commands.proofs.DiskStands.{before_read, before_refused, disk_refused, disk_read, same_steps}
+use Rattle.mta_commands.proofs.DiskStands.{before_read, before_refused, disk_refused, disk_read, same_found}
+use Rattle.mta_commands.proofs.SameShown.{mailbox_same, named_same, queue_same}
 use Rattle.mta_commands.proofs.Worked.{prints_nothing}
 use Rattle.mta_commands.proofs.Words.{adds_reads}
 use Rattle.mta_commands.proofs.HandedOn.{printed_map, shown_printed, undrawn, ended_alike}
 
 -- ---- the disk was not opened
 
-shown_refused : {D : Type 0} (disks : DiskView D) (words : Words) (old new : D) (why : OpenWhy) → HasRefused disks old
+shown_refused : {D : Type 0} (disks : DiskView D) (words : Words) (old new : D) (why : OpenWhy) → HasNotOpened disks old
     new why → IsShownStop disks words old new refused (stop_of_open why)
 shown_refused disks words old new (Whys.NotSpool at) refusal = not_spool at (refusal.not_spool at refl)
+shown_refused disks words old new (Whys.Full size need) refusal = full size need (refusal.full size need refl)
 shown_refused disks words old new Whys.Disk refusal = not_opened (refusal.disk refl)
 shown_refused disks words old new Whys.Memory refusal = memory refused
 
 pub shown_not_opened : {D : Type 0} (disks : DiskView D) (laws : DiskLaws disks) (words : Words) (out : Output)
-    (old new : D) (why : OpenWhy) → out.after ≡ out.before → HasRefused disks old new why
+    (old new : D) (why : OpenWhy) → out.after ≡ out.before → HasNotOpened disks old new why
     → HasShownSpool disks words out old new (Err (stop_of_open why))
 shown_not_opened disks laws words out old new why same refusal = record {
   opening = refused;
@@ -83,10 +85,25 @@ mailbox_stopped s name (Err x) stop is e = subst
 
 module _ {D C : Type 0} (disks : DiskView D) (laws : DiskLaws disks) (old : D) (spool : Shown D C)
     (o : HasOpened disks old spool) (out : Output) where
-  -- the state is the one behind the history for which the disk stood
-  state_there : (f : List ℕ) (steps : List Step) → disks.content old ≡ Some f → StandsFor f steps
-      → spool.current ≡ after steps
-  state_there f steps was s = o.stands.state_is ∙ ap after (same_steps disks laws old spool o f steps was s)
+  -- what is shown of the state is that of the history for which the disk stood
+  queue_there : (f : List ℕ) (found : List Step) → disks.content old ≡ Some f → StandsFor f found
+      → queue_of spool.current ≡ queue_of (after found)
+  queue_there f found was s =
+      ap queue_of o.stands.state_is ∙ queue_same f o.found o.steps (o.opens f was)
+      ∙ ap (λ (x : List Step). queue_of (after x)) (same_found disks laws old spool o f found was s)
+
+  mailbox_there : (name f : List ℕ) (found : List Step) → disks.content old ≡ Some f → StandsFor f found
+      → mailbox_of name spool.current ≡ mailbox_of name (after found)
+  mailbox_there name f found was s =
+      ap (mailbox_of name) o.stands.state_is ∙ mailbox_same name f o.found o.steps (o.opens f was)
+      ∙ ap (λ (x : List Step). mailbox_of name (after x)) (same_found disks laws old spool o f found was s)
+
+  named_there : (name f : List ℕ) (found : List Step) → disks.content old ≡ Some f → StandsFor f found
+      → mailbox_named spool.current name ≡ mailbox_named (after found) name
+  named_there name f found was s =
+      ap (λ (x : State). mailbox_named x name) o.stands.state_is
+      ∙ named_same name f o.found o.steps (o.opens f was)
+      ∙ ap (λ (x : List Step). mailbox_named (after x) name) (same_found disks laws old spool o f found was s)
 
   pub queue_left : (text : Result (List ℕ) Stop) (result : Result (Unit {0}) Stop)
       → IsShown (queue_of spool.current) text → HasShown text out result
@@ -97,8 +114,8 @@ module _ {D C : Type 0} (disks : DiskView D) (laws : DiskLaws disks) (old : D) (
     safe_before = before_read disks laws old spool o;
     printed = shown_printed (IsShownStop disks Say.Queue old spool.journal.disk opened)
         (IsShownText disks Say.Queue old opened) out text result
-        (λ t e. shows_queue t refl (λ f steps was s. queue_shown (queue_of spool.current) text t is e
-        ∙ ap queue_of (state_there f steps was s)))
+        (λ t e. shows_queue t refl (λ f found was s. queue_shown (queue_of spool.current) text t is e
+        ∙ queue_there f found was s))
         (λ stop e. subst (IsShownStop disks Say.Queue old spool.journal.disk opened)
         (sym (queue_stopped (queue_of spool.current) text stop is e)) (memory opened)) shown;
   }
@@ -111,7 +128,7 @@ module _ {D C : Type 0} (disks : DiskView D) (laws : DiskLaws disks) (old : D) (
   mailbox_why name stop (inr none) = subst (IsShownStop disks (Say.Mailbox name) old spool.journal.disk opened)
       (sym none.0)
       (no_mailbox name refl
-      (λ f steps was s. ap (λ (x : State). mailbox_named x name) (sym (state_there f steps was s)) ∙ none.1))
+      (λ f found was s. sym (named_there name f found was s) ∙ none.1))
 
   pub mailbox_left : (name : List ℕ) (text : Result (List ℕ) Stop) (result : Result (Unit {0}) Stop)
       → IsMailboxShown spool.current name text → HasShown text out result
@@ -124,8 +141,8 @@ module _ {D C : Type 0} (disks : DiskView D) (laws : DiskLaws disks) (old : D) (
         (IsShownText disks (Say.Mailbox name) old opened) out text result
         (λ t e. let m = mailbox_shown spool.current name text t is e in
         shows_mailbox name t refl
-        (λ f steps was s none. m.1 (ap (λ (x : State). mailbox_named x name) (state_there f steps was s) ∙ none))
-        (λ f steps was s. m.0 ∙ ap (mailbox_of name) (state_there f steps was s)))
+        (λ f found was s none. m.1 (named_there name f found was s ∙ none))
+        (λ f found was s. m.0 ∙ mailbox_there name f found was s))
         (λ stop e. mailbox_why name stop (mailbox_stopped spool.current name text stop is e)) shown;
   }
 
@@ -136,6 +153,7 @@ module _ {D C I : Type 0} (h : Handed D C I) (words : Words) (is : h.words ≡ S
   shown_why : (opening : Opening) (stop : Stop) → IsShownStop h.disks words h.disk.before h.disk.after opening stop
       → Cause h [] [] opening stop
   shown_why _ _ (not_spool at none) = cause_not_spool at opens inputs none
+  shown_why _ _ (full size need fits) = cause_full_opening size need opens inputs fits
   shown_why _ _ (not_opened failed) = cause_not_opened opens inputs failed
   shown_why _ _ (memory opening) = cause_memory opening
   shown_why _ _ (no_mailbox name w none) = cause_no_mailbox name (is ∙ ap (λ (x : Words). Some x) w) none

@@ -14,7 +14,7 @@ use Rattle.mta_commands.specs.Lines.{status_of}
 use Rattle.mta_commands.specs.DiskLeft.{Opening, uncalled, refused, opened}
 use Rattle.mta_commands.specs.Causes.{IsText, of_submit, of_queue, of_serve, of_mailbox, of_decode, Cause, usage}
 use Rattle.mta_commands.specs.Causes.{not_built, memory, source, tables, apdu, not_spool, not_opened, disk, full}
-use Rattle.mta_commands.specs.Causes.{spent, no_mailbox, no_peer, full_serving, spent_serving, of_worker}
+use Rattle.mta_commands.specs.Causes.{spent, no_mailbox, no_peer, full_opening, full_serving, spent_serving, of_worker}
 use Rattle.mta_commands.specs.Serving.{stop_of_halt}
 use Rattle.mta_commands.proofs.Words.{IsKnown, opens_known, serves_known, tables_known, apdu_known}
 use Rattle.mta_commands.proofs.Words.{source_known, unbuilt_said, adds_opens}
@@ -59,6 +59,7 @@ module _ {D C I : Type 0} (h : Handed D C I) where
   stop_tells ends added _ _ (tables line kind reads first same) = two (tables_known h.words reads)
   stop_tells ends added _ _ (apdu at kind reads read first) = six (apdu_known h.words reads)
   stop_tells ends added _ _ (not_spool at opens inputs none) = three refused (opens_known h.words opens)
+  stop_tells ends added _ _ (full_opening size need opens inputs fits) = five refused (opens_known h.words opens)
   stop_tells ends added _ _ (not_opened opens inputs failed) = four refused opens failed
   stop_tells ends added _ _ (disk adds inputs failed) = four opened (adds_opens h.words adds) failed
   stop_tells ends added _ _ (full size need submit inputs why) = five opened (said_known Say.Submit submit (λ x. x))

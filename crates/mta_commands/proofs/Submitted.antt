@@ -3,8 +3,8 @@ use Rattle.std.proofs.Common.{◌≡◌, ℕ, List, [], ◌++◌, Option, Some, 
 use Rattle.std.proofs.Common.{◌∙◌, arith, inl, inr}
 use Rattle.mta_edge.specs.Views.{DiskView, DiskLaws, ClockView, SourceView}
 use Rattle.mta_edge.specs.Causes.{Rose}
-use Rattle.mta_journal.specs.declared.why.OpenWhy.{OpenWhy}
-use Rattle.mta_journal.specs.declared.why.OpenWhy.TheVariants as Whys
+use Rattle.mta_spool.specs.declared.why.OpenWhy.{OpenWhy}
+use Rattle.mta_spool.specs.declared.why.OpenWhy.TheVariants as Whys
 use Rattle.mta_records.specs.declared.step.Step.{Step}
 use Rattle.mta_tables.specs.Tables.{TablesValue, tables_of}
 use Rattle.mta_apdu.specs.Apdus.{longest_apdu}
@@ -12,8 +12,9 @@ use Rattle.mta_machine.specs.Apdu.{IsApdu}
 use Rattle.mta_histories.specs.Lanes.{State}
 use Rattle.mta_histories.specs.Due.{IsQuiet}
 use Rattle.mta_histories.specs.History.{IsHistory, after}
-use Rattle.mta_images.specs.Image.{OpensAt, size_of, StandsFor}
-use Rattle.mta_spool.specs.Opening.{HasOpened, HasRefused}
+use Rattle.mta_images.specs.Image.{OpensAt, size_of}
+use Rattle.mta_images.specs.Opened.{Opens}
+use Rattle.mta_spool.specs.GoingOn.{HasNotOpened, HasOpened}
 use Rattle.mta_spool.specs.Shown.{Shown}
 use Rattle.mta_spool.specs.Stands.{Stands, step_moment}
 use Rattle.mta_spool.specs.Turning.{IsRecorded}
@@ -23,7 +24,7 @@ use Rattle.mta_commands.specs.declared.stop.Stop.{Stop}
 use Rattle.mta_commands.specs.declared.stop.Stop.TheVariants as Stops
 use Rattle.mta_words.specs.declared.words.Words.TheVariants as Say
 use Rattle.mta_commands.specs.Words.{AddsSteps, ReadsTables, ReadsApdu, OpensDisk, Serves}
-use Rattle.mta_commands.specs.Handed.{Handed, handed, ForDisk, ForTables, ForOpened, DiskFailed, InputsRead}
+use Rattle.mta_commands.specs.Handed.{Handed, handed, ForDisk, ForTables, ForOpenedDisk, DiskFailed, InputsRead}
 use Rattle.mta_commands.specs.Inputs.{IsReadAsTables, AreTablesRead, HasTables, IsInputStop}
 use Rattle.mta_commands.specs.Inputs.{HasInput, HasInputs, no_tables, no_apdu, both}
 use Rattle.mta_commands.specs.Output.{Output, HasPrinted, stopped}
@@ -32,7 +33,8 @@ use Rattle.mta_commands.specs.Submit.{AreOwn, IsFullFor, IsSpentFor, IsAccepted,
 use Rattle.mta_commands.specs.Submit.{IsAcceptedLine, HasWorked}
 use Rattle.mta_commands.specs.Causes.{IsText, of_submit, Cause, tables as cause_tables, source as cause_source}
 use Rattle.mta_commands.specs.Causes.{apdu as cause_apdu, memory as cause_memory, not_spool as cause_not_spool}
-use Rattle.mta_commands.specs.Causes.{not_opened as cause_not_opened, disk as cause_disk, full as cause_full}
+use Rattle.mta_commands.specs.Causes.{full_opening as cause_full_opening, not_opened as cause_not_opened}
+use Rattle.mta_commands.specs.Causes.{disk as cause_disk, full as cause_full}
 use Rattle.mta_commands.specs.Causes.{spent as cause_spent}
 use Rattle.mta_commands.specs.Command.{IsSettled, SourcesLeft, HasEnded, NoneWorked}
 use Rattle.mta_commands.specs.Images.{IsSafeBefore}
@@ -126,15 +128,17 @@ module _ {D C I : Type 0} (h : Handed D C I) (is : h.words ≡ Some Say.Submit) 
 
   -- ---- the disk was not opened
 
-  refused_cause : (why : OpenWhy) → HasRefused h.disks h.disk.before h.disk.after why → Cause h [] [] refused
+  refused_cause : (why : OpenWhy) → HasNotOpened h.disks h.disk.before h.disk.after why → Cause h [] [] refused
       (stop_of_open why)
   refused_cause (Whys.NotSpool at) refusal = cause_not_spool at (submit_opens h is) inputs_read
       (refusal.not_spool at refl)
+  refused_cause (Whys.Full size need) refusal =
+      cause_full_opening size need (submit_opens h is) inputs_read (refusal.full size need refl)
   refused_cause Whys.Disk refusal = cause_not_opened (submit_opens h is) inputs_read (refusal.disk refl)
   refused_cause Whys.Memory refusal = cause_memory refused
 
   pub submit_refused : DiskLaws h.disks → (out : Output) (why : OpenWhy) → out.after ≡ out.before
-      → HasRefused h.disks h.disk.before h.disk.after why → HasEnded h NoneWorked out (Err (stop_of_open why))
+      → HasNotOpened h.disks h.disk.before h.disk.after why → HasEnded h NoneWorked out (Err (stop_of_open why))
   submit_refused laws out why same refusal =
       ended_alike h NoneWorked out (Err (stop_of_open why)) refused sources_left
       (disk_refused h.disks laws h.disk.before h.disk.after why refusal)
@@ -145,17 +149,17 @@ module _ {D C I : Type 0} (h : Handed D C I) (is : h.words ≡ Some Say.Submit) 
   -- ---- it was opened, and worked on
 
   full_cause : (new : Shown D C) (base added : List Step) (used need : ℕ) → Stands h.disks new (base ++ added)
-      → ((f : List ℕ) (steps : List Step) → h.disks.content h.disk.before ≡ Some f → StandsFor f steps
+      → ((f : List ℕ) (found steps : List Step) → h.disks.content h.disk.before ≡ Some f → Opens f found steps
       → base ≡ steps)
       → ForDisk h (λ f. OpensAt f new.journal.first)
       → IsFullFor (h.clocks.tells h.clock) x.tables.text x.apdu added new.current new.journal.size used need
       → Cause h [] added opened (Stops.Full used need)
   full_cause new base added used need there same opens r =
-      cause_full used need is inputs_read (λ c e i w f steps was s. (
+      cause_full used need is inputs_read (λ c e i w f found steps was s. (
         new.journal.first,
         opens f was,
         subst (λ (y : List Step). IsFullFor (h.clocks.tells h.clock) c i added (after (y ++ added))
-            (size_of new.journal.first (y ++ added)) used need) (same f steps was s)
+            (size_of new.journal.first (y ++ added)) used need) (same f found steps was s)
             (subst (λ (n : ℕ). IsFullFor (h.clocks.tells h.clock) c i added (after (base ++ added)) n used need)
             there.holds.size
             (subst (λ (y : State). IsFullFor (h.clocks.tells h.clock) c i added y new.journal.size used need)
@@ -167,12 +171,12 @@ module _ {D C I : Type 0} (h : Handed D C I) (is : h.words ≡ Some Say.Submit) 
       ))
 
   spent_cause : (new : Shown D C) (base added : List Step) (last : ℕ) → Stands h.disks new (base ++ added)
-      → ((f : List ℕ) (steps : List Step) → h.disks.content h.disk.before ≡ Some f → StandsFor f steps
+      → ((f : List ℕ) (found steps : List Step) → h.disks.content h.disk.before ≡ Some f → Opens f found steps
       → base ≡ steps) → IsSpentFor (h.clocks.tells h.clock) x.tables.text x.apdu added new.current last
       → Cause h [] added opened (Stops.Spent last)
-  spent_cause new base added last there same r = cause_spent last is inputs_read (λ c e i w f steps was s.
+  spent_cause new base added last there same r = cause_spent last is inputs_read (λ c e i w f found steps was s.
       subst (λ (y : List Step). IsSpentFor (h.clocks.tells h.clock) c i added (after (y ++ added)) last)
-      (same f steps was s)
+      (same f found steps was s)
       (subst (λ (y : State). IsSpentFor (h.clocks.tells h.clock) c i added y last) there.state_is
       (subst (λ (y : List ℕ). IsSpentFor (h.clocks.tells h.clock) c y added new.current last) (behind.read.0 i w)
       (subst (λ (y : List ℕ). IsSpentFor (h.clocks.tells h.clock) y x.apdu added new.current last) (read.read.0 c e)
@@ -180,7 +184,7 @@ module _ {D C I : Type 0} (h : Handed D C I) (is : h.words ≡ Some Say.Submit) 
 
   work_cause : (new : Shown D C) (base added : List Step) (failed : Type 0) (stop : Stop)
       → ((stop ≡ Stops.Disk → ⊥) → Stands h.disks new (base ++ added))
-      → ((f : List ℕ) (steps : List Step) → h.disks.content h.disk.before ≡ Some f → StandsFor f steps
+      → ((f : List ℕ) (found steps : List Step) → h.disks.content h.disk.before ≡ Some f → Opens f found steps
       → base ≡ steps) → ForDisk h (λ f. OpensAt f new.journal.first) → (failed → DiskFailed h)
       → IsWorkStop (h.clocks.tells h.clock) x.tables.text x.apdu added new.current new.journal.size failed stop
       → Cause h [] added opened stop
@@ -193,22 +197,23 @@ module _ {D C I : Type 0} (h : Handed D C I) (is : h.words ≡ Some Say.Submit) 
   work_cause new base added failed _ there same opens risen memory = cause_memory opened
 
   work_text : (spool : Shown D C) (base added : List Step) (text : List ℕ) → Stands h.disks spool base
-      → ((f : List ℕ) (steps : List Step) → h.disks.content h.disk.before ≡ Some f → StandsFor f steps
+      → ((f : List ℕ) (found steps : List Step) → h.disks.content h.disk.before ≡ Some f → Opens f found steps
       → base ≡ steps) → IsAcceptedLine h.disks spool added x.apdu text → IsText h [] added opened text
   work_text spool base added text stands same line = of_submit line.number text is inputs_read line.small line.text_is
-      (λ i w f steps was s.
-      subst (λ (y : List Step). IsAccepted y added i line.number) (same f steps was s)
+      (λ i w f found steps was s.
+      subst (λ (y : List Step). IsAccepted y added i line.number) (same f found steps was s)
       (subst (λ (y : List ℕ). IsAccepted base added y line.number) (behind.read.0 i w) (line.accepted base stands)))
 
   pub submit_worked : (out : Output) (result : Result (Unit {0}) Stop) (spool new : Shown D C) (base : List Step)
       → Stands h.disks spool base
-      → ((f : List ℕ) (steps : List Step) → h.disks.content h.disk.before ≡ Some f → StandsFor f steps
+      → ((f : List ℕ) (found steps : List Step) → h.disks.content h.disk.before ≡ Some f → Opens f found steps
       → base ≡ steps)
       → ForDisk h (λ f. OpensAt f spool.journal.first)
       → (Rose (h.disks.faults spool.journal.disk) (h.disks.faults new.journal.disk) → DiskFailed h)
       → (has : HasWorked h.disks (h.clocks.tells h.clock) x.tables.text x.apdu out spool new result)
       → DiskLeft h.disks h.disk.before h.disk.after opened has.added has.torn_step
-      → ForOpened h (λ steps. IsSafeBefore h.disks steps (has.added ++ has.torn_step) h.disk.before h.disk.after)
+      → ForOpenedDisk h (λ f steps. IsSafeBefore h.disks f steps (has.added ++ has.torn_step) h.disk.before
+      h.disk.after)
       → HasEnded h NoneWorked out result
   submit_worked out result spool new base stands same opens risen has left before = record {
     opening = opened;
@@ -225,11 +230,11 @@ module _ {D C I : Type 0} (h : Handed D C I) (is : h.words ≡ Some Say.Submit) 
         (λ other. has.adds.stands (λ w. other (err_same stop Stops.Disk (sym e ∙ w))) base stands) same
         (λ f was. subst (OpensAt f) (sym has.adds.place) (opens f was)) risen why)
         (λ t line. work_text spool base has.added t stands same line) has.printed;
-    history = λ f steps was s. subst (λ (y : List Step). IsHistory (y ++ (has.added ++ has.torn_step)))
-        (same f steps was s) (has.adds.history base stands);
-    own = λ none c e i w f steps was s. subst
+    history = λ f found steps was s. subst (λ (y : List Step). IsHistory (y ++ (has.added ++ has.torn_step)))
+        (same f found steps was s) (has.adds.history base stands);
+    own = λ none c e i w f found steps was s. subst
         (λ (y : List Step). AreOwn (h.clocks.tells h.clock) c i (after y) (has.added ++ has.torn_step))
-        (same f steps was s)
+        (same f found steps was s)
         (subst (λ (y : List ℕ). AreOwn (h.clocks.tells h.clock) c y (after base) (has.added ++ has.torn_step))
         (behind.read.0 i w)
         (subst (λ (y : List ℕ). AreOwn (h.clocks.tells h.clock) y x.apdu (after base) (has.added ++ has.torn_step))
@@ -238,9 +243,9 @@ module _ {D C I : Type 0} (h : Handed D C I) (is : h.words ≡ Some Say.Submit) 
     of_call = of_call;
     only_adding = λ other. absurd (other (subst AddsSteps (sym is) tt));
     calm = λ ok. has.adds.calm (λ e. ok_err (sym ok ∙ e));
-    settled = λ e ok f steps was s. settled_there ok f steps was s;
-    recorded = λ e ok c w f steps was s. subst (λ (y : List Step). IsRecorded (after (y ++ has.added)) c)
-        (same f steps was s)
+    settled = λ e ok f found steps was s. settled_there ok f found steps was s;
+    recorded = λ e ok c w f found steps was s. subst (λ (y : List Step). IsRecorded (after (y ++ has.added)) c)
+        (same f found steps was s)
         (subst (λ (y : State). IsRecorded y c) (there ok).state_is
         (subst (IsRecorded new.current) (read.read.0 c w) (has.tables ok)));
     undecided = λ ok. none_undecided;
@@ -260,8 +265,8 @@ module _ {D C I : Type 0} (h : Handed D C I) (is : h.words ≡ Some Say.Submit) 
           subst (λ (y : List ℕ). AreTablesOf y has.added) (read.read.0 c e)
           (own_tables (h.clocks.tells h.clock) x.tables.text x.apdu (after base) has.added own_added);
       accepted = λ other. absurd (other is);
-      moments = λ f steps was s.
-          subst (λ (y : List Step). AreTimed (h.clocks.tells h.clock) (after y) has.added) (same f steps was s)
+      moments = λ f found steps was s.
+          subst (λ (y : List Step). AreTimed (h.clocks.tells h.clock) (after y) has.added) (same f found steps was s)
           (own_timed (h.clocks.tells h.clock) x.tables.text x.apdu (after base) has.added own_added);
       in_turn = λ serves. absurd (subst Serves is serves);
     }
@@ -269,10 +274,10 @@ module _ {D C I : Type 0} (h : Handed D C I) (is : h.words ≡ Some Say.Submit) 
     there : result ≡ Ok tt → Stands h.disks new (base ++ has.added)
     there ok = has.adds.stands (λ e. ok_err (sym ok ∙ e)) base stands
 
-    settled_there : result ≡ Ok tt → (f : List ℕ) (steps : List Step) → h.disks.content h.disk.before ≡ Some f
-        → StandsFor f steps → IsSettled (h.clocks.tells h.clock) (steps ++ has.added)
-    settled_there ok f steps was s =
-        subst (λ (y : List Step). IsSettled (h.clocks.tells h.clock) (y ++ has.added)) (same f steps was s)
+    settled_there : result ≡ Ok tt → (f : List ℕ) (found steps : List Step) → h.disks.content h.disk.before ≡ Some f
+        → Opens f found steps → IsSettled (h.clocks.tells h.clock) (steps ++ has.added)
+    settled_there ok f found steps was s =
+        subst (λ (y : List Step). IsSettled (h.clocks.tells h.clock) (y ++ has.added)) (same f found steps was s)
         (subst (λ (y : State). (told : ℕ) × h.clocks.tells h.clock told × IsQuiet y (step_moment told y.moment))
         (there ok).state_is (has.quiet ok))
 
@@ -308,7 +313,7 @@ both_read sources conf conf_after input input_after x (both _ read behind) = (re
 module _ {D C I : Type 0} (disks : DiskView D) (laws : DiskLaws disks) (clocks : ClockView C) (sources : SourceView I)
     (conf conf_after input input_after : I) (clock : C) (out : Output) (old : D) (x : Inputs)
     (inputs : HasInputs sources conf conf_after input input_after (Ok x)) where
-  pub submit_unopened : (new : D) (why : OpenWhy) → out.after ≡ out.before → HasRefused disks old new why
+  pub submit_unopened : (new : D) (why : OpenWhy) → out.after ≡ out.before → HasNotOpened disks old new why
       → HasEnded (handed disks clocks sources (Some Say.Submit) conf conf_after input input_after old new clock)
       NoneWorked out (Err (stop_of_open why))
   submit_unopened new why same refusal =

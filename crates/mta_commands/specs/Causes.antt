@@ -14,6 +14,7 @@ use Rattle.mta_machine.specs.Machine.{last_tables}
 use Rattle.mta_histories.specs.Lanes.{State}
 use Rattle.mta_histories.specs.History.{after}
 use Rattle.mta_images.specs.Image.{HasSize, NoSpoolAt}
+use Rattle.mta_images.specs.Opened.{IsFullForFormat}
 pub use Rattle.mta_show.specs.Compacted.{queue_of, mailbox_of}
 use Rattle.mta_stations.specs.declared.end.Halt.{Halt}
 use Rattle.mta_stations.specs.declared.end.WorkerEnd.{WorkerEnd}
@@ -24,7 +25,8 @@ use Rattle.mta_commands.specs.declared.stop.Stop.{Stop}
 use Rattle.mta_commands.specs.declared.stop.Stop.TheVariants as Stops
 use Rattle.mta_words.specs.declared.words.Words.TheVariants as Say
 use Rattle.mta_commands.specs.Words.{AddsSteps, ReadsTables, ReadsApdu, OpensDisk, IsUnbuilt, roles_named, Serves}
-use Rattle.mta_commands.specs.Handed.{Handed, ForTables, ForInput, ForDisk, ForOpened, SourceFailed, DiskFailed}
+use Rattle.mta_commands.specs.Handed.{Handed, ForTables, ForInput, ForDisk, ForFound, ForOpened, SourceFailed}
+use Rattle.mta_commands.specs.Handed.{DiskFailed}
 use Rattle.mta_commands.specs.Handed.{ForOpenedDisk, InputsRead}
 use Rattle.mta_commands.specs.Inputs.{IsReadAsTables, HasFault}
 use Rattle.mta_commands.specs.Lines.{accepted_line}
@@ -46,20 +48,20 @@ PeersNamed h = ForTables h (λ c. (t : TablesValue) × (tables_of c ≡ Ok t) ×
 
 -- What a command prints where it does not stop: `submit` the number of the item, `serve` a line for the end of each
 -- worker, of whom there is one a station, `spool` the queue, `read` the mailbox, and `decode` the APDU. All but
--- `decode` have opened the disk then.
+-- `decode` have opened the disk then. The queue and the mailbox are those of the history for which the disk stood.
 pub data IsText {D C I : Type 0} (h : Handed D C I) (ends : List WorkerEnd) (added : List Step) : Opening → List ℕ
     → Type 0 where
   of_submit : (number : ℕ) (text : List ℕ) → h.words ≡ Some Say.Submit → InputsRead h → number < 2 ^ 32
       → text ≡ accepted_line number
       → ForInput h (λ i. ForOpened h (λ steps. IsAccepted steps added i number)) → IsText h ends added opened text
   of_queue : (text : List ℕ) → h.words ≡ Some Say.Queue
-      → ForOpened h (λ steps. text ≡ queue_of (after steps))
+      → ForFound h (λ found. text ≡ queue_of (after found))
       → IsText h ends added opened text
   of_serve : (text : List ℕ) → Serves h.words → InputsRead h → PeersNamed h
       → length ends ≡ length (roles_named h.words) → text ≡ station_lines ends → IsText h ends added opened text
   of_mailbox : (name text : List ℕ) → h.words ≡ Some (Say.Mailbox name)
-      → ForOpened h (λ steps. mailbox_named (after steps) name ≢ None)
-      → ForOpened h (λ steps. text ≡ mailbox_of name (after steps))
+      → ForFound h (λ found. mailbox_named (after found) name ≢ None)
+      → ForFound h (λ found. text ≡ mailbox_of name (after found))
       → IsText h ends added opened text
   of_decode : (text : List ℕ) → h.words ≡ Some Say.Decode
       → ForInput h (λ i. (v : ApduValue) × SpellsApdu i v × (text ≡ apdu_text v))
@@ -81,6 +83,8 @@ pub data Cause {D C I : Type 0} (h : Handed D C I) (ends : List WorkerEnd) (adde
       (Stops.BadApdu at kind)
   not_spool : (at : ℕ) → OpensDisk h.words → InputsRead h → ForDisk h (λ f. NoSpoolAt f at)
       → Cause h ends added refused (Stops.NotSpool at)
+  full_opening : (size need : ℕ) → OpensDisk h.words → InputsRead h → ForDisk h (λ f. IsFullForFormat f size need)
+      → Cause h ends added refused (Stops.Full size need)
   not_opened : OpensDisk h.words → InputsRead h → DiskFailed h → Cause h ends added refused Stops.Disk
   disk : AddsSteps h.words → InputsRead h → DiskFailed h → Cause h ends added opened Stops.Disk
   full : (size need : ℕ) → h.words ≡ Some Say.Submit → InputsRead h
@@ -92,7 +96,7 @@ pub data Cause {D C I : Type 0} (h : Handed D C I) (ends : List WorkerEnd) (adde
       IsSpentFor (h.clocks.tells h.clock) c i added (after (steps ++ added)) last)))
       → Cause h ends added opened (Stops.Spent last)
   no_mailbox : (name : List ℕ) → h.words ≡ Some (Say.Mailbox name)
-      → ForOpened h (λ steps. mailbox_named (after steps) name ≡ None)
+      → ForFound h (λ found. mailbox_named (after found) name ≡ None)
       → Cause h ends added opened (Stops.NoMailbox name)
   no_peer : (name : List ℕ) → Serves h.words → ForTables h (λ c. (t : TablesValue) × (tables_of c ≡ Ok t)
       × IsUnnamed t (roles_named h.words) name) → Cause h ends added uncalled (Stops.NoPeer name)

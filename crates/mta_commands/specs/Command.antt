@@ -10,7 +10,7 @@ use Rattle.mta_stations.specs.declared.end.WorkerEnd.{WorkerEnd}
 use Rattle.mta_stations.specs.Deciding.{halts_of, IsUndecided}
 use Rattle.mta_commands.specs.declared.stop.Stop.{Stop}
 use Rattle.mta_commands.specs.Words.{AddsSteps, ReadsTables, ReadsApdu, OpensDisk, Serves}
-use Rattle.mta_commands.specs.Handed.{Handed, ForTables, ForInput, ForOpened}
+use Rattle.mta_commands.specs.Handed.{Handed, ForTables, ForInput, ForOpened, ForOpenedDisk}
 use Rattle.mta_commands.specs.Output.{Output, HasPrinted}
 use Rattle.mta_commands.specs.Inputs.{longest_tables, IsDrawn}
 use Rattle.mta_commands.specs.DiskLeft.{Opening, uncalled, DiskLeft}
@@ -51,7 +51,7 @@ pub record HasEnded {D C I : Type 0} (h : Handed D C I) (stations : OnStations) 
   pub uncalled_unless : (OpensDisk h.words → ⊥) → opening ≡ uncalled
   -- before the first sync a crash leaves what one before the call might have left: of `serve` this is not told
   pub safe_before : (Serves h.words → ⊥)
-      → ForOpened h (λ steps. IsSafeBefore h.disks steps (added ++ torn_step) h.disk.before h.disk.after)
+      → ForOpenedDisk h (λ f steps. IsSafeBefore h.disks f steps (added ++ torn_step) h.disk.before h.disk.after)
   pub printed : HasPrinted (Cause h ends added opening) (IsText h ends added opening) out result
   pub history : ForOpened h (λ steps. IsHistory (steps ++ (added ++ torn_step)))
   pub own : (Serves h.words → ⊥) → ForTables h (λ c. ForInput h (λ i. ForOpened h (λ steps.

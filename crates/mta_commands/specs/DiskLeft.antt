@@ -4,6 +4,7 @@ use Rattle.mta_edge.specs.Views.{DiskView, StaysTold}
 use Rattle.mta_edge.specs.Causes.{Rose}
 use Rattle.mta_records.specs.declared.step.Step.{Step}
 use Rattle.mta_images.specs.Image.{StandsFor}
+use Rattle.mta_images.specs.Opened.{IsLeftByOpening, Opens}
 use Rattle.mta_commands.specs.Images.{Synced, IsSafe}
 use Rattle.mta_spool.specs.Crashing.{IsLeftWith}
 
@@ -13,14 +14,13 @@ pub data Opening : Type 0 where
   refused : Opening
   opened : Opening
 
--- it reads as before, and a crash at any moment of the call leaves what one before might have left, or the same
--- octets
+-- it reads as before, and a crash at any moment of the call leaves what one before might have left, or the same octets
 pub record IsAsItWas {D : Type 0} (disks : DiskView D) (f : List ℕ) (old new : D) : Type 0 where
   pub reads : disks.content new ≡ Some f
   pub images : (g : List ℕ) → disks.left_since new (disks.moment old) g → disks.may_leave old g ⊎ (g ≡ f)
 
--- What became of a disk behind whose history these steps were added. `torn_step` is the step in which it failed, if
--- it did.
+-- What became of a disk behind whose history, as opening goes on with it, these steps were added. `torn_step` is the
+-- step in which it failed, if it did.
 pub record DiskLeft {D : Type 0} (disks : DiskView D) (old new : D) (opening : Opening) (added torn_step
     : List Step) : Type 0 where
   -- one that was not called is the same, and only to one that was opened steps are added
@@ -32,17 +32,19 @@ pub record DiskLeft {D : Type 0} (disks : DiskView D) (old new : D) (opening : O
   pub calm : (Rose (disks.faults old) (disks.faults new) → ⊥) → torn_step ≡ []
   -- it still tells what it holds
   pub told : StaysTold disks old new
-  -- it reads as what it stood for with these steps, and so does what a crash leaves
-  pub stands : (f g : List ℕ) (steps : List Step) → disks.content old ≡ Some f → disks.content new ≡ Some g
-      → StandsFor f steps
-      → IsLeftWith steps added torn_step g
-  pub safe : (f : List ℕ) (steps : List Step) → disks.content old ≡ Some f → StandsFor f steps
-      → IsSafe disks steps added torn_step old new
+  -- one that was opened reads as what opening goes on with and these steps; another as what it stood for or what
+  -- opening may leave; and so does what a crash leaves
+  pub stands : opening ≡ opened → (f g : List ℕ) (found steps : List Step) → disks.content old ≡ Some f
+      → disks.content new ≡ Some g → Opens f found steps → IsLeftWith steps added torn_step g
+  pub left : opening ≢ opened → (f g : List ℕ) (found : List Step) → disks.content old ≡ Some f
+      → disks.content new ≡ Some g → StandsFor f found → IsLeftByOpening f g
+  pub safe : (f : List ℕ) (found steps : List Step) → disks.content old ≡ Some f → Opens f found steps
+      → IsSafe disks f steps added torn_step old new
   -- one that was opened stood for a history, and opening synced it
   pub stood : opening ≡ opened → (f : List ℕ) → disks.content old ≡ Some f
-      → (steps : List Step) × StandsFor f steps
-  pub synced : opening ≡ opened → (f : List ℕ) (steps : List Step) → disks.content old ≡ Some f
-      → StandsFor f steps → Synced disks steps added torn_step old new
+      → (found : List Step) × StandsFor f found
+  pub synced : opening ≡ opened → (f : List ℕ) (found steps : List Step) → disks.content old ≡ Some f
+      → Opens f found steps → Synced disks f steps added torn_step old new
   -- one that is no spool is as it was, also after a crash
   pub no_spool : (f : List ℕ) → disks.content old ≡ Some f → ((steps : List Step) → StandsFor f steps → ⊥)
       → IsAsItWas disks f old new

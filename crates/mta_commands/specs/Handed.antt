@@ -5,6 +5,7 @@ use Rattle.mta_edge.specs.Causes.{Rose}
 use Rattle.mta_records.specs.declared.step.Step.{Step}
 use Rattle.mta_machine.specs.Apdu.{IsApdu}
 use Rattle.mta_images.specs.Image.{StandsFor}
+use Rattle.mta_images.specs.Opened.{Opens}
 use Rattle.mta_words.specs.declared.words.Words.{Words}
 use Rattle.mta_commands.specs.Words.{ReadsTables, ReadsApdu}
 use Rattle.mta_commands.specs.Inputs.{IsReadAsTables}
@@ -55,14 +56,18 @@ module _ {D C I : Type 0} (h : Handed D C I) where
   ForDisk P = (f : List ℕ) → h.disks.content h.disk.before ≡ Some f → P f
 
   -- what holds of the history for which the disk stood, where it tells its octets and they stand for one
-  abbrev pub ForOpened : (List Step → Type 0) → Type 0
-  ForOpened P =
-      (f : List ℕ) (steps : List Step) → h.disks.content h.disk.before ≡ Some f → StandsFor f steps → P steps
+  abbrev pub ForFound : (List Step → Type 0) → Type 0
+  ForFound P =
+      (f : List ℕ) (found : List Step) → h.disks.content h.disk.before ≡ Some f → StandsFor f found → P found
 
-  -- what holds of those octets and that history
+  -- what holds of those octets and of the history with which opening them goes on
   abbrev pub ForOpenedDisk : (List ℕ → List Step → Type 0) → Type 0
   ForOpenedDisk P =
-      (f : List ℕ) (steps : List Step) → h.disks.content h.disk.before ≡ Some f → StandsFor f steps → P f steps
+      (f : List ℕ) (found steps : List Step) → h.disks.content h.disk.before ≡ Some f → Opens f found steps → P f steps
+
+  -- what holds of that history
+  abbrev pub ForOpened : (List Step → Type 0) → Type 0
+  ForOpened P = ForOpenedDisk (λ f steps. P steps)
 
   -- ---- faults
 

@@ -6,8 +6,9 @@ use Rattle.mta_records.specs.declared.step.Step.{Step}
 use Rattle.mta_histories.specs.Lanes.{State}
 use Rattle.mta_histories.specs.History.{after}
 use Rattle.mta_images.specs.Image.{StandsFor, NoSpoolAt}
-use Rattle.mta_journal.specs.declared.why.OpenWhy.{OpenWhy}
-use Rattle.mta_journal.specs.declared.why.OpenWhy.TheVariants as Whys
+use Rattle.mta_images.specs.Opened.{IsFullForFormat, Opens}
+use Rattle.mta_spool.specs.declared.why.OpenWhy.{OpenWhy}
+use Rattle.mta_spool.specs.declared.why.OpenWhy.TheVariants as Whys
 use Rattle.mta_commands.specs.declared.stop.Stop.{Stop}
 use Rattle.mta_commands.specs.declared.stop.Stop.TheVariants as Stops
 use Rattle.mta_words.specs.declared.words.Words.{Words}
@@ -19,6 +20,7 @@ use Rattle.mta_commands.specs.Causes.{mailbox_named, queue_of, mailbox_of}
 
 abbrev pub stop_of_open : OpenWhy → Stop
 stop_of_open (Whys.NotSpool at) = Stops.NotSpool at
+stop_of_open (Whys.Full size need) = Stops.Full size need
 stop_of_open Whys.Disk = Stops.Disk
 stop_of_open Whys.Memory = Stops.Memory
 
@@ -53,6 +55,8 @@ pub data IsShownText {D : Type 0} (disks : DiskView D) (words : Words) (disk : D
 pub data IsShownStop {D : Type 0} (disks : DiskView D) (words : Words) (old new : D) : Opening → Stop → Type 0 where
   not_spool : (at : ℕ) → ((f : List ℕ) → disks.content old ≡ Some f → NoSpoolAt f at)
       → IsShownStop disks words old new refused (Stops.NotSpool at)
+  full : (size need : ℕ) → ((f : List ℕ) → disks.content old ≡ Some f → IsFullForFormat f size need)
+      → IsShownStop disks words old new refused (Stops.Full size need)
   not_opened : Rose (disks.faults old) (disks.faults new) → IsShownStop disks words old new refused Stops.Disk
   memory : (opening : Opening) → IsShownStop disks words old new opening Stops.Memory
   no_mailbox : (name : List ℕ) → words ≡ Say.Mailbox name
@@ -64,5 +68,6 @@ pub record HasShownSpool {D : Type 0} (disks : DiskView D) (words : Words) (out 
     : Result (Unit {0}) Stop) : Type 0 where
   pub opening : Opening
   pub disk : DiskLeft disks old new opening [] []
-  pub safe_before : ForHistoryOf disks old (λ steps. IsSafeBefore disks steps [] old new)
+  pub safe_before : (f : List ℕ) (found steps : List Step) → disks.content old ≡ Some f → Opens f found steps
+      → IsSafeBefore disks f steps [] old new
   pub printed : HasPrinted (IsShownStop disks words old new opening) (IsShownText disks words old opening) out result

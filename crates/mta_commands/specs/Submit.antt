@@ -70,8 +70,7 @@ turn_of step = turn_of_class (class_of step)
 abbrev pub turn_behind : Step → ℕ
 turn_behind step = min (turn_of step + 1) 2
 
--- From this turn on the steps come in their turns. Only the tables may be left out, where they are those recorded
--- last.
+-- From this turn on the steps come in their turns. Only the tables may be left out, where they are those recorded last.
 abbrev pub AreInTurn : ℕ → List Step → Type 0
 AreInTurn turn [] = Unit {0}
 AreInTurn turn (step ∷ steps) =

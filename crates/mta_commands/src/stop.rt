@@ -63,6 +63,7 @@ pub fn stop_of_open(why: OpenWhy) -> Stop
 {
     match why {
         OpenWhy::NotSpool { at } => Stop::NotSpool { at },
+        OpenWhy::Full { size, need } => Stop::Full { size, need },
         OpenWhy::Disk => Stop::Disk,
         OpenWhy::Memory => Stop::Memory,
     }

@@ -1,3 +1,4 @@
 pub mod Unique
 pub mod NoSpool
 pub mod Bodies
+pub mod GoingOn

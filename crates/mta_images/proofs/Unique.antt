@@ -6,7 +6,7 @@ use Rattle.mta_records.specs.Body.{body_of}
 use Rattle.mta_records.proofs.Records.{body_same}
 use Rattle.mta_images.specs.Image.{AreRecords, StandsFor}
 
-same_steps : (s t : List Step) → AreRecords s → AreRecords t → map body_of s ≡ map body_of t → s ≡ t
+pub same_steps : (s t : List Step) → AreRecords s → AreRecords t → map body_of s ≡ map body_of t → s ≡ t
 same_steps [] [] fs ft e = refl
 same_steps [] (b ∷ t) fs ft e = absurd cc
 same_steps (a ∷ s) [] fs ft e = absurd cc

@@ -1,8 +1,10 @@
 -- Which history an image of the disk stands for.
 use Rattle.std.specs.Prelude.{◌≡◌, ◌⊎◌, ℕ, ◌+◌, ◌<◌, List, [], ◌∷◌, ◌++◌, length, map}
-use Rattle.mta_journal.specs.Bodies.{records, HasBodiesAt, StandsFor as HoldsBodies}
+use Rattle.mta_journal.specs.Bodies.{records, HasBodiesAt, HasSecondArea, StandsFor as HoldsBodies}
 use Rattle.mta_journal.specs.Faults.{IsNoJournalAt}
+use Rattle.mta_records.specs.State.{SnapshotValue}
 use Rattle.mta_records.specs.declared.step.Step.{Step}
+use Rattle.mta_records.specs.declared.step.Step.TheVariants.{Snapshot}
 use Rattle.mta_records.specs.Body.{body_of, HasFields}
 use Rattle.mta_histories.specs.History.{IsHistory, IsPossible, after}
 
@@ -22,8 +24,7 @@ pub record HasOnlyArea (image : List ℕ) : Type 0 where
   pub has : HasBodiesAt 8 (body ∷ bodies) image
 
 -- The records of a spool that is opened on a disk of this image stand from this gate on: from gate 8 where the image
--- has
--- bodies in the only area, and else from gate 23, with which the first of two areas begins.
+-- has bodies in the only area, and else from gate 23, with which the first of two areas begins.
 pub data OpensAt (image : List ℕ) (gate : ℕ) : Type 0 where
   in_only : gate ≡ 8 → HasOnlyArea image → OpensAt image gate
   in_first : gate ≡ 23 → (HasOnlyArea image → ⊥) → OpensAt image gate
@@ -32,11 +33,17 @@ pub data OpensAt (image : List ℕ) (gate : ℕ) : Type 0 where
 abbrev pub HasSize : List ℕ → List Step → (ℕ → Type 0) → Type 0
 HasSize image steps P = (gate : ℕ) × OpensAt image gate × P (size_of gate steps)
 
--- The image stands for this history: as a journal it stands for the bodies of its steps.
+-- the history is one snapshot
+abbrev pub IsSnapshot : List Step → Type 0
+IsSnapshot steps = (t : SnapshotValue) × (steps ≡ Snapshot t ∷ [])
+
+-- The image stands for this history: as a journal it stands for the bodies of its steps. Where the second of two areas
+-- is current it has a snapshot.
 pub record StandsFor (image : List ℕ) (steps : List Step) : Type 0 where
   pub bodies : HoldsBodies image (map body_of steps)
   pub each : AreRecords steps
   pub history : IsHistory steps
+  pub second : HasSecondArea image → IsSnapshot steps
 
 -- one image stands for one history
 abbrev pub OneHistory : Type 0
@@ -67,9 +74,21 @@ pub record HasStop (image : List ℕ) (at : ℕ) : Type 0 where
   pub has : HasBodiesAt first bodies image
   pub stops : StopsAt first bodies at
 
--- The image is no spool, and this is the offset: it is no journal there, or the bodies that it has stop there.
+-- no snapshot has this body
+abbrev pub IsNoSnapshot : List ℕ → Type 0
+IsNoSnapshot body = (t : SnapshotValue) → HasFields (Snapshot t) → body_of (Snapshot t) ≡ body → ⊥
+
+-- The second of two areas is current, its one record is no snapshot, and this is the offset of its gate.
+pub record HasOther (image : List ℕ) (at : ℕ) : Type 0 where
+  pub second : HasSecondArea image
+  pub body : List ℕ
+  pub has : HasBodiesAt at (body ∷ []) image
+  pub other : IsNoSnapshot body
+
+-- The image is no spool, and this is the offset: it is no journal there, or the bodies that it has stop there, or it
+-- has another record there than a snapshot.
 abbrev pub NoSpoolAt : List ℕ → ℕ → Type 0
-NoSpoolAt image at = IsNoJournalAt image at ⊎ HasStop image at
+NoSpoolAt image at = IsNoJournalAt image at ⊎ HasStop image at ⊎ HasOther image at
 
 -- such an image stands for no history
 abbrev pub NoSpoolHasNoHistory : Type 0

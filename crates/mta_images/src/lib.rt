@@ -3,4 +3,4 @@
 
 mod law;
 
-pub use law::{no_spool_at_one_place, no_spool_has_no_history, one_history};
+pub use law::{no_spool_at_one_place, no_spool_has_no_history, one_history, openings};

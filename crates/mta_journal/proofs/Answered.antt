@@ -32,15 +32,16 @@ module _ {D : Type 0} (model : DiskView D) (body : List ℕ) (old : Shown D) whe
   -- nothing was done
   still : DiskLaws model → (f : List ℕ) → model.content old.disk ≡ Some f → (bodies : List (List ℕ))
       → Holds model old bodies
-      → AtAnyMoment model (HasOrOneMore bodies body) old.disk old.disk
+      → AtAnyMoment model (HasOrOneMore old.first bodies body) old.disk old.disk
   still laws f told bodies holds =
-      settled_once model laws (HasOrOneMore bodies body) old.disk f holds.settled told
-      (inl (old.first, holds.file f told))
+      settled_once model laws (HasOrOneMore old.first bodies body) old.disk f holds.settled told
+      (inl (holds.file f told))
 
   -- the record was begun
   begun : Takes body old → (new : D) → CrashLeavesBehind model (old.size - 1) body old.disk new → (f : List ℕ)
       → model.content old.disk ≡ Some f
-      → (bodies : List (List ℕ)) → Holds model old bodies → AtAnyMoment model (HasOrOneMore bodies body) old.disk new
+      → (bodies : List (List ℕ)) → Holds model old bodies
+      → AtAnyMoment model (HasOrOneMore old.first bodies body) old.disk new
   begun takes new images f told bodies holds =
       images f told old.first bodies (follows model body old bodies takes holds) (holds.file f told)
 
@@ -74,7 +75,7 @@ module _ {D T : Type 0} (model : DiskView D) (body : List ℕ) (old : Shown D) w
     going = λ ok. absurd cc;
     told = λ f told. (f, subst (λ (n : Shown D). model.content n.disk ≡ Some f) (sym same) told);
     images = λ f told bodies holds.
-        subst (λ (n : Shown D). AtAnyMoment model (HasOrOneMore bodies body) old.disk n.disk) (sym same)
+        subst (λ (n : Shown D). AtAnyMoment model (HasOrOneMore old.first bodies body) old.disk n.disk) (sym same)
         (still model body old laws f told bodies holds);
     kept = λ err no_disk. same;
     ended = (λ e. absurd cc, λ e. absurd cc);

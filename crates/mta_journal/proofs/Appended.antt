@@ -157,13 +157,10 @@ module _ (begin gate : ℕ) (bodies : List (List ℕ)) (body : List ℕ) (can : 
   -- and with a closed one it does not
   gated : (octet : ℕ) (rest f h : List ℕ) → HasBodiesAt begin bodies f → take gate h ≡ take gate f → drop gate h ≡ octet
       ∷ (counted body ++ 0 ∷ rest)
-      → HasOrOneMore bodies body h
-  gated octet rest f h has same behind = ⊎_elim {C = HasOrOneMore bodies body h}
-      (λ (one : octet ≡ 1). inr (
-        begin,
-        opened rest f h has same
-            (behind ∙ ap (λ (n : ℕ). n ∷ (counted body ++ 0 ∷ rest)) one),
-      ))
+      → HasOrOneMore begin bodies body h
+  gated octet rest f h has same behind = ⊎_elim {C = HasOrOneMore begin bodies body h}
+      (λ (one : octet ≡ 1). inr (opened rest f h has same
+      (behind ∙ ap (λ (n : ℕ). n ∷ (counted body ++ 0 ∷ rest)) one)))
       (λ (closed : octet ≢ 1).
       let stand : HasRecords begin bodies h = record {
         octet = octet;
@@ -172,7 +169,7 @@ module _ (begin gate : ℕ) (bodies : List (List ℕ)) (body : List ℕ) (can : 
         closed = closed;
         each = has.stand.each;
       } in
-      inl (begin, record { current = current_more bodies f h same has.stand has.current stand; stand = stand }))
+      inl (record { current = current_more bodies f h same has.stand has.current stand; stand = stand }))
       (cases_eq octet 1)
 
   -- what stands behind the standing gate then
@@ -183,7 +180,7 @@ module _ (begin gate : ℕ) (bodies : List (List ℕ)) (body : List ℕ) (can : 
 
   -- a crash while the gate is lifted leaves the record with an open gate or a closed one
   pub at_gate : (f g h : List ℕ) → gate + 1 ≤ length f → HasBodiesAt begin bodies f
-      → IsFramedAt gate (frame_of body) f g → Torn gate 1 g h → HasOrOneMore bodies body h
+      → IsFramedAt gate (frame_of body) f g → Torn gate 1 g h → HasOrOneMore begin bodies body h
   at_gate f g h le has put torn =
       let first_torn = torn_of (gate + 1) (frame_of body) f g le put in
       let rest : List ℕ = drop (gate + 1 + length (frame_of body)) f in

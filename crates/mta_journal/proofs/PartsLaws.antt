@@ -179,7 +179,7 @@ module _ {D : Type 0} (model : DiskView D) where
     replace_images_1 images =
         less_images (KeepsFirst e) (KeepsEither e frame) old one images
         (λ f g told keeps bodies body fits has other. inl
-        (23, bodies_first e bodies g (keeps.1 bodies has) (λ is. other (sym keeps.0 ∙ is))))
+        (bodies_first e bodies g (keeps.1 bodies has) (λ is. other (sym keeps.0 ∙ is))))
 
     pub replace_images_2 : CrashLeaves model (KeepsEither e frame) old one
         → ContentGoes model (PutsSecond e frame) old one

@@ -1,5 +1,6 @@
 -- What the two calls answer that write a journal anew.
-use Rattle.std.proofs.Common.{inl, ◌≡◌, ◌≢◌, ◌⊎◌, ℕ, ◌+◌, ◌≤◌, false, true, List, [], ◌∷◌, length, Some, Ok, Err, refl}
+use Rattle.std.proofs.Common.{inl, inr, ◌≡◌, ◌≢◌, ◌⊎◌, ℕ, ◌+◌, ◌≤◌, false, true, List, [], ◌∷◌, length, Some, Ok, Err}
+use Rattle.std.proofs.Common.{refl}
 use Rattle.std.proofs.Common.{sym, ap, subst, arith}
 use Rattle.mta_edge.specs.Causes.{Rose}
 use Rattle.mta_edge.specs.Views.{DiskView, DiskLaws, StaysTold}
@@ -19,10 +20,10 @@ module _ {D : Type 0} (model : DiskView D) (after : List (List ℕ) → List (Li
   -- a crash leaves what it leaves while nothing is done
   pub still : DiskLaws model → (f : List ℕ) → model.content old.disk ≡ Some f → (bodies : List (List ℕ))
       → Holds model old bodies
-      → AtAnyMoment model (HasEither bodies (after bodies)) old.disk old.disk
+      → AtAnyMoment model (HasEither old.first bodies (after bodies)) old.disk old.disk
   still laws f told bodies holds =
-      settled_once model laws (HasEither bodies (after bodies)) old.disk f holds.settled told
-      (inl (old.first, holds.file f told))
+      settled_once model laws (HasEither old.first bodies (after bodies)) old.disk f holds.settled told
+      (inl (holds.file f told))
 
 module _ {D T : Type 0} (model : DiskView D) (after : List (List ℕ) → List (List ℕ)) (old : Shown D) where
   pub rewrites_memory : DiskLaws model → (new : Shown D) → new ≡ old → old.ended ≡ false
@@ -33,7 +34,8 @@ module _ {D T : Type 0} (model : DiskView D) (after : List (List ℕ) → List (
     going = λ ok. absurd cc;
     told = λ f told. (f, subst (λ (n : Shown D). model.content n.disk ≡ Some f) (sym same) told);
     images = λ f told bodies holds.
-        subst (λ (n : Shown D). AtAnyMoment model (HasEither bodies (after bodies)) old.disk n.disk) (sym same)
+        subst (λ (n : Shown D). AtAnyMoment model (HasEither old.first bodies (after bodies)) old.disk n.disk)
+        (sym same)
         (still model after old laws f told bodies holds);
     kept = λ err no_disk. same;
     ended = (λ e. absurd cc, λ e. absurd cc);
@@ -47,7 +49,7 @@ module _ {D T : Type 0} (model : DiskView D) (after : List (List ℕ) → List (
       → model.faults old.disk ≤ model.faults new.disk → Rose (model.faults old.disk) (model.faults new.disk)
       → StaysTold model old.disk new.disk
       → ((f : List ℕ) → model.content old.disk ≡ Some f → (bodies : List (List ℕ)) → Holds model old bodies
-      → AtAnyMoment model (HasEither bodies (after bodies)) old.disk new.disk)
+      → AtAnyMoment model (HasEither old.first bodies (after bodies)) old.disk new.disk)
       → Rewrites {T = T} model after old new (Err Faults.Disk)
   rewrites_disk new going stopped later rose told images = record {
     done = λ ok. absurd cc;
@@ -68,7 +70,7 @@ module _ {D T : Type 0} (model : DiskView D) (after : List (List ℕ) → List (
       → ((bodies : List (List ℕ)) → Holds model old bodies → Holds model new (after bodies))
       → model.faults old.disk ≤ model.faults new.disk → StaysTold model old.disk new.disk
       → ((f : List ℕ) → model.content old.disk ≡ Some f → (bodies : List (List ℕ)) → Holds model old bodies
-      → AtAnyMoment model (HasEither bodies (after bodies)) old.disk new.disk)
+      → AtAnyMoment model (HasEither old.first bodies (after bodies)) old.disk new.disk)
       → Rewrites {T = T} model after old new (Ok x)
   rewrites_ok new x going goes_on place done later told images = record {
     done = λ ok. done;
@@ -107,12 +109,13 @@ module _ {D : Type 0} (model : DiskView D) (body frame : List ℕ) (old : Shown 
   pub compact_images : (new : D) → CrashLeaves model (KeepsEither old.size frame) old.disk new → (f : List ℕ)
       → model.content old.disk ≡ Some f
       → (bodies : List (List ℕ)) → Holds model old bodies
-      → AtAnyMoment model (HasEither bodies (body ∷ [])) old.disk new
+      → AtAnyMoment model (HasEither old.first bodies (body ∷ [])) old.disk new
   compact_images new images f told bodies holds =
       let has = holds.file f told in
       let one = first_of old.first old.size bodies f at has.stand has.current holds.size in
-      weaken model (KeepsEither old.size frame f) (HasEither bodies (body ∷ [])) old.disk new
-      (λ g keeps. keeps bodies body fits one.0 one.1) (images f told)
+      weaken model (KeepsEither old.size frame f) (HasEither old.first bodies (body ∷ [])) old.disk new
+      (λ g keeps. subst (λ (n : ℕ). HasEither n bodies (body ∷ []) g) (sym at) (keeps bodies body fits one.0 one.1))
+      (images f told)
 
   pub compact_done : (new : Shown D) → new.first ≡ 23 → new.size ≡ 24 + length frame → new.ended ≡ false
       → Settled model new.disk
@@ -173,11 +176,12 @@ module _ {D : Type 0} (model : DiskView D) (frame : List ℕ) (old : Shown D)
 
   pub settle_images : (new : D) → CrashLeaves model (KeepsOne frame) old.disk new → (f : List ℕ)
       → model.content old.disk ≡ Some f
-      → (bodies : List (List ℕ)) → Holds model old bodies → AtAnyMoment model (HasEither bodies bodies) old.disk new
+      → (bodies : List (List ℕ)) → Holds model old bodies
+      → AtAnyMoment model (HasEither old.first bodies bodies) old.disk new
   settle_images new images f told bodies holds =
       let one = found f told bodies holds in
-      weaken model (KeepsOne frame f) (HasEither bodies bodies) old.disk new
-      (λ g keeps. inl (subst (HasBodies g) (sym one.is)
+      weaken model (KeepsOne frame f) (HasEither old.first bodies bodies) old.disk new
+      (λ g keeps. inr (subst (HasBodies g) (sym one.is)
       (keeps old.first one.body (fits_one f told bodies holds one) one.has one.chosen)))
       (images f told)
 

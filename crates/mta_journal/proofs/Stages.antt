@@ -150,14 +150,14 @@ bodies_second e body f has one = record {
 }
 
 pub either : (e : ℕ) (bodies : List (List ℕ)) (body f : List ℕ) → HasFirst e bodies f → HasSecond e body f
-    → HasEither bodies (body ∷ []) f
-either e bodies body f has one = ⊎_elim {C = HasEither bodies (body ∷ []) f}
+    → HasEither 23 bodies (body ∷ []) f
+either e bodies body f has one = ⊎_elim {C = HasEither 23 bodies (body ∷ []) f}
     (λ (is : selector f ≡ 1). inr (e, bodies_second e body f one is))
-    (λ (other : selector f ≢ 1). inl (23, bodies_first e bodies f has other))
+    (λ (other : selector f ≢ 1). inl (bodies_first e bodies f has other))
     (cases_eq (selector f) 1)
 
-pub same_either : (bodies : List (List ℕ)) (f : List ℕ) → HasEither bodies bodies f → HasBodies f bodies
-same_either bodies f (inl has) = has
+pub same_either : (bodies : List (List ℕ)) (f : List ℕ) → HasEither 23 bodies bodies f → HasBodies f bodies
+same_either bodies f (inl has) = (23, has)
 same_either bodies f (inr has) = has
 
 -- while the selector is written both areas stay

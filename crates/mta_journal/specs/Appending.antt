@@ -37,7 +37,7 @@ PutsBehind model gate body old new =
 abbrev pub CrashLeavesBehind : {D : Type 0} → DiskView D → ℕ → List ℕ → D → D → Type 0
 CrashLeavesBehind model gate body old new =
     (f : List ℕ) → model.content old ≡ Some f → (first : ℕ) (bodies : List (List ℕ)) → CanFollow first gate bodies body
-    → HasBodiesAt first bodies f → AtAnyMoment model (HasOrOneMore bodies body) old new
+    → HasBodiesAt first bodies f → AtAnyMoment model (HasOrOneMore first bodies body) old new
 
 -- what an append of this body answers and leaves
 pub record Appends {D T : Type 0} (model : DiskView D) (body : List ℕ) (old new : Shown D)
@@ -49,9 +49,9 @@ pub record Appends {D T : Type 0} (model : DiskView D) (body : List ℕ) (old ne
   pub going : IsOk result → new.ended ≡ false
   -- the disk tells what it holds where it told it, at every answer
   pub told : StaysTold model old.disk new.disk
-  -- a crash at any moment of the call leaves the bodies that the journal held, or those and this one
+  -- a crash at any moment of the call leaves, in the same area, the bodies that the journal held, or those and this one
   pub images : (f : List ℕ) → model.content old.disk ≡ Some f → (bodies : List (List ℕ)) → Holds model old bodies
-      → AtAnyMoment model (HasOrOneMore bodies body) old.disk new.disk
+      → AtAnyMoment model (HasOrOneMore old.first bodies body) old.disk new.disk
   -- at a refusal but the disk's all is as it was
   pub kept : IsErr result → (IsErrOf result Faults.Disk → ⊥) → new ≡ old
   -- Ended comes exactly where an earlier call answered Disk

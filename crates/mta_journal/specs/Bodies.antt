@@ -79,9 +79,14 @@ pub record HasBodiesAt (gate : ℕ) (bodies : List (List ℕ)) (image : List ℕ
 abbrev pub HasBodies : List ℕ → List (List ℕ) → Type 0
 HasBodies image bodies = (gate : ℕ) × HasBodiesAt gate bodies image
 
--- the image has these bodies, or those and one more
-abbrev pub HasOrOneMore : List (List ℕ) → List ℕ → List ℕ → Type 0
-HasOrOneMore bodies body image = HasBodies image bodies ⊎ HasBodies image (bodies ++ body ∷ [])
+-- from this gate on the image has these bodies, or those and one more
+abbrev pub HasOrOneMore : ℕ → List (List ℕ) → List ℕ → List ℕ → Type 0
+HasOrOneMore gate bodies body image = HasBodiesAt gate bodies image ⊎ HasBodiesAt gate (bodies ++ body ∷ []) image
+
+-- the second of two areas is current
+pub record HasSecondArea (image : List ℕ) : Type 0 where
+  pub areas : HasAreas image
+  pub chosen : selector image ≡ 1
 
 -- The image stands for these bodies: at most nine octets for none, whatever they are, and a longer image for those it
 -- has.

@@ -19,9 +19,9 @@ pub record Rewrites {D T : Type 0} (model : DiskView D) (after : List (List ℕ)
   pub going : IsOk result → new.ended ≡ false
   -- the disk tells what it holds where it told it, at every answer
   pub told : StaysTold model old.disk new.disk
-  -- a crash at any moment of the call leaves the bodies that the journal held, or those
+  -- a crash at any moment of the call leaves the bodies that the journal held, where they stood, or those
   pub images : (f : List ℕ) → model.content old.disk ≡ Some f → (bodies : List (List ℕ)) → Holds model old bodies
-      → AtAnyMoment model (HasEither bodies (after bodies)) old.disk new.disk
+      → AtAnyMoment model (HasEither old.first bodies (after bodies)) old.disk new.disk
   -- at a refusal but the disk's all is as it was
   pub kept : IsErr result → (IsErrOf result Faults.Disk → ⊥) → new ≡ old
   -- Ended comes exactly where an earlier call answered Disk

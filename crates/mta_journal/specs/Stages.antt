@@ -31,9 +31,9 @@ pub record Fits (e : ℕ) (frame body : List ℕ) : Type 0 where
   pub short : length body ≤ longest_first
   pub below : 24 + need_of body ≤ e
 
--- the image has these bodies or those
-abbrev pub HasEither : List (List ℕ) → List (List ℕ) → List ℕ → Type 0
-HasEither s t image = HasBodies image s ⊎ HasBodies image t
+-- the image has the first bodies from this gate on, or the others in whichever area
+abbrev pub HasEither : ℕ → List (List ℕ) → List (List ℕ) → List ℕ → Type 0
+HasEither gate s t image = HasBodiesAt gate s image ⊎ HasBodies image t
 
 -- what stands in the first area stays, and it stays current or not
 abbrev pub KeepsFirst : ℕ → List ℕ → List ℕ → Type 0
@@ -82,7 +82,7 @@ MovesOne frame f g =
 abbrev pub KeepsEither : ℕ → List ℕ → List ℕ → List ℕ → Type 0
 KeepsEither e frame f g =
     (bodies : List (List ℕ)) (body : List ℕ) → Fits e frame body → HasFirst e bodies f → selector f ≢ 1
-    → HasEither bodies (body ∷ []) g
+    → HasEither 23 bodies (body ∷ []) g
 
 -- and then it has that one
 abbrev pub Replaces : ℕ → List ℕ → List ℕ → List ℕ → Type 0

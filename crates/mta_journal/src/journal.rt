@@ -27,6 +27,7 @@ use mta_edge::{Disk, Octets};
 use std::alloc::Global;
 use std::marker::Model;
 use std::mem;
+use std::snapshot::Snapshot;
 use thiserror::Error;
 
 /// The most octets of a journal.
@@ -204,6 +205,13 @@ impl<D: Disk + Drop> Journal<D> {
         ensures { result ≡ self.now.first }
     {
         self.first
+    }
+
+    /// The disk as it is, for clauses alone.
+    pub fn disk_now(&self) -> Snapshot<D>
+        ensures { result.value ≡ self.now.disk }
+    {
+        Snapshot::of(&self.disk)
     }
 
     /// Whether a call answered that the disk failed.

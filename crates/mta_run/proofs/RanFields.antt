@@ -16,7 +16,7 @@ use Rattle.mta_commands.specs.declared.stop.Stop.TheVariants as Stops
 use Rattle.mta_words.specs.declared.words.Words.{Words}
 use Rattle.mta_words.specs.declared.words.Words.TheVariants as Say
 use Rattle.mta_commands.specs.Words.{ReadsTables, ReadsApdu, OpensDisk, Serves}
-use Rattle.mta_commands.specs.Handed.{Handed, ForOpened, InputsRead}
+use Rattle.mta_commands.specs.Handed.{Handed, ForFound, InputsRead}
 use Rattle.mta_commands.specs.Output.{Output, output, HasPrinted, whole, HasClosed, IsEnded}
 use Rattle.mta_commands.specs.DiskLeft.{Opening, opened}
 use Rattle.mta_commands.specs.Causes.{mailbox_named, IsText, of_submit, of_queue, of_serve, of_mailbox, of_decode}
@@ -64,8 +64,8 @@ record TextTells {D C I : Type 0} (h : Handed D C I) (opening : Opening) : Type 
   known : h.words ≢ None
   read : InputsRead h
   opened_it : OpensDisk h.words → opening ≡ opened
-  named : (name : List ℕ) → h.words ≡ Some (Say.Mailbox name) → ForOpened h
-      (λ steps. mailbox_named (after steps) name ≢ None)
+  named : (name : List ℕ) → h.words ≡ Some (Say.Mailbox name) → ForFound h
+      (λ found. mailbox_named (after found) name ≢ None)
 
 serve_known : (words : Option Words) → Serves words → words ≢ None
 serve_known words serves none = subst Serves none serves
@@ -103,7 +103,7 @@ text_tells h ends added _ _ (of_mailbox name text word named is) = record {
   known = some_known h (Say.Mailbox name) word;
   read = reads_nothing h (Say.Mailbox name) word (λ r. r) (λ r. r);
   opened_it = λ o. refl;
-  named = λ other e. subst (λ (x : List ℕ). ForOpened h (λ steps. mailbox_named (after steps) x ≢ None))
+  named = λ other e. subst (λ (x : List ℕ). ForFound h (λ found. mailbox_named (after found) x ≢ None))
       (same_name name other (some_same (Say.Mailbox name) (Say.Mailbox other) (sym word ∙ e))) named;
 }
 text_tells h ends added _ _ (of_serve text serves inputs named each is) = record {
@@ -148,12 +148,12 @@ ran h sinks a b c result status stations has closed first then = record {
   uncalled_unless = has.uncalled_unless;
   disk_stands = has.disk;
   safe_before = has.safe_before;
-  recipients_once = λ f steps was s n. once_in (steps ++ take n (has.added ++ has.torn_step))
-      (history_front steps (has.added ++ has.torn_step) n (has.history f steps was s));
-  acknowledged_kept = λ submit x y was is n rest small begun i w f steps there s.
+  recipients_once = λ f found steps was s n. once_in (steps ++ take n (has.added ++ has.torn_step))
+      (history_front steps (has.added ++ has.torn_step) n (has.history f found steps was s));
+  acknowledged_kept = λ submit x y was is n rest small begun i w f found steps there s.
       let acc = ended_accepted h has.ends has.added submit n small has.opening (output sinks a c) status x y rest
-      printed was is begun i w f steps there s in
-      let all = has.history f steps there s in
+      printed was is begun i w f found steps there s in
+      let all = has.history f found steps there s in
       let front = possible_front empty (steps ++ has.added) has.torn_step (subst IsHistory (sym
       (append_assoc steps has.added has.torn_step)) all) in (
         kept steps has.added i n front acc,

@@ -5,15 +5,15 @@ use Rattle.std.proofs.lemmas.List.{append-nil}
 use Rattle.mta_apdu.specs.Apdus.{longest_apdu}
 use Rattle.mta_edge.specs.Causes.{Rose}
 use Rattle.mta_edge.specs.Views.{ClockLaws, ClockView, DiskLaws, DiskView, SourceView}
-use Rattle.mta_journal.specs.declared.why.OpenWhy.{OpenWhy}
-use Rattle.mta_journal.specs.declared.why.OpenWhy.TheVariants as Whys
+use Rattle.mta_spool.specs.declared.why.OpenWhy.{OpenWhy}
+use Rattle.mta_spool.specs.declared.why.OpenWhy.TheVariants as Whys
 use Rattle.mta_links.specs.Links.{LinkView, StationView}
 use Rattle.mta_links.specs.declared.role.Role.{Role}
 use Rattle.mta_records.specs.declared.step.Step.{Step}
 use Rattle.mta_records.specs.declared.fault.StepFault.{StepFault}
 use Rattle.mta_records.specs.declared.fault.StepFault.TheVariants as StepFaults
 use Rattle.mta_histories.specs.History.{after as after_steps}
-use Rattle.mta_spool.specs.Opening.{HasOpened, HasRefused}
+use Rattle.mta_spool.specs.GoingOn.{HasNotOpened, HasOpened}
 use Rattle.mta_spool.specs.Shown.{Shown}
 use Rattle.mta_spool.specs.Turning.{IsRecorded}
 use Rattle.mta_lane_list_laws.specs.Called.{CallOthers}
@@ -25,7 +25,7 @@ use Rattle.mta_words.specs.declared.station.StationWord.{StationWord}
 use Rattle.mta_words.specs.declared.words.Words.TheVariants as Say
 use Rattle.mta_commands.specs.declared.stop.Stop.{Stop}
 use Rattle.mta_commands.specs.declared.stop.Stop.TheVariants as Stops
-use Rattle.mta_commands.specs.Causes.{Cause, memory, no_peer, not_opened, not_spool}
+use Rattle.mta_commands.specs.Causes.{full_opening, Cause, memory, no_peer, not_opened, not_spool}
 use Rattle.mta_commands.specs.Command.{HasEnded, OnStations, SourcesLeft}
 use Rattle.mta_commands.specs.DiskLeft.{opened, Opening, refused, uncalled}
 use Rattle.mta_commands.specs.Handed.{ForOpened, ForTables, Handed, handed, InputsRead}
@@ -133,15 +133,16 @@ module _ {D C I L S : Type 0} (disks : DiskView D) (laws : DiskLaws disks) (cloc
       apdu = λ r. absurd r;
     }
 
-    refused_cause : (new : D) (why : OpenWhy) → HasRefused disks old new why
+    refused_cause : (new : D) (why : OpenWhy) → HasNotOpened disks old new why
         → Cause (Serving old new) [] [] refused (stop_of_open why)
     refused_cause new (Whys.NotSpool at) x = not_spool at tt (inputs new) (x.not_spool at refl)
+    refused_cause new (Whys.Full size need) x = full_opening size need tt (inputs new) (x.full size need refl)
     refused_cause new Whys.Disk x = not_opened tt (inputs new) (x.disk refl)
     refused_cause new Whys.Memory x = memory refused
 
     -- the disk was not opened
     pub not_open : (new : D) (before after : List S) (why : OpenWhy) → after ≡ before → out.after ≡ out.before
-        → HasRefused disks old new why
+        → HasNotOpened disks old new why
         → HasEnded (Serving old new) (Left old new before after) out (Err (stop_of_open why))
     not_open new before after why same silent x =
         ended_alike (Serving old new) (Left old new before after) out (Err (stop_of_open why)) refused

@@ -16,9 +16,11 @@ use Rattle.mta_histories.specs.Due.{IsQuiet}
 use Rattle.mta_histories.specs.History.{after, IsHistory}
 use Rattle.mta_histories.specs.History.{after as after_steps}
 use Rattle.mta_images.specs.Image.{AreRecords, OpensAt, size_of, StandsFor}
+use Rattle.mta_images.specs.Opened.{base_of as compacted_of, IsFound, Opens}
 use Rattle.mta_session.specs.declared.limits.Limits.{Limits}
 use Rattle.mta_spool.specs.Bases.{base_of, HasTold, Keeps, where_listed}
-use Rattle.mta_spool.specs.Opening.{HasOpened}
+use Rattle.mta_spool.specs.GoingOn.{HasOpened}
+use Rattle.mta_spool.proofs.Crashing.{stands_held}
 use Rattle.mta_spool.specs.Shown.{Shown}
 use Rattle.mta_spool.specs.Stands.{step_moment}
 use Rattle.mta_spool.specs.Turning.{IsRecorded}
@@ -38,7 +40,7 @@ use Rattle.mta_commands.specs.Causes.{Cause, disk as cause_disk, full_serving, m
 use Rattle.mta_commands.specs.Causes.{of_worker, PeersNamed, spent_serving}
 use Rattle.mta_commands.specs.Command.{HasEnded, IsSettled, SourcesLeft}
 use Rattle.mta_commands.specs.DiskLeft.{DiskLeft, opened}
-use Rattle.mta_commands.specs.Handed.{DiskFailed, ForOpened, ForTables, Handed, InputsRead}
+use Rattle.mta_commands.specs.Handed.{DiskFailed, ForDisk, ForOpened, ForTables, Handed, InputsRead}
 use Rattle.mta_commands.specs.Output.{Output}
 use Rattle.mta_run.specs.Served.{AreLimits, ComesBehind, Had_failed, IsBaseOf, StationsLeft, Went_on}
 use Rattle.mta_run.specs.Served.{Worked}
@@ -53,7 +55,7 @@ use Rattle.mta_commands.proofs.Added.{after_append, front_in_turn, own_more as o
 use Rattle.mta_commands.proofs.Beginning.{own_more, settled_why}
 use Rattle.mta_commands.proofs.DiskServed.{disk_served, fails_behind, fails_kept, FailsIn, first_steps, has_told}
 use Rattle.mta_commands.proofs.DiskServed.{risen}
-use Rattle.mta_commands.proofs.DiskStands.{same_steps}
+use Rattle.mta_commands.proofs.DiskStands.{same_found, same_steps}
 use Rattle.mta_commands.proofs.HandedOn.{printed_map}
 use Rattle.mta_commands.proofs.Provenance.{late_append, more_of_call, own_front, own_timed, recorded_behind}
 use Rattle.mta_commands.proofs.Provenance.{timed_append}
@@ -100,13 +102,14 @@ module _ {D C I : Type 0} (h : Handed D C I) (serves : Serves h.words) (laws : D
   Finishes settled = SettlesBehind h.disks (h.clocks.tells joined.clock) joined final settled
 
   -- the same first history in all of them
-  firsts : (f : List ℕ) (steps : List Step) → h.disks.content h.disk.before ≡ Some f → StandsFor f steps
+  firsts : (f : List ℕ) (found steps : List Step) → h.disks.content h.disk.before ≡ Some f → Opens f found steps
       → k.first ≡ steps
-  firsts f steps was s = first_steps h.disks laws h.clocks h.disk.before spool o final k f steps was s
+  firsts f found steps was s = first_steps h.disks laws h.clocks h.disk.before spool o final k f found steps was s
 
-  firsts_joined : (f : List ℕ) (steps : List Step) → h.disks.content h.disk.before ≡ Some f → StandsFor f steps
+  firsts_joined : (f : List ℕ) (found steps : List Step) → h.disks.content h.disk.before ≡ Some f → Opens f found steps
       → kj.first ≡ steps
-  firsts_joined f steps was s = first_steps h.disks laws h.clocks h.disk.before spool o joined kj f steps was s
+  firsts_joined f found steps was s = first_steps h.disks laws h.clocks h.disk.before spool o joined kj f found steps
+      was s
 
   -- ---- what the last turns made
 
@@ -141,9 +144,9 @@ module _ {D C I : Type 0} (h : Handed D C I) (serves : Serves h.words) (laws : D
     fails = fails_behind h.disks laws h.clocks h.disk.before spool o final k joined kj going result x;
     last = Went_on (
       x.in_turn,
-      λ f steps was s.
+      λ f found steps was s.
           subst (λ (y : List Step). AreOwn Tells [] [] (after (y ++ joined.entries)) (x.added ++ x.torn_step))
-          (firsts_joined f steps was s)
+          (firsts_joined f found steps was s)
           (own_known (h.clocks.tells joined.clock) Tells [] [] (after (kj.first ++ joined.entries))
           (x.added ++ x.torn_step) from_joined ((x.adds [] []).own (kj.first ++ joined.entries) (kj.stands going))),
     );
@@ -162,10 +165,10 @@ module _ {D C I : Type 0} (h : Handed D C I) (serves : Serves h.words) (laws : D
 
   back_timed : (before back torn_step : List Step) → ComesBehind h before back torn_step
       → ForOpened h (λ steps. AreTimed Tells (after_steps (steps ++ before)) back)
-  back_timed before back torn_step (Went_on due) f steps was s =
+  back_timed before back torn_step (Went_on due) f found steps was s =
       own_timed Tells [] [] (after_steps (steps ++ before)) back
-      (own_front Tells [] [] (after_steps (steps ++ before)) back torn_step (due.1 f steps was s))
-  back_timed before back torn_step (Had_failed failed none) f steps was s =
+      (own_front Tells [] [] (after_steps (steps ++ before)) back torn_step (due.1 f found steps was s))
+  back_timed before back torn_step (Had_failed failed none) f found steps was s =
       subst (AreTimed Tells (after_steps (steps ++ before))) (sym none) tt
 
   -- what the base lists the clock tells that was handed in
@@ -197,22 +200,22 @@ module _ {D C I : Type 0} (h : Handed D C I) (serves : Serves h.words) (laws : D
           → Wherefore f → Why (stop_of_step f)
       by_fault (StepFaults.Full size need) y r =
           let there = k.stands (known (StepFaults.Full size need) y (λ e. absurd cc)) in
-          full_serving size need serves inputs (λ c told f steps was s. (
+          full_serving size need serves inputs (λ c told f found steps was s. (
             final.journal.first,
             subst (OpensAt f) (sym (k.place ∙ o.first)) (o.place f was),
             subst
                 (λ (z : List Step).
                 IsOwnFull Tells c (after (z ++ final.entries)) (size_of final.journal.first (z ++ final.entries)) size
                 need)
-                (firsts f steps was s)
+                (firsts f found steps was s)
                 (subst (λ (n : ℕ). IsOwnFull Tells c (after (k.first ++ final.entries)) n size need) there.holds.size
                 (subst (λ (z : State). IsOwnFull Tells c z final.journal.size size need) k.state
                 (own_more (h.clocks.tells joined.clock) Tells c final.current final.journal.size (⊥) (⊥)
                 (StepFaults.Full size need) from_joined (λ z. z) (r c)))),
           ))
       by_fault (StepFaults.Spent last) y r =
-          spent_serving last serves inputs (λ c told f steps was s.
-          subst (λ (z : List Step). IsOwnSpent Tells c (after (z ++ final.entries)) last) (firsts f steps was s)
+          spent_serving last serves inputs (λ c told f found steps was s.
+          subst (λ (z : List Step). IsOwnSpent Tells c (after (z ++ final.entries)) last) (firsts f found steps was s)
           (subst (λ (z : State). IsOwnSpent Tells c z last) k.state
           (own_more (h.clocks.tells joined.clock) Tells c final.current final.journal.size (⊥) (⊥)
           (StepFaults.Spent last) from_joined (λ z. z) (r c))))
@@ -273,16 +276,16 @@ module _ {D C I : Type 0} (h : Handed D C I) (serves : Serves h.words) (laws : D
     safe_before = λ none. absurd (none serves);
     printed = printed_map out result (λ stop e why. finish_why x.settled x.behind stop why)
         (λ t is. of_serve t serves inputs peers as_many is) x.printed;
-    history = λ f steps was s.
-        subst (λ (y : List Step). IsHistory (y ++ (final.entries ++ b.torn_step))) (firsts f steps was s)
+    history = λ f found steps was s.
+        subst (λ (y : List Step). IsHistory (y ++ (final.entries ++ b.torn_step))) (firsts f found steps was s)
         b.fails.tried;
     own = λ none. absurd (none serves);
     in_turn = λ none. absurd (none serves);
     of_call = of_call;
     only_adding = λ none. absurd (none (serves_adds h.words serves));
     calm = λ ok. b.calm (x.well ok).0;
-    settled = λ e ok f steps was s.
-        subst (λ (y : List Step). IsSettled Tells (y ++ final.entries)) (firsts f steps was s)
+    settled = λ e ok f found steps was s.
+        subst (λ (y : List Step). IsSettled Tells (y ++ final.entries)) (firsts f found steps was s)
         (subst (λ (z : State). (told : ℕ) × Tells told × IsQuiet z (step_moment told z.moment)) k.state
         (quiet x.settled x.behind (x.well ok).0));
     recorded = λ e ok. recorded;
@@ -322,39 +325,72 @@ module _ {D C I : Type 0} (h : Handed D C I) (serves : Serves h.words) (laws : D
         (back_late joined.entries b.back b.torn_step b.last)
 
     made_timely : ForOpened h (λ steps. AreTimed Tells (after_steps (steps ++ front)) grown.0)
-    made_timely f steps was s =
-        subst (λ (y : List Step). AreTimed Tells (after_steps (y ++ front)) grown.0) (firsts_joined f steps was s)
+    made_timely f found steps was s =
+        subst (λ (y : List Step). AreTimed Tells (after_steps (y ++ front)) grown.0) (firsts_joined f found steps was s)
         (made_timed (TellsUnder (base_of h.disks h.clocks spool)) Tells (after_steps (kj.first ++ front)) grown.0
         listed made)
 
     timed : ForOpened h (λ steps. AreTimed Tells (after_steps (steps ++ front)) (grown.0 ++ b.back))
-    timed f steps was s =
-        timed_append Tells (after_steps (steps ++ front)) grown.0 b.back (made_timely f steps was s)
+    timed f found steps was s =
+        timed_append Tells (after_steps (steps ++ front)) grown.0 b.back (made_timely f found steps was s)
         (subst (λ (st : State). AreTimed Tells st b.back)
         (ap (λ (y : List Step). after_steps (steps ++ y)) (sym grown.1)
         ∙ ap (λ (y : List Step). after_steps y) (sym (append_assoc steps front grown.0))
         ∙ after_append empty (steps ++ front) grown.0)
-        (back_timed joined.entries b.back b.torn_step b.last f steps was s))
+        (back_timed joined.entries b.back b.torn_step b.last f found steps was s))
 
     of_call : AreOfCall h final.entries
     of_call = subst (AreOfCall h) (sym whole) (more_of_call h serves front (grown.0 ++ b.back) own.of_call late timed)
 
     recorded : ForTables h (λ c. ForOpened h (λ steps. IsRecorded (after_steps (steps ++ final.entries)) c))
-    recorded c told f steps was s =
+    recorded c told f found steps was s =
         subst (λ (y : List Step). IsRecorded (after_steps (steps ++ y)) c) (sym whole)
-        (recorded_behind c steps front (grown.0 ++ b.back) late (own.recorded c told f steps was s))
+        (recorded_behind c steps front (grown.0 ++ b.back) late (own.recorded c told f found steps was s))
 
     bodies : ForOpened h (λ first. spool.opened.bodies ≡ map body_of first)
-    bodies f steps was s = o.bodies ∙ ap (map body_of) (same_steps h.disks laws h.disk.before spool o f steps was s)
+    bodies f found steps was s = o.bodies
+        ∙ ap (map body_of) (same_steps h.disks laws h.disk.before spool o f found steps was s)
+
+    told : ForDisk h (λ f. (first : List Step) (is : IsFound f first)
+        → HasTold (base_of h.disks h.clocks spool) (map body_of first) (map body_of (compacted_of is)))
+    told f was first is =
+        subst
+        (λ (bodies : List (List ℕ)).
+        HasTold (base_of h.disks h.clocks spool) bodies (map body_of (compacted_of is))) found_is
+        (subst (HasTold (base_of h.disks h.clocks spool) spool.opened.found) between_is
+        (has_told h.disks laws h.clocks h.disk.before spool o joined kj f was))
+      where
+        same : o.found ≡ first
+        same = same_found h.disks laws h.disk.before spool o f first was is.stands
+
+        found_is : spool.opened.found ≡ map body_of first
+        found_is = o.found_is ∙ ap (map body_of) same
+
+        between : (x : List Step) → o.found ≡ x → (of : IsFound f x) → o.between ≡ compacted_of of
+        between x e = subst (λ (y : List Step). (of : IsFound f y) → o.between ≡ compacted_of of) e (o.compacted f was)
+
+        between_is : spool.opened.between ≡ map body_of (compacted_of is)
+        between_is = o.between_is ∙ ap (map body_of) (between first same is)
+
+    gone_on : ForOpened h (λ first. (g : List ℕ) → h.disks.may_leave spool.opened.over g → StandsFor g first)
+    gone_on f found steps was s g may =
+        let there = o.told f was in
+        subst (StandsFor g) (same_steps h.disks laws h.disk.before spool o f found steps was s)
+        (subst (λ (y : List ℕ). StandsFor y o.steps)
+        (sym (o.stands.holds.settled there.0 there.1 g (subst (λ (d : D). h.disks.may_leave d g) o.over may)))
+        (stands_held h.disks spool.journal spool.current o.steps o.stands there.0
+        (o.stands.holds.file there.0 there.1)))
 
     found : IsBaseOf h (base_of h.disks h.clocks spool)
     found = record {
       found = bodies;
-      told = λ f steps was s. subst (HasTold (base_of h.disks h.clocks spool)) (bodies f steps was s)
-          (has_told h.disks laws h.clocks h.disk.before spool o joined kj f was);
+      told = told;
       synced = spool.opened.synced;
       sync = o.sync;
       since = refl;
+      over = spool.opened.over;
+      opened_at = refl;
+      gone_on = gone_on;
       count = ap (λ (d : D). h.disks.faults d) o.disk;
       place = λ f was. subst (OpensAt f) (sym o.first) (o.place f was);
       listed = ap (λ (c : C). where_listed (h.clocks.moments c)) handed_clock;
@@ -367,32 +403,32 @@ module _ {D C I : Type 0} (h : Handed D C I) (serves : Serves h.words) (laws : D
 
     entries_are : ForOpened h
         (λ first. AreEntries (base_of h.disks h.clocks spool) first ((front ++ grown.0) ++ b.back))
-    entries_are f steps was s = record {
-      found = sym (found.found f steps was s);
-      each = subst (λ (y : List Step). AreRecords (y ++ ((front ++ grown.0) ++ b.back))) (firsts f steps was s)
+    entries_are f found steps was s = record {
+      found = sym (bodies f found steps was s);
+      each = subst (λ (y : List Step). AreRecords (y ++ ((front ++ grown.0) ++ b.back))) (firsts f found steps was s)
           (subst (λ (y : List Step). AreRecords (k.first ++ y)) all_added k.each);
-      possible = subst (λ (y : List Step). IsHistory (y ++ ((front ++ grown.0) ++ b.back))) (firsts f steps was s)
+      possible = subst (λ (y : List Step). IsHistory (y ++ ((front ++ grown.0) ++ b.back))) (firsts f found steps was s)
           (subst (λ (y : List Step). IsHistory (k.first ++ y)) all_added k.history);
     }
 
     -- what came behind the workers was due
     back_own : (steps back torn_step : List Step) → ComesBehind h joined.entries back torn_step
-        → (f : List ℕ) → h.disks.content h.disk.before ≡ Some f → StandsFor f steps
+        → (f : List ℕ) (found : List Step) → h.disks.content h.disk.before ≡ Some f → Opens f found steps
         → AreOwn Tells [] [] (after_steps (steps ++ (front ++ grown.0))) back
-    back_own steps back torn_step (Went_on due) f was s =
+    back_own steps back torn_step (Went_on due) f found was s =
         subst (λ (y : List Step). AreOwn Tells [] [] (after_steps (steps ++ y)) back) (sym grown.1)
-        (own_front Tells [] [] (after_steps (steps ++ joined.entries)) back torn_step (due.1 f steps was s))
-    back_own steps back torn_step (Had_failed failed none) f was s =
+        (own_front Tells [] [] (after_steps (steps ++ joined.entries)) back torn_step (due.1 f found steps was s))
+    back_own steps back torn_step (Had_failed failed none) f found was s =
         subst (AreOwn Tells [] [] (after_steps (steps ++ (front ++ grown.0)))) (sym none) tt
 
     sessions_are : ForOpened h (λ first. SessionsServed h.disks h.clocks links stations limits before theirs.dealt
         theirs.done first (front ++ (grown.0 ++ b.back)) (length front))
-    sessions_are f steps was s =
-        let e = entries_are f steps was s in
+    sessions_are f found steps was s =
+        let e = entries_are f found steps was s in
         let x = known.agree is_apdu steps front (front ++ grown.0) b.back limits before after ends
         (base_of h.disks h.clocks spool) known.tells e
         (behind_for_none Tells steps (front ++ grown.0) b.back
-        (back_own steps b.back b.torn_step b.last f was s)) theirs in
+        (back_own steps b.back b.torn_step b.last f found was s)) theirs in
         subst (λ (y : List Step). SessionsServed h.disks h.clocks links stations limits before theirs.dealt theirs.done
         steps y (length front)) (append_assoc front grown.0 b.back) (record {
           parts = x.0;

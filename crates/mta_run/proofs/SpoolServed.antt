@@ -20,9 +20,9 @@ use Rattle.mta_commands.specs.Submit.{stop_of_step}
 module _ {D C : Type 0} (disks : DiskView D) (clocks : ClockView C) (old new : Shown D C) where
   abbrev based : AtOpening D C → Base
   based o = record {
-    numbers = disks.faults o.disk ∷ disks.moment o.synced ∷ o.first ∷ [];
+    numbers = disks.faults o.disk ∷ disks.moment o.synced ∷ o.first ∷ disks.moment o.over ∷ [];
     lists = where_listed (clocks.moments o.clock);
-    octets = o.bodies ∷ where_told (disks.content o.disk) o.bodies;
+    octets = o.bodies ∷ where_told (disks.content o.disk) o.found o.between;
   }
 
   -- the base is of what the spool was opened with

@@ -24,19 +24,19 @@ use Rattle.mta_commands.specs.Lines.{status_of}
 use Rattle.mta_commands.specs.Output.{Output, OutputFailed, IsEnded, done, told, cut_text, cut_line}
 use Rattle.mta_commands.specs.DiskLeft.{Opening, uncalled}
 use Rattle.mta_commands.specs.Causes.{IsText, Cause, usage, not_built, memory, source, tables, apdu, not_spool}
-use Rattle.mta_commands.specs.Causes.{not_opened, disk, full, spent, no_mailbox, no_peer, full_serving}
+use Rattle.mta_commands.specs.Causes.{full_opening, not_opened, disk, full, spent, no_mailbox, no_peer, full_serving}
 use Rattle.mta_commands.specs.Causes.{spent_serving, of_worker}
 use Rattle.mta_commands.specs.Serving.{stop_of_halt}
 use Rattle.mta_commands.proofs.Same.{ok_same}
 use Rattle.mta_commands.proofs.StopStatuses.{IsEarly, StatusTells, stop_tells, usage_only, usage_there, unbuilt_only}
 use Rattle.mta_commands.proofs.StopStatuses.{unbuilt_there, disk_only, source_only, sink_never, early, text_known}
 use Rattle.mta_commands.proofs.Words.{serves_adds, serves_reads}
-use Rattle.mta_run.specs.Ran.{EndsBeforeOpening, Tells, AllInOrder, IsComplete}
+use Rattle.mta_run.specs.Ran.{EndsBeforeOpening, Tells, AllInOrder, IsComplete, IsOlderAndFull}
 
 -- what the status is where all is in order
 abbrev Completes : {D C I : Type 0} → Handed D C I → ℕ → Type 0
 Completes h status =
-    (status ≡ 0) ⊎ (status ≡ 7) ⊎ ((status ≡ 5) × AddsSteps h.words)
+    (status ≡ 0) ⊎ (status ≡ 7) ⊎ ((status ≡ 5) × (AddsSteps h.words ⊎ (OpensDisk h.words × IsOlderAndFull h)))
 
 -- ---- what is in order has no fault
 
@@ -157,8 +157,8 @@ module _ {D C I : Type 0} (h : Handed D C I) (ends : List WorkerEnd) (added : Li
 
   complete_worker : (halt : Halt) (status : ℕ) → Serves h.words → status ≡ status_of (stop_of_halt halt)
       → Completes h status
-  complete_worker (Halts.Full size need) status serves e = inr (inr (e, serves_adds h.words serves))
-  complete_worker (Halts.Spent last) status serves e = inr (inr (e, serves_adds h.words serves))
+  complete_worker (Halts.Full size need) status serves e = inr (inr (e, inl (serves_adds h.words serves)))
+  complete_worker (Halts.Spent last) status serves e = inr (inr (e, inl (serves_adds h.words serves)))
   complete_worker any status serves e = inr (inl e)
 
   complete_stop : (opening : Opening) (stop : Stop) (status : ℕ) (out : Output) → Cause h ends added opening stop
@@ -175,11 +175,13 @@ module _ {D C I : Type 0} (h : Handed D C I) (ends : List WorkerEnd) (added : Li
       absurd (no_fault (apdu_of x.0) x.2.0 fault (apdu_full x.0 x.2.0 x.2.1) (first x.0 x.1))
   complete_stop _ _ status out (not_spool at opens inputs none) o e = let x = o.spool opens in absurd
       (no_history x.0 at x.1 (none x.0 x.2) x.3)
+  complete_stop _ _ status out (full_opening size need opens inputs fits) o e =
+      inr (inr (e, inr (opens, (size, need, fits))))
   complete_stop _ _ status out (not_opened opens inputs failed) o e = absurd (o.calm_disk failed)
   complete_stop _ _ status out (disk adds inputs failed) o e = absurd (o.calm_disk failed)
   complete_stop _ _ status out (full size need submit inputs why) o e =
-      inr (inr (e, subst AddsSteps (sym submit) tt))
-  complete_stop _ _ status out (spent last submit inputs why) o e = inr (inr (e, subst AddsSteps (sym submit) tt))
+      inr (inr (e, inl (subst AddsSteps (sym submit) tt)))
+  complete_stop _ _ status out (spent last submit inputs why) o e = inr (inr (e, inl (subst AddsSteps (sym submit) tt)))
   complete_stop _ _ status out (no_mailbox name word none) o e = let x = o.spool (subst OpensDisk (sym word) tt)
       in absurd (o.named name word x.0 x.1 x.2 x.3 (none x.0 x.1 x.2 x.3))
   complete_stop _ _ status out (no_peer name serves unnamed) o e =
@@ -188,9 +190,9 @@ module _ {D C I : Type 0} (h : Handed D C I) (ends : List WorkerEnd) (added : Li
       let un = unnamed x.0 x.1 in
       absurd (not_unnamed x.0 (roles_named h.words) name named.0 un.0 named.1 un.1 named.2 un.2)
   complete_stop _ _ status out (full_serving size need serves inputs why) o e =
-      inr (inr (e, serves_adds h.words serves))
+      inr (inr (e, inl (serves_adds h.words serves)))
   complete_stop _ _ status out (spent_serving last serves inputs why) o e =
-      inr (inr (e, serves_adds h.words serves))
+      inr (inr (e, inl (serves_adds h.words serves)))
   complete_stop _ _ status out (of_worker halt serves inputs decides) o e = complete_worker halt status serves e
 
   pub ended_complete : (opening : Opening) (out : Output) (status : ℕ) → IsEnded (Cause h ends added opening)

@@ -9,12 +9,14 @@ use Rattle.mta_machine.specs.Machine.{IsRun, discharges_in}
 use Rattle.mta_machine.specs.Laws.{IsPendingOrDischarged}
 use Rattle.mta_histories.specs.History.{after, project}
 use Rattle.mta_images.specs.Image.{StandsFor}
+use Rattle.mta_images.specs.Opened.{IsFullForFormat}
 use Rattle.mta_spool.specs.Turning.{IsRecorded}
 use Rattle.mta_stations.specs.declared.end.WorkerEnd.{WorkerEnd}
 use Rattle.mta_stations.specs.Deciding.{halts_of, IsUndecided}
 use Rattle.mta_words.specs.declared.words.Words.TheVariants as Say
 use Rattle.mta_commands.specs.Words.{AddsSteps, ReadsTables, ReadsApdu, OpensDisk, IsUnbuilt, Serves}
-use Rattle.mta_commands.specs.Handed.{Handed, ForTables, ForInput, ForOpened, SourceFailed, DiskFailed, InputsRead}
+use Rattle.mta_commands.specs.Handed.{Handed, ForTables, ForInput, ForDisk, ForFound, ForOpened, ForOpenedDisk}
+use Rattle.mta_commands.specs.Handed.{SourceFailed, DiskFailed, InputsRead}
 use Rattle.mta_commands.specs.Inputs.{IsReadAsTables}
 use Rattle.mta_commands.specs.Lines.{accepted_line}
 use Rattle.mta_commands.specs.Output.{Output, OutputFailed, IsEnded}
@@ -52,7 +54,7 @@ pub record EndedWell {D C I : Type 0} (h : Handed D C I) (opening : Opening) (en
   pub calm : torn_step ≡ []
   -- the mailbox is named
   pub named : (name : List ℕ) → h.words ≡ Some (Say.Mailbox name)
-      → ForOpened h (λ steps. mailbox_named (after steps) name ≢ None)
+      → ForFound h (λ found. mailbox_named (after found) name ≢ None)
   -- with `submit` and `serve` nothing is due
   pub settled : AddsSteps h.words → ForOpened h (λ steps. IsSettled (h.clocks.tells h.clock) (steps ++ added))
   -- with `serve` each worker gave its links back, or its station ended or failed
@@ -62,7 +64,7 @@ pub record EndedWell {D C I : Type 0} (h : Handed D C I) (opening : Opening) (en
       → ForTables h (λ c. ForOpened h (λ steps. IsRecorded (after (steps ++ added)) c))
 
 -- What a run leaves, each part where the objects that it speaks of tell what they hold. `opening` says how far it
--- came with the disk, `added` are the steps that it added to the history for which the disk stood, and `torn_step`
+-- came with the disk, `added` are the steps that it added to the history with which opening goes on, and `torn_step`
 -- is the step in which the disk failed, if it did. `ends` are those of the workers of `serve`.
 pub record Ran {D C I : Type 0} (h : Handed D C I) (stations : OnStations) (out : Output) (status : ℕ) : Type 0 where
   pub opening : Opening
@@ -74,13 +76,14 @@ pub record Ran {D C I : Type 0} (h : Handed D C I) (stations : OnStations) (out 
   pub sources : SourcesLeft h
   -- the disk is called only by a command that opens it
   pub uncalled_unless : (OpensDisk h.words → ⊥) → opening ≡ uncalled
-  -- the disk stands for the history with the added steps, as it reads and after a crash, or with those and the one
-  -- in which it failed; since the first sync a crash left the history with a beginning of these; one that was not
-  -- called is the same, and one that is no spool is as it was
+  -- the disk stands for the history with which opening goes on and the added steps, as it reads and after a crash, or
+  -- with those and the one in which it failed; since opening was over a crash left that history with a beginning of
+  -- these, and from its first sync to then a history that opening may leave; one that was not opened stands for such a
+  -- history; one that was not called is the same, and one that is no spool is as it was
   pub disk_stands : DiskLeft h.disks h.disk.before h.disk.after opening added torn_step
   -- and before that sync what one before the call might have left, but that this is not told of `serve`
   pub safe_before : (Serves h.words → ⊥)
-      → ForOpened h (λ steps. IsSafeBefore h.disks steps (added ++ torn_step) h.disk.before h.disk.after)
+      → ForOpenedDisk h (λ f steps. IsSafeBefore h.disks f steps (added ++ torn_step) h.disk.before h.disk.after)
   -- each recipient is pending with no discharge, or is not pending and has one
   pub recipients_once : ForOpened h (λ steps. (n : ℕ) → RecipientsOnce (steps ++ take n (added ++ torn_step)))
   -- where `submit` printed the line `accepted N`, an added Accept of the input makes item N
@@ -123,6 +126,10 @@ pub record Tells {D C I : Type 0} (h : Handed D C I) (out : Output) (status : �
   pub sink : status ≡ 9 → OutputFailed out
   pub untouched : EndsBeforeOpening h status → h.disk.after ≡ h.disk.before
 
+-- the format does not fit behind the history for which the disk stood, which has an older one
+abbrev pub IsOlderAndFull : {D C I : Type 0} → Handed D C I → Type 0
+IsOlderAndFull h = (size need : ℕ) × ForDisk h (λ f. IsFullForFormat f size need)
+
 -- All is in order that the command reads, and nothing fails.
 pub record AllInOrder {D C I : Type 0} (h : Handed D C I) (out : Output) : Type 0 where
   pub known : h.words ≢ None
@@ -132,13 +139,15 @@ pub record AllInOrder {D C I : Type 0} (h : Handed D C I) (out : Output) : Type 
   pub spool : OpensDisk h.words → (f : List ℕ) × (steps : List Step) × (h.disks.content h.disk.before ≡ Some f)
       × StandsFor f steps
   pub named : (name : List ℕ) → h.words ≡ Some (Say.Mailbox name)
-      → ForOpened h (λ steps. mailbox_named (after steps) name ≢ None)
+      → ForFound h (λ found. mailbox_named (after found) name ≢ None)
   pub peers : Serves h.words → PeersNamed h
   pub calm_sources : SourceFailed h → ⊥
   pub calm_disk : DiskFailed h → ⊥
   pub calm_output : OutputFailed out → ⊥
 
--- Then the status is 0, or 7, or 5 where a step was refused for its numbers.
+-- Then the status is 0, or 7, or 5 where a step was refused for its numbers or its record did not fit, or the
+-- format did not fit.
 abbrev pub IsComplete : {D C I : Type 0} → Handed D C I → Output → ℕ → Type 0
 IsComplete h out status =
-    AllInOrder h out → (status ≡ 0) ⊎ (status ≡ 7) ⊎ ((status ≡ 5) × AddsSteps h.words)
+    AllInOrder h out → (status ≡ 0) ⊎ (status ≡ 7)
+    ⊎ ((status ≡ 5) × (AddsSteps h.words ⊎ (OpensDisk h.words × IsOlderAndFull h)))

@@ -12,8 +12,9 @@ use Rattle.mta_histories.specs.History.{after}
 use Rattle.mta_session.specs.declared.limits.Limits.{Limits}
 use Rattle.mta_shared.specs.declared.history.Base.{Base}
 use Rattle.mta_journal.specs.Opening.{IsSynced}
-use Rattle.mta_images.specs.Image.{OpensAt}
-use Rattle.mta_spool.specs.Bases.{base_of, count_of, found_of, gate_of, HasTold, Keeps, since_of, where_listed}
+use Rattle.mta_images.specs.Image.{OpensAt, StandsFor}
+use Rattle.mta_images.specs.Opened.{base_of as compacted_of, IsFound}
+use Rattle.mta_spool.specs.Bases.{base_of, count_of, found_of, gate_of, HasTold, Keeps, over_of, since_of, where_listed}
 use Rattle.mta_spool.specs.Shown.{Shown}
 use Rattle.mta_stations.specs.declared.end.WorkerEnd.{WorkerEnd}
 use Rattle.mta_stations.specs.Peers.{IsNamed, IsUnnamed}
@@ -58,15 +59,20 @@ pub data HasTablesFor {I : Type 0} (sources : SourceView I) (old new : I) (roles
 
 -- ---- the stations
 
--- The base that the workers share is of what the run was handed: the bodies that opening found, which the disk told;
--- the moment at which opening's sync was over, with the disk as that left it; how often the disk had failed; the gate
+-- The base that the workers share is of what the run was handed: the bodies of the history with which opening went on,
+-- and where the disk told them, those that stood on it and those to which it was compacted; the moments at which
+-- opening's first sync and opening were over, with the disk as they left it; how often the disk had failed; the gate
 -- from which on the records stand; and the moments that the clock lists, where it does.
 pub record IsBaseOf {D C I : Type 0} (h : Handed D C I) (base : Base) : Type 0 where
   pub found : ForOpened h (λ first. found_of base ≡ map body_of first)
-  pub told : ForOpened h (λ first. HasTold base (map body_of first))
+  pub told : ForDisk h (λ f. (found : List Step) (is : IsFound f found)
+      → HasTold base (map body_of found) (map body_of (compacted_of is)))
   pub synced : D
   pub sync : IsSynced h.disks h.disk.before synced
   pub since : since_of base ≡ h.disks.moment synced
+  pub over : D
+  pub opened_at : over_of base ≡ h.disks.moment over
+  pub gone_on : ForOpened h (λ first. (g : List ℕ) → h.disks.may_leave over g → StandsFor g first)
   pub count : count_of base ≡ h.disks.faults h.disk.before
   pub place : ForDisk h (λ f. OpensAt f (gate_of base))
   pub listed : base.lists ≡ where_listed (h.clocks.moments h.clock)

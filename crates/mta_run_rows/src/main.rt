@@ -15,10 +15,11 @@
 //! In these a field behind the first says what is wanted. `run` runs the words behind it, over the disk as it is and
 //! without stations, and is answered the status and what was printed. `run-in-place` is the same over a disk that is
 //! changed in place, which nothing makes fail, and with the stations that were handed in. `put` is answered what the
-//! link of the station of this number was put then. `holds` is answered what the disk holds, and `records` records the
-//! tables in the spool that the disk holds, and is answered how many items it has. `stops` runs `submit`, stops it at
-//! each of its device calls by each of eight choices of what a crash leaves, and runs `spool` over the image: at the
-//! end it has to be answered as the first field behind says, and before as that or as one of the others.
+//! link of the station of this number was put then. `holds` is answered what the disk holds, `size` how many octets
+//! that is, and `records` records the tables in the spool that the disk holds, and is answered how many items it has.
+//! `stops` runs `submit`, stops it at each of its device calls by each of eight choices of what a crash leaves, and
+//! runs `spool` over the image: at the end it has to be answered as the first field behind says, and before as that
+//! or as one of the others. `stops-of-spool` is the same of `spool`, which does no more than open the disk and print.
 //!
 //! The rows were worked out by hand from the manual, the format of the journal, the protocol of a lane and X.411.
 #![tactic(auto)]
@@ -41,6 +42,16 @@ use std::alloc::Global;
 use std::sync::Wait;
 use std::thread::Threads;
 
+fn size(alloc: Global, held: &Held) -> Result<String> {
+    let size = held.disk.len();
+    Ok(format!(in alloc; "{size}")?)
+}
+
+// Whether the fields behind are texts that an image may be answered with, and no words.
+fn has_texts(asked: &str) -> bool {
+    asked == "stops" || asked == "stops-of-spool"
+}
+
 fn answer_of<R: Threads + Wait + Sync>(
     rt: &R,
     alloc: Global,
@@ -54,8 +65,10 @@ fn answer_of<R: Threads + Wait + Sync>(
         "run-in-place" => run_in_place(rt, alloc, held, fields.rest),
         "put" => held.was_put(alloc, wanted, fields.rest),
         "holds" => Ok(shown(alloc, held.disk.as_slice())?),
+        "size" => size(alloc, held),
         "records" => records(alloc, held),
-        "stops" => stops(rt, alloc, held, fields),
+        "stops" => stops(rt, alloc, held, "submit", fields),
+        "stops-of-spool" => stops(rt, alloc, held, "spool", fields),
         _ => bail!("nothing is asked"),
     }
 }
@@ -73,7 +86,7 @@ fn try_row<R: Print + Threads + Wait + Sync>(
     }
     let wanted = fields.take();
     let answered = answer_of(rt, alloc, held, asked, wanted, fields)?;
-    let about = if asked == "stops" { "" } else { fields.rest };
+    let about = if has_texts(asked) { "" } else { fields.rest };
     let case = held.case.as_str();
     let name = format!(in alloc; "{case}: {asked}")?;
     tell(rt, name.as_str(), about, answered.as_str(), wanted)?;

@@ -1,4 +1,4 @@
-//! A `submit` that is stopped at each of its calls.
+//! A run that is stopped at each of its calls.
 
 use crate::given::disk_of;
 use crate::held::Held;
@@ -11,11 +11,16 @@ use std::alloc::Global;
 use std::sync::Wait;
 use std::thread::Threads;
 
-/// The disk behind the run, with the log of its calls.
-fn submitted<R: Threads + Wait + Sync>(rt: &R, alloc: Global, held: &Held) -> Result<MemDisk> {
+/// The disk behind a run of these words, with the log of its calls.
+fn left<R: Threads + Wait + Sync>(
+    rt: &R,
+    alloc: Global,
+    held: &Held,
+    line: &str,
+) -> Result<MemDisk> {
     let mut out = MemSink::new(alloc, Vec::new(alloc));
     let disk = disk_of(alloc, held.disk.as_slice(), 0)?;
-    let Finished { disk, .. } = finished(rt, alloc, held, "submit", disk, &mut out)?;
+    let Finished { disk, .. } = finished(rt, alloc, held, line, disk, &mut out)?;
     Ok(disk)
 }
 
@@ -49,14 +54,15 @@ fn otherwise<R: Threads + Wait + Sync>(
     Ok(None)
 }
 
-/// Whether each image is answered as the fields say.
+/// Whether each image of a run of these words is answered as the fields say.
 pub fn stops<R: Threads + Wait + Sync>(
     rt: &R,
     alloc: Global,
     held: &Held,
+    line: &str,
     fields: Fields<'_>,
 ) -> Result<String> {
-    let disk = submitted(rt, alloc, held)?;
+    let disk = left(rt, alloc, held, line)?;
     for choice in 0..8 {
         if let Some(said) = otherwise(rt, alloc, held, &disk, choice, fields)? {
             return Ok(said);

@@ -8,13 +8,13 @@ use Rattle.mta_edge.proofs.Moments.{weaken, joined}
 use Rattle.mta_disk.proofs.Writing.{settled_once}
 use Rattle.mta_journal.specs.Shown.{Shown as JournalShown}
 use Rattle.mta_records.specs.declared.step.Step.{Step}
-use Rattle.mta_journal.specs.Bodies.{HasBodies}
-use Rattle.mta_journal.proofs.OpenedDisk.{stands_for}
+use Rattle.mta_journal.specs.Bodies.{HasBodiesAt}
 use Rattle.mta_records.specs.Body.{body_of}
-use Rattle.mta_histories.specs.History.{IsHistory}
-use Rattle.mta_images.specs.Image.{AreRecords, StandsFor}
+use Rattle.mta_histories.specs.Lanes.{State}
+use Rattle.mta_images.specs.Image.{StandsFor}
+use Rattle.mta_images.proofs.GoingOn.{plain_alone, stands_at}
 use Rattle.mta_spool.specs.Shown.{Shown}
-use Rattle.mta_spool.specs.Stands.{Stands, IsOneOf, MayHave}
+use Rattle.mta_spool.specs.Stands.{IsHeld, Stands, IsOneOf, MayHave}
 use Rattle.mta_spool.specs.Crashing.{Reached, IsLeftWith, Leaves}
 
 -- ---- beginnings
@@ -52,11 +52,14 @@ reached_second steps a b g r = (
 pub reached_as : (steps a b : List Step) (g : List ℕ) → a ≡ b → Reached steps a g → Reached steps b g
 reached_as steps a b g e r = subst (λ (x : List Step). Reached steps x g) e r
 
--- an image that holds the bodies of a history stands for it
-image_of : (g : List ℕ) (steps : List Step) → HasBodies g (map body_of steps) → AreRecords steps → IsHistory steps
+-- an image in which a journal holds its bodies stands for their history
+pub stands_held : {D : Type 0} (model : DiskView D) (journal : JournalShown D) (state : State) (steps : List Step)
+    → IsHeld model journal state steps → (g : List ℕ) → HasBodiesAt journal.first (map body_of steps) g
     → StandsFor g steps
-image_of g steps has each history =
-    record { bodies = stands_for has.0 g (map body_of steps) has.1; each = each; history = history }
+stands_held model journal state steps held g has =
+    stands_at journal.first g steps has held.each held.history
+    (λ chosen. held.alone
+    (λ plain. plain_alone journal.first (map body_of steps) g plain has chosen))
 
 -- ---- calls
 
@@ -67,7 +70,7 @@ module _ {D C : Type 0} (disks : DiskView D) where
       → Leaves disks steps [] [] old.journal.disk new.journal.disk
   still laws old new same f told steps s =
       let here : StandsFor f (steps ++ []) =
-      with_none f steps (image_of f steps (old.journal.first, s.holds.file f told) s.each s.history)
+      with_none f steps (stands_held disks old.journal old.current steps s f (s.holds.file f told))
       in
       subst (λ (j : JournalShown D). Leaves disks steps [] [] old.journal.disk j.disk) (sym same) (record {
         during = settled_once disks laws (Reached steps []) old.journal.disk f s.holds.settled told (0, here);
@@ -89,8 +92,7 @@ module _ {D C : Type 0} (disks : DiskView D) where
     made stays now =
         let there = stays f told in
         let here : StandsFor there.0 (steps ++ step ∷ []) =
-        image_of there.0 (steps ++ step ∷ []) (new.journal.first, now.holds.file there.0 there.1) now.each
-        now.history in
+        stands_held disks new.journal new.current (steps ++ step ∷ []) now there.0 (now.holds.file there.0 there.1) in
         record {
           during = during-one;
           now = λ g may.

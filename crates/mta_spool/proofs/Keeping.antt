@@ -1,5 +1,6 @@
 -- What a spool keeps under a base from call to call.
 use Rattle.std.proofs.Common.{inl, inr, ⊎_elim, ◌≡◌, ◌≢◌, ℕ, Bool, true, false, List, [], ◌∷◌, ◌++◌, map}
+use Rattle.std.specs.Prelude.{◌⊎◌}
 use Rattle.std.proofs.Common.{Contains, Option, None, Some, refl, sym, ap, subst, ◌∙◌, append_assoc, arith}
 use Rattle.std.proofs.lemmas.List.{append-nil}
 use Rattle.mta_edge.specs.Views.{ClockLaws, ClockView, DiskLaws, DiskView, IsAmong}
@@ -9,20 +10,22 @@ use Rattle.mta_records.specs.declared.fault.StepFault.{StepFault}
 use Rattle.mta_records.specs.declared.fault.StepFault.TheVariants as Faults
 use Rattle.mta_records.specs.Body.{body_of}
 use Rattle.mta_records.proofs.Records.{body_same}
+use Rattle.mta_histories.specs.Compact.{IsLeftOf, as_it_was, at_base, at_opened}
 use Rattle.mta_histories.specs.Lanes.{State, empty}
 use Rattle.mta_histories.specs.History.{IsHistory, after}
 use Rattle.mta_histories.proofs.Runs.{possible-more}
 use Rattle.mta_images.specs.Image.{AreRecords, StandsFor}
+use Rattle.mta_images.specs.Opened.{IsFound}
+use Rattle.mta_images.proofs.GoingOn.{goes_on_left}
 use Rattle.mta_shared.specs.declared.history.Base.{Base}
-use Rattle.mta_spool.specs.Bases.{Keeps, KeepsOn, StaysSafe, base_of, found_of, since_of, where_listed}
-use Rattle.mta_spool.specs.Bases.{where_told}
+use Rattle.mta_spool.specs.Bases.{Keeps, KeepsOn, StandsForOne, StaysSafe, base_of, found_of, over_of, since_of}
+use Rattle.mta_spool.specs.Bases.{where_listed, where_told}
 use Rattle.mta_spool.specs.Crashing.{IsLeftWith, Reached}
-use Rattle.mta_spool.specs.Opening.{HasOpened}
+use Rattle.mta_spool.specs.GoingOn.{HasOpened, IsSameOrLeft}
 use Rattle.mta_spool.specs.Shown.{AtOpening, Shown}
 use Rattle.mta_spool.specs.Stands.{Appends, IsHeld, Stands, TellsFewer}
 use Rattle.mta_spool.specs.Turning.{IsUnchanged}
-use Rattle.mta_spool.proofs.Crashing.{made, reached_as, reached_first, reached_second, torn}
-use Rattle.mta_spool.proofs.Openings.{same_stands}
+use Rattle.mta_spool.proofs.Crashing.{made, reached_as, reached_first, reached_second, stands_held, torn, with_none}
 
 -- no step was torn
 none-tried : (first entries : List Step) → IsHistory (first ++ entries) → IsHistory (first ++ (entries ++ []))
@@ -53,7 +56,6 @@ module _ {D C : Type 0} (disks : DiskView D) (clocks : ClockView C) where
     clock = λ moments found m told. keeps.clock moments found m (fewer m told);
     first = keeps.first;
     found = keeps.found;
-    told = keeps.told;
     each = keeps.each;
     history = keeps.history;
     state = keeps.state;
@@ -91,11 +93,12 @@ module _ {D C : Type 0} (disks : DiskView D) (clocks : ClockView C) where
     going-on fault a other true is = absurd (other (a.ended.1 is))
     going-on fault a other false is = is
 
-    made-safe : (since : ℕ) (first torn_step : List Step) → Appends disks step old new None
+    made-safe : (since over : ℕ) (found between : List (List ℕ)) (first torn_step : List Step)
+        → Appends disks step old new None
         → IsHeld disks old.journal old.current (first ++ old.entries) → torn_step ≡ []
-        → StaysSafe disks old.journal.disk since first old.entries torn_step
-        → StaysSafe disks new.journal.disk since first (old.entries ++ step ∷ []) []
-    made-safe since first torn_step a held none x =
+        → StaysSafe disks old.journal.disk since over found between first old.entries torn_step
+        → StaysSafe disks new.journal.disk since over found between first (old.entries ++ step ∷ []) []
+    made-safe since over found between first torn_step a held none x =
         let steps = first ++ old.entries in
         let more = old.entries ++ step ∷ [] in
         let there = a.told x.content x.told in
@@ -106,23 +109,28 @@ module _ {D C : Type 0} (disks : DiskView D) (clocks : ClockView C) where
         ⊎_elim {C = IsLeftWith first more [] g} (λ here. inl (subst (StandsFor g) whole here))
         (λ here. inl (subst (StandsFor g) whole here)) (leaves.now g may) in
         let behind : more ≡ more ++ [] = sym (append-nil more) in
+        let still : (g : List ℕ) → Reached first (old.entries ++ torn_step) g → Reached first (more ++ []) g = λ g was.
+        reached_as first more (more ++ []) g behind
+        (reached_first first old.entries (step ∷ []) g
+        (reached_as first (old.entries ++ torn_step) (old.entries ++ []) g
+        (ap (λ (t : List Step). old.entries ++ t) none) was)) in
+        let here : (g : List ℕ) → Reached steps (step ∷ []) g → Reached first (more ++ []) g = λ g reached.
+        reached_as first more (more ++ []) g behind (reached_second first old.entries (step ∷ []) g reached) in
         record {
           content = there.0;
           told = there.1;
           reads = now there.0 (laws.reads_image new.journal.disk there.0 there.1);
           now = now;
-          synced = omega (arith, x.synced, leaves.during.later);
+          synced = x.synced;
+          opened = omega (arith, x.opened, leaves.during.later);
           each = λ g left.
-              ⊎_elim {C = Reached first (more ++ []) g}
-              (λ before.
-              reached_as first more (more ++ []) g behind
-              (reached_first first old.entries (step ∷ []) g
-              (reached_as first (old.entries ++ torn_step) (old.entries ++ []) g
-              (ap (λ (t : List Step). old.entries ++ t) none) (x.each g before))))
-              (λ reached.
-              reached_as first more (more ++ []) g behind
-              (reached_second first old.entries (step ∷ []) g reached))
-              (leaves.during.since since g x.synced left);
+              ⊎_elim {C = Reached first (more ++ []) g} (λ before. still g (x.each g before)) (here g)
+              (leaves.during.since over g x.opened left);
+          opening = λ g left.
+              ⊎_elim {C = StandsForOne found between g ⊎ Reached first (more ++ []) g}
+              (λ before. ⊎_elim {C = StandsForOne found between g ⊎ Reached first (more ++ []) g}
+              (λ one. inl one) (λ was. inr (still g was)) (x.opening g before)) (λ reached. inr (here g reached))
+              (leaves.during.since since g (omega (arith, x.synced, x.opened)) left);
         }
 
     keeps_made : Appends disks step old new None → KeepsOn disks clocks old new
@@ -139,7 +147,6 @@ module _ {D C : Type 0} (disks : DiskView D) (clocks : ClockView C) where
           clock = λ moments found m told. keeps.clock moments found m (fewer-same old new clock m told);
           first = keeps.first;
           found = keeps.found;
-          told = keeps.told;
           each = subst AreRecords whole done.each;
           history = subst IsHistory whole done.history;
           state = done.state_is ∙ ap (λ (x : List Step). after x) whole;
@@ -148,20 +155,23 @@ module _ {D C : Type 0} (disks : DiskView D) (clocks : ClockView C) where
           one = omega arith;
           calm = λ on. refl;
           tried = none-tried keeps.first new.entries (subst IsHistory whole done.history);
-          safe = λ bodies found.
-              subst (λ (x : List Step). StaysSafe disks new.journal.disk (since_of base) keeps.first x [])
+          safe = λ bodies between found.
+              subst
+              (λ (x : List Step).
+              StaysSafe disks new.journal.disk (since_of base) (over_of base) bodies between keeps.first x [])
               (sym a.entries)
-              (made-safe (since_of base) keeps.first keeps.torn_step a (keeps.stands going) (keeps.calm going)
-              (keeps.safe bodies found));
+              (made-safe (since_of base) (over_of base) bodies between keeps.first keeps.torn_step a
+              (keeps.stands going) (keeps.calm going) (keeps.safe bodies between found));
         }
 
     -- ---- the disk failed in a step
 
-    torn-safe : (since : ℕ) (first torn_step : List Step) → Appends disks step old new (Some Faults.Disk)
+    torn-safe : (since over : ℕ) (found between : List (List ℕ)) (first torn_step : List Step)
+        → Appends disks step old new (Some Faults.Disk)
         → IsHeld disks old.journal old.current (first ++ old.entries) → torn_step ≡ []
-        → StaysSafe disks old.journal.disk since first old.entries torn_step
-        → StaysSafe disks new.journal.disk since first old.entries (step ∷ [])
-    torn-safe since first torn_step a held none x =
+        → StaysSafe disks old.journal.disk since over found between first old.entries torn_step
+        → StaysSafe disks new.journal.disk since over found between first old.entries (step ∷ [])
+    torn-safe since over found between first torn_step a held none x =
         let steps = first ++ old.entries in
         let more = old.entries ++ step ∷ [] in
         let there = a.told x.content x.told in
@@ -172,20 +182,27 @@ module _ {D C : Type 0} (disks : DiskView D) (clocks : ClockView C) where
         ⊎_elim {C = IsLeftWith first old.entries (step ∷ []) g}
         (λ here. inl (subst (StandsFor g) (append-nil steps) here))
         (λ here. inr (subst (StandsFor g) whole here)) (leaves.now g may) in
+        let still : (g : List ℕ) → Reached first (old.entries ++ torn_step) g → Reached first more g = λ g was.
+        reached_first first old.entries (step ∷ []) g
+        (reached_as first (old.entries ++ torn_step) (old.entries ++ []) g
+        (ap (λ (t : List Step). old.entries ++ t) none) was) in
+        let here : (g : List ℕ) → Reached steps (step ∷ []) g → Reached first more g = λ g reached.
+        reached_second first old.entries (step ∷ []) g reached in
         record {
           content = there.0;
           told = there.1;
           reads = now there.0 (laws.reads_image new.journal.disk there.0 there.1);
           now = now;
-          synced = omega (arith, x.synced, leaves.during.later);
+          synced = x.synced;
+          opened = omega (arith, x.opened, leaves.during.later);
           each = λ g left.
-              ⊎_elim {C = Reached first more g}
-              (λ before.
-              reached_first first old.entries (step ∷ []) g
-              (reached_as first (old.entries ++ torn_step) (old.entries ++ []) g
-              (ap (λ (t : List Step). old.entries ++ t) none) (x.each g before)))
-              (λ reached. reached_second first old.entries (step ∷ []) g reached)
-              (leaves.during.since since g x.synced left);
+              ⊎_elim {C = Reached first more g} (λ before. still g (x.each g before)) (here g)
+              (leaves.during.since over g x.opened left);
+          opening = λ g left.
+              ⊎_elim {C = StandsForOne found between g ⊎ Reached first more g}
+              (λ before. ⊎_elim {C = StandsForOne found between g ⊎ Reached first more g}
+              (λ one. inl one) (λ was. inr (still g was)) (x.opening g before)) (λ reached. inr (here g reached))
+              (leaves.during.since since g (omega (arith, x.synced, x.opened)) left);
         }
 
     torn-history : (first : List Step) → Appends disks step old new (Some Faults.Disk)
@@ -206,7 +223,6 @@ module _ {D C : Type 0} (disks : DiskView D) (clocks : ClockView C) where
           clock = λ moments found m told. keeps.clock moments found m (fewer-same old new clock m told);
           first = keeps.first;
           found = keeps.found;
-          told = keeps.told;
           each = subst (λ (x : List Step). AreRecords (keeps.first ++ x)) (sym a.entries) keeps.each;
           history = subst (λ (x : List Step). IsHistory (keeps.first ++ x)) (sym a.entries) keeps.history;
           state = a.still (λ e. absurd cc) ∙ keeps.state
@@ -217,11 +233,13 @@ module _ {D C : Type 0} (disks : DiskView D) (clocks : ClockView C) where
           calm = λ on. let ended : new.journal.ended ≡ true = a.marked refl in absurd cc;
           tried = subst (λ (x : List Step). IsHistory (keeps.first ++ (x ++ step ∷ []))) (sym a.entries)
               (torn-history keeps.first a keeps.history (keeps.stands going));
-          safe = λ bodies found.
-              subst (λ (x : List Step). StaysSafe disks new.journal.disk (since_of base) keeps.first x (step ∷ []))
+          safe = λ bodies between found.
+              subst
+              (λ (x : List Step).
+              StaysSafe disks new.journal.disk (since_of base) (over_of base) bodies between keeps.first x (step ∷ []))
               (sym a.entries)
-              (torn-safe (since_of base) keeps.first keeps.torn_step a (keeps.stands going) (keeps.calm going)
-              (keeps.safe bodies found));
+              (torn-safe (since_of base) (over_of base) bodies between keeps.first keeps.torn_step a
+              (keeps.stands going) (keeps.calm going) (keeps.safe bodies between found));
         }
 
     -- ---- a step was made or refused
@@ -247,11 +265,11 @@ module _ {D C : Type 0} (disks : DiskView D) (clocks : ClockView C) where
 
 -- ---- it was opened
 
-found-is : (told : Option (List ℕ)) (found bodies : List (List ℕ))
-    → ◌≡◌ {A = List (List (List ℕ))} (found ∷ where_told told found) (found ∷ bodies ∷ [])
-    → (f : List ℕ) × (told ≡ Some f) × (found ≡ bodies)
-found-is None found bodies e = absurd cc
-found-is (Some f) found bodies e = (f, refl, cc)
+found-is : (told : Option (List ℕ)) (goes_on found between bodies middle : List (List ℕ))
+    → ◌≡◌ {A = List (List (List ℕ))} (goes_on ∷ where_told told found between) (goes_on ∷ bodies ∷ middle ∷ [])
+    → (f : List ℕ) × (told ≡ Some f) × (found ≡ bodies) × (between ≡ middle)
+found-is None goes_on found between bodies middle e = absurd cc
+found-is (Some f) goes_on found between bodies middle e = (f, refl, cc, cc)
 
 among-listed : (listed : Option (List ℕ)) (moments : List ℕ) (m : ℕ) → where_listed listed ≡ moments ∷ []
     → IsAmong listed m → Contains moments m
@@ -261,25 +279,64 @@ among-listed (Some listed) moments m e among = let same : listed ≡ moments = c
 module _ {D C : Type 0} (disks : DiskView D) (clocks : ClockView C) (laws : DiskLaws disks)
     (clock_laws : ClockLaws clocks) (old : D) (spool : Shown D C) (o : HasOpened disks old spool)
     (clock : spool.clock ≡ spool.opened.clock) where
+  -- what opening may leave is what was found, what it was compacted to, or what the spool goes on with
+  left-is : (f g : List ℕ) → disks.content old ≡ Some f → IsSameOrLeft f g
+      → StandsForOne spool.opened.found spool.opened.between g ⊎ Reached o.steps [] g
+  left-is f g was same = by (goes_on_left f g o.found o.steps (o.opens f was) same)
+    where
+      is : IsFound f o.found
+      is = (o.opens f was).is
+
+      by : (left : List Step) × IsLeftOf is.first_of_two is.size o.found left × StandsFor g left
+          → StandsForOne spool.opened.found spool.opened.between g ⊎ Reached o.steps [] g
+      by (left, which, stands) = one left which stands
+        where
+          one : (left : List Step) → IsLeftOf is.first_of_two is.size o.found left → StandsFor g left
+              → StandsForOne spool.opened.found spool.opened.between g ⊎ Reached o.steps [] g
+          one left as_it_was stands =
+              inl (record { steps = o.found; bodies = inl (sym o.found_is); stands = stands })
+          one left at_base stands = inl (record {
+            steps = o.between;
+            bodies = inr (sym o.between_is);
+            stands = subst (StandsFor g) (sym (o.compacted f was is)) stands;
+          })
+          one left at_opened stands =
+              inr (0, with_none g o.steps (subst (StandsFor g) (sym (o.opens f was).goes_on_is) stands))
+
   opened-safe : (f : List ℕ) → disks.content old ≡ Some f
-      → StaysSafe disks spool.journal.disk (disks.moment spool.opened.synced) o.steps spool.entries []
+      → StaysSafe disks spool.journal.disk (disks.moment spool.opened.synced) (disks.moment spool.opened.over)
+      spool.opened.found spool.opened.between o.steps spool.entries []
   opened-safe f was =
       let there = o.told f was in
       let from = o.synced f was in
       let behind : o.steps ≡ o.steps ++ spool.entries = sym (append-nil o.steps)
       ∙ ap (λ (x : List Step). o.steps ++ x) (sym o.none) in
-      let same : (g : List ℕ) → disks.left_since spool.journal.disk (disks.moment spool.opened.synced) g
-      → StandsFor g o.steps = λ g left. same_stands f g o.steps (from.same g left) (o.history f was) in
+      let tried : spool.entries ++ [] ≡ [] = append-nil spool.entries ∙ o.none in
+      let here : StandsFor there.0 o.steps =
+      stands_held disks spool.journal spool.current o.steps o.stands there.0 (o.stands.holds.file there.0 there.1) in
+      let same : (g : List ℕ) → disks.may_leave spool.journal.disk g → StandsFor g o.steps = λ g may.
+      subst (λ (x : List ℕ). StandsFor x o.steps) (sym (o.stands.holds.settled there.0 there.1 g may)) here in
       let now : (g : List ℕ) → disks.may_leave spool.journal.disk g → IsLeftWith o.steps spool.entries [] g = λ g may.
-      inl (subst (StandsFor g) behind
-      (same g (laws.counts_now spool.journal.disk (disks.moment spool.opened.synced) g from.until may))) in
+      inl (subst (StandsFor g) behind (same g may)) in
+      let at_end : disks.moment spool.opened.over ≡ disks.moment spool.journal.disk =
+      ap (λ (d : D). disks.moment d) o.over in
       record {
         content = there.0;
         told = there.1;
         reads = now there.0 (laws.reads_image spool.journal.disk there.0 there.1);
         now = now;
-        synced = from.until;
-        each = λ g left. (0, subst (StandsFor g) (sym (append-nil o.steps)) (same g left));
+        synced = (let until = from.until in omega (arith, until, at_end));
+        opened = omega (arith, at_end);
+        each = λ g left. (
+          0,
+          with_none g o.steps (same g (laws.only_now spool.journal.disk g
+              (subst (λ (n : ℕ). disks.left_since spool.journal.disk n g) at_end left))),
+        );
+        opening = λ g left.
+            ⊎_elim
+            {C = StandsForOne spool.opened.found spool.opened.between g ⊎ Reached o.steps (spool.entries ++ []) g}
+            (λ one. inl one) (λ reached. inr (reached_as o.steps [] (spool.entries ++ []) g (sym tried) reached))
+            (left-is f g was (from.left g left));
       }
 
   pub keeps_opened : Keeps disks clocks spool (base_of disks clocks spool)
@@ -295,8 +352,6 @@ module _ {D C : Type 0} (disks : DiskView D) (clocks : ClockView C) (laws : Disk
             ((clock_laws.listed spool.opened.clock m).0 (subst (λ (c : C). clocks.tells c m) clock told));
         first = o.steps;
         found = sym o.bodies;
-        told = λ bodies told.
-            let is = found-is (disks.content spool.opened.disk) spool.opened.bodies bodies told in sym o.bodies ∙ is.2;
         each = subst AreRecords behind o.stands.each;
         history = subst IsHistory behind o.stands.history;
         state = o.stands.state_is ∙ ap (λ (x : List Step). after x) behind;
@@ -305,9 +360,18 @@ module _ {D C : Type 0} (disks : DiskView D) (clocks : ClockView C) (laws : Disk
         one = omega arith;
         calm = λ on. refl;
         tried = none-tried o.steps spool.entries (subst IsHistory behind o.stands.history);
-        safe = λ bodies found.
-            let is = found-is (disks.content spool.opened.disk) spool.opened.bodies bodies found in
-            opened-safe is.0 (ap (λ (d : D). disks.content d) (sym o.disk) ∙ is.1);
+        safe = λ bodies middle found.
+            let is = found-is (disks.content spool.opened.disk) spool.opened.bodies spool.opened.found
+            spool.opened.between bodies middle found in
+            subst
+            (λ (x : List (List ℕ)).
+            StaysSafe disks spool.journal.disk (disks.moment spool.opened.synced) (disks.moment spool.opened.over) x
+            middle o.steps spool.entries []) is.2
+            (subst
+            (λ (x : List (List ℕ)).
+            StaysSafe disks spool.journal.disk (disks.moment spool.opened.synced) (disks.moment spool.opened.over)
+            spool.opened.found x o.steps spool.entries []) is.3
+            (opened-safe is.0 (ap (λ (d : D). disks.content d) (sym o.disk) ∙ is.1)));
       }
 
 -- ---- one history is found

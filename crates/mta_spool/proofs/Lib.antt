@@ -2,6 +2,12 @@ pub mod Crashing
 pub mod Dues
 pub mod DueSteps
 pub mod Keeping
+pub mod ShortItems
+pub mod SnapshotSteps
+pub mod Continuing
+pub mod Compacted
+pub mod WaysOn
+pub mod Given
 pub mod Lengths
 pub mod Looking
 pub mod Making

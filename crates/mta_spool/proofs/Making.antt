@@ -4,42 +4,36 @@ use Rattle.std.proofs.Common.{Option, None, Some, Ok, Err, refl, sym, ap, subst,
 use Rattle.mta_edge.specs.Views.{DiskView, DiskLaws, StaysTold}
 use Rattle.mta_edge.specs.Crashes.{AtAnyMoment}
 use Rattle.mta_edge.proofs.Moments.{weaken}
-use Rattle.mta_journal.specs.Bodies.{HasBodies, HasOrOneMore}
-use Rattle.mta_journal.specs.Shown.{Shown as JournalShown, Holds}
+use Rattle.mta_journal.specs.Bodies.{HasBodiesAt, HasOrOneMore}
+use Rattle.mta_journal.specs.Shown.{Shown as JournalShown, Holds, IsPlain}
 use Rattle.mta_journal.specs.Appending.{Appends as JournalAppends}
 use Rattle.mta_journal.specs.declared.journal.AppendFault.{AppendFault}
 use Rattle.mta_journal.specs.declared.journal.AppendFault.TheVariants as AppendFaults
-use Rattle.mta_journal.proofs.OpenedDisk.{stands_for}
 use Rattle.mta_records.specs.declared.step.Step.{Step}
 use Rattle.mta_records.specs.declared.fault.StepFault.{StepFault}
 use Rattle.mta_records.specs.declared.fault.StepFault.TheVariants as StepFaults
 use Rattle.mta_records.specs.Body.{body_of, HasFields}
 use Rattle.mta_histories.specs.Lanes.{State, empty}
 use Rattle.mta_histories.specs.History.{IsHistory, IsPossible, after, after_step, when}
-use Rattle.mta_images.specs.Image.{AreRecords, StandsFor}
+use Rattle.mta_images.specs.Image.{AreRecords}
 use Rattle.mta_histories.proofs.Runs.{after_from-more, possible-more}
 use Rattle.mta_images.proofs.Bodies.{map-more, are-records-more}
+use Rattle.mta_images.proofs.GoingOn.{stands_plain}
 use Rattle.mta_histories.specs.Classes.{class_of}
 use Rattle.mta_spool.specs.Making.{step_fault}
 use Rattle.mta_spool.specs.Refusals.{IsOfLane, IsRefused}
 use Rattle.mta_spool.proofs.Refused.{not_refused, refusal_of_lane, one_refusal}
 use Rattle.mta_spool.specs.Stands.{IsHeld, IsOfNoRefusal, IsOneOf, IsSpent, last_number, MayHave, Makes, need_of}
 
--- an image that holds the bodies of a history stands for it
-image_of : (g : List ℕ) (steps : List Step) → HasBodies g (map body_of steps) → AreRecords steps → IsHistory steps
-    → StandsFor g steps
-image_of g steps has each history = record {
-  bodies = stands_for has.0 g (map body_of steps) has.1;
-  each = each;
-  history = history;
-}
-
 -- with one body more it stands for the step of that body too
-one_of : (g : List ℕ) (steps : List Step) (step : Step) → AreRecords steps → IsHistory steps → HasFields step
-    → IsPossible (after steps) step → HasOrOneMore (map body_of steps) (body_of step) g → IsOneOf steps step g
-one_of g steps step each history fields possible (inl has) = inl (image_of g steps has each history)
-one_of g steps step each history fields possible (inr has) =
-    inr (image_of g (steps ++ step ∷ []) (subst (HasBodies g) (sym (map-more steps step)) has)
+one_of : (gate : ℕ) → IsPlain gate → (g : List ℕ) (steps : List Step) (step : Step) → AreRecords steps
+    → IsHistory steps → HasFields step
+    → IsPossible (after steps) step → HasOrOneMore gate (map body_of steps) (body_of step) g → IsOneOf steps step g
+one_of gate plain g steps step each history fields possible (inl has) =
+    inl (stands_plain gate g steps plain has each history)
+one_of gate plain g steps step each history fields possible (inr has) =
+    inr (stands_plain gate g (steps ++ step ∷ []) plain
+    (subst (λ (bodies : List (List ℕ)). HasBodiesAt gate bodies g) (sym (map-more steps step)) has)
     (are-records-more steps step each fields) (possible-more empty steps step history possible))
 
 some-is : (x f : StepFault) → ◌≡◌ {A = Option StepFault} (Some x) (Some f) → x ≡ f
@@ -58,26 +52,28 @@ module _ {D : Type 0} (model : DiskView D) (step : Step) where
       → IsPossible (after steps) step
   possible_there journal s steps possible held = subst (λ (x : State). IsPossible x step) held.state_is possible
 
-  held_more : (old new : JournalShown D) (s s' : State) (steps : List Step) → IsHeld model old s steps
+  held_more : (old new : JournalShown D) (s s' : State) (steps : List Step) → IsPlain new.first
+      → IsHeld model old s steps
       → Holds model new (map body_of steps ++ body_of step ∷ []) → HasFields step → IsPossible s step → s'
       ≡ after_step s step
       → IsHeld model new s' (steps ++ step ∷ [])
-  held_more old new s s' steps held holds fields possible made = record {
+  held_more old new s s' steps plain held holds fields possible made = record {
     holds = subst (Holds model new) (sym (map-more steps step)) holds;
     each = are-records-more steps step held.each fields;
     state_is = made ∙ ap (λ (x : State). after_step x step) held.state_is ∙ sym (after_from-more empty steps step);
     history = possible-more empty steps step held.history (possible_there old s steps possible held);
+    alone = λ not_plain. absurd (not_plain plain);
   }
 
   -- a crash at any moment leaves what the journal held, with the step's body or without it
   abbrev HasTried : JournalShown D → JournalShown D → Type 0
   HasTried old new = (f : List ℕ) → model.content old.disk ≡ Some f → (bodies : List (List ℕ)) → Holds model old bodies
-      → AtAnyMoment model (HasOrOneMore bodies (body_of step)) old.disk new.disk
+      → AtAnyMoment model (HasOrOneMore old.first bodies (body_of step)) old.disk new.disk
 
-  tried : DiskLaws model → (old new : JournalShown D) (s : State) → HasFields step → IsPossible s step
-      → HasTried old new
+  tried : DiskLaws model → (old new : JournalShown D) (s : State) → IsPlain old.first → HasFields step
+      → IsPossible s step → HasTried old new
       → MayHave model step old s new
-  tried laws old new s fields possible images = record {
+  tried laws old new s plain fields possible images = record {
     possible = λ steps held. possible_there old s steps possible held;
     during = during;
     now = λ f told steps held g may.
@@ -87,27 +83,28 @@ module _ {D : Type 0} (model : DiskView D) (step : Step) where
     during : (f : List ℕ) → model.content old.disk ≡ Some f → (steps : List Step) → IsHeld model old s steps
         → AtAnyMoment model (IsOneOf steps step) old.disk new.disk
     during f told steps held =
-        weaken model (HasOrOneMore (map body_of steps) (body_of step)) (IsOneOf steps step) old.disk new.disk
-        (λ g has. one_of g steps step held.each held.history fields (possible_there old s steps possible held) has)
+        weaken model (HasOrOneMore old.first (map body_of steps) (body_of step)) (IsOneOf steps step) old.disk new.disk
+        (λ g has. one_of old.first plain g steps step held.each held.history fields
+        (possible_there old s steps possible held) has)
         (images f told (map body_of steps) held.holds)
 
   -- the body was appended and the change made
-  pub made : DiskLaws model → (old new : JournalShown D) (s s' : State)
+  pub made : DiskLaws model → (old new : JournalShown D) (s s' : State) → IsPlain old.first
       → JournalAppends {T = Unit {0}} model (body_of step) old new (Ok tt)
       → old.ended ≡ false → HasFields step → IsPossible s step → (IsSpent s step → ⊥) → s' ≡ after_step s step
       → (a : List Step) → Makes model step old s a new s' (a ++ step ∷ []) None
-  made laws old new s s' a going fields possible numbers change entries = record {
+  made laws old new s s' plain a going fields possible numbers change entries = record {
     entries = refl;
     place = a.place;
     still = λ some. absurd (some refl);
     row = λ f e of. absurd cc;
     row_where = λ on f is. absurd (not_refused s step f possible is);
-    done = λ ok steps held. held_more old new s s' steps held (a.done refl (map body_of steps) held.holds) fields
-        possible change;
+    done = λ ok steps held. held_more old new s s' steps (subst IsPlain (sym a.place) plain) held
+        (a.done refl (map body_of steps) held.holds) fields possible change;
     changed = λ ok. change;
     going = λ ok. a.going refl;
     told = a.told;
-    crash = λ calm. tried laws old new s fields possible a.images;
+    crash = λ calm. tried laws old new s plain fields possible a.images;
     kept = λ some. absurd (some refl);
     later = a.later;
     disk = λ e. absurd cc;
@@ -120,12 +117,12 @@ module _ {D : Type 0} (model : DiskView D) (step : Step) where
   }
 
   -- the journal refused the body, and the state is as it was
-  pub refused : DiskLaws model → (fault : AppendFault) (old new : JournalShown D) (s s' : State)
+  pub refused : DiskLaws model → (fault : AppendFault) (old new : JournalShown D) (s s' : State) → IsPlain old.first
       → JournalAppends {T = Unit {0}} model (body_of step) old new (Err fault) → old.ended ≡ false → HasFields step
       → IsPossible s step
       → (IsSpent s step → ⊥) → s' ≡ s → (b : List Step)
       → Makes model step old s b new s' b (Some (step_fault fault))
-  refused laws (AppendFaults.Full size need) old new s s' a going fields possible numbers same made = record {
+  refused laws (AppendFaults.Full size need) old new s s' plain a going fields possible numbers same made = record {
     entries = refl;
     place = a.place;
     still = λ some. same;
@@ -135,7 +132,7 @@ module _ {D : Type 0} (model : DiskView D) (step : Step) where
     changed = λ ok. absurd cc;
     going = λ ok. absurd cc;
     told = a.told;
-    crash = λ calm. tried laws old new s fields possible a.images;
+    crash = λ calm. tried laws old new s plain fields possible a.images;
     kept = λ some other. (a.kept refl (λ e. absurd cc), same);
     later = a.later;
     disk = λ e. absurd cc;
@@ -153,7 +150,7 @@ module _ {D : Type 0} (model : DiskView D) (step : Step) where
         let e : AppendFaults.Full size need
         ≡ AppendFaults.Full old.size (need_of step) = cc in inl (ap (λ (x : AppendFault). Some (step_fault x)) e);
   }
-  refused laws AppendFaults.Disk old new s s' a going fields possible numbers same made = record {
+  refused laws AppendFaults.Disk old new s s' plain a going fields possible numbers same made = record {
     entries = refl;
     place = a.place;
     still = λ some. same;
@@ -163,7 +160,7 @@ module _ {D : Type 0} (model : DiskView D) (step : Step) where
     changed = λ ok. absurd cc;
     going = λ ok. absurd cc;
     told = a.told;
-    crash = λ calm. tried laws old new s fields possible a.images;
+    crash = λ calm. tried laws old new s plain fields possible a.images;
     kept = λ some other. absurd (other refl);
     later = a.later;
     disk = λ e. a.disk refl;
@@ -174,9 +171,9 @@ module _ {D : Type 0} (model : DiskView D) (step : Step) where
     full = λ n m e. absurd cc;
     full_where = λ on no left long. let full = a.full_where going long in absurd cc;
   }
-  refused laws AppendFaults.Ended old new s s' a going fields possible numbers same made =
+  refused laws AppendFaults.Ended old new s s' plain a going fields possible numbers same made =
       let is_ended = a.ended.0 refl in absurd cc
-  refused laws AppendFaults.Memory old new s s' a going fields possible numbers same made = record {
+  refused laws AppendFaults.Memory old new s s' plain a going fields possible numbers same made = record {
     entries = refl;
     place = a.place;
     still = λ some. same;
@@ -186,7 +183,7 @@ module _ {D : Type 0} (model : DiskView D) (step : Step) where
     changed = λ ok. absurd cc;
     going = λ ok. absurd cc;
     told = a.told;
-    crash = λ calm. tried laws old new s fields possible a.images;
+    crash = λ calm. tried laws old new s plain fields possible a.images;
     kept = λ some other. (a.kept refl (λ e. absurd cc), same);
     later = a.later;
     disk = λ e. absurd cc;

@@ -1,39 +1,54 @@
--- What opening a disk leaves.
-use Rattle.std.proofs.Common.{inl, inr, ⊎_elim, ◌≡◌, ℕ, ◌≤◌, ◌<◌, List, [], ◌∷◌, ◌++◌, length, map, Some, Result}
-use Rattle.std.proofs.Common.{Ok, Err}
-use Rattle.std.proofs.Common.{refl, sym, ap, subst, ◌∙◌, arith}
+-- What finding a spool on a disk leaves.
+use Rattle.std.proofs.Common.{inl, inr, ⊎_elim, ◌≡◌, ℕ, ◌+◌, ◌≤◌, ◌<◌, List, [], ◌∷◌, ◌++◌, length, map, Some, refl}
+use Rattle.std.proofs.Common.{sym, ap, subst, ◌∙◌, arith}
+use Rattle.std.specs.Prelude.{◌⊎◌}
 use Rattle.mta_edge.specs.Crashes.{CrashLeaves}
 use Rattle.mta_edge.specs.Views.{DiskView, StaysTold, WhereTold}
-use Rattle.mta_edge.proofs.Moments.{joined, weaken}
-use Rattle.mta_journal.specs.Bodies.{records, HasBodies, HasBodiesAt, StandsFor as HoldsBodies}
-use Rattle.mta_journal.specs.Compacting.{Settles}
+use Rattle.mta_edge.proofs.Moments.{weaken}
+use Rattle.mta_journal.specs.Bodies.{HasBodiesAt, HasSecondArea, IsCurrent, StandsFor as HoldsBodies}
+use Rattle.mta_journal.specs.Bodies.{alone as alone_area, first as first_area, second as second_area}
 use Rattle.mta_journal.specs.Shown.{Shown as JournalShown, Holds, IsPlain}
-use Rattle.mta_journal.specs.Stages.{HasEither}
 use Rattle.mta_journal.specs.Opening.{HasRefused as IsNotOpened, IsSynced, KeepsFilled}
 use Rattle.mta_journal.specs.Opening.{IsSame as IsSameJournal, BeforeOrSame as BeforeOrSameJournal}
 use Rattle.mta_journal.specs.Opening.{IsSameFrom as IsSameJournalFrom, IsLeft as IsLeftJournal}
 use Rattle.mta_journal.specs.Opening.{unsynced as journal_unsynced, synced as journal_synced}
-use Rattle.mta_journal.specs.declared.journal.AppendFault.{AppendFault}
-use Rattle.mta_journal.specs.declared.journal.AppendFault.TheVariants as AppendFaults
 use Rattle.mta_journal.specs.declared.why.OpenWhy.{OpenWhy}
 use Rattle.mta_journal.specs.declared.why.OpenWhy.TheVariants as Whys
-use Rattle.mta_journal.proofs.OpenedDisk.{stands_for}
-use Rattle.mta_journal.proofs.Unique.{one_area, one_list}
+use Rattle.mta_journal.proofs.Unique.{one_list}
 use Rattle.mta_records.specs.declared.step.Step.{Step}
-use Rattle.mta_records.specs.Body.{body_of}
+use Rattle.mta_records.specs.declared.step.Step.TheVariants.{Snapshot}
+use Rattle.mta_records.specs.Body.{body_of, fields_of}
 use Rattle.mta_histories.specs.Lanes.{State}
-use Rattle.mta_images.specs.Image.{StandsFor, StopsAt, HasOnlyArea, OpensAt, in_only, in_first}
+use Rattle.mta_images.specs.Image.{HasOther, IsNoSnapshot, IsSnapshot, StandsFor, StopsAt}
+use Rattle.mta_images.proofs.GoingOn.{plain_alone, second_one}
 use Rattle.mta_images.proofs.Unique.{one_history}
-use Rattle.mta_spool.specs.Opening.{IsSame, BeforeOrSame, IsSameFrom, IsLeft, HasOpened, HasRefused, OpensSafely}
-use Rattle.mta_spool.specs.Opening.{settle_why, unsynced, synced}
+use Rattle.mta_spool.specs.Finding.{MayStand}
+use Rattle.mta_spool.specs.GoingOn.{HasFound}
+use Rattle.mta_spool.specs.Opening.{IsSame, BeforeOrSame, IsSameFrom, IsLeft, HasRefused, OpensSafely}
+use Rattle.mta_spool.specs.Opening.{unsynced, synced}
 use Rattle.mta_spool.specs.Replaying.{HasStopped, IsReplay}
-use Rattle.mta_spool.specs.Shown.{Shown}
 use Rattle.mta_spool.specs.Stands.{IsHeld}
+use Rattle.mta_spool.proofs.SnapshotSteps.{snapshot_step}
 
 -- ---- the same
 
-none_there : (f : List ℕ) → HoldsBodies f [] → StandsFor f []
-none_there f holds = record { bodies = holds; each = tt; history = tt }
+some_behind : (xs ys : List (List ℕ)) (y : List ℕ) → xs ++ y ∷ ys ≡ [] → ⊥
+some_behind [] ys y e = cc
+some_behind (x ∷ xs) ys y e = cc
+
+-- an image with bodies in the second area has one
+none_second : (f : List ℕ) → HoldsBodies f [] → HasSecondArea f → ⊥
+none_second f (inl short) chosen = let inside = chosen.areas.inside in absurd (omega (arith, inside, short.0))
+none_second f (inr has) chosen =
+    let one = second_one has.1.0 [] f has.1.1 chosen in some_behind [] [] one.0 (sym one.1)
+
+pub none_there : (f : List ℕ) → HoldsBodies f [] → StandsFor f []
+none_there f holds = record {
+  bodies = holds;
+  each = tt;
+  history = tt;
+  second = λ chosen. absurd (none_second f holds chosen);
+}
 
 -- what is the same for a journal is the same for its history
 same_of : (f g : List ℕ) → IsSameJournal f g → IsSame f g
@@ -49,10 +64,6 @@ same_stands f g steps (inr both) stands = subst (StandsFor g) (one_history f bot
 pub same_octets : (f g : List ℕ) → ((steps : List Step) → StandsFor f steps → ⊥) → IsSame f g → g ≡ f
 same_octets f g none (inl same) = same
 same_octets f g none (inr both) = absurd (none both.0 both.1)
-
-some_behind : (xs ys : List (List ℕ)) (y : List ℕ) → xs ++ y ∷ ys ≡ [] → ⊥
-some_behind [] ys y e = cc
-some_behind (x ∷ xs) ys y e = cc
 
 -- an image that holds bodies does not stand for none
 filled : (f : List ℕ) (bodies : List (List ℕ)) → HoldsBodies f bodies → (bodies ≡ [] → ⊥) → HoldsBodies f [] → ⊥
@@ -125,13 +136,13 @@ module _ {D : Type 0} (model : DiskView D) (old : D) (journal : JournalShown D) 
       record {
         later = o.later;
         disk = λ e. absurd cc;
-        not_spool = λ m e f was. inr (record {
+        not_spool = λ m e f was. inr (inl (record {
           long = long f (o.stood f was) some;
           first = journal.first;
           bodies = bodies;
           has = there f was some;
           stops = subst (λ (x : ℕ). StopsAt x bodies m) at (subst (StopsAt gate bodies) (same n m e) stops);
-        });
+        }));
         kept = λ f was none. o.kept f was (λ empty. none [] (none_there f empty));
         filled = λ other. o.kept;
         told = o.told;
@@ -169,172 +180,122 @@ module _ {D : Type 0} (model : DiskView D) (old : D) (journal : JournalShown D) 
         });
   }
 
-  -- ---- its bodies are those of these steps
+  -- ---- what stands there is that of no spool, or its history
 
-  module _ (state : State) (steps : List Step) (is : IsReplay bodies state steps) where
-    pub stood_for : (f : List ℕ) → model.content old ≡ Some f → StandsFor f steps
-    stood_for f was =
+  -- since the sync a crash leaves the same
+  since_found : (f : List ℕ) → model.content old ≡ Some f → IsLeft model f old journal.disk
+  since_found f was = synced (record {
+    first = first;
+    sync = o.sync;
+    same = from_of model f old journal.disk (model.moment first) (o.since f was);
+  })
+
+  -- what is known of a disk on which bodies stand from a gate on that is neither that of the only area nor
+  -- that of the first
+  second_there : (IsPlain journal.first → ⊥) → (f : List ℕ) → HasBodiesAt journal.first bodies f
+      → HasSecondArea f × ((body : List ℕ) × (bodies ≡ body ∷ []))
+  second_there other f has = by has.current
+    where
+      by : IsCurrent journal.first bodies f → HasSecondArea f × ((body : List ℕ) × (bodies ≡ body ∷ []))
+      by (alone_area begins lone is) = absurd (other (inl is))
+      by (first_area areas not_chosen is) = absurd (other (inr is))
+      by (second_area areas chosen is body only below) =
+          (record { areas = areas; chosen = chosen }, (body, only))
+
+  -- there are some where the second area is current
+  some_there : (IsPlain journal.first → ⊥) → (f : List ℕ) → model.content old ≡ Some f → bodies ≡ [] → ⊥
+  some_there other f was none =
+      let now = o.told f was in
+      let one = (second_there other now.0 (o.holds.file now.0 now.1)).1 in
+      some_behind [] [] one.0 (sym one.1 ∙ none)
+
+  -- a second area has another record than a snapshot
+  pub other_refused : (gate : ℕ) → gate ≡ journal.first → (MayStand gate bodies → ⊥)
+      → HasRefused model old journal.disk (Whys.NotSpool gate)
+  other_refused gate at wrong = record {
+    later = o.later;
+    disk = λ e. absurd cc;
+    not_spool = λ m e f was. inr (inr (subst (HasOther f) (same gate m e) (there_other f was)));
+    kept = λ f was none. o.kept f was (λ empty. none [] (none_there f empty));
+    filled = λ other. o.kept;
+    told = o.told;
+    images = safe_of model old journal.disk o.images;
+    left = since_found;
+  } where
+    same : (a b : ℕ) → ◌≡◌ {A = OpenWhy} (Whys.NotSpool a) (Whys.NotSpool b) → a ≡ b
+    same a b w = cc
+
+    not_plain : IsPlain journal.first → ⊥
+    not_plain plain = wrong (inl (subst IsPlain (sym at) plain))
+
+    no_snapshot : (body : List ℕ) → bodies ≡ body ∷ [] → IsNoSnapshot body
+    no_snapshot body only t fields is = wrong (inr (body, only, (fields_of (Snapshot t), sym is)))
+
+    there_other : (f : List ℕ) → model.content old ≡ Some f → HasOther f gate
+    there_other f was =
+        let has = there f was (some_there not_plain f was) in
+        let second = second_there not_plain f has in
         record {
-          bodies = subst (HoldsBodies f) (sym is.bodies_are) (o.stood f was);
-          each = is.each;
-          history =
-              is.history;
+          second = second.0;
+          body = second.1.0;
+          has = subst (λ (n : ℕ). HasBodiesAt n (second.1.0 ∷ []) f) (sym at)
+              (subst (λ (bs : List (List ℕ)). HasBodiesAt journal.first bs f) second.1.1 has);
+          other = no_snapshot second.1.0 second.1.1;
         }
 
-    either_same : (f g : List ℕ) → model.content old ≡ Some f → HasEither bodies bodies g → IsSame f g
-    either_same f g was either =
-        let has = ⊎_elim {C = HasBodies g bodies} (λ s. s) (λ t. t) either in
-        inr (
-          steps,
-          stood_for f was,
-          record {
-            bodies = subst (HoldsBodies g) (sym is.bodies_are) (stands_for has.0 g bodies has.1);
-            each = is.each;
-            history = is.history;
-          },
-        )
+  -- the bodies are those of these steps
+  module _ (state : State) (steps : List Step) (is : IsReplay bodies state steps) (may : MayStand journal.first bodies)
+    where
+      alone_there : (IsPlain journal.first → ⊥) → IsSnapshot steps
+      alone_there other = ⊎_elim {C = IsSnapshot steps} (λ plain. absurd (other plain))
+          (λ one. one_step steps one.0 one.2.0 (is.bodies_are ∙ one.1) one.2.1) may
+        where
+          one_step : (ss : List Step) (body rest : List ℕ) → map body_of ss ≡ body ∷ [] → body ≡ 24 ∷ rest
+              → IsSnapshot ss
+          one_step [] body rest e begins = absurd cc
+          one_step (s ∷ []) body rest e begins =
+              let here : body_of s ≡ body = cc in
+              let found = snapshot_step s rest (here ∙ begins) in
+              (found.0, ap (λ (x : Step). x ∷ []) found.1)
+          one_step (s ∷ t ∷ ss) body rest e begins = absurd cc
 
-    -- ---- what a stop left in the second area was moved, or was to be
-
-    module _ (new : JournalShown D) (result : Result (Unit {0}) AppendFault)
-        (settles : Settles model journal new result) where
-      pub images_settled : OpensSafely model old new.disk
-      images_settled f was =
-          let x = o.told f was in
-          joined model (BeforeOrSame model old f) old journal.disk new.disk
-          (safe_of model old journal.disk o.images f was)
-          (weaken model (HasEither bodies bodies) (BeforeOrSame model old f) journal.disk new.disk
-          (λ g either. inr (either_same f g was either)) (settles.images x.0 x.1 bodies o.holds))
-
-      pub since_settled : (f : List ℕ) → model.content old ≡ Some f
-          → IsSameFrom model f old new.disk (model.moment first)
-      since_settled f was =
-          let x = o.told f was in
-          let before = o.since f was in
-          let during = settles.images x.0 x.1 bodies o.holds in
-          let later = during.later in
-          record {
-            from = before.from;
-            until = (let until = before.until in omega (arith, until, later));
-            same = λ g left. ⊎_elim {C = IsSame f g} (λ was_left. same_of f g (before.same g was_left))
-                (λ either. either_same f g was either) (during.since (model.moment first) g before.until left);
-          }
-
-      pub told_settled : StaysTold model old new.disk
-      told_settled f was = let x = o.told f was in settles.told x.0 x.1
-
-      pub later_settled : model.faults old ≤ model.faults new.disk
-      later_settled = omega (arith, o.later, settles.later)
-
-      left_settled : (f : List ℕ) → model.content old ≡ Some f → IsLeft model f old new.disk
-      left_settled f was = synced (record { first = first; sync = o.sync; same = since_settled f was })
-
-    -- it was moved, or there was nothing to move
-    module _ (new : JournalShown D) (settles : Settles {T = Unit {0}} model journal new (Ok tt)) where
-      pub stands_settled : IsHeld model new state steps
-      stands_settled = record {
-        holds = subst (Holds model new) (sym is.bodies_are) (settles.done refl bodies o.holds);
+      held_there : IsHeld model journal state steps
+      held_there = record {
+        holds = subst (Holds model journal) (sym is.bodies_are) o.holds;
         each = is.each;
         state_is = is.state_is;
         history = is.history;
+        alone = alone_there;
       }
 
-      pub plain_settled : IsPlain new.first
-      plain_settled = ⊎_elim {C = IsPlain new.first}
-          (λ alone. inl (ap (λ (j : JournalShown D). j.first) alone.1 ∙ alone.0)) (λ moved. inr moved.1)
-          (settles.place refl)
-
-      -- where the disk has bodies in the only area the journal does
-      only_there : (f : List ℕ) → model.content old ≡ Some f → HasOnlyArea f → journal.first ≡ 8
-      only_there f was only =
-          let all : List (List ℕ) = only.body ∷ only.bodies in
-          let same : bodies ≡ all = one_list f bodies all (o.stood f was) (stands_for 8 f all only.has) in
-          let some : bodies ≡ [] → ⊥ = λ none. some_behind [] only.bodies only.body (sym same ∙ none) in
-          (one_area f journal.first 8 bodies all (there f was some) only.has).0
-
-      -- and where the journal has them there the disk does
-      only_here : (f : List ℕ) → model.content old ≡ Some f → journal.first ≡ 8 → HasOnlyArea f
-      only_here f was eight = has bodies refl
-        where
-          has : (bs : List (List ℕ)) → bodies ≡ bs → HasOnlyArea f
-          has [] e = absurd (omega (
-            arith,
-            o.some eight,
-            eight,
-            o.holds.size,
-            ap (λ (xs : List (List ℕ)). length (records xs)) e,
-          ))
-          has (b ∷ bs) e = record {
-            body = b;
-            bodies = bs;
-            has = subst (λ (n : ℕ). HasBodiesAt n (b ∷ bs) f) eight
-                (subst (λ (xs : List (List ℕ)). HasBodiesAt journal.first xs f) e
-                (there f was (λ none. some_behind [] bs b (sym e ∙ none))));
-          }
-
-      pub place_settled : WhereTold model old (λ f. OpensAt f new.first)
-      place_settled f was = ⊎_elim {C = OpensAt f new.first}
-          (λ alone. in_only (ap (λ (j : JournalShown D). j.first) alone.1 ∙ alone.0) (only_here f was alone.0))
-          (λ moved. in_first moved.1 (λ only. moved.0 (only_there f was only))) (settles.place refl)
-
-    -- it was not
-    module _ (fault : AppendFault) (new : JournalShown D)
-        (settles : Settles {T = Unit {0}} model journal new (Err fault)) where
-      why_disk : (x : AppendFault) → settle_why x ≡ Whys.Disk → x ≡ AppendFaults.Disk
-      why_disk (AppendFaults.Full size need) e = absurd cc
-      why_disk AppendFaults.Disk e = refl
-      why_disk AppendFaults.Ended e = absurd cc
-      why_disk AppendFaults.Memory e = absurd cc
-
-      why_place : (x : AppendFault) (n : ℕ) → settle_why x ≡ Whys.NotSpool n → ⊥
-      why_place (AppendFaults.Full size need) n e = cc
-      why_place AppendFaults.Disk n e = cc
-      why_place AppendFaults.Ended n e = cc
-      why_place AppendFaults.Memory n e = cc
-
-      pub settle_refused : HasRefused model old new.disk (settle_why fault)
-      settle_refused = record {
-        later = later_settled new (Err fault) settles;
-        disk = λ e.
-            let rose = settles.disk (ap (λ (x : AppendFault). Err x) (why_disk fault e)) in omega
-            (arith, rose, o.later);
-        not_spool = λ n e. absurd (why_place fault n e);
-        kept = λ f was none. absurd (none steps (stood_for f was));
-        filled = λ other f was some.
-            let same = settles.kept refl
-            (λ (e : ◌≡◌ {A = Result (Unit {0}) AppendFault} (Err fault) (Err AppendFaults.Disk)).
-            other (ap settle_why (err_same fault AppendFaults.Disk e))) in
-            ap (λ (j : JournalShown D). model.content j.disk) same ∙ o.kept f was some;
-        told = told_settled new (Err fault) settles;
-        images = images_settled new (Err fault) settles;
-        left = left_settled new (Err fault) settles;
+      pub stood_for : (f : List ℕ) → model.content old ≡ Some f → StandsFor f steps
+      stood_for f was = record {
+        bodies = subst (HoldsBodies f) (sym is.bodies_are) (o.stood f was);
+        each = is.each;
+        history = is.history;
+        second = λ chosen. alone_there (λ plain. not_second plain chosen);
       } where
-        err_same : (x y : AppendFault) → ◌≡◌ {A = Result (Unit {0}) AppendFault} (Err x) (Err y) → x ≡ y
-        err_same x y e = cc
+        not_second : IsPlain journal.first → HasSecondArea f → ⊥
+        not_second plain chosen = at (o.stood f was)
+          where
+            at : HoldsBodies f bodies → ⊥
+            at (inl short) = let inside = chosen.areas.inside in absurd (omega (arith, inside, short.0))
+            at (inr has) =
+                let one = second_one has.1.0 bodies f has.1.1 chosen in
+                let some : bodies ≡ [] → ⊥ = λ none. some_behind [] [] one.0 (sym one.1 ∙ none) in
+                plain_alone journal.first bodies f plain (there f was some) chosen
 
--- ---- the spool was opened
-
-pub has_opened : {D C : Type 0} (model : DiskView D) (old : D) (journal : JournalShown D) (bodies : List (List ℕ))
-    (spool : Shown D C) → IsOpened model old journal bodies spool.opened.synced → (steps : List Step)
-    → IsReplay bodies spool.current steps → Settles {T = Unit {0}} model journal spool.journal (Ok tt)
-    → spool.entries ≡ [] → spool.opened.disk ≡ old → spool.opened.first ≡ spool.journal.first
-    → spool.opened.bodies ≡ bodies → HasOpened model old spool
-has_opened model old journal bodies spool o steps is settles none disk gate found = record {
-  steps = steps;
-  stands = stands_settled model old journal bodies spool.opened.synced o spool.current steps is spool.journal settles;
-  history = stood_for model old journal bodies spool.opened.synced o spool.current steps is;
-  place = place_settled model old journal bodies spool.opened.synced o spool.current steps is spool.journal settles;
-  later = later_settled model old journal bodies spool.opened.synced o spool.current steps is spool.journal (Ok tt)
-      settles;
-  told = told_settled model old journal bodies spool.opened.synced o spool.current steps is spool.journal (Ok tt)
-      settles;
-  images = images_settled model old journal bodies spool.opened.synced o spool.current steps is spool.journal (Ok tt)
-      settles;
-  sync = o.sync;
-  synced = since_settled model old journal bodies spool.opened.synced o spool.current steps is spool.journal (Ok tt)
-      settles;
-  none = none;
-  disk = disk;
-  first = gate;
-  bodies = found ∙ sym is.bodies_are;
-}
+      pub has_found : HasFound model old journal state bodies first
+      has_found = record {
+        steps = steps;
+        held = held_there;
+        history = stood_for;
+        bodies_are = sym is.bodies_are;
+        some = o.some;
+        later = o.later;
+        told = o.told;
+        kept = o.kept;
+        images = safe_of model old journal.disk o.images;
+        sync = o.sync;
+        since = λ f was. from_of model f old journal.disk (model.moment first) (o.since f was);
+      }

@@ -6,7 +6,8 @@ use Rattle.mta_records.specs.declared.step.Step.{Step}
 use Rattle.mta_records.specs.declared.fault.StepFault.{StepFault}
 use Rattle.mta_records.specs.declared.fault.StepFault.TheVariants as Faults
 use Rattle.mta_histories.specs.Lanes.{Lane, State, lane_at}
-use Rattle.mta_histories.specs.Classes.{LaneStep, agree, bind, start, confirm, to_end, settle, abandon, secure, complete}
+use Rattle.mta_histories.specs.Classes.{LaneStep, agree, bind, start, confirm, to_end, settle, abandon, secure}
+use Rattle.mta_histories.specs.Classes.{complete}
 use Rattle.mta_histories.specs.Classes.{drop_pieces, close, Class, opens, on_lane, class_of}
 use Rattle.mta_histories.specs.History.{StepNeeds, LaneNeeds, IsOfGeneration, IsPossible, when}
 use Rattle.mta_spool.specs.Refusals.{IsFenced, LaneExpects, IsUnexpected, MayOpen, IsOfLane, IsRefused}

@@ -14,8 +14,8 @@ abbrev pub IsLeftWith : List Step → List Step → List Step → List ℕ → T
 IsLeftWith steps added torn_step image = StandsFor image (steps ++ added)
     ⊎ StandsFor image (steps ++ (added ++ torn_step))
 
--- A crash at any moment of a call leaves the history with a beginning of its steps, and one now with all that were
--- made.
+-- A crash at any moment of a call leaves the history with a beginning of its steps, and one now with all
+-- that were made.
 pub record Leaves {D : Type 0} (disks : DiskView D) (steps added torn_step : List Step) (old new : D) : Type 0 where
   pub during : AtAnyMoment disks (Reached steps (added ++ torn_step)) old new
   pub now : (g : List ℕ) → disks.may_leave new g → IsLeftWith steps added torn_step g

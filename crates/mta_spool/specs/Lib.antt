@@ -1,4 +1,6 @@
 pub mod Due
+pub mod Finding
+pub mod GoingOn
 pub mod Refusals
 pub mod Shown
 pub mod Crashing

@@ -1,18 +1,13 @@
--- What opening finds and leaves.
+-- What opening leaves of a disk while it finds what stands there.
 use Rattle.std.specs.Prelude.{◌≡◌, ◌⊎◌, ℕ, ◌≤◌, List, [], map, Some}
 use Rattle.mta_edge.specs.Causes.{Rose}
 use Rattle.mta_edge.specs.Views.{DiskView, StaysTold, WhereTold}
 use Rattle.mta_edge.specs.Crashes.{AtAnyMoment}
 use Rattle.mta_journal.specs.Opening.{IsSynced, KeepsFilled}
-use Rattle.mta_journal.specs.declared.journal.AppendFault.{AppendFault}
-use Rattle.mta_journal.specs.declared.journal.AppendFault.TheVariants as AppendFaults
 use Rattle.mta_journal.specs.declared.why.OpenWhy.{OpenWhy}
 use Rattle.mta_journal.specs.declared.why.OpenWhy.TheVariants as Whys
 use Rattle.mta_records.specs.declared.step.Step.{Step}
-use Rattle.mta_records.specs.Body.{body_of}
-use Rattle.mta_images.specs.Image.{StandsFor, NoSpoolAt, OpensAt}
-use Rattle.mta_spool.specs.Shown.{Shown}
-use Rattle.mta_spool.specs.Stands.{Stands}
+use Rattle.mta_images.specs.Image.{StandsFor, NoSpoolAt}
 
 -- it is the same image, or both stand for one history
 abbrev pub IsSame : List ℕ → List ℕ → Type 0
@@ -34,19 +29,12 @@ pub record SameSince {D : Type 0} (model : DiskView D) (f : List ℕ) (old new :
   pub sync : IsSynced model old first
   pub same : IsSameFrom model f old new (model.moment first)
 
--- What a crash leaves of a disk on which a spool is opened: where the first sync failed, what one before might have
+-- What a crash leaves of a disk on which a spool is looked for: where the first sync failed, what one before might have
 -- left, and since that sync the same.
 pub data IsLeft {D : Type 0} (model : DiskView D) (f : List ℕ) (old new : D) : Type 0 where
   unsynced : model.content new ≡ model.content old
       → ((g : List ℕ) → model.left_since new (model.moment old) g → model.may_leave old g) → IsLeft model f old new
   synced : SameSince model f old new → IsLeft model f old new
-
--- what opening answers where the record of the second area was not moved: the other two faults never come
-abbrev pub settle_why : AppendFault → OpenWhy
-settle_why (AppendFaults.Full size need) = Whys.Memory
-settle_why AppendFaults.Disk = Whys.Disk
-settle_why AppendFaults.Ended = Whys.Memory
-settle_why AppendFaults.Memory = Whys.Memory
 
 -- a disk that stands for no history is as it was
 abbrev pub StaysOther : {D : Type 0} → DiskView D → D → D → Type 0
@@ -58,26 +46,7 @@ StaysOther model old new =
 abbrev pub OpensSafely : {D : Type 0} → DiskView D → D → D → Type 0
 OpensSafely model old new = WhereTold model old (λ f. AtAnyMoment model (BeforeOrSame model old f) old new)
 
--- The disk was opened: the spool stands for a history, which is that of the disk where it tells what it holds.
-pub record HasOpened {D C : Type 0} (model : DiskView D) (old : D) (spool : Shown D C) : Type 0 where
-  pub steps : List Step
-  pub stands : Stands model spool steps
-  pub history : WhereTold model old (λ f. StandsFor f steps)
-  -- its records stand where those of that disk do, but for one that a stop has left in the second area
-  pub place : WhereTold model old (λ f. OpensAt f spool.journal.first)
-  pub later : model.faults old ≤ model.faults spool.journal.disk
-  pub told : StaysTold model old spool.journal.disk
-  pub images : OpensSafely model old spool.journal.disk
-  -- the disk as the call's first sync left it, and that since then a crash leaves the same
-  pub sync : IsSynced model old spool.opened.synced
-  pub synced : WhereTold model old (λ f. IsSameFrom model f old spool.journal.disk (model.moment spool.opened.synced))
-  -- no step was made yet, and what it was opened with is known
-  pub none : spool.entries ≡ []
-  pub disk : spool.opened.disk ≡ old
-  pub first : spool.opened.first ≡ spool.journal.first
-  pub bodies : spool.opened.bodies ≡ map body_of steps
-
--- The disk was refused.
+-- The disk was refused before anything was written to it but, where it had no records, the beginning of two areas.
 pub record HasRefused {D : Type 0} (model : DiskView D) (old new : D) (why : OpenWhy) : Type 0 where
   pub later : model.faults old ≤ model.faults new
   pub disk : why ≡ Whys.Disk → Rose (model.faults old) (model.faults new)

@@ -1,5 +1,5 @@
--- What a call leaves that takes a piece of an activity. Beside the refusals of steps it may find that the octets are
--- bad.
+-- What a call leaves that takes a piece of an activity. Beside the refusals of steps it may find that the
+-- octets are bad.
 use Rattle.std.specs.Prelude.{◌≡◌, ◌⊎◌, ℕ, ◌+◌, ◌^◌, ◌<◌, List, length, false, Option, None, Some, Result, Ok, Err}
 use Rattle.std.specs.List.{concat}
 use Rattle.mta_ber.specs.declared.fault.Fault.{Fault}

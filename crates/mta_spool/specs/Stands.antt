@@ -5,7 +5,7 @@ use Rattle.mta_ber.specs.Times.{last_moment}
 use Rattle.mta_edge.specs.Causes.{Rose}
 use Rattle.mta_edge.specs.Views.{ClockView, DiskView, StaysTold}
 use Rattle.mta_edge.specs.Crashes.{AtAnyMoment}
-use Rattle.mta_journal.specs.Shown.{Shown as JournalShown, Holds}
+use Rattle.mta_journal.specs.Shown.{Shown as JournalShown, Holds, IsPlain}
 use Rattle.mta_journal.specs.Appending.{journal_limit}
 use Rattle.mta_journal.specs.Bodies.{need_of as need_of_body}
 use Rattle.mta_records.specs.declared.fault.StepFault.{StepFault}
@@ -16,7 +16,7 @@ use Rattle.mta_histories.specs.Lanes.{State}
 use Rattle.mta_histories.specs.Classes.{class_of, Class, opens}
 use Rattle.mta_histories.specs.History.{after, after_step, IsHistory, IsPossible, when}
 use Rattle.mta_histories.specs.Numbers.{numbers_needed}
-use Rattle.mta_images.specs.Image.{AreRecords, StandsFor}
+use Rattle.mta_images.specs.Image.{AreRecords, IsSnapshot, StandsFor}
 use Rattle.mta_spool.specs.Refusals.{IsOfLane, IsRefused}
 use Rattle.mta_spool.specs.Shown.{Shown}
 
@@ -27,6 +27,8 @@ pub record IsHeld {D : Type 0} (model : DiskView D) (journal : JournalShown D) (
   pub each : AreRecords steps
   pub state_is : state ≡ after steps
   pub history : IsHistory steps
+  -- a journal whose records stand in the second area has a snapshot
+  pub alone : (IsPlain journal.first → ⊥) → IsSnapshot steps
 
 -- the spool stands for this history, on its disk and in memory
 abbrev pub Stands : {D C : Type 0} → DiskView D → Shown D C → List Step → Type 0

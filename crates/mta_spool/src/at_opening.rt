@@ -9,9 +9,13 @@ pub struct AtOpening<D, C> {
     /// The disk and the clock as they were handed in.
     pub disk: Snapshot<D>,
     pub clock: Snapshot<C>,
-    /// The disk as the first sync left it.
+    /// The disk as the first sync left it, and as it was when opening was over.
     pub synced: Snapshot<D>,
-    /// The bodies of the records that stood on it, and their first gate when it was opened.
+    pub over: Snapshot<D>,
+    /// The bodies of the records that stood on it, the body of the snapshot to which they were compacted, if they were,
+    /// and whether the format was set behind them; and their first gate then.
     pub bodies: Snapshot<Vec<Octets>>,
+    pub snapshot: Snapshot<Option<Octets>>,
+    pub sets_format: Snapshot<bool>,
     pub first: Snapshot<u64>,
 }

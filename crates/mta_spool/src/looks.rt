@@ -1,5 +1,4 @@
-//! What is asked of the lanes and of what waits. Nothing is written, and but for `batch_for` and `waiting` no memory is
-//! taken.
+//! What is asked of the lanes and of what waits. Nothing is written, and but for `batch_for` no memory is taken.
 
 ghost use Rattle.std.specs.Prelude.{◌≡◌, IfOk, ℕ};
 ghost use Rattle.std.specs.List.{find};
@@ -14,7 +13,7 @@ use mta_edge::{Clock, Disk};
 use mta_lane_recv::Last;
 use mta_lane_send::SendState;
 use mta_lanes::Lane;
-use mta_records::{Batch, LaneRole, LaneValues, Recipients, Reference};
+use mta_records::{Batch, LaneRole, LaneValues, Reference};
 
 // The number of the first of the lanes with this peer, in this role, and of this reference, where one is asked for.
 #[tactic(auto, using(crate::proofs::Looking::first_laws))]
@@ -67,11 +66,12 @@ impl<D: Disk + Drop, C: Clock + Drop> Spool<D, C> {
         self.find_batch(peer, moment)
     }
 
-    /// The items of which a recipient waits for the peer, by ascending numbers; none where no tables name the peer.
-    pub fn waiting(&self, peer: &Word) -> Result<Option<Recipients>, Memory>
-        ensures { IfOk result (HasQueue self.now.current peer.now) }
+    /// The items of which a recipient waits for the peer, by ascending numbers, lent; none where no tables name the
+    /// peer. It takes no memory.
+    pub fn waiting(&self, peer: &Word) -> Option<&[u32]>
+        ensures { HasQueue self.now.current peer.now (option_copied result) }
     {
-        self.replay.waiting(self.alloc, peer)
+        self.replay.waiting(peer)
     }
 
     /// The number of the lowest open lane with this peer, in this role, and of this reference, where one is asked for;

@@ -42,6 +42,7 @@ fn step_fault(fault: AppendFault) -> StepFault
 
 // Writes the body of a record down, and makes what its step changes, in room that is found for it.
 fn keep<D: Disk + Drop>(
+    alloc: Global,
     journal: &mut Journal<D>,
     replay: &mut Replay<TableRules>,
     entries: &mut Entries,
@@ -64,7 +65,7 @@ fn keep<D: Disk + Drop>(
         → IsReady format_of text_of (state_of replay.old.kept) step ready.change ready.rules
         → IsSound format_of text_of replay.new.kept replay.new.rules }
 {
-    let Ok(()) = replay.reserve(&ready) else {
+    let Ok(()) = replay.reserve(alloc, &ready) else {
         ready.discard();
         return Err(StepFault::Memory);
     };
@@ -106,7 +107,15 @@ pub fn make_ready<D: Disk + Drop>(
         return Err(StepFault::Memory);
     };
     let longer = entries.with(step);
-    keep(journal, replay, entries, record.as_slice(), longer, ready)
+    keep(
+        alloc,
+        journal,
+        replay,
+        entries,
+        record.as_slice(),
+        longer,
+        ready,
+    )
 }
 
 /// Makes a step that is possible. Whatever is refused, the state in memory is as it was.
@@ -135,5 +144,13 @@ pub fn make<D: Disk + Drop>(
     let Ok(ready) = replay.ready(alloc, step) else {
         return Err(StepFault::Memory);
     };
-    keep(journal, replay, entries, record.as_slice(), longer, ready)
+    keep(
+        alloc,
+        journal,
+        replay,
+        entries,
+        record.as_slice(),
+        longer,
+        ready,
+    )
 }

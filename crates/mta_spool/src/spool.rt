@@ -70,7 +70,7 @@ pub struct Spool<D: Disk + Drop, C: Clock + Drop> {
 impl<D: Disk + Drop, C: Clock + Drop> Model for Spool<D, C> {
     ghost use Rattle.mta_state.specs.Kept.{state_of};
     ghost use Rattle.mta_table_rules.specs.Text.{format_of, text_of};
-    ghost use Rattle.mta_spool.specs.Shown.{IsSoundAt, Shown};
+    ghost use Rattle.mta_spool.specs.Shown.{IsSoundAt, Shown, compacted_to, with_format};
 
     ghost Value = { Shown D C };
 
@@ -83,7 +83,11 @@ impl<D: Disk + Drop, C: Clock + Drop> Model for Spool<D, C> {
         disk = s.opened.disk.value;
         clock = s.opened.clock.value;
         synced = s.opened.synced.value;
-        bodies = s.opened.bodies.value.items;
+        over = s.opened.over.value;
+        found = s.opened.bodies.value.items;
+        between = compacted_to s.opened.snapshot.value s.opened.bodies.value.items;
+        bodies = with_format s.opened.sets_format.value
+            (compacted_to s.opened.snapshot.value s.opened.bodies.value.items);
         first = s.opened.first.value;
       };
     } };

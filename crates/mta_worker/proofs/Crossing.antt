@@ -35,6 +35,9 @@ use Rattle.mta_dues.specs.contracts.agenda.Agenda as agenda
 use Rattle.mta_dues.specs.contracts.hand.Hand as hand
 use Rattle.mta_dues.specs.contracts.lines.Lines as lines
 use Rattle.mta_dues.specs.contracts.index.Index as index
+use Rattle.mta_queue.specs.contracts.mark.Marks as marks
+use Rattle.mta_queue.specs.contracts.queue.Queue as queue
+use Rattle.mta_queue.specs.contracts.queues.Queues as queues
 use Rattle.mta_state.specs.contracts.kept.Kept as kept
 use Rattle.mta_replay.specs.contracts.replay.InForce as in_force
 use Rattle.mta_replay.specs.contracts.replay.Replay as replay
@@ -119,8 +122,23 @@ index_send = let a = agenda_send in let b = lines_send in let h = hand_send in
 kept_send : IsSend kept.the_field.row
 kept_send = search (crosses, sendable) depth 80 fits 100000
 
+marks_send : IsSend marks.the_row
+marks_send = search (crosses, sendable) depth 80 fits 100000
+
+queue_send : IsSend queue.the_row
+queue_send = search (crosses, sendable) depth 80 fits 100000
+
+queues_send : IsSend queues.the_row
+queues_send = search (queue_send, marks_send, crosses, sendable) depth 80 fits 100000
+
 in_force_send : IsSend (in_force.the_field rules.the_row).row
-in_force_send = struct_send (shape (in_force.the_type rules.the_row)) (rules_send, (index_send, tt))
+in_force_send = struct_send (shape (in_force.the_type rules.the_row)) (
+  search (crosses, sendable) depth 20,
+  (
+    rules_send,
+    (index_send, (queues_send, (search (marks_send, crosses, sendable) depth 80 fits 100000, tt))),
+  ),
+)
 
 replay_send : IsSend (replay.the_field rules.the_row).row
 replay_send = let a = in_force_send in
@@ -134,7 +152,7 @@ module _ (D C : RattleType) (d : disk.Ghosts D.Denot) (c : clock.Ghosts C.Denot)
       search (crosses, sendable) depth 20,
       (
         search sendable depth 20,
-        (replay_send, (search sendable depth 20, (search sendable depth 20, tt))),
+        (replay_send, (search sendable depth 20, (search (crosses, sendable) depth 80 fits 100000, tt))),
       ),
     ),
   )

@@ -71,7 +71,8 @@ module _ {D C L S : Type 0} (disks : DiskView D) (clocks : ClockView C) (links :
       → y.sessions ≡ x.sessions + 1 → is ≡ is_closed served.end
       → y.closed ≡ (if is then x.closed + 1 else x.closed) → Behind disks clocks mid served.halt y.pass halt
       → Serves disks clocks links stations limits x y halt
-  serves limits x y halt given link left mid served role is room next more stays told session back less keeps one e closed
+  serves limits x y halt given link left mid served role is room next more stays told session back less keeps one e
+      closed
       behind = record {
         room = room;
         given = given;

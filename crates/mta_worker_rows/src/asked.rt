@@ -50,24 +50,20 @@ pub fn batch(alloc: Global, held: &Held, peer: &str) -> Result<String> {
     }
 }
 
-fn waiting_in(
-    spool: Spool<SafeDisk, MemClock>,
-    peer: &Word,
-) -> std::result::Result<Option<Recipients>, Memory> {
-    let waiting = spool.waiting(peer);
-    spool.end();
-    waiting
+fn said_of_waiting(alloc: Global, waiting: Option<&[u32]>) -> Result<String> {
+    match waiting {
+        Some(items) => Ok(numbers(alloc, items)?),
+        None => Ok(format!(in alloc; "none")?),
+    }
 }
 
 /// The items that wait for a peer; none where the tables do not name it.
 pub fn waiting(alloc: Global, held: &Held, peer: &str) -> Result<String> {
     let peer = word_of(alloc, peer)?;
     let spool = spool_of(alloc, held)?;
-    match waiting_in(spool, &peer) {
-        Ok(Some(items)) => Ok(numbers(alloc, items.as_slice())?),
-        Ok(None) => Ok(format!(in alloc; "none")?),
-        Err(_) => Err(anyhow!("no memory")),
-    }
+    let said = said_of_waiting(alloc, spool.waiting(&peer));
+    spool.end();
+    said
 }
 
 fn number(text: &str) -> Result<u32> {

@@ -282,14 +282,14 @@ fn both_served<'a, R: Threads + Wait + Sync>(
     Ok(served(worked(rt, alloc, spool, stations)))
 }
 
-// The steps: the tables; of each session LaneOpen, Complete and CloseLane; and a Deliver of each message.
+// The steps: the format; the tables; of each session LaneOpen, Complete and CloseLane; and a Deliver of each message.
 #[test]
 fn one_waits_while_the_other_is_served(rt: HostRuntime) -> Result<(), Fail> {
     let flag = AtomicU64::new(0);
     let (ends, answered, records) = both_served(&rt, rt.alloc(), &flag)?;
     assert_eq!(rt; ends.as_slice(), [SERVED, SERVED].as_slice());
     assert!(rt; answered);
-    assert_eq!(rt; records, 9);
+    assert_eq!(rt; records, 10);
     Ok(())
 }
 

@@ -23,3 +23,6 @@ pub returns-in-Err-clause-begun : goal.returns-in-Err-clause-begun
 returns-in-Err-clause-begun g c =
     not_recorded g.D.Disk.model g.met.D.Disk.laws g.C.Clock.model c.args.tables.now.text c.args.spool.now
     c.set_tables.new.self c.in-Err.fault c.requires.going c.in-Err.ensures.no_lane c.in-Err.ensures.records
+
+pub returns-in-Ok-clause-keeps : goal.returns-in-Ok-clause-keeps
+returns-in-Ok-clause-keeps g c base k = c.settle.ensures.keeps base (c.set_tables.ensures.keeps base k)

@@ -24,7 +24,7 @@ returns-in-Ok-append-clause-made g c = λ step fields body longer ready numbers.
     c.append.new.self (state_of c.commit.new.self.kept) entries None)
     (sym longer)
     (made g.D.Disk.model step g.met.D.Disk.laws c.args.journal.now c.append.new.self
-    (state_of c.args.replay.now.kept) (state_of c.commit.new.self.kept)
+    (state_of c.args.replay.now.kept) (state_of c.commit.new.self.kept) c.requires.plain
     (subst
     (λ (b : List ℕ). JournalAppends {T = Unit {0}} g.D.Disk.model b c.args.journal.now c.append.new.self (Ok tt)) body
     c.in-Ok-append.ensures)
@@ -36,7 +36,7 @@ pub returns-in-Err-clause-made : goal.returns-in-Err-clause-made
 returns-in-Err-clause-made g c = λ step fields body longer ready numbers.
     rw c.step_fault.ensures
     (refused g.D.Disk.model step g.met.D.Disk.laws c.in-Err.fault c.args.journal.now c.append.new.self
-    (state_of c.args.replay.now.kept) (state_of c.reserve.new.self.kept)
+    (state_of c.args.replay.now.kept) (state_of c.reserve.new.self.kept) c.requires.plain
     (subst
     (λ (b : List ℕ).
     JournalAppends {T = Unit {0}} g.D.Disk.model b c.args.journal.now c.append.new.self (Err c.in-Err.fault)) body

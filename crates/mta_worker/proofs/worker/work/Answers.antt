@@ -150,7 +150,8 @@ loop-sessions-preserved g c =
             i.served.0 _ _ i.served.1
             (serves g.D.Disk.model g.C.Clock.model g.S.Link.Link.model g.S.Station.model c.args.limits.now _ _ _
             c.next.new.self c.in-Ok-Some.link c.serve_link-end.new.link c.serve_link-end.new.pass
-            c.serve_link-end.result c.role.result.now c.is_closed.result room next more c.next.ensures.role c.role.ensures
+            c.serve_link-end.result c.role.result.now c.is_closed.result room next more c.next.ensures.role
+            c.role.ensures
             c.serve_link-end.ensures.served c.back.ensures.over c.back.ensures.out c.back.ensures.role refl
             c.is_closed.ensures count behind),
       );
