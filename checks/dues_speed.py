@@ -5,7 +5,7 @@ import sys
 import speed_tools as tools
 
 # how often each is asked, so that the calls take about a second beside the opening
-KINDS = (("turn", "due", 10_000_000), ("batch_for", "batch", 200_000), ("waiting", "waiting", 20_000))
+KINDS = (("turn", "due", 10_000_000), ("batch_for", "batch", 200_000), ("waiting", "waiting", 20_000_000))
 
 
 def a_call(bench, kind, items, rounds):

@@ -69,7 +69,7 @@ def write_spool(folder, tables, items, octets, is_delivered=False):
         file.write(tables)
     since, apdu = int(time.time()) + EPOCH - 3600, counted(octets)
     with open(f"{folder}/mta.spool", "wb") as spool:
-        spool.write(b"MTASPL01" + record(b"\x01" + counted(tables)))
+        spool.write(b"MTASPL01" + record(b"\x19" + number(2, 4)) + record(b"\x01" + counted(tables)))
         for first in range(1, items + 1, 1000):
             rows = []
             for item in range(first, min(first + 1000, items + 1)):

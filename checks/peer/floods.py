@@ -1,5 +1,8 @@
 #!/usr/bin/env python3
-"""Connections that hold, use up or end a station, and true peers beside them: floods.py MTA FOLDER [NAME..]."""
+"""Connections that hold, use up or end a station, and true peers beside them.
+
+floods.py [--seconds N] MTA FOLDER [NAME..]: N is how long the flood `sixteen` goes on.
+"""
 import functools
 import os
 import re
@@ -14,6 +17,7 @@ import threading
 import time
 
 import apdu
+import crowd
 from agent import Agent, connect, free_port, message
 from initiator import Initiator
 from link import Link
@@ -33,6 +37,8 @@ SILENCE = 600  # seconds in which a link has to give something
 LINE = 512  # octets of a line of mta.stations
 WATCHED = 7  # minutes for which a peer that closes at once is watched
 CALM = 5  # minutes after which it is called fewer than three times in each
+SECONDS = 40  # of the flood of sixteen stations
+ALONE = ("silent-beside", "sixteen")  # they compare times
 
 
 def flood(does):
@@ -420,7 +426,13 @@ def within(mta, folder):
 
 
 def main():
-    mta, folder, *names = sys.argv[1:]
+    words, seconds = sys.argv[1:], SECONDS
+    if words[0] == "--seconds":
+        seconds = int(words[1])
+        words = words[2:]
+    mta, folder, *names = words
+    FLOODS["sixteen"] = functools.partial(crowd.sixteen, seconds=seconds)
+    FLOODS["random-octets"] = crowd.random_octets
     floods = FLOODS | BY_NAME
     unknown = sorted(set(names) - set(floods))
     if unknown:
@@ -428,9 +440,10 @@ def main():
         return 2
     names = names or list(FLOODS)
     jobs = [(name, functools.partial(floods[name], mta, f"{folder}/{name}")) for name in names]
-    # the one that compares times is alone
-    wrong = all_at_once(job for job in jobs if job[0] == "silent-beside")
-    wrong += all_at_once(job for job in jobs if job[0] != "silent-beside")
+    wrong = []
+    for one in ALONE:
+        wrong += all_at_once(job for job in jobs if job[0] == one)
+    wrong += all_at_once(job for job in jobs if job[0] not in ALONE)
     Agent.end()
     print(*wrong, sep="\n" if wrong else "", end="\n" if wrong else "")
     return 1 if wrong else 0

@@ -3,9 +3,11 @@
 #![tactic(auto)]
 
 mod fields;
+mod names;
 mod octets;
 mod told;
 
 pub use fields::Fields;
+pub use names::Names;
 pub use octets::{RowFault, lines_of, octets_of};
 pub use told::{shown, tell};
