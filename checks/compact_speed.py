@@ -63,11 +63,11 @@ def main():
     plain = written(folder, size)
     shutil.copytree(place, f"{folder}/small")
     again = seconds(mta, f"{folder}/again", f"{folder}/small")
-    print(f"{count} messages of 1 KiB that were reported: {len(octets) / 1e6:.1f} MB, compacted to {size / 1e6:.1f} MB, "
-          f"{size / count:.0f} octets a message")
+    print(f"{count} messages of 1 KiB that were reported: {len(octets) / 1e6:.1f} MB, compacted to "
+          f"{size / 1e6:.1f} MB, {size / count:.0f} octets a message")
     print(f"an opening that compacts {compacted:.2f} s; as a multiple of one that does not and a plain write of the "
-          f"snapshot {compacted / (replayed + plain):.2f} (wished: at most 3); the next one, as a multiple of the one that "
-          f"does not, {again / replayed:.2f}")
+          f"snapshot {compacted / (replayed + plain):.2f} (wished: at most 3); the next one, as a multiple of the one "
+          f"that does not, {again / replayed:.2f}")
 
 
 main()

@@ -26,6 +26,7 @@ BATCH = 100  # units of a piece that is put at once
 
 
 def rogue(does):
+    """What a rogue does again and again, by its name."""
     ROGUES[does.__name__] = does
     return does
 
@@ -34,6 +35,7 @@ class Rogue:
     def __init__(self, port, name):
         self.port, self.name, self.lane = port, name.encode(), 0
         self.chance = random.Random(name)
+        self.kept = []
 
     def octets(self, most):
         return self.chance.randbytes(self.chance.randrange(1, most))
@@ -57,11 +59,11 @@ class Rogue:
         return link, reference
 
 
-def forever(does):
+def forever(does, it):
     """Again and again, whatever becomes of a connection."""
     while True:
         try:
-            does()
+            does(it)
         except (OSError, Over):
             pass
         time.sleep(PAUSE)
@@ -70,125 +72,108 @@ def forever(does):
 @rogue
 def closes(it):
     """Connections that are closed at once."""
-    forever(lambda: connect(it.port).close())
+    connect(it.port).close()
 
 
 @rogue
 def babbles(it):
     """Connections that bring random octets."""
-    def once():
-        with connect(it.port) as connection:
-            connection.sendall(it.octets(20_000))
-    forever(once)
+    with connect(it.port) as connection:
+        connection.sendall(it.octets(20_000))
 
 
 @rogue
 def is_silent(it):
     """More connections than a station keeps, which bring nothing."""
-    kept = []
-    def once():
-        kept.append(connect(it.port))
-        if len(kept) > 100:
-            kept.pop(0).close()
-    forever(once)
+    it.kept.append(connect(it.port))
+    if len(it.kept) > 100:
+        it.kept.pop(0).close()
 
 
 @rogue
 def drips(it):
     """An octet a minute of a unit of the greatest length, within a session and before one."""
-    def once():
-        link, _ = it.session()
-        link.put(Start(1))
-        early = [connect(it.port) for _ in range(10)]
-        for octet in frame(5, bytes(LONGEST)):
-            for connection in (link.connection, *early):
-                connection.sendall(bytes((octet,)))
-            time.sleep(MINUTE)
-    forever(once)
+    link, _ = it.session()
+    link.put(Start(1))
+    early = [connect(it.port) for _ in range(10)]
+    for octet in frame(5, bytes(LONGEST)):
+        for connection in (link.connection, *early):
+            connection.sendall(bytes((octet,)))
+        time.sleep(MINUTE)
 
 
 @rogue
 def is_deaf(it):
     """It has an activity confirmed again and again, and reads nothing."""
-    def once():
-        link, reference = it.session()
-        message = apdu.message("C=GB;A=SILVER;S=BELL", "C=GB;A=GOLD;S=TRASH", it.name, b"")
-        for unit in (Start(1), Data(message), End(1)):
-            link.put(unit)
-        link.get()
-        link.drop()
-        link, _ = it.session(Recover(reference))
-        link.connection.setsockopt(socket.SOL_SOCKET, socket.SO_RCVBUF, 4096)
-        link.connection.settimeout(None)
-        again = b"".join(write(unit) for unit in (Resume(1, 1), Data(b"x"), End(1)))
-        while True:
-            link.connection.sendall(again * BATCH)
-            time.sleep(PAUSE)
-    forever(once)
+    link, reference = it.session()
+    message = apdu.message("C=GB;A=SILVER;S=BELL", "C=GB;A=GOLD;S=TRASH", it.name, b"")
+    for unit in (Start(1), Data(message), End(1)):
+        link.put(unit)
+    link.get()
+    link.drop()
+    link, _ = it.session(Recover(reference))
+    link.connection.setsockopt(socket.SOL_SOCKET, socket.SO_RCVBUF, 4096)
+    link.connection.settimeout(None)
+    again = b"".join(write(unit) for unit in (Resume(1, 1), Data(b"x"), End(1)))
+    while True:
+        link.connection.sendall(again * BATCH)
+        time.sleep(PAUSE)
 
 
 @rogue
 def is_great(it):
     """Units of the greatest size, which are no messages: in one piece, and in segments of one octet."""
-    def once():
-        link, _ = it.session()
-        segments = b"\x04\x01x" * ((LONGEST - 5) // 3)
-        segments = b"\x24\x83" + len(segments).to_bytes(3, "big") + segments
-        for activity in range(1, 1_000_000, 2):
-            for unit in (Start(activity), Data(bytes(LONGEST_PIECE)), End(activity), Start(activity + 1)):
-                link.put(unit)
-            link.raw(frame(5, segments), "segments")
-            link.put(End(activity + 1))
-            link.get()
-            link.get()
-            time.sleep(PAUSE)
-    forever(once)
+    link, _ = it.session()
+    segments = b"\x04\x01x" * ((LONGEST - 5) // 3)
+    segments = b"\x24\x83" + len(segments).to_bytes(3, "big") + segments
+    for activity in range(1, 1_000_000, 2):
+        for unit in (Start(activity), Data(bytes(LONGEST_PIECE)), End(activity), Start(activity + 1)):
+            link.put(unit)
+        link.raw(frame(5, segments), "segments")
+        link.put(End(activity + 1))
+        link.get()
+        link.get()
+        time.sleep(PAUSE)
 
 
 @rogue
 def syncs(it):
     """Pieces of one octet without end, each of which has to be kept."""
-    def once():
-        link, _ = it.session()
-        link.put(Start(1))
-        for number in range(1, LONGEST_PIECE):
-            link.put(Data(b"x"))
-            link.put(Sync(number))
-            link.get()
-            time.sleep(PAUSE)
-    forever(once)
+    link, _ = it.session()
+    link.put(Start(1))
+    for number in range(1, LONGEST_PIECE):
+        link.put(Data(b"x"))
+        link.put(Sync(number))
+        link.get()
+        time.sleep(PAUSE)
 
 
 @rogue
 def asks(it):
     """It asks for the turn without end."""
-    def once():
-        link, _ = it.session()
-        again = write(Please(0)) * BATCH
-        while True:
-            link.connection.sendall(again)
-            time.sleep(PAUSE)
-    forever(once)
+    link, _ = it.session()
+    again = write(Please(0)) * BATCH
+    while True:
+        link.connection.sendall(again)
+        time.sleep(PAUSE)
 
 
 @rogue
 def guesses(it):
     """Another password for each session, and a reset."""
-    def once():
-        connection = connect(it.port)
-        reference = it.reference(it.chance.randrange(10**9))
-        password = b"%d" % it.chance.getrandbits(9)
-        connection.sendall(write(Open(it.name, reference, 0, 3, TWO_WAY, Bind(it.name, password))))
-        connection.recv(100)
-        connection.setsockopt(socket.SOL_SOCKET, socket.SO_LINGER, struct.pack("ii", 1, 0))
-        connection.close()
-    forever(once)
+    connection = connect(it.port)
+    reference = it.reference(it.chance.randrange(10**9))
+    password = b"%d" % it.chance.getrandbits(9)
+    connection.sendall(write(Open(it.name, reference, 0, 3, TWO_WAY, Bind(it.name, password))))
+    connection.recv(100)
+    connection.setsockopt(socket.SOL_SOCKET, socket.SO_LINGER, struct.pack("ii", 1, 0))
+    connection.close()
 
 
 def main():
     kind, port, name = sys.argv[1:]
     os.nice(19)
-    ROGUES[kind](Rogue(int(port), name))
+    forever(ROGUES[kind], Rogue(int(port), name))
 
 
 if __name__ == "__main__":
