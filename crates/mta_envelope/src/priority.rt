@@ -1,6 +1,6 @@
 //! Priorities.
 
-ghost use Rattle.std.specs.Prelude.{◌≡◌, OnOk, pos};
+ghost use Rattle.std.specs.Prelude.{◌≡◌, OnOk, pos, OnErr};
 ghost use Rattle.mta_ber.specs.Canon.{appended};
 ghost use Rattle.mta_ber.specs.Parts.{Reads};
 ghost use Rattle.mta_ber.specs.Seen.{view};
@@ -44,7 +44,8 @@ pub fn read_priority(part: &View) -> Result<Priority, ReadFault>
 /// Appends a priority under `[APPLICATION 7]`, and nothing where it is normal.
 #[tactic(auto, using(crate::proofs::Written::appended_none))]
 pub fn put_priority(w: &mut Writer, priority: Priority) -> Result<(), Memory>
-    ensures { OnOk result (w.new ≡ appended w.old (canonical_priority priority)) }
+    ensures ok { OnOk result (w.new ≡ appended w.old (canonical_priority priority)) }
+    ensures err { OnErr result (w.new ≡ w.old) }
 {
     match priority {
         Priority::Normal => Ok(()),

@@ -1,6 +1,6 @@
 //! What a domain did with a message (X.411, DomainSuppliedInformation).
 
-ghost use Rattle.std.specs.Prelude.{◌≡◌, ◌≤◌, OnOk, IfSome, pos};
+ghost use Rattle.std.specs.Prelude.{◌≡◌, ◌≤◌, OnOk, IfSome, pos, OnErr};
 ghost use Rattle.mta_ber.specs.Canon.{appended, optional};
 ghost use Rattle.mta_ber.specs.Parts.{Leaves, Reads, once};
 ghost use Rattle.mta_ber.specs.Seen.{view};
@@ -275,7 +275,8 @@ fn put_other(w: &mut Writer, redirected: bool, dl: bool) -> Result<(), Memory>
 #[tactic(auto, unfolding(crate::specs::Traces::canonical_supplied))]
 pub fn put_supplied(w: &mut Writer, v: &Supplied) -> Result<(), Memory>
     requires { IsSupplied v.now }
-    ensures { OnOk result (w.new ≡ appended w.old (canonical_supplied v.now)) }
+    ensures ok { OnOk result (w.new ≡ appended w.old (canonical_supplied v.now)) }
+    ensures err { OnErr result (w.new ≡ w.old) }
 {
     let mut inside = Writer::new(w.alloc());
     put_attempted(&mut inside, &v.attempted)?;
