@@ -1,5 +1,5 @@
 //! Reads messages of 1, 40 and 1,000 recipients again and again, or writes them, and prints how often and how many
-//! octets. The word is `read` or `write`; both where there is none. A script times it (checks/apdu_speed.sh); what is
+//! octets. The word is `read` or `write`; both where there is none. A script times it (checks/speed.sh apdu); what is
 //! printed never varies.
 
 use crate::message::message;

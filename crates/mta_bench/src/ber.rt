@@ -1,5 +1,5 @@
 //! Reads a message of about 2 MiB again and again, and prints how many elements were read. The word is the lengths that
-//! it has, `definite` or `indefinite`; both where there is none. A script times it (checks/ber_speed.sh); what is
+//! it has, `definite` or `indefinite`; both where there is none. A script times it (checks/speed.sh ber); what is
 //! printed never varies.
 
 ghost use Rattle.std.specs.Prelude.{◌≤◌, ◌<◌, ◌^◌, ◌+◌, length};

@@ -1,6 +1,7 @@
 //! Opens a spool in memory in which many items wait for one peer and a few for another, and then asks it again and
-//! again: what is due, what goes to the other peer next, or what waits for that one. The words are `due`, `batch` or
-//! `waiting`, how many items there are, and how often it is asked. A script times it (checks/dues_speed.sh).
+//! again: what is due, what goes to the other peer next, or what waits for that one; or, once all items have expired,
+//! what goes to the first peer next, before any turn or behind one. The words are `due`, `batch`, `waiting`, `expired`
+//! or `reported`, how many items there are, and how often it is asked. A script times it (checks/speed.sh dues).
 
 use anyhow::{Result, anyhow};
 use mta_ber::{Octets, Word};
@@ -31,6 +32,9 @@ const ARRIVED: u64 = 2_427_000_000;
 
 /// How many items arrive in a second. So none of a million has waited for its hold time when the last one comes.
 const IN_A_SECOND: u32 = 100;
+
+/// How long behind the last arrival all items have expired, in seconds: some three years.
+const PAST_ALL_HOLDS: u64 = 100_000_000;
 
 const TABLES: &[u8] =
     b"domain C=GB;A=GOLD\nname GOLD-1\npeer HUB a b twa 4 3\npeer EAST a b twa 4 3\n\
@@ -108,10 +112,27 @@ fn journal_of(alloc: Global, items: u32) -> Result<Octets> {
     Ok(Octets::from_vec(journal))
 }
 
-fn open(alloc: Global, items: u32) -> Result<Spool<SafeDisk, MemClock>> {
-    let journal = journal_of(alloc, items)?;
+/// When it is asked.
+fn asked_at(words: &Words) -> u64 {
+    let last = moment_of(words.items);
+    match words.kind.as_str() {
+        "expired" | "reported" => last.saturating_add(PAST_ALL_HOLDS),
+        _ => last,
+    }
+}
+
+/// Whom it is asked for.
+fn asked_for(words: &Words) -> &'static [u8] {
+    match words.kind.as_str() {
+        "expired" | "reported" => b"HUB",
+        _ => b"EAST",
+    }
+}
+
+fn open(alloc: Global, words: &Words) -> Result<Spool<SafeDisk, MemClock>> {
+    let journal = journal_of(alloc, words.items)?;
     let disk = SafeDisk::new(alloc, journal);
-    let clock = MemClock::new([moment_of(items)].to_vec(alloc)?);
+    let clock = MemClock::new([asked_at(words)].to_vec(alloc)?);
     Spool::open(alloc, disk, clock).map_err(|_| anyhow!("no spool"))
 }
 
@@ -146,16 +167,19 @@ fn list_again(spool: &Spool<SafeDisk, MemClock>, peer: &Word, rounds: u32) -> us
     found
 }
 
-/// How often nothing was due at first, and how much was found then.
+/// How often nothing was due at first, and how much was found then. Of what has expired it is asked before any turn.
 fn found_in(
     spool: &mut Spool<SafeDisk, MemClock>,
     words: &Words,
     peer: &Word,
 ) -> Result<(usize, usize)> {
+    if words.kind.as_str() == "expired" {
+        return Ok((0, take_again(spool, peer, words.rounds)?));
+    }
     let first = look_again(spool, 1)?;
     let found = match words.kind.as_str() {
         "due" => look_again(spool, words.rounds)?,
-        "batch" => take_again(spool, peer, words.rounds)?,
+        "batch" | "reported" => take_again(spool, peer, words.rounds)?,
         _ => list_again(spool, peer, words.rounds),
     };
     Ok((first, found))
@@ -173,16 +197,16 @@ fn spent(
 }
 
 fn answer_to(alloc: Global, words: &Words) -> Result<(usize, usize)> {
-    let Some(peer) = Word::from_octets(Octets::from_slice(alloc, b"EAST")?) else {
+    let Some(peer) = Word::from_octets(Octets::from_slice(alloc, asked_for(words))?) else {
         return Err(anyhow!("no word"));
     };
-    let spool = open(alloc, words.items)?;
+    let spool = open(alloc, words)?;
     spent(spool, words, &peer)
 }
 
 pub fn timed(rt: &(impl Print + AllocGlobal), words: Args<Global>) -> Result<()> {
     let Some(words) = asked(words) else {
-        println!(rt; "usage: mta_bench dues due|batch|waiting ITEMS ROUNDS")?;
+        println!(rt; "usage: mta_bench dues due|batch|waiting|expired|reported ITEMS ROUNDS")?;
         return Ok(());
     };
     let (first, found) = answer_to(rt.alloc(), &words)?;

@@ -1,6 +1,6 @@
 //! Appends bodies to a journal in a file, or writes the same octets one record after the other, each with one sync. The
 //! words are `journal` or `plain`, the file, the number of bodies and the octets of each. A script times it
-//! (checks/journal_speed.sh).
+//! (checks/speed.sh journal).
 
 ghost use Rattle.std.specs.Prelude.{◌≤◌, length};
 

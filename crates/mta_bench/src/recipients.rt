@@ -1,7 +1,7 @@
 //! Takes one message of many recipients through a spool in memory: each of them is unknown and reported, or delivered
 //! to a mailbox, or all are relayed to a peer in one activity, or half of them wait for the peer while the others are
 //! reported. The words are `settle`, `deliver`, `relay` or `mixed`, how many recipients there are, and how often the
-//! spool is opened again behind that. A script times it (checks/recipients_speed.sh).
+//! spool is opened again behind that. A script times it (checks/speed.sh recipients).
 
 use crate::dues::{put_counted, put_record};
 use crate::message::{RECIPIENT, message_to};

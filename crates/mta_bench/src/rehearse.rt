@@ -1,6 +1,6 @@
 //! Reads the tables of 64 agents again and again, 16 KiB each, alone or with the longest walk of a name through them:
 //! each agent sends it on to the next, and the last one back to the first. The word is `read` or `walk`. A script times
-//! it (checks/rehearse_speed.sh).
+//! it (checks/speed.sh rehearse).
 
 use anyhow::{Result, anyhow};
 use mta_edge::{MemSink, MemSource, Octets};

@@ -2,7 +2,7 @@
 //! mailbox or each to a peer, and makes copies of a message of the longest content, their heads, copies of its octets
 //! alone, or reads it and makes none. The word is `first-to-mailbox`, `last-to-mailbox`, `first-to-peer`,
 //! `last-to-peer`, `head`, `copy`, `octets` or `none`; all where there is no word. A script times it
-//! (checks/rules_speed.sh); what is printed never varies.
+//! (checks/speed.sh rules); what is printed never varies.
 
 use crate::message::message;
 use anyhow::{Result, anyhow};

@@ -1,5 +1,5 @@
 //! Takes turns with a lock in many threads. The words are the number of threads, 1 to 16, and the turns of each. A
-//! script times it (checks/lock_speed.sh).
+//! script times it (checks/speed.sh lock).
 
 ghost use Rattle.std.specs.Prelude.{◌≡◌, ◌+◌, ◌<◌, ◌≤◌, ℕ, [], All, length, slice_index_or};
 ghost use Rattle.std.specs.Prelude.{vec_capacity, vec_len};

@@ -1,6 +1,6 @@
 //! Reads a text of tables again and again, or asks tables where names go, by `route` or by a plain scan of the
 //! mailboxes. The words are `read`, `route` or `scan`, and how many mailboxes and routes there are, 1 to 4,096. A
-//! script times it (checks/tables_speed.sh).
+//! script times it (checks/speed.sh tables).
 
 use anyhow::{Result, anyhow};
 use mta_name_text::FromText;

@@ -1,5 +1,5 @@
 //! Feeds a stream of Data units of 4 KiB to `Frames` in cuts of 1,500 octets, and prints how many units and octets were
-//! read. There are no words. A script times it (checks/units_speed.sh); what is printed never varies.
+//! read. There are no words. A script times it (checks/speed.sh units); what is printed never varies.
 
 use anyhow::{Result, anyhow};
 use mta_ber::{Memory, Octets};

@@ -1,12 +1,12 @@
 pub mod Ascending
+pub mod Batches
+pub mod Covered
 pub mod Idle
 pub mod Indexed
-pub mod Nexts
+pub mod Learnt
 pub mod Passed
 pub mod Pending
-pub mod Queues
 pub mod Recipients
 pub mod Relays
 pub mod Scans
 pub mod Keeping
-pub mod Standing

@@ -2,18 +2,15 @@
 use Rattle.std.proofs.Common.{inl, inr, ◌≡◌, ◌≢◌, ◌≤◌, ◌<◌, ◌+◌, ℕ, Bool, true, false}
 use Rattle.std.proofs.Common.{List, [], ◌∷◌, ◌++◌, Option, Some, None, length, refl, sym, ap, subst}
 use Rattle.std.proofs.Common.{◌∙◌, arith}
-use Rattle.std.specs.Prelude.{◌⊎◌, ◌↔◌}
-use Rattle.std.proofs.lemmas.Bool.{cases_lt}
-use Rattle.mta_machine.specs.Items.{ItemValue, Machine, names, numbered, is_pending_at}
+use Rattle.std.specs.Prelude.{◌⊎◌, ◌↔◌, option_and_then}
+use Rattle.mta_machine.specs.Items.{ItemValue, Machine, has_status, is_pending, is_pending_at, names, numbered}
 use Rattle.mta_machine.specs.Rules.{verdict_of}
 use Rattle.mta_machine.specs.Machine.{last_tables, relay_by, relay_on, relay_at}
 use Rattle.mta_histories.specs.Lanes.{State, activities_of}
 use Rattle.mta_histories.specs.Due.{IsToRelay}
 use Rattle.mta_dues.specs.Index.{HasPending}
-use Rattle.mta_dues.specs.Next.{IsBefore}
-use Rattle.mta_dues.specs.Answers.{AreRelayedUpTo, AreRelayed, NoneRelayedUpTo, IsBatchOf}
+use Rattle.mta_dues.specs.Answers.{AreRelayedUpTo, AreRelayed}
 use Rattle.mta_dues.proofs.Ascending.{named_before, named_last, named_more, ascends}
-use Rattle.mta_dues.proofs.Queues.{pending_of}
 use Rattle.mta_dues.proofs.Scans.{cases_le, past, not_there, no_such}
 
 -- ---- one recipient
@@ -53,6 +50,14 @@ not_waiting s i r moment peer (inr busy) = (λ e. absurd cc, λ to. absurd (busy
 none_of_none : (s : State) (peer : List ℕ) (moment i r : ℕ) → is_pending_at s.machine i r ≡ false
     → IsToRelay s peer moment i r → ⊥
 none_of_none s peer moment i r never to = let does = to.waiting.pending in absurd cc
+
+-- who is pending is so of the item
+pending_of : (m : Machine) (i r : ℕ) (item : ItemValue) → numbered m.items i ≡ Some item
+    → is_pending_at m i r ≡ true → has_status is_pending (numbered item.statuses r) ≡ true
+pending_of m i r item is does =
+    let at_r : Option ItemValue → Bool =
+    λ o. has_status is_pending (option_and_then (λ (x : ItemValue). numbered x.statuses r) o) in
+    sym (ap at_r is) ∙ does
 
 -- nobody is to be relayed of an item of which nobody is pending
 pub unrelayed_unpending : (s : State) (peer : List ℕ) (moment i : ℕ) (item : ItemValue)
@@ -136,56 +141,6 @@ all_relays s peer moment i most item rs is few are = record {
         (none_of_none s peer moment i r
         (no_such s.machine i r item is (past item.statuses r (omega (arith, few, above)))) to),
   )
-
--- ---- items
-
-pub none_at_start : (s : State) (peer : List ℕ) (moment : ℕ) → NoneRelayedUpTo s peer moment 0
-none_at_start s peer moment i r low to =
-    let zero_is : i ≡ 0 = omega (arith, low) in
-    let none : numbered s.machine.items i ≡ None = rw zero_is refl in
-    none_of_none s peer moment i r (not_there s.machine i r none) to
-
--- none of the items between two is relayed to the peer
-abbrev pub NoneRelayedBetween : State → List ℕ → (moment after : ℕ) → Option ℕ → Type 0
-NoneRelayedBetween s peer moment after found =
-    (i r : ℕ) → after < i → IsBefore i found → IsToRelay s peer moment i r → ⊥
-
-pub none_of_item : (s : State) (peer : List ℕ) (moment after number : ℕ) (rs : List ℕ)
-    → NoneRelayedUpTo s peer moment after → NoneRelayedBetween s peer moment after (Some number)
-    → AreRelayed s peer moment number rs → rs ≡ [] → NoneRelayedUpTo s peer moment number
-none_of_item s peer moment after number rs before between are none j r low to = elim (cases_le j after) [
-  | inl below ↦ before j r below to
-  | inr above ↦ elim (cases_lt j number) [
-    | inl lower ↦ between j r above lower to
-    | inr high ↦ (let is : j ≡ number = omega (arith, low, high) in
-        let named : names rs r ≡ true =
-        (are.each r).1 (subst (λ (k : ℕ). IsToRelay s peer moment k r) is to) in
-        let nobody : names rs r ≡ false = rw none refl in absurd cc)
-  ]
-]
-
-pub no_batch : (s : State) (peer : List ℕ) (moment after : ℕ) → NoneRelayedUpTo s peer moment after
-    → NoneRelayedBetween s peer moment after None → IsBatchOf s peer moment None
-no_batch s peer moment after before between i r to = elim (cases_le i after) [
-  | inl below ↦ before i r below to
-  | inr above ↦ between i r above tt to
-]
-
-pub a_batch : (s : State) (peer : List ℕ) (moment after number : ℕ) (rs : List ℕ)
-    → NoneRelayedUpTo s peer moment after → NoneRelayedBetween s peer moment after (Some number)
-    → AreRelayed s peer moment number rs → rs ≢ []
-    → IsBatchOf s peer moment (Some (record { item = number; recipients = rs }))
-a_batch s peer moment after number rs before between are some = record {
-  some_recipients = some;
-  ascending = are.ascending;
-  each = are.each;
-  lowest = λ j r to. at j r to (cases_lt j number) (cases_le j after);
-} where
-  at : (j r : ℕ) → IsToRelay s peer moment j r → (j < number) ⊎ (number ≤ j) → (j ≤ after) ⊎ (after < j)
-      → number ≤ j
-  at j r to (inr high) place = high
-  at j r to (inl lower) (inl below) = absurd (before j r below to)
-  at j r to (inl lower) (inr above) = absurd (between j r above lower to)
 
 -- no recipient of an item that is not there is relayed
 pub none_relayed : (s : State) (peer : List ℕ) (moment i : ℕ) → numbered s.machine.items i ≡ None

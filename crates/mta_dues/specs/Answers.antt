@@ -1,5 +1,5 @@
 -- What is answered of what is due.
-use Rattle.std.specs.Prelude.{◌≡◌, ◌≤◌, ◌<◌, ◌&&◌, ◌↔◌, ℕ, Bool, true, List}
+use Rattle.std.specs.Prelude.{◌≡◌, ◌≤◌, ◌<◌, ◌&&◌, ◌↔◌, ℕ, Bool, true, List, get_or, length}
 use Rattle.std.specs.Prelude.{Option, Some, None}
 use Rattle.mta_lane_send.specs.Half.{is_sending, last_of}
 use Rattle.mta_records.specs.declared.step.Step.{Step}
@@ -7,7 +7,7 @@ use Rattle.mta_records.specs.declared.lane.Batch.{Batch}
 use Rattle.mta_procedures.specs.declared.verdict.Verdict.{Verdict}
 use Rattle.mta_machine.specs.Items.{names}
 use Rattle.mta_histories.specs.Lanes.{Lane, State, is_for}
-use Rattle.mta_histories.specs.Due.{IsDue, IsQuiet, IsNext, IsAscending, IsToRelay, IsBatch, IsNoBatch, IsRoutedTo}
+use Rattle.mta_histories.specs.Due.{IsDue, IsQuiet, IsNext, IsAscending, IsToRelay, IsBatch, IsNoBatch}
 use Rattle.mta_histories.specs.Due.{step_of}
 
 -- the step that is due of a recipient, or none
@@ -60,27 +60,12 @@ pub record AreRelayed (s : State) (peer : List ℕ) (moment i : ℕ) (rs : List 
   pub ascending : IsAscending rs
   pub each : (r : ℕ) → (names rs r ≡ true) ↔ IsToRelay s peer moment i r
 
--- no item up to a number has a recipient to relay to the peer
-abbrev pub NoneRelayedUpTo : State → List ℕ → (moment most : ℕ) → Type 0
-NoneRelayedUpTo s peer moment most = (i r : ℕ) → i ≤ most → IsToRelay s peer moment i r → ⊥
+-- no item before a place of the queue has a recipient to relay to the peer
+abbrev pub NoneRelayedBefore : State → List ℕ → (moment : ℕ) → List ℕ → ℕ → Type 0
+NoneRelayedBefore s peer moment queue place =
+    (k r : ℕ) → k < place → k < length queue → IsToRelay s peer moment (get_or queue k 0) r → ⊥
 
 -- the lowest item with recipients to relay to the peer and all those, or none
 abbrev pub IsBatchOf : State → List ℕ → ℕ → Option Batch → Type 0
 IsBatchOf s peer moment None = IsNoBatch s peer moment
 IsBatchOf s peer moment (Some batch) = IsBatch s peer moment batch.item batch.recipients
-
--- ---- what waits for a peer
-
--- some recipient of the item waits for the peer
-abbrev pub HasRouted : State → List ℕ → ℕ → Type 0
-HasRouted s peer i = (r : ℕ) × IsRoutedTo s peer i r
-
--- no recipient up to a number waits for the peer
-abbrev pub NoneRoutedUpTo : State → List ℕ → (i most : ℕ) → Type 0
-NoneRoutedUpTo s peer i most = (r : ℕ) → r ≤ most → IsRoutedTo s peer i r → ⊥
-
--- the ascending items up to a number of which a recipient waits for the peer
-pub record AreQueuedUpTo (s : State) (peer : List ℕ) (most : ℕ) (items : List ℕ) : Type 0 where
-  pub ascending : IsAscending items
-  pub below : (i : ℕ) → names items i ≡ true → i ≤ most
-  pub each : (i : ℕ) → i ≤ most → (names items i ≡ true) ↔ HasRouted s peer i

@@ -2,4 +2,4 @@ pub mod Answers
 pub mod Index
 pub mod Next
 pub mod Agendas
-pub mod Lines
+pub mod Spans

@@ -1,5 +1,5 @@
 -- The lowest number behind another.
-use Rattle.std.specs.Prelude.{◌≡◌, ℕ, ◌≤◌, ◌<◌, min, Bool, true, false, Option, Some, None}
+use Rattle.std.specs.Prelude.{◌≡◌, ℕ, ◌<◌, Bool, true, false, Option, Some, None}
 
 -- the number is below what was found, where something was
 abbrev pub IsBefore : ℕ → Option ℕ → Type 0
@@ -25,14 +25,3 @@ pub record IsNextIn (is : ℕ → Bool) (after : ℕ) (found : Option ℕ) : Typ
   pub above : IsAbove after found
   pub there : IsThere is found
   pub lowest : NoneBetween is after found
-
--- the lowest number above this one, and up to a count, that is above what is known, or none
-pub record IsNextUnknown (known count after : ℕ) (found : Option ℕ) : Type 0 where
-  pub above : IsAbove after found
-  pub lowest : (i : ℕ) → after < i → i ≤ count → IsBefore i found → i ≤ known
-
--- the lower of two, where there are any
-abbrev pub lower : Option ℕ → Option ℕ → Option ℕ
-lower None b = b
-lower (Some m) None = Some m
-lower (Some m) (Some n) = Some (min m n)

@@ -3,7 +3,7 @@
 ghost use Rattle.std.specs.Prelude.{◌≡◌, ◌+◌, ◌≤◌, ◌<◌, ◌^◌, true, length, OnOk};
 ghost use Rattle.mta_dues.specs.Agendas.{AllLater, IsAllCalled, IsFirst, IsFirstCome, IsLetGo, IsPutOff};
 ghost use Rattle.mta_dues.specs.Agendas.{is_active, KeepsAll};
-ghost use Rattle.mta_dues.specs.Next.{IsNextIn, IsNextUnknown};
+ghost use Rattle.mta_dues.specs.Next.{IsNextIn};
 
 use crate::next::next_in;
 use mta_ber::Memory;
@@ -201,13 +201,5 @@ impl Agenda {
         ensures { IsNextIn (is_active self.now) after result }
     {
         next_in(&self.active, after)
-    }
-
-    /// The lowest number above this one, and up to `count`, that is not known.
-    pub fn next_unknown(&self, after: u32, count: u32) -> Option<u32>
-        ensures { IsNextUnknown self.now.known count after result }
-    {
-        let above = self.known.max(after);
-        if above < count { Some(above + 1) } else { None }
     }
 }

@@ -1,29 +1,27 @@
-//! What is known of which items need not be looked at, and of which items wait for which peer.
+//! What is known of which items need not be looked at, and of when items may be relayed.
 
-ghost use Rattle.std.specs.Prelude.{◌≡◌, ℕ, List, IfOk, None, Some};
+ghost use Rattle.std.specs.Prelude.{◌≡◌, ℕ, [], List, IfOk, None, Some};
 ghost use Rattle.mta_machine.specs.Items.{ItemValue, numbered};
-ghost use Rattle.mta_state.specs.Readings.{IsReadingOf};
-ghost use Rattle.mta_dues.specs.Index.{IsIndexed, IsLeft, IsOfHand};
+ghost use Rattle.mta_state.specs.Readings.{IsDecodedOf, IsReadingOf};
+ghost use Rattle.mta_state.specs.Spans.{IsSpanFor};
+ghost use Rattle.mta_dues.specs.Index.{IsIndexed, IsOfHand};
 
 use crate::agenda::Agenda;
 use crate::hand::{Hand, reading_by};
-use crate::lines::Lines;
+use crate::spans::Spans;
 use mta_ber::Memory;
 use mta_machine::Item;
-use mta_state::Reading;
+use mta_state::{Decoded, Reading, Span};
 use std::alloc::Global;
 
-/// Which items are to be looked at, and which stand in a line for a peer. The lines are at the places of the peers in
-/// the tables, from 0. In a line may be items too that wait for its peer no more. What was looked at last is at hand as
-/// it was read, so that a step on it reads it no more.
+/// Which items are to be looked at, and in which spans of time items may be relayed. What was looked at last is at hand
+/// as it was read, so that a step on it reads it no more.
 #[derive(Drop)]
 pub struct Index {
     /// The items that are to be looked at. The others are idle.
     pub agenda: Agenda,
-    /// Those with a recipient who is to be relayed.
-    pub ready: Lines,
-    /// Those with a recipient whose name has its best route there, whether that one is to be relayed yet or not.
-    pub routed: Lines,
+    /// The spans of the first items, which stay true of them, since octets and arrivals of items do not change.
+    pub spans: Spans,
     /// The reading of an item, which stays true of it, since octets of items do not change.
     pub hand: Option<Hand>,
 }
@@ -32,12 +30,12 @@ impl Index {
     /// Nothing is known of any item. It takes no memory.
     pub fn new(alloc: Global) -> Index
         ensures known { result.agenda.known ≡ 0 }
+        ensures spans { result.spans ≡ [] }
         ensures hand { result.hand ≡ None }
     {
         Index {
             agenda: Agenda::new(alloc),
-            ready: Lines::new(alloc),
-            routed: Lines::new(alloc),
+            spans: Spans::new(alloc),
             hand: None,
         }
     }
@@ -50,12 +48,15 @@ impl Index {
         self.agenda.recall(number)
     }
 
-    /// The item of this number stands in no line.
-    pub(crate) fn leave(&mut self, number: u32)
-        ensures { IsLeft self.old self.new number }
+    /// The span of the item of a number is known, where those of all before it are and there is memory to note it.
+    pub(crate) fn learn(&mut self, number: u32, span: Span)
+        ensures agenda { self.new.agenda ≡ self.old.agenda }
+        ensures hand { self.new.hand ≡ self.old.hand }
+        ensures indexed { (format : ℕ) (text : List ℕ) (items : List ItemValue) (item : ItemValue)
+            → numbered items number ≡ Some item → IsSpanFor format text item span
+            → IsIndexed format text items self.old → IsIndexed format text items self.new }
     {
-        self.ready.leave(number);
-        self.routed.leave(number);
+        self.spans.learn(number, span);
     }
 
     /// The reading of the item of a number: what is at hand where that is of this number, and else of its octets.
@@ -78,6 +79,16 @@ impl Index {
         }
     }
 
+    /// What the item of a number was read as is at hand.
+    pub fn keep_decoded(&mut self, number: u32, decoded: Decoded)
+        ensures agenda { self.new.agenda ≡ self.old.agenda }
+        ensures indexed { (format : ℕ) (text : List ℕ) (items : List ItemValue) (item : ItemValue)
+            → numbered items number ≡ Some item → IsDecodedOf item.octets decoded
+            → IsIndexed format text items self.old → IsIndexed format text items self.new }
+    {
+        self.hand = Some(Hand { number, decoded });
+    }
+
     /// The reading of the item of a number is at hand.
     pub fn keep(&mut self, number: u32, reading: Reading<'_>)
         ensures agenda { self.new.agenda ≡ self.old.agenda }
@@ -86,6 +97,6 @@ impl Index {
             → IsIndexed format text items self.old → IsIndexed format text items self.new }
     {
         let decoded = reading.detach();
-        self.hand = Some(Hand { number, decoded });
+        self.keep_decoded(number, decoded);
     }
 }

@@ -1,23 +1,23 @@
-//! What goes to a peer next, found by looking in turn at each recipient of each item that may go to it.
+//! What goes to a peer next, found by looking in turn at each recipient of the items of its queue that may be relayed.
 
-ghost use Rattle.std.specs.Prelude.{◌≡◌, ◌≢◌, ◌≤◌, ◌<◌, ◌^◌, ◌↔◌, [], true, false};
-ghost use Rattle.std.specs.Prelude.{IfOk, IsTrue, Some, length};
+ghost use Rattle.std.specs.Prelude.{◌≡◌, ◌≢◌, ◌≤◌, ◌↔◌, [], true, false};
+ghost use Rattle.std.specs.Prelude.{IfOk, IsTrue, Some};
 ghost use Rattle.std.specs.List.{All};
 ghost use Rattle.mta_ber.specs.Times.{last_moment};
 ghost use Rattle.mta_machine.specs.Items.{ItemValue, numbered};
 ghost use Rattle.mta_machine.specs.Rules.{verdict_of};
 ghost use Rattle.mta_machine.specs.Machine.{relay_by};
-ghost use Rattle.mta_histories.specs.Due.{IsToRelay};
+ghost use Rattle.mta_histories.specs.Due.{IsQueue, IsToRelay};
 ghost use Rattle.mta_state.specs.Kept.{state_of};
 ghost use Rattle.mta_state.specs.Asked.{IsStored, IsTextOf};
 ghost use Rattle.mta_state.specs.Readings.{IsReadingOf};
-ghost use Rattle.mta_dues.specs.Agendas.{IsAllCalled};
 ghost use Rattle.mta_dues.specs.Answers.{AreRelayed, IsBatchOf};
-ghost use Rattle.mta_dues.specs.Index.{IsIndexed};
+ghost use Rattle.mta_dues.specs.Index.{AreSpansIn, IsIndexed};
 
 use crate::index::Index;
-use crate::lined::next_for;
-use crate::rest::{has_pending, pass_over};
+use crate::learning::learn_all;
+use crate::rest::has_pending;
+use crate::spans::Spans;
 use mta_ber::{Memory, Word};
 use mta_machine::Item;
 use mta_procedures::Verdict;
@@ -132,26 +132,28 @@ fn relayed<R: Rules>(
     }
 }
 
-// The lowest item with recipients to relay to the peer, found among those in its lines. What is settled is let go.
-#[tactic(auto, using(crate::proofs::Passed::batch_laws))]
+// The lowest item of the queue with recipients to relay to the peer. Those are passed over that are held or have
+// expired.
+#[tactic(auto, using(crate::proofs::Batches::none_before_first))]
 fn first_batch<R: Rules>(
     alloc: Global,
     rules: &R,
     kept: &Kept,
-    index: &mut Index,
+    spans: &Spans,
+    queue: &[u32],
     peer: &[u8],
     moment: u64,
 ) -> Result<Option<Batch>, Memory>
     requires text { IsTextOf kept.now (R.text rules.now) }
     requires format { R.format rules.now ≡ kept.now.parts.format }
     requires stored { All IsStored kept.now.parts.items.items }
-    requires called { IsAllCalled index.old.agenda (length kept.now.parts.items.items) moment }
-    requires indexed { IsIndexed (R.format rules.now) (R.text rules.now) kept.now.parts.items.items index.old }
-    ensures batch { IfOk result (IsBatchOf (state_of kept.now) peer.now moment) }
-    ensures indexed { IsIndexed (R.format rules.now) (R.text rules.now) kept.now.parts.items.items index.new }
+    requires queue { IsQueue (state_of kept.now) peer.now queue.now }
+    requires spans { AreSpansIn (R.format rules.now) (R.text rules.now) kept.now.parts.items.items spans.now }
+    ensures { IfOk result (IsBatchOf (state_of kept.now) peer.now moment) }
 {
-    let mut after: u32 = 0;
-    while let Some(number) = next_for(rules, &index.agenda, &index.ready, peer, after) {
+    let mut from: usize = 0;
+    while let Some(place) = spans.next_open(queue, from, moment) {
+        let number = queue[place];
         let recipients = relayed(alloc, rules, kept, number, peer, moment)?;
         let found = has_some(&recipients);
         if found {
@@ -160,31 +162,39 @@ fn first_batch<R: Rules>(
                 recipients: Recipients::from_vec(recipients),
             }));
         }
-        pass_over(kept, index, number);
-        after = number;
+        from = place + 1;
     }
     Ok(None)
 }
 
-/// The lowest item with recipients to relay to the peer, and all those; none where there is no such item. Items are
-/// looked at only that are active, or stand in a line of the peer.
+/// The lowest item with recipients to relay to the peer, and all those; none where there is no such item. It is found
+/// in the queue of the peer. An item is read where it may be relayed at the moment, or where it is not known yet when
+/// it may be.
 pub fn batch_for<R: Rules>(
     alloc: Global,
     rules: &R,
     kept: &Kept,
     index: &mut Index,
+    queue: &[u32],
     peer: &Word,
     moment: u64,
 ) -> Result<Option<Batch>, Memory>
     requires text { IsTextOf kept.now (R.text rules.now) }
     requires format { R.format rules.now ≡ kept.now.parts.format }
     requires stored { All IsStored kept.now.parts.items.items }
-    requires numbers { length kept.now.parts.items.items < 2 ^ 32 }
+    requires queue { IsQueue (state_of kept.now) peer.now queue.now }
     requires indexed { IsIndexed (R.format rules.now) (R.text rules.now) kept.now.parts.items.items index.old }
     ensures batch { IfOk result (IsBatchOf (state_of kept.now) peer.now moment) }
     ensures indexed { IsIndexed (R.format rules.now) (R.text rules.now) kept.now.parts.items.items index.new }
 {
-    let count = kept.parts.items.len() as u32;
-    index.agenda.call(count, moment)?;
-    first_batch(alloc, rules, kept, index, peer.as_slice(), moment)
+    learn_all(alloc, rules, kept, index)?;
+    first_batch(
+        alloc,
+        rules,
+        kept,
+        &index.spans,
+        queue,
+        peer.as_slice(),
+        moment,
+    )
 }

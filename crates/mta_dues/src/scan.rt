@@ -13,6 +13,7 @@ ghost use Rattle.mta_dues.specs.Index.{IsIndexed};
 
 use crate::due::due_of;
 use crate::index::Index;
+use crate::learning::span_by;
 use crate::rest::{rest, rests_for_good};
 use mta_ber::Memory;
 use mta_machine::Item;
@@ -83,7 +84,7 @@ fn look_at<R: Rules>(
 }
 
 // What is due of the lowest recipient of an active item, which is read once for all of them, and whose reading is at
-// hand then. It rests where it is idle.
+// hand then. It rests where it is idle, and it is known when it may be relayed.
 #[tactic(auto, using(crate::proofs::Passed::look_laws, crate::proofs::Indexed::of_hand))]
 fn look<R: Rules>(
     alloc: Global,
@@ -111,6 +112,7 @@ fn look<R: Rules>(
         return Ok(None);
     }
     let reading = index.take(alloc, number, item)?;
+    index.learn(number, span_by(rules, item, &reading));
     let found = look_at(alloc, rules, kept, index, number, item, &reading, moment);
     index.keep(number, reading);
     found

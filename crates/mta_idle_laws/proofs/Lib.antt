@@ -1,3 +1,4 @@
 pub mod Lengths
 pub mod Stays
 pub mod Kept
+pub mod Spans

@@ -1,4 +1,5 @@
 pub mod Next
 pub mod Idle
 pub mod Later
+pub mod Spans
 pub mod Laws

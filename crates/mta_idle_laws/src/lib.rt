@@ -4,4 +4,4 @@
 
 mod law;
 
-pub use law::{idle_until_next, items_go_on, verdicts_stay};
+pub use law::{idle_until_next, items_go_on, relays_are_routed, relays_within, verdicts_stay};

@@ -12,9 +12,12 @@ use Rattle.mta_ber.specs.declared.fault.ReadFault.TheVariants as ReadFaults
 use Rattle.mta_state.specs.Reading.{IsAccepted, IsFaultOf}
 use Rattle.mta_state.specs.declared.change.Change.TheVariants as change
 use Rattle.mta_state.specs.declared.rest.Rest.{Rest}
+use Rattle.mta_state.specs.declared.decoded.Decoded.{Decoded}
 use Rattle.mta_state.specs.Asked.{IsRestOf}
+use Rattle.mta_state.specs.Readings.{IsDecodedOf}
 use Rattle.mta_state.specs.Kept.{with_item}
 use Rattle.mta_state.specs.Prepared.{Prepares}
+use Rattle.mta_replay.specs.Found.{IsDecodedItem}
 use Rattle.mta_replay.specs.Settleable.{MayAccept}
 
 -- ---- tables
@@ -81,5 +84,16 @@ pub found_of : (format : ℕ) (text : List ℕ) (moment : ℕ) (apdu : List ℕ)
     → IsRestOf format text (accepted_item apdu Origins.Submitted moment) moment rest
 found_of format text moment apdu item rest is found =
     subst (λ (x : ItemValue). IsRestOf format text x moment rest) is.1 found
+
+-- and it has the octets, as they were read
+pub decoded_of : (moment : ℕ) (apdu : List ℕ) (item : ItemValue) (decoded : Decoded)
+    → IsAccepted apdu Origins.Submitted moment (Some item) → IsDecodedOf item.octets decoded
+    → IsDecodedItem apdu item decoded
+decoded_of moment apdu item decoded is read =
+    let same : item.octets ≡ apdu = ap (λ (x : ItemValue). x.octets) is.1 in
+    record {
+      octets_are = same;
+      read_as = subst (λ (o : List ℕ). IsDecodedOf o decoded) same read;
+    }
 
 pub ruleset accept_laws = (accept_change, may_not_accept, no_apdu, bad_apdu)

@@ -10,6 +10,9 @@ use Rattle.mta_machine.specs.Machine.{accepted_item, last_tables}
 use Rattle.mta_histories.specs.Lanes.{State}
 use Rattle.mta_histories.specs.History.{IsPossible, after_step}
 use Rattle.mta_state.specs.Asked.{IsRestOf, IsTextOf}
+use Rattle.mta_state.specs.Readings.{IsDecodedOf}
+use Rattle.mta_state.specs.declared.change.Change.{Change}
+use Rattle.mta_state.specs.declared.decoded.Decoded.{Decoded}
 use Rattle.mta_state.specs.declared.kept.Kept.{Kept}
 use Rattle.mta_state.specs.declared.rest.Rest.{Rest}
 use Rattle.mta_state.specs.Parts.{machine_of}
@@ -17,7 +20,7 @@ use Rattle.mta_state.specs.Kept.{state_of}
 use Rattle.mta_state.specs.Prepared.{Prepares}
 use Rattle.mta_replay.specs.declared.accept.Arrival.{Arrival}
 use Rattle.mta_dues.proofs.Indexed.{change_later}
-use Rattle.mta_replay.specs.Found.{IsFound, IsFoundLast}
+use Rattle.mta_replay.specs.Found.{IsDecodedItem, IsFound, IsFoundLast, accept_change}
 use Rattle.mta_replay.specs.Ready.{IsReady, TakesUp}
 use Rattle.mta_replay.specs.Sound.{AreInForce}
 use Rattle.mta_replay.proofs.Sounds.{numbered-last}
@@ -33,9 +36,10 @@ found_under kept format text item moment rest force found = λ other is.
 
 -- the item that is accepted is the last one, and the tables stay
 pub found_last : (old new : Kept) (moment : ℕ) (apdu : List ℕ) (rest : Option Rest)
-    → state_of new ≡ after_step (state_of old) (Accept moment apdu)
-    → IsFound old (accepted_item apdu Origins.Submitted moment) moment rest → IsFoundLast new moment rest
-found_last old new moment apdu rest same found = record {
+    (decoded : Decoded) → state_of new ≡ after_step (state_of old) (Accept moment apdu)
+    → IsFound old (accepted_item apdu Origins.Submitted moment) moment rest → IsDecodedOf apdu decoded
+    → IsFoundLast new moment rest decoded
+found_last old new moment apdu rest decoded same found read = record {
   item = accepted_item apdu Origins.Submitted moment;
   item_is =
       ap (λ (s : State). numbered s.machine.items (length s.machine.items)) same
@@ -44,24 +48,26 @@ found_last old new moment apdu rest same found = record {
       subst (λ (f : ℕ). IsRestOf f text (accepted_item apdu Origins.Submitted moment) moment rest)
       (sym (ap (λ (s : State). s.machine.format) same))
       (found text (sym (ap (λ (s : State). numbered s.machine.tables (last_tables s.machine)) same) ∙ is));
+  decoded_is = read;
 }
 
 -- what was found changes later
-pub found_later : (kept : Kept) (text : List ℕ) (moment : ℕ) (rest : Option Rest) → IsTextOf kept text
-    → IsFoundLast kept moment rest → IfSome rest (λ found. moment < found.until)
-found_later kept text moment None last found = tt
-found_later kept text moment (Some rest) last found =
+pub found_later : (kept : Kept) (text : List ℕ) (moment : ℕ) (rest : Option Rest) (decoded : Decoded)
+    → IsTextOf kept text → IsFoundLast kept moment rest decoded → IfSome rest (λ found. moment < found.until)
+found_later kept text moment None decoded last found = tt
+found_later kept text moment (Some rest) decoded last found =
     change_later kept.parts.format text found.item moment rest.until (found.found text last).idle
 
 -- what was found is ready
 pub arrival_ready : {R : Type 0} (format : R → ℕ) (text : R → List ℕ) (s : State) (moment : ℕ) (apdu : List ℕ)
-    (found : Option Arrival) (arrival : Arrival) → found ≡ Some arrival
-    → Prepares s (Accept moment apdu) (option_map (λ (a : Arrival). a.change) found)
-    → IsReady format text s (Accept moment apdu) arrival.change None
-arrival_ready format text s moment apdu found arrival is prepares = record {
+    (found : Option Arrival) (arrival : Arrival) (new : Change) → found ≡ Some arrival
+    → Prepares s (Accept moment apdu) (option_map (accept_change moment) found) → new ≡ accept_change moment arrival
+    → IsReady format text s (Accept moment apdu) new None
+arrival_ready format text s moment apdu found arrival new is prepares same = record {
   is_change =
-      subst (λ (o : Option Arrival). Prepares s (Accept moment apdu) (option_map (λ (a : Arrival). a.change) o)) is
-      prepares;
+      subst (λ (x : Change). Prepares s (Accept moment apdu) (Some x)) (sym same)
+      (subst (λ (o : Option Arrival). Prepares s (Accept moment apdu) (option_map (accept_change moment) o)) is
+      prepares);
   under = refl;
   fresh = tt;
   queued = tt;
@@ -72,6 +78,12 @@ pub arrival_found : (kept : Kept) (item : ItemValue) (moment : ℕ) (found : Opt
     → IsFound kept item moment arrival.rest
 arrival_found kept item moment found arrival is was =
     subst (λ (o : Option Arrival). IfSome o (λ (a : Arrival). IsFound kept item moment a.rest)) is was
+
+pub arrival_decoded : (apdu : List ℕ) (found : Option Arrival) (arrival : Arrival) → found ≡ Some arrival
+    → IfSome found (λ (a : Arrival). IsDecodedItem apdu a.item a.decoded)
+    → IsDecodedItem apdu arrival.item arrival.decoded
+arrival_decoded apdu found arrival is was =
+    subst (λ (o : Option Arrival). IfSome o (λ (a : Arrival). IsDecodedItem apdu a.item a.decoded)) is was
 
 pub taken_up : (step : Step) (old new : State) → IsPossible old step → new ≡ after_step old step
     → TakesUp step old new (Ok tt)

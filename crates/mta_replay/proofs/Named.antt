@@ -128,4 +128,19 @@ named_all text words place named none w = (
   λ isnt. (named w).1 ((named_text text w place none).1 isnt),
 )
 
+named_in : (o : Option TablesValue) (w : List ℕ) (p : ℕ)
+    → option_and_then (λ (t : TablesValue). peer_at t p) o ≡ Some w
+    → is_some (option_and_then (λ (t : TablesValue). peer_of t w) o) ≡ false → ⊥
+named_in None w p there isnt = cc
+named_in (Some t) w p there isnt = by_place (peer_of t w) refl isnt
+  where
+    by_place : (o : Option ℕ) → peer_of t w ≡ o → is_some o ≡ false → ⊥
+    by_place None e isnt = absent t.peers w p e there
+    by_place (Some i) e isnt = cc
+
+-- the word of a peer of the tables is named by them
+pub named_at : (text w : List ℕ) (p : ℕ) → peer_word text p ≡ Some w → names_peer text w ≡ false → ⊥
+unfolding names_peer peer_word
+named_at text w p there isnt = named_in (tables_value text) w p there isnt
+
 pub ruleset named_laws = (named_none, named_more, named_all)

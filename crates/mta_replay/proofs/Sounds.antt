@@ -282,9 +282,9 @@ module _ {R : Type 0} (format : R → ℕ) (text : R → List ℕ) where
           subst (λ (m : Machine). IsIndexed (format f.rules) (text f.rules) m.items f.index) (sym (runs-so other))
           (indexes_stay (format f.rules) (text f.rules) s.machine (machine_steps s step) f.index indexed)
       indexed-after anew None (Some f) is made unknown last indexed =
-          fresh (format f.rules) (text f.rules) now.items f.index unknown.0 unknown.1
+          fresh (format f.rules) (text f.rules) now.items f.index unknown.0 unknown.1 unknown.2
       indexed-after anew (Some other) (Some f) is made unknown last indexed =
-          fresh (format f.rules) (text f.rules) now.items f.index unknown.0 unknown.1
+          fresh (format f.rules) (text f.rules) now.items f.index unknown.0 unknown.1 unknown.2
 
   -- the same rules with the same index
   alike-last : (m : Machine) (old now : Option (InForce R)) → AreAlike old now → AreLast format text m old

@@ -10,13 +10,15 @@ use Rattle.mta_machine.specs.Items.{ItemValue, has_status, is_pending, is_pendin
 use Rattle.mta_machine.specs.Machine.{last_tables}
 use Rattle.mta_machine.specs.Rules.{names_peer}
 use Rattle.mta_histories.specs.Lanes.{State, activities_of}
-use Rattle.mta_histories.specs.Due.{HasQueue, IsAscending, IsQueue, IsRoutedTo, IsWaiting, routed}
+use Rattle.mta_histories.specs.Due.{HasQueue, IsAscending, IsNoBatch, IsQueue, IsRoutedTo, IsWaiting, routed}
+use Rattle.mta_dues.proofs.Batches.{relayed_named}
 use Rattle.mta_queue.specs.Queue as queue
 use Rattle.mta_queue.specs.Queues.{AreFor, IsListed, QueuesValue, place_of}
 use Rattle.mta_queue.proofs.Marked.{waits_within}
 use Rattle.mta_queue.proofs.Places.{place_there}
 use Rattle.mta_replay.specs.Queued.{AreQueued, IsMark, place_by}
 use Rattle.mta_replay.specs.Touched.{is_waiting}
+use Rattle.mta_replay.proofs.Named.{named_at}
 
 -- ---- who waits
 
@@ -143,3 +145,11 @@ has_queue text s v peer None queued last some none = λ other is.
     ((queued.named peer).0 (none refl))
 has_queue text s v peer (Some items) queued last some none =
     (is_queue text s v peer queued last items.now some, (text, last, named_so text s v peer queued last some.0 some.1))
+
+-- nobody is relayed to a peer whom the tables do not name
+pub unnamed_not_relayed : (s : State) (format : ℕ) (text peer : List ℕ) (moment : ℕ)
+    → numbered s.machine.tables (last_tables s.machine) ≡ Some text → format ≡ s.machine.format
+    → HasQueue s peer None → IsNoBatch s peer moment
+unnamed_not_relayed s format text peer moment last is unnamed i r to =
+    let at = relayed_named s format text peer moment last is i r to in
+    named_at text peer at.0 at.1 (unnamed text last)

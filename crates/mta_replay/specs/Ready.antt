@@ -1,5 +1,5 @@
 -- What a step changes, with the rules that are in force from then on.
-use Rattle.std.specs.Prelude.{◌≡◌, Bool, true, false, List, ℕ, Option, Some, None, Result, IsOk, IsErrOf}
+use Rattle.std.specs.Prelude.{◌≡◌, [], Bool, true, false, List, ℕ, Option, Some, None, Result, IsOk, IsErrOf}
 use Rattle.mta_records.specs.declared.step.Step.{Step}
 use Rattle.mta_histories.specs.Classes.{Class, begins, sets_format, records, accepts, settles, opens, on_lane, class_of}
 use Rattle.mta_histories.specs.Lanes.{State}
@@ -42,7 +42,7 @@ IsReadAt items i reading = (item : ItemValue) → numbered items i ≡ Some item
 -- nothing is known of any item, and nothing is at hand
 abbrev pub AreFresh : {R : Type 0} → Option (InForce R) → Type 0
 AreFresh None = Unit {0}
-AreFresh (Some force) = (force.index.agenda.known ≡ 0) × (force.index.hand ≡ None)
+AreFresh (Some force) = (force.index.agenda.known ≡ 0) × (force.index.spans ≡ []) × (force.index.hand ≡ None)
 
 -- the rules that are made for a step: where they are made anew those in force behind it, and else none
 abbrev pub AreMade : {R : Type 0} → (R → ℕ) → (R → List ℕ) → (anew : Bool) → Machine → Option (InForce R) → Type 0

@@ -11,12 +11,12 @@ ghost use Rattle.mta_records.specs.declared.step.Step.TheVariants as Steps;
 ghost use Rattle.mta_state.specs.Asked.{IsRestOf};
 ghost use Rattle.mta_state.specs.Kept.{state_of};
 ghost use Rattle.mta_state.specs.Prepared.{Prepares};
-ghost use Rattle.mta_replay.specs.declared.accept.Arrival.{Arrival};
+ghost use Rattle.mta_replay.specs.Found.{IsDecodedItem, accept_change};
 ghost use Rattle.mta_replay.specs.Settleable.{MayAccept};
 
 use mta_ber::{Memory, Octets, ReadFault};
-use mta_machine::Origin;
-use mta_state::{Change, Kept, Rest, Rules, Submitted, accepted_item};
+use mta_machine::{Item, Origin};
+use mta_state::{Change, Decoded, Kept, Rest, Rules, Submitted, accepted_item};
 use std::alloc::Global;
 
 /// What a Tables changes in any state, where it is known whether the grammar of tables reads the text; none exactly
@@ -71,17 +71,19 @@ pub fn prepare_accept(
     }
 }
 
-/// What an Accept changes, and what is found of its item then.
+/// The item that an Accept makes, and what is found of it then.
 #[derive(Drop)]
 pub struct Arrival {
-    pub change: Change,
+    pub item: Item,
+    /// What its octets were read as.
+    pub decoded: Decoded,
     /// None where something is called for at once.
     pub rest: Option<Rest>,
 }
 
-/// What an Accept changes, at a moment in seconds since 1950-01-01 00:00:00 UTC, and what is found of its item then,
+/// The item that an Accept makes, at a moment in seconds since 1950-01-01 00:00:00 UTC, and what is found of it then,
 /// from one reading; none exactly where it is not possible.
-#[tactic(auto, using(crate::proofs::Accepts::accept_laws, crate::proofs::Accepts::found_of))]
+#[tactic(auto, using(crate::proofs::Accepts::accept_laws, crate::proofs::Accepts::found_of, crate::proofs::Accepts::decoded_of))]
 pub fn prepare_arrival<R: Rules>(
     alloc: Global,
     rules: &R,
@@ -91,7 +93,8 @@ pub fn prepare_arrival<R: Rules>(
 ) -> Result<Option<Arrival>, Memory>
     requires { moment ≤ last_moment }
     ensures prepares { IfOk result (λ found.
-        Prepares (state_of kept.now) (Steps.Accept moment apdu) (option_map (λ (a : Arrival). a.change) found)) }
+        Prepares (state_of kept.now) (Steps.Accept moment apdu) (option_map (accept_change moment) found)) }
+    ensures decoded { IfOk result (λ found. IfSome found (λ a. IsDecodedItem apdu a.item a.decoded)) }
     ensures rest { IfOk result (λ found. IfSome found (λ a.
         IsRestOf (R.format rules.now) (R.text rules.now) (accepted_item apdu Origins.Submitted moment) moment a.rest)) }
 {
@@ -100,8 +103,15 @@ pub fn prepare_arrival<R: Rules>(
     }
     match rules.submitted(alloc, apdu, moment)? {
         None => Ok(None),
-        Some(Submitted { item, rest }) => Ok(Some(Arrival {
-            change: Change::Accept { item, moment },
+        Some(
+            Submitted {
+                item,
+                decoded,
+                rest,
+            },
+        ) => Ok(Some(Arrival {
+            item,
+            decoded,
             rest,
         })),
     }

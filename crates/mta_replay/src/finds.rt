@@ -1,22 +1,58 @@
 //! What is due in the state, what waits in it, and what an activity of it would transfer.
 
 ghost use Rattle.std.specs.Prelude.{◌≡◌, ◌≤◌, IfOk};
+ghost use Rattle.std.specs.List.{All};
 ghost use Rattle.std.specs.Option.{option_copied};
 ghost use Rattle.mta_ber.specs.Times.{last_moment};
 ghost use Rattle.mta_histories.specs.Due.{HasQueue};
 ghost use Rattle.mta_dues.specs.Answers.{IsBatchOf, IsNextOf};
+ghost use Rattle.mta_dues.specs.Index.{IsIndexed};
+ghost use Rattle.mta_state.specs.Asked.{IsStored, IsTextOf};
 ghost use Rattle.mta_state.specs.Kept.{state_of};
+ghost use Rattle.mta_replay.specs.Queued.{AreQueued};
 ghost use Rattle.mta_replay.specs.Sound.{IsSound};
 ghost use Rattle.mta_replay.specs.Starting.{TransfersNext};
 
-use crate::replay::Replay;
+use crate::replay::{InForce, Replay};
 use crate::start::transfer_next;
 use mta_ber::{Memory, Word};
 use mta_dues::{batch_for, due_step};
 use mta_lanes::Transfer;
 use mta_records::{Batch, Recipients, Step};
-use mta_state::Rules;
+use mta_state::{Kept, Rules};
 use std::alloc::Global;
+
+impl<R: Rules + Drop> InForce<R> {
+    // The lowest item with recipients to relay to the peer, and all those; none where there is no such item, as where
+    // no tables name the peer.
+    fn batch_for(
+        &mut self,
+        alloc: Global,
+        kept: &Kept,
+        peer: &Word,
+        moment: u64,
+    ) -> Result<Option<Batch>, Memory>
+        requires text { IsTextOf kept.now (R.text self.old.rules) }
+        requires format { R.format self.old.rules ≡ kept.now.parts.format }
+        requires stored { All IsStored kept.now.parts.items.items }
+        requires queued { AreQueued (R.text self.old.rules) (state_of kept.now) self.old.queues }
+        requires indexed { IsIndexed (R.format self.old.rules) (R.text self.old.rules) kept.now.parts.items.items
+            self.old.index }
+        ensures batch { IfOk result (IsBatchOf (state_of kept.now) peer.now moment) }
+        ensures rules { self.new.rules ≡ self.old.rules }
+        ensures queues { self.new.queues ≡ self.old.queues }
+        ensures indexed { IsIndexed (R.format self.old.rules) (R.text self.old.rules) kept.now.parts.items.items
+            self.new.index }
+    {
+        match self.queues.get(peer.as_slice()) {
+            None => Ok(None),
+            Some(queue) => {
+                let index = &mut self.index;
+                batch_for(alloc, &self.rules, kept, index, queue, peer, moment)
+            }
+        }
+    }
+}
 
 impl<R: Rules + Drop> Replay<R> {
     /// The due step of the lowest item and recipient at a moment, in seconds since 1950-01-01 00:00:00 UTC: none where
@@ -49,16 +85,7 @@ impl<R: Rules + Drop> Replay<R> {
     {
         match &mut self.rules {
             None => Ok(None),
-            Some(force) => {
-                batch_for(
-                    alloc,
-                    &force.rules,
-                    &self.kept,
-                    &mut force.index,
-                    peer,
-                    moment,
-                )
-            }
+            Some(force) => force.batch_for(alloc, &self.kept, peer, moment),
         }
     }
 

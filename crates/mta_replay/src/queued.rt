@@ -39,23 +39,39 @@ fn route_of<R: Rules>(
     }
 }
 
-// The recipients of an item, of whom nobody waits yet, with the routes of their names. Memory is said to be wanted
-// where they are more than have numbers, which no item has.
+// The recipients of an item that was read, of whom nobody waits yet, with the routes of their names. Memory is said to
+// be wanted where they are more than have numbers, which no item has.
 #[tactic(auto, using(crate::proofs::Rowed::row_laws))]
-fn row_of<R: Rules>(alloc: Global, rules: &R, queues: &Queues, item: &Item) -> Result<Marks, Memory>
+fn row_read<R: Rules>(
+    alloc: Global,
+    rules: &R,
+    queues: &Queues,
+    item: &Item,
+    reading: &Reading<'_>,
+) -> Result<Marks, Memory>
+    requires { IsReadingOf item.now.octets reading.now }
     ensures { IfOk result (IsRowOf (R.text rules.now) queues.now.words item.now) }
 {
     let Ok(count) = u32::try_from(item.statuses().len()) else {
         return Err(Memory);
     };
-    let reading = Reading::read(alloc, item)?;
     let mut row = Marks::new(alloc);
     let mut recipient: u32 = 0;
     while recipient < count {
         recipient += 1;
-        row.push(route_of(rules, queues, item, &reading, recipient))?;
+        row.push(route_of(rules, queues, item, reading, recipient))?;
     }
     Ok(row)
+}
+
+// Those of an item, which is read for it.
+fn row_of<R: Rules>(alloc: Global, rules: &R, queues: &Queues, item: &Item) -> Result<Marks, Memory>
+    ensures { IfOk result (IsRowOf (R.text rules.now) queues.now.words item.now) }
+{
+    let reading = Reading::read(alloc, item)?;
+    let row = row_read(alloc, rules, queues, item, &reading);
+    reading.discard();
+    row
 }
 
 // The recipients of an item that is made, where one is, come behind those of the others.
@@ -88,6 +104,22 @@ fn rows_of_one<R: Rules>(
 {
     let mut rows: Vec<Marks> = Vec::new(alloc);
     rows.push(row_of(alloc, rules, queues, item)?)?;
+    Ok(rows)
+}
+
+/// Those of one item that was read.
+pub(crate) fn rows_read<R: Rules>(
+    alloc: Global,
+    rules: &R,
+    queues: &Queues,
+    item: &Item,
+    reading: &Reading<'_>,
+) -> Result<Vec<Marks>, Memory>
+    requires { IsReadingOf item.now.octets reading.now }
+    ensures { IfOk result (λ rows. AreRows (R.text rules.now) queues.now.words rows.items (item.now ∷ [])) }
+{
+    let mut rows: Vec<Marks> = Vec::new(alloc);
+    rows.push(row_read(alloc, rules, queues, item, reading)?)?;
     Ok(rows)
 }
 

@@ -5,7 +5,7 @@
 //! record down; replaying a history does not.
 
 ghost use Rattle.std.specs.Prelude.{◌≡◌, ◌≤◌, ◌<◌, ◌+◌, ◌^◌, ℕ, List, IfOk, IfSome, IfNone, None, OnErr, OnOk, Some};
-ghost use Rattle.std.specs.Prelude.{false, length};
+ghost use Rattle.std.specs.Prelude.{[], false, length};
 ghost use Rattle.std.specs.Option.{option_map};
 ghost use Rattle.mta_ber.specs.Times.{last_moment};
 ghost use Rattle.mta_records.specs.declared.state.Origin.TheVariants as Origins;
@@ -20,25 +20,27 @@ ghost use Rattle.mta_histories.specs.History.{after_step};
 ghost use Rattle.mta_state.specs.Asked.{IsRestOf};
 ghost use Rattle.mta_state.specs.Kept.{state_of, CanChange, HasRoomFor};
 ghost use Rattle.mta_state.specs.Prepared.{IsChangeOf, Prepares};
-ghost use Rattle.mta_replay.specs.declared.accept.Arrival.{Arrival};
+ghost use Rattle.mta_state.specs.Readings.{IsDecodedOf, IsReadingOf};
+ghost use Rattle.mta_state.specs.declared.change.Change.TheVariants as Changes;
 ghost use Rattle.mta_dues.specs.Index.{IsIndexed};
 ghost use Rattle.mta_queue.specs.Queues.{HasRoom};
 ghost use Rattle.mta_replay.specs.Expected.{AreAlike, AreQueuedUnder, IsExpected, IsExpectedUnder, MayFollow};
-ghost use Rattle.mta_replay.specs.Found.{IsFound, IsFoundLast};
+ghost use Rattle.mta_replay.specs.Found.{IsDecodedItem, IsFound, IsFoundLast, accept_change};
 ghost use Rattle.mta_replay.specs.Queued.{AreComing, AreQueued, IsQueuedUpTo};
 ghost use Rattle.mta_replay.specs.Ready.{IsReady, TakesUp, sets_rules};
 ghost use Rattle.mta_replay.specs.Sound.{IsSound};
 ghost use Rattle.mta_replay.specs.Touched.{IsTouched};
 
 use crate::accept::{Arrival, prepare_arrival};
-use crate::queued::{follow, queues_of, rows_of};
+use crate::queued::{follow, queues_of, rows_of, rows_read};
 use crate::touched::{Touched, touched_by};
 use mta_ber::{Memory, Octets};
 use mta_dues::{Index, note};
 use mta_lanes::Lanes;
+use mta_machine::Item;
 use mta_queue::{Marks, Queues};
 use mta_records::Step;
-use mta_state::{Change, Kept, Rest, Rules};
+use mta_state::{Change, Decoded, Kept, Reading, Rest, Rules};
 use std::alloc::Global;
 use std::mem;
 
@@ -68,7 +70,7 @@ impl From<Memory> for NotMade {
 pub struct InForce<R: Rules + Drop> {
     alloc: Global,
     pub rules: R,
-    /// Which items need not be looked at.
+    /// Which items need not be looked at, and when items may be relayed.
     pub index: Index,
     /// The queues of the peers that the tables name.
     pub queues: Queues,
@@ -82,6 +84,7 @@ impl<R: Rules + Drop> InForce<R> {
         requires numbers { length kept.now.parts.items.items < 2 ^ 32 }
         ensures rules { IfOk result (λ f. f.rules ≡ rules) }
         ensures known { IfOk result (λ f. f.index.agenda.known ≡ 0) }
+        ensures spans { IfOk result (λ f. f.index.spans ≡ []) }
         ensures hand { IfOk result (λ f. f.index.hand ≡ None) }
         ensures queued { IfOk result (λ f. AreQueued (R.text rules) (state_of kept.now) f.queues) }
     {
@@ -105,6 +108,28 @@ impl<R: Rules + Drop> InForce<R> {
         ensures expected { OnOk result (IsExpected R.text self.new change.now) }
     {
         let rows = rows_of(alloc, &self.rules, &self.queues, change)?;
+        self.queues.reserve(rows.len() + 2, rows.len())?;
+        self.coming = rows;
+        Ok(())
+    }
+
+    // The same of an item that was read and comes next.
+    #[tactic(auto, using(crate::proofs::PutDown::queued_same))]
+    fn expect_read(
+        &mut self,
+        alloc: Global,
+        item: &Item,
+        reading: &Reading<'_>,
+    ) -> Result<(), Memory>
+        requires { IsReadingOf item.now.octets reading.now }
+        ensures rules { self.new.rules ≡ self.old.rules }
+        ensures index { self.new.index ≡ self.old.index }
+        ensures queued { (s : State) → AreQueued (R.text self.old.rules) s self.old.queues
+            → AreQueued (R.text self.old.rules) s self.new.queues }
+        ensures expected { OnOk result ((moment : ℕ)
+            → IsExpected R.text self.new (Changes.Accept item.now moment)) }
+    {
+        let rows = rows_read(alloc, &self.rules, &self.queues, item, reading)?;
         self.queues.reserve(rows.len() + 2, rows.len())?;
         self.coming = rows;
         Ok(())
@@ -147,16 +172,19 @@ fn recall_changed(index: &mut Index, change: &Change) -> Result<(), Memory>
     }
 }
 
-// What was found of the item of this number is noted, where something was and there is memory for it.
-fn note_in(alloc: Global, index: &mut Index, number: u32, moment: u64, rest: Option<Rest>)
+// What was found of the item of this number is noted, where something was and there is memory for it, and its reading
+// is at hand.
+fn note_in(index: &mut Index, number: u32, moment: u64, rest: Option<Rest>, decoded: Decoded)
     requires later { IfSome rest (λ found. moment < found.until) }
     ensures { (format : ℕ) (text : List ℕ) (items : List ItemValue) (item : ItemValue)
         → numbered items number ≡ Some item → IsRestOf format text item moment rest
+        → IsDecodedOf item.octets decoded
         → IsIndexed format text items index.old → IsIndexed format text items index.new }
 {
+    index.keep_decoded(number, decoded);
     match rest {
         None => {}
-        Some(found) => match note(alloc, index, number, moment, &found) {
+        Some(found) => match note(index, number, moment, &found) {
             Ok(()) => {}
             Err(_) => {}
         },
@@ -273,6 +301,83 @@ impl<R: Rules + Drop> Replay<R> {
         self.kept.reserve(&ready.change)
     }
 
+    // Finds the recipients of an item that was read and comes next, and room for them.
+    fn expect_read(
+        &mut self,
+        alloc: Global,
+        item: &Item,
+        reading: &Reading<'_>,
+    ) -> Result<(), Memory>
+        requires sound { IsSound R.format R.text self.old.kept self.old.rules }
+        requires reading { IsReadingOf item.now.octets reading.now }
+        ensures same { self.new.kept ≡ self.old.kept }
+        ensures sound { IsSound R.format R.text self.new.kept self.new.rules }
+        ensures expected { OnOk result ((moment : ℕ)
+            → IsExpectedUnder R.text self.new.rules (Changes.Accept item.now moment)) }
+    {
+        match &mut self.rules {
+            None => Ok(()),
+            Some(force) => force.expect_read(alloc, item, reading),
+        }
+    }
+
+    // The same of an item that was decoded, which is handed back.
+    fn expect_decoded(
+        &mut self,
+        alloc: Global,
+        item: &Item,
+        decoded: Decoded,
+    ) -> Result<Decoded, Memory>
+        requires sound { IsSound R.format R.text self.old.kept self.old.rules }
+        requires decoded { IsDecodedOf item.now.octets decoded }
+        ensures same { self.new.kept ≡ self.old.kept }
+        ensures sound { IsSound R.format R.text self.new.kept self.new.rules }
+        ensures decoded { IfOk result (IsDecodedOf item.now.octets) }
+        ensures expected { OnOk result ((moment : ℕ)
+            → IsExpectedUnder R.text self.new.rules (Changes.Accept item.now moment)) }
+    {
+        let reading = decoded.over(item);
+        let expected = self.expect_read(alloc, item, &reading);
+        let decoded = reading.detach();
+        match expected {
+            Ok(()) => Ok(decoded),
+            Err(_) => {
+                decoded.discard();
+                Err(Memory)
+            }
+        }
+    }
+
+    // Finds room for an item that was decoded and comes next at a moment. Its change and what it was decoded as are
+    // handed back.
+    #[tactic(auto, using(crate::proofs::Sounds::sound_still))]
+    fn reserve_item(
+        &mut self,
+        alloc: Global,
+        item: Item,
+        decoded: Decoded,
+        moment: u64,
+    ) -> Result<(Change, Decoded), Memory>
+        requires sound { IsSound R.format R.text self.old.kept self.old.rules }
+        requires decoded { IsDecodedOf item.octets decoded }
+        ensures same { state_of self.new.kept ≡ state_of self.old.kept }
+        ensures sound { IsSound R.format R.text self.new.kept self.new.rules }
+        ensures change { IfOk result (λ found. found.0 ≡ Changes.Accept item moment) }
+        ensures decoded { IfOk result (λ found. IsDecodedOf item.octets found.1) }
+        ensures room { IfOk result (λ found. HasRoomFor self.new.kept found.0) }
+        ensures expected { IfOk result (λ found. IsExpectedUnder R.text self.new.rules found.0) }
+    {
+        let decoded = self.expect_decoded(alloc, &item, decoded)?;
+        let change = Change::Accept { item, moment };
+        match self.kept.reserve(&change) {
+            Ok(()) => Ok((change, decoded)),
+            Err(_) => {
+                decoded.discard();
+                Err(Memory)
+            }
+        }
+    }
+
     /// Makes the change of a step that is possible, in room that was found for it.
     pub fn commit(&mut self, ready: Ready<R>)
         requires sound { IsSound R.format R.text self.old.kept self.old.rules }
@@ -294,14 +399,14 @@ impl<R: Rules + Drop> Replay<R> {
         }
     }
 
-    // What an Accept changes, and what is found of its item then; none exactly where it is not possible.
+    // The item that an Accept makes, and what is found of it then; none exactly where it is not possible.
     #[tactic(auto, using(crate::proofs::Founds::found_under))]
     fn arrival(&self, alloc: Global, moment: u64, apdu: Octets) -> Result<Option<Arrival>, Memory>
         requires sound { IsSound R.format R.text self.now.kept self.now.rules }
         requires fits { moment ≤ last_moment }
         ensures prepares { IfOk result (λ found.
-            Prepares (state_of self.now.kept) (Steps.Accept moment apdu)
-            (option_map (λ (a : Arrival). a.change) found)) }
+            Prepares (state_of self.now.kept) (Steps.Accept moment apdu) (option_map (accept_change moment) found)) }
+        ensures decoded { IfOk result (λ found. IfSome found (λ a. IsDecodedItem apdu a.item a.decoded)) }
         ensures rest { IfOk result (λ found. IfSome found (λ a.
             IsFound self.now.kept (accepted_item apdu Origins.Submitted moment) moment a.rest)) }
     {
@@ -311,18 +416,18 @@ impl<R: Rules + Drop> Replay<R> {
         prepare_arrival(alloc, &force.rules, &self.kept, moment, apdu)
     }
 
-    // What was found of the last item is noted.
+    // What was found of the last item is noted, and its reading is at hand.
     #[tactic(auto, using(crate::proofs::Founds::found_later))]
-    fn note(&mut self, alloc: Global, moment: u64, rest: Option<Rest>)
+    fn note(&mut self, moment: u64, rest: Option<Rest>, decoded: Decoded)
         requires sound { IsSound R.format R.text self.old.kept self.old.rules }
-        requires found { IsFoundLast self.old.kept moment rest }
+        requires found { IsFoundLast self.old.kept moment rest decoded }
         ensures same { self.new.kept ≡ self.old.kept }
         ensures sound { IsSound R.format R.text self.new.kept self.new.rules }
     {
         let count = self.kept.parts.items.len() as u32;
         match &mut self.rules {
-            None => {}
-            Some(force) => note_in(alloc, &mut force.index, count, moment, rest),
+            None => decoded.discard(),
+            Some(force) => note_in(&mut force.index, count, moment, rest, decoded),
         }
     }
 
@@ -335,16 +440,20 @@ impl<R: Rules + Drop> Replay<R> {
         ensures kept { OnErr result (state_of self.new.kept ≡ state_of self.old.kept) }
         ensures sound { IsSound R.format R.text self.new.kept self.new.rules }
     {
-        let Some(Arrival { change, rest }) = self.arrival(alloc, moment, apdu)? else {
+        let Some(arrival) = self.arrival(alloc, moment, apdu)? else {
             return Err(NotMade::Impossible);
         };
-        let ready = Ready {
+        let Arrival {
+            item,
+            decoded,
+            rest,
+        } = arrival;
+        let (change, decoded) = self.reserve_item(alloc, item, decoded, moment)?;
+        self.commit(Ready {
             change,
             rules: None,
-        };
-        self.reserve(alloc, &ready)?;
-        self.commit(ready);
-        self.note(alloc, moment, rest);
+        });
+        self.note(moment, rest, decoded);
         Ok(())
     }
 
@@ -364,7 +473,8 @@ impl<R: Rules + Drop> Replay<R> {
         Ok(())
     }
 
-    /// Takes up a step where it is possible. What is accepted is read once: what is found of it then is noted.
+    /// Takes up a step where it is possible. What is accepted is read once: what is found of it then is noted, and its
+    /// reading is at hand for the step that follows.
     ///
     /// # Errors
     /// `Impossible` exactly where it is not; `Memory`. After either the state is as it was.

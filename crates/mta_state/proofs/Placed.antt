@@ -11,8 +11,10 @@ use Rattle.mta_envelope.specs.declared.place.Place.{Place}
 use Rattle.mta_envelope.specs.Places.{IsPlaced}
 use Rattle.mta_apdu.specs.declared.apdu.Apdu.{Apdu}
 use Rattle.mta_apdu.specs.declared.apdu.Apdu.TheVariants as apdu
-use Rattle.mta_apdu.specs.Apdus.{IsContentOf, IsPlacedIn}
-use Rattle.mta_state.specs.Readings.{IsCut, IsLentAt, IsLentIn}
+use Rattle.mta_apdu.specs.Apdus.{apdu_value, IsContentOf, IsPlacedIn, SpellsApdu}
+use Rattle.mta_state.proofs.Few.{value_is}
+use Rattle.mta_state.specs.Readings.{IsCounted, IsCut, IsDecodedAs, IsDecodedOf, IsLentAt, IsLentIn}
+use Rattle.mta_state.specs.declared.decoded.DecodedApdu.{DecodedApdu}
 
 -- ---- where a content lies
 
@@ -94,3 +96,15 @@ pub placed : (whole : Bor (List ℕ)) (a : Apdu) → IsPlacedIn whole a → IsLe
 placed whole (apdu.Message m) h = content_placed whole m.content m.place h
 placed whole (apdu.Probe p) h = tt
 placed whole (apdu.Report r) h = tt
+
+-- what is left of an APDU that was read from octets
+pub decoded_of : (whole : Bor (List ℕ)) (a : Apdu) (d : DecodedApdu) (back : ℕ) → SpellsApdu whole.now (apdu_value a)
+    → IsPlacedIn whole a → (IsLentIn whole.now a → IsDecodedAs whole.now a d) → IsCounted a back
+    → IsDecodedOf whole.now (record { apdu = d; back = back })
+decoded_of whole a d back spells places as_is counts =
+    let is = as_is (placed whole a places) in
+    record {
+      value = value_is whole.now (apdu_value a) spells ∙ sym is.value;
+      within = is.within;
+      counted = is.counted back counts;
+    }

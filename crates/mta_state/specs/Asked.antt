@@ -5,14 +5,16 @@ use Rattle.mta_ber.specs.Times.{last_moment}
 use Rattle.mta_names.specs.Bounded.{IsCode}
 use Rattle.mta_procedures.specs.declared.verdict.Verdict.{Verdict}
 use Rattle.mta_procedures.specs.declared.verdict.Verdict.TheVariants as Verdicts
-use Rattle.mta_machine.specs.Items.{ItemValue, numbered, names, has_status, is_pending}
-use Rattle.mta_machine.specs.Rules.{delivery_report, is_tables_text, peer_word, route_word, verdict_of}
-use Rattle.mta_machine.specs.Machine.{last_tables, own_item, relay_by}
+use Rattle.mta_machine.specs.Items.{ItemValue, numbered}
+use Rattle.mta_machine.specs.Rules.{delivery_report, is_tables_text, verdict_of}
+use Rattle.mta_machine.specs.Machine.{last_tables, own_item}
 use Rattle.mta_idle_laws.specs.Idle.{IsIdleUntil}
+use Rattle.mta_idle_laws.specs.Spans.{relay_span}
 use Rattle.mta_state.specs.Parts.{machine_of}
 use Rattle.mta_state.specs.declared.delivery.Delivery.{Delivery}
 use Rattle.mta_state.specs.declared.kept.Kept.{Kept}
 use Rattle.mta_state.specs.declared.rest.Rest.{Rest}
+use Rattle.mta_state.specs.Spans.{bounds_of}
 
 -- a reason and a diagnostic that a verdict tells may be written
 abbrev pub CodesAreCodes : Option Verdict → Type 0
@@ -26,27 +28,10 @@ AreUnder format_of text_of format text None = is_tables_text text ≡ false
 AreUnder format_of text_of format text (Some rules) =
     (format_of rules ≡ format) × (text_of rules ≡ text) × (is_tables_text text ≡ true)
 
--- Where each pending recipient of an item goes to who goes to a peer: a place of that peer is among these. `at` gives
--- the word of the peer at a place, and `to` that of the peer to whom a recipient goes.
-abbrev pub AreLed : (ℕ → Option (List ℕ)) → ItemValue → (ℕ → Option (List ℕ)) → List ℕ → Type 0
-AreLed at item to places =
-    (r : ℕ) (peer : List ℕ) → has_status is_pending (numbered item.statuses r) ≡ true → to r ≡ Some peer
-    → (place : ℕ) × (names places place ≡ true) × (at place ≡ Some peer)
-
--- who goes by the best route of a name
-abbrev pub AreRoutes : List ℕ → ItemValue → List ℕ → Type 0
-AreRoutes text item = AreLed (peer_word text) item (route_word text item.octets)
-
--- who is relayed at a moment
-abbrev pub AreRelays : (format : ℕ) → List ℕ → ItemValue → ℕ → List ℕ → Type 0
-AreRelays format text item moment =
-    AreLed (peer_word text) item (λ r. relay_by text (verdict_of format text item.octets item.arrival r moment))
-
--- the item rests until then, and its pending recipients go to peers at these places
+-- the item rests until then, and this is its span
 pub record RestsAs (format : ℕ) (text : List ℕ) (item : ItemValue) (moment : ℕ) (rest : Rest) : Type 0 where
   pub idle : IsIdleUntil format text item moment (Some rest.until)
-  pub routes : AreRoutes text item rest.routes.items
-  pub relays : AreRelays format text item moment rest.relays.items
+  pub span : relay_span format text item.octets item.arrival ≡ Some (bounds_of rest.span)
 
 -- what is found of an item of which nothing is called for at once; none where something is called for now, or where no
 -- change is to come

@@ -6,3 +6,4 @@ pub mod Settled
 pub mod Parts
 pub mod Reading
 pub mod Readings
+pub mod Spans

@@ -24,7 +24,7 @@ pub use kept::Kept;
 pub use parts::{Made, Parts};
 pub use reading::accepted_item;
 pub use readings::{Reading, back_of};
-pub use rest::{Rest, Submitted};
+pub use rest::{Rest, Span, Submitted};
 pub use rules::Rules;
 pub use settle::is_pending;
 pub use verdict::verdict_on;

@@ -5,7 +5,8 @@
 
 ghost use Rattle.std.specs.Prelude.{◌≡◌, List, ℕ, IfOk, IfSome, Some};
 ghost use Rattle.std.specs.Option.{option_map};
-ghost use Rattle.mta_apdu.specs.Apdus.{apdu_value, IsPlacedIn};
+ghost use Rattle.std.specs.Borrow.{Bor};
+ghost use Rattle.mta_apdu.specs.Apdus.{apdu_value, IsPlacedIn, SpellsApdu};
 ghost use Rattle.mta_envelope.specs.Contents.{content_value};
 ghost use Rattle.mta_envelope.specs.Messages.{message_value};
 ghost use Rattle.mta_machine.specs.Apdu.{is_report, value_of};
@@ -206,6 +207,18 @@ impl<'a> Reading<'a> {
 }
 
 impl Decoded {
+    /// What is left of an APDU that was read from octets, without them.
+    pub fn of_apdu(apdu: Apdu<'_>) -> Decoded
+        ensures { (octets : Bor (List ℕ)) → SpellsApdu octets.now (apdu_value apdu.entry)
+            → IsPlacedIn octets apdu.entry → IsDecodedOf octets.now result }
+    {
+        let back = back_of(&apdu);
+        Decoded {
+            apdu: apdu_detached(apdu),
+            back,
+        }
+    }
+
     /// The reading of the item from which it was made.
     pub fn over<'a>(self, item: &'a Item) -> Reading<'a>
         requires { IsDecodedOf item.now.octets self }

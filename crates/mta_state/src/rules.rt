@@ -14,12 +14,14 @@ ghost use Rattle.mta_state.specs.Parts.{made_items};
 ghost use Rattle.mta_state.specs.Reading.{IsAccepted};
 ghost use Rattle.mta_state.specs.declared.rest.Submitted.{Submitted};
 ghost use Rattle.mta_state.specs.Asked.{AreUnder, CodesAreCodes, Expands, IsDeliveryOf, IsRestOf, Passes, Relays};
-ghost use Rattle.mta_state.specs.Readings.{IsReadingOf};
+ghost use Rattle.mta_idle_laws.specs.Spans.{relay_span};
+ghost use Rattle.mta_state.specs.Readings.{IsDecodedOf, IsReadingOf};
+ghost use Rattle.mta_state.specs.Spans.{bounds_of};
 
 use crate::delivery::Delivery;
 use crate::parts::Made;
 use crate::readings::Reading;
-use crate::rest::{Rest, Submitted};
+use crate::rest::{Rest, Span, Submitted};
 use mta_ber::{Memory, Octets, Word};
 use mta_machine::Item;
 use mta_procedures::Verdict;
@@ -64,7 +66,7 @@ pub trait Rules {
 
     /// What is found of an item where nothing is called for at once of those of its recipients who are pending: the
     /// next moment behind this one at which a verdict may change, which is the end of the deferral or the expiry, and
-    /// the lesser where both are to come, and the peers to whom they go. None where something is called for, where the
+    /// the lesser where both are to come, and when they may be relayed. None where something is called for, where the
     /// item has expired, or where its octets are those of no APDU.
     fn rest(
         &self,
@@ -78,6 +80,14 @@ pub trait Rules {
         requires few { length item.now.statuses < 2 ^ 32 }
         ensures { IfOk result (IsRestOf (format self.now) (text self.now) item.now moment) };
 
+    /// When recipients of an item may be relayed: from the end of its deferral on, until it expires; none where its
+    /// octets are those of no APDU.
+    fn span(&self, item: &Item, reading: &Reading<'_>) -> Option<Span>
+        requires arrived { item.now.arrival ≤ last_moment }
+        requires reading { IsReadingOf item.now.octets reading.now }
+        ensures { option_map bounds_of result
+            ≡ relay_span (format self.now) (text self.now) item.now.octets item.now.arrival };
+
     /// The item of an APDU that is submitted at a moment, and what is found of it then, from one reading; none where
     /// the octets spell no APDU.
     fn submitted(
@@ -89,6 +99,7 @@ pub trait Rules {
         requires { moment ≤ last_moment }
         ensures item { IfOk result (λ found.
             IsAccepted octets Origins.Submitted moment (option_map (λ (s : Submitted). s.item) found)) }
+        ensures decoded { IfOk result (λ found. IfSome found (λ s. IsDecodedOf s.item.octets s.decoded)) }
         ensures rest { IfOk result (λ found.
             IfSome found (λ s. IsRestOf (format self.now) (text self.now) s.item moment s.rest)) };
 

@@ -4,7 +4,6 @@ pub mod Counts
 pub mod Delivered
 pub mod Expanded
 pub mod IdleItems
-pub mod Led
 pub mod Numbered
 pub mod Passed
 pub mod Read

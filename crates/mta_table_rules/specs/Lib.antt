@@ -2,5 +2,4 @@ pub mod Counts
 pub mod Copied
 pub mod Text
 pub mod Waits
-pub mod Led
 pub mod Rests

@@ -10,7 +10,6 @@ mod passing;
 mod reading;
 mod reports;
 mod rest;
-mod routes;
 mod submitted;
 mod table_rules;
 mod verdicts;

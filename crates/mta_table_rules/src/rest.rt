@@ -1,34 +1,27 @@
-//! Until when items rest, and to whom their recipients go, from one reading.
+//! Until when items rest, and when their recipients may be relayed, from one reading.
 
-ghost use Rattle.std.specs.Prelude.{◌≡◌, ◌≤◌, ◌<◌, ◌^◌, ◌++◌, IfOk, OnOk, length, option_to_list};
+ghost use Rattle.std.specs.Prelude.{◌≡◌, ◌≤◌, ◌<◌, ◌^◌, IfOk, length};
+ghost use Rattle.std.specs.Option.{option_map};
 ghost use Rattle.mta_apdu.specs.Apdus.{apdu_value};
 ghost use Rattle.mta_ber.specs.Times.{last_moment};
+ghost use Rattle.mta_idle_laws.specs.Spans.{relay_span};
 ghost use Rattle.mta_state.specs.Asked.{IsRestOf};
 ghost use Rattle.mta_state.specs.Readings.{IsCounted, IsReadingOf};
-ghost use Rattle.mta_table_rules.specs.Rests.{IsLookAt, IsRestUnder};
+ghost use Rattle.mta_state.specs.Spans.{bounds_of};
+ghost use Rattle.mta_table_rules.specs.Rests.{IsRestUnder, is_calling};
 
-use crate::idle::{calls_at_once, next_under};
+use crate::idle::{calls_at_once, next_under, span_under};
 use crate::reading::text_reads;
-use crate::routes::{place_of_relay, place_of_route};
 use crate::verdicts::verdict_under;
 use mta_apdu::Apdu;
 use mta_ber::Memory;
 use mta_machine::Item;
-use mta_state::{Reading, Rest, is_pending};
+use mta_state::{Reading, Rest, Span, is_pending};
 use mta_tables::Tables;
 use std::alloc::Global;
 
-/// The places of the peers to whom a recipient goes, where there are any.
-#[derive(Clone, Copy)]
-struct Places {
-    /// Of the peer to which the best route of the name leads.
-    route: Option<u32>,
-    /// Of the peer to whom the recipient is relayed.
-    relay: Option<u32>,
-}
-
-/// The places of the peers to whom a recipient goes, if pending; none where something is called for at once.
-fn look_at(
+/// Whether something is called for at once of a recipient, if pending.
+fn calls(
     alloc: Global,
     format: u32,
     tables: &Tables,
@@ -37,39 +30,20 @@ fn look_at(
     item: &Item,
     recipient: u32,
     moment: u64,
-) -> Result<Option<Places>, Memory>
+) -> Result<bool, Memory>
     requires arrived { item.now.arrival ≤ last_moment }
     requires back { IsCounted apdu.now back }
-    ensures { IfOk result (IsLookAt format tables.now (apdu_value apdu.now) item.now recipient moment) }
+    ensures { IfOk result (λ b. b ≡ is_calling format tables.now (apdu_value apdu.now) item.now recipient moment) }
 {
     let pending = is_pending(item, recipient);
     if !pending {
-        return Ok(Some(Places {
-            route: None,
-            relay: None,
-        }));
+        return Ok(false);
     }
     let arrival = item.arrival();
     let verdict = verdict_under(
         alloc, format, tables, apdu, back, arrival, recipient, moment,
     )?;
-    let calls = calls_at_once(verdict);
-    if calls {
-        return Ok(None);
-    }
-    let route = place_of_route(tables, apdu, recipient);
-    let relay = place_of_relay(verdict);
-    Ok(Some(Places { route, relay }))
-}
-
-/// The place is one of them, where there is one.
-fn add(places: &mut Vec<u32>, place: Option<u32>) -> Result<(), Memory>
-    ensures { OnOk result (places.new.items ≡ places.old.items ++ option_to_list place) }
-{
-    if let Some(place) = place {
-        places.push(place)?;
-    }
-    Ok(())
+    Ok(calls_at_once(verdict))
 }
 
 /// What is found of an item whose APDU was read, by one verdict on each recipient who is pending.
@@ -92,23 +66,16 @@ pub fn rest_under(
         return Ok(None);
     };
     let count = item.statuses().len() as u32;
-    let mut routes: Vec<u32> = Vec::new(alloc);
-    let mut relays: Vec<u32> = Vec::new(alloc);
     let mut recipient = item.settled() as u32;
     while recipient < count {
         recipient += 1;
-        let Some(places) = look_at(alloc, format, tables, apdu, back, item, recipient, moment)?
-        else {
+        let called = calls(alloc, format, tables, apdu, back, item, recipient, moment)?;
+        if called {
             return Ok(None);
-        };
-        add(&mut routes, places.route)?;
-        add(&mut relays, places.relay)?;
+        }
     }
-    Ok(Some(Rest {
-        until,
-        routes,
-        relays,
-    }))
+    let span = span_under(format, tables, apdu, item.arrival());
+    Ok(Some(Rest { until, span }))
 }
 
 /// What is found of an item where nothing is called for at once of those of its recipients who are pending; none where
@@ -131,4 +98,17 @@ pub fn rest(
         return Ok(None);
     };
     rest_under(alloc, format, tables, apdu, reading.back, item, moment)
+}
+
+/// When recipients of an item may be relayed; none where its octets are those of no APDU.
+pub fn span(format: u32, tables: &Tables, item: &Item, reading: &Reading<'_>) -> Option<Span>
+    requires arrived { item.now.arrival ≤ last_moment }
+    requires reading { IsReadingOf item.now.octets reading.now }
+    ensures { option_map bounds_of result ≡ relay_span format tables.now.text item.now.octets item.now.arrival }
+{
+    text_reads(tables);
+    let Some(apdu) = &reading.apdu else {
+        return None;
+    };
+    Some(span_under(format, tables, apdu, item.arrival()))
 }

@@ -7,14 +7,14 @@ use crate::names::{mailbox_at, names_peer, peer_at, route};
 use crate::passing::{passed_item, passes_back};
 use crate::reading::text_reads;
 use crate::reports::{delivery_item, non_delivery_item};
-use crate::rest::rest;
+use crate::rest::{rest, span};
 use crate::submitted::submitted;
 use crate::verdicts::{has_expired, verdict};
 use mta_ber::{Memory, Octets, Word};
 use mta_machine::Item;
 use mta_procedures::Verdict;
 use mta_records::Outgoing;
-use mta_state::{Delivery, Made, Reading, Rest, Rules, Submitted};
+use mta_state::{Delivery, Made, Reading, Rest, Rules, Span, Submitted};
 use mta_tables::{Tables, TablesFault};
 use std::alloc::Global;
 use std::marker::Model;
@@ -110,6 +110,10 @@ impl Rules for TableRules {
         moment: u64,
     ) -> Result<Option<Rest>, Memory> {
         rest(alloc, self.format, &self.tables, item, reading, moment)
+    }
+
+    fn span(&self, item: &Item, reading: &Reading<'_>) -> Option<Span> {
+        span(self.format, &self.tables, item, reading)
     }
 
     fn submitted(

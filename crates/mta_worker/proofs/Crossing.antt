@@ -33,7 +33,7 @@ use Rattle.mta_report_recipient.specs.contracts.reported.Reported as reported
 use Rattle.mta_report.specs.contracts.report.Report as report
 use Rattle.mta_dues.specs.contracts.agenda.Agenda as agenda
 use Rattle.mta_dues.specs.contracts.hand.Hand as hand
-use Rattle.mta_dues.specs.contracts.lines.Lines as lines
+use Rattle.mta_dues.specs.contracts.spans.Spans as spans
 use Rattle.mta_dues.specs.contracts.index.Index as index
 use Rattle.mta_queue.specs.contracts.mark.Marks as marks
 use Rattle.mta_queue.specs.contracts.queue.Queue as queue
@@ -75,8 +75,8 @@ rules_send = let a = tables_send in search (crosses, sendable) depth 80 fits 100
 agenda_send : IsSend agenda.the_row
 agenda_send = search (crosses, sets, sendable) depth 80 fits 100000
 
-lines_send : IsSend lines.the_row
-lines_send = search (crosses, sets, sendable) depth 80 fits 100000
+spans_send : IsSend spans.the_row
+spans_send = search (crosses, sendable) depth 80 fits 100000
 
 -- what an APDU is read as
 
@@ -113,10 +113,10 @@ hand_send : IsSend hand.the_field.row
 hand_send = search (envelope_send, report_send, crosses, sendable) depth 80 fits 100000
 
 index_send : IsSend index.the_field.row
-index_send = let a = agenda_send in let b = lines_send in let h = hand_send in
+index_send = let a = agenda_send in let b = spans_send in let h = hand_send in
     struct_send (shape index.the_type) (
       search sendable depth 20,
-      (search sendable depth 20, (search sendable depth 20, (search (crosses, sendable) depth 80 fits 100000, tt))),
+      (search sendable depth 20, (search (crosses, sendable) depth 80 fits 100000, tt)),
     )
 
 kept_send : IsSend kept.the_field.row

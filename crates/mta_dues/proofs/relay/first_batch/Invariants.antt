@@ -1,16 +1,12 @@
-use Rattle.std.proofs.Common.{◌-◌, ◌^◌, length}
-use Rattle.mta_dues.specs.Agendas.{IsAllCalled}
+use Rattle.std.proofs.Common.{◌-◌, length}
 use Rattle.mta_state.specs.Kept.{state_of}
-use Rattle.mta_dues.specs.Answers.{NoneRelayedUpTo}
-use Rattle.mta_dues.specs.Index.{IsIndexed}
+use Rattle.mta_dues.specs.Answers.{NoneRelayedBefore}
 use Rattle.mta_dues.proofs.relay.first_batch.Given as goal
 
-abbrev pub invariant-loop-number : goal.invariant-loop-number
-invariant-loop-number g l = record {
-  none : NoneRelayedUpTo (state_of l.kept) l.peer l.moment l.after;
-  called : IsAllCalled l.index.agenda (length l.kept.parts.items.items) l.moment;
-  indexed : IsIndexed (g.R.Rules.format l.rules) (g.R.Rules.text l.rules) l.kept.parts.items.items l.index;
+abbrev pub invariant-loop-place : goal.invariant-loop-place
+invariant-loop-place g l = record {
+  none : NoneRelayedBefore (state_of l.kept) l.peer l.moment l.queue l.from;
 }
 
-abbrev pub decreases-loop-number : goal.decreases-loop-number
-decreases-loop-number g l = 2 ^ 32 - l.after
+abbrev pub decreases-loop-place : goal.decreases-loop-place
+decreases-loop-place g l = length l.queue - l.from

@@ -2,7 +2,7 @@ use Rattle.std.proofs.Common.{Option, subst, arith}
 use Rattle.mta_idle_laws.proofs.Stays.{idle_until_next}
 use Rattle.mta_state.specs.Asked.{IsRestOf}
 use Rattle.mta_state.specs.declared.rest.Rest.{Rest}
-use Rattle.mta_dues.proofs.Indexed.{change_later, left}
+use Rattle.mta_dues.proofs.Indexed.{change_later}
 use Rattle.mta_dues.proofs.rest.rest.Goals as goal
 
 pub put_to_rest-requires-clause-later : goal.put_to_rest-requires-clause-later
@@ -13,19 +13,8 @@ put_to_rest-requires-clause-later g c =
     c.in_ok-rest.ensures in
     change_later format text c.args.item.now c.args.moment c.in-Some.found.until rests.idle
 
-pub returns-in_err-put_to_rest-in-Some-clause-indexed :
-    goal.returns-in_err-put_to_rest-in-Some-clause-indexed
-returns-in_err-put_to_rest-in-Some-clause-indexed g c = λ items is indexed.
-    let format = g.R.Rules.format c.args.rules.now in
-    let text = g.R.Rules.text c.args.rules.now in
-    let rests = subst (λ (o : Option Rest). IsRestOf format text c.args.item.now c.args.moment o) c.in-Some.is
-    c.in_ok-rest.ensures in
-    c.put_to_rest.ensures.indexed format text items c.args.item.now is rests
-    (left format text items c.args.index.now c.leave.new.self c.args.number c.requires.active
-    c.leave.ensures indexed)
-
-pub returns-in_ok-put_to_rest-in-Some-clause-idle : goal.returns-in_ok-put_to_rest-in-Some-clause-idle
-returns-in_ok-put_to_rest-in-Some-clause-idle g c = λ e.
+pub returns-in-Some-clause-idle : goal.returns-in-Some-clause-idle
+returns-in-Some-clause-idle g c = λ e.
     let format = g.R.Rules.format c.args.rules.now in
     let text = g.R.Rules.text c.args.rules.now in
     let rests = subst (λ (o : Option Rest). IsRestOf format text c.args.item.now c.args.moment o) c.in-Some.is
@@ -34,13 +23,10 @@ returns-in_ok-put_to_rest-in-Some-clause-idle g c = λ e.
     (omega arith)
     (change_later format text c.args.item.now c.args.moment c.in-Some.found.until rests.idle)
 
-pub returns-in_ok-put_to_rest-in-Some-clause-indexed :
-    goal.returns-in_ok-put_to_rest-in-Some-clause-indexed
-returns-in_ok-put_to_rest-in-Some-clause-indexed g c = λ items is indexed.
+pub returns-in-Some-clause-indexed : goal.returns-in-Some-clause-indexed
+returns-in-Some-clause-indexed g c = λ items is indexed.
     let format = g.R.Rules.format c.args.rules.now in
     let text = g.R.Rules.text c.args.rules.now in
     let rests = subst (λ (o : Option Rest). IsRestOf format text c.args.item.now c.args.moment o) c.in-Some.is
     c.in_ok-rest.ensures in
-    c.put_to_rest.ensures.indexed format text items c.args.item.now is rests
-    (left format text items c.args.index.now c.leave.new.self c.args.number c.requires.active
-    c.leave.ensures indexed)
+    c.put_to_rest.ensures.indexed format text items c.args.item.now is rests.idle indexed

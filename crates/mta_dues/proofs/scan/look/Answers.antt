@@ -1,6 +1,7 @@
-use Rattle.std.proofs.Common.{sym, subst}
+use Rattle.std.proofs.Common.{◌≡◌, true, sym, subst}
 use Rattle.mta_state.specs.Kept.{state_of}
-use Rattle.mta_dues.specs.Agendas.{AgendaValue, IsAllCalled}
+use Rattle.mta_dues.specs.Agendas.{AgendaValue, IsAllCalled, is_active}
+use Rattle.mta_dues.specs.declared.index.Index.{Index}
 use Rattle.mta_dues.proofs.Idle.{nothing_of_idle}
 use Rattle.mta_dues.proofs.Passed.{stored_at}
 use Rattle.mta_dues.proofs.scan.look.Goals as goal
@@ -41,13 +42,27 @@ look_at-found-requires-clause-stored g c =
     stored_at c.args.kept.now.parts.items.items c.args.number c.in-Some.item.now c.requires.stored
     (sym c.in-Some.ensures)
 
+pub span_by-requires-clause-arrived : goal.span_by-requires-clause-arrived
+span_by-requires-clause-arrived g c =
+    (stored_at c.args.kept.now.parts.items.items c.args.number c.in-Some.item.now c.requires.stored
+    (sym c.in-Some.ensures)).arrived
+
+pub look_at-found-requires-clause-active : goal.look_at-found-requires-clause-active
+look_at-found-requires-clause-active g c =
+    let same = c.rests_for_good.ensures.same c.if-rests_for_good.false in
+    subst (λ (a : AgendaValue). is_active a c.args.number ≡ true) (sym c.learn.ensures.agenda)
+    (subst (λ (a : AgendaValue). is_active a c.args.number ≡ true) (sym c.take.ensures.agenda)
+    (subst (λ (x : Index). is_active x.agenda c.args.number ≡ true) (sym same) c.requires.active))
+
 pub look_at-found-requires-clause-indexed : goal.look_at-found-requires-clause-indexed
 look_at-found-requires-clause-indexed g c =
-    c.take.ensures.indexed (g.R.Rules.format c.args.rules.now) (g.R.Rules.text c.args.rules.now)
+    c.learn.ensures.indexed (g.R.Rules.format c.args.rules.now) (g.R.Rules.text c.args.rules.now)
+    c.args.kept.now.parts.items.items c.in-Some.item.now (sym c.in-Some.ensures) c.span_by.ensures
+    (c.take.ensures.indexed (g.R.Rules.format c.args.rules.now) (g.R.Rules.text c.args.rules.now)
     c.args.kept.now.parts.items.items
     (c.rests_for_good.ensures.indexed (g.R.Rules.format c.args.rules.now) (g.R.Rules.text c.args.rules.now)
     c.args.kept.now.parts.items.items
-    (sym c.in-Some.ensures) c.requires.indexed)
+    (sym c.in-Some.ensures) c.requires.indexed))
 
 pub returns-clause-indexed : goal.returns-clause-indexed
 returns-clause-indexed g c =
@@ -59,5 +74,6 @@ pub returns-clause-called : goal.returns-clause-called
 returns-clause-called g c = λ count all.
     subst (λ (a : AgendaValue). IsAllCalled a count c.args.moment) (sym c.keep.ensures.agenda)
     (c.look_at-found.ensures.called count
+    (subst (λ (a : AgendaValue). IsAllCalled a count c.args.moment) (sym c.learn.ensures.agenda)
     (subst (λ (a : AgendaValue). IsAllCalled a count c.args.moment) (sym c.take.ensures.agenda)
-    (c.rests_for_good.ensures.called count c.args.moment all)))
+    (c.rests_for_good.ensures.called count c.args.moment all))))

@@ -15,7 +15,7 @@ note_in-requires g c =
     (machine_of kept.parts) o)
     c.in-Some.is c.requires.sound.last in
     record {
-      later = found_later kept (g.R.Rules.text c.in-Some.force.rules) c.args.moment c.args.rest last.last
+      later = found_later kept (g.R.Rules.text c.in-Some.force.rules) c.args.moment c.args.rest c.args.decoded last.last
           c.requires.found;
     }
 
@@ -38,4 +38,4 @@ returns-in-Some-clause-sound g c =
     subst (λ (n : ℕ). IsRestOf n text found.item c.args.moment c.args.rest) (sym sound.last.in_format)
     (found.found text sound.last.last) in
     sound_with g.R.Rules.format g.R.Rules.text kept force new refl refl
-    (c.note_in.ensures format text items found.item at rests sound.indexed) sound
+    (c.note_in.ensures format text items found.item at rests found.decoded_is sound.indexed) sound
