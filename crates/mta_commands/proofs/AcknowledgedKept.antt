@@ -33,7 +33,7 @@ use Rattle.mta_commands.specs.Lines.{accepted_line, line_of}
 use Rattle.mta_commands.specs.Output.{Output, IsFront, IsEnded, done, told, cut_text, cut_line}
 use Rattle.mta_commands.specs.DiskLeft.{Opening}
 use Rattle.mta_commands.specs.Submit.{IsAccepted}
-use Rattle.mta_commands.specs.Causes.{IsText, of_submit, of_queue, of_mailbox, of_serve, of_decode, Cause}
+use Rattle.mta_commands.specs.Causes.{IsText, of_submit, of_queue, of_mailbox, of_serve, of_decode, of_drill, Cause}
 use Rattle.mta_commands.proofs.Same.{some_same}
 use Rattle.mta_commands.proofs.Added.{after_append, possible_back}
 
@@ -93,10 +93,10 @@ no_stop (Stops.NoMailbox name) n x e =
     let h : ◌≡◌ {A = ℕ} 97 110 = ap (λ (l : List ℕ). get_or l 0 0) e in omega (arith, h)
 no_stop (Stops.NoPeer name) n x e =
     let h : ◌≡◌ {A = ℕ} 97 110 = ap (λ (l : List ℕ). get_or l 0 0) e in omega (arith, h)
-no_stop Stops.NotBuilt n x e =
-    let h : ◌≡◌ {A = ℕ} 97 110 = ap (λ (l : List ℕ). get_or l 0 0) e in omega (arith, h)
 no_stop (Stops.BadApdu at kind) n x e =
     let h : ◌≡◌ {A = ℕ} 97 98 = ap (λ (l : List ℕ). get_or l 0 0) e in omega (arith, h)
+no_stop (Stops.Lost message) n x e =
+    let h : ◌≡◌ {A = ℕ} 97 109 = ap (λ (l : List ℕ). get_or l 0 0) e in omega (arith, h)
 
 -- what was taken, where both contents are told
 at_told : {step : List ℕ → List ℕ → Type 0} {old new : Option (List ℕ)} (a b : List ℕ) → Goes step old new
@@ -144,6 +144,8 @@ module _ {D C I : Type 0} (h : Handed D C I) (ends : List WorkerEnd) (added : Li
   text_accepted _ _ x y (of_serve text serves inputs named each is) begun = absurd (subst Serves submit serves)
   text_accepted _ _ x y (of_decode text word is) begun = absurd
       (words_apart Say.Decode (λ e. absurd cc) (sym word ∙ submit))
+  text_accepted _ _ x y (of_drill messages text word is) begun = absurd
+      (words_apart (Say.Drill messages) (λ e. absurd cc) (sym word ∙ submit))
 
   -- the same, where it may be the line of a stop
   line_accepted : (opening : Opening) (t x : List ℕ) (stop : Stop) → IsFront (IsText h ends added opening) t

@@ -14,6 +14,7 @@ pub mod ShownSpool
 pub mod Decoded
 pub mod Submitted
 pub mod Printed
+pub mod Told
 pub mod StopStatuses
 pub mod AcknowledgedKept
 pub mod Provenance

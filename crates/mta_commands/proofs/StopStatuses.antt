@@ -1,5 +1,5 @@
 -- What the status of a stop tells.
-use Rattle.std.proofs.Common.{◌≡◌, ℕ, List, None, Some, refl, subst, arith, inl, inr}
+use Rattle.std.proofs.Common.{◌≡◌, ℕ, List, None, Some, refl, sym, subst, arith, inl, inr}
 use Rattle.std.specs.Prelude.{◌⊎◌}
 use Rattle.mta_records.specs.declared.step.Step.{Step}
 use Rattle.mta_stations.specs.declared.end.Halt.{Halt}
@@ -8,16 +8,16 @@ use Rattle.mta_stations.specs.declared.end.WorkerEnd.{WorkerEnd}
 use Rattle.mta_words.specs.declared.words.Words.{Words}
 use Rattle.mta_words.specs.declared.words.Words.TheVariants as Say
 use Rattle.mta_commands.specs.declared.stop.Stop.{Stop}
-use Rattle.mta_commands.specs.Words.{OpensDisk, IsUnbuilt, Serves}
+use Rattle.mta_commands.specs.Words.{Drills, OpensDisk, Serves}
 use Rattle.mta_commands.specs.Handed.{Handed, SourceFailed, DiskFailed}
 use Rattle.mta_commands.specs.Lines.{status_of}
 use Rattle.mta_commands.specs.DiskLeft.{Opening, uncalled, refused, opened}
-use Rattle.mta_commands.specs.Causes.{IsText, of_submit, of_queue, of_serve, of_mailbox, of_decode, Cause, usage}
-use Rattle.mta_commands.specs.Causes.{not_built, memory, source, tables, apdu, not_spool, not_opened, disk, full}
+use Rattle.mta_commands.specs.Causes.{IsText, of_submit, of_queue, of_serve, of_mailbox, of_decode, of_drill, Cause}
+use Rattle.mta_commands.specs.Causes.{usage, lost, memory, source, tables, apdu, not_spool, not_opened, disk, full}
 use Rattle.mta_commands.specs.Causes.{spent, no_mailbox, no_peer, full_opening, full_serving, spent_serving, of_worker}
 use Rattle.mta_commands.specs.Serving.{stop_of_halt}
 use Rattle.mta_commands.proofs.Words.{IsKnown, opens_known, serves_known, tables_known, apdu_known}
-use Rattle.mta_commands.proofs.Words.{source_known, unbuilt_said, adds_opens}
+use Rattle.mta_commands.proofs.Words.{source_known, drills_said, adds_opens}
 
 -- a fault of the words, the tables, the input or a source
 abbrev pub IsEarly : ℕ → Type 0
@@ -37,11 +37,11 @@ pub data StatusTells {D C I : Type 0} (h : Handed D C I) : Opening → ℕ → T
   seven : (opening : Opening) → StatusTells h opening 7
   eight : SourceFailed h → StatusTells h uncalled 8
   ten : (opening : Opening) → IsKnown h.words → StatusTells h opening 10
-  eleven : IsUnbuilt h.words → StatusTells h uncalled 11
+  eleven : Drills h.words → StatusTells h uncalled 11
 
 module _ {D C I : Type 0} (h : Handed D C I) where
-  said_known : (words : Words) → h.words ≡ Some words → (IsUnbuilt (Some words) → ⊥) → IsKnown h.words
-  said_known words said built = record { said = λ none. cc; built = λ x. built (subst IsUnbuilt said x) }
+  said_known : (words : Words) → h.words ≡ Some words → (Drills (Some words) → ⊥) → IsKnown h.words
+  said_known words said other = record { said = λ none. cc; other = λ x. other (subst Drills said x) }
 
   -- the end of a worker decides
   worker_tells : (halt : Halt) → Serves h.words → StatusTells h opened (status_of (stop_of_halt halt))
@@ -53,7 +53,6 @@ module _ {D C I : Type 0} (h : Handed D C I) where
   pub stop_tells : (ends : List WorkerEnd) (added : List Step) (opening : Opening) (stop : Stop)
       → Cause h ends added opening stop → StatusTells h opening (status_of stop)
   stop_tells ends added _ _ (usage none) = one none
-  stop_tells ends added _ _ (not_built unbuilt) = eleven unbuilt
   stop_tells ends added _ _ (memory opening) = seven opening
   stop_tells ends added _ _ (source failed) = eight failed
   stop_tells ends added _ _ (tables line kind reads first same) = two (tables_known h.words reads)
@@ -69,6 +68,7 @@ module _ {D C I : Type 0} (h : Handed D C I) where
   stop_tells ends added _ _ (full_serving size need serves inputs why) = five opened (serves_known h.words serves)
   stop_tells ends added _ _ (spent_serving last serves inputs why) = five opened (serves_known h.words serves)
   stop_tells ends added _ _ (of_worker halt serves inputs decides) = worker_tells halt serves
+  stop_tells ends added _ _ (lost messages message word some most) = eleven (subst Drills (sym word) tt)
 
   -- ---- its columns
 
@@ -76,9 +76,9 @@ module _ {D C I : Type 0} (h : Handed D C I) where
   usage_only _ _ (one none) e = none
   usage_only _ _ any e = absurd (omega (arith, e))
 
-  pub unbuilt_only : (opening : Opening) (n : ℕ) → StatusTells h opening n → n ≡ 11 → IsUnbuilt h.words
-  unbuilt_only _ _ (eleven unbuilt) e = unbuilt
-  unbuilt_only _ _ any e = absurd (omega (arith, e))
+  pub lost_only : (opening : Opening) (n : ℕ) → StatusTells h opening n → n ≡ 11 → Drills h.words
+  lost_only _ _ (eleven drills) e = drills
+  lost_only _ _ any e = absurd (omega (arith, e))
 
   pub disk_only : (opening : Opening) (n : ℕ) → StatusTells h opening n → n ≡ 4
       → OpensDisk h.words × DiskFailed h
@@ -93,7 +93,7 @@ module _ {D C I : Type 0} (h : Handed D C I) where
   sink_never _ _ (one none) e = omega (arith, e)
   sink_never _ _ any e = omega (arith, e)
 
-  -- only want of memory takes over where the words are outside the grammar, or those of a command that is not built
+  -- only want of memory takes over where the words are outside the grammar
   pub usage_there : (opening : Opening) (n : ℕ) → StatusTells h opening n → h.words ≡ None → (n ≡ 1) ⊎ (n ≡ 7)
   usage_there _ _ (one none) x = inl refl
   usage_there _ _ (two known) x = absurd (known.said x)
@@ -104,38 +104,43 @@ module _ {D C I : Type 0} (h : Handed D C I) where
   usage_there _ _ (seven opening) x = inr refl
   usage_there _ _ (eight failed) x = absurd ((source_known h failed).said x)
   usage_there _ _ (ten opening known) x = absurd (known.said x)
-  usage_there _ _ (eleven unbuilt) x = absurd (unbuilt_said h.words unbuilt x)
+  usage_there _ _ (eleven drills) x = absurd (drills_said h.words drills x)
 
-  pub unbuilt_there : (opening : Opening) (n : ℕ) → StatusTells h opening n → IsUnbuilt h.words
+  -- and where they are those of `drill` it stops for a lost message or for want of memory
+  pub drill_there : (opening : Opening) (n : ℕ) → StatusTells h opening n → Drills h.words
       → (n ≡ 11) ⊎ (n ≡ 7)
-  unbuilt_there _ _ (one none) x = absurd (unbuilt_said h.words x none)
-  unbuilt_there _ _ (two known) x = absurd (known.built x)
-  unbuilt_there _ _ (three opening known) x = absurd (known.built x)
-  unbuilt_there _ _ (four opening opens failed) x = absurd ((opens_known h.words opens).built x)
-  unbuilt_there _ _ (five opening known) x = absurd (known.built x)
-  unbuilt_there _ _ (six known) x = absurd (known.built x)
-  unbuilt_there _ _ (seven opening) x = inr refl
-  unbuilt_there _ _ (eight failed) x = absurd ((source_known h failed).built x)
-  unbuilt_there _ _ (ten opening known) x = absurd (known.built x)
-  unbuilt_there _ _ (eleven unbuilt) x = inl refl
+  drill_there _ _ (one none) x = absurd (drills_said h.words x none)
+  drill_there _ _ (two known) x = absurd (known.other x)
+  drill_there _ _ (three opening known) x = absurd (known.other x)
+  drill_there _ _ (four opening opens failed) x = absurd ((opens_known h.words opens).other x)
+  drill_there _ _ (five opening known) x = absurd (known.other x)
+  drill_there _ _ (six known) x = absurd (known.other x)
+  drill_there _ _ (seven opening) x = inr refl
+  drill_there _ _ (eight failed) x = absurd ((source_known h failed).other x)
+  drill_there _ _ (ten opening known) x = absurd (known.other x)
+  drill_there _ _ (eleven drills) x = inl refl
 
   pub early : (opening : Opening) (n : ℕ) → StatusTells h opening n → IsEarly n → opening ≡ uncalled
   early _ _ (one none) x = refl
   early _ _ (two known) x = refl
   early _ _ (six known) x = refl
   early _ _ (eight failed) x = refl
-  early _ _ (eleven unbuilt) x = refl
+  early _ _ (eleven drills) x = refl
   early _ _ any (inl x) = absurd (omega (arith, x))
   early _ _ any (inr (inl x)) = absurd (omega (arith, x))
   early _ _ any (inr (inr (inl x))) = absurd (omega (arith, x))
   early _ _ any (inr (inr (inr x))) = absurd (omega (arith, x))
 
-  -- ---- a text is printed by a command that is built
+  -- ---- a text is printed where the words are in the grammar
 
-  pub text_known : (ends : List WorkerEnd) (added : List Step) (opening : Opening) (text : List ℕ)
-      → IsText h ends added opening text → IsKnown h.words
-  text_known ends added _ _ (of_submit n text word inputs small is acc) = said_known Say.Submit word (λ x. x)
-  text_known ends added _ _ (of_queue text word is) = said_known Say.Queue word (λ x. x)
-  text_known ends added _ _ (of_mailbox name text word named is) = said_known (Say.Mailbox name) word (λ x. x)
-  text_known ends added _ _ (of_serve text serves inputs named each is) = serves_known h.words serves
-  text_known ends added _ _ (of_decode text word is) = said_known Say.Decode word (λ x. x)
+  said_words : (words : Words) → h.words ≡ Some words → h.words ≡ None → ⊥
+  said_words words said none = cc
+
+  pub text_said : (ends : List WorkerEnd) (added : List Step) (opening : Opening) (text : List ℕ)
+      → IsText h ends added opening text → h.words ≡ None → ⊥
+  text_said ends added _ _ (of_submit n text word inputs small is acc) = said_words Say.Submit word
+  text_said ends added _ _ (of_queue text word is) = said_words Say.Queue word
+  text_said ends added _ _ (of_mailbox name text word named is) = said_words (Say.Mailbox name) word
+  text_said ends added _ _ (of_serve text serves inputs named each is) = (serves_known h.words serves).said
+  text_said ends added _ _ (of_decode text word is) = said_words Say.Decode word
+  text_said ends added _ _ (of_drill messages text word is) = said_words (Say.Drill messages) word

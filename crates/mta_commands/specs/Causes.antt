@@ -1,5 +1,5 @@
 -- What a command prints, and why a run stops without it.
-use Rattle.std.specs.Prelude.{◌≡◌, ◌≢◌, ◌^◌, ℕ, ◌<◌, List, ◌++◌, All, Option, None, Some, Ok}
+use Rattle.std.specs.Prelude.{◌≡◌, ◌≢◌, ◌^◌, ℕ, ◌<◌, ◌≤◌, List, ◌++◌, All, Option, None, Some, Ok}
 use Rattle.std.specs.Prelude.{length, option_and_then}
 use Rattle.mta_ber.specs.declared.fault.Kind.{Kind}
 use Rattle.mta_records.specs.declared.step.Step.{Step}
@@ -8,6 +8,7 @@ use Rattle.mta_tables.specs.Tables.{TablesValue, tables_of, mailbox_of as place_
 use Rattle.mta_tables.specs.Grammar.{IsFirstBadLine}
 use Rattle.mta_apdu.specs.Apdus.{ApduValue, SpellsApdu}
 use Rattle.mta_apdu_text.specs.Apdus.{apdu_text}
+use Rattle.mta_drill_text.specs.Text.{drill_text}
 use Rattle.mta_machine.specs.Items.{numbered}
 use Rattle.mta_machine.specs.Rules.{tables_value}
 use Rattle.mta_machine.specs.Machine.{last_tables}
@@ -24,7 +25,7 @@ use Rattle.mta_stations.specs.Peers.{IsNamed, IsUnnamed}
 use Rattle.mta_commands.specs.declared.stop.Stop.{Stop}
 use Rattle.mta_commands.specs.declared.stop.Stop.TheVariants as Stops
 use Rattle.mta_words.specs.declared.words.Words.TheVariants as Say
-use Rattle.mta_commands.specs.Words.{AddsSteps, ReadsTables, ReadsApdu, OpensDisk, IsUnbuilt, roles_named, Serves}
+use Rattle.mta_commands.specs.Words.{AddsSteps, ReadsTables, ReadsApdu, OpensDisk, roles_named, Serves}
 use Rattle.mta_commands.specs.Handed.{Handed, ForTables, ForInput, ForDisk, ForFound, ForOpened, SourceFailed}
 use Rattle.mta_commands.specs.Handed.{DiskFailed}
 use Rattle.mta_commands.specs.Handed.{ForOpenedDisk, InputsRead}
@@ -47,8 +48,9 @@ abbrev pub PeersNamed : {D C I : Type 0} → Handed D C I → Type 0
 PeersNamed h = ForTables h (λ c. (t : TablesValue) × (tables_of c ≡ Ok t) × All (IsNamed t) (roles_named h.words))
 
 -- What a command prints where it does not stop: `submit` the number of the item, `serve` a line for the end of each
--- worker, of whom there is one a station, `spool` the queue, `read` the mailbox, and `decode` the APDU. All but
--- `decode` have opened the disk then. The queue and the mailbox are those of the history for which the disk stood.
+-- worker, of whom there is one a station, `spool` the queue, `read` the mailbox, `decode` the APDU, and `drill` what a
+-- drill of so many messages counts where each is sent and delivered once. All but `decode` and `drill` have opened the
+-- disk then. The queue and the mailbox are those of the history for which the disk stood.
 pub data IsText {D C I : Type 0} (h : Handed D C I) (ends : List WorkerEnd) (added : List Step) : Opening → List ℕ
     → Type 0 where
   of_submit : (number : ℕ) (text : List ℕ) → h.words ≡ Some Say.Submit → InputsRead h → number < 2 ^ 32
@@ -66,14 +68,15 @@ pub data IsText {D C I : Type 0} (h : Handed D C I) (ends : List WorkerEnd) (add
   of_decode : (text : List ℕ) → h.words ≡ Some Say.Decode
       → ForInput h (λ i. (v : ApduValue) × SpellsApdu i v × (text ≡ apdu_text v))
       → IsText h ends added uncalled text
+  of_drill : (messages : ℕ) (text : List ℕ) → h.words ≡ Some (Say.Drill messages) → text ≡ drill_text messages
+      → IsText h ends added uncalled text
 
 -- Why a run stopped so, behind these added steps, and how far it had come with the disk. Each cause is met in its
 -- place: the words, the tables, the input, opening, the steps. Want of memory alone needs no cause. A fault of the
--- output has no line, so it is none of these.
+-- output has no line, so it is none of these. That a message is lost comes only from a drill of as many messages.
 pub data Cause {D C I : Type 0} (h : Handed D C I) (ends : List WorkerEnd) (added : List Step) : Opening → Stop
     → Type 0 where
   usage : h.words ≡ None → Cause h ends added uncalled Stops.Usage
-  not_built : IsUnbuilt h.words → Cause h ends added uncalled Stops.NotBuilt
   memory : (opening : Opening) → Cause h ends added opening Stops.Memory
   source : SourceFailed h → Cause h ends added uncalled Stops.Source
   tables : (line : ℕ) (kind : LineKind) → ReadsTables h.words → ForTables h (λ c. IsFirstBadLine c line kind)
@@ -110,3 +113,5 @@ pub data Cause {D C I : Type 0} (h : Handed D C I) (ends : List WorkerEnd) (adde
       → Cause h ends added opened (Stops.Spent last)
   of_worker : (halt : Halt) → Serves h.words → InputsRead h → Decides (halts_of ends) halt
       → Cause h ends added opened (stop_of_halt halt)
+  lost : (messages message : ℕ) → h.words ≡ Some (Say.Drill messages) → 1 ≤ message → message ≤ messages
+      → Cause h ends added uncalled (Stops.Lost message)

@@ -40,7 +40,6 @@ fault_text Faults.Trailing = codes "Trailing"
 unfoldable pub line_of : Stop → List ℕ
 line_of Stops.Usage =
     codes "usage: mta submit or serve SESSIONS STATION... or spool or read MAILBOX or decode or drill N\n"
-line_of Stops.NotBuilt = codes "not built\n"
 line_of (Stops.Tables line kind) = codes "tables line " ++ (decimal line ++ (32 ∷ kind_text kind ++ 10 ∷ []))
 line_of (Stops.NotSpool at) = codes "not a spool at " ++ (decimal at ++ 10 ∷ [])
 line_of Stops.Disk = codes "disk fault\n"
@@ -52,11 +51,11 @@ line_of Stops.Sink = []
 line_of (Stops.NoMailbox name) = codes "no such mailbox " ++ (name ++ 10 ∷ [])
 line_of (Stops.NoPeer name) = codes "no such peer " ++ (name ++ 10 ∷ [])
 line_of (Stops.BadApdu at kind) = codes "bad APDU at " ++ (decimal at ++ (32 ∷ fault_text kind ++ 10 ∷ []))
+line_of (Stops.Lost message) = codes "message " ++ (decimal message ++ codes " is lost\n")
 
 -- the status of a stop
 abbrev pub status_of : Stop → ℕ
 status_of Stops.Usage = 1
-status_of Stops.NotBuilt = 11
 status_of (Stops.Tables line kind) = 2
 status_of (Stops.NotSpool at) = 3
 status_of Stops.Disk = 4
@@ -68,3 +67,4 @@ status_of Stops.Sink = 9
 status_of (Stops.NoMailbox name) = 10
 status_of (Stops.NoPeer name) = 10
 status_of (Stops.BadApdu at kind) = 6
+status_of (Stops.Lost message) = 11

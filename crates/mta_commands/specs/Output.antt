@@ -1,5 +1,6 @@
 -- What is printed.
 use Rattle.std.specs.Prelude.{◌≡◌, ◌≢◌, ◌⊎◌, ℕ, List, [], ◌++◌, Option, Result, Ok, Err}
+use Rattle.mta_ber.specs.declared.memory.Memory.{Memory}
 use Rattle.mta_edge.specs.Views.{SinkView}
 use Rattle.mta_edge.specs.Causes.{Rose}
 use Rattle.mta_edge.specs.Outside.{Goes}
@@ -62,12 +63,21 @@ pub data IsEnded (Cause : Stop → Type 0) (IsText : List ℕ → Type 0) (out :
       → PrintsFront out (text ++ line_of stop)
       → IsEnded Cause IsText out status
 
--- what telling a stop leaves: its line and status, or those of want of memory, or a front of one of these lines and 9
-pub data HasTold (stop : Stop) (out : Output) (status : ℕ) : Type 0 where
-  line : status ≡ status_of stop → Prints out (line_of stop) → HasTold stop out status
-  short : status ≡ 7 → Prints out (line_of Stops.Memory) → HasTold stop out status
-  failed : status ≡ 9 → PrintsFront out (line_of stop) → HasTold stop out status
-  short_failed : status ≡ 9 → PrintsFront out (line_of Stops.Memory) → HasTold stop out status
+-- what telling a line with its status leaves: both, or those of want of memory, or a front of one of these lines and 9
+pub data Tells (text : List ℕ) (good : ℕ) (out : Output) (status : ℕ) : Type 0 where
+  line : status ≡ good → Prints out text → Tells text good out status
+  short : status ≡ 7 → Prints out (line_of Stops.Memory) → Tells text good out status
+  failed : status ≡ 9 → PrintsFront out text → Tells text good out status
+  short_failed : status ≡ 9 → PrintsFront out (line_of Stops.Memory) → Tells text good out status
+
+-- what telling a line leaves that was made, or for which there was no memory
+abbrev pub TellsLine : Result (List ℕ) Memory → ℕ → Output → ℕ → Type 0
+TellsLine (Ok text) good out status = Tells text good out status
+TellsLine (Err m) good out status = (text : List ℕ) → Tells text good out status
+
+-- what telling a stop leaves
+abbrev pub HasTold : Stop → Output → ℕ → Type 0
+HasTold stop out status = Tells (line_of stop) (status_of stop) out status
 
 -- what the end of a run adds to what its command printed: nothing with 0, nothing with 9 where the output failed
 -- already, or a stop is told

@@ -1,4 +1,4 @@
--- What the commands read, open and add, and which is not built yet.
+-- What the commands read, open and add.
 use Rattle.std.specs.Prelude.{ℕ, Bool, true, if◌then◌else◌, List, [], Option, Some, None}
 use Rattle.mta_links.specs.declared.role.Role.{Role}
 use Rattle.mta_stations.specs.Roles.{are_roles_of, roles_of}
@@ -49,6 +49,16 @@ Serves (Some (Say.Mailbox name)) = ⊥
 Serves (Some Say.Decode) = ⊥
 Serves (Some (Say.Drill messages)) = ⊥
 
+-- the command is `drill`
+abbrev pub Drills : Option Words → Type 0
+Drills None = ⊥
+Drills (Some Say.Submit) = ⊥
+Drills (Some (Say.Serve sessions stations)) = ⊥
+Drills (Some Say.Queue) = ⊥
+Drills (Some (Say.Mailbox name)) = ⊥
+Drills (Some Say.Decode) = ⊥
+Drills (Some (Say.Drill messages)) = Unit {0}
+
 -- the command adds steps
 abbrev pub AddsSteps : Option Words → Type 0
 AddsSteps None = ⊥
@@ -88,13 +98,3 @@ OpensDisk (Some (Say.Mailbox name)) = Unit {0}
 OpensDisk (Some Say.Decode) = ⊥
 OpensDisk (Some (Say.Serve sessions stations)) = Unit {0}
 OpensDisk (Some (Say.Drill messages)) = ⊥
-
--- the command is read and not built yet
-abbrev pub IsUnbuilt : Option Words → Type 0
-IsUnbuilt None = ⊥
-IsUnbuilt (Some Say.Submit) = ⊥
-IsUnbuilt (Some (Say.Serve sessions stations)) = ⊥
-IsUnbuilt (Some Say.Queue) = ⊥
-IsUnbuilt (Some (Say.Mailbox name)) = ⊥
-IsUnbuilt (Some Say.Decode) = ⊥
-IsUnbuilt (Some (Say.Drill messages)) = Unit {0}

@@ -7,7 +7,7 @@ mod ended;
 mod inputs;
 mod lines;
 pub mod mailbox;
-mod print;
+pub mod print;
 pub mod queue;
 mod serving;
 mod stop;
@@ -15,6 +15,6 @@ pub mod submit;
 
 pub use ended::{Ended, refused};
 pub use inputs::tables_of;
-pub use lines::{close, tell};
+pub use lines::{close, tell, tell_line};
 pub use serving::{begin, finish};
-pub use stop::{Stop, stop_of_step};
+pub use stop::{Stop, stop_of_open, stop_of_step};

@@ -8,7 +8,7 @@ ghost use Rattle.std.specs.Prelude.{◌≡◌, ◌≤◌, ◌++◌, ◌↔◌, �
 ghost use Rattle.std.specs.Fmt.{decimal};
 ghost use Rattle.mta_commands.specs.Lines.{accepted_line, kind_text, fault_text, status_of, line_of};
 ghost use Rattle.mta_commands.specs.declared.stop.Stop.TheVariants as Stops;
-ghost use Rattle.mta_commands.specs.Output.{HasTold, HasClosed, output};
+ghost use Rattle.mta_commands.specs.Output.{HasTold, HasClosed, TellsLine, output};
 
 use crate::stop::Stop;
 use mta_apdu_text::put_number;
@@ -79,7 +79,6 @@ fn line_of(alloc: Global, stop: &Stop) -> Result<Octets, Memory>
     let mut line = Octets::new(alloc);
     match stop {
         Stop::Usage => line.extend(USAGE)?,
-        Stop::NotBuilt => line.extend(b"not built\n")?,
         Stop::Tables { line: number, kind } => {
             line.extend(b"tables line ")?;
             put_number(&mut line, u64::from(*number))?;
@@ -118,6 +117,11 @@ fn line_of(alloc: Global, stop: &Stop) -> Result<Octets, Memory>
             put_number(&mut line, u64::from(*at))?;
             put_last_word(&mut line, fault_text(*kind))?;
         }
+        Stop::Lost { message } => {
+            line.extend(b"message ")?;
+            put_number(&mut line, u64::from(*message))?;
+            line.extend(b" is lost\n")?;
+        }
     }
     Ok(line)
 }
@@ -128,7 +132,6 @@ fn status_of(stop: &Stop) -> u8
 {
     match stop {
         Stop::Usage => 1,
-        Stop::NotBuilt => 11,
         Stop::Tables { .. } => 2,
         Stop::NotSpool { .. } => 3,
         Stop::Disk => 4,
@@ -138,6 +141,7 @@ fn status_of(stop: &Stop) -> u8
         Stop::Source => 8,
         Stop::Sink => 9,
         Stop::NoMailbox(_) | Stop::NoPeer(_) => 10,
+        Stop::Lost { .. } => 11,
     }
 }
 
@@ -151,15 +155,16 @@ pub fn accepted_line(alloc: Global, number: u32) -> Result<Octets, Memory>
     Ok(line)
 }
 
-/// Prints the line of a stop, or that memory is out where there is none for it, and answers the status, or 9 where the
-/// sink fails.
-pub fn tell<O: Sink>(alloc: Global, out: &mut O, stop: &Stop) -> u8
-    ensures told { HasTold stop.now (output O.model out.old out.new) result }
+/// Prints a line, or that memory is out where there was none for it, and answers the status: that of the line, or 7, or
+/// 9 where the sink fails.
+#[tactic(auto, unfolding(crate::specs::Lines::line_of))]
+pub fn tell_line<O: Sink>(out: &mut O, line: Result<Octets, Memory>, status: u8) -> u8
+    ensures told { TellsLine line status (output O.model out.old out.new) result }
     ensures later { O.model.faults out.old ≤ O.model.faults out.new }
 {
-    match line_of(alloc, stop) {
+    match line {
         Ok(line) => match put_all(out, line.as_slice()) {
-            Ok(()) => status_of(stop),
+            Ok(()) => status,
             Err(_) => 9,
         },
         Err(_) => match put_all(out, b"out of memory\n") {
@@ -167,6 +172,16 @@ pub fn tell<O: Sink>(alloc: Global, out: &mut O, stop: &Stop) -> u8
             Err(_) => 9,
         },
     }
+}
+
+/// Prints the line of a stop, or that memory is out where there is none for it, and answers the status, or 9 where the
+/// sink fails.
+pub fn tell<O: Sink>(alloc: Global, out: &mut O, stop: &Stop) -> u8
+    ensures told { HasTold stop.now (output O.model out.old out.new) result }
+    ensures later { O.model.faults out.old ≤ O.model.faults out.new }
+{
+    let line = line_of(alloc, stop);
+    tell_line(out, line, status_of(stop))
 }
 
 fn is_sink(stop: &Stop) -> bool

@@ -30,9 +30,9 @@ fn has_mailbox(tables: &Tables, name: &[u8]) -> bool
     tables.mailbox(name).is_some()
 }
 
-// Whether the tables recorded last have a mailbox of this word.
+/// Whether the tables recorded last have a mailbox of this word.
 #[tactic(auto, using(crate::proofs::Named::named_under, crate::proofs::Named::none_named))]
-fn is_named<D: Disk + Drop, C: Clock + Drop>(spool: &Spool<D, C>, name: &[u8]) -> bool
+pub fn is_named<D: Disk + Drop, C: Clock + Drop>(spool: &Spool<D, C>, name: &[u8]) -> bool
     ensures { result ≡ is_some (mailbox_named spool.now.current name.now) }
 {
     match spool.tables() {

@@ -18,8 +18,6 @@ use mta_tables::LineKind;
 pub enum Stop {
     /// The words are outside the grammar.
     Usage,
-    /// The words are those of a command that is not built yet.
-    NotBuilt,
     /// The text of the tables has this first bad line, from 1.
     Tables { line: u32, kind: LineKind },
     /// The disk holds no spool from this offset on.
@@ -42,6 +40,8 @@ pub enum Stop {
     NoPeer(Word),
     /// The input is no APDU, for this first fault at this offset.
     BadApdu { at: u32, kind: Kind },
+    /// A drill lost this message.
+    Lost { message: u32 },
 }
 
 /// Why octets were not read as an APDU.

@@ -17,8 +17,7 @@ use Rattle.mta_words.specs.declared.words.Words.{Words}
 use Rattle.mta_words.specs.declared.words.Words.TheVariants as Say
 use Rattle.mta_commands.specs.declared.ended.Ended.{Ended}
 use Rattle.mta_commands.specs.declared.stop.Stop.{Stop}
-use Rattle.mta_commands.specs.declared.stop.Stop.TheVariants as Stops
-use Rattle.mta_commands.specs.Causes.{Cause, not_built}
+use Rattle.mta_commands.specs.Causes.{Cause}
 use Rattle.mta_commands.specs.Command.{HasEnded, NoneWorked}
 use Rattle.mta_commands.specs.DiskLeft.{uncalled}
 use Rattle.mta_commands.specs.Handed.{handed}
@@ -132,20 +131,3 @@ early_ended disks clocks sources links stations laws words conf input disk clock
     after out (Err stop)) (sym same)
     (commanded_early disks clocks sources links stations laws words conf input disk clock before after out stop kept
     silent cause))
-
--- `drill` is not built yet
-pub drill_ended : {D C I : Type 0} (disks : DiskView D) (laws : DiskLaws disks) (clocks : ClockView C)
-    (sources : SourceView I) (messages : ℕ) (conf input : I) (disk : D) (clock : C) (out : Output)
-    → out.after ≡ out.before
-    → HasEnded (handed disks clocks sources (Some (Say.Drill messages)) conf conf input input disk disk clock)
-    NoneWorked
-    out (Err Stops.NotBuilt)
-drill_ended disks laws clocks sources messages conf input disk clock out silent =
-    ended_early disks laws clocks sources (Some (Say.Drill messages)) conf conf input input disk clock NoneWorked out
-    Stops.NotBuilt
-    (record {
-      conf_untouched = λ none. refl;
-      input_untouched = λ none. refl;
-      conf = undrawn sources longest_tables conf;
-      input = undrawn sources longest_apdu input;
-    }) silent (not_built tt) refl

@@ -7,4 +7,5 @@ pub mod ServedWorkers
 pub mod ServedAll
 pub mod OtherPeers
 pub mod Commanded
+pub mod Drilled
 pub mod EndsAsMany

@@ -20,7 +20,7 @@ use Rattle.mta_commands.specs.Handed.{Handed, ForFound, InputsRead}
 use Rattle.mta_commands.specs.Output.{Output, output, HasPrinted, whole, HasClosed, IsEnded}
 use Rattle.mta_commands.specs.DiskLeft.{Opening, opened}
 use Rattle.mta_commands.specs.Causes.{mailbox_named, IsText, of_submit, of_queue, of_serve, of_mailbox, of_decode}
-use Rattle.mta_commands.specs.Causes.{Cause, memory}
+use Rattle.mta_commands.specs.Causes.{of_drill, Cause, memory}
 use Rattle.mta_commands.specs.Causes.{of_worker}
 use Rattle.mta_commands.specs.Command.{HasEnded, OnStations}
 use Rattle.mta_commands.specs.Serving.{stop_of_halt}
@@ -117,6 +117,12 @@ text_tells h ends added _ _ (of_decode text word is) = record {
   read = record { tables = λ r. absurd (subst ReadsTables word r); apdu = λ r i e. let x = is i e in (x.0, x.1) };
   opened_it = λ o. absurd (subst OpensDisk word o);
   named = λ name e. absurd (mailbox_apart h Say.Decode name word (λ w. absurd cc) e);
+}
+text_tells h ends added _ _ (of_drill messages text word is) = record {
+  known = some_known h (Say.Drill messages) word;
+  read = reads_nothing h (Say.Drill messages) word (λ r. r) (λ r. r);
+  opened_it = λ o. absurd (subst OpensDisk word o);
+  named = λ name e. absurd (mailbox_apart h (Say.Drill messages) name word (λ w. absurd cc) e);
 }
 
 -- the text of a command that did what it does

@@ -1,4 +1,5 @@
 pub mod Sessions
+pub mod Drilling
 pub mod Served
 pub mod Ran
 pub mod Runs

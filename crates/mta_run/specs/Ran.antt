@@ -14,7 +14,7 @@ use Rattle.mta_spool.specs.Turning.{IsRecorded}
 use Rattle.mta_stations.specs.declared.end.WorkerEnd.{WorkerEnd}
 use Rattle.mta_stations.specs.Deciding.{halts_of, IsUndecided}
 use Rattle.mta_words.specs.declared.words.Words.TheVariants as Say
-use Rattle.mta_commands.specs.Words.{AddsSteps, ReadsTables, ReadsApdu, OpensDisk, IsUnbuilt, Serves}
+use Rattle.mta_commands.specs.Words.{AddsSteps, Drills, ReadsTables, ReadsApdu, OpensDisk, Serves}
 use Rattle.mta_commands.specs.Handed.{Handed, ForTables, ForInput, ForDisk, ForFound, ForOpened, ForOpenedDisk}
 use Rattle.mta_commands.specs.Handed.{SourceFailed, DiskFailed, InputsRead}
 use Rattle.mta_commands.specs.Inputs.{IsReadAsTables}
@@ -118,9 +118,9 @@ pub record Tells {D C I : Type 0} (h : Handed D C I) (out : Output) (status : �
   -- 1 comes exactly where the words are outside the grammar, but for want of memory and a fault of the output
   pub usage : status ≡ 1 → h.words ≡ None
   pub usage_where : h.words ≡ None → (status ≡ 1) ⊎ (status ≡ 7) ⊎ ((status ≡ 9) × OutputFailed out)
-  -- and 11 exactly where they are those of a command that is not built yet, but for the same
-  pub unbuilt : status ≡ 11 → IsUnbuilt h.words
-  pub unbuilt_where : IsUnbuilt h.words → (status ≡ 11) ⊎ (status ≡ 7) ⊎ ((status ≡ 9) × OutputFailed out)
+  -- 11 comes only where a message of a drill is lost, and a drill ends with 0 or so, but for the same
+  pub lost : status ≡ 11 → Drills h.words
+  pub drills : Drills h.words → (status ≡ 0) ⊎ (status ≡ 11) ⊎ (status ≡ 7) ⊎ ((status ≡ 9) × OutputFailed out)
   pub disk : status ≡ 4 → OpensDisk h.words × DiskFailed h
   pub source : status ≡ 8 → SourceFailed h
   pub sink : status ≡ 9 → OutputFailed out
@@ -133,7 +133,6 @@ IsOlderAndFull h = (size need : ℕ) × ForDisk h (λ f. IsFullForFormat f size 
 -- All is in order that the command reads, and nothing fails.
 pub record AllInOrder {D C I : Type 0} (h : Handed D C I) (out : Output) : Type 0 where
   pub known : h.words ≢ None
-  pub built : IsUnbuilt h.words → ⊥
   pub tables : ReadsTables h.words → (c : List ℕ) × (h.sources.left h.conf.before ≡ Some c) × IsReadAsTables c
   pub apdu : ReadsApdu h.words → (i : List ℕ) × (h.sources.left h.input.before ≡ Some i) × IsApdu i
   pub spool : OpensDisk h.words → (f : List ℕ) × (steps : List Step) × (h.disks.content h.disk.before ≡ Some f)
@@ -146,8 +145,9 @@ pub record AllInOrder {D C I : Type 0} (h : Handed D C I) (out : Output) : Type 
   pub calm_output : OutputFailed out → ⊥
 
 -- Then the status is 0, or 7, or 5 where a step was refused for its numbers or its record did not fit, or the
--- format did not fit.
+-- format did not fit, or 11 where a message of a drill is lost.
 abbrev pub IsComplete : {D C I : Type 0} → Handed D C I → Output → ℕ → Type 0
 IsComplete h out status =
     AllInOrder h out → (status ≡ 0) ⊎ (status ≡ 7)
     ⊎ ((status ≡ 5) × (AddsSteps h.words ⊎ (OpensDisk h.words × IsOlderAndFull h)))
+    ⊎ ((status ≡ 11) × Drills h.words)

@@ -17,6 +17,7 @@ ghost use Rattle.mta_run.specs.Runs.{HasCommanded, HasRunWith};
 ghost use Rattle.mta_commands.specs.Words.{are_stations_for, IsSaid, words_with};
 ghost use Rattle.mta_words.specs.Words.{command_of};
 
+use crate::drill::drill;
 use crate::serve::{ServeEnd, outside_laws, serve};
 use mta_commands::decode::decode;
 use mta_commands::mailbox::mailbox;
@@ -115,8 +116,8 @@ where
             let outcome = decode(alloc, input, out);
             alone(Ended { disk, outcome }, stations)
         }
-        Words::Drill(_) => {
-            let outcome = Err(Stop::NotBuilt);
+        Words::Drill(messages) => {
+            let outcome = drill(alloc, messages, out);
             alone(Ended { disk, outcome }, stations)
         }
     }
@@ -170,8 +171,9 @@ where
 /// the APDU, prints `accepted N`, and does what is due until nothing is: it delivers, expands lists, affirms probes and
 /// makes reports. `serve` reads the tables, opens the disk, records them, does what is due, has each station served by
 /// a worker of its own at the same time, does what has come due, and prints a line a station. `spool` prints the queue
-/// and the lanes that are open, `read MAILBOX` what a mailbox got, and `decode` the APDU that the input is. `drill` is
-/// read and not built yet: it touches nothing, and is told `not built`.
+/// and the lanes that are open, `read MAILBOX` what a mailbox got, and `decode` the APDU that the input is. `drill N`
+/// passes N messages between two agents of its own over a link that is broken on purpose, and prints what these hold
+/// afterwards; it calls nothing of what is handed in but the output.
 pub fn run<
     R: Threads + Wait + Sync,
     D: Disk + Drop + Send,

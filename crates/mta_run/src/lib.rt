@@ -2,6 +2,7 @@
 #![tactic(auto)]
 
 mod command;
+mod drill;
 mod serve;
 
 pub use command::{Finished, run};

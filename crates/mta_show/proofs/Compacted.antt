@@ -86,7 +86,7 @@ named-here (x ∷ front) line back = behind (eqb x.item line.item) (is_named (fr
     behind false b e = e
 
 -- the item at a place that a delivery names has its octets still
-named-same : (lines : List MailboxLine) (n k : ℕ) (items : List ItemValue) → is_named lines (n + k) ≡ true
+pub named-same : (lines : List MailboxLine) (n k : ℕ) (items : List ItemValue) → is_named lines (n + k) ≡ true
     → item_if (slice_get (map item_begun (recorded_from lines n items)) k) ≡ item_if (slice_get items k)
 named-same lines n k [] named = refl
 named-same lines n zero (x ∷ items) named =

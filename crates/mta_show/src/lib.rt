@@ -8,6 +8,6 @@ mod queue;
 mod status;
 
 pub use law::snapshots_print_the_same;
-pub use mailbox::show_mailbox;
+pub use mailbox::{put_apdu_of, show_mailbox};
 pub use mta_apdu_text::show_apdu;
 pub use queue::show_queue;

@@ -25,7 +25,7 @@ fn put_delivered_line(alloc: Global, out: &mut Octets, line: &MailboxLine) -> Re
     out.extend(b"\n")
 }
 
-/// The lines of the APDU that octets spell.
+// Puts the lines of the APDU that octets spell.
 #[tactic(auto, unfolding(crate::specs::Mailbox::octets_text))]
 fn put_octets(alloc: Global, out: &mut Octets, octets: &[u8]) -> Result<(), Memory>
     ensures { OnOk result (out.new ≡ out.old ++ octets_text octets.now) }
@@ -41,7 +41,8 @@ fn put_octets(alloc: Global, out: &mut Octets, octets: &[u8]) -> Result<(), Memo
     }
 }
 
-fn put_item(alloc: Global, out: &mut Octets, item: Option<&Item>) -> Result<(), Memory>
+/// Puts the lines of the APDU of an item; none where there is no item.
+pub fn put_apdu_of(alloc: Global, out: &mut Octets, item: Option<&Item>) -> Result<(), Memory>
     ensures { OnOk result (out.new ≡ out.old ++ item_if (option_copied item.entry)) }
 {
     match item {
@@ -59,7 +60,7 @@ fn put_delivered(
     ensures { OnOk result (out.new ≡ out.old ++ delivered_text items.now line.now) }
 {
     put_delivered_line(alloc, out, line)?;
-    put_item(alloc, out, items.get(line.item.saturating_sub(1) as usize))
+    put_apdu_of(alloc, out, items.get(line.item.saturating_sub(1) as usize))
 }
 
 /// What was delivered to the mailbox of this word, in the order of the deliveries: the moment, the number of the

@@ -1,12 +1,10 @@
-use Rattle.std.proofs.Common.{refl}
-use Rattle.mta_commands.specs.Lines.{line_of}
-use Rattle.mta_commands.specs.Output.{short, short_failed}
+use Rattle.mta_commands.specs.Lines.{line_of, status_of}
+use Rattle.mta_commands.specs.Output.{output}
+use Rattle.mta_commands.proofs.Told.{line_told}
 use Rattle.mta_commands.proofs.lines.tell.Goals as goal
 
-pub returns-in-Ok-put_all-2-clause-told : goal.returns-in-Ok-put_all-2-clause-told
-unfolding line_of
-returns-in-Ok-put_all-2-clause-told g c = short refl c.in-Ok-put_all-2.ensures.whole
-
 pub returns-clause-told : goal.returns-clause-told
-unfolding line_of
-returns-clause-told g c = short_failed refl (c.in-Err-put_all-2.ensures.cause.failed, c.in-Err-put_all-2.ensures.front)
+returns-clause-told g c =
+    line_told c.line_of-line.result (line_of c.args.stop.now) (status_of c.args.stop.now)
+    (output g.O.Sink.model c.args.out.now c.tell_line.new.out) c.tell_line.result c.line_of-line.ensures
+    (rw c.status_of.ensures at c.tell_line.ensures.told)

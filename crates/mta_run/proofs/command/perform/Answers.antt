@@ -1,9 +1,9 @@
-use Rattle.std.proofs.Common.{Err, refl, ap}
+use Rattle.std.proofs.Common.{ap}
 use Rattle.mta_stations.specs.Stations.{roles_in}
 use Rattle.mta_words.specs.declared.words.Words.TheVariants as Say
-use Rattle.mta_commands.specs.declared.stop.Stop.TheVariants as Stops
 use Rattle.mta_commands.specs.Output.{output}
-use Rattle.mta_run.proofs.Commanded.{commanded_alone, commanded_serving, drill_ended}
+use Rattle.mta_run.proofs.Commanded.{commanded_alone, commanded_serving}
+use Rattle.mta_run.proofs.Drilled.{drill_ended, some_messages}
 use Rattle.mta_commands.proofs.Decoded.{decode_ended}
 use Rattle.mta_commands.proofs.ShownSpool.{shown_ended}
 use Rattle.mta_run.proofs.command.perform.Goals as goal
@@ -66,14 +66,21 @@ returns-in-Decode-clause-ended g c =
     (output g.O.Sink.model c.args.out.now c.decode-outcome.new.out) c.decode-outcome.result
     c.decode-outcome.ensures.decoded)
 
+pub drill-outcome-requires : goal.drill-outcome-requires
+drill-outcome-requires g c = record {
+  some = some_messages c.args.words c.in-Drill.messages c.in-Drill.is c.requires.said;
+}
+
 pub returns-clause-ended : goal.returns-clause-ended
 returns-clause-ended g c =
     commanded_alone g.D.Disk.model g.C.Clock.model g.I.Source.model g.S.Link.Link.model g.S.Station.model
-    c.args.words (Say.Drill c.in-Drill.field-0) c.in-Drill.is (λ s. s) c.args.conf.now c.args.conf.now
+    c.args.words (Say.Drill c.in-Drill.messages) c.in-Drill.is (λ s. s) c.args.conf.now c.args.conf.now
     c.args.input.now c.args.input.now c.args.disk c.args.clock c.args.stations.items
-    c.alone-in-Drill.result.stations.items (output g.O.Sink.model c.args.out.now c.args.out.now)
-    (record { disk = c.args.disk; outcome = Err Stops.NotBuilt }) c.alone-in-Drill.result.ended
-    c.alone-in-Drill.ensures.ended (ap (λ v. v.items) c.alone-in-Drill.ensures.stations)
-    (drill_ended g.D.Disk.model c.outside_laws.ensures.disks g.C.Clock.model g.I.Source.model c.in-Drill.field-0
+    c.alone-in-Drill.result.stations.items (output g.O.Sink.model c.args.out.now c.drill-outcome.new.out)
+    (record { disk = c.args.disk; outcome = c.drill-outcome.result })
+    c.alone-in-Drill.result.ended c.alone-in-Drill.ensures.ended
+    (ap (λ v. v.items) c.alone-in-Drill.ensures.stations)
+    (drill_ended g.D.Disk.model c.outside_laws.ensures.disks g.C.Clock.model g.I.Source.model c.in-Drill.messages
     c.args.conf.now c.args.input.now c.args.disk c.args.clock
-    (output g.O.Sink.model c.args.out.now c.args.out.now) refl)
+    (output g.O.Sink.model c.args.out.now c.drill-outcome.new.out) c.drill-outcome.result
+    c.drill-outcome.ensures.drilled)

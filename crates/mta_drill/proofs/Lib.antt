@@ -1,0 +1,5 @@
+pub mod Contents
+pub mod Counted
+pub mod Reopened
+pub mod Summing
+pub mod Telling

@@ -1,0 +1,17 @@
+//! `mta drill`: two agents in one process pass messages over a link that is broken on purpose, and what they hold
+//! afterwards is counted.
+#![tactic(auto)]
+
+mod breaks;
+mod counts;
+mod drilling;
+mod fault;
+mod link;
+mod message;
+mod round;
+mod session;
+mod side;
+mod tables;
+
+pub use drilling::{Drilled, drill};
+pub use fault::DrillFault;
