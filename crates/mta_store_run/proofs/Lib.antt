@@ -1,0 +1,9 @@
+mod Acted
+mod Answered
+mod Asking
+mod Done
+mod Kept
+mod Later
+mod Looks
+mod Numbers
+mod Statuses

@@ -1,0 +1,9 @@
+pub mod Acting
+pub mod Asked
+pub mod Decided
+pub mod Kept
+pub mod Outcome
+pub mod Output
+pub mod Ran
+pub mod Stops
+pub mod Store
