@@ -1,0 +1,76 @@
+//! `mta_follow`, a standby on another machine: the process.
+//!
+//! `main` reads the words, names `mta.spool` in the folder in which it is called and standard output, makes the station
+//! that the words name, and hands all to `follow_run`; it ends with the status that this answers. The file is opened,
+//! made where it is absent, and locked at its disk's first call, and the lock goes with the process. Words that are not
+//! UTF-8 are told the usage line. What cannot be opened fails at every call, so it is told as a fault of that object.
+#![tactic(auto)]
+
+use mta_ber::{Memory, Octets, Word};
+use mta_follow_run::{Command, Stop, command_of, follow_run, tell};
+use mta_host::{FileDisk, Patience, SystemClock, TcpStation, Writing};
+use mta_links::Role;
+use std::process::ExitCode;
+use std::{env, io};
+
+// What the notes of a station call the standby.
+const STANDBY: &[u8] = b"standby";
+
+// The words behind the program's name.
+fn arguments(rt: &HostRuntime) -> io::Result<Vec<String>> {
+    let mut words = Vec::new(rt.alloc());
+    for word in env::args(rt)?.skip(1) {
+        words.push(word)?;
+    }
+    Ok(words)
+}
+
+// Why there are no words: one is not UTF-8, or memory was short.
+fn stop_of_words(error: &io::Error) -> Stop {
+    match error.kind() {
+        io::ErrorKind::InvalidData => Stop::Usage,
+        _ => Stop::Memory,
+    }
+}
+
+// The role of a station that calls the standby.
+fn calling(rt: &HostRuntime) -> Result<Role, Memory> {
+    match Word::from_octets(Octets::from_slice(rt.alloc(), STANDBY)?) {
+        Some(word) => Ok(Role::Out(word)),
+        None => Ok(Role::In),
+    }
+}
+
+// The station of the words: the standby's host and port, or the port at which it listens. Of other words none is asked
+// for a link.
+fn station_of<'a>(
+    rt: &'a HostRuntime,
+    words: &[String],
+) -> Result<TcpStation<'a, HostRuntime>, Memory> {
+    let patience = Patience::usual();
+    match command_of(words) {
+        Some(Command::Push { host, port }) => {
+            let role = calling(rt)?;
+            let host = host.to_string(rt.alloc())?;
+            Ok(TcpStation::calling(rt, role, host, port, patience))
+        }
+        Some(Command::Pull { port }) => Ok(TcpStation::listening(rt, port, patience)),
+        None => Ok(TcpStation::listening(rt, 0, patience)),
+    }
+}
+
+fn main(rt: HostRuntime) -> ExitCode {
+    let mut out = Writing::new(io::writer(&rt));
+    let words = match arguments(&rt) {
+        Ok(words) => words,
+        Err(error) => return ExitCode::from(tell(&mut out, stop_of_words(&error))),
+    };
+    let station = match station_of(&rt, words.as_slice()) {
+        Ok(station) => station,
+        Err(_) => return ExitCode::from(tell(&mut out, Stop::Memory)),
+    };
+    let disk = FileDisk::new(&rt, ".", "mta.spool");
+    let clock = SystemClock::new(&rt);
+    let followed = follow_run(rt.alloc(), words.as_slice(), &mut out, disk, station, clock);
+    ExitCode::from(followed.status)
+}

@@ -1,0 +1,13 @@
+pub mod Words
+pub mod Stops
+pub mod Output
+pub mod Fronts
+pub mod Talks
+pub mod Getting
+pub mod Copies
+pub mod Taking
+pub mod Pulling
+pub mod Pushing
+pub mod Opened
+pub mod Outcome
+pub mod Ran

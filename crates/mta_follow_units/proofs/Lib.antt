@@ -1,0 +1,4 @@
+pub mod Tests
+pub mod LookLaws
+pub mod AgainLaws
+pub mod SizeLaws

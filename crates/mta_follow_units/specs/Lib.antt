@@ -1,0 +1,4 @@
+pub mod Units
+pub mod Look
+pub mod Feed
+pub mod Laws
