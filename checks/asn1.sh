@@ -4,12 +4,10 @@
 # and one whose parts that mta keeps unread have other types than the standard's. Run it at the top of the repository.
 set -u
 cd "$(dirname "$0")/.." || exit 2
+. checks/program.bash
 top=$PWD
-for tool in asn1c cc; do
-  command -v "$tool" >/dev/null || { echo "skipped: $tool is not on the PATH"; exit 0; }
-done
-made=$(mktemp -d) || exit 2
-trap 'rm -rf "$made"' EXIT
+tools asn1c cc
+folder
 cd "$made" || exit 2
 asn1c -fcompound-names -pdu=Apdu "$top/docs/p1.asn1" >log 2>&1 || { cat log; exit 1; }
 cc -w -DPDU=Apdu -I. -o decoder ./*.c >log 2>&1 || { tail -n 3 log; exit 1; }

@@ -1,5 +1,5 @@
 #!/usr/bin/env python3
-"""The tools of contrib against `mta` and its spools: checks/contrib.py MTA FOLDER, for checks/contrib.sh.
+"""The tools of contrib against `mta` and its spools: checks/contrib.py MTA FOLDER MTA_STORE, for checks/contrib.sh.
 
 What is wanted is what `mta spool` and `mta read` print, what was handed over, and the standards' layouts as Wireshark
 has them.
@@ -25,7 +25,7 @@ import state  # noqa: E402
 import steps  # noqa: E402
 import x690 as ber  # noqa: E402
 
-MTA, MADE = os.path.abspath(sys.argv[1]), sys.argv[2]
+MTA, MADE, STORE = os.path.abspath(sys.argv[1]), sys.argv[2], os.path.abspath(sys.argv[3])
 AT_ONCE = 4  # tools that are tried side by side
 FULL_NAME = ("C=GB;A=GOLD;P=X Y;O=WORKS;OU=NORTH;OU=LAB 2;S=BELL;G=ALEX;I=A;Q=JR;CN=ALEX BELL;X121=123;TID=T;UID=9;"
              "DDA:RFC-822=a(a)b.c")
@@ -691,6 +691,42 @@ def try_submit():
     want("deliveries", len(re.findall(r"^delivered", mta(hub, "read", "watt"), re.M)), 4)
 
 
+def try_fetch():
+    """The content of an entry comes into a file, and the entry may go then. What is not fetched leaves no file."""
+    folder = agent("box", "domain C=GB;A=GOLD", "name GOLD-1", "mailbox watt C=GB;A=GOLD;S=WATT",
+                   "mailbox bell C=GB;A=GOLD;S=BELL")
+    mta(folder, "submit", octets=message("--report", "C=GB;A=GOLD;S=BELL", "C=GB;A=GOLD;S=WATT", "F0001"))
+    content = tool("mta-content", folder, "1")
+    how = {"env": {**os.environ, "MTA_STORE": STORE}}
+
+    def fetch(*words, status=0):
+        ran([f"{CONTRIB}/fetch.py", *words], folder, status=status, **how)
+
+    def lists(mailbox, wanted):
+        got = ran([STORE, "list", mailbox], folder).decode()
+        want(f"the list of {mailbox}", re.sub(r"\d{12}Z", "T", got), wanted)
+
+    lists("watt", "1 new T item 1\n")
+    fetch("watt", "1", "content")
+    with open(f"{folder}/content", "rb") as file:
+        want("the content that is fetched", file.read(), content)
+    lists("watt", "1 fetched T item 1\n")
+    ran([STORE, "delete", "watt", "1"], folder)
+    lists("watt", "")
+    lists("bell", "1 new T item 2\n")
+    fetch("bell", "1", "report", status=20)
+    lists("bell", "1 fetched T item 2\n")
+    fetch("bell", "1", "absent/report", status=20)
+    fetch("watt", "1", "gone", status=12)
+    fetch("nobody", "1", "gone", status=10)
+    fetch("watt", "1", status=2)
+    mta(folder, "submit", octets=sample("message.ber"))
+    fetch("watt", "2", "absent/content", status=21)
+    fetch("watt", "2", "content")
+    want("the folder", sorted(os.listdir(folder)), ["content", "mta.marks", "mta.spool", "mta.tables"])
+    want("another content in its place", os.path.getsize(f"{folder}/content"), 2)
+
+
 def tried(name, call):
     began = time.monotonic()
     call()
@@ -707,7 +743,7 @@ def main():
              ("mta-apdu --pending", try_pending), ("mta-apdu, in doubt", try_doubt), ("a restored spool", try_restore),
              ("a snapshot", lambda: try_snapshot(1)), ("a snapshot of format 2", lambda: try_snapshot(2)),
              ("a direct copy", try_direct), ("message.py", try_message), ("tables-check.py", try_tables),
-             ("submit.sh", try_submit), ("contrib/README.md", try_readme))
+             ("submit.sh", try_submit), ("fetch.py", try_fetch), ("contrib/README.md", try_readme))
     # each of these has files of its own
     with ThreadPoolExecutor(AT_ONCE) as pool:
         for job in [pool.submit(tried, *it) for it in tools]:

@@ -7,8 +7,10 @@ cd "$(dirname "$0")/.." || exit 2
 . checks/program.bash
 program python3
 wrong=0
-PYTHONDONTWRITEBYTECODE=1 python3 checks/contrib.py "$mta" "$made" || wrong=1
+found mta_store
+PYTHONDONTWRITEBYTECODE=1 python3 checks/contrib.py "$mta" "$made" "$found" || wrong=1
 found mta_rehearse
 found mta_audit
+found mta_follow
 bash checks/install.bash "$mta" "$made" || wrong=1
 exit "$wrong"

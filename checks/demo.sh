@@ -2,13 +2,11 @@
 # The demo, built without proofs, prints the text of checks/demo.txt and nothing else: each command on the samples, and
 # two agents that serve one another over a connection that breaks.
 cd "$(dirname "$0")/.." || exit 2
-for tool in rt python3; do
-  command -v "$tool" >/dev/null || { echo "skipped: $tool is not on the PATH"; exit 0; }
-done
-folder=$(mktemp -d) || exit 2
-trap 'rm -rf "$folder"' EXIT
+. checks/program.bash
+tools rt python3
+folder
 start=$SECONDS
-got=$(./demo "$folder/try") || { echo "$got"; echo "the demo failed"; exit 1; }
+got=$(./demo "$made/try") || { echo "$got"; echo "the demo failed"; exit 1; }
 # what stands before the first empty line, and the last one, have paths
 if ! diff <(sed '1,/^$/d;$d' <<<"$got") checks/demo.txt; then
   echo "< the demo, > checks/demo.txt"

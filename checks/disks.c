@@ -1,4 +1,4 @@
-/* Preloaded by checks/disks.sh: one call on the file mta.spool fails, or finds the file shorter than it was.
+/* Preloaded by `checks/peer.sh disks`: one call on the file mta.spool fails, or finds the file shorter than it was.
  *
  * FAULT_CALL is the number of that call, from 1, among the sizes, reads, writes, cuts and syncs of the file. FAULT_HOW
  * says what it does: `fails` (EIO), `full` (ENOSPC), `half` (a write puts half of its octets, and the call behind it

@@ -1,12 +1,14 @@
 #!/usr/bin/env bash
-# The documents are true as far as a program can see: each name that they cite exists, the manual pages are in order,
-# one version stands everywhere, and the text blocks of README.md, docs/MANUAL.md and the pages are what the programs
-# print. Run it at the top of the repository.
+# The documents are true as far as a program can see: each name that they cite exists, docs/DEFINITIONS.md is what the
+# heads of specs/ say, the manual pages are in order, one version stands everywhere, and the text blocks of README.md,
+# docs/MANUAL.md and the pages are what the programs print. Run it at the top of the repository.
 set -u
 cd "$(dirname "$0")/.." || exit 2
+. checks/program.bash
 wrong=0
-command -v python3 >/dev/null || { echo "skipped: python3 is not on the PATH"; exit 0; }
+tools python3
 python3 checks/names.py || wrong=1
+python3 checks/definitions.py || wrong=1
 if command -v mandoc >/dev/null; then
   # the pages cite one another, and none is installed
   said=$(for page in man/*; do mandoc -Tlint "$page"; done | grep -v 'referenced manual not found')
@@ -28,10 +30,13 @@ version=$(sed -n '1s/.*(\(.*\)).*/\1/p' packaging/debian/changelog)
 for document in README.md docs/MANUAL.md man/*; do
   grep -qF "version $version" "$document" || { echo "$document does not name version $version"; wrong=1; }
 done
-. checks/program.bash
 program
 found mta_rehearse
 rehearse=$found
 found mta_audit
-python3 checks/texts.py "$mta" "$rehearse" "$found" || wrong=1
+audit=$found
+found mta_follow
+follow=$found
+found mta_store
+python3 checks/texts.py "$mta" "$rehearse" "$audit" "$follow" "$found" || wrong=1
 exit "$wrong"

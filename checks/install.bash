@@ -8,8 +8,8 @@ DESTDIR=$root contrib/install.sh --program "$mta" /usr || exit 1
 for tool in "$root"/usr/bin/*; do
   name=$(basename "$tool")
   [ -e "$root/usr/share/man/man1/$name.1" ] || fails "$name has no page"
-  # no word of these three begins with -
-  case $name in mta | mta_rehearse | mta_audit) continue ;; esac
+  # no word of these begins with -
+  case $name in mta | mta_rehearse | mta_audit | mta_follow | mta_store) continue ;; esac
   "$tool" --help >/dev/null || fails "$name --help ended with $?"
 done
 grep -rq '@BIN@\|@LIB@' "$root/usr/lib" && fails "a unit names no place"
@@ -19,10 +19,10 @@ if command -v systemd-analyze >/dev/null; then
   place=$2/prefix
   contrib/install.sh --program "$mta" "$place" >/dev/null || fails "a prefix of its own: status $?"
   units=$place/lib/systemd/system
-  said=$(MANPATH=$place/share/man: systemd-analyze verify --man=yes \
-    "$units"/{mta@.service,mta-call@.timer,mta-watch@.timer,mta-failed@.service} 2>&1) || said="status $?: $said"
+  said=$(MANPATH=$place/share/man: systemd-analyze verify --man=yes "$units"/mta{@,-failed@,-standby@}.service \
+    "$units"/mta-{call,watch,follow}@.timer 2>&1) || said="status $?: $said"
   [ -z "$said" ] || fails "systemd-analyze verify: $said"
-  for unit in mta@GOLD mta-call@GOLD mta-watch@GOLD mta-failed@mta@GOLD.service; do
+  for unit in mta@GOLD mta-call@GOLD mta-watch@GOLD mta-failed@mta@GOLD.service mta-follow@GOLD mta-standby@GOLD; do
     # 20 is an exposure of 2.0, "OK"
     systemd-analyze security --offline=true --threshold=20 --root="$root" "$unit.service" >/dev/null 2>&1 ||
       fails "systemd-analyze security: $unit is exposed"

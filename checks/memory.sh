@@ -9,11 +9,8 @@
 set -u
 cd "$(dirname "$0")/.." || exit 2
 . checks/program.bash
-for tool in rt python3 cc; do
-  command -v "$tool" >/dev/null || { echo "skipped: $tool is not on the PATH"; exit 0; }
-done
-made=$(mktemp -d)
-trap 'rm -rf "$made"' EXIT
+tools rt python3 cc
+folder
 export PYTHONDONTWRITEBYTECODE=1
 if [ "${1:-}" = --try ]; then
   shift

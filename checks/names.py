@@ -3,8 +3,8 @@
 
 In README.md and docs/*.md a name in backticks that looks like a path has to be a file or folder, one that begins
 with `mta_` a crate, and one with an underscore, a `::` or a capital inside a word of the sources or of the other
-documents' blocks. In docs/DEFINITIONS.md a name of the first column has to stand in one of the files that its row
-names. Links to files, and to headings in them, have to lead somewhere.
+documents' blocks. A name that stands right behind a source file has to stand in that file, and so have those behind a
+file and a colon in docs/ARCHITECTURE.md. Links to files, and to headings in them, have to lead somewhere.
 """
 import glob
 import os
@@ -67,24 +67,21 @@ def wrong_functions(document):
             yield f"{document}: {name} does not stand in {file}"
 
 
-def wrong_definitions(document):
-    crate = ""
+def wrong_places(document):
+    """Names behind a source file and a colon, as in a table of rules, have to stand in that file."""
     for line in text_of(document).splitlines():
-        said = re.search(r"`(mta_\w+)/specs/?`", line)
-        crate = said[1] if said and not line.startswith("| `") else crate
-        cells = [it.strip() for it in line.split("|")]
-        places = re.findall(r"`([\w/]*\w+\.antt)`", line)
-        if len(cells) < 4 or not places:
-            continue
-        folder, found = "", []
-        for place in places:
-            folder = os.path.dirname(place) or folder or f"{crate}/specs"
-            found.append(f"crates/{folder}/{os.path.basename(place)}")
-        there = [it for it in found if os.path.exists(it)]
-        text = "\n".join(text_of(it) for it in there)
-        for name in re.findall(r"`(\w+)`", cells[1]):
-            if there and not re.search(rf"\b{name}\b", text):
-                yield f"{document}: {name} does not stand in {', '.join(places)}"
+        folder = ""
+        for file, names in re.findall(r"`([\w/]+\.(?:rt|antt))`(?:: ((?:`\w+`(?:, )?)+))?", line):
+            folder = os.path.dirname(file) or folder
+            path = f"crates/{folder}/{os.path.basename(file)}"
+            if not (names and folder):
+                continue
+            if not os.path.exists(path):
+                yield f"{document}: no file {path}"
+                continue
+            for name in re.findall(r"\w+", names):
+                if not re.search(rf"\b{name}\b", text_of(path)):
+                    yield f"{document}: {name} does not stand in {path}"
 
 
 def anchor_of(heading):
@@ -113,7 +110,7 @@ def main():
     wrong = []
     for document in DOCUMENTS:
         wrong += [*wrong_names(document, words), *wrong_functions(document), *wrong_links(document)]
-    wrong += wrong_definitions("docs/DEFINITIONS.md")
+    wrong += wrong_places("docs/ARCHITECTURE.md")
     print(*wrong, sep="\n" if wrong else "")
     print(f"{len(DOCUMENTS)} documents: {len(wrong)} names or links lead nowhere")
     sys.exit(bool(wrong))

@@ -12,7 +12,8 @@ import struct
 import subprocess
 import sys
 
-import speed_tools
+sys.path.insert(0, os.path.join(os.path.dirname(os.path.abspath(__file__)), "speed"))
+import tools  # noqa: E402
 
 TOP = os.path.dirname(os.path.dirname(os.path.abspath(__file__)))
 SAMPLES = f"{TOP}/samples"
@@ -100,7 +101,7 @@ def complete(piece):
 # ---- messages to Morse at silver, and the copy that gold transfers
 
 def element(tag, *parts):
-    return speed_tools.element(tag, b"".join(parts))
+    return tools.element(tag, b"".join(parts))
 
 
 GB = element(0x61, element(0x13, b"GB"))
@@ -221,7 +222,7 @@ ALONE = [("delivered", 2), ("waiting", 3), ("lists", 4), ("reports", 5)]
 
 def write_full(path, size):
     """A spool of one area of so many octets, with messages that wait, whose contents are holes in the file."""
-    begins = b"MTASPL01" + speed_tools.record(tables(own("gold.tables")))
+    begins = b"MTASPL01" + tools.record(tables(own("gold.tables")))
     frame, around = 5 + len(accept(b"")), len(message(b"M0007", MORSE, bytes(1 << 20))) - (1 << 20)
     left = size - len(begins) - 1
     count = left // (frame + LONGEST) - 1
@@ -230,7 +231,7 @@ def write_full(path, size):
         file.write(begins)
         for need in [frame + LONGEST] * count + [left // 2, left - left // 2]:
             octets = message(b"M0007", MORSE, bytes(need - frame - around))
-            head = speed_tools.record(accept(octets)).rstrip(b"\x00")
+            head = tools.record(accept(octets)).rstrip(b"\x00")
             file.write(head)
             file.seek(need - len(head), os.SEEK_CUR)
         file.write(b"\x00")
@@ -239,7 +240,7 @@ def write_full(path, size):
 def make():
     for spool, _, has_two, steps, queue in spools():
         areas = [b"\xff" + bytes(9)] if has_two else []
-        octets = b"MTASPL01" + b"".join(speed_tools.record(it) for it in areas + steps) + b"\x00"
+        octets = b"MTASPL01" + b"".join(tools.record(it) for it in areas + steps) + b"\x00"
         with open(f"{SPOOLS}/{spool}.spool", "wb") as file:
             file.write(octets)
         with open(f"{SPOOLS}/{spool}.txt", "w", encoding="utf-8") as file:
@@ -310,7 +311,7 @@ def try_full(copies):
 
 def meet(copies, first, second):
     """One association: the agent in the first folder calls the one in the second."""
-    port = str(speed_tools.free_port())
+    port = str(tools.free_port())
     said = "station 1 sessions 1 closed 1\n"
     # a caller calls again for a minute where nobody listens yet
     called = copies.begun(second, "serve", "1", f"in:{port}")

@@ -7,6 +7,8 @@ cd "$(dirname "$0")/.." || exit 2
 program dpkg-buildpackage dh dpkg-deb
 found mta_rehearse
 found mta_audit
+found mta_follow
+found mta_store
 wrong=0
 packaging/build.sh --program "$mta" "$made/package" >"$made/said" || { echo "the package is not built"; exit 1; }
 package=$(ls "$made"/package/*.deb)
@@ -21,6 +23,8 @@ got=$(cd "$made" && root/usr/bin/mta_rehearse GOLD-1 'C=GB;A=EAST;S=MORSE' | tai
 [ "$got" = "at EAST mailbox morse" ] || { echo "the installed mta_rehearse: $got"; wrong=1; }
 got=$(cd "$made" && cp mta.spool copy.spool && root/usr/bin/mta_audit mta.spool copy.spool; echo "status $?")
 [ "$got" = "status 0" ] || { echo "the installed mta_audit: $got"; wrong=1; }
+got=$(cd "$made" && root/usr/bin/mta_store list watt | sed -E 's/[0-9]{12}Z/T/')
+[ "$got" = "1 new T item 1" ] || { echo "the installed mta_store: $got"; wrong=1; }
 for command in "$made"/root/usr/bin/*; do
   name=$(basename "$command")
   [ -e "$made/root/usr/share/man/man1/$name.1.gz" ] || { echo "$name has no page"; wrong=1; }

@@ -1,5 +1,19 @@
 # Sourced by the checks that run programs of the repository.
 
+# `tools TOOL..` ends the check, with a word and status 0, where a tool is missing.
+tools() {
+  local tool
+  for tool in "$@"; do
+    command -v "$tool" >/dev/null || { echo "skipped: $tool is not on the PATH"; exit 0; }
+  done
+}
+
+# `folder` sets `made` to a folder that goes when the check ends.
+folder() {
+  made=$(mktemp -d) || exit 2
+  trap 'rm -rf "$made"' EXIT
+}
+
 # whether the program $1 is absent or a source is newer
 is_old() {
   [ ! -x "$1" ] || [ -n "$(find crates -path '*/out' -prune -o -name '*.rt' -newer "$1" -print -quit)" ]
@@ -33,15 +47,10 @@ found() {
   fi
 }
 
-# `program TOOL..` leaves, with a word and status 0, where a tool is missing. Else it sets `mta`, the program's path as
-# `found` has it, and `made`, a folder that goes when the check ends.
+# `program TOOL..` is what most checks begin with: tools, a folder, and `mta`, the program's path as `found` has it.
 program() {
-  local tool
-  for tool in rt "$@"; do
-    command -v "$tool" >/dev/null || { echo "skipped: $tool is not on the PATH"; exit 0; }
-  done
-  made=$(mktemp -d)
-  trap 'rm -rf "$made"' EXIT
+  tools rt "$@"
+  folder
   found mta
   mta=$found
 }

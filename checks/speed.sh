@@ -1,50 +1,75 @@
 #!/usr/bin/env bash
-# Draws curves of all that grows, as docs/speed has them: checks/speed.sh [FOLDER], out/speed where none is named. A
-# script leaves its figures in the folder that SPEED_OUT names, as in
-# `SPEED_OUT=FOLDER checks/open_speed.sh 1000 100000 1000000`; those of which the folder has none are taken here first,
-# at their default sizes. gnuplot draws them. Run it at the top of the repository.
+# The figures of docs/PERFORMANCE.md, at the top of the repository: checks/speed.sh WHAT [WORDS..]. WHAT is a file of
+# checks/speed, whose head says what is timed, beside what, and which words it takes; without WHAT their names are
+# printed. `checks/speed.sh curves [FOLDER]` draws what grows, in out/speed where no folder is named.
+#
+# What is timed inside a crate is a part of one program, mta_bench. Where PROGRAMS names a folder with the programs of
+# the crates, those are timed; else the proved ones, which are built if need be. Where SPEED_OUT names a folder, the
+# figures of all that grows are left there.
 set -u
 cd "$(dirname "$0")/.." || exit 2
-command -v gnuplot >/dev/null || { echo "skipped: gnuplot is not on the PATH"; exit 0; }
-folder=${1:-out/speed}
-mkdir -p "$folder" || exit 1
-out=$(cd "$folder" && pwd)
-for name in submit journal relay open dues; do
-  [ -e "$out/$name.dat" ] || { echo "== checks/${name}_speed.sh"; SPEED_OUT=$out bash "checks/${name}_speed.sh"; }
-done
+timed=yes
+. checks/program.bash
+export PYTHONDONTWRITEBYTECODE=1
 
-# draws the columns after the first of $1.dat: TITLE, what stands below and beside, further lines, a title a column
-curve() {
-  local file=$1 title=$2 below=$3 beside=$4 more=$5 column=2 plots=""
-  shift 5
-  [ -s "$out/$file.dat" ] || { echo "no figures for $file"; return; }
-  for it in "$@"; do
-    plots="$plots${plots:+, }'$out/$file.dat' using 1:(\$$column > 0 ? \$$column : 1/0) with linespoints lw 2 title '$it'"
-    column=$((column + 1))
-  done
-  gnuplot <<PLOT || echo "not drawn: $file"
-set terminal svg noenhanced size 860,400 font 'sans-serif,13' background 'white'
-set output '$out/$file.svg'
-set title '$title'
-set xlabel '$below'
-set ylabel '$beside'
-set grid
-set key outside right top
-set logscale x
-$more
-plot $plots
-PLOT
+# `has NAME VARIABLE` sets a variable of the figure to the path of a program
+has() {
+  local path
+  path=$(realpath -m "${PROGRAMS:-/nowhere}")/$1
+  [ -x "$path" ] || { tools rt; found "$1"; path=$found; }
+  export "$2=$path"
 }
-curve submit 'One mta submit beside what a spool holds' 'items that are held' 'milliseconds' 'unset logscale x; set yrange [0:*]' \
-  'items wait for a peer' 'items are delivered'
-curve journal 'An append beside plain writes' 'octets of a body' 'microseconds' 'set logscale y' \
-  'append' 'two synced writes' 'one synced write'
-curve relay 'Messages of 10 KiB handed over' 'associations or connections' 'messages a second' 'set xtics (1, 4, 16); set yrange [0:*]' \
-  'mta' 'Postfix to Postfix' 'smtp-source to Postfix'
-curve open 'Opening a spool' 'items' 'seconds of a processor' 'set logscale y' \
-  'delivered' 'delivered, by asn1c' 'waiting' 'waiting, by asn1c'
-curve memory 'Memory of a spool as a part of the octets of its file' 'octets of content' 'part' 'set yrange [0:*]' \
-  'delivered' 'waiting'
-curve dues 'One call beside items that wait for another peer' 'items' 'microseconds' 'set logscale y; set yrange [0.01:1000]' \
-  'turn' 'batch_for' 'waiting'
-ls "$out"/*.svg
+
+# a folder under /var/tmp, which is on a disk where /tmp may be in memory
+on_disk() {
+  FOLDER=$(mktemp -d "/var/tmp/$what.XXXXXX")
+  trap 'rm -rf "$made" "$FOLDER"' EXIT
+  export FOLDER
+}
+
+# the decoder that asn1c makes of checks/speed/asn1c.asn1, or nothing where a tool is missing, which is said
+decoder() {
+  local tool
+  export DECODER=
+  for tool in asn1c cc; do
+    command -v "$tool" >/dev/null || { echo "without asn1c's decoder: $tool is not on the PATH"; return 1; }
+  done
+  mkdir "$made/decoder"
+  (
+    cd "$made/decoder" || exit 1
+    asn1c -fnative-types -fcompound-names "$OLDPWD/checks/speed/asn1c.asn1" || exit 1
+    rm -f converter-sample.c
+    cc -O2 -w -I. -o decoder "$OLDPWD/checks/speed/asn1c.c" ./*.c
+  ) >"$made/log" 2>&1 || { echo "without asn1c's decoder, which was not built:"; tail -n 3 "$made/log"; return 1; }
+  DECODER=$made/decoder/decoder
+}
+
+if [ $# -eq 0 ]; then
+  find checks/speed -name '*.py' ! -name tools.py ! -name postfix.py -printf '%f\n' | sed 's/\.py$//' | sort
+  exit 0
+fi
+what=$1
+shift
+[ "$what" != curves ] || exec bash checks/speed/curves.bash "$@"
+case $what in
+  tools | postfix | */*) what=none ;;
+esac
+if [ ! -e "checks/speed/$what.py" ]; then
+  echo "there is no such figure; those there are: $(bash checks/speed.sh | xargs)" >&2
+  exit 2
+fi
+tools python3
+folder
+export FOLDER=$made
+case $what in
+  asn1c) decoder || { echo "skipped: there is nothing to compare with"; exit 0; }; has mta MTA; has mta_bench BENCH ;;
+  audit) on_disk; has mta MTA; has mta_audit AUDIT ;;
+  compact | relay | submit) on_disk; has mta MTA ;;
+  decode | drill) has mta MTA ;;
+  follow) on_disk; has mta_bench BENCH; has mta_follow FOLLOW ;;
+  journal) on_disk; has mta_bench BENCH ;;
+  open) on_disk; decoder; has mta MTA ;;
+  store) on_disk; has mta MTA; has mta_store STORE ;;
+  *) has mta_bench BENCH ;;
+esac
+python3 "checks/speed/$what.py" "$@"

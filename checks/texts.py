@@ -1,6 +1,6 @@
 #!/usr/bin/env python3
 """Runs the command blocks of README.md, docs/MANUAL.md, docs/PROTOCOL.md and the pages of man/, and compares what they
-print: checks/texts.py MTA MTA_REHEARSE MTA_AUDIT, with the programs' paths.
+print: checks/texts.py MTA MTA_REHEARSE MTA_AUDIT MTA_FOLLOW MTA_STORE, with the programs' paths.
 
 A block marked `console` has commands after `$ `, which go on after `> `, and what they print; the blocks of a document
 are run one after the other, beside a folder samples/, with the tools of contrib on the PATH under the names that
@@ -176,7 +176,7 @@ def page_blocks(page, mta, made):
         if "/var/lib" in commands or ".example" in commands:
             commands = with_agents(commands, folder)
             wanted = wanted or "it follows\n"
-        elif "mta.spool" in commands or "mta-content" in commands:
+        elif any(it in commands for it in ("mta.spool", "mta-content", "mta_store")):
             commands = "mta submit < message.ber > /dev/null\n" + commands
         got = ran(commands, folder, mta)
         # a page shows what the first command prints, or nothing
@@ -200,6 +200,8 @@ def main():
         tools(beside)
         os.symlink(os.path.abspath(sys.argv[2]), f"{beside}/mta_rehearse")
         os.symlink(os.path.abspath(sys.argv[3]), f"{beside}/mta_audit")
+        os.symlink(os.path.abspath(sys.argv[4]), f"{beside}/mta_follow")
+        os.symlink(os.path.abspath(sys.argv[5]), f"{beside}/mta_store")
         for document, kinds in jobs:
             with tempfile.TemporaryDirectory() as made:
                 for kind in kinds:

@@ -1,10 +1,11 @@
 #!/usr/bin/env bash
 # Puts mta in place, or takes it out again: contrib/install.sh [--remove] [--program FILE] [PREFIX], /usr/local where no
-# PREFIX is named. It installs the programs mta, mta_rehearse and mta_audit, the tools beside them, the manual pages,
-# the completion for bash, the units for systemd, the documents and the samples. FILE is the program mta, and the other
-# two are those beside it; else each is the proved one that `rt ci` leaves at crates/NAME/out/NAME or, where that is
-# absent, the unproved one that ./demo leaves at out/unproved/NAME. With DESTDIR in the environment all goes below that
-# folder, as for a package. --remove leaves what an agent has: /var/lib/mta, /etc/mta and the user.
+# PREFIX is named. It installs the programs mta, mta_rehearse, mta_audit, mta_follow and mta_store, the tools beside
+# them, the manual pages, the completion for bash, the units for systemd, the documents and the samples. FILE is the
+# program mta, and the others are those beside it; else each is the proved one that `rt ci` leaves at
+# crates/NAME/out/NAME or, where that is absent, the unproved one that ./demo leaves at out/unproved/NAME. With DESTDIR
+# in the environment all goes below that folder, as for a package. --remove leaves what an agent has: /var/lib/mta,
+# /etc/mta and the user.
 set -eu
 top=$(cd "$(dirname "$0")/.." && pwd)
 remove=no program="" prefix=/usr/local
@@ -21,10 +22,12 @@ done
 case $prefix in /*) ;; *) echo "install.sh: PREFIX is a path from the root, and not $prefix" >&2; exit 1 ;; esac
 root=${DESTDIR:-}$prefix
 share=$prefix/share/mta
-units="mta@.service mta-call@.service mta-call@.timer mta-watch@.service mta-watch@.timer mta-failed@.service"
+units="mta@.service mta-call@.service mta-call@.timer mta-watch@.service mta-watch@.timer mta-failed@.service
+  mta-follow@.service mta-follow@.timer mta-standby@.service"
 # the tools as commands, each with its file
 tools="mta-log=mta-log mta-look=mta-look mta-apdu=mta-apdu mta-content=mta-content mta-ipm=mta-ipm check-mta=check-mta
-  mta-message=message.py mta-tables-check=tables-check.py mta-submit=submit.sh mta-watch=watch.sh"
+  mta-message=message.py mta-fetch=fetch.py mta-tables-check=tables-check.py mta-submit=submit.sh
+  mta-watch=watch.sh"
 
 if [ "$remove" = yes ]; then
   for tool in $tools; do rm -f "$root/bin/${tool%%=*}" "$root/share/man/man1/${tool%%=*}.1"; done
@@ -32,7 +35,7 @@ if [ "$remove" = yes ]; then
   for page in "$top"/man/*; do rm -f "$root/share/man/man${page##*.}/$(basename "$page")"; done
   for name in mta mta-look mta-log; do rm -f "$root/share/bash-completion/completions/$name"; done
   rm -rf "$root/share/mta" "$root/share/doc/mta"
-  rm -f "$root/bin/mta" "$root/bin/mta_rehearse" "$root/bin/mta_audit"
+  rm -f "$root/bin/mta" "$root/bin/mta_rehearse" "$root/bin/mta_audit" "$root/bin/mta_follow" "$root/bin/mta_store"
   rm -f "$root/lib/sysusers.d/mta.conf" "$root/lib/tmpfiles.d/mta.conf"
   echo "mta is taken out of $prefix; /var/lib/mta, /etc/mta and the user mta are left"
   exit 0
@@ -52,6 +55,8 @@ put_filled() {
 put bin/mta "$program" 755
 put bin/mta_rehearse "$rehearse" 755
 put bin/mta_audit "$audit" 755
+put bin/mta_follow "$follow" 755
+put bin/mta_store "$store" 755
 for tool in $tools; do put "share/mta/${tool#*=}" "$top/contrib/${tool#*=}" 755; done
 for file in "$top"/contrib/lib/*.py; do put "share/mta/lib/$(basename "$file")" "$file"; done
 put share/mta/mta-why "$top/contrib/systemd/mta-why" 755

@@ -1,5 +1,6 @@
 # Sourced by install.sh and by packaging/build.sh, with the top of the repository in `top` and the program mta, or
-# nothing, in `program`: sets `program`, `rehearse` and `audit` to the programs that are put in place.
+# nothing, in `program`: sets `program`, `rehearse`, `audit`, `follow` and `store` to the programs that are put in
+# place.
 
 # prints the path of the program $1
 found() {
@@ -12,5 +13,7 @@ found() {
 }
 rehearse=$(found mta_rehearse)
 audit=$(found mta_audit)
+follow=$(found mta_follow)
+store=$(found mta_store)
 [ -n "$program" ] || program=$(found mta)
 [ -x "$program" ] || { echo "$(basename "$0"): $program is no program" >&2; exit 1; }

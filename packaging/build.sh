@@ -1,8 +1,8 @@
 #!/usr/bin/env bash
 # Builds the package for Debian of programs that are built: packaging/build.sh [--program FILE] [FOLDER], into FOLDER
-# (out/package). FILE is the program mta, and mta_rehearse and mta_audit are those beside it; else each is the proved
-# one that `rt ci` leaves at crates/NAME/out/NAME or, where that is absent, the unproved one that ./demo leaves at
-# out/unproved/NAME. It needs dpkg-dev and debhelper.
+# (out/package). FILE is the program mta, and mta_rehearse, mta_audit, mta_follow and mta_store are those beside it;
+# else each is the proved one that `rt ci` leaves at crates/NAME/out/NAME or, where that is absent, the unproved one
+# that ./demo leaves at out/unproved/NAME. It needs dpkg-dev and debhelper.
 set -eu
 top=$(cd "$(dirname "$0")/.." && pwd)
 program=""
@@ -24,6 +24,8 @@ find "$source" -name __pycache__ -prune -exec rm -rf {} +
 cp "$program" "$source/mta"
 cp "$rehearse" "$source/mta_rehearse"
 cp "$audit" "$source/mta_audit"
+cp "$follow" "$source/mta_follow"
+cp "$store" "$source/mta_store"
 (cd "$source" && dpkg-buildpackage --build=binary --no-sign) >"$made/log" 2>&1 || { cat "$made/log" >&2; exit 1; }
 cp "$made"/mta_*.deb "$to/"
 echo "$to/$(basename "$made"/mta_*.deb), of $program"

@@ -110,8 +110,8 @@ def sixteen(mta, folder, seconds):
     bound = PER_STATION * len(ports)
     print(f"fifteen hostile stations beside it: a true peer's messages pass, and each is there once; the agent's "
           f"memory {'is not looked at' if is_watched(mta) else 'stays below its bound'}", flush=True)
-    print(f"figures: {silver.count} messages; a message takes {quick:.1f} ms alone, and {slow / quick:.1f} times as long "
-          f"beside them (wished: at most 2); memory grows by {most >> 20} MB of {bound >> 20}", flush=True)
+    print(f"figures: {silver.count} messages; a message takes {quick:.1f} ms alone, and {slow / quick:.1f} times as "
+          f"long beside them (wished: at most 2); memory grows by {most >> 20} MB of {bound >> 20}", flush=True)
     if most > bound and not is_watched(mta):
         raise Wrong("more memory than the manual says")
 

@@ -21,8 +21,8 @@ import apdu
 from agent import Agent, free_port, message
 from pairs import Wrong
 
-sys.path.insert(0, os.path.join(os.path.dirname(os.path.abspath(__file__)), ".."))
-from speed_tools import EPOCH, counted, number  # noqa: E402
+sys.path.insert(0, os.path.join(os.path.dirname(os.path.abspath(__file__)), "..", "speed"))
+from tools import EPOCH, counted, number  # noqa: E402
 
 TOTAL = 6_000_000  # octets of content at least, so that either spool grows past what is compacted
 LEAST_MEAN = 1_500  # octets of content of a message
