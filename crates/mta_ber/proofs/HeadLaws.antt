@@ -184,7 +184,7 @@ ident_again t octets r h = elim h.1 [
 definite_fits : (at n : ℕ) (r : List ℕ) → n ≤ length r → definite at n r ≡ Ok (Some n, r)
 definite_fits at n r le = rw (le-ltb (length r) n le) refl
 
-length_short : (at n : ℕ) (c : Bool) (r : List ℕ) → n < 128 → n ≤ length r → length_at at c (n ∷ r) ≡ Ok (Some n, r)
+pub length_short : (at n : ℕ) (c : Bool) (r : List ℕ) → n < 128 → n ≤ length r → length_at at c (n ∷ r) ≡ Ok (Some n, r)
 unfolding length_at
 length_short at n c r lt le = rw (lt-ltb n 128 lt) (definite_fits at n r le)
 
@@ -200,7 +200,7 @@ length_long at c ds r some few le =
     rw (a, b, d, k, e, take_at ds r (length ds) refl, drop_at ds r (length ds) refl)
     (definite_fits at (base 256 ds) r le)
 
-length_open : (at : ℕ) (r : List ℕ) → length_at at true (128 ∷ r) ≡ Ok (None, r)
+pub length_open : (at : ℕ) (r : List ℕ) → length_at at true (128 ∷ r) ≡ Ok (None, r)
 unfolding length_at
 length_open at r = refl
 

@@ -7,6 +7,7 @@ pub mod PutLaws
 pub mod Rows
 pub mod PartsLoop
 pub mod Segments
+pub mod Short
 pub mod Steps
 pub mod HeadLaws
 pub mod CanonLaws

@@ -41,7 +41,8 @@ unfoldable pub row : Extent → ℕ → ℕ → Extent
 row inside depth zero marked at bytes = fault at Truncated
 row inside depth (suc turns) marked at bytes =
     if at_end marked bytes then Ok (end_size marked)
-    else (element_size inside depth at bytes >>= λ n. row inside depth turns marked (at + n) (drop n bytes) >>= λ m. Ok
+    else (element_size inside depth at bytes >>= λ n. row inside depth turns marked (at + n)
+    (drop n bytes) >>= λ m. Ok
     (n + m))
 
 -- the elements in a row with `left` levels left for them, of 17: in the last of these each has a fault

@@ -39,11 +39,13 @@ ElementsAreReadAgain = (t : Tag) (content more : List ℕ) (at : ℕ) → IsTag 
 abbrev pub NumbersAreReadAgain : Type 0
 NumbersAreReadAgain = (t : Tag) (n low high : ℤ) (more : List ℕ) (at : ℕ) → IsTag t → FitsSigned w64 n
     → in_range low high n ≡ true
-    → (first at (canon_int t n ++ more) >>= with_rest (λ p. int_in p.at p.tag.constructed low high p.content)) ≡ beside
+    → (first at (canon_int t n ++ more) >>= with_rest
+    (λ p. int_in p.at p.tag.constructed low high p.content)) ≡ beside
     n more
 
 abbrev pub BitsAreReadAgain : Type 0
-BitsAreReadAgain = (t : Tag) (b : BitString) (more : List ℕ) (at : ℕ) → IsTag t → b.count ≤ 64 → b.word < 2 ^ b.count
+BitsAreReadAgain = (t : Tag) (b : BitString) (more : List ℕ) (at : ℕ) → IsTag t → b.count ≤ 64
+    → b.word < 2 ^ b.count
     → (first at (canon_bits t b ++ more) >>= with_rest bits_in) ≡ beside b more
 
 abbrev pub MomentsAreReadAgain : Type 0
@@ -61,7 +63,8 @@ OidsAreReadAgain = (t : Tag) (octets more : List ℕ) (at : ℕ) → IsTag t →
 
 -- an element that is written in an explicit tag is read again inside it, and it stands there alone
 abbrev pub ExplicitTagsAreReadAgain : Type 0
-ExplicitTagsAreReadAgain = (t u : Tag) (content more : List ℕ) (at : ℕ) → IsTag t → t.constructed ≡ true → IsTag u
+ExplicitTagsAreReadAgain = (t u : Tag) (content more : List ℕ) (at : ℕ) → IsTag t → t.constructed ≡ true
+    → IsTag u
     → length content + 14 < 2 ^ 64
     → (first at (element t (element u content) ++ more) >>= with_rest (explicit lent_of)) ≡ beside
     (record { tag = u; content = content; octets = element u content }) more

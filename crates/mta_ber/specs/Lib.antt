@@ -15,6 +15,7 @@ pub mod Canon
 pub mod Contents
 pub mod Spelling
 pub mod Segmented
+pub mod Short
 pub mod Laws
 pub mod Moments
 pub mod Components

@@ -10,7 +10,8 @@ use Rattle.mta_ber.specs.Head.{◌>>=◌, fault}
 use Rattle.mta_ber.specs.Element.{Part, part}
 
 -- from the state s, with a step at each part; there are no more parts than octets
-unfoldable pub parts_from : {S : Type 0} → (S → Part → Result S Fault) → ℕ → ℕ → ℕ → S → List ℕ → Result S Fault
+unfoldable pub parts_from : {S : Type 0} → (S → Part → Result S Fault) → ℕ → ℕ → ℕ → S → List ℕ
+    → Result S Fault
 parts_from step depth turns at s [] = Ok s
 parts_from step depth zero at s (b ∷ bs) = Ok s
 parts_from step depth (suc turns) at s (b ∷ bs) =

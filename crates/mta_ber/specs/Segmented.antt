@@ -27,7 +27,8 @@ pub record IsSegment {S : Type 0} (inside : Bool → Adds S) (first second depth
   pub is_string : inside tag.constructed last before content after
 
 -- segments one behind the other
-abbrev pub AreSegments : {S : Type 0} → (Bool → Adds S) → ℕ → ℕ → ℕ → Bool → S → List (List ℕ) → S → Type 0
+abbrev pub AreSegments : {S : Type 0} → (Bool → Adds S) → ℕ → ℕ → ℕ → Bool → S → List (List ℕ)
+    → S → Type 0
 AreSegments inside first second depth last before [] after = before ≡ after
 AreSegments {S} inside first second depth last before (e ∷ es) after =
     (between : S) × IsSegment inside first second depth (last && is_none es) before e between
@@ -52,7 +53,8 @@ SpellsOctets own depth constructed content octets =
     SpellsString AddsOctets 4 own (17 - depth) constructed true [] content octets
 
 -- the characters of a string of a class and a size
-pub record SpellsText (class : TextClass) (low high depth : ℕ) (constructed : Bool) (content t : List ℕ) : Type 0 where
+pub record SpellsText (class : TextClass) (low high depth : ℕ) (constructed : Bool)
+    (content t : List ℕ) : Type 0 where
   pub spelled : SpellsOctets (class_number class) depth constructed content t
   pub is_text : IsText class low high t
 

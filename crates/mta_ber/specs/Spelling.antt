@@ -124,5 +124,6 @@ pub record IsLentAt (at : ℕ) (p : Part) (bytes : List ℕ) : Type 0 where
   pub octets : p.octets ≡ take (length p.octets) bytes
 
 abbrev pub NoSpellingBeginsAnother : Type 0
-NoSpellingBeginsAnother = (depth : ℕ) (t t' : Tag) (c c' e e' x y : List ℕ) → Stands depth t c e → Stands depth t' c' e'
+NoSpellingBeginsAnother = (depth : ℕ) (t t' : Tag) (c c' e e' x y : List ℕ) → Stands depth t c e
+    → Stands depth t' c' e'
     → e ++ x ≡ e' ++ y → (e ≡ e') × (t ≡ t') × (c ≡ c')

@@ -2,6 +2,7 @@
 
 ghost use Rattle.std.specs.Prelude.{◌≡◌, ◌+◌, ◌-◌, ◌<◌, ◌≤◌, ◌^◌, length, IfOk, IfSome, IsTrue};
 ghost use Rattle.mta_ber.specs.Element.{at_end, content_size, element_size, run};
+ghost use Rattle.mta_ber.specs.Short.{HasSize, IsMarked};
 ghost use Rattle.mta_ber.specs.Seen.{head_view};
 
 use crate::fault::Fault;
@@ -39,10 +40,44 @@ fn content_of(head: Head, start: u32, depth: u8) -> Result<usize, Fault>
     }
 }
 
-/// How many octets the element at the front has.
+/// How many octets the primitive element at the front has, where its tag number is below 31 and its length, in one
+/// octet, within what is left.
+fn short_primitive(bytes: &[u8]) -> Option<usize>
+    ensures size { IfSome result (λ n. HasSize n bytes.now) }
+    ensures within { IfSome result (λ n. (0 < n) × (n ≤ length bytes.now)) }
+{
+    match bytes {
+        [first, count, rest @ ..] => {
+            if *first % 64 < 31 && *count < 128 && *count as usize <= rest.len() {
+                return Some(2 + *count as usize);
+            }
+            None
+        }
+        _ => None,
+    }
+}
+
+/// The content and what is behind it, where a constructed element of a tag number below 31 and an indefinite length
+/// stands at the front.
+fn short_indefinite(bytes: &[u8]) -> Option<&[u8]>
+    ensures row { IfSome result (λ rest. IsMarked rest.now bytes.now) }
+    ensures shorter { IfSome result (λ rest. length bytes.now ≡ length rest.now + 2) }
+{
+    match bytes {
+        [first, count, rest @ ..] => {
+            if *first / 32 % 2 == 1 && *first % 32 < 31 && *count == 128 {
+                return Some(rest);
+            }
+            None
+        }
+        _ => None,
+    }
+}
+
+/// How many octets the element at the front has, whatever its header.
 #[cycle(rows)]
 #[tactic(auto, unfolding(crate::specs::Element::element_size))]
-fn element_of(bytes: &[u8], at: u32, depth: u8) -> Result<usize, Fault>
+fn long_element_of(bytes: &[u8], at: u32, depth: u8) -> Result<usize, Fault>
     requires room { at + length bytes.now < 2 ^ 32 }
     requires level { 1 ≤ depth }
     ensures exact { result ≡ element_size (run (17 - depth)) depth at bytes.now }
@@ -52,6 +87,27 @@ fn element_of(bytes: &[u8], at: u32, depth: u8) -> Result<usize, Fault>
     let size = bytes.len() - head.body.len();
     let count = content_of(head, at + size as u32, depth)?;
     Ok(size + count)
+}
+
+/// How many octets the element at the front has. Most headers have two octets: those are looked at in one step.
+#[cycle(rows)]
+fn element_of(bytes: &[u8], at: u32, depth: u8) -> Result<usize, Fault>
+    requires room { at + length bytes.now < 2 ^ 32 }
+    requires level { 1 ≤ depth }
+    ensures exact { result ≡ element_size (run (17 - depth)) depth at bytes.now }
+    ensures some { IfOk result (λ n. (0 < n) × (n ≤ length bytes.now)) }
+{
+    if depth > 16 {
+        return long_element_of(bytes, at, depth);
+    }
+    if let Some(size) = short_primitive(bytes) {
+        return Ok(size);
+    }
+    if let Some(rest) = short_indefinite(bytes) {
+        let count = run_of(rest, at + 2, depth, true)?;
+        return Ok(2 + count);
+    }
+    long_element_of(bytes, at, depth)
 }
 
 /// How many octets the elements have that stand in a row inside the level `depth`, up to the end
