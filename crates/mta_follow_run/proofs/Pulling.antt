@@ -282,7 +282,8 @@ module _ {D L : Type 0} (disks : DiskView D) (links : LinkView L) (kept : List (
       pulls_none next new fed stop (next_broken octets t cut over same) =
           ended_still octets next new (Err stop) same t
           (ends_broken (subst (λ (n : ℕ). IsCut (due.Record n) octets) p.count_is cut) (over_on new over))
-      pulls_none next new fed stop (next_short octets t same) = ended_still octets next new (Err stop) same t ends_short
+      pulls_none next new fed stop (next_short octets f same) =
+          ended_still octets next new (Err stop) same f.talks ends_short
 
       pub pulls_done : (next : Shown D) (new : L) (fed : Feed)
           → NextOf disks links kept now link feed count next new fed (Ok false)

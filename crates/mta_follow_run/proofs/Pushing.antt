@@ -159,8 +159,8 @@ module _ {L : Type 0} (links : LinkView L) (bodies : List (List ℕ)) (begun : L
         ended rest (record_unit body) new (Err stop) (waited rest mid new put t)
         (subst (λ (n : ℕ). PushEnds links bodies count rest (record_unit body) begun new (Err (Stops.BadUnit n)))
         (sym p.feed_at) (push_bad body stands refl bad))
-    pushes_ended new now stop (one_put mid r put (waits_short rest t)) =
-        ended rest (record_unit body) new (Err stop) (waited rest mid new put t) push_short
+    pushes_ended new now stop (one_put mid r put (waits_short rest f)) =
+        ended rest (record_unit body) new (Err stop) (waited rest mid new put f.talks) push_short
     pushes_ended new now stop (one_unput piece front t failed) =
         ended [] piece new (Err stop)
         (talks_are links (kept_units count ++ []) (record_units (take count bodies) ++ piece) (kept_units count ++ [])

@@ -9,7 +9,7 @@ use Rattle.mta_follow_units.specs.declared.due.Due.{Due}
 use Rattle.mta_follow_units.specs.declared.due.Due.TheVariants as due
 use Rattle.mta_follow_units.specs.Feed.{Feed, passed}
 use Rattle.mta_follow_units.specs.Units.{IsBad, kept_unit}
-use Rattle.mta_follow_run.specs.Getting.{Gets, IsLost}
+use Rattle.mta_follow_run.specs.Getting.{Gets, HasFed}
 use Rattle.mta_follow_run.specs.Pulling.{NextOf, next_broken, next_short, next_taken}
 use Rattle.mta_follow_run.specs.Pushing.{Waits, waits_bad, waits_broken, waits_kept, waits_short}
 use Rattle.mta_follow_run.specs.Taking.{Takes}
@@ -51,9 +51,9 @@ module _ {L : Type 0} (links : LinkView L) (begun : L) (fed : Feed) (none : fed.
       subst (λ (n : ℕ). Waits links number begun fed link now (Err (Stops.BadUnit n))) (sym (is ∙ c.at))
       (waits_bad now.left c.talks bad)
 
-  pub waited_short : (number : ℕ) (link : L) (now : Feed) → IsLost links begun fed link
+  pub waited_short : (number : ℕ) (link : L) (now : Feed) → HasFed links begun fed link now
       → Waits links number begun fed link now (Err Stops.Memory)
-  waited_short number link now lost = waits_short lost.piece lost.talks
+  waited_short number link now kept = waits_short kept.piece kept.feeds
 
   -- ---- to the standby
 
@@ -64,9 +64,9 @@ module _ {L : Type 0} (links : LinkView L) (begun : L) (fed : Feed) (none : fed.
         let c = came (due.Record count) false link now g in
         let over = g.over refl in next_broken now.left c.talks over.0 over.1 refl
 
-    pub next_lost : (link : L) (now : Feed) → IsLost links begun fed link
+    pub next_lost : (link : L) (now : Feed) → HasFed links begun fed link now
         → NextOf disks links kept old begun fed count old link now (Err Stops.Memory)
-    next_lost link now lost = next_short lost.piece lost.talks refl
+    next_lost link now all = next_short all.piece all.feeds refl
 
     pub next_none : (link : L) (now : Feed) (new : Shown D) (stop : Stop) → HasCome link now
         → Takes disks kept count now.at now.left old new (Err stop)

@@ -21,10 +21,10 @@ pub data Moves {L : Type 0} (links : LinkView L) : Bool → L → Feed → L →
   ended : (old : L) (fed : Feed) (new : L) (now : Feed) → Feeds links [] old fed new now → IsOver links old new
       → Moves links false old fed new now
 
--- There was no memory for some octets that came.
-pub record IsLost {L : Type 0} (links : LinkView L) (old : L) (fed : Feed) (new : L) : Type 0 where
+-- All octets that came are fed.
+pub record HasFed {L : Type 0} (links : LinkView L) (old : L) (fed : Feed) (new : L) (now : Feed) : Type 0 where
   pub piece : List ℕ
-  pub talks : Talks links piece [] old new
+  pub feeds : Feeds links piece old fed new now
 
 -- Octets came until the unit that is due was told, or no more came.
 pub record Gets {L : Type 0} (links : LinkView L) (d : Due) (told : Bool) (old : L) (fed : Feed) (new : L) (now : Feed)

@@ -96,7 +96,8 @@ pub record IsNoStandby {D : Type 0} (disks : DiskView D) (old new : D) (stop : S
       → IsLeft disks f kept old new
   pub before : (f : List ℕ) (kept : List (List ℕ)) → disks.content old ≡ Some f → StandsFor f kept
       → StaysCopy disks f kept old new
-  pub other : (f : List ℕ) → disks.content old ≡ Some f → ((kept : List (List ℕ)) → StandsFor f kept → ⊥)
+  pub other : (f : List ℕ) → disks.content old ≡ Some f
+      → ((kept : List (List ℕ)) → StandsFor f kept → ⊥)
       → disks.content new ≡ Some f
 
 -- ---- the spool's disk

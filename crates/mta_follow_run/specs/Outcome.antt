@@ -19,7 +19,8 @@ pub data PullsOver {D L S : Type 0} (disks : DiskView D) (links : LinkView L) (s
     (kept : List (List ℕ)) (old new : Shown D) (station after : S) (count : ℕ) : Result Unit Stop → Type 0 where
   pull_no_link : new ≡ old → count ≡ 0 → HasNoLink stations station after
       → PullsOver disks links stations kept old new station after count (Err Stops.Broken)
-  pull_over : (begun link : L) (ended : Result Unit Stop) → (p : Pulls disks links kept old new begun link count ended)
+  pull_over : (begun link : L) (ended : Result Unit Stop)
+      → (p : Pulls disks links kept old new begun link count ended)
       → HasServed stations (record_units p.got ++ p.rest) p.put station after
       → PullsOver disks links stations kept old new station after count ended
 
@@ -45,7 +46,8 @@ pub record Handed (D L S : Type 0) : Type 1 where
   pub station : S
   pub station_after : S
 
-abbrev pub handed : {D L S : Type 0} → List (List ℕ) → DiskView D → LinkView L → StationView S → D → D → S → S
+abbrev pub handed : {D L S : Type 0} → List (List ℕ) → DiskView D → LinkView L → StationView S → D → D
+    → S → S
     → Handed D L S
 handed words disks links stations disk disk_after station station_after = record {
   words = words;

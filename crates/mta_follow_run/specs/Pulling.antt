@@ -13,6 +13,7 @@ use Rattle.mta_follow_units.specs.Feed.{Feed}
 use Rattle.mta_follow_units.specs.Units.{IsBad, IsCut, done_unit, kept_unit, record_unit, record_units}
 use Rattle.mta_follow_run.specs.Copies.{AreKept, Follows, IsUpTo}
 use Rattle.mta_follow_run.specs.Fronts.{IsFront}
+use Rattle.mta_follow_run.specs.Getting.{Feeds}
 use Rattle.mta_follow_run.specs.Taking.{IsNoRecord, IsRecord, MayKeep, StandsBehind, Takes}
 use Rattle.mta_follow_run.specs.Talks.{IsOver, LinkFailed, Talks, kept_units}
 use Rattle.mta_follow_run.specs.declared.pull.Round.{Round}
@@ -45,13 +46,14 @@ pub data NextOf {D L : Type 0} (disks : DiskView D) (links : LinkView L) (kept :
   next_broken : (octets : List ℕ) → Talks links octets [] begun link → IsCut (due.Record count) octets
       → IsOver links begun link → new ≡ old
       → NextOf disks links kept old begun fed count new link now (Err Stops.Broken)
-  next_short : (octets : List ℕ) → Talks links octets [] begun link → new ≡ old
+  next_short : (octets : List ℕ) → Feeds links octets begun fed link now → new ≡ old
       → NextOf disks links kept old begun fed count new link now (Err Stops.Memory)
 
 -- What saying that the record of this number is kept leaves: it was put, or a front of it, and the link failed.
 pub data Says {L : Type 0} (links : LinkView L) (number : ℕ) (old new : L) : Round → Type 0 where
   said : Talks links [] (kept_unit number) old new → Says links number old new RoundCases.Kept
-  unsaid : (piece : List ℕ) → IsFront piece (kept_unit number) → Talks links [] piece old new → LinkFailed links old new
+  unsaid : (piece : List ℕ) → IsFront piece (kept_unit number) → Talks links [] piece old new
+      → LinkFailed links old new
       → Says links number old new (RoundCases.Ended (record { kept = number; ended = Err Stops.Broken }))
 
 -- What comes of a round behind so many records.
@@ -72,7 +74,8 @@ pub data Rounds {D L : Type 0} (disks : DiskView D) (links : LinkView L) (kept :
 -- so many records were told kept, or all but the last, of whose unit a front was taken
 pub data IsSaid (count : ℕ) (put : List ℕ) : Type 0 where
   said_all : put ≡ kept_units count → IsSaid count put
-  said_cut : (piece : List ℕ) → 0 < count → put ≡ kept_units (count - 1) ++ piece → IsFront piece (kept_unit count)
+  said_cut : (piece : List ℕ) → 0 < count → put ≡ kept_units (count - 1) ++ piece
+      → IsFront piece (kept_unit count)
       → IsSaid count put
 
 -- Why a standby's side of a session ended behind these records, with what came behind them.
@@ -85,7 +88,8 @@ pub data PullEnds {D L : Type 0} (disks : DiskView D) (links : LinkView L) (kept
   ends_more : rest ≡ done_unit (length got) → length got < length kept
       → PullEnds disks links kept got rest put old new size begun link (Err (Stops.Diverged (length got)))
   -- the next one is not the one that is kept
-  ends_differs : (body own : List ℕ) → rest ≡ record_unit body → StandsBehind (length got) own kept → own ≢ body
+  ends_differs : (body own : List ℕ) → rest ≡ record_unit body → StandsBehind (length got) own kept
+      → own ≢ body
       → PullEnds disks links kept got rest put old new size begun link (Err (Stops.Diverged (length got + 1)))
   -- the next unit is none that was due, or that of a record which is none
   ends_bad : IsBad (due.Record (length got)) rest
@@ -101,7 +105,8 @@ pub data PullEnds {D L : Type 0} (disks : DiskView D) (links : LinkView L) (kept
   ends_unsaid : rest ≡ [] → LinkFailed links begun link
       → PullEnds disks links kept got rest put old new size begun link (Err Stops.Broken)
   -- the next one does not fit
-  ends_full : (body : List ℕ) (need : ℕ) → rest ≡ record_unit body → length kept ≤ length got → IsRecord body
+  ends_full : (body : List ℕ) (need : ℕ) → rest ≡ record_unit body → length kept ≤ length got
+      → IsRecord body
       → need ≡ need_of body → journal_limit < size + need
       → PullEnds disks links kept got rest put old new size begun link (Err (Stops.Full size need))
   -- the disk failed while the next one was appended
@@ -121,7 +126,8 @@ pub record Pulls {D L : Type 0} (disks : DiskView D) (links : LinkView L) (kept 
   pub talks : Talks links (record_units got ++ rest) put begun link
   pub said : IsSaid (length got) put
   -- while the disk does not fail the journal holds it
-  pub holds : (ended ≡ Err Stops.Disk → ⊥) → (bodies : List (List ℕ)) × IsUpTo kept got bodies × Holds disks new bodies
+  pub holds : (ended ≡ Err Stops.Disk → ⊥) → (bodies : List (List ℕ)) × IsUpTo kept got bodies
+      × Holds disks new bodies
   -- a crash leaves what was kept, and some of what came
   pub told : StaysTold disks old.disk new.disk
   pub later : disks.faults old.disk ≤ disks.faults new.disk

@@ -6,6 +6,7 @@ use Rattle.mta_follow_units.specs.declared.due.Due.TheVariants as due
 use Rattle.mta_follow_units.specs.Feed.{Feed}
 use Rattle.mta_follow_units.specs.Units.{IsBad, IsCut, done_unit, kept_unit, record_unit, record_units}
 use Rattle.mta_follow_run.specs.Fronts.{IsFront}
+use Rattle.mta_follow_run.specs.Getting.{Feeds}
 use Rattle.mta_follow_run.specs.Taking.{StandsBehind}
 use Rattle.mta_follow_run.specs.Talks.{IsOver, LinkFailed, Talks, kept_units}
 use Rattle.mta_follow_run.specs.declared.stop.Stop.{Stop}
@@ -22,13 +23,16 @@ pub record IsPushing {L : Type 0} (links : LinkView L) (bodies : List (List ℕ)
 -- What waiting for the word that a record is kept leaves: it came, which is taken; or why it did not, with what came.
 pub data Waits {L : Type 0} (links : LinkView L) (number : ℕ) (old : L) (fed : Feed) (new : L) (now : Feed)
     : Result Unit Stop → Type 0 where
-  waits_kept : Talks links (kept_unit number) [] old new → now.at ≡ fed.at + length (kept_unit number) → now.left ≡ []
+  waits_kept : Talks links (kept_unit number) [] old new → now.at ≡ fed.at + length (kept_unit number)
+      → now.left ≡ []
       → Waits links number old fed new now (Ok tt)
-  waits_broken : (rest : List ℕ) → Talks links rest [] old new → IsCut (due.Kept number) rest → IsOver links old new
+  waits_broken : (rest : List ℕ) → Talks links rest [] old new → IsCut (due.Kept number) rest
+      → IsOver links old new
       → Waits links number old fed new now (Err Stops.Broken)
   waits_bad : (rest : List ℕ) → Talks links rest [] old new → IsBad (due.Kept number) rest
       → Waits links number old fed new now (Err (Stops.BadUnit fed.at))
-  waits_short : (rest : List ℕ) → Talks links rest [] old new → Waits links number old fed new now (Err Stops.Memory)
+  waits_short : (rest : List ℕ) → Feeds links rest old fed new now
+      → Waits links number old fed new now (Err Stops.Memory)
 
 -- What pushing one record leaves: it was put, and what waiting leaves; or a front of it was put, and the link failed.
 pub data PushesOne {L : Type 0} (links : LinkView L) (number : ℕ) (body : List ℕ) (old : L) (fed : Feed) (new : L)
@@ -47,7 +51,8 @@ pub data PushEnds {L : Type 0} (links : LinkView L) (bodies : List (List ℕ)) (
   -- the link failed while the next one was put, or that these were all
   push_unput : (body : List ℕ) → StandsBehind count body bodies → rest ≡ [] → IsFront piece (record_unit body)
       → LinkFailed links begun link → PushEnds links bodies count rest piece begun link (Err Stops.Broken)
-  push_undone : count ≡ length bodies → rest ≡ [] → IsFront piece (done_unit count) → LinkFailed links begun link
+  push_undone : count ≡ length bodies → rest ≡ [] → IsFront piece (done_unit count)
+      → LinkFailed links begun link
       → PushEnds links bodies count rest piece begun link (Err Stops.Broken)
   -- the next one was put, and not told kept: no more came, or another unit than that
   push_broken : (body : List ℕ) → StandsBehind count body bodies → piece ≡ record_unit body
@@ -59,7 +64,8 @@ pub data PushEnds {L : Type 0} (links : LinkView L) (bodies : List (List ℕ)) (
   push_short : PushEnds links bodies count rest piece begun link (Err Stops.Memory)
 
 -- What the spool's side of a session leaves of the link.
-pub record Pushes {L : Type 0} (links : LinkView L) (bodies : List (List ℕ)) (begun link : L) (result : Result ℕ Stop)
+pub record Pushes {L : Type 0} (links : LinkView L) (bodies : List (List ℕ)) (begun link : L)
+    (result : Result ℕ Stop)
     : Type 0 where
   pub count : ℕ
   pub rest : List ℕ

@@ -30,7 +30,8 @@ pub data HasRun {D L S : Type 0} (h : Handed D L S) (out : Output) (status : ℕ
       → HasPrinted (line_of Stops.Usage) 1 out status → HasRun h out status
   run_pulled : (port count : ℕ) (ended : Result Unit Stop) → Says h.words (Pull port) → Follow h count ended
       → HasPrinted (kept_text count ended) (status_by ended) out status → HasRun h out status
-  run_pushed : (host : List ℕ) (port : ℕ) (result : Result ℕ Stop) → Says h.words (AskPush host port) → Push h result
+  run_pushed : (host : List ℕ) (port : ℕ) (result : Result ℕ Stop) → Says h.words (AskPush host port)
+      → Push h result
       → HasPrinted (pushed_text result) (status_by result) out status → HasRun h out status
 
 -- ---- of `pull`
@@ -48,8 +49,10 @@ pub record StaysKept {D L S : Type 0} (h : Handed D L S) (octets put : List ℕ)
 
 -- What a crash leaves: where the first sync of the call failed, and no link was asked for, what one before might have
 -- left; since that sync, over which the disk was `first`, images with P.
-pub data Leaves {D : Type 0} (disks : DiskView D) (P : List ℕ → Type 0) (octets : List ℕ) (old new : D) : Type 0 where
-  leaves_unsynced : octets ≡ [] → ((g : List ℕ) → disks.left_since new (disks.moment old) g → disks.may_leave old g)
+pub data Leaves {D : Type 0} (disks : DiskView D) (P : List ℕ → Type 0) (octets : List ℕ)
+    (old new : D) : Type 0 where
+  leaves_unsynced : octets ≡ [] →
+      ((g : List ℕ) → disks.left_since new (disks.moment old) g → disks.may_leave old g)
       → Leaves disks P octets old new
   leaves_synced : (first : D) → IsSynced disks old first → disks.moment first ≤ disks.moment new
       → ((g : List ℕ) → disks.left_since new (disks.moment first) g → P g) → Leaves disks P octets old new
@@ -117,7 +120,8 @@ pub record TellsPull {D L S : Type 0} (h : Handed D L S) (out : Output) (status 
   pub all : status ≡ 0 → HoldsAll h out
   pub early : status ≡ 15 → EndsEarly h
   -- a disk that is no journal is as it was
-  pub other : (f : List ℕ) → h.disks.content h.disk ≡ Some f → ((kept : List (List ℕ)) → StandsFor f kept → ⊥)
+  pub other : (f : List ℕ) → h.disks.content h.disk ≡ Some f
+      → ((kept : List (List ℕ)) → StandsFor f kept → ⊥)
       → h.disks.content h.disk_after ≡ Some f
 
 -- ---- of `push`
@@ -153,7 +157,8 @@ pub record DoesNotFit {D L S : Type 0} (h : Handed D L S) (size : ℕ) : Type 0 
 -- The record that came behind so many is another than the one kept, or these were all by their number, and more are
 -- kept.
 pub data Differs (kept got : List (List ℕ)) (rest : List ℕ) : Type 0 where
-  differs_there : (body own : List ℕ) → rest ≡ record_unit body → StandsBehind (length got) own kept → own ≢ body
+  differs_there : (body own : List ℕ) → rest ≡ record_unit body → StandsBehind (length got) own kept
+      → own ≢ body
       → Differs kept got rest
   differs_behind : rest ≡ done_unit (length got) → length got < length kept → Differs kept got rest
 
@@ -192,7 +197,8 @@ pub record HasEnded {D L S : Type 0} (h : Handed D L S) : Type 0 where
 pub data Tells {D L S : Type 0} (h : Handed D L S) (out : Output) : ℕ → Type 0 where
   tells_all : Tells h out 0
   tells_usage : AskNothing h.words → Tells h out 1
-  tells_no_journal : (at port : ℕ) → Says h.words (Pull port) → WhereTold h.disks h.disk (λ f. IsNoJournalAt f at)
+  tells_no_journal : (at port : ℕ) → Says h.words (Pull port)
+      → WhereTold h.disks h.disk (λ f. IsNoJournalAt f at)
       → Tells h out 3
   tells_no_spool : (at : ℕ) (host : List ℕ) (port : ℕ) → Says h.words (AskPush host port)
       → WhereTold h.disks h.disk (λ f. NoSpoolAt f at) → Tells h out 3

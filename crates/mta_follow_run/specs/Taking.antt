@@ -43,9 +43,11 @@ pub data Adds {D : Type 0} (disks : DiskView D) (at : ℕ) (body : List ℕ) (ol
   added : IsRecord body → (r : Result Unit AppendFault) → r ≡ Ok tt → Appends disks body old new r
       → Adds disks at body old new (Ok tt)
   no_step : IsNoRecord body → new ≡ old → Adds disks at body old new (Err (Stops.BadUnit at))
-  no_room : (size need : ℕ) → IsRecord body → size ≡ old.size → need ≡ need_of body → journal_limit < size + need
+  no_room : (size need : ℕ) → IsRecord body → size ≡ old.size → need ≡ need_of body
+      → journal_limit < size + need
       → new ≡ old → Adds disks at body old new (Err (Stops.Full size need))
-  add_failed : IsRecord body → (r : Result Unit AppendFault) → r ≡ Err Faults.Disk → Appends disks body old new r
+  add_failed : IsRecord body → (r : Result Unit AppendFault) → r ≡ Err Faults.Disk
+      → Appends disks body old new r
       → Adds disks at body old new (Err Stops.Disk)
   add_short : new ≡ old → Adds disks at body old new (Err Stops.Memory)
 
@@ -66,7 +68,8 @@ pub data IsEnded (kept count : ℕ) : Result Unit Stop → Type 0 where
 
 -- a record that may be next behind so many is short enough for the journal
 abbrev pub MayKeep : {D : Type 0} → Shown D → ℕ → Type 0
-MayKeep journal count = (body : List ℕ) → length body ≤ most count → IsShortEnough journal.first journal.size body
+MayKeep journal count = (body : List ℕ) → length body ≤ most count
+    → IsShortEnough journal.first journal.size body
 
 -- What comes of the unit of these octets, which stands at this offset behind so many records: it is answered whether it
 -- is one more.

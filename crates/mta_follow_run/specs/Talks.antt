@@ -18,7 +18,8 @@ pub record Talks {L : Type 0} (links : LinkView L) (got put : List ℕ) (old new
   pub later : links.faults old ≤ links.faults new
 
 -- what putting octets leaves: all are taken; or a front of them, and the link has failed
-pub data HasPut {L : Type 0} (links : LinkView L) (octets : List ℕ) (old new : L) : Result Unit Failed → Type 0 where
+pub data HasPut {L : Type 0} (links : LinkView L) (octets : List ℕ) (old new : L) : Result Unit Failed
+    → Type 0 where
   put_whole : Talks links [] octets old new → HasPut links octets old new (Ok tt)
   put_front : (piece : List ℕ) (e : Failed) → IsFront piece octets → Talks links [] piece old new
       → Rose (links.faults old) (links.faults new) → HasPut links octets old new (Err e)
@@ -50,7 +51,8 @@ pub record HasSession (got put : List ℕ) (f g : Served) : Type 0 where
 
 -- so it did, where the station tells it
 abbrev pub HasServed : {S : Type 0} → StationView S → (got put : List ℕ) → S → S → Type 0
-HasServed stations got put old new = (f g : Served) → stations.served old ≡ Some f → stations.served new ≡ Some g
+HasServed stations got put old new = (f g : Served) → stations.served old ≡ Some f
+    → stations.served new ≡ Some g
     → HasSession got put f g
 
 -- a station gave no link: it failed, or it has none

@@ -23,9 +23,11 @@ pub data Asked : Type 0 where
   Pull : (port : ℕ) → Asked
 
 pub data Says (words : List (List ℕ)) : Asked → Type 0 where
-  says_push : (host text : List ℕ) (port : ℕ) → words ≡ codes "push" ∷ host ∷ text ∷ [] → IsHost host → IsPort text port
+  says_push : (host text : List ℕ) (port : ℕ) → words ≡ codes "push" ∷ host ∷ text ∷ [] → IsHost host
+      → IsPort text port
       → Says words (Push host port)
-  says_pull : (text : List ℕ) (port : ℕ) → words ≡ codes "pull" ∷ text ∷ [] → IsPort text port → Says words (Pull port)
+  says_pull : (text : List ℕ) (port : ℕ) → words ≡ codes "pull" ∷ text ∷ [] → IsPort text port
+      → Says words (Pull port)
 
 -- they are other words
 abbrev pub AskNothing : List (List ℕ) → Type 0

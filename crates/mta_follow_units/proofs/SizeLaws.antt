@@ -36,9 +36,10 @@ grows (a ∷ b ∷ c ∷ d ∷ []) more = least (a ∷ b ∷ c ∷ d ∷ more)
 grows (a ∷ b ∷ c ∷ d ∷ e ∷ octets) more = omega arith
 
 -- a piece that is wanted is fed
-pub feeds : (at : ℕ) (left piece now : List ℕ) → IsFeed at left → length piece ≤ wanted left → now ≡ left ++ piece
-    → at + length left + length piece < 2 ^ 64 → IsOctets (left ++ piece) → IsFeed at now
-feeds at left piece now feed fits now_is room bytes =
+pub feeds : (at : ℕ) (left piece now : List ℕ) (spare capacity capacity' : ℕ) → IsFeed at left spare capacity
+    → length piece ≤ wanted left → now ≡ left ++ piece → at + length left + length piece < 2 ^ 64
+    → IsOctets (left ++ piece) → length now ≤ capacity' → IsFeed at now 0 capacity'
+feeds at left piece now spare capacity capacity' feed fits now_is room bytes memory =
     let size : length now ≡ length left + length piece = ap length now_is ∙ length-append left piece in
     let more : unit_size left ≤ unit_size now =
     subst (λ l. unit_size left ≤ unit_size l) (sym now_is) (grows left piece)
@@ -47,6 +48,7 @@ feeds at left piece now feed fits now_is room bytes =
       room = omega (arith, size, room);
       within = omega (arith, size, more, fits, feed.within);
       bytes = subst IsOctets (sym now_is) bytes;
+      memory = omega (arith, memory);
     }
 
 -- octets behind octets

@@ -3,21 +3,27 @@ use Rattle.std.specs.Prelude.{◌≡◌, ℕ, ◌+◌, ◌-◌, ◌^◌, ◌<◌
 use Rattle.std.specs.Int.{w32, from_be_bytes}
 use Rattle.mta_ber.specs.Octet.{IsOctets}
 
--- how many octets stand in front of the unit that is due, and what was fed of it
+-- how many octets stand in front of the unit that is due, what was fed of it, and for how many octets more memory is
+-- there
 pub record Feed : Type 0 where
   pub at : ℕ
   pub left : List ℕ
+  pub spare : ℕ
 
 abbrev pub no_feed : Feed
-no_feed = record { at = 0; left = [] }
+no_feed = record { at = 0; left = []; spare = 0 }
+
+-- the memory for so many octets is there
+abbrev pub with_spare : Feed → ℕ → Feed
+with_spare f count = record f { spare = count }
 
 -- a piece more
 abbrev pub fed : Feed → List ℕ → Feed
-fed f piece = record { at = f.at; left = f.left ++ piece }
+fed f piece = record { at = f.at; left = f.left ++ piece; spare = 0 }
 
 -- all that was fed is taken
 abbrev pub passed : Feed → Feed
-passed f = record { at = f.at + length f.left; left = [] }
+passed f = record { at = f.at + length f.left; left = []; spare = 0 }
 
 -- how many octets the unit has that begins with these, as far as they tell: its head, and behind that its body
 unfoldable pub unit_size : List ℕ → ℕ
@@ -32,8 +38,10 @@ unit_size (a ∷ b ∷ c ∷ d ∷ e ∷ octets) = 5 + from_be_bytes w32 (a ∷ 
 abbrev pub wanted : List ℕ → ℕ
 wanted octets = unit_size octets - length octets
 
--- what a value of the stream's type holds: no more than the unit that is due, of a stream of less than 2^64 octets
-pub record IsFeed (at : ℕ) (left : List ℕ) : Type 0 where
-  pub room : at + length left < 2 ^ 64
+-- what a value of the stream's type holds: no more than the unit that is due, of a stream of less than 2^64 octets, in
+-- memory for so many more
+pub record IsFeed (at : ℕ) (left : List ℕ) (spare capacity : ℕ) : Type 0 where
+  pub room : at + length left + spare < 2 ^ 64
   pub within : length left ≤ unit_size left
   pub bytes : IsOctets left
+  pub memory : length left + spare ≤ capacity

@@ -37,7 +37,8 @@ pub record LooksAreExact : Type 0 where
 
 -- what is seen once it is no longer cut off is seen whatever follows
 abbrev pub LooksDoNotChange : Type 0
-LooksDoNotChange = (d : Due) (front more : List ℕ) → look d front ≢ Cut → look d (front ++ more) ≡ look d front
+LooksDoNotChange = (d : Due) (front more : List ℕ) → look d front ≢ Cut
+    → look d (front ++ more) ≡ look d front
 
 -- a unit that is put is read again
 pub record UnitsAreReadAgain : Type 0 where

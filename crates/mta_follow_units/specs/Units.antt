@@ -87,7 +87,8 @@ number_due (due.Kept number) = number
 -- is judged by its octet; or by its number, which is judged when it is whole.
 pub data IsBad (d : Due) (octets : List ℕ) : Type 0 where
   bad_size : 4 ≤ length octets → (MayHaveSize d (size_in octets) → ⊥) → IsBad d octets
-  bad_kind : 5 ≤ length octets → MayHaveSize d (size_in octets) → (MayHaveKind d (size_in octets) (kind_in octets) → ⊥)
+  bad_kind : 5 ≤ length octets → MayHaveSize d (size_in octets)
+      → (MayHaveKind d (size_in octets) (kind_in octets) → ⊥)
       → IsBad d octets
   bad_number : 5 + size_in octets ≤ length octets → MayHaveSize d (size_in octets)
       → MayHaveKind d (size_in octets) (kind_in octets) → (kind_in octets ≡ record_kind → ⊥)

@@ -23,8 +23,10 @@ use Rattle.mta_session_laws.specs.Whole.{AreCalls}
 use Rattle.mta_session_laws.specs.Writing.{TellsWritable, PutsMayBeWritten}
 use Rattle.mta_session_laws.specs.Order.{awaits, is_putting, is_reading, ActionsAreAwaited}
 use Rattle.mta_session_run.specs.Running.{HasPut, HasGot, HasDone, IsRead, units_of, IsCalled, HasTold, PutFor, is_cut}
-use Rattle.mta_session_run.specs.Running.{Runs, Not_yet, Goes_on, IsRun, HasRun, HasStopped, IsShort, IsUndone}
-use Rattle.mta_session_run.specs.Running.{Not_done, Not_told, Not_put, AllDone, Exchanged, action_of, RunsAreCalls}
+use Rattle.mta_session_run.specs.Running.{Runs, Not_yet, Goes_on, IsRun, HasRun, HasStopped, IsShort, IsUndone, HasKept}
+use Rattle.mta_session_run.specs.Running.{Not_done, Not_told, Not_put, Not_read, AllDone, Exchanged, action_of}
+use Rattle.mta_session_run.specs.Running.{RunsAreCalls}
+use Rattle.mta_session_run.proofs.Talks.{carried_front, leads_map}
 use Rattle.mta_session_run.specs.declared.came.Came.{Came}
 use Rattle.mta_session_run.specs.declared.link.Done.{Done}
 use Rattle.mta_session_run.specs.declared.link.Done.TheVariants as done
@@ -193,6 +195,14 @@ pub put_undone : {L : Type 0} → (model : LinkView L) (a : Action) (u : AnyUnit
     → a ≡ action.Put u → model.talk new ≡ model.talk old → IsUndone model a old fed new
 put_undone model a u old fed new i same = Not_put u i same
 
+-- none was read
+pub read_undone : {L : Type 0} → (model : LinkView L) (a : Action) (old : L) (fed : Feed) (new : L) (feed : Feed)
+    → a ≡ action.Read → ((since : Option Talk) (us : List AnyUnit) (octets : List ℕ)
+    → Leads (Carried us octets fed) since (model.talk old) → Leads (Carried us octets feed) since (model.talk new))
+    → IsUndone model a old fed new
+read_undone model a old fed new feed i kept =
+    Not_read i (λ since us octets l. leads_map (λ f g c. carried_front us octets feed f g c) (kept since us octets l))
+
 -- Calls ------------------------------------------------------------------------------------
 
 runs_later : (failed gone : Type 0) (t : State) (a : Action) (xs : List Turn) (us : List AnyUnit) (os : List ℕ)
@@ -254,6 +264,14 @@ not_yet model t a old fed = record {
   done = (refl, refl);
 }
 
+-- units behind units, and octets behind octets
+carried_both : (since : Option Talk) (us vs ws : List AnyUnit) (os ps qs : List ℕ) (feed : Feed) (now : Option Talk)
+    → Leads (Carried ((us ++ vs) ++ ws) ((os ++ ps) ++ qs) feed) since now
+    → Leads (Carried (us ++ (vs ++ ws)) (os ++ (ps ++ qs)) feed) since now
+carried_both since us vs ws os ps qs feed now c =
+    subst (λ (x : List AnyUnit). Leads (Carried x (os ++ (ps ++ qs)) feed) since now) (append_assoc us vs ws)
+    (subst (λ (x : List ℕ). Leads (Carried ((us ++ vs) ++ ws) x feed) since now) (append_assoc os ps qs) c)
+
 pub one_more : {L : Type 0} → (model : LinkView L) (t : State) (a : Action) (old : L) (fed : Feed) (u : State)
     (b : Action) (mid : L) (half : Feed) (e : Event) (c : Action) (v : State) (new : L) (feed : Feed) →
     IsRun model t a old fed u b mid half → HasDone model b mid half e new feed
@@ -270,12 +288,8 @@ one_more model t a old fed u b mid half e c v new feed r h turn l m =
           (runs_later _ _ t a r.turns r.units r.octets u b
           (λ y. rose_after (model.faults old) (model.faults mid) (model.faults new) m y) r.runs)
           turn k.1 (λ i. rose_before (model.faults old) (model.faults mid) (model.faults new) l (k.2 i));
-      carried = λ since us os y.
-          subst (λ (x : List AnyUnit). Leads (Carried x (os ++ (r.octets ++ k.0)) feed) since (model.talk new))
-          (append_assoc us r.units (units_of e))
-          (subst (λ (x : List ℕ). Leads (Carried ((us ++ r.units) ++ units_of e) x feed) since (model.talk new))
-          (append_assoc os r.octets k.0)
-          (k.3 since (us ++ r.units) (os ++ r.octets) (r.carried since us os y)));
+      carried = λ since us os y. carried_both since us r.units (units_of e) os r.octets k.0 feed (model.talk new)
+          (k.3 since (us ++ r.units) (os ++ r.octets) (r.carried since us os y));
       done =
           done_more model r.turns a b old fed mid half (record { before = u; event = e; action = c; after = v })
           new feed (runs_last _ t a r.turns r.units r.octets u b r.runs) r.done h m;
@@ -377,6 +391,33 @@ pub stopped_still : {L : Type 0} → (model : LinkView L) (t : State) (a : Actio
 stopped_still model t a old fed u b mid half e v new feed same r m h k =
     subst (λ (z : State). HasStopped model t a old fed z new) (sym same)
     (stopped model t a old fed u b mid half new r m (Not_told e feed h k))
+
+-- What the link gave then -------------------------------------------------------------------
+
+-- the calls so far, and nothing of their last action
+pub kept_there : {L : Type 0} → (model : LinkView L) (t : State) (a : Action) (old : L) (fed : Feed) (u : State)
+    (b : Action) (mid : L) (half : Feed) (new : L) (feed : Feed) → IsRun model t a old fed u b mid half
+    → ((since : Option Talk) (us : List AnyUnit) (octets : List ℕ)
+    → Leads (Carried us octets half) since (model.talk mid) → Leads (Carried us octets feed) since (model.talk new))
+    → HasKept model old fed new feed
+kept_there model t a old fed u b mid half new feed r kept = record {
+  units = r.units;
+  octets = r.octets;
+  carried = λ since us os y. kept since (us ++ r.units) (os ++ r.octets) (r.carried since us os y);
+}
+
+-- and an event that the session was not told
+pub kept_still : {L : Type 0} → (model : LinkView L) (t : State) (a : Action) (old : L) (fed : Feed) (u : State)
+    (b : Action) (mid : L) (half : Feed) (e : Event) (new : L) (feed : Feed) → IsRun model t a old fed u b mid half
+    → HasDone model b mid half e new feed → HasKept model old fed new feed
+kept_still model t a old fed u b mid half e new feed r h =
+    let k = done_carries model b mid half e new feed h in
+    record {
+      units = r.units ++ units_of e;
+      octets = r.octets ++ k.0;
+      carried = λ since us os y. carried_both since us r.units (units_of e) os r.octets k.0 feed (model.talk new)
+          (k.3 since (us ++ r.units) (os ++ r.octets) (r.carried since us os y));
+    }
 
 -- whatever was answered
 pub on_err : {A E : Type 0} (X : Type 0) (r : Result A E) → X → OnErr r X

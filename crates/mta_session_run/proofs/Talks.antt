@@ -10,7 +10,7 @@ use Rattle.mta_links.specs.Links.{LinkView, Leads, Talk, Gets, Puts}
 use Rattle.mta_units.specs.declared.unit.Unit.{Unit as AnyUnit}
 use Rattle.mta_units.specs.declared.next.Next.{Next}
 use Rattle.mta_units.specs.declared.next.Next.TheVariants as next
-use Rattle.mta_units.specs.Feed.{Feed, Goes, answered, after, seen, fed}
+use Rattle.mta_units.specs.Feed.{Feed, Goes, answered, after, seen, fed, with_spare}
 use Rattle.mta_units.specs.Look.{Look, Nothing, Fails, Reads}
 use Rattle.mta_units.specs.Spelling.{IsCutOff}
 use Rattle.mta_units.specs.Reading.{HasRead, and_next}
@@ -76,17 +76,21 @@ carried_fed us octets old new n into piece f g h e reads c t = record {
   put = t.put ∙ c.put;
 }
 
--- octets were got and are lost
-pub fronted_lost : (us : List AnyUnit) (octets : List ℕ) (n : ℕ) (into : List ℕ) (f g h : Talk) → Fronted us octets f g
-    → Gets n into g h → Fronted us octets f h
-fronted_lost us octets n into f g h c t = record {
-  front = c.front;
-  rest = c.rest ++ take n g.left;
-  spelled = c.spelled;
-  got = t.got ∙ ap (λ (x : List ℕ). x ++ take n g.left) c.got ∙ append_assoc f.got (c.front ++ c.rest) (take n g.left)
-      ∙ ap (λ (x : List ℕ). f.got ++ x) (append_assoc c.front c.rest (take n g.left));
-  put = t.put ∙ c.put;
-}
+-- memory is taken for more
+pub carried_room : (us : List AnyUnit) (octets : List ℕ) (old new : Feed) (count : ℕ) (f g : Talk)
+    → new ≡ with_spare old count → Carried us octets old f g → Carried us octets new f g
+carried_room us octets old new count f g e c =
+    subst (λ (x : Feed). Carried us octets x f g) (sym e) (record {
+      stream = c.stream;
+      read = record {
+        front = c.read.front;
+        spelled = c.read.spelled;
+        stream_is = c.read.stream_is;
+        at_is = c.read.at_is;
+      };
+      got = c.got;
+      put = c.put;
+    })
 
 -- nothing was got
 pub carried_none : (us : List AnyUnit) (octets : List ℕ) (feed : Feed) (n : ℕ) (into : List ℕ) (f g h : Talk) → n ≡ 0
@@ -97,6 +101,36 @@ carried_none us octets feed n into f g h e c t = record {
   got = t.got ∙ ap (λ (k : ℕ). g.got ++ take k g.left) e ∙ append-nil g.got ∙ c.got;
   put = t.put ∙ c.put;
 }
+
+-- What a call of the link leaves, where memory was taken for more before it: it failed, or gave nothing, or octets that
+-- were moved into the frames.
+pub room_failed : (us : List AnyUnit) (octets : List ℕ) (old new : Feed) (count : ℕ) (since a b : Option Talk)
+    → new ≡ with_spare old count → b ≡ a → Leads (Carried us octets old) since a → Leads (Carried us octets new) since b
+room_failed us octets old new count since a b e same k =
+    leads_same same (leads_map (λ f g c. carried_room us octets old new count f g e c) k)
+
+pub room_none : (us : List AnyUnit) (octets : List ℕ) (old new : Feed) (count n : ℕ) (into : List ℕ)
+    (since a b : Option Talk) → new ≡ with_spare old count → n ≡ 0 → Leads (Carried us octets old) since a
+    → Leads (Gets n into) a b → Leads (Carried us octets new) since b
+room_none us octets old new count n into since a b e none k got =
+    leads_then (λ f g h one two. carried_none us octets new n into f g h none one two)
+    (leads_map (λ f g c. carried_room us octets old new count f g e c) k) got
+
+pub room_fed : (us : List AnyUnit) (octets : List ℕ) (old mid new : Feed) (count n : ℕ) (into piece : List ℕ)
+    (since a b : Option Talk) → mid ≡ with_spare old count → piece ≡ take n into
+    → ((us : List AnyUnit) (stream : List ℕ) → HasRead us stream mid → HasRead us (stream ++ piece) new)
+    → Leads (Carried us octets old) since a → Leads (Gets n into) a b → Leads (Carried us octets new) since b
+room_fed us octets old mid new count n into piece since a b e is reads k got =
+    leads_then (λ f g h one two. carried_fed us octets mid new n into piece f g h is reads one two)
+    (leads_map (λ f g c. carried_room us octets old mid count f g e c) k) got
+
+-- a call that left both as they were
+pub kept_same : {L : Type 0} → (model : LinkView L) (us : List AnyUnit) (octets : List ℕ) (since : Option Talk)
+    (mid at : L) (half feed : Feed) → at ≡ mid → feed ≡ half → Leads (Carried us octets half) since (model.talk mid)
+    → Leads (Carried us octets feed) since (model.talk at)
+kept_same {L} model us octets since mid at half feed same is k =
+    subst (λ (z : L). Leads (Carried us octets feed) since (model.talk z)) (sym same)
+    (subst (λ (z : Feed). Leads (Carried us octets z) since (model.talk mid)) (sym is) k)
 
 -- nothing is told to be left where nothing of a buffer was filled
 pub at_end : (n : ℕ) (into : List ℕ) (f g : Talk) → n ≡ 0 → length into ≡ 4096 → Gets n into f g → g.left ≡ []
@@ -189,4 +223,4 @@ pub fill_ends : {L : Type 0} → (model : LinkView L) (a b : ℕ) (more : Bool) 
     → IsCutOff new.left × IsOver model a link
 fill_ends model a b true mid new link l n cut fed over = cc
 fill_ends model a b false mid new link l n cut fed over =
-    (subst (λ (z : Feed). IsCutOff z.left) (sym fed) cut, over_before model a b link l (over refl))
+    (subst IsCutOff (sym fed) cut, over_before model a b link l (over refl))

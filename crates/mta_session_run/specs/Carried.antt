@@ -26,11 +26,11 @@ pub record Fronted (us : List AnyUnit) (octets : List ℕ) (f g : Talk) : Type 0
   pub got : g.got ≡ f.got ++ (front ++ rest)
   pub put : g.put ≡ f.put ++ octets
 
--- more octets were fed, of those that can be counted, or none
+-- More octets were fed, of those that can be counted, or none.
 abbrev pub FedBy : Bool → Feed → Feed → Type 0
 FedBy true old new =
     (new.at ≡ old.at) × (length old.left < length new.left) × (old.at + length old.left < 2 ^ 64)
-FedBy false old new = new ≡ old
+FedBy false old new = new.left ≡ old.left
 
 -- the input of the link was read to its end
 abbrev pub IsAtEnd : {L : Type 0} → LinkView L → L → Type 0

@@ -173,6 +173,15 @@ pub record HasStopped {L : Type 0} (model : LinkView L) (t : State) (a : Action)
   pub done : AllDone model a turns old fed mid mid_fed
   pub short : IsShort model u last mid mid_fed new
 
+-- These units were read and these octets put: with them and what stands in the frames, nothing is lost of what the link
+-- gave.
+pub record HasKept {L : Type 0} (model : LinkView L) (old : L) (fed : Feed) (new : L) (feed : Feed) : Type 0 where
+  pub units : List AnyUnit
+  pub octets : List ℕ
+  pub carried : (since : Option Talk) (us : List AnyUnit) (os : List ℕ)
+      → Leads (Carried us os fed) since (model.talk old) →
+      Leads (Carried (us ++ units) (os ++ octets) feed) since (model.talk new)
+
 -- What was carried on are calls of the session, one after the other.
 abbrev pub RunsAreCalls : Type 0
 RunsAreCalls =

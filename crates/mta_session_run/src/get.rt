@@ -5,7 +5,7 @@ ghost use Rattle.mta_units.specs.declared.next.Next.TheVariants.{More};
 ghost use Rattle.mta_units.specs.declared.unit.Unit.{Unit as AnyUnit};
 ghost use Rattle.mta_links.specs.Links.{Leads, Talk};
 ghost use Rattle.mta_units.specs.Reading.{Says, and_next};
-ghost use Rattle.mta_session_run.specs.Carried.{Carried, Fronted, FedBy, IsOver, and_heard, Ends};
+ghost use Rattle.mta_session_run.specs.Carried.{Carried, FedBy, IsOver, and_heard, Ends};
 
 use mta_ber::Memory;
 use mta_links::Link;
@@ -30,24 +30,27 @@ fn read_next(frames: &mut Frames) -> Result<Next, Memory>
     frames.next()
 }
 
-/// Moves octets that come over the link into the frames. False where no more come. Where 2^64 octets have come, less
-/// 4,097, they are as many as the frames can count: it is want of memory then.
+// Octets that are asked of a link at once.
+const MOST_AT_ONCE: usize = 4096;
+
+/// Moves octets that come over the link into the frames. False where no more come. The memory for them is taken before
+/// they are asked for: after want of it link and frames are as before. Where 2^64 octets have come, less 4,097, they
+/// are as many as the frames can count: it is want of memory then.
 fn fill<L: Link>(link: &mut L, frames: &mut Frames) -> Result<bool, Memory>
     ensures carried { (since : Option Talk) (us : List AnyUnit) (octets : List ℕ) →
         Leads (Carried us octets frames.old) since (L.model.talk link.old) →
         IfOk result (λ more. Leads (Carried us octets frames.new) since (L.model.talk link.new)) }
-    ensures lost { (since : Option Talk) (us : List AnyUnit) (octets : List ℕ) →
-        Leads (Carried us octets frames.old) since (L.model.talk link.old) →
-        OnErr result (Leads (Fronted us octets) since (L.model.talk link.new)) }
+    ensures err { OnErr result ((link.new ≡ link.old) × (frames.new ≡ frames.old)) }
     ensures fed { IfOk result (λ more. FedBy more frames.old frames.new) }
     ensures over { IfOk result (λ more. more ≡ false →
         IsOver L.model (L.model.faults link.old) link.new) }
     ensures later { L.model.faults link.old ≤ L.model.faults link.new }
 {
-    let mut buffer = [0u8; 4096];
-    if frames.room() < 4096 {
+    let mut buffer = [0u8; MOST_AT_ONCE];
+    if frames.room() < MOST_AT_ONCE as u64 {
         return Err(Memory);
     }
+    frames.reserve(MOST_AT_ONCE)?;
     let Ok(count) = link.get(&mut buffer) else {
         return Ok(false);
     };
@@ -58,8 +61,8 @@ fn fill<L: Link>(link: &mut L, frames: &mut Frames) -> Result<bool, Memory>
     Ok(true)
 }
 
-/// The next unit that comes. With what was not taken, the units answered so far are all that the link gave; after want
-/// of memory they stand at the front of it.
+/// The next unit that comes. With what was not taken, the units answered so far are all that the link gave. So it is
+/// after want of memory too: whoever asks again is answered as if there had been none.
 ///
 /// `Over` comes only where the link failed, or its input was read to the end. More than 2^64 octets, less 4,097, are as
 /// if there were no memory for them.
@@ -67,9 +70,9 @@ pub fn get_unit<L: Link>(link: &mut L, frames: &mut Frames) -> Result<Heard, Mem
     ensures carried { (since : Option Talk) (us : List AnyUnit) (octets : List ℕ) →
         Leads (Carried us octets frames.old) since (L.model.talk link.old) →
         IfOk result (λ h. Leads (Carried (and_heard us h) octets frames.new) since (L.model.talk link.new)) }
-    ensures lost { (since : Option Talk) (us : List AnyUnit) (octets : List ℕ) →
+    ensures kept { (since : Option Talk) (us : List AnyUnit) (octets : List ℕ) →
         Leads (Carried us octets frames.old) since (L.model.talk link.old) →
-        OnErr result (Leads (Fronted us octets) since (L.model.talk link.new)) }
+        OnErr result (Leads (Carried us octets frames.new) since (L.model.talk link.new)) }
     ensures ends { IfOk result (λ h. Ends L.model (L.model.faults link.old) h link.new frames.new) }
     ensures later { L.model.faults link.old ≤ L.model.faults link.new }
 {

@@ -3,7 +3,7 @@
 ghost use Rattle.std.specs.Prelude.{◌≡◌, ◌≤◌, List, ℕ, Option, IfOk, OnErr};
 ghost use Rattle.mta_links.specs.Links.{Leads, Talk};
 ghost use Rattle.mta_session_laws.specs.Writing.{PutsWritable};
-ghost use Rattle.mta_session_run.specs.Carried.{Carried, Fronted};
+ghost use Rattle.mta_session_run.specs.Carried.{Carried};
 ghost use Rattle.mta_units.specs.Canon.{IsWritable};
 ghost use Rattle.mta_units.specs.declared.unit.Unit.{Unit as AnyUnit};
 ghost use Rattle.mta_session_run.specs.Running.{HasPut, HasGot, Exchanged, IsUndone};
@@ -38,12 +38,12 @@ fn put<L: Link>(alloc: Global, link: &mut L, unit: &Unit) -> Result<Event, Memor
     }
 }
 
-/// Reads the next unit. After want of memory what was read before stands at the front of what the link gave.
+/// Reads the next unit. After want of memory all that the link gave was read before or stands in the frames.
 fn get<L: Link>(link: &mut L, frames: &mut Frames) -> Result<Event, Memory>
     ensures got { IfOk result (λ e. HasGot L.model link.old frames.old e link.new frames.new) }
-    ensures lost { (since : Option Talk) (us : List AnyUnit) (octets : List ℕ) →
+    ensures kept { (since : Option Talk) (us : List AnyUnit) (octets : List ℕ) →
         Leads (Carried us octets frames.old) since (L.model.talk link.old) →
-        OnErr result (Leads (Fronted us octets) since (L.model.talk link.new)) }
+        OnErr result (Leads (Carried us octets frames.new) since (L.model.talk link.new)) }
     ensures later { L.model.faults link.old ≤ L.model.faults link.new }
 {
     match get_unit(link, frames)? {
@@ -53,7 +53,8 @@ fn get<L: Link>(link: &mut L, frames: &mut Frames) -> Result<Event, Memory>
     }
 }
 
-/// Puts or reads, as the session wants; a question and an end are handed on.
+/// Puts or reads, as the session wants; a question and an end are handed on. After want of memory nothing was put, and
+/// all that the link gave was read before or stands in the frames.
 pub fn exchange<L: Link>(
     alloc: Global,
     link: &mut L,
@@ -63,6 +64,9 @@ pub fn exchange<L: Link>(
     requires { PutsWritable action }
     ensures done { IfOk result (λ d. Exchanged L.model action link.old frames.old d link.new frames.new) }
     ensures short { OnErr result (IsUndone L.model action link.old frames.old link.new) }
+    ensures kept { (since : Option Talk) (us : List AnyUnit) (octets : List ℕ) →
+        Leads (Carried us octets frames.old) since (L.model.talk link.old) →
+        OnErr result (Leads (Carried us octets frames.new) since (L.model.talk link.new)) }
     ensures later { L.model.faults link.old ≤ L.model.faults link.new }
 {
     match action {

@@ -3,7 +3,7 @@
 ghost use Rattle.std.specs.Prelude.{◌≡◌, ◌≤◌, IfOk, OnErr};
 ghost use Rattle.mta_session.specs.Fits.{Answers};
 ghost use Rattle.mta_session.specs.Rank.{calls_left};
-ghost use Rattle.mta_session_run.specs.Running.{IsCalled, HasTold, HasRun, HasStopped};
+ghost use Rattle.mta_session_run.specs.Running.{IsCalled, HasTold, HasRun, HasStopped, HasKept};
 
 use crate::came::Came;
 use crate::link::{Done, exchange};
@@ -31,7 +31,8 @@ pub fn tell(session: &mut Session, event: Event) -> Result<Action, Memory>
 /// Carries a session on over its link, from an action of it, until it asks the spool something or is over. While it
 /// does so no step is made. What is asked is handed to the caller, who tells the session the answer (`tell`) and
 /// carries it on from the action that it has then. After want of memory the calls so far stand; of the last action
-/// nothing came, or an event that the session was not told.
+/// nothing came, or an event that the session was not told. And all that the link gave was read, or stands in the
+/// frames.
 pub fn carry_on<L: Link>(
     alloc: Global,
     link: &mut L,
@@ -44,6 +45,7 @@ pub fn carry_on<L: Link>(
         (λ c. HasRun L.model session.old action link.old frames.old c session.new link.new frames.new) }
     ensures lost { OnErr result
         (HasStopped L.model session.old action link.old frames.old session.new link.new) }
+    ensures kept { OnErr result (HasKept L.model link.old frames.old link.new frames.new) }
     ensures left { calls_left session.new ≤ calls_left session.old }
     ensures later { L.model.faults link.old ≤ L.model.faults link.new }
 {

@@ -95,10 +95,12 @@ octets_join (x ∷ a) b h g = octets_cons x (a ++ b) (h 0) (octets_join a b (λ 
 
 -- what holds of a stream holds when a piece more is fed
 pub feed_holds : (taken taken' : ℕ) (octets octets' piece all : List ℕ) (at : ℕ) (o : Option BadUnit)
-    → Holds taken octets at o → drop taken' octets' ≡ drop taken octets → taken' ≤ length octets' → all ≡ octets'
-    ++ piece
-    → IsOctets piece → at + length (drop taken octets) + length piece < 2 ^ 64 → Holds taken' all at o
-feed_holds taken taken' octets octets' piece all at o h left within all_is bytes room =
+    (spare spare' capacity capacity' : ℕ) → Holds taken octets at o spare capacity
+    → drop taken' octets' ≡ drop taken octets → taken' ≤ length octets' → all ≡ octets' ++ piece → IsOctets piece
+    → at + length (drop taken octets) + length piece < 2 ^ 64 → length all + spare' ≤ capacity'
+    → Holds taken' all at o spare' capacity'
+feed_holds taken taken' octets octets' piece all at o spare spare' capacity capacity' h left within all_is bytes room
+    memory =
     let left_is : drop taken' all ≡ drop taken octets ++ piece = ap (drop taken') all_is
     ∙ drop-append-le taken' octets' piece within ∙ ap (λ l. l ++ piece) left in
     let sizes : length (drop taken' all) ≡ length (drop taken octets) + length piece = ap length left_is
@@ -108,4 +110,18 @@ feed_holds taken taken' octets octets' piece all at o h left within all_is bytes
       room = omega (arith, room, sizes);
       bytes = subst IsOctets (sym left_is) (octets_join (drop taken octets) piece h.bytes bytes);
       kept = subst (KeepsFault o) (sym left_is) (kept_stays o (drop taken octets) piece h.kept);
+      memory = memory;
     }
+
+-- and where none is
+pub still_holds : (taken taken' : ℕ) (octets octets' : List ℕ) (at : ℕ) (o : Option BadUnit)
+    (spare spare' capacity capacity' : ℕ) → Holds taken octets at o spare capacity
+    → drop taken' octets' ≡ drop taken octets → taken' ≤ length octets' → length octets' + spare' ≤ capacity'
+    → Holds taken' octets' at o spare' capacity'
+still_holds taken taken' octets octets' at o spare spare' capacity capacity' h left within memory = record {
+  within = within;
+  room = omega (arith, h.room, ap length left);
+  bytes = subst IsOctets (sym left) h.bytes;
+  kept = subst (KeepsFault o) (sym left) h.kept;
+  memory = memory;
+}

@@ -37,7 +37,8 @@ abbrev pub SpellsOnly : {A : Type 0} → Spells A → List ℕ → A → Type 0
 SpellsOnly spells octets v = SpellsFirst spells octets v []
 
 -- an element of a tag
-pub record Tagged {A : Type 0} (class number : ℕ) (spells : Spells A) (depth : ℕ) (tag : Tag) (content octets : List ℕ)
+pub record Tagged {A : Type 0} (class number : ℕ) (spells : Spells A) (depth : ℕ) (tag : Tag)
+    (content octets : List ℕ)
     (v : A) : Type 0 where
   pub is_tag_of : is_tag class number tag ≡ true
   pub spelled : spells depth tag content octets v
@@ -119,7 +120,8 @@ pub record SpellsUnit (u : AnyUnit) (octets : List ℕ) : Type 0 where
 -- units one behind the other
 abbrev pub SpellsUnits : List AnyUnit → List ℕ → Type 0
 SpellsUnits [] octets = octets ≡ []
-SpellsUnits (u ∷ us) octets = (first : List ℕ) × (rest : List ℕ) × SpellsUnit u first × (octets ≡ first ++ rest)
+SpellsUnits (u ∷ us) octets = (first : List ℕ) × (rest : List ℕ) × SpellsUnit u first
+    × (octets ≡ first ++ rest)
     × SpellsUnits us rest
 
 -- ---- what is no unit

@@ -1,6 +1,6 @@
 //! Units of a stream that comes in pieces.
 
-ghost use Rattle.std.specs.Prelude.{◌≡◌, ◌≤◌, drop, length};
+ghost use Rattle.std.specs.Prelude.{◌≡◌, ◌≤◌, drop, length, vec_capacity};
 
 use crate::front::BadUnit;
 use crate::look::{Look, look_at};
@@ -16,6 +16,7 @@ pub struct Frames {
     taken: usize,
     at: u64,
     bad: Option<BadUnit>,
+    spare: usize,
 }
 
 // Written out, since a derived one is opened anew, field by field, at each place where a value is let go.
@@ -27,19 +28,20 @@ impl Drop for Frames {
             taken: _,
             at: _,
             bad: _,
+            spare: _,
         } = self;
     }
 }
 
 impl Model for Frames {
-    ghost use Rattle.std.specs.Prelude.{drop};
+    ghost use Rattle.std.specs.Prelude.{drop, vec_capacity};
     ghost use Rattle.mta_units.specs.Feed.{Feed, Holds};
 
     ghost Value = { Feed };
 
-    ghost view = { λ f. record { at = f.at; left = drop f.taken f.octets.items; bad = f.bad } };
+    ghost view = { λ f. record { at = f.at; left = drop f.taken f.octets.items; bad = f.bad; spare = f.spare } };
 
-    ghost invariant = { λ f. Holds f.taken f.octets.items f.at f.bad };
+    ghost invariant = { λ f. Holds f.taken f.octets.items f.at f.bad f.spare (vec_capacity f.octets) };
 }
 
 /// Drops the first `taken` octets, where they are no fewer than those behind them.
@@ -47,6 +49,8 @@ fn forget(octets: &mut Vec<u8>, taken: usize) -> usize
     requires { taken ≤ length octets.old.items }
     ensures left { drop result octets.new.items ≡ drop taken octets.old.items }
     ensures within { result ≤ length octets.new.items }
+    ensures shorter { length octets.new.items ≤ length octets.old.items }
+    ensures capacity { vec_capacity octets.new ≡ vec_capacity octets.old }
 {
     let left = octets.len() - taken;
     if taken < left || taken == 0 {
@@ -66,7 +70,7 @@ impl Frames {
     ghost use Rattle.mta_units.specs.declared.unit.Unit.{Unit as AnyUnit};
     ghost use Rattle.mta_units.specs.Look.{KeepsFault};
     ghost use Rattle.mta_units.specs.Spelling.{SpellsUnit, HasFault, IsCutOff};
-    ghost use Rattle.mta_units.specs.Feed.{no_feed, fed, Goes};
+    ghost use Rattle.mta_units.specs.Feed.{no_feed, fed, with_spare, Goes};
     ghost use Rattle.mta_units.specs.Reading.{HasRead, and_next, Says};
 
     /// No octets fed.
@@ -80,6 +84,7 @@ impl Frames {
             taken: 0,
             at: 0,
             bad: None,
+            spare: 0,
         }
     }
 
@@ -91,16 +96,29 @@ impl Frames {
         u64::MAX - (self.at + left)
     }
 
-    /// The stream so far is followed by the piece.
+    /// Takes the memory for a piece of so many octets, which is fed next.
+    pub fn reserve(&mut self, count: usize) -> Result<(), Memory>
+        ensures ok { OnOk result (self.new ≡ with_spare self.old count) }
+        ensures err { OnErr result (self.new ≡ self.old) }
+    {
+        self.taken = forget(&mut self.octets, self.taken);
+        self.octets.reserve(count)?;
+        self.spare = count;
+        Ok(())
+    }
+
+    /// The stream so far is followed by the piece. A piece for which the memory was taken before takes none.
     pub fn feed(&mut self, piece: &[u8]) -> Result<(), Memory>
         requires { self.old.at + length self.old.left + length piece.now < 2 ^ 64 }
         ensures ok { OnOk result (self.new ≡ fed self.old piece.now) }
         ensures reading { (us : List AnyUnit) (stream : List ℕ) → HasRead us stream self.old
             → OnOk result (HasRead us (stream ++ piece.now) self.new) }
         ensures err { OnErr result (self.new ≡ self.old) }
+        ensures memory { length piece.now ≤ self.old.spare → IsOk result }
     {
         self.taken = forget(&mut self.octets, self.taken);
         self.octets.extend_from_slice(piece)?;
+        self.spare = 0;
         Ok(())
     }
 

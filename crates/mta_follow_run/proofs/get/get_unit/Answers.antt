@@ -1,13 +1,13 @@
 use Rattle.std.proofs.lemmas.Result.{err_from_is_err_and}
-use Rattle.mta_follow_run.proofs.Getting.{fed_on, fed_up, got_cut, got_told, lost_on}
+use Rattle.mta_follow_run.proofs.Getting.{fed_on, fed_up, got_cut, got_told, kept_on}
 use Rattle.mta_follow_run.proofs.get.get_unit.Goals as goal
 
-pub returns-in_err-fill-clause-lost : goal.returns-in_err-fill-clause-lost
-returns-in_err-fill-clause-lost g c =
+pub returns-in_err-fill-clause-kept : goal.returns-in_err-fill-clause-kept
+returns-in_err-fill-clause-kept g c =
     let p = err_from_is_err_and c.from_residual.result c.from_residual.ensures.1 in
     rw p.1
-    (lost_on g.L.Link.model c.args.link.now c.args.reader.now c.loop-due.link c.loop-due.reader c.fill.new.link
-    c.loop-due.invariant c.in_err-fill.ensures.lost)
+    (kept_on g.L.Link.model c.args.link.now c.args.reader.now c.loop-due.link c.loop-due.reader c.fill.new.link
+    c.fill.new.reader c.loop-due.invariant c.in_err-fill.ensures.err.0 c.in_err-fill.ensures.err.1)
 
 pub returns-then-not-branch-clause-got : goal.returns-then-not-branch-clause-got
 returns-then-not-branch-clause-got g c =

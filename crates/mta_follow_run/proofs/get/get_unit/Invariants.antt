@@ -1,5 +1,5 @@
 use Rattle.std.proofs.Common.{◌-◌, ◌^◌, length}
-use Rattle.mta_follow_run.proofs.Getting.{HasFed}
+use Rattle.mta_follow_run.specs.Getting.{HasFed}
 use Rattle.mta_follow_run.proofs.get.get_unit.Given as goal
 
 abbrev pub invariant-loop-due : goal.invariant-loop-due

@@ -20,7 +20,7 @@ pub returns-in-Err : goal.returns-in-Err
 returns-in-Err g c =
     next_lost g.L.Link.model c.args.link.now c.args.reader.now c.requires.now.left g.D.Disk.model c.args.kept.now
     c.args.journal.now c.args.got c.get_unit.new.link c.get_unit.new.reader
-    c.in-Err.ensures.lost
+    c.in-Err.ensures.kept
 
 pub take_unit-requires-clause-told : goal.take_unit-requires-clause-told
 take_unit-requires-clause-told g c = c.in-Ok-true.ensures.got.whole c.in-Ok-true.field-0-test

@@ -19,7 +19,7 @@ returns-in-Ok-false g c =
 pub returns-in-Err : goal.returns-in-Err
 returns-in-Err g c =
     waited_short g.L.Link.model c.args.link.now c.args.reader.now c.requires c.args.number c.get_unit.new.link
-    c.get_unit.new.reader c.in-Err.ensures.lost
+    c.get_unit.new.reader c.in-Err.ensures.kept
 
 pub returns-then-not-is_kept : goal.returns-then-not-is_kept
 returns-then-not-is_kept g c =

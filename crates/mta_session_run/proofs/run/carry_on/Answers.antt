@@ -1,6 +1,7 @@
 use Rattle.std.proofs.Common.{arith}
 use Rattle.mta_session_run.proofs.Running.{not_yet, one_more, called_more, done_answers, done_tells, done_goes}
-use Rattle.mta_session_run.proofs.Running.{told_done, came_so, stopped_there, stopped_still, on_err}
+use Rattle.mta_session_run.proofs.Running.{told_done, came_so, stopped_there, stopped_still, kept_there, kept_still}
+use Rattle.mta_session_run.proofs.Running.{on_err}
 use Rattle.mta_session_run.proofs.run.carry_on.Goals as goal
 
 pub loop-came-init : goal.loop-came-init
@@ -19,6 +20,12 @@ returns-in_err-came-clause-lost g c =
     on_err _ _ (stopped_there g.L.Link.model c.args.session.now c.args.action c.args.link.now c.args.frames.now
     c.loop-came.session c.loop-came.wanted c.loop-came.link c.loop-came.frames c.exchange.new.link
     c.loop-came.invariant.run c.exchange.ensures.later c.in_err-came.ensures.short)
+
+pub returns-in_err-came-clause-kept : goal.returns-in_err-came-clause-kept
+returns-in_err-came-clause-kept g c =
+    on_err _ _ (kept_there g.L.Link.model c.args.session.now c.args.action c.args.link.now c.args.frames.now
+    c.loop-came.session c.loop-came.wanted c.loop-came.link c.loop-came.frames c.exchange.new.link
+    c.exchange.new.frames c.loop-came.invariant.run c.in_err-came.ensures.kept)
 
 pub returns-in_err-came-clause-later : goal.returns-in_err-came-clause-later
 returns-in_err-came-clause-later g c = omega (arith, c.loop-came.invariant.later, c.exchange.ensures.later)
@@ -53,6 +60,14 @@ returns-in_err-wanted-in-Told-clause-lost g c =
     c.in_err-wanted-in-Told.ensures.err c.loop-came.invariant.run c.exchange.ensures.later h
     (done_answers g.L.Link.model c.loop-came.session c.loop-came.wanted c.loop-came.link c.loop-came.frames
     c.in-Told.event c.exchange.new.link c.exchange.new.frames c.loop-came.invariant.called.awaited h))
+
+pub returns-in_err-wanted-in-Told-clause-kept : goal.returns-in_err-wanted-in-Told-clause-kept
+returns-in_err-wanted-in-Told-clause-kept g c =
+    on_err _ _ (kept_still g.L.Link.model c.args.session.now c.args.action c.args.link.now c.args.frames.now
+    c.loop-came.session c.loop-came.wanted c.loop-came.link c.loop-came.frames c.in-Told.event c.exchange.new.link
+    c.exchange.new.frames c.loop-came.invariant.run
+    (told_done g.L.Link.model c.loop-came.wanted c.loop-came.link c.loop-came.frames c.in_ok-came.field-0
+    c.in-Told.event c.exchange.new.link c.exchange.new.frames c.in-Told.is c.in_ok-came.ensures.done))
 
 pub returns-in_err-wanted-in-Told-clause-later : goal.returns-in_err-wanted-in-Told-clause-later
 returns-in_err-wanted-in-Told-clause-later g c = omega (arith, c.loop-came.invariant.later, c.exchange.ensures.later)
