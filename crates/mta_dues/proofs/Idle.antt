@@ -44,7 +44,7 @@ verdict_is m i r moment format text item text_is format_is item_is =
     ∙ ap (λ (x : Option ItemValue). verdict_on m.format m.items (Some text) x r moment) item_is
     ∙ ap (λ (f : ℕ). verdict_on f m.items (Some text) (Some item) r moment) (sym format_is)
 
-at_rest : (s : State) (i r moment format : ℕ) (text : List ℕ) (item : ItemValue)
+pub at_rest : (s : State) (i r moment format : ℕ) (text : List ℕ) (item : ItemValue)
     → numbered s.machine.tables (last_tables s.machine) ≡ Some text → format ≡ s.machine.format
     → numbered s.machine.items i ≡ Some item → IsAtRest format text item r moment → IsDueOf s i r moment None
 at_rest s i r moment format text item text_is format_is item_is rest due (inl d) =

@@ -9,4 +9,5 @@ pub mod Pending
 pub mod Recipients
 pub mod Relays
 pub mod Scans
+pub mod Waiting
 pub mod Keeping

@@ -7,7 +7,7 @@ use Rattle.mta_records.specs.declared.state.Status.{Status}
 use Rattle.mta_machine.specs.Items.{AreSettled, ItemValue, numbered, has_status, is_pending}
 use Rattle.mta_dues.specs.Index.{HasPending, NonePendingUpTo}
 
-past : (ss : List (Option Status)) (r : ℕ) → length ss < r → has_status is_pending (numbered ss r) ≡ false
+pub past : (ss : List (Option Status)) (r : ℕ) → length ss < r → has_status is_pending (numbered ss r) ≡ false
 past ss zero above = refl
 past ss (suc k) above = ap (has_status is_pending) (slice_get_past ss k (omega (arith, above)))
 

@@ -1,11 +1,10 @@
 -- What is due, found in turn.
-use Rattle.std.proofs.Common.{inl, inr, ◌≡◌, ◌≤◌, ◌<◌, ◌+◌, ℕ, zero, suc, Bool, false}
-use Rattle.std.proofs.Common.{List, Option, Some, None, length, refl, sym, ap, subst, ◌∙◌, arith}
+use Rattle.std.proofs.Common.{inl, inr, ◌≡◌, ◌≤◌, ◌<◌, ◌+◌, ℕ, zero, suc, false}
+use Rattle.std.proofs.Common.{List, Option, Some, None, length, refl, sym, subst, arith}
 use Rattle.std.specs.Prelude.{◌⊎◌}
 use Rattle.std.proofs.lemmas.Bool.{cases_lt, cases_eq}
 use Rattle.std.proofs.lemmas.Option.{slice_get_past}
-use Rattle.std.specs.Prelude.{option_and_then}
-use Rattle.mta_machine.specs.Items.{AreSettled, ItemValue, Machine, numbered, has_status, is_pending, is_pending_at}
+use Rattle.mta_machine.specs.Items.{ItemValue, Machine, numbered, is_pending_at}
 use Rattle.mta_histories.specs.Lanes.{State}
 use Rattle.mta_histories.specs.Kept.{IsKept}
 use Rattle.mta_histories.specs.Due.{IsDue}
@@ -29,14 +28,6 @@ not_there m i r none = rw none refl
 pub no_such : (m : Machine) (i r : ℕ) (item : ItemValue) → numbered m.items i ≡ Some item
     → numbered item.statuses r ≡ None → is_pending_at m i r ≡ false
 no_such m i r item is none = rw is (rw none refl)
-
--- no recipient is numbered 0
-pub none_settled : (s : State) (i n moment : ℕ) (item : ItemValue) → IsKept s
-    → numbered s.machine.items i ≡ Some item → AreSettled item.statuses n → NoneDueUpTo s i n moment
-none_settled s i n moment item kept is settled r due low d =
-    let at_r : Option ItemValue → Bool =
-    λ o. has_status is_pending (option_and_then (λ (x : ItemValue). numbered x.statuses r) o) in
-    not_pending s i r moment kept (ap at_r is ∙ settled.none r low) due d
 
 pub none_further : (s : State) (i r moment : ℕ) → NoneDueUpTo s i r moment → IsDueOf s i (r + 1) moment None
     → NoneDueUpTo s i (r + 1) moment
@@ -133,4 +124,4 @@ first_item s after number moment due before between first = record {
   lowest = λ j q other d. by_place s after number j q moment due other first before between d (cases_le j after);
 }
 
-pub ruleset recipient_laws = (none_settled, none_further, no_recipient, first_recipient)
+pub ruleset recipient_laws = (none_further, no_recipient, first_recipient)

@@ -9,6 +9,7 @@ use Rattle.mta_state.specs.Spans.{IsSpanFor}
 use Rattle.mta_state.specs.declared.rest.Span.{Span}
 use Rattle.mta_dues.specs.declared.hand.Hand.{Hand}
 use Rattle.mta_dues.specs.declared.index.Index.{Index}
+use Rattle.mta_dues.specs.Looked.{IsLooked}
 
 -- ---- who is pending
 
@@ -54,12 +55,13 @@ abbrev pub IsOfHand : ItemValue → ℕ → Option Hand → Type 0
 IsOfHand item number None = Unit {0}
 IsOfHand item number (Some hand) = hand.number ≡ number → IsDecodedOf item.octets hand.decoded
 
--- what need not be looked at at a moment is idle then in this format; the spans are those of items; and what is at hand
--- is a reading of an item
+-- what need not be looked at at a moment is idle then in this format; the spans are those of items; what is at hand is a
+-- reading of an item; and who was found to wait does so
 pub record IsIndexed (format : ℕ) (text : List ℕ) (items : List ItemValue) (index : Index) : Type 0 where
   pub rests : (i moment : ℕ) → Rests index.agenda i moment → IsAtRestIn format text items i moment
   pub spans : AreSpansIn format text items index.spans
   pub hand : IsAtHand items index.hand
+  pub looked : IsLooked format text items index.looked
 
 -- what is known of items stays true whatever steps are made
 abbrev pub IndexesStay : Type 0

@@ -36,7 +36,8 @@ IsNextOpen spans numbers from moment (Some place) = IsOpenAt spans numbers from 
 -- what is known was known before, or is this
 abbrev pub IsLearnt : (old new : List Span) → ℕ → Span → Type 0
 IsLearnt old new number span =
-    (i : ℕ) (s : Span) → numbered new i ≡ Some s → (numbered old i ≡ Some s) ⊎ ((i ≡ number) × (s ≡ span))
+    (i : ℕ) (s : Span) → numbered new i ≡ Some s → (numbered old i ≡ Some s)
+    ⊎ ((i ≡ number) × (s ≡ span))
 
 -- ---- blocks
 

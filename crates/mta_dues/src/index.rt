@@ -1,13 +1,15 @@
 //! What is known of which items need not be looked at, and of when items may be relayed.
 
-ghost use Rattle.std.specs.Prelude.{◌≡◌, ℕ, [], List, IfOk, None, Some};
+ghost use Rattle.std.specs.Prelude.{◌≡◌, ◌≤◌, ◌<◌, ℕ, [], List, IfOk, None, Some};
 ghost use Rattle.mta_machine.specs.Items.{ItemValue, numbered};
 ghost use Rattle.mta_state.specs.Readings.{IsDecodedOf, IsReadingOf};
 ghost use Rattle.mta_state.specs.Spans.{IsSpanFor};
 ghost use Rattle.mta_dues.specs.Index.{IsIndexed, IsOfHand};
+ghost use Rattle.mta_dues.specs.Looked.{AreIdleUpTo};
 
 use crate::agenda::Agenda;
 use crate::hand::{Hand, reading_by};
+use crate::looked::Looked;
 use crate::spans::Spans;
 use mta_ber::Memory;
 use mta_machine::Item;
@@ -24,6 +26,9 @@ pub struct Index {
     pub spans: Spans,
     /// The reading of an item, which stays true of it, since octets of items do not change.
     pub hand: Option<Hand>,
+    /// Of which recipients of an item it is known that they wait, where that is known of some. New tables and a new
+    /// format begin with an index of which nothing is known.
+    pub looked: Option<Looked>,
 }
 
 impl Index {
@@ -32,11 +37,13 @@ impl Index {
         ensures known { result.agenda.known ≡ 0 }
         ensures spans { result.spans ≡ [] }
         ensures hand { result.hand ≡ None }
+        ensures looked { result.looked ≡ None }
     {
         Index {
             agenda: Agenda::new(alloc),
             spans: Spans::new(alloc),
             hand: None,
+            looked: None,
         }
     }
 
@@ -98,5 +105,33 @@ impl Index {
     {
         let decoded = reading.detach();
         self.keep_decoded(number, decoded);
+    }
+
+    /// How many of the first recipients of the item of a number are known to wait at a moment, who are pending.
+    pub(crate) fn idle_up_to(&self, number: u32, moment: u64) -> u32
+        ensures { (format : ℕ) (text : List ℕ) (items : List ItemValue) (item : ItemValue)
+            → numbered items number ≡ Some item → IsIndexed format text items self.now
+            → AreIdleUpTo format text item result moment }
+    {
+        match &self.looked {
+            None => 0,
+            Some(looked) => looked.up_to(number, moment),
+        }
+    }
+
+    /// So many of the first recipients of the item of a number, if pending, wait from a moment on until another.
+    pub(crate) fn keep_idle(&mut self, number: u32, most: u32, moment: u64, until: u64)
+        ensures agenda { self.new.agenda ≡ self.old.agenda }
+        ensures indexed { (format : ℕ) (text : List ℕ) (items : List ItemValue) (item : ItemValue)
+            → numbered items number ≡ Some item
+            → ((n : ℕ) → moment ≤ n → n < until → AreIdleUpTo format text item most n)
+            → IsIndexed format text items self.old → IsIndexed format text items self.new }
+    {
+        self.looked = Some(Looked {
+            number,
+            most,
+            from: moment,
+            until,
+        });
     }
 }

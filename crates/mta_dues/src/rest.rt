@@ -1,18 +1,21 @@
-//! Items that rest, since nothing is due of them for a while.
+//! Items that rest, since nothing is due of them for a while, and recipients of an item who wait.
 
-ghost use Rattle.std.specs.Prelude.{◌≡◌, ◌<◌, ◌↔◌, ℕ, IfOk, IsTrue, List, Some, true, false};
+ghost use Rattle.std.specs.Prelude.{◌≡◌, ◌≤◌, ◌<◌, ◌↔◌, ℕ, IfOk, IsTrue, List, Some, true, false};
+ghost use Rattle.mta_ber.specs.Times.{last_moment};
 ghost use Rattle.mta_machine.specs.Items.{ItemValue, numbered};
+ghost use Rattle.mta_machine.specs.Rules.{is_expired};
 ghost use Rattle.mta_idle_laws.specs.Idle.{IsIdle, IsIdleUntil};
 ghost use Rattle.mta_dues.specs.Agendas.{is_active, IsAllCalled};
 ghost use Rattle.mta_state.specs.Asked.{IsStored, RestsAs};
 ghost use Rattle.mta_state.specs.Readings.{IsReadingOf};
 ghost use Rattle.mta_dues.specs.Index.{HasPending, IsIndexed};
+ghost use Rattle.mta_dues.specs.Looked.{AreIdleUpTo, is_calling};
 
 use crate::index::Index;
 use crate::learning::nobody;
 use mta_ber::Memory;
 use mta_machine::Item;
-use mta_state::{Reading, Rest, Rules, is_pending};
+use mta_state::{Reading, Rest, Rules, calls_at_once, is_pending};
 use std::alloc::Global;
 
 // Whether some recipient of an item is pending.
@@ -32,8 +35,8 @@ pub(crate) fn has_pending(item: &Item) -> bool
     false
 }
 
-// An active item rests until its verdicts may change.
-fn put_to_rest(index: &mut Index, number: u32, moment: u64, until: u64)
+/// An active item rests until its verdicts may change. Where there is no memory to note it the item stays active.
+pub(crate) fn put_to_rest(index: &mut Index, number: u32, moment: u64, until: u64)
     requires active { is_active index.old.agenda number ≡ true }
     requires later { moment < until }
     ensures indexed { (format : ℕ) (text : List ℕ) (items : List ItemValue) (item : ItemValue)
@@ -65,34 +68,54 @@ pub(crate) fn rests_for_good(index: &mut Index, number: u32, item: &Item) -> boo
     true
 }
 
-/// Whether an active item is idle at a moment. It rests then, until its verdicts may change. Where there is no memory
-/// to note it the item stays active.
-pub fn rest<R: Rules>(
+// Whether something is called for at once of a recipient, if pending.
+fn calls<R: Rules>(
     alloc: Global,
     rules: &R,
-    index: &mut Index,
-    number: u32,
     item: &Item,
     reading: &Reading<'_>,
+    recipient: u32,
     moment: u64,
 ) -> Result<bool, Memory>
+    requires arrived { item.now.arrival ≤ last_moment }
+    requires reading { IsReadingOf item.now.octets reading.now }
+    ensures { IfOk result (λ b. b ≡ is_calling (R.format rules.now) (R.text rules.now) item.now recipient moment) }
+{
+    let pending = is_pending(item, recipient);
+    if !pending {
+        return Ok(false);
+    }
+    let verdict = rules.verdict(alloc, item, reading, recipient, moment)?;
+    Ok(calls_at_once(verdict))
+}
+
+/// How many of the first recipients of an item that has not expired wait at a moment, if pending, of whom so many are
+/// known to: all those before the first of whom something is called for at once.
+#[tactic(auto, using(crate::proofs::Waiting::waiting_laws))]
+pub(crate) fn idle_from<R: Rules>(
+    alloc: Global,
+    rules: &R,
+    item: &Item,
+    reading: &Reading<'_>,
+    known: u32,
+    moment: u64,
+) -> Result<u32, Memory>
     requires stored { IsStored item.now }
     requires reading { IsReadingOf item.now.octets reading.now }
-    requires active { is_active index.old.agenda number ≡ true }
-    ensures idle { IfOk result (λ b. b ≡ true → IsIdle (R.format rules.now) (R.text rules.now) item.now moment) }
-    ensures indexed { (items : List ItemValue) → numbered items number ≡ Some item.now
-        → IsIndexed (R.format rules.now) (R.text rules.now) items index.old
-        → IsIndexed (R.format rules.now) (R.text rules.now) items index.new }
-    ensures called { (count : ℕ) → IsAllCalled index.old.agenda count moment
-        → IsAllCalled index.new.agenda count moment }
+    requires known { AreIdleUpTo (R.format rules.now) (R.text rules.now) item.now known moment }
+    requires unexpired { is_expired (R.format rules.now) (R.text rules.now) item.now.octets item.now.arrival moment ≡ false }
+    ensures { IfOk result (λ most. AreIdleUpTo (R.format rules.now) (R.text rules.now) item.now most moment) }
 {
-    match rules.rest(alloc, item, reading, moment)? {
-        None => Ok(false),
-        Some(found) => {
-            put_to_rest(index, number, moment, found.until);
-            Ok(true)
+    let count = item.statuses().len() as u32;
+    let mut most = known;
+    while most < count {
+        let called = calls(alloc, rules, item, reading, most + 1, moment)?;
+        if called {
+            return Ok(most);
         }
+        most += 1;
     }
+    Ok(most)
 }
 
 /// What was found of an item that was not looked at yet is noted, unless it rests by now. Where there is no memory to

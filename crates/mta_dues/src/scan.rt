@@ -1,27 +1,28 @@
 //! The next step that is due, found by looking in turn at each recipient of each item that may have something due.
 
-ghost use Rattle.std.specs.Prelude.{◌≡◌, ◌<◌, ◌^◌, ℕ, IfOk, Some, length, true};
+ghost use Rattle.std.specs.Prelude.{◌≡◌, ◌≤◌, ◌<◌, ◌^◌, ◌↔◌, ℕ, IfOk, IsTrue, List, Some, length, true};
 ghost use Rattle.std.specs.List.{All};
-ghost use Rattle.mta_machine.specs.Items.{numbered};
+ghost use Rattle.mta_machine.specs.Items.{ItemValue, numbered};
 ghost use Rattle.mta_histories.specs.Kept.{IsKept};
 ghost use Rattle.mta_dues.specs.Agendas.{is_active, IsAllCalled};
 ghost use Rattle.mta_state.specs.Kept.{state_of};
 ghost use Rattle.mta_state.specs.Asked.{IsStored, IsTextOf};
 ghost use Rattle.mta_state.specs.Readings.{IsReadingOf};
-ghost use Rattle.mta_dues.specs.Answers.{IsFirstOf, IsNextOf};
+ghost use Rattle.mta_dues.specs.Answers.{IsFirstOf, IsNextOf, NoneDueUpTo};
 ghost use Rattle.mta_dues.specs.Index.{IsIndexed};
+ghost use Rattle.mta_dues.specs.Looked.{AreIdleUpTo};
 
 use crate::due::due_of;
 use crate::index::Index;
 use crate::learning::span_by;
-use crate::rest::{rest, rests_for_good};
+use crate::rest::{idle_from, put_to_rest, rests_for_good};
 use mta_ber::Memory;
 use mta_machine::Item;
 use mta_records::Step;
 use mta_state::{Kept, Reading, Rules};
 use std::alloc::Global;
 
-// What is due of the lowest recipient of an item.
+// What is due of the lowest recipient of an item. Of so many of the first nothing is.
 #[tactic(auto, using(crate::proofs::Scans::recipient_laws))]
 fn first_of<R: Rules>(
     alloc: Global,
@@ -30,6 +31,7 @@ fn first_of<R: Rules>(
     number: u32,
     item: &Item,
     reading: &Reading<'_>,
+    known: u32,
     moment: u64,
 ) -> Result<Option<Step>, Memory>
     requires text { IsTextOf kept.now (R.text rules.now) }
@@ -38,10 +40,11 @@ fn first_of<R: Rules>(
     requires item { numbered kept.now.parts.items.items number ≡ Some item.now }
     requires stored { IsStored item.now }
     requires reading { IsReadingOf item.now.octets reading.now }
+    requires known { NoneDueUpTo (state_of kept.now) number known moment }
     ensures { IfOk result (IsFirstOf (state_of kept.now) number moment) }
 {
     let count = item.statuses().len() as u32;
-    let mut recipient = item.settled() as u32;
+    let mut recipient = known;
     while recipient < count {
         recipient += 1;
         match due_of(alloc, rules, kept, number, item, reading, recipient, moment)? {
@@ -52,7 +55,27 @@ fn first_of<R: Rules>(
     Ok(None)
 }
 
-// What is due of the lowest recipient of an active item that was read, which rests where it is idle.
+// How many of the first recipients of an item are known to wait at a moment, if pending: those of whom the last look
+// found it, or those who were settled.
+#[tactic(auto, using(crate::proofs::Waiting::known_laws))]
+fn known_idle(index: &Index, number: u32, item: &Item, moment: u64) -> u32
+    requires stored { IsStored item.now }
+    ensures { (format : ℕ) (text : List ℕ) (items : List ItemValue) → numbered items number ≡ Some item.now
+        → IsIndexed format text items index.now → AreIdleUpTo format text item.now result moment }
+{
+    let settled = item.settled() as u32;
+    index.idle_up_to(number, moment).max(settled)
+}
+
+// Whether so many recipients are all that an item has.
+fn are_all(item: &Item, most: u32) -> bool
+    ensures { IsTrue result ↔ (length item.now.statuses ≤ most) }
+{
+    most as usize >= item.statuses().len()
+}
+
+// What is due of the lowest recipient of an active item that was read, which rests where it is idle. It is kept who
+// waits before the first of whom something is called for at once.
 #[tactic(auto, using(crate::proofs::Passed::look_laws))]
 fn look_at<R: Rules>(
     alloc: Global,
@@ -77,10 +100,17 @@ fn look_at<R: Rules>(
     ensures called { (count : ℕ) → IsAllCalled index.old.agenda count moment
         → IsAllCalled index.new.agenda count moment }
 {
-    if rest(alloc, rules, index, number, item, reading, moment)? {
+    let known = known_idle(index, number, item, moment);
+    let Some(until) = rules.next_change(item, reading, moment) else {
+        return first_of(alloc, rules, kept, number, item, reading, known, moment);
+    };
+    let most = idle_from(alloc, rules, item, reading, known, moment)?;
+    if are_all(item, most) {
+        put_to_rest(index, number, moment, until);
         return Ok(None);
     }
-    first_of(alloc, rules, kept, number, item, reading, moment)
+    index.keep_idle(number, most, moment, until);
+    first_of(alloc, rules, kept, number, item, reading, most, moment)
 }
 
 // What is due of the lowest recipient of an active item, which is read once for all of them, and whose reading is at

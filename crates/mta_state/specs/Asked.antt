@@ -23,7 +23,8 @@ CodesAreCodes verdict =
     → IsCode reason × IsCode diagnostic
 
 -- rules in a format and under the tables of the text, or none where it is no text of tables
-abbrev pub AreUnder : {R : Type 0} → (R → ℕ) → (R → List ℕ) → (format : ℕ) → List ℕ → Option R → Type 0
+abbrev pub AreUnder : {R : Type 0} → (R → ℕ) → (R → List ℕ) → (format : ℕ) → List ℕ → Option R
+    → Type 0
 AreUnder format_of text_of format text None = is_tables_text text ≡ false
 AreUnder format_of text_of format text (Some rules) =
     (format_of rules ≡ format) × (text_of rules ≡ text) × (is_tables_text text ≡ true)
@@ -57,7 +58,8 @@ Delivers verdict report None = (place : ℕ) → verdict ≡ Some (Verdicts.Deli
 Delivers verdict report (Some d) = (verdict ≡ Some (Verdicts.Deliver d.place)) × (d.report ≡ report)
 
 -- the delivery of an item to a recipient at a moment, with the delivery report as the item of a number
-abbrev pub IsDeliveryOf : (format : ℕ) → List ℕ → ℕ → ItemValue → (r moment : ℕ) → Option Delivery → Type 0
+abbrev pub IsDeliveryOf : (format : ℕ) → List ℕ → ℕ → ItemValue → (r moment : ℕ) → Option Delivery
+    → Type 0
 IsDeliveryOf format text number item r moment =
     Delivers (verdict_of format text item.octets item.arrival r moment)
     (option_map (own_item moment) (delivery_report text number item r moment))

@@ -27,4 +27,4 @@ pub use readings::{Reading, back_of};
 pub use rest::{Rest, Span, Submitted};
 pub use rules::Rules;
 pub use settle::is_pending;
-pub use verdict::verdict_on;
+pub use verdict::{calls_at_once, verdict_on};

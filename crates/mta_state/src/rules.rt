@@ -1,7 +1,7 @@
 //! What is asked of the rules.
 
-ghost use Rattle.std.specs.Prelude.{◌≡◌, ◌≤◌, ◌<◌, ◌^◌, List, ℕ, IfOk, IfSome, Some, is_some};
-ghost use Rattle.std.specs.Prelude.{length, map};
+ghost use Rattle.std.specs.Prelude.{◌≡◌, ◌≤◌, ◌^◌, List, ℕ, IfOk, IfSome, Some, is_some};
+ghost use Rattle.std.specs.Prelude.{map};
 ghost use Rattle.std.specs.Option.{option_copied, option_map};
 ghost use Rattle.mta_ber.specs.Times.{last_moment};
 ghost use Rattle.mta_names.specs.Bounded.{IsCode};
@@ -14,6 +14,7 @@ ghost use Rattle.mta_state.specs.Parts.{made_items};
 ghost use Rattle.mta_state.specs.Reading.{IsAccepted};
 ghost use Rattle.mta_state.specs.declared.rest.Submitted.{Submitted};
 ghost use Rattle.mta_state.specs.Asked.{AreUnder, CodesAreCodes, Expands, IsDeliveryOf, IsRestOf, Passes, Relays};
+ghost use Rattle.mta_idle_laws.specs.Next.{next_change};
 ghost use Rattle.mta_idle_laws.specs.Spans.{relay_span};
 ghost use Rattle.mta_state.specs.Readings.{IsDecodedOf, IsReadingOf};
 ghost use Rattle.mta_state.specs.Spans.{bounds_of};
@@ -21,7 +22,7 @@ ghost use Rattle.mta_state.specs.Spans.{bounds_of};
 use crate::delivery::Delivery;
 use crate::parts::Made;
 use crate::readings::Reading;
-use crate::rest::{Rest, Span, Submitted};
+use crate::rest::{Span, Submitted};
 use mta_ber::{Memory, Octets, Word};
 use mta_machine::Item;
 use mta_procedures::Verdict;
@@ -64,21 +65,13 @@ pub trait Rules {
         requires reading { IsReadingOf item.now.octets reading.now }
         ensures { result ≡ is_expired (format self.now) (text self.now) item.now.octets item.now.arrival moment };
 
-    /// What is found of an item where nothing is called for at once of those of its recipients who are pending: the
-    /// next moment behind this one at which a verdict may change, which is the end of the deferral or the expiry, and
-    /// the lesser where both are to come, and when they may be relayed. None where something is called for, where the
-    /// item has expired, or where its octets are those of no APDU.
-    fn rest(
-        &self,
-        alloc: Global,
-        item: &Item,
-        reading: &Reading<'_>,
-        moment: u64,
-    ) -> Result<Option<Rest>, Memory>
+    /// The next moment behind this one at which a verdict on recipients of an item may change: the end of the deferral
+    /// or the expiry, and the lesser where both are to come. None where the item has expired, or where its octets are
+    /// those of no APDU.
+    fn next_change(&self, item: &Item, reading: &Reading<'_>, moment: u64) -> Option<u64>
         requires arrived { item.now.arrival ≤ last_moment }
         requires reading { IsReadingOf item.now.octets reading.now }
-        requires few { length item.now.statuses < 2 ^ 32 }
-        ensures { IfOk result (IsRestOf (format self.now) (text self.now) item.now moment) };
+        ensures { result ≡ next_change (format self.now) (text self.now) item.now.octets item.now.arrival moment };
 
     /// When recipients of an item may be relayed: from the end of its deferral on, until it expires; none where its
     /// octets are those of no APDU.

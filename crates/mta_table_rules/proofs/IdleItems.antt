@@ -42,7 +42,7 @@ all_up_to format t v item most moment few all r pending = elim (cases_lt most r)
 
 -- ---- what is read
 
-next_is : (format : ℕ) (t : TablesValue) (octets : List ℕ) (v : Option ApduValue) (arrival moment : ℕ)
+pub next_is : (format : ℕ) (t : TablesValue) (octets : List ℕ) (v : Option ApduValue) (arrival moment : ℕ)
     → tables_value t.text ≡ Some t → value_of octets ≡ v
     → next_change format t.text octets arrival moment ≡ next_under format (Some t) v arrival moment
 unfolding next_change
@@ -61,7 +61,3 @@ idle_is format t item v moment (Some until) e h is = (
   λ r pending. ap calls_at_once (verdict_is format t item.octets v item.arrival r moment e h) ∙ is.0 r pending,
   next_is format t item.octets (Some v) item.arrival moment e h ∙ is.1,
 )
-
-pub none_is : (format : ℕ) (t : TablesValue) (item : ItemValue) (moment : ℕ) → tables_value t.text ≡ Some t
-    → value_of item.octets ≡ None → IsIdleUntil format t.text item moment None
-none_is format t item moment e h = λ all. next_is format t item.octets None item.arrival moment e h

@@ -1,17 +1,16 @@
-//! When verdicts change, when recipients may be relayed, and what calls for a step at once.
+//! When verdicts change, and when recipients may be relayed.
 
 ghost use Rattle.std.specs.Prelude.{◌≡◌, ◌≤◌, IfSome, Some};
 ghost use Rattle.mta_apdu.specs.Apdus.{apdu_value};
 ghost use Rattle.mta_ber.specs.Times.{last_moment};
 ghost use Rattle.mta_procedures.specs.Situations.{situation, terms_of};
-ghost use Rattle.mta_idle_laws.specs.Idle.{calls_at_once};
 ghost use Rattle.mta_idle_laws.specs.Next.{next_in, next_under, up_to_deferral};
 ghost use Rattle.mta_idle_laws.specs.Spans.{span_in, span_under};
 ghost use Rattle.mta_state.specs.Spans.{bounds_of};
 
 use mta_apdu::Apdu;
 use mta_envelope::Envelope;
-use mta_procedures::{Terms, Verdict};
+use mta_procedures::Terms;
 use mta_rules::{expiry, is_expired, report_terms, terms_of};
 use mta_state::Span;
 use mta_tables::Tables;
@@ -107,22 +106,5 @@ pub fn span_under(format: u32, tables: &Tables, apdu: &Apdu<'_>, arrival: u64) -
         Apdu::Message(message) => envelope_span(format, tables, &message.envelope, arrival),
         Apdu::Probe(probe) => envelope_span(format, tables, &probe.envelope, arrival),
         Apdu::Report(_) => span_in(tables, arrival, report_terms()),
-    }
-}
-
-/// Whether a verdict calls for a step at once.
-pub fn calls_at_once(verdict: Option<Verdict>) -> bool
-    ensures { result ≡ calls_at_once verdict }
-{
-    match verdict {
-        None => false,
-        Some(Verdict::Relay(_)) => false,
-        Some(Verdict::Hold(_)) => false,
-        Some(Verdict::Deliver(_)) => true,
-        Some(Verdict::Expand(_)) => true,
-        Some(Verdict::Affirm) => true,
-        Some(Verdict::NonDeliver { .. }) => true,
-        Some(Verdict::Back) => true,
-        Some(Verdict::Discard) => true,
     }
 }

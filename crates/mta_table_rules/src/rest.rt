@@ -1,22 +1,22 @@
-//! Until when items rest, and when their recipients may be relayed, from one reading.
+//! Until when items rest, when verdicts on them change, and when their recipients may be relayed, from one reading.
 
 ghost use Rattle.std.specs.Prelude.{◌≡◌, ◌≤◌, ◌<◌, ◌^◌, IfOk, length};
 ghost use Rattle.std.specs.Option.{option_map};
 ghost use Rattle.mta_apdu.specs.Apdus.{apdu_value};
 ghost use Rattle.mta_ber.specs.Times.{last_moment};
+ghost use Rattle.mta_idle_laws.specs.Next.{next_change};
 ghost use Rattle.mta_idle_laws.specs.Spans.{relay_span};
-ghost use Rattle.mta_state.specs.Asked.{IsRestOf};
 ghost use Rattle.mta_state.specs.Readings.{IsCounted, IsReadingOf};
 ghost use Rattle.mta_state.specs.Spans.{bounds_of};
 ghost use Rattle.mta_table_rules.specs.Rests.{IsRestUnder, is_calling};
 
-use crate::idle::{calls_at_once, next_under, span_under};
+use crate::idle::{next_under, span_under};
 use crate::reading::text_reads;
 use crate::verdicts::verdict_under;
 use mta_apdu::Apdu;
 use mta_ber::Memory;
 use mta_machine::Item;
-use mta_state::{Reading, Rest, Span, is_pending};
+use mta_state::{Reading, Rest, Span, calls_at_once, is_pending};
 use mta_tables::Tables;
 use std::alloc::Global;
 
@@ -78,26 +78,24 @@ pub fn rest_under(
     Ok(Some(Rest { until, span }))
 }
 
-/// What is found of an item where nothing is called for at once of those of its recipients who are pending; none where
-/// something is, where the item has expired, or where its octets are those of no APDU.
-pub fn rest(
-    alloc: Global,
+/// The next moment at which a verdict on recipients of an item may change; none once it has expired, or where its
+/// octets are those of no APDU.
+pub fn next_change(
     format: u32,
     tables: &Tables,
     item: &Item,
     reading: &Reading<'_>,
     moment: u64,
-) -> Result<Option<Rest>, Memory>
+) -> Option<u64>
     requires arrived { item.now.arrival ≤ last_moment }
     requires reading { IsReadingOf item.now.octets reading.now }
-    requires few { length item.now.statuses < 2 ^ 32 }
-    ensures { IfOk result (IsRestOf format tables.now.text item.now moment) }
+    ensures { result ≡ next_change format tables.now.text item.now.octets item.now.arrival moment }
 {
     text_reads(tables);
     let Some(apdu) = &reading.apdu else {
-        return Ok(None);
+        return None;
     };
-    rest_under(alloc, format, tables, apdu, reading.back, item, moment)
+    next_under(format, tables, apdu, item.arrival(), moment)
 }
 
 /// When recipients of an item may be relayed; none where its octets are those of no APDU.

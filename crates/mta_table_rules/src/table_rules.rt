@@ -7,14 +7,14 @@ use crate::names::{mailbox_at, names_peer, peer_at, route};
 use crate::passing::{passed_item, passes_back};
 use crate::reading::text_reads;
 use crate::reports::{delivery_item, non_delivery_item};
-use crate::rest::{rest, span};
+use crate::rest::{next_change, span};
 use crate::submitted::submitted;
 use crate::verdicts::{has_expired, verdict};
 use mta_ber::{Memory, Octets, Word};
 use mta_machine::Item;
 use mta_procedures::Verdict;
 use mta_records::Outgoing;
-use mta_state::{Delivery, Made, Reading, Rest, Rules, Span, Submitted};
+use mta_state::{Delivery, Made, Reading, Rules, Span, Submitted};
 use mta_tables::{Tables, TablesFault};
 use std::alloc::Global;
 use std::marker::Model;
@@ -102,14 +102,8 @@ impl Rules for TableRules {
         has_expired(self.format, &self.tables, item, reading, moment)
     }
 
-    fn rest(
-        &self,
-        alloc: Global,
-        item: &Item,
-        reading: &Reading<'_>,
-        moment: u64,
-    ) -> Result<Option<Rest>, Memory> {
-        rest(alloc, self.format, &self.tables, item, reading, moment)
+    fn next_change(&self, item: &Item, reading: &Reading<'_>, moment: u64) -> Option<u64> {
+        next_change(self.format, &self.tables, item, reading, moment)
     }
 
     fn span(&self, item: &Item, reading: &Reading<'_>) -> Option<Span> {

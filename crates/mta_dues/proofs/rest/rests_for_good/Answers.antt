@@ -8,11 +8,11 @@ use Rattle.mta_dues.proofs.rest.rests_for_good.Goals as goal
 pub returns-clause-indexed : goal.returns-clause-indexed
 returns-clause-indexed c = λ format text items is indexed.
     let known = c.learn.new.self in
-    let new : Index = record { agenda = c.let_go.new.self; spans = known.spans; hand = known.hand } in
+    let new : Index = record { agenda = c.let_go.new.self; spans = known.spans; hand = known.hand; looked = known.looked } in
     let none : HasPending c.args.item.now → ⊥ =
     λ has. (let does = c.has_pending-pending.ensures.1 has in let never = c.if-pending.false in absurd cc) in
     let_go format text items known new c.args.number c.args.item.now none is
-    c.let_go.ensures refl refl
+    c.let_go.ensures refl refl refl
     (c.learn.ensures.indexed format text items c.args.item.now is
     (c.nobody.ensures.never format text c.args.item.now none) indexed)
 

@@ -2,21 +2,11 @@ use Rattle.std.proofs.Common.{◌≡◌, ◌+◌, Option, length, ap, subst, ari
 use Rattle.mta_records.specs.declared.step.Step.{Step}
 use Rattle.mta_state.specs.Kept.{state_of}
 use Rattle.mta_dues.specs.Answers.{IsDueOf}
-use Rattle.mta_dues.proofs.Scans.{none_settled, none_further, no_recipient}
+use Rattle.mta_dues.proofs.Scans.{none_further, no_recipient}
 use Rattle.mta_dues.proofs.scan.first_of.Goals as goal
-
-pub loop-recipient-init : goal.loop-recipient-init
-loop-recipient-init g c =
-    let same : length c.statuses.result.now ≡ length c.args.item.now.statuses = ap length c.statuses.ensures in
-    record {
-      within = omega (arith, same, c.settled-recipient.ensures.within);
-      none = none_settled (state_of c.args.kept.now) c.args.number c.settled-recipient.result c.args.moment
-          c.args.item.now c.requires.kept c.requires.item c.settled-recipient.ensures;
-    }
 
 pub loop-recipient-preserved : goal.loop-recipient-preserved
 loop-recipient-preserved g c = record {
-  within = omega (arith, c.loop-recipient-test.true);
   none = none_further (state_of c.args.kept.now) c.args.number c.loop-recipient.recipient c.args.moment
       c.loop-recipient.invariant.none
       (subst

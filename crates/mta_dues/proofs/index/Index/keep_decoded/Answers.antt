@@ -8,5 +8,5 @@ pub returns-clause-indexed : goal.returns-clause-indexed
 returns-clause-indexed c = λ format text items item item_is decoded indexed.
     let old = c.args.self.now in
     let hand : Hand = record { number = c.args.number; decoded = c.args.decoded } in
-    let new : Index = record { agenda = old.agenda; spans = old.spans; hand = Some hand } in
-    one_at_hand format text items old new hand item refl refl refl item_is decoded indexed
+    let new : Index = record { agenda = old.agenda; spans = old.spans; hand = Some hand; looked = old.looked } in
+    one_at_hand format text items old new hand item refl refl refl refl item_is decoded indexed

@@ -6,5 +6,5 @@ use Rattle.mta_dues.proofs.index.Index.take.Goals as goal
 pub returns-in-Some-clause-indexed : goal.returns-in-Some-clause-indexed
 returns-in-Some-clause-indexed c = λ format text items indexed.
     let old = c.args.self.now in
-    let new : Index = record { agenda = old.agenda; spans = old.spans; hand = c.take.new.self } in
-    nothing_at_hand format text items old new refl refl c.take.ensures.after indexed
+    let new : Index = record { agenda = old.agenda; spans = old.spans; hand = c.take.new.self; looked = old.looked } in
+    nothing_at_hand format text items old new refl refl refl c.take.ensures.after indexed
