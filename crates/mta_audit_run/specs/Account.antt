@@ -8,7 +8,8 @@ use Rattle.mta_audit_run.specs.declared.account.Account.{Account}
 -- ---- one lane
 
 -- a lane of this number, of which no activity is told yet
-abbrev pub new_account : (in_snapshot : Bool) → (number : ℕ) → LaneRole → (peer : List ℕ) → Identifier → Account
+abbrev pub new_account : (in_snapshot : Bool) → (number : ℕ) → LaneRole → (peer : List ℕ) → Identifier
+    → Account
 new_account in_snapshot number role peer reference = record {
   in_snapshot = in_snapshot;
   number = number;

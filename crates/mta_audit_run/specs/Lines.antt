@@ -42,7 +42,8 @@ both_lines spool begun a ends =
 
 -- The lines of a lane, where it is an initiator's to the other spool's agent. The other spool has these lanes, and its
 -- history begins with a snapshot or not.
-abbrev pub lane_lines : Spool → (own other : Option (List ℕ)) → (begun : Bool) → List Account → Account → List Line
+abbrev pub lane_lines : Spool → (own other : Option (List ℕ)) → (begun : Bool) → List Account → Account
+    → List Line
 lane_lines spool own other begun others a =
     if is_to other a then both_lines spool begun a (partners own a.reference others) else []
 

@@ -49,7 +49,8 @@ pub record Handed (D E : Type 0) : Type 1 where
   pub second : E
   pub second_after : E
 
-abbrev pub handed : {D E : Type 0} → List (List ℕ) → DiskView D → DiskView E → D → D → E → E → Handed D E
+abbrev pub handed : {D E : Type 0} → List (List ℕ) → DiskView D → DiskView E → D → D → E → E
+    → Handed D E
 handed words firsts seconds first first_after second second_after = record {
   words = words;
   firsts = firsts;

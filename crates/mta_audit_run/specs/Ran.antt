@@ -29,7 +29,8 @@ pub data CallsFor (words : List (List ℕ)) (f g : List ℕ) : ℕ → Type 0 wh
   no_second : (s : List Step) (at : ℕ) → AreTwo words → StandsFor f s → NoSpoolAt g at → CallsFor words f g 3
   agree : (s t : List Step) → AreTwo words → StandsFor f s → StandsFor g t → AllAudited (lines_of s t)
       → CallsFor words f g 0
-  differ : (s t : List Step) → AreTwo words → StandsFor f s → StandsFor g t → (AllAudited (lines_of s t) → ⊥)
+  differ : (s t : List Step) → AreTwo words → StandsFor f s → StandsFor g t
+      → (AllAudited (lines_of s t) → ⊥)
       → CallsFor words f g 18
 
 -- this status; or memory ran out, or a disk or the output failed
@@ -52,16 +53,19 @@ pub record PrintsAudit {D E : Type 0} (h : Handed D E) (out : Output) (status : 
 -- What a status tells by itself. Want of memory, 7, is free.
 pub record Tells {D E : Type 0} (h : Handed D E) (out : Output) (status : ℕ) : Type 0 where
   -- where both disks tell what they hold, the status is the one for which the words and these call, and no other
-  pub exact : (f g : List ℕ) (wanted : ℕ) → h.firsts.content h.first ≡ Some f → h.seconds.content h.second ≡ Some g
+  pub exact : (f g : List ℕ) (wanted : ℕ) → h.firsts.content h.first ≡ Some f
+      → h.seconds.content h.second ≡ Some g
       → CallsFor h.words f g wanted → IsOrFails wanted (DiskFailed h) out status
   pub only : (f g : List ℕ) → h.firsts.content h.first ≡ Some f → h.seconds.content h.second ≡ Some g
-      → CallsFor h.words f g status ⊎ (status ≡ 7) ⊎ ((status ≡ 4) × DiskFailed h) ⊎ ((status ≡ 9) × OutputFailed out)
+      → CallsFor h.words f g status ⊎ (status ≡ 7) ⊎ ((status ≡ 4) × DiskFailed h)
+      ⊎ ((status ≡ 9) × OutputFailed out)
   -- with status 0 or 18 the text is that of the audit, whether they tell it or not
   pub audited : (status ≡ 0) ⊎ (status ≡ 18) → PrintsAudit h out status
   -- 1 comes exactly where the words are not two, but for want of memory and a fault of the output, and then no
   -- disk is called
   pub usage : status ≡ 1 → (AreTwo h.words → ⊥) × (h.first_after ≡ h.first) × (h.second_after ≡ h.second)
-  pub usage_where : (AreTwo h.words → ⊥) → (status ≡ 1) ⊎ (status ≡ 7) ⊎ ((status ≡ 9) × OutputFailed out)
+  pub usage_where : (AreTwo h.words → ⊥) → (status ≡ 1) ⊎ (status ≡ 7)
+      ⊎ ((status ≡ 9) × OutputFailed out)
   -- 3 comes only where a disk is no spool, if it tells what it holds
   pub no_spool : status ≡ 3 → (at : ℕ) × (WhereTold h.firsts h.first (λ f. NoSpoolAt f at)
       ⊎ WhereTold h.seconds h.second (λ f. NoSpoolAt f at))

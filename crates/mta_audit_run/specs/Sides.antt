@@ -25,7 +25,8 @@ pub record HasTold (step : Step) (old : State) (before : List Account) (new : St
 pub record HasNoted (body : List ℕ) (old : State) (before : List Account) (new : State) (behind : List Account)
     (result : Result Bool NotMade) : Type 0 where
   pub made : (snapshot : Bool) → result ≡ Ok snapshot
-      → (step : Step) × HasFields step × (body_of step ≡ body) × IsPossible old step × (new ≡ after_step old step)
+      → (step : Step) × HasFields step × (body_of step ≡ body) × IsPossible old step
+      × (new ≡ after_step old step)
       × (behind ≡ accounts_after old.lanes (class_of step) before) × (snapshot ≡ is_snapshot (class_of step))
   pub impossible : IsErrOf result NotMades.Impossible
       → (step : Step) → HasFields step → body_of step ≡ body → IsPossible old step → ⊥

@@ -22,7 +22,7 @@ use crate::account::Account;
 use crate::accounts::{note, note_endings};
 use crate::told::told_by;
 use mta_ber::{Memory, Octets, Word};
-use mta_journal::OpenWhy;
+use mta_journal::{OpenWhy, Rest};
 use mta_records::{RecordFault, Step, read_record};
 use mta_replay::{NotMade, Replay};
 use mta_table_rules::TableRules;
@@ -164,7 +164,7 @@ pub fn side_of_bodies(alloc: Global, first: u64, bodies: Vec<Octets>) -> Result<
     let mut begun = false;
     let mut accounts = Vec::new(alloc);
     let mut at = first;
-    let mut rest = bodies.into_iter();
+    let mut rest = Rest::new(bodies);
     while let Some(body) = rest.next() {
         match take_up(alloc, &mut replay, &mut accounts, body.as_slice()) {
             Ok(snapshot) => {

@@ -17,7 +17,8 @@ journal_limit = 536870912
 
 -- the body is not too long for a journal of this size, whose area begins at this gate
 abbrev pub IsShortEnough : ℕ → ℕ → List ℕ → Type 0
-IsShortEnough gate size body = (length body ≤ longest_body) ⊎ ((length body ≤ longest_first) × (size ≡ gate + 1))
+IsShortEnough gate size body = (length body ≤ longest_body)
+    ⊎ ((length body ≤ longest_first) × (size ≡ gate + 1))
 
 -- The body may stand behind these, which stand between `first` and `gate` in the only area or the first one. The only
 -- area has bodies already.
@@ -36,21 +37,24 @@ PutsBehind model gate body old new =
 -- A crash at any moment leaves the bodies that the disk had in front of this gate, or those and this one.
 abbrev pub CrashLeavesBehind : {D : Type 0} → DiskView D → ℕ → List ℕ → D → D → Type 0
 CrashLeavesBehind model gate body old new =
-    (f : List ℕ) → model.content old ≡ Some f → (first : ℕ) (bodies : List (List ℕ)) → CanFollow first gate bodies body
+    (f : List ℕ) → model.content old ≡ Some f → (first : ℕ) (bodies : List (List ℕ))
+    → CanFollow first gate bodies body
     → HasBodiesAt first bodies f → AtAnyMoment model (HasOrOneMore first bodies body) old new
 
 -- what an append of this body answers and leaves
 pub record Appends {D T : Type 0} (model : DiskView D) (body : List ℕ) (old new : Shown D)
     (result : Result T AppendFault) : Type 0 where
   -- at Ok the body stands behind those that the journal held, also after a crash
-  pub done : IsOk result → (bodies : List (List ℕ)) → Holds model old bodies → Holds model new (bodies ++ body ∷ [])
+  pub done : IsOk result → (bodies : List (List ℕ)) → Holds model old bodies
+      → Holds model new (bodies ++ body ∷ [])
   -- in the same area, and the journal has not ended
   pub place : new.first ≡ old.first
   pub going : IsOk result → new.ended ≡ false
   -- the disk tells what it holds where it told it, at every answer
   pub told : StaysTold model old.disk new.disk
   -- a crash at any moment of the call leaves, in the same area, the bodies that the journal held, or those and this one
-  pub images : (f : List ℕ) → model.content old.disk ≡ Some f → (bodies : List (List ℕ)) → Holds model old bodies
+  pub images : (f : List ℕ) → model.content old.disk ≡ Some f → (bodies : List (List ℕ))
+      → Holds model old bodies
       → AtAnyMoment model (HasOrOneMore old.first bodies body) old.disk new.disk
   -- at a refusal but the disk's all is as it was
   pub kept : IsErr result → (IsErrOf result Faults.Disk → ⊥) → new ≡ old

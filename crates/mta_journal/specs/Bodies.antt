@@ -67,7 +67,8 @@ high image = from_be_bytes w64 (take 8 (drop 15 image))
 pub data IsCurrent (gate : ℕ) (bodies : List (List ℕ)) (image : List ℕ) : Type 0 where
   alone : take 8 image ≡ magic → (HasAreas image → ⊥) → gate ≡ 8 → IsCurrent gate bodies image
   first : HasAreas image → selector image ≢ 1 → gate ≡ 23 → IsCurrent gate bodies image
-  second : HasAreas image → selector image ≡ 1 → gate ≡ high image → (body : List ℕ) → bodies ≡ body ∷ []
+  second : HasAreas image → selector image ≡ 1 → gate ≡ high image → (body : List ℕ) → bodies ≡ body ∷
+      []
       → 24 + need_of body ≤ gate → IsCurrent gate bodies image
 
 -- The image has these bodies, in the area that begins at this gate.
@@ -99,5 +100,6 @@ OneList = (image : List ℕ) (s t : List (List ℕ)) → StandsFor image s → S
 
 -- and they stand in one place
 abbrev pub OneArea : Type 0
-OneArea = (image : List ℕ) (gate other : ℕ) (s t : List (List ℕ)) → HasBodiesAt gate s image → HasBodiesAt other t image
+OneArea = (image : List ℕ) (gate other : ℕ) (s t : List (List ℕ)) → HasBodiesAt gate s image
+    → HasBodiesAt other t image
     → (gate ≡ other) × (s ≡ t)

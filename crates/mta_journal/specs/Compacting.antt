@@ -10,7 +10,8 @@ use Rattle.mta_journal.specs.declared.journal.AppendFault.{AppendFault}
 use Rattle.mta_journal.specs.declared.journal.AppendFault.TheVariants as Faults
 
 -- What a call answers and leaves that writes a journal anew, where this stands in the place of its bodies.
-pub record Rewrites {D T : Type 0} (model : DiskView D) (after : List (List ℕ) → List (List ℕ)) (old new : Shown D)
+pub record Rewrites {D T : Type 0} (model : DiskView D) (after : List (List ℕ) → List (List ℕ))
+    (old new : Shown D)
     (result : Result T AppendFault) : Type 0 where
   -- at Ok those stand in the place of the bodies that the journal held, also after a crash
   pub done : IsOk result → (bodies : List (List ℕ)) → Holds model old bodies → Holds model new (after bodies)
@@ -20,7 +21,8 @@ pub record Rewrites {D T : Type 0} (model : DiskView D) (after : List (List ℕ)
   -- the disk tells what it holds where it told it, at every answer
   pub told : StaysTold model old.disk new.disk
   -- a crash at any moment of the call leaves the bodies that the journal held, where they stood, or those
-  pub images : (f : List ℕ) → model.content old.disk ≡ Some f → (bodies : List (List ℕ)) → Holds model old bodies
+  pub images : (f : List ℕ) → model.content old.disk ≡ Some f → (bodies : List (List ℕ))
+      → Holds model old bodies
       → AtAnyMoment model (HasEither old.first bodies (after bodies)) old.disk new.disk
   -- at a refusal but the disk's all is as it was
   pub kept : IsErr result → (IsErrOf result Faults.Disk → ⊥) → new ≡ old
@@ -38,5 +40,6 @@ abbrev pub Settles : {D T : Type 0} → DiskView D → Shown D → Shown D → R
 Settles model old new result = Rewrites model (λ bodies. bodies) old new result
 
 -- this body stands in the place of them all
-abbrev pub Compacts : {D T : Type 0} → DiskView D → List ℕ → Shown D → Shown D → Result T AppendFault → Type 0
+abbrev pub Compacts : {D T : Type 0} → DiskView D → List ℕ → Shown D → Shown D → Result T AppendFault
+    → Type 0
 Compacts model body old new result = Rewrites model (λ bodies. body ∷ []) old new result

@@ -28,10 +28,12 @@ pub record FaultyAt (gate : ℕ) (image : List ℕ) (at : ℕ) : Type 0 where
 -- which shows at 15; else it is not one open record; else it begins too low for that record, which shows at 15. Where
 -- another is current, one of its records is faulty.
 pub data HasNoAreaAt (image : List ℕ) (at : ℕ) : Type 0 where
-  outside : HasAreas image → selector image ≡ 1 → (high image < 24) ⊎ (length image ≤ high image) → at ≡ 15
+  outside : HasAreas image → selector image ≡ 1 → (high image < 24) ⊎ (length image ≤ high image)
+      → at ≡ 15
       → HasNoAreaAt image at
   not_one : HasAreas image → selector image ≡ 1 → 24 ≤ high image → high image < length image
-      → ((body : List ℕ) → HasRecords (high image) (body ∷ []) image → ⊥) → at ≡ high image → HasNoAreaAt image at
+      → ((body : List ℕ) → HasRecords (high image) (body ∷ []) image → ⊥) → at ≡ high image
+      → HasNoAreaAt image at
   too_low : HasAreas image → selector image ≡ 1 → 24 ≤ high image → (body : List ℕ)
       → HasRecords (high image) (body ∷ []) image
       → high image < 24 + need_of body → at ≡ 15 → HasNoAreaAt image at
@@ -44,7 +46,8 @@ IsNoJournalAt image at = (9 < length image) × (DiffersAt image at ⊎ HasNoArea
 
 -- no image stands for bodies and is no journal
 abbrev pub NotBoth : Type 0
-NotBoth = (image : List ℕ) (bodies : List (List ℕ)) (at : ℕ) → StandsFor image bodies → IsNoJournalAt image at → ⊥
+NotBoth = (image : List ℕ) (bodies : List (List ℕ)) (at : ℕ) → StandsFor image bodies → IsNoJournalAt image at
+    → ⊥
 
 -- one image is no journal at one place
 abbrev pub OnePlace : Type 0

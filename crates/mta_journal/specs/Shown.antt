@@ -18,10 +18,12 @@ IsPlain gate = (gate ≡ 8) ⊎ (gate ≡ 23)
 
 -- What the journal keeps where the second area is current: the frame of that area's record, for which the first area
 -- has room.
-pub record IsFrameOfSecond {D : Type 0} (model : DiskView D) (disk : D) (gate size : ℕ) (frame : List ℕ) : Type 0 where
+pub record IsFrameOfSecond {D : Type 0} (model : DiskView D) (disk : D) (gate size : ℕ)
+    (frame : List ℕ) : Type 0 where
   pub above : 24 + length frame ≤ gate
   pub size_is : size ≡ gate + length frame + 1
-  pub frame_is : (f : List ℕ) → model.content disk ≡ Some f → (body : List ℕ) → HasBodiesAt gate (body ∷ []) f
+  pub frame_is : (f : List ℕ) → model.content disk ≡ Some f → (body : List ℕ)
+      → HasBodiesAt gate (body ∷ []) f
       → frame ≡ frame_of body
 
 -- The octets used lie inside the disk, and nothing is pending; a journal of one area has bodies; where the second area
@@ -33,7 +35,8 @@ pub record IsSound {D : Type 0} (model : DiskView D) (disk : D) (gate size : ℕ
   pub within : ended ≡ false → (f : List ℕ) → model.content disk ≡ Some f → size ≤ length f
   pub settled : ended ≡ false → Settled model disk
   pub plain : ended ≡ false → frame ≡ None → IsPlain gate
-  pub second : ended ≡ false → (kept : List ℕ) → frame ≡ Some kept → IsFrameOfSecond model disk gate size kept
+  pub second : ended ≡ false → (kept : List ℕ) → frame ≡ Some kept
+      → IsFrameOfSecond model disk gate size kept
 
 -- the journal holds these bodies, and a crash leaves them
 pub record Holds {D : Type 0} (model : DiskView D) (journal : Shown D) (bodies : List (List ℕ)) : Type 0 where

@@ -37,12 +37,14 @@ HasEither gate s t image = HasBodiesAt gate s image ⊎ HasBodies image t
 
 -- what stands in the first area stays, and it stays current or not
 abbrev pub KeepsFirst : ℕ → List ℕ → List ℕ → Type 0
-KeepsFirst e f g = (selector g ≡ selector f) × ((bodies : List (List ℕ)) → HasFirst e bodies f → HasFirst e bodies g)
+KeepsFirst e f g = (selector g ≡ selector f)
+    × ((bodies : List (List ℕ)) → HasFirst e bodies f → HasFirst e bodies g)
 
 -- what stands in the second area stays, and it stays current or not
 abbrev pub KeepsSecond : List ℕ → List ℕ → List ℕ → Type 0
 KeepsSecond frame f g =
-    (e : ℕ) (body : List ℕ) → Fits e frame body → HasSecond e body f → (selector g ≡ selector f) × HasSecond e body g
+    (e : ℕ) (body : List ℕ) → Fits e frame body → HasSecond e body f → (selector g ≡ selector f)
+    × HasSecond e body g
 
 -- the frame's record was put into the second area, beside the first
 abbrev pub PutsSecond : ℕ → List ℕ → List ℕ → List ℕ → Type 0
@@ -71,12 +73,14 @@ LeavesFirst frame f g =
 -- where the second area is current the image has its record
 abbrev pub KeepsOne : List ℕ → List ℕ → List ℕ → Type 0
 KeepsOne frame f g =
-    (e : ℕ) (body : List ℕ) → Fits e frame body → HasSecond e body f → selector f ≡ 1 → HasBodies g (body ∷ [])
+    (e : ℕ) (body : List ℕ) → Fits e frame body → HasSecond e body f → selector f ≡ 1
+    → HasBodies g (body ∷ [])
 
 -- and then it has it in the first area
 abbrev pub MovesOne : List ℕ → List ℕ → List ℕ → Type 0
 MovesOne frame f g =
-    (e : ℕ) (body : List ℕ) → Fits e frame body → HasSecond e body f → selector f ≡ 1 → HasBodiesAt 23 (body ∷ []) g
+    (e : ℕ) (body : List ℕ) → Fits e frame body → HasSecond e body f → selector f ≡ 1
+    → HasBodiesAt 23 (body ∷ []) g
 
 -- where the first area is current the image has its bodies, or the one in their place
 abbrev pub KeepsEither : ℕ → List ℕ → List ℕ → List ℕ → Type 0

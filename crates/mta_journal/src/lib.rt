@@ -9,10 +9,12 @@ mod law;
 mod open;
 mod parts;
 mod read;
+mod rest;
 mod why;
 
 pub use journal::{AppendFault, JOURNAL_LIMIT, Journal};
 pub use law::{not_both, one_area, one_list, one_place};
 pub use open::{OpenFault, Opened};
 pub use read::{LONGEST_BODY, LONGEST_FIRST};
+pub use rest::Rest;
 pub use why::OpenWhy;

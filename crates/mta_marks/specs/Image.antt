@@ -56,4 +56,5 @@ OnePlace = (image : List ℕ) (at other : ℕ) → NoMarksAt image at → NoMark
 
 -- and stands for no list
 abbrev pub NoMarksHaveNone : Type 0
-NoMarksHaveNone = (image : List ℕ) (at : ℕ) (marks : List Mark) → NoMarksAt image at → StandsFor image marks → ⊥
+NoMarksHaveNone = (image : List ℕ) (at : ℕ) (marks : List Mark) → NoMarksAt image at → StandsFor image marks
+    → ⊥

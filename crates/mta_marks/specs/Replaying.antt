@@ -29,7 +29,8 @@ pub record HasTaken (body : List ℕ) (old new : List (List ℕ × Standing)) (r
 -- ---- all bodies
 
 -- these are the marks of the bodies, and it is known what became by them of each entry
-pub record IsReplay (bodies : List (List ℕ)) (entries : List (List ℕ × Standing)) (marks : List Mark) : Type 0 where
+pub record IsReplay (bodies : List (List ℕ)) (entries : List (List ℕ × Standing))
+    (marks : List Mark) : Type 0 where
   pub bodies_are : map body_of marks ≡ bodies
   pub are : AreMarks marks
   pub knows : Knows entries marks

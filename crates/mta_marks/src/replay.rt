@@ -13,7 +13,7 @@ use crate::mark::{Mark, allows};
 use crate::reading::mark_of;
 use crate::standings::Standings;
 use mta_ber::{Memory, Octets};
-use mta_journal::OpenWhy;
+use mta_journal::{OpenWhy, Rest};
 use std::alloc::Global;
 
 /// Why a body was not taken up.
@@ -79,7 +79,7 @@ pub(crate) fn replay(alloc: Global, first: u64, bodies: Vec<Octets>) -> Result<S
 {
     let mut standings = Standings::new(alloc);
     let mut at = first;
-    let mut rest = bodies.into_iter();
+    let mut rest = Rest::new(bodies);
     while let Some(body) = rest.next() {
         match take_up(alloc, &mut standings, body.as_slice()) {
             Ok(()) => at += body.len() as u64 + 5,

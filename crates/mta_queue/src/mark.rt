@@ -1,13 +1,16 @@
-//! The recipients of an item: where the route of each leads, and whether he waits.
+//! The recipients of an item: where the route of each leads, and whether he waits. No memory is taken for an item of
+//! one, as most are.
 
-ghost use Rattle.std.specs.Prelude.{◌≡◌, ◌++◌, ◌∷◌, [], false, length, OnOk, OnErr};
+ghost use Rattle.std.specs.Prelude.{◌≡◌, ◌≢◌, ◌++◌, ◌∷◌, [], false, length, IfOk, OnOk, OnErr};
 ghost use Rattle.std.specs.Option.{option_copied};
 ghost use Rattle.mta_queue.specs.declared.mark.Mark.{Mark as MarkValue};
+ghost use Rattle.mta_queue.specs.Held.{marks_of};
 ghost use Rattle.mta_queue.specs.Marks.{mark_of, set_waits};
 
 use mta_ber::Memory;
 use std::alloc::Global;
 use std::marker::Model;
+use std::slice;
 
 /// A recipient of an item.
 #[derive(Clone, Copy)]
@@ -18,19 +21,92 @@ pub struct Mark {
     pub waits: bool,
 }
 
+// How the recipients of an item are held.
+#[derive(Drop)]
+enum Held {
+    // There are none.
+    Nobody,
+    // There is one.
+    One(Mark),
+    // There are more.
+    Many(Vec<Mark>),
+}
+
+// Two recipients.
+fn both(alloc: Global, first: Mark, second: Mark) -> Result<Held, Memory>
+    ensures { IfOk result (λ h. marks_of h ≡ first ∷ second ∷ []) }
+{
+    let mut marks = Vec::with_capacity(alloc, 2)?;
+    marks.push(first)?;
+    marks.push(second)?;
+    Ok(Held::Many(marks))
+}
+
+impl Held {
+    // The recipients, lent.
+    fn as_slice(&self) -> &[Mark]
+        ensures { result.now ≡ marks_of self.now }
+    {
+        match self {
+            Held::Nobody => &[],
+            Held::One(mark) => slice::from_ref(mark),
+            Held::Many(marks) => marks.as_slice(),
+        }
+    }
+
+    // A recipient more.
+    fn push(&mut self, alloc: Global, mark: Mark) -> Result<(), Memory>
+        ensures ok { OnOk result (marks_of self.new ≡ marks_of self.old ++ mark ∷ []) }
+        ensures err { OnErr result (marks_of self.new ≡ marks_of self.old) }
+    {
+        match self {
+            Held::Nobody => *self = Held::One(mark),
+            Held::One(first) => {
+                let first = *first;
+                *self = both(alloc, first, mark)?;
+            }
+            Held::Many(marks) => marks.push(mark)?,
+        }
+        Ok(())
+    }
+
+    // Whether the recipient of this number waits is put down.
+    #[tactic(auto, using(crate::proofs::Held::set_one))]
+    fn set(&mut self, recipient: u32, waits: bool)
+        requires { recipient ≢ 0 }
+        ensures { marks_of self.new ≡ set_waits (marks_of self.old) recipient waits }
+    {
+        match self {
+            Held::Nobody => {}
+            Held::One(mark) => {
+                if recipient == 1 {
+                    mark.waits = waits;
+                }
+            }
+            Held::Many(marks) => {
+                if let Some(mark) = marks.get_mut(recipient as usize - 1) {
+                    mark.waits = waits;
+                }
+            }
+        }
+    }
+}
+
 /// The recipients of an item, numbered from 1.
 #[derive(Drop)]
 pub struct Marks {
-    marks: Vec<Mark>,
+    alloc: Global,
+    held: Held,
 }
 
 impl Model for Marks {
     ghost use Rattle.std.specs.Prelude.{List};
     ghost use Rattle.mta_queue.specs.declared.mark.Mark.{Mark};
+    ghost use Rattle.mta_queue.specs.Held.{marks_of};
 
     ghost Value = { List Mark };
 
-    ghost view = { λ m. m.marks.items };
+    ghost view = { λ m. marks_of m.held };
 }
 
 impl Marks {
@@ -39,7 +115,8 @@ impl Marks {
         ensures { result ≡ [] }
     {
         Marks {
-            marks: Vec::new(alloc),
+            alloc,
+            held: Held::Nobody,
         }
     }
 
@@ -48,18 +125,18 @@ impl Marks {
         ensures ok { OnOk result (self.new ≡ self.old ++ record { route = route; waits = false } ∷ []) }
         ensures err { OnErr result (self.new ≡ self.old) }
     {
-        self.marks.push(Mark {
+        let mark = Mark {
             route,
             waits: false,
-        })?;
-        Ok(())
+        };
+        self.held.push(self.alloc, mark)
     }
 
     /// How many they are.
     pub fn len(&self) -> usize
         ensures { result ≡ length self.now }
     {
-        self.marks.len()
+        self.held.as_slice().len()
     }
 
     /// The recipient of this number.
@@ -69,7 +146,7 @@ impl Marks {
         if recipient == 0 {
             return None;
         }
-        self.marks.get(recipient as usize - 1).copied()
+        self.held.as_slice().get(recipient as usize - 1).copied()
     }
 
     /// Whether the recipient of this number waits is put down.
@@ -79,8 +156,6 @@ impl Marks {
         if recipient == 0 {
             return;
         }
-        if let Some(mark) = self.marks.get_mut(recipient as usize - 1) {
-            mark.waits = waits;
-        }
+        self.held.set(recipient, waits);
     }
 }

@@ -1,11 +1,11 @@
-use Rattle.std.specs.Vec.Iter.{into_iter_items, into_iter_len}
+use Rattle.std.specs.Prelude.{length}
 use Rattle.mta_marks.proofs.Replays.{IsUnderWay}
 use Rattle.mta_marks.proofs.replay.replay.Given as goal
 
 abbrev pub invariant-loop-body : goal.invariant-loop-body
 invariant-loop-body l = record {
-  way : IsUnderWay l.fn.first l.fn.bodies.items (into_iter_items l.rest) l.standings l.at;
+  way : IsUnderWay l.fn.first l.fn.bodies.items l.rest l.standings l.at;
 }
 
 abbrev pub decreases-loop-body : goal.decreases-loop-body
-decreases-loop-body l = into_iter_len l.rest
+decreases-loop-body l = length l.rest
