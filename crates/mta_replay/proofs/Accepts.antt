@@ -97,3 +97,5 @@ decoded_of moment apdu item decoded is read =
     }
 
 pub ruleset accept_laws = (accept_change, may_not_accept, no_apdu, bad_apdu)
+
+pub ruleset arrival_laws = (accept_change, may_not_accept, no_apdu, bad_apdu, found_of, decoded_of)

@@ -2,7 +2,7 @@
 -- items that it makes come behind the others.
 use Rattle.std.proofs.Common.{◌≡◌, ◌≤◌, ◌<◌, ◌+◌, ◌-◌, ℕ, zero, suc, List, [], ◌∷◌, ◌++◌}
 use Rattle.std.proofs.Common.{inl, inr, length, Option, Some, None, refl, sym, ap, subst, ◌∙◌, arith}
-use Rattle.std.specs.Prelude.{◌⊎◌, option_to_list, slice_get}
+use Rattle.std.specs.Prelude.{◌⊎◌, IfSome, option_to_list, slice_get}
 use Rattle.std.proofs.lemmas.Bool.{cases_lt}
 use Rattle.std.proofs.lemmas.List.{length-append}
 use Rattle.std.proofs.lemmas.Option.{same_Some, slice_get_within}
@@ -21,12 +21,15 @@ use Rattle.mta_histories.specs.Due.{routed}
 use Rattle.mta_state.specs.Parts.{made_items}
 use Rattle.mta_state.specs.Settled.{put_settled, settled, with_settled}
 use Rattle.mta_state.specs.Kept.{CanChange, changed_state, settled_in_turn}
+use Rattle.mta_state.specs.Readings.{IsDecodedOf}
+use Rattle.mta_state.specs.declared.decoded.Decoded.{Decoded}
 use Rattle.mta_state.specs.declared.change.Settlement.{Settlement}
 use Rattle.mta_state.specs.declared.change.Change.{Change}
 use Rattle.mta_state.specs.declared.change.Change.TheVariants as change
 use Rattle.mta_replay.specs.declared.replay.InForce.{InForce}
 use Rattle.mta_replay.specs.declared.touched.Touched.{Touched}
-use Rattle.mta_replay.specs.Expected.{AreQueuedUnder, Follows, IsExpected, IsExpectedUnder, MayFollow}
+use Rattle.mta_replay.specs.Expected.{AreAlike, AreQueuedUnder, Follows, IsExpected, IsExpectedUnder, IsReadOfLast}
+use Rattle.mta_replay.specs.Expected.{IsReadOfMade, IsReadUnder, MayFollow}
 use Rattle.mta_replay.specs.Queued.{AreComing, AreQueued, AreRows, GoesOn, IsMark, IsQueuedUpTo, IsRow, made_by}
 use Rattle.mta_replay.specs.Queued.{made_in_turn, place_by}
 use Rattle.mta_replay.specs.Touched.{IsTouched, touched_by}
@@ -321,3 +324,39 @@ module _ {R : Type 0} (text : R → List ℕ) where
   may_follow s t new touched None queued expected can is same = tt
   may_follow s t new touched (Some force) queued expected can is same =
       follows s t new touched force queued expected can is same
+
+  -- ---- the reading of what was made
+
+  -- the one item that a change makes is the last one
+  made_last : (s : State) (new : Change) (decoded : Decoded) → GoesOn new → IsReadOfMade new decoded
+      → IsReadOfLast (changed_state s new).machine.items decoded
+  made_last s new decoded goes_on read =
+      let more = grown s new goes_on in
+      let first : slice_get (made_by new) 0 ≡ Some read.item =
+      ap (λ (xs : List ItemValue). slice_get xs 0) read.made in
+      let one = more.behind 0 read.item first in
+      let count : length (made_by new) ≡ 1 = ap (λ (xs : List ItemValue). length xs) read.made in
+      let all = more.length_is in
+      let last : suc (length s.machine.items + 0) ≡ length (changed_state s new).machine.items =
+      omega (arith, all, count) in
+      record {
+        item = one.other;
+        item_is =
+            subst (λ (n : ℕ). numbered (changed_state s new).machine.items n ≡ Some one.other) last one.other_is;
+        decoded = subst (λ (octets : List ℕ). IsDecodedOf octets decoded) (sym one.octets) read.read_as;
+      }
+
+  some_last : (s : State) (new : Change) (read : Option Decoded) → GoesOn new → IfSome read (IsReadOfMade new)
+      → IfSome read (IsReadOfLast (changed_state s new).machine.items)
+  some_last s new None goes_on is = tt
+  some_last s new (Some decoded) goes_on is = made_last s new decoded goes_on is
+
+  pub read_under : (s t : State) (new : Change) (old now : Option (InForce R)) → IsExpectedUnder text old new
+      → t ≡ changed_state s new → AreAlike old now → IsReadUnder t.machine.items now
+  read_under s t new None None expected is alike = tt
+  read_under s t new None (Some g) expected is alike = absurd alike
+  read_under s t new (Some f) None expected is alike = absurd alike
+  read_under s t new (Some f) (Some g) expected is alike =
+      subst (λ (x : State). IfSome g.read (IsReadOfLast x.machine.items)) (sym is)
+      (subst (λ (o : Option Decoded). IfSome o (IsReadOfLast (changed_state s new).machine.items)) (sym alike.2)
+      (some_last s new f.read expected.goes_on expected.read))

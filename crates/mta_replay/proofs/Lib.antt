@@ -30,3 +30,4 @@ pub mod Named
 pub mod Waiting
 pub mod Following
 pub mod Expecting
+pub mod Crossing

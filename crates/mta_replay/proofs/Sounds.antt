@@ -282,9 +282,9 @@ module _ {R : Type 0} (format : R → ℕ) (text : R → List ℕ) where
           subst (λ (m : Machine). IsIndexed (format f.rules) (text f.rules) m.items f.index) (sym (runs-so other))
           (indexes_stay (format f.rules) (text f.rules) s.machine (machine_steps s step) f.index indexed)
       indexed-after anew None (Some f) is made unknown last indexed =
-          fresh (format f.rules) (text f.rules) now.items f.index unknown.0 unknown.1 unknown.2
+          fresh (format f.rules) (text f.rules) now.items f.index unknown.0 unknown.1 unknown.2 unknown.3
       indexed-after anew (Some other) (Some f) is made unknown last indexed =
-          fresh (format f.rules) (text f.rules) now.items f.index unknown.0 unknown.1 unknown.2
+          fresh (format f.rules) (text f.rules) now.items f.index unknown.0 unknown.1 unknown.2 unknown.3
 
   -- the same rules with the same index
   alike-last : (m : Machine) (old now : Option (InForce R)) → AreAlike old now → AreLast format text m old
@@ -306,7 +306,7 @@ module _ {R : Type 0} (format : R → ℕ) (text : R → List ℕ) where
 
   alike-self : (old : Option (InForce R)) → AreAlike old old
   alike-self None = tt
-  alike-self (Some f) = (refl, refl)
+  alike-self (Some f) = (refl, refl, refl)
 
   sound_after : (kept new : Kept) (old ready now : Option (InForce R)) (step : Step) (change : Change)
       → IsSound format text kept old → HasFields step → IsReady format text (state_of kept) step change ready

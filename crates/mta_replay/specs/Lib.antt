@@ -1,3 +1,4 @@
+pub use Rattle.mta_dues.specs.Answers
 pub mod Found
 pub mod Sound
 pub mod Ready

@@ -27,7 +27,8 @@ place_by words None = None
 place_by words (Some word) = place_of words word
 
 -- so many recipients of octets, of whom nobody waits, with the routes of their names
-pub record IsRow (text : List ℕ) (words : List (List ℕ)) (octets : List ℕ) (count : ℕ) (row : List Mark) : Type 0 where
+pub record IsRow (text : List ℕ) (words : List (List ℕ)) (octets : List ℕ) (count : ℕ)
+    (row : List Mark) : Type 0 where
   pub count_is : length row ≡ count
   pub few : length row < 2 ^ 32
   pub idle : (r : ℕ) → marks.is_waiting (mark_of row r) ≡ false
@@ -45,7 +46,8 @@ AreRows text words (row ∷ rows) [] = ⊥
 AreRows text words (row ∷ rows) (item ∷ items) = IsRowOf text words item row × AreRows text words rows items
 
 -- these are the recipients of the item behind so many
-pub record IsNextRow (text : List ℕ) (words : List (List ℕ)) (items : List ItemValue) (count : ℕ) (row : List Mark)
+pub record IsNextRow (text : List ℕ) (words : List (List ℕ)) (items : List ItemValue) (count : ℕ)
+    (row : List Mark)
     : Type 0 where
   pub item : ItemValue
   pub item_is : numbered items (suc count) ≡ Some item

@@ -39,13 +39,15 @@ settled_by (on_lane n generation step) = 0
 abbrev pub IsReadAt : List ItemValue → ℕ → Reading → Type 0
 IsReadAt items i reading = (item : ItemValue) → numbered items i ≡ Some item → IsReadingOf item.octets reading
 
--- nothing is known of any item, and nothing is at hand
+-- nothing is known of any item, nothing is at hand, and nobody was looked at
 abbrev pub AreFresh : {R : Type 0} → Option (InForce R) → Type 0
 AreFresh None = Unit {0}
-AreFresh (Some force) = (force.index.agenda.known ≡ 0) × (force.index.spans ≡ []) × (force.index.hand ≡ None)
+AreFresh (Some force) =
+    (force.index.agenda.known ≡ 0) × (force.index.spans ≡ []) × (force.index.hand ≡ None) × (force.index.looked ≡ None)
 
 -- the rules that are made for a step: where they are made anew those in force behind it, and else none
-abbrev pub AreMade : {R : Type 0} → (R → ℕ) → (R → List ℕ) → (anew : Bool) → Machine → Option (InForce R) → Type 0
+abbrev pub AreMade : {R : Type 0} → (R → ℕ) → (R → List ℕ) → (anew : Bool) → Machine
+    → Option (InForce R) → Type 0
 AreMade format text true m rules = AreLast format text m rules
 AreMade format text false m rules = rules ≡ None
 

@@ -31,7 +31,8 @@ abbrev pub ReadsLast : Machine → Type 0
 ReadsLast m = (text : List ℕ) → numbered m.tables (last_tables m) ≡ Some text → is_tables_text text ≡ true
 
 -- under the rules it is true what is known of items
-abbrev pub IsIndexedUnder : {R : Type 0} → (R → ℕ) → (R → List ℕ) → Machine → Option (InForce R) → Type 0
+abbrev pub IsIndexedUnder : {R : Type 0} → (R → ℕ) → (R → List ℕ) → Machine → Option (InForce R)
+    → Type 0
 IsIndexedUnder format text m None = Unit {0}
 IsIndexedUnder format text m (Some force) = IsIndexed (format force.rules) (text force.rules) m.items force.index
 

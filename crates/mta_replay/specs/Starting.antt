@@ -37,7 +37,8 @@ pub record MayStartNext (s : State) (n generation i : ℕ) (rs : List ℕ) (mome
   pub can : CanStart s lane (last_of lane.sending + 1) i rs moment
 
 -- what it transfers; none exactly where it may not be started
-abbrev pub TransfersNext : State → (n generation i : ℕ) → List ℕ → (moment : ℕ) → Option Transfer → Type 0
+abbrev pub TransfersNext : State → (n generation i : ℕ) → List ℕ → (moment : ℕ) → Option Transfer
+    → Type 0
 TransfersNext s n generation i rs moment None = MayStartNext s n generation i rs moment → ⊥
 TransfersNext s n generation i rs moment (Some transfer) =
     MayStartNext s n generation i rs moment × (transfer ≡ transfer_of s.machine i rs moment)

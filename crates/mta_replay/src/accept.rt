@@ -83,7 +83,7 @@ pub struct Arrival {
 
 /// The item that an Accept makes, at a moment in seconds since 1950-01-01 00:00:00 UTC, and what is found of it then,
 /// from one reading; none exactly where it is not possible.
-#[tactic(auto, using(crate::proofs::Accepts::accept_laws, crate::proofs::Accepts::found_of, crate::proofs::Accepts::decoded_of))]
+#[tactic(auto, using(crate::proofs::Accepts::arrival_laws))]
 pub fn prepare_arrival<R: Rules>(
     alloc: Global,
     rules: &R,

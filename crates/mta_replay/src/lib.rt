@@ -29,6 +29,7 @@ pub use accept::{Arrival, prepare_accept, prepare_arrival, prepare_tables};
 pub use complete::{complete_change, joined_item, prepare_complete};
 pub use deliver::{prepare_affirm, prepare_deliver, prepare_expand};
 pub use law::tables_come_first;
+pub use mta_snapshots::snapshot_of;
 pub use open::prepare_open;
 pub use outcome::{prepare_abandon, prepare_denied, prepare_refused, prepare_sent};
 pub use replay::{InForce, NotMade, Ready, Replay};

@@ -1,13 +1,14 @@
 //! The queues of peers in the state: after each change it is put down of those whom it touches whether they wait.
 
 ghost use Rattle.std.specs.Prelude.{◌≡◌, ◌≤◌, ◌<◌, ◌+◌, ◌^◌, ◌++◌, ◌∷◌, [], List, ℕ, IfOk, OnOk, Some, length};
-ghost use Rattle.std.specs.Prelude.{option_to_list};
+ghost use Rattle.std.specs.Prelude.{IfSome, None, option_to_list};
 ghost use Rattle.mta_machine.specs.Items.{ItemValue, numbered};
 ghost use Rattle.mta_machine.specs.Rules.{route_word};
 ghost use Rattle.mta_queue.specs.Queues.{HasPlaces, HasRoom};
 ghost use Rattle.mta_state.specs.Kept.{state_of};
 ghost use Rattle.mta_state.specs.Parts.{made_items};
-ghost use Rattle.mta_state.specs.Readings.{IsReadingOf};
+ghost use Rattle.mta_state.specs.Readings.{IsDecodedOf, IsReadingOf};
+ghost use Rattle.mta_replay.specs.Expected.{IsReadOfMade};
 ghost use Rattle.mta_replay.specs.Queued.{AreComing, AreQueued, AreRows, GoesOn, IsNamedBy, IsNextRow, IsOnePutDown};
 ghost use Rattle.mta_replay.specs.Queued.{IsPutDown, IsQueuedUpTo, IsRowMore, IsRowOf, made_by, made_in_turn, Nobody};
 ghost use Rattle.mta_replay.specs.Queued.{place_by};
@@ -17,7 +18,7 @@ use crate::touched::Touched;
 use mta_ber::Memory;
 use mta_machine::Item;
 use mta_queue::{Marks, Queues};
-use mta_state::{Change, Kept, Made, Reading, Rules, Settlement};
+use mta_state::{Change, Decoded, Kept, Made, Reading, Rules, Settlement};
 use std::alloc::Global;
 
 // ---- the recipients of items
@@ -64,14 +65,35 @@ fn row_read<R: Rules>(
     Ok(row)
 }
 
+// Those of an item, which is read for it, and what is left of the reading.
+fn row_decoded<R: Rules>(
+    alloc: Global,
+    rules: &R,
+    queues: &Queues,
+    item: &Item,
+) -> Result<(Marks, Decoded), Memory>
+    ensures row { IfOk result (λ found. IsRowOf (R.text rules.now) queues.now.words item.now found.0) }
+    ensures decoded { IfOk result (λ found. IsDecodedOf item.now.octets found.1) }
+{
+    let reading = Reading::read(alloc, item)?;
+    let row = row_read(alloc, rules, queues, item, &reading);
+    let decoded = reading.detach();
+    match row {
+        Ok(row) => Ok((row, decoded)),
+        Err(_) => {
+            decoded.discard();
+            Err(Memory)
+        }
+    }
+}
+
 // Those of an item, which is read for it.
 fn row_of<R: Rules>(alloc: Global, rules: &R, queues: &Queues, item: &Item) -> Result<Marks, Memory>
     ensures { IfOk result (IsRowOf (R.text rules.now) queues.now.words item.now) }
 {
-    let reading = Reading::read(alloc, item)?;
-    let row = row_read(alloc, rules, queues, item, &reading);
-    reading.discard();
-    row
+    let (row, decoded) = row_decoded(alloc, rules, queues, item)?;
+    decoded.discard();
+    Ok(row)
 }
 
 // The recipients of an item that is made, where one is, come behind those of the others.
@@ -93,18 +115,47 @@ fn push_row<R: Rules>(
     Ok(())
 }
 
-// Those of one item.
-fn rows_of_one<R: Rules>(
+/// The recipients of the items that a change makes, in the order in which they are made.
+#[derive(Drop)]
+pub(crate) struct Coming {
+    pub(crate) rows: Vec<Marks>,
+    /// What the one item that is made was read as, where it was read for them.
+    pub(crate) read: Option<Decoded>,
+}
+
+// Nobody comes.
+fn nobody(alloc: Global) -> Coming
+    ensures rows { result.rows.items ≡ [] }
+    ensures read { result.read ≡ None }
+{
+    Coming {
+        rows: Vec::new(alloc),
+        read: None,
+    }
+}
+
+// The recipients of one item, which is read for them.
+fn coming_of_one<R: Rules>(
     alloc: Global,
     rules: &R,
     queues: &Queues,
     item: &Item,
-) -> Result<Vec<Marks>, Memory>
-    ensures { IfOk result (λ rows. AreRows (R.text rules.now) queues.now.words rows.items (item.now ∷ [])) }
+) -> Result<Coming, Memory>
+    ensures rows { IfOk result (λ c. AreRows (R.text rules.now) queues.now.words c.rows.items (item.now ∷ [])) }
+    ensures read { IfOk result (λ c. IfSome c.read (IsDecodedOf item.now.octets)) }
 {
     let mut rows: Vec<Marks> = Vec::new(alloc);
-    rows.push(row_of(alloc, rules, queues, item)?)?;
-    Ok(rows)
+    let (row, decoded) = row_decoded(alloc, rules, queues, item)?;
+    match rows.push(row) {
+        Ok(()) => Ok(Coming {
+            rows,
+            read: Some(decoded),
+        }),
+        Err(_) => {
+            decoded.discard();
+            Err(Memory)
+        }
+    }
 }
 
 /// Those of one item that was read.
@@ -157,31 +208,43 @@ fn rows_in_turn<R: Rules>(
     Ok(rows)
 }
 
+// The recipients that were found without a reading that is kept.
+fn unread(rows: Vec<Marks>) -> Coming
+    ensures rows { result.rows ≡ rows }
+    ensures read { result.read ≡ None }
+{
+    Coming { rows, read: None }
+}
+
 /// The recipients of the items that a change makes, in the order in which they are made. Memory is said to be wanted
 /// where a history begins by the change, which it does only where there are no rules yet.
-pub(crate) fn rows_of<R: Rules>(
+pub(crate) fn coming_of<R: Rules>(
     alloc: Global,
     rules: &R,
     queues: &Queues,
     change: &Change,
-) -> Result<Vec<Marks>, Memory>
-    ensures rows { IfOk result (λ rows.
-        AreRows (R.text rules.now) queues.now.words rows.items (made_by change.now)) }
+) -> Result<Coming, Memory>
+    ensures rows { IfOk result (λ c.
+        AreRows (R.text rules.now) queues.now.words c.rows.items (made_by change.now)) }
+    ensures read { IfOk result (λ c. IfSome c.read (IsReadOfMade change.now)) }
     ensures goes_on { OnOk result (GoesOn change.now) }
 {
     match change {
         Change::Begin { .. } => Err(Memory),
-        Change::Format => Ok(Vec::new(alloc)),
-        Change::Tables { .. } => Ok(Vec::new(alloc)),
-        Change::Accept { item, .. } => rows_of_one(alloc, rules, queues, item),
-        Change::Settle { made, .. } => rows_of_made(alloc, rules, queues, made),
-        Change::Open { .. } => Ok(Vec::new(alloc)),
-        Change::OnLane { .. } => Ok(Vec::new(alloc)),
-        Change::Complete { item, .. } => rows_of_one(alloc, rules, queues, item),
-        Change::Discharge { settlements, .. } => {
-            rows_in_turn(alloc, rules, queues, settlements.as_slice())
-        }
-        Change::Close { .. } => Ok(Vec::new(alloc)),
+        Change::Format => Ok(nobody(alloc)),
+        Change::Tables { .. } => Ok(nobody(alloc)),
+        Change::Accept { item, .. } => coming_of_one(alloc, rules, queues, item),
+        Change::Settle { made, .. } => Ok(unread(rows_of_made(alloc, rules, queues, made)?)),
+        Change::Open { .. } => Ok(nobody(alloc)),
+        Change::OnLane { .. } => Ok(nobody(alloc)),
+        Change::Complete { item, .. } => coming_of_one(alloc, rules, queues, item),
+        Change::Discharge { settlements, .. } => Ok(unread(rows_in_turn(
+            alloc,
+            rules,
+            queues,
+            settlements.as_slice(),
+        )?)),
+        Change::Close { .. } => Ok(nobody(alloc)),
     }
 }
 

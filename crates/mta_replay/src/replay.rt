@@ -24,7 +24,8 @@ ghost use Rattle.mta_state.specs.Readings.{IsDecodedOf, IsReadingOf};
 ghost use Rattle.mta_state.specs.declared.change.Change.TheVariants as Changes;
 ghost use Rattle.mta_dues.specs.Index.{IsIndexed};
 ghost use Rattle.mta_queue.specs.Queues.{HasRoom};
-ghost use Rattle.mta_replay.specs.Expected.{AreAlike, AreQueuedUnder, IsExpected, IsExpectedUnder, MayFollow};
+ghost use Rattle.mta_replay.specs.Expected.{AreAlike, AreQueuedUnder, IsExpected, IsExpectedUnder, IsReadOfLast};
+ghost use Rattle.mta_replay.specs.Expected.{IsReadUnder, MayFollow};
 ghost use Rattle.mta_replay.specs.Found.{IsDecodedItem, IsFound, IsFoundLast, accept_change};
 ghost use Rattle.mta_replay.specs.Queued.{AreComing, AreQueued, IsQueuedUpTo};
 ghost use Rattle.mta_replay.specs.Ready.{IsReady, TakesUp, sets_rules};
@@ -32,7 +33,7 @@ ghost use Rattle.mta_replay.specs.Sound.{IsSound};
 ghost use Rattle.mta_replay.specs.Touched.{IsTouched};
 
 use crate::accept::{Arrival, prepare_arrival};
-use crate::queued::{follow, queues_of, rows_of, rows_read};
+use crate::queued::{coming_of, follow, queues_of, rows_read};
 use crate::touched::{Touched, touched_by};
 use mta_ber::{Memory, Octets};
 use mta_dues::{Index, note};
@@ -76,6 +77,8 @@ pub struct InForce<R: Rules + Drop> {
     pub queues: Queues,
     /// The recipients of the items that a change makes, found before it is made.
     pub coming: Vec<Marks>,
+    /// What the one item that a change makes was read as for that.
+    pub read: Option<Decoded>,
 }
 
 impl<R: Rules + Drop> InForce<R> {
@@ -86,6 +89,7 @@ impl<R: Rules + Drop> InForce<R> {
         ensures known { IfOk result (λ f. f.index.agenda.known ≡ 0) }
         ensures spans { IfOk result (λ f. f.index.spans ≡ []) }
         ensures hand { IfOk result (λ f. f.index.hand ≡ None) }
+        ensures looked { IfOk result (λ f. f.index.looked ≡ None) }
         ensures queued { IfOk result (λ f. AreQueued (R.text rules) (state_of kept.now) f.queues) }
     {
         let queues = queues_of(alloc, &rules, kept)?;
@@ -95,6 +99,7 @@ impl<R: Rules + Drop> InForce<R> {
             index: Index::new(alloc),
             queues,
             coming: Vec::new(alloc),
+            read: None,
         })
     }
 
@@ -107,9 +112,10 @@ impl<R: Rules + Drop> InForce<R> {
             → AreQueued (R.text self.old.rules) s self.new.queues }
         ensures expected { OnOk result (IsExpected R.text self.new change.now) }
     {
-        let rows = rows_of(alloc, &self.rules, &self.queues, change)?;
-        self.queues.reserve(rows.len() + 2, rows.len())?;
-        self.coming = rows;
+        let found = coming_of(alloc, &self.rules, &self.queues, change)?;
+        self.queues.reserve(found.rows.len() + 2, found.rows.len())?;
+        self.coming = found.rows;
+        self.read = found.read;
         Ok(())
     }
 
@@ -132,7 +138,31 @@ impl<R: Rules + Drop> InForce<R> {
         let rows = rows_read(alloc, &self.rules, &self.queues, item, reading)?;
         self.queues.reserve(rows.len() + 2, rows.len())?;
         self.coming = rows;
+        self.read = None;
         Ok(())
+    }
+
+    // What the item that came last was read as is at hand, where it was read. An item with more recipients who are not
+    // all settled stays at hand, since to read that again would cost more.
+    fn keep_read(&mut self, kept: &Kept)
+        requires numbers { length kept.now.parts.items.items < 2 ^ 32 }
+        ensures rules { self.new.rules ≡ self.old.rules }
+        ensures queues { self.new.queues ≡ self.old.queues }
+        ensures indexed { (format : ℕ) (text : List ℕ) → IfSome self.old.read (IsReadOfLast kept.now.parts.items.items)
+            → IsIndexed format text kept.now.parts.items.items self.old.index
+            → IsIndexed format text kept.now.parts.items.items self.new.index }
+    {
+        let number = kept.parts.items.len() as u32;
+        match self.read.take() {
+            None => {}
+            Some(decoded) => {
+                if is_worth_more(kept, &self.index, number) {
+                    decoded.discard();
+                } else {
+                    self.index.keep_decoded(number, decoded);
+                }
+            }
+        }
     }
 
     // The queues follow a change that was made.
@@ -146,10 +176,25 @@ impl<R: Rules + Drop> InForce<R> {
         requires places { HasRoom self.old.queues.queues (length self.old.coming.items + 2) }
         ensures rules { self.new.rules ≡ self.old.rules }
         ensures index { self.new.index ≡ self.old.index }
+        ensures read { self.new.read ≡ self.old.read }
         ensures queued { AreQueued (R.text self.old.rules) (state_of kept.now) self.new.queues }
     {
         let rows = mem::replace(&mut self.coming, Vec::new(self.alloc));
         follow(&self.rules, &mut self.queues, kept, touched, rows);
+    }
+}
+
+// Whether the item whose reading is at hand has more recipients than the one of a number, and not all are settled.
+fn is_worth_more(kept: &Kept, index: &Index, number: u32) -> bool {
+    let Some(hand) = &index.hand else {
+        return false;
+    };
+    match (kept.parts.item(hand.number), kept.parts.item(number)) {
+        (Some(held), Some(item)) => {
+            let count = held.statuses().len();
+            count > item.statuses().len() && held.settled() < count
+        }
+        _ => false,
     }
 }
 
@@ -204,6 +249,21 @@ fn follow_in<R: Rules + Drop>(rules: &mut Option<InForce<R>>, kept: &Kept, touch
     match rules {
         None => {}
         Some(force) => force.follow(kept, touched),
+    }
+}
+
+// What the item that came last was read as is at hand.
+#[tactic(auto, using(crate::proofs::Sounds::sound_with))]
+fn keep_in<R: Rules + Drop>(rules: &mut Option<InForce<R>>, kept: &Kept)
+    ensures { IsReadUnder kept.now.parts.items.items rules.old → IsSound R.format R.text kept.now rules.old
+        → IsSound R.format R.text kept.now rules.new }
+{
+    if kept.parts.items.len() > u32::MAX as usize {
+        return;
+    }
+    match rules {
+        None => {}
+        Some(force) => force.keep_read(kept),
     }
 }
 
@@ -394,7 +454,10 @@ impl<R: Rules + Drop> Replay<R> {
         let touched = touched_by(&self.kept.lanes, &change);
         self.kept.commit(change);
         match rules {
-            None => follow_in(&mut self.rules, &self.kept, touched),
+            None => {
+                follow_in(&mut self.rules, &self.kept, touched);
+                keep_in(&mut self.rules, &self.kept);
+            }
             Some(force) => self.rules = Some(force),
         }
     }

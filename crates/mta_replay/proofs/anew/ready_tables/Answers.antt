@@ -23,7 +23,12 @@ returns-in-Some-prepare_tables-clause-ready g c =
           c.args.text (ap g.R.Rules.format c.in_ok-force.ensures.rules ∙ under.0)
           (ap g.R.Rules.text c.in_ok-force.ensures.rules ∙ (under.1 ∙ c.as_slice.ensures))
           (subst (λ (t : List ℕ). is_tables_text t ≡ true) c.as_slice.ensures under.2);
-      fresh = (c.in_ok-force.ensures.known, c.in_ok-force.ensures.spans, c.in_ok-force.ensures.hand);
+      fresh = (
+        c.in_ok-force.ensures.known,
+        c.in_ok-force.ensures.spans,
+        c.in_ok-force.ensures.hand,
+        c.in_ok-force.ensures.looked,
+      );
       queued = queued_by (g.R.Rules.text force.rules) s (after_step s (Tables c.args.text)) force.queues refl refl
           (subst (λ (r : g.row.R.Denot). AreQueued (g.R.Rules.text r) s force.queues)
           (sym c.in_ok-force.ensures.rules) c.in_ok-force.ensures.queued);
