@@ -7,8 +7,8 @@ use Rattle.std.specs.List.{AllByRecursion, concat}
 use Rattle.std.proofs.lemmas.Bool.{eq-eqb}
 use Rattle.mta_records.specs.declared.state.MailboxLine.{MailboxLine}
 use Rattle.mta_records.specs.declared.state.Origin.TheVariants as Origins
-use Rattle.mta_procedures.specs.declared.verdict.Verdict.{Verdict}
-use Rattle.mta_procedures.specs.declared.verdict.Verdict.TheVariants as Verdicts
+use Rattle.mta_machine.specs.Verdict.{Verdict}
+use Rattle.mta_machine.specs.Verdict.TheVariants as Verdicts
 use Rattle.mta_machine.specs.Items.{ItemValue, Machine, numbered, names, status_at}
 use Rattle.mta_machine.specs.Rules.{Failure, denied, expired, is_tables_text, mailbox_word}
 use Rattle.mta_machine.specs.Machine.{Discharge, delivered, expanded, affirmed, not_delivered, failed, discarded}

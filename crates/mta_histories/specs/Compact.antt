@@ -147,7 +147,8 @@ pub record IsShownAs (old new : ItemValue) : Type 0 where
 -- an item that a record can have shows the same in the snapshot
 abbrev pub SnapshotsShowTheSame : Type 0
 SnapshotsShowTheSame =
-    (moment : ℕ) (named : Bool) (item : ItemValue) → IsSoundItem moment item → length item.octets ≤ longest_stored
+    (moment : ℕ) (named : Bool) (item : ItemValue) → IsSoundItem moment item
+    → length item.octets ≤ longest_stored
     → length (kept_octets named item) ≤ longest_stored → IsShownAs item (item_begun (recorded_item named item))
 
 -- one that a delivery names keeps its octets

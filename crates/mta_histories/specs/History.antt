@@ -17,8 +17,8 @@ use Rattle.mta_records.specs.declared.lane.LaneRole.TheVariants.{Initiator, Resp
 use Rattle.mta_records.specs.declared.step.Step.{Step}
 use Rattle.mta_machine.specs.Apdu.{IsApdu}
 use Rattle.mta_records.specs.declared.state.Origin.TheVariants as Origins
-use Rattle.mta_procedures.specs.declared.verdict.Verdict.{Verdict}
-use Rattle.mta_procedures.specs.declared.verdict.Verdict.TheVariants as Verdicts
+use Rattle.mta_machine.specs.Verdict.{Verdict}
+use Rattle.mta_machine.specs.Verdict.TheVariants as Verdicts
 use Rattle.mta_machine.specs.Items.{ItemValue, Machine, numbered, names, AreDifferent}
 use Rattle.mta_machine.specs.Rules.{Failure, too_long, violated, denied, expired, is_tables_text, names_peer}
 use Rattle.mta_machine.specs.Rules.{is_expired, outgoing_copy}

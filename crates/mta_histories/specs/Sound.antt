@@ -84,7 +84,8 @@ pub record IsSoundTransfer (s : State) (lane : Lane) (t : Transfer) : Type 0 whe
   pub format : (1 ≤ t.format) × (t.format ≤ s.machine.format)
   pub timely : t.moment ≤ s.moment
   pub copy : is_transferring lane.sending ≡ true
-      → t.octets ≡ copied (numbered s.machine.tables t.tables) (numbered s.machine.items t.item) t.recipients t.moment
+      → t.octets ≡ copied (numbered s.machine.tables t.tables)
+      (numbered s.machine.items t.item) t.recipients t.moment
 
 abbrev pub HasSoundTransfer : State → Lane → Option Transfer → Type 0
 HasSoundTransfer s lane None = is_idle lane.sending ≡ true
@@ -104,7 +105,8 @@ pub record IsSoundLane (s : State) (lane : Lane) : Type 0 where
 abbrev pub AreApart : List Lane → Type 0
 AreApart [] = Unit {0}
 AreApart (lane ∷ lanes) =
-    EachLane (λ l. l.role ≡ lane.role → l.peer ≡ lane.peer → l.reference ≡ lane.reference → ⊥) lanes × AreApart lanes
+    EachLane (λ l. l.role ≡ lane.role → l.peer ≡ lane.peer → l.reference ≡ lane.reference → ⊥) lanes
+    × AreApart lanes
 
 -- a state that may be recorded in a snapshot
 pub record IsSound (s : State) : Type 0 where

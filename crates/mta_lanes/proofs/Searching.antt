@@ -5,7 +5,7 @@ use Rattle.std.specs.Prelude.{◌⊎◌, ◌||◌, MatchBool}
 use Rattle.std.specs.List.Sorted.{IsNonDecreasing}
 use Rattle.std.proofs.lemmas.Bool.{cases_lt, eq-eqb, eqb-true}
 use Rattle.mta_lanes.specs.Order.{AreInOrder}
-use Rattle.mta_machine.specs.Items.{names}
+use Rattle.mta_histories.specs.Lanes.{names}
 
 or_true : (a b : Bool) → b ≡ true → (a || b) ≡ true
 or_true true b e = refl

@@ -1,8 +1,7 @@
 //! What an activity transfers.
 
 ghost use Rattle.std.specs.Prelude.{◌≡◌, IfOk, length, Some, true};
-ghost use Rattle.mta_machine.specs.Items.{names};
-ghost use Rattle.mta_histories.specs.Lanes.{is_for};
+ghost use Rattle.mta_histories.specs.Lanes.{is_for, names};
 ghost use Rattle.mta_lanes.specs.Order.{AreInOrder};
 
 use mta_ber::{Memory, Octets};

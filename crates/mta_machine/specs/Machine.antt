@@ -53,7 +53,8 @@ settled None Verdicts.Back = Verdicts.Discard
 settled (Some v) Verdicts.Back = Verdicts.Back
 settled back Verdicts.Discard = Verdicts.Discard
 
-abbrev pub verdict_on : (format : ℕ) → List ItemValue → Option (List ℕ) → Option ItemValue → ℕ → ℕ → Option Verdict
+abbrev pub verdict_on : (format : ℕ) → List ItemValue → Option (List ℕ) → Option ItemValue → ℕ → ℕ
+    → Option Verdict
 verdict_on format items None item r moment = None
 verdict_on format items (Some text) None r moment = None
 verdict_on format items (Some text) (Some item) r moment =

@@ -133,7 +133,8 @@ terms_in format (message v) = terms_of format v.envelope
 terms_in format (probe v) = terms_of format v
 terms_in format (report v) = report_terms
 
-abbrev pub expired_under : (format : ℕ) → Option TablesValue → Option ApduValue → (arrival moment : ℕ) → Bool
+abbrev pub expired_under : (format : ℕ) → Option TablesValue → Option ApduValue → (arrival moment : ℕ)
+    → Bool
 expired_under format None v arrival moment = false
 expired_under format (Some t) None arrival moment = false
 expired_under format (Some t) (Some v) arrival moment =
@@ -252,7 +253,8 @@ is_own Origins.Lane = false
 is_own Origins.Own = true
 
 -- at no moment of its own: what is made is the same at each
-abbrev pub passed_under : List ItemValue → Origin → (arrival : ℕ) → TablesValue → ApduValue → Option ApduValue
+abbrev pub passed_under : List ItemValue → Origin → (arrival : ℕ) → TablesValue → ApduValue
+    → Option ApduValue
 passed_under items origin arrival t (message v) = None
 passed_under items origin arrival t (probe v) = None
 passed_under items origin arrival t (report v) =

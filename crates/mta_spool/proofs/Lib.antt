@@ -24,3 +24,4 @@ pub mod Started
 pub mod TablesKept
 pub mod Pieces
 pub mod Order
+pub mod Crossing

@@ -159,13 +159,15 @@ pub record GoesOnFrom {D T : Type 0} (model : DiskView D) (steps : List Step) (o
   pub spool : (at : ℕ) → IsErrOf result (Whys.NotSpool at) → ⊥
   -- Full comes exactly where the format is to be set and its record would pass the limit
   pub full : (size need : ℕ) → IsErrOf result (Whys.Full size need)
-      → ((after steps).machine.format == 2 ≡ false) × (need ≡ need_of (Format 2)) × (journal_limit < size + need)
+      → ((after steps).machine.format == 2 ≡ false) × (need ≡ need_of (Format 2))
+      × (journal_limit < size + need)
       × ((gate : ℕ) → IsGateFrom old.first gate → size ≡ size_of gate (base (old.first == 23) old.size steps))
   pub fits : IsOk result → (after steps).machine.format == 2 ≡ false → (gate : ℕ) → IsGateFrom old.first gate
       → size_of gate (base (old.first == 23) old.size steps) + need_of (Format 2) ≤ journal_limit
 
 -- what it leaves of each history for which the journal stood
-abbrev pub GoesOn : {D T : Type 0} → DiskView D → (old : JournalShown D) → (before : State) → (new : JournalShown D)
+abbrev pub GoesOn : {D T : Type 0} → DiskView D → (old : JournalShown D) → (before : State)
+    → (new : JournalShown D)
     → (state : State) → Result T OpenWhy → Type 0
 GoesOn model old before new state result =
     (steps : List Step) → IsHeld model old before steps → GoesOnFrom model steps old new state result
@@ -241,7 +243,8 @@ pub record HasNotOpened {D : Type 0} (model : DiskView D) (old new : D) (why : O
   -- it is no spool, and from where on
   pub not_spool : (at : ℕ) → why ≡ Whys.NotSpool at → WhereTold model old (λ f. NoSpoolAt f at)
   -- or the format does not fit
-  pub full : (size need : ℕ) → why ≡ Whys.Full size need → WhereTold model old (λ f. IsFullForFormat f size need)
+  pub full : (size need : ℕ) → why ≡ Whys.Full size need
+      → WhereTold model old (λ f. IsFullForFormat f size need)
   -- one that stands for no history is as it was
   pub kept : StaysOther model old new
   pub told : StaysTold model old new

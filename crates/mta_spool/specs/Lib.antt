@@ -1,3 +1,4 @@
+pub use Rattle.mta_replay.specs.Answers
 pub mod Due
 pub mod Finding
 pub mod GoingOn

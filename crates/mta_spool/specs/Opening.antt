@@ -33,7 +33,8 @@ pub record SameSince {D : Type 0} (model : DiskView D) (f : List ℕ) (old new :
 -- left, and since that sync the same.
 pub data IsLeft {D : Type 0} (model : DiskView D) (f : List ℕ) (old new : D) : Type 0 where
   unsynced : model.content new ≡ model.content old
-      → ((g : List ℕ) → model.left_since new (model.moment old) g → model.may_leave old g) → IsLeft model f old new
+      → ((g : List ℕ) → model.left_since new (model.moment old) g → model.may_leave old g)
+      → IsLeft model f old new
   synced : SameSince model f old new → IsLeft model f old new
 
 -- a disk that stands for no history is as it was

@@ -52,7 +52,8 @@ pub record IsExpected (s : State) (n generation : ℕ) (step : LaneStep) (moment
   pub expected : LaneExpects s lane step moment
 
 -- the lane is open, of this generation, and takes the piece, but the octets are bad
-pub record IsBad (s : State) (n generation : ℕ) (step : LaneStep) (moment : ℕ) (Wrong : Lane → Type 0) : Type 0 where
+pub record IsBad (s : State) (n generation : ℕ) (step : LaneStep) (moment : ℕ)
+    (Wrong : Lane → Type 0) : Type 0 where
   pub lane : Lane
   pub lane_is : lane_at n s.lanes.open_lanes ≡ Some lane
   pub current : generation ≡ lane.generation

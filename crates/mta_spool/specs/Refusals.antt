@@ -52,7 +52,8 @@ pub record IsBoundAgain (s : State) (n : ℕ) (g : Option ℕ) (step : LaneStep)
 -- ---- a lane that is opened
 
 -- it may be opened, if not too many of the role are open with the peer
-pub record MayOpen (s : State) (role : LaneRole) (peer : List ℕ) (name : Identifier) (size window : ℕ) : Type 0 where
+pub record MayOpen (s : State) (role : LaneRole) (peer : List ℕ) (name : Identifier)
+    (size window : ℕ) : Type 0 where
   pub named : NamesPeer (numbered s.machine.tables (last_tables s.machine)) peer
   pub new : EachLane (λ lane. lane.role ≡ role → lane.peer ≡ peer → lane.reference ≡ name → ⊥)
       s.lanes.open_lanes
@@ -69,7 +70,8 @@ abbrev pub IsRefused : State → Class → (moment : ℕ) → StepFault → Type
 IsRefused s (on_lane n g step) moment (Faults.NoLane m) = (m ≡ n) × (lane_at n s.lanes.open_lanes ≡ None)
 IsRefused s (on_lane n g step) moment (Faults.Fenced generation) = IsBoundAgain s n g step generation
 IsRefused s (on_lane n g step) moment Faults.Unexpected = IsUnexpected s n g step moment
-IsRefused s (opens role peer name twa size window) moment Faults.Unexpected = MayOpen s role peer name size window → ⊥
+IsRefused s (opens role peer name twa size window) moment Faults.Unexpected = MayOpen s role peer name size window
+    → ⊥
 IsRefused s (opens role peer name twa size window) moment (Faults.BusyLanes count) =
     MayOpen s role peer name size window × (count ≡ open_with s role peer) × (most_lanes ≤ count)
 IsRefused s c moment fault = ⊥

@@ -13,7 +13,8 @@ use Rattle.mta_replay.specs.declared.replay.NotMade.TheVariants as NotMades
 -- the step of a body was taken up, or it has none that is possible
 pub record HasTaken {T : Type 0} (body : List ℕ) (old new : State) (result : Result T NotMade) : Type 0 where
   pub made : IsOk result
-      → (step : Step) × HasFields step × (body_of step ≡ body) × IsPossible old step × (new ≡ after_step old step)
+      → (step : Step) × HasFields step × (body_of step ≡ body) × IsPossible old step
+      × (new ≡ after_step old step)
   pub impossible : IsErrOf result NotMades.Impossible
       → (step : Step) → HasFields step → body_of step ≡ body → IsPossible old step → ⊥
 

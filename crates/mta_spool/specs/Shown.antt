@@ -44,7 +44,8 @@ pub record Shown (D C : Type 0) : Type 0 where
 
 -- What is kept in memory is sound, and the journal may be appended to: its area, which begins at this gate, is the only
 -- one or the first of two.
-pub record IsSoundAt {R : Type 0} (format : R → ℕ) (text : R → List ℕ) (kept : Kept) (rules : Option (InForce R))
+pub record IsSoundAt {R : Type 0} (format : R → ℕ) (text : R → List ℕ) (kept : Kept)
+    (rules : Option (InForce R))
     (gate : ℕ) : Type 0 where
   pub sound : IsSound format text kept rules
   pub plain : IsPlain gate

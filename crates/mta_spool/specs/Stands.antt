@@ -120,7 +120,8 @@ pub record Makes {D : Type 0} (model : DiskView D) (step : Step) (old : JournalS
   pub row_where : old.ended ≡ false → (f : StepFault) → IsRefused s (class_of step) (when s step) f
       → (fault ≡ Some f) ⊎ (fault ≡ Some StepFaults.Memory)
   -- where it is made it stands behind every history for which they stood
-  pub done : fault ≡ None → (steps : List Step) → IsHeld model old s steps → IsHeld model new s' (steps ++ step ∷ [])
+  pub done : fault ≡ None → (steps : List Step) → IsHeld model old s steps
+      → IsHeld model new s' (steps ++ step ∷ [])
   -- in memory is the state after it, and the spool goes on
   pub changed : fault ≡ None → s' ≡ after_step s step
   pub going : fault ≡ None → new.ended ≡ false

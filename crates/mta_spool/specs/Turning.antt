@@ -39,7 +39,8 @@ pub record Records {D C : Type 0} (model : DiskView D) (text : List ℕ) (old ne
 
 -- A turn at a moment: the step that is next was made, none is due, an earlier step had answered Disk, the step that
 -- is next was refused, or there was no memory to look for it.
-abbrev pub Turns : {D C : Type 0} → DiskView D → ℕ → Shown D C → Shown D C → Result Turned StepFault → Type 0
+abbrev pub Turns : {D C : Type 0} → DiskView D → ℕ → Shown D C → Shown D C → Result Turned StepFault
+    → Type 0
 Turns model when old new (Ok (Did step)) = IsNext old.current when step × Appends model step old new None
 Turns model when old new (Ok (Quiet at)) =
     (old.journal.ended ≡ false) × (at ≡ when) × IsQuiet old.current when × IsUnchanged old new

@@ -36,7 +36,7 @@ fn first_named(
 impl<D: Disk + Drop, C: Clock + Drop> Spool<D, C> {
     ghost use Rattle.mta_spool.specs.Bases.{KeepsOn};
     ghost use Rattle.mta_histories.specs.Due.{HasQueue};
-    ghost use Rattle.mta_dues.specs.Answers.{IsBatchOf};
+    ghost use Rattle.mta_replay.specs.Answers.{IsBatchOf};
     ghost use Rattle.mta_spool.specs.Stands.{AtMoment, TellsFewer};
     ghost use Rattle.mta_spool.specs.Turning.{IsUnchanged};
 

@@ -1,9 +1,9 @@
 //! Replaying the bodies of a journal: the state in memory after them.
 //!
 //! In come the bodies and the offset of the first one's gate. Each body is read as a step (`read_record`), which is
-//! taken up where it is possible after those before it, as a step that is made is, without the journal, and is freed
-//! then. Out goes the state, or the place of the first body that is no such step, or want of memory. The disk is not
-//! called.
+//! taken up where it is possible after those before it, as a step that is made is, without the journal. It is freed
+//! then, and its place in the list goes too (`Rest`). Out goes the state, or the place of the first body that is no such
+//! step, or want of memory. The disk is not called.
 
 ghost use Rattle.std.specs.Prelude.{◌≡◌, ◌<◌, ◌+◌, ◌^◌, length, IfErr, IfOk};
 ghost use Rattle.mta_journal.specs.Bodies.{AreWithin, longest_first, records};
@@ -13,7 +13,7 @@ ghost use Rattle.mta_replay.specs.Sound.{IsSound};
 ghost use Rattle.mta_spool.specs.Replaying.{HasReplayed, HasStopped, HasTaken, open_why};
 
 use mta_ber::Octets;
-use mta_journal::OpenWhy;
+use mta_journal::{OpenWhy, Rest};
 use mta_records::{RecordFault, read_record};
 use mta_replay::{NotMade, Replay};
 use mta_table_rules::TableRules;
@@ -54,7 +54,7 @@ pub fn replay(alloc: Global, first: u64, bodies: Vec<Octets>) -> Result<Replay<T
 {
     let mut replay = Replay::new(alloc);
     let mut at = first;
-    let mut rest = bodies.into_iter();
+    let mut rest = Rest::new(bodies);
     while let Some(body) = rest.next() {
         match take_up(&mut replay, alloc, body.as_slice()) {
             Ok(()) => at += body.len() as u64 + 5,

@@ -100,7 +100,7 @@ impl<D: Disk + Drop, C: Clock + Drop> Spool<D, C> {
     ghost use Rattle.mta_records.specs.declared.step.Step.TheVariants as Steps;
     ghost use Rattle.mta_histories.specs.Classes.{class_of};
     ghost use Rattle.mta_histories.specs.Due.{IsNext};
-    ghost use Rattle.mta_dues.specs.Answers.{IsNextOf};
+    ghost use Rattle.mta_replay.specs.Answers.{IsNextOf};
     ghost use Rattle.mta_histories.specs.Numbers.{numbers_needed};
     ghost use Rattle.mta_spool.specs.Stands.{Appends, AtMoment, fault_of, IsOfNoLane, IsSpent, IsSpentFor};
     ghost use Rattle.mta_spool.specs.Stands.{TellsFewer};

@@ -10,7 +10,7 @@ use Rattle.mta_records.specs.declared.fault.StepFault.{StepFault}
 use Rattle.mta_records.specs.declared.fault.StepFault.TheVariants as StepFaults
 use Rattle.mta_records.specs.Outgoing.{Carried}
 use Rattle.mta_lanes.specs.Finds.{is_spare}
-use Rattle.mta_dues.specs.Answers.{IsBatchOf}
+use Rattle.mta_spool.specs.Answers.{IsBatchOf}
 use Rattle.mta_histories.specs.Lanes.{Lane, lane_at}
 use Rattle.mta_histories.specs.Classes.{secure, complete}
 use Rattle.mta_spool.specs.Looking.{IsFirstNamed, values_of}

@@ -10,7 +10,8 @@ use Rattle.mta_records.specs.contracts.step.Step as step
 use Rattle.mta_session.specs.contracts.limits.Limits as limits
 use Rattle.mta_spool.specs.contracts.spool.Spool as spool
 use Rattle.mta_spool.specs.contracts.historied.SpoolHistoried.TheImpl.{ghosts, no_dict}
-use Rattle.mta_worker.proofs.Crossing.{captures_sync, shared_sync, spool_send}
+use Rattle.mta_spool.proofs.Crossing.{spool_send}
+use Rattle.mta_worker.proofs.Crossing.{captures_sync, shared_sync}
 use Rattle.std.proofs.Common.{subst}
 use Rattle.mta_shared.specs.Passes.{lock_of}
 use Rattle.mta_worker.specs.declared.jobs.Job.{Job}

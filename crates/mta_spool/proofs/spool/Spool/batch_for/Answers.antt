@@ -1,6 +1,6 @@
 use Rattle.std.proofs.Common.{IfOk, ℕ, subst}
 use Rattle.mta_histories.specs.Lanes.{State}
-use Rattle.mta_dues.specs.Answers.{IsBatchOf}
+use Rattle.mta_replay.specs.Answers.{IsBatchOf}
 use Rattle.mta_spool.proofs.spool.Spool.batch_for.Goals as goal
 
 pub returns-clause-batch : goal.returns-clause-batch

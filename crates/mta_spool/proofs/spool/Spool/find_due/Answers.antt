@@ -1,6 +1,6 @@
 use Rattle.std.proofs.Common.{IfOk, ap, subst}
 use Rattle.mta_histories.specs.Lanes.{State}
-use Rattle.mta_dues.specs.Answers.{IsNextOf}
+use Rattle.mta_replay.specs.Answers.{IsNextOf}
 use Rattle.mta_spool.specs.Shown.{Shown}
 use Rattle.mta_spool.proofs.spool.Spool.find_due.Goals as goal
 
