@@ -38,7 +38,8 @@ ReadApdusAreKept = (bytes : List ℕ) (v : ApduValue) → SpellsApdu bytes v →
 
 -- so an APDU that was read is written so that it is read again
 abbrev pub ReadApdusAreReadAgain : Type 0
-ReadApdusAreReadAgain = (bytes : List ℕ) (v : ApduValue) → SpellsApdu bytes v → length (canonical_apdu v) ≤ longest_apdu
+ReadApdusAreReadAgain = (bytes : List ℕ) (v : ApduValue) → SpellsApdu bytes v
+    → length (canonical_apdu v) ≤ longest_apdu
     → apdu_of (canonical_apdu v) ≡ Ok (in_one_piece v)
 
 -- an APDU that is kept is read again from its canonical octets, also where they are more than may be submitted
@@ -55,5 +56,6 @@ SubmittedApdusAreStored = (bytes : List ℕ) → length bytes ≤ longest_apdu �
 
 -- no spelling begins another, and each is that of one value
 abbrev pub NoApduBeginsAnother : Type 0
-NoApduBeginsAnother = (e e' x y : List ℕ) (v w : ApduValue) → SpellsApdu e v → SpellsApdu e' w → e ++ x ≡ e' ++ y
+NoApduBeginsAnother = (e e' x y : List ℕ) (v w : ApduValue) → SpellsApdu e v → SpellsApdu e' w → e ++ x ≡ e'
+    ++ y
     → (e ≡ e') × (v ≡ w)

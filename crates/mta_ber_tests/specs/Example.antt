@@ -35,7 +35,8 @@ note_in p =
 
 -- ---- what a component makes where octets spell it
 
-pub record MakesTitle (depth : ℕ) (before : NoteParts) (tag : Tag) (content : List ℕ) (after : NoteParts) : Type 0 where
+pub record MakesTitle (depth : ℕ) (before : NoteParts) (tag : Tag) (content : List ℕ)
+    (after : NoteParts) : Type 0 where
   pub is_tag_of : is_tag 2 0 tag ≡ true
   pub absent : before.title ≡ None
   pub title : List ℕ
@@ -49,7 +50,8 @@ pub record MakesCount (before : NoteParts) (tag : Tag) (content : List ℕ) (aft
   pub spelled : SpellsInteger (pos 0) (pos 100) tag.constructed content count
   pub after_is : after ≡ record before { count = Some count }
 
-pub record MakesFlags (depth : ℕ) (before : NoteParts) (tag : Tag) (content : List ℕ) (after : NoteParts) : Type 0 where
+pub record MakesFlags (depth : ℕ) (before : NoteParts) (tag : Tag) (content : List ℕ)
+    (after : NoteParts) : Type 0 where
   pub is_tag_of : is_tag 2 2 tag ≡ true
   pub absent : before.flags ≡ None
   pub flags : BitString

@@ -60,7 +60,8 @@ pub data IsText {D C I : Type 0} (h : Handed D C I) (ends : List WorkerEnd) (add
       → ForFound h (λ found. text ≡ queue_of (after found))
       → IsText h ends added opened text
   of_serve : (text : List ℕ) → Serves h.words → InputsRead h → PeersNamed h
-      → length ends ≡ length (roles_named h.words) → text ≡ station_lines ends → IsText h ends added opened text
+      → length ends ≡ length (roles_named h.words) → text ≡ station_lines ends
+      → IsText h ends added opened text
   of_mailbox : (name text : List ℕ) → h.words ≡ Some (Say.Mailbox name)
       → ForFound h (λ found. mailbox_named (after found) name ≢ None)
       → ForFound h (λ found. text ≡ mailbox_of name (after found))
@@ -68,7 +69,8 @@ pub data IsText {D C I : Type 0} (h : Handed D C I) (ends : List WorkerEnd) (add
   of_decode : (text : List ℕ) → h.words ≡ Some Say.Decode
       → ForInput h (λ i. (v : ApduValue) × SpellsApdu i v × (text ≡ apdu_text v))
       → IsText h ends added uncalled text
-  of_drill : (messages : ℕ) (text : List ℕ) → h.words ≡ Some (Say.Drill messages) → text ≡ drill_text messages
+  of_drill : (messages : ℕ) (text : List ℕ) → h.words ≡ Some (Say.Drill messages)
+      → text ≡ drill_text messages
       → IsText h ends added uncalled text
 
 -- Why a run stopped so, behind these added steps, and how far it had come with the disk. Each cause is met in its
@@ -86,7 +88,8 @@ pub data Cause {D C I : Type 0} (h : Handed D C I) (ends : List WorkerEnd) (adde
       (Stops.BadApdu at kind)
   not_spool : (at : ℕ) → OpensDisk h.words → InputsRead h → ForDisk h (λ f. NoSpoolAt f at)
       → Cause h ends added refused (Stops.NotSpool at)
-  full_opening : (size need : ℕ) → OpensDisk h.words → InputsRead h → ForDisk h (λ f. IsFullForFormat f size need)
+  full_opening : (size need : ℕ) → OpensDisk h.words → InputsRead h
+      → ForDisk h (λ f. IsFullForFormat f size need)
       → Cause h ends added refused (Stops.Full size need)
   not_opened : OpensDisk h.words → InputsRead h → DiskFailed h → Cause h ends added refused Stops.Disk
   disk : AddsSteps h.words → InputsRead h → DiskFailed h → Cause h ends added opened Stops.Disk

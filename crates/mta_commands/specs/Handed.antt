@@ -63,7 +63,8 @@ module _ {D C I : Type 0} (h : Handed D C I) where
   -- what holds of those octets and of the history with which opening them goes on
   abbrev pub ForOpenedDisk : (List ℕ → List Step → Type 0) → Type 0
   ForOpenedDisk P =
-      (f : List ℕ) (found steps : List Step) → h.disks.content h.disk.before ≡ Some f → Opens f found steps → P f steps
+      (f : List ℕ) (found steps : List Step) → h.disks.content h.disk.before ≡ Some f → Opens f found steps
+      → P f steps
 
   -- what holds of that history
   abbrev pub ForOpened : (List Step → Type 0) → Type 0

@@ -43,7 +43,8 @@ pub record Synced {D : Type 0} (disks : DiskView D) (f : List ℕ) (steps added 
 
 -- what a crash leaves of the disk of a run, which was handed in with these octets, and from which opening goes on with
 -- these steps
-abbrev pub IsSafe : {D : Type 0} → DiskView D → (f : List ℕ) → (steps added torn_step : List Step) → (old new : D)
+abbrev pub IsSafe : {D : Type 0} → DiskView D → (f : List ℕ) → (steps added torn_step : List Step)
+    → (old new : D)
     → Type 0
 IsSafe disks f steps added torn_step old new = Unsynced disks (added ++ torn_step) old new
     ⊎ Stopped disks f (added ++ torn_step) old new
@@ -51,7 +52,8 @@ IsSafe disks f steps added torn_step old new = Unsynced disks (added ++ torn_ste
 
 -- a crash at any moment of the call leaves what one before it might have left, or a history that opening these octets
 -- may leave, or the one with which opening goes on with a beginning of these steps
-abbrev pub IsSafeBefore : {D : Type 0} → DiskView D → (f : List ℕ) → (steps tried : List Step) → (old new : D) → Type 0
+abbrev pub IsSafeBefore : {D : Type 0} → DiskView D → (f : List ℕ) → (steps tried : List Step) → (old new : D)
+    → Type 0
 IsSafeBefore disks f steps tried old new =
     (g : List ℕ) → disks.left_since new (disks.moment old) g
     → disks.may_leave old g ⊎ IsLeftByOpening f g ⊎ Reached steps tried g

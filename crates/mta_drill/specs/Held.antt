@@ -54,7 +54,8 @@ AreSent items before last =
 -- and so is each with its content
 abbrev pub AreMessages : List ItemValue → (before last : ℕ) → Type 0
 AreMessages items before last =
-    (k : ℕ) (item : ItemValue) → k ≤ last → numbered items k ≡ Some item → IsMessage item.octets (before + k)
+    (k : ℕ) (item : ItemValue) → k ≤ last → numbered items k ≡ Some item
+    → IsMessage item.octets (before + k)
 
 -- it is the delivery of the item of this number to watt
 abbrev pub IsDelivery : ℕ → MailboxLine → Type 0

@@ -42,7 +42,8 @@ content_type_and_trace = 70 ∷ 1 ∷ 22 ∷ 105 ∷ 0 ∷ []
 -- delivered
 abbrev pub recipients_octets : List ℕ
 recipients_octets =
-    162 ∷ 35 ∷ 49 ∷ 33 ∷ 96 ∷ 24 ∷ 48 ∷ 22 ∷ 97 ∷ 4 ∷ 19 ∷ 2 ∷ codes "GB" ++ (98 ∷ 6 ∷ 19 ∷ 4 ∷ codes "GOLD")
+    162 ∷ 35 ∷ 49 ∷ 33 ∷ 96 ∷ 24 ∷ 48 ∷ 22 ∷ 97 ∷ 4 ∷ 19 ∷ 2 ∷ codes "GB"
+    ++ (98 ∷ 6 ∷ 19 ∷ 4 ∷ codes "GOLD")
     ++ (165 ∷ 6 ∷ 128 ∷ 4 ∷ codes "WATT" ++ (128 ∷ 1 ∷ 1 ∷ 129 ∷ 2 ∷ 0 ∷ 168 ∷ []))
 
 -- the message's identifier: its domain and its local part

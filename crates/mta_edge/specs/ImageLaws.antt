@@ -16,14 +16,16 @@ seen_at_end [] k now le = refl
 seen_at_end (call ∷ log) zero now le = absurd (omega arith)
 seen_at_end (call ∷ log) (suc k) now le = seen_at_end log k now (omega arith)
 
-pub left_at_end : (d : HeldDisk) (k : ℕ) (g : List ℕ) → length d.log ≤ k → LeftAt d k g → MayLeave d.log d.octets g
+pub left_at_end : (d : HeldDisk) (k : ℕ) (g : List ℕ) → length d.log ≤ k → LeftAt d k g
+    → MayLeave d.log d.octets g
 left_at_end d k g le left =
     let same = take_all k d.log le in
     let seen = seen_at_end d.log k d.octets le in
     subst (λ (log : List Called). MayLeave log d.octets g) same
     (subst (λ (now : List ℕ). MayLeave (take k d.log) now g) seen left)
 
-pub at_end_left : (d : HeldDisk) (k : ℕ) (g : List ℕ) → length d.log ≤ k → MayLeave d.log d.octets g → LeftAt d k g
+pub at_end_left : (d : HeldDisk) (k : ℕ) (g : List ℕ) → length d.log ≤ k → MayLeave d.log d.octets g
+    → LeftAt d k g
 at_end_left d k g le may =
     let same = take_all k d.log le in
     let seen = seen_at_end d.log k d.octets le in
@@ -34,7 +36,8 @@ at_end_left d k g le may =
 pub some_same : (a b : List ℕ) → ◌≡◌ {A = Option (List ℕ)} (Some a) (Some b) → b ≡ a
 some_same a b e = cc
 
-counts_at_end : (d : HeldDisk) (t : ℕ) (g : List ℕ) → t ≤ length d.log → MayLeave d.log d.octets g → LeftSince d t g
+counts_at_end : (d : HeldDisk) (t : ℕ) (g : List ℕ) → t ≤ length d.log → MayLeave d.log d.octets g
+    → LeftSince d t g
 counts_at_end d t g le may = record {
   calls = length d.log;
   from = le;

@@ -166,7 +166,8 @@ no_envelope probe = record {
 
 -- ---- what spells a component
 
-abbrev pub MakesEnvelopePart : EnvelopePart → ℕ → EnvelopeParts → Tag → List ℕ → List ℕ → EnvelopeParts → Type 0
+abbrev pub MakesEnvelopePart : EnvelopePart → ℕ → EnvelopeParts → Tag → List ℕ → List ℕ
+    → EnvelopeParts → Type 0
 MakesEnvelopePart Originator depth s tag content octets after = (s.originator ≡ None)
     × Puts (SpellsName depth tag.constructed content) (with_originator s) after
 MakesEnvelopePart Identifier depth s tag content octets after = (s.id ≡ None)

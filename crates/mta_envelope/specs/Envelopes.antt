@@ -94,7 +94,8 @@ indicators_or_none o = unwrap_or o eight_zeros
 abbrev pub priority_or_normal : Option Priority → Priority
 priority_or_normal o = unwrap_or o Normal
 
-abbrev pub envelope : Attributes → MtsIdFields → ContentKind → List TraceFields → List RecipientFields → EnvelopeParts
+abbrev pub envelope : Attributes → MtsIdFields → ContentKind → List TraceFields → List RecipientFields
+    → EnvelopeParts
     → EnvelopeFields
 envelope originator id content_kind trace recipients s = record {
   id = id;

@@ -49,7 +49,8 @@ pub record KeepsEnvelope (depth : ℕ) (v : EnvelopeFields) : Type 0 where
 
 -- a message whose octets a length can count is read again as its envelope and its content, which stands in one piece
 abbrev pub MessagesAreReadAgain : Type 0
-MessagesAreReadAgain = (v : EnvelopeFields) (content more : List ℕ) (at : ℕ) → IsWholeEnvelope v → IsOfKind false v
+MessagesAreReadAgain = (v : EnvelopeFields) (content more : List ℕ) (at : ℕ) → IsWholeEnvelope v
+    → IsOfKind false v
     → KeepsEnvelope 2 v → length (canonical_message v content) < 2 ^ 64
     → (first at (canonical_message v content ++ more) >>= with_rest message_in) ≡ beside
     (message_as v (content_as true content)) more

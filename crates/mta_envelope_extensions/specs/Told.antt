@@ -72,7 +72,8 @@ is_topic _ _ = false
 -- the values of the fields of a topic
 abbrev pub values_of : Topic → List ExtFields → List (List ℕ)
 values_of topic [] = []
-values_of topic (f ∷ fs) = if is_topic topic (topic_of f.kind) then f.value ∷ values_of topic fs else values_of topic fs
+values_of topic (f ∷ fs) = if is_topic topic (topic_of f.kind) then f.value ∷
+    values_of topic fs else values_of topic fs
 
 -- nothing is said where there is no field of the topic, and where there is one its value says it; there are no two
 abbrev pub Says : Topic → List (List ℕ) → Option Said → Type 0

@@ -95,7 +95,8 @@ SpellsSaid LatestDelivery depth tag content _ = ⊥
 SpellsSaid ExpansionProhibited depth tag content _ = ⊥
 SpellsSaid Other depth tag content _ = ⊥
 
-pub record SpellsValue (topic : Topic) (depth : ℕ) (tag : Tag) (content octets : List ℕ) (v : ExtValue) : Type 0 where
+pub record SpellsValue (topic : Topic) (depth : ℕ) (tag : Tag) (content octets : List ℕ)
+    (v : ExtValue) : Type 0 where
   pub said : SpellsSaid topic depth tag content v.said
   pub octets_are : v.octets ≡ octets
 

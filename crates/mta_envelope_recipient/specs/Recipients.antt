@@ -107,7 +107,8 @@ recipient_in p = components_under 0 17 recipient_step no_recipient p >>= finishe
 
 -- ---- what spells a recipient
 
-abbrev pub MakesRecipientPart : RecipientPart → ℕ → RecipientParts → Tag → List ℕ → List ℕ → RecipientParts → Type 0
+abbrev pub MakesRecipientPart : RecipientPart → ℕ → RecipientParts → Tag → List ℕ → List ℕ
+    → RecipientParts → Type 0
 MakesRecipientPart Addressee depth s tag content octets after = (s.name ≡ None)
     × Puts (SpellsName depth tag.constructed content) (with_name s) after
 MakesRecipientPart Number depth s tag content octets after = (s.number ≡ None)

@@ -85,7 +85,8 @@ domain_in p = components_under 1 3 domain_step no_domain p >>= λ s. required s.
 
 -- ---- what spells a domain
 
-abbrev pub MakesDomainPart : DomainPart → ℕ → DomainParts → Tag → List ℕ → List ℕ → DomainParts → Type 0
+abbrev pub MakesDomainPart : DomainPart → ℕ → DomainParts → Tag → List ℕ → List ℕ → DomainParts
+    → Type 0
 MakesDomainPart Country depth s tag content octets after =
     Puts (SpellsLabel IsCountry depth tag.constructed content) (with_country s) after
 MakesDomainPart Admd depth s tag content octets after = Puts (SpellsLabel (IsLabel 0 16) depth tag.constructed content)

@@ -72,7 +72,8 @@ expansion_in p = components_under 0 16 expansion_step no_expansion p >>= λ s. r
 
 -- ---- what spells an expansion
 
-abbrev pub MakesExpansionPart : ExpansionPart → ℕ → ExpansionParts → Tag → List ℕ → ExpansionParts → Type 0
+abbrev pub MakesExpansionPart : ExpansionPart → ℕ → ExpansionParts → Tag → List ℕ → ExpansionParts
+    → Type 0
 MakesExpansionPart Name depth s tag content after = Puts (SpellsName depth tag.constructed content) (with_name s) after
 MakesExpansionPart Time depth s tag content after =
     Puts (SpellsMoment depth tag.constructed content) (with_moment s) after

@@ -71,15 +71,18 @@ MtsIdentifiersAreReadAgain = (depth : ℕ) (v : MtsIdFields) → IsWholeId v →
     → IsReadAgain id_in depth (canonical_id v) v
 
 abbrev pub SuppliedInformationIsReadAgain : Type 0
-SuppliedInformationIsReadAgain = (depth : ℕ) (v : Supplied) → IsWholeSupplied v → KeepsSupplied depth v → depth + 3 ≤ 16
+SuppliedInformationIsReadAgain = (depth : ℕ) (v : Supplied) → IsWholeSupplied v → KeepsSupplied depth v
+    → depth + 3 ≤ 16
     → IsReadAgain supplied_in depth (canonical_supplied v) v
 
 abbrev pub TraceElementsAreReadAgain : Type 0
-TraceElementsAreReadAgain = (depth : ℕ) (v : TraceFields) → IsWholeTrace v → KeepsTrace depth v → depth + 4 ≤ 16
+TraceElementsAreReadAgain = (depth : ℕ) (v : TraceFields) → IsWholeTrace v → KeepsTrace depth v
+    → depth + 4 ≤ 16
     → IsReadAgain trace_in depth (canonical_trace v) v
 
 abbrev pub ExtensionFieldsAreReadAgain : Type 0
-ExtensionFieldsAreReadAgain = (depth : ℕ) (v : ExtFields) → IsExtField v → KeepsExtField depth v → depth + 2 ≤ 16
+ExtensionFieldsAreReadAgain = (depth : ℕ) (v : ExtFields) → IsExtField v → KeepsExtField depth v
+    → depth + 2 ≤ 16
     → IsReadAgain ext_in depth (canonical_ext v) v
 
 abbrev pub ExpansionsAreReadAgain : Type 0

@@ -126,7 +126,8 @@ supplied arrival action s = record {
 }
 
 unfoldable pub supplied_in : Part → Result Supplied Fault
-supplied_in p = components supplied_step no_supplied p >>= λ s. required s.arrival p.at >>= λ m. required s.action p.at
+supplied_in p = components supplied_step no_supplied p >>= λ s. required s.arrival p.at >>= λ m. required s.action
+    p.at
     >>= λ a. Ok (supplied m a s)
 
 -- ---- what spells it
@@ -134,7 +135,8 @@ supplied_in p = components supplied_step no_supplied p >>= λ s. required s.arri
 pub record SpellsAction (constructed : Bool) (content : List ℕ) (a : Action) : Type 0 where
   pub spelled : SpellsNumber 0 1 constructed content (action_number a)
 
-abbrev pub MakesSuppliedPart : SuppliedPart → ℕ → SuppliedParts → Tag → List ℕ → List ℕ → SuppliedParts → Type 0
+abbrev pub MakesSuppliedPart : SuppliedPart → ℕ → SuppliedParts → Tag → List ℕ → List ℕ
+    → SuppliedParts → Type 0
 MakesSuppliedPart Arrival depth s tag content octets after = (s.arrival ≡ None)
     × Puts (SpellsMoment depth tag.constructed content) (with_arrival s) after
 MakesSuppliedPart Deferred depth s tag content octets after = (s.deferred ≡ None)

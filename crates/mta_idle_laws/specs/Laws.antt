@@ -21,13 +21,15 @@ pub record StaysUntil (format : ℕ) (text octets : List ℕ) (arrival moment un
 abbrev pub VerdictsStay : Type 0
 VerdictsStay =
     (format : ℕ) (text octets : List ℕ) (arrival moment until : ℕ)
-    → next_change format text octets arrival moment ≡ Some until → StaysUntil format text octets arrival moment until
+    → next_change format text octets arrival moment ≡ Some until
+    → StaysUntil format text octets arrival moment until
 
 -- and where no change is to come nothing changes any more
 abbrev pub VerdictsAreLast : Type 0
 VerdictsAreLast =
     (format : ℕ) (text octets : List ℕ) (arrival moment n : ℕ)
-    → next_change format text octets arrival moment ≡ None → moment ≤ n → AreSame format text octets arrival n moment
+    → next_change format text octets arrival moment ≡ None → moment ≤ n
+    → AreSame format text octets arrival n moment
 
 -- an item is idle from a moment on until the next change, where nothing is called for at that moment
 abbrev pub IdleUntilNext : Type 0

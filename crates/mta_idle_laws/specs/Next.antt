@@ -17,7 +17,8 @@ up_to_deferral now (Some d) until = if nat_lt now d then min d until else until
 abbrev pub next_in : Situation → Terms → Option ℕ
 next_in s t = if is_expired s t then None else Some (up_to_deferral s.moment t.deferral (expiry s t))
 
-abbrev pub next_under : (format : ℕ) → Option TablesValue → Option ApduValue → (arrival moment : ℕ) → Option ℕ
+abbrev pub next_under : (format : ℕ) → Option TablesValue → Option ApduValue → (arrival moment : ℕ)
+    → Option ℕ
 next_under format None v arrival moment = None
 next_under format (Some t) None arrival moment = None
 next_under format (Some t) (Some v) arrival moment = next_in (situation t arrival moment) (terms_in format v)

@@ -13,7 +13,8 @@ use Rattle.mta_machine.specs.Rules.{route_word, tables_value, terms_in, verdict_
 abbrev pub span_in : Situation → Terms → ℕ × ℕ
 span_in s t = (unwrap_or t.deferral 0, expiry s t)
 
-abbrev pub span_under : (format : ℕ) → Option TablesValue → Option ApduValue → (arrival : ℕ) → Option (ℕ × ℕ)
+abbrev pub span_under : (format : ℕ) → Option TablesValue → Option ApduValue → (arrival : ℕ)
+    → Option (ℕ × ℕ)
 span_under format None v arrival = None
 span_under format (Some t) None arrival = None
 span_under format (Some t) (Some v) arrival = Some (span_in (situation t arrival arrival) (terms_in format v))

@@ -22,7 +22,8 @@ IsInFirst image found = HasBodiesAt 23 (map body_of found) image
 pub data IsWeighed (image : List ℕ) (found : List Step) (first_of_two : Bool) (size : ℕ) : Type 0 where
   in_first : IsInFirst image found → first_of_two ≡ true → size ≡ size_of 23 found
       → IsWeighed image found first_of_two size
-  elsewhere : (IsInFirst image found → ⊥) → first_of_two ≡ false → size ≡ 0 → IsWeighed image found first_of_two size
+  elsewhere : (IsInFirst image found → ⊥) → first_of_two ≡ false → size ≡ 0
+      → IsWeighed image found first_of_two size
 
 -- the image stands for this history, and this decides whether it is compacted
 pub record IsFound (image : List ℕ) (found : List Step) : Type 0 where
@@ -70,7 +71,8 @@ EachIsOpened = (image : List ℕ) (found : List Step) → StandsFor image found 
 -- and in one only
 abbrev pub OneOpening : Type 0
 OneOpening =
-    (image : List ℕ) (found other goes_on goes_on' : List Step) → Opens image found goes_on → Opens image other goes_on'
+    (image : List ℕ) (found other goes_on goes_on' : List Step) → Opens image found goes_on
+    → Opens image other goes_on'
     → (found ≡ other) × (goes_on ≡ goes_on')
 
 -- with which it goes on may be left

@@ -26,7 +26,8 @@ CallOthers (r ∷ rs) = ((peer : List ℕ) → r ≡ Roles.Out peer → IsCalled
 
 -- One station had all sessions of the lane, or there were none. Their lists, in the order in which they were served,
 -- have the steps of both halves that the history has from one length on, in its order, and the two ends agree.
-pub record LaneServed {L : Type 0} (links : LinkView L) (spells : List ℕ → Bool) (first entries : List Step) (low : ℕ)
+pub record LaneServed {L : Type 0} (links : LinkView L) (spells : List ℕ → Bool) (first entries : List Step)
+    (low : ℕ)
     (all : AllParts links spells first entries low) (before added : List Seen) (lane size window : ℕ) : Type 0 where
   pub served : List Segment
   pub station : IsStation served all.by_station ⊎ (served ≡ [])

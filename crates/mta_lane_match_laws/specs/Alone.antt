@@ -8,9 +8,11 @@ use Rattle.mta_lane_match_laws.specs.Steps.{IsOthers}
 
 -- From this position on no entry that is not own is a step of the session's lane and generation, but a Bind, a
 -- CloseLane or an Abandon.
-abbrev pub HasLaneAlone : (lane generation : ℕ) → (history : List Step) → (owns : ℕ → Bool) → (from : ℕ) → Type 0
+abbrev pub HasLaneAlone : (lane generation : ℕ) → (history : List Step) → (owns : ℕ → Bool) → (from : ℕ)
+    → Type 0
 HasLaneAlone l h history owns from =
-    (p : ℕ) (step : Step) → from ≤ p → slice_get history p ≡ Some step → owns p ≡ false → IsOthers l h (class_of step)
+    (p : ℕ) (step : Step) → from ≤ p → slice_get history p ≡ Some step → owns p ≡ false
+    → IsOthers l h (class_of step)
 
 -- Who has it alone in a longer history had it before.
 abbrev pub AloneBefore : Type 0
@@ -24,4 +26,5 @@ abbrev pub AloneKeeps : Type 0
 AloneKeeps =
     (t : Known) (before more : List Step) (owns : ℕ → Bool) (from : ℕ) → IsHistory (before ++ more)
     → from ≤ length before → HasLaneAlone t.lane t.generation (before ++ more) owns from
-    → ((p : ℕ) → length before ≤ p → owns p ≡ false) → Matches t (after before) → Matches t (after (before ++ more))
+    → ((p : ℕ) → length before ≤ p → owns p ≡ false) → Matches t (after before)
+    → Matches t (after (before ++ more))

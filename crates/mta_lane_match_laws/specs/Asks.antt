@@ -47,7 +47,8 @@ abbrev pub IsLast : State → Ask → Type 0
 IsLast t (ask.CloseLane lane generation) = (lane ≡ t.lane) × (generation ≡ t.generation)
 IsLast t (ask.Denied lane generation k) =
     (lane ≡ t.lane) × (generation ≡ t.generation) × (k ≡ last_of t.send.state)
-IsLast t (ask.Sent lane generation k) = (lane ≡ t.lane) × (generation ≡ t.generation) × (k ≡ last_of t.send.state)
+IsLast t (ask.Sent lane generation k) = (lane ≡ t.lane) × (generation ≡ t.generation)
+    × (k ≡ last_of t.send.state)
 IsLast t a = ⊥
 
 -- Each step is asked for on the session's lane and generation, and so is each look. A responder that has no lane yet

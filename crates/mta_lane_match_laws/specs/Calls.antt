@@ -136,7 +136,8 @@ ActionsKnow =
 -- One call: behind it the session knows what it knew, and what the event told.
 abbrev pub CallsKnow : Type 0
 CallsKnow =
-    (p : Pieces) (t : State) (e : Event) (a : Action) (new : State) → follows_lane t.phase ≡ true → Follows t e a new
+    (p : Pieces) (t : State) (e : Event) (a : Action) (new : State) → follows_lane t.phase ≡ true
+    → Follows t e a new
     → Knows (learned_by p t e) new
 
 -- a session that has a lane, from the looks behind its Bind down to its last step

@@ -46,7 +46,8 @@ OwnStepsMatch =
 -- a new lane of this initiator's session
 abbrev pub OpensMatch : Type 0
 OpensMatch =
-    (p : InitiatorPlan) (units : ℕ) (s : spool.State) (moment : ℕ) → AreNumbered 0 s.lanes.open_lanes s.lanes.count
+    (p : InitiatorPlan) (units : ℕ) (s : spool.State) (moment : ℕ)
+    → AreNumbered 0 s.lanes.open_lanes s.lanes.count
     → p.lane ≡ s.lanes.count + 1 → p.generation ≡ 1
     → MatchesIn (in_phase (new_initiator p units) phase.PutsOpen) []
     (after_step s (step.LaneOpen Initiator p.peer p.reference p.twa p.checkpoint p.window moment))

@@ -83,5 +83,6 @@ LooksAnswer =
 -- .. and behind the last one the session knows its lane.
 abbrev pub LooksLead : Type 0
 LooksLead =
-    (t : State) (lane : Lane) (x : Reply) → IsWhole lane → IsLook t.phase x → IsLookedAt t.phase t lane → Tells lane x
+    (t : State) (lane : Lane) (x : Reply) → IsWhole lane → IsLook t.phase x → IsLookedAt t.phase t lane
+    → Tells lane x
     → LookLeads lane (wanted_of_reply t.phase t x)

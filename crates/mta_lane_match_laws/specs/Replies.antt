@@ -95,7 +95,8 @@ pub record MayKeep (lane : Lane) (step : RecvStep) (piece : List ℕ) : Type 0 w
 -- A piece that is handed on may be kept: it is refused only where the pieces are too many octets or spell no APDU.
 abbrev pub PiecesMayBeKept : Type 0
 PiecesMayBeKept =
-    (t : State) (pieces : List (List ℕ)) (lane : Lane) (k n : ℕ) (piece : List ℕ) → FitsAt phase.Puts t → IsWhole lane
+    (t : State) (pieces : List (List ℕ)) (lane : Lane) (k n : ℕ) (piece : List ℕ) → FitsAt phase.Puts t
+    → IsWhole lane
     → IsKnown (known t pieces) lane
     → (r.MayMake t.recv (r.Secure k n piece) → MayKeep lane (recv.Secure k n) piece)
     × (r.MayMake t.recv (r.Complete k n piece) → MayKeep lane (recv.Complete k n) piece)

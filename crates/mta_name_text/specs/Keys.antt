@@ -11,7 +11,8 @@ use Rattle.mta_name_text.specs.Forms.{key_text}
 
 -- in their order
 abbrev pub keys : List Key
-keys = Country ∷ Admd ∷ Prmd ∷ Organization ∷ Unit ∷ Surname ∷ Given ∷ Initials ∷ Generation ∷ Common ∷ Network ∷
+keys = Country ∷ Admd ∷ Prmd ∷ Organization ∷ Unit ∷ Surname ∷ Given ∷ Initials ∷ Generation ∷ Common
+    ∷ Network ∷
     Terminal ∷ User ∷ Pair ∷ []
 
 abbrev pub place_of : Key → ℕ

@@ -16,7 +16,8 @@ NameFormsAreWhatIsRead = (text : List ℕ) (n : Attributes) → (name_of_text te
 
 -- the text forms are the texts that are written of names of which they say all
 abbrev pub TextFormsAreWhatIsWritten : Type 0
-TextFormsAreWhatIsWritten = (text : List ℕ) (n : Attributes) → IsTextForm text n ↔ (IsTold n × (text ≡ text_form n))
+TextFormsAreWhatIsWritten = (text : List ℕ) (n : Attributes)
+    → IsTextForm text n ↔ (IsTold n × (text ≡ text_form n))
 
 -- that octet is at fault which is the first at which no text form of a name goes on
 abbrev pub NameFaultsAreFirst : Type 0
@@ -29,4 +30,5 @@ PatternFormsAreWhatIsRead = (text : List ℕ) (values : List (List ℕ))
 
 -- that octet is at fault which is the first at which no text form of a pattern goes on
 abbrev pub PatternFaultsAreFirst : Type 0
-PatternFaultsAreFirst = (text : List ℕ) (at : ℕ) → (pattern_of_text text ≡ Err at) ↔ IsFirstFault Patterns text at
+PatternFaultsAreFirst = (text : List ℕ) (at : ℕ)
+    → (pattern_of_text text ≡ Err at) ↔ IsFirstFault Patterns text at

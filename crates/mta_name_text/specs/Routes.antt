@@ -11,7 +11,8 @@ present t = Some t
 -- the attributes that routes go by, in their order: country, administration domain, private domain, organization, and
 -- the units
 abbrev pub route_attributes : Attributes → List (Option (List ℕ))
-route_attributes n = option_map label_text n.country ∷ option_map label_text n.admd ∷ option_map label_text n.prmd ∷
+route_attributes n = option_map label_text n.country ∷ option_map label_text n.admd ∷
+    option_map label_text n.prmd ∷
     n.organization ∷ map present n.units
 
 abbrev pub normal_of : Option (List ℕ) → Option (List ℕ)

@@ -26,7 +26,8 @@ pub record FitsName (depth : ℕ) (n : Attributes) : Type 0 where
 
 -- then all that it keeps unread does
 abbrev pub NamesThatFitAreKept : Type 0
-NamesThatFitAreKept = (depth : ℕ) (n : Attributes) → IsName n → FitsName depth n → depth + 3 ≤ 16 → KeepsName depth n
+NamesThatFitAreKept = (depth : ℕ) (n : Attributes) → IsName n → FitsName depth n → depth + 3 ≤ 16
+    → KeepsName depth n
 
 -- and it is read again where it is written
 abbrev pub NamesThatFitAreReadAgain : Type 0

@@ -31,7 +31,8 @@ IsReadAgain read depth octets v = length octets < 2 ^ 64 → (at : ℕ) (more : 
     → (part at depth (octets ++ more) >>= with_rest read) ≡ beside v more
 
 -- octets that spell a value in a level
-pub record IsSpelling {A : Type 0} (spells : ℕ → Bool → List ℕ → A → Type 0) (depth : ℕ) (octets : List ℕ)
+pub record IsSpelling {A : Type 0} (spells : ℕ → Bool → List ℕ → A → Type 0) (depth : ℕ)
+    (octets : List ℕ)
     (v : A) : Type 0 where
   pub tag : Tag
   pub content : List ℕ
@@ -71,7 +72,8 @@ CountriesAreReadAgain = (class number depth : ℕ) (l : Label) → IsTag (constr
 
 abbrev pub LabelsAreReadAgain : Type 0
 LabelsAreReadAgain = (class number low high depth : ℕ) (l : Label) → IsTag (constructed class number)
-    → IsLabel low high l → depth + 1 ≤ 16 → IsReadAgain (label_in low high) depth (canonical_label class number l) l
+    → IsLabel low high l → depth + 1 ≤ 16
+    → IsReadAgain (label_in low high) depth (canonical_label class number l) l
 
 -- a label whose string has no tag around it
 abbrev pub LabelChoicesAreReadAgain : Type 0
@@ -132,7 +134,8 @@ ReadNamesAreKept = (depth : ℕ) (c : Bool) (content : List ℕ) (n : Attributes
 
 -- and in each level above
 abbrev pub KeptNamesAreKeptAbove : Type 0
-KeptNamesAreKeptAbove = (depth above : ℕ) (n : Attributes) → above ≤ depth → KeepsName depth n → KeepsName above n
+KeptNamesAreKeptAbove = (depth above : ℕ) (n : Attributes) → above ≤ depth → KeepsName depth n
+    → KeepsName above n
 
 -- so a name that was read is read again where it is written in the level where it was read, or above
 abbrev pub ReadNamesAreReadAgain : Type 0

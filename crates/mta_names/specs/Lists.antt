@@ -20,10 +20,12 @@ use Rattle.mta_names.specs.declared.pair.PairParts.{PairParts}
 use Rattle.mta_names.specs.Strings.{item_step, counted, AddsItem, Puts}
 
 -- a list of `low` to `high` items
-abbrev pub list_in : {X : Type 0} → (Tag → Bool) → (Part → Result X Fault) → ℕ → ℕ → Part → Result (List X) Fault
+abbrev pub list_in : {X : Type 0} → (Tag → Bool) → (Part → Result X Fault) → ℕ → ℕ → Part
+    → Result (List X) Fault
 list_in is_item read low high p = components (item_step is_item read) [] p >>= counted p.at low high
 
-pub record SpellsList {X : Type 0} (is_item : Tag → Bool) (spells : Spells X) (low high depth : ℕ) (constructed : Bool)
+pub record SpellsList {X : Type 0} (is_item : Tag → Bool) (spells : Spells X) (low high depth : ℕ)
+    (constructed : Bool)
     (content : List ℕ) (xs : List X) : Type 0 where
   pub is_constructed : constructed ≡ true
   pub spelled : SpellsComponents (AddsItem is_item spells) depth [] content xs
@@ -81,7 +83,8 @@ abbrev pub pair : List ℕ → List ℕ → PairFields
 pair kind value = record { kind = kind; value = value }
 
 unfoldable pub pair_in : Part → Result PairFields Fault
-pair_in p = components pair_step no_pair p >>= λ s. required s.kind p.at >>= λ kind. required s.value p.at >>= λ value.
+pair_in p = components pair_step no_pair p >>= λ s. required s.kind p.at >>= λ kind. required s.value p.at >>=
+    λ value.
     Ok (pair kind value)
 
 abbrev pub pairs_step : List PairFields → Part → Result (List PairFields) Fault
@@ -91,12 +94,14 @@ unfoldable pub pairs_in : Part → Result (List PairFields) Fault
 pairs_in p = list_in is_sequence pair_in 1 4 p
 
 -- the type, where nothing stands before it, or the value, where the type alone does
-pub record MakesKind (depth : ℕ) (before : PairParts) (tag : Tag) (content : List ℕ) (after : PairParts) : Type 0 where
+pub record MakesKind (depth : ℕ) (before : PairParts) (tag : Tag) (content : List ℕ)
+    (after : PairParts) : Type 0 where
   pub no_kind : before.kind ≡ None
   pub no_value : before.value ≡ None
   pub puts : Puts (SpellsText Printable 1 8 depth tag.constructed content) (λ t. record before { kind = Some t }) after
 
-pub record MakesValue (depth : ℕ) (before : PairParts) (tag : Tag) (content : List ℕ) (after : PairParts) : Type 0 where
+pub record MakesValue (depth : ℕ) (before : PairParts) (tag : Tag) (content : List ℕ)
+    (after : PairParts) : Type 0 where
   pub some_kind : is_some before.kind ≡ true
   pub no_value : before.value ≡ None
   pub puts : Puts (SpellsText Printable 1 128 depth tag.constructed content)

@@ -28,7 +28,8 @@ SpellsNumber low high constructed content n = SpellsInteger (pos low) (pos high)
 -- ---- lists: SEQUENCE OF and SET OF
 
 -- one item more
-abbrev pub item_step : {X : Type 0} → (Tag → Bool) → (Part → Result X Fault) → List X → Part → Result (List X) Fault
+abbrev pub item_step : {X : Type 0} → (Tag → Bool) → (Part → Result X Fault) → List X → Part
+    → Result (List X) Fault
 item_step is_item read xs p = if is_item p.tag then (read p >>= λ x. Ok (xs ++ x ∷ [])) else fault p.at BadTag
 
 -- a list of so many items
@@ -36,7 +37,8 @@ abbrev pub counted : {X : Type 0} → ℕ → ℕ → ℕ → List X → Result 
 counted at low high xs = if between low high (length xs) then Ok xs else fault at BadSize
 
 -- what an item adds to a list
-pub record AddsItem {X : Type 0} (is_item : Tag → Bool) (spells : Spells X) (depth : ℕ) (before : List X) (tag : Tag)
+pub record AddsItem {X : Type 0} (is_item : Tag → Bool) (spells : Spells X) (depth : ℕ) (before : List X)
+    (tag : Tag)
     (content octets : List ℕ) (after : List X) : Type 0 where
   pub is_item_tag : is_item tag ≡ true
   pub item : X

@@ -52,7 +52,8 @@ MessagesHaveTheirVerdicts =
 
 abbrev pub ProbesHaveTheirVerdicts : Type 0
 ProbesHaveTheirVerdicts =
-    (format : ℕ) (s : Situation) (e : EnvelopeFields) (r : RecipientFields) → IsOfProbes (verdict_of_probe format s e r)
+    (format : ℕ) (s : Situation) (e : EnvelopeFields) (r : RecipientFields)
+    → IsOfProbes (verdict_of_probe format s e r)
 
 abbrev pub ReportsMakeNoReports : Type 0
 ReportsMakeNoReports = (s : Situation) (p : ReportFields) (back : Bool) → IsOfReports (verdict_of_report s p back)
@@ -88,7 +89,8 @@ pub record IsExpanded (s : Situation) (m : MessageValue) (hop : Hop) (members pl
 abbrev pub ExpandedMessagesHaveRoom : Type 0
 ExpandedMessagesHaveRoom =
     (format : ℕ) (s : Situation) (m : MessageValue) (r : RecipientFields) (members place : ℕ)
-    → verdict_of_message format s m r members ≡ Expand place → IsExpanded s m (best_hop s.tables r.name) members place
+    → verdict_of_message format s m r members ≡ Expand place
+    → IsExpanded s m (best_hop s.tables r.name) members place
 
 -- ---- reports that are made
 

@@ -45,7 +45,8 @@ is_unwanted e l = not (may_post l (poster e))
 
 -- what an envelope and a recipient say in a format, for a hop, a length of the members' copy and a length of the copy
 -- for a peer
-abbrev pub envelope_facts : (format : ℕ) → Situation → EnvelopeFields → RecipientFields → Hop → ℕ → ℕ → Facts
+abbrev pub envelope_facts : (format : ℕ) → Situation → EnvelopeFields → RecipientFields → Hop → ℕ → ℕ
+    → Facts
 envelope_facts format s e r hop members copy = record {
   hop = hop;
   looped = has_looped s e.trace;

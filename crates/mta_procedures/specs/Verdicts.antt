@@ -129,7 +129,8 @@ report_column hop back _ = Discard
 -- ---- verdicts
 
 -- of a recipient of a message in a format, where the members' copy would have so many octets
-unfoldable pub verdict_of_message : (format : ℕ) → Situation → MessageValue → RecipientFields → ℕ → Verdict
+unfoldable pub verdict_of_message : (format : ℕ) → Situation → MessageValue → RecipientFields → ℕ
+    → Verdict
 verdict_of_message format s m r members =
     message_column (best_hop s.tables r.name) (unwrap_or m.envelope.deferral 0)
     (first_case (facts_of_message format s m r members))

@@ -98,7 +98,8 @@ values_at at zero octets = Ok ([], octets)
 values_at at (suc count) octets = at octets >>= λ x. values_at at count x.1 >>= λ xs. Ok (x.0 ∷ xs.0, xs.1)
 
 -- their number, and the values; each of them is a field
-abbrev pub listed_at : {A : Type 0} → (List ℕ → Result (A × List ℕ) ℕ) → List ℕ → Result (List A × List ℕ) ℕ
+abbrev pub listed_at : {A : Type 0} → (List ℕ → Result (A × List ℕ) ℕ) → List ℕ
+    → Result (List A × List ℕ) ℕ
 listed_at at octets = number_at w32 octets >>= λ count. values_at at count.0 count.1
 
 abbrev pub listed : {A : Type 0} → (A → List ℕ) → List A → List ℕ

@@ -42,7 +42,8 @@ abbrev pub with_first : TablesValue → Result (List TablesValue) Bad → Result
 with_first t (Ok ts) = Ok (t ∷ ts)
 with_first t (Err b) = Err b
 
-abbrev pub none_or : (List ℕ → Result (List TablesValue) Bad) → Option (List ℕ) → Result (List TablesValue) Bad
+abbrev pub none_or : (List ℕ → Result (List TablesValue) Bad) → Option (List ℕ)
+    → Result (List TablesValue) Bad
 none_or next None = Ok []
 none_or next (Some rest) = next rest
 
@@ -75,7 +76,8 @@ IsAdded read old new (Err Stops.Memory) = Unit {0}
 IsAdded read old new (Err other) = ⊥
 
 -- what is read stands behind the tables that were there, unless there is a bad line or memory runs out
-abbrev pub AddsRead : Result (List TablesValue) Bad → (old new : List TablesValue) → Result (Unit {0}) Stop → Type 0
+abbrev pub AddsRead : Result (List TablesValue) Bad → (old new : List TablesValue) → Result (Unit {0}) Stop
+    → Type 0
 AddsRead read old new (Ok done) = (ts : List TablesValue) × (read ≡ Ok ts) × (new ≡ old ++ ts)
 AddsRead read old new (Err (Stops.Tables line kind)) = read ≡ bad line kind
 AddsRead read old new (Err Stops.Memory) = Unit {0}
@@ -102,14 +104,16 @@ pub record AreTablesIn (told : Option (List ℕ)) (agents : List TablesValue) : 
 -- the tables that the octets have, or why there are none
 abbrev pub AreRead : Option (List ℕ) → (failed : Type 0) → Result (List TablesValue) Stop → Type 0
 AreRead told failed (Ok agents) = AreTablesIn told agents
-AreRead told failed (Err (Stops.Tables line kind)) = (c : List ℕ) → told ≡ Some c → network_of c ≡ bad line kind
+AreRead told failed (Err (Stops.Tables line kind)) = (c : List ℕ) → told ≡ Some c
+    → network_of c ≡ bad line kind
 AreRead told failed (Err Stops.Source) = failed
 AreRead told failed (Err Stops.Memory) = Unit {0}
 AreRead told failed (Err other) = ⊥
 
 abbrev pub AreOctets : Option (List ℕ) → (failed : Type 0) → Result (List ℕ) Stop → Type 0
 AreOctets told failed (Ok octets) = IsTold told octets × (length octets ≤ 1048576)
-AreOctets told failed (Err (Stops.Tables line kind)) = (c : List ℕ) → told ≡ Some c → network_of c ≡ bad line kind
+AreOctets told failed (Err (Stops.Tables line kind)) = (c : List ℕ) → told ≡ Some c
+    → network_of c ≡ bad line kind
 AreOctets told failed (Err Stops.Source) = failed
 AreOctets told failed (Err Stops.Memory) = Unit {0}
 AreOctets told failed (Err other) = ⊥

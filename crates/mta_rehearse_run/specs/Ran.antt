@@ -33,7 +33,8 @@ pub data CallsFor (asked : Option Asked) (octets : List ℕ) : ℕ → Type 0 wh
   usage : asked ≡ None → CallsFor asked octets 1
   bad_line : (a : Asked) (line : ℕ) (kind : LineKind) → asked ≡ Some a → network_of octets ≡ bad line kind
       → CallsFor asked octets 2
-  twice : (a : Asked) (agents : List TablesValue) (number : ℕ) → asked ≡ Some a → network_of octets ≡ Ok agents
+  twice : (a : Asked) (agents : List TablesValue) (number : ℕ) → asked ≡ Some a
+      → network_of octets ≡ Ok agents
       → IsFirstTwice agents number → CallsFor asked octets 19
   no_agent : (a : Asked) (agents : List TablesValue) → asked ≡ Some a → network_of octets ≡ Ok agents
       → AreApart agents → agent_named agents a.agent ≡ None → CallsFor asked octets 10
@@ -49,7 +50,8 @@ IsOrFails wanted failed out status =
 -- the words and the octets call for this status; or memory ran out, or the source or the output failed
 abbrev pub IsCalledForOrFails : Option Asked → List ℕ → (failed : Type 0) → Output → ℕ → Type 0
 IsCalledForOrFails asked octets failed out status =
-    CallsFor asked octets status ⊎ (status ≡ 7) ⊎ ((status ≡ 8) × failed) ⊎ ((status ≡ 9) × OutputFailed out)
+    CallsFor asked octets status ⊎ (status ≡ 7) ⊎ ((status ≡ 8) × failed)
+    ⊎ ((status ≡ 9) × OutputFailed out)
 
 -- the statuses of walks
 abbrev pub IsOfWalk : ℕ → Type 0
@@ -99,7 +101,8 @@ pub record AllInOrder {I : Type 0} (sources : SourceView I) (asked : Option Aske
   pub calm_output : OutputFailed out → ⊥
 
 -- Then the status is that of a walk, or memory ran out.
-abbrev pub IsComplete : {I : Type 0} → SourceView I → Option Asked → (conf conf_after : I) → Output → ℕ → Type 0
+abbrev pub IsComplete : {I : Type 0} → SourceView I → Option Asked → (conf conf_after : I) → Output → ℕ
+    → Type 0
 IsComplete sources asked conf conf_after out status =
     AllInOrder sources asked conf conf_after out
     → (status ≡ 0) ⊎ (status ≡ 20) ⊎ (status ≡ 21) ⊎ (status ≡ 7)

@@ -154,7 +154,8 @@ content_in p = components content_step no_content p >>= λ s. content_from s p.a
 
 -- ---- what spells a content
 
-abbrev pub MakesContentPart : ContentPart → ℕ → ContentParts → Tag → List ℕ → List ℕ → ContentParts → Type 0
+abbrev pub MakesContentPart : ContentPart → ℕ → ContentParts → Tag → List ℕ → List ℕ → ContentParts
+    → Type 0
 MakesContentPart Subject depth s tag content octets after = Puts (SpellsMtsId depth tag content) (with_subject s) after
 MakesContentPart Eits depth s tag content octets after = Puts (λ x. x ≡ octets) (with_eits s) after
 MakesContentPart ContentType depth s tag content octets after =

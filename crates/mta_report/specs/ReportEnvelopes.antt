@@ -94,7 +94,8 @@ envelope_in p = components envelope_step no_envelope p >>= λ s. envelope_from s
 
 -- ---- what spells an envelope
 
-abbrev pub MakesEnvelopePart : EnvelopePart → ℕ → EnvelopeParts → Tag → List ℕ → List ℕ → EnvelopeParts → Type 0
+abbrev pub MakesEnvelopePart : EnvelopePart → ℕ → EnvelopeParts → Tag → List ℕ → List ℕ
+    → EnvelopeParts → Type 0
 MakesEnvelopePart Destination depth s tag content octets after =
     Puts (SpellsName depth tag.constructed content) (with_destination s) after
 MakesEnvelopePart Identifier depth s tag content octets after = Puts (SpellsMtsId depth tag content) (with_id s) after

@@ -70,7 +70,8 @@ delivery_in p = components delivery_step no_delivery p >>= λ s. delivery_from s
 
 -- ---- what spells a delivery
 
-abbrev pub MakesDeliveryPart : DeliveryPart → ℕ → DeliveryParts → Tag → List ℕ → List ℕ → DeliveryParts → Type 0
+abbrev pub MakesDeliveryPart : DeliveryPart → ℕ → DeliveryParts → Tag → List ℕ → List ℕ
+    → DeliveryParts → Type 0
 MakesDeliveryPart Moment depth s tag content octets after =
     Puts (SpellsMoment depth tag.constructed content) (with_moment s) after
 MakesDeliveryPart User depth s tag content octets after =

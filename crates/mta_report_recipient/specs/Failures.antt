@@ -67,7 +67,8 @@ failure_in p = components failure_step no_failure p >>= λ s. failure_from s p.a
 
 -- ---- what spells a non-delivery
 
-abbrev pub MakesFailurePart : FailurePart → ℕ → FailureParts → Tag → List ℕ → List ℕ → FailureParts → Type 0
+abbrev pub MakesFailurePart : FailurePart → ℕ → FailureParts → Tag → List ℕ → List ℕ → FailureParts
+    → Type 0
 MakesFailurePart Reason depth s tag content octets after =
     Puts (SpellsNumber 0 32767 tag.constructed content) (with_reason s) after
 MakesFailurePart Diagnostic depth s tag content octets after =

@@ -28,7 +28,8 @@ pub record KeepsReported (depth : ℕ) (v : ReportedFields) : Type 0 where
 
 -- the law; the level is such that all that is written stands in the sixteen levels
 abbrev pub RecipientsAreReadAgain : Type 0
-RecipientsAreReadAgain = (depth : ℕ) (v : ReportedFields) → IsWholeReported v → KeepsReported depth v → depth + 5 ≤ 16
+RecipientsAreReadAgain = (depth : ℕ) (v : ReportedFields) → IsWholeReported v → KeepsReported depth v
+    → depth + 5 ≤ 16
     → IsReadAgain reported_in depth (canonical_reported v) v
 
 -- a recipient that was read keeps what it keeps in the level of its place, and is one; the value of an extension that

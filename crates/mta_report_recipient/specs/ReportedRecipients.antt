@@ -139,7 +139,8 @@ reported_in p = components_under 0 17 reported_step no_reported p >>= λ s. repo
 
 -- ---- what spells a recipient of whom is reported
 
-abbrev pub MakesReportedPart : ReportedPart → ℕ → ReportedParts → Tag → List ℕ → List ℕ → ReportedParts → Type 0
+abbrev pub MakesReportedPart : ReportedPart → ℕ → ReportedParts → Tag → List ℕ → List ℕ
+    → ReportedParts → Type 0
 MakesReportedPart Actual depth s tag content octets after =
     Puts (SpellsName depth tag.constructed content) (with_name s) after
 MakesReportedPart Number depth s tag content octets after =
@@ -150,7 +151,8 @@ MakesReportedPart Last depth s tag content octets after =
     Puts (SpellsLast depth tag.constructed content) (with_last s) after
 MakesReportedPart Intended depth s tag content octets after =
     Puts (SpellsName depth tag.constructed content) (with_intended s) after
-MakesReportedPart Supplementary depth s tag content octets after = Puts (λ x. x ≡ octets) (with_supplementary s) after
+MakesReportedPart Supplementary depth s tag content octets after =
+    Puts (λ x. x ≡ octets) (with_supplementary s) after
 MakesReportedPart Extensions depth s tag content octets after =
     Puts (SpellsExtList depth tag.constructed content) (with_extensions s) after
 

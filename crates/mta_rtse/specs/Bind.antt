@@ -37,7 +37,8 @@ bind_step s p =
     if is_tag 2 0 p.tag then (vacant (is_some s.name) p.at (word_in p) >>= λ w. Ok (record s { name = Some w }))
     else if is_constructed_tag 2 1 p.tag then
     (vacant (is_some s.password) p.at (explicit_password_in p) >>= λ o. Ok (record s { password = Some o }))
-    else if is_tag 2 2 p.tag then (vacant s.context p.at (Ok tt) >>= λ (_ : Unit {0}). Ok (record s { context = true }))
+    else if is_tag 2 2 p.tag then (vacant s.context p.at (Ok tt) >>= λ (_ : Unit {0}). Ok
+    (record s { context = true }))
     else fault p.at BadTag
 
 abbrev pub no_bind : BindParts

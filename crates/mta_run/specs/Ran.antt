@@ -120,7 +120,8 @@ pub record Tells {D C I : Type 0} (h : Handed D C I) (out : Output) (status : �
   pub usage_where : h.words ≡ None → (status ≡ 1) ⊎ (status ≡ 7) ⊎ ((status ≡ 9) × OutputFailed out)
   -- 11 comes only where a message of a drill is lost, and a drill ends with 0 or so, but for the same
   pub lost : status ≡ 11 → Drills h.words
-  pub drills : Drills h.words → (status ≡ 0) ⊎ (status ≡ 11) ⊎ (status ≡ 7) ⊎ ((status ≡ 9) × OutputFailed out)
+  pub drills : Drills h.words → (status ≡ 0) ⊎ (status ≡ 11) ⊎ (status ≡ 7)
+      ⊎ ((status ≡ 9) × OutputFailed out)
   pub disk : status ≡ 4 → OpensDisk h.words × DiskFailed h
   pub source : status ≡ 8 → SourceFailed h
   pub sink : status ≡ 9 → OutputFailed out

@@ -98,7 +98,8 @@ pub data StationsLeft {D C I L S : Type 0} (h : Handed D C I) (links : LinkView 
   Untouched : after ≡ before → ends ≡ []
       → (Serves h.words → opening ≡ opened → AreOfRun h (added ++ torn_step))
       → StationsLeft h links stations sessions before after opening ends added torn_step
-  Worked : Serves h.words → (limits : Limits) (front workers back : List Step) (base : Base) → AreLimits sessions limits
+  Worked : Serves h.words → (limits : Limits) (front workers back : List Step) (base : Base)
+      → AreLimits sessions limits
       → opening ≡ opened → added ≡ front ++ (workers ++ back)
       → IsBaseOf h base → AreOfRun h front
       → (all : AreWorkers h.disks h.clocks links stations limits before after ends front base (front ++ workers))

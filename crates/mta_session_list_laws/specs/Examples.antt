@@ -153,7 +153,8 @@ given_up_calls =
     (event.Reply (reply.LaneAgree (Ok tt))) (action.Ask (ask.BatchFor [])) (sender phase.AsksBatch true true idle) 2 ∷
     call (sender phase.AsksBatch true true idle)
     (event.Reply (reply.BatchFor (Ok (Some (record { item = 1; recipients = 1 ∷ [] })))))
-    (action.Ask (ask.Start 1 1 (record { item = 1; recipients = 1 ∷ [] }))) (sender phase.AsksStart true true idle) 2 ∷
+    (action.Ask (ask.Start 1 1 (record { item = 1; recipients = 1 ∷ [] })))
+    (sender phase.AsksStart true true idle) 2 ∷
     call (sender phase.AsksStart true true idle)
     (event.Reply (reply.Start (Ok (record { activity = 1; octets = two })))) (action.Put (unit.Start 1))
     (sender phase.Puts true true (sending (state.Sending 1 0) two true (s.Next 1 0))) 3 ∷

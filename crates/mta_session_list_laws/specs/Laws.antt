@@ -126,7 +126,8 @@ SendOwesNothingAt lane v a (y ∷ ys) = SendOwesAt v a y
     × SendOwesNothingAt lane (turn_after v y) (send_all a (sending_event lane y)) ys
 
 -- The list keeps the rules of a sending end, and owes nothing where a unit is got.
-pub record KeepsSending (history : List Seen) (lane size window : ℕ) (initiator : Bool) (l : SessionList) : Type 0 where
+pub record KeepsSending (history : List Seen) (lane size window : ℕ) (initiator : Bool)
+    (l : SessionList) : Type 0 where
   pub good : IsGoodSending history lane size window (not initiator) (sending_list lane l)
   pub owes : SendOwesNothingAt lane Before_accept (end_begun history lane size window l.at initiator) l.events
 

@@ -42,7 +42,8 @@ step_by p e t = None
 -- The list of a session with these calls from its first state on, where the history has what they tell; without the
 -- Abandons of other passes. An initiator's lane was opened or bound before its first call. A responder has its lane
 -- from the call on whose reply says so, and what it did before is the opening.
-pub data IsListOf (spells : List ℕ → Bool) (history : List Seen) : State → List Call → (lane : ℕ) → SessionList
+pub data IsListOf (spells : List ℕ → Bool) (history : List Seen) : State → List Call → (lane : ℕ)
+    → SessionList
     → Type 0 where
   Initiates :
       (p : InitiatorPlan) (units at : ℕ) (calls : List Call) → HasAt history at (step_for p)

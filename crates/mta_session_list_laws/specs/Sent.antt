@@ -39,7 +39,8 @@ NoneGoesOn =
 -- A lane comes to drop an activity by its Abandon alone: where a look tells so, an Abandon stands before it.
 abbrev pub NoneDrops : Type 0
 NoneDrops =
-    (spells : List ℕ → Bool) (history : List Seen) (lane k from upto : ℕ) → LanesAllow spells history → from ≤ upto
+    (spells : List ℕ → Bool) (history : List Seen) (lane k from upto : ℕ) → LanesAllow spells history
+    → from ≤ upto
     → upto ≤ length history → IsKept history lane k from upto
     → ((lane_upto history lane (take from history)).state ≡ Dropping k → ⊥)
     → (lane_upto history lane (take upto history)).state ≡ Dropping k → ⊥

@@ -44,12 +44,14 @@ IsTrue spells history (ask.Complete lane g k n piece) (reply.Complete (Err (Bad 
 IsTrue spells history a x = Unit {0}
 
 -- a look that is answered at this length of the history, behind that one
-pub record Looks (spells : List ℕ → Bool) (history : List Seen) (from seen : ℕ) (a : Ask) (x : Reply) : Type 0 where
+pub record Looks (spells : List ℕ → Bool) (history : List Seen) (from seen : ℕ) (a : Ask)
+    (x : Reply) : Type 0 where
   pub later : from ≤ seen
   pub within : seen ≤ length history
   pub told : IsTrue spells (take seen history) a x
 
-abbrev pub StandsAs : (List ℕ → Bool) → List Seen → (from seen : ℕ) → Ask → Reply → Option StepOn → Type 0
+abbrev pub StandsAs : (List ℕ → Bool) → List Seen → (from seen : ℕ) → Ask → Reply → Option StepOn
+    → Type 0
 StandsAs spells history from seen a x (Some step) = Stands history from seen step
 StandsAs spells history from seen a x None = Looks spells history from seen a x
 

@@ -138,13 +138,15 @@ module _ {E V : Type 0} (first : V → ℕ) (entries : V → List E) (meets : V 
     pub fact : meets value m.0.base
 
   abbrev pub looked : Step (Option V) → Me (Option V) (View E) → ℕ → Me (Option V) (View E) → Type 0
-  looked st m r n = (r ≡ slice_index m.0.ticket 0 % 2 ^ 64 → Took m n) × (r ≢ slice_index m.0.ticket 0 % 2 ^ 64 → n ≡ m)
+  looked st m r n = (r ≡ slice_index m.0.ticket 0 % 2 ^ 64 → Took m n)
+      × (r ≢ slice_index m.0.ticket 0 % 2 ^ 64 → n ≡ m)
 
 module _ {E V : Type 0} where
   abbrev pub drawn : Step (Option V) → Me (Option V) (View E) → ℕ → Me (Option V) (View E) → Type 0
   drawn st m r n = (t : ℕ) × (n ≡ (with_ticket t m.0, m.1)) × (r ≡ t % 2 ^ 64)
 
-  abbrev pub served : (V → List E) → Step (Option V) → Me (Option V) (View E) → ℕ → Me (Option V) (View E) → Type 0
+  abbrev pub served : (V → List E) → Step (Option V) → Me (Option V) (View E) → ℕ → Me (Option V) (View E)
+      → Type 0
   served entries st m r n = (x : V) → m.1 ≡ (0, Some x) ∷ [] → n ≡ (after_turn (entries x) m.0, [])
 
   abbrev pub compared : Step (Option V) → Me (Option V) (View E) → ℕ → Me (Option V) (View E) → Type 0

@@ -26,4 +26,5 @@ QueuesPrintTheSame = (s : State) → IsSound s → HasShortItems s → queue_of 
 -- So does each mailbox: an item that a delivery names keeps its content.
 abbrev pub MailboxesPrintTheSame : Type 0
 MailboxesPrintTheSame =
-    (name : List ℕ) (s : State) → IsSound s → HasShortItems s → mailbox_of name (compacted s) ≡ mailbox_of name s
+    (name : List ℕ) (s : State) → IsSound s → HasShortItems s
+    → mailbox_of name (compacted s) ≡ mailbox_of name s

@@ -25,7 +25,8 @@ Spreads flags codes (Some statuses) = AreAsMany flags codes × (statuses.items �
 
 -- The octets spell an APDU, there are as many codes as recipients for whom this agent is responsible, and the statuses
 -- are these codes, none of which is of a later moment.
-pub record HasRead (moment : ℕ) (octets : List ℕ) (codes : List Status) (statuses : List (Option Status)) : Type 0 where
+pub record HasRead (moment : ℕ) (octets : List ℕ) (codes : List Status)
+    (statuses : List (Option Status)) : Type 0 where
   pub value : ApduValue
   pub stored : IsStoredAs octets value
   pub many : AreAsMany (responsible_in value) codes

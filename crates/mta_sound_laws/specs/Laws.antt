@@ -20,7 +20,8 @@ StepsMakeWritten =
 -- so every possible step keeps soundness, where its numbers and moments are such as a record has
 abbrev pub RecordedStepsStaySound : Type 0
 RecordedStepsStaySound =
-    (s : State) (step : Step) → HasFields step → IsKept s → IsSound s → IsPossible s step → IsSound (after_step s step)
+    (s : State) (step : Step) → HasFields step → IsKept s → IsSound s → IsPossible s step
+    → IsSound (after_step s step)
 
 -- and the state after a history may be recorded in a snapshot
 abbrev pub HistoriesAreSound : Type 0

@@ -22,7 +22,8 @@ SnapshotsAnswerTheSame =
 -- So it is behind the history for which a disk stands and behind the one with which opening it goes on.
 abbrev pub OpeningAnswersTheSame : Type 0
 OpeningAnswersTheSame =
-    (asked : Asked) (look : List ℕ → ℕ → Standing) (f : List ℕ) (found steps : List Step) → Opens f found steps
+    (asked : Asked) (look : List ℕ → ℕ → Standing) (f : List ℕ) (found steps : List Step)
+    → Opens f found steps
     → answer_of asked (after steps) look ≡ answer_of asked (after found) look
 
 -- the entry of this number is this delivery in a later state too, and its text is the same
@@ -33,6 +34,7 @@ pub record EntryStays (before now : State) (mailbox : List ℕ) (number : ℕ) (
 -- An entry keeps its number and its text over each step behind the first one: later deliveries come behind it.
 abbrev pub StepsKeepEntries : Type 0
 StepsKeepEntries =
-    (mailbox : List ℕ) (number : ℕ) (line : MailboxLine) (s : State) (steps : List Step) → s.begun ≡ true → IsSound s
+    (mailbox : List ℕ) (number : ℕ) (line : MailboxLine) (s : State) (steps : List Step) → s.begun ≡ true
+    → IsSound s
     → ArePossible s steps → numbered (deliveries mailbox s.machine.mailboxes) number ≡ Some line
     → EntryStays s (after_from s steps) mailbox number line

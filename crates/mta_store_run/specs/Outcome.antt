@@ -81,7 +81,8 @@ pub data Outcome {D E : Type 0} (h : Handed D E) : Opening → (added torn_mark 
 -- What becomes of the disks. The spool is opened, and no step is made.
 pub record DisksLeft {D E : Type 0} (h : Handed D E) (opening : Opening) (added torn_mark : List Mark) : Type 0 where
   pub spool : DiskLeft h.spools h.spool h.spool_after opening [] []
-  pub spool_before : (f : List ℕ) (found steps : List Step) → h.spools.content h.spool ≡ Some f → Opens f found steps
+  pub spool_before : (f : List ℕ) (found steps : List Step) → h.spools.content h.spool ≡ Some f
+      → Opens f found steps
       → IsSafeBefore h.spools f steps [] h.spool h.spool_after
   pub marks : MarksLeft h.marked h.marks h.marks_after added torn_mark
 

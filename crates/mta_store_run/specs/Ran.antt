@@ -72,7 +72,8 @@ module _ {D E : Type 0} (h : Handed D E) (out : Output) (status : ℕ) where
 -- What a status tells by itself. Want of memory, 7, is free.
 pub record TellsStatus {D E : Type 0} (h : Handed D E) (out : Output) (status : ℕ) : Type 0 where
   -- where both disks tell what they hold the status is the one for which the words and these call, and no other
-  pub exact : (f g : List ℕ) (wanted : ℕ) → h.spools.content h.spool ≡ Some f → h.marked.content h.marks ≡ Some g
+  pub exact : (f g : List ℕ) (wanted : ℕ) → h.spools.content h.spool ≡ Some f
+      → h.marked.content h.marks ≡ Some g
       → CallsFor f g h.asked wanted → (status ≡ wanted) ⊎ Fails h out status
   pub only : (f g : List ℕ) → h.spools.content h.spool ≡ Some f → h.marked.content h.marks ≡ Some g
       → CallsFor f g h.asked status ⊎ Fails h out status

@@ -75,7 +75,8 @@ abbrev pub mark_of : MarkKind → (mailbox : List ℕ) → (number : ℕ) → Ma
 mark_of kind mailbox number = record { kind = kind; mailbox = mailbox; number = number }
 
 -- to fetch an entry: it is marked where it is new
-abbrev pub fetched : List ItemValue → (mailbox : List ℕ) → (number : ℕ) → Option MailboxLine → Standing → Answer
+abbrev pub fetched : List ItemValue → (mailbox : List ℕ) → (number : ℕ) → Option MailboxLine → Standing
+    → Answer
 fetched items mailbox number None s = no_entry
 fetched items mailbox number (Some line) Stand.New =
     gives (item_text items line) (Some (mark_of Kinds.Fetched mailbox number))

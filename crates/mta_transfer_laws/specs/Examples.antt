@@ -178,7 +178,8 @@ module _ (proposal : OpenUnit) (size window : ℕ) (answer : Answer) where
     opening = [];
     at = 0;
     events =
-        Put accepted ∷ Put (Please 0) ∷ Got Close ∷ Got Give ∷ Made 1 0 (h.Start 1 1 three) ∷ Put (Start 1) ∷
+        Put accepted ∷ Put (Please 0) ∷ Got Close ∷ Got Give ∷ Made 1 0 (h.Start 1 1 three) ∷
+        Put (Start 1) ∷
         [];
   }
 
@@ -191,7 +192,8 @@ module _ (proposal : OpenUnit) (size window : ℕ) (answer : Answer) where
     opening = [];
     at = 0;
     events =
-        Put opened ∷ Got accepted ∷ Made 1 0 (h.LaneAgree 2 1) ∷ Looked 2 No_batch ∷ Put Close ∷ Got CloseAck ∷
+        Put opened ∷ Got accepted ∷ Made 1 0 (h.LaneAgree 2 1) ∷ Looked 2 No_batch ∷ Put Close ∷
+        Got CloseAck ∷
         Looked 2 Elsewhere ∷ Put (Abort 3) ∷ [];
   }
 
@@ -204,7 +206,8 @@ module _ (proposal : OpenUnit) (size window : ℕ) (answer : Answer) where
     opening = [];
     at = 1;
     events =
-        Put accepted ∷ Got (Resume 1 1) ∷ Put (ResumeAck 1 1) ∷ Got (Piece (3 ∷ [])) ∷ Got (End 1) ∷ Put (EndAck 1) ∷
+        Put accepted ∷ Got (Resume 1 1) ∷ Put (ResumeAck 1 1) ∷ Got (Piece (3 ∷ [])) ∷ Got (End 1) ∷
+        Put (EndAck 1) ∷
         [];
   }
 

@@ -71,7 +71,8 @@ pub record AllParts {L : Type 0} (links : LinkView L) (spells : List ℕ → Boo
   pub turns : EachInTurn links spells first entries (length first + low) by_station
 
 -- the roles of all stations
-abbrev pub roles_of : {L : Type 0} {links : LinkView L} {spells : List ℕ → Bool} {first entries : List Step} {low : ℕ}
+abbrev pub roles_of : {L : Type 0} {links : LinkView L} {spells : List ℕ → Bool} {first entries : List Step}
+    {low : ℕ}
     → AllParts links spells first entries low → List Role
 roles_of {links = links} {spells = spells} {first = first} {entries = entries} {low = low} all =
     roles_at links spells first entries (length first + low) all.by_station all.turns

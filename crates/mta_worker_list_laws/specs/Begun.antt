@@ -154,7 +154,8 @@ begun_by n (Calls p units at from is has opens) = (at - n) ∷ []
 begun_by n (Listens own units from) = []
 
 -- it was opened or bound there or behind, or has to be
-abbrev pub IsBehind : {history : List Seen} {from : ℕ} {t : State} → (low : ℕ) → IsNewAt history from t → Type 0
+abbrev pub IsBehind : {history : List Seen} {from : ℕ} {t : State} → (low : ℕ) → IsNewAt history from t
+    → Type 0
 IsBehind low (Calls p units at from is has opens) = low ≤ at
 IsBehind low (Listens own units from) = low ≤ from
 
