@@ -20,12 +20,16 @@ has() {
   export "$2=$path"
 }
 
-# a folder under /var/tmp, which is on a disk where /tmp may be in memory
-on_disk() {
-  FOLDER=$(mktemp -d "/var/tmp/$what.XXXXXX")
+# a folder below this one
+below() {
+  FOLDER=$(mktemp -d "$1/$what.XXXXXX") || exit 2
   trap 'rm -rf "$made" "$FOLDER"' EXIT
   export FOLDER
 }
+
+# a folder on a disk, where /tmp may be in memory, or in memory, where a sync takes no time
+on_disk() { below /var/tmp; }
+in_memory() { if [ -d /dev/shm ]; then below /dev/shm; else below /tmp; fi; }
 
 # the decoder that asn1c makes of checks/speed/asn1c.asn1, or nothing where a tool is missing, which is said
 decoder() {
@@ -44,17 +48,16 @@ decoder() {
   DECODER=$made/decoder/decoder
 }
 
+# what figures share
+parts='agents|postfix|steps|tools'
 if [ $# -eq 0 ]; then
-  find checks/speed -name '*.py' ! -name tools.py ! -name postfix.py -printf '%f\n' | sed 's/\.py$//' | sort
+  find checks/speed -name '*.py' -printf '%f\n' | sed 's/\.py$//' | grep -vxE "$parts" | sort
   exit 0
 fi
 what=$1
 shift
 [ "$what" != curves ] || exec bash checks/speed/curves.bash "$@"
-case $what in
-  tools | postfix | */*) what=none ;;
-esac
-if [ ! -e "checks/speed/$what.py" ]; then
+if [[ $what == */* || $what =~ ^($parts)$ ]] || [ ! -e "checks/speed/$what.py" ]; then
   echo "there is no such figure; those there are: $(bash checks/speed.sh | xargs)" >&2
   exit 2
 fi
@@ -64,11 +67,14 @@ export FOLDER=$made
 case $what in
   asn1c) decoder || { echo "skipped: there is nothing to compare with"; exit 0; }; has mta MTA; has mta_bench BENCH ;;
   audit) on_disk; has mta MTA; has mta_audit AUDIT ;;
-  compact | relay | submit) on_disk; has mta MTA ;;
-  decode | drill) has mta MTA ;;
+  compact | fan | first | relay | submit | two_way) on_disk; has mta MTA ;;
+  decode | drill | instructions) has mta MTA ;;
   follow) on_disk; has mta_bench BENCH; has mta_follow FOLLOW ;;
   journal) on_disk; has mta_bench BENCH ;;
+  layout) on_disk ;;
   open) on_disk; decoder; has mta MTA ;;
+  pieces | relay_slow) in_memory; has mta MTA ;;
+  rehearse) has mta_bench BENCH; has mta_rehearse REHEARSE ;;
   store) on_disk; has mta MTA; has mta_store STORE ;;
   *) has mta_bench BENCH ;;
 esac

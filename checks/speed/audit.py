@@ -5,15 +5,12 @@ ACTIVITIES.., 100,000 where none are named.
 """
 import os
 
+import steps
 import tools
-from tools import counted, element, number, record
+from tools import element
 
 SIZE = 1024  # octets of the content of a message
-MOMENT = number(0, 8)  # each step is of 1950-01-01 00:00:00 UTC
-GENERATION = number(1, 8)
-LANE = number(1, 4)
 DOMAIN = element(0x61, element(0x13, b"GB")) + element(0x62, element(0x13, b"GOLD"))
-REFERENCE = counted(b"silver") + MOMENT + b"\x01" + counted(b"0000000001")
 
 
 def apdu(trace):
@@ -26,40 +23,29 @@ def apdu(trace):
 
 
 RELAYED = element(0x31, element(0x80, b"500101000000Z") + element(0x82, b"\x00"))
-SUBMITTED = record(b"\x02" + MOMENT + counted(apdu(b"")))
+SUBMITTED = steps.accepted(apdu(b""))
 ARRIVED = apdu(element(0x30, element(0x63, DOMAIN) + RELAYED))
 
 
 def tables(own, peer):
-    text = f"domain C=GB;A=GOLD\nname {own}\npeer {peer} ours theirs twa 4 3\nroute C=GB peer {peer}\n".encode()
-    return record(b"\x01" + counted(text))
-
-
-def opened(role, peer):
-    """The lane, which the initiator's end agrees on besides."""
-    values = b"\x00" + number(4, 4) + number(3, 4)
-    lane = record(b"\x09" + role + counted(peer) + REFERENCE + values + MOMENT)
-    return lane + (record(b"\x0a" + LANE + GENERATION + number(4, 4) + number(3, 4)) if role == b"\x00" else b"")
+    return steps.tables(f"domain C=GB;A=GOLD\nname {own}\npeer {peer} ours theirs twa 4 3\nroute C=GB peer {peer}\n")
 
 
 def sent(activity, item):
     """An item is accepted, and sent as this activity."""
-    place = LANE + GENERATION + number(activity, 4)
-    start = record(b"\x0c" + place + number(item, 4) + number(1, 4) + number(1, 4) + MOMENT)
-    return SUBMITTED + start + record(b"\x0e" + place) + record(b"\x0f" + place + MOMENT)
+    return SUBMITTED + steps.sent(activity, item)
 
 
 def completed(activity):
-    place = LANE + GENERATION + number(activity, 4)
-    return record(b"\x15" + place + number(1, 4) + counted(ARRIVED) + MOMENT)
+    return steps.completed(activity, ARRIVED)
 
 
-def write(path, start, steps):
+def write(path, start, rows):
     os.makedirs(os.path.dirname(path))
     with open(path, "wb") as file:
         file.write(b"MTASPL01" + start)
-        for step in steps:
-            file.write(step)
+        for row in rows:
+            file.write(row)
         file.write(b"\x00")
 
 
@@ -72,8 +58,8 @@ def spools(folder, activities, is_two_way):
         called = (completed(it) + sent(it, 2 * it) for it in each)
     else:
         caller, called = (sent(it, it) for it in each), (completed(it) for it in each)
-    write(f"{folder}/first/mta.spool", tables("silver", "gold") + opened(b"\x00", b"gold"), caller)
-    write(f"{folder}/second/mta.spool", tables("gold", "silver") + opened(b"\x01", b"silver"), called)
+    write(f"{folder}/first/mta.spool", tables("silver", "gold") + steps.opened(b"\x00", b"gold"), caller)
+    write(f"{folder}/second/mta.spool", tables("gold", "silver") + steps.opened(b"\x01", b"silver"), called)
 
 
 def best(command, cwd, status=0):

@@ -1,6 +1,6 @@
 """What a round trip for each record costs: a spool of records of 1 KiB that is pushed to a standby over loopback,
 beside appending as many bodies of that length to a journal in a file. Both on one disk, in turns, three times each;
-the best counts. Words: [RECORDS], 100,000.
+the best counts. Words: [RECORDS], 5,000.
 """
 import os
 import shutil
@@ -47,7 +47,7 @@ def pushes(folder, many):
 
 
 def main():
-    folder, many = tools.FOLDER, tools.numbers(100_000)[0]
+    folder, many = tools.FOLDER, tools.numbers(5000)[0]
     tools.machine(folder)
     os.mkdir(f"{folder}/spool")
     with open(f"{folder}/spool/mta.spool", "wb") as file:

@@ -1,6 +1,6 @@
 """Turns a second with the lock, beside the standard library's Mutex in stock Rust (lock.rs). The figures depend on
 what else runs, so the two programs take turns, and the best of three runs counts, by the clock. Words: [TURNS], those
-of all threads together, 1,200,000.
+of all threads together, 480,000.
 """
 import subprocess
 import sys
@@ -21,7 +21,7 @@ def took(command, threads, each):
 
 def main():
     tools.needs("rustc")
-    turns, stock = tools.numbers(1_200_000)[0], f"{tools.FOLDER}/stock"
+    turns, stock = tools.numbers(480_000)[0], f"{tools.FOLDER}/stock"
     subprocess.run(["rustc", "-O", "--edition", "2021", "-o", stock, f"{tools.HERE}/lock.rs"], check=True)
     tools.machine()
     print(f"{'threads':>8} {'turns/s':>16} {'Mutex turns/s':>16} {'ratio':>8}")

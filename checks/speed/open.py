@@ -72,10 +72,12 @@ def memory(mta, folder, most):
         for what, domain, is_delivered in (("delivered", b"GOLD", True), ("waiting", b"ACME", False)):
             place = tools.fresh(f"{folder}/spool")
             tools.write_spool(place, tools.TABLES, items, tools.message(size, domain), is_delivered)
-            part = (held(mta, place) - empty) / os.path.getsize(f"{place}/mta.spool")
+            octets = os.path.getsize(f"{place}/mta.spool")
+            took = held(mta, place) - empty
+            part, beside = took / octets, (took - octets) / items
             wished = " (wished: under 1.3)" if size >= 1024 else ""
             print(f"memory of {items} items of {size} octets of content, {what}: {part:.2f} of the octets of the file"
-                  f"{wished}", flush=True)
+                  f"{wished}; an item takes {beside:.0f} octets besides its own", flush=True)
             row.append(part)
         found.append(row)
     tools.rows("memory", found)

@@ -1,7 +1,8 @@
 """What it takes to submit messages of 1 KiB that wait for a peer, a process each, beside Postfix's `sendmail`, which
 puts the same content into a queue of its own on the same disk, and beside writing the same octets plainly with two
-syncs each; and what one more takes where many are held. The ways take turns, three times each; the best counts. Words:
-[MESSAGES [HELD..]], 1,000.
+syncs each; and what one more takes where many are held, beside opening that spool alone (`mta read` of a mailbox that
+it does not have), which is its bound. The ways take turns, three times each; the best counts. Words: [MESSAGES
+[HELD..]], 1,000.
 """
 import os
 import time
@@ -55,8 +56,11 @@ def beside_held(mta, folder, apdu, counts, octets):
             tools.fresh(place)
             one = tools.message(1024) if is_delivered else octets
             tools.write_spool(place, tools.TABLES, held, one, is_delivered)
-            best, spread = tools.of_several([tools.run([mta, "submit"], cwd=place, given=apdu)[0] for _ in range(5)])
-            print(f"beside {held} {name}: {best * 1000:.1f} ms (spread {spread:.2f})", flush=True)
+            (best, spread), (opened, _) = tools.in_turn(
+                (lambda: tools.run([mta, "submit"], cwd=place, given=apdu)[0],
+                 lambda: tools.run([mta, "read", "nobody"], cwd=place, statuses=(10,))[0]), 5)
+            print(f"beside {held} {name}: {best * 1000:.1f} ms (spread {spread:.2f}), as a multiple of opening it "
+                  f"{best / opened:.2f}", flush=True)
             ways.append(best)
         found.append((held, *(it * 1000 for it in ways)))
     tools.rows("submit", found)

@@ -14,8 +14,8 @@ import time
 
 HERE = os.path.dirname(os.path.abspath(__file__))
 # programs, asn1c's decoder and a folder, as checks/speed.sh hands them over; what a figure does not need is empty
-MTA, BENCH, AUDIT, FOLLOW, STORE, DECODER, FOLDER = (
-    os.environ.get(it, "") for it in ("MTA", "BENCH", "AUDIT", "FOLLOW", "STORE", "DECODER", "FOLDER"))
+MTA, BENCH, AUDIT, FOLLOW, REHEARSE, STORE, DECODER, FOLDER = (
+    os.environ.get(it, "") for it in ("MTA", "BENCH", "AUDIT", "FOLLOW", "REHEARSE", "STORE", "DECODER", "FOLDER"))
 # seconds from 1950, from which moments of a spool count, to 1970
 EPOCH = 631_152_000
 # what was begun is ended also where the script is stopped
@@ -59,11 +59,11 @@ def name(domain, surname):
     return element(0x60, element(0x30, standard + element(0xA5, element(0x80, surname))))
 
 
-def message(size, domain=b"GOLD", recipients=1):
-    """A message from Bell of GOLD to Watt of a domain, with a content of so many octets."""
-    gold = element(0x61, element(0x13, b"GB")) + element(0x62, element(0x13, b"GOLD"))
-    identifier = element(0x64, element(0x63, gold) + element(0x16, b"M0001"))
-    fields = name(b"GOLD", b"BELL") + identifier + element(0x46, b"\x16") + element(0x69, b"")
+def message(size, domain=b"GOLD", recipients=1, origin=b"GOLD"):
+    """A message from Bell of a domain to Watt of another, with a content of so many octets."""
+    from_there = element(0x61, element(0x13, b"GB")) + element(0x62, element(0x13, origin))
+    identifier = element(0x64, element(0x63, from_there) + element(0x16, b"M0001"))
+    fields = name(origin, b"BELL") + identifier + element(0x46, b"\x16") + element(0x69, b"")
     recipient = element(0x31, name(domain, b"WATT") + element(0x80, b"\x01") + element(0x81, b"\x00\xa8"))
     envelope = element(0x31, fields + element(0xA2, recipient * recipients))
     return element(0xA0, envelope + element(0x04, b"H" * size))
@@ -81,30 +81,36 @@ def record(body):
     return b"\x01" + counted(body)
 
 
+def listed(octets):
+    return octets if isinstance(octets, list) else [octets]
+
+
 def write_spool(folder, tables, items, octets, is_delivered=False):
-    """A spool in which the octets were accepted so many times in the last hour, and delivered where that is said."""
+    """A spool in which the octets were accepted so many times in the last hour, and delivered where that is said.
+    Several octets, in a list, are taken in turn."""
     os.makedirs(folder, exist_ok=True)
     with open(f"{folder}/mta.tables", "wb") as file:
         file.write(tables)
-    since, apdu = int(time.time()) + EPOCH - 3600, counted(octets)
+    since, apdus = int(time.time()) + EPOCH - 3600, [counted(it) for it in listed(octets)]
     with open(f"{folder}/mta.spool", "wb") as spool:
         spool.write(b"MTASPL01" + record(b"\x19" + number(2, 4)) + record(b"\x01" + counted(tables)))
         for first in range(1, items + 1, 1000):
             rows = []
             for item in range(first, min(first + 1000, items + 1)):
                 moment = number(since + item * 3000 // items, 8)
-                rows.append(record(b"\x02" + moment + apdu))
+                rows.append(record(b"\x02" + moment + apdus[item % len(apdus)]))
                 if is_delivered:
                     rows.append(record(b"\x03" + number(item, 4) + number(1, 4) + moment))
             spool.write(b"".join(rows))
         spool.write(b"\x00")
 
 
-def ran(command, cwd=None, given="/dev/null", statuses=(0,)):
+def ran(command, cwd=None, given="/dev/null", statuses=(0,), env=None):
     """The seconds by the clock, and what the process used."""
+    how = {"cwd": cwd, "env": env, "stdout": subprocess.DEVNULL, "stderr": subprocess.DEVNULL}
     with open(given, "rb") as octets:
         start = time.monotonic()
-        child = subprocess.Popen(command, cwd=cwd, stdin=octets, stdout=subprocess.DEVNULL, stderr=subprocess.DEVNULL)
+        child = subprocess.Popen(command, stdin=octets, **how)
         _, status, used = os.wait4(child.pid, 0)
         took = time.monotonic() - start
     if os.waitstatus_to_exitcode(status) not in statuses:
@@ -166,12 +172,15 @@ def free_port():
 def wait_for_port(port):
     """Waits until somebody listens at the port, without calling there."""
     wanted = f"{port:04X}"
-    for _ in range(1000):
-        with open("/proc/net/tcp", encoding="utf-8") as file:
-            each = [line.split() for line in file][1:]
+    for _ in range(10_000):
+        each = []
+        for sockets in ("/proc/net/tcp", "/proc/net/tcp6"):
+            if os.path.exists(sockets):
+                with open(sockets, encoding="utf-8") as file:
+                    each += [line.split() for line in file][1:]
         if any(it[1].endswith(f":{wanted}") and it[3] == "0A" for it in each):
             return
-        time.sleep(0.01)
+        time.sleep(0.001)
     sys.exit(f"nobody listens at port {port}")
 
 
