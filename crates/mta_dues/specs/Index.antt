@@ -55,8 +55,8 @@ abbrev pub IsOfHand : ItemValue → ℕ → Option Hand → Type 0
 IsOfHand item number None = Unit {0}
 IsOfHand item number (Some hand) = hand.number ≡ number → IsDecodedOf item.octets hand.decoded
 
--- what need not be looked at at a moment is idle then in this format; the spans are those of items; what is at hand is a
--- reading of an item; and who was found to wait does so
+-- what need not be looked at at a moment is idle then in this format; the spans are those of items; what is at hand is
+-- a reading of an item; and who was found to wait does so
 pub record IsIndexed (format : ℕ) (text : List ℕ) (items : List ItemValue) (index : Index) : Type 0 where
   pub rests : (i moment : ℕ) → Rests index.agenda i moment → IsAtRestIn format text items i moment
   pub spans : AreSpansIn format text items index.spans

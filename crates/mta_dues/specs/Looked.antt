@@ -15,7 +15,8 @@ is_calling format text item r moment =
 -- each recipient up to a number who is pending is at rest at the moment
 abbrev pub AreIdleUpTo : (format : ℕ) → List ℕ → ItemValue → (most moment : ℕ) → Type 0
 AreIdleUpTo format text item most moment =
-    (r : ℕ) → r ≤ most → has_status is_pending (numbered item.statuses r) ≡ true → IsAtRest format text item r moment
+    (r : ℕ) → r ≤ most → has_status is_pending (numbered item.statuses r) ≡ true
+    → IsAtRest format text item r moment
 
 -- the recipients of the item that was looked at are at rest from the one moment on until the other
 pub record IsLookedIn (format : ℕ) (text : List ℕ) (items : List ItemValue) (looked : Looked) : Type 0 where

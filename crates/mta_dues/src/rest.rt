@@ -103,7 +103,8 @@ pub(crate) fn idle_from<R: Rules>(
     requires stored { IsStored item.now }
     requires reading { IsReadingOf item.now.octets reading.now }
     requires known { AreIdleUpTo (R.format rules.now) (R.text rules.now) item.now known moment }
-    requires unexpired { is_expired (R.format rules.now) (R.text rules.now) item.now.octets item.now.arrival moment ≡ false }
+    requires unexpired { is_expired (R.format rules.now) (R.text rules.now) item.now.octets
+        item.now.arrival moment ≡ false }
     ensures { IfOk result (λ most. AreIdleUpTo (R.format rules.now) (R.text rules.now) item.now most moment) }
 {
     let count = item.statuses().len() as u32;

@@ -43,7 +43,8 @@ IsReadAt items i reading = (item : ItemValue) → numbered items i ≡ Some item
 abbrev pub AreFresh : {R : Type 0} → Option (InForce R) → Type 0
 AreFresh None = Unit {0}
 AreFresh (Some force) =
-    (force.index.agenda.known ≡ 0) × (force.index.spans ≡ []) × (force.index.hand ≡ None) × (force.index.looked ≡ None)
+    (force.index.agenda.known ≡ 0) × (force.index.spans ≡ []) × (force.index.hand ≡ None)
+    × (force.index.looked ≡ None)
 
 -- the rules that are made for a step: where they are made anew those in force behind it, and else none
 abbrev pub AreMade : {R : Type 0} → (R → ℕ) → (R → List ℕ) → (anew : Bool) → Machine

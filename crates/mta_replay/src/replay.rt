@@ -148,7 +148,8 @@ impl<R: Rules + Drop> InForce<R> {
         requires numbers { length kept.now.parts.items.items < 2 ^ 32 }
         ensures rules { self.new.rules ≡ self.old.rules }
         ensures queues { self.new.queues ≡ self.old.queues }
-        ensures indexed { (format : ℕ) (text : List ℕ) → IfSome self.old.read (IsReadOfLast kept.now.parts.items.items)
+        ensures indexed { (format : ℕ) (text : List ℕ)
+            → IfSome self.old.read (IsReadOfLast kept.now.parts.items.items)
             → IsIndexed format text kept.now.parts.items.items self.old.index
             → IsIndexed format text kept.now.parts.items.items self.new.index }
     {

@@ -2,8 +2,8 @@
 //!
 //! In come the bodies and the offset of the first one's gate. Each body is read as a step (`read_record`), which is
 //! taken up where it is possible after those before it, as a step that is made is, without the journal. It is freed
-//! then, and its place in the list goes too (`Rest`). Out goes the state, or the place of the first body that is no such
-//! step, or want of memory. The disk is not called.
+//! then, and its place in the list goes too (`Rest`). Out goes the state, or the place of the first body that is no
+//! such step, or want of memory. The disk is not called.
 
 ghost use Rattle.std.specs.Prelude.{◌≡◌, ◌<◌, ◌+◌, ◌^◌, length, IfErr, IfOk};
 ghost use Rattle.mta_journal.specs.Bodies.{AreWithin, longest_first, records};

@@ -51,7 +51,8 @@ pub record Goes (old : Feed) (n : Next) (new : Feed) : Type 0 where
   pub left : new ≡ after old (seen old)
 
 -- what a value of the stream's type holds: octets, of which so many were taken, in memory for so many more
-pub record Holds (taken : ℕ) (octets : List ℕ) (at : ℕ) (bad : Option BadUnit) (spare capacity : ℕ) : Type 0 where
+pub record Holds (taken : ℕ) (octets : List ℕ) (at : ℕ) (bad : Option BadUnit)
+    (spare capacity : ℕ) : Type 0 where
   pub within : taken ≤ length octets
   pub room : at + length (drop taken octets) < 2 ^ 64
   pub bytes : IsOctets (drop taken octets)
