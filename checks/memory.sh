@@ -1,6 +1,6 @@
 #!/usr/bin/env bash
 # One allocation after another is refused, of the proved programs that the gate left: `mta submit` ends with status 7
-# or succeeds, what was acknowledged is kept, and the next call goes on; and of the rows of mta_fault_rows that say what
+# or succeeds, what was acknowledged is kept, and the next call goes on; and of the rows of mta_run_rows that say what
 # may be left then, each is answered as it is without a refusal, or there was no memory to ask it. Run it at the top of
 # the repository; `checks/memory.sh N` refuses N allocations of each, spread over all there are (100).
 #
@@ -16,12 +16,12 @@ if [ "${1:-}" = --try ]; then
   shift
   exec python3 checks/peer/memory.py --try "$@"
 fi
-for name in mta mta_fault_rows; do
+for name in mta mta_run_rows; do
   if is_old "crates/$name/out/$name"; then
     echo "skipped: no proved $name, and the unproved one has an allocator of its own (see --try)"
     exit 0
   fi
 done
 cc -Wall -Wextra -O1 -shared -fPIC -o "$made/memory.so" checks/memory.c -ldl || exit 1
-python3 checks/peer/memory.py "$PWD/crates/mta/out/mta" "$PWD/crates/mta_fault_rows/out/mta_fault_rows" \
+python3 checks/peer/memory.py "$PWD/crates/mta/out/mta" "$PWD/crates/mta_run_rows/out/mta_run_rows" \
   "$made/memory.so" "$made" "${1:-100}"

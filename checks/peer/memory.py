@@ -2,7 +2,7 @@
 """Programs of which an allocation is refused: memory.py MTA ROWS LIBRARY FOLDER MOST, or memory.py --try N ..
 
 LIBRARY is checks/memory.c, to be preloaded. MOST is how many allocations of each are refused, spread over all there
-are. ROWS is the program mta_fault_rows. With `--try` its Nth allocation is refused by the toolchain.
+are. ROWS is the program mta_run_rows. With `--try` its Nth allocation is refused by the toolchain.
 """
 import os
 import re
@@ -17,7 +17,8 @@ from disks import spread
 from pairs import Wrong
 from real import OURS, TABLES, THEIRS
 
-FOLDER = os.path.join(os.path.dirname(os.path.abspath(__file__)), "..", "..", "crates", "mta_fault_rows")
+FOLDER = os.path.join(os.path.dirname(os.path.abspath(__file__)), "..", "..", "crates", "mta_run_rows")
+SECTION = "faults"
 SHORT = ("a writer", "units", "a spool", "a message is submitted where memory may be refused",
          "a peer calls where memory may be refused")  # the cases in which memory may be refused
 NO_MEMORY = 7  # a status of `mta`
@@ -40,7 +41,7 @@ def rows():
     """The rows of those cases, and those before them that hand something in."""
     names, others = {}, {}
     with open(f"{FOLDER}/stdin", encoding="utf-8") as file:
-        lines = file.read().splitlines()
+        lines = file.read().split(f"section\t{SECTION}\n")[1].split("section\t")[0].splitlines()
     first = lines.index(f"case\t{SHORT[0]}")
     asked = lines[first:]
     if [row[5:] for row in asked if row.startswith("case\t")] != list(SHORT):
@@ -52,12 +53,12 @@ def rows():
         elif word in ("tables", "input", "clock"):
             others[word] = row
     asked = [*others.values(), *asked]
-    return "\n".join([*named(names, asked).values(), *asked]) + "\n"
+    return "\n".join([f"section\t{SECTION}", *named(names, asked).values(), *asked]) + "\n"
 
 
 def are_ok(said):
     """Whether each row that was answered was answered as wanted."""
-    return all(line.endswith(": ok") for line in said.splitlines())
+    return all(line == SECTION or line.endswith(": ok") for line in said.splitlines())
 
 
 class Refusals:
@@ -94,7 +95,7 @@ class Refusals:
         for call in spread(self.most, count):
             status, said, _ = self.run([program], given, call)
             lines = said.splitlines()
-            if not are_ok(said) or status == 0 and len(lines) != len(SHORT):
+            if not are_ok(said) or status == 0 and len(lines) != 1 + len(SHORT):
                 raise Wrong(f"allocation {call} of the rows: status {status}, {said}")
         return count
 

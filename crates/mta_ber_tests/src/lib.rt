@@ -1,11 +1,8 @@
-//! What `mta_ber` reads and writes of tables of octets: outside vectors and happy paths, which no clause says. They
-//! stand in a crate of their own, so that the library is not proved again with them.
+//! A worked example of a reader over `mta_ber`: a SET of three components, with its definitions and its laws. Rows of
+//! `mta_part_rows` show what it reads.
 #![tactic(auto)]
 
 mod example;
 mod note;
 
 pub use note::{Note, NoteParts};
-
-#[cfg(test)]
-mod tests;

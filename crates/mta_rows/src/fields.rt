@@ -24,3 +24,17 @@ impl<'a> Fields<'a> {
         field
     }
 }
+
+/// The number that a field is; 0 where it is none.
+pub fn number(field: &str) -> u64 {
+    field.parse::<u64>().unwrap_or(0)
+}
+
+/// Whether an answer is what the first of the fields says or, where calls are left, what another one says.
+pub fn is_wanted(said: &str, is_last: bool, fields: Fields<'_>) -> bool {
+    let mut fields = fields.rest.split('\t');
+    match fields.next() {
+        None => false,
+        Some(last) => said == last || !is_last && fields.any(|other| said == other),
+    }
+}

@@ -7,7 +7,7 @@ mod names;
 mod octets;
 mod told;
 
-pub use fields::Fields;
+pub use fields::{Fields, is_wanted, number};
 pub use names::Names;
-pub use octets::{RowFault, lines_of, octets_of};
-pub use told::{shown, tell};
+pub use octets::{RowFault, lines_of, octets_of, words_of};
+pub use told::{pairs, shown, tell};

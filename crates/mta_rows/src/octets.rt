@@ -68,3 +68,12 @@ pub fn lines_of(alloc: Global, text: &str) -> Result<Vec<u8>, AllocError>
         .map(|c| if c == b'|' { b'\n' } else { c })
         .collect(alloc)
 }
+
+/// The words of a command line, which has this character between two.
+pub fn words_of(alloc: Global, line: &str, between: char) -> Result<Vec<String>, AllocError> {
+    let mut words = Vec::new(alloc);
+    for word in line.split(between) {
+        words.push(String::from_str(alloc, word)?)?;
+    }
+    Ok(words)
+}

@@ -17,6 +17,18 @@ pub fn shown(alloc: Global, octets: &[u8]) -> Result<String, AllocError> {
     Ok(text)
 }
 
+/// Octets in hexadecimal, one space between two.
+pub fn pairs(alloc: Global, octets: &[u8]) -> Result<String, AllocError> {
+    let mut text = String::new(alloc);
+    for octet in octets {
+        if !text.is_empty() {
+            text.push(' ')?;
+        }
+        text.push_str(format!(in alloc; "{octet:02X}")?.as_str())?;
+    }
+    Ok(text)
+}
+
 /// Prints that a row, which asks something about something, was answered as it says, or what it was answered.
 pub fn tell(
     rt: &impl Print,

@@ -1,31 +1,13 @@
-//! The objects of a run.
+//! What runs and workers are given.
 
-use crate::held::Held;
 use anyhow::{Result, anyhow};
-use mta_edge::{MemClock, MemDisk, MemSource, Octets, SafeSource};
+use mta_ber::Word;
+use mta_edge::{MemClock, MemDisk, Octets, SafeDisk};
+use mta_links::Role;
 use std::alloc::{AllocError, Global};
 
 pub fn octets(alloc: Global, bytes: &[u8]) -> Result<Octets> {
-    Octets::from_slice(alloc, bytes).map_err(|_| anyhow!("no memory"))
-}
-
-pub fn words_of(alloc: Global, line: &str) -> Result<Vec<String>, AllocError> {
-    let mut words = Vec::new(alloc);
-    for word in line.split(' ') {
-        words.push(String::from_str(alloc, word)?)?;
-    }
-    Ok(words)
-}
-
-/// A source whose call of this number fails.
-pub fn source(alloc: Global, bytes: &[u8], fails: u64) -> Result<MemSource> {
-    let octets = octets(alloc, bytes)?;
-    Ok(MemSource::new(octets, [fails].to_vec(alloc)?))
-}
-
-/// A source of which no call fails.
-pub fn safe_source(alloc: Global, bytes: &[u8]) -> Result<SafeSource> {
-    Ok(SafeSource::new(octets(alloc, bytes)?))
+    Ok(Octets::from_slice(alloc, bytes)?)
 }
 
 /// A disk whose call of this number fails.
@@ -34,6 +16,28 @@ pub fn disk_of(alloc: Global, bytes: &[u8], fails: u64) -> Result<MemDisk> {
     Ok(MemDisk::new(alloc, octets, [fails].to_vec(alloc)?))
 }
 
-pub fn clock(alloc: Global, held: &Held) -> Result<MemClock, AllocError> {
-    Ok(MemClock::new([held.moment].to_vec(alloc)?))
+/// A disk that is changed in place, of which no call fails.
+pub fn safe_disk(alloc: Global, bytes: &[u8]) -> Result<SafeDisk> {
+    Ok(SafeDisk::new(alloc, octets(alloc, bytes)?))
+}
+
+/// A clock that stands at this moment.
+pub fn clock(alloc: Global, moment: u64) -> Result<MemClock, AllocError> {
+    Ok(MemClock::new([moment].to_vec(alloc)?))
+}
+
+/// The name of a peer.
+pub fn word_of(alloc: Global, text: &str) -> Result<Word> {
+    match Word::from_octets(alloc, octets(alloc, text.as_bytes())?)? {
+        Some(word) => Ok(word),
+        None => Err(anyhow!("no name")),
+    }
+}
+
+/// The role that a row names: `in`, or `out PEER`.
+pub fn role_of(alloc: Global, text: &str) -> Result<Role> {
+    match text.split_once(' ') {
+        None => Ok(Role::In),
+        Some((_, peer)) => Ok(Role::Out(word_of(alloc, peer)?)),
+    }
 }

@@ -1,104 +1,93 @@
-//! Runs of the program over objects in memory: what each prints, its status, and the octets that it leaves on the
-//! disk. Reads rows from its input, each with fields behind tabs. Tells of each row that wants something whether it
-//! was answered so, under the name of its case.
+//! Runs of the program over objects in memory (`runs.rt`), workers over a spool (`workers.rt`), and runs in which calls
+//! fail, the process stops, or input and peers give what they may not (`faults.rt`). Reads rows from its input, each
+//! with fields behind tabs. A row `section` names what the rows behind it are about; the head of its file says what
+//! they are. Prints the section's name, and tells of each row that wants something whether it was answered so, under
+//! the name of its case.
 //!
-//! Octets are words of hexadecimal digits or names, one space between two. `name NAME OCTETS` gives octets a name.
-//!
-//! These rows want nothing. `case NAME` begins a case, with an empty disk, no station and nothing that fails; tables,
-//! input, clock and names stay until another is said. `tables TEXT`, where each line ends with `|`; `input OCTETS`;
-//! `clock MOMENT`; `fails PLACE CALL`, the place being `input`, `output` or `disk` and the first call 1; `disk COUNT
-//! OCTETS` and `disk-text COUNT TEXT`, which put octets or a text behind what the disk holds, so many times. `station
-//! ROLE OCTETS` hands in one more station for the next run, `in` or `out PEER`: it has one link, whose peer gives these
-//! octets and no more. `held-station` is the same, but its link gives nothing before another station's link has come
-//! back.
-//!
-//! In these a field behind the first says what is wanted. `run` runs the words behind it, over the disk as it is and
-//! without stations, and is answered the status and what was printed. `run-in-place` is the same over a disk that is
-//! changed in place, which nothing makes fail, and with the stations that were handed in. `put` is answered what the
-//! link of the station of this number was put then. `holds` is answered what the disk holds, `size` how many octets
-//! that is, and `records` records the tables in the spool that the disk holds, and is answered how many items it has.
-//! `stops` runs `submit`, stops it at each of its device calls by each of eight choices of what a crash leaves, and
-//! runs `spool` over the image: at the end it has to be answered as the first field behind says, and before as that
-//! or as one of the others. `stops-of-spool` is the same of `spool`, which does no more than open the disk and print.
-//!
-//! The rows were worked out by hand from the manual, the format of the journal, the protocol of a lane and X.411.
+//! Octets are words of hexadecimal digits or names, one space between two. `name NAME OCTETS` gives octets a name in
+//! its section.
 #![tactic(auto)]
 
+mod case;
+mod faults;
 mod given;
-mod held;
-mod names;
+mod program;
 mod runs;
-mod spool;
-mod stations;
-mod stops;
+mod spools;
+mod workers;
 
-use crate::held::Held;
-use crate::runs::{run_in_place, run_words};
-use crate::spool::records;
-use crate::stops::stops;
-use anyhow::{Result, bail};
-use mta_rows::{Fields, shown, tell};
+use crate::case::Case;
+use anyhow::{Result, anyhow, bail};
 use std::alloc::Global;
 use std::sync::Wait;
 use std::thread::Threads;
 
-fn size(alloc: Global, held: &Held) -> Result<String> {
-    let size = held.disk.len();
-    Ok(format!(in alloc; "{size}")?)
+/// What rows are about, and what they have handed in.
+#[derive(Drop)]
+enum Section {
+    None,
+    Runs(runs::Held),
+    Workers(workers::Held),
+    Faults(Case),
 }
 
-// Whether the fields behind are texts that an image may be answered with, and no words.
-fn has_texts(asked: &str) -> bool {
-    asked == "stops" || asked == "stops-of-spool"
-}
-
-fn answer_of<R: Threads + Wait + Sync>(
-    rt: &R,
-    alloc: Global,
-    held: &mut Held,
-    asked: &str,
-    wanted: &str,
-    fields: Fields<'_>,
-) -> Result<String> {
-    match asked {
-        "run" => run_words(rt, alloc, held, fields.rest),
-        "run-in-place" => run_in_place(rt, alloc, held, fields.rest),
-        "put" => held.was_put(alloc, wanted, fields.rest),
-        "holds" => Ok(shown(alloc, held.disk.as_slice())?),
-        "size" => size(alloc, held),
-        "records" => records(alloc, held),
-        "stops" => stops(rt, alloc, held, "submit", fields),
-        "stops-of-spool" => stops(rt, alloc, held, "spool", fields),
-        _ => bail!("nothing is asked"),
+impl Section {
+    fn of(alloc: Global, name: &str) -> Result<Section> {
+        match name {
+            "runs" => Ok(Section::Runs(runs::Held::new(alloc))),
+            "workers" => Ok(Section::Workers(workers::Held::new(alloc))),
+            "faults" => Ok(Section::Faults(Case::new(alloc))),
+            _ => bail!("no such section"),
+        }
     }
 }
 
-fn try_row<R: Print + Threads + Wait + Sync>(
-    rt: &R,
-    alloc: Global,
-    held: &mut Held,
-    row: &str,
-) -> Result<()> {
-    let mut fields = Fields { rest: row };
-    let asked = fields.take();
-    if held.take(alloc, asked, fields)? {
-        return Ok(());
+/// The section that has begun.
+struct Rows {
+    section: Section,
+}
+
+// Written out, since a derived one is opened anew, field by field, at each place where a value is let go.
+impl Drop for Rows {
+    fn drop(self) {
+        let Rows { section: _ } = self;
     }
-    let wanted = fields.take();
-    let answered = answer_of(rt, alloc, held, asked, wanted, fields)?;
-    let about = if has_texts(asked) { "" } else { fields.rest };
-    let case = held.case.as_str();
-    let name = format!(in alloc; "{case}: {asked}")?;
-    tell(rt, name.as_str(), about, answered.as_str(), wanted)?;
-    Ok(())
+}
+
+impl Rows {
+    fn begin(&mut self, rt: &impl Print, alloc: Global, name: &str) -> Result<()> {
+        self.section = Section::of(alloc, name)?;
+        println!(rt; "{name}")?;
+        Ok(())
+    }
+
+    /// Begins the section that a row names, or tells of a row that wants something whether it was answered so.
+    fn take<R: Print + Threads + Wait + Sync>(
+        &mut self,
+        rt: &R,
+        alloc: Global,
+        row: &str,
+    ) -> Result<()> {
+        if let Some(name) = row.strip_prefix("section\t") {
+            return self.begin(rt, alloc, name);
+        }
+        match &mut self.section {
+            Section::None => Err(anyhow!("a row stands in no section")),
+            Section::Runs(held) => runs::try_row(rt, alloc, held, row),
+            Section::Workers(held) => workers::try_row(rt, alloc, held, row),
+            Section::Faults(case) => faults::try_row(rt, alloc, case, row),
+        }
+    }
 }
 
 fn main(rt: HostRuntime) -> Result<()> {
     let alloc = rt.alloc();
-    let mut held = Held::new(alloc);
+    let mut rows = Rows {
+        section: Section::None,
+    };
     for row in rt.lines(alloc) {
         let row = row?;
-        try_row(&rt, alloc, &mut held, row.as_str())?;
+        rows.take(&rt, alloc, row.as_str())?;
     }
     Ok(())
 }

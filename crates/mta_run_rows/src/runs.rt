@@ -1,151 +1,86 @@
-//! Runs, and what they print.
+//! Runs of the program over objects in memory: what each prints, its status, and the octets that it leaves on the
+//! disk.
+//!
+//! These rows want nothing. `case NAME` begins a case, with an empty disk, no station and nothing that fails; tables,
+//! input, clock and names stay until another is said. `tables TEXT`, where each line ends with `|`; `input OCTETS`;
+//! `clock MOMENT`; `fails PLACE CALL`, the place being `input`, `output` or `disk` and the first call 1; `disk COUNT
+//! OCTETS` and `disk-text COUNT TEXT`, which put octets or a text behind what the disk holds, so many times. `station
+//! ROLE OCTETS` hands in one more station for the next run, `in` or `out PEER`: it has one link, whose peer gives these
+//! octets and no more. `held-station` is the same, but its link gives nothing before another station's link has come
+//! back.
+//!
+//! In these a field behind the first says what is wanted. `run` runs the words behind it, over the disk as it is and
+//! without stations, and is answered the status and what was printed. `run-in-place` is the same over a disk that is
+//! changed in place, which nothing makes fail, and with the stations that were handed in. `put` is answered what the
+//! link of the station of this number was put then. `holds` is answered what the disk holds, `size` how many octets
+//! that is, and `records` records the tables in the spool that the disk holds, and is answered how many items it has.
+//! `stops` runs `submit`, stops it at each of its device calls by each of eight choices of what a crash leaves, and
+//! runs `spool` over the image: at the end it has to be answered as the first field behind says, and before as that
+//! or as one of the others. `stops-of-spool` is the same of `spool`, which does no more than open the disk and print.
+//!
+//! The rows were worked out by hand from the manual, the format of the journal, the protocol of a lane and X.411.
 
-use crate::given::{clock, disk_of, safe_source, source, words_of};
-use crate::held::Held;
-use crate::stations::{Stop, puts_of, stations_of};
-use anyhow::Result;
-use mta_edge::{Disk, MemClock, MemDisk, MemSink, Octets, SafeDisk, Source};
-use mta_links::{MemStation, Station};
-use mta_rows::shown;
-use mta_run::{Finished, run};
-use std::alloc::{AllocError, Global};
+mod held;
+mod made;
+mod stations;
+mod stops;
+
+use crate::runs::made::{run_in_place, run_words};
+use crate::runs::stops::stops;
+use crate::spools::records;
+use anyhow::{Result, bail};
+pub use held::Held;
+use mta_rows::{Fields, shown};
+use std::alloc::Global;
 use std::sync::Wait;
-use std::sync::atomic::AtomicU64;
 use std::thread::Threads;
 
-// The run alone, since nothing behind it asks for its clauses.
-fn called<
-    R: Threads + Wait + Sync,
-    D: Disk + Drop + Send,
-    S: Station + Drop + Send,
-    I: Source + Drop,
->(
-    rt: &R,
-    alloc: Global,
-    words: &[String],
-    mut conf: I,
-    mut input: I,
-    out: &mut MemSink,
-    disk: D,
-    stations: Vec<S>,
-    clock: MemClock,
-) -> Finished<D, S>
-where
-    S::Link: Send,
-{
-    run(
-        rt, alloc, words, &mut conf, &mut input, out, disk, stations, clock,
-    )
+fn size(alloc: Global, held: &Held) -> Result<String> {
+    let size = held.case.disk.len();
+    Ok(format!(in alloc; "{size}")?)
 }
 
-/// The status and what was printed.
-fn said(alloc: Global, status: u8, out: &MemSink) -> Result<String, AllocError> {
-    let text = shown(alloc, out.octets())?;
-    let text = text.as_str();
-    format!(in alloc; "{status} {text}")
+// Whether the fields behind are texts that an image may be answered with, and no words.
+fn has_texts(asked: &str) -> bool {
+    asked == "stops" || asked == "stops-of-spool"
 }
 
-/// What words make of a disk, without stations, with what they print.
-pub fn finished<R: Threads + Wait + Sync>(
-    rt: &R,
-    alloc: Global,
-    held: &Held,
-    line: &str,
-    disk: MemDisk,
-    out: &mut MemSink,
-) -> Result<Finished<MemDisk, MemStation>> {
-    let words = words_of(alloc, line)?;
-    let conf = source(alloc, held.tables.as_slice(), 0)?;
-    let input = source(alloc, held.input.as_slice(), held.input_fails)?;
-    let clock = clock(alloc, held)?;
-    let none = Vec::new(alloc);
-    Ok(called(
-        rt,
-        alloc,
-        words.as_slice(),
-        conf,
-        input,
-        out,
-        disk,
-        none,
-        clock,
-    ))
-}
-
-/// What `spool` prints of these octets.
-pub fn queue<R: Threads + Wait + Sync>(
-    rt: &R,
-    alloc: Global,
-    held: &Held,
-    octets: &[u8],
-) -> Result<String> {
-    let mut out = MemSink::new(alloc, Vec::new(alloc));
-    let disk = disk_of(alloc, octets, 0)?;
-    let Finished { status, .. } = finished(rt, alloc, held, "spool", disk, &mut out)?;
-    Ok(said(alloc, status, &out)?)
-}
-
-/// Runs words over the disk, and keeps what it holds then.
-pub fn run_words<R: Threads + Wait + Sync>(
+fn answer_of<R: Threads + Wait + Sync>(
     rt: &R,
     alloc: Global,
     held: &mut Held,
-    line: &str,
+    asked: &str,
+    wanted: &str,
+    fields: Fields<'_>,
 ) -> Result<String> {
-    let mut out = MemSink::new(alloc, [held.output_fails].to_vec(alloc)?);
-    let disk = disk_of(alloc, held.disk.as_slice(), held.disk_fails)?;
-    let Finished { disk, status, .. } = finished(rt, alloc, held, line, disk, &mut out)?;
-    held.disk = disk.octets().to_vec(alloc)?;
-    Ok(said(alloc, status, &out)?)
+    match asked {
+        "run" => run_words(rt, alloc, held, fields.rest),
+        "run-in-place" => run_in_place(rt, alloc, held, fields.rest),
+        "put" => held.was_put(alloc, wanted, fields.rest),
+        "holds" => Ok(shown(alloc, held.case.disk.as_slice())?),
+        "size" => size(alloc, held),
+        "records" => records(alloc, &mut held.case),
+        "stops" => stops(rt, alloc, held, "submit", fields),
+        "stops-of-spool" => stops(rt, alloc, held, "spool", fields),
+        _ => bail!("nothing is asked"),
+    }
 }
 
-// What words make of a disk that is changed in place, with these stations, and what they print.
-fn finished_in_place<'a, R: Threads + Wait + Sync>(
-    rt: &'a R,
-    alloc: Global,
-    held: &Held,
-    line: &str,
-    disk: SafeDisk,
-    out: &mut MemSink,
-    flag: &'a AtomicU64,
-) -> Result<Finished<SafeDisk, Stop<'a, R>>> {
-    let words = words_of(alloc, line)?;
-    let conf = safe_source(alloc, held.tables.as_slice())?;
-    let input = safe_source(alloc, held.input.as_slice())?;
-    let clock = clock(alloc, held)?;
-    let stations = stations_of(alloc, rt, flag, held)?;
-    Ok(called(
-        rt,
-        alloc,
-        words.as_slice(),
-        conf,
-        input,
-        out,
-        disk,
-        stations,
-        clock,
-    ))
-}
-
-/// Runs words over a disk that is changed in place, with the stations, and keeps what it holds then and what their
-/// links were put.
-pub fn run_in_place<R: Threads + Wait + Sync>(
+/// Tells of a row that wants something whether it was answered so.
+pub fn try_row<R: Print + Threads + Wait + Sync>(
     rt: &R,
     alloc: Global,
     held: &mut Held,
-    line: &str,
-) -> Result<String> {
-    let flag = AtomicU64::new(0);
-    let mut out = MemSink::new(alloc, Vec::new(alloc));
-    let octets = std::mem::replace(&mut held.disk, Vec::new(alloc));
-    let disk = SafeDisk::new(alloc, Octets::from_vec(octets));
-    let Finished {
-        disk,
-        stations,
-        status,
-    } = finished_in_place(rt, alloc, held, line, disk, &mut out, &flag)?;
-    held.puts = puts_of(alloc, stations.as_slice())?;
-    held.stations = Vec::new(alloc);
-    held.disk = disk.octets().to_vec(alloc)?;
-    Ok(said(alloc, status, &out)?)
+    row: &str,
+) -> Result<()> {
+    let mut fields = Fields { rest: row };
+    let asked = fields.take();
+    if held.take(alloc, asked, fields)? {
+        return Ok(());
+    }
+    let wanted = fields.take();
+    let answered = answer_of(rt, alloc, held, asked, wanted, fields)?;
+    let about = if has_texts(asked) { "" } else { fields.rest };
+    held.case
+        .tell(rt, alloc, asked, about, answered.as_str(), wanted)
 }
